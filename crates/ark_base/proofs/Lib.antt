@@ -1,0 +1,4 @@
+pub mod Deserializing
+pub mod Items
+pub mod Bytes
+pub mod Refusals

@@ -1,0 +1,5 @@
+pub mod Texts
+pub mod Outcome
+pub mod Reading
+pub mod Spelling
+pub mod Laws

@@ -1,0 +1,111 @@
+//! What a hash is.
+
+ghost use Rattle.std.specs.Prelude.{◌≡◌, ℕ, List, IfOk};
+ghost use Rattle.ark_base.specs.Outcome.{Outcome, AnswersBy, IsDecided};
+
+use ark_base::error::Error;
+use ark_base::serialize::{
+    CanonicalDeserialize, CanonicalSerialize, DigestItem, Duplicate, Numbered,
+};
+use rand::Rng;
+use std::alloc::Global;
+use std::fmt::Debug;
+use std::hash::Hash;
+
+/// A hash of one input.
+pub trait CRHScheme {
+    type Input;
+
+    type Output: DigestItem + Debug + Hash;
+
+    type Parameters: CanonicalSerialize + CanonicalDeserialize + Duplicate;
+
+    // The digest of an input, as its numbers, or the refusal of the input.
+    ghost meaning: { Self.Parameters → Self.Input → Outcome (List ℕ) };
+
+    // Whether parameters can be made, or why not, and what is known of those that are made.
+    ghost setup_outcome: { Outcome (Unit {0}) };
+
+    ghost is_made: { Self.Parameters → Type 0 };
+
+    /// Makes parameters from what the generator gives. Which values it gives is the generator's matter.
+    ///
+    /// Refusals: that of the scheme, where it has none to make; `OutOfMemory`.
+    fn setup<R: Rng>(alloc: Global, rng: &mut R) -> Result<Self::Parameters, Error>
+        ensures outcome { AnswersBy (λ _. tt) setup_outcome result }
+        ensures made { IfOk result is_made };
+
+    /// The digest of an input.
+    ///
+    /// Refusals: those of `meaning`, which never are want of memory; `OutOfMemory`.
+    fn evaluate(
+        alloc: Global,
+        parameters: &Self::Parameters,
+        input: &Self::Input,
+    ) -> Result<Self::Output, Error>
+        ensures { AnswersBy Self.Output.numbers (meaning parameters.now input.now) result };
+
+    ghost meaning_decided: { (p : Self.Parameters) (x : Self.Input) → IsDecided (meaning p x) };
+
+    ghost setup_decided: { IsDecided setup_outcome };
+
+    // A copy of parameters hashes as they do.
+    ghost same_parameters: { (p q : Self.Parameters) → Self.Parameters.seen p ≡ Self.Parameters.seen q → meaning p ≡ meaning q };
+}
+
+/// A hash of two inputs, and of two of its own digests.
+pub trait TwoToOneCRHScheme {
+    type Input: Numbered + Drop;
+
+    type Output: DigestItem + Debug + Hash;
+
+    type Parameters: CanonicalSerialize + CanonicalDeserialize + Duplicate;
+
+    // The digest of two inputs, left then right, as its numbers, or their refusal.
+    ghost evaluated: { Self.Parameters → List ℕ → List ℕ → Outcome (List ℕ) };
+
+    // The same of two digests.
+    ghost compressed: { Self.Parameters → List ℕ → List ℕ → Outcome (List ℕ) };
+
+    ghost setup_outcome: { Outcome (Unit {0}) };
+
+    ghost is_made: { Self.Parameters → Type 0 };
+
+    /// As `CRHScheme::setup`.
+    fn setup<R: Rng>(alloc: Global, rng: &mut R) -> Result<Self::Parameters, Error>
+        ensures outcome { AnswersBy (λ _. tt) setup_outcome result }
+        ensures made { IfOk result is_made };
+
+    /// The digest of two inputs.
+    ///
+    /// Refusals: those of `evaluated`, which never are want of memory; `OutOfMemory`.
+    fn evaluate(
+        alloc: Global,
+        parameters: &Self::Parameters,
+        left: &Self::Input,
+        right: &Self::Input,
+    ) -> Result<Self::Output, Error>
+        ensures { AnswersBy Self.Output.numbers (evaluated parameters.now (Self.Input.numbers left.now) (Self.Input.numbers right.now)) result };
+
+    /// The digest of two digests.
+    ///
+    /// Refusals: those of `compressed`, which never are want of memory; `OutOfMemory`.
+    fn compress(
+        alloc: Global,
+        parameters: &Self::Parameters,
+        left: &Self::Output,
+        right: &Self::Output,
+    ) -> Result<Self::Output, Error>
+        ensures { AnswersBy Self.Output.numbers (compressed parameters.now (Self.Output.numbers left.now) (Self.Output.numbers right.now)) result };
+
+    ghost evaluated_decided: { (p : Self.Parameters) (x y : List ℕ) → IsDecided (evaluated p x y) };
+
+    ghost compressed_decided: { (p : Self.Parameters) (x y : List ℕ) → IsDecided (compressed p x y) };
+
+    ghost setup_decided: { IsDecided setup_outcome };
+
+    // A copy of parameters hashes as they do.
+    ghost evaluated_same: { (p q : Self.Parameters) → Self.Parameters.seen p ≡ Self.Parameters.seen q → evaluated p ≡ evaluated q };
+
+    ghost compressed_same: { (p q : Self.Parameters) → Self.Parameters.seen p ≡ Self.Parameters.seen q → compressed p ≡ compressed q };
+}

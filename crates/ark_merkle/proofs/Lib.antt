@@ -1,0 +1,15 @@
+pub mod BitLemmas
+pub mod Climbs
+pub mod Eaches
+pub mod CoupleLemmas
+pub mod Logs
+pub mod Levels
+pub mod RowLemmas
+pub mod Parts
+pub mod TreeLemmas
+pub mod PlaceLemmas
+pub mod Readings
+pub mod OwnPaths
+pub mod TreeReads
+pub mod PlainPlaces
+pub mod SizeLemmas

@@ -1,0 +1,46 @@
+use Rattle.std.proofs.Common.{◌≡◌, ◌∙◌, ◌<◌, [], length, get_or, Ok, ap, sym, arith}
+use Rattle.std.proofs.lemmas.List.{length-map}
+use Rattle.ark_base.specs.Laws.Steps.{done_injective}
+use Rattle.ark_merkle.specs.Indexes.{neighbour}
+use Rattle.ark_merkle.specs.Pairs.{pair_of}
+use Rattle.ark_merkle.specs.Rows.{rows_seen, digests_of}
+use Rattle.ark_merkle.proofs.OwnPaths.{leaf-neighbour, own_path-accepted}
+use Rattle.ark_merkle.proofs.Readings.{digest_read}
+use Rattle.ark_merkle.proofs.TreeReads.{seen_tree, holds-index, own_path-read}
+use Rattle.ark_merkle.proofs.tree.MerkleTree.generate_proof.Goals as goal
+
+pub digests_beside-requires : goal.digests_beside-requires
+digests_beside-requires g c =
+    let numbers = g.P.InnerDigest.Numbered.numbers in
+    let two = g.P.TwoToOneHash.TwoToOneCRHScheme in
+    let pair = pair_of g.P.LeafInnerDigestConverter.DigestConverter.converted two.evaluated two.compressed in
+    let rows = c.self.inside.rows in
+    let tree = seen_tree pair (rows_seen numbers rows) _ _ c.self.view_is c.self.invariant in
+    let leaves = c.self.inside.leaves in
+    let long : length leaves.items ≡ length c.args.self.now.leaves = sym (length-map leaves.items g.P.LeafDigest.Numbered.numbers) ∙ ap (λ tree. length tree.leaves) c.self.view_is in
+    holds-index numbers (pair c.args.self.now.pair_parameters) c.args.self.now.leaves rows tree c.deref.result.now c.args.index c.deref.ensures.value (omega (arith, long, leaves.ok.0)) c.requires
+
+pub returns-clause-proof : goal.returns-clause-proof
+returns-clause-proof g c =
+    let numbers = g.P.LeafDigest.Numbered.numbers in
+    let two = g.P.TwoToOneHash.TwoToOneCRHScheme in
+    let pair = pair_of g.P.LeafInnerDigestConverter.DigestConverter.converted two.evaluated two.compressed in
+    let rows = c.self.inside.rows in
+    let tree = seen_tree pair (rows_seen g.P.InnerDigest.Numbered.numbers rows) _ _ c.self.view_is c.self.invariant in
+    let i = c.args.index in
+    let leaves = c.self.inside.leaves in
+    let long : length leaves.items ≡ length c.args.self.now.leaves = sym (length-map leaves.items numbers) ∙ ap (λ tree. length tree.leaves) c.self.view_is in
+    let beside : neighbour i < length leaves.items = rw long (leaf-neighbour (pair c.args.self.now.pair_parameters) c.args.self.now.leaves (rows_seen g.P.InnerDigest.Numbered.numbers rows) tree i c.requires) in
+    let copied : numbers c.index.result.now ≡ numbers c.in_ok-copy_of.field-0 = done_injective _ _ c.in_ok-copy_of.ensures in
+    let read : get_or (digests_of numbers leaves) (neighbour i) [] ≡ numbers c.index.result.now = digest_read numbers leaves (neighbour i) c.index.result.now beside (rw c.neighbour_of.ensures at c.index.ensures) in
+    ap Ok (own_path-read g.P.InnerDigest.Numbered.numbers (pair c.args.self.now.pair_parameters) c.args.self.now.leaves rows tree i (numbers c.in_ok-copy_of.field-0) c.deref.result.now _ c.requires (ap (λ tree. get_or tree.leaves (neighbour i) []) (sym c.self.view_is) ∙ read ∙ copied) c.deref.ensures.value (sym (done_injective _ _ c.in_ok-digests_beside.ensures)))
+
+pub returns-clause-accepted : goal.returns-clause-accepted
+returns-clause-accepted g c =
+    let two = g.P.TwoToOneHash.TwoToOneCRHScheme in
+    let pair = pair_of g.P.LeafInnerDigestConverter.DigestConverter.converted two.evaluated two.compressed in
+    let h = pair c.args.self.now.pair_parameters in
+    let leaves = c.args.self.now.leaves in
+    let rows = rows_seen g.P.InnerDigest.Numbered.numbers c.self.inside.rows in
+    let tree = seen_tree pair rows _ _ c.self.view_is c.self.invariant in
+    λ leaf r digest rooted. own_path-accepted h leaves rows tree c.args.index c.requires _ _ r (done_injective _ _ (returns-clause-proof g c)) digest rooted
