@@ -1,0 +1,118 @@
+-- Replies, by the tokens of a line.
+use Rattle.std.proofs.Common.{◌≡◌, ◌⊎◌, ℕ, ◌<◌, List, [], ◌∷◌, length, map, Bool, true, false, Option, Some, None, Result, Ok, Err, refl, sym, ap, ◌∙◌, subst, inl, inr, arith}
+use Rattle.std.specs.Prelude.{IfOk}
+use Rattle.std.proofs.lemmas.List.{length-map}
+use Rattle.std.proofs.lemmas.Result.{IfOk-weaker}
+use Rattle.ark_base.specs.declared.error.Error.{Error}
+use Rattle.ark_base.specs.declared.error.Error.TheVariants.{OutOfMemory}
+use Rattle.ark_base.specs.Outcome.{Outcome, Answers}
+use Rattle.ark_base.specs.Reading.{told}
+use Rattle.ark_merkle.specs.Paths.{Way, verified}
+use Rattle.ark_merkle.specs.Indexes.{is_tree_size}
+use Rattle.ark_merkle.specs.Roots.{root, each, rooted, built}
+use Rattle.ark_merkle.specs.Pairs.{Digest, HashPair}
+use Rattle.acp.specs.Language.{Language}
+use Rattle.acp.specs.Replies.{Reply, BadLine, NoTree, NotLeaves, Refused, Built, MayLackMemory, Tells, text}
+use Rattle.acp.specs.Steps.{State, root_reply, proof_reply, check_reply, on_bytes, judged, judgement, all, on_leaves, settled, tree_turn, Turn, Takes}
+
+pub root_reply-more : (l : Language) (before : State) (tokens : List (List ℕ)) → (tokens ≡ [] → ⊥) → root_reply l before tokens ≡ BadLine
+root_reply-more l before [] some = absurd (some refl)
+root_reply-more l before (token ∷ tokens) some = refl
+
+pub proof_reply-other : (l : Language) (before : State) (tokens : List (List ℕ)) → ((token : List ℕ) → tokens ≡ token ∷ [] → ⊥) → proof_reply l before tokens ≡ BadLine
+proof_reply-other l before [] other = refl
+proof_reply-other l before (token ∷ []) other = absurd (other token refl)
+proof_reply-other l before (token ∷ more ∷ tokens) other = refl
+
+pub check_reply-other : (l : Language) (before : State) (tokens : List (List ℕ)) → ((path leaf : List ℕ) → tokens ≡ path ∷ leaf ∷ [] → ⊥) → check_reply l before tokens ≡ BadLine
+check_reply-other l before [] other = refl
+check_reply-other l before (path ∷ []) other = refl
+check_reply-other l before (path ∷ leaf ∷ []) other = absurd (other path leaf refl)
+check_reply-other l before (path ∷ leaf ∷ more ∷ tokens) other = refl
+
+-- what is told of a reply that is the exact one
+pub tells : {A E : Type 0} (items : A → List ℕ) (r : Result A E) (exact reply : Reply) → exact ≡ reply → IfOk r (λ v. items v ≡ text reply) → IfOk r (λ v. Tells exact (items v))
+tells items r exact reply same told = IfOk-weaker r _ _ (λ v e. inl (e ∙ ap text (sym same))) told
+
+MayLackMemory-judgement : (o : Outcome (Option Bool)) → MayLackMemory (judgement o)
+MayLackMemory-judgement (Ok (Some holds)) = tt
+MayLackMemory-judgement (Ok None) = tt
+MayLackMemory-judgement (Err error) = tt
+
+judgement-told : (o result : Outcome (Option Bool)) (bytes : List ℕ) → Answers o result → bytes ≡ text (judgement result) → Tells (judgement o) bytes
+judgement-told o (Ok value) bytes is reply = inl (reply ∙ ap (λ o. text (judgement o)) (sym is))
+judgement-told o (Err e) bytes (inl memory) reply = inr (reply ∙ ap (λ e. text (Refused e)) memory, MayLackMemory-judgement o)
+judgement-told o (Err e) bytes (inr refused) reply = inl (reply ∙ ap (λ o. text (judgement o)) (sym refused))
+
+-- what a call answered is told, or want of memory
+pub tells_judgement : {A E : Type 0} (items : A → List ℕ) (r : Result A E) (exact : Reply) (o result : Outcome (Option Bool)) → exact ≡ judgement o → Answers o result → IfOk r (λ v. items v ≡ text (judgement result)) → IfOk r (λ v. Tells exact (items v))
+tells_judgement items r exact o result same is told = IfOk-weaker r _ _ (λ v e. rw same (judgement-told o result (items v) is e)) told
+
+-- ---- checks
+
+on_bytes-none : (l : Language) (before : State) (bytes : Option (List ℕ)) → on_bytes l before bytes None ≡ BadLine
+on_bytes-none l before None = refl
+on_bytes-none l before (Some bytes) = refl
+
+module _ (l : Language) (before : State) (tokens : List (List ℕ)) (path token : List ℕ) (two : tokens ≡ path ∷ token ∷ []) where
+  pub check_reply-no_leaf : None ≡ l.hashed token → check_reply l before tokens ≡ BadLine
+  check_reply-no_leaf none = rw (two, ← none) (on_bytes-none l before (l.bytes path))
+
+  module _ (bytes : List ℕ) (leaf : Outcome Digest) (said : Some bytes ≡ l.bytes path) (hashed : Some leaf ≡ l.hashed token) where
+    pub check_reply-no_tree : before ≡ None → check_reply l before tokens ≡ NoTree
+    check_reply-no_tree none = rw (two, ← said, ← hashed, none) refl
+
+    pub check_reply-judged : (digests : List Digest) → before ≡ Some digests → check_reply l before tokens ≡ judgement (judged l digests leaf bytes)
+    check_reply-judged digests is = rw (two, ← said, ← hashed, is) refl
+
+pub judged-trailing : (l : Language) (digests : List Digest) (leaf : Outcome Digest) (bytes : List ℕ) (way : Way) (rest : List ℕ) → told (l.read bytes) ≡ Ok (way, rest) → 0 < length rest → judged l digests leaf bytes ≡ Ok None
+judged-trailing l digests leaf bytes way [] read some = absurd (omega arith)
+judged-trailing l digests leaf bytes way (b ∷ rest) read some = rw read refl
+
+pub judged-refused : (l : Language) (digests : List Digest) (leaf : Outcome Digest) (bytes : List ℕ) (way : Way) (rest : List ℕ) (h : HashPair) (r : Digest) (e : Error) → told (l.read bytes) ≡ Ok (way, rest) → length rest ≡ 0 → h ≡ l.pair → root l.pair digests ≡ Ok r → verified h leaf way r ≡ Err e → judged l digests leaf bytes ≡ Err e
+judged-refused l digests leaf bytes way [] h r e read none same rooted refused = let known : verified l.pair leaf way r ≡ Err e = subst (λ k. verified k leaf way r ≡ Err e) same refused in rw (read, rooted, known) refl
+judged-refused l digests leaf bytes way (b ∷ rest) h r e read none same rooted refused = absurd (omega arith)
+
+-- ---- trees
+
+each-map : {A : Type 0} (hash : A → Outcome Digest) (xs : List A) → each (λ digest. digest) (map hash xs) ≡ each hash xs
+each-map hash [] = refl
+each-map hash (x ∷ xs) = rw (each-map hash xs) refl
+
+module _ (l : Language) (before : State) (tokens : List (List ℕ)) (some : tokens ≡ [] → ⊥) where
+  tree_turn-some : tree_turn l before tokens ≡ on_leaves l before (all l.hashed tokens)
+  tree_turn-some = by_tokens tokens some
+    where
+      by_tokens : (ts : List (List ℕ)) → (ts ≡ [] → ⊥) → tree_turn l before ts ≡ on_leaves l before (all l.hashed ts)
+      by_tokens [] h = absurd (h refl)
+      by_tokens (t ∷ ts) h = refl
+
+  pub tree_turn-bad : None ≡ all l.hashed tokens → tree_turn l before tokens ≡ (BadLine, before)
+  tree_turn-bad bad = tree_turn-some ∙ rw (← bad) refl
+
+  module _ {A : Type 0} (hash : A → Outcome Digest) (leaves : List A) (said : Some (map hash leaves) ≡ all l.hashed tokens) where
+    pub tree_turn-unfit : is_tree_size (length leaves) ≡ false → tree_turn l before tokens ≡ (NotLeaves, before)
+    tree_turn-unfit unfit = tree_turn-some ∙ rw (← said, length-map leaves hash, unfit) refl
+
+    pub tree_turn-built : (h : HashPair) → h ≡ l.pair → is_tree_size (length leaves) ≡ true → tree_turn l before tokens ≡ settled before (built h hash leaves)
+    tree_turn-built h same fits = tree_turn-some ∙ rw (← said, length-map leaves hash, fits, each-map hash leaves) (ap (λ k. settled before (built k hash leaves)) (sym same))
+
+-- ---- a line that changes the tree
+
+-- a turn that keeps the tree, as it is told
+pub takes_kept : (before : State) (exact : Turn) (reply : Reply) (bytes : List ℕ) → exact ≡ (reply, before) → bytes ≡ text reply → Takes before exact before bytes
+takes_kept before exact reply bytes same told = inl (told ∙ ap (λ (t : Turn). text t.0) (sym same), ap (λ (t : Turn). t.1) (sym same))
+
+MayLackMemory-settled : (before : State) (o : Outcome (List Digest)) → MayLackMemory (settled before o).0
+MayLackMemory-settled before (Ok digests) = tt
+MayLackMemory-settled before (Err error) = tt
+
+-- a refused tree leaves the one before
+pub takes_refused : (before : State) (exact : Turn) (o : Outcome (List Digest)) (e : Error) (bytes : List ℕ) → exact ≡ settled before o → (e ≡ OutOfMemory) ⊎ (o ≡ Err e) → bytes ≡ text (Refused e) → Takes before exact before bytes
+takes_refused before exact o e bytes same (inl memory) told = rw same (inr (told ∙ ap (λ e. text (Refused e)) memory, refl, MayLackMemory-settled before o))
+takes_refused before exact o e bytes same (inr refused) told = takes_kept before exact (Refused e) bytes (same ∙ ap (settled before) refused) told
+
+pub takes_built : (before : State) (exact : Turn) (o : Outcome (List Digest)) (digests : List Digest) (bytes : List ℕ) → exact ≡ settled before o → o ≡ Ok digests → bytes ≡ text (Built (length digests)) → Takes before exact (Some digests) bytes
+takes_built before exact o digests bytes same is told =
+    let whole : exact ≡ settled before (Ok digests) = same ∙ ap (settled before) is in
+    inl (told ∙ ap (λ (t : Turn). text t.0) (sym whole), ap (λ (t : Turn). t.1) (sym whole))

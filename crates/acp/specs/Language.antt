@@ -1,0 +1,19 @@
+-- What a configuration of the program tells.
+use Rattle.std.specs.Prelude.{ℕ, List, Option}
+use Rattle.ark_base.specs.Outcome.{Outcome}
+use Rattle.ark_base.specs.Reading.{Reading}
+use Rattle.ark_merkle.specs.Pairs.{Digest, HashPair}
+use Rattle.ark_merkle.specs.Paths.{Way}
+
+pub record Language : Type 0 where
+  -- what the leaf hash answers for the leaf that a token says, if it says one
+  pub hashed : List ℕ → Option (Outcome Digest)
+  -- the bytes that a token says, if it says some
+  pub bytes : List ℕ → Option (List ℕ)
+  -- the token bytes of a root
+  pub shown : Digest → List ℕ
+  -- the hashes of pairs
+  pub pair : HashPair
+  -- the canonical bytes of a path, and how they are read
+  pub written : Way → List ℕ
+  pub read : List ℕ → Reading Way

@@ -1,0 +1,138 @@
+-- What a line does to the tree, and what it is answered.
+use Rattle.std.specs.Prelude.{◌≡◌, ◌⊎◌, ℕ, nat_lt, length, List, [], ◌∷◌, Bool, if◌then◌else◌, Option, Some, None, Ok, Err, codes}
+use Rattle.std.specs.Option.{option_map}
+use Rattle.std.specs.Str.{bytes_eq}
+use Rattle.ark_base.specs.declared.error.Error.TheVariants.{OutOfMemory}
+use Rattle.ark_base.specs.Outcome.{Outcome, ◌>>=◌}
+use Rattle.ark_base.specs.Reading.{told}
+use Rattle.ark_merkle.specs.Indexes.{is_tree_size}
+use Rattle.ark_merkle.specs.Pairs.{Digest}
+use Rattle.ark_merkle.specs.Paths.{Way, verified}
+use Rattle.ark_merkle.specs.Roots.{root, built}
+use Rattle.ark_merkle.specs.Trees.{Tree, own_path}
+use Rattle.acp.specs.Language.{Language}
+use Rattle.acp.specs.Lines.{tokens_of}
+use Rattle.acp.specs.Replies.{Reply, BadLine, NoTree, NotLeaves, NoIndex, Trailing, Refused, Built, Root, Proof, Verdict, MayLackMemory, text}
+use Rattle.acp.specs.Tokens.{index_of}
+
+-- the tree's leaf digests, or no tree yet
+abbrev pub State : Type 0
+State = Option (List Digest)
+
+-- the state of a tree, or of none
+abbrev pub state_of : {L T : Type 0} → Option (Tree L T) → State
+state_of tree = option_map (λ t. t.leaves) tree
+
+-- the state after a line that makes this one, if it makes one
+abbrev pub replaced : State → State → State
+replaced before None = before
+replaced before (Some digests) = Some digests
+
+-- what a line is answered, and the tree afterwards
+abbrev pub Turn : Type 0
+Turn = Reply × State
+
+-- a value before others, where all are there
+abbrev pub onto_all : {A : Type 0} → Option A → Option (List A) → Option (List A)
+onto_all (Some x) (Some others) = Some (x ∷ others)
+onto_all (Some x) None = None
+onto_all None others = None
+
+-- what each token says, where each says something
+abbrev pub all : {A : Type 0} → (List ℕ → Option A) → List (List ℕ) → Option (List A)
+all said [] = Some []
+all said (token ∷ tokens) = onto_all (said token) (all said tokens)
+
+-- ---- tree L ..
+
+-- A new tree takes the place of the one before; a refused one leaves it.
+abbrev pub settled : State → Outcome (List Digest) → Turn
+settled before (Ok digests) = (Built (length digests), Some digests)
+settled before (Err error) = (Refused error, before)
+
+abbrev pub on_leaves : Language → State → Option (List (Outcome Digest)) → Turn
+on_leaves l before None = (BadLine, before)
+on_leaves l before (Some hashed) = if is_tree_size (length hashed) then settled before (built l.pair (λ digest. digest) hashed) else ((NotLeaves, before))
+
+abbrev pub tree_turn : Language → State → List (List ℕ) → Turn
+tree_turn l before [] = (BadLine, before)
+tree_turn l before (token ∷ tokens) = on_leaves l before (all l.hashed (token ∷ tokens))
+
+-- ---- root
+
+abbrev pub shown_root : Language → Outcome Digest → Reply
+shown_root l (Ok digest) = Root (l.shown digest)
+shown_root l (Err error) = Refused error
+
+abbrev pub root_reply : Language → State → List (List ℕ) → Reply
+root_reply l before (token ∷ tokens) = BadLine
+root_reply l None [] = NoTree
+root_reply l (Some digests) [] = shown_root l (root l.pair digests)
+
+-- ---- proof I
+
+abbrev pub on_index : Language → State → Option ℕ → Reply
+on_index l before None = BadLine
+on_index l None (Some index) = NoTree
+on_index l (Some digests) (Some index) = if nat_lt index (length digests) then Proof (l.written (own_path l.pair index digests)) else NoIndex
+
+abbrev pub proof_reply : Language → State → List (List ℕ) → Reply
+proof_reply l before [] = BadLine
+proof_reply l before (token ∷ []) = on_index l before (index_of token)
+proof_reply l before (token ∷ more ∷ tokens) = BadLine
+
+-- ---- check P L
+
+-- whether a path gives the root for a leaf, where no bytes are left behind it
+abbrev pub judged_path : Language → List Digest → Outcome Digest → Way × List ℕ → Outcome (Option Bool)
+judged_path l digests leaf (way, []) = do
+  r ← root l.pair digests
+  holds ← verified l.pair leaf way r
+  Ok (Some holds)
+judged_path l digests leaf (way, byte ∷ bytes) = Ok None
+
+-- the fault in the bytes of a path, else what is said of the path
+abbrev pub judged : Language → List Digest → Outcome Digest → List ℕ → Outcome (Option Bool)
+judged l digests leaf bytes = do
+  path ← told (l.read bytes)
+  judged_path l digests leaf path
+
+abbrev pub judgement : Outcome (Option Bool) → Reply
+judgement (Ok (Some holds)) = Verdict holds
+judgement (Ok None) = Trailing
+judgement (Err error) = Refused error
+
+abbrev pub on_bytes : Language → State → Option (List ℕ) → Option (Outcome Digest) → Reply
+on_bytes l before None leaf = BadLine
+on_bytes l before (Some bytes) None = BadLine
+on_bytes l None (Some bytes) (Some leaf) = NoTree
+on_bytes l (Some digests) (Some bytes) (Some leaf) = judgement (judged l digests leaf bytes)
+
+abbrev pub check_reply : Language → State → List (List ℕ) → Reply
+check_reply l before [] = BadLine
+check_reply l before (path ∷ []) = BadLine
+check_reply l before (path ∷ leaf ∷ []) = on_bytes l before (l.bytes path) (l.hashed leaf)
+check_reply l before (path ∷ leaf ∷ more ∷ tokens) = BadLine
+
+-- ---- lines
+
+abbrev pub by_word : Language → State → List (List ℕ) → Turn
+by_word l before [] = (BadLine, before)
+by_word l before (word ∷ tokens) =
+    if bytes_eq word (codes "tree") then tree_turn l before tokens
+    else if bytes_eq word (codes "root") then ((root_reply l before tokens, before))
+    else if bytes_eq word (codes "proof") then ((proof_reply l before tokens, before))
+    else if bytes_eq word (codes "check") then ((check_reply l before tokens, before))
+    else ((BadLine, before))
+
+-- the exact reply to a line, and the tree after it
+abbrev pub turn : Language → State → List ℕ → Turn
+turn l before line = by_word l before (tokens_of line)
+
+-- The tree before a line, the line, the tree after it and the bytes of the reply: as the turn has them, or want of memory is
+-- told and the tree is as before.
+abbrev pub Takes : State → Turn → State → List ℕ → Type 0
+Takes before exact after bytes = ((bytes ≡ text exact.0) × (after ≡ exact.1)) ⊎ ((bytes ≡ text (Refused OutOfMemory)) × (after ≡ before) × MayLackMemory exact.0)
+
+abbrev pub Step : Language → State → List ℕ → State → List ℕ → Type 0
+Step l before line after bytes = Takes before (turn l before line) after bytes

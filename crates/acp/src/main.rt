@@ -1,0 +1,45 @@
+//! The program `acp`: trees, proofs and checks, line by line.
+#![tactic(auto)]
+
+mod answer;
+mod command;
+mod paths;
+mod replies;
+mod run;
+mod sha256;
+mod shell;
+#[cfg(test)]
+mod tests;
+mod tokens;
+mod words;
+
+use crate::command::command;
+use std::env;
+use std::io::{self, BufReader, BufWriter};
+use std::process::ExitCode;
+
+fn start(rt: &HostRuntime) -> io::Result<u8> {
+    let mut words = Vec::new(rt.alloc());
+    for word in env::args(rt)?.skip(1) {
+        words.push(word)?;
+    }
+    let mut lines = BufReader::new(rt.alloc(), rt.stdin())?;
+    let mut replies = BufWriter::new(rt.alloc(), rt.stdout())?;
+    Ok(command(
+        rt.alloc(),
+        &words,
+        &mut lines,
+        &mut replies,
+        &mut rt.stderr(),
+    ))
+}
+
+fn main(rt: HostRuntime) -> ExitCode {
+    match start(&rt) {
+        Ok(status) => ExitCode::from(status),
+        Err(_) => {
+            let _ = eprintln!(rt; "acp: stopped");
+            ExitCode::from(1)
+        }
+    }
+}

@@ -1,0 +1,4 @@
+//! Sessions of the program, its statuses, and readers and writers that fail.
+
+mod faults;
+mod sessions;

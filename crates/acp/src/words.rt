@@ -1,0 +1,11 @@
+//! The replies to the lines of each word.
+
+mod check;
+mod proof;
+mod root;
+mod tree;
+
+pub use check::check_line;
+pub use proof::proof_line;
+pub use root::root_line;
+pub use tree::tree_line;
