@@ -11,6 +11,7 @@ ghost use Rattle.ark_base.specs.Reading.{Reading, Reads, Spells, IsCanonical, to
 ghost use Rattle.ark_base.specs.Spelling.{items_at};
 ghost use Rattle.ark_base.specs.declared.error.SerializationError.TheVariants.{Truncated};
 
+mod below;
 mod digest;
 mod lists;
 mod numbers;
@@ -19,6 +20,7 @@ mod pairs;
 mod tests;
 
 use crate::error::Error;
+pub use below::{number_of, read_below, serialize_number};
 pub use digest::{DigestItem, Duplicate, Numbered};
 use std::alloc::Global;
 
