@@ -1,6 +1,6 @@
 //! The canonical bytes of a number below a modulus: as many as the modulus needs, the least first.
 
-ghost use Rattle.std.specs.Prelude.{◌≡◌, ℕ, ◌≤◌, ◌++◌, length, OnOk, IfErr};
+ghost use Rattle.std.specs.Prelude.{◌≡◌, ℕ, ◌<◌, ◌≤◌, ◌++◌, length, OnOk, IfOk, IfErr};
 ghost use Rattle.ark_base.specs.Reading.{Reads};
 ghost use Rattle.ark_base.specs.Digits.{number_of_bytes, bytes_of_number, below_at};
 
@@ -35,7 +35,8 @@ pub fn serialize_number(number: u64, len: usize, dest: &mut Vec<u8>) -> Result<(
 #[tactic(auto, unfolding(crate::specs::Spelling::fixed_at, crate::specs::Digits::below_of))]
 pub fn read_below(modulus: u64, len: usize, bytes: &[u8]) -> Result<(u64, usize), Error>
     requires { len ≤ 8 }
-    ensures { Reads (λ n. n) bytes.now (below_at modulus len bytes.now) result }
+    ensures answer { Reads (λ n. n) bytes.now (below_at modulus len bytes.now) result }
+    ensures below { IfOk result (λ x. x.0 < modulus) }
 {
     if bytes.len() < len {
         return Err(Error::SerializationError(SerializationError::Truncated));

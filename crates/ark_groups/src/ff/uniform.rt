@@ -1,0 +1,9 @@
+//! Values that are drawn.
+
+use rand::Rng;
+
+/// Values that can be drawn from a generator's stream.
+pub trait UniformRand: Sized {
+    /// Some value: which one is the generator's matter.
+    fn rand<R: Rng>(rng: &mut R) -> Self;
+}
