@@ -7,3 +7,11 @@ pub trait UniformRand: Sized {
     /// Some value: which one is the generator's matter.
     fn rand<R: Rng>(rng: &mut R) -> Self;
 }
+
+impl UniformRand for [u8; 32] {
+    fn rand<R: Rng>(rng: &mut R) -> [u8; 32] {
+        let mut bytes = [0; 32];
+        rng.fill_bytes(&mut bytes);
+        bytes
+    }
+}

@@ -1,0 +1,11 @@
+//! Commutative groups, known by their laws alone.
+
+mod coordinates;
+mod curve_group;
+mod residues;
+mod small;
+
+pub use coordinates::{SWCoordinates, SWPoint, TECoordinates, TEPoint};
+pub use curve_group::CurveGroup;
+pub use residues::Residues;
+pub use small::{Small, SmallModulus};
