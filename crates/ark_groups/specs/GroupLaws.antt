@@ -39,22 +39,30 @@ module _ {M : Type 0} {g : Ghosts M} where
 
 -- ---- a group whose elements are wrapped
 
-abbrev pub wrapped : {G H : Type 0} → (G → H) → (H → G) → Group G → Group H
-wrapped wrap unwrap g = record {
-  identity = wrap g.identity;
-  plus = λ x y. wrap (g.plus (unwrap x) (unwrap y));
-  opposite = λ x. wrap (g.opposite (unwrap x));
-}
+-- H has the elements of G, wrapped
+pub record Wrapping (G H : Type 0) : Type 0 where
+  pub wrap : G → H
+  pub unwrap : H → G
+  pub unwrap-wrap : (x : G) → unwrap (wrap x) ≡ x
+  pub wrap-unwrap : (x : H) → wrap (unwrap x) ≡ x
 
-module _ {G H : Type 0} (wrap : G → H) (unwrap : H → G) (there : (x : G) → unwrap (wrap x) ≡ x) (back : (x : H) → wrap (unwrap x) ≡ x) (g : Group G) where
-  pub wrapped_laws : IsCommutativeGroup g → IsCommutativeGroup (wrapped wrap unwrap g)
-  wrapped_laws laws = record {
-    assoc = λ x y z. ap wrap (ap (λ t. g.plus t (unwrap z)) (there _) ∙ laws.assoc _ _ _ ∙ ap (g.plus (unwrap x)) (sym (there _)));
-    comm = λ x y. ap wrap (laws.comm _ _);
-    left_identity = λ x. ap wrap (ap (λ t. g.plus t (unwrap x)) (there _) ∙ laws.left_identity _) ∙ back x;
-    left_opposite = λ x. ap wrap (ap (λ t. g.plus t (unwrap x)) (there _) ∙ laws.left_opposite _);
+module _ {G H : Type 0} (w : Wrapping G H) (g : Group G) where
+  abbrev pub wrapped : Group H
+  wrapped = record {
+    identity = w.wrap g.identity;
+    plus = λ x y. w.wrap (g.plus (w.unwrap x) (w.unwrap y));
+    opposite = λ x. w.wrap (g.opposite (w.unwrap x));
   }
 
-  pub times-wrapped : (n : ℕ) (x : H) → times (wrapped wrap unwrap g) n x ≡ wrap (times g n (unwrap x))
+  pub wrapped_laws : IsCommutativeGroup g → IsCommutativeGroup wrapped
+  wrapped_laws laws = record {
+    assoc = λ x y z. ap w.wrap (ap (λ t. g.plus t (w.unwrap z)) (w.unwrap-wrap _) ∙ laws.assoc _ _ _ ∙ ap (g.plus (w.unwrap x)) (sym (w.unwrap-wrap _)));
+    comm = λ x y. ap w.wrap (laws.comm _ _);
+    left_identity = λ x. ap w.wrap (ap (λ t. g.plus t (w.unwrap x)) (w.unwrap-wrap _) ∙ laws.left_identity _) ∙ w.wrap-unwrap x;
+    left_opposite = λ x. ap w.wrap (ap (λ t. g.plus t (w.unwrap x)) (w.unwrap-wrap _) ∙ laws.left_opposite _);
+  }
+
+  pub times-wrapped : (n : ℕ) (x : H) → times wrapped n x ≡ w.wrap (times g n (w.unwrap x))
   times-wrapped zero x = refl
-  times-wrapped (suc n) x = ap (λ y. wrap (g.plus (unwrap y) (unwrap x))) (times-wrapped n x) ∙ ap (λ t. wrap (g.plus t (unwrap x))) (there _)
+  times-wrapped (suc n) x =
+      ap (λ y. w.wrap (g.plus (w.unwrap y) (w.unwrap x))) (times-wrapped n x) ∙ ap (λ t. w.wrap (g.plus t (w.unwrap x))) (w.unwrap-wrap _)

@@ -3,5 +3,5 @@ pub mod FieldLaws
 pub mod FpLaws
 pub mod Group
 pub mod GroupLaws
-pub mod ResidueLaws
+pub mod NumberGroups
 pub mod Coordinates

@@ -4,6 +4,8 @@ mod coordinates;
 mod curve_group;
 mod residues;
 mod small;
+#[cfg(test)]
+mod tests;
 
 pub use coordinates::{SWCoordinates, SWPoint, TECoordinates, TEPoint};
 pub use curve_group::CurveGroup;

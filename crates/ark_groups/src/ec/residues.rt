@@ -15,11 +15,11 @@ use std::alloc::Global;
 pub struct Residues<M: Modulus>(pub Fp<M>);
 
 impl<M: Modulus> CurveGroup for Residues<M> {
-    ghost use Rattle.ark_groups.specs.ResidueLaws.{residue_group, residue_laws, residue_order, residue_same, residue_clones, residue_default, residue_equal_if_same};
+    ghost use Rattle.ark_groups.specs.NumberGroups.{residues, number_group, number_laws, number_order, same_element, same_number, is_identity, number-Decides};
 
     type ScalarField = Fp<M>;
 
-    ghost group = { residue_group };
+    ghost group = { number_group residues };
 
     fn zero() -> Residues<M> {
         Residues(<Fp<M> as PrimeField>::zero())
@@ -41,21 +41,21 @@ impl<M: Modulus> CurveGroup for Residues<M> {
         Residues(Fp::rand(rng))
     }
 
-    ghost laws = { residue_laws };
+    ghost laws = { number_laws residues };
 
-    ghost order = { residue_order };
+    ghost order = { number_order residues };
 
-    ghost equal_if_same = { residue_equal_if_same };
+    ghost equal_if_same = { number-Decides residues };
 
-    ghost clones = { residue_clones };
+    ghost clones = { same_element residues };
 
     ghost clones_always = { λ x. tt };
 
-    ghost default_is_zero = { residue_default };
+    ghost default_is_zero = { is_identity residues };
 
     ghost is_spelled = { λ x. x.0.reduced };
 
-    ghost same_view = { residue_same };
+    ghost same_view = { same_number residues };
 }
 
 impl<M: Modulus> Canonical for Residues<M> {
