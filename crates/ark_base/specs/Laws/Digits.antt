@@ -11,7 +11,7 @@ use Rattle.ark_base.specs.Laws.Parts.{fixed_laws}
 
 -- ---- bool
 
-pub length-flag : (v : Bool) → length (flag v) ≡ 1
+length-flag : (v : Bool) → length (flag v) ≡ 1
 length-flag false = refl
 length-flag true = refl
 
@@ -29,7 +29,13 @@ flag_spelled (b ∷ c ∷ bytes) v len e = absurd (omega arith)
 pub flag_laws : IsCanonical Always flag flag_at
 flag_laws = fixed_laws 1 Always flag flag_of (record { long = λ v h. length-flag v; again = λ v h. flag_again v; spelled = λ bytes v long fits e. flag_spelled bytes v long e })
 
+pub flag_is_long : (v : Bool) → 1 ≤ length (flag v)
+flag_is_long v = omega (arith, length-flag v)
+
 -- ---- so many bytes
+
+pub bytes_are_long : (len : ℕ) (bytes : List ℕ) → AreBytes len bytes → len ≤ length bytes
+bytes_are_long len bytes are = omega (arith, are.0)
 
 pub bytes_laws : (len : ℕ) → IsCanonical (AreBytes len) itself (bytes_at len)
 bytes_laws len = fixed_laws len (AreBytes len) itself itself_of (record { long = λ v h. h.0; again = λ v h. refl; spelled = λ bytes v long fits e. let k = done_injective bytes v e in rw (← k) ((long, fits), refl) })
