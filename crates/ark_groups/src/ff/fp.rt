@@ -37,7 +37,7 @@ impl<M: Modulus> Default for Fp<M> {
     ghost is_default = { λ x. x.value ≡ 0 };
 
     fn default() -> Fp<M> {
-        Fp::reduced(0)
+        <Fp<M> as PrimeField>::zero()
     }
 }
 
