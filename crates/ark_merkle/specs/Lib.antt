@@ -6,3 +6,4 @@ pub mod PathBytes
 pub mod Roots
 pub mod Rows
 pub mod Trees
+pub mod Updates
