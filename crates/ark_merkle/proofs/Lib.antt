@@ -1,4 +1,6 @@
 pub mod BitLemmas
+pub mod Binds
+pub mod Bounds
 pub mod Changes
 pub mod Climbs
 pub mod Eaches

@@ -9,6 +9,7 @@ ghost use Rattle.ark_merkle.specs.Roots.{root, built, rooted};
 ghost use Rattle.ark_merkle.specs.Rows.{IsTree, digests_of, rows_seen};
 ghost use Rattle.ark_merkle.specs.Trees.{Tree, own_path};
 
+mod binding;
 mod build;
 mod updates;
 mod ways;
@@ -19,6 +20,7 @@ use crate::path::Path;
 use ark_base::error::Error;
 use ark_base::serialize::Duplicate;
 use ark_crh::{CRHScheme, TwoToOneCRHScheme};
+pub use binding::Binding;
 use build::{hash_all, rows_above};
 use std::alloc::Global;
 use std::marker::Model;
