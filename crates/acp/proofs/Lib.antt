@@ -4,3 +4,4 @@ pub mod Numerals
 pub mod PathWords
 pub mod Runs
 pub mod StepLemmas
+pub mod ToyLemmas

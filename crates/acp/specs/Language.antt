@@ -8,6 +8,8 @@ use Rattle.ark_merkle.specs.Paths.{Way}
 pub record Language : Type 0 where
   -- what the leaf hash answers for the leaf that a token says, if it says one
   pub hashed : List ℕ → Option (Outcome Digest)
+  -- the digest that a token says, if it says one
+  pub digest : List ℕ → Option Digest
   -- the bytes that a token says, if it says some
   pub bytes : List ℕ → Option (List ℕ)
   -- the token bytes of a root

@@ -5,3 +5,4 @@ pub mod Replies
 pub mod Steps
 pub mod Sessions
 pub mod Sha256
+pub mod Toy

@@ -5,6 +5,8 @@ use Rattle.hex.specs.Hex.{encode_lower}
 use Rattle.ark_base.specs.declared.error.Error.{Error}
 use Rattle.ark_base.specs.declared.error.Error.TheVariants.{IncorrectInputLength, NotPrimeOrder, GenericError, SerializationError as OfBytes, OutOfMemory}
 use Rattle.ark_base.specs.Texts.{fault_text, refusal_text}
+use Rattle.ark_merkle.specs.declared.tree.binding.Binding.{Binding}
+use Rattle.ark_merkle.specs.declared.tree.binding.Binding.TheVariants.{Rejected, Stands, Differs}
 use Rattle.ark_merkle.specs.Indexes.{log2}
 
 pub data Reply : Type 0 where
@@ -18,6 +20,8 @@ pub data Reply : Type 0 where
   Root : (shown : List ℕ) → Reply
   Proof : (written : List ℕ) → Reply
   Verdict : (holds : Bool) → Reply
+  Changed : Reply
+  Bound : (binding : Binding) → Reply
 
 -- why a call was refused, in a word
 abbrev pub why : Error → List ℕ
@@ -31,6 +35,11 @@ abbrev pub truth : Bool → List ℕ
 truth true = codes "true"
 truth false = codes "false"
 
+abbrev pub binding_text : Binding → List ℕ
+binding_text Rejected = codes "rejected"
+binding_text Stands = codes "stands"
+binding_text (Differs level) = codes "differs " ++ decimal level
+
 -- the bytes of a reply, without the line feed
 abbrev pub text : Reply → List ℕ
 text BadLine = codes "bad line"
@@ -43,6 +52,8 @@ text (Built size) = codes "tree " ++ (decimal size ++ (codes " height " ++ decim
 text (Root shown) = codes "root " ++ encode_lower shown
 text (Proof written) = codes "path " ++ encode_lower written
 text (Verdict holds) = truth holds
+text Changed = codes "ok"
+text (Bound binding) = binding_text binding
 
 -- Want of memory may stand in place of this reply. It never does where the reply is decided before anything is asked for.
 abbrev pub MayLackMemory : Reply → Type 0
@@ -56,6 +67,8 @@ MayLackMemory (Refused error) = Unit {0}
 MayLackMemory (Built size) = Unit {0}
 MayLackMemory (Proof written) = Unit {0}
 MayLackMemory (Verdict holds) = Unit {0}
+MayLackMemory Changed = Unit {0}
+MayLackMemory (Bound binding) = Unit {0}
 
 -- The bytes are those of the reply, or tell of want of memory in its place.
 abbrev pub Tells : Reply → List ℕ → Type 0

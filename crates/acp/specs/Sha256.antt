@@ -11,6 +11,7 @@ use Rattle.acp.specs.Tokens.{bytes_of}
 abbrev pub sha_language : Language
 sha_language = record {
   hashed = λ token. option_map (λ bytes. Ok (sha256 bytes)) (bytes_of token);
+  digest = bytes_of;
   bytes = bytes_of;
   shown = λ digest. digest;
   pair = record { bottom = λ left right. Ok (sha256 (left ++ right)); upper = λ left right. Ok (sha256 (left ++ right)) };

@@ -5,14 +5,17 @@ use Rattle.std.specs.Str.{bytes_eq}
 use Rattle.ark_base.specs.declared.error.Error.TheVariants.{OutOfMemory}
 use Rattle.ark_base.specs.Outcome.{Outcome, ◌>>=◌}
 use Rattle.ark_base.specs.Reading.{told}
+use Rattle.ark_merkle.specs.declared.tree.binding.Binding.{Binding}
+use Rattle.ark_merkle.specs.Bindings.{bound}
 use Rattle.ark_merkle.specs.Indexes.{is_tree_size}
 use Rattle.ark_merkle.specs.Pairs.{Digest}
 use Rattle.ark_merkle.specs.Paths.{Way, verified}
-use Rattle.ark_merkle.specs.Roots.{root, built}
+use Rattle.ark_merkle.specs.Roots.{root, rooted, built}
 use Rattle.ark_merkle.specs.Trees.{Tree, own_path}
+use Rattle.ark_merkle.specs.Updates.{changed}
 use Rattle.acp.specs.Language.{Language}
 use Rattle.acp.specs.Lines.{tokens_of}
-use Rattle.acp.specs.Replies.{Reply, BadLine, NoTree, NotLeaves, NoIndex, Trailing, Refused, Built, Root, Proof, Verdict, MayLackMemory, text}
+use Rattle.acp.specs.Replies.{Reply, BadLine, NoTree, NotLeaves, NoIndex, Trailing, Refused, Built, Root, Proof, Verdict, Changed, Bound, MayLackMemory, text}
 use Rattle.acp.specs.Tokens.{index_of}
 
 -- the tree's leaf digests, or no tree yet
@@ -57,6 +60,37 @@ on_leaves l before (Some hashed) = if is_tree_size (length hashed) then settled 
 abbrev pub tree_turn : Language → State → List (List ℕ) → Turn
 tree_turn l before [] = (BadLine, before)
 tree_turn l before (token ∷ tokens) = on_leaves l before (all l.hashed (token ∷ tokens))
+
+-- ---- digests D ..
+
+abbrev pub on_digests : Language → State → Option (List Digest) → Turn
+on_digests l before None = (BadLine, before)
+on_digests l before (Some digests) = if is_tree_size (length digests) then settled before (rooted l.pair digests) else ((NotLeaves, before))
+
+abbrev pub digests_turn : Language → State → List (List ℕ) → Turn
+digests_turn l before [] = (BadLine, before)
+digests_turn l before (token ∷ tokens) = on_digests l before (all l.digest (token ∷ tokens))
+
+-- ---- set I L
+
+abbrev pub set_settled : State → Outcome (List Digest) → Turn
+set_settled before (Ok digests) = (Changed, Some digests)
+set_settled before (Err error) = (Refused error, before)
+
+abbrev pub set_in : Language → List Digest → ℕ → Outcome Digest → Turn
+set_in l digests index leaf = if nat_lt index (length digests) then set_settled (Some digests) (changed l.pair leaf index digests) else ((NoIndex, Some digests))
+
+abbrev pub on_change : Language → State → Option ℕ → Option (Outcome Digest) → Turn
+on_change l before None leaf = (BadLine, before)
+on_change l before (Some index) None = (BadLine, before)
+on_change l None (Some index) (Some leaf) = (NoTree, None)
+on_change l (Some digests) (Some index) (Some leaf) = set_in l digests index leaf
+
+abbrev pub set_turn : Language → State → List (List ℕ) → Turn
+set_turn l before [] = (BadLine, before)
+set_turn l before (index ∷ []) = (BadLine, before)
+set_turn l before (index ∷ leaf ∷ []) = on_change l before (index_of index) (l.hashed leaf)
+set_turn l before (index ∷ leaf ∷ more ∷ tokens) = (BadLine, before)
 
 -- ---- root
 
@@ -114,15 +148,49 @@ check_reply l before (path ∷ []) = BadLine
 check_reply l before (path ∷ leaf ∷ []) = on_bytes l before (l.bytes path) (l.hashed leaf)
 check_reply l before (path ∷ leaf ∷ more ∷ tokens) = BadLine
 
+-- ---- bind P L
+
+-- what a path says of a leaf, where no bytes are left behind it
+abbrev pub bound_path : Language → List Digest → Outcome Digest → Way × List ℕ → Outcome (Option Binding)
+bound_path l digests leaf (way, []) = do
+  binding ← bound l.pair digests leaf way
+  Ok (Some binding)
+bound_path l digests leaf (way, byte ∷ bytes) = Ok None
+
+abbrev pub bound_bytes : Language → List Digest → Outcome Digest → List ℕ → Outcome (Option Binding)
+bound_bytes l digests leaf bytes = do
+  path ← told (l.read bytes)
+  bound_path l digests leaf path
+
+abbrev pub binding_reply : Outcome (Option Binding) → Reply
+binding_reply (Ok (Some binding)) = Bound binding
+binding_reply (Ok None) = Trailing
+binding_reply (Err error) = Refused error
+
+abbrev pub on_binding : Language → State → Option (List ℕ) → Option (Outcome Digest) → Reply
+on_binding l before None leaf = BadLine
+on_binding l before (Some bytes) None = BadLine
+on_binding l None (Some bytes) (Some leaf) = NoTree
+on_binding l (Some digests) (Some bytes) (Some leaf) = binding_reply (bound_bytes l digests leaf bytes)
+
+abbrev pub bind_reply : Language → State → List (List ℕ) → Reply
+bind_reply l before [] = BadLine
+bind_reply l before (path ∷ []) = BadLine
+bind_reply l before (path ∷ leaf ∷ []) = on_binding l before (l.bytes path) (l.hashed leaf)
+bind_reply l before (path ∷ leaf ∷ more ∷ tokens) = BadLine
+
 -- ---- lines
 
 abbrev pub by_word : Language → State → List (List ℕ) → Turn
 by_word l before [] = (BadLine, before)
 by_word l before (word ∷ tokens) =
     if bytes_eq word (codes "tree") then tree_turn l before tokens
+    else if bytes_eq word (codes "digests") then digests_turn l before tokens
+    else if bytes_eq word (codes "set") then set_turn l before tokens
     else if bytes_eq word (codes "root") then ((root_reply l before tokens, before))
     else if bytes_eq word (codes "proof") then ((proof_reply l before tokens, before))
     else if bytes_eq word (codes "check") then ((check_reply l before tokens, before))
+    else if bytes_eq word (codes "bind") then ((bind_reply l before tokens, before))
     else ((BadLine, before))
 
 -- the exact reply to a line, and the tree after it

@@ -6,11 +6,13 @@ ghost use Rattle.acp.specs.Steps.{Step, state_of};
 use crate::replies::plain;
 use crate::shell::Shell;
 use crate::tokens::first_token;
-use crate::words::{check_line, proof_line, root_line, tree_line};
+use crate::words::{
+    bind_line, check_line, digests_line, proof_line, root_line, set_line, tree_line,
+};
 use ark_crypto_primitives::merkle_tree::MerkleTree;
 use std::alloc::{AllocError, Global};
 
-/// The reply to one line, without a line feed. Only `tree` changes the tree.
+/// The reply to one line, without a line feed. Only `tree`, `digests` and `set` change the tree.
 pub fn answer<C: Shell>(
     alloc: Global,
     tree: &mut Option<MerkleTree<C>>,
@@ -22,12 +24,18 @@ pub fn answer<C: Shell>(
     let (word, left) = first_token(line);
     if word == b"tree".as_slice() {
         tree_line(alloc, tree, left)
+    } else if word == b"digests".as_slice() {
+        digests_line(alloc, tree, left)
+    } else if word == b"set".as_slice() {
+        set_line(alloc, tree, left)
     } else if word == b"root".as_slice() {
         root_line(alloc, tree, left)
     } else if word == b"proof".as_slice() {
         proof_line(alloc, tree, left)
     } else if word == b"check".as_slice() {
         check_line(alloc, tree, left)
+    } else if word == b"bind".as_slice() {
+        bind_line(alloc, tree, left)
     } else {
         plain(alloc, b"bad line")
     }

@@ -1,16 +1,18 @@
 //! The program, over a reader and writers.
 
 ghost use Rattle.std.specs.Bool.{Decides};
-ghost use Rattle.std.specs.Prelude.{◌≡◌, ◌≢◌, ◌∷◌, [], map, codes, string_bytes};
+ghost use Rattle.std.specs.Prelude.{◌≡◌, ◌≢◌, ◌⊎◌, ◌∷◌, [], map, codes, string_bytes, OnOk, IsOk};
 ghost use Rattle.std.specs.Io.Buffered.{reader_remaining};
 ghost use Rattle.acp.specs.Sessions.{Serves};
 ghost use Rattle.acp.specs.Sha256.{sha_language};
 ghost use Rattle.acp.specs.Steps.{Step};
+ghost use Rattle.acp.specs.Toy.{toy_language};
 
 use crate::run::run;
 use crate::sha256::Sha;
+use crate::toy::Toy;
 use std::alloc::Global;
-use std::io::{BufReader, Read, Write};
+use std::io::{self, BufReader, Read, Write};
 
 /// Whether a word stands alone.
 fn is_alone(words: &[String], word: &str) -> bool
@@ -28,19 +30,30 @@ pub fn command<R: Read, W: Write, E: Write>(
     replies: &mut W,
     faults: &mut E,
 ) -> u8
-    ensures unknown { map string_bytes words.now ≢ codes "sha256" ∷ [] → (result ≡ 2) × (lines.new ≡ lines.old) × (replies.new ≡ replies.old) }
-    ensures known { map string_bytes words.now ≡ codes "sha256" ∷ [] → result ≢ 2 }
-    ensures served { result ≡ 0 → Serves (Step sha_language) (reader_remaining R.remaining lines.old) (W.contents replies.old) (W.contents replies.new) }
+    ensures unknown { map string_bytes words.now ≢ codes "sha256" ∷ [] → map string_bytes words.now ≢ codes "toy" ∷ [] → (result ≡ 2) × (lines.new ≡ lines.old) × (replies.new ≡ replies.old) }
+    ensures known { (map string_bytes words.now ≡ codes "sha256" ∷ []) ⊎ (map string_bytes words.now ≡ codes "toy" ∷ []) → result ≢ 2 }
+    ensures sha256 { map string_bytes words.now ≡ codes "sha256" ∷ [] → result ≡ 0 → Serves (Step sha_language) (reader_remaining R.remaining lines.old) (W.contents replies.old) (W.contents replies.new) }
+    ensures toy { map string_bytes words.now ≡ codes "toy" ∷ [] → result ≡ 0 → Serves (Step toy_language) (reader_remaining R.remaining lines.old) (W.contents replies.old) (W.contents replies.new) }
     ensures quiet { result ≡ 0 → faults.new ≡ faults.old }
 {
-    if !is_alone(words, "sha256") {
+    if is_alone(words, "sha256") {
+        status(run::<Sha, R, W>(alloc, lines, replies), replies, faults)
+    } else if is_alone(words, "toy") {
+        status(run::<Toy, R, W>(alloc, lines, replies), replies, faults)
+    } else {
         let _ = faults.write_all(b"usage: acp sha256|toy\n");
-        return 2;
+        2
     }
-    match run::<Sha, R, W>(alloc, lines, replies) {
+}
+
+// The status of a session that ended so. Where it was stopped, what was answered before is sent off, if it can be.
+fn status<W: Write, E: Write>(ended: io::Result<()>, replies: &mut W, faults: &mut E) -> u8
+    ensures served { result ≡ 0 → OnOk ended ((replies.new ≡ replies.old) × (faults.new ≡ faults.old)) × IsOk ended }
+    ensures other { result ≢ 2 }
+{
+    match ended {
         Ok(()) => 0,
         Err(_) => {
-            // What was answered before the fault is sent off, where it can be.
             let _ = replies.flush();
             let _ = faults.write_all(b"acp: stopped\n");
             1

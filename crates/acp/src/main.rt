@@ -11,6 +11,7 @@ mod shell;
 #[cfg(test)]
 mod tests;
 mod tokens;
+mod toy;
 mod words;
 
 use crate::command::command;

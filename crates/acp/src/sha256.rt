@@ -30,11 +30,17 @@ impl Config for Sha {
 impl Shell for Sha {
     ghost language = { sha_language };
 
+    ghost parameters = { tt };
+
     fn leaf_params() {}
 
     fn two_params() {}
 
     fn read_leaf(alloc: Global, token: &[u8]) -> Result<Option<Vec<u8>>, AllocError> {
+        Self::read_bytes(alloc, token)
+    }
+
+    fn read_digest(alloc: Global, token: &[u8]) -> Result<Option<Vec<u8>>, AllocError> {
         Self::read_bytes(alloc, token)
     }
 

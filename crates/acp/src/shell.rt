@@ -17,6 +17,9 @@ pub trait Shell: Config {
     // What contracts see of it.
     ghost language: { Language };
 
+    // Some parameters of the leaf hash.
+    ghost parameters: { Self.LeafHash.Parameters };
+
     fn leaf_params() -> LeafParam<Self>;
 
     fn two_params() -> TwoToOneParam<Self>;
@@ -24,6 +27,10 @@ pub trait Shell: Config {
     /// The leaf that a token says, if it says one.
     fn read_leaf(alloc: Global, token: &[u8]) -> Result<Option<Self::Leaf>, AllocError>
         ensures { IfOk result (λ leaf. (p : Self.LeafHash.Parameters) → option_map (Self.LeafHash.meaning p) leaf ≡ language.hashed token.now) };
+
+    /// The digest that a token says, if it says one.
+    fn read_digest(alloc: Global, token: &[u8]) -> Result<Option<Self::LeafDigest>, AllocError>
+        ensures { IfOk result (λ digest. option_map Self.LeafDigest.numbers digest ≡ language.digest token.now) };
 
     /// The bytes that a token says, if it says some.
     fn read_bytes(alloc: Global, token: &[u8]) -> Result<Option<Vec<u8>>, AllocError>

@@ -2,3 +2,4 @@
 
 mod faults;
 mod sessions;
+mod toy;

@@ -24,7 +24,7 @@ pub mod crh {
 /// Merkle trees.
 pub mod merkle_tree {
     pub use ark_merkle::{
-        Config, DigestConverter, IdentityDigestConverter, LeafParam, MerkleTree, Path,
+        Binding, Config, DigestConverter, IdentityDigestConverter, LeafParam, MerkleTree, Path,
         TwoToOneParam, is_tree_size,
     };
 }

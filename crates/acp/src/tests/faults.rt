@@ -130,6 +130,7 @@ fn expect_usage(rt: &(impl Abort + AllocGlobal), words: &[&str]) -> Result<(), F
 fn tells_its_usage(rt: HostRuntime) -> Result<(), Fail> {
     expect_usage(&rt, &[])?;
     expect_usage(&rt, &["sha"])?;
-    expect_usage(&rt, &["toy"])?;
+    expect_usage(&rt, &["Toy"])?;
+    expect_usage(&rt, &["sha256", "toy"])?;
     expect_usage(&rt, &["sha256", "sha256"])
 }

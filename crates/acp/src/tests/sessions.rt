@@ -3,8 +3,12 @@ use std::io::BufReader;
 use std::process::Abort;
 use std::test::Fail;
 
-// Asks each line in one session, and expects each reply.
-fn expect_replies(rt: &(impl Abort + AllocGlobal), rows: &[(&str, &str)]) -> Result<(), Fail> {
+// Asks each line in one session of a configuration, and expects each reply.
+pub fn expect_replies_of(
+    rt: &(impl Abort + AllocGlobal),
+    configuration: &str,
+    rows: &[(&str, &str)],
+) -> Result<(), Fail> {
     let mut lines = String::new(rt.alloc());
     let mut replies = String::new(rt.alloc());
     for (line, reply) in rows {
@@ -13,7 +17,11 @@ fn expect_replies(rt: &(impl Abort + AllocGlobal), rows: &[(&str, &str)]) -> Res
         replies.push_str(reply)?;
         replies.push_str("\n")?;
     }
-    expect_session(rt, lines.as_bytes(), replies.as_bytes())
+    expect_session_of(rt, configuration, lines.as_bytes(), replies.as_bytes())
+}
+
+fn expect_replies(rt: &(impl Abort + AllocGlobal), rows: &[(&str, &str)]) -> Result<(), Fail> {
+    expect_replies_of(rt, "sha256", rows)
 }
 
 fn expect_session(
@@ -21,7 +29,16 @@ fn expect_session(
     lines: &[u8],
     replies: &[u8],
 ) -> Result<(), Fail> {
-    let words = vec![in rt.alloc(); String::from_str(rt.alloc(), "sha256")?]?;
+    expect_session_of(rt, "sha256", lines, replies)
+}
+
+fn expect_session_of(
+    rt: &(impl Abort + AllocGlobal),
+    configuration: &str,
+    lines: &[u8],
+    replies: &[u8],
+) -> Result<(), Fail> {
+    let words = vec![in rt.alloc(); String::from_str(rt.alloc(), configuration)?]?;
     let mut reader = BufReader::new(rt.alloc(), lines)?;
     let mut told = Vec::new(rt.alloc());
     let mut faults = Vec::new(rt.alloc());
@@ -111,7 +128,16 @@ fn tells_bad_lines_first(rt: HostRuntime) -> Result<(), Fail> {
             ("check 00 - -", "bad line"),
             ("check 0 -", "bad line"),
             ("check 00 6", "bad line"),
-            ("set 0 61", "bad line"),
+            ("set 0", "bad line"),
+            ("set 00 61", "bad line"),
+            ("set 0 6", "bad line"),
+            ("set 0 61 61", "bad line"),
+            ("set 0 61", "refused tree"),
+            ("bind 00", "bad line"),
+            ("bind 00 6", "bad line"),
+            ("bind 00 -", "refused tree"),
+            ("digests", "bad line"),
+            ("digests 6", "bad line"),
         ],
     )
 }
@@ -166,4 +192,44 @@ fn refuses_paths_of_thousands_of_digests(rt: HostRuntime) -> Result<(), Fail> {
     }
     line.extend_from_slice(b"0000000000000000 -")?;
     expect_session(&rt, &line, b"tree 2 height 2\nfalse\n")
+}
+
+#[test]
+fn makes_trees_of_digests(rt: HostRuntime) -> Result<(), Fail> {
+    let zeros = "0000000000000000000000000000000000000000000000000000000000000000";
+    let four = format!(in rt.alloc(); "digests {zeros} {zeros} {zeros} {zeros}")?;
+    let three = format!(in rt.alloc(); "digests {zeros} {zeros} {zeros}")?;
+    expect_replies(
+        &rt,
+        &[
+            (&three, "refused leaves"),
+            (&four, "tree 4 height 3"),
+            (
+                "root",
+                "root db56114e00fdd4c1f85c892bf35ac9a89289aaecb1ebd0a96cde606a748b5d71",
+            ),
+        ],
+    )
+}
+
+#[test]
+fn sets_leaves_and_binds_them(rt: HostRuntime) -> Result<(), Fail> {
+    let bind = format!(in rt.alloc(); "bind {PATH} -")?;
+    let other = format!(in rt.alloc(); "bind {PATH} 61")?;
+    let trailing = format!(in rt.alloc(); "bind {PATH}00 61")?;
+    expect_replies(
+        &rt,
+        &[
+            ("tree - 61", "tree 2 height 2"),
+            (&bind, "rejected"),
+            (&other, "stands"),
+            ("set 1 -", "ok"),
+            (&bind, "stands"),
+            (&other, "rejected"),
+            (&trailing, "refused trailing"),
+            ("bind 00 -", "refused truncated"),
+            ("set 2 -", "refused index"),
+            (&bind, "stands"),
+        ],
+    )
 }

@@ -1,0 +1,116 @@
+use crate::tests::sessions::expect_replies_of;
+use crate::toy::Toy;
+use ark_crypto_primitives::merkle_tree::{MerkleTree, is_tree_size};
+use ark_crypto_primitives::{Error, Refusal};
+use ark_groups::ff::{Fp, M257, PrimeField};
+use std::alloc::Global;
+use std::test::Fail;
+
+#[test]
+fn refuses_and_sets(rt: HostRuntime) -> Result<(), Fail> {
+    expect_replies_of(
+        &rt,
+        "toy",
+        &[
+            ("root", "refused tree"),
+            ("tree 01 02 03", "refused leaves"),
+            ("tree 01 02 03 04", "tree 4 height 3"),
+            ("set 1 e703", "refused custom 1"),
+            ("root", "root 1b00"),
+            ("proof 4", "refused index"),
+            ("proof 2", "path 0400010000000000000005000200000000000000"),
+            ("set 3 00", "ok"),
+            ("root", "root 0b00"),
+            ("tree 01 02", "tree 2 height 2"),
+            ("root", "root 0500"),
+            ("proof 0", "path 020000000000000000000000000000000000"),
+            ("tree 01 02 03 04 05 06 07 08", "tree 8 height 4"),
+            ("root", "root 9900"),
+            ("tree e703 01", "refused custom 1"),
+            ("root", "root 9900"),
+        ],
+    )
+}
+
+#[test]
+fn reads_its_tokens(rt: HostRuntime) -> Result<(), Fail> {
+    expect_replies_of(
+        &rt,
+        "toy",
+        &[
+            ("tree - -", "bad line"),
+            ("tree ffffffffffffffff 0000000000000000", "tree 2 height 2"),
+            ("tree 000000000000000000 01", "bad line"),
+            ("digests 0001 0000", "tree 2 height 2"),
+            ("root", "root 0001"),
+            ("digests 0101 0000", "bad line"),
+            ("digests 01 0000", "bad line"),
+            ("digests 010000 0000", "bad line"),
+            ("check - 01", "bad line"),
+        ],
+    )
+}
+
+#[test]
+fn names_the_level_of_a_collision(rt: HostRuntime) -> Result<(), Fail> {
+    let one = "010001000000000000000b000000000000000000 03";
+    let zero = "000001000000000000000a000000000000000000 07";
+    let past = "020001000000000000000b000400000000000000 01";
+    let wrong = "020001000000000000000b000000000000000000 02";
+    let long = "020002000000000000000b000b000000000000000000 01";
+    let bind = |path| format!(in rt.alloc(); "bind {path}");
+    let check = |path| format!(in rt.alloc(); "check {path}");
+    expect_replies_of(
+        &rt,
+        "toy",
+        &[
+            ("tree 01 02 03 04", "tree 4 height 3"),
+            (&check(one)?, "true"),
+            (&bind(one)?, "differs 1"),
+            (&check(zero)?, "true"),
+            (&bind(zero)?, "differs 0"),
+            (&check(past)?, "true"),
+            (&bind(past)?, "stands"),
+            (&check(wrong)?, "false"),
+            (&bind(wrong)?, "rejected"),
+            (&bind(long)?, "refused length 2"),
+        ],
+    )
+}
+
+fn tree_of(alloc: Global, leaves: &[u64]) -> Result<MerkleTree<Toy>, Error> {
+    if !is_tree_size(leaves.len()) {
+        return Err(Error::IncorrectInputLength(leaves.len()));
+    }
+    MerkleTree::new(alloc, &(), &(), leaves)
+}
+
+fn digest(value: u64) -> Fp<M257> {
+    Fp::from_u64(value)
+}
+
+#[test]
+fn updates_where_the_new_root_is_the_asserted_one(rt: HostRuntime) -> Result<(), Fail> {
+    let mut tree = tree_of(rt.alloc(), &[1, 2, 3, 4])?;
+    if tree.size() == 4 {
+        assert!(rt; !tree.check_update(rt.alloc(), 0, &5, &digest(30))?);
+        assert!(rt; *tree.root() == digest(27));
+        assert!(rt; tree.check_update(rt.alloc(), 0, &5, &digest(31))?);
+        assert!(rt; *tree.root() == digest(31));
+    }
+    if tree.size() == 4 {
+        let refused = tree.update(rt.alloc(), 1, &999);
+        assert!(rt; refused == Err(Error::GenericError(Refusal::Custom(1))));
+        assert!(rt; *tree.root() == digest(31));
+        assert!(rt; *tree.get_leaf_sibling_hash(0) == digest(2));
+    }
+    Ok(())
+}
+
+#[test]
+fn blanks(rt: HostRuntime) -> Result<(), Fail> {
+    let tree = MerkleTree::<Toy>::blank(rt.alloc(), &(), &(), 4)?;
+    assert_eq!(rt; (tree.size(), tree.height()), (8, 4));
+    assert!(rt; *tree.root() == digest(0));
+    Ok(())
+}
