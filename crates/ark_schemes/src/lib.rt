@@ -1,0 +1,4 @@
+//! BLAKE2s, pseudorandom functions and commitments.
+#![tactic(auto)]
+
+pub mod prf;

@@ -1,0 +1,3 @@
+//! Pseudorandom functions.
+
+pub mod blake2s;
