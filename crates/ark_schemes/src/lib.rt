@@ -1,4 +1,6 @@
-//! BLAKE2s, pseudorandom functions and commitments.
+//! Pseudorandom functions and commitments, with BLAKE2s (RFC 7693) under them.
 #![tactic(auto)]
 
+pub mod commitment;
 pub mod prf;
+mod stand_in;
