@@ -20,7 +20,7 @@ words_from-same b c i j same =
     fill_by_all (λ k. word_at c (j + 4 * k)) (map (λ k. word_at b (i + 4 * k)) (range_with_len 0 16)) 16 0 (length-map-range_with_len (λ k. word_at b (i + 4 * k)) 0 16)
     (λ k lt. get_or-map-range_with_len (λ k. word_at b (i + 4 * k)) 0 16 k k 0 lt (omega arith)
         ∙ word_at-same b c (i + 4 * k) (j + 4 * k) (λ n below.
-        rw (add_assoc, add_assoc) (same (4 * k + n) (omega arith))))
+        rw (add_assoc i (4 * k) n, add_assoc j (4 * k) n) (same (4 * k + n) (omega arith))))
 
 -- an array that was filled word by word
 pub words_are : (b : List ℕ) (i : ℕ) (words : List ℕ) → length words ≡ 16 → ((k : ℕ) → k < 16 → slice_index words k ≡ word_at b (i + 4 * k)) → words ≡ words_from b i
@@ -58,21 +58,35 @@ block_at text i lt =
 
 -- ---- a text of two slices
 
+-- a byte of the first slice
+byte_of_first : (first second : List ℕ) (p : ℕ) → p < length first → slice_index first p ≡ slice_index (first ++ second) p
+byte_of_first first second p lt = sym (get_or_append_left first second 0 p lt)
+
+-- a byte of the second slice
+byte_of_second : (first second : List ℕ) (p i : ℕ) → p ≡ length first + i → slice_index second i ≡ slice_index (first ++ second) p
+byte_of_second first second p i place =
+    let behind : p - length first ≡ i = omega arith in
+    sym (rw (behind) at (get_or-append_right first second (length first) p 0 refl (omega arith)))
+
+-- a word within the first slice
+pub word_of_first : (first second : List ℕ) (p : ℕ) → p + 4 ≤ length first → word_at first p ≡ word_at (first ++ second) p
+word_of_first first second p le = word_at-same first (first ++ second) p p (λ k lt. byte_of_first first second (p + k) (omega arith))
+
+-- a word within the second slice, which it enters at i
+pub word_of_second : (first second : List ℕ) (p i : ℕ) → p ≡ length first + i → word_at second i ≡ word_at (first ++ second) p
+word_of_second first second p i place = word_at-same second (first ++ second) i p (λ k lt. byte_of_second first second (p + k) (i + k) (omega arith))
+
 -- a block within the first slice
 pub words_of_first : (first second : List ℕ) (p : ℕ) → p + 64 ≤ length first → words_from (slice_range first p (p + 64)) 0 ≡ words_from (first ++ second) p
 words_of_first first second p le =
     words_from-same (slice_range first p (p + 64)) (first ++ second) 0 p (λ k lt.
-    rw (zero-add) (get_or-take (p + 64 - p) (drop p first) k 0 (omega arith) ∙ get_or-drop p first k 0 ∙ sym (get_or_append_left first second 0 (p + k) (omega arith))))
+    rw (zero-add) (get_or-take (p + 64 - p) (drop p first) k 0 (omega arith) ∙ get_or-drop p first k 0 ∙ byte_of_first first second (p + k) (omega arith)))
 
--- a block within the second one
-pub words_of_second : (first second : List ℕ) (p : ℕ) → length first ≤ p → p - length first + 64 ≤ length second
-    → words_from (slice_range second (p - length first) (p - length first + 64)) 0 ≡ words_from (first ++ second) p
-words_of_second first second p le within =
-    let start : ℕ = p - length first in
-    words_from-same (slice_range second start (start + 64)) (first ++ second) 0 p (λ k lt.
-    let behind : p + k - length first ≡ start + k = omega arith in
-    rw (zero-add) (get_or-take (start + 64 - start) (drop start second) k 0 (omega arith) ∙ get_or-drop start second k 0
-    ∙ sym (rw (behind) at (get_or-append_right first second (length first) (p + k) 0 refl (omega arith)))))
+-- a block within the second slice, which it enters at i
+pub words_of_second : (first second : List ℕ) (p i : ℕ) → p ≡ length first + i → words_from (slice_range second i (i + 64)) 0 ≡ words_from (first ++ second) p
+words_of_second first second p i place =
+    words_from-same (slice_range second i (i + 64)) (first ++ second) 0 p (λ k lt.
+    rw (zero-add) (get_or-take (i + 64 - i) (drop i second) k 0 (omega arith) ∙ get_or-drop i second k 0 ∙ byte_of_second first second (p + k) (i + k) (omega arith)))
 
 -- ---- a state, block by block
 

@@ -20,8 +20,8 @@ fn byte_at(first: &[u8], second: &[u8], place: usize) -> u8
     }
 }
 
-// The word at a place of the text.
-fn word_at(first: &[u8], second: &[u8], place: usize) -> u32
+// The word at a place of the text, byte by byte.
+fn word_by_bytes(first: &[u8], second: &[u8], place: usize) -> u32
     requires { place + 4 ≤ 2 ^ 64 }
     ensures { result ≡ word_at (first.now ++ second.now) place }
 {
@@ -33,6 +33,32 @@ fn word_at(first: &[u8], second: &[u8], place: usize) -> u32
     ])
 }
 
+// The word at a place of one slice.
+fn word_of(bytes: &[u8], i: usize) -> u32
+    requires { i + 4 ≤ length bytes.now }
+    ensures { result ≡ word_at bytes.now i }
+{
+    u32::from_le_bytes([bytes[i], bytes[i + 1], bytes[i + 2], bytes[i + 3]])
+}
+
+// The word at a place of the text: from one slice, where it lies within it.
+fn word_at(first: &[u8], second: &[u8], place: usize) -> u32
+    requires { place + 4 ≤ 2 ^ 64 }
+    ensures { result ≡ word_at (first.now ++ second.now) place }
+{
+    if place < first.len() {
+        if first.len() - place >= 4 {
+            return word_of(first, place);
+        }
+    } else {
+        let start = place - first.len();
+        if start < second.len() && second.len() - start >= 4 {
+            return word_of(second, start);
+        }
+    }
+    word_by_bytes(first, second, place)
+}
+
 // The sixteen words of a block.
 fn words_of(block: &[u8]) -> [u32; 16]
     requires { length block.now ≡ 64 }
@@ -40,8 +66,7 @@ fn words_of(block: &[u8]) -> [u32; 16]
 {
     let mut words = [0; 16];
     'load: for i in 0..16 {
-        let at = 4 * i;
-        words[i] = u32::from_le_bytes([block[at], block[at + 1], block[at + 2], block[at + 3]]);
+        words[i] = word_of(block, 4 * i);
     }
     words
 }
