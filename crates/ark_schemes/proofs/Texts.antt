@@ -19,8 +19,8 @@ unfolding words_from
 words_from-same b c i j same =
     fill_by_all (λ k. word_at c (j + 4 * k)) (map (λ k. word_at b (i + 4 * k)) (range_with_len 0 16)) 16 0 (length-map-range_with_len (λ k. word_at b (i + 4 * k)) 0 16)
     (λ k lt. get_or-map-range_with_len (λ k. word_at b (i + 4 * k)) 0 16 k k 0 lt (omega arith)
-        ∙ word_at-same b c (i + 4 * k) (j + 4 * k) (λ n below.
-        rw (add_assoc i (4 * k) n, add_assoc j (4 * k) n) (same (4 * k + n) (omega arith))))
+    ∙ word_at-same b c (i + 4 * k) (j + 4 * k) (λ n below.
+    rw (add_assoc i (4 * k) n, add_assoc j (4 * k) n) (same (4 * k + n) (omega arith))))
 
 -- an array that was filled word by word
 pub words_are : (b : List ℕ) (i : ℕ) (words : List ℕ) → length words ≡ 16 → ((k : ℕ) → k < 16 → slice_index words k ≡ word_at b (i + 4 * k)) → words ≡ words_from b i

@@ -9,6 +9,9 @@ use ark_base::error::{Error, Refusal};
 use rand::Rng;
 use std::alloc::Global;
 
+#[cfg(test)]
+mod tests;
+
 /// The BLAKE2s digest of the input followed by 32 bytes of randomness.
 pub struct Commitment;
 

@@ -5,6 +5,8 @@ ghost use Rattle.ark_base.specs.Outcome.{AnswersBy};
 ghost use Rattle.ark_schemes.specs.Blake2s.{blake2s, blake2s_with};
 
 mod compress;
+#[cfg(test)]
+mod tests;
 mod text;
 
 use crate::prf::PRF;
