@@ -27,34 +27,41 @@ sigma =
 
 -- ---- a block
 
--- v[a] := v[a] + v[b] + x, modulo 2 ^ 32
-abbrev pub add : ℕ → ℕ → ℕ → List ℕ → List ℕ
-add a b x v = slice_set v a ((slice_index v a + slice_index v b + x) % 2 ^ 32)
+-- the exclusive or of two words, turned right by k bits (2.3)
+abbrev pub turned : ℕ → ℕ → ℕ → ℕ
+turned k x y = rotate_right w32 (bit_xor x y) k
 
--- v[a] := (v[a] ^ v[b]) >>> k
-abbrev pub turn : ℕ → ℕ → ℕ → List ℕ → List ℕ
-turn a b k v = slice_set v a (rotate_right w32 (bit_xor (slice_index v a) (slice_index v b)) k)
+-- G on four words, with two words x and y of a block (3.1)
+unfoldable pub mixed : ℕ → ℕ → ℕ → ℕ → ℕ → ℕ → List ℕ
+mixed a b c d x y =
+    let a1 : ℕ = (a + b + x) % 2 ^ 32 in
+    let d1 : ℕ = turned 16 d a1 in
+    let c1 : ℕ = (c + d1) % 2 ^ 32 in
+    let b1 : ℕ = turned 12 b c1 in
+    let a2 : ℕ = (a1 + b1 + y) % 2 ^ 32 in
+    let d2 : ℕ = turned 8 d1 a2 in
+    let c2 : ℕ = (c1 + d2) % 2 ^ 32 in
+    let b2 : ℕ = turned 7 b1 c2 in
+    a2 ∷ b2 ∷ c2 ∷ d2 ∷ []
 
--- half of G on the words a, b, c and d of v, with a word x and two rotations (3.1)
-unfoldable pub half_mixed : ℕ → ℕ → ℕ → ℕ → ℕ → ℕ → ℕ → List ℕ → List ℕ
-half_mixed a b c d x j k v = turn b c k (add c d 0 (turn d a j (add a b x v)))
-
--- G on the words a, b, c and d of v, with x and y (3.1)
-unfoldable pub mixed : ℕ → ℕ → ℕ → ℕ → ℕ → ℕ → List ℕ → List ℕ
-mixed a b c d x y v = half_mixed a b c d y 8 7 (half_mixed a b c d x 16 12 v)
+-- G on the words of v at the places a, b, c and d (3.1)
+abbrev pub mixed_at : ℕ → ℕ → ℕ → ℕ → ℕ → ℕ → List ℕ → List ℕ
+mixed_at a b c d x y v =
+    let w : List ℕ = mixed (slice_index v a) (slice_index v b) (slice_index v c) (slice_index v d) x y in
+    slice_set (slice_set (slice_set (slice_set v a (slice_index w 0)) b (slice_index w 1)) c (slice_index w 2)) d (slice_index w 3)
 
 -- a round with the words s of a block, in the order of a row of SIGMA: the columns, then the diagonals (3.2)
 unfoldable pub round : List ℕ → List ℕ → List ℕ
 round v s =
     let w : ℕ → ℕ = λ i. slice_index s i in
-    let v1 = mixed 0 4 8 12 (w 0) (w 1) v in
-    let v2 = mixed 1 5 9 13 (w 2) (w 3) v1 in
-    let v3 = mixed 2 6 10 14 (w 4) (w 5) v2 in
-    let v4 = mixed 3 7 11 15 (w 6) (w 7) v3 in
-    let v5 = mixed 0 5 10 15 (w 8) (w 9) v4 in
-    let v6 = mixed 1 6 11 12 (w 10) (w 11) v5 in
-    let v7 = mixed 2 7 8 13 (w 12) (w 13) v6 in
-    mixed 3 4 9 14 (w 14) (w 15) v7
+    let v1 = mixed_at 0 4 8 12 (w 0) (w 1) v in
+    let v2 = mixed_at 1 5 9 13 (w 2) (w 3) v1 in
+    let v3 = mixed_at 2 6 10 14 (w 4) (w 5) v2 in
+    let v4 = mixed_at 3 7 11 15 (w 6) (w 7) v3 in
+    let v5 = mixed_at 0 5 10 15 (w 8) (w 9) v4 in
+    let v6 = mixed_at 1 6 11 12 (w 10) (w 11) v5 in
+    let v7 = mixed_at 2 7 8 13 (w 12) (w 13) v6 in
+    mixed_at 3 4 9 14 (w 14) (w 15) v7
 
 -- the local vector: h, then IV with the counter t in two of its words, one inverted for the last block (3.2)
 abbrev pub local_vector : List ℕ → ℕ → Bool → List ℕ

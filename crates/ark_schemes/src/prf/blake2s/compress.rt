@@ -1,7 +1,7 @@
 //! The compression function of BLAKE2s (RFC 7693, section 3).
 
 ghost use Rattle.std.specs.Prelude.{◌≡◌, ◌<◌, ◌/◌, ◌^◌};
-ghost use Rattle.ark_schemes.specs.Blake2s.{half_mixed, mixed, round, local_vector, rounds, finished, compressed};
+ghost use Rattle.ark_schemes.specs.Blake2s.{mixed, round, local_vector, rounds, finished, compressed};
 
 /// IV (section 2.6).
 pub(super) const IV: [u32; 8] = [
@@ -15,42 +15,20 @@ pub(super) const IV: [u32; 8] = [
     0x5be0_cd19,
 ];
 
-// Half of G, with a word and two rotations (section 3.1).
-#[inline(always)]
-fn half_mix(
-    mut v: [u32; 16],
-    a: usize,
-    b: usize,
-    c: usize,
-    d: usize,
-    x: u32,
-    j: u32,
-    k: u32,
-) -> [u32; 16]
-    requires a { a < 16 }
-    requires b { b < 16 }
-    requires c { c < 16 }
-    requires d { d < 16 }
-    ensures { result ≡ half_mixed a b c d x j k v }
-{
-    v[a] = v[a].wrapping_add(v[b]).wrapping_add(x);
-    v[d] = (v[d] ^ v[a]).rotate_right(j);
-    v[c] = v[c].wrapping_add(v[d]);
-    v[b] = (v[b] ^ v[c]).rotate_right(k);
-    v
-}
-
 // G (section 3.1).
 #[inline(always)]
-fn mix(v: [u32; 16], a: usize, b: usize, c: usize, d: usize, x: u32, y: u32) -> [u32; 16]
-    requires a { a < 16 }
-    requires b { b < 16 }
-    requires c { c < 16 }
-    requires d { d < 16 }
-    ensures { result ≡ mixed a b c d x y v }
+fn mix(a: u32, b: u32, c: u32, d: u32, x: u32, y: u32) -> [u32; 4]
+    ensures { result ≡ mixed a b c d x y }
 {
-    let v = half_mix(v, a, b, c, d, x, 16, 12);
-    half_mix(v, a, b, c, d, y, 8, 7)
+    let a = a.wrapping_add(b).wrapping_add(x);
+    let d = (d ^ a).rotate_right(16);
+    let c = c.wrapping_add(d);
+    let b = (b ^ c).rotate_right(12);
+    let a = a.wrapping_add(b).wrapping_add(y);
+    let d = (d ^ a).rotate_right(8);
+    let c = c.wrapping_add(d);
+    let b = (b ^ c).rotate_right(7);
+    [a, b, c, d]
 }
 
 // A round, with the block's words in the order of a row of SIGMA (section 3.2).
@@ -58,14 +36,20 @@ fn mix(v: [u32; 16], a: usize, b: usize, c: usize, d: usize, x: u32, y: u32) -> 
 fn mix_all(v: [u32; 16], s: [u32; 16]) -> [u32; 16]
     ensures { result ≡ round v s }
 {
-    let v = mix(v, 0, 4, 8, 12, s[0], s[1]);
-    let v = mix(v, 1, 5, 9, 13, s[2], s[3]);
-    let v = mix(v, 2, 6, 10, 14, s[4], s[5]);
-    let v = mix(v, 3, 7, 11, 15, s[6], s[7]);
-    let v = mix(v, 0, 5, 10, 15, s[8], s[9]);
-    let v = mix(v, 1, 6, 11, 12, s[10], s[11]);
-    let v = mix(v, 2, 7, 8, 13, s[12], s[13]);
-    mix(v, 3, 4, 9, 14, s[14], s[15])
+    let [a0, a1, a2, a3, b0, b1, b2, b3, c0, c1, c2, c3, d0, d1, d2, d3] = v;
+    // The columns.
+    let [a0, b0, c0, d0] = mix(a0, b0, c0, d0, s[0], s[1]);
+    let [a1, b1, c1, d1] = mix(a1, b1, c1, d1, s[2], s[3]);
+    let [a2, b2, c2, d2] = mix(a2, b2, c2, d2, s[4], s[5]);
+    let [a3, b3, c3, d3] = mix(a3, b3, c3, d3, s[6], s[7]);
+    // The diagonals.
+    let [a0, b1, c2, d3] = mix(a0, b1, c2, d3, s[8], s[9]);
+    let [a1, b2, c3, d0] = mix(a1, b2, c3, d0, s[10], s[11]);
+    let [a2, b3, c0, d1] = mix(a2, b3, c0, d1, s[12], s[13]);
+    let [a3, b0, c1, d2] = mix(a3, b0, c1, d2, s[14], s[15]);
+    [
+        a0, a1, a2, a3, b0, b1, b2, b3, c0, c1, c2, c3, d0, d1, d2, d3,
+    ]
 }
 
 // The ten rounds, with the rows of SIGMA (section 2.7) written out.
