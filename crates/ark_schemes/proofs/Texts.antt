@@ -3,7 +3,7 @@ use Rattle.std.proofs.Common.{◌≡◌, ℕ, zero, suc, ◌+◌, ◌-◌, ◌*�
 use Rattle.std.specs.List.{range_with_len}
 use Rattle.std.specs.Prelude.{slice_index_or, slice_range}
 use Rattle.std.proofs.lemmas.Bool.{cases_lt}
-use Rattle.std.proofs.lemmas.List.{get_or_append_left, get_or-append_right, get_or-take, get_or-drop, get_or_past, length-take, length-drop}
+use Rattle.std.proofs.lemmas.List.{length-append, get_or_append_left, get_or-append_right, get_or-take, get_or-drop, get_or_past, length-take, length-drop}
 use Rattle.std.proofs.lemmas.List.FromFn.{fill_by_all, get_or-map-range_with_len, length-map-range_with_len}
 use Rattle.ark_schemes.specs.Blake2s.{compressed, word_at, words_from, filled, block_count, blocks, hashed, hashed_whole}
 
@@ -75,6 +75,11 @@ word_of_first first second p le = word_at-same first (first ++ second) p p (λ k
 -- a word within the second slice, which it enters at i
 pub word_of_second : (first second : List ℕ) (p i : ℕ) → p ≡ length first + i → word_at second i ≡ word_at (first ++ second) p
 word_of_second first second p i place = word_at-same second (first ++ second) i p (λ k lt. byte_of_second first second (p + k) (i + k) (omega arith))
+
+-- a word past the end
+pub word_past : (first second : List ℕ) (p : ℕ) → length first + length second ≤ p → 0 ≡ word_at (first ++ second) p
+word_past first second p past =
+    word_at-same [] (first ++ second) 0 p (λ k lt. sym (get_or_past (first ++ second) (p + k) 0 (omega (arith, length-append first second))))
 
 -- a block within the first slice
 pub words_of_first : (first second : List ℕ) (p : ℕ) → p + 64 ≤ length first → words_from (slice_range first p (p + 64)) 0 ≡ words_from (first ++ second) p

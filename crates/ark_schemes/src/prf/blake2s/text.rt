@@ -41,7 +41,7 @@ fn word_of(bytes: &[u8], i: usize) -> u32
     u32::from_le_bytes([bytes[i], bytes[i + 1], bytes[i + 2], bytes[i + 3]])
 }
 
-// The word at a place of the text: from one slice, where it lies within it.
+// The word at a place of the text: from one slice, where it lies within it, and zero past the end.
 fn word_at(first: &[u8], second: &[u8], place: usize) -> u32
     requires { place + 4 ≤ 2 ^ 64 }
     ensures { result ≡ word_at (first.now ++ second.now) place }
@@ -52,7 +52,10 @@ fn word_at(first: &[u8], second: &[u8], place: usize) -> u32
         }
     } else {
         let start = place - first.len();
-        if start < second.len() && second.len() - start >= 4 {
+        if start >= second.len() {
+            return 0;
+        }
+        if second.len() - start >= 4 {
             return word_of(second, start);
         }
     }
