@@ -6,6 +6,8 @@ ghost use Rattle.ark_schemes.specs.Blake2s.{blake2s, blake2s_with};
 
 mod compress;
 #[cfg(test)]
+mod plain;
+#[cfg(test)]
 mod tests;
 mod text;
 

@@ -1,6 +1,6 @@
 //! The compression function of BLAKE2s (RFC 7693, section 3).
 
-ghost use Rattle.std.specs.Prelude.{◌≡◌, ◌<◌, ◌/◌, ◌^◌};
+ghost use Rattle.std.specs.Prelude.{◌≡◌};
 ghost use Rattle.ark_schemes.specs.Blake2s.{mixed, round, local_vector, rounds, finished, compressed};
 
 /// IV (section 2.6).
@@ -32,6 +32,7 @@ fn mix(a: u32, b: u32, c: u32, d: u32, x: u32, y: u32) -> [u32; 4]
 }
 
 // A round, with the block's words in the order of a row of SIGMA (section 3.2).
+#[rattlefmt::skip]
 #[inline(always)]
 fn mix_all(v: [u32; 16], s: [u32; 16]) -> [u32; 16]
     ensures { result ≡ round v s }
@@ -47,9 +48,7 @@ fn mix_all(v: [u32; 16], s: [u32; 16]) -> [u32; 16]
     let [a1, b2, c3, d0] = mix(a1, b2, c3, d0, s[10], s[11]);
     let [a2, b3, c0, d1] = mix(a2, b3, c0, d1, s[12], s[13]);
     let [a3, b0, c1, d2] = mix(a3, b0, c1, d2, s[14], s[15]);
-    [
-        a0, a1, a2, a3, b0, b1, b2, b3, c0, c1, c2, c3, d0, d1, d2, d3,
-    ]
+    [a0, a1, a2, a3, b0, b1, b2, b3, c0, c1, c2, c3, d0, d1, d2, d3]
 }
 
 // The ten rounds, with the rows of SIGMA (section 2.7) written out.

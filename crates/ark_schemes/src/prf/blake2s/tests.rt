@@ -267,3 +267,22 @@ fn seed_then_input(rt: HostRuntime) -> Result<(), Fail> {
     );
     Ok(())
 }
+
+// Every length up to three blocks, cut at a third, against the definition with all blocks of the whole text.
+#[test]
+fn as_the_definition(rt: HostRuntime) -> Result<(), Fail> {
+    let alloc = rt.alloc();
+    let salt = [1, 2, 3, 4, 5, 6, 7, 8];
+    let personalization = [9, 10, 11, 12, 13, 14, 15, 16];
+    for len in 0..193usize {
+        let text = text_of(alloc, len)?;
+        assert_eq!(rt; text.len(), len);
+        let defined = plain::digest(alloc, &salt, &personalization, &text)?;
+        let (first, second) = text.split_at(len / 3);
+        assert_eq!(rt;
+            text::digest(&salt, &personalization, first, second),
+            defined
+        );
+    }
+    Ok(())
+}

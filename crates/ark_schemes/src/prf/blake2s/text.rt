@@ -1,7 +1,7 @@
 //! The digest of a text that is two slices, one after the other (RFC 7693, section 3.3).
 
-ghost use Rattle.std.specs.Prelude.{◌≡◌, ◌+◌, ◌*◌, ◌^◌, ◌<◌, ◌≤◌, ◌++◌, length, slice_index};
-ghost use Rattle.ark_schemes.specs.Blake2s.{word_at, words_from, blocks, hashed, first_state, state_bytes, blake2s_with};
+ghost use Rattle.std.specs.Prelude.{◌≡◌, ◌+◌, ◌^◌, ◌<◌, ◌≤◌, ◌++◌, length, slice_index};
+ghost use Rattle.ark_schemes.specs.Blake2s.{word_at, words_from, first_state, state_bytes, blake2s_with};
 
 use crate::prf::blake2s::compress::{IV, compress};
 
@@ -63,7 +63,7 @@ fn word_at(first: &[u8], second: &[u8], place: usize) -> u32
 }
 
 // The sixteen words of a block.
-fn words_of(block: &[u8]) -> [u32; 16]
+pub(super) fn words_of(block: &[u8]) -> [u32; 16]
     requires { length block.now ≡ 64 }
     ensures { result ≡ words_from block.now 0 }
 {
@@ -106,7 +106,7 @@ fn words_at(first: &[u8], second: &[u8], place: usize) -> [u32; 16]
 
 // The state before the first block.
 #[tactic(auto, unfolding(crate::specs::Blake2s::first_state))]
-fn first_state(salt: &[u8; 8], personalization: &[u8; 8]) -> [u32; 8]
+pub(super) fn first_state(salt: &[u8; 8], personalization: &[u8; 8]) -> [u32; 8]
     ensures { result ≡ first_state salt.now personalization.now }
 {
     let [a, b, c, d, e, f, g, h] = *salt;
@@ -125,7 +125,7 @@ fn first_state(salt: &[u8; 8], personalization: &[u8; 8]) -> [u32; 8]
 
 // The bytes of a state.
 #[tactic(auto, unfolding(crate::specs::Blake2s::state_bytes))]
-fn state_bytes(h: [u32; 8]) -> [u8; 32]
+pub(super) fn state_bytes(h: [u32; 8]) -> [u8; 32]
     ensures { result ≡ state_bytes h }
 {
     let mut bytes = [0; 32];
