@@ -3,3 +3,4 @@ pub mod Steps
 pub mod Parts
 pub mod Numbers
 pub mod Lists
+pub mod Digits

@@ -11,16 +11,23 @@ ghost use Rattle.ark_base.specs.Reading.{Reading, Reads, Spells, IsCanonical, to
 ghost use Rattle.ark_base.specs.Spelling.{items_at};
 ghost use Rattle.ark_base.specs.declared.error.SerializationError.TheVariants.{Truncated};
 
+mod arrays;
+mod below;
 mod digest;
+mod flags;
 mod lists;
 mod numbers;
 mod pairs;
+mod slices;
 #[cfg(test)]
 mod tests;
+mod whole;
 
 use crate::error::Error;
+pub use below::{number_of, read_below, serialize_number};
 pub use digest::{DigestItem, Duplicate, Numbered};
 use std::alloc::Global;
+pub use whole::canonical_bytes;
 
 /// A type whose values have canonical bytes, as contracts see it.
 pub trait Canonical {

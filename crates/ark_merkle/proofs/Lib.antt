@@ -1,4 +1,7 @@
 pub mod BitLemmas
+pub mod Binds
+pub mod Bounds
+pub mod Changes
 pub mod Climbs
 pub mod Eaches
 pub mod CoupleLemmas
@@ -6,8 +9,10 @@ pub mod Logs
 pub mod Levels
 pub mod RowLemmas
 pub mod Parts
+pub mod TreeChanges
 pub mod TreeLemmas
 pub mod PlaceLemmas
+pub mod Puts
 pub mod Readings
 pub mod OwnPaths
 pub mod TreeReads

@@ -23,19 +23,19 @@ digest_eq-same digest = (bytes_eq-Decides digest digest).1 refl
 -- ---- neighbours
 
 -- the place above is the half of a place
-place-above : (index k : ℕ) → index / 2 ^ suc k ≡ index / 2 ^ k / 2
+pub place-above : (index k : ℕ) → index / 2 ^ suc k ≡ index / 2 ^ k / 2
 place-above index k = ap (λ (n : ℕ). index / n) (pow-suc 2 k) ∙ sym (div-div-eq-div-mul index (2 ^ k) 2)
 
 -- the bit of a level is the lowest of the place there
-bit_at-level : (index k : ℕ) → bit_at (index / 2 ^ k) 0 ≡ bit_at index k
+pub bit_at-level : (index k : ℕ) → bit_at (index / 2 ^ k) 0 ≡ bit_at index k
 bit_at-level index k = let one : index / 2 ^ k / 2 ^ 0 ≡ index / 2 ^ k = omega arith in rw one refl
 
 -- a place and its neighbour, from the left
-record IsCouple (b : Bool) (i : ℕ) : Type 0 where
-  place_is : i ≡ (if b then 2 * (i / 2) + 1 else 2 * (i / 2))
-  neighbour_is : (if b then i - 1 else i + 1) ≡ (if b then 2 * (i / 2) else 2 * (i / 2) + 1)
+pub record IsCouple (b : Bool) (i : ℕ) : Type 0 where
+  pub place_is : i ≡ (if b then 2 * (i / 2) + 1 else 2 * (i / 2))
+  pub neighbour_is : (if b then i - 1 else i + 1) ≡ (if b then 2 * (i / 2) else 2 * (i / 2) + 1)
 
-is_couple : (i : ℕ) (b : Bool) → bit_at i 0 ≡ b → IsCouple b i
+pub is_couple : (i : ℕ) (b : Bool) → bit_at i 0 ≡ b → IsCouple b i
 is_couple i true is = let odd : (i / 2 ^ 0) % 2 ≡ 1 = eqb-true ((i / 2 ^ 0) % 2) 1 is in record { place_is = omega arith; neighbour_is = omega arith }
 is_couple i false is = let even : (i / 2 ^ 0) % 2 ≡ 1 → ⊥ = eqb-false ((i / 2 ^ 0) % 2) 1 is in record { place_is = omega arith; neighbour_is = omega arith }
 
@@ -44,7 +44,7 @@ ordered_by hash row i true c = rw (c.neighbour_is, ← c.place_is) refl
 ordered_by hash row i false c = rw (c.neighbour_is, ← c.place_is) refl
 
 -- Two neighbours make one pair, whichever of them comes first.
-ordered-neighbour : (hash : Digest → Digest → Outcome Digest) (row : List Digest) (i : ℕ) → ordered hash (bit_at i 0) (get_or row i []) (get_or row (neighbour i) []) ≡ hash (get_or row (2 * (i / 2)) []) (get_or row (2 * (i / 2) + 1) [])
+pub ordered-neighbour : (hash : Digest → Digest → Outcome Digest) (row : List Digest) (i : ℕ) → ordered hash (bit_at i 0) (get_or row i []) (get_or row (neighbour i) []) ≡ hash (get_or row (2 * (i / 2)) []) (get_or row (2 * (i / 2) + 1) [])
 ordered-neighbour hash row i = ordered_by hash row i (bit_at i 0) (is_couple i (bit_at i 0) refl)
 
 pub length-beside_in : (rows : List (List Digest)) (k index : ℕ) → length (beside_in rows k index) ≡ k
@@ -106,7 +106,7 @@ module _ (h : HashPair) (leaves : List Digest) (rows : List (List Digest)) (tree
         let beside = tree.roots k (neighbour p) (omega arith) (rw twice next) in
         rw (halves_beside-part h leaves index k, beside) (ap (λ ds. get_or (get_or rows k []) (neighbour p) [] ∷ ds) (beside_in-halves k (omega arith)))
 
-    first_place : index / 2 ^ suc (upper_levels leaves) ≡ 0
+    pub first_place : index / 2 ^ suc (upper_levels leaves) ≡ 0
     first_place = let below : index < 2 ^ suc (upper_levels leaves) = rw (← tree.size) inside in div-eq_of_lt below
 
     -- a tree's own path, from its rows

@@ -1,5 +1,5 @@
 -- Places on the way of an index.
-use Rattle.std.proofs.Common.{suc, ◌≡◌, ℕ, ◌+◌, ◌-◌, ◌*◌, ◌/◌, ◌%◌, ◌<◌, ◌≤◌, ◌^◌, Bool, true, false, if◌then◌else◌, List, [], ◌∷◌, ◌++◌, length, get_or, arith, refl, ap, sym, ◌∙◌, pow_pos, append_assoc, inl, inr}
+use Rattle.std.proofs.Common.{suc, ◌≡◌, ℕ, ◌+◌, ◌-◌, ◌*◌, ◌/◌, ◌%◌, ◌<◌, ◌≤◌, ◌^◌, Bool, true, false, if◌then◌else◌, List, [], ◌∷◌, ◌++◌, length, get_or, arith, refl, ap, sym, subst, ◌∙◌, pow_pos, append_assoc, inl, inr}
 use Rattle.std.proofs.lemmas.Bool.{cases_lt, eqb-true, eqb-false}
 use Rattle.std.proofs.lemmas.Nat.{div_below, div-mul-add}
 use Rattle.std.proofs.Math.Nat.{pow-succ', pow-le-pow_right, le-mul_of_pos_right}
@@ -44,6 +44,16 @@ neighbour_by false place n is below = let even : (place / 2 ^ 0) % 2 ≡ 1 → �
 -- beside a place of an even row stands another
 pub neighbour-inside : (place n : ℕ) → place < 2 * n → neighbour place < 2 * n
 neighbour-inside place n below = neighbour_by (bit_at place 0) place n refl below
+
+-- beside the way of an index, below a level, stands another digest
+pub way-neighbour : (rows : List (List Digest)) (size : ℕ) → AreLevels size rows → (index : ℕ) → index < size → (level : ℕ) → 1 ≤ level → level < length rows → neighbour (index / 2 ^ level) < length (get_or rows (level - 1) [])
+way-neighbour rows size levels index inside level some below =
+    let k = level - 1 in
+    let is : suc k ≡ level = omega arith in
+    let twice : length (get_or rows k []) ≡ 2 * length (get_or rows (suc k) []) = row-twice rows size levels k (omega arith) in
+    let place : index / 2 ^ suc k < length (get_or rows k []) = place-inside rows size levels k index (omega arith) inside in
+    let next : neighbour (index / 2 ^ suc k) < 2 * length (get_or rows (suc k) []) = neighbour-inside (index / 2 ^ suc k) (length (get_or rows (suc k) [])) (omega arith) in
+    subst (λ (n : ℕ). neighbour (index / 2 ^ n) < length (get_or rows k [])) is (omega (arith, twice, next))
 
 module _ (rows : List (List Digest)) (index : ℕ) (holds : HoldsIndex rows index) where
   pub beside-inside : (k : ℕ) → suc k < length rows → neighbour (index / 2 ^ suc k) < length (get_or rows k [])

@@ -1,7 +1,8 @@
 //! Copies of digests.
 
-ghost use Rattle.std.specs.Prelude.{◌≡◌, map, Ok};
+ghost use Rattle.std.specs.Prelude.{◌≡◌, map, replicate, Ok};
 ghost use Rattle.ark_base.specs.Outcome.{AnswersBy};
+ghost use Rattle.ark_merkle.specs.Pairs.{digest_eq};
 ghost use Rattle.ark_merkle.specs.Rows.{digests_of, rows_seen};
 
 use ark_base::error::Error;
@@ -13,6 +14,13 @@ pub fn copy_of<D: DigestItem>(alloc: Global, digest: &D) -> Result<D, Error>
     ensures { AnswersBy D.numbers (Ok (D.numbers digest.now)) result }
 {
     digest.duplicate(alloc)
+}
+
+/// Whether two digests are the same.
+pub fn are_same<D: DigestItem>(a: &D, b: &D) -> bool
+    ensures { result ≡ digest_eq (D.numbers a.now) (D.numbers b.now) }
+{
+    *a == *b
 }
 
 /// Digests once more.
@@ -35,4 +43,15 @@ pub fn copies_of_rows<D: DigestItem>(alloc: Global, rows: &[Vec<D>]) -> Result<V
         copies.push(copies_of(alloc, row)?)?;
     }
     Ok(copies)
+}
+
+/// Blank digests.
+pub fn blanks<D: DigestItem>(alloc: Global, count: usize) -> Result<Vec<D>, Error>
+    ensures { AnswersBy (λ digests. map D.numbers digests.items) (Ok (replicate count D.blank_numbers)) result }
+{
+    let mut digests = Vec::with_capacity(alloc, count)?;
+    for _ in 0..count {
+        digests.push(D::blank(alloc))?;
+    }
+    Ok(digests)
 }

@@ -16,4 +16,4 @@ pub mod tree;
 pub use config::{Config, DigestConverter, IdentityDigestConverter, LeafParam, TwoToOneParam};
 pub use path::Path;
 pub use sizes::is_tree_size;
-pub use tree::MerkleTree;
+pub use tree::{Binding, MerkleTree};

@@ -1,23 +1,26 @@
 //! Merkle trees.
 
-ghost use Rattle.std.specs.Prelude.{◌≡◌, ◌<◌, ◌+◌, ◌^◌, List, [], map, length, get_or, IfOk, Ok, true};
+ghost use Rattle.std.specs.Prelude.{◌≡◌, ◌<◌, ◌≤◌, ◌+◌, ◌-◌, ◌^◌, List, [], map, replicate, length, get_or, IfOk, Ok, true};
 ghost use Rattle.ark_base.specs.Outcome.{AnswersBy};
-ghost use Rattle.ark_merkle.specs.Indexes.{IsTreeSize, log2};
+ghost use Rattle.ark_merkle.specs.Indexes.{IsTreeSize, log2, neighbour};
 ghost use Rattle.ark_merkle.specs.Pairs.{Digest, pair_of};
 ghost use Rattle.ark_merkle.specs.Paths.{verified};
 ghost use Rattle.ark_merkle.specs.Roots.{root, built, rooted};
 ghost use Rattle.ark_merkle.specs.Rows.{IsTree, digests_of, rows_seen};
 ghost use Rattle.ark_merkle.specs.Trees.{Tree, own_path};
 
+mod binding;
 mod build;
+mod updates;
 mod ways;
 
 use crate::config::{Config, LeafParam, Meaning, TwoToOneParam};
-use crate::digests::{copies_of, copies_of_rows, copy_of};
+use crate::digests::{blanks, copies_of, copies_of_rows, copy_of};
 use crate::path::Path;
 use ark_base::error::Error;
 use ark_base::serialize::Duplicate;
 use ark_crh::{CRHScheme, TwoToOneCRHScheme};
+pub use binding::Binding;
 use build::{hash_all, rows_above};
 use std::alloc::Global;
 use std::marker::Model;
@@ -61,11 +64,13 @@ impl<P: Config> MerkleTree<P> {
         ensures pair_parameters { IfOk result (λ tree. P.TwoToOneHash.Parameters.seen tree.pair_parameters ≡ P.TwoToOneHash.Parameters.seen two_params.now) }
     {
         let digests = hash_all::<P::LeafHash>(alloc, leaf_params, leaves)?;
-        MerkleTree::from_digests(alloc, leaf_params, two_params, digests)
+        MerkleTree::new_with_leaf_digest(alloc, leaf_params, two_params, digests)
     }
 
-    // The tree above these leaf digests.
-    fn from_digests(
+    /// The tree above these leaf digests, of which there are a power of two above one.
+    ///
+    /// Refusals: that of the lowest pair, leftmost among equals; `OutOfMemory`.
+    pub fn new_with_leaf_digest(
         alloc: Global,
         leaf_params: &LeafParam<P>,
         two_params: &TwoToOneParam<P>,
@@ -85,6 +90,33 @@ impl<P: Config> MerkleTree<P> {
             leaves,
             rows,
         })
+    }
+
+    /// The tree above blank leaf digests, with so many levels.
+    ///
+    /// Refusals: that of their pair, or of the lowest one above; `OutOfMemory`.
+    pub fn blank(
+        alloc: Global,
+        leaf_params: &LeafParam<P>,
+        two_params: &TwoToOneParam<P>,
+        height: usize,
+    ) -> Result<MerkleTree<P>, Error>
+        requires low { 2 ≤ height }
+        requires high { height ≤ 64 }
+        ensures leaves { AnswersBy (λ tree. tree.leaves) (rooted (⟦<P as Meaning>⟧.pair two_params.now) (replicate (2 ^ (height - 1)) P.LeafDigest.blank_numbers)) result }
+        ensures leaf_parameters { IfOk result (λ tree. P.LeafHash.Parameters.seen tree.leaf_parameters ≡ P.LeafHash.Parameters.seen leaf_params.now) }
+        ensures pair_parameters { IfOk result (λ tree. P.TwoToOneHash.Parameters.seen tree.pair_parameters ≡ P.TwoToOneHash.Parameters.seen two_params.now) }
+    {
+        let digests = blanks(alloc, 1 << (height - 1))?;
+        MerkleTree::new_with_leaf_digest(alloc, leaf_params, two_params, digests)
+    }
+
+    /// The digest of the leaf beside that of an index below the size.
+    pub fn get_leaf_sibling_hash(&self, index: usize) -> &P::LeafDigest
+        requires { index < length self.now.leaves }
+        ensures { P.LeafDigest.numbers result.now ≡ get_or self.now.leaves (neighbour index) [] }
+    {
+        &self.leaves[neighbour_of(index)]
     }
 
     /// The root: the repeated halving of the leaf digests.
@@ -124,7 +156,7 @@ impl<P: Config> MerkleTree<P> {
             → verified (⟦<P as Meaning>⟧.pair self.now.pair_parameters) (P.LeafHash.meaning self.now.leaf_parameters leaf) (⟦<Path<P> as Duplicate>⟧.seen path) r ≡ Ok true) }
     {
         Ok(Path {
-            leaf_sibling_hash: copy_of(alloc, &self.leaves[neighbour_of(index)])?,
+            leaf_sibling_hash: copy_of(alloc, self.get_leaf_sibling_hash(index))?,
             auth_path: digests_beside(alloc, &self.rows, index)?,
             leaf_index: index,
         })

@@ -28,12 +28,8 @@ returns-clause-proof g c =
     let rows = c.self.inside.rows in
     let tree = seen_tree pair (rows_seen g.P.InnerDigest.Numbered.numbers rows) _ _ c.self.view_is c.self.invariant in
     let i = c.args.index in
-    let leaves = c.self.inside.leaves in
-    let long : length leaves.items ≡ length c.args.self.now.leaves = sym (length-map leaves.items numbers) ∙ ap (λ tree. length tree.leaves) c.self.view_is in
-    let beside : neighbour i < length leaves.items = rw long (leaf-neighbour (pair c.args.self.now.pair_parameters) c.args.self.now.leaves (rows_seen g.P.InnerDigest.Numbered.numbers rows) tree i c.requires) in
-    let copied : numbers c.index.result.now ≡ numbers c.in_ok-copy_of.field-0 = done_injective _ _ c.in_ok-copy_of.ensures in
-    let read : get_or (digests_of numbers leaves) (neighbour i) [] ≡ numbers c.index.result.now = digest_read numbers leaves (neighbour i) c.index.result.now beside (rw c.neighbour_of.ensures at c.index.ensures) in
-    ap Ok (own_path-read g.P.InnerDigest.Numbered.numbers (pair c.args.self.now.pair_parameters) c.args.self.now.leaves rows tree i (numbers c.in_ok-copy_of.field-0) c.deref.result.now _ c.requires (ap (λ tree. get_or tree.leaves (neighbour i) []) (sym c.self.view_is) ∙ read ∙ copied) c.deref.ensures.value (sym (done_injective _ _ c.in_ok-digests_beside.ensures)))
+    let copied : numbers c.get_leaf_sibling_hash.result.now ≡ numbers c.in_ok-copy_of.field-0 = done_injective _ _ c.in_ok-copy_of.ensures in
+    ap Ok (own_path-read g.P.InnerDigest.Numbered.numbers (pair c.args.self.now.pair_parameters) c.args.self.now.leaves rows tree i (numbers c.in_ok-copy_of.field-0) c.deref.result.now _ c.requires (sym c.get_leaf_sibling_hash.ensures ∙ copied) c.deref.ensures.value (sym (done_injective _ _ c.in_ok-digests_beside.ensures)))
 
 pub returns-clause-accepted : goal.returns-clause-accepted
 returns-clause-accepted g c =

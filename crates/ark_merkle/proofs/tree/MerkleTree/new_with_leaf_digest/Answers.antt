@@ -6,7 +6,7 @@ use Rattle.ark_merkle.specs.Indexes.{IsTreeSize}
 use Rattle.ark_merkle.specs.Pairs.{pair_of}
 use Rattle.ark_merkle.specs.Rows.{digests_of, rows_seen}
 use Rattle.ark_merkle.proofs.TreeLemmas.{is_tree, rooted-ok, rooted-refused, pair_of-same}
-use Rattle.ark_merkle.proofs.tree.MerkleTree.from_digests.Goals as goal
+use Rattle.ark_merkle.proofs.tree.MerkleTree.new_with_leaf_digest.Goals as goal
 
 pub returns-in_err-rows-clause-leaves : goal.returns-in_err-rows-clause-leaves
 returns-in_err-rows-clause-leaves g c =

@@ -1,0 +1,24 @@
+-- Numbers below a modulus.
+use Rattle.std.specs.Prelude.{◌≡◌, ℕ, ◌*◌, ◌%◌, ◌^◌, ◌<◌, ◌≤◌, List, take}
+use Rattle.ark_base.specs.Digits.{number_of_bytes, bytes_for}
+
+-- a number that is not 0 has so many binary digits
+pub record HasBits (n bits : ℕ) : Type 0 where
+  pub fits : n < 2 ^ bits
+  pub top : 2 ^ bits ≤ 2 * n
+
+-- what every modulus keeps
+pub record IsModulus (p bits : ℕ) : Type 0 where
+  pub at_least_two : 2 ≤ p
+  pub in_word : p < 2 ^ 64
+  pub digits : HasBits p bits
+
+-- The elements are the numbers below p: no two have one value, and each number below p is the value of one.
+pub record IsField {F : Type 0} (p : ℕ) (value : F → ℕ) : Type 0 where
+  pub below : (x : F) → value x < p
+  pub same : (x y : F) → value x ≡ value y → x ≡ y
+  pub made : (n : ℕ) → n < p → (x : F) × (value x ≡ n)
+
+-- The number that drawn bytes give: the lowest binary digits of the first bytes that hold them. Bytes that are missing are 0.
+abbrev pub drawn_number : ℕ → List ℕ → ℕ
+drawn_number bits bytes = number_of_bytes (take (bytes_for bits) bytes) % 2 ^ bits

@@ -1,0 +1,116 @@
+//! Groups by worked examples.
+
+use super::*;
+use crate::ff::{Fp, M7, M13, M257, Modulus, PrimeField};
+use ark_base::error::{Error, SerializationError};
+use ark_base::serialize::{CanonicalDeserialize, CanonicalSerialize, DigestItem, Duplicate};
+use rand::SeedableRng;
+use rand::rngs::SmallRng;
+use std::test::Fail;
+
+fn times<C: CurveGroup>(x: C, count: u64) -> C {
+    x.mul(C::ScalarField::from_u64(count))
+}
+
+fn residue<M: Modulus>(number: u64) -> Residues<M> {
+    Residues(Fp::from_u64(number))
+}
+
+fn small<M: SmallModulus>(number: u64) -> Small<M> {
+    Small(Fp::from_u64(number))
+}
+
+// A group whose sum and product are those of the trait alone.
+fn is_group<C: CurveGroup>(x: C, y: C) -> bool {
+    x.add(y) == y.add(x)
+        && x.add(x.neg()) == C::zero()
+        && x.double() == times(x, 2)
+        && times(x, C::ScalarField::MODULUS) == C::zero()
+        && C::default() == C::zero()
+}
+
+#[test]
+fn residues_are_added(rt: HostRuntime) {
+    assert_eq!(rt; times(residue::<M13>(9), 5), residue(6));
+    assert_eq!(rt; residue::<M13>(9).add(residue(7)), residue(3));
+    assert_eq!(rt; residue::<M7>(3).neg(), residue(4));
+    assert_eq!(rt; residue::<M257>(200).double(), residue(143));
+    assert!(rt; is_group(residue::<M7>(3), residue(5)));
+    assert!(rt; is_group(residue::<M257>(200), residue(199)));
+}
+
+#[test]
+fn small_elements_have_coordinates(rt: HostRuntime) {
+    let two = times(small::<M13>(3), 5);
+    assert_eq!(rt; two, small(2));
+    assert_eq!(rt; (two.x().value(), two.y().value()), (29, 19));
+    assert!(rt; !two.infinity());
+    let zero = <Small<M13> as CurveGroup>::zero();
+    assert_eq!(rt; (zero.x().value(), zero.y().value()), (0, 1));
+    assert!(rt; zero.infinity());
+    let twelve = small::<M13>(12);
+    assert_eq!(rt; (twelve.x().value(), twelve.y().value()), (251, 212));
+    let six = small::<M7>(13);
+    assert_eq!(rt; (six.x().value(), six.y().value()), (131, 127));
+    assert!(rt; is_group(small::<M13>(9), small(7)));
+    assert!(rt; is_group(small::<M7>(3), small(6)));
+}
+
+#[test]
+fn points_are_what_they_wrap(rt: HostRuntime) {
+    assert_eq!(rt; TEPoint(small::<M13>(3)), TEPoint(small(16)));
+    assert!(rt; SWPoint(small::<M7>(3)) != SWPoint(small(4)));
+}
+
+#[test]
+fn elements_are_spelled_as_their_numbers(rt: HostRuntime) -> Result<(), Fail> {
+    let alloc = rt.alloc();
+    let mut bytes = Vec::new(alloc);
+    residue::<M257>(256).serialize(&mut bytes)?;
+    small::<M13>(12).serialize(&mut bytes)?;
+    assert_eq!(rt; bytes.as_slice(), [0, 1, 12].as_slice());
+    assert_eq!(rt;
+        Residues::<M257>::deserialize(alloc, &bytes)?,
+        (residue(256), 2)
+    );
+    assert_eq!(rt; Small::<M13>::deserialize(alloc, &[12, 7])?, (small(12), 1));
+    let invalid = Error::SerializationError(SerializationError::InvalidData);
+    assert_eq!(rt;
+        Residues::<M257>::deserialize(alloc, &[1, 1]).err(),
+        Some(invalid)
+    );
+    assert_eq!(rt; Small::<M7>::deserialize(alloc, &[7]).err(), Some(invalid));
+    let truncated = Error::SerializationError(SerializationError::Truncated);
+    assert_eq!(rt;
+        Residues::<M257>::deserialize(alloc, &[1]).err(),
+        Some(truncated)
+    );
+    assert_eq!(rt;
+        Small::<M13>::deserialize(alloc, &[]).err(),
+        Some(truncated)
+    );
+    Ok(())
+}
+
+#[test]
+fn elements_are_digests(rt: HostRuntime) -> Result<(), Fail> {
+    let alloc = rt.alloc();
+    assert_eq!(rt; residue::<M257>(256).duplicate(alloc)?, residue(256));
+    assert_eq!(rt; small::<M13>(5).duplicate(alloc)?, small(5));
+    assert_eq!(rt; <Residues<M257> as DigestItem>::blank(alloc), residue(0));
+    assert_eq!(rt; <Small<M13> as DigestItem>::blank(alloc), small(0));
+    Ok(())
+}
+
+#[test]
+fn each_element_is_drawn(rt: HostRuntime) {
+    let mut rng = SmallRng::seed_from_u64(1);
+    let mut seen = [false; 13];
+    let mut seen_small = [false; 13];
+    for _ in 0..1000 {
+        seen[<Residues<M13> as CurveGroup>::rand(&mut rng).0.value() as usize] = true;
+        seen_small[<Small<M13> as CurveGroup>::rand(&mut rng).0.value() as usize] = true;
+    }
+    assert_eq!(rt; seen, [true; 13]);
+    assert_eq!(rt; seen_small, [true; 13]);
+}

@@ -1,0 +1,14 @@
+//! Fields: numbers below a modulus, with arithmetic modulo it. That the modulus is prime is used nowhere.
+
+mod fp;
+mod modulus;
+mod prime_field;
+mod product;
+#[cfg(test)]
+mod tests;
+mod uniform;
+
+pub use fp::Fp;
+pub use modulus::{M7, M13, M61, M257, M65537, Modulus};
+pub use prime_field::PrimeField;
+pub use uniform::UniformRand;

@@ -1,0 +1,161 @@
+//! The field of the numbers below a modulus.
+
+ghost use Rattle.std.specs.Prelude.{◌≡◌, ◌<◌, ⊤};
+
+use crate::ff::modulus::byte_len;
+use crate::ff::product::{product, remainder};
+use crate::ff::{Modulus, PrimeField, UniformRand};
+use ark_base::serialize::number_of;
+use rand::{Rng, RngExt};
+use std::alloc::AllocError;
+use std::marker::PhantomData;
+
+mod bytes;
+
+/// A number below `M::P`.
+#[derive_where(PartialEq, Eq, Debug, Hash)]
+pub struct Fp<M: Modulus> {
+    value: u64,
+    #[derive_where(skip)]
+    of: PhantomData<M>,
+    ghost reduced: { value < M.P },
+}
+
+impl<M: Modulus> Clone for Fp<M> {
+    ghost is_clone = { λ x y. x ≡ y };
+
+    ghost is_infallible = { λ _. ⊤ };
+
+    fn clone(&self) -> Result<Fp<M>, AllocError> {
+        Ok(*self)
+    }
+}
+
+impl<M: Modulus> Copy for Fp<M> {}
+
+impl<M: Modulus> Default for Fp<M> {
+    ghost is_default = { λ x. x.value ≡ 0 };
+
+    fn default() -> Fp<M> {
+        <Fp<M> as PrimeField>::zero()
+    }
+}
+
+impl<M: Modulus> UniformRand for Fp<M> {
+    fn rand<R: Rng>(rng: &mut R) -> Fp<M> {
+        Fp::reduced(rng.random_range(0..M::P))
+    }
+}
+
+impl<M: Modulus> Fp<M> {
+    // The element of a number that is below the modulus.
+    fn reduced(value: u64) -> Fp<M>
+        requires { value < M.P }
+        ensures { result.value ≡ value }
+    {
+        Fp {
+            value,
+            of: PhantomData,
+        }
+    }
+}
+
+impl<M: Modulus> PrimeField for Fp<M> {
+    ghost use Rattle.ark_groups.specs.FpLaws.{fp_laws, fp_equal_if_same};
+    ghost use Rattle.std.specs.Prelude.{refl};
+
+    ghost MODULUS = { M.P };
+
+    const MODULUS: u64 = M::P;
+
+    ghost MODULUS_BIT_SIZE = { M.BITS };
+
+    const MODULUS_BIT_SIZE: u32 = M::BITS;
+
+    ghost value = { λ x. x.value };
+
+    fn zero() -> Fp<M> {
+        Fp::reduced(0)
+    }
+
+    fn one() -> Fp<M> {
+        Fp::reduced(1)
+    }
+
+    fn add(self, other: Fp<M>) -> Fp<M> {
+        let room = M::P - other.value;
+        Fp::reduced(if self.value < room {
+            self.value + other.value
+        } else {
+            self.value - room
+        })
+    }
+
+    fn sub(self, other: Fp<M>) -> Fp<M> {
+        Fp::reduced(if other.value <= self.value {
+            self.value - other.value
+        } else {
+            M::P - (other.value - self.value)
+        })
+    }
+
+    fn neg(self) -> Fp<M> {
+        Fp::reduced(if self.value == 0 {
+            0
+        } else {
+            M::P - self.value
+        })
+    }
+
+    fn mul(self, other: Fp<M>) -> Fp<M> {
+        Fp::reduced(product::<M>(self.value, other.value))
+    }
+
+    fn double(self) -> Fp<M> {
+        PrimeField::add(self, self)
+    }
+
+    fn value(self) -> u64 {
+        self.value
+    }
+
+    fn from_u64(number: u64) -> Fp<M> {
+        Fp::reduced(number % M::P)
+    }
+
+    fn from_u128(number: u128) -> Fp<M> {
+        Fp::reduced((number % M::P as u128) as u64)
+    }
+
+    fn from_le_bytes_mod_order(bytes: &[u8]) -> Fp<M> {
+        Fp::reduced(remainder::<M>(bytes))
+    }
+
+    fn from_random_bytes(bytes: &[u8]) -> Option<Fp<M>> {
+        let len = bytes.len().min(byte_len::<M>());
+        let number = number_of(&bytes[..len]) as u128 % (1 << M::BITS);
+        if number < M::P as u128 {
+            Some(Fp::reduced(number as u64))
+        } else {
+            None
+        }
+    }
+
+    ghost modulus_laws = { M.laws };
+
+    ghost laws = { fp_laws };
+
+    ghost equal_if_same = { fp_equal_if_same };
+
+    ghost clones = { λ x y same. same };
+
+    ghost clones_always = { λ x. tt };
+
+    ghost default_is_zero = { λ x zero. zero };
+
+    ghost numbers_are = { λ x. refl };
+
+    ghost is_spelled = { λ x. x.reduced };
+
+    ghost spelling_is = { λ x. refl };
+}

@@ -1,0 +1,155 @@
+//! Fields by worked examples.
+
+ghost use Rattle.std.proofs.Common.{lit<, lit≤};
+
+use super::*;
+use ark_base::error::{Error, SerializationError};
+use ark_base::serialize::{CanonicalDeserialize, CanonicalSerialize, DigestItem, Duplicate};
+use rand::SeedableRng;
+use rand::rngs::SmallRng;
+use std::test::Fail;
+
+// The largest modulus, which is not prime.
+struct Widest;
+
+impl Modulus for Widest {
+    ghost P = { 18446744073709551615 };
+
+    const P: u64 = 18446744073709551615;
+
+    ghost BITS = { 64 };
+
+    const BITS: u32 = 64;
+
+    ghost laws = { record { at_least_two = lit≤ tt; in_word = lit< tt; digits = record { fits = lit< tt; top = lit≤ tt } } };
+}
+
+// The smallest modulus, which is even.
+struct Two;
+
+impl Modulus for Two {
+    ghost P = { 2 };
+
+    const P: u64 = 2;
+
+    ghost BITS = { 2 };
+
+    const BITS: u32 = 2;
+
+    ghost laws = { record { at_least_two = lit≤ tt; in_word = lit< tt; digits = record { fits = lit< tt; top = lit≤ tt } } };
+}
+
+fn element<F: PrimeField>(number: u64) -> F {
+    F::from_u64(number)
+}
+
+#[test]
+fn operations_are_modulo_the_modulus(rt: HostRuntime) {
+    let seven = element::<Fp<M13>>(7);
+    let nine = element::<Fp<M13>>(9);
+    assert_eq!(rt; PrimeField::mul(seven, nine).value(), 11);
+    assert_eq!(rt; PrimeField::add(seven, nine).value(), 3);
+    assert_eq!(rt; PrimeField::sub(seven, nine).value(), 11);
+    assert_eq!(rt; PrimeField::neg(nine).value(), 4);
+    assert_eq!(rt; <Fp<M13> as PrimeField>::zero().neg().value(), 0);
+    assert_eq!(rt; nine.double().value(), 5);
+    assert_eq!(rt; <Fp<M13> as PrimeField>::one().value(), 1);
+    assert_eq!(rt; Fp::<M13>::default().value(), 0);
+    assert_eq!(rt; element::<Fp<M13>>(20), seven);
+    assert!(rt; seven != nine);
+}
+
+#[test]
+fn any_modulus_serves(rt: HostRuntime) {
+    let top = element::<Fp<Widest>>(18446744073709551614);
+    assert_eq!(rt; PrimeField::add(top, top).value(), 18446744073709551613);
+    assert_eq!(rt; PrimeField::mul(top, top).value(), 1);
+    let one = element::<Fp<Two>>(3);
+    assert_eq!(rt; PrimeField::add(one, one).value(), 0);
+    assert_eq!(rt; PrimeField::mul(one, one).value(), 1);
+    let top = element::<Fp<M61>>(2305843009213693950);
+    assert_eq!(rt; PrimeField::mul(top, top).value(), 1);
+    assert_eq!(rt;
+        PrimeField::mul(top, element::<Fp<M61>>(2)).value(),
+        2305843009213693949
+    );
+    let top = element::<Fp<M65537>>(65536);
+    assert_eq!(rt; PrimeField::mul(top, top).value(), 1);
+}
+
+#[test]
+fn random_bytes_are_cut_to_the_bits(rt: HostRuntime) {
+    let number = |bytes: &[u8]| Fp::<M257>::from_random_bytes(bytes).map(|x| x.value());
+    assert_eq!(rt; number(&[0, 1]), Some(256));
+    assert_eq!(rt; number(&[1, 1]), None);
+    assert_eq!(rt; number(&[255, 255]), None);
+    assert_eq!(rt; number(&[5, 2]), Some(5));
+    assert_eq!(rt; number(&[7]), Some(7));
+    assert_eq!(rt; number(&[]), Some(0));
+    assert_eq!(rt; number(&[9, 0, 77]), Some(9));
+}
+
+#[test]
+fn wide_numbers_are_reduced(rt: HostRuntime) {
+    assert_eq!(rt; Fp::<M257>::from_le_bytes_mod_order(&[1, 2]).value(), 256);
+    assert_eq!(rt;
+        Fp::<M257>::from_u128(340282366920938463463374607431768211455).value(),
+        0
+    );
+    // 256 is -1 modulo 257, so 1 0 0 .. at place n is (-1)^n.
+    assert_eq!(rt;
+        Fp::<M257>::from_le_bytes_mod_order(&[0, 0, 0, 0, 0, 0, 0, 0, 0, 1]).value(),
+        256
+    );
+    assert_eq!(rt;
+        Fp::<M257>::from_le_bytes_mod_order(&[0, 0, 0, 0, 0, 0, 0, 0, 1]).value(),
+        1
+    );
+    assert_eq!(rt; Fp::<M257>::from_le_bytes_mod_order(&[]).value(), 0);
+}
+
+#[test]
+fn elements_have_canonical_bytes(rt: HostRuntime) -> Result<(), Fail> {
+    let alloc = rt.alloc();
+    let mut bytes = Vec::new(alloc);
+    element::<Fp<M257>>(256).serialize(&mut bytes)?;
+    element::<Fp<M13>>(12).serialize(&mut bytes)?;
+    element::<Fp<M65537>>(65536).serialize(&mut bytes)?;
+    element::<Fp<M61>>(1).serialize(&mut bytes)?;
+    assert_eq!(rt;
+        bytes.as_slice(),
+        [0, 1, 12, 0, 0, 1, 1, 0, 0, 0, 0, 0, 0, 0].as_slice()
+    );
+    let (x, used) = Fp::<M257>::deserialize(alloc, &bytes)?;
+    assert_eq!(rt; (x.value(), used), (256, 2));
+    let invalid = Error::SerializationError(SerializationError::InvalidData);
+    assert_eq!(rt;
+        Fp::<M257>::deserialize(alloc, &[1, 1]).err(),
+        Some(invalid)
+    );
+    let truncated = Error::SerializationError(SerializationError::Truncated);
+    assert_eq!(rt; Fp::<M257>::deserialize(alloc, &[1]).err(), Some(truncated));
+    assert_eq!(rt; Fp::<M13>::deserialize(alloc, &[13]).err(), Some(invalid));
+    let list = Vec::<Fp<M257>>::deserialize(alloc, &[1, 0, 0, 0, 0, 0, 0, 0, 5, 0]);
+    assert_eq!(rt; list?.0.as_slice(), [element::<Fp<M257>>(5)].as_slice());
+    Ok(())
+}
+
+#[test]
+fn elements_are_digests(rt: HostRuntime) -> Result<(), Fail> {
+    let alloc = rt.alloc();
+    let x = element::<Fp<M257>>(256);
+    assert_eq!(rt; x.duplicate(alloc)?, x);
+    assert_eq!(rt; <Fp<M257> as DigestItem>::blank(alloc).value(), 0);
+    Ok(())
+}
+
+#[test]
+fn each_value_is_drawn(rt: HostRuntime) {
+    let mut rng = SmallRng::seed_from_u64(1);
+    let mut seen = [false; 13];
+    for _ in 0..1000 {
+        seen[Fp::<M13>::rand(&mut rng).value() as usize] = true;
+    }
+    assert_eq!(rt; seen, [true; 13]);
+}
