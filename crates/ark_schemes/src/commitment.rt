@@ -5,9 +5,9 @@ ghost use Rattle.ark_base.specs.Outcome.{Outcome, AnswersBy, IsDecided};
 
 pub mod blake2s;
 
-use crate::stand_in::{CanonicalSerialize, UniformRand};
 use ark_base::error::Error;
-use ark_base::serialize::Duplicate;
+use ark_base::serialize::{CanonicalSerialize, Duplicate};
+use ark_groups::ff::UniformRand;
 use rand::Rng;
 use std::alloc::Global;
 use std::fmt::Debug;

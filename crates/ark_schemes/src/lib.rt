@@ -3,4 +3,3 @@
 
 pub mod commitment;
 pub mod prf;
-mod stand_in;

@@ -5,8 +5,8 @@ ghost use Rattle.ark_base.specs.Outcome.{Outcome, AnswersBy, IsDecided};
 
 pub mod blake2s;
 
-use crate::stand_in::{CanonicalDeserialize, CanonicalSerialize};
 use ark_base::error::Error;
+use ark_base::serialize::{CanonicalDeserialize, CanonicalSerialize};
 pub use blake2s::{Blake2s, Blake2s256, Blake2sWithParameterBlock};
 use std::fmt::Debug;
 use std::hash::Hash;

@@ -12,7 +12,7 @@ mod tests;
 mod text;
 
 use crate::prf::PRF;
-use crate::stand_in::ByteDigest;
+use ark_groups::digest::ByteDigest;
 use ark_base::error::Error;
 use std::alloc::Global;
 

@@ -2,7 +2,8 @@
 
 use super::*;
 use crate::prf::Blake2s256;
-use crate::stand_in::{ByteDigest, UniformRand};
+use ark_groups::digest::ByteDigest;
+use ark_groups::ff::UniformRand;
 use rand::SeedableRng;
 use rand::rngs::SmallRng;
 use std::test::Fail;
