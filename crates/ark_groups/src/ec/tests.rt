@@ -2,6 +2,7 @@
 
 use super::*;
 use crate::ff::{Fp, M7, M13, M257, Modulus, PrimeField};
+use crate::plain;
 use ark_base::error::{Error, SerializationError};
 use ark_base::serialize::{CanonicalDeserialize, CanonicalSerialize, DigestItem, Duplicate};
 use rand::SeedableRng;
@@ -37,6 +38,16 @@ fn residues_are_added(rt: HostRuntime) {
     assert_eq!(rt; residue::<M257>(200).double(), residue(143));
     assert!(rt; is_group(residue::<M7>(3), residue(5)));
     assert!(rt; is_group(residue::<M257>(200), residue(199)));
+}
+
+#[test]
+fn multiples_are_repeated_sums(rt: HostRuntime) {
+    for count in 0..30 {
+        let nine = small::<M13>(9);
+        assert_eq!(rt; times(nine, count), plain::times(count % 13, nine));
+        let five = residue::<M257>(5);
+        assert_eq!(rt; times(five, count), plain::times(count, five));
+    }
 }
 
 #[test]

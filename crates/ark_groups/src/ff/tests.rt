@@ -3,6 +3,7 @@
 ghost use Rattle.std.proofs.Common.{lit<, lit≤};
 
 use super::*;
+use crate::plain;
 use ark_base::error::{Error, SerializationError};
 use ark_base::serialize::{CanonicalDeserialize, CanonicalSerialize, DigestItem, Duplicate};
 use rand::SeedableRng;
@@ -106,6 +107,22 @@ fn wide_numbers_are_reduced(rt: HostRuntime) {
         1
     );
     assert_eq!(rt; Fp::<M257>::from_le_bytes_mod_order(&[]).value(), 0);
+}
+
+#[test]
+fn bytes_are_digits_of_256(rt: HostRuntime) {
+    let bytes = [3, 255, 0, 17, 128, 64, 9, 1, 250, 33, 7, 12, 99];
+    for len in 0..14 {
+        let number = plain::number(&bytes[..len]);
+        assert_eq!(rt;
+            Fp::<M257>::from_le_bytes_mod_order(&bytes[..len]),
+            Fp::from_u128(number)
+        );
+        assert_eq!(rt;
+            Fp::<M61>::from_le_bytes_mod_order(&bytes[..len]),
+            Fp::from_u128(number)
+        );
+    }
 }
 
 #[test]
