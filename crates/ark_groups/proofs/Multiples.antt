@@ -1,18 +1,11 @@
 -- Sums of one element n times, in a commutative group.
 use Rattle.std.proofs.Common.{refl, ◌≡◌, ℕ, zero, suc, ◌+◌, ◌*◌, ◌/◌, ◌%◌, sym, ◌∙◌, ap, arith}
 use Rattle.std.proofs.Math.Nat.{mod-add-div', mul_comm}
-use Rattle.ark_groups.specs.Group.{Group, IsCommutativeGroup, times, minus}
+use Rattle.ark_groups.specs.Group.{Group, IsCommutativeGroup, times}
 
 module _ {G : Type 0} {g : Group G} (laws : IsCommutativeGroup g) where
   pub right_identity : (x : G) → g.plus x g.identity ≡ x
   right_identity x = laws.comm x g.identity ∙ laws.left_identity x
-
-  pub right_opposite : (x : G) → g.plus x (g.opposite x) ≡ g.identity
-  right_opposite x = laws.comm _ _ ∙ laws.left_opposite x
-
-  -- what was added is taken away
-  pub minus-plus : (x y : G) → minus g (g.plus x y) y ≡ x
-  minus-plus x y = laws.assoc _ _ _ ∙ ap (g.plus x) (right_opposite y) ∙ right_identity x
 
   -- the last two of three change places
   pub swap_last : (a b c : G) → g.plus (g.plus a b) c ≡ g.plus (g.plus a c) b

@@ -87,10 +87,6 @@ impl<M: SmallModulus> CurveGroup for Small<M> {
         Small(PrimeField::neg(self.0))
     }
 
-    fn mul(self, s: Fp<M>) -> Small<M> {
-        Small(PrimeField::mul(s, self.0))
-    }
-
     fn rand<R: Rng>(rng: &mut R) -> Small<M> {
         Small(Fp::rand(rng))
     }

@@ -2,6 +2,7 @@
 
 use super::*;
 use crate::ff::{Fp, M7, M13, M257, Modulus, PrimeField};
+use crate::plain;
 use ark_base::error::{Error, SerializationError};
 use ark_base::serialize::{CanonicalDeserialize, CanonicalSerialize, DigestItem, Duplicate};
 use rand::SeedableRng;
@@ -40,6 +41,16 @@ fn residues_are_added(rt: HostRuntime) {
 }
 
 #[test]
+fn multiples_are_repeated_sums(rt: HostRuntime) {
+    for count in 0..30 {
+        let nine = small::<M13>(9);
+        assert_eq!(rt; times(nine, count), plain::times(count % 13, nine));
+        let five = residue::<M257>(5);
+        assert_eq!(rt; times(five, count), plain::times(count, five));
+    }
+}
+
+#[test]
 fn small_elements_have_coordinates(rt: HostRuntime) {
     let two = times(small::<M13>(3), 5);
     assert_eq!(rt; two, small(2));
@@ -74,6 +85,8 @@ fn elements_are_spelled_as_their_numbers(rt: HostRuntime) -> Result<(), Fail> {
         (residue(256), 2)
     );
     assert_eq!(rt; Small::<M13>::deserialize(alloc, &[12, 7])?, (small(12), 1));
+    assert_eq!(rt; Residues::<M13>::deserialize(alloc, &[5])?, (residue(5), 1));
+    assert_eq!(rt; Small::<M7>::deserialize(alloc, &[6])?, (small(6), 1));
     let invalid = Error::SerializationError(SerializationError::InvalidData);
     assert_eq!(rt;
         Residues::<M257>::deserialize(alloc, &[1, 1]).err(),
@@ -97,7 +110,11 @@ fn elements_are_digests(rt: HostRuntime) -> Result<(), Fail> {
     let alloc = rt.alloc();
     assert_eq!(rt; residue::<M257>(256).duplicate(alloc)?, residue(256));
     assert_eq!(rt; small::<M13>(5).duplicate(alloc)?, small(5));
+    assert_eq!(rt; residue::<M7>(3).duplicate(alloc)?, residue(3));
+    assert_eq!(rt; small::<M7>(6).duplicate(alloc)?, small(6));
     assert_eq!(rt; <Residues<M257> as DigestItem>::blank(alloc), residue(0));
+    assert_eq!(rt; <Residues<M7> as DigestItem>::blank(alloc), residue(0));
+    assert_eq!(rt; <Small<M7> as DigestItem>::blank(alloc), small(0));
     assert_eq!(rt; <Small<M13> as DigestItem>::blank(alloc), small(0));
     Ok(())
 }

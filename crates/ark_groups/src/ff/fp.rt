@@ -8,12 +8,13 @@ use crate::ff::{Modulus, PrimeField, UniformRand};
 use ark_base::serialize::number_of;
 use rand::{Rng, RngExt};
 use std::alloc::AllocError;
+use std::fmt;
 use std::marker::PhantomData;
 
 mod bytes;
 
 /// A number below `M::P`.
-#[derive_where(PartialEq, Eq, Debug, Hash)]
+#[derive_where(PartialEq, Eq, Hash)]
 pub struct Fp<M: Modulus> {
     value: u64,
     #[derive_where(skip)]
@@ -32,6 +33,13 @@ impl<M: Modulus> Clone for Fp<M> {
 }
 
 impl<M: Modulus> Copy for Fp<M> {}
+
+/// The value in decimal.
+impl<M: Modulus> fmt::Debug for Fp<M> {
+    fn fmt<W: fmt::Write>(&self, f: &mut fmt::Formatter<W>) -> fmt::Result {
+        write!(f, "{}", self.value)
+    }
+}
 
 impl<M: Modulus> Default for Fp<M> {
     ghost is_default = { λ x. x.value ≡ 0 };
@@ -158,4 +166,6 @@ impl<M: Modulus> PrimeField for Fp<M> {
     ghost is_spelled = { λ x. x.reduced };
 
     ghost spelling_is = { λ x. refl };
+
+    ghost reading_refuses = { λ bytes fault refused. refused };
 }

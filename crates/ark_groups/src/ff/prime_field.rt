@@ -1,8 +1,9 @@
 //! What a field is.
 
-ghost use Rattle.std.specs.Prelude.{◌≡◌, ◌↔◌, ℕ, ◌+◌, ◌-◌, ◌*◌, ◌%◌, ◌≤◌, ◌∷◌, [], IsNone, IfSome};
+ghost use Rattle.std.specs.Prelude.{◌≡◌, ◌↔◌, ℕ, ◌+◌, ◌-◌, ◌*◌, ◌%◌, ◌≤◌, List, ◌∷◌, [], IsNone, IfSome, Err};
 ghost use Rattle.std.specs.Bool.{Decides};
-ghost use Rattle.ark_base.specs.Digits.{number_of_bytes, bytes_of_number, bytes_for};
+ghost use Rattle.ark_base.specs.Digits.{number_of_bytes, bytes_of_number, bytes_for, below_at};
+ghost use Rattle.ark_base.specs.declared.error.SerializationError.{SerializationError};
 ghost use Rattle.ark_groups.specs.Field.{IsModulus, IsField, drawn_number};
 
 use crate::ff::UniformRand;
@@ -96,4 +97,8 @@ pub trait PrimeField: Copy + Eq + Debug + Hash + Default + Numbered + CanonicalI
     ghost is_spelled: { (x : Self) → Self.has_spelling (Self.view x) };
 
     ghost spelling_is: { (x : Self) → Self.spelling (Self.view x) ≡ bytes_of_number (bytes_for MODULUS_BIT_SIZE) (value x) };
+
+    // What does not begin so is refused: cut short, or the modulus or more.
+    ghost reading_refuses: { (bytes : List ℕ) (fault : SerializationError)
+        → below_at MODULUS (bytes_for MODULUS_BIT_SIZE) bytes ≡ Err fault → Self.reads bytes ≡ Err fault };
 }

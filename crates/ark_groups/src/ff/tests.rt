@@ -3,10 +3,12 @@
 ghost use Rattle.std.proofs.Common.{lit<, lit≤};
 
 use super::*;
+use crate::plain;
 use ark_base::error::{Error, SerializationError};
 use ark_base::serialize::{CanonicalDeserialize, CanonicalSerialize, DigestItem, Duplicate};
-use rand::SeedableRng;
 use rand::rngs::SmallRng;
+use rand::{Rng, SeedableRng};
+use std::hash::{DefaultHasher, Hash, Hasher};
 use std::test::Fail;
 
 // The largest modulus, which is not prime.
@@ -109,6 +111,22 @@ fn wide_numbers_are_reduced(rt: HostRuntime) {
 }
 
 #[test]
+fn bytes_are_digits_of_256(rt: HostRuntime) {
+    let bytes = [3, 255, 0, 17, 128, 64, 9, 1, 250, 33, 7, 12, 99];
+    for len in 0..14 {
+        let number = plain::number(&bytes[..len]);
+        assert_eq!(rt;
+            Fp::<M257>::from_le_bytes_mod_order(&bytes[..len]),
+            Fp::from_u128(number)
+        );
+        assert_eq!(rt;
+            Fp::<M61>::from_le_bytes_mod_order(&bytes[..len]),
+            Fp::from_u128(number)
+        );
+    }
+}
+
+#[test]
 fn elements_have_canonical_bytes(rt: HostRuntime) -> Result<(), Fail> {
     let alloc = rt.alloc();
     let mut bytes = Vec::new(alloc);
@@ -132,6 +150,11 @@ fn elements_have_canonical_bytes(rt: HostRuntime) -> Result<(), Fail> {
     assert_eq!(rt; Fp::<M13>::deserialize(alloc, &[13]).err(), Some(invalid));
     let list = Vec::<Fp<M257>>::deserialize(alloc, &[1, 0, 0, 0, 0, 0, 0, 0, 5, 0]);
     assert_eq!(rt; list?.0.as_slice(), [element::<Fp<M257>>(5)].as_slice());
+    assert_eq!(rt; Fp::<M7>::deserialize(alloc, &[6, 1])?, (element(6), 1));
+    let top = Fp::<M61>::deserialize(alloc, &[254, 255, 255, 255, 255, 255, 255, 31]);
+    assert_eq!(rt; top?, (element(2305843009213693950), 8));
+    let over = Fp::<M61>::deserialize(alloc, &[255, 255, 255, 255, 255, 255, 255, 31]);
+    assert_eq!(rt; over.err(), Some(invalid));
     Ok(())
 }
 
@@ -141,6 +164,28 @@ fn elements_are_digests(rt: HostRuntime) -> Result<(), Fail> {
     let x = element::<Fp<M257>>(256);
     assert_eq!(rt; x.duplicate(alloc)?, x);
     assert_eq!(rt; <Fp<M257> as DigestItem>::blank(alloc).value(), 0);
+    let y = element::<Fp<M61>>(7);
+    assert_eq!(rt; y.duplicate(alloc)?, y);
+    assert_eq!(rt; <Fp<M61> as DigestItem>::blank(alloc).value(), 0);
+    Ok(())
+}
+
+fn hash_of<T: Hash>(x: &T) -> u64 {
+    let mut state = DefaultHasher::new();
+    x.hash(&mut state);
+    state.finish()
+}
+
+#[test]
+fn elements_are_known_by_their_values(rt: HostRuntime) -> Result<(), Fail> {
+    let alloc = rt.alloc();
+    let seven = element::<Fp<M13>>(7);
+    assert_eq!(rt; hash_of(&seven), hash_of(&element::<Fp<M13>>(20)));
+    assert_eq!(rt; format!(in alloc; "{seven:?}")?.as_str(), "7");
+    assert_eq!(rt;
+        Fp::<M61>::default(),
+        element::<Fp<M61>>(2305843009213693951)
+    );
     Ok(())
 }
 
@@ -152,4 +197,19 @@ fn each_value_is_drawn(rt: HostRuntime) {
         seen[Fp::<M13>::rand(&mut rng).value() as usize] = true;
     }
     assert_eq!(rt; seen, [true; 13]);
+    let mut seen = [false; 7];
+    for _ in 0..1000 {
+        seen[Fp::<M7>::rand(&mut rng).value() as usize] = true;
+    }
+    assert_eq!(rt; seen, [true; 7]);
+}
+
+#[test]
+fn bytes_are_drawn(rt: HostRuntime) {
+    let mut rng = SmallRng::seed_from_u64(1);
+    let mut twin = SmallRng::seed_from_u64(1);
+    let mut bytes = [0; 32];
+    twin.fill_bytes(&mut bytes);
+    assert_eq!(rt; <[u8; 32]>::rand(&mut rng), bytes);
+    assert!(rt; <[u8; 32]>::rand(&mut rng) != bytes);
 }

@@ -1,0 +1,4 @@
+pub mod Mixing
+pub mod PlainBlocks
+pub mod Texts
+pub mod Vectors

@@ -1,0 +1,56 @@
+//! Commitments.
+
+ghost use Rattle.std.specs.Prelude.{◌≡◌, ℕ, List, IfOk};
+ghost use Rattle.ark_base.specs.Outcome.{Outcome, AnswersBy, IsDecided};
+
+pub mod blake2s;
+
+use ark_base::error::Error;
+use ark_base::serialize::{CanonicalSerialize, Duplicate};
+use ark_groups::ff::UniformRand;
+use rand::Rng;
+use std::alloc::Global;
+use std::fmt::Debug;
+use std::hash::Hash;
+
+/// A way to commit to bytes under randomness.
+pub trait CommitmentScheme {
+    type Output: CanonicalSerialize + Clone + Default + Eq + Hash + Debug;
+
+    type Parameters: Duplicate;
+
+    type Randomness: CanonicalSerialize + Clone + Default + Eq + UniformRand + Debug;
+
+    // The canonical bytes of the commitment to bytes under randomness, or their refusal.
+    ghost meaning: { Self.Parameters → List ℕ → Self.Randomness → Outcome (List ℕ) };
+
+    // Whether parameters can be made, or why not, and what is known of those that are made.
+    ghost setup_outcome: { Outcome (Unit {0}) };
+
+    ghost is_made: { Self.Parameters → Type 0 };
+
+    /// Makes parameters from what the generator gives. Which values it gives is the generator's matter.
+    ///
+    /// Refusals: that of the scheme, where it has none to make; `OutOfMemory`.
+    fn setup<R: Rng>(alloc: Global, rng: &mut R) -> Result<Self::Parameters, Error>
+        ensures outcome { AnswersBy (λ _. tt) setup_outcome result }
+        ensures made { IfOk result is_made };
+
+    /// The commitment to bytes under randomness.
+    ///
+    /// Refusals: those of `meaning`, which never are want of memory; `OutOfMemory`.
+    fn commit(
+        alloc: Global,
+        parameters: &Self::Parameters,
+        input: &[u8],
+        randomness: &Self::Randomness,
+    ) -> Result<Self::Output, Error>
+        ensures { AnswersBy (λ output. Self.Output.spelling (Self.Output.view output)) (meaning parameters.now input.now randomness.now) result };
+
+    ghost meaning_decided: { (p : Self.Parameters) (bytes : List ℕ) (r : Self.Randomness) → IsDecided (meaning p bytes r) };
+
+    ghost setup_decided: { IsDecided setup_outcome };
+
+    // A copy of parameters commits as they do.
+    ghost same_parameters: { (p q : Self.Parameters) → Self.Parameters.seen p ≡ Self.Parameters.seen q → meaning p ≡ meaning q };
+}

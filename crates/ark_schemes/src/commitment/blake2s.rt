@@ -1,0 +1,59 @@
+//! The BLAKE2s commitment.
+
+ghost use Rattle.std.specs.Prelude.{◌≡◌, Ok, refl};
+ghost use Rattle.ark_schemes.specs.Commitments.{blake2s_commitment, blake2s_commitment-decided};
+
+use crate::commitment::CommitmentScheme;
+use crate::prf::blake2s;
+use ark_base::error::{Error, Refusal};
+use rand::Rng;
+use std::alloc::Global;
+
+#[cfg(test)]
+mod tests;
+
+/// The BLAKE2s digest of the input followed by 32 bytes of randomness.
+pub struct Commitment;
+
+impl CommitmentScheme for Commitment {
+    type Output = [u8; 32];
+
+    type Parameters = ();
+
+    type Randomness = [u8; 32];
+
+    ghost meaning = { λ _ bytes randomness. blake2s_commitment bytes randomness };
+
+    ghost setup_outcome = { Ok tt };
+
+    ghost is_made = { λ _. Unit {0} };
+
+    /// Draws nothing.
+    fn setup<R: Rng>(_alloc: Global, _rng: &mut R) -> Result<(), Error>
+        ensures { result ≡ Ok tt }
+    {
+        Ok(())
+    }
+
+    /// The digest. It takes no memory. The only refusal is `LengthOverflow`, where the length of the input with 32 does not
+    /// fit 64 bits.
+    fn commit(
+        _alloc: Global,
+        _parameters: &(),
+        input: &[u8],
+        randomness: &[u8; 32],
+    ) -> Result<[u8; 32], Error>
+        ensures { result ≡ blake2s_commitment input.now randomness.now }
+    {
+        if input.len().checked_add(randomness.len()).is_none() {
+            return Err(Error::GenericError(Refusal::LengthOverflow));
+        }
+        Ok(blake2s::digest_of_two(input, randomness))
+    }
+
+    ghost meaning_decided = { λ _ bytes randomness. blake2s_commitment-decided bytes randomness };
+
+    ghost setup_decided = { tt };
+
+    ghost same_parameters = { λ p q same. refl };
+}

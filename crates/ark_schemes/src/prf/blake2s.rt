@@ -1,0 +1,84 @@
+//! BLAKE2s (RFC 7693), with salt and personalization from the BLAKE2 specification.
+
+ghost use Rattle.std.specs.Prelude.{◌≡◌, ◌+◌, ◌^◌, ◌<◌, ◌++◌, length, Ok};
+ghost use Rattle.ark_base.specs.Outcome.{AnswersBy};
+ghost use Rattle.ark_schemes.specs.Blake2s.{blake2s, blake2s_with};
+
+mod compress;
+#[cfg(test)]
+mod plain;
+#[cfg(test)]
+mod tests;
+mod text;
+
+use crate::prf::PRF;
+use ark_groups::digest::ByteDigest;
+use ark_base::error::Error;
+use std::alloc::Global;
+
+// The digest of `first` followed by `second`, with neither salt nor personalization.
+pub(crate) fn digest_of_two(first: &[u8], second: &[u8]) -> [u8; 32]
+    requires { length first.now + length second.now < 2 ^ 64 }
+    ensures { result ≡ blake2s (first.now ++ second.now) }
+{
+    text::digest(&[0; 8], &[0; 8], first, second)
+}
+
+/// BLAKE2s with 32 bytes out, no key, no salt and no personalization, as a digest of bytes.
+pub struct Blake2s256;
+
+impl ByteDigest for Blake2s256 {
+    ghost meaning = { λ bytes. Ok (blake2s bytes) };
+
+    fn digest(alloc: Global, input: &[u8]) -> Result<Vec<u8>, Error> {
+        Ok(Vec::from_array(alloc, digest_of_two(input, &[]))?)
+    }
+
+    ghost decided = { λ _. tt };
+}
+
+/// BLAKE2s as a pseudorandom function: the digest of the seed followed by the input.
+#[derive(Clone, Drop)]
+pub struct Blake2s;
+
+impl PRF for Blake2s {
+    type Input = [u8; 32];
+
+    type Output = [u8; 32];
+
+    type Seed = [u8; 32];
+
+    ghost meaning = { λ seed input. Ok (blake2s (seed ++ input)) };
+
+    /// The digest of the 64 bytes. It takes no memory and refuses nothing.
+    fn evaluate(seed: &[u8; 32], input: &[u8; 32]) -> Result<[u8; 32], Error>
+        ensures { result ≡ Ok (blake2s (seed.now ++ input.now)) }
+    {
+        Ok(digest_of_two(seed, input))
+    }
+
+    ghost decided = { λ _ _. tt };
+}
+
+/// BLAKE2s with 32 bytes out and no key, with salt and personalization in its parameter block.
+#[derive(Clone, Drop)]
+pub struct Blake2sWithParameterBlock {
+    /// Not used: the output always has 32 bytes.
+    pub output_size: u8,
+    /// Not used: there never is a key.
+    pub key_size: u8,
+    /// Bytes 16 to 23 of the parameter block.
+    pub salt: [u8; 8],
+    /// Bytes 24 to 31 of the parameter block.
+    pub personalization: [u8; 8],
+}
+
+impl Blake2sWithParameterBlock {
+    /// The digest of the bytes. The only refusal is `OutOfMemory`.
+    pub fn evaluate(&self, alloc: Global, input: &[u8]) -> Result<Vec<u8>, Error>
+        ensures { AnswersBy (λ bytes. bytes.items) (Ok (blake2s_with self.now.salt self.now.personalization input.now)) result }
+    {
+        let digest = text::digest(&self.salt, &self.personalization, input, &[]);
+        Ok(Vec::from_array(alloc, digest)?)
+    }
+}
