@@ -6,3 +6,5 @@ pub mod PathBytes
 pub mod Roots
 pub mod Rows
 pub mod Trees
+pub mod MultiPaths
+pub mod MultiBytes
