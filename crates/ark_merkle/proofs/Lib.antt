@@ -13,3 +13,4 @@ pub mod OwnPaths
 pub mod TreeReads
 pub mod PlainPlaces
 pub mod SizeLemmas
+pub mod MultiWalks

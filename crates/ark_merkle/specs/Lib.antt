@@ -8,3 +8,4 @@ pub mod Rows
 pub mod Trees
 pub mod MultiPaths
 pub mod MultiBytes
+pub mod MultiLeaves

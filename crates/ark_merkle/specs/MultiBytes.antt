@@ -48,5 +48,13 @@ module _ {L U : Type 0} (fits_leaf : L → Type 0) (leaf : L → List ℕ) (leaf
 pub multi_is_long : {L U : Type 0} (leaf : L → List ℕ) (inner : U → List ℕ) (parts : MultiParts L U) → 32 ≤ length (multi_spelling leaf inner parts)
 multi_is_long leaf inner parts =
     let suffixes = parts.1.1 in
-    omega (arith, length-append (counted leaf parts.0) (both (counted word) (both (counted (counted inner)) (counted word)) parts.1), length-append (counted word parts.1.0) (both (counted (counted inner)) (counted word) suffixes),
-      length-append (counted (counted inner) suffixes.0) (counted word suffixes.1), counted_is_long leaf parts.0, counted_is_long word parts.1.0, counted_is_long (counted inner) suffixes.0, counted_is_long word suffixes.1)
+    omega (
+      arith,
+      length-append (counted leaf parts.0) (both (counted word) (both (counted (counted inner)) (counted word)) parts.1),
+      length-append (counted word parts.1.0) (both (counted (counted inner)) (counted word) suffixes),
+      length-append (counted (counted inner) suffixes.0) (counted word suffixes.1),
+      counted_is_long leaf parts.0,
+      counted_is_long word parts.1.0,
+      counted_is_long (counted inner) suffixes.0,
+      counted_is_long word suffixes.1,
+    )
