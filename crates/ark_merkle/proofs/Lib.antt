@@ -14,3 +14,7 @@ pub mod TreeReads
 pub mod PlainPlaces
 pub mod SizeLemmas
 pub mod MultiWalks
+pub mod MultiIndexes
+pub mod MultiShared
+pub mod MultiCommon
+pub mod MultiOwn

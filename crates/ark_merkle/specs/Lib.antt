@@ -9,3 +9,4 @@ pub mod Trees
 pub mod MultiPaths
 pub mod MultiBytes
 pub mod MultiLeaves
+pub mod MultiTrees

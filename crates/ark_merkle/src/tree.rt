@@ -10,6 +10,7 @@ ghost use Rattle.ark_merkle.specs.Rows.{IsTree, digests_of, rows_seen};
 ghost use Rattle.ark_merkle.specs.Trees.{Tree, own_path};
 
 mod build;
+mod multi;
 mod ways;
 
 use crate::config::{Config, LeafParam, Meaning, TwoToOneParam};
