@@ -24,7 +24,7 @@ pub mod crh {
 /// Merkle trees.
 pub mod merkle_tree {
     pub use ark_merkle::{
-        Config, DigestConverter, IdentityDigestConverter, LeafParam, MerkleTree, Path,
+        Config, DigestConverter, IdentityDigestConverter, LeafParam, MerkleTree, MultiPath, Path,
         TwoToOneParam, is_tree_size,
     };
 }

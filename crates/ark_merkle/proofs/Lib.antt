@@ -18,3 +18,4 @@ pub mod MultiIndexes
 pub mod MultiShared
 pub mod MultiCommon
 pub mod MultiOwn
+pub mod MultiLists
