@@ -18,6 +18,7 @@ pub data Reply : Type 0 where
   Root : (shown : List ℕ) → Reply
   Proof : (written : List ℕ) → Reply
   Verdict : (holds : Bool) → Reply
+  MultiProof : (written : List ℕ) → Reply
 
 -- why a call was refused, in a word
 abbrev pub why : Error → List ℕ
@@ -43,6 +44,7 @@ text (Built size) = codes "tree " ++ (decimal size ++ (codes " height " ++ decim
 text (Root shown) = codes "root " ++ encode_lower shown
 text (Proof written) = codes "path " ++ encode_lower written
 text (Verdict holds) = truth holds
+text (MultiProof written) = codes "multi " ++ encode_lower written
 
 -- Want of memory may stand in place of this reply. It never does where the reply is decided before anything is asked for.
 abbrev pub MayLackMemory : Reply → Type 0
@@ -56,6 +58,7 @@ MayLackMemory (Refused error) = Unit {0}
 MayLackMemory (Built size) = Unit {0}
 MayLackMemory (Proof written) = Unit {0}
 MayLackMemory (Verdict holds) = Unit {0}
+MayLackMemory (MultiProof written) = Unit {0}
 
 -- The bytes are those of the reply, or tell of want of memory in its place.
 abbrev pub Tells : Reply → List ℕ → Type 0

@@ -6,7 +6,7 @@ ghost use Rattle.acp.specs.Steps.{Step, state_of};
 use crate::replies::plain;
 use crate::shell::Shell;
 use crate::tokens::first_token;
-use crate::words::{check_line, proof_line, root_line, tree_line};
+use crate::words::{check_line, mcheck_line, multi_line, proof_line, root_line, tree_line};
 use ark_crypto_primitives::merkle_tree::MerkleTree;
 use std::alloc::{AllocError, Global};
 
@@ -28,6 +28,10 @@ pub fn answer<C: Shell>(
         proof_line(alloc, tree, left)
     } else if word == b"check".as_slice() {
         check_line(alloc, tree, left)
+    } else if word == b"multi".as_slice() {
+        multi_line(alloc, tree, left)
+    } else if word == b"mcheck".as_slice() {
+        mcheck_line(alloc, tree, left)
     } else {
         plain(alloc, b"bad line")
     }
