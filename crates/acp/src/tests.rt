@@ -1,4 +1,5 @@
 //! Sessions of the program, its statuses, and readers and writers that fail.
 
 mod faults;
+mod multi;
 mod sessions;

@@ -4,7 +4,7 @@ use std::process::Abort;
 use std::test::Fail;
 
 // Asks each line in one session, and expects each reply.
-fn expect_replies(rt: &(impl Abort + AllocGlobal), rows: &[(&str, &str)]) -> Result<(), Fail> {
+pub fn expect_replies(rt: &(impl Abort + AllocGlobal), rows: &[(&str, &str)]) -> Result<(), Fail> {
     let mut lines = String::new(rt.alloc());
     let mut replies = String::new(rt.alloc());
     for (line, reply) in rows {
