@@ -2,6 +2,7 @@
 use Rattle.std.specs.Prelude.{ℕ, List, Option}
 use Rattle.ark_base.specs.Outcome.{Outcome}
 use Rattle.ark_base.specs.Reading.{Reading}
+use Rattle.ark_merkle.specs.MultiPaths.{MultiWay}
 use Rattle.ark_merkle.specs.Pairs.{Digest, HashPair}
 use Rattle.ark_merkle.specs.Paths.{Way}
 
@@ -19,3 +20,6 @@ pub record Language : Type 0 where
   -- the canonical bytes of a path, and how they are read
   pub written : Way → List ℕ
   pub read : List ℕ → Reading Way
+  -- the canonical bytes of a multi-proof, and how they are read
+  pub multi_written : MultiWay → List ℕ
+  pub multi_read : List ℕ → Reading MultiWay

@@ -22,6 +22,7 @@ pub data Reply : Type 0 where
   Verdict : (holds : Bool) → Reply
   Changed : Reply
   Bound : (binding : Binding) → Reply
+  MultiProof : (written : List ℕ) → Reply
 
 -- why a call was refused, in a word
 abbrev pub why : Error → List ℕ
@@ -54,6 +55,7 @@ text (Proof written) = codes "path " ++ encode_lower written
 text (Verdict holds) = truth holds
 text Changed = codes "ok"
 text (Bound binding) = binding_text binding
+text (MultiProof written) = codes "multi " ++ encode_lower written
 
 -- Want of memory may stand in place of this reply. It never does where the reply is decided before anything is asked for.
 abbrev pub MayLackMemory : Reply → Type 0
@@ -69,6 +71,7 @@ MayLackMemory (Proof written) = Unit {0}
 MayLackMemory (Verdict holds) = Unit {0}
 MayLackMemory Changed = Unit {0}
 MayLackMemory (Bound binding) = Unit {0}
+MayLackMemory (MultiProof written) = Unit {0}
 
 -- The bytes are those of the reply, or tell of want of memory in its place.
 abbrev pub Tells : Reply → List ℕ → Type 0

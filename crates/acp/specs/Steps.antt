@@ -1,5 +1,5 @@
 -- What a line does to the tree, and what it is answered.
-use Rattle.std.specs.Prelude.{◌≡◌, ◌⊎◌, ℕ, nat_lt, length, List, [], ◌∷◌, Bool, if◌then◌else◌, Option, Some, None, Ok, Err, codes}
+use Rattle.std.specs.Prelude.{◌≡◌, ◌⊎◌, ℕ, nat_lt, length, List, [], ◌∷◌, Bool, true, ◌&&◌, if◌then◌else◌, Option, Some, None, Ok, Err, codes}
 use Rattle.std.specs.Option.{option_map}
 use Rattle.std.specs.Str.{bytes_eq}
 use Rattle.ark_base.specs.declared.error.Error.TheVariants.{OutOfMemory}
@@ -8,6 +8,8 @@ use Rattle.ark_base.specs.Reading.{told}
 use Rattle.ark_merkle.specs.declared.tree.binding.Binding.{Binding}
 use Rattle.ark_merkle.specs.Bindings.{bound}
 use Rattle.ark_merkle.specs.Indexes.{is_tree_size}
+use Rattle.ark_merkle.specs.MultiPaths.{MultiWay, multi_verified}
+use Rattle.ark_merkle.specs.MultiTrees.{own_multi_path}
 use Rattle.ark_merkle.specs.Pairs.{Digest}
 use Rattle.ark_merkle.specs.Paths.{Way, verified}
 use Rattle.ark_merkle.specs.Roots.{root, rooted, built}
@@ -15,7 +17,7 @@ use Rattle.ark_merkle.specs.Trees.{Tree, own_path}
 use Rattle.ark_merkle.specs.Updates.{changed}
 use Rattle.acp.specs.Language.{Language}
 use Rattle.acp.specs.Lines.{tokens_of}
-use Rattle.acp.specs.Replies.{Reply, BadLine, NoTree, NotLeaves, NoIndex, Trailing, Refused, Built, Root, Proof, Verdict, Changed, Bound, MayLackMemory, text}
+use Rattle.acp.specs.Replies.{Reply, BadLine, NoTree, NotLeaves, NoIndex, Trailing, Refused, Built, Root, Proof, Verdict, Changed, Bound, MultiProof, MayLackMemory, text}
 use Rattle.acp.specs.Tokens.{index_of}
 
 -- the tree's leaf digests, or no tree yet
@@ -179,6 +181,47 @@ bind_reply l before (path ∷ []) = BadLine
 bind_reply l before (path ∷ leaf ∷ []) = on_binding l before (l.bytes path) (l.hashed leaf)
 bind_reply l before (path ∷ leaf ∷ more ∷ tokens) = BadLine
 
+-- ---- multi I ..
+
+-- whether each index is below a size
+abbrev pub all_below : ℕ → List ℕ → Bool
+all_below size [] = true
+all_below size (index ∷ indexes) = nat_lt index size && all_below size indexes
+
+abbrev pub on_indexes : Language → State → Option (List ℕ) → Reply
+on_indexes l before None = BadLine
+on_indexes l None (Some indexes) = NoTree
+on_indexes l (Some digests) (Some indexes) = if all_below (length digests) indexes then MultiProof (l.multi_written (own_multi_path l.pair indexes digests)) else NoIndex
+
+abbrev pub multi_reply : Language → State → List (List ℕ) → Reply
+multi_reply l before tokens = on_indexes l before (all index_of tokens)
+
+-- ---- mcheck P L ..
+
+-- whether a multi-proof is accepted with leaves, where no bytes are left behind it
+abbrev pub judged_multi_path : Language → List Digest → List (Outcome Digest) → MultiWay × List ℕ → Outcome (Option Bool)
+judged_multi_path l digests leaves (proof, []) = do
+  r ← root l.pair digests
+  holds ← multi_verified l.pair leaves proof r
+  Ok (Some holds)
+judged_multi_path l digests leaves (proof, byte ∷ bytes) = Ok None
+
+-- the fault in the bytes of a multi-proof, else what is said of it
+abbrev pub multi_judged : Language → List Digest → List (Outcome Digest) → List ℕ → Outcome (Option Bool)
+multi_judged l digests leaves bytes = do
+  proof ← told (l.multi_read bytes)
+  judged_multi_path l digests leaves proof
+
+abbrev pub on_multi_bytes : Language → State → Option (List ℕ) → Option (List (Outcome Digest)) → Reply
+on_multi_bytes l before None leaves = BadLine
+on_multi_bytes l before (Some bytes) None = BadLine
+on_multi_bytes l None (Some bytes) (Some leaves) = NoTree
+on_multi_bytes l (Some digests) (Some bytes) (Some leaves) = judgement (multi_judged l digests leaves bytes)
+
+abbrev pub mcheck_reply : Language → State → List (List ℕ) → Reply
+mcheck_reply l before [] = BadLine
+mcheck_reply l before (proof ∷ tokens) = on_multi_bytes l before (l.bytes proof) (all l.hashed tokens)
+
 -- ---- lines
 
 abbrev pub by_word : Language → State → List (List ℕ) → Turn
@@ -191,6 +234,8 @@ by_word l before (word ∷ tokens) =
     else if bytes_eq word (codes "proof") then ((proof_reply l before tokens, before))
     else if bytes_eq word (codes "check") then ((check_reply l before tokens, before))
     else if bytes_eq word (codes "bind") then ((bind_reply l before tokens, before))
+    else if bytes_eq word (codes "multi") then ((multi_reply l before tokens, before))
+    else if bytes_eq word (codes "mcheck") then ((mcheck_reply l before tokens, before))
     else ((BadLine, before))
 
 -- the exact reply to a line, and the tree after it

@@ -6,6 +6,7 @@ use Rattle.ark_base.specs.declared.error.Refusal.TheVariants.{Custom}
 use Rattle.ark_base.specs.Digits.{number_of_bytes, bytes_of_number, below_at}
 use Rattle.ark_base.specs.Outcome.{Outcome, IsDecided}
 use Rattle.ark_base.specs.Reading.{Reading}
+use Rattle.ark_merkle.specs.MultiBytes.{multi_bytes, multi_way_at}
 use Rattle.ark_merkle.specs.Pairs.{Digest}
 use Rattle.ark_merkle.specs.PathBytes.{way_bytes, way_at}
 use Rattle.acp.specs.Language.{Language}
@@ -51,6 +52,8 @@ toy_language = record {
   pair = record { bottom = toy_pair; upper = toy_pair };
   written = way_bytes toy_bytes toy_bytes;
   read = way_at (λ value. number_of_bytes (bytes_of_number 2 value) ∷ []) (λ value. number_of_bytes (bytes_of_number 2 value) ∷ []) (below_at 257 2) (below_at 257 2);
+  multi_written = multi_bytes toy_bytes toy_bytes;
+  multi_read = multi_way_at (λ value. number_of_bytes (bytes_of_number 2 value) ∷ []) (λ value. number_of_bytes (bytes_of_number 2 value) ∷ []) (below_at 257 2) (below_at 257 2);
 }
 
 pub toy_leaf-decided : (leaf : ℕ) → IsDecided (toy_leaf leaf)

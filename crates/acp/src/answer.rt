@@ -7,7 +7,8 @@ use crate::replies::plain;
 use crate::shell::Shell;
 use crate::tokens::first_token;
 use crate::words::{
-    bind_line, check_line, digests_line, proof_line, root_line, set_line, tree_line,
+    bind_line, check_line, digests_line, mcheck_line, multi_line, proof_line, root_line, set_line,
+    tree_line,
 };
 use ark_crypto_primitives::merkle_tree::MerkleTree;
 use std::alloc::{AllocError, Global};
@@ -36,6 +37,10 @@ pub fn answer<C: Shell>(
         check_line(alloc, tree, left)
     } else if word == b"bind".as_slice() {
         bind_line(alloc, tree, left)
+    } else if word == b"multi".as_slice() {
+        multi_line(alloc, tree, left)
+    } else if word == b"mcheck".as_slice() {
+        mcheck_line(alloc, tree, left)
     } else {
         plain(alloc, b"bad line")
     }

@@ -3,6 +3,7 @@
 
 mod answer;
 mod command;
+mod multi_paths;
 mod paths;
 mod replies;
 mod run;

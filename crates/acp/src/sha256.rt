@@ -1,7 +1,7 @@
 //! The configuration `sha256`.
 
 ghost use Rattle.std.specs.Prelude.{◌≡◌, refl};
-ghost use Rattle.acp.specs.Sha256.{sha_language, read-sha};
+ghost use Rattle.acp.specs.Sha256.{sha_language, read-sha, multi_read-sha};
 
 use crate::replies::push_hex;
 use crate::shell::Shell;
@@ -60,4 +60,8 @@ impl Shell for Sha {
     ghost written_is = { refl };
 
     ghost read_is = { read-sha };
+
+    ghost multi_written_is = { refl };
+
+    ghost multi_read_is = { multi_read-sha };
 }

@@ -10,6 +10,7 @@ use ark_crypto_primitives::crh::{CRHScheme, TwoToOneCRHScheme};
 use ark_crypto_primitives::merkle_tree::{Config, LeafParam, TwoToOneParam};
 use ark_crypto_primitives::serialize::Numbered;
 use ark_merkle::config::Meaning;
+use ark_merkle::multi::MultiMeaning;
 use std::alloc::{AllocError, Global};
 
 /// A configuration with tokens for its leaves and digests. Its hashes have one meaning, whatever their parameters.
@@ -45,4 +46,8 @@ pub trait Shell: Config {
     ghost written_is: { ⟦<Self as Meaning>⟧.written ≡ language.written };
 
     ghost read_is: { ⟦<Self as Meaning>⟧.read ≡ language.read };
+
+    ghost multi_written_is: { ⟦<Self as MultiMeaning>⟧.multi_written ≡ language.multi_written };
+
+    ghost multi_read_is: { ⟦<Self as MultiMeaning>⟧.multi_read ≡ language.multi_read };
 }

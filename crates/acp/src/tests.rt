@@ -1,5 +1,6 @@
 //! Sessions of the program, its statuses, and readers and writers that fail.
 
 mod faults;
+mod multi;
 mod sessions;
 mod toy;

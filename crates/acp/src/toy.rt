@@ -161,4 +161,8 @@ impl Shell for Toy {
     ghost written_is = { refl };
 
     ghost read_is = { refl };
+
+    ghost multi_written_is = { refl };
+
+    ghost multi_read_is = { refl };
 }

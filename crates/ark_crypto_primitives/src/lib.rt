@@ -24,8 +24,8 @@ pub mod crh {
 /// Merkle trees.
 pub mod merkle_tree {
     pub use ark_merkle::{
-        Binding, Config, DigestConverter, IdentityDigestConverter, LeafParam, MerkleTree, Path,
-        TwoToOneParam, is_tree_size,
+        Binding, Config, DigestConverter, IdentityDigestConverter, LeafParam, MerkleTree, MultiPath,
+        Path, TwoToOneParam, is_tree_size,
     };
 }
 

@@ -18,3 +18,9 @@ pub mod OwnPaths
 pub mod TreeReads
 pub mod PlainPlaces
 pub mod SizeLemmas
+pub mod MultiWalks
+pub mod MultiIndexes
+pub mod MultiShared
+pub mod MultiCommon
+pub mod MultiOwn
+pub mod MultiLists

@@ -8,3 +8,7 @@ pub mod Rows
 pub mod Trees
 pub mod Bindings
 pub mod Updates
+pub mod MultiPaths
+pub mod MultiBytes
+pub mod MultiLeaves
+pub mod MultiTrees

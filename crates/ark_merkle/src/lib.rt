@@ -4,6 +4,7 @@
 mod bits;
 pub mod config;
 mod digests;
+pub mod multi;
 mod pairs;
 pub mod path;
 #[cfg(test)]
@@ -14,6 +15,7 @@ mod tests;
 pub mod tree;
 
 pub use config::{Config, DigestConverter, IdentityDigestConverter, LeafParam, TwoToOneParam};
+pub use multi::MultiPath;
 pub use path::Path;
 pub use sizes::is_tree_size;
 pub use tree::{Binding, MerkleTree};

@@ -20,7 +20,7 @@ pub fn expect_replies_of(
     expect_session_of(rt, configuration, lines.as_bytes(), replies.as_bytes())
 }
 
-fn expect_replies(rt: &(impl Abort + AllocGlobal), rows: &[(&str, &str)]) -> Result<(), Fail> {
+pub fn expect_replies(rt: &(impl Abort + AllocGlobal), rows: &[(&str, &str)]) -> Result<(), Fail> {
     expect_replies_of(rt, "sha256", rows)
 }
 

@@ -34,8 +34,8 @@ fn judge<C: Shell>(
     Ok(Some(holds))
 }
 
-// The reply to what was judged so.
-fn judgement(alloc: Global, judged: Result<Option<bool>, Error>) -> Result<Vec<u8>, AllocError>
+/// The reply to what was judged so.
+pub fn judgement(alloc: Global, judged: Result<Option<bool>, Error>) -> Result<Vec<u8>, AllocError>
     ensures { IfOk result (λ reply. reply.items ≡ text (judgement judged)) }
 {
     match judged {

@@ -1,0 +1,137 @@
+-- What the ways of two indexes have in common, row by row.
+use Rattle.std.proofs.Common.{◌≡◌, ℕ, zero, suc, ◌+◌, ◌-◌, ◌/◌, ◌<◌, ◌≤◌, ◌^◌, Bool, true, false, List, [], ◌∷◌, ◌++◌, length, map, take, drop, get_or, refl, ap, sym, ◌∙◌, arith}
+use Rattle.std.specs.Bool.{Decides}
+use Rattle.std.specs.declared.vec.Vec.{Vec}
+use Rattle.std.proofs.lemmas.List.{get_or-take, length-take, length-map, map-append, take-map, take_more}
+use Rattle.std.proofs.lemmas.Slice.Eq.{bytes_eq-Decides}
+use Rattle.ark_merkle.specs.Indexes.{neighbour}
+use Rattle.ark_merkle.specs.MultiTrees.{shared, prefixes_of, suffixes_of}
+use Rattle.ark_merkle.specs.Pairs.{Digest, digest_eq}
+use Rattle.ark_merkle.specs.Rows.{HoldsIndex, beside_in, digests_of}
+use Rattle.ark_merkle.proofs.MultiShared.{shared-same, shared-other, shared-le, last_of, last_of-push, prefixes_of-push, suffixes_of-push}
+use Rattle.ark_merkle.proofs.OwnPaths.{length-beside_in}
+use Rattle.ark_merkle.proofs.PlaceLemmas.{level-fits, beside-inside}
+use Rattle.ark_merkle.proofs.Readings.{row_read, digest_read}
+
+-- the digest beside the way of an index in row k
+abbrev pub beside_at : List (List Digest) → ℕ → ℕ → Digest
+beside_at rows k index = get_or (get_or rows k []) (neighbour (index / 2 ^ suc k)) []
+
+-- two ways at one place of a row
+pub beside_at-place : (rows : List (List Digest)) (k before index : ℕ) → neighbour (before / 2 ^ (k + 1)) ≡ neighbour (index / 2 ^ (k + 1)) → beside_at rows k before ≡ beside_at rows k index
+beside_at-place rows k before index same = let one : k + 1 ≡ suc k = omega arith in ap (λ (place : ℕ). get_or (get_or rows k []) place []) (rw one at same)
+
+-- how many digests two ways have in common below row k
+abbrev pub common : List (List Digest) → ℕ → ℕ → ℕ → ℕ
+common rows k before index = shared (beside_in rows k before) (beside_in rows k index)
+
+not_decided : (b : Bool) (P : Type 0) → Decides b P → (P → ⊥) → b ≡ false
+not_decided true P d denied = absurd (denied (d.0 refl))
+not_decided false P d denied = refl
+
+module _ (rows : List (List Digest)) (before index k n above : ℕ) (level : k + above + 1 ≡ n) (some : 0 < above) where
+  -- the digests in a row are the same
+  pub common-same : common rows (n - 1) before index ≡ above - 1 + common rows (n - above) before index → beside_at rows k before ≡ beside_at rows k index
+      → common rows (n - 1) before index ≡ above + 1 - 1 + common rows (n - (above + 1)) before index
+  common-same so same =
+      let here : n - above ≡ suc k = omega arith in
+      let next : n - (above + 1) ≡ k = omega arith in
+      let step : common rows (n - above) before index ≡ suc (common rows k before index) = rw here (shared-same (beside_at rows k before) (beside_at rows k index) (beside_in rows k before) (beside_in rows k index) ((bytes_eq-Decides (beside_at rows k before) (beside_at rows k index)).1 same)) in
+      so ∙ rw (step, next) (omega arith)
+
+  -- they differ
+  pub common-other : common rows (n - 1) before index ≡ above - 1 + common rows (n - above) before index → (beside_at rows k before ≡ beside_at rows k index → ⊥) → common rows (n - 1) before index ≡ above - 1
+  common-other so other =
+      let here : n - above ≡ suc k = omega arith in
+      let step : common rows (n - above) before index ≡ 0 = rw here (shared-other (beside_at rows k before) (beside_at rows k index) (beside_in rows k before) (beside_in rows k index) (not_decided (digest_eq (beside_at rows k before) (beside_at rows k index)) _ (bytes_eq-Decides (beside_at rows k before) (beside_at rows k index)) other)) in
+      so ∙ rw step (omega arith)
+
+pub common-le : (rows : List (List Digest)) (k before index : ℕ) → common rows k before index ≤ k
+common-le rows k before index = omega (arith, shared-le (beside_in rows k before) (beside_in rows k index), length-beside_in rows k index)
+
+-- ---- the rows below
+
+pub beside_in-take : (rows : List (List Digest)) (m k index : ℕ) → k ≤ m → beside_in (take m rows) k index ≡ beside_in rows k index
+beside_in-take rows m zero index le = refl
+beside_in-take rows m (suc k) index le =
+    let row : get_or (take m rows) k [] ≡ get_or rows k [] = get_or-take m rows k [] (omega arith) in
+    rw row (ap (λ (ds : List Digest). beside_at rows k index ∷ ds) (beside_in-take rows m k index (omega arith)))
+
+pub drop-beside_in : (rows : List (List Digest)) (p k index : ℕ) → p ≤ k → drop p (beside_in rows k index) ≡ beside_in rows (k - p) index
+drop-beside_in rows zero k index le = let e : k - 0 ≡ k = omega arith in rw e refl
+drop-beside_in rows (suc p) zero index le = absurd (omega arith)
+drop-beside_in rows (suc p) (suc k) index le = let e : suc k - suc p ≡ k - p = omega arith in rw e (drop-beside_in rows p k index (omega arith))
+
+pub HoldsIndex-take : (rows : List (List Digest)) (m index : ℕ) → HoldsIndex rows index → HoldsIndex (take m rows) index
+HoldsIndex-take rows m index holds = record {
+  size = holds.size;
+  fits = holds.fits;
+  inside = holds.inside;
+  levels = λ k below. let row : get_or (take m rows) k [] ≡ get_or rows k [] = get_or-take m rows k [] (omega (arith, length-take m rows)) in rw row (holds.levels k (omega (arith, length-take m rows)));
+}
+
+-- the digests below those in common
+pub beside_in-rest : {A Z : Type 0} (numbers : A → Digest) (rows : List (Vec A Z)) (prefix index : ℕ) → prefix ≤ length rows - 1
+    → beside_in (map (digests_of numbers) (take (length rows - prefix) rows)) (length (take (length rows - prefix) rows) - 1) index ≡ drop prefix (beside_in (map (digests_of numbers) rows) (length rows - 1) index)
+beside_in-rest numbers rows prefix index le =
+    let seen = map (digests_of numbers) rows in
+    let m = length rows - prefix in
+    let last : length (take m rows) - 1 ≡ length rows - 1 - prefix = omega (arith, length-take m rows) in
+    rw (last, ← take-map (digests_of numbers) m rows) (beside_in-take seen m (length rows - 1 - prefix) index (omega arith) ∙ sym (drop-beside_in seen prefix (length rows - 1) index le))
+
+pub HoldsIndex-front : {A Z : Type 0} (numbers : A → Digest) (rows : List (Vec A Z)) (m index : ℕ) → HoldsIndex (map (digests_of numbers) rows) index → HoldsIndex (map (digests_of numbers) (take m rows)) index
+HoldsIndex-front numbers rows m index holds = rw (← take-map (digests_of numbers) m rows) (HoldsIndex-take (map (digests_of numbers) rows) m index holds)
+
+-- ---- one index more
+
+module _ (lists : ℕ → List Digest) (indexes : List ℕ) where
+  map-take-more : (place : ℕ) → place < length indexes → map lists (take (place + 1) indexes) ≡ map lists (take place indexes) ++ lists (get_or indexes place 0) ∷ []
+  map-take-more place below = ap (map lists) (take_more indexes place 0 below) ∙ map-append lists (take place indexes) (get_or indexes place 0 ∷ [])
+
+  -- the prefix and the suffix that come with it
+  pub record NextParts (place prefix : ℕ) : Type 0 where
+    pub prefixes : prefixes_of [] (map lists (take (place + 1) indexes)) ≡ prefixes_of [] (map lists (take place indexes)) ++ prefix ∷ []
+    pub suffixes : suffixes_of [] (map lists (take (place + 1) indexes)) ≡ suffixes_of [] (map lists (take place indexes)) ++ drop prefix (lists (get_or indexes place 0)) ∷ []
+
+  next_parts : (place prefix : ℕ) → place < length indexes → prefix ≡ shared (last_of [] (map lists (take place indexes))) (lists (get_or indexes place 0)) → NextParts place prefix
+  next_parts place prefix below is =
+      let list = lists (get_or indexes place 0) in
+      let before = map lists (take place indexes) in
+      record {
+        prefixes = ap (prefixes_of []) (map-take-more place below) ∙ prefixes_of-push [] list before ∙ ap (λ (n : ℕ). prefixes_of [] before ++ n ∷ []) (sym is);
+        suffixes = ap (suffixes_of []) (map-take-more place below) ∙ suffixes_of-push [] list before ∙ ap (λ (n : ℕ). suffixes_of [] before ++ drop n list ∷ []) (sym is);
+      }
+
+  pub NextParts-first : (place : ℕ) → place < length indexes → place ≡ 0 → NextParts place 0
+  NextParts-first place below first = next_parts place 0 below (rw first refl)
+
+  pub NextParts-next : (place prefix : ℕ) → place < length indexes → 0 < place → prefix ≡ shared (lists (get_or indexes (place - 1) 0)) (lists (get_or indexes place 0)) → NextParts place prefix
+  NextParts-next place prefix below some is =
+      let before : map lists (take place indexes) ≡ map lists (take (place - 1) indexes) ++ lists (get_or indexes (place - 1) 0) ∷ [] = let back : place - 1 + 1 ≡ place = omega arith in rw back at (map-take-more (place - 1) (omega arith)) in
+      let last : last_of [] (map lists (take place indexes)) ≡ lists (get_or indexes (place - 1) 0) = ap (last_of []) before ∙ last_of-push [] (lists (get_or indexes (place - 1) 0)) (map lists (take (place - 1) indexes)) in
+      next_parts place prefix below (is ∙ ap (λ (ds : List Digest). shared ds (lists (get_or indexes place 0))) (sym last))
+
+-- ---- what is read
+
+module _ {A Z : Type 0} (numbers : A → Digest) (rows : List (Vec A Z)) (row : Vec A Z) (k index place : ℕ) (holds : HoldsIndex (map (digests_of numbers) rows) index) (below : k + 1 < length rows) where
+  long : length (map (digests_of numbers) rows) ≡ length rows
+  long = length-map rows (digests_of numbers)
+
+  pub beside-level : k + 1 < 64
+  beside-level = omega (arith, level-fits (map (digests_of numbers) rows) holds.size holds.levels k index (omega (arith, long)) holds.inside holds.fits)
+
+  module _ (is : row ≡ get_or rows k row) (at : place ≡ neighbour (index / 2 ^ (k + 1))) where
+    read : get_or (map (digests_of numbers) rows) k [] ≡ digests_of numbers row
+    read = row_read numbers rows k row (omega arith) is
+
+    pub beside-bound : place < length row.items
+    beside-bound =
+        let one : k + 1 ≡ suc k = omega arith in
+        let inside = beside-inside (map (digests_of numbers) rows) index holds k (omega (arith, long)) in
+        rw (at, one) (omega (arith, inside, ap length read, length-map row.items numbers))
+
+    pub beside-read : (digest : A) → digest ≡ get_or row.items place digest → beside_at (map (digests_of numbers) rows) k index ≡ numbers digest
+    beside-read digest found =
+        let one : k + 1 ≡ suc k = omega arith in
+        let there : place ≡ neighbour (index / 2 ^ suc k) = rw one at at in
+        rw (read, ← there) (digest_read numbers row place digest beside-bound found)

@@ -1,0 +1,127 @@
+-- A tree's own multi-proofs.
+use Rattle.std.proofs.Common.{◌≡◌, ℕ, suc, ◌-◌, ◌<◌, ◌^◌, true, false, nat_eq, List, [], ◌∷◌, length, map, get_or, Option, Some, Ok, refl, ap, sym, ◌∙◌, arith}
+use Rattle.std.specs.List.{All, AllByRecursion}
+use Rattle.std.specs.declared.vec.Vec.{Vec}
+use Rattle.std.proofs.lemmas.Bool.{ne_eqb}
+use Rattle.std.proofs.lemmas.List.{length-map}
+use Rattle.ark_base.specs.Outcome.{Outcome}
+use Rattle.ark_merkle.specs.Indexes.{neighbour}
+use Rattle.ark_merkle.specs.MultiPaths.{MultiWay, decoded, verified_from, multi_verified}
+use Rattle.ark_merkle.specs.MultiTrees.{rising, prefixes_of, suffixes_of, own_multi_path}
+use Rattle.ark_merkle.specs.Pairs.{Digest, HashPair}
+use Rattle.ark_merkle.specs.Paths.{Way}
+use Rattle.ark_merkle.specs.Roots.{root, upper_levels}
+use Rattle.ark_merkle.specs.Rows.{IsTree, HoldsIndex, beside_in, digests_of, rows_seen}
+use Rattle.ark_merkle.specs.Trees.{own_path}
+use Rattle.ark_merkle.proofs.MultiIndexes.{All-rising, rising-some}
+use Rattle.ark_merkle.proofs.MultiShared.{decoded-merged}
+use Rattle.ark_merkle.proofs.OwnPaths.{length-beside_in, own_path-rows, own_path-accepted, leaf-neighbour}
+use Rattle.ark_merkle.proofs.TreeReads.{length-rows, holds-index}
+
+rest_of : {X : Type 0} (P : X → Type 0) (x : X) (xs : List X) → All P (x ∷ xs) → All P xs
+rest_of P x xs h k d below = h (suc k) d (omega arith)
+
+first_of : {X : Type 0} (P : X → Type 0) (x : X) (xs : List X) → All P (x ∷ xs) → P x
+first_of P x xs h = h 0 x (omega arith)
+
+module _ (h : HashPair) (leaves : List Digest) (rows : List (List Digest)) (tree : IsTree h leaves rows) where
+  abbrev own : ℕ → Way
+  own index = own_path h index leaves
+
+  abbrev IsInside : ℕ → Type 0
+  IsInside index = index < length leaves
+
+  own-above : (index : ℕ) → IsInside index → (own index).above ≡ beside_in rows (upper_levels leaves) index
+  own-above index inside = ap (λ (way : Way). way.above) (own_path-rows h leaves rows tree index inside (beside_in rows (upper_levels leaves) index) refl)
+
+  own-siblings : (indexes : List ℕ) → map (λ way. way.sibling) (map own indexes) ≡ map (λ i. get_or leaves (neighbour i) []) indexes
+  own-siblings [] = refl
+  own-siblings (i ∷ indexes) = ap (λ (ds : List Digest). get_or leaves (neighbour i) [] ∷ ds) (own-siblings indexes)
+
+  own-indexes : (indexes : List ℕ) → map (λ way. way.index) (map own indexes) ≡ indexes
+  own-indexes [] = refl
+  own-indexes (i ∷ indexes) = ap (λ (ns : List ℕ). i ∷ ns) (own-indexes indexes)
+
+  own-aboves : (indexes : List ℕ) → All IsInside indexes → map (λ way. way.above) (map own indexes) ≡ map (beside_in rows (upper_levels leaves)) indexes
+  own-aboves [] inside = refl
+  own-aboves (i ∷ indexes) inside =
+      ap (λ (ds : List Digest). ds ∷ map (λ way. way.above) (map own indexes)) (own-above i (first_of IsInside i indexes inside)) ∙ ap (λ (lists : List (List Digest)). beside_in rows (upper_levels leaves) i ∷ lists) (own-aboves indexes (rest_of IsInside i indexes inside))
+
+  own-long : (indexes : List ℕ) → All IsInside indexes → AllByRecursion (λ way. length way.above ≡ upper_levels leaves) (map own indexes)
+  own-long [] inside = tt
+  own-long (i ∷ indexes) inside = (ap length (own-above i (first_of IsInside i indexes inside)) ∙ length-beside_in rows (upper_levels leaves) i, own-long indexes (rest_of IsInside i indexes inside))
+
+  own-some : (indexes : List ℕ) → map Some (map own indexes) ≡ map (λ i. Some (own_path h i leaves)) indexes
+  own-some [] = refl
+  own-some (i ∷ indexes) = ap (λ (ways : List (Option Way)). Some (own i) ∷ ways) (own-some indexes)
+
+  own-verified : (r : Digest) (place : ℕ) (indexes : List ℕ) → All IsInside indexes → root h leaves ≡ Ok r → verified_from h r place (map (λ i. Some (own_path h i leaves)) indexes) (map (λ i. Ok (get_or leaves i [])) indexes) ≡ Ok true
+  own-verified r place [] inside rooted = refl
+  own-verified r place (i ∷ indexes) inside rooted =
+      rw (own_path-accepted h leaves rows tree i (first_of IsInside i indexes inside) (own i) (Ok (get_or leaves i [])) r refl refl rooted) (own-verified r (suc place) indexes (rest_of IsInside i indexes inside) rooted)
+
+  module _ (asked : List ℕ) (inside : All IsInside asked) where
+    within : All IsInside (rising asked)
+    within = All-rising IsInside asked inside
+
+    -- a tree's own multi-proof, from its rows
+    pub own_multi_path-rows : own_multi_path h asked leaves ≡ record {
+      siblings = map (λ i. get_or leaves (neighbour i) []) (rising asked);
+      prefixes = prefixes_of [] (map (beside_in rows (upper_levels leaves)) (rising asked));
+      suffixes = suffixes_of [] (map (beside_in rows (upper_levels leaves)) (rising asked));
+      indexes = rising asked;
+    }
+    own_multi_path-rows = λ j. record {
+      siblings = own-siblings (rising asked) j;
+      prefixes = prefixes_of [] (own-aboves (rising asked) within j);
+      suffixes = suffixes_of [] (own-aboves (rising asked) within j);
+      indexes = own-indexes (rising asked) j;
+    }
+
+    own-decoded : decoded (own_multi_path h asked leaves) ≡ map (λ i. Some (own_path h i leaves)) (rising asked)
+    own-decoded = decoded-merged (upper_levels leaves) (map own (rising asked)) (own-long (rising asked) within) ∙ own-some (rising asked)
+
+    own-accepted : (r : Digest) → 0 < length asked → root h leaves ≡ Ok r → multi_verified h (map (λ i. Ok (get_or leaves i [])) (rising asked)) (own_multi_path h asked leaves) r ≡ Ok true
+    own-accepted r some rooted =
+        let long : length (map (λ way. way.index) (map own (rising asked))) ≡ length (rising asked) = ap length (own-indexes (rising asked)) in
+        let not_none : nat_eq (length (map (λ way. way.index) (map own (rising asked)))) 0 ≡ false = ne_eqb _ 0 (λ none. omega (arith, long, rising-some asked some)) in
+        rw (not_none, own-decoded) (own-verified r 0 (rising asked) within rooted)
+
+    module _ (m : MultiWay) (indexes : List ℕ) (is : own_multi_path h asked leaves ≡ m) (once : rising asked ≡ indexes) where
+      -- it decodes to the own paths of its indexes
+      pub own_multi_path-decoded : decoded m ≡ map (λ i. Some (own_path h i leaves)) indexes
+      own_multi_path-decoded = ap decoded (sym is) ∙ own-decoded ∙ ap (map (λ i. Some (own_path h i leaves))) once
+
+      -- it is accepted with the digests of its leaves
+      pub own_multi_path-accepted : (hashed : List (Outcome Digest)) (r : Digest) → 0 < length asked → hashed ≡ map (λ i. Ok (get_or leaves i [])) indexes → root h leaves ≡ Ok r → multi_verified h hashed m r ≡ Ok true
+      own_multi_path-accepted hashed r some are rooted =
+          ap (λ (ds : List (Outcome Digest)). multi_verified h ds m r) (are ∙ ap (map (λ i. Ok (get_or leaves i []))) (sym once)) ∙ ap (λ (w : MultiWay). multi_verified h (map (λ i. Ok (get_or leaves i [])) (rising asked)) w r) (sym is) ∙ own-accepted r some rooted
+
+-- ---- as the calls of a tree read them
+
+module _ {L I W Z Y : Type 0} (leaf : L → Digest) (inner : I → Digest) (h : HashPair) (leaves : List Digest) (kept : Vec L W) (rows : Vec (Vec I Z) Y) (tree : IsTree h leaves (rows_seen inner rows)) (are : digests_of leaf kept ≡ leaves) (asked indexes : List ℕ) (inside : All (λ i. i < length leaves) asked) (once : rising asked ≡ indexes) where
+  inside_once : All (λ i. i < length leaves) indexes
+  inside_once = rw once at (All-rising (λ i. i < length leaves) asked inside)
+
+  pub neighbours-inside : (leaves_in : List L) (indexes_in : List ℕ) → leaves_in ≡ kept.items → indexes_in ≡ indexes → All (λ i. neighbour i < length leaves_in) indexes_in
+  neighbours-inside leaves_in indexes_in same_leaves same =
+      let long : length leaves_in ≡ length leaves = ap length same_leaves ∙ sym (length-map kept.items leaf) ∙ ap length are in
+      rw (same, long) (λ k d below. leaf-neighbour h leaves (rows_seen inner rows) tree (get_or indexes k d) (inside_once k d below))
+
+  pub hold-indexes : (rows_in : List (Vec I Z)) (indexes_in : List ℕ) → rows_in ≡ rows.items → indexes_in ≡ indexes → length leaves < 2 ^ 64 → All (HoldsIndex (map (digests_of inner) rows_in)) indexes_in
+  hold-indexes rows_in indexes_in same_rows same fits = rw same (λ k d below. holds-index inner h leaves rows tree rows_in (get_or indexes k d) same_rows fits (inside_once k d below))
+
+  pub own_multi_path-read : (leaves_in : List L) (rows_in : List (Vec I Z)) (indexes_in more_in : List ℕ) (siblings : List Digest) (prefixes : List ℕ) (suffixes : List (List Digest))
+      → leaves_in ≡ kept.items → rows_in ≡ rows.items → indexes_in ≡ indexes → more_in ≡ indexes
+      → map (λ i. get_or (map leaf leaves_in) (neighbour i) []) indexes_in ≡ siblings
+      → prefixes_of [] (map (beside_in (map (digests_of inner) rows_in) (length rows_in - 1)) more_in) ≡ prefixes
+      → suffixes_of [] (map (beside_in (map (digests_of inner) rows_in) (length rows_in - 1)) more_in) ≡ suffixes
+      → own_multi_path h asked leaves ≡ record { siblings = siblings; prefixes = prefixes; suffixes = suffixes; indexes = indexes }
+  own_multi_path-read leaves_in rows_in indexes_in more_in siblings prefixes suffixes same_leaves same_rows same same_more siblings_are prefixes_are suffixes_are =
+      let m = upper_levels leaves in
+      let seen = rows_seen inner rows in
+      let last : length rows_in - 1 ≡ m = omega (arith, ap length same_rows, length-rows inner h leaves rows tree) in
+      let beside : map (λ i. get_or leaves (neighbour i) []) (rising asked) ≡ siblings = rw (once, ← are) (rw (same_leaves, same) at siblings_are) in
+      let shared : prefixes_of [] (map (beside_in seen m) (rising asked)) ≡ prefixes = rw once (rw (last, same_rows, same_more) at prefixes_are) in
+      let others : suffixes_of [] (map (beside_in seen m) (rising asked)) ≡ suffixes = rw once (rw (last, same_rows, same_more) at suffixes_are) in
+      own_multi_path-rows h leaves seen tree asked inside ∙ (λ j. record { siblings = beside j; prefixes = shared j; suffixes = others j; indexes = once j })
