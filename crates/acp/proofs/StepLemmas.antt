@@ -16,7 +16,7 @@ use Rattle.acp.specs.Tokens.{index_of}
 use Rattle.ark_merkle.specs.Roots.{root, each, rooted, built}
 use Rattle.ark_merkle.specs.Pairs.{Digest, HashPair}
 use Rattle.acp.specs.Language.{Language}
-use Rattle.acp.specs.Replies.{Reply, BadLine, NoTree, NotLeaves, NoIndex, Refused, Built, Changed, MayLackMemory, Tells, text}
+use Rattle.acp.specs.Replies.{Reply, BadLine, NoTree, NotLeaves, NoIndex, Refused, Built, MayLackMemory, Tells, text}
 use Rattle.acp.specs.Steps.{State, root_reply, proof_reply, check_reply, on_bytes, judged, judgement, all, on_leaves, settled, tree_turn, on_digests, digests_turn, on_change, set_in, set_settled, set_turn, on_binding, bound_bytes, binding_reply, bind_reply, Turn, Takes}
 
 pub root_reply-more : (l : Language) (before : State) (tokens : List (List ℕ)) → (tokens ≡ [] → ⊥) → root_reply l before tokens ≡ BadLine
@@ -105,9 +105,9 @@ module _ (l : Language) (before : State) (tokens : List (List ℕ)) (some : toke
   digests_turn-some : digests_turn l before tokens ≡ on_digests l before (all l.digest tokens)
   digests_turn-some = by_tokens tokens some
     where
-    by_tokens : (ts : List (List ℕ)) → (ts ≡ [] → ⊥) → digests_turn l before ts ≡ on_digests l before (all l.digest ts)
-    by_tokens [] h = absurd (h refl)
-    by_tokens (t ∷ ts) h = refl
+      by_tokens : (ts : List (List ℕ)) → (ts ≡ [] → ⊥) → digests_turn l before ts ≡ on_digests l before (all l.digest ts)
+      by_tokens [] h = absurd (h refl)
+      by_tokens (t ∷ ts) h = refl
 
   pub digests_turn-bad : None ≡ all l.digest tokens → digests_turn l before tokens ≡ (BadLine, before)
   digests_turn-bad bad = digests_turn-some ∙ rw (← bad) refl
@@ -176,9 +176,9 @@ module _ (l : Language) (digests : List Digest) (leaf : Outcome Digest) (bytes :
   bound_bytes-whole : bound_bytes l digests leaf bytes ≡ (bound h digests leaf way >>= λ binding. Ok (Some binding))
   bound_bytes-whole = by_rest rest read none
     where
-    by_rest : (bs : List ℕ) → told (l.read bytes) ≡ Ok (way, bs) → length bs ≡ 0 → bound_bytes l digests leaf bytes ≡ (bound h digests leaf way >>= λ binding. Ok (Some binding))
-    by_rest [] e long = rw e (ap (λ (k : HashPair). bound k digests leaf way >>= λ binding. Ok (Some binding)) (sym same))
-    by_rest (b ∷ bs) e long = absurd (omega arith)
+      by_rest : (bs : List ℕ) → told (l.read bytes) ≡ Ok (way, bs) → length bs ≡ 0 → bound_bytes l digests leaf bytes ≡ (bound h digests leaf way >>= λ binding. Ok (Some binding))
+      by_rest [] e long = rw e (ap (λ (k : HashPair). bound k digests leaf way >>= λ binding. Ok (Some binding)) (sym same))
+      by_rest (b ∷ bs) e long = absurd (omega arith)
 
   pub bound_bytes-refused : (e : Error) → bound h digests leaf way ≡ Err e → bound_bytes l digests leaf bytes ≡ Err e
   bound_bytes-refused e refused = bound_bytes-whole ∙ rw refused refl

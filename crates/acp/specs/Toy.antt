@@ -59,6 +59,6 @@ toy_language = record {
 pub toy_leaf-decided : (leaf : ℕ) → IsDecided (toy_leaf leaf)
 toy_leaf-decided leaf = by_test (leaf == 999)
   where
-  by_test : (t : Bool) → IsDecided (if t then Err (GenericError (Custom 1)) else Ok (leaf % 257 ∷ []))
-  by_test true = λ same. absurd cc
-  by_test false = tt
+    by_test : (t : Bool) → IsDecided (if t then Err (GenericError (Custom 1)) else Ok (leaf % 257 ∷ []))
+    by_test true = λ same. absurd cc
+    by_test false = tt

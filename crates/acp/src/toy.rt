@@ -8,10 +8,10 @@ use crate::shell::Shell;
 use crate::tokens::some_bytes_of;
 use ark_base::serialize::number_of;
 use ark_crypto_primitives::crh::{CRHScheme, TwoToOneCRHScheme};
+use ark_crypto_primitives::ff::{Fp, M257, PrimeField};
 use ark_crypto_primitives::merkle_tree::{Config, IdentityDigestConverter};
 use ark_crypto_primitives::serialize::CanonicalDeserialize;
 use ark_crypto_primitives::{Error, Refusal};
-use ark_groups::ff::{Fp, M257, PrimeField};
 use rand::Rng;
 use std::alloc::{AllocError, Global};
 
@@ -20,10 +20,15 @@ pub struct Toy;
 
 impl Config for Toy {
     type Leaf = u64;
+
     type LeafDigest = Fp<M257>;
+
     type LeafInnerDigestConverter = IdentityDigestConverter<Fp<M257>>;
+
     type InnerDigest = Fp<M257>;
+
     type LeafHash = ToyLeafHash;
+
     type TwoToOneHash = ToyPairHash;
 }
 

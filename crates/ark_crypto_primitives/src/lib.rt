@@ -11,6 +11,38 @@ pub mod serialize {
     };
 }
 
+/// Fields.
+pub mod ff {
+    pub use ark_groups::ff::{Fp, M7, M13, M61, M257, M65537, Modulus, PrimeField, UniformRand};
+}
+
+/// Groups.
+pub mod ec {
+    pub use ark_groups::ec::{
+        CurveGroup, Residues, SWCoordinates, SWPoint, Small, SmallModulus, TECoordinates, TEPoint,
+    };
+}
+
+/// Digests of bytes.
+pub mod digest {
+    pub use ark_groups::digest::ByteDigest;
+}
+
+/// Pseudorandom functions.
+pub mod prf {
+    pub use ark_schemes::prf::{Blake2s, Blake2s256, Blake2sWithParameterBlock, PRF};
+}
+
+/// Commitments.
+pub mod commitment {
+    pub use ark_schemes::commitment::CommitmentScheme;
+
+    /// BLAKE2s of the input and of randomness.
+    pub mod blake2s {
+        pub use ark_schemes::commitment::blake2s::Commitment;
+    }
+}
+
 /// Hashes of one input and of two.
 pub mod crh {
     pub use ark_crh::{CRHScheme, TwoToOneCRHScheme};
@@ -24,8 +56,8 @@ pub mod crh {
 /// Merkle trees.
 pub mod merkle_tree {
     pub use ark_merkle::{
-        Binding, Config, DigestConverter, IdentityDigestConverter, LeafParam, MerkleTree, MultiPath,
-        Path, TwoToOneParam, is_tree_size,
+        Binding, Config, DigestConverter, IdentityDigestConverter, LeafParam, MerkleTree,
+        MultiPath, Path, TwoToOneParam, is_tree_size,
     };
 }
 

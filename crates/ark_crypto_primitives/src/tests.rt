@@ -10,10 +10,15 @@ struct Sha;
 
 impl Config for Sha {
     type Leaf = Vec<u8>;
+
     type LeafDigest = Vec<u8>;
+
     type LeafInnerDigestConverter = IdentityDigestConverter<Vec<u8>>;
+
     type InnerDigest = Vec<u8>;
+
     type LeafHash = Sha256;
+
     type TwoToOneHash = Sha256;
 }
 

@@ -59,12 +59,12 @@ pub first_level-none : (other : ℕ → Bool) (level count : ℕ) → first_leve
 first_level-none other level zero none l from under = absurd (omega arith)
 first_level-none other level (suc count) none l from under = by_test (other level) refl none (λ e low. first_level-none other (suc level) count e l low (omega (arith, under)))
   where
-  by_test : (t : Bool) → other level ≡ t → (if t then Some level else first_level other (suc level) count) ≡ None → (first_level other (suc level) count ≡ None → suc level ≤ l → other l ≡ false) → other l ≡ false
-  by_test true is e next = absurd cc
-  by_test false is e next = elim (cases_lt level l) [
-    | inl lt ↦ next e lt
-    | inr ge ↦ let same : l ≡ level = omega arith in rw (same) is
-  ]
+    by_test : (t : Bool) → other level ≡ t → (if t then Some level else first_level other (suc level) count) ≡ None → (first_level other (suc level) count ≡ None → suc level ≤ l → other l ≡ false) → other l ≡ false
+    by_test true is e next = absurd cc
+    by_test false is e next = elim (cases_lt level l) [
+      | inl lt ↦ next e lt
+      | inr ge ↦ let same : l ≡ level = omega arith in rw (same) is
+    ]
 
 -- The level that is found is one of them, holds, and none before it does.
 pub record IsFirst (other : ℕ → Bool) (from count level : ℕ) : Type 0 where
@@ -76,18 +76,18 @@ pub first_level-some : (other : ℕ → Bool) (from count level : ℕ) → first
 first_level-some other from zero level some = absurd cc
 first_level-some other from (suc count) level some = by_test (other from) refl some (λ e. first_level-some other (suc from) count level e)
   where
-  by_test : (t : Bool) → other from ≡ t → (if t then Some from else first_level other (suc from) count) ≡ Some level → (first_level other (suc from) count ≡ Some level → IsFirst other (suc from) count level) → IsFirst other from (suc count) level
-  by_test true is e next = let same : from ≡ level = cc in record { high = omega arith; holds = rw (← same) is; before = λ l low under. absurd (omega (arith, same)) }
-  by_test false is e next =
-      let more = next e in
-      record {
-        high = omega (arith, more.high);
-        holds = more.holds;
-        before = λ l low under. elim (cases_lt from l) [
-          | inl lt ↦ more.before l lt under
-          | inr ge ↦ let same : l ≡ from = omega arith in rw (same) is
-        ];
-      }
+    by_test : (t : Bool) → other from ≡ t → (if t then Some from else first_level other (suc from) count) ≡ Some level → (first_level other (suc from) count ≡ Some level → IsFirst other (suc from) count level) → IsFirst other from (suc count) level
+    by_test true is e next = let same : from ≡ level = cc in record { high = omega arith; holds = rw (← same) is; before = λ l low under. absurd (omega (arith, same)) }
+    by_test false is e next =
+        let more = next e in
+        record {
+          high = omega (arith, more.high);
+          holds = more.holds;
+          before = λ l low under. elim (cases_lt from l) [
+            | inl lt ↦ more.before l lt under
+            | inr ge ↦ let same : l ≡ from = omega arith in rw (same) is
+          ];
+        }
 
 -- ---- what a path gives from one of its digests on
 
@@ -104,9 +104,9 @@ climbed-refused hash index (d ∷ ds) lowest (suc level) e refused = rw (climbed
 pub top_from-refused : (h : HashPair) (way : Way) (digest : Digest) (level : ℕ) (e : Error) → top_from h way digest level ≡ Err e → top h way digest ≡ Err e
 top_from-refused h way digest level e refused = by_lowest (ordered h.bottom (bit_at way.index 0) digest way.sibling) refused
   where
-  by_lowest : (o : Outcome Digest) → (o >>= climbed h.upper way.index (drop level way.above)) ≡ Err e → (o >>= climbed h.upper way.index way.above) ≡ Err e
-  by_lowest (Ok lowest) r = climbed-refused h.upper way.index way.above lowest level e r
-  by_lowest (Err f) r = r
+    by_lowest : (o : Outcome Digest) → (o >>= climbed h.upper way.index (drop level way.above)) ≡ Err e → (o >>= climbed h.upper way.index way.above) ≡ Err e
+    by_lowest (Ok lowest) r = climbed-refused h.upper way.index way.above lowest level e r
+    by_lowest (Err f) r = r
 
 -- one level up
 pub top_from-up : (h : HashPair) (way : Way) (digest : Digest) (level : ℕ) → level < length way.above → top_from h way digest level ≡ (top_from h way digest (suc level) >>= λ below. ordered h.upper (bit_at way.index (length way.above - level)) below (get_or way.above level []))
@@ -115,10 +115,10 @@ top_from-up h way digest level under =
     let long : suc (length (drop (suc level) way.above)) ≡ length way.above - level = omega (arith, length-drop (suc level) way.above) in
     by_lowest (ordered h.bottom (bit_at way.index 0) digest way.sibling) (drop level way.above) cut long
   where
-  by_lowest : (o : Outcome Digest) (ds : List Digest) → ds ≡ get_or way.above level [] ∷ drop (suc level) way.above → suc (length (drop (suc level) way.above)) ≡ length way.above - level
-      → (o >>= climbed h.upper way.index ds) ≡ ((o >>= climbed h.upper way.index (drop (suc level) way.above)) >>= λ below. ordered h.upper (bit_at way.index (length way.above - level)) below (get_or way.above level []))
-  by_lowest (Ok lowest) ds cut long = rw (cut, long) refl
-  by_lowest (Err e) ds cut long = refl
+    by_lowest : (o : Outcome Digest) (ds : List Digest) → ds ≡ get_or way.above level [] ∷ drop (suc level) way.above → suc (length (drop (suc level) way.above)) ≡ length way.above - level
+        → (o >>= climbed h.upper way.index ds) ≡ ((o >>= climbed h.upper way.index (drop (suc level) way.above)) >>= λ below. ordered h.upper (bit_at way.index (length way.above - level)) below (get_or way.above level []))
+    by_lowest (Ok lowest) ds cut long = rw (cut, long) refl
+    by_lowest (Err e) ds cut long = refl
 
 pub path_pair-up : (h : HashPair) (way : Way) (digest : Digest) (level : ℕ) → level < length way.above → path_pair h way digest level ≡ (top_from h way digest (suc level) >>= λ below. Ok (couple (bit_at way.index (length way.above - level)) below (get_or way.above level [])))
 path_pair-up h way digest level under =

@@ -62,23 +62,23 @@ module _ (h : HashPair) (leaves : List Digest) (leaf : Outcome Digest) (way : Wa
   pub answered : bound h leaves leaf way ≡ Ok b → Answered h leaves leaf way b
   answered e = by_length (length way.above == upper_levels leaves) refl e
     where
-    by_length : (t : Bool) → (length way.above == upper_levels leaves) ≡ t
-        → (if t then (leaf >>= λ digest. root h leaves >>= λ r. top h way digest >>= λ given. Ok (if digest_eq given r then binding_of (difference h leaves way digest) else Rejected)) else Err (IncorrectInputLength (length way.above))) ≡ Ok b → Answered h leaves leaf way b
-    by_length true is e =
-        let hashed = bind_ok leaf _ b e in
-        let rooted = bind_ok (root h leaves) _ b hashed.2 in
-        let climbed = bind_ok (top h way hashed.0) _ b rooted.2 in
-        record {
-          long = eqb-true (length way.above) (upper_levels leaves) is;
-          digest = hashed.0;
-          leaf_is = hashed.1;
-          top_digest = rooted.0;
-          root_is = rooted.1;
-          given = climbed.0;
-          top_is = climbed.1;
-          answer = sym (done_injective _ _ climbed.2);
-        }
-    by_length false is e = absurd cc
+      by_length : (t : Bool) → (length way.above == upper_levels leaves) ≡ t
+          → (if t then (leaf >>= λ digest. root h leaves >>= λ r. top h way digest >>= λ given. Ok (if digest_eq given r then binding_of (difference h leaves way digest) else Rejected)) else Err (IncorrectInputLength (length way.above))) ≡ Ok b → Answered h leaves leaf way b
+      by_length true is e =
+          let hashed = bind_ok leaf _ b e in
+          let rooted = bind_ok (root h leaves) _ b hashed.2 in
+          let climbed = bind_ok (top h way hashed.0) _ b rooted.2 in
+          record {
+            long = eqb-true (length way.above) (upper_levels leaves) is;
+            digest = hashed.0;
+            leaf_is = hashed.1;
+            top_digest = rooted.0;
+            root_is = rooted.1;
+            given = climbed.0;
+            top_is = climbed.1;
+            answer = sym (done_injective _ _ climbed.2);
+          }
+      by_length false is e = absurd cc
 
 is_accepted-by : (t : Bool) (o : Option ℕ) (b : Binding) → b ≡ (if t then binding_of o else Rejected) → t ≡ is_accepted b
 is_accepted-by true None b e = rw (e) refl

@@ -1,8 +1,8 @@
 use crate::tests::sessions::expect_replies_of;
 use crate::toy::Toy;
+use ark_crypto_primitives::ff::{Fp, M257, PrimeField};
 use ark_crypto_primitives::merkle_tree::{MerkleTree, is_tree_size};
 use ark_crypto_primitives::{Error, Refusal};
-use ark_groups::ff::{Fp, M257, PrimeField};
 use std::alloc::Global;
 use std::test::Fail;
 

@@ -34,10 +34,7 @@ fn bound_bytes<C: Shell>(
 }
 
 // The reply to what was said so.
-fn binding_reply(
-    alloc: Global,
-    said: Result<Option<Binding>, Error>,
-) -> Result<Vec<u8>, AllocError>
+fn binding_reply(alloc: Global, said: Result<Option<Binding>, Error>) -> Result<Vec<u8>, AllocError>
     ensures { IfOk result (λ reply. reply.items ≡ text (binding_reply said)) }
 {
     match said {

@@ -58,7 +58,14 @@ impl<P: Config> MerkleTree<P> {
             return Err(Error::IncorrectInputLength(path.auth_path.len()));
         }
         let digest = P::LeafHash::evaluate(alloc, &self.leaf_parameters, leaf)?;
-        let (top, difference) = compare::<P>(alloc, &self.pair_parameters, &self.leaves, &self.rows, path, &digest)?;
+        let (top, difference) = compare::<P>(
+            alloc,
+            &self.pair_parameters,
+            &self.leaves,
+            &self.rows,
+            path,
+            &digest,
+        )?;
         Ok(binding_of(are_same(&top, self.root()), difference))
     }
 }
@@ -95,13 +102,25 @@ fn compare<P: Config>(
     let sibling = &path.leaf_sibling_hash;
     let is_own = stand_at(leaves, index, digest, sibling);
     let mut difference = other_at(is_own, path.auth_path.len(), None);
-    let mut current = hash_leaves::<P>(alloc, two, is_bit_set(path.leaf_index, 0), digest, sibling)?;
+    let mut current = hash_leaves::<P>(
+        alloc,
+        two,
+        is_bit_set(path.leaf_index, 0),
+        digest,
+        sibling,
+    )?;
     for step in 0..path.auth_path.len() {
         let level = path.auth_path.len() - 1 - step;
         let sibling = &path.auth_path[level];
         let is_own = stand_at(&rows[step], index >> (step + 1), &current, sibling);
         difference = other_at(is_own, level, difference);
-        current = hash_upper::<P::TwoToOneHash>(alloc, two, is_bit_set(path.leaf_index, step + 1), &current, sibling)?;
+        current = hash_upper::<P::TwoToOneHash>(
+            alloc,
+            two,
+            is_bit_set(path.leaf_index, step + 1),
+            &current,
+            sibling,
+        )?;
     }
     Ok((current, difference))
 }

@@ -31,7 +31,14 @@ impl<P: Config> MerkleTree<P> {
         ensures pair_parameters { self.new.pair_parameters ≡ self.old.pair_parameters }
     {
         let digest = P::LeafHash::evaluate(alloc, &self.leaf_parameters, new_leaf)?;
-        let way = new_way::<P>(alloc, &self.pair_parameters, &self.leaves, &self.rows, index, &digest)?;
+        let way = new_way::<P>(
+            alloc,
+            &self.pair_parameters,
+            &self.leaves,
+            &self.rows,
+            index,
+            &digest,
+        )?;
         self.leaves[index] = digest;
         put_way(&mut self.rows, index, way);
         Ok(())
@@ -56,7 +63,14 @@ impl<P: Config> MerkleTree<P> {
         ensures pair_parameters { self.new.pair_parameters ≡ self.old.pair_parameters }
     {
         let digest = P::LeafHash::evaluate(alloc, &self.leaf_parameters, new_leaf)?;
-        let way = new_way::<P>(alloc, &self.pair_parameters, &self.leaves, &self.rows, index, &digest)?;
+        let way = new_way::<P>(
+            alloc,
+            &self.pair_parameters,
+            &self.leaves,
+            &self.rows,
+            index,
+            &digest,
+        )?;
         if !are_same(&way[self.rows.len() - 1], asserted_new_root) {
             return Ok(false);
         }
@@ -88,7 +102,13 @@ fn new_way<P: Config>(
     for level in 1..rows.len() {
         let row = &rows[level - 1];
         let sibling = &row[neighbour_of(index >> level)];
-        let up = hash_upper::<P::TwoToOneHash>(alloc, two, is_bit_set(index, level), &way[level - 1], sibling)?;
+        let up = hash_upper::<P::TwoToOneHash>(
+            alloc,
+            two,
+            is_bit_set(index, level),
+            &way[level - 1],
+            sibling,
+        )?;
         way.push(up)?;
     }
     Ok(way)

@@ -12,8 +12,8 @@ mod tests;
 mod text;
 
 use crate::prf::PRF;
-use ark_groups::digest::ByteDigest;
 use ark_base::error::Error;
+use ark_groups::digest::ByteDigest;
 use std::alloc::Global;
 
 // The digest of `first` followed by `second`, with neither salt nor personalization.

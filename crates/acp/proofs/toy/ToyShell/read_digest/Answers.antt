@@ -1,4 +1,4 @@
-use Rattle.std.proofs.Common.{◌≡◌, ◌<◌, ◌∙◌, length, drop, length-drop, ap, sym, arith}
+use Rattle.std.proofs.Common.{◌<◌, ◌∙◌, length, drop, length-drop, ap, sym, arith}
 use Rattle.std.specs.Option.{option_map}
 use Rattle.acp.proofs.ToyLemmas.{digest_of-more}
 use Rattle.acp.proofs.toy.ToyShell.read_digest.Goals as goal

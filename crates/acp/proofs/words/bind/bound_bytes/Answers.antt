@@ -1,4 +1,4 @@
-use Rattle.std.proofs.Common.{◌≡◌, ◌<◌, Ok, length, drop, length-drop, arith}
+use Rattle.std.proofs.Common.{◌≡◌, ◌<◌, length, drop, length-drop, arith}
 use Rattle.ark_base.proofs.Refusals.{passed_on}
 use Rattle.acp.proofs.StepLemmas.{bound_bytes-trailing, bound_bytes-refused, bound_bytes-ok}
 use Rattle.acp.proofs.words.bind.bound_bytes.Goals as goal

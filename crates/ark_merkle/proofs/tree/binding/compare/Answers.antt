@@ -56,9 +56,10 @@ loop-step-init g c =
     let high : length way.above ≡ upper_levels leaves = length-map path.auth_path.items numbers ∙ levels in
     let level = m - 0 in
     let last : level ≡ upper_levels leaves = omega (arith, levels) in
-    let same : c.len.result ≡ level = omega (arith, c.len.ensures, path.auth_path.ok.0) in
-    (top_from-last h way digest level (omega (arith, last, high)) ∙ (rw (c.is_bit_set.ensures) at c.in_ok-current.ensures),
-     first_level-up (differs h leaves rows tree way digest high) level (suc level) 0 1 c.stand_at-is_own.result None c.other_at-difference.result refl refl (differs-last h leaves rows tree way digest high level last c.stand_at-is_own.result (rw (own) at c.stand_at-is_own.ensures)) refl (rw (same) at c.other_at-difference.ensures))
+    let same : c.len.result ≡ level = omega (arith, c.len.ensures, path.auth_path.ok.0) in (
+      top_from-last h way digest level (omega (arith, last, high)) ∙ (rw (c.is_bit_set.ensures) at c.in_ok-current.ensures),
+      first_level-up (differs h leaves rows tree way digest high) level (suc level) 0 1 c.stand_at-is_own.result None c.other_at-difference.result refl refl (differs-last h leaves rows tree way digest high level last c.stand_at-is_own.result (rw (own) at c.stand_at-is_own.ensures)) refl (rw (same) at c.other_at-difference.ensures),
+    )
 
 pub overflow_shr-index : goal.overflow_shr-index
 overflow_shr-index g c =
@@ -191,9 +192,10 @@ loop-step-preserved g c =
     let sib : get_or way.above level [] ≡ numbers sibling = get_or-map numbers path.auth_path.items level sibling [] (omega (arith, c.loop-step-test.true)) ∙ ap numbers (sym (rw (same) at c.index-sibling.ensures)) in
     let is_own = c.stand_at-is_own-in-loop-step.result in
     let stands = rw (own, one, c.deref.ensures.value, ← row_is, ← sib) at c.stand_at-is_own-in-loop-step.ensures in
-    let differ = differs-row h leaves rows tree way digest high level step at_level (numbers current) so is_own stands in
-    (top_from-row h leaves rows tree way digest high level step at_level (numbers current) so ∙ rw (sib) (rw (c.is_bit_set-in-loop-step.ensures, one) at c.in_ok-current-2.ensures),
-     first_level-up (differs h leaves rows tree way digest high) level (m - step) (suc step) (suc (step + 1)) is_own c.loop-step.difference c.other_at-difference-in-loop-step.result (sym up) (omega arith) differ c.loop-step.invariant.1 (rw (same) at c.other_at-difference-in-loop-step.ensures))
+    let differ = differs-row h leaves rows tree way digest high level step at_level (numbers current) so is_own stands in (
+      top_from-row h leaves rows tree way digest high level step at_level (numbers current) so ∙ rw (sib) (rw (c.is_bit_set-in-loop-step.ensures, one) at c.in_ok-current-2.ensures),
+      first_level-up (differs h leaves rows tree way digest high) level (m - step) (suc step) (suc (step + 1)) is_own c.loop-step.difference c.other_at-difference-in-loop-step.result (sym up) (omega arith) differ c.loop-step.invariant.1 (rw (same) at c.other_at-difference-in-loop-step.ensures),
+    )
 
 pub returns-clause-difference : goal.returns-clause-difference
 returns-clause-difference g c =

@@ -17,4 +17,4 @@ invariant-loop-step g l =
     let digest = leaf_numbers l.digest in
     let m = length l.path.auth_path.items in
     (top_from h way digest (m - l.step) ≡ Ok (numbers l.current))
-      × (l.difference ≡ first_level (λ level. is_other (path_pair h way digest level) (tree_pair h leaves way.index level)) (m - l.step) (suc l.step))
+    × (l.difference ≡ first_level (λ level. is_other (path_pair h way digest level) (tree_pair h leaves way.index level)) (m - l.step) (suc l.step))
