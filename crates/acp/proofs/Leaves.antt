@@ -13,10 +13,6 @@ left_size None = 0
 left_size (Some bytes) = 1 + length bytes
 
 module _ {A : Type 0} (said : List ℕ → Option A) where
-  pub behind-none : (rest : Option (List A)) → behind [] rest ≡ rest
-  behind-none None = refl
-  behind-none (Some more) = refl
-
   behind-onto : (front : List A) (x : A) (rest : Option (List A)) → behind front (onto_all (Some x) rest) ≡ behind (front ++ x ∷ []) rest
   behind-onto front x None = refl
   behind-onto front x (Some more) = ap (λ (xs : List A). Some xs) (sym (append_assoc front (x ∷ []) more))

@@ -1,26 +1,18 @@
 -- The replies to `multi` and `mcheck`, by the tokens of a line.
-use Rattle.std.proofs.Common.{◌≡◌, ℕ, zero, suc, ◌<◌, ◌≤◌, List, [], ◌∷◌, length, Bool, true, false, ◌&&◌, ltb, Some, None, Ok, Err, refl, subst, arith}
+use Rattle.std.proofs.Common.{◌≡◌, ℕ, zero, suc, ◌<◌, List, [], ◌∷◌, length, Bool, true, false, ◌&&◌, ltb, Some, None, Ok, Err, refl, subst, arith}
 use Rattle.std.specs.List.{All}
-use Rattle.std.proofs.lemmas.Bool.{lt-ltb, le-ltb, ltb-true, false≢true}
+use Rattle.std.proofs.lemmas.Bool.{ltb-true, false≢true}
 use Rattle.ark_base.specs.declared.error.Error.{Error}
 use Rattle.ark_base.specs.Outcome.{Outcome}
 use Rattle.ark_base.specs.Reading.{told}
 use Rattle.ark_merkle.specs.MultiPaths.{MultiWay, multi_verified}
-use Rattle.ark_merkle.specs.MultiTrees.{own_multi_path}
 use Rattle.ark_merkle.specs.Pairs.{Digest, HashPair}
 use Rattle.ark_merkle.specs.Roots.{root}
 use Rattle.acp.specs.Language.{Language}
-use Rattle.acp.specs.Replies.{BadLine, NoTree, NoIndex, MultiProof}
-use Rattle.acp.specs.Steps.{State, all, all_below, multi_reply, multi_judged, mcheck_reply, judgement}
-use Rattle.acp.specs.Tokens.{index_of}
+use Rattle.acp.specs.Replies.{BadLine, NoTree}
+use Rattle.acp.specs.Steps.{State, all, all_below, multi_judged, mcheck_reply, judgement}
 
 -- ---- indexes
-
-pub all_below-first : (size index : ℕ) (indexes : List ℕ) → index < size → all_below size (index ∷ indexes) ≡ all_below size indexes
-all_below-first size index indexes below = let e : ltb index size ≡ true = lt-ltb _ _ below in rw e refl
-
-pub all_below-not : (size index : ℕ) (indexes : List ℕ) → size ≤ index → all_below size (index ∷ indexes) ≡ false
-all_below-not size index indexes past = let e : ltb index size ≡ false = le-ltb _ _ past in rw e refl
 
 both : (a b : Bool) → (a && b) ≡ true → (a ≡ true) × (b ≡ true)
 both true b e = (refl, e)
@@ -31,26 +23,9 @@ All-below size [] are k d below = absurd (omega arith)
 All-below size (index ∷ indexes) are zero d below = ltb-true _ _ (both (ltb index size) (all_below size indexes) are).0
 All-below size (index ∷ indexes) are (suc k) d below = All-below size indexes (both (ltb index size) (all_below size indexes) are).1 k d (omega arith)
 
-module _ (l : Language) (before : State) (tokens : List (List ℕ)) where
-  pub multi_reply-bad : None ≡ all index_of tokens → multi_reply l before tokens ≡ BadLine
-  multi_reply-bad bad = rw (← bad) refl
-
-  module _ (indexes : List ℕ) (said : Some indexes ≡ all index_of tokens) where
-    pub multi_reply-no_tree : before ≡ None → multi_reply l before tokens ≡ NoTree
-    multi_reply-no_tree none = rw (← said, none) refl
-
-    pub multi_reply-no_index : (digests : List Digest) → before ≡ Some digests → all_below (length digests) indexes ≡ false → multi_reply l before tokens ≡ NoIndex
-    multi_reply-no_index digests is past = rw (← said, is, past) refl
-
-    pub multi_reply-proof : (digests : List Digest) → before ≡ Some digests → all_below (length digests) indexes ≡ true → multi_reply l before tokens ≡ MultiProof (l.multi_written (own_multi_path l.pair indexes digests))
-    multi_reply-proof digests is below = rw (← said, is, below) refl
-
 -- ---- checks
 
 module _ (l : Language) (before : State) (tokens : List (List ℕ)) (proof : List ℕ) (rest : List (List ℕ)) (are : tokens ≡ proof ∷ rest) where
-  pub mcheck_reply-no_bytes : None ≡ l.bytes proof → mcheck_reply l before tokens ≡ BadLine
-  mcheck_reply-no_bytes none = rw (are, ← none) refl
-
   module _ (bytes : List ℕ) (said : Some bytes ≡ l.bytes proof) where
     pub mcheck_reply-no_leaves : None ≡ all l.hashed rest → mcheck_reply l before tokens ≡ BadLine
     mcheck_reply-no_leaves none = rw (are, ← said, ← none) refl

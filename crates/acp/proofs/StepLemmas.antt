@@ -10,29 +10,17 @@ use Rattle.ark_base.specs.Reading.{told}
 use Rattle.ark_merkle.specs.Paths.{Way, verified}
 use Rattle.ark_merkle.specs.declared.tree.binding.Binding.{Binding}
 use Rattle.ark_merkle.specs.Bindings.{bound}
-use Rattle.ark_merkle.specs.Updates.{changed}
 use Rattle.ark_merkle.specs.Indexes.{is_tree_size}
 use Rattle.acp.specs.Tokens.{index_of}
 use Rattle.ark_merkle.specs.Roots.{root, each, rooted, built}
 use Rattle.ark_merkle.specs.Pairs.{Digest, HashPair}
 use Rattle.acp.specs.Language.{Language}
 use Rattle.acp.specs.Replies.{Reply, BadLine, NoTree, NotLeaves, NoIndex, Refused, Built, MayLackMemory, Tells, text}
-use Rattle.acp.specs.Steps.{State, root_reply, proof_reply, check_reply, on_bytes, judged, judgement, all, on_leaves, settled, tree_turn, on_digests, digests_turn, on_change, set_in, set_settled, set_turn, on_binding, bound_bytes, binding_reply, bind_reply, Turn, Takes}
+use Rattle.acp.specs.Steps.{State, root_reply, check_reply, on_bytes, judged, judgement, all, on_leaves, settled, tree_turn, on_digests, digests_turn, on_change, set_in, set_turn, on_binding, bound_bytes, binding_reply, bind_reply, Turn, Takes}
 
 pub root_reply-more : (l : Language) (before : State) (tokens : List (List ℕ)) → (tokens ≡ [] → ⊥) → root_reply l before tokens ≡ BadLine
 root_reply-more l before [] some = absurd (some refl)
 root_reply-more l before (token ∷ tokens) some = refl
-
-pub proof_reply-other : (l : Language) (before : State) (tokens : List (List ℕ)) → ((token : List ℕ) → tokens ≡ token ∷ [] → ⊥) → proof_reply l before tokens ≡ BadLine
-proof_reply-other l before [] other = refl
-proof_reply-other l before (token ∷ []) other = absurd (other token refl)
-proof_reply-other l before (token ∷ more ∷ tokens) other = refl
-
-pub check_reply-other : (l : Language) (before : State) (tokens : List (List ℕ)) → ((path leaf : List ℕ) → tokens ≡ path ∷ leaf ∷ [] → ⊥) → check_reply l before tokens ≡ BadLine
-check_reply-other l before [] other = refl
-check_reply-other l before (path ∷ []) other = refl
-check_reply-other l before (path ∷ leaf ∷ []) other = absurd (other path leaf refl)
-check_reply-other l before (path ∷ leaf ∷ more ∷ tokens) other = refl
 
 -- what is told of a reply that is the exact one
 pub tells : {A E : Type 0} (items : A → List ℕ) (r : Result A E) (exact reply : Reply) → exact ≡ reply → IfOk r (λ v. items v ≡ text reply) → IfOk r (λ v. Tells exact (items v))
@@ -132,9 +120,6 @@ on_change-no_leaf l before None = refl
 on_change-no_leaf l before (Some index) = refl
 
 module _ (l : Language) (before : State) (tokens : List (List ℕ)) (first token : List ℕ) (two : tokens ≡ first ∷ token ∷ []) where
-  pub set_turn-no_index : None ≡ index_of first → set_turn l before tokens ≡ (BadLine, before)
-  set_turn-no_index none = rw (two, ← none) refl
-
   pub set_turn-no_leaf : None ≡ l.hashed token → set_turn l before tokens ≡ (BadLine, before)
   set_turn-no_leaf none = rw (two, ← none) (on_change-no_leaf l before (index_of first))
 
@@ -146,12 +131,6 @@ module _ (l : Language) (before : State) (tokens : List (List ℕ)) (first token
     set_turn-in digests is = rw (two, ← said, ← hashed, is) refl
 
 -- ---- what a path says of a leaf
-
-pub bind_reply-other : (l : Language) (before : State) (tokens : List (List ℕ)) → ((path leaf : List ℕ) → tokens ≡ path ∷ leaf ∷ [] → ⊥) → bind_reply l before tokens ≡ BadLine
-bind_reply-other l before [] other = refl
-bind_reply-other l before (path ∷ []) other = refl
-bind_reply-other l before (path ∷ leaf ∷ []) other = absurd (other path leaf refl)
-bind_reply-other l before (path ∷ leaf ∷ more ∷ tokens) other = refl
 
 on_binding-none : (l : Language) (before : State) (bytes : Option (List ℕ)) → on_binding l before bytes None ≡ BadLine
 on_binding-none l before None = refl
@@ -224,9 +203,6 @@ takes_built before exact o digests bytes same is told =
 module _ (l : Language) (digests : List Digest) (index : ℕ) (leaf : Outcome Digest) where
   pub set_in-past : nat_lt index (length digests) ≡ false → set_in l digests index leaf ≡ (NoIndex, Some digests)
   set_in-past past = rw (past) refl
-
-  pub set_in-inside : (h : HashPair) → h ≡ l.pair → nat_lt index (length digests) ≡ true → set_in l digests index leaf ≡ set_settled (Some digests) (changed h leaf index digests)
-  set_in-inside h same inside = rw (inside) (ap (λ k. set_settled (Some digests) (changed k leaf index digests)) (sym same))
 
 -- a turn that keeps the tree, as the call that answers it tells it
 pub takes : {A E : Type 0} (items : A → List ℕ) (r : Result A E) (before after : State) (exact : Turn) (reply : Reply) → after ≡ before → exact ≡ (reply, before) → IfOk r (λ v. items v ≡ text reply) → IfOk r (λ v. Takes before exact after (items v))

@@ -95,13 +95,6 @@ differs-by true None level e = absurd cc
 differs-by true (Some l) level e = let same : level ≡ l = cc in (refl, ap Some (sym same))
 differs-by false o level e = absurd cc
 
--- neither answer but where the path is accepted
-pub bound-accepted : (h : HashPair) (leaves : List Digest) (leaf : Outcome Digest) (way : Way) (b : Binding) → bound h leaves leaf way ≡ Ok b → (r : Digest) → root h leaves ≡ Ok r → verified h leaf way r ≡ Ok (is_accepted b)
-bound-accepted h leaves leaf way b e r rooted =
-    let a = answered h leaves leaf way b e in
-    let same : a.top_digest ≡ r = done_injective _ _ (sym a.root_is ∙ rooted) in
-    rw (a.leaf_is, a.top_is, ← same) (ap Ok (is_accepted-by (digest_eq a.given a.top_digest) (difference h leaves way a.digest) b a.answer))
-
 module _ (h : HashPair) (leaves : List Digest) (rows : List (List Digest)) (tree : IsTree h leaves rows) (way : Way) (digest : Digest) (long : length way.above ≡ upper_levels leaves) where
   abbrev other : ℕ → Bool
   other = differs h leaves rows tree way digest long
@@ -196,10 +189,6 @@ module _ (h : HashPair) (leaves : List Digest) (rows : List (List Digest)) (tree
       (a.digest, a.leaf_is, collides h leaves rows tree way a.digest a.long level first (whole (Differs level) a known.0))
 
 -- ---- the answer, from what the call knows
-
--- a path of another length
-pub bound-long : (h : HashPair) (leaves : List Digest) (leaf : Outcome Digest) (way : Way) → length way.above ≢ upper_levels leaves → bound h leaves leaf way ≡ Err (IncorrectInputLength (length way.above))
-bound-long h leaves leaf way other = let no : (length way.above == upper_levels leaves) ≡ false = ne_eqb (length way.above) (upper_levels leaves) other in rw (no) refl
 
 module _ {L T : Type 0} (pair : T → HashPair) (meaning : L → Outcome Digest) (view now : Tree L T) (same : view ≡ now) (way : Way) (long : length way.above ≡ upper_levels view.leaves) (digest : Digest) (hashed : meaning view.leaf_parameters ≡ Ok digest) where
   long_enough : (length way.above == upper_levels view.leaves) ≡ true

@@ -15,9 +15,6 @@ pub record ArePut (before : List (List Digest)) (index : ℕ) (way : List Digest
   pub to_put : (k : ℕ) → level ≤ k → get_or left k [] ≡ get_or way k []
 
 module _ (before : List (List Digest)) (index : ℕ) (way : List Digest) where
-  pub are_put-none : ArePut before index way 0 before way
-  are_put-none = record { count = refl; long = refl; put = λ k below. absurd (omega arith); above = λ k from. refl; to_put = λ k from. refl }
-
   module _ (level : ℕ) (rows : List (List Digest)) (left : List Digest) (so : ArePut before index way level rows left) where
     pub are_put-more : (row : List Digest) (gone : Digest) → level < length rows → row ≡ set (get_or rows level []) (index / 2 ^ (level + 1)) (get_or left level []) → ArePut before index way (level + 1) (set rows level row) (set left level gone)
     are_put-more row gone below is =
