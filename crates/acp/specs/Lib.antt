@@ -1,8 +1,9 @@
-pub mod Lines
-pub mod Tokens
 pub mod Language
+pub mod Lines
 pub mod Replies
-pub mod Steps
 pub mod Sessions
 pub mod Sha256
+pub mod Steps
+pub mod TestHashes
+pub mod Tokens
 pub mod Toy

@@ -11,6 +11,7 @@ ghost use Rattle.ark_merkle.specs.Trees.{Tree, own_path};
 
 mod binding;
 mod build;
+mod checked;
 mod multi;
 mod updates;
 mod ways;

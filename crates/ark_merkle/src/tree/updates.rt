@@ -1,14 +1,13 @@
 //! Changes of leaves.
 
-ghost use Rattle.std.specs.Prelude.{◌≡◌, ◌<◌, ◌-◌, ◌/◌, ◌^◌, ℕ, suc, [], map, length, get_or, set, true, false, IfOk, OnErr, Ok};
-ghost use Rattle.ark_base.specs.Outcome.{Answers, AnswersBy};
+ghost use Rattle.std.specs.Prelude.{◌≡◌, ◌<◌, ◌-◌, ◌/◌, ◌^◌, ℕ, suc, [], map, length, get_or, set, IfOk, OnErr, Ok};
+ghost use Rattle.ark_base.specs.Outcome.{AnswersBy};
 ghost use Rattle.ark_merkle.specs.Roots.{root};
 ghost use Rattle.ark_merkle.specs.Rows.{IsTree, HoldsIndex, digests_of, rows_seen};
-ghost use Rattle.ark_merkle.specs.Updates.{changed, change_agrees, AreOnWay};
+ghost use Rattle.ark_merkle.specs.Updates.{changed, AreOnWay};
 
 use crate::bits::is_bit_set;
 use crate::config::{Config, Meaning, TwoToOneParam};
-use crate::digests::are_same;
 use crate::pairs::{hash_leaves, hash_upper};
 use crate::tree::MerkleTree;
 use crate::tree::ways::neighbour_of;
@@ -43,45 +42,10 @@ impl<P: Config> MerkleTree<P> {
         put_way(&mut self.rows, index, way);
         Ok(())
     }
-
-    /// The same where the new root is the asserted one, and then `true`; else the tree is left as it was.
-    ///
-    /// Refusals: those of `update`, whatever is asserted.
-    pub fn check_update(
-        &mut self,
-        alloc: Global,
-        index: usize,
-        new_leaf: &P::Leaf,
-        asserted_new_root: &P::InnerDigest,
-    ) -> Result<bool, Error>
-        requires { index < length self.old.leaves }
-        ensures agrees { Answers (change_agrees (⟦<P as Meaning>⟧.pair self.old.pair_parameters) (P.LeafHash.meaning self.old.leaf_parameters new_leaf.now) index self.old.leaves (P.InnerDigest.numbers asserted_new_root.now)) result }
-        ensures leaves { IfOk result (λ agrees. agrees ≡ true → changed (⟦<P as Meaning>⟧.pair self.old.pair_parameters) (P.LeafHash.meaning self.old.leaf_parameters new_leaf.now) index self.old.leaves ≡ Ok self.new.leaves) }
-        ensures kept { IfOk result (λ agrees. agrees ≡ false → self.new ≡ self.old) }
-        ensures refused { OnErr result (self.new ≡ self.old) }
-        ensures leaf_parameters { self.new.leaf_parameters ≡ self.old.leaf_parameters }
-        ensures pair_parameters { self.new.pair_parameters ≡ self.old.pair_parameters }
-    {
-        let digest = P::LeafHash::evaluate(alloc, &self.leaf_parameters, new_leaf)?;
-        let way = new_way::<P>(
-            alloc,
-            &self.pair_parameters,
-            &self.leaves,
-            &self.rows,
-            index,
-            &digest,
-        )?;
-        if !are_same(&way[self.rows.len() - 1], asserted_new_root) {
-            return Ok(false);
-        }
-        self.leaves[index] = digest;
-        put_way(&mut self.rows, index, way);
-        Ok(true)
-    }
 }
 
-// The digests on the way of an index, the lowest first, where this digest stands there.
-fn new_way<P: Config>(
+/// The digests on the way of an index, the lowest first, where this digest stands there.
+pub fn new_way<P: Config>(
     alloc: Global,
     two: &TwoToOneParam<P>,
     leaves: &[P::LeafDigest],
@@ -114,8 +78,8 @@ fn new_way<P: Config>(
     Ok(way)
 }
 
-// Puts the digests on the way of an index into the rows.
-fn put_way<D: DigestItem>(rows: &mut Vec<Vec<D>>, index: usize, way: Vec<D>)
+/// Puts the digests on the way of an index into the rows.
+pub fn put_way<D: DigestItem>(rows: &mut Vec<Vec<D>>, index: usize, way: Vec<D>)
     requires holds { HoldsIndex (rows_seen D.numbers rows.old) index }
     requires count { length way.items ≡ length rows.old.items }
     ensures count { length rows.new.items ≡ length rows.old.items }
