@@ -2,27 +2,34 @@
 //! can be taken from outside.
 #![tactic(auto)]
 
+mod blake2s;
 mod fields;
+mod sums;
+mod trees;
 mod works;
 
 use crate::works::checksum;
 use std::process::ExitCode;
 use std::{env, io};
 
-// The status: 0 where the work was done, 2 for words that name none.
+// The status: 0 where the work was done, 1 where memory was refused, 2 for words that name none.
 fn start(rt: &HostRuntime) -> io::Result<u8> {
     let mut words = Vec::new(rt.alloc());
     for word in env::args(rt)?.skip(1) {
         words.push(word)?;
     }
-    match checksum(&words) {
-        Some(sum) => {
+    match checksum(rt.alloc(), &words) {
+        Ok(Some(sum)) => {
             println!(rt; "{sum}")?;
             Ok(0)
         }
-        None => {
+        Ok(None) => {
             eprintln!(rt; "usage: bench WORK COUNT")?;
             Ok(2)
+        }
+        Err(refusal) => {
+            eprintln!(rt; "{refusal}")?;
+            Ok(1)
         }
     }
 }

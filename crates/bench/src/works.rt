@@ -1,19 +1,42 @@
 //! The works by their names.
 
+use crate::blake2s;
 use crate::fields::{Widest, product_chain};
-use ark_groups::ff::{Fp, M61, M257, M65537, PrimeField};
+use crate::trees;
+use ark_crypto_primitives::Error;
+use ark_crypto_primitives::ff::{Fp, M61, M257, M65537, PrimeField};
+use std::alloc::Global;
 
 /// The checksum of the work that two words name, its name and how often it is done, if they name one.
-pub fn checksum(words: &[String]) -> Option<u64> {
-    let [work, count] = words else { return None };
-    let count = count.as_str().parse::<u64>().ok()?;
-    match work.as_str() {
-        "product-257" => Some(products::<Fp<M257>>(count)),
-        "product-65537" => Some(products::<Fp<M65537>>(count)),
-        "product-61" => Some(products::<Fp<M61>>(count)),
-        "product-64" => Some(products::<Fp<Widest>>(count)),
-        _ => None,
-    }
+pub fn checksum(alloc: Global, words: &[String]) -> Result<Option<u64>, Error> {
+    let [work, count] = words else {
+        return Ok(None);
+    };
+    let Ok(count) = count.as_str().parse::<u64>() else {
+        return Ok(None);
+    };
+    let sum = match work.as_str() {
+        "product-257" => products::<Fp<M257>>(count),
+        "product-65537" => products::<Fp<M65537>>(count),
+        "product-61" => products::<Fp<M61>>(count),
+        "product-64" => products::<Fp<Widest>>(count),
+        "blake2s-64" => blake2s::digests(alloc, 64, count)?,
+        "blake2s-mebibyte" => blake2s::digests(alloc, 1 << 20, count)?,
+        "blake2s-prf" => blake2s::outputs(count)?,
+        "blake2s-commitment" => blake2s::commitments(alloc, count)?,
+        "build-16" => trees::builds(alloc, 1 << 16, count)?,
+        "build-20" => trees::builds(alloc, 1 << 20, count)?,
+        "update-16" => trees::updates(alloc, 1 << 16, count)?,
+        "update-20" => trees::updates(alloc, 1 << 20, count)?,
+        "proof-16" => trees::proofs(alloc, 1 << 16, count)?,
+        "proof-20" => trees::proofs(alloc, 1 << 20, count)?,
+        "verify-16" => trees::verifications(alloc, 1 << 16, count)?,
+        "verify-20" => trees::verifications(alloc, 1 << 20, count)?,
+        "bind-16" => trees::bindings(alloc, 1 << 16, count)?,
+        "bind-20" => trees::bindings(alloc, 1 << 20, count)?,
+        _ => return Ok(None),
+    };
+    Ok(Some(sum))
 }
 
 fn products<F: PrimeField>(count: u64) -> u64 {

@@ -1,0 +1,42 @@
+//! Works on BLAKE2s.
+
+use crate::sums::sum_of;
+use ark_crypto_primitives::Error;
+use ark_crypto_primitives::commitment::CommitmentScheme;
+use ark_crypto_primitives::commitment::blake2s::Commitment;
+use ark_crypto_primitives::prf::{Blake2s, Blake2sWithParameterBlock, PRF};
+use std::alloc::Global;
+
+/// Digests of a text of so many bytes, `count` times.
+pub fn digests(alloc: Global, len: usize, count: u64) -> Result<u64, Error> {
+    let text = vec![in alloc; 7u8; len]?;
+    let hash = Blake2sWithParameterBlock {
+        output_size: 32,
+        key_size: 0,
+        salt: [1; 8],
+        personalization: [2; 8],
+    };
+    let mut sum = 0;
+    for _ in 0..count {
+        sum ^= sum_of(&hash.evaluate(alloc, &text)?);
+    }
+    Ok(sum)
+}
+
+/// The pseudorandom function on its own output, `count` times.
+pub fn outputs(count: u64) -> Result<u64, Error> {
+    let mut output = [0; 32];
+    for _ in 0..count {
+        output = Blake2s::evaluate(&[3; 32], &output)?;
+    }
+    Ok(sum_of(&output))
+}
+
+/// Commitments to 64 bytes, each under the one before, `count` times.
+pub fn commitments(alloc: Global, count: u64) -> Result<u64, Error> {
+    let mut output = [0; 32];
+    for _ in 0..count {
+        output = Commitment::commit(alloc, &(), &[5; 64], &output)?;
+    }
+    Ok(sum_of(&output))
+}
