@@ -1,19 +1,18 @@
 -- The pairs of a path against those of a tree.
-use Rattle.std.proofs.Common.{zero, suc, ◌≡◌, ◌≢◌, ℕ, ◌+◌, ◌-◌, ◌*◌, ◌/◌, ◌%◌, ◌<◌, ◌≤◌, ◌^◌, Bool, true, false, nat_lt, not, ◌&&◌, if◌then◌else◌, Option, Some, None, List, [], ◌∷◌, length, drop, get_or, Ok, Err, arith, refl, ap, sym, subst, ◌∙◌, inl, inr, pow_pos}
+use Rattle.std.proofs.Common.{zero, suc, ◌≡◌, ℕ, ◌+◌, ◌-◌, ◌*◌, ◌/◌, ◌%◌, ◌<◌, ◌≤◌, ◌^◌, Bool, true, false, nat_lt, not, ◌&&◌, if◌then◌else◌, Option, Some, None, List, [], ◌∷◌, length, drop, get_or, Ok, Err, arith, refl, ap, sym, ◌∙◌, inl, inr, pow_pos}
 use Rattle.std.proofs.lemmas.Bool.{cases_lt}
 use Rattle.std.proofs.lemmas.Bool.Decides.{nat_tests}
 use Rattle.std.proofs.lemmas.List.{drop_more, drop_all, length-drop}
-use Rattle.std.proofs.lemmas.Slice.Eq.{bytes_eq-Decides}
 use Rattle.std.proofs.Math.Bool.{and_comm}
 use Rattle.std.proofs.lemmas.Nat.{pow-add}
 use Rattle.std.proofs.Math.Nat.{add-mul-div_left, div-add-mod, mod-lt, pow-suc}
 use Rattle.ark_base.specs.declared.error.Error.{Error}
 use Rattle.ark_base.specs.Outcome.{Outcome, ◌>>=◌}
-use Rattle.ark_merkle.specs.Bindings.{couple, halves, tree_pair, pair_beside, path_pair, hash_at, is_other, first_level, Collides}
+use Rattle.ark_merkle.specs.Bindings.{couple, tree_pair, path_pair, hash_at, is_other, first_level}
 use Rattle.ark_merkle.specs.Indexes.{bit_at, neighbour}
 use Rattle.ark_merkle.specs.Pairs.{Digest, HashPair, ordered, digest_eq}
 use Rattle.ark_merkle.specs.Paths.{Way, climbed, top}
-use Rattle.ark_merkle.specs.Roots.{place, upper_levels}
+use Rattle.ark_merkle.specs.Roots.{upper_levels}
 use Rattle.ark_merkle.specs.Rows.{IsTree, part}
 use Rattle.ark_merkle.proofs.OwnPaths.{IsCouple, is_couple, bit_at-level, place-above, bottom-row, upper-row}
 use Rattle.ark_merkle.proofs.Parts.{part-left, part-right, get_or-part}

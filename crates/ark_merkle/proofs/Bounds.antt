@@ -1,6 +1,6 @@
 -- What the answer of `bind` means.
-use Rattle.std.proofs.Common.{zero, suc, ◌≡◌, ◌≢◌, ℕ, ◌+◌, ◌-◌, ◌/◌, ◌%◌, ◌<◌, ◌≤◌, ◌^◌, Bool, true, false, nat_lt, not, ◌&&◌, ◌==◌, if◌then◌else◌, Option, Some, None, List, [], ◌∷◌, length, get_or, Ok, Err, arith, refl, ap, sym, subst, ◌∙◌, inl, inr}
-use Rattle.std.proofs.lemmas.Bool.{cases_lt, eqb-true, eq-eqb, ne_eqb}
+use Rattle.std.proofs.Common.{zero, suc, ◌≡◌, ℕ, ◌+◌, ◌-◌, ◌/◌, ◌%◌, ◌<◌, ◌^◌, Bool, true, false, nat_lt, not, ◌&&◌, ◌==◌, if◌then◌else◌, Option, Some, None, List, [], length, get_or, Ok, Err, arith, refl, ap, sym, subst, ◌∙◌, inl, inr}
+use Rattle.std.proofs.lemmas.Bool.{cases_lt, eqb-true, eq-eqb}
 use Rattle.std.proofs.lemmas.Bool.Decides.{nat_tests}
 use Rattle.std.proofs.lemmas.Slice.Eq.{bytes_eq-Decides}
 use Rattle.std.proofs.Math.Nat.{div-eq_of_lt}
@@ -10,10 +10,10 @@ use Rattle.ark_base.specs.Outcome.{Outcome, ◌>>=◌}
 use Rattle.ark_base.specs.Laws.Steps.{bind_ok, done_injective}
 use Rattle.ark_merkle.specs.declared.tree.binding.Binding.{Binding}
 use Rattle.ark_merkle.specs.declared.tree.binding.Binding.TheVariants.{Rejected, Stands, Differs}
-use Rattle.ark_merkle.specs.Bindings.{couple, tree_pair, path_pair, hash_at, is_other, difference, binding_of, bound, is_accepted, Collides}
+use Rattle.ark_merkle.specs.Bindings.{couple, tree_pair, path_pair, is_other, difference, binding_of, bound, is_accepted, Collides}
 use Rattle.ark_merkle.specs.Indexes.{bit_at}
-use Rattle.ark_merkle.specs.Pairs.{Digest, HashPair, ordered, digest_eq}
-use Rattle.ark_merkle.specs.Paths.{Way, top, verified}
+use Rattle.ark_merkle.specs.Pairs.{Digest, HashPair, digest_eq}
+use Rattle.ark_merkle.specs.Paths.{Way, top}
 use Rattle.ark_merkle.specs.Roots.{root, upper_levels}
 use Rattle.ark_merkle.specs.Rows.{IsTree}
 use Rattle.ark_merkle.specs.Trees.{Tree}

@@ -1,14 +1,13 @@
 -- A leaf digest is changed: what the places on its way become.
-use Rattle.std.proofs.Common.{zero, suc, ◌≡◌, ◌≢◌, ℕ, ◌+◌, ◌-◌, ◌*◌, ◌/◌, ◌<◌, ◌≤◌, ◌^◌, Bool, true, false, if◌then◌else◌, List, [], ◌∷◌, ◌++◌, length, take, drop, get_or, set, Ok, Err, arith, refl, ap, sym, subst, ◌∙◌, inl, inr, pow_pos}
+use Rattle.std.proofs.Common.{zero, suc, ◌≡◌, ◌≢◌, ℕ, ◌+◌, ◌-◌, ◌*◌, ◌/◌, ◌<◌, ◌≤◌, ◌^◌, Bool, true, false, if◌then◌else◌, List, [], ◌∷◌, ◌++◌, length, take, drop, get_or, set, Ok, Err, arith, refl, ap, sym, subst, ◌∙◌, inl, inr}
 use Rattle.std.proofs.lemmas.Bool.{cases_lt}
 use Rattle.std.proofs.lemmas.List.{length-set, length-append, get_or_append_left, get_or-set_same, get_or-set_other, drop-set-lt, drop-set-add, take-set-le}
 use Rattle.std.proofs.Math.Seq.{get_or-append_seam}
-use Rattle.std.proofs.Math.Nat.{div-eq_of_lt-le, div-eq_of_lt, pow-succ'}
+use Rattle.std.proofs.Math.Nat.{div-eq_of_lt-le}
 use Rattle.ark_base.specs.declared.error.Error.{Error}
-use Rattle.ark_base.specs.Outcome.{Outcome, ◌>>=◌}
 use Rattle.ark_merkle.specs.Indexes.{bit_at, neighbour}
 use Rattle.ark_merkle.specs.Pairs.{Digest, HashPair, ordered}
-use Rattle.ark_merkle.specs.Roots.{Place, Root, Refused, at_level, joined, place, outcome_of, root, rooted, upper_levels}
+use Rattle.ark_merkle.specs.Roots.{Place, Root, Refused, at_level, joined, place, outcome_of, root, upper_levels}
 use Rattle.ark_merkle.specs.Rows.{IsTree, part}
 use Rattle.ark_merkle.specs.Updates.{AreOnWay}
 use Rattle.ark_merkle.proofs.OwnPaths.{IsCouple, is_couple, ordered-neighbour, bit_at-level, place-above, first_place}

@@ -1,6 +1,6 @@
 -- What a call says of leaves that are given in turn from a list.
 use Rattle.std.proofs.Common.{◌≡◌, ◌⊎◌, List, [], ◌∷◌, ◌++◌, map, Option, None, refl, sym, ap, ◌∙◌, subst, append-nil, inl, inr}
-use Rattle.std.specs.Iterator.{Yields, AlwaysYields}
+use Rattle.std.specs.Iterator.{AlwaysYields}
 use Rattle.std.proofs.iter.Yields.{gives_left}
 use Rattle.std.proofs.lemmas.List.{map-append}
 use Rattle.ark_base.specs.Outcome.{Outcome, Answers}

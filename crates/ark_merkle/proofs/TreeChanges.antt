@@ -1,9 +1,9 @@
 -- What the calls that change a tree make of its fields.
-use Rattle.std.proofs.Common.{◌≡◌, ℕ, ◌<◌, ◌-◌, ◌/◌, ◌^◌, suc, arith, Bool, List, [], length, map, get_or, set, Ok, refl, ap, sym, subst, ◌∙◌}
+use Rattle.std.proofs.Common.{◌≡◌, ℕ, ◌<◌, ◌-◌, ◌/◌, ◌^◌, suc, arith, Bool, [], length, get_or, set, Ok, refl, sym, subst, ◌∙◌}
 use Rattle.std.proofs.lemmas.List.{length-map, map-set}
 use Rattle.std.specs.declared.vec.Vec.{Vec}
 use Rattle.std.specs.Vec.{with_item}
-use Rattle.ark_base.specs.Outcome.{Outcome, ◌>>=◌}
+use Rattle.ark_base.specs.Outcome.{Outcome}
 use Rattle.ark_merkle.specs.Pairs.{Digest, HashPair, digest_eq}
 use Rattle.ark_merkle.specs.Roots.{root}
 use Rattle.ark_merkle.specs.Rows.{IsTree, digests_of, rows_seen}

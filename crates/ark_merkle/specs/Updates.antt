@@ -1,5 +1,5 @@
 -- Changed leaves.
-use Rattle.std.specs.Prelude.{◌≡◌, ◌<◌, ℕ, suc, ◌/◌, ◌^◌, Bool, List, [], length, get_or, set, Ok, Err}
+use Rattle.std.specs.Prelude.{◌≡◌, ◌<◌, ℕ, suc, ◌/◌, ◌^◌, Bool, List, [], length, get_or, set, Ok}
 use Rattle.ark_base.specs.Outcome.{Outcome, ◌>>=◌}
 use Rattle.ark_merkle.specs.Pairs.{Digest, HashPair, digest_eq}
 use Rattle.ark_merkle.specs.Roots.{Root, place, root, rooted}

@@ -1,5 +1,5 @@
 use Rattle.std.proofs.Common.{ℕ, ◌-◌, ◌<◌, ◌≤◌, ◌^◌, List, length, take, drop, arith}
-use Rattle.std.proofs.lemmas.List.{length-take, length-drop}
+use Rattle.std.proofs.lemmas.List.{length-take}
 use Rattle.ark_base.specs.Reading.{IsBytes}
 use Rattle.ark_base.specs.Digits.{number_of_bytes}
 use Rattle.ark_base.specs.Laws.Steps.{IsBytes-take, IsBytes-drop}

@@ -1,11 +1,9 @@
-use Rattle.std.proofs.Common.{◌≡◌, ◌∙◌, ◌<◌, [], length, get_or, Ok, ap, sym, arith}
+use Rattle.std.proofs.Common.{◌≡◌, ◌∙◌, length, Ok, ap, sym, arith}
 use Rattle.std.proofs.lemmas.List.{length-map}
 use Rattle.ark_base.specs.Laws.Steps.{done_injective}
-use Rattle.ark_merkle.specs.Indexes.{neighbour}
 use Rattle.ark_merkle.specs.Pairs.{pair_of}
-use Rattle.ark_merkle.specs.Rows.{rows_seen, digests_of}
-use Rattle.ark_merkle.proofs.OwnPaths.{leaf-neighbour, own_path-accepted}
-use Rattle.ark_merkle.proofs.Readings.{digest_read}
+use Rattle.ark_merkle.specs.Rows.{rows_seen}
+use Rattle.ark_merkle.proofs.OwnPaths.{own_path-accepted}
 use Rattle.ark_merkle.proofs.TreeReads.{seen_tree, holds-index, own_path-read}
 use Rattle.ark_merkle.proofs.tree.MerkleTree.generate_proof.Goals as goal
 

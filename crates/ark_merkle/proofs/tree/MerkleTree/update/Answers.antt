@@ -1,7 +1,7 @@
-use Rattle.std.proofs.Common.{◌≡◌, ◌<◌, ◌∙◌, [], length, map, get_or, set, Ok, arith, ap, sym}
+use Rattle.std.proofs.Common.{◌≡◌, ◌<◌, ◌∙◌, length, Ok, arith, ap, sym}
 use Rattle.std.proofs.lemmas.List.{length-map, map-set}
 use Rattle.ark_merkle.specs.Pairs.{pair_of}
-use Rattle.ark_merkle.specs.Rows.{digests_of, rows_seen}
+use Rattle.ark_merkle.specs.Rows.{digests_of}
 use Rattle.ark_merkle.proofs.TreeChanges.{changed-ok, is_tree-put}
 use Rattle.ark_merkle.proofs.tree.MerkleTree.update.Goals as goal
 

@@ -1,8 +1,6 @@
 use Rattle.ark_base.proofs.Refusals.{passed_on}
-use Rattle.std.proofs.Common.{◌≡◌, ◌<◌, ◌≤◌, ◌+◌, ◌-◌, ◌/◌, ◌%◌, ◌^◌, ◌∙◌, ℕ, suc, [], Bool, not, None, length, map, get_or, Ok, arith, refl, ap, sym, pow_pos, mod-lt}
+use Rattle.std.proofs.Common.{◌≡◌, ◌<◌, ◌+◌, ◌-◌, ◌%◌, ◌∙◌, ℕ, suc, [], None, length, map, get_or, Ok, arith, refl, ap, sym, pow_pos, mod-lt}
 use Rattle.std.proofs.lemmas.List.{length-map, get_or-map}
-use Rattle.ark_merkle.specs.Bindings.{is_other, path_pair, tree_pair}
-use Rattle.ark_merkle.specs.Indexes.{neighbour}
 use Rattle.ark_merkle.specs.Pairs.{pair_of}
 use Rattle.ark_merkle.specs.Paths.{Way}
 use Rattle.ark_merkle.specs.Roots.{upper_levels}

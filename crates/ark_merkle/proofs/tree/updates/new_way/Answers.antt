@@ -1,7 +1,6 @@
 use Rattle.ark_base.proofs.Refusals.{passed_on}
-use Rattle.std.proofs.Common.{◌≡◌, ◌<◌, ◌-◌, ◌/◌, ◌^◌, ◌∙◌, suc, [], length, map, get_or, set, arith, refl, ap, sym, ◌∷◌}
+use Rattle.std.proofs.Common.{◌≡◌, ◌<◌, ◌-◌, ◌/◌, ◌^◌, ◌∙◌, [], length, map, get_or, arith, refl, ap, sym, ◌∷◌}
 use Rattle.std.proofs.lemmas.List.{length-map, length-append, get_or-map, map_push}
-use Rattle.ark_base.specs.Laws.Steps.{done_injective}
 use Rattle.ark_merkle.specs.Indexes.{neighbour}
 use Rattle.ark_merkle.specs.Pairs.{pair_of}
 use Rattle.ark_merkle.specs.Roots.{upper_levels}
