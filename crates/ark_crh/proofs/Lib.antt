@@ -1,0 +1,3 @@
+pub mod BitSums
+pub mod PedersenSums
+pub mod Shapes
