@@ -1,3 +1,4 @@
 pub mod BitSums
 pub mod PedersenSums
 pub mod Shapes
+pub mod Windows

@@ -1,7 +1,7 @@
 -- Pedersen hashes: the sum of the elements at the set bits of an input.
 use Rattle.std.specs.Prelude.{◌≡◌, ℕ, zero, suc, ◌+◌, ◌*◌, ◌/◌, ◌%◌, Bool, false, ◌&&◌, ◌||◌, ◌==◌, List, [], ◌∷◌, length, map, take, drop, Ok, Err, nat_lt, if◌then◌else◌}
 use Rattle.std.specs.List.{flat_map, list_all}
-use Rattle.ark_base.specs.Outcome.{Outcome}
+use Rattle.ark_base.specs.Outcome.{Outcome, ◌>>=◌}
 use Rattle.ark_base.specs.declared.error.Error.TheVariants.{IncorrectInputLength, GenericError}
 use Rattle.ark_base.specs.declared.error.Refusal.TheVariants.{ParameterShape}
 use Rattle.ark_groups.specs.Group.{Group, times}
@@ -77,3 +77,13 @@ pedersen_hash g count size lists input =
     if nat_lt (size * count) (8 * length input) then Err (IncorrectInputLength (length input))
     else if has_shape count size lists then Ok (pedersen_sum g (joined lists) (bits_of_bytes input))
     else Err (GenericError ParameterShape)
+
+-- the same where the lists are those of elements: the sum over the windows of the window's number times its element
+abbrev pub windows_hash : {G : Type 0} → Group G → ℕ → ℕ → List G → List ℕ → Outcome G
+windows_hash g count size elements input =
+    if nat_lt (size * count) (8 * length input) then Err (IncorrectInputLength (length input))
+    else Ok (windows_sum g size elements (bits_of_bytes input))
+
+-- what is seen of the value, where there is one
+abbrev pub seen_by : {A B : Type 0} → (A → B) → Outcome A → Outcome B
+seen_by view outcome = outcome >>= λ value. Ok (view value)

@@ -1,16 +1,23 @@
 //! Pedersen hashes: the sum of the generators at the set bits of an input.
 
-ghost use Rattle.std.specs.Prelude.{◌≡◌, ℕ, ◌*◌, ◌<◌, ◌≤◌, ◌^◌, ◌∷◌, List, length, map, IsTrue, IfOk, IfErr};
-ghost use Rattle.ark_crh.specs.Pedersen.{bits_of_bytes, pedersen_sum, windows_sum, doublings, joined, has_shape, AreWindows, AreGenerators};
+ghost use Rattle.std.specs.Prelude.{◌≡◌, ℕ, ◌*◌, ◌<◌, ◌^◌, ◌∷◌, List, length, map, Ok, IfOk, IfErr};
+ghost use Rattle.ark_base.specs.Outcome.{AnswersBy};
+ghost use Rattle.ark_crh.specs.Pedersen.{doublings, AreWindows, AreGenerators, pedersen_hash, windows_hash, seen_by};
 
+mod bits;
+mod parameters;
 mod sums;
 
+use crate::scheme::CRHScheme;
 use ark_base::error::Error;
+use ark_base::serialize::{DigestItem, Duplicate};
 use ark_groups::ec::CurveGroup;
+pub use bits::bytes_to_bits;
+pub use parameters::Parameters;
 use rand::Rng;
 use std::alloc::Global;
 use std::marker::PhantomData;
-pub use sums::sum_of_set_bits;
+pub use sums::hash_bytes;
 
 /// How the bits of an input are cut into windows.
 pub trait Window {
@@ -27,12 +34,6 @@ pub trait Window {
     ghost some: { 0 < WINDOW_SIZE };
 
     ghost fits: { 3 * (WINDOW_SIZE * NUM_WINDOWS) < 2 ^ 64 };
-}
-
-/// The elements of a hash: a list for each window, of an element for each of its bits.
-#[derive(Drop)]
-pub struct Parameters<C: CurveGroup> {
-    pub generators: Vec<Vec<C>>,
 }
 
 /// The Pedersen hash of one input.
@@ -71,4 +72,52 @@ impl<C: CurveGroup, W: Window> CRH<C, W> {
         }
         Ok(list)
     }
+}
+
+impl<C: CurveGroup + DigestItem, W: Window> CRHScheme for CRH<C, W> {
+    ghost use Rattle.std.proofs.Common.{ap};
+    ghost use Rattle.ark_crh.specs.PedersenLaws.{pedersen-decided};
+
+    type Input = Vec<u8>;
+
+    type Output = C;
+
+    type Parameters = Parameters<C>;
+
+    ghost meaning = { λ parameters input. seen_by C.numbers (pedersen_hash C.group W.NUM_WINDOWS W.WINDOW_SIZE (⟦<Parameters<C> as Duplicate>⟧.seen parameters) input.items) };
+
+    ghost setup_outcome = { Ok tt };
+
+    ghost is_made = { λ parameters. AreGenerators C.group W.NUM_WINDOWS W.WINDOW_SIZE (⟦<Parameters<C> as Duplicate>⟧.seen parameters) };
+
+    /// Parameters of generators as `create_generators` makes them.
+    fn setup<R: Rng>(alloc: Global, rng: &mut R) -> Result<Parameters<C>, Error> {
+        Ok(Parameters {
+            generators: Self::create_generators(alloc, rng)?,
+        })
+    }
+
+    /// The sum of the generators at the set bits of the input. It takes no memory.
+    ///
+    /// Refusals: `IncorrectInputLength` with the input's bytes, where these have more bits than the windows;
+    /// `ParameterShape`, where the generators are not a list for each window with an element for each of its bits.
+    fn evaluate(
+        _alloc: Global,
+        parameters: &Parameters<C>,
+        input: &Vec<u8>,
+    ) -> Result<C, Error>
+        ensures exact { result ≡ pedersen_hash C.group W.NUM_WINDOWS W.WINDOW_SIZE (⟦<Parameters<C> as Duplicate>⟧.seen parameters.now) input.now.items }
+
+        // Where the generators are those of elements, the sum over the windows of the window's number times its element.
+        ensures windows { (elements : List C) → length elements ≡ W.NUM_WINDOWS → AreWindows C.group W.WINDOW_SIZE elements (⟦<Parameters<C> as Duplicate>⟧.seen parameters.now)
+            → result ≡ windows_hash C.group W.NUM_WINDOWS W.WINDOW_SIZE elements input.now.items }
+    {
+        hash_bytes::<C, W>(&parameters.generators, input)
+    }
+
+    ghost meaning_decided = { λ parameters input. pedersen-decided C.numbers C.group W.NUM_WINDOWS W.WINDOW_SIZE (⟦<Parameters<C> as Duplicate>⟧.seen parameters) input.items };
+
+    ghost setup_decided = { tt };
+
+    ghost same_parameters = { λ p q same. ap (λ lists input. seen_by C.numbers (pedersen_hash C.group W.NUM_WINDOWS W.WINDOW_SIZE lists input.items)) same };
 }

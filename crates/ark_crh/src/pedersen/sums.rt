@@ -1,16 +1,42 @@
 //! The sum of the generators at the set bits of an input.
 
 ghost use Rattle.std.specs.Prelude.{◌≡◌, ℕ, ◌*◌, ◌-◌, ◌<◌, ◌≤◌, ◌^◌, List, length, map, drop, IsTrue};
-ghost use Rattle.ark_crh.specs.Pedersen.{bits_of_number, bits_of_bytes, pedersen_sum, windows_sum, joined, has_shape, AreWindows};
+ghost use Rattle.ark_crh.specs.Pedersen.{bits_of_number, bits_of_bytes, pedersen_sum, joined, has_shape, pedersen_hash};
 
 use crate::pedersen::Window;
+use ark_base::error::{Error, Refusal};
 use ark_base::serialize::number_of;
 use ark_groups::ec::CurveGroup;
 
-/// The sum of the generators at the set bits of the input.
+/// The sum of the generators at the set bits of the input. It takes no memory.
 ///
-/// It takes no memory, and no list of bits is made.
-pub fn sum_of_set_bits<C: CurveGroup, W: Window>(generators: &[Vec<C>], input: &[u8]) -> C
+/// Refusals: `IncorrectInputLength` with the input's bytes, where these have more bits than the windows;
+/// `ParameterShape`, where the generators are not a list for each window with an element for each of its bits.
+pub fn hash_bytes<C: CurveGroup, W: Window>(
+    generators: &[Vec<C>],
+    input: &[u8],
+) -> Result<C, Error>
+    ensures { result ≡ pedersen_hash C.group W.NUM_WINDOWS W.WINDOW_SIZE (map (λ list. list.items) generators.now) input.now }
+{
+    if input.len() > W::WINDOW_SIZE * W::NUM_WINDOWS / 8 {
+        return Err(Error::IncorrectInputLength(input.len()));
+    }
+    if !has_shape::<C, W>(generators) {
+        return Err(Error::GenericError(Refusal::ParameterShape));
+    }
+    Ok(sum_of_set_bits::<C, W>(generators, input))
+}
+
+// Whether there is a list for each window, with an element for each of its bits.
+fn has_shape<C: CurveGroup, W: Window>(generators: &[Vec<C>]) -> bool
+    ensures { result ≡ has_shape W.NUM_WINDOWS W.WINDOW_SIZE (map (λ list. list.items) generators.now) }
+{
+    generators.len() == W::NUM_WINDOWS
+        && generators.iter().all(|list| list.len() == W::WINDOW_SIZE)
+}
+
+// The sum of the generators at the set bits of the input.
+fn sum_of_set_bits<C: CurveGroup, W: Window>(generators: &[Vec<C>], input: &[u8]) -> C
     requires shape { IsTrue (has_shape W.NUM_WINDOWS W.WINDOW_SIZE (map (λ list. list.items) generators.now)) }
     requires fits { 8 * length input.now ≤ W.WINDOW_SIZE * W.NUM_WINDOWS }
     ensures { result ≡ pedersen_sum C.group (joined (map (λ list. list.items) generators.now)) (bits_of_bytes input.now) }
