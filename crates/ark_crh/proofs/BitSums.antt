@@ -18,7 +18,7 @@ use Rattle.ark_crh.proofs.PedersenSums.{pedersen_sum-behind}
 
 -- ---- bits of a number
 
-length-bits_of_number : (k n : ℕ) → length (bits_of_number k n) ≡ k
+pub length-bits_of_number : (k n : ℕ) → length (bits_of_number k n) ≡ k
 unfolding bits_of_number
 length-bits_of_number zero n = refl
 length-bits_of_number (suc k) n = ap suc (length-bits_of_number k (n / 2))

@@ -1,5 +1,5 @@
 -- Pedersen hashes: the sum of the elements at the set bits of an input.
-use Rattle.std.specs.Prelude.{◌≡◌, ℕ, zero, suc, ◌+◌, ◌*◌, ◌/◌, ◌%◌, Bool, false, ◌&&◌, ◌||◌, ◌==◌, List, [], ◌∷◌, length, map, take, drop, Ok, Err, nat_lt, if◌then◌else◌}
+use Rattle.std.specs.Prelude.{◌≡◌, ℕ, zero, suc, ◌+◌, ◌*◌, ◌-◌, ◌/◌, ◌%◌, Bool, false, ◌&&◌, ◌||◌, ◌==◌, List, [], ◌∷◌, ◌++◌, length, replicate, map, take, drop, Ok, Err, nat_lt, if◌then◌else◌}
 use Rattle.std.specs.List.{flat_map, list_all}
 use Rattle.ark_base.specs.Outcome.{Outcome, ◌>>=◌}
 use Rattle.ark_base.specs.declared.error.Error.TheVariants.{IncorrectInputLength, GenericError}
@@ -83,6 +83,19 @@ abbrev pub windows_hash : {G : Type 0} → Group G → ℕ → ℕ → List G �
 windows_hash g count size elements input =
     if nat_lt (size * count) (8 * length input) then Err (IncorrectInputLength (length input))
     else Ok (windows_sum g size elements (bits_of_bytes input))
+
+-- left, right, and zeros behind them up to the bytes of two halves of so many bits
+abbrev pub joined_halves : ℕ → List ℕ → List ℕ → List ℕ
+joined_halves half left right = (left ++ right) ++ replicate (2 * half / 8 - length (left ++ right)) 0
+
+-- The hash of two halves of all windows' bits, refused where right is not as long as left, and where they have more bits than
+-- a half.
+abbrev pub of_halves : {G : Type 0} → ℕ → (List ℕ → Outcome G) → List ℕ → List ℕ → Outcome G
+of_halves bits hash left right =
+    if length left == length right then
+      (if nat_lt (bits / 2) (8 * length left) then Err (IncorrectInputLength (length left))
+      else hash (joined_halves (bits / 2) left right))
+    else Err (IncorrectInputLength (length right))
 
 -- what is seen of the value, where there is one
 abbrev pub seen_by : {A B : Type 0} → (A → B) → Outcome A → Outcome B

@@ -1,11 +1,11 @@
 -- The refusals of Pedersen hashes are never want of memory.
-use Rattle.std.specs.Prelude.{◌≡◌, ◌≢◌, ℕ, ◌*◌, Bool, true, false, List, length, Ok, Err, nat_lt, if◌then◌else◌}
+use Rattle.std.specs.Prelude.{◌≡◌, ◌≢◌, ℕ, ◌*◌, ◌/◌, ◌==◌, Bool, true, false, List, length, Ok, Err, nat_lt, if◌then◌else◌}
 use Rattle.ark_base.specs.Outcome.{Outcome, ◌>>=◌, IsDecided}
 use Rattle.ark_base.specs.declared.error.Error.{Error}
 use Rattle.ark_base.specs.declared.error.Error.TheVariants.{IncorrectInputLength, GenericError, OutOfMemory}
 use Rattle.ark_base.specs.declared.error.Refusal.TheVariants.{ParameterShape}
 use Rattle.ark_groups.specs.Group.{Group}
-use Rattle.ark_crh.specs.Pedersen.{bits_of_bytes, pedersen_sum, joined, has_shape, pedersen_hash, seen_by}
+use Rattle.ark_crh.specs.Pedersen.{bits_of_bytes, pedersen_sum, joined, has_shape, pedersen_hash, joined_halves, of_halves, seen_by}
 
 pub pedersen-decided : {G B : Type 0} (view : G → B) (g : Group G) (count size : ℕ) (lists : List (List G)) (input : List ℕ) → IsDecided (seen_by view (pedersen_hash g count size lists input))
 pedersen-decided {G} view g count size lists input = by_tests (nat_lt (size * count) (8 * length input)) (has_shape count size lists)
@@ -14,3 +14,15 @@ pedersen-decided {G} view g count size lists input = by_tests (nat_lt (size * co
     by_tests true shaped = λ same. cc
     by_tests false true = tt
     by_tests false false = λ same. cc
+
+pub halves-decided : {G B : Type 0} (view : G → B) (g : Group G) (count size : ℕ) (lists : List (List G)) (left right : List ℕ) → IsDecided (seen_by view (of_halves (size * count) (pedersen_hash g count size lists) left right))
+halves-decided {G} view g count size lists left right = by_tests (length left == length right) (nat_lt (size * count / 2) (8 * length left))
+  where
+    whole : List ℕ
+    whole = joined_halves (size * count / 2) left right
+
+    by_tests : (same long : Bool)
+        → IsDecided (seen_by view (if same then (if long then Err (IncorrectInputLength (length left)) else pedersen_hash g count size lists whole) else Err (IncorrectInputLength (length right))))
+    by_tests true true = λ same. cc
+    by_tests true false = pedersen-decided view g count size lists whole
+    by_tests false long = λ same. cc

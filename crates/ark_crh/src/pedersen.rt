@@ -7,6 +7,7 @@ ghost use Rattle.ark_crh.specs.Pedersen.{doublings, AreWindows, AreGenerators, p
 mod bits;
 mod parameters;
 mod sums;
+mod two_to_one;
 
 use crate::scheme::CRHScheme;
 use ark_base::error::Error;
@@ -17,7 +18,8 @@ pub use parameters::Parameters;
 use rand::Rng;
 use std::alloc::Global;
 use std::marker::PhantomData;
-pub use sums::hash_bytes;
+pub use sums::{hash_bytes, hash_halves};
+pub use two_to_one::TwoToOneCRH;
 
 /// How the bits of an input are cut into windows.
 pub trait Window {

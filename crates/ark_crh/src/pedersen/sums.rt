@@ -1,7 +1,7 @@
 //! The sum of the generators at the set bits of an input.
 
-ghost use Rattle.std.specs.Prelude.{◌≡◌, ℕ, ◌*◌, ◌-◌, ◌<◌, ◌≤◌, ◌^◌, List, length, map, drop, IsTrue};
-ghost use Rattle.ark_crh.specs.Pedersen.{bits_of_number, bits_of_bytes, pedersen_sum, joined, has_shape, pedersen_hash};
+ghost use Rattle.std.specs.Prelude.{◌≡◌, ℕ, ◌+◌, ◌*◌, ◌-◌, ◌<◌, ◌≤◌, ◌^◌, List, length, map, drop, IsTrue};
+ghost use Rattle.ark_crh.specs.Pedersen.{bits_of_number, bits_of_bytes, pedersen_sum, joined, has_shape, pedersen_hash, of_halves};
 
 use crate::pedersen::Window;
 use ark_base::error::{Error, Refusal};
@@ -24,7 +24,31 @@ pub fn hash_bytes<C: CurveGroup, W: Window>(
     if !has_shape::<C, W>(generators) {
         return Err(Error::GenericError(Refusal::ParameterShape));
     }
-    Ok(sum_of_set_bits::<C, W>(generators, input))
+    Ok(add_bytes::<C, W>(C::zero(), generators, 0, input))
+}
+
+/// The hash of left followed by right, with zeros behind them as far as two halves reach. It takes no memory.
+///
+/// Refusals: `IncorrectInputLength` with right's bytes, where left has not as many, and with left's, where these have more
+/// bits than half of all the windows' bits; `ParameterShape` as above.
+pub fn hash_halves<C: CurveGroup, W: Window>(
+    generators: &[Vec<C>],
+    left: &[u8],
+    right: &[u8],
+) -> Result<C, Error>
+    ensures { result ≡ of_halves (W.WINDOW_SIZE * W.NUM_WINDOWS) (pedersen_hash C.group W.NUM_WINDOWS W.WINDOW_SIZE (map (λ list. list.items) generators.now)) left.now right.now }
+{
+    if left.len() != right.len() {
+        return Err(Error::IncorrectInputLength(right.len()));
+    }
+    if left.len() > W::WINDOW_SIZE * W::NUM_WINDOWS / 2 / 8 {
+        return Err(Error::IncorrectInputLength(left.len()));
+    }
+    if !has_shape::<C, W>(generators) {
+        return Err(Error::GenericError(Refusal::ParameterShape));
+    }
+    let sum = add_bytes::<C, W>(C::zero(), generators, 0, left);
+    Ok(add_bytes::<C, W>(sum, generators, 8 * left.len(), right))
 }
 
 // Whether there is a list for each window, with an element for each of its bits.
@@ -35,17 +59,23 @@ fn has_shape<C: CurveGroup, W: Window>(generators: &[Vec<C>]) -> bool
         && generators.iter().all(|list| list.len() == W::WINDOW_SIZE)
 }
 
-// The sum of the generators at the set bits of the input.
-fn sum_of_set_bits<C: CurveGroup, W: Window>(generators: &[Vec<C>], input: &[u8]) -> C
+// The sum with the generators at the set bits of bytes, whose lowest bit stands at this place.
+fn add_bytes<C: CurveGroup, W: Window>(
+    sum: C,
+    generators: &[Vec<C>],
+    first: usize,
+    bytes: &[u8],
+) -> C
     requires shape { IsTrue (has_shape W.NUM_WINDOWS W.WINDOW_SIZE (map (λ list. list.items) generators.now)) }
-    requires fits { 8 * length input.now ≤ W.WINDOW_SIZE * W.NUM_WINDOWS }
-    ensures { result ≡ pedersen_sum C.group (joined (map (λ list. list.items) generators.now)) (bits_of_bytes input.now) }
+    requires fits { first + 8 * length bytes.now ≤ W.WINDOW_SIZE * W.NUM_WINDOWS }
+    ensures { result ≡ C.group.plus sum (pedersen_sum C.group (drop first (joined (map (λ list. list.items) generators.now))) (bits_of_bytes bytes.now)) }
 {
-    let mut sum = C::zero();
+    let mut sum = sum;
     let mut start = 0;
-    while start < input.len() {
-        let end = start + (input.len() - start).min(8);
-        sum = add_word::<C, W>(sum, generators, 8 * start, number_of(&input[start..end]));
+    while start < bytes.len() {
+        let end = start + (bytes.len() - start).min(8);
+        let word = number_of(&bytes[start..end]);
+        sum = add_word::<C, W>(sum, generators, first + 8 * start, word);
         start = end;
     }
     sum
