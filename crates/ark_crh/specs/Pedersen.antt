@@ -100,3 +100,7 @@ of_halves bits hash left right =
 -- what is seen of the value, where there is one
 abbrev pub seen_by : {A B : Type 0} → (A → B) → Outcome A → Outcome B
 seen_by view outcome = outcome >>= λ value. Ok (view value)
+
+-- the image of the value under a map, where there is one
+abbrev pub image_of : {A B : Type 0} → (A → Outcome B) → Outcome A → Outcome B
+image_of mapped outcome = outcome >>= mapped

@@ -78,7 +78,7 @@ impl<C: CurveGroup, W: Window> CRH<C, W> {
 
 impl<C: CurveGroup + DigestItem, W: Window> CRHScheme for CRH<C, W> {
     ghost use Rattle.std.proofs.Common.{ap};
-    ghost use Rattle.ark_crh.specs.PedersenLaws.{pedersen-decided};
+    ghost use Rattle.ark_crh.specs.PedersenLaws.{seen-decided, pedersen-decided};
 
     type Input = Vec<u8>;
 
@@ -117,7 +117,7 @@ impl<C: CurveGroup + DigestItem, W: Window> CRHScheme for CRH<C, W> {
         hash_bytes::<C, W>(&parameters.generators, input)
     }
 
-    ghost meaning_decided = { λ parameters input. pedersen-decided C.numbers C.group W.NUM_WINDOWS W.WINDOW_SIZE (⟦<Parameters<C> as Duplicate>⟧.seen parameters) input.items };
+    ghost meaning_decided = { λ parameters input. seen-decided C.numbers _ (pedersen-decided C.group W.NUM_WINDOWS W.WINDOW_SIZE (⟦<Parameters<C> as Duplicate>⟧.seen parameters) input.items) };
 
     ghost setup_decided = { tt };
 

@@ -43,7 +43,7 @@ impl<C: CurveGroup, W: Window> TwoToOneCRH<C, W> {
 
 impl<C: CurveGroup + DigestItem, W: Window> TwoToOneCRHScheme for TwoToOneCRH<C, W> {
     ghost use Rattle.std.proofs.Common.{ap};
-    ghost use Rattle.ark_crh.specs.PedersenLaws.{halves-decided};
+    ghost use Rattle.ark_crh.specs.PedersenLaws.{seen-decided, halves-decided};
 
     type Input = Vec<u8>;
 
@@ -100,9 +100,9 @@ impl<C: CurveGroup + DigestItem, W: Window> TwoToOneCRHScheme for TwoToOneCRH<C,
         <TwoToOneCRH<C, W> as TwoToOneCRHScheme>::evaluate(alloc, parameters, &left, &right)
     }
 
-    ghost evaluated_decided = { λ parameters left right. halves-decided C.numbers C.group W.NUM_WINDOWS W.WINDOW_SIZE (⟦<Parameters<C> as Duplicate>⟧.seen parameters) left right };
+    ghost evaluated_decided = { λ parameters left right. seen-decided C.numbers _ (halves-decided C.group W.NUM_WINDOWS W.WINDOW_SIZE (⟦<Parameters<C> as Duplicate>⟧.seen parameters) left right) };
 
-    ghost compressed_decided = { λ parameters left right. halves-decided C.numbers C.group W.NUM_WINDOWS W.WINDOW_SIZE (⟦<Parameters<C> as Duplicate>⟧.seen parameters) (C.bytes_of left) (C.bytes_of right) };
+    ghost compressed_decided = { λ parameters left right. seen-decided C.numbers _ (halves-decided C.group W.NUM_WINDOWS W.WINDOW_SIZE (⟦<Parameters<C> as Duplicate>⟧.seen parameters) (C.bytes_of left) (C.bytes_of right)) };
 
     ghost setup_decided = { tt };
 
