@@ -27,8 +27,8 @@ module _ {G : Type 0} (g : Group G) where
       let all = map (doublings g size) elements in
       ap (λ (l : List (List G)). pedersen_hash g count size l input) are
       ∙ by_test (nat_lt (size * count) (8 * length input))
-        (ap (λ (b : Bool). let o : Outcome G = cond b (Ok (pedersen_sum g (joined all) (bits_of_bytes input))) (Err (GenericError ParameterShape)) in o) (windows_have_shape count size elements long)
-          ∙ ap (λ (x : G). let o : Outcome G = Ok x in o) (pedersen_sum-windows laws size elements (bits_of_bytes input)))
+      (ap (λ (b : Bool). let o : Outcome G = cond b (Ok (pedersen_sum g (joined all) (bits_of_bytes input))) (Err (GenericError ParameterShape)) in o) (windows_have_shape count size elements long)
+      ∙ ap (λ (x : G). let o : Outcome G = Ok x in o) (pedersen_sum-windows laws size elements (bits_of_bytes input)))
     where
       by_test : {x y : Outcome G} (b : Bool) → x ≡ y → cond b (Err (IncorrectInputLength (length input))) x ≡ cond b (Err (IncorrectInputLength (length input))) y
       by_test true e = refl

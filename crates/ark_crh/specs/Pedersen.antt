@@ -93,8 +93,8 @@ joined_halves half left right = (left ++ right) ++ replicate (2 * half / 8 - len
 abbrev pub of_halves : {G : Type 0} → ℕ → (List ℕ → Outcome G) → List ℕ → List ℕ → Outcome G
 of_halves bits hash left right =
     if length left == length right then
-      (if nat_lt (bits / 2) (8 * length left) then Err (IncorrectInputLength (length left))
-      else hash (joined_halves (bits / 2) left right))
+    (if nat_lt (bits / 2) (8 * length left) then Err (IncorrectInputLength (length left))
+    else hash (joined_halves (bits / 2) left right))
     else Err (IncorrectInputLength (length right))
 
 -- what is seen of the value, where there is one

@@ -5,6 +5,9 @@ ghost use Rattle.ark_base.specs.Outcome.{Outcome, AnswersBy, IsDecided};
 ghost use Rattle.ark_base.specs.Digits.{bytes_for, bytes_of_number};
 ghost use Rattle.ark_crh.specs.Pedersen.{AreGenerators, pedersen_hash, of_halves, seen_by, image_of};
 
+#[cfg(test)]
+mod tests;
+
 use crate::pedersen::{CRH, Parameters, TwoToOneCRH, Window, hash_bytes, hash_halves};
 use crate::scheme::{CRHScheme, TwoToOneCRHScheme};
 use ark_base::error::Error;

@@ -7,6 +7,8 @@ ghost use Rattle.ark_crh.specs.Pedersen.{doublings, AreWindows, AreGenerators, p
 mod bits;
 mod parameters;
 mod sums;
+#[cfg(test)]
+mod tests;
 mod two_to_one;
 
 use crate::scheme::CRHScheme;
@@ -103,11 +105,7 @@ impl<C: CurveGroup + DigestItem, W: Window> CRHScheme for CRH<C, W> {
     ///
     /// Refusals: `IncorrectInputLength` with the input's bytes, where these have more bits than the windows;
     /// `ParameterShape`, where the generators are not a list for each window with an element for each of its bits.
-    fn evaluate(
-        _alloc: Global,
-        parameters: &Parameters<C>,
-        input: &Vec<u8>,
-    ) -> Result<C, Error>
+    fn evaluate(_alloc: Global, parameters: &Parameters<C>, input: &Vec<u8>) -> Result<C, Error>
         ensures exact { result ≡ pedersen_hash C.group W.NUM_WINDOWS W.WINDOW_SIZE (⟦<Parameters<C> as Duplicate>⟧.seen parameters.now) input.now.items }
 
         // Where the generators are those of elements, the sum over the windows of the window's number times its element.

@@ -12,10 +12,7 @@ use ark_groups::ec::CurveGroup;
 ///
 /// Refusals: `IncorrectInputLength` with the input's bytes, where these have more bits than the windows;
 /// `ParameterShape`, where the generators are not a list for each window with an element for each of its bits.
-pub fn hash_bytes<C: CurveGroup, W: Window>(
-    generators: &[Vec<C>],
-    input: &[u8],
-) -> Result<C, Error>
+pub fn hash_bytes<C: CurveGroup, W: Window>(generators: &[Vec<C>], input: &[u8]) -> Result<C, Error>
     ensures { result ≡ pedersen_hash C.group W.NUM_WINDOWS W.WINDOW_SIZE (map (λ list. list.items) generators.now) input.now }
 {
     if input.len() > W::WINDOW_SIZE * W::NUM_WINDOWS / 8 {
@@ -55,8 +52,7 @@ pub fn hash_halves<C: CurveGroup, W: Window>(
 fn has_shape<C: CurveGroup, W: Window>(generators: &[Vec<C>]) -> bool
     ensures { result ≡ has_shape W.NUM_WINDOWS W.WINDOW_SIZE (map (λ list. list.items) generators.now) }
 {
-    generators.len() == W::NUM_WINDOWS
-        && generators.iter().all(|list| list.len() == W::WINDOW_SIZE)
+    generators.len() == W::NUM_WINDOWS && generators.iter().all(|list| list.len() == W::WINDOW_SIZE)
 }
 
 // The sum with the generators at the set bits of bytes, whose lowest bit stands at this place.

@@ -87,12 +87,7 @@ impl<C: CurveGroup + DigestItem, W: Window> TwoToOneCRHScheme for TwoToOneCRH<C,
     /// The hash of the canonical bytes of two digests.
     ///
     /// Refusals: those of `evaluate`; `OutOfMemory`.
-    fn compress(
-        alloc: Global,
-        parameters: &Parameters<C>,
-        left: &C,
-        right: &C,
-    ) -> Result<C, Error>
+    fn compress(alloc: Global, parameters: &Parameters<C>, left: &C, right: &C) -> Result<C, Error>
         ensures { Answers (of_halves (W.WINDOW_SIZE * W.NUM_WINDOWS) (pedersen_hash C.group W.NUM_WINDOWS W.WINDOW_SIZE (⟦<Parameters<C> as Duplicate>⟧.seen parameters.now)) (C.spelling (C.view left.now)) (C.spelling (C.view right.now))) result }
     {
         let left = canonical_bytes(alloc, left)?;

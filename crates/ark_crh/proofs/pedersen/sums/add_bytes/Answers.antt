@@ -37,7 +37,7 @@ step {G} {g} laws all bytes sum new first start n number fits within short is ad
     let word : number ≡ number_of_bytes (take n rest) = is ∙ ap number_of_bytes (next_is bytes start n) in
     let here : G = pedersen_sum g xs (bits_of_number 64 (number_of_bytes (take n rest))) in
     let elements : drop (first + 8 * (start + n)) all ≡ drop (8 * n) xs =
-        (let k : first + 8 * (start + n) ≡ first + 8 * start + 8 * n = omega arith in ap (λ (m : ℕ). drop m all) k) ∙ sym (drop-drop (8 * n) (first + 8 * start) all) in
+    (let k : first + 8 * (start + n) ≡ first + 8 * start + 8 * n = omega arith in ap (λ (m : ℕ). drop m all) k) ∙ sym (drop-drop (8 * n) (first + 8 * start) all) in
     let behind : drop (start + n) bytes ≡ drop n rest = sym (drop-drop n start bytes) in
     ap (λ (x : G). g.plus x (pedersen_sum g (drop (first + 8 * (start + n)) all) (bits_of_bytes (drop (start + n) bytes)))) (added ∙ ap (λ (m : ℕ). g.plus sum (pedersen_sum g xs (bits_of_number 64 m))) word)
     ∙ ap (λ (ys : List G). g.plus (g.plus sum here) (pedersen_sum g ys (bits_of_bytes (drop (start + n) bytes)))) elements
@@ -54,10 +54,11 @@ add_word-sum-requires-clause-fits g c =
 pub loop-start-preserved : goal.loop-start-preserved
 loop-start-preserved g c =
     let all = joined (map (λ list. list.items) c.args.generators.now) in
-    let fits : IsBytes c.args.bytes.now = λ i. omega (arith, c.type_inv.bytes i) in
-    (step g.met.C.CurveGroup.laws all c.args.bytes.now c.loop-start.sum c.add_word-sum.result c.args.first c.loop-start.start c.min.result c.number_of-word.result fits (omega (arith, c.min.ensures)) (omega (arith, c.min.ensures)) c.number_of-word.ensures c.add_word-sum.ensures
-      ∙ c.loop-start.invariant.0,
-      omega (arith, c.min.ensures))
+    let fits : IsBytes c.args.bytes.now = λ i. omega (arith, c.type_inv.bytes i) in (
+      step g.met.C.CurveGroup.laws all c.args.bytes.now c.loop-start.sum c.add_word-sum.result c.args.first c.loop-start.start c.min.result c.number_of-word.result fits (omega (arith, c.min.ensures)) (omega (arith, c.min.ensures)) c.number_of-word.ensures c.add_word-sum.ensures
+          ∙ c.loop-start.invariant.0,
+      omega (arith, c.min.ensures),
+    )
 
 pub returns : goal.returns
 returns g c =
