@@ -1,5 +1,5 @@
 -- Pedersen hashes over generators that are elements with their doublings.
-use Rattle.std.proofs.Common.{◌≡◌, ℕ, ◌*◌, Bool, true, false, cond, eqb, ◌&&◌, List, [], ◌∷◌, length, map, Ok, Err, refl, sym, ap, ◌∙◌, nat_lt}
+use Rattle.std.proofs.Common.{◌≡◌, ℕ, ◌*◌, Bool, true, false, cond, eqb, ◌&&◌, List, [], ◌∷◌, length, map, Ok, Err, refl, ap, ◌∙◌, nat_lt}
 use Rattle.std.specs.List.{list_all}
 use Rattle.std.proofs.lemmas.Bool.{eq-eqb}
 use Rattle.std.proofs.lemmas.List.{length-map}
@@ -7,7 +7,7 @@ use Rattle.ark_base.specs.Outcome.{Outcome}
 use Rattle.ark_base.specs.declared.error.Error.TheVariants.{IncorrectInputLength, GenericError}
 use Rattle.ark_base.specs.declared.error.Refusal.TheVariants.{ParameterShape}
 use Rattle.ark_groups.specs.Group.{Group, IsCommutativeGroup}
-use Rattle.ark_crh.specs.Pedersen.{bits_of_bytes, pedersen_sum, doublings, windows_sum, joined, has_shape, AreWindows, pedersen_hash, windows_hash}
+use Rattle.ark_crh.specs.Pedersen.{bits_of_bytes, pedersen_sum, doublings, joined, has_shape, AreWindows, pedersen_hash, windows_hash}
 use Rattle.ark_crh.proofs.PedersenSums.{length-doublings, pedersen_sum-windows}
 
 module _ {G : Type 0} (g : Group G) where

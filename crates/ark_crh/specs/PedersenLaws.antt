@@ -1,5 +1,5 @@
 -- The refusals of Pedersen hashes are never want of memory.
-use Rattle.std.specs.Prelude.{◌≡◌, ◌≢◌, ℕ, ◌*◌, ◌/◌, ◌==◌, Bool, true, false, List, length, Ok, Err, nat_lt, if◌then◌else◌}
+use Rattle.std.specs.Prelude.{ℕ, ◌*◌, ◌/◌, ◌==◌, Bool, true, false, List, length, Ok, Err, nat_lt, if◌then◌else◌}
 use Rattle.ark_base.specs.Outcome.{Outcome, IsDecided}
 use Rattle.ark_base.specs.declared.error.Error.TheVariants.{IncorrectInputLength, GenericError}
 use Rattle.ark_base.specs.declared.error.Refusal.TheVariants.{ParameterShape}

@@ -1,4 +1,4 @@
-use Rattle.std.proofs.Common.{◌≡◌, ◌∙◌}
+use Rattle.std.proofs.Common.{◌∙◌}
 use Rattle.ark_crh.proofs.Windows.{pedersen_hash-windows}
 use Rattle.ark_crh.proofs.pedersen.CRHCRHScheme.evaluate.Goals as goal
 

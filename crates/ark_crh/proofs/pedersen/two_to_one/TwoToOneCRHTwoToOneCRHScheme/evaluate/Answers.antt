@@ -1,4 +1,4 @@
-use Rattle.std.proofs.Common.{◌≡◌, ◌∙◌, ◌*◌, ap}
+use Rattle.std.proofs.Common.{◌∙◌, ◌*◌}
 use Rattle.ark_crh.specs.Pedersen.{of_halves}
 use Rattle.ark_crh.proofs.Windows.{pedersen_hash-windows}
 use Rattle.ark_crh.proofs.pedersen.two_to_one.TwoToOneCRHTwoToOneCRHScheme.evaluate.Goals as goal
