@@ -1,7 +1,6 @@
 //! Pedersen hashes: the sum of the generators at the set bits of an input.
 
-ghost use Rattle.std.specs.Prelude.{◌≡◌, ℕ, ◌*◌, ◌<◌, ◌^◌, ◌∷◌, List, length, map, Ok, IfOk, IfErr};
-ghost use Rattle.ark_base.specs.Outcome.{AnswersBy};
+ghost use Rattle.std.specs.Prelude.{◌≡◌, ℕ, ◌*◌, ◌<◌, ◌^◌, List, length, map, Ok, IfOk, IfErr};
 ghost use Rattle.ark_crh.specs.Pedersen.{doublings, AreWindows, AreGenerators, pedersen_hash, windows_hash, seen_by};
 
 mod bits;

@@ -292,12 +292,9 @@ fn parameters_are_printed(rt: HostRuntime) -> Result<(), Fail> {
         generators: vec![in alloc; list(alloc, &[1, 2])?]?,
     };
     let text = format!(in alloc; "{one:?}")?;
-    let lists = format!(in alloc; "{:?}", one.generators)?;
-    let lines = format!(in alloc;
-        "Pedersen Hash Parameters {{\n\t  Generator 0: {:?}\n}}\n",
-        list(alloc, &[1, 2])?
-    )?;
-    assert_eq!(rt; text.as_str(), lines.as_str());
-    assert!(rt; !lists.is_empty());
+    assert_eq!(rt;
+        text.as_str(),
+        "Pedersen Hash Parameters {\n\t  Generator 0: [Residues(1), Residues(2)]\n}\n"
+    );
     Ok(())
 }

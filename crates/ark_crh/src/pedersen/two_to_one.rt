@@ -1,6 +1,6 @@
 //! The Pedersen hash of two inputs.
 
-ghost use Rattle.std.specs.Prelude.{◌≡◌, ℕ, ◌*◌, ◌∷◌, List, length, map, Ok, IfOk, IfErr};
+ghost use Rattle.std.specs.Prelude.{◌≡◌, ◌*◌, List, length, map, Ok, IfOk, IfErr};
 ghost use Rattle.ark_base.specs.Outcome.{Answers};
 ghost use Rattle.ark_crh.specs.Pedersen.{doublings, AreWindows, AreGenerators, pedersen_hash, windows_hash, of_halves, seen_by};
 
