@@ -63,10 +63,10 @@ doublings_sum {G} {g} laws bits n element fits = pedersen_sum-doublings laws bit
 
 -- the commitment is the sum over the windows and so many times the element
 pub pedersen_commitment-windows : {G : Type 0} {g : Group G} → IsCommutativeGroup g → (bits count size : ℕ) (element : G) (elements : List G) (lists : Generators G) (input : List ℕ) (randomness : ℕ) → randomness < 2 ^ bits
-    → length elements ≡ count → AreOf g bits size element elements lists
+    → AreOf g bits count size element elements lists
     → pedersen_commitment g bits count size lists input randomness ≡ windows_commitment g count size element elements input randomness
-pedersen_commitment-windows {G} {g} laws bits count size element elements lists input randomness fits long are =
-    ap (λ (hash : Outcome G). hash >>= (with_randomness lists.randomness)) (pedersen_hash-windows g laws count size elements lists.windows input long are.in_windows)
+pedersen_commitment-windows {G} {g} laws bits count size element elements lists input randomness fits are =
+    ap (λ (hash : Outcome G). hash >>= (with_randomness lists.randomness)) (pedersen_hash-windows g laws count size elements lists.windows input are.number are.in_windows)
     ∙ then_same (windows_hash g count size elements input) (with_randomness lists.randomness) (λ (hash : G). let o : Outcome G = Ok (g.plus hash (times g randomness element)) in o) by_hash
   where
     with_randomness : List G → G → Outcome G
@@ -123,10 +123,16 @@ module _ {G : Type 0} {g : Group G} (laws : IsCommutativeGroup g) where
           let long : length (bits_of_bytes left) ≡ length (bits_of_bytes right) = length-bits_of_bytes left ∙ ap (λ (k : ℕ). 8 * k) (whole.as_long_left ∙ sym whole.as_long_right) ∙ sym (length-bits_of_bytes right) in
           ap (pedersen_sum g (joined lists.windows)) whole.bits ∙ pedersen_sum-union laws (joined lists.windows) (bits_of_bytes left) (bits_of_bytes right) long whole.apart
 
-      is_multiple : (k : ℕ) → k < 2 ^ bits → multiple k ≡ times g k made.element
-      is_multiple k fits = ap (λ (xs : List G). pedersen_sum g xs (bits_of_number bits k)) made.are.doubled ∙ doublings_sum laws bits k made.element fits
+      element : G
+      element = made.0
+
+      are : AreOf g bits count size made.0 made.1 lists
+      are = made.2
+
+      is_multiple : (k : ℕ) → k < 2 ^ bits → multiple k ≡ times g k element
+      is_multiple k fits = ap (λ (xs : List G). pedersen_sum g xs (bits_of_number bits k)) are.doubled ∙ doublings_sum laws bits k element fits
 
       multiples : multiple n ≡ g.plus (multiple r) (multiple s)
       multiples =
-          is_multiple n n_fits ∙ times_sum p n r s made.element (order made.element) sum
-          ∙ sym (ap (λ (x : G). g.plus x (multiple s)) (is_multiple r r_fits) ∙ ap (g.plus (times g r made.element)) (is_multiple s s_fits))
+          is_multiple n n_fits ∙ times_sum p n r s element (order element) sum
+          ∙ sym (ap (λ (x : G). g.plus x (multiple s)) (is_multiple r r_fits) ∙ ap (g.plus (times g r element)) (is_multiple s s_fits))

@@ -13,17 +13,15 @@ pub record Generators (G : Type 0) : Type 0 where
   pub randomness : List G
   pub windows : List (List G)
 
--- those of an element for the randomness, of so many bits, and of an element for each window of so many bits
-pub record AreOf {G : Type 0} (g : Group G) (bits size : ℕ) (element : G) (elements : List G) (lists : Generators G) : Type 0 where
+-- those of an element for the randomness of so many bits, and of so many elements for windows of so many bits
+pub record AreOf {G : Type 0} (g : Group G) (bits count size : ℕ) (element : G) (elements : List G) (lists : Generators G) : Type 0 where
   pub doubled : lists.randomness ≡ doublings g bits element
+  pub number : length elements ≡ count
   pub in_windows : AreWindows g size elements lists.windows
 
--- those of an element and of so many elements for the windows, some or other
-pub record AreMade {G : Type 0} (g : Group G) (bits count size : ℕ) (lists : Generators G) : Type 0 where
-  pub element : G
-  pub elements : List G
-  pub number : length elements ≡ count
-  pub are : AreOf g bits size element elements lists
+-- those of some elements or other
+abbrev pub AreMade : {G : Type 0} → Group G → ℕ → ℕ → ℕ → Generators G → Type 0
+AreMade {G} g bits count size lists = (element : G) × (elements : List G) × AreOf g bits count size element elements lists
 
 -- ---- commitments
 

@@ -28,6 +28,7 @@ pub struct Commitment<C: CurveGroup, W: Window> {
 
 impl<C: CurveGroup, W: Window> CommitmentScheme for Commitment<C, W> {
     ghost use Rattle.std.proofs.Common.{ap};
+    ghost use Rattle.ark_crh.specs.PedersenLaws.{seen-decided};
     ghost use Rattle.ark_schemes.specs.PedersenCommitmentLaws.{pedersen_commitment-decided};
 
     type Output = C;
@@ -66,7 +67,7 @@ impl<C: CurveGroup, W: Window> CommitmentScheme for Commitment<C, W> {
         ensures exact { result ≡ pedersen_commitment C.group C.ScalarField.MODULUS_BIT_SIZE W.NUM_WINDOWS W.WINDOW_SIZE (⟦<Parameters<C> as Duplicate>⟧.seen parameters.now) input.now (C.ScalarField.value randomness.now.0) }
 
         // Where the generators are those of elements, the sum over the windows and so many times the randomness element.
-        ensures windows { (element : C) (elements : List C) → length elements ≡ W.NUM_WINDOWS → AreOf C.group C.ScalarField.MODULUS_BIT_SIZE W.WINDOW_SIZE element elements (⟦<Parameters<C> as Duplicate>⟧.seen parameters.now)
+        ensures windows { (element : C) (elements : List C) → AreOf C.group C.ScalarField.MODULUS_BIT_SIZE W.NUM_WINDOWS W.WINDOW_SIZE element elements (⟦<Parameters<C> as Duplicate>⟧.seen parameters.now)
             → result ≡ windows_commitment C.group W.NUM_WINDOWS W.WINDOW_SIZE element elements input.now (C.ScalarField.value randomness.now.0) }
 
         // Where `setup` made the parameters, the sum of the commitments to two inputs that together have the bits of this one,
@@ -79,7 +80,7 @@ impl<C: CurveGroup, W: Window> CommitmentScheme for Commitment<C, W> {
         commitment_of::<C, W>(parameters, input, randomness.0)
     }
 
-    ghost meaning_decided = { λ parameters input randomness. pedersen_commitment-decided (λ x. C.spelling (C.view x)) C.group C.ScalarField.MODULUS_BIT_SIZE W.NUM_WINDOWS W.WINDOW_SIZE (⟦<Parameters<C> as Duplicate>⟧.seen parameters) input (C.ScalarField.value randomness.0) };
+    ghost meaning_decided = { λ parameters input randomness. seen-decided (λ x. C.spelling (C.view x)) _ (pedersen_commitment-decided C.group C.ScalarField.MODULUS_BIT_SIZE W.NUM_WINDOWS W.WINDOW_SIZE (⟦<Parameters<C> as Duplicate>⟧.seen parameters) input (C.ScalarField.value randomness.0)) };
 
     ghost setup_decided = { tt };
 

@@ -3,10 +3,10 @@ use Rattle.ark_schemes.proofs.PedersenCommitments.{value_fits, pedersen_commitme
 use Rattle.ark_schemes.proofs.commitment.pedersen.CommitmentCommitmentScheme.commit.Goals as goal
 
 pub returns-clause-windows : goal.returns-clause-windows
-returns-clause-windows g c element elements long are =
+returns-clause-windows g c element elements are =
     let field = g.met.C.ScalarField.PrimeField in
     let fits = value_fits _ _ _ field.modulus_laws field.laws c.args.randomness.now.0 in
-    c.commitment_of.ensures ∙ pedersen_commitment-windows g.met.C.CurveGroup.laws _ _ _ element elements _ c.args.input.now _ fits long are
+    c.commitment_of.ensures ∙ pedersen_commitment-windows g.met.C.CurveGroup.laws _ _ _ element elements _ c.args.input.now _ fits are
 
 pub returns-clause-sums : goal.returns-clause-sums
 returns-clause-sums g c made left right r s whole sum =
