@@ -6,6 +6,8 @@ ghost use Rattle.ark_schemes.specs.PedersenCommitments.{AreOf, AreMade, pedersen
 
 mod parameters;
 mod randomness;
+#[cfg(test)]
+mod tests;
 
 use crate::commitment::CommitmentScheme;
 use ark_base::error::{Error, Refusal};
