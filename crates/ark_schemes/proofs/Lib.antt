@@ -1,4 +1,5 @@
 pub mod Mixing
+pub mod PedersenCommitments
 pub mod PlainBlocks
 pub mod Texts
 pub mod Vectors

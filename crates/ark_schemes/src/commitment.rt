@@ -4,6 +4,8 @@ ghost use Rattle.std.specs.Prelude.{◌≡◌, ℕ, List, IfOk};
 ghost use Rattle.ark_base.specs.Outcome.{Outcome, AnswersBy, IsDecided};
 
 pub mod blake2s;
+pub mod injective_map;
+pub mod pedersen;
 
 use ark_base::error::Error;
 use ark_base::serialize::{CanonicalSerialize, Duplicate};

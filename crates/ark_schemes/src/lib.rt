@@ -1,4 +1,4 @@
-//! Pseudorandom functions and commitments, with BLAKE2s (RFC 7693) under them.
+//! Pseudorandom functions and commitments: those of BLAKE2s (RFC 7693), and Pedersen's.
 #![tactic(auto)]
 
 pub mod commitment;

@@ -1,0 +1,16 @@
+use Rattle.std.proofs.Common.{◌∙◌}
+use Rattle.ark_schemes.proofs.PedersenCommitments.{value_fits, pedersen_commitment-windows, pedersen_commitment-union}
+use Rattle.ark_schemes.proofs.commitment.pedersen.CommitmentCommitmentScheme.commit.Goals as goal
+
+pub returns-clause-windows : goal.returns-clause-windows
+returns-clause-windows g c element elements are =
+    let field = g.met.C.ScalarField.PrimeField in
+    let fits = value_fits _ _ _ field.modulus_laws field.laws c.args.randomness.now.0 in
+    c.commitment_of.ensures ∙ pedersen_commitment-windows g.met.C.CurveGroup.laws _ _ _ element elements _ c.args.input.now _ fits are
+
+pub returns-clause-sums : goal.returns-clause-sums
+returns-clause-sums g c made left right r s whole sum =
+    let group = g.met.C.CurveGroup in
+    let field = g.met.C.ScalarField.PrimeField in
+    let fits = value_fits _ _ _ field.modulus_laws field.laws in
+    c.commitment_of.ensures ∙ pedersen_commitment-union group.laws _ _ _ _ _ c.args.input.now left right _ _ _ group.order (fits c.args.randomness.now.0) (fits r) (fits s) made whole sum

@@ -1,0 +1,67 @@
+//! The Pedersen commitment whose value is the image of an element under a map.
+
+ghost use Rattle.std.specs.Prelude.{Ok};
+ghost use Rattle.ark_crh.specs.Pedersen.{image_of};
+ghost use Rattle.ark_schemes.specs.PedersenCommitments.{AreMade, pedersen_commitment};
+
+use crate::commitment::CommitmentScheme;
+use crate::commitment::pedersen::{Commitment, Parameters, Randomness, Window};
+use ark_base::error::Error;
+use ark_base::serialize::Duplicate;
+pub use ark_crh::injective_map::InjectiveMap;
+use ark_groups::ec::CurveGroup;
+use rand::Rng;
+use std::alloc::Global;
+use std::marker::PhantomData;
+
+#[cfg(test)]
+mod tests;
+
+/// The map after the Pedersen commitment.
+pub struct PedersenCommCompressor<C: CurveGroup, I: InjectiveMap<C>, W: Window> {
+    compressor: PhantomData<I>,
+    commitment: PhantomData<Commitment<C, W>>,
+}
+
+impl<C: CurveGroup, I: InjectiveMap<C>, W: Window> CommitmentScheme
+    for PedersenCommCompressor<C, I, W> {
+    ghost use Rattle.std.proofs.Common.{ap};
+    ghost use Rattle.ark_crh.specs.PedersenLaws.{image-decided};
+    ghost use Rattle.ark_schemes.specs.PedersenCommitmentLaws.{pedersen_commitment-decided};
+
+    type Output = I::Output;
+
+    type Parameters = Parameters<C>;
+
+    type Randomness = Randomness<C>;
+
+    ghost meaning = { λ parameters input randomness. image_of I.mapped (pedersen_commitment C.group C.ScalarField.MODULUS_BIT_SIZE W.NUM_WINDOWS W.WINDOW_SIZE (⟦<Parameters<C> as Duplicate>⟧.seen parameters) input (C.ScalarField.value randomness.0)) };
+
+    ghost setup_outcome = { Ok tt };
+
+    ghost is_made = { λ parameters. AreMade C.group C.ScalarField.MODULUS_BIT_SIZE W.NUM_WINDOWS W.WINDOW_SIZE (⟦<Parameters<C> as Duplicate>⟧.seen parameters) };
+
+    /// As `pedersen::Commitment::setup`.
+    fn setup<R: Rng>(alloc: Global, rng: &mut R) -> Result<Parameters<C>, Error> {
+        Commitment::<C, W>::setup(alloc, rng)
+    }
+
+    /// The image of the Pedersen commitment.
+    ///
+    /// Refusals: those of `pedersen::Commitment::commit`; those of the map; `OutOfMemory`.
+    fn commit(
+        alloc: Global,
+        parameters: &Parameters<C>,
+        input: &[u8],
+        randomness: &Randomness<C>,
+    ) -> Result<I::Output, Error> {
+        let commitment = Commitment::<C, W>::commit(alloc, parameters, input, randomness)?;
+        I::injective_map(alloc, &commitment)
+    }
+
+    ghost meaning_decided = { λ parameters input randomness. image-decided I.mapped _ I.mapped_decided (pedersen_commitment-decided C.group C.ScalarField.MODULUS_BIT_SIZE W.NUM_WINDOWS W.WINDOW_SIZE (⟦<Parameters<C> as Duplicate>⟧.seen parameters) input (C.ScalarField.value randomness.0)) };
+
+    ghost setup_decided = { tt };
+
+    ghost same_parameters = { λ p q same. ap (λ lists input randomness. image_of I.mapped (pedersen_commitment C.group C.ScalarField.MODULUS_BIT_SIZE W.NUM_WINDOWS W.WINDOW_SIZE lists input (C.ScalarField.value randomness.0))) same };
+}

@@ -1,0 +1,30 @@
+//! The generators of a Pedersen commitment.
+
+ghost use Rattle.std.specs.Prelude.{map};
+ghost use Rattle.ark_schemes.specs.PedersenCommitments.{Generators};
+
+use ark_base::error::Error;
+use ark_base::serialize::Duplicate;
+use ark_groups::ec::CurveGroup;
+use std::alloc::Global;
+
+/// The elements of a commitment: one for each bit of the randomness, and for the input a list for each window, with an element
+/// for each of its bits.
+#[derive(Drop)]
+pub struct Parameters<C: CurveGroup> {
+    pub randomness_generator: Vec<C>,
+    pub generators: Vec<Vec<C>>,
+}
+
+impl<C: CurveGroup> Duplicate for Parameters<C> {
+    ghost Data = { Generators C };
+
+    ghost seen = { λ parameters. record { randomness = parameters.randomness_generator.items; windows = map (λ list. list.items) parameters.generators.items } };
+
+    fn duplicate(&self, _alloc: Global) -> Result<Parameters<C>, Error> {
+        Ok(Parameters {
+            randomness_generator: self.randomness_generator.clone()?,
+            generators: self.generators.clone()?,
+        })
+    }
+}

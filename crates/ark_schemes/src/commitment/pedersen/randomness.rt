@@ -1,0 +1,46 @@
+//! The randomness of a Pedersen commitment.
+
+use ark_base::error::Error;
+use ark_base::serialize::{Canonical, CanonicalDeserialize, CanonicalSerialize};
+use ark_groups::ec::CurveGroup;
+use ark_groups::ff::UniformRand;
+use rand::Rng;
+use std::alloc::Global;
+
+/// How often the randomness element is added.
+#[derive_where(Clone, PartialEq, Eq, Debug, Default)]
+#[derive(Drop)]
+pub struct Randomness<C: CurveGroup>(pub C::ScalarField);
+
+impl<C: CurveGroup> UniformRand for Randomness<C> {
+    fn rand<R: Rng>(rng: &mut R) -> Randomness<C> {
+        Randomness(C::ScalarField::rand(rng))
+    }
+}
+
+impl<C: CurveGroup> Canonical for Randomness<C> {
+    ghost Value = { ⟦<C::ScalarField as Canonical>⟧.Value };
+
+    ghost view = { λ randomness. ⟦<C::ScalarField as Canonical>⟧.view randomness.0 };
+
+    ghost has_spelling = { ⟦<C::ScalarField as Canonical>⟧.has_spelling };
+
+    ghost spelling = { ⟦<C::ScalarField as Canonical>⟧.spelling };
+
+    ghost reads = { ⟦<C::ScalarField as Canonical>⟧.reads };
+
+    ghost laws = { ⟦<C::ScalarField as Canonical>⟧.laws };
+}
+
+impl<C: CurveGroup> CanonicalSerialize for Randomness<C> {
+    fn serialize(&self, dest: &mut Vec<u8>) -> Result<(), Error> {
+        self.0.serialize(dest)
+    }
+}
+
+impl<C: CurveGroup> CanonicalDeserialize for Randomness<C> {
+    fn read(alloc: Global, bytes: &[u8]) -> Result<(Randomness<C>, usize), Error> {
+        let (scalar, used) = C::ScalarField::read(alloc, bytes)?;
+        Ok((Randomness(scalar), used))
+    }
+}
