@@ -20,9 +20,8 @@ impl<C: CurveGroup> Duplicate for Parameters<C> {
     ghost seen = { λ parameters. map (λ list. list.items) parameters.generators.items };
 
     fn duplicate(&self, _alloc: Global) -> Result<Parameters<C>, Error> {
-        Ok(Parameters {
-            generators: self.generators.clone()?,
-        })
+        let generators = self.generators.clone()?;
+        Ok(Parameters { generators })
     }
 }
 
