@@ -41,6 +41,16 @@ pub mod commitment {
     pub mod blake2s {
         pub use ark_schemes::commitment::blake2s::Commitment;
     }
+
+    /// The Pedersen hash of the input and a multiple of an element, the randomness being the count.
+    pub mod pedersen {
+        pub use ark_schemes::commitment::pedersen::{Commitment, Parameters, Randomness, Window};
+    }
+
+    /// Maps of such a commitment.
+    pub mod injective_map {
+        pub use ark_schemes::commitment::injective_map::{InjectiveMap, PedersenCommCompressor};
+    }
 }
 
 /// Hashes of one input and of two.
@@ -51,13 +61,25 @@ pub mod crh {
     pub mod sha256 {
         pub use ark_crh::sha256::Sha256;
     }
+
+    /// Sums of elements at the set bits of an input.
+    pub mod pedersen {
+        pub use ark_crh::pedersen::{CRH, Parameters, TwoToOneCRH, Window, bytes_to_bits};
+    }
+
+    /// Maps of such sums.
+    pub mod injective_map {
+        pub use ark_crh::injective_map::{
+            InjectiveMap, PedersenCRHCompressor, PedersenTwoToOneCRHCompressor, TECompressor,
+        };
+    }
 }
 
 /// Merkle trees.
 pub mod merkle_tree {
     pub use ark_merkle::{
-        Binding, Config, DigestConverter, IdentityDigestConverter, LeafParam, MerkleTree,
-        MultiPath, Path, TwoToOneParam, is_tree_size,
+        Binding, ByteDigestConverter, Config, DigestConverter, IdentityDigestConverter, LeafParam,
+        MerkleTree, MultiPath, Path, TwoToOneParam, is_tree_size,
     };
 }
 

@@ -1,5 +1,7 @@
 //! Rows that cross crates, by the names of this one.
 
+mod pedersen;
+
 use crate::Error;
 use crate::crh::sha256::Sha256;
 use crate::crh::{CRHScheme, TwoToOneCRHScheme};

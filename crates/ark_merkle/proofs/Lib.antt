@@ -16,7 +16,8 @@ pub mod Puts
 pub mod Readings
 pub mod OwnPaths
 pub mod TreeReads
-pub mod PlainPlaces
+mod PlainMulti
+mod PlainPlaces
 pub mod SizeLemmas
 pub mod MultiWalks
 pub mod MultiIndexes

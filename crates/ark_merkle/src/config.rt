@@ -8,7 +8,7 @@ ghost use Rattle.ark_merkle.specs.PathBytes.{way_bytes, way_at};
 ghost use Rattle.ark_merkle.specs.Paths.{Way};
 
 use ark_base::error::Error;
-use ark_base::serialize::{DigestItem, Numbered};
+use ark_base::serialize::{DigestItem, Numbered, canonical_bytes};
 use ark_crh::{CRHScheme, TwoToOneCRHScheme};
 use std::alloc::Global;
 use std::fmt::Debug;
@@ -37,6 +37,24 @@ impl<T: DigestItem> DigestConverter<T, T> for IdentityDigestConverter<T> {
 
     fn convert(_alloc: Global, item: T) -> Result<T, Error> {
         Ok(item)
+    }
+
+    ghost converted_decided = { λ _. tt };
+}
+
+/// The digest's canonical bytes.
+#[derive(Drop)]
+pub struct ByteDigestConverter<T> {
+    digest: PhantomData<T>,
+}
+
+impl<T: DigestItem> DigestConverter<T, Vec<u8>> for ByteDigestConverter<T> {
+    ghost converted = { λ numbers. Ok (T.bytes_of numbers) };
+
+    fn convert(alloc: Global, item: T) -> Result<Vec<u8>, Error>
+        ensures { AnswersBy (λ bytes. bytes.items) (Ok (T.spelling (T.view item))) result }
+    {
+        canonical_bytes(alloc, &item)
     }
 
     ghost converted_decided = { λ _. tt };

@@ -14,7 +14,10 @@ mod sizes;
 mod tests;
 pub mod tree;
 
-pub use config::{Config, DigestConverter, IdentityDigestConverter, LeafParam, TwoToOneParam};
+pub use config::{
+    ByteDigestConverter, Config, DigestConverter, IdentityDigestConverter, LeafParam,
+    TwoToOneParam,
+};
 pub use multi::MultiPath;
 pub use path::Path;
 pub use sizes::is_tree_size;

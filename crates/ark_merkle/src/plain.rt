@@ -7,6 +7,8 @@ ghost use Rattle.ark_merkle.specs.Pairs.{Digest, HashPair};
 ghost use Rattle.ark_merkle.specs.Paths.{climbed};
 ghost use Rattle.ark_merkle.specs.Roots.{Place, Root, Refused, at_level, joined, place};
 
+mod multi;
+
 use crate::bits::is_bit_set;
 use crate::config::{Config, Meaning, TwoToOneParam};
 use crate::digests::copy_of;
@@ -14,6 +16,7 @@ use crate::pairs::{hash_bottom, hash_upper};
 use ark_base::error::Error;
 use ark_base::serialize::DigestItem;
 use ark_crh::TwoToOneCRHScheme;
+pub use multi::multi_verified;
 use std::alloc::Global;
 
 /// A place of a list of leaf digests: its root, or the refusal in it with its level.

@@ -4,6 +4,7 @@
 
 mod blake2s;
 mod fields;
+mod pedersen;
 mod sums;
 mod trees;
 mod works;

@@ -2,6 +2,7 @@
 
 use crate::blake2s;
 use crate::fields::{Widest, product_chain};
+use crate::pedersen;
 use crate::trees;
 use ark_crypto_primitives::Error;
 use ark_crypto_primitives::ff::{Fp, M61, M257, M65537, PrimeField};
@@ -24,6 +25,8 @@ pub fn checksum(alloc: Global, words: &[String]) -> Result<Option<u64>, Error> {
         "blake2s-mebibyte" => blake2s::digests(alloc, 1 << 20, count)?,
         "blake2s-prf" => blake2s::outputs(count)?,
         "blake2s-commitment" => blake2s::commitments(alloc, count)?,
+        "pedersen-hash" => pedersen::hashes(alloc, count)?,
+        "pedersen-commitment" => pedersen::commitments(alloc, count)?,
         "build-16" => trees::builds(alloc, 1 << 16, count)?,
         "build-20" => trees::builds(alloc, 1 << 20, count)?,
         "update-16" => trees::updates(alloc, 1 << 16, count)?,

@@ -1,0 +1,86 @@
+//! Multi-proofs by their definition.
+
+ghost use Rattle.std.specs.Prelude.{◌≡◌, ◌+◌, ◌++◌, ◌<◌, ◌^◌, map, take, length, Ok};
+ghost use Rattle.ark_base.specs.Outcome.{Answers, AnswersBy};
+ghost use Rattle.ark_merkle.specs.MultiPaths.{decoded_from, verified_from, multi_verified};
+
+use crate::config::{Config, LeafParam, Meaning, TwoToOneParam};
+use crate::digests::{copies_of, copy_of};
+use crate::multi::MultiPath;
+use crate::multi::places::part_at;
+use crate::path::Path;
+use ark_base::error::{Error, Refusal};
+use ark_base::serialize::{DigestItem, Duplicate};
+use ark_crh::CRHScheme;
+use std::alloc::Global;
+
+/// What a multi-proof says of these leaves.
+pub fn multi_verified<P: Config>(
+    alloc: Global,
+    leaf_params: &LeafParam<P>,
+    two_params: &TwoToOneParam<P>,
+    root: &P::InnerDigest,
+    proof: &MultiPath<P>,
+    leaves: &[P::Leaf],
+) -> Result<bool, Error>
+    ensures { Answers (multi_verified (⟦<P as Meaning>⟧.pair two_params.now) (map (P.LeafHash.meaning leaf_params.now) leaves.now) (⟦<MultiPath<P> as Duplicate>⟧.seen proof.now) (P.InnerDigest.numbers root.now)) result }
+{
+    if proof.leaf_indexes.is_empty() {
+        return Err(Error::GenericError(Refusal::NoIndex));
+    }
+    let indexes = &proof.leaf_indexes;
+    verified_from(alloc, leaf_params, two_params, root, proof, 0, &[], indexes, leaves)
+}
+
+// What the places from one on say of these leaves, after the digests of the path before.
+fn verified_from<P: Config>(
+    alloc: Global,
+    leaf_params: &LeafParam<P>,
+    two_params: &TwoToOneParam<P>,
+    root: &P::InnerDigest,
+    proof: &MultiPath<P>,
+    place: usize,
+    before: &[P::InnerDigest],
+    indexes: &[usize],
+    leaves: &[P::Leaf],
+) -> Result<bool, Error>
+    requires { place + length indexes.now < 2 ^ 64 }
+    ensures { Answers (verified_from (⟦<P as Meaning>⟧.pair two_params.now) (P.InnerDigest.numbers root.now) place
+        (decoded_from (⟦<MultiPath<P> as Duplicate>⟧.seen proof.now) place (map P.InnerDigest.numbers before.now) indexes.now) (map (P.LeafHash.meaning leaf_params.now) leaves.now)) result }
+{
+    let Some((index, indexes)) = indexes.split_first() else {
+        return Ok(true);
+    };
+    let Some(part) = part_at(proof, place) else {
+        return Err(Error::IncorrectInputLength(place));
+    };
+    let Some((leaf, leaves)) = leaves.split_first() else {
+        return Err(Error::IncorrectInputLength(place));
+    };
+    let path = Path::<P> {
+        leaf_sibling_hash: copy_of(alloc, part.sibling)?,
+        auth_path: extended(alloc, before, part.prefix, part.suffix)?,
+        leaf_index: *index,
+    };
+    if !path.verify(alloc, leaf_params, two_params, root, leaf)? {
+        return Ok(false);
+    }
+    let above = &path.auth_path;
+    verified_from(alloc, leaf_params, two_params, root, proof, place + 1, above, indexes, leaves)
+}
+
+// The first digests of the path before, then the suffix.
+fn extended<D: DigestItem>(
+    alloc: Global,
+    before: &[D],
+    prefix: usize,
+    suffix: &[D],
+) -> Result<Vec<D>, Error>
+    ensures { AnswersBy (λ above. map D.numbers above.items) (Ok (take prefix (map D.numbers before.now) ++ map D.numbers suffix.now)) result }
+{
+    let mut above = copies_of(alloc, before)?;
+    above.truncate(prefix);
+    let mut more = copies_of(alloc, suffix)?;
+    above.append(&mut more)?;
+    Ok(above)
+}
