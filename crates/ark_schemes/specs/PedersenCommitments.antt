@@ -25,12 +25,15 @@ AreMade {G} g bits count size lists = (element : G) × (elements : List G) × Ar
 
 -- ---- commitments
 
--- The hash of the input, and to it the sum of the randomness's elements at the set bits of the randomness. It is refused as the
--- hash is, and then where the randomness has not an element for each of so many bits.
+-- an element with the sum of those for the randomness at its set bits, refused where there is not one for each of so many bits
+abbrev pub hidden : {G : Type 0} → Group G → ℕ → List G → ℕ → G → Outcome G
+hidden g bits elements randomness x = if length elements == bits then Ok (g.plus x (pedersen_sum g elements (bits_of_number bits randomness))) else Err (GenericError ParameterShape)
+
+-- the hash of the input, hidden
 abbrev pub pedersen_commitment : {G : Type 0} → Group G → ℕ → ℕ → ℕ → Generators G → List ℕ → ℕ → Outcome G
 pedersen_commitment g bits count size lists input randomness = do
   hash ← pedersen_hash g count size lists.windows input
-  if length lists.randomness == bits then Ok (g.plus hash (pedersen_sum g lists.randomness (bits_of_number bits randomness))) else Err (GenericError ParameterShape)
+  hidden g bits lists.randomness randomness hash
 
 -- the same where the lists are those of elements: the sum over the windows, and the element as often as the randomness says
 abbrev pub windows_commitment : {G : Type 0} → Group G → ℕ → ℕ → G → List G → List ℕ → ℕ → Outcome G
