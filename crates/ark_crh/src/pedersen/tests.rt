@@ -198,6 +198,22 @@ fn halves_stand_behind_one_another(rt: HostRuntime) -> Result<(), Fail> {
     Ok(())
 }
 
+// The digests of a tree of four leaves, by hand.
+#[test]
+fn digests_of_a_tree(rt: HostRuntime) -> Result<(), Fail> {
+    let alloc = rt.alloc();
+    let leaf = two_windows(alloc)?.generators;
+    assert_eq!(rt; hash_bytes::<G13, Two>(&leaf, &[0x25])?, residue(9));
+    assert_eq!(rt; hash_bytes::<G13, Two>(&leaf, &[0x01])?, residue(1));
+    assert_eq!(rt; hash_bytes::<G13, Two>(&leaf, &[])?, residue(0));
+    assert_eq!(rt; hash_bytes::<G13, Two>(&leaf, &[0x40])?, residue(8));
+    let pair = four_windows(alloc)?.generators;
+    assert_eq!(rt; hash_halves::<G13, Four>(&pair, &[9], &[1])?, residue(10));
+    assert_eq!(rt; hash_halves::<G13, Four>(&pair, &[0], &[8])?, residue(8));
+    assert_eq!(rt; hash_halves::<G13, Four>(&pair, &[10], &[8])?, residue(5));
+    Ok(())
+}
+
 // Whether the list is an element with its doublings.
 fn is_doubled<C: CurveGroup>(list: &[C], element: C) -> bool {
     let mut power = element;
