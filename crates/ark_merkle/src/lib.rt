@@ -15,8 +15,7 @@ mod tests;
 pub mod tree;
 
 pub use config::{
-    ByteDigestConverter, Config, DigestConverter, IdentityDigestConverter, LeafParam,
-    TwoToOneParam,
+    ByteDigestConverter, Config, DigestConverter, IdentityDigestConverter, LeafParam, TwoToOneParam,
 };
 pub use multi::MultiPath;
 pub use path::Path;

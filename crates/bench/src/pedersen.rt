@@ -41,7 +41,9 @@ pub fn hashes(alloc: Global, count: u64) -> Result<u64, Error> {
     let mut input = Vec::from_array(alloc, INPUT)?;
     let mut value = 0;
     for _ in 0..count {
-        value = CRH::<Group, Wide>::evaluate(alloc, &parameters, &input)?.0.value();
+        value = CRH::<Group, Wide>::evaluate(alloc, &parameters, &input)?
+            .0
+            .value();
         if let Some(first) = input.first_mut() {
             *first = (value % 256) as u8;
         }
@@ -55,7 +57,12 @@ pub fn commitments(alloc: Global, count: u64) -> Result<u64, Error> {
     let parameters = Commitment::<Group, Wide>::setup(alloc, &mut rng)?;
     let mut randomness = Randomness::<Group>::default();
     for _ in 0..count {
-        let commitment = Commitment::<Group, Wide>::commit(alloc, &parameters, &INPUT, &randomness)?;
+        let commitment = Commitment::<Group, Wide>::commit(
+            alloc,
+            &parameters,
+            &INPUT,
+            &randomness,
+        )?;
         randomness = Randomness(commitment.0);
     }
     Ok(randomness.0.value())

@@ -1,9 +1,7 @@
 //! The works by their names.
 
-use crate::blake2s;
 use crate::fields::{Widest, product_chain};
-use crate::pedersen;
-use crate::trees;
+use crate::{blake2s, pedersen, trees};
 use ark_crypto_primitives::Error;
 use ark_crypto_primitives::ff::{Fp, M61, M257, M65537, PrimeField};
 use std::alloc::Global;

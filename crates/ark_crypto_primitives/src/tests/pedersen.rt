@@ -4,9 +4,8 @@ ghost use Rattle.std.specs.Prelude.{◌↔◌, ◌<◌, IsTrue};
 ghost use Rattle.std.specs.List.{All};
 
 use crate::Error;
-use crate::crh::CRHScheme;
-use crate::crh::TwoToOneCRHScheme;
 use crate::crh::pedersen::{CRH, Parameters, TwoToOneCRH, Window};
+use crate::crh::{CRHScheme, TwoToOneCRHScheme};
 use crate::ec::Residues;
 use crate::ff::{Fp, M13, M61, PrimeField, UniformRand};
 use crate::merkle_tree::{
@@ -227,11 +226,7 @@ fn own_proofs_are_accepted_before_and_after_updates(rt: HostRuntime) -> Result<(
     let mut rng = SmallRng::seed_from_u64(61);
     let leaf_params = CRH::<Residues<M61>, Many>::setup(alloc, &mut rng)?;
     let two_params = TwoToOneCRH::<Residues<M61>, Many>::setup(alloc, &mut rng)?;
-    let changed: [(usize, &[usize]); 3] = [
-        (2, &[0, 1]),
-        (4, &[3]),
-        (128, &[2, 3, 5, 111, 127]),
-    ];
+    let changed: [(usize, &[usize]); 3] = [(2, &[0, 1]), (4, &[3]), (128, &[2, 3, 5, 111, 127])];
     for (count, indexes) in changed {
         let mut leaves = drawn_leaves(alloc, count, &mut rng)?;
         let mut tree = tree_of::<By61>(alloc, &leaf_params, &two_params, &leaves)?;
@@ -258,7 +253,10 @@ fn a_multi_proof_shares_what_its_paths_share(rt: HostRuntime) -> Result<(), Fail
     let leaves = drawn_leaves(alloc, 8, &mut rng)?;
     let tree = tree_of::<By61>(alloc, &leaf_params, &two_params, &leaves)?;
     let proof = multi_proof_of_all(alloc, &tree)?;
-    assert_eq!(rt; proof.leaf_indexes.as_slice(), [0, 1, 2, 3, 4, 5, 6, 7].as_slice());
+    assert_eq!(rt;
+        proof.leaf_indexes.as_slice(),
+        [0, 1, 2, 3, 4, 5, 6, 7].as_slice()
+    );
     assert_eq!(rt;
         proof.auth_paths_prefix_lenghts.as_slice(),
         [0, 2, 1, 2, 0, 2, 1, 2].as_slice()

@@ -29,7 +29,17 @@ pub fn multi_verified<P: Config>(
         return Err(Error::GenericError(Refusal::NoIndex));
     }
     let indexes = &proof.leaf_indexes;
-    verified_from(alloc, leaf_params, two_params, root, proof, 0, &[], indexes, leaves)
+    verified_from(
+        alloc,
+        leaf_params,
+        two_params,
+        root,
+        proof,
+        0,
+        &[],
+        indexes,
+        leaves,
+    )
 }
 
 // What the places from one on say of these leaves, after the digests of the path before.
@@ -66,7 +76,17 @@ fn verified_from<P: Config>(
         return Ok(false);
     }
     let above = &path.auth_path;
-    verified_from(alloc, leaf_params, two_params, root, proof, place + 1, above, indexes, leaves)
+    verified_from(
+        alloc,
+        leaf_params,
+        two_params,
+        root,
+        proof,
+        place + 1,
+        above,
+        indexes,
+        leaves,
+    )
 }
 
 // The first digests of the path before, then the suffix.

@@ -53,7 +53,10 @@ returns g t c =
     let decodes : decoded_at m c.args.place (map inner c.args.before.now) index ≡ Some way = rw (sibling, digests) at (c.in-Some-part_at.ensures (map inner c.args.before.now) index) in
     let hashed = g.P.LeafHash.CRHScheme.meaning c.args.leaf_params.now in
     let yes : c.in_ok-verify.field-0 ≡ true = search rules in
-    rw (c.in-Some.ensures.cases.0, c.in-Some-split_first.ensures.cases.0,
-    place-accepted h (inner c.args.root.now) m c.args.place (map inner c.args.before.now) index way decodes (hashed c.in-Some-split_first.leaf.now) c.in-Some.indexes.now (map hashed c.in-Some-split_first.leaves.now) (rw (yes) at c.in_ok-verify.ensures),
-    ← c.deref.ensures.value)
+    rw (
+      c.in-Some.ensures.cases.0,
+      c.in-Some-split_first.ensures.cases.0,
+      place-accepted h (inner c.args.root.now) m c.args.place (map inner c.args.before.now) index way decodes (hashed c.in-Some-split_first.leaf.now) c.in-Some.indexes.now (map hashed c.in-Some-split_first.leaves.now) (rw (yes) at c.in_ok-verify.ensures),
+      ← c.deref.ensures.value,
+    )
     c.verified_from.ensures
