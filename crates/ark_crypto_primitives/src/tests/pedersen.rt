@@ -11,7 +11,7 @@ use crate::ff::{Fp, M13, M61, PrimeField, UniformRand};
 use crate::merkle_tree::{
     ByteDigestConverter, Config, LeafParam, MerkleTree, MultiPath, TwoToOneParam, is_tree_size,
 };
-use crate::serialize::CanonicalSerialize;
+use ark_base::serialize::canonical_bytes;
 use rand::rngs::SmallRng;
 use rand::{Rng, SeedableRng};
 use std::alloc::Global;
@@ -130,40 +130,62 @@ fn tree_of<P: Config>(
     MerkleTree::new(alloc, leaf_params, two_params, leaves)
 }
 
-#[test]
-fn leaf_digests_reach_the_pair_hash_as_bytes(rt: HostRuntime) -> Result<(), Fail> {
-    let alloc = rt.alloc();
-    let leaf_params = Parameters {
-        generators: vec![in alloc; list(alloc, &[1, 2, 4, 8])?, list(alloc, &[2, 4, 8, 3])?]?,
-    };
+fn leaf_params(alloc: Global) -> Result<Parameters<Residues<M13>>, Error> {
+    let generators = vec![in alloc; list(alloc, &[1, 2, 4, 8])?, list(alloc, &[2, 4, 8, 3])?]?;
+    Ok(Parameters { generators })
+}
+
+fn two_params(alloc: Global) -> Result<Parameters<Residues<M13>>, Error> {
     let mut generators = Vec::new(alloc);
     for _ in 0..4u8 {
         generators.push(list(alloc, &[1, 2, 4, 8])?)?;
     }
-    let two_params = Parameters { generators };
+    Ok(Parameters { generators })
+}
+
+// The tree of 25, 01, no bytes and 40.
+fn reckoned(alloc: Global) -> Result<MerkleTree<By13>, Error> {
     let leaves = vec![in alloc;
         vec![in alloc; 0x25u8]?,
         vec![in alloc; 0x01u8]?,
         Vec::new(alloc),
         vec![in alloc; 0x40u8]?,
     ]?;
-    let tree = tree_of::<By13>(alloc, &leaf_params, &two_params, &leaves)?;
-    assert!(rt; *tree.root() == residue(5));
-    if tree.size() == 4 {
-        for (index, digest) in [1, 9, 8, 0].iter().enumerate() {
-            if index < tree.size() {
-                assert!(rt; *tree.get_leaf_sibling_hash(index) == residue(*digest));
-            }
-        }
-        let path = tree.generate_proof(alloc, 0)?;
-        assert!(rt; path.auth_path == list(alloc, &[8])?);
-        let mut bytes = Vec::new(alloc);
-        path.serialize(&mut bytes)?;
-        assert_eq!(rt;
-            hex::encode(alloc, &bytes)?.as_str(),
-            "010100000000000000080000000000000000"
-        );
+    tree_of(alloc, &leaf_params(alloc)?, &two_params(alloc)?, &leaves)
+}
+
+fn bytes_of_proof(alloc: Global, tree: &MerkleTree<By13>) -> Result<Vec<u8>, Error> {
+    if tree.size() == 0 {
+        return Err(Error::IncorrectInputLength(0));
     }
+    canonical_bytes(alloc, &tree.generate_proof(alloc, 0)?)
+}
+
+fn leaf_digest_beside(tree: &MerkleTree<By13>, index: usize) -> Option<u64> {
+    if index >= tree.size() {
+        return None;
+    }
+    Some(tree.get_leaf_sibling_hash(index).0.value())
+}
+
+#[test]
+fn leaf_digests_reach_the_pair_hash_as_bytes(rt: HostRuntime) -> Result<(), Fail> {
+    let tree = reckoned(rt.alloc())?;
+    assert!(rt; *tree.root() == residue(5));
+    assert_eq!(rt; leaf_digest_beside(&tree, 1), Some(9));
+    assert_eq!(rt; leaf_digest_beside(&tree, 0), Some(1));
+    assert_eq!(rt; leaf_digest_beside(&tree, 3), Some(0));
+    assert_eq!(rt; leaf_digest_beside(&tree, 2), Some(8));
+    Ok(())
+}
+
+#[test]
+fn a_proof_has_bytes(rt: HostRuntime) -> Result<(), Fail> {
+    let bytes = bytes_of_proof(rt.alloc(), &reckoned(rt.alloc())?)?;
+    assert_eq!(rt;
+        hex::encode(rt.alloc(), &bytes)?.as_str(),
+        "010100000000000000080000000000000000"
+    );
     Ok(())
 }
 
@@ -185,10 +207,7 @@ fn are_inside(indexes: &[usize], size: usize) -> bool
     indexes.iter().all(|index| *index < size)
 }
 
-fn multi_proof_of_all<P: Config>(
-    alloc: Global,
-    tree: &MerkleTree<P>,
-) -> Result<MultiPath<P>, Error> {
+fn multi_proof_of_all(alloc: Global, tree: &MerkleTree<By61>) -> Result<MultiPath<By61>, Error> {
     let mut indexes = Vec::new(alloc);
     for index in 0..tree.size() {
         indexes.push(index)?;
@@ -199,77 +218,104 @@ fn multi_proof_of_all<P: Config>(
     tree.generate_multi_proof(alloc, &indexes)
 }
 
-// Whether each own path is accepted with its leaf, and the multi-proof of all indexes with all leaves.
-fn all_are_accepted<P: Config>(
+// A tree's leaves and hashes, its leaves being drawn.
+#[derive(Drop)]
+struct Drawn {
+    leaf_params: Parameters<Residues<M61>>,
+    two_params: Parameters<Residues<M61>>,
+    leaves: Vec<Vec<u8>>,
+}
+
+fn draw<R: Rng>(alloc: Global, count: usize, rng: &mut R) -> Result<Drawn, Error> {
+    Ok(Drawn {
+        leaf_params: CRH::<Residues<M61>, Many>::setup(alloc, rng)?,
+        two_params: TwoToOneCRH::<Residues<M61>, Many>::setup(alloc, rng)?,
+        leaves: drawn_leaves(alloc, count, rng)?,
+    })
+}
+
+fn is_own_proof_accepted(
     alloc: Global,
-    leaf_params: &LeafParam<P>,
-    two_params: &TwoToOneParam<P>,
-    tree: &MerkleTree<P>,
-    leaves: &[P::Leaf],
+    tree: &MerkleTree<By61>,
+    drawn: &Drawn,
+    index: usize,
+    leaf: &Vec<u8>,
 ) -> Result<bool, Error> {
-    for (index, leaf) in leaves.iter().enumerate() {
-        if index >= tree.size() {
-            return Err(Error::IncorrectInputLength(index));
-        }
-        let path = tree.generate_proof(alloc, index)?;
-        if !path.verify(alloc, leaf_params, two_params, tree.root(), leaf)? {
+    if index >= tree.size() {
+        return Err(Error::IncorrectInputLength(index));
+    }
+    let path = tree.generate_proof(alloc, index)?;
+    path.verify(alloc, &drawn.leaf_params, &drawn.two_params, tree.root(), leaf)
+}
+
+// Whether each own path is accepted with its leaf, and the multi-proof of all indexes with all leaves.
+fn all_are_accepted(alloc: Global, tree: &MerkleTree<By61>, drawn: &Drawn) -> Result<bool, Error> {
+    for (index, leaf) in drawn.leaves.iter().enumerate() {
+        if !is_own_proof_accepted(alloc, tree, drawn, index, leaf)? {
             return Ok(false);
         }
     }
     let proof = multi_proof_of_all(alloc, tree)?;
-    proof.verify(alloc, leaf_params, two_params, tree.root(), leaves.iter())
+    let leaves = drawn.leaves.iter();
+    proof.verify(alloc, &drawn.leaf_params, &drawn.two_params, tree.root(), leaves)
+}
+
+fn set_leaf<R: Rng>(
+    alloc: Global,
+    tree: &mut MerkleTree<By61>,
+    drawn: &mut Drawn,
+    index: usize,
+    rng: &mut R,
+) -> Result<(), Error> {
+    if index >= tree.size() || index >= drawn.leaves.len() {
+        return Err(Error::IncorrectInputLength(index));
+    }
+    let leaf = drawn_leaf(alloc, rng)?;
+    tree.update(alloc, index, &leaf)?;
+    drawn.leaves[index] = leaf;
+    Ok(())
+}
+
+// Whether all proofs of a tree are accepted before these leaves are set, and after.
+fn stays_accepted(alloc: Global, count: usize, indexes: &[usize]) -> Result<bool, Error> {
+    let mut rng = SmallRng::seed_from_u64(61);
+    let mut drawn = draw(alloc, count, &mut rng)?;
+    let mut tree = tree_of(alloc, &drawn.leaf_params, &drawn.two_params, &drawn.leaves)?;
+    if !all_are_accepted(alloc, &tree, &drawn)? {
+        return Ok(false);
+    }
+    for index in indexes {
+        set_leaf(alloc, &mut tree, &mut drawn, *index, &mut rng)?;
+    }
+    all_are_accepted(alloc, &tree, &drawn)
 }
 
 #[test]
 fn own_proofs_are_accepted_before_and_after_updates(rt: HostRuntime) -> Result<(), Fail> {
-    let alloc = rt.alloc();
-    let mut rng = SmallRng::seed_from_u64(61);
-    let leaf_params = CRH::<Residues<M61>, Many>::setup(alloc, &mut rng)?;
-    let two_params = TwoToOneCRH::<Residues<M61>, Many>::setup(alloc, &mut rng)?;
-    let changed: [(usize, &[usize]); 3] = [(2, &[0, 1]), (4, &[3]), (128, &[2, 3, 5, 111, 127])];
-    for (count, indexes) in changed {
-        let mut leaves = drawn_leaves(alloc, count, &mut rng)?;
-        let mut tree = tree_of::<By61>(alloc, &leaf_params, &two_params, &leaves)?;
-        assert!(rt; all_are_accepted(alloc, &leaf_params, &two_params, &tree, &leaves)?);
-        for index in indexes {
-            let leaf = drawn_leaf(alloc, &mut rng)?;
-            if *index < tree.size() && *index < leaves.len() {
-                tree.update(alloc, *index, &leaf)?;
-                leaves[*index] = leaf;
-            }
-        }
-        assert!(rt; all_are_accepted(alloc, &leaf_params, &two_params, &tree, &leaves)?);
-    }
+    assert!(rt; stays_accepted(rt.alloc(), 2, &[0, 1])?);
+    assert!(rt; stays_accepted(rt.alloc(), 4, &[3])?);
+    assert!(rt; stays_accepted(rt.alloc(), 128, &[2, 3, 5, 111, 127])?);
     Ok(())
 }
 
-// What each place of a multi-proof of all eight indexes takes from the place before, and adds.
+// The multi-proof of all indexes of a tree of drawn leaves.
+fn drawn_proof(alloc: Global, count: usize) -> Result<MultiPath<By61>, Error> {
+    let drawn = draw(alloc, count, &mut SmallRng::seed_from_u64(8))?;
+    let tree = tree_of(alloc, &drawn.leaf_params, &drawn.two_params, &drawn.leaves)?;
+    multi_proof_of_all(alloc, &tree)
+}
+
 #[test]
 fn a_multi_proof_shares_what_its_paths_share(rt: HostRuntime) -> Result<(), Fail> {
-    let alloc = rt.alloc();
-    let mut rng = SmallRng::seed_from_u64(8);
-    let leaf_params = CRH::<Residues<M61>, Many>::setup(alloc, &mut rng)?;
-    let two_params = TwoToOneCRH::<Residues<M61>, Many>::setup(alloc, &mut rng)?;
-    let leaves = drawn_leaves(alloc, 8, &mut rng)?;
-    let tree = tree_of::<By61>(alloc, &leaf_params, &two_params, &leaves)?;
-    let proof = multi_proof_of_all(alloc, &tree)?;
-    assert_eq!(rt;
-        proof.leaf_indexes.as_slice(),
-        [0, 1, 2, 3, 4, 5, 6, 7].as_slice()
-    );
+    let proof = drawn_proof(rt.alloc(), 8)?;
+    assert_eq!(rt; proof.leaf_indexes.as_slice(), [0, 1, 2, 3, 4, 5, 6, 7].as_slice());
     assert_eq!(rt;
         proof.auth_paths_prefix_lenghts.as_slice(),
         [0, 2, 1, 2, 0, 2, 1, 2].as_slice()
     );
-    for (index, suffix) in proof.auth_paths_suffixes.iter().enumerate() {
-        if index < tree.size() {
-            let path = tree.generate_proof(alloc, index)?;
-            assert!(rt; proof.leaf_siblings_hashes.get(index) == Some(&path.leaf_sibling_hash));
-            let shared = path.auth_path.len().saturating_sub(suffix.len());
-            assert_eq!(rt; proof.auth_paths_prefix_lenghts.get(index), Some(&shared));
-            assert!(rt; path.auth_path.iter().skip(shared).eq(suffix.iter()));
-        }
-    }
-    assert!(rt; proof.verify(alloc, &leaf_params, &two_params, tree.root(), leaves.iter())?);
+    assert!(rt;
+        proof.auth_paths_suffixes.iter().map(|suffix| suffix.len())
+            .eq([2usize, 0, 1, 0, 2, 0, 1, 0])
+    );
     Ok(())
 }
