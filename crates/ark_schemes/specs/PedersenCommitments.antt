@@ -1,4 +1,4 @@
--- Pedersen commitments: the Pedersen hash of the input and a multiple of an element of its own, the randomness being the count.
+-- Pedersen commitments: the Pedersen hash of the input, hidden by a multiple of another element; the randomness is the count.
 use Rattle.std.specs.Prelude.{◌≡◌, ℕ, ◌==◌, List, length, Ok, Err, if◌then◌else◌}
 use Rattle.ark_base.specs.Outcome.{Outcome, ◌>>=◌}
 use Rattle.ark_base.specs.declared.error.Error.TheVariants.{GenericError}
