@@ -207,7 +207,10 @@ fn are_inside(indexes: &[usize], size: usize) -> bool
     indexes.iter().all(|index| *index < size)
 }
 
-fn multi_proof_of_all(alloc: Global, tree: &MerkleTree<By61>) -> Result<MultiPath<By61>, Error> {
+fn multi_proof_of_all<P: Config>(
+    alloc: Global,
+    tree: &MerkleTree<P>,
+) -> Result<MultiPath<P>, Error> {
     let mut indexes = Vec::new(alloc);
     for index in 0..tree.size() {
         indexes.push(index)?;
@@ -218,76 +221,67 @@ fn multi_proof_of_all(alloc: Global, tree: &MerkleTree<By61>) -> Result<MultiPat
     tree.generate_multi_proof(alloc, &indexes)
 }
 
-// A tree's leaves and hashes, its leaves being drawn.
-#[derive(Drop)]
-struct Drawn {
-    leaf_params: Parameters<Residues<M61>>,
-    two_params: Parameters<Residues<M61>>,
-    leaves: Vec<Vec<u8>>,
-}
-
-fn draw<R: Rng>(alloc: Global, count: usize, rng: &mut R) -> Result<Drawn, Error> {
-    Ok(Drawn {
-        leaf_params: CRH::<Residues<M61>, Many>::setup(alloc, rng)?,
-        two_params: TwoToOneCRH::<Residues<M61>, Many>::setup(alloc, rng)?,
-        leaves: drawn_leaves(alloc, count, rng)?,
-    })
-}
-
-fn is_own_proof_accepted(
-    alloc: Global,
-    tree: &MerkleTree<By61>,
-    drawn: &Drawn,
-    index: usize,
-    leaf: &Vec<u8>,
-) -> Result<bool, Error> {
-    if index >= tree.size() {
-        return Err(Error::IncorrectInputLength(index));
-    }
-    let path = tree.generate_proof(alloc, index)?;
-    path.verify(alloc, &drawn.leaf_params, &drawn.two_params, tree.root(), leaf)
-}
-
 // Whether each own path is accepted with its leaf, and the multi-proof of all indexes with all leaves.
-fn all_are_accepted(alloc: Global, tree: &MerkleTree<By61>, drawn: &Drawn) -> Result<bool, Error> {
-    for (index, leaf) in drawn.leaves.iter().enumerate() {
-        if !is_own_proof_accepted(alloc, tree, drawn, index, leaf)? {
+fn all_are_accepted<P: Config>(
+    alloc: Global,
+    tree: &MerkleTree<P>,
+    leaf_params: &LeafParam<P>,
+    two_params: &TwoToOneParam<P>,
+    leaves: &[P::Leaf],
+) -> Result<bool, Error> {
+    for (index, leaf) in leaves.iter().enumerate() {
+        if index >= tree.size() {
+            return Err(Error::IncorrectInputLength(index));
+        }
+        let path = tree.generate_proof(alloc, index)?;
+        if !path.verify(alloc, leaf_params, two_params, tree.root(), leaf)? {
             return Ok(false);
         }
     }
     let proof = multi_proof_of_all(alloc, tree)?;
-    let leaves = drawn.leaves.iter();
-    proof.verify(alloc, &drawn.leaf_params, &drawn.two_params, tree.root(), leaves)
+    proof.verify(alloc, leaf_params, two_params, tree.root(), leaves.iter())
 }
 
-fn set_leaf<R: Rng>(
+fn set_leaf<P: Config>(
     alloc: Global,
-    tree: &mut MerkleTree<By61>,
-    drawn: &mut Drawn,
+    tree: &mut MerkleTree<P>,
+    leaves: &mut Vec<P::Leaf>,
     index: usize,
-    rng: &mut R,
+    leaf: P::Leaf,
 ) -> Result<(), Error> {
-    if index >= tree.size() || index >= drawn.leaves.len() {
+    if index >= tree.size() || index >= leaves.len() {
         return Err(Error::IncorrectInputLength(index));
     }
-    let leaf = drawn_leaf(alloc, rng)?;
     tree.update(alloc, index, &leaf)?;
-    drawn.leaves[index] = leaf;
+    leaves[index] = leaf;
     Ok(())
+}
+
+// The parameters of the leaf hash and of the pair hash.
+type Drawn = (Parameters<Residues<M61>>, Parameters<Residues<M61>>);
+
+fn draw<R: Rng>(alloc: Global, rng: &mut R) -> Result<Drawn, Error> {
+    let leaf_params = CRH::<Residues<M61>, Many>::setup(alloc, rng)?;
+    Ok((
+        leaf_params,
+        TwoToOneCRH::<Residues<M61>, Many>::setup(alloc, rng)?,
+    ))
 }
 
 // Whether all proofs of a tree are accepted before these leaves are set, and after.
 fn stays_accepted(alloc: Global, count: usize, indexes: &[usize]) -> Result<bool, Error> {
     let mut rng = SmallRng::seed_from_u64(61);
-    let mut drawn = draw(alloc, count, &mut rng)?;
-    let mut tree = tree_of(alloc, &drawn.leaf_params, &drawn.two_params, &drawn.leaves)?;
-    if !all_are_accepted(alloc, &tree, &drawn)? {
+    let (leaf_params, two_params) = draw(alloc, &mut rng)?;
+    let mut leaves = drawn_leaves(alloc, count, &mut rng)?;
+    let mut tree = tree_of::<By61>(alloc, &leaf_params, &two_params, &leaves)?;
+    if !all_are_accepted(alloc, &tree, &leaf_params, &two_params, &leaves)? {
         return Ok(false);
     }
     for index in indexes {
-        set_leaf(alloc, &mut tree, &mut drawn, *index, &mut rng)?;
+        let leaf = drawn_leaf(alloc, &mut rng)?;
+        set_leaf(alloc, &mut tree, &mut leaves, *index, leaf)?;
     }
-    all_are_accepted(alloc, &tree, &drawn)
+    all_are_accepted(alloc, &tree, &leaf_params, &two_params, &leaves)
 }
 
 #[test]
@@ -300,21 +294,28 @@ fn own_proofs_are_accepted_before_and_after_updates(rt: HostRuntime) -> Result<(
 
 // The multi-proof of all indexes of a tree of drawn leaves.
 fn drawn_proof(alloc: Global, count: usize) -> Result<MultiPath<By61>, Error> {
-    let drawn = draw(alloc, count, &mut SmallRng::seed_from_u64(8))?;
-    let tree = tree_of(alloc, &drawn.leaf_params, &drawn.two_params, &drawn.leaves)?;
-    multi_proof_of_all(alloc, &tree)
+    let mut rng = SmallRng::seed_from_u64(8);
+    let (leaf_params, two_params) = draw(alloc, &mut rng)?;
+    let leaves = drawn_leaves(alloc, count, &mut rng)?;
+    multi_proof_of_all(alloc, &tree_of(alloc, &leaf_params, &two_params, &leaves)?)
 }
 
 #[test]
 fn a_multi_proof_shares_what_its_paths_share(rt: HostRuntime) -> Result<(), Fail> {
     let proof = drawn_proof(rt.alloc(), 8)?;
-    assert_eq!(rt; proof.leaf_indexes.as_slice(), [0, 1, 2, 3, 4, 5, 6, 7].as_slice());
+    assert_eq!(rt;
+        proof.leaf_indexes.as_slice(),
+        [0, 1, 2, 3, 4, 5, 6, 7].as_slice()
+    );
     assert_eq!(rt;
         proof.auth_paths_prefix_lenghts.as_slice(),
         [0, 2, 1, 2, 0, 2, 1, 2].as_slice()
     );
     assert!(rt;
-        proof.auth_paths_suffixes.iter().map(|suffix| suffix.len())
+        proof
+            .auth_paths_suffixes
+            .iter()
+            .map(|suffix| suffix.len())
             .eq([2usize, 0, 1, 0, 2, 0, 1, 0])
     );
     Ok(())
