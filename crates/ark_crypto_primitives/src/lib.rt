@@ -64,12 +64,12 @@ pub mod crh {
 
     /// Sums of elements at the set bits of an input.
     pub mod pedersen {
-        pub use ark_crh::pedersen::{CRH, Parameters, TwoToOneCRH, Window, bytes_to_bits};
+        pub use ark_pedersen::{CRH, Parameters, TwoToOneCRH, Window, bytes_to_bits};
     }
 
     /// Maps of such sums.
     pub mod injective_map {
-        pub use ark_crh::injective_map::{
+        pub use ark_pedersen::injective_map::{
             InjectiveMap, PedersenCRHCompressor, PedersenTwoToOneCRHCompressor, TECompressor,
         };
     }

@@ -8,10 +8,10 @@ use Rattle.ark_base.specs.declared.error.Refusal.TheVariants.{ParameterShape}
 use Rattle.ark_groups.specs.Field.{IsModulus, IsField}
 use Rattle.ark_groups.specs.Group.{Group, IsCommutativeGroup, times}
 use Rattle.ark_groups.proofs.Multiples.{swap_last, times-add, times-mod}
-use Rattle.ark_crh.specs.Pedersen.{bits_of_number, bits_of_bytes, number_of_bits, pedersen_sum, doublings, joined, has_shape, AreWindows, pedersen_hash}
-use Rattle.ark_crh.proofs.BitSums.{pedersen_sum-more}
-use Rattle.ark_crh.proofs.PedersenSums.{length-doublings, pedersen_sum-doublings, pedersen_sum-union}
-use Rattle.ark_crh.proofs.Windows.{pedersen_hash-windows}
+use Rattle.ark_pedersen.specs.Pedersen.{bits_of_number, bits_of_bytes, number_of_bits, pedersen_sum, doublings, joined, has_shape, AreWindows, pedersen_hash}
+use Rattle.ark_pedersen.proofs.BitSums.{pedersen_sum-more}
+use Rattle.ark_pedersen.proofs.PedersenSums.{length-doublings, pedersen_sum-doublings, pedersen_sum-union}
+use Rattle.ark_pedersen.proofs.Windows.{pedersen_hash-windows}
 use Rattle.ark_schemes.specs.PedersenCommitments.{Generators, hidden, pedersen_commitment, windows_commitment, sum_of, IsUnion}
 
 -- ---- bits

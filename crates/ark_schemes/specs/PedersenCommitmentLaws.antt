@@ -4,8 +4,8 @@ use Rattle.ark_base.specs.Outcome.{IsDecided}
 use Rattle.ark_base.specs.declared.error.Error.TheVariants.{GenericError}
 use Rattle.ark_base.specs.declared.error.Refusal.TheVariants.{ParameterShape}
 use Rattle.ark_groups.specs.Group.{Group}
-use Rattle.ark_crh.specs.Pedersen.{bits_of_number, pedersen_sum, pedersen_hash}
-use Rattle.ark_crh.specs.PedersenLaws.{image-decided, pedersen-decided}
+use Rattle.ark_pedersen.specs.Pedersen.{bits_of_number, pedersen_sum, pedersen_hash}
+use Rattle.ark_pedersen.specs.Laws.Pedersen.{image-decided, pedersen-decided}
 use Rattle.ark_schemes.specs.PedersenCommitments.{Generators, hidden, pedersen_commitment}
 
 hidden-decided : {G : Type 0} (g : Group G) (bits : ℕ) (elements : List G) (randomness : ℕ) (x : G) → IsDecided (hidden g bits elements randomness x)

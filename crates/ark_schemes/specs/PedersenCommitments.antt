@@ -4,7 +4,7 @@ use Rattle.ark_base.specs.Outcome.{Outcome, ◌>>=◌}
 use Rattle.ark_base.specs.declared.error.Error.TheVariants.{GenericError}
 use Rattle.ark_base.specs.declared.error.Refusal.TheVariants.{ParameterShape}
 use Rattle.ark_groups.specs.Group.{Group, times}
-use Rattle.ark_crh.specs.Pedersen.{bits_of_number, bits_of_bytes, union, AreDisjoint, pedersen_sum, doublings, AreWindows, pedersen_hash, windows_hash}
+use Rattle.ark_pedersen.specs.Pedersen.{bits_of_number, bits_of_bytes, union, AreDisjoint, pedersen_sum, doublings, AreWindows, pedersen_hash, windows_hash}
 
 -- ---- parameters
 

@@ -1,15 +1,15 @@
 //! The Pedersen commitment whose value is the image of an element under a map.
 
 ghost use Rattle.std.specs.Prelude.{Ok};
-ghost use Rattle.ark_crh.specs.Pedersen.{image_of};
+ghost use Rattle.ark_pedersen.specs.Pedersen.{image_of};
 ghost use Rattle.ark_schemes.specs.PedersenCommitments.{AreMade, pedersen_commitment};
 
 use crate::commitment::CommitmentScheme;
 use crate::commitment::pedersen::{Commitment, Parameters, Randomness, Window};
 use ark_base::error::Error;
 use ark_base::serialize::Duplicate;
-pub use ark_crh::injective_map::InjectiveMap;
 use ark_groups::ec::CurveGroup;
+pub use ark_pedersen::injective_map::InjectiveMap;
 use rand::Rng;
 use std::alloc::Global;
 use std::marker::PhantomData;
@@ -26,7 +26,7 @@ pub struct PedersenCommCompressor<C: CurveGroup, I: InjectiveMap<C>, W: Window> 
 impl<C: CurveGroup, I: InjectiveMap<C>, W: Window> CommitmentScheme
     for PedersenCommCompressor<C, I, W> {
     ghost use Rattle.std.proofs.Common.{ap};
-    ghost use Rattle.ark_crh.specs.PedersenLaws.{image-decided};
+    ghost use Rattle.ark_pedersen.specs.Laws.Pedersen.{image-decided};
     ghost use Rattle.ark_schemes.specs.PedersenCommitmentLaws.{pedersen_commitment-decided};
 
     type Output = I::Output;

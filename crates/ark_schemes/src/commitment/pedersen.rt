@@ -1,7 +1,7 @@
 //! The Pedersen commitment.
 
 ghost use Rattle.std.specs.Prelude.{◌≡◌, ℕ, ◌+◌, ◌%◌, ◌<◌, ◌^◌, List, length, Ok};
-ghost use Rattle.ark_crh.specs.Pedersen.{bits_of_number, pedersen_sum, seen_by};
+ghost use Rattle.ark_pedersen.specs.Pedersen.{bits_of_number, pedersen_sum, seen_by};
 ghost use Rattle.ark_schemes.specs.PedersenCommitments.{AreOf, AreMade, pedersen_commitment, windows_commitment, sum_of, IsUnion};
 
 mod parameters;
@@ -12,10 +12,10 @@ mod tests;
 use crate::commitment::CommitmentScheme;
 use ark_base::error::{Error, Refusal};
 use ark_base::serialize::{Canonical, Duplicate};
-pub use ark_crh::pedersen::Window;
-use ark_crh::pedersen::{CRH, hash_bytes};
 use ark_groups::ec::CurveGroup;
 use ark_groups::ff::PrimeField;
+pub use ark_pedersen::Window;
+use ark_pedersen::{CRH, hash_bytes};
 pub use parameters::Parameters;
 use rand::Rng;
 pub use randomness::Randomness;
@@ -30,7 +30,7 @@ pub struct Commitment<C: CurveGroup, W: Window> {
 
 impl<C: CurveGroup, W: Window> CommitmentScheme for Commitment<C, W> {
     ghost use Rattle.std.proofs.Common.{ap};
-    ghost use Rattle.ark_crh.specs.PedersenLaws.{seen-decided};
+    ghost use Rattle.ark_pedersen.specs.Laws.Pedersen.{seen-decided};
     ghost use Rattle.ark_schemes.specs.PedersenCommitmentLaws.{pedersen_commitment-decided};
 
     type Output = C;

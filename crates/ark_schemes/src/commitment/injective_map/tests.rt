@@ -2,9 +2,9 @@
 
 use super::*;
 use ark_base::error::Refusal;
-use ark_crh::injective_map::TECompressor;
 use ark_groups::ec::Small;
 use ark_groups::ff::{Fp, M13, M257, PrimeField};
+use ark_pedersen::injective_map::TECompressor;
 use rand::SeedableRng;
 use rand::rngs::SmallRng;
 use std::test::Fail;

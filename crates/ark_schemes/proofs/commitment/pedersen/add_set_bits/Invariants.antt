@@ -1,5 +1,5 @@
 use Rattle.std.proofs.Common.{◌≡◌, ◌≤◌}
-use Rattle.ark_crh.specs.Pedersen.{bits_of_number, pedersen_sum}
+use Rattle.ark_pedersen.specs.Pedersen.{bits_of_number, pedersen_sum}
 use Rattle.ark_schemes.proofs.commitment.pedersen.add_set_bits.Given as goal
 
 -- what was added, and what is still to be added, are the whole

@@ -1,0 +1,2 @@
+-- The laws of Pedersen hashes.
+pub mod Pedersen

@@ -1,0 +1,95 @@
+//! The sum of the generators at the set bits of an input.
+
+ghost use Rattle.std.specs.Prelude.{◌≡◌, ◌+◌, ◌*◌, ◌-◌, ◌<◌, ◌≤◌, ◌^◌, length, map, drop, IsTrue};
+ghost use Rattle.ark_pedersen.specs.Pedersen.{bits_of_number, bits_of_bytes, pedersen_sum, joined, has_shape, pedersen_hash, of_halves};
+
+use crate::Window;
+use ark_base::error::{Error, Refusal};
+use ark_base::serialize::number_of;
+use ark_groups::ec::CurveGroup;
+
+/// The sum of the generators at the set bits of the input. It takes no memory.
+///
+/// Refusals: `IncorrectInputLength` with the input's bytes, where these have more bits than the windows;
+/// `ParameterShape`, where the generators are not a list for each window with an element for each of its bits.
+pub fn hash_bytes<C: CurveGroup, W: Window>(generators: &[Vec<C>], input: &[u8]) -> Result<C, Error>
+    ensures { result ≡ pedersen_hash C.group W.NUM_WINDOWS W.WINDOW_SIZE (map (λ list. list.items) generators.now) input.now }
+{
+    if input.len() > W::WINDOW_SIZE * W::NUM_WINDOWS / 8 {
+        return Err(Error::IncorrectInputLength(input.len()));
+    }
+    if !has_shape::<C, W>(generators) {
+        return Err(Error::GenericError(Refusal::ParameterShape));
+    }
+    Ok(add_bytes::<C, W>(C::zero(), generators, 0, input))
+}
+
+/// The hash of left followed by right, with zeros behind them as far as two halves reach. It takes no memory.
+///
+/// Refusals: `IncorrectInputLength` with right's bytes, where left has not as many, and with left's, where these have more
+/// bits than half of all the windows' bits; `ParameterShape` as above.
+pub fn hash_halves<C: CurveGroup, W: Window>(
+    generators: &[Vec<C>],
+    left: &[u8],
+    right: &[u8],
+) -> Result<C, Error>
+    ensures { result ≡ of_halves (W.WINDOW_SIZE * W.NUM_WINDOWS) (pedersen_hash C.group W.NUM_WINDOWS W.WINDOW_SIZE (map (λ list. list.items) generators.now)) left.now right.now }
+{
+    if left.len() != right.len() {
+        return Err(Error::IncorrectInputLength(right.len()));
+    }
+    if left.len() > W::WINDOW_SIZE * W::NUM_WINDOWS / 2 / 8 {
+        return Err(Error::IncorrectInputLength(left.len()));
+    }
+    if !has_shape::<C, W>(generators) {
+        return Err(Error::GenericError(Refusal::ParameterShape));
+    }
+    let sum = add_bytes::<C, W>(C::zero(), generators, 0, left);
+    Ok(add_bytes::<C, W>(sum, generators, 8 * left.len(), right))
+}
+
+// Whether there is a list for each window, with an element for each of its bits.
+fn has_shape<C: CurveGroup, W: Window>(generators: &[Vec<C>]) -> bool
+    ensures { result ≡ has_shape W.NUM_WINDOWS W.WINDOW_SIZE (map (λ list. list.items) generators.now) }
+{
+    generators.len() == W::NUM_WINDOWS && generators.iter().all(|list| list.len() == W::WINDOW_SIZE)
+}
+
+// The sum with the generators at the set bits of bytes, whose lowest bit stands at this place.
+fn add_bytes<C: CurveGroup, W: Window>(
+    sum: C,
+    generators: &[Vec<C>],
+    first: usize,
+    bytes: &[u8],
+) -> C
+    requires shape { IsTrue (has_shape W.NUM_WINDOWS W.WINDOW_SIZE (map (λ list. list.items) generators.now)) }
+    requires fits { first + 8 * length bytes.now ≤ W.WINDOW_SIZE * W.NUM_WINDOWS }
+    ensures { result ≡ C.group.plus sum (pedersen_sum C.group (drop first (joined (map (λ list. list.items) generators.now))) (bits_of_bytes bytes.now)) }
+{
+    let mut sum = sum;
+    let mut start = 0;
+    while start < bytes.len() {
+        let end = start + (bytes.len() - start).min(8);
+        let word = number_of(&bytes[start..end]);
+        sum = add_word::<C, W>(sum, generators, first + 8 * start, word);
+        start = end;
+    }
+    sum
+}
+
+// The sum with the generators at the set bits of a word, whose lowest bit stands at this place.
+fn add_word<C: CurveGroup, W: Window>(sum: C, generators: &[Vec<C>], first: usize, word: u64) -> C
+    requires shape { IsTrue (has_shape W.NUM_WINDOWS W.WINDOW_SIZE (map (λ list. list.items) generators.now)) }
+    requires first_in { first ≤ W.WINDOW_SIZE * W.NUM_WINDOWS }
+    requires fits { word < 2 ^ (W.WINDOW_SIZE * W.NUM_WINDOWS - first) }
+    ensures { result ≡ C.group.plus sum (pedersen_sum C.group (drop first (joined (map (λ list. list.items) generators.now))) (bits_of_number 64 word)) }
+{
+    let mut sum = sum;
+    let mut rest = word;
+    while rest > 0 {
+        let place = first + rest.trailing_zeros() as usize;
+        sum = sum.add(generators[place / W::WINDOW_SIZE][place % W::WINDOW_SIZE]);
+        rest &= rest - 1;
+    }
+    sum
+}
