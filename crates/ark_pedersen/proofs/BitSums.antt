@@ -24,13 +24,13 @@ length-bits_of_number zero n = refl
 length-bits_of_number (suc k) n = ap suc (length-bits_of_number k (n / 2))
 
 -- the digits of a number that is put together of two
-bits_of_number-joined : (k m low high : ℕ) → low < 2 ^ k → bits_of_number (k + m) (low + 2 ^ k * high) ≡ bits_of_number k low ++ bits_of_number m high
+bits_of_number-add : (k m low high : ℕ) → low < 2 ^ k → bits_of_number (k + m) (low + 2 ^ k * high) ≡ bits_of_number k low ++ bits_of_number m high
 unfolding bits_of_number
-bits_of_number-joined zero m low high fits =
+bits_of_number-add zero m low high fits =
     let none : low + 2 ^ 0 * high ≡ high = omega arith in
     let here : 0 + m ≡ m = omega arith in
     ap (λ (i : ℕ). bits_of_number i (low + 2 ^ 0 * high)) here ∙ ap (bits_of_number m) none
-bits_of_number-joined (suc k) m low high fits =
+bits_of_number-add (suc k) m low high fits =
     let one : suc k + m ≡ suc (k + m) = omega arith in
     let power : 2 ^ suc k ≡ 2 ^ k * 2 = pow-suc 2 k in
     let twice : 2 ^ suc k * high ≡ 2 * (2 ^ k * high) = ap (λ (p : ℕ). p * high) power ∙ grind arith in
@@ -40,7 +40,7 @@ bits_of_number-joined (suc k) m low high fits =
     ap (λ (i : ℕ). bits_of_number i (low + 2 ^ suc k * high)) one
     ∙ ap (λ (d : ℕ). eqb d 1 ∷ bits_of_number (k + m) ((low + 2 ^ suc k * high) / 2)) digit
     ∙ ap (λ (r : ℕ). eqb (low % 2) 1 ∷ bits_of_number (k + m) r) rest
-    ∙ ap (λ (t : List Bool). eqb (low % 2) 1 ∷ t) (bits_of_number-joined k m (low / 2) high small)
+    ∙ ap (λ (t : List Bool). eqb (low % 2) 1 ∷ t) (bits_of_number-add k m (low / 2) high small)
 
 -- the digits of bytes are those of their number
 pub bits_of_bytes-number : (bytes : List ℕ) → IsBytes bytes → bits_of_bytes bytes ≡ bits_of_number (8 * length bytes) (number_of_bytes bytes)
@@ -50,7 +50,7 @@ bits_of_bytes-number (b ∷ bytes) fits =
     let more : 8 * length (b ∷ bytes) ≡ 8 + 8 * length bytes = omega arith in
     let here : b < 256 = fits 0 in
     ap (λ t. bits_of_number 8 b ++ t) (bits_of_bytes-number bytes (λ i. fits (suc i)))
-    ∙ sym (ap (λ (k : ℕ). bits_of_number k (b + 256 * number_of_bytes bytes)) more ∙ bits_of_number-joined 8 (8 * length bytes) b (number_of_bytes bytes) here)
+    ∙ sym (ap (λ (k : ℕ). bits_of_number k (b + 256 * number_of_bytes bytes)) more ∙ bits_of_number-add 8 (8 * length bytes) b (number_of_bytes bytes) here)
 
 -- bytes are a number of as many digits as they have bits
 pub number_of_bytes-below : (bytes : List ℕ) → IsBytes bytes → number_of_bytes bytes < 2 ^ (8 * length bytes)

@@ -8,17 +8,19 @@ use Rattle.ark_base.specs.declared.error.Error.TheVariants.{IncorrectInputLength
 use Rattle.ark_base.specs.declared.error.Refusal.TheVariants.{ParameterShape}
 use Rattle.ark_groups.specs.Group.{Group, IsCommutativeGroup}
 use Rattle.ark_groups.proofs.Multiples.{right_identity}
-use Rattle.ark_pedersen.specs.Pedersen.{bits_of_number, bits_of_bytes, pedersen_sum, joined, has_shape, pedersen_hash, joined_halves, of_halves}
+use Rattle.ark_pedersen.specs.Pedersen.{bits_of_number, bits_of_bytes, pedersen_sum, capacity, concatenation, has_shape, sum_from}
+use Rattle.ark_pedersen.specs.Pedersen.{pedersen_hash, full_halves, of_halves}
+use Rattle.ark_pedersen.specs.declared.window.Window.{Ghosts as Windows}
 use Rattle.ark_pedersen.proofs.BitSums.{length-bits_of_number, pedersen_sum-zero}
 use Rattle.ark_pedersen.proofs.PedersenSums.{pedersen_sum-none, pedersen_sum-behind}
 
-length-bits_of_bytes : (bytes : List ℕ) → length (bits_of_bytes bytes) ≡ 8 * length bytes
+pub length-bits_of_bytes : (bytes : List ℕ) → length (bits_of_bytes bytes) ≡ 8 * length bytes
 length-bits_of_bytes [] = refl
 length-bits_of_bytes (b ∷ bytes) =
     omega (arith, length-append (bits_of_number 8 b) (bits_of_bytes bytes), length-bits_of_number 8 b, length-bits_of_bytes bytes)
 
-length-joined_halves : (half : ℕ) (left right : List ℕ) → length left ≡ length right → length left ≤ half / 8 → length (joined_halves half left right) ≡ 2 * half / 8
-length-joined_halves half left right same short =
+length-full_halves : (half : ℕ) (left right : List ℕ) → length left ≡ length right → length left ≤ half / 8 → length (full_halves half left right) ≡ 2 * half / 8
+length-full_halves half left right same short =
     omega (arith, length-append (left ++ right) (replicate (2 * half / 8 - length (left ++ right)) 0), length-append left right, length-replicate {A = ℕ} (2 * half / 8 - length (left ++ right)) 0)
 
 module _ {G : Type 0} {g : Group G} (laws : IsCommutativeGroup g) where
@@ -38,7 +40,7 @@ module _ {G : Type 0} {g : Group G} (laws : IsCommutativeGroup g) where
       ∙ pedersen_sum-behind laws xs (bits_of_bytes left) (bits_of_bytes right)
       ∙ ap (λ (k : ℕ). g.plus (pedersen_sum g xs (bits_of_bytes left)) (pedersen_sum g (drop k xs) (bits_of_bytes right))) (length-bits_of_bytes left)
 
-  sum_of_halves : (xs : List G) (half : ℕ) (left right : List ℕ) → pedersen_sum g xs (bits_of_bytes (joined_halves half left right)) ≡ g.plus (pedersen_sum g xs (bits_of_bytes left)) (pedersen_sum g (drop (8 * length left) xs) (bits_of_bytes right))
+  sum_of_halves : (xs : List G) (half : ℕ) (left right : List ℕ) → pedersen_sum g xs (bits_of_bytes (full_halves half left right)) ≡ g.plus (pedersen_sum g xs (bits_of_bytes left)) (pedersen_sum g (drop (8 * length left) xs) (bits_of_bytes right))
   sum_of_halves xs half left right =
       let n = 2 * half / 8 - length (left ++ right) in
       sum_of_two xs (left ++ right) (replicate n 0)
@@ -47,17 +49,23 @@ module _ {G : Type 0} {g : Group G} (laws : IsCommutativeGroup g) where
       ∙ sum_of_two xs left right
 
   -- halves that fit are summed, left and then right behind it
-  pub of_halves-sum : (count size : ℕ) (lists : List (List G)) (left right : List ℕ) → length left ≡ length right → length left ≤ size * count / 2 / 8 → has_shape count size lists ≡ true
-      → of_halves (size * count) (pedersen_hash g count size lists) left right ≡ Ok (g.plus (pedersen_sum g (joined lists) (bits_of_bytes left)) (pedersen_sum g (drop (8 * length left) (joined lists)) (bits_of_bytes right)))
-  of_halves-sum count size lists left right same short shape =
-      let bits = size * count in
-      let whole = joined_halves (bits / 2) left right in
-      let hash : Outcome G = pedersen_hash g count size lists whole in
+  pub of_halves-sum : {W : Type 0} (windows : Windows W) (lists : List (List G)) (left right : List ℕ)
+      → length left ≡ length right → length left ≤ capacity windows / 2 / 8 → has_shape windows.NUM_WINDOWS windows.WINDOW_SIZE lists ≡ true
+      → of_halves windows (pedersen_hash g windows lists) left right
+      ≡ Ok (g.plus (sum_from g 0 lists (bits_of_bytes left)) (sum_from g (8 * length left) lists (bits_of_bytes right)))
+  of_halves-sum windows lists left right same short shape =
+      let bits = capacity windows in
+      let whole = full_halves (bits / 2) left right in
+      let hash : Outcome G = pedersen_hash g windows lists whole in
       let long : Outcome G = Err (IncorrectInputLength (length left)) in
       let unequal : Outcome G = Err (IncorrectInputLength (length right)) in
-      let fits : ltb bits (8 * length whole) ≡ false = le-ltb _ _ (omega (arith, length-joined_halves (bits / 2) left right same (omega arith))) in
+      let too_long : Outcome G = Err (IncorrectInputLength (length whole)) in
+      let shapeless : Outcome G = Err (GenericError ParameterShape) in
+      let sum : Outcome G = Ok (pedersen_sum g (concatenation lists) (bits_of_bytes whole)) in
+      let shaped = has_shape windows.NUM_WINDOWS windows.WINDOW_SIZE lists in
+      let fits : ltb bits (8 * length whole) ≡ false = le-ltb _ _ (omega (arith, length-full_halves (bits / 2) left right same (omega arith))) in
       ap (λ (b : Bool). cond b (cond (ltb (bits / 2) (8 * length left)) long hash) unequal) (eq-eqb _ _ same)
       ∙ ap (λ (b : Bool). cond b long hash) (le-ltb _ _ (omega arith))
-      ∙ ap (λ (b : Bool). let o : Outcome G = cond b (Err (IncorrectInputLength (length whole))) (cond (has_shape count size lists) (Ok (pedersen_sum g (joined lists) (bits_of_bytes whole))) (Err (GenericError ParameterShape))) in o) fits
-      ∙ ap (λ (b : Bool). let o : Outcome G = cond b (Ok (pedersen_sum g (joined lists) (bits_of_bytes whole))) (Err (GenericError ParameterShape)) in o) shape
-      ∙ ap (λ (x : G). let o : Outcome G = Ok x in o) (sum_of_halves (joined lists) (bits / 2) left right)
+      ∙ ap (λ (b : Bool). cond b too_long (cond shaped sum shapeless)) fits
+      ∙ ap (λ (b : Bool). cond b sum shapeless) shape
+      ∙ ap (λ (x : G). let o : Outcome G = Ok x in o) (sum_of_halves (concatenation lists) (bits / 2) left right)

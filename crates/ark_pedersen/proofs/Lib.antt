@@ -1,4 +1,5 @@
 pub mod BitSums
+pub mod Copies
 pub mod Halves
 pub mod PedersenSums
 pub mod Shapes

@@ -2,7 +2,7 @@
 use Rattle.std.proofs.Common.{◌≡◌, ℕ, zero, suc, ◌+◌, ◌*◌, Bool, true, false, ◌&&◌, ◌||◌, List, [], ◌∷◌, ◌++◌, length, take, drop, map, refl, sym, ap, ◌∙◌, arith}
 use Rattle.ark_groups.specs.Group.{Group, IsCommutativeGroup, times}
 use Rattle.ark_groups.proofs.Multiples.{times_at, times-plus, times-add}
-use Rattle.ark_pedersen.specs.Pedersen.{number_of_bits, union, AreDisjoint, pedersen_sum, doublings, windows_sum, joined}
+use Rattle.ark_pedersen.specs.Pedersen.{number_of_bits, union, AreDisjoint, pedersen_sum, doublings, windows_sum, concatenation}
 
 pub length-doublings : {G : Type 0} (g : Group G) (count : ℕ) (x : G) → length (doublings g count x) ≡ count
 unfolding doublings
@@ -68,15 +68,15 @@ module _ {G : Type 0} {g : Group G} (laws : IsCommutativeGroup g) where
           h ∙ times_at laws {m = n + n} {n = 0 + 2 * n} x (omega arith)
 
   -- over elements with their doublings, the sum is that of the windows
-  pub pedersen_sum-windows : (size : ℕ) (elements : List G) (bits : List Bool) → pedersen_sum g (joined (map (doublings g size) elements)) bits ≡ windows_sum g size elements bits
+  pub pedersen_sum-windows : (size : ℕ) (elements : List G) (bits : List Bool) → pedersen_sum g (concatenation (map (doublings g size) elements)) bits ≡ windows_sum g size elements bits
   unfolding pedersen_sum windows_sum
   pedersen_sum-windows size [] bits = refl
   pedersen_sum-windows size (x ∷ elements) bits =
       let here = doublings g size x in
       let long : length here ≡ size = length-doublings g size x in
-      pedersen_sum-append here (joined (map (doublings g size) elements)) bits
-      ∙ ap (λ (n : ℕ). g.plus (pedersen_sum g here (take n bits)) (pedersen_sum g (joined (map (doublings g size) elements)) (drop n bits))) long
-      ∙ ap (λ (s : G). g.plus s (pedersen_sum g (joined (map (doublings g size) elements)) (drop size bits))) (pedersen_sum-doublings size x (take size bits) ∙ ap (λ (t : List Bool). times g (number_of_bits t) x) (take-take size bits))
+      pedersen_sum-append here (concatenation (map (doublings g size) elements)) bits
+      ∙ ap (λ (n : ℕ). g.plus (pedersen_sum g here (take n bits)) (pedersen_sum g (concatenation (map (doublings g size) elements)) (drop n bits))) long
+      ∙ ap (λ (s : G). g.plus s (pedersen_sum g (concatenation (map (doublings g size) elements)) (drop size bits))) (pedersen_sum-doublings size x (take size bits) ∙ ap (λ (t : List Bool). times g (number_of_bits t) x) (take-take size bits))
       ∙ ap (g.plus (times g (number_of_bits (take size bits)) x)) (pedersen_sum-windows size elements (drop size bits))
     where
       take-take : (n : ℕ) (bits : List Bool) → take n (take n bits) ≡ take n bits

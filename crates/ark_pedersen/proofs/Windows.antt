@@ -7,7 +7,8 @@ use Rattle.ark_base.specs.Outcome.{Outcome}
 use Rattle.ark_base.specs.declared.error.Error.TheVariants.{IncorrectInputLength, GenericError}
 use Rattle.ark_base.specs.declared.error.Refusal.TheVariants.{ParameterShape}
 use Rattle.ark_groups.specs.Group.{Group, IsCommutativeGroup}
-use Rattle.ark_pedersen.specs.Pedersen.{bits_of_bytes, pedersen_sum, doublings, joined, has_shape, AreWindows, pedersen_hash, windows_hash}
+use Rattle.ark_pedersen.specs.Pedersen.{bits_of_bytes, pedersen_sum, doublings, capacity, concatenation, has_shape, AreGeneratorsOf, pedersen_hash, windows_hash}
+use Rattle.ark_pedersen.specs.declared.window.Window.{Ghosts as Windows}
 use Rattle.ark_pedersen.proofs.PedersenSums.{length-doublings, pedersen_sum-windows}
 
 module _ {G : Type 0} (g : Group G) where
@@ -20,15 +21,23 @@ module _ {G : Type 0} (g : Group G) where
   windows_have_shape count size elements long =
       ap (λ (b : Bool). b && list_all (λ list. eqb (length list) size) (map (doublings g size) elements)) (eq-eqb _ _ (length-map elements (doublings g size) ∙ long)) ∙ lists_are_long size elements
 
+  -- the lists so far are those of so many elements, some or other
+  abbrev pub AreSoFar : ℕ → ℕ → List (List G) → Type 0
+  AreSoFar count size lists = (elements : List G) × (length elements ≡ count) × (lists ≡ map (doublings g size) elements)
+
   -- the hash is the sum over the windows
-  pub pedersen_hash-windows : IsCommutativeGroup g → (count size : ℕ) (elements : List G) (lists : List (List G)) (input : List ℕ) → length elements ≡ count → AreWindows g size elements lists
-      → pedersen_hash g count size lists input ≡ windows_hash g count size elements input
-  pedersen_hash-windows laws count size elements lists input long are =
+  pub pedersen_hash-windows : {W : Type 0} (windows : Windows W) (elements : List G) (lists : List (List G)) (input : List ℕ)
+      → IsCommutativeGroup g → AreGeneratorsOf g windows elements lists → pedersen_hash g windows lists input ≡ windows_hash g windows elements input
+  pedersen_hash-windows windows elements lists input laws are =
+      let size = windows.WINDOW_SIZE in
+      let bits = bits_of_bytes input in
       let all = map (doublings g size) elements in
-      ap (λ (l : List (List G)). pedersen_hash g count size l input) are
-      ∙ by_test (nat_lt (size * count) (8 * length input))
-      (ap (λ (b : Bool). let o : Outcome G = cond b (Ok (pedersen_sum g (joined all) (bits_of_bytes input))) (Err (GenericError ParameterShape)) in o) (windows_have_shape count size elements long)
-      ∙ ap (λ (x : G). let o : Outcome G = Ok x in o) (pedersen_sum-windows laws size elements (bits_of_bytes input)))
+      let sum : Outcome G = Ok (pedersen_sum g (concatenation all) bits) in
+      let shapeless : Outcome G = Err (GenericError ParameterShape) in
+      ap (λ (l : List (List G)). pedersen_hash g windows l input) are.1
+      ∙ by_test (nat_lt (capacity windows) (8 * length input))
+      (ap (λ (b : Bool). cond b sum shapeless) (windows_have_shape windows.NUM_WINDOWS size elements are.0)
+      ∙ ap (λ (x : G). let o : Outcome G = Ok x in o) (pedersen_sum-windows laws size elements bits))
     where
       by_test : {x y : Outcome G} (b : Bool) → x ≡ y → cond b (Err (IncorrectInputLength (length input))) x ≡ cond b (Err (IncorrectInputLength (length input))) y
       by_test true e = refl

@@ -1,13 +1,14 @@
 //! The Pedersen hash of one input.
 
-ghost use Rattle.std.specs.Prelude.{◌≡◌, ℕ, ◌*◌, ◌<◌, ◌^◌, List, length, map, Ok, IfOk, IfErr};
-ghost use Rattle.ark_pedersen.specs.Pedersen.{doublings, AreWindows, AreGenerators, pedersen_hash, windows_hash, seen_by};
+ghost use Rattle.std.specs.Prelude.{◌≡◌, ℕ, List, Ok, IfOk, IfErr};
+ghost use Rattle.ark_pedersen.specs.Pedersen.{lists_in, generators_in, doublings, AreGeneratorsOf, AreGenerators};
+ghost use Rattle.ark_pedersen.specs.Pedersen.{pedersen_hash, windows_hash, seen_by};
 
 use crate::parameters::Parameters;
 use crate::sums::hash_bytes;
 use crate::window::Window;
 use ark_base::error::Error;
-use ark_base::serialize::{DigestItem, Duplicate};
+use ark_base::serialize::DigestItem;
 use ark_crh::CRHScheme;
 use ark_groups::ec::CurveGroup;
 use rand::Rng;
@@ -23,7 +24,7 @@ pub struct CRH<C: CurveGroup, W: Window> {
 impl<C: CurveGroup, W: Window> CRH<C, W> {
     /// A list for each window: an element that is drawn, then its doublings. The only refusal is `OutOfMemory`.
     pub fn create_generators<R: Rng>(alloc: Global, rng: &mut R) -> Result<Vec<Vec<C>>, Error>
-        ensures made { IfOk result (λ lists. AreGenerators C.group W.NUM_WINDOWS W.WINDOW_SIZE (map (λ list. list.items) lists.items)) }
+        ensures made { IfOk result (λ made. AreGenerators C.group W.Window (lists_in made.items)) }
         ensures refused { IfErr result (λ error. error ≡ Error.OutOfMemory) }
     {
         let mut lists = Vec::with_capacity(alloc, W::NUM_WINDOWS)?;
@@ -39,7 +40,7 @@ impl<C: CurveGroup, W: Window> CRH<C, W> {
         count: usize,
         rng: &mut R,
     ) -> Result<Vec<C>, Error>
-        ensures made { IfOk result (λ list. (element : C) × (list.items ≡ doublings C.group count element)) }
+        ensures made { IfOk result (λ list. (x : C) × (list.items ≡ doublings C.group count x)) }
         ensures refused { IfErr result (λ error. error ≡ Error.OutOfMemory) }
     {
         let mut list = Vec::with_capacity(alloc, count)?;
@@ -62,11 +63,12 @@ impl<C: CurveGroup + DigestItem, W: Window> CRHScheme for CRH<C, W> {
 
     type Parameters = Parameters<C>;
 
-    ghost meaning = { λ parameters input. seen_by C.numbers (pedersen_hash C.group W.NUM_WINDOWS W.WINDOW_SIZE (⟦<Parameters<C> as Duplicate>⟧.seen parameters) input.items) };
+    ghost meaning = { λ parameters input.
+        seen_by C.numbers (pedersen_hash C.group W.Window (generators_in parameters) input.items) };
 
     ghost setup_outcome = { Ok tt };
 
-    ghost is_made = { λ parameters. AreGenerators C.group W.NUM_WINDOWS W.WINDOW_SIZE (⟦<Parameters<C> as Duplicate>⟧.seen parameters) };
+    ghost is_made = { λ parameters. AreGenerators C.group W.Window (generators_in parameters) };
 
     /// Parameters of generators as `create_generators` makes them.
     fn setup<R: Rng>(alloc: Global, rng: &mut R) -> Result<Parameters<C>, Error> {
@@ -80,18 +82,24 @@ impl<C: CurveGroup + DigestItem, W: Window> CRHScheme for CRH<C, W> {
     /// Refusals: `IncorrectInputLength` with the input's bytes, where these have more bits than the windows;
     /// `ParameterShape`, where the generators are not a list for each window with an element for each of its bits.
     fn evaluate(_alloc: Global, parameters: &Parameters<C>, input: &Vec<u8>) -> Result<C, Error>
-        ensures exact { result ≡ pedersen_hash C.group W.NUM_WINDOWS W.WINDOW_SIZE (⟦<Parameters<C> as Duplicate>⟧.seen parameters.now) input.now.items }
+        ensures exact { let lists = generators_in parameters.now in
+            result ≡ pedersen_hash C.group W.Window lists input.now.items }
 
         // Where the generators are those of elements, the sum over the windows of the window's number times its element.
-        ensures windows { (elements : List C) → length elements ≡ W.NUM_WINDOWS → AreWindows C.group W.WINDOW_SIZE elements (⟦<Parameters<C> as Duplicate>⟧.seen parameters.now)
-            → result ≡ windows_hash C.group W.NUM_WINDOWS W.WINDOW_SIZE elements input.now.items }
+        ensures windows { let lists = generators_in parameters.now in
+            (elements : List C) → AreGeneratorsOf C.group W.Window elements lists
+            → result ≡ windows_hash C.group W.Window elements input.now.items }
     {
         hash_bytes::<C, W>(&parameters.generators, input)
     }
 
-    ghost meaning_decided = { λ parameters input. seen-decided C.numbers _ (pedersen-decided C.group W.NUM_WINDOWS W.WINDOW_SIZE (⟦<Parameters<C> as Duplicate>⟧.seen parameters) input.items) };
+    ghost meaning_decided = { λ parameters input.
+        seen-decided C.numbers _
+        (pedersen-decided C.group W.Window (generators_in parameters) input.items) };
 
     ghost setup_decided = { tt };
 
-    ghost same_parameters = { λ p q same. ap (λ lists input. seen_by C.numbers (pedersen_hash C.group W.NUM_WINDOWS W.WINDOW_SIZE lists input.items)) same };
+    ghost same_parameters = { λ p q same.
+        ap (λ lists input. seen_by C.numbers
+        (pedersen_hash C.group W.Window lists input.items)) same };
 }

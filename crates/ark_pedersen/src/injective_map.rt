@@ -1,9 +1,9 @@
 //! Pedersen hashes whose digest is the image of an element under a map.
 
-ghost use Rattle.std.specs.Prelude.{◌≡◌, ℕ, ◌*◌, List, Ok, IsOkAnd};
+ghost use Rattle.std.specs.Prelude.{◌≡◌, ℕ, List, Ok, IsOkAnd};
 ghost use Rattle.ark_base.specs.Outcome.{Outcome, AnswersBy, IsDecided};
 ghost use Rattle.ark_base.specs.Digits.{bytes_for, bytes_of_number};
-ghost use Rattle.ark_pedersen.specs.Pedersen.{AreGenerators, pedersen_hash, of_halves, seen_by, image_of};
+ghost use Rattle.ark_pedersen.specs.Pedersen.{generators_in, AreGenerators, pedersen_hash, of_halves, seen_image};
 
 #[cfg(test)]
 mod tests;
@@ -30,7 +30,9 @@ pub trait InjectiveMap<C> {
     ///
     /// Refusals: those of `mapped`, which never are want of memory; `OutOfMemory`.
     fn injective_map(alloc: Global, ge: &C) -> Result<Self::Output, Error>
-        ensures { AnswersBy (λ image. Self.Output.spelling (Self.Output.view image)) (mapped ge.now) result };
+        ensures { let bytes : Self.Output → List ℕ =
+            λ image. Self.Output.spelling (Self.Output.view image) in
+            AnswersBy bytes (mapped ge.now) result };
 
     ghost mapped_decided: { (x : C) → IsDecided (mapped x) };
 }
@@ -64,7 +66,7 @@ where
     I::Output: DigestItem,
 {
     ghost use Rattle.std.proofs.Common.{ap};
-    ghost use Rattle.ark_pedersen.specs.Laws.Pedersen.{seen-decided, image-decided, pedersen-decided};
+    ghost use Rattle.ark_pedersen.specs.Laws.Pedersen.{seen_image-decided, pedersen-decided};
 
     type Input = Vec<u8>;
 
@@ -72,11 +74,13 @@ where
 
     type Parameters = Parameters<C>;
 
-    ghost meaning = { λ parameters input. seen_by I.Output.numbers_of (image_of I.mapped (pedersen_hash C.group W.NUM_WINDOWS W.WINDOW_SIZE (⟦<Parameters<C> as Duplicate>⟧.seen parameters) input.items)) };
+    ghost meaning = { λ parameters input.
+        let hash = pedersen_hash C.group W.Window (generators_in parameters) input.items in
+        seen_image I.Output.numbers_of I.mapped hash };
 
     ghost setup_outcome = { Ok tt };
 
-    ghost is_made = { λ parameters. AreGenerators C.group W.NUM_WINDOWS W.WINDOW_SIZE (⟦<Parameters<C> as Duplicate>⟧.seen parameters) };
+    ghost is_made = { λ parameters. AreGenerators C.group W.Window (generators_in parameters) };
 
     /// As `pedersen::CRH::setup`.
     fn setup<R: Rng>(alloc: Global, rng: &mut R) -> Result<Parameters<C>, Error> {
@@ -97,11 +101,15 @@ where
         I::injective_map(alloc, &hash)
     }
 
-    ghost meaning_decided = { λ parameters input. seen-decided I.Output.numbers_of _ (image-decided I.mapped _ I.mapped_decided (pedersen-decided C.group W.NUM_WINDOWS W.WINDOW_SIZE (⟦<Parameters<C> as Duplicate>⟧.seen parameters) input.items)) };
+    ghost meaning_decided = { λ parameters input.
+        seen_image-decided I.Output.numbers_of I.mapped _ I.mapped_decided
+        (pedersen-decided C.group W.Window (generators_in parameters) input.items) };
 
     ghost setup_decided = { tt };
 
-    ghost same_parameters = { λ p q same. ap (λ lists input. seen_by I.Output.numbers_of (image_of I.mapped (pedersen_hash C.group W.NUM_WINDOWS W.WINDOW_SIZE lists input.items))) same };
+    ghost same_parameters = { λ p q same.
+        ap (λ lists input. seen_image I.Output.numbers_of I.mapped
+        (pedersen_hash C.group W.Window lists input.items)) same };
 }
 
 /// The map after the Pedersen hash of two inputs.
@@ -116,7 +124,7 @@ where
     I::Output: DigestItem,
 {
     ghost use Rattle.std.proofs.Common.{ap};
-    ghost use Rattle.ark_pedersen.specs.Laws.Pedersen.{seen-decided, image-decided, halves-decided};
+    ghost use Rattle.ark_pedersen.specs.Laws.Pedersen.{seen_image-decided, halves-decided};
 
     type Input = Vec<u8>;
 
@@ -124,13 +132,18 @@ where
 
     type Parameters = Parameters<C>;
 
-    ghost evaluated = { λ parameters left right. seen_by I.Output.numbers_of (image_of I.mapped (of_halves (W.WINDOW_SIZE * W.NUM_WINDOWS) (pedersen_hash C.group W.NUM_WINDOWS W.WINDOW_SIZE (⟦<Parameters<C> as Duplicate>⟧.seen parameters)) left right)) };
+    ghost evaluated = { λ parameters left right.
+        let hash = pedersen_hash C.group W.Window (generators_in parameters) in
+        seen_image I.Output.numbers_of I.mapped (of_halves W.Window hash left right) };
 
-    ghost compressed = { λ parameters left right. seen_by I.Output.numbers_of (image_of I.mapped (of_halves (W.WINDOW_SIZE * W.NUM_WINDOWS) (pedersen_hash C.group W.NUM_WINDOWS W.WINDOW_SIZE (⟦<Parameters<C> as Duplicate>⟧.seen parameters)) (I.Output.bytes_of left) (I.Output.bytes_of right))) };
+    ghost compressed = { λ parameters left right.
+        let hash = pedersen_hash C.group W.Window (generators_in parameters) in
+        let whole = of_halves W.Window hash (I.Output.bytes_of left) (I.Output.bytes_of right) in
+        seen_image I.Output.numbers_of I.mapped whole };
 
     ghost setup_outcome = { Ok tt };
 
-    ghost is_made = { λ parameters. AreGenerators C.group W.NUM_WINDOWS W.WINDOW_SIZE (⟦<Parameters<C> as Duplicate>⟧.seen parameters) };
+    ghost is_made = { λ parameters. AreGenerators C.group W.Window (generators_in parameters) };
 
     /// As `pedersen::TwoToOneCRH::setup`.
     fn setup<R: Rng>(alloc: Global, rng: &mut R) -> Result<Parameters<C>, Error> {
@@ -167,13 +180,23 @@ where
         I::injective_map(alloc, &hash)
     }
 
-    ghost evaluated_decided = { λ parameters left right. seen-decided I.Output.numbers_of _ (image-decided I.mapped _ I.mapped_decided (halves-decided C.group W.NUM_WINDOWS W.WINDOW_SIZE (⟦<Parameters<C> as Duplicate>⟧.seen parameters) left right)) };
+    ghost evaluated_decided = { λ parameters left right.
+        seen_image-decided I.Output.numbers_of I.mapped _ I.mapped_decided
+        (halves-decided C.group W.Window (generators_in parameters) left right) };
 
-    ghost compressed_decided = { λ parameters left right. seen-decided I.Output.numbers_of _ (image-decided I.mapped _ I.mapped_decided (halves-decided C.group W.NUM_WINDOWS W.WINDOW_SIZE (⟦<Parameters<C> as Duplicate>⟧.seen parameters) (I.Output.bytes_of left) (I.Output.bytes_of right))) };
+    ghost compressed_decided = { λ parameters left right.
+        seen_image-decided I.Output.numbers_of I.mapped _ I.mapped_decided
+        (halves-decided C.group W.Window (generators_in parameters)
+        (I.Output.bytes_of left) (I.Output.bytes_of right)) };
 
     ghost setup_decided = { tt };
 
-    ghost evaluated_same = { λ p q same. ap (λ lists left right. seen_by I.Output.numbers_of (image_of I.mapped (of_halves (W.WINDOW_SIZE * W.NUM_WINDOWS) (pedersen_hash C.group W.NUM_WINDOWS W.WINDOW_SIZE lists) left right))) same };
+    ghost evaluated_same = { λ p q same.
+        ap (λ lists left right. seen_image I.Output.numbers_of I.mapped
+        (of_halves W.Window (pedersen_hash C.group W.Window lists) left right)) same };
 
-    ghost compressed_same = { λ p q same. ap (λ lists left right. seen_by I.Output.numbers_of (image_of I.mapped (of_halves (W.WINDOW_SIZE * W.NUM_WINDOWS) (pedersen_hash C.group W.NUM_WINDOWS W.WINDOW_SIZE lists) (I.Output.bytes_of left) (I.Output.bytes_of right)))) same };
+    ghost compressed_same = { λ p q same.
+        ap (λ lists left right. seen_image I.Output.numbers_of I.mapped
+        (of_halves W.Window (pedersen_hash C.group W.Window lists)
+        (I.Output.bytes_of left) (I.Output.bytes_of right))) same };
 }

@@ -1,6 +1,7 @@
 //! The generators of a Pedersen hash.
 
-ghost use Rattle.std.specs.Prelude.{List, map};
+ghost use Rattle.std.specs.Prelude.{List};
+ghost use Rattle.ark_pedersen.specs.Pedersen.{generators_in};
 
 use ark_base::error::Error;
 use ark_base::serialize::{Canonical, CanonicalDeserialize, CanonicalSerialize, Duplicate};
@@ -17,7 +18,7 @@ pub struct Parameters<C: CurveGroup> {
 impl<C: CurveGroup> Duplicate for Parameters<C> {
     ghost Data = { List (List C) };
 
-    ghost seen = { λ parameters. map (λ list. list.items) parameters.generators.items };
+    ghost seen = { generators_in };
 
     fn duplicate(&self, _alloc: Global) -> Result<Parameters<C>, Error> {
         let generators = self.generators.clone()?;

@@ -1,7 +1,8 @@
 //! The sum of the generators at the set bits of an input.
 
-ghost use Rattle.std.specs.Prelude.{◌≡◌, ◌+◌, ◌*◌, ◌-◌, ◌<◌, ◌≤◌, ◌^◌, length, map, drop, IsTrue};
-ghost use Rattle.ark_pedersen.specs.Pedersen.{bits_of_number, bits_of_bytes, pedersen_sum, joined, has_shape, pedersen_hash, of_halves};
+ghost use Rattle.std.specs.Prelude.{◌≡◌, ◌+◌, ◌*◌, ◌-◌, ◌<◌, ◌≤◌, ◌^◌, length, IsTrue};
+ghost use Rattle.ark_pedersen.specs.Pedersen.{bits_of_number, bits_of_bytes, capacity, lists_in, has_shape};
+ghost use Rattle.ark_pedersen.specs.Pedersen.{sum_from, pedersen_hash, of_halves};
 
 use crate::Window;
 use ark_base::error::{Error, Refusal};
@@ -13,7 +14,7 @@ use ark_groups::ec::CurveGroup;
 /// Refusals: `IncorrectInputLength` with the input's bytes, where these have more bits than the windows;
 /// `ParameterShape`, where the generators are not a list for each window with an element for each of its bits.
 pub fn hash_bytes<C: CurveGroup, W: Window>(generators: &[Vec<C>], input: &[u8]) -> Result<C, Error>
-    ensures { result ≡ pedersen_hash C.group W.NUM_WINDOWS W.WINDOW_SIZE (map (λ list. list.items) generators.now) input.now }
+    ensures { result ≡ pedersen_hash C.group W.Window (lists_in generators.now) input.now }
 {
     if input.len() > W::WINDOW_SIZE * W::NUM_WINDOWS / 8 {
         return Err(Error::IncorrectInputLength(input.len()));
@@ -33,7 +34,8 @@ pub fn hash_halves<C: CurveGroup, W: Window>(
     left: &[u8],
     right: &[u8],
 ) -> Result<C, Error>
-    ensures { result ≡ of_halves (W.WINDOW_SIZE * W.NUM_WINDOWS) (pedersen_hash C.group W.NUM_WINDOWS W.WINDOW_SIZE (map (λ list. list.items) generators.now)) left.now right.now }
+    ensures { let hash = pedersen_hash C.group W.Window (lists_in generators.now) in
+        result ≡ of_halves W.Window hash left.now right.now }
 {
     if left.len() != right.len() {
         return Err(Error::IncorrectInputLength(right.len()));
@@ -50,23 +52,24 @@ pub fn hash_halves<C: CurveGroup, W: Window>(
 
 // Whether there is a list for each window, with an element for each of its bits.
 fn has_shape<C: CurveGroup, W: Window>(generators: &[Vec<C>]) -> bool
-    ensures { result ≡ has_shape W.NUM_WINDOWS W.WINDOW_SIZE (map (λ list. list.items) generators.now) }
+    ensures { result ≡ has_shape W.NUM_WINDOWS W.WINDOW_SIZE (lists_in generators.now) }
 {
     generators.len() == W::NUM_WINDOWS && generators.iter().all(|list| list.len() == W::WINDOW_SIZE)
 }
 
 // The sum with the generators at the set bits of bytes, whose lowest bit stands at this place.
 fn add_bytes<C: CurveGroup, W: Window>(
-    sum: C,
+    mut sum: C,
     generators: &[Vec<C>],
     first: usize,
     bytes: &[u8],
 ) -> C
-    requires shape { IsTrue (has_shape W.NUM_WINDOWS W.WINDOW_SIZE (map (λ list. list.items) generators.now)) }
-    requires fits { first + 8 * length bytes.now ≤ W.WINDOW_SIZE * W.NUM_WINDOWS }
-    ensures { result ≡ C.group.plus sum (pedersen_sum C.group (drop first (joined (map (λ list. list.items) generators.now))) (bits_of_bytes bytes.now)) }
+    requires shape { IsTrue (has_shape W.NUM_WINDOWS W.WINDOW_SIZE (lists_in generators.now)) }
+    requires fits { first + 8 * length bytes.now ≤ capacity W.Window }
+    ensures { let lists = lists_in generators.now in
+        let more = sum_from C.group first lists (bits_of_bytes bytes.now) in
+        result ≡ C.group.plus sum more }
 {
-    let mut sum = sum;
     let mut start = 0;
     while start < bytes.len() {
         let end = start + (bytes.len() - start).min(8);
@@ -78,18 +81,23 @@ fn add_bytes<C: CurveGroup, W: Window>(
 }
 
 // The sum with the generators at the set bits of a word, whose lowest bit stands at this place.
-fn add_word<C: CurveGroup, W: Window>(sum: C, generators: &[Vec<C>], first: usize, word: u64) -> C
-    requires shape { IsTrue (has_shape W.NUM_WINDOWS W.WINDOW_SIZE (map (λ list. list.items) generators.now)) }
-    requires first_in { first ≤ W.WINDOW_SIZE * W.NUM_WINDOWS }
-    requires fits { word < 2 ^ (W.WINDOW_SIZE * W.NUM_WINDOWS - first) }
-    ensures { result ≡ C.group.plus sum (pedersen_sum C.group (drop first (joined (map (λ list. list.items) generators.now))) (bits_of_number 64 word)) }
+fn add_word<C: CurveGroup, W: Window>(
+    mut sum: C,
+    generators: &[Vec<C>],
+    first: usize,
+    mut word: u64,
+) -> C
+    requires shape { IsTrue (has_shape W.NUM_WINDOWS W.WINDOW_SIZE (lists_in generators.now)) }
+    requires first_in { first ≤ capacity W.Window }
+    requires fits { word < 2 ^ (capacity W.Window - first) }
+    ensures { let lists = lists_in generators.now in
+        let more = sum_from C.group first lists (bits_of_number 64 word) in
+        result ≡ C.group.plus sum more }
 {
-    let mut sum = sum;
-    let mut rest = word;
-    while rest > 0 {
-        let place = first + rest.trailing_zeros() as usize;
+    while word > 0 {
+        let place = first + word.trailing_zeros() as usize;
         sum = sum.add(generators[place / W::WINDOW_SIZE][place % W::WINDOW_SIZE]);
-        rest &= rest - 1;
+        word &= word - 1;
     }
     sum
 }

@@ -1,8 +1,9 @@
 //! The Pedersen hash of two inputs.
 
-ghost use Rattle.std.specs.Prelude.{◌≡◌, ◌*◌, List, length, map, Ok, IfOk, IfErr};
+ghost use Rattle.std.specs.Prelude.{◌≡◌, ℕ, List, Ok, IfOk, IfErr};
 ghost use Rattle.ark_base.specs.Outcome.{Answers};
-ghost use Rattle.ark_pedersen.specs.Pedersen.{doublings, AreWindows, AreGenerators, pedersen_hash, windows_hash, of_halves, seen_by};
+ghost use Rattle.ark_pedersen.specs.Pedersen.{lists_in, generators_in, doublings, AreGeneratorsOf, AreGenerators};
+ghost use Rattle.ark_pedersen.specs.Pedersen.{pedersen_hash, windows_hash, of_halves, seen_by};
 
 use crate::{CRH, Parameters, Window, hash_halves};
 use ark_base::error::Error;
@@ -22,7 +23,7 @@ pub struct TwoToOneCRH<C: CurveGroup, W: Window> {
 impl<C: CurveGroup, W: Window> TwoToOneCRH<C, W> {
     /// As `CRH::create_generators`.
     pub fn create_generators<R: Rng>(alloc: Global, rng: &mut R) -> Result<Vec<Vec<C>>, Error>
-        ensures made { IfOk result (λ lists. AreGenerators C.group W.NUM_WINDOWS W.WINDOW_SIZE (map (λ list. list.items) lists.items)) }
+        ensures made { IfOk result (λ made. AreGenerators C.group W.Window (lists_in made.items)) }
         ensures refused { IfErr result (λ error. error ≡ Error.OutOfMemory) }
     {
         CRH::<C, W>::create_generators(alloc, rng)
@@ -34,7 +35,7 @@ impl<C: CurveGroup, W: Window> TwoToOneCRH<C, W> {
         count: usize,
         rng: &mut R,
     ) -> Result<Vec<C>, Error>
-        ensures made { IfOk result (λ list. (element : C) × (list.items ≡ doublings C.group count element)) }
+        ensures made { IfOk result (λ list. (x : C) × (list.items ≡ doublings C.group count x)) }
         ensures refused { IfErr result (λ error. error ≡ Error.OutOfMemory) }
     {
         CRH::<C, W>::generator_powers(alloc, count, rng)
@@ -51,13 +52,17 @@ impl<C: CurveGroup + DigestItem, W: Window> TwoToOneCRHScheme for TwoToOneCRH<C,
 
     type Parameters = Parameters<C>;
 
-    ghost evaluated = { λ parameters left right. seen_by C.numbers (of_halves (W.WINDOW_SIZE * W.NUM_WINDOWS) (pedersen_hash C.group W.NUM_WINDOWS W.WINDOW_SIZE (⟦<Parameters<C> as Duplicate>⟧.seen parameters)) left right) };
+    ghost evaluated = { λ parameters left right.
+        let hash = pedersen_hash C.group W.Window (generators_in parameters) in
+        seen_by C.numbers (of_halves W.Window hash left right) };
 
-    ghost compressed = { λ parameters left right. seen_by C.numbers (of_halves (W.WINDOW_SIZE * W.NUM_WINDOWS) (pedersen_hash C.group W.NUM_WINDOWS W.WINDOW_SIZE (⟦<Parameters<C> as Duplicate>⟧.seen parameters)) (C.bytes_of left) (C.bytes_of right)) };
+    ghost compressed = { λ parameters left right.
+        let hash = pedersen_hash C.group W.Window (generators_in parameters) in
+        seen_by C.numbers (of_halves W.Window hash (C.bytes_of left) (C.bytes_of right)) };
 
     ghost setup_outcome = { Ok tt };
 
-    ghost is_made = { λ parameters. AreGenerators C.group W.NUM_WINDOWS W.WINDOW_SIZE (⟦<Parameters<C> as Duplicate>⟧.seen parameters) };
+    ghost is_made = { λ parameters. AreGenerators C.group W.Window (generators_in parameters) };
 
     /// As `CRH::setup`.
     fn setup<R: Rng>(alloc: Global, rng: &mut R) -> Result<Parameters<C>, Error> {
@@ -75,11 +80,14 @@ impl<C: CurveGroup + DigestItem, W: Window> TwoToOneCRHScheme for TwoToOneCRH<C,
         left: &Vec<u8>,
         right: &Vec<u8>,
     ) -> Result<C, Error>
-        ensures exact { result ≡ of_halves (W.WINDOW_SIZE * W.NUM_WINDOWS) (pedersen_hash C.group W.NUM_WINDOWS W.WINDOW_SIZE (⟦<Parameters<C> as Duplicate>⟧.seen parameters.now)) left.now.items right.now.items }
+        ensures exact { let hash = pedersen_hash C.group W.Window (generators_in parameters.now) in
+            result ≡ of_halves W.Window hash left.now.items right.now.items }
 
         // Where the generators are those of elements, by the sum over the windows of the window's number times its element.
-        ensures windows { (elements : List C) → length elements ≡ W.NUM_WINDOWS → AreWindows C.group W.WINDOW_SIZE elements (⟦<Parameters<C> as Duplicate>⟧.seen parameters.now)
-            → result ≡ of_halves (W.WINDOW_SIZE * W.NUM_WINDOWS) (windows_hash C.group W.NUM_WINDOWS W.WINDOW_SIZE elements) left.now.items right.now.items }
+        ensures windows { let lists = generators_in parameters.now in
+            (elements : List C) → AreGeneratorsOf C.group W.Window elements lists
+            → let hash = windows_hash C.group W.Window elements in
+            result ≡ of_halves W.Window hash left.now.items right.now.items }
     {
         hash_halves::<C, W>(&parameters.generators, left, right)
     }
@@ -88,20 +96,32 @@ impl<C: CurveGroup + DigestItem, W: Window> TwoToOneCRHScheme for TwoToOneCRH<C,
     ///
     /// Refusals: those of `evaluate`; `OutOfMemory`.
     fn compress(alloc: Global, parameters: &Parameters<C>, left: &C, right: &C) -> Result<C, Error>
-        ensures { Answers (of_halves (W.WINDOW_SIZE * W.NUM_WINDOWS) (pedersen_hash C.group W.NUM_WINDOWS W.WINDOW_SIZE (⟦<Parameters<C> as Duplicate>⟧.seen parameters.now)) (C.spelling (C.view left.now)) (C.spelling (C.view right.now))) result }
+        ensures { let hash = pedersen_hash C.group W.Window (generators_in parameters.now) in
+            let bytes : C → List ℕ = λ digest. C.spelling (C.view digest) in
+            Answers (of_halves W.Window hash (bytes left.now) (bytes right.now)) result }
     {
         let left = canonical_bytes(alloc, left)?;
         let right = canonical_bytes(alloc, right)?;
         <TwoToOneCRH<C, W> as TwoToOneCRHScheme>::evaluate(alloc, parameters, &left, &right)
     }
 
-    ghost evaluated_decided = { λ parameters left right. seen-decided C.numbers _ (halves-decided C.group W.NUM_WINDOWS W.WINDOW_SIZE (⟦<Parameters<C> as Duplicate>⟧.seen parameters) left right) };
+    ghost evaluated_decided = { λ parameters left right.
+        seen-decided C.numbers _
+        (halves-decided C.group W.Window (generators_in parameters) left right) };
 
-    ghost compressed_decided = { λ parameters left right. seen-decided C.numbers _ (halves-decided C.group W.NUM_WINDOWS W.WINDOW_SIZE (⟦<Parameters<C> as Duplicate>⟧.seen parameters) (C.bytes_of left) (C.bytes_of right)) };
+    ghost compressed_decided = { λ parameters left right.
+        seen-decided C.numbers _
+        (halves-decided C.group W.Window (generators_in parameters)
+        (C.bytes_of left) (C.bytes_of right)) };
 
     ghost setup_decided = { tt };
 
-    ghost evaluated_same = { λ p q same. ap (λ lists left right. seen_by C.numbers (of_halves (W.WINDOW_SIZE * W.NUM_WINDOWS) (pedersen_hash C.group W.NUM_WINDOWS W.WINDOW_SIZE lists) left right)) same };
+    ghost evaluated_same = { λ p q same.
+        ap (λ lists left right. seen_by C.numbers
+        (of_halves W.Window (pedersen_hash C.group W.Window lists) left right)) same };
 
-    ghost compressed_same = { λ p q same. ap (λ lists left right. seen_by C.numbers (of_halves (W.WINDOW_SIZE * W.NUM_WINDOWS) (pedersen_hash C.group W.NUM_WINDOWS W.WINDOW_SIZE lists) (C.bytes_of left) (C.bytes_of right))) same };
+    ghost compressed_same = { λ p q same.
+        ap (λ lists left right. seen_by C.numbers
+        (of_halves W.Window (pedersen_hash C.group W.Window lists)
+        (C.bytes_of left) (C.bytes_of right))) same };
 }

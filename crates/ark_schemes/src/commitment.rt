@@ -47,12 +47,16 @@ pub trait CommitmentScheme {
         input: &[u8],
         randomness: &Self::Randomness,
     ) -> Result<Self::Output, Error>
-        ensures { AnswersBy (λ output. Self.Output.spelling (Self.Output.view output)) (meaning parameters.now input.now randomness.now) result };
+        ensures { let bytes : Self.Output → List ℕ =
+            λ output. Self.Output.spelling (Self.Output.view output) in
+            AnswersBy bytes (meaning parameters.now input.now randomness.now) result };
 
-    ghost meaning_decided: { (p : Self.Parameters) (bytes : List ℕ) (r : Self.Randomness) → IsDecided (meaning p bytes r) };
+    ghost meaning_decided: { (p : Self.Parameters) (bytes : List ℕ) (r : Self.Randomness)
+        → IsDecided (meaning p bytes r) };
 
     ghost setup_decided: { IsDecided setup_outcome };
 
     // A copy of parameters commits as they do.
-    ghost same_parameters: { (p q : Self.Parameters) → Self.Parameters.seen p ≡ Self.Parameters.seen q → meaning p ≡ meaning q };
+    ghost same_parameters: { (p q : Self.Parameters)
+        → Self.Parameters.seen p ≡ Self.Parameters.seen q → meaning p ≡ meaning q };
 }

@@ -26,7 +26,9 @@ pub trait PRF {
     ///
     /// Refusals: those of `meaning`, which never are want of memory; `OutOfMemory`.
     fn evaluate(seed: &Self::Seed, input: &Self::Input) -> Result<Self::Output, Error>
-        ensures { AnswersBy (λ output. Self.Output.spelling (Self.Output.view output)) (meaning seed.now input.now) result };
+        ensures { let bytes : Self.Output → List ℕ =
+            λ output. Self.Output.spelling (Self.Output.view output) in
+            AnswersBy bytes (meaning seed.now input.now) result };
 
     ghost decided: { (seed : Self.Seed) (input : Self.Input) → IsDecided (meaning seed input) };
 }

@@ -1,7 +1,8 @@
 //! The BLAKE2s commitment.
 
 ghost use Rattle.std.specs.Prelude.{◌≡◌, Ok, refl};
-ghost use Rattle.ark_schemes.specs.Commitments.{blake2s_commitment, blake2s_commitment-decided};
+ghost use Rattle.ark_schemes.specs.Commitments.{blake2s_commitment};
+ghost use Rattle.ark_schemes.specs.Laws.Commitments.{blake2s_commitment-decided};
 
 use crate::commitment::CommitmentScheme;
 use crate::prf::blake2s;

@@ -76,7 +76,8 @@ pub struct Blake2sWithParameterBlock {
 impl Blake2sWithParameterBlock {
     /// The digest of the bytes. The only refusal is `OutOfMemory`.
     pub fn evaluate(&self, alloc: Global, input: &[u8]) -> Result<Vec<u8>, Error>
-        ensures { AnswersBy (λ bytes. bytes.items) (Ok (blake2s_with self.now.salt self.now.personalization input.now)) result }
+        ensures { let digest = blake2s_with self.now.salt self.now.personalization input.now in
+            AnswersBy (λ bytes. bytes.items) (Ok digest) result }
     {
         let digest = text::digest(&self.salt, &self.personalization, input, &[]);
         Ok(Vec::from_array(alloc, digest)?)

@@ -1,4 +1,4 @@
-use Rattle.std.proofs.Common.{◌≡◌, ℕ, ◌+◌, ◌-◌, ◌*◌, ◌<◌, ◌≤◌, ◌^◌, ◌∙◌, List, [], length, map, take, drop, sym, ap, lit<, arith, length-drop}
+use Rattle.std.proofs.Common.{◌≡◌, ℕ, ◌+◌, ◌-◌, ◌*◌, ◌<◌, ◌≤◌, ◌^◌, ◌∙◌, List, [], length, take, drop, sym, ap, lit<, arith, length-drop}
 use Rattle.std.proofs.Math.Nat.{pow-le-pow_right}
 use Rattle.std.proofs.lemmas.List.{drop-drop, length-take-le, drop_all}
 use Rattle.ark_base.specs.Digits.{number_of_bytes}
@@ -6,7 +6,7 @@ use Rattle.ark_base.specs.Reading.{IsBytes}
 use Rattle.ark_base.specs.Laws.Steps.{IsBytes-drop, IsBytes-take}
 use Rattle.ark_groups.specs.Group.{Group, IsCommutativeGroup}
 use Rattle.ark_groups.proofs.Multiples.{right_identity}
-use Rattle.ark_pedersen.specs.Pedersen.{joined, bits_of_number, bits_of_bytes, pedersen_sum}
+use Rattle.ark_pedersen.specs.Pedersen.{bits_of_number, bits_of_bytes, capacity, lists_in, concatenation, pedersen_sum}
 use Rattle.ark_pedersen.proofs.BitSums.{pedersen_sum-word, number_of_bytes-below}
 use Rattle.ark_pedersen.proofs.PedersenSums.{pedersen_sum-none}
 use Rattle.ark_pedersen.proofs.sums.add_bytes.Goals as goal
@@ -47,13 +47,12 @@ step {G} {g} laws all bytes sum new first start n number fits within short is ad
 
 pub add_word-sum-requires-clause-fits : goal.add_word-sum-requires-clause-fits
 add_word-sum-requires-clause-fits g c =
-    let W = g.W.Window in
     let fits : IsBytes c.args.bytes.now = λ i. omega (arith, c.type_inv.bytes i) in
-    rw c.number_of-word.ensures (word_below c.args.bytes.now c.args.first c.loop-start.start c.min.result (W.WINDOW_SIZE * W.NUM_WINDOWS) fits (omega (arith, c.min.ensures)) c.requires.fits)
+    rw c.number_of-word.ensures (word_below c.args.bytes.now c.args.first c.loop-start.start c.min.result (capacity g.W.Window) fits (omega (arith, c.min.ensures)) c.requires.fits)
 
 pub loop-start-preserved : goal.loop-start-preserved
 loop-start-preserved g c =
-    let all = joined (map (λ list. list.items) c.args.generators.now) in
+    let all = concatenation (lists_in c.args.generators.now) in
     let fits : IsBytes c.args.bytes.now = λ i. omega (arith, c.type_inv.bytes i) in (
       step g.met.C.CurveGroup.laws all c.args.bytes.now c.loop-start.sum c.add_word-sum.result c.args.first c.loop-start.start c.min.result c.number_of-word.result fits (omega (arith, c.min.ensures)) (omega (arith, c.min.ensures)) c.number_of-word.ensures c.add_word-sum.ensures
           ∙ c.loop-start.invariant.0,
@@ -63,7 +62,7 @@ loop-start-preserved g c =
 pub returns : goal.returns
 returns g c =
     let group = g.C.CurveGroup.group in
-    let xs = drop (c.args.first + 8 * c.loop-start.start) (joined (map (λ list. list.items) c.args.generators.now)) in
+    let xs = drop (c.args.first + 8 * c.loop-start.start) (concatenation (lists_in c.args.generators.now)) in
     let none : drop c.loop-start.start c.args.bytes.now ≡ [] = drop_all c.loop-start.start c.args.bytes.now (omega arith) in
     sym (right_identity g.met.C.CurveGroup.laws c.loop-start.sum)
     ∙ ap (group.plus c.loop-start.sum) (sym (ap (λ (t : List ℕ). pedersen_sum group xs (bits_of_bytes t)) none ∙ pedersen_sum-none g.met.C.CurveGroup.laws xs))

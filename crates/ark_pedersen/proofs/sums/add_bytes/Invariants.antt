@@ -1,13 +1,13 @@
-use Rattle.std.proofs.Common.{◌≡◌, ◌≤◌, ◌+◌, ◌*◌, ◌-◌, length, map, drop}
-use Rattle.ark_pedersen.specs.Pedersen.{bits_of_bytes, pedersen_sum, joined}
+use Rattle.std.proofs.Common.{◌≡◌, ◌≤◌, ◌+◌, ◌*◌, ◌-◌, ℕ, Bool, List, length, drop}
+use Rattle.ark_pedersen.specs.Pedersen.{bits_of_bytes, lists_in, sum_from}
 use Rattle.ark_pedersen.proofs.sums.add_bytes.Given as goal
 
 -- what was added, and what is still to be added, are the whole
 abbrev pub invariant-loop-start : goal.invariant-loop-start
 invariant-loop-start g l =
-    let c = g.C.CurveGroup in
-    let all = joined (map (λ list. list.items) l.generators) in
-    (c.group.plus l.sum (pedersen_sum c.group (drop (l.first + 8 * l.start) all) (bits_of_bytes (drop l.start l.bytes))) ≡ c.group.plus l.fn.sum (pedersen_sum c.group (drop l.first all) (bits_of_bytes l.bytes)))
+    let group = g.C.CurveGroup.group in
+    let sum = λ (start : ℕ) (bits : List Bool). sum_from group start (lists_in l.generators) bits in
+    (group.plus l.sum (sum (l.first + 8 * l.start) (bits_of_bytes (drop l.start l.bytes))) ≡ group.plus l.fn.sum (sum l.first (bits_of_bytes l.bytes)))
     × (l.start ≤ length l.bytes)
 
 abbrev pub decreases-loop-start : goal.decreases-loop-start

@@ -1,10 +1,10 @@
-use Rattle.std.proofs.Common.{◌≡◌, ℕ, ◌+◌, ◌-◌, ◌*◌, ◌/◌, ◌<◌, ◌≤◌, ◌^◌, ◌∙◌, List, length, map, drop, get_or, sym, ap, arith, length-drop, get_or-drop}
+use Rattle.std.proofs.Common.{◌≡◌, ℕ, ◌+◌, ◌-◌, ◌<◌, ◌≤◌, ◌^◌, ◌∙◌, List, length, drop, get_or, sym, ap, arith, length-drop, get_or-drop}
 use Rattle.std.specs.Int.Bits.{bit_and}
 use Rattle.std.specs.Int.Count.{count_trailing_zeros}
 use Rattle.std.proofs.lemmas.Nat.{and_le_l}
 use Rattle.ark_groups.proofs.Multiples.{right_identity}
 use Rattle.ark_groups.specs.Group.{Group, IsCommutativeGroup}
-use Rattle.ark_pedersen.specs.Pedersen.{joined, bits_of_number, pedersen_sum}
+use Rattle.ark_pedersen.specs.Pedersen.{bits_of_number, capacity, lists_in, concatenation, pedersen_sum}
 use Rattle.ark_pedersen.proofs.BitSums.{pedersen_sum-lowest, pedersen_sum-zero, trailing_below}
 use Rattle.ark_pedersen.proofs.Shapes.{shape_all, value_in, element_in, element_at}
 use Rattle.ark_pedersen.proofs.sums.add_word.Goals as goal
@@ -29,46 +29,43 @@ step {G} {g} laws xs sum x first rest some fits within is =
 pub bounds-generators-place : goal.bounds-generators-place
 bounds-generators-place g c =
     let W = g.W.Window in
-    let within = place_in c.args.first (W.WINDOW_SIZE * W.NUM_WINDOWS) c.loop-rest.rest c.args.word c.requires.first_in c.loop-rest-test.true (omega arith) c.loop-rest.invariant.1 c.requires.fits in
+    let within = place_in c.args.first (capacity W) c.loop-word.word c.args.word c.requires.first_in c.loop-word-test.true (omega arith) c.loop-word.invariant.1 c.requires.fits in
     rw c.WINDOW_SIZE.ensures (value_in W.NUM_WINDOWS W.WINDOW_SIZE (λ list. list.items) c.args.generators.now c.requires.shape _ within)
 
 pub offset_bounds-generators-place : goal.offset_bounds-generators-place
 offset_bounds-generators-place g c =
-    let W = g.W.Window in
-    let within = place_in c.args.first (W.WINDOW_SIZE * W.NUM_WINDOWS) c.loop-rest.rest c.args.word c.requires.first_in c.loop-rest-test.true (omega arith) c.loop-rest.invariant.1 c.requires.fits in
-    let at : (c.args.first + count_trailing_zeros 64 c.loop-rest.rest) / c.WINDOW_SIZE.result < length c.args.generators.now =
-    rw c.WINDOW_SIZE.ensures (value_in W.NUM_WINDOWS W.WINDOW_SIZE (λ list. list.items) c.args.generators.now c.requires.shape _ within) in
+    let at = bounds-generators-place g c in
     omega (arith, c.well_formed.1.0.1)
 
 pub index-requires : goal.index-requires
 index-requires g c =
     let W = g.W.Window in
     let list = c.index-generators-place.result in
-    let within = place_in c.args.first (W.WINDOW_SIZE * W.NUM_WINDOWS) c.loop-rest.rest c.args.word c.requires.first_in c.loop-rest-test.true (omega arith) c.loop-rest.invariant.1 c.requires.fits in
+    let within = place_in c.args.first (capacity W) c.loop-word.word c.args.word c.requires.first_in c.loop-word-test.true (omega arith) c.loop-word.invariant.1 c.requires.fits in
     let is = rw c.WINDOW_SIZE.ensures at c.index-generators-place.is in
     let low = element_in W.NUM_WINDOWS W.WINDOW_SIZE (λ list. list.items) c.args.generators.now c.requires.shape _ within list is in
-    rw c.WINDOW_SIZE-in-loop-rest.ensures (omega (arith, list.ok.0, low))
+    rw c.WINDOW_SIZE-in-loop-word.ensures (omega (arith, list.ok.0, low))
 
-pub loop-rest-preserved : goal.loop-rest-preserved
-loop-rest-preserved g c =
+pub loop-word-preserved : goal.loop-word-preserved
+loop-word-preserved g c =
     let W = g.W.Window in
-    let lists = map (λ list. list.items) c.args.generators.now in
+    let lists = lists_in c.args.generators.now in
     let list = c.index-generators-place.result in
-    let within = place_in c.args.first (W.WINDOW_SIZE * W.NUM_WINDOWS) c.loop-rest.rest c.args.word c.requires.first_in c.loop-rest-test.true (omega arith) c.loop-rest.invariant.1 c.requires.fits in
+    let within = place_in c.args.first (capacity W) c.loop-word.word c.args.word c.requires.first_in c.loop-word-test.true (omega arith) c.loop-word.invariant.1 c.requires.fits in
     let is = rw c.WINDOW_SIZE.ensures at c.index-generators-place.is in
     let x = c.index.result.now in
-    let here : get_or (joined lists) (c.args.first + count_trailing_zeros 64 c.loop-rest.rest) x ≡ x =
-    element_at W.NUM_WINDOWS W.WINDOW_SIZE (λ list. list.items) c.args.generators.now c.requires.shape _ within list is x ∙ sym (rw c.WINDOW_SIZE-in-loop-rest.ensures at c.index.ensures) in
+    let here : get_or (concatenation lists) (c.args.first + count_trailing_zeros 64 c.loop-word.word) x ≡ x =
+    element_at W.NUM_WINDOWS W.WINDOW_SIZE (λ list. list.items) c.args.generators.now c.requires.shape _ within list is x ∙ sym (rw c.WINDOW_SIZE-in-loop-word.ensures at c.index.ensures) in
     let long = shape_all W.NUM_WINDOWS W.WINDOW_SIZE lists c.requires.shape in (
-      rw c.add-sum.ensures (step g.met.C.CurveGroup.laws (joined lists) c.loop-rest.sum x c.args.first c.loop-rest.rest c.loop-rest-test.true (omega arith) (omega arith) here ∙ c.loop-rest.invariant.0),
-      omega (arith, and_le_l c.loop-rest.rest (c.loop-rest.rest - 1), c.loop-rest.invariant.1),
+      rw c.add-sum.ensures (step g.met.C.CurveGroup.laws (concatenation lists) c.loop-word.sum x c.args.first c.loop-word.word c.loop-word-test.true (omega arith) (omega arith) here ∙ c.loop-word.invariant.0),
+      omega (arith, and_le_l c.loop-word.word (c.loop-word.word - 1), c.loop-word.invariant.1),
     )
 
 pub returns : goal.returns
 returns g c =
-    let c' = g.C.CurveGroup in
-    let behind = drop c.args.first (joined (map (λ list. list.items) c.args.generators.now)) in
-    let none : c.loop-rest.rest ≡ 0 = omega arith in
-    sym (right_identity g.met.C.CurveGroup.laws c.loop-rest.sum)
-    ∙ ap (c'.group.plus c.loop-rest.sum) (sym (ap (λ (n : ℕ). pedersen_sum c'.group behind (bits_of_number 64 n)) none ∙ pedersen_sum-zero c'.group behind 64))
-    ∙ c.loop-rest.invariant.0
+    let group = g.C.CurveGroup.group in
+    let behind = drop c.args.first (concatenation (lists_in c.args.generators.now)) in
+    let none : c.loop-word.word ≡ 0 = omega arith in
+    sym (right_identity g.met.C.CurveGroup.laws c.loop-word.sum)
+    ∙ ap (group.plus c.loop-word.sum) (sym (ap (λ (n : ℕ). pedersen_sum group behind (bits_of_number 64 n)) none ∙ pedersen_sum-zero group behind 64))
+    ∙ c.loop-word.invariant.0

@@ -1,12 +1,13 @@
 use Rattle.std.proofs.Common.{◌≡◌, ℕ, ◌+◌, ◌++◌, ◌∷◌, List, [], map, ◌∙◌, sym, ap, arith, length-append}
 use Rattle.std.proofs.lemmas.List.{map-append}
 use Rattle.ark_groups.specs.Group.{Group}
-use Rattle.ark_pedersen.specs.Pedersen.{doublings, AreGenerators}
+use Rattle.ark_pedersen.specs.Pedersen.{doublings}
+use Rattle.ark_pedersen.proofs.Windows.{AreSoFar}
 use Rattle.ark_pedersen.proofs.crh.CRH.create_generators.Goals as goal
 
 -- one list more, of one element more
 step : {G V : Type 0} (g : Group G) (size count : ℕ) (items : V → List G) (lists new : List V) (list : V) → new ≡ lists ++ list ∷ [] → (x : G) × (items list ≡ doublings g size x)
-    → AreGenerators g count size (map items lists) → AreGenerators g (count + 1) size (map items new)
+    → AreSoFar g count size (map items lists) → AreSoFar g (count + 1) size (map items new)
 step {G} g size count items lists new list put made so_far =
     let elements = so_far.0 in (
       elements ++ made.0 ∷ [],
