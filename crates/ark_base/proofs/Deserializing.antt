@@ -5,10 +5,10 @@ use Rattle.std.proofs.lemmas.List.{take-append-drop, length-append, length-drop,
 use Rattle.ark_base.specs.declared.error.Error.TheVariants.{OutOfMemory, SerializationError as OfBytes}
 use Rattle.ark_base.specs.declared.error.SerializationError.TheVariants.{Truncated}
 use Rattle.ark_base.specs.Outcome.{Outcome, AnswersBy}
-use Rattle.ark_base.specs.Reading.{Reading, told, Reads, Spells, IsCanonical, IsBytes}
+use Rattle.ark_base.specs.Reading.{Reading, outcome_of, Reads, Spells, IsCanonical, IsBytes}
 use Rattle.ark_base.specs.Laws.Steps.{done_injective}
 
-told_ok : {A : Type 0} (r : _) (x : A) → told r ≡ Ok x → r ≡ Ok x
+told_ok : {A : Type 0} (r : _) (x : A) → outcome_of r ≡ Ok x → r ≡ Ok x
 told_ok (Ok y) x e = cc
 told_ok (Err f) x e = absurd cc
 
@@ -44,7 +44,7 @@ module _ {A V : Type 0} (view : A → V) (has_spelling : V → Type 0) (spelling
   is_only (Err e) h value n le s =
       elim h.answer [
         | inl memory ↦ memory
-        | inr refused ↦ absurd (let clash : told (reads bytes) ≡ Ok (value, drop n bytes) = ap told (front_is value n s) in cc)
+        | inr refused ↦ absurd (let clash : outcome_of (reads bytes) ≡ Ok (value, drop n bytes) = ap outcome_of (front_is value n s) in cc)
       ]
 
   pub is_cut : (result : Outcome (A × ℕ)) → Reads view bytes (reads bytes) result → (value : V) (more : List ℕ) → 0 < length more → Spells has_spelling spelling value (bytes ++ more)
@@ -52,7 +52,7 @@ module _ {A V : Type 0} (view : A → V) (has_spelling : V → Type 0) (spelling
   is_cut result h value more some s =
       let short : length bytes < length (spelling value) = omega (arith, length-append bytes more, ap length s.1) in
       let front : take (length bytes) (spelling value) ≡ bytes = ap (take (length bytes)) (sym s.1) ∙ take_at bytes more (length bytes) refl in
-      let fault : told (reads bytes) ≡ Err (OfBytes Truncated) = ap (λ b. told (reads b)) (sym front) ∙ ap told (laws.cut value (length bytes) s.0 short) in
+      let fault : outcome_of (reads bytes) ≡ Err (OfBytes Truncated) = ap (λ b. outcome_of (reads b)) (sym front) ∙ ap outcome_of (laws.cut value (length bytes) s.0 short) in
       by_answer _ result h.answer fault
     where
       by_answer : {B : Type 0} {o : Outcome B} (see : A × ℕ → B) (result : Outcome (A × ℕ)) → AnswersBy see o result → o ≡ Err (OfBytes Truncated) → MatchResult result (λ _. ⊥) (λ e. (e ≡ OutOfMemory) ⊎ (e ≡ OfBytes Truncated))

@@ -5,7 +5,7 @@ use Rattle.std.proofs.lemmas.List.{append-nil, flat_map_more}
 use Rattle.ark_base.specs.declared.error.Error.{Error}
 use Rattle.ark_base.specs.declared.error.Error.TheVariants.{SerializationError as OfBytes}
 use Rattle.ark_base.specs.Outcome.{◌>>=◌}
-use Rattle.ark_base.specs.Reading.{Reading, told}
+use Rattle.ark_base.specs.Reading.{Reading, outcome_of}
 use Rattle.ark_base.specs.Spelling.{items_at}
 
 -- ---- writing
@@ -49,20 +49,20 @@ module _ {V : Type 0} (reads : List ℕ → Reading V) where
       by_first (Err f) = refl
 
   -- one item more was read
-  pub goes_on : (front : List V) (count i : ℕ) (bytes after : List ℕ) (v : V) (whole : Reading (List V)) → i < count → told (reads bytes) ≡ Ok (v, after)
+  pub goes_on : (front : List V) (count i : ℕ) (bytes after : List ℕ) (v : V) (whole : Reading (List V)) → i < count → outcome_of (reads bytes) ≡ Ok (v, after)
       → with_front front (items_at reads (count - i) bytes) ≡ whole → with_front (front ++ v ∷ []) (items_at reads (count - (i + 1)) after) ≡ whole
   goes_on front count i bytes after v whole lt h so_far = sym (step front count i bytes lt ∙ by_read (reads bytes) h) ∙ so_far
     where
-      by_read : (r : Reading V) → told r ≡ Ok (v, after) → (r >>= λ first. with_front (front ++ first.0 ∷ []) (items_at reads (count - (i + 1)) first.1)) ≡ with_front (front ++ v ∷ []) (items_at reads (count - (i + 1)) after)
+      by_read : (r : Reading V) → outcome_of r ≡ Ok (v, after) → (r >>= λ first. with_front (front ++ first.0 ∷ []) (items_at reads (count - (i + 1)) first.1)) ≡ with_front (front ++ v ∷ []) (items_at reads (count - (i + 1)) after)
       by_read (Ok first) e = let same : first ≡ (v, after) = cc in ap (λ (x : V × List ℕ). with_front (front ++ x.0 ∷ []) (items_at reads (count - (i + 1)) x.1)) same
       by_read (Err f) e = absurd cc
 
   -- the refusal of an item is that of the list
-  pub ends : (e : Error) (front : List V) (count i : ℕ) (bytes : List ℕ) (whole : Reading (List V)) → i < count → told (reads bytes) ≡ Err e
-      → with_front front (items_at reads (count - i) bytes) ≡ whole → told whole ≡ Err e
-  ends e front count i bytes whole lt h so_far = ap told (sym so_far ∙ step front count i bytes lt) ∙ by_read (reads bytes) h
+  pub ends : (e : Error) (front : List V) (count i : ℕ) (bytes : List ℕ) (whole : Reading (List V)) → i < count → outcome_of (reads bytes) ≡ Err e
+      → with_front front (items_at reads (count - i) bytes) ≡ whole → outcome_of whole ≡ Err e
+  ends e front count i bytes whole lt h so_far = ap outcome_of (sym so_far ∙ step front count i bytes lt) ∙ by_read (reads bytes) h
     where
-      by_read : (r : Reading V) → told r ≡ Err e → told (r >>= λ first. with_front (front ++ first.0 ∷ []) (items_at reads (count - (i + 1)) first.1)) ≡ Err e
+      by_read : (r : Reading V) → outcome_of r ≡ Err e → outcome_of (r >>= λ first. with_front (front ++ first.0 ∷ []) (items_at reads (count - (i + 1)) first.1)) ≡ Err e
       by_read (Ok first) h = absurd cc
       by_read (Err f) h = let same : OfBytes f ≡ e = cc in ap Err same
 

@@ -70,7 +70,7 @@ impl Window for Four {
 }
 
 fn residue(number: u64) -> G13 {
-    Residues(Fp::from_u64(number))
+    Residues::new(Fp::from_u64(number))
 }
 
 fn list(alloc: Global, numbers: &[u64]) -> Result<Vec<G13>, Error> {
@@ -308,7 +308,7 @@ fn parameters_are_printed(rt: HostRuntime) -> Result<(), Fail> {
     let text = format!(in alloc; "{one:?}")?;
     assert_eq!(rt;
         text.as_str(),
-        "Pedersen Hash Parameters {\n\t  Generator 0: [Residues(1), Residues(2)]\n}\n"
+        "Pedersen Hash Parameters {\n\t  Generator 0: [1, 2]\n}\n"
     );
     Ok(())
 }

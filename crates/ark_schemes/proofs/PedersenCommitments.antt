@@ -33,7 +33,7 @@ number_of_digits (suc k) n fits =
 
 -- a scalar has no more digits than the modulus
 pub value_fits : {F : Type 0} (p bits : ℕ) (value : F → ℕ) → IsModulus p bits → IsField p value → (x : F) → value x < 2 ^ bits
-value_fits p bits value laws field x = omega (arith, laws.digits.fits, field.below x)
+value_fits p bits value laws field x = omega (arith, laws.digits.no_more, field.below x)
 
 -- ---- commitments
 

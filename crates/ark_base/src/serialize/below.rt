@@ -1,6 +1,7 @@
 //! The canonical bytes of a number below a modulus: as many as the modulus needs, the least first.
 
-ghost use Rattle.std.specs.Prelude.{◌≡◌, ℕ, ◌<◌, ◌≤◌, ◌++◌, length, OnOk, IfOk, IfErr};
+ghost use Rattle.std.specs.Prelude.{◌≡◌, ℕ, ◌<◌, ◌≤◌, ◌++◌, length, OnOk, IfOk};
+ghost use Rattle.ark_base.specs.Outcome.{LacksMemoryOnly};
 ghost use Rattle.ark_base.specs.Reading.{Reads};
 ghost use Rattle.ark_base.specs.Digits.{number_of_bytes, bytes_of_number, below_at};
 
@@ -23,7 +24,7 @@ pub fn number_of(bytes: &[u8]) -> u64
 pub fn serialize_number(number: u64, len: usize, dest: &mut Vec<u8>) -> Result<(), Error>
     requires { len ≤ 8 }
     ensures appended { OnOk result (dest.new.items ≡ dest.old.items ++ bytes_of_number len number) }
-    ensures refused { IfErr result (λ error. (error ≡ Error.OutOfMemory) × (dest.new.items ≡ dest.old.items)) }
+    ensures refused { LacksMemoryOnly result (dest.new.items ≡ dest.old.items) }
 {
     dest.extend_from_slice(&number.to_le_bytes()[..len])?;
     Ok(())

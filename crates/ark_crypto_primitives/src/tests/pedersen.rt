@@ -107,7 +107,7 @@ impl Config for By61 {
 }
 
 fn residue(number: u64) -> Residues<M13> {
-    Residues(Fp::from_u64(number))
+    Residues::new(Fp::from_u64(number))
 }
 
 fn list(alloc: Global, numbers: &[u64]) -> Result<Vec<Residues<M13>>, Error> {

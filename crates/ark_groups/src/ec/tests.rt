@@ -14,11 +14,11 @@ fn times<C: CurveGroup>(x: C, count: u64) -> C {
 }
 
 fn residue<M: Modulus>(number: u64) -> Residues<M> {
-    Residues(Fp::from_u64(number))
+    Residues::new(Fp::from_u64(number))
 }
 
 fn small<M: SmallModulus>(number: u64) -> Small<M> {
-    Small(Fp::from_u64(number))
+    Small::new(Fp::from_u64(number))
 }
 
 // A group whose sum and product are those of the trait alone.

@@ -23,7 +23,11 @@ impl Modulus for Widest {
 
     const BITS: u32 = 64;
 
-    ghost laws = { record { at_least_two = lit≤ tt; in_word = lit< tt; digits = record { fits = lit< tt; top = lit≤ tt } } };
+    ghost laws = { record {
+      at_least_two = lit≤ tt;
+      in_word = lit< tt;
+      digits = record { no_more = lit< tt; no_fewer = lit≤ tt };
+    } };
 }
 
 // The smallest modulus, which is even.
@@ -38,7 +42,11 @@ impl Modulus for Two {
 
     const BITS: u32 = 2;
 
-    ghost laws = { record { at_least_two = lit≤ tt; in_word = lit< tt; digits = record { fits = lit< tt; top = lit≤ tt } } };
+    ghost laws = { record {
+      at_least_two = lit≤ tt;
+      in_word = lit< tt;
+      digits = record { no_more = lit< tt; no_fewer = lit≤ tt };
+    } };
 }
 
 fn element<F: PrimeField>(number: u64) -> F {

@@ -56,7 +56,7 @@ type Compressed = PedersenCRHCompressor<Small<M13>, TECompressor, Two>;
 type CompressedTwo = PedersenTwoToOneCRHCompressor<Small<M13>, TECompressor, Eight>;
 
 fn small(number: u64) -> Small<M13> {
-    Small(Fp::from_u64(number))
+    Small::new(Fp::from_u64(number))
 }
 
 fn coordinate(number: u64) -> Fp<M257> {

@@ -33,7 +33,7 @@ type Compressed = PedersenCommCompressor<Small<M13>, TECompressor, Two>;
 fn list(alloc: Global, numbers: &[u64]) -> Result<Vec<Small<M13>>, Error> {
     let mut list = Vec::new(alloc);
     for number in numbers {
-        list.push(Small(Fp::from_u64(*number)))?;
+        list.push(Small::new(Fp::from_u64(*number)))?;
     }
     Ok(list)
 }

@@ -52,7 +52,7 @@ impl Window for Three {
 }
 
 fn residue(number: u64) -> G13 {
-    Residues(Fp::from_u64(number))
+    Residues::new(Fp::from_u64(number))
 }
 
 fn list(alloc: Global, numbers: &[u64]) -> Result<Vec<G13>, Error> {

@@ -1,5 +1,5 @@
 use Rattle.std.proofs.Common.{◌≡◌, ℕ, length, sym, ◌∙◌, arith}
-use Rattle.ark_groups.specs.FieldLaws.{at_most_64_bits}
+use Rattle.ark_groups.specs.Laws.Field.{at_most_64_bits}
 use Rattle.ark_schemes.proofs.PedersenCommitments.{value_fits, pedersen_commitment-word}
 use Rattle.ark_schemes.proofs.commitment.pedersen.commitment_of.Goals as goal
 

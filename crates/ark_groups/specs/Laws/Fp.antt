@@ -1,5 +1,6 @@
 -- The laws of the field of the numbers below a modulus.
-use Rattle.std.proofs.Common.{◌≡◌, ℕ, zero, suc, ◌+◌, ◌*◌, ◌^◌, ◌<◌, ◌≤◌, ◌==◌, ◌↔◌, List, [], ◌∷◌, get_or, length, refl, sym, ap, ◌∙◌, arith, lit<}
+use Rattle.std.proofs.Common.{◌≡◌, ℕ, zero, suc, ◌+◌, ◌*◌, ◌^◌, ◌<◌, ◌≤◌, ◌==◌, ◌↔◌, List, [], ◌∷◌, get_or, length}
+use Rattle.std.proofs.Common.{refl, sym, ap, ◌∙◌, arith, lit<}
 use Rattle.std.proofs.Math.Nat.{pow-le-pow_right, pow-suc}
 use Rattle.std.proofs.lemmas.Nat.{pow-add}
 use Rattle.std.proofs.lemmas.Bool.Decides.{Decides-eqb}
@@ -10,7 +11,7 @@ use Rattle.ark_base.specs.Reading.{IsCanonical}
 use Rattle.ark_base.specs.Digits.{number_of_bytes, bytes_of_number, IsBelow, below_at, bytes_for}
 use Rattle.ark_base.specs.Laws.Digits.{below_laws, length-bytes_of_number, number_of_bytes-bytes_of_number}
 use Rattle.ark_groups.specs.Field.{IsField, IsModulus}
-use Rattle.ark_groups.specs.FieldLaws.{at_least_two_bits}
+use Rattle.ark_groups.specs.Laws.Field.{at_least_two_bits}
 use Rattle.ark_groups.specs.declared.ff.modulus.Modulus.{Ghosts}
 use Rattle.ark_groups.specs.declared.ff.fp.Fp.{Fp}
 
@@ -18,7 +19,12 @@ use Rattle.ark_groups.specs.declared.ff.fp.Fp.{Fp}
 
 pub fp_same : {M : Type 0} {g : Ghosts M} (x y : Fp M g) → x.value ≡ y.value → x ≡ y
 fp_same {M} {g} x y e =
-    λ i. record { value = e i; of = x.of; reduced = is_prop→PathP (λ j. e j < g.P) (λ j. le_prop) x.reduced y.reduced i }
+    λ i. record {
+      value =
+          e i;
+      of = x.of;
+      reduced = is_prop→PathP (λ j. e j < g.P) (λ j. le_prop) x.reduced y.reduced i;
+    }
 
 -- the element of a number below the modulus
 abbrev pub fp_of : {M : Type 0} {g : Ghosts M} (n : ℕ) → n < g.P → Fp M g
@@ -43,9 +49,10 @@ holds_all p bits laws =
     let more : bits ≤ 8 * bytes_for bits = omega arith in
     let whole : 2 ^ (8 * bytes_for bits) ≡ 256 ^ bytes_for bits = bits_of_bytes (bytes_for bits) in
     let grown : 2 ^ bits ≤ 2 ^ (8 * bytes_for bits) = pow-le-pow_right (lit< tt) more in
-    omega (arith, laws.digits.fits)
+    omega (arith, laws.digits.no_more)
 
-pub below_modulus_laws : (p bits : ℕ) → IsModulus p bits → IsCanonical (IsBelow p) (bytes_of_number (bytes_for bits)) (below_at p (bytes_for bits))
+pub below_modulus_laws : (p bits : ℕ) → IsModulus p bits
+    → IsCanonical (IsBelow p) (bytes_of_number (bytes_for bits)) (below_at p (bytes_for bits))
 below_modulus_laws p bits laws = below_laws p (bytes_for bits) (holds_all p bits laws)
 
 pub some_bytes : (p bits : ℕ) → IsModulus p bits → 0 < bytes_for bits
@@ -65,7 +72,8 @@ one_alike a b = (λ e. ap (λ n. n ∷ []) e, alone)
 pub one-Decides : (a b : ℕ) → Decides (a == b) (a ∷ [] ≡ b ∷ [])
 one-Decides a b = (λ t. ap (λ n. n ∷ []) ((Decides-eqb a b).0 t), λ e. (Decides-eqb a b).1 (alone e))
 
-pub number_again : (p bits : ℕ) → IsModulus p bits → (n : ℕ) → n < p → n ∷ [] ≡ number_of_bytes (bytes_of_number (bytes_for bits) n) ∷ []
+pub number_again : (p bits : ℕ) → IsModulus p bits → (n : ℕ) → n < p
+    → n ∷ [] ≡ number_of_bytes (bytes_of_number (bytes_for bits) n) ∷ []
 number_again p bits laws n below =
     let fits : n < 256 ^ bytes_for bits = omega (arith, holds_all p bits laws) in
     ap (λ m. m ∷ []) (sym (number_of_bytes-bytes_of_number (bytes_for bits) n fits))
