@@ -1,6 +1,7 @@
 //! Pedersen hashes whose digest is the image of an element under a map.
 
 ghost use Rattle.std.specs.Prelude.{◌≡◌, ℕ, List, Ok, IsOkAnd};
+ghost use Rattle.std.specs.Bool.{Decides};
 ghost use Rattle.ark_base.specs.Outcome.{Outcome, AnswersBy, IsDecided};
 ghost use Rattle.ark_base.specs.Digits.{bytes_for, bytes_of_number};
 ghost use Rattle.ark_pedersen.specs.Pedersen.{generators_in, AreGenerators, pedersen_hash, of_halves, seen_image};
@@ -35,12 +36,20 @@ pub trait InjectiveMap<C> {
             AnswersBy bytes (mapped ge.now) result };
 
     ghost mapped_decided: { (x : C) → IsDecided (mapped x) };
+
+    // Two images are equal only when their canonical bytes are.
+    ghost equal_if_same: { (a b : Self.Output)
+        → let bytes : Self.Output → List ℕ =
+        λ image. Self.Output.spelling (Self.Output.view image) in
+        Decides (Self.Output.eq a b) (bytes a ≡ bytes b) };
 }
 
 /// The first coordinate.
 pub struct TECompressor;
 
 impl<C: CurveGroup + TECoordinates> InjectiveMap<C> for TECompressor {
+    ghost use Rattle.ark_pedersen.specs.Laws.Images.{number_bytes-Decides};
+
     type Output = C::BaseField;
 
     ghost mapped = { λ x. Ok (bytes_of_number (bytes_for C.BaseField.MODULUS_BIT_SIZE) (C.x x)) };
@@ -53,6 +62,12 @@ impl<C: CurveGroup + TECoordinates> InjectiveMap<C> for TECompressor {
     }
 
     ghost mapped_decided = { λ x. tt };
+
+    ghost equal_if_same = { λ a b.
+        number_bytes-Decides C.BaseField.MODULUS C.BaseField.MODULUS_BIT_SIZE C.BaseField.modulus_laws _ _
+        (C.BaseField.PrimeField.laws.below a) (C.BaseField.PrimeField.laws.below b) _ _
+        (C.BaseField.spelling_is a) (C.BaseField.spelling_is b) _
+        (C.BaseField.equal_if_same a b) };
 }
 
 /// The map after the Pedersen hash of one input.

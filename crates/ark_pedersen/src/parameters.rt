@@ -4,7 +4,9 @@ ghost use Rattle.std.specs.Prelude.{List};
 ghost use Rattle.ark_pedersen.specs.Pedersen.{generators_in};
 
 use ark_base::error::Error;
-use ark_base::serialize::{Canonical, CanonicalDeserialize, CanonicalSerialize, Duplicate};
+use ark_base::serialize::{
+    Canonical, CanonicalDeserialize, CanonicalItem, CanonicalSerialize, Duplicate, ReadBack,
+};
 use ark_groups::ec::CurveGroup;
 use std::alloc::Global;
 use std::fmt;
@@ -51,6 +53,25 @@ impl<C: CurveGroup> CanonicalDeserialize for Parameters<C> {
         let (generators, used) = Vec::read(alloc, bytes)?;
         Ok((Parameters { generators }, used))
     }
+}
+
+impl<C: CurveGroup> CanonicalItem for Parameters<C> {
+    ghost use Rattle.std.proofs.Common.{lit<};
+    ghost use Rattle.ark_base.specs.Laws.Lists.{counted_list_is_long};
+
+    ghost LEAST = { 8 };
+
+    const LEAST: usize = 8;
+
+    ghost some = { lit< tt };
+
+    ghost at_least = { λ lists fits. counted_list_is_long ⟦<Vec<C> as Canonical>⟧.spelling lists };
+}
+
+impl<C: CurveGroup> ReadBack for Parameters<C> {
+    ghost use Rattle.ark_pedersen.specs.Laws.Pedersen.{lists_in-same};
+
+    ghost same_seen = { λ p q. lists_in-same C.view C.same_view p.generators.items q.generators.items };
 }
 
 impl<C: CurveGroup> fmt::Debug for Parameters<C> {

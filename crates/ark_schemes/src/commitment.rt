@@ -1,6 +1,7 @@
 //! Commitments.
 
 ghost use Rattle.std.specs.Prelude.{◌≡◌, ℕ, List, IfOk};
+ghost use Rattle.std.specs.Bool.{Decides};
 ghost use Rattle.ark_base.specs.Outcome.{Outcome, AnswersBy, IsDecided};
 
 pub mod blake2s;
@@ -59,4 +60,14 @@ pub trait CommitmentScheme {
     // A copy of parameters commits as they do.
     ghost same_parameters: { (p q : Self.Parameters)
         → Self.Parameters.seen p ≡ Self.Parameters.seen q → meaning p ≡ meaning q };
+
+    // Randomness that was written and read again commits as it did.
+    ghost same_randomness: { (p : Self.Parameters) (bytes : List ℕ) (r s : Self.Randomness)
+        → Self.Randomness.view r ≡ Self.Randomness.view s → meaning p bytes r ≡ meaning p bytes s };
+
+    // Two outputs are equal only when their canonical bytes are.
+    ghost equal_if_same: { (a b : Self.Output)
+        → let bytes : Self.Output → List ℕ =
+        λ output. Self.Output.spelling (Self.Output.view output) in
+        Decides (Self.Output.eq a b) (bytes a ≡ bytes b) };
 }

@@ -1,6 +1,7 @@
 //! Pseudorandom functions.
 
-ghost use Rattle.std.specs.Prelude.{ℕ, List};
+ghost use Rattle.std.specs.Prelude.{◌≡◌, ℕ, List};
+ghost use Rattle.std.specs.Bool.{Decides};
 ghost use Rattle.ark_base.specs.Outcome.{Outcome, AnswersBy, IsDecided};
 
 pub mod blake2s;
@@ -31,4 +32,17 @@ pub trait PRF {
             AnswersBy bytes (meaning seed.now input.now) result };
 
     ghost decided: { (seed : Self.Seed) (input : Self.Input) → IsDecided (meaning seed input) };
+
+    // Seeds and inputs that were written and read again give what they gave.
+    ghost same_seed: { (s t : Self.Seed)
+        → Self.Seed.view s ≡ Self.Seed.view t → meaning s ≡ meaning t };
+
+    ghost same_input: { (s : Self.Seed) (x y : Self.Input)
+        → Self.Input.view x ≡ Self.Input.view y → meaning s x ≡ meaning s y };
+
+    // Two outputs are equal only when their canonical bytes are.
+    ghost equal_if_same: { (a b : Self.Output)
+        → let bytes : Self.Output → List ℕ =
+        λ output. Self.Output.spelling (Self.Output.view output) in
+        Decides (Self.Output.eq a b) (bytes a ≡ bytes b) };
 }

@@ -1,5 +1,5 @@
 -- The laws of readings that are put together.
-use Rattle.std.proofs.Common.{◌≡◌, ℕ, ◌+◌, ◌-◌, ◌<◌, ◌≤◌, true, false, ltb, List, ◌++◌, length, take, drop, Result}
+use Rattle.std.proofs.Common.{◌≡◌, ℕ, ◌+◌, ◌-◌, ◌<◌, ◌≤◌, true, false, ltb, List, [], ◌++◌, length, take, drop, Result}
 use Rattle.std.proofs.Common.{Ok, Err, refl, sym, ap, subst, ◌∙◌, append_assoc, arith, inl, inr}
 use Rattle.std.proofs.lemmas.Bool.{cases_lt, ltb-false, le-ltb, lt-ltb}
 use Rattle.std.proofs.lemmas.List.{take_at, drop_at, take-append-drop, take-append-le, length-append, length-take}
@@ -10,7 +10,18 @@ use Rattle.ark_base.specs.declared.error.SerializationError.TheVariants.{Truncat
 use Rattle.ark_base.specs.Outcome.{◌>>=◌}
 use Rattle.ark_base.specs.Reading.{Reading, IsBytes, IsCanonical}
 use Rattle.ark_base.specs.Spelling.{fixed_at, then_at, made_at, BothFit, both, both_at}
-use Rattle.ark_base.specs.Laws.Steps.{at_read, bind_ok, guarded_ok, IsBytes-take, IsBytes-behind}
+use Rattle.ark_base.specs.Laws.Steps.{done, done_injective, at_read, bind_ok, guarded_ok, IsBytes-take, IsBytes-behind}
+
+-- ---- spellings tell values apart
+
+pub spelling-alone : {V : Type 0} (has_spelling : V → Type 0) (spelling : V → List ℕ) (reads : List ℕ → Reading V)
+    → IsCanonical has_spelling spelling reads → (v w : V) → has_spelling v → has_spelling w → spelling v ≡ spelling w → v ≡ w
+spelling-alone {V} has_spelling spelling reads laws v w fits_v fits_w e =
+    let first : reads (spelling v ++ []) ≡ Ok (v, []) = laws.again v [] fits_v in
+    let second : reads (spelling w ++ []) ≡ Ok (w, []) = laws.again w [] fits_w in
+    let alike : done {A = V × List ℕ} {E = SerializationError} (v, []) ≡ done (w, []) =
+    sym first ∙ ap (λ bytes. reads (bytes ++ [])) e ∙ second in
+    ap (λ (p : V × List ℕ). p.0) (done_injective (v, []) (w, []) alike)
 
 -- ---- a part of a fixed length
 

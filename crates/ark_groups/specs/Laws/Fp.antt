@@ -61,6 +61,16 @@ some_bytes p bits laws = omega (arith, at_least_two_bits p bits laws)
 pub as_long : (bits n : ℕ) → bytes_for bits ≤ length (bytes_of_number (bytes_for bits) n)
 as_long bits n = omega (arith, length-bytes_of_number (bytes_for bits) n)
 
+-- numbers below the modulus with the same bytes are the same
+pub number-alone : (p bits : ℕ) → IsModulus p bits → (m n : ℕ) → m < p → n < p
+    → bytes_of_number (bytes_for bits) m ≡ bytes_of_number (bytes_for bits) n → m ≡ n
+number-alone p bits laws m n below_m below_n e =
+    let len = bytes_for bits in
+    let all = holds_all p bits laws in
+    sym (number_of_bytes-bytes_of_number len m (omega (arith, all)))
+    ∙ ap number_of_bytes e
+    ∙ number_of_bytes-bytes_of_number len n (omega (arith, all))
+
 -- ---- elements as digests: lists of one number
 
 alone : {a b : ℕ} → a ∷ [] ≡ b ∷ [] → a ≡ b

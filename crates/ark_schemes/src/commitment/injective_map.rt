@@ -24,7 +24,8 @@ pub struct PedersenCommCompressor<C: CurveGroup, I: InjectiveMap<C>, W: Window> 
 
 impl<C: CurveGroup, I: InjectiveMap<C>, W: Window> CommitmentScheme
     for PedersenCommCompressor<C, I, W> {
-    ghost use Rattle.std.proofs.Common.{ap};
+    ghost use Rattle.std.proofs.Common.{sym, ap, ◌∙◌};
+    ghost use Rattle.ark_groups.specs.Laws.Fp.{number-alone};
     ghost use Rattle.ark_pedersen.specs.Laws.Pedersen.{image-decided};
     ghost use Rattle.ark_schemes.specs.Laws.Commitments.{pedersen_commitment-decided};
 
@@ -74,4 +75,15 @@ impl<C: CurveGroup, I: InjectiveMap<C>, W: Window> CommitmentScheme
         ap (λ lists input randomness. image_of I.mapped
         (pedersen_commitment C.group C.ScalarField.MODULUS_BIT_SIZE W.Window
         lists input (C.ScalarField.value randomness.0))) same };
+
+    ghost same_randomness = { λ p bytes r s same.
+        ap (λ scalar. image_of I.mapped
+        (pedersen_commitment C.group C.ScalarField.MODULUS_BIT_SIZE W.Window
+        (elements_in p) bytes scalar))
+        (number-alone C.ScalarField.MODULUS C.ScalarField.MODULUS_BIT_SIZE C.ScalarField.modulus_laws _ _
+        (C.ScalarField.PrimeField.laws.below r.0) (C.ScalarField.PrimeField.laws.below s.0)
+        (sym (C.ScalarField.spelling_is r.0) ∙ ap C.ScalarField.spelling same
+        ∙ C.ScalarField.spelling_is s.0)) };
+
+    ghost equal_if_same = { I.equal_if_same };
 }
