@@ -64,7 +64,8 @@ impl<C: CurveGroup + TECoordinates> InjectiveMap<C> for TECompressor {
     ghost mapped_decided = { λ x. tt };
 
     ghost equal_if_same = { λ a b.
-        number_bytes-Decides C.BaseField.MODULUS C.BaseField.MODULUS_BIT_SIZE C.BaseField.modulus_laws _ _
+        number_bytes-Decides C.BaseField.MODULUS C.BaseField.MODULUS_BIT_SIZE
+        C.BaseField.modulus_laws _ _
         (C.BaseField.PrimeField.laws.below a) (C.BaseField.PrimeField.laws.below b) _ _
         (C.BaseField.spelling_is a) (C.BaseField.spelling_is b) _
         (C.BaseField.equal_if_same a b) };

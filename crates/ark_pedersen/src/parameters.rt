@@ -71,7 +71,8 @@ impl<C: CurveGroup> CanonicalItem for Parameters<C> {
 impl<C: CurveGroup> ReadBack for Parameters<C> {
     ghost use Rattle.ark_pedersen.specs.Laws.Pedersen.{lists_in-same};
 
-    ghost same_seen = { λ p q. lists_in-same C.view C.same_view p.generators.items q.generators.items };
+    ghost same_seen = { λ p q.
+        lists_in-same C.view C.same_view p.generators.items q.generators.items };
 }
 
 impl<C: CurveGroup> fmt::Debug for Parameters<C> {

@@ -286,6 +286,11 @@ fn parameters_have_canonical_bytes(rt: HostRuntime) -> Result<(), Fail> {
         parameters.duplicate(alloc)?.generators,
         parameters.generators
     );
+    let mut several = Vec::new(alloc);
+    vec![in alloc; parameters, two_windows(alloc)?]?.serialize(&mut several)?;
+    let (list, used) = Vec::<Parameters<G13>>::deserialize(alloc, &several)?;
+    assert_eq!(rt; (list.len(), used), (2, 72));
+    assert_eq!(rt; list[1].generators, again.generators);
     let cut = Parameters::<G13>::deserialize(alloc, &written[..31]);
     assert_eq!(rt;
         cut.err(),

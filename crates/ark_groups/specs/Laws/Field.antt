@@ -5,20 +5,39 @@ use Rattle.std.proofs.lemmas.Bool.{cases_lt}
 use Rattle.ark_groups.specs.Field.{IsModulus}
 
 pub IsModulus-7 : IsModulus 7 3
-IsModulus-7 = record { at_least_two = lit≤ tt; in_word = lit< tt; digits = record { no_more = lit< tt; no_fewer = lit≤ tt } }
+IsModulus-7 = record {
+  at_least_two = lit≤ tt;
+  in_word = lit< tt;
+  digits = record { no_more = lit< tt; no_fewer = lit≤ tt };
+}
 
 pub IsModulus-13 : IsModulus 13 4
-IsModulus-13 = record { at_least_two = lit≤ tt; in_word = lit< tt; digits = record { no_more = lit< tt; no_fewer = lit≤ tt } }
+IsModulus-13 = record {
+  at_least_two = lit≤ tt;
+  in_word = lit< tt;
+  digits = record { no_more = lit< tt; no_fewer = lit≤ tt };
+}
 
 pub IsModulus-257 : IsModulus 257 9
-IsModulus-257 = record { at_least_two = lit≤ tt; in_word = lit< tt; digits = record { no_more = lit< tt; no_fewer = lit≤ tt } }
+IsModulus-257 = record {
+  at_least_two = lit≤ tt;
+  in_word = lit< tt;
+  digits = record { no_more = lit< tt; no_fewer = lit≤ tt };
+}
 
 pub IsModulus-65537 : IsModulus 65537 17
-IsModulus-65537 =
-    record { at_least_two = lit≤ tt; in_word = lit< tt; digits = record { no_more = lit< tt; no_fewer = lit≤ tt } }
+IsModulus-65537 = record {
+  at_least_two = lit≤ tt;
+  in_word = lit< tt;
+  digits = record { no_more = lit< tt; no_fewer = lit≤ tt };
+}
 
 pub IsModulus-61 : IsModulus 2305843009213693951 61
-IsModulus-61 = record { at_least_two = lit≤ tt; in_word = lit< tt; digits = record { no_more = lit< tt; no_fewer = lit≤ tt } }
+IsModulus-61 = record {
+  at_least_two = lit≤ tt;
+  in_word = lit< tt;
+  digits = record { no_more = lit< tt; no_fewer = lit≤ tt };
+}
 
 pub at_least_two_bits : (p bits : ℕ) → IsModulus p bits → 2 ≤ bits
 at_least_two_bits p zero laws = absurd (omega (arith, laws.digits.no_more, laws.at_least_two))

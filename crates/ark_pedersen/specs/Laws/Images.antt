@@ -23,5 +23,6 @@ pub bytes-Decides : {G V : Type 0} (view : G → V) (has_spelling : V → Type 0
     → (x y : G) (equal : Bool) → Decides equal (x ≡ y) → Decides equal (spelling (view x) ≡ spelling (view y))
 bytes-Decides view has_spelling spelling reads laws is_spelled same_view x y equal decides = (
   λ t. ap (λ z. spelling (view z)) (decides.0 t),
-  λ e. decides.1 (same_view x y (spelling-alone has_spelling spelling reads laws (view x) (view y) (is_spelled x) (is_spelled y) e)),
+  λ e. decides.1 (same_view x y
+      (spelling-alone has_spelling spelling reads laws (view x) (view y) (is_spelled x) (is_spelled y) e)),
 )

@@ -62,7 +62,8 @@ map-itself (x ∷ xs) = ap (λ t. x ∷ t) (map-itself xs)
 
 -- lists of elements with the same canonical values have the same elements
 pub lists_in-same : {G V Z : Type 0} (view : G → V) → ((x y : G) → view x ≡ view y → x ≡ y)
-    → (p q : List (Vec G Z)) → map (λ (list : Vec G Z). map view list.items) p ≡ map (λ (list : Vec G Z). map view list.items) q
+    → (p q : List (Vec G Z))
+    → map (λ (list : Vec G Z). map view list.items) p ≡ map (λ (list : Vec G Z). map view list.items) q
     → lists_in p ≡ lists_in q
 lists_in-same {G} {V} {Z} view alone p q e =
     map-through (λ (list : Vec G Z). map view list.items) (λ (list : Vec G Z). list.items)

@@ -6,10 +6,10 @@ use crate::injective_map::{
 use crate::{Parameters, Window};
 use ark_base::error::Error;
 use ark_crh::{CRHScheme, TwoToOneCRHScheme};
-use ark_groups::ec::Small;
+use ark_groups::ec::{CurveGroup, Small};
 use ark_groups::ff::{Fp, M13, M257, PrimeField};
-use rand::SeedableRng;
 use rand::rngs::SmallRng;
+use rand::{Rng, SeedableRng};
 use std::alloc::Global;
 use std::test::Fail;
 
@@ -115,17 +115,35 @@ fn images_are_hashed_by_their_bytes(rt: HostRuntime) -> Result<(), Fail> {
     Ok(())
 }
 
+// Whether there are so many lists of four, each an element of the twin's with its doublings.
+fn are_drawn<R: Rng>(parameters: &Parameters<Small<M13>>, windows: usize, twin: &mut R) -> bool {
+    let mut same = parameters.generators.len() == windows;
+    for list in &parameters.generators {
+        let mut power = <Small<M13> as CurveGroup>::rand(twin);
+        same = same && list.len() == 4;
+        for item in list {
+            same = same && *item == power;
+            power = power.double();
+        }
+    }
+    same
+}
+
 #[test]
-fn setup_makes_parameters_that_hash(rt: HostRuntime) -> Result<(), Fail> {
+fn setup_doubles_what_is_drawn(rt: HostRuntime) -> Result<(), Fail> {
     let alloc = rt.alloc();
     let mut rng = SmallRng::seed_from_u64(3);
+    let mut twin = SmallRng::seed_from_u64(3);
     let parameters = <Compressed as CRHScheme>::setup(alloc, &mut rng)?;
+    assert!(rt; are_drawn(&parameters, 2, &mut twin));
     let none = Vec::new(alloc);
     assert_eq!(rt;
         Compressed::evaluate(alloc, &parameters, &none)?,
         coordinate(0)
     );
     let parameters = <CompressedTwo as TwoToOneCRHScheme>::setup(alloc, &mut rng)?;
+    assert!(rt; are_drawn(&parameters, 8, &mut twin));
+    assert_eq!(rt; rng.next_u64(), twin.next_u64());
     assert_eq!(rt;
         CompressedTwo::evaluate(alloc, &parameters, &none, &none)?,
         coordinate(0)

@@ -80,7 +80,8 @@ impl<C: CurveGroup, I: InjectiveMap<C>, W: Window> CommitmentScheme
         ap (λ scalar. image_of I.mapped
         (pedersen_commitment C.group C.ScalarField.MODULUS_BIT_SIZE W.Window
         (elements_in p) bytes scalar))
-        (number-alone C.ScalarField.MODULUS C.ScalarField.MODULUS_BIT_SIZE C.ScalarField.modulus_laws _ _
+        (number-alone C.ScalarField.MODULUS C.ScalarField.MODULUS_BIT_SIZE
+        C.ScalarField.modulus_laws _ _
         (C.ScalarField.PrimeField.laws.below r.0) (C.ScalarField.PrimeField.laws.below s.0)
         (sym (C.ScalarField.spelling_is r.0) ∙ ap C.ScalarField.spelling same
         ∙ C.ScalarField.spelling_is s.0)) };

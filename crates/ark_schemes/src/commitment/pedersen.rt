@@ -116,13 +116,15 @@ impl<C: CurveGroup, W: Window> CommitmentScheme for Commitment<C, W> {
         ap (λ scalar. seen_by (λ x. C.spelling (C.view x))
         (pedersen_commitment C.group C.ScalarField.MODULUS_BIT_SIZE W.Window
         (elements_in p) bytes scalar))
-        (number-alone C.ScalarField.MODULUS C.ScalarField.MODULUS_BIT_SIZE C.ScalarField.modulus_laws _ _
+        (number-alone C.ScalarField.MODULUS C.ScalarField.MODULUS_BIT_SIZE
+        C.ScalarField.modulus_laws _ _
         (C.ScalarField.PrimeField.laws.below r.0) (C.ScalarField.PrimeField.laws.below s.0)
         (sym (C.ScalarField.spelling_is r.0) ∙ ap C.ScalarField.spelling same
         ∙ C.ScalarField.spelling_is s.0)) };
 
     ghost equal_if_same = { λ a b.
-        bytes-Decides C.view C.has_spelling C.spelling C.reads C.Canonical.laws C.is_spelled C.same_view
+        bytes-Decides C.view C.has_spelling C.spelling C.reads C.Canonical.laws
+        C.is_spelled C.same_view
         a b _ (C.CurveGroup.equal_if_same a b) };
 }
 
