@@ -8,7 +8,7 @@ ghost use Rattle.std.specs.Prelude.{◌≡◌, ℕ, ◌<◌, ◌≤◌, ◌⊎�
 ghost use Rattle.std.specs.Prelude.{OnOk, IfOk, MatchResult, Err};
 ghost use Rattle.std.specs.List.{flat_map, AllByRecursion};
 ghost use Rattle.ark_base.specs.Outcome.{Answers, AnswersBy, IsMemory, LacksMemoryOnly};
-ghost use Rattle.ark_base.specs.Reading.{Reading, Reads, Spells, IsCanonical, outcome_of};
+ghost use Rattle.ark_base.specs.Reading.{Reading, Reads, Spells, IsCanonical, reading_outcome};
 ghost use Rattle.ark_base.specs.Spelling.{items_at};
 ghost use Rattle.ark_base.specs.declared.error.SerializationError.TheVariants.{Truncated};
 
@@ -96,7 +96,7 @@ pub trait CanonicalDeserialize: Canonical {
             (λ error. IsMemory error ⊎ (error ≡ Error.SerializationError Truncated)) }
 
         // Which fault it is: the first from the left.
-        ensures exact { let reading = outcome_of (Self.reads bytes.now) in
+        ensures exact { let reading = reading_outcome (Self.reads bytes.now) in
             AnswersBy (λ x. (Self.view x.0, drop x.1 bytes.now)) reading result }
     {
         Self::read(alloc, bytes)

@@ -25,22 +25,22 @@ pub trait InjectiveMap<C> {
     type Output: Clone + Eq + Hash + Default + Debug + CanonicalItem;
 
     // The canonical bytes of an element's image, or the refusal of the element.
-    ghost mapped: { C → Outcome (List ℕ) };
+    ghost image: { C → Outcome (List ℕ) };
 
     /// The image of an element.
     ///
-    /// Refusals: those of `mapped`, which never are want of memory; `OutOfMemory`.
+    /// Refusals: those of `image`, which never are want of memory; `OutOfMemory`.
     fn injective_map(alloc: Global, ge: &C) -> Result<Self::Output, Error>
         ensures { let bytes : Self.Output → List ℕ =
-            λ image. Self.Output.spelling (Self.Output.view image) in
-            AnswersBy bytes (mapped ge.now) result };
+            λ x. Self.Output.spelling (Self.Output.view x) in
+            AnswersBy bytes (image ge.now) result };
 
-    ghost mapped_decided: { (x : C) → IsDecided (mapped x) };
+    ghost image_decided: { (x : C) → IsDecided (image x) };
 
     // Two images are equal only when their canonical bytes are.
     ghost equal_if_same: { (a b : Self.Output)
         → let bytes : Self.Output → List ℕ =
-        λ image. Self.Output.spelling (Self.Output.view image) in
+        λ x. Self.Output.spelling (Self.Output.view x) in
         Decides (Self.Output.eq a b) (bytes a ≡ bytes b) };
 }
 
@@ -52,16 +52,16 @@ impl<C: CurveGroup + TECoordinates> InjectiveMap<C> for TECompressor {
 
     type Output = C::BaseField;
 
-    ghost mapped = { λ x. Ok (bytes_of_number (bytes_for C.BaseField.MODULUS_BIT_SIZE) (C.x x)) };
+    ghost image = { λ x. Ok (bytes_of_number (bytes_for C.BaseField.MODULUS_BIT_SIZE) (C.x x)) };
 
     /// The first coordinate. It takes no memory.
     fn injective_map(_alloc: Global, ge: &C) -> Result<C::BaseField, Error>
-        ensures { IsOkAnd result (λ image. C.BaseField.value image ≡ C.x ge.now) }
+        ensures { IsOkAnd result (λ x. C.BaseField.value x ≡ C.x ge.now) }
     {
         Ok(ge.x())
     }
 
-    ghost mapped_decided = { λ x. tt };
+    ghost image_decided = { λ x. tt };
 
     ghost equal_if_same = { λ a b.
         number_bytes-Decides C.BaseField.MODULUS C.BaseField.MODULUS_BIT_SIZE
@@ -92,7 +92,7 @@ where
 
     ghost meaning = { λ parameters input.
         let hash = pedersen_hash C.group W.Window (generators_in parameters) input.items in
-        seen_image I.Output.numbers_of I.mapped hash };
+        seen_image I.Output.numbers_of I.image hash };
 
     ghost setup_outcome = { Ok tt };
 
@@ -118,13 +118,13 @@ where
     }
 
     ghost meaning_decided = { λ parameters input.
-        seen_image-decided I.Output.numbers_of I.mapped _ I.mapped_decided
+        seen_image-decided I.Output.numbers_of I.image _ I.image_decided
         (pedersen-decided C.group W.Window (generators_in parameters) input.items) };
 
     ghost setup_decided = { tt };
 
     ghost same_parameters = { λ p q same.
-        ap (λ lists input. seen_image I.Output.numbers_of I.mapped
+        ap (λ lists input. seen_image I.Output.numbers_of I.image
         (pedersen_hash C.group W.Window lists input.items)) same };
 }
 
@@ -150,12 +150,12 @@ where
 
     ghost evaluated = { λ parameters left right.
         let hash = pedersen_hash C.group W.Window (generators_in parameters) in
-        seen_image I.Output.numbers_of I.mapped (of_halves W.Window hash left right) };
+        seen_image I.Output.numbers_of I.image (of_halves W.Window hash left right) };
 
     ghost compressed = { λ parameters left right.
         let hash = pedersen_hash C.group W.Window (generators_in parameters) in
         let whole = of_halves W.Window hash (I.Output.bytes_of left) (I.Output.bytes_of right) in
-        seen_image I.Output.numbers_of I.mapped whole };
+        seen_image I.Output.numbers_of I.image whole };
 
     ghost setup_outcome = { Ok tt };
 
@@ -197,22 +197,22 @@ where
     }
 
     ghost evaluated_decided = { λ parameters left right.
-        seen_image-decided I.Output.numbers_of I.mapped _ I.mapped_decided
+        seen_image-decided I.Output.numbers_of I.image _ I.image_decided
         (halves-decided C.group W.Window (generators_in parameters) left right) };
 
     ghost compressed_decided = { λ parameters left right.
-        seen_image-decided I.Output.numbers_of I.mapped _ I.mapped_decided
+        seen_image-decided I.Output.numbers_of I.image _ I.image_decided
         (halves-decided C.group W.Window (generators_in parameters)
         (I.Output.bytes_of left) (I.Output.bytes_of right)) };
 
     ghost setup_decided = { tt };
 
     ghost evaluated_same = { λ p q same.
-        ap (λ lists left right. seen_image I.Output.numbers_of I.mapped
+        ap (λ lists left right. seen_image I.Output.numbers_of I.image
         (of_halves W.Window (pedersen_hash C.group W.Window lists) left right)) same };
 
     ghost compressed_same = { λ p q same.
-        ap (λ lists left right. seen_image I.Output.numbers_of I.mapped
+        ap (λ lists left right. seen_image I.Output.numbers_of I.image
         (of_halves W.Window (pedersen_hash C.group W.Window lists)
         (I.Output.bytes_of left) (I.Output.bytes_of right))) same };
 }

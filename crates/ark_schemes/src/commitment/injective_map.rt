@@ -39,7 +39,7 @@ impl<C: CurveGroup, I: InjectiveMap<C>, W: Window> CommitmentScheme
         let bits = C.ScalarField.MODULUS_BIT_SIZE in
         let commitment = pedersen_commitment C.group bits W.Window in
         let scalar = C.ScalarField.value randomness.0 in
-        image_of I.mapped (commitment (elements_in parameters) input scalar) };
+        image_of I.image (commitment (elements_in parameters) input scalar) };
 
     ghost setup_outcome = { Ok tt };
 
@@ -65,19 +65,19 @@ impl<C: CurveGroup, I: InjectiveMap<C>, W: Window> CommitmentScheme
     }
 
     ghost meaning_decided = { λ parameters input randomness.
-        image-decided I.mapped _ I.mapped_decided
+        image-decided I.image _ I.image_decided
         (pedersen_commitment-decided C.group C.ScalarField.MODULUS_BIT_SIZE W.Window
         (elements_in parameters) input (C.ScalarField.value randomness.0)) };
 
     ghost setup_decided = { tt };
 
     ghost same_parameters = { λ p q same.
-        ap (λ lists input randomness. image_of I.mapped
+        ap (λ lists input randomness. image_of I.image
         (pedersen_commitment C.group C.ScalarField.MODULUS_BIT_SIZE W.Window
         lists input (C.ScalarField.value randomness.0))) same };
 
     ghost same_randomness = { λ p bytes r s same.
-        ap (λ scalar. image_of I.mapped
+        ap (λ scalar. image_of I.image
         (pedersen_commitment C.group C.ScalarField.MODULUS_BIT_SIZE W.Window
         (elements_in p) bytes scalar))
         (number-alone C.ScalarField.MODULUS C.ScalarField.MODULUS_BIT_SIZE
