@@ -127,7 +127,7 @@ pub trait CanonicalItem: CanonicalSerialize + CanonicalDeserialize + Sized + Dro
         Ok(())
     }
 
-    /// Reads so many items, one behind the other, and the count of bytes that they take.
+    /// Reads `count` items, one behind the other, and the count of bytes that they take.
     ///
     /// Room is asked for at once, for no more items than the bytes that remain could spell.
     fn read_items(alloc: Global, count: u64, bytes: &[u8]) -> Result<(Vec<Self>, usize), Error>

@@ -28,7 +28,7 @@ pub trait CRHScheme {
 
     ghost is_made: { Self.Parameters → Type 0 };
 
-    /// Makes parameters from what the generator gives. Which values it gives is the generator's matter.
+    /// Makes parameters from values that the random number generator chooses.
     ///
     /// Refusals: that of the scheme, where it has none to make; `OutOfMemory`.
     fn setup<R: Rng>(alloc: Global, rng: &mut R) -> Result<Self::Parameters, Error>
@@ -37,7 +37,7 @@ pub trait CRHScheme {
 
     /// The digest of an input.
     ///
-    /// Refusals: those of `meaning`, which never are want of memory; `OutOfMemory`.
+    /// Refusals: those of `meaning`, none of which is `OutOfMemory`; and `OutOfMemory`.
     fn evaluate(
         alloc: Global,
         parameters: &Self::Parameters,
@@ -79,7 +79,7 @@ pub trait TwoToOneCRHScheme {
 
     /// The digest of two inputs.
     ///
-    /// Refusals: those of `evaluated`, which never are want of memory; `OutOfMemory`.
+    /// Refusals: those of `evaluated`, none of which is `OutOfMemory`; and `OutOfMemory`.
     fn evaluate(
         alloc: Global,
         parameters: &Self::Parameters,
@@ -92,7 +92,7 @@ pub trait TwoToOneCRHScheme {
 
     /// The digest of two digests.
     ///
-    /// Refusals: those of `compressed`, which never are want of memory; `OutOfMemory`.
+    /// Refusals: those of `compressed`, none of which is `OutOfMemory`; and `OutOfMemory`.
     fn compress(
         alloc: Global,
         parameters: &Self::Parameters,

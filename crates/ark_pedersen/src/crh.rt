@@ -34,7 +34,7 @@ impl<C: CurveGroup, W: Window> CRH<C, W> {
         Ok(lists)
     }
 
-    /// An element that is drawn, then its doublings, so many in all. The only refusal is `OutOfMemory`.
+    /// An element that is drawn, then its doublings, `count` in all. The only refusal is `OutOfMemory`.
     pub fn generator_powers<R: Rng>(
         alloc: Global,
         count: usize,

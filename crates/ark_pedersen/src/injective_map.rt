@@ -29,7 +29,7 @@ pub trait InjectiveMap<C> {
 
     /// The image of an element.
     ///
-    /// Refusals: those of `image`, which never are want of memory; `OutOfMemory`.
+    /// Refusals: those of `image`, none of which is `OutOfMemory`; and `OutOfMemory`.
     fn injective_map(alloc: Global, ge: &C) -> Result<Self::Output, Error>
         ensures { let bytes : Self.Output → List ℕ =
             λ x. Self.Output.spelling (Self.Output.view x) in

@@ -1,4 +1,4 @@
--- vectors
+-- Vectors of another implementation, computed from the definition: they speak of no code, so no contract names them.
 use Rattle.std.proofs.Common.{◌≡◌, [], ◌∷◌, refl, codes}
 use Rattle.std.specs.List.{range_with_len}
 use Rattle.ark_schemes.specs.Blake2s.{mixture, round, rounds, compression, blocks, words_from, state_after, first_state, state_bytes, blake2s, blake2s_with}

@@ -32,7 +32,7 @@ pub trait CommitmentScheme {
 
     ghost is_made: { Self.Parameters → Type 0 };
 
-    /// Makes parameters from what the generator gives. Which values it gives is the generator's matter.
+    /// Makes parameters from values that the random number generator chooses.
     ///
     /// Refusals: that of the scheme, where it has none to make; `OutOfMemory`.
     fn setup<R: Rng>(alloc: Global, rng: &mut R) -> Result<Self::Parameters, Error>
@@ -41,7 +41,7 @@ pub trait CommitmentScheme {
 
     /// The commitment to bytes under randomness.
     ///
-    /// Refusals: those of `meaning`, which never are want of memory; `OutOfMemory`.
+    /// Refusals: those of `meaning`, none of which is `OutOfMemory`; and `OutOfMemory`.
     fn commit(
         alloc: Global,
         parameters: &Self::Parameters,

@@ -25,7 +25,7 @@ pub trait PRF {
 
     /// The output for a seed and an input.
     ///
-    /// Refusals: those of `meaning`, which never are want of memory; `OutOfMemory`.
+    /// Refusals: those of `meaning`, none of which is `OutOfMemory`; and `OutOfMemory`.
     fn evaluate(seed: &Self::Seed, input: &Self::Input) -> Result<Self::Output, Error>
         ensures { let bytes : Self.Output → List ℕ =
             λ output. Self.Output.spelling (Self.Output.view output) in

@@ -115,7 +115,7 @@ fn images_are_hashed_by_their_bytes(rt: HostRuntime) -> Result<(), Fail> {
     Ok(())
 }
 
-// Whether there are so many lists of four, each an element of the twin's with its doublings.
+// Whether there is a list of four for each window: an element of the twin's with its doublings.
 fn are_drawn<R: Rng>(parameters: &Parameters<Small<M13>>, windows: usize, twin: &mut R) -> bool {
     let mut same = parameters.generators.len() == windows;
     for list in &parameters.generators {

@@ -79,7 +79,7 @@ impl<C: CurveGroup, W: Window> CommitmentScheme for Commitment<C, W> {
             let scalar = C.ScalarField.value randomness.now.0 in
             result ≡ commitment (elements_in parameters.now) input.now scalar }
 
-        // Where the generators are those of elements, the sum over the windows and so many times the randomness element.
+        // Where the generators are those of elements, the sum over the windows and the randomness element scalar times.
         ensures windows { let bits = C.ScalarField.MODULUS_BIT_SIZE in
             let scalar = C.ScalarField.value randomness.now.0 in
             (element : C) (elements : List C)
