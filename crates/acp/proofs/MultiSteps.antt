@@ -4,7 +4,7 @@ use Rattle.std.specs.List.{All}
 use Rattle.std.proofs.lemmas.Bool.{ltb-true, false≢true}
 use Rattle.ark_base.specs.declared.error.Error.{Error}
 use Rattle.ark_base.specs.Outcome.{Outcome}
-use Rattle.ark_base.specs.Reading.{told}
+use Rattle.ark_base.specs.Reading.{reading_outcome}
 use Rattle.ark_merkle.specs.MultiPaths.{MultiWay, multi_verified}
 use Rattle.ark_merkle.specs.Pairs.{Digest, HashPair}
 use Rattle.ark_merkle.specs.Roots.{root}
@@ -37,11 +37,11 @@ module _ (l : Language) (before : State) (tokens : List (List ℕ)) (proof : Lis
       pub mcheck_reply-judged : (digests : List Digest) → before ≡ Some digests → mcheck_reply l before tokens ≡ judgement (multi_judged l digests leaves bytes)
       mcheck_reply-judged digests is = rw (are, ← said, ← hashed, is) refl
 
-module _ (l : Language) (digests : List Digest) (leaves : List (Outcome Digest)) (bytes : List ℕ) (proof : MultiWay) (rest : List ℕ) (read : told (l.multi_read bytes) ≡ Ok (proof, rest)) where
+module _ (l : Language) (digests : List Digest) (leaves : List (Outcome Digest)) (bytes : List ℕ) (proof : MultiWay) (rest : List ℕ) (read : reading_outcome (l.multi_read bytes) ≡ Ok (proof, rest)) where
   pub multi_judged-trailing : 0 < length rest → multi_judged l digests leaves bytes ≡ Ok None
   multi_judged-trailing some = by_rest rest read some
     where
-      by_rest : (more : List ℕ) → told (l.multi_read bytes) ≡ Ok (proof, more) → 0 < length more → multi_judged l digests leaves bytes ≡ Ok None
+      by_rest : (more : List ℕ) → reading_outcome (l.multi_read bytes) ≡ Ok (proof, more) → 0 < length more → multi_judged l digests leaves bytes ≡ Ok None
       by_rest [] e h = absurd (omega arith)
       by_rest (b ∷ more) e h = rw e refl
 
@@ -52,13 +52,13 @@ module _ (l : Language) (digests : List Digest) (leaves : List (Outcome Digest))
     pub multi_judged-refused : (e : Error) → multi_verified h leaves proof r ≡ Err e → multi_judged l digests leaves bytes ≡ Err e
     multi_judged-refused e refused = by_rest rest read none
       where
-        by_rest : (more : List ℕ) → told (l.multi_read bytes) ≡ Ok (proof, more) → length more ≡ 0 → multi_judged l digests leaves bytes ≡ Err e
+        by_rest : (more : List ℕ) → reading_outcome (l.multi_read bytes) ≡ Ok (proof, more) → length more ≡ 0 → multi_judged l digests leaves bytes ≡ Err e
         by_rest [] is z = rw (is, rooted, multi_judged-verified (Err e) refused) refl
         by_rest (b ∷ more) is z = absurd (omega arith)
 
     pub multi_judged-holds : (holds : Bool) → multi_verified h leaves proof r ≡ Ok holds → multi_judged l digests leaves bytes ≡ Ok (Some holds)
     multi_judged-holds holds is_so = by_rest rest read none
       where
-        by_rest : (more : List ℕ) → told (l.multi_read bytes) ≡ Ok (proof, more) → length more ≡ 0 → multi_judged l digests leaves bytes ≡ Ok (Some holds)
+        by_rest : (more : List ℕ) → reading_outcome (l.multi_read bytes) ≡ Ok (proof, more) → length more ≡ 0 → multi_judged l digests leaves bytes ≡ Ok (Some holds)
         by_rest [] is z = rw (is, rooted, multi_judged-verified (Ok holds) is_so) refl
         by_rest (b ∷ more) is z = absurd (omega arith)

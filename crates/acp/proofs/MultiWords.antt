@@ -2,14 +2,14 @@
 use Rattle.std.proofs.Common.{◌≡◌, ℕ, List, length, map, refl, sym, ◌∙◌}
 use Rattle.std.proofs.lemmas.List.{length-map, map-id}
 use Rattle.std.specs.declared.vec.Vec.{Vec}
-use Rattle.ark_base.specs.Spelling.{counted}
+use Rattle.ark_base.specs.Spelling.{counted_list}
 use Rattle.ark_merkle.specs.MultiBytes.{multi_spelling, multi_bytes, multi_way_of}
 use Rattle.ark_merkle.specs.MultiPaths.{MultiWay}
 use Rattle.ark_merkle.specs.Pairs.{Digest}
 use Rattle.acp.proofs.PathWords.{flat_map-map, map-map}
 
 -- two ways to spell the items of a list
-counted-map : {A B C : Type 0} (f : B → List ℕ) (g : A → B) (k : C → List ℕ) (h : A → C) → ((x : A) → f (g x) ≡ k (h x)) → (xs : List A) → counted f (map g xs) ≡ counted k (map h xs)
+counted-map : {A B C : Type 0} (f : B → List ℕ) (g : A → B) (k : C → List ℕ) (h : A → C) → ((x : A) → f (g x) ≡ k (h x)) → (xs : List A) → counted_list f (map g xs) ≡ counted_list k (map h xs)
 counted-map f g k h same xs =
     let long : length (map g xs) ≡ length (map h xs) = length-map xs g ∙ sym (length-map xs h) in
     rw (long, flat_map-map f g k h same xs) refl
@@ -20,7 +20,7 @@ module _ {L U A B Z : Type 0} (leaf_view : A → L) (view : B → U) (leaf_numbe
       → multi_spelling leaf inner (map leaf_view siblings, (map (λ n. n) prefixes, (map (λ suffix. map view suffix.items) suffixes, map (λ n. n) indexes))) ≡ written (record { siblings = map leaf_numbers siblings; prefixes = prefixes; suffixes = map (λ suffix. map numbers suffix.items) suffixes; indexes = indexes })
   multi_spelling-way leaf leaf_bytes inner bytes leaf_same same written is =
       let beside = counted-map leaf leaf_view leaf_bytes leaf_numbers leaf_same siblings in
-      let below = counted-map (counted inner) (λ (suffix : Vec B Z). map view suffix.items) (counted bytes) (λ (suffix : Vec B Z). map numbers suffix.items) (λ suffix. counted-map inner view bytes numbers same suffix.items) suffixes in
+      let below = counted-map (counted_list inner) (λ (suffix : Vec B Z). map view suffix.items) (counted_list bytes) (λ (suffix : Vec B Z). map numbers suffix.items) (λ suffix. counted-map inner view bytes numbers same suffix.items) suffixes in
       rw (← is, beside, below, map-id prefixes, map-id indexes) refl
 
   pub multi_way_of-parts : (leaf_of : L → Digest) (inner_of : U → Digest) → ((d : A) → leaf_numbers d ≡ leaf_of (leaf_view d)) → ((d : B) → numbers d ≡ inner_of (view d))

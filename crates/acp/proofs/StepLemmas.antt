@@ -6,7 +6,7 @@ use Rattle.std.proofs.lemmas.Result.{IfOk-weaker}
 use Rattle.ark_base.specs.declared.error.Error.{Error}
 use Rattle.ark_base.specs.declared.error.Error.TheVariants.{OutOfMemory}
 use Rattle.ark_base.specs.Outcome.{Outcome, Answers, ◌>>=◌}
-use Rattle.ark_base.specs.Reading.{told}
+use Rattle.ark_base.specs.Reading.{reading_outcome}
 use Rattle.ark_merkle.specs.Paths.{Way, verified}
 use Rattle.ark_merkle.specs.declared.tree.binding.Binding.{Binding}
 use Rattle.ark_merkle.specs.Bindings.{bound}
@@ -24,7 +24,7 @@ root_reply-more l before (token ∷ tokens) some = refl
 
 -- what is told of a reply that is the exact one
 pub tells : {A E : Type 0} (items : A → List ℕ) (r : Result A E) (exact reply : Reply) → exact ≡ reply → IfOk r (λ v. items v ≡ text reply) → IfOk r (λ v. Tells exact (items v))
-tells items r exact reply same told = IfOk-weaker r _ _ (λ v e. inl (e ∙ ap text (sym same))) told
+tells items r exact reply same reading_outcome = IfOk-weaker r _ _ (λ v e. inl (e ∙ ap text (sym same))) reading_outcome
 
 MayLackMemory-judgement : (o : Outcome (Option Bool)) → MayLackMemory (judgement o)
 MayLackMemory-judgement (Ok (Some holds)) = tt
@@ -38,7 +38,7 @@ judgement-told o (Err e) bytes (inr refused) reply = inl (reply ∙ ap (λ o. te
 
 -- what a call answered is told, or want of memory
 pub tells_judgement : {A E : Type 0} (items : A → List ℕ) (r : Result A E) (exact : Reply) (o result : Outcome (Option Bool)) → exact ≡ judgement o → Answers o result → IfOk r (λ v. items v ≡ text (judgement result)) → IfOk r (λ v. Tells exact (items v))
-tells_judgement items r exact o result same is told = IfOk-weaker r _ _ (λ v e. rw same (judgement-told o result (items v) is e)) told
+tells_judgement items r exact o result same is reading_outcome = IfOk-weaker r _ _ (λ v e. rw same (judgement-told o result (items v) is e)) reading_outcome
 
 -- ---- checks
 
@@ -57,11 +57,11 @@ module _ (l : Language) (before : State) (tokens : List (List ℕ)) (path token 
     pub check_reply-judged : (digests : List Digest) → before ≡ Some digests → check_reply l before tokens ≡ judgement (judged l digests leaf bytes)
     check_reply-judged digests is = rw (two, ← said, ← hashed, is) refl
 
-pub judged-trailing : (l : Language) (digests : List Digest) (leaf : Outcome Digest) (bytes : List ℕ) (way : Way) (rest : List ℕ) → told (l.read bytes) ≡ Ok (way, rest) → 0 < length rest → judged l digests leaf bytes ≡ Ok None
+pub judged-trailing : (l : Language) (digests : List Digest) (leaf : Outcome Digest) (bytes : List ℕ) (way : Way) (rest : List ℕ) → reading_outcome (l.read bytes) ≡ Ok (way, rest) → 0 < length rest → judged l digests leaf bytes ≡ Ok None
 judged-trailing l digests leaf bytes way [] read some = absurd (omega arith)
 judged-trailing l digests leaf bytes way (b ∷ rest) read some = rw read refl
 
-pub judged-refused : (l : Language) (digests : List Digest) (leaf : Outcome Digest) (bytes : List ℕ) (way : Way) (rest : List ℕ) (h : HashPair) (r : Digest) (e : Error) → told (l.read bytes) ≡ Ok (way, rest) → length rest ≡ 0 → h ≡ l.pair → root l.pair digests ≡ Ok r → verified h leaf way r ≡ Err e → judged l digests leaf bytes ≡ Err e
+pub judged-refused : (l : Language) (digests : List Digest) (leaf : Outcome Digest) (bytes : List ℕ) (way : Way) (rest : List ℕ) (h : HashPair) (r : Digest) (e : Error) → reading_outcome (l.read bytes) ≡ Ok (way, rest) → length rest ≡ 0 → h ≡ l.pair → root l.pair digests ≡ Ok r → verified h leaf way r ≡ Err e → judged l digests leaf bytes ≡ Err e
 judged-refused l digests leaf bytes way [] h r e read none same rooted refused = let known : verified l.pair leaf way r ≡ Err e = subst (λ k. verified k leaf way r ≡ Err e) same refused in rw (read, rooted, known) refl
 judged-refused l digests leaf bytes way (b ∷ rest) h r e read none same rooted refused = absurd (omega arith)
 
@@ -147,15 +147,15 @@ module _ (l : Language) (before : State) (tokens : List (List ℕ)) (path token 
     pub bind_reply-bound : (digests : List Digest) → before ≡ Some digests → bind_reply l before tokens ≡ binding_reply (bound_bytes l digests leaf bytes)
     bind_reply-bound digests is = rw (two, ← said, ← hashed, is) refl
 
-pub bound_bytes-trailing : (l : Language) (digests : List Digest) (leaf : Outcome Digest) (bytes : List ℕ) (way : Way) (rest : List ℕ) → told (l.read bytes) ≡ Ok (way, rest) → 0 < length rest → bound_bytes l digests leaf bytes ≡ Ok None
+pub bound_bytes-trailing : (l : Language) (digests : List Digest) (leaf : Outcome Digest) (bytes : List ℕ) (way : Way) (rest : List ℕ) → reading_outcome (l.read bytes) ≡ Ok (way, rest) → 0 < length rest → bound_bytes l digests leaf bytes ≡ Ok None
 bound_bytes-trailing l digests leaf bytes way [] read some = absurd (omega arith)
 bound_bytes-trailing l digests leaf bytes way (b ∷ rest) read some = rw read refl
 
-module _ (l : Language) (digests : List Digest) (leaf : Outcome Digest) (bytes : List ℕ) (way : Way) (rest : List ℕ) (h : HashPair) (read : told (l.read bytes) ≡ Ok (way, rest)) (none : length rest ≡ 0) (same : h ≡ l.pair) where
+module _ (l : Language) (digests : List Digest) (leaf : Outcome Digest) (bytes : List ℕ) (way : Way) (rest : List ℕ) (h : HashPair) (read : reading_outcome (l.read bytes) ≡ Ok (way, rest)) (none : length rest ≡ 0) (same : h ≡ l.pair) where
   bound_bytes-whole : bound_bytes l digests leaf bytes ≡ (bound h digests leaf way >>= λ binding. Ok (Some binding))
   bound_bytes-whole = by_rest rest read none
     where
-      by_rest : (bs : List ℕ) → told (l.read bytes) ≡ Ok (way, bs) → length bs ≡ 0 → bound_bytes l digests leaf bytes ≡ (bound h digests leaf way >>= λ binding. Ok (Some binding))
+      by_rest : (bs : List ℕ) → reading_outcome (l.read bytes) ≡ Ok (way, bs) → length bs ≡ 0 → bound_bytes l digests leaf bytes ≡ (bound h digests leaf way >>= λ binding. Ok (Some binding))
       by_rest [] e long = rw e (ap (λ (k : HashPair). bound k digests leaf way >>= λ binding. Ok (Some binding)) (sym same))
       by_rest (b ∷ bs) e long = absurd (omega arith)
 
@@ -176,13 +176,13 @@ binding-told o (Err e) bytes (inl memory) reply = inr (reply ∙ ap (λ e. text 
 binding-told o (Err e) bytes (inr refused) reply = inl (reply ∙ ap (λ o. text (binding_reply o)) (sym refused))
 
 pub tells_binding : {A E : Type 0} (items : A → List ℕ) (r : Result A E) (exact : Reply) (o result : Outcome (Option Binding)) → exact ≡ binding_reply o → Answers o result → IfOk r (λ v. items v ≡ text (binding_reply result)) → IfOk r (λ v. Tells exact (items v))
-tells_binding items r exact o result same is told = IfOk-weaker r _ _ (λ v e. rw same (binding-told o result (items v) is e)) told
+tells_binding items r exact o result same is reading_outcome = IfOk-weaker r _ _ (λ v e. rw same (binding-told o result (items v) is e)) reading_outcome
 
 -- ---- a line that changes the tree
 
 -- a turn that keeps the tree, as it is told
 pub takes_kept : (before : State) (exact : Turn) (reply : Reply) (bytes : List ℕ) → exact ≡ (reply, before) → bytes ≡ text reply → Takes before exact before bytes
-takes_kept before exact reply bytes same told = inl (told ∙ ap (λ (t : Turn). text t.0) (sym same), ap (λ (t : Turn). t.1) (sym same))
+takes_kept before exact reply bytes same reading_outcome = inl (reading_outcome ∙ ap (λ (t : Turn). text t.0) (sym same), ap (λ (t : Turn). t.1) (sym same))
 
 MayLackMemory-settled : (before : State) (o : Outcome (List Digest)) → MayLackMemory (settled before o).0
 MayLackMemory-settled before (Ok digests) = tt
@@ -190,13 +190,13 @@ MayLackMemory-settled before (Err error) = tt
 
 -- a refused tree leaves the one before
 pub takes_refused : (before : State) (exact : Turn) (o : Outcome (List Digest)) (e : Error) (bytes : List ℕ) → exact ≡ settled before o → (e ≡ OutOfMemory) ⊎ (o ≡ Err e) → bytes ≡ text (Refused e) → Takes before exact before bytes
-takes_refused before exact o e bytes same (inl memory) told = rw same (inr (told ∙ ap (λ e. text (Refused e)) memory, refl, MayLackMemory-settled before o))
-takes_refused before exact o e bytes same (inr refused) told = takes_kept before exact (Refused e) bytes (same ∙ ap (settled before) refused) told
+takes_refused before exact o e bytes same (inl memory) reading_outcome = rw same (inr (reading_outcome ∙ ap (λ e. text (Refused e)) memory, refl, MayLackMemory-settled before o))
+takes_refused before exact o e bytes same (inr refused) reading_outcome = takes_kept before exact (Refused e) bytes (same ∙ ap (settled before) refused) reading_outcome
 
 pub takes_built : (before : State) (exact : Turn) (o : Outcome (List Digest)) (digests : List Digest) (bytes : List ℕ) → exact ≡ settled before o → o ≡ Ok digests → bytes ≡ text (Built (length digests)) → Takes before exact (Some digests) bytes
-takes_built before exact o digests bytes same is told =
+takes_built before exact o digests bytes same is reading_outcome =
     let whole : exact ≡ settled before (Ok digests) = same ∙ ap (settled before) is in
-    inl (told ∙ ap (λ (t : Turn). text t.0) (sym whole), ap (λ (t : Turn). t.1) (sym whole))
+    inl (reading_outcome ∙ ap (λ (t : Turn). text t.0) (sym whole), ap (λ (t : Turn). t.1) (sym whole))
 
 -- ---- a leaf that is set
 
@@ -206,7 +206,7 @@ module _ (l : Language) (digests : List Digest) (index : ℕ) (leaf : Outcome Di
 
 -- a turn that keeps the tree, as the call that answers it tells it
 pub takes : {A E : Type 0} (items : A → List ℕ) (r : Result A E) (before after : State) (exact : Turn) (reply : Reply) → after ≡ before → exact ≡ (reply, before) → IfOk r (λ v. items v ≡ text reply) → IfOk r (λ v. Takes before exact after (items v))
-takes items r before after exact reply same is told = IfOk-weaker r _ _ (λ v e. rw (same) (takes_kept before exact reply (items v) is e)) told
+takes items r before after exact reply same is reading_outcome = IfOk-weaker r _ _ (λ v e. rw (same) (takes_kept before exact reply (items v) is e)) reading_outcome
 
 pub takes_same : {A E : Type 0} (items : A → List ℕ) (r : Result A E) (before after : State) (exact turn : Turn) (digests : List Digest) → before ≡ Some digests → exact ≡ turn → IfOk r (λ v. Takes (Some digests) turn after (items v)) → IfOk r (λ v. Takes before exact after (items v))
-takes_same items r before after exact turn digests was is told = rw (was, is) told
+takes_same items r before after exact turn digests was is reading_outcome = rw (was, is) reading_outcome

@@ -2,8 +2,8 @@
 use Rattle.std.specs.Prelude.{◌≡◌, ◌++◌, drop, Ok}
 use Rattle.std.specs.Option.{option_map}
 use Rattle.sha2.specs.Sha256.{sha256}
-use Rattle.ark_base.specs.Spelling.{byte, byte_at, counted, counted_at}
-use Rattle.ark_base.specs.Laws.Lists.{drop-counted}
+use Rattle.ark_base.specs.Spelling.{byte, byte_at, counted_list, counted_list_at}
+use Rattle.ark_base.specs.Laws.Lists.{drop-counted_list}
 use Rattle.ark_merkle.specs.MultiBytes.{multi_bytes, multi_way_at}
 use Rattle.ark_merkle.specs.PathBytes.{way_bytes, way_at}
 use Rattle.acp.specs.Language.{Language}
@@ -16,15 +16,15 @@ sha_language = record {
   bytes = bytes_of;
   shown = λ digest. digest;
   pair = record { bottom = λ left right. Ok (sha256 (left ++ right)); upper = λ left right. Ok (sha256 (left ++ right)) };
-  written = way_bytes (counted byte) (counted byte);
-  read = way_at (λ bytes. bytes) (λ bytes. bytes) (counted_at byte_at) (counted_at byte_at);
-  multi_written = multi_bytes (counted byte) (counted byte);
-  multi_read = multi_way_at (λ bytes. bytes) (λ bytes. bytes) (counted_at byte_at) (counted_at byte_at);
+  written = way_bytes (counted_list byte) (counted_list byte);
+  read = way_at (λ bytes. bytes) (λ bytes. bytes) (counted_list_at byte_at) (counted_list_at byte_at);
+  multi_written = multi_bytes (counted_list byte) (counted_list byte);
+  multi_read = multi_way_at (λ bytes. bytes) (λ bytes. bytes) (counted_list_at byte_at) (counted_list_at byte_at);
 }
 
 -- the bytes of a digest are what stands behind their count
-pub read-sha : way_at (λ bytes. drop 8 (counted byte bytes)) (λ bytes. drop 8 (counted byte bytes)) (counted_at byte_at) (counted_at byte_at) ≡ sha_language.read
-read-sha = λ i. way_at (λ bytes. drop-counted bytes i) (λ bytes. drop-counted bytes i) (counted_at byte_at) (counted_at byte_at)
+pub read-sha : way_at (λ bytes. drop 8 (counted_list byte bytes)) (λ bytes. drop 8 (counted_list byte bytes)) (counted_list_at byte_at) (counted_list_at byte_at) ≡ sha_language.read
+read-sha = λ i. way_at (λ bytes. drop-counted_list bytes i) (λ bytes. drop-counted_list bytes i) (counted_list_at byte_at) (counted_list_at byte_at)
 
-pub multi_read-sha : multi_way_at (λ bytes. drop 8 (counted byte bytes)) (λ bytes. drop 8 (counted byte bytes)) (counted_at byte_at) (counted_at byte_at) ≡ sha_language.multi_read
-multi_read-sha = λ i. multi_way_at (λ bytes. drop-counted bytes i) (λ bytes. drop-counted bytes i) (counted_at byte_at) (counted_at byte_at)
+pub multi_read-sha : multi_way_at (λ bytes. drop 8 (counted_list byte bytes)) (λ bytes. drop 8 (counted_list byte bytes)) (counted_list_at byte_at) (counted_list_at byte_at) ≡ sha_language.multi_read
+multi_read-sha = λ i. multi_way_at (λ bytes. drop-counted_list bytes i) (λ bytes. drop-counted_list bytes i) (counted_list_at byte_at) (counted_list_at byte_at)

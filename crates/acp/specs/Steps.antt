@@ -4,7 +4,7 @@ use Rattle.std.specs.Option.{option_map}
 use Rattle.std.specs.Str.{bytes_eq}
 use Rattle.ark_base.specs.declared.error.Error.TheVariants.{OutOfMemory}
 use Rattle.ark_base.specs.Outcome.{Outcome, ◌>>=◌}
-use Rattle.ark_base.specs.Reading.{told}
+use Rattle.ark_base.specs.Reading.{reading_outcome}
 use Rattle.ark_merkle.specs.declared.tree.binding.Binding.{Binding}
 use Rattle.ark_merkle.specs.Bindings.{bound}
 use Rattle.ark_merkle.specs.Indexes.{is_tree_size}
@@ -130,7 +130,7 @@ judged_path l digests leaf (way, byte ∷ bytes) = Ok None
 -- the fault in the bytes of a path, else what is said of the path
 abbrev pub judged : Language → List Digest → Outcome Digest → List ℕ → Outcome (Option Bool)
 judged l digests leaf bytes = do
-  path ← told (l.read bytes)
+  path ← reading_outcome (l.read bytes)
   judged_path l digests leaf path
 
 abbrev pub judgement : Outcome (Option Bool) → Reply
@@ -161,7 +161,7 @@ bound_path l digests leaf (way, byte ∷ bytes) = Ok None
 
 abbrev pub bound_bytes : Language → List Digest → Outcome Digest → List ℕ → Outcome (Option Binding)
 bound_bytes l digests leaf bytes = do
-  path ← told (l.read bytes)
+  path ← reading_outcome (l.read bytes)
   bound_path l digests leaf path
 
 abbrev pub binding_reply : Outcome (Option Binding) → Reply
@@ -209,7 +209,7 @@ judged_multi_path l digests leaves (proof, byte ∷ bytes) = Ok None
 -- the fault in the bytes of a multi-proof, else what is said of it
 abbrev pub multi_judged : Language → List Digest → List (Outcome Digest) → List ℕ → Outcome (Option Bool)
 multi_judged l digests leaves bytes = do
-  proof ← told (l.multi_read bytes)
+  proof ← reading_outcome (l.multi_read bytes)
   judged_multi_path l digests leaves proof
 
 abbrev pub on_multi_bytes : Language → State → Option (List ℕ) → Option (List (Outcome Digest)) → Reply

@@ -2,7 +2,7 @@
 
 ghost use Rattle.std.specs.Prelude.{◌≡◌, ◌≤◌, drop, length, IfOk, Ok};
 ghost use Rattle.ark_base.specs.Outcome.{AnswersBy};
-ghost use Rattle.ark_base.specs.Reading.{told};
+ghost use Rattle.ark_base.specs.Reading.{reading_outcome};
 
 use crate::shell::Shell;
 use ark_crypto_primitives::Error;
@@ -24,7 +24,7 @@ pub fn read_multi_path<C: Shell>(
     alloc: Global,
     bytes: &[u8],
 ) -> Result<(MultiPath<C>, usize), Error>
-    ensures read { AnswersBy (λ x. (⟦<MultiPath<C> as Duplicate>⟧.seen x.0, drop x.1 bytes.now)) (told (C.language.multi_read bytes.now)) result }
+    ensures read { AnswersBy (λ x. (⟦<MultiPath<C> as Duplicate>⟧.seen x.0, drop x.1 bytes.now)) (reading_outcome (C.language.multi_read bytes.now)) result }
     ensures within { IfOk result (λ x. x.1 ≤ length bytes.now) }
 {
     MultiPath::deserialize(alloc, bytes)

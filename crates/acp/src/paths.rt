@@ -2,7 +2,7 @@
 
 ghost use Rattle.std.specs.Prelude.{◌≡◌, ◌≤◌, drop, length, IfOk, Ok};
 ghost use Rattle.ark_base.specs.Outcome.{AnswersBy};
-ghost use Rattle.ark_base.specs.Reading.{told};
+ghost use Rattle.ark_base.specs.Reading.{reading_outcome};
 
 use crate::shell::Shell;
 use ark_crypto_primitives::Error;
@@ -21,7 +21,7 @@ pub fn path_bytes<C: Shell>(alloc: Global, path: &Path<C>) -> Result<Vec<u8>, Er
 
 /// The path at the front of some bytes, and how many bytes it takes.
 pub fn read_path<C: Shell>(alloc: Global, bytes: &[u8]) -> Result<(Path<C>, usize), Error>
-    ensures read { AnswersBy (λ x. (⟦<Path<C> as Duplicate>⟧.seen x.0, drop x.1 bytes.now)) (told (C.language.read bytes.now)) result }
+    ensures read { AnswersBy (λ x. (⟦<Path<C> as Duplicate>⟧.seen x.0, drop x.1 bytes.now)) (reading_outcome (C.language.read bytes.now)) result }
     ensures within { IfOk result (λ x. x.1 ≤ length bytes.now) }
 {
     Path::deserialize(alloc, bytes)

@@ -1,5 +1,5 @@
 -- What a call answers.
-use Rattle.std.specs.Prelude.{◌≡◌, ◌≢◌, ◌⊎◌, Result, Ok, Err, MatchResult}
+use Rattle.std.specs.Prelude.{◌≡◌, ◌≢◌, ◌⊎◌, Result, Ok, Err, IfErr, MatchResult}
 use Rattle.ark_base.specs.declared.error.Error.{Error}
 use Rattle.ark_base.specs.declared.error.Error.TheVariants.{OutOfMemory}
 
@@ -13,9 +13,18 @@ abbrev pub ◌>>=◌ : {A B E : Type 0} → Result A E → (A → Result B E) �
 (Ok value) >>= next = next value
 (Err error) >>= next = Err error
 
+-- the refusal is want of memory
+abbrev pub IsMemory : Error → Type 0
+IsMemory error = error ≡ OutOfMemory
+
+-- The only refusal is want of memory, and where it comes this holds.
+abbrev pub LacksMemoryOnly : {A : Type 0} → Outcome A → Type 0 → Type 0
+LacksMemoryOnly result P = IfErr result (λ error. IsMemory error × P)
+
 -- The call answers the outcome, its value seen by view, or memory was refused.
 abbrev pub AnswersBy : {A B : Type 0} → (A → B) → Outcome B → Outcome A → Type 0
-AnswersBy view outcome result = MatchResult result (λ value. outcome ≡ Ok (view value)) (λ error. (error ≡ OutOfMemory) ⊎ (outcome ≡ Err error))
+AnswersBy view outcome result =
+    MatchResult result (λ value. outcome ≡ Ok (view value)) (λ error. (error ≡ OutOfMemory) ⊎ (outcome ≡ Err error))
 
 -- The call answers the outcome, or memory was refused.
 abbrev pub Answers : {A : Type 0} → Outcome A → Outcome A → Type 0

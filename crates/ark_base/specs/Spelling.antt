@@ -1,5 +1,6 @@
 -- The spelling of each type, and how it is read.
-use Rattle.std.specs.Prelude.{ℕ, zero, suc, ◌<◌, ◌^◌, List, [], ◌∷◌, ◌++◌, length, take, drop, get_or, Result, Ok, Err, nat_lt, if◌then◌else◌}
+use Rattle.std.specs.Prelude.{ℕ, zero, suc, ◌<◌, ◌^◌, List, [], ◌∷◌, ◌++◌, length, take, drop, get_or, Result, Ok}
+use Rattle.std.specs.Prelude.{Err, nat_lt, if◌then◌else◌}
 use Rattle.std.specs.List.{flat_map, AllByRecursion}
 use Rattle.std.specs.Int.{w64, to_le_bytes, from_le_bytes}
 use Rattle.ark_base.specs.declared.error.SerializationError.{SerializationError}
@@ -11,7 +12,8 @@ use Rattle.ark_base.specs.Reading.{Reading}
 
 -- a part of a fixed length: cut short where fewer bytes remain, and else what its bytes say
 unfoldable pub fixed_at : {V : Type 0} → ℕ → (List ℕ → Result V SerializationError) → List ℕ → Reading V
-fixed_at len decode bytes = if nat_lt (length bytes) len then Err Truncated else (decode (take len bytes) >>= λ value. Ok (value, drop len bytes))
+fixed_at len decode bytes = if nat_lt (length bytes) len then Err Truncated else
+    (decode (take len bytes) >>= λ value. Ok (value, drop len bytes))
 
 -- a part, and behind it what that part says to read
 unfoldable pub then_at : {A B : Type 0} → (List ℕ → Reading A) → (A → List ℕ → Reading B) → List ℕ → Reading B
@@ -69,8 +71,8 @@ nothing_at bytes = Ok (tt, bytes)
 abbrev pub IsCounted : {V : Type 0} → (V → Type 0) → List V → Type 0
 IsCounted has_spelling values = IsWord (length values) × AllByRecursion has_spelling values
 
-abbrev pub counted : {V : Type 0} → (V → List ℕ) → List V → List ℕ
-counted spelling values = word (length values) ++ flat_map spelling values
+abbrev pub counted_list : {V : Type 0} → (V → List ℕ) → List V → List ℕ
+counted_list spelling values = word (length values) ++ flat_map spelling values
 
 -- so many items, one behind the other
 unfoldable pub items_at : {V : Type 0} → (List ℕ → Reading V) → ℕ → List ℕ → Reading (List V)
@@ -80,8 +82,8 @@ items_at reads (suc count) bytes = do
   others ← items_at reads count first.1
   Ok (first.0 ∷ others.0, others.1)
 
-abbrev pub counted_at : {V : Type 0} → (List ℕ → Reading V) → List ℕ → Reading (List V)
-counted_at reads = then_at word_at (items_at reads)
+abbrev pub counted_list_at : {V : Type 0} → (List ℕ → Reading V) → List ℕ → Reading (List V)
+counted_list_at reads = then_at word_at (items_at reads)
 
 -- ---- two parts, one behind the other
 

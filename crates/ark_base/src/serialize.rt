@@ -4,10 +4,11 @@
 //! `Truncated` where fewer bytes remain than the next fixed part needs, `InvalidData` where a part has a value that its
 //! type does not allow.
 
-ghost use Rattle.std.specs.Prelude.{◌≡◌, ℕ, ◌<◌, ◌≤◌, ◌⊎◌, ◌++◌, List, length, take, drop, map, OnOk, IfOk, IfErr, MatchResult, Err};
+ghost use Rattle.std.specs.Prelude.{◌≡◌, ℕ, ◌<◌, ◌≤◌, ◌⊎◌, ◌++◌, List, length, take, drop, map};
+ghost use Rattle.std.specs.Prelude.{OnOk, IfOk, MatchResult, Err};
 ghost use Rattle.std.specs.List.{flat_map, AllByRecursion};
-ghost use Rattle.ark_base.specs.Outcome.{Answers, AnswersBy};
-ghost use Rattle.ark_base.specs.Reading.{Reading, Reads, Spells, IsCanonical, told};
+ghost use Rattle.ark_base.specs.Outcome.{Answers, AnswersBy, IsMemory, LacksMemoryOnly};
+ghost use Rattle.ark_base.specs.Reading.{Reading, Reads, Spells, IsCanonical, reading_outcome};
 ghost use Rattle.ark_base.specs.Spelling.{items_at};
 ghost use Rattle.ark_base.specs.declared.error.SerializationError.TheVariants.{Truncated};
 
@@ -25,7 +26,7 @@ mod whole;
 
 use crate::error::Error;
 pub use below::{number_of, read_below, serialize_number};
-pub use digest::{DigestItem, Duplicate, Numbered};
+pub use digest::{DigestItem, Duplicate, Numbered, ReadBack};
 use std::alloc::Global;
 pub use whole::canonical_bytes;
 
@@ -54,8 +55,9 @@ pub trait CanonicalSerialize: Canonical {
     /// Appends the value's spelling to `dest`. The only refusal is `OutOfMemory`, and it leaves `dest` as before.
     fn serialize(&self, dest: &mut Vec<u8>) -> Result<(), Error>
         ensures spelled { OnOk result (Self.has_spelling (Self.view self.now)) }
-        ensures appended { OnOk result (dest.new.items ≡ dest.old.items ++ Self.spelling (Self.view self.now)) }
-        ensures refused { IfErr result (λ error. (error ≡ Error.OutOfMemory) × (dest.new.items ≡ dest.old.items)) };
+        ensures appended { let bytes = Self.spelling (Self.view self.now) in
+            OnOk result (dest.new.items ≡ dest.old.items ++ bytes) }
+        ensures refused { LacksMemoryOnly result (dest.new.items ≡ dest.old.items) };
 }
 
 /// A type whose values can be read.
@@ -71,22 +73,31 @@ pub trait CanonicalDeserialize: Canonical {
         ensures within { IfOk result (λ x. x.1 ≤ length bytes.now) }
 
         // What is read is spelled so.
-        ensures found { IfOk result (λ x. Spells Self.has_spelling Self.spelling (Self.view x.0) (take x.1 bytes.now)) }
+        ensures found { let IsSpelledBy = Spells Self.has_spelling Self.spelling in
+            IfOk result (λ x. IsSpelledBy (Self.view x.0) (take x.1 bytes.now)) }
 
         // What a front of the bytes spells is read, whatever follows it.
-        ensures only { (value : Self.Value) (n : ℕ) → n ≤ length bytes.now → Spells Self.has_spelling Self.spelling value (take n bytes.now)
-            → MatchResult result (λ x. (Self.view x.0 ≡ value) × (x.1 ≡ n)) (λ error. error ≡ Error.OutOfMemory) }
+        ensures only { let IsSpelledBy = Spells Self.has_spelling Self.spelling in
+            (value : Self.Value) (n : ℕ)
+            → n ≤ length bytes.now → IsSpelledBy value (take n bytes.now)
+            → MatchResult result (λ x. (Self.view x.0 ≡ value) × (x.1 ≡ n)) IsMemory }
 
         // No spelling begins another: at most one front of the bytes is one.
-        ensures alone { (v w : Self.Value) (n k : ℕ) → n ≤ length bytes.now → k ≤ length bytes.now
-            → Spells Self.has_spelling Self.spelling v (take n bytes.now) → Spells Self.has_spelling Self.spelling w (take k bytes.now) → (v ≡ w) × (n ≡ k) }
+        ensures alone { let IsSpelledBy = Spells Self.has_spelling Self.spelling in
+            (v w : Self.Value) (n k : ℕ) → n ≤ length bytes.now → k ≤ length bytes.now
+            → IsSpelledBy v (take n bytes.now) → IsSpelledBy w (take k bytes.now)
+            → (v ≡ w) × (n ≡ k) }
 
         // Each proper beginning of a spelling is `Truncated`.
-        ensures cut { (value : Self.Value) (more : List ℕ) → 0 < length more → Spells Self.has_spelling Self.spelling value (bytes.now ++ more)
-            → MatchResult result (λ _. ⊥) (λ error. (error ≡ Error.OutOfMemory) ⊎ (error ≡ Error.SerializationError Truncated)) }
+        ensures cut { let IsSpelledBy = Spells Self.has_spelling Self.spelling in
+            (value : Self.Value) (more : List ℕ)
+            → 0 < length more → IsSpelledBy value (bytes.now ++ more)
+            → MatchResult result (λ _. ⊥)
+            (λ error. IsMemory error ⊎ (error ≡ Error.SerializationError Truncated)) }
 
         // Which fault it is: the first from the left.
-        ensures exact { AnswersBy (λ x. (Self.view x.0, drop x.1 bytes.now)) (told (Self.reads bytes.now)) result }
+        ensures exact { let reading = reading_outcome (Self.reads bytes.now) in
+            AnswersBy (λ x. (Self.view x.0, drop x.1 bytes.now)) reading result }
     {
         Self::read(alloc, bytes)
     }
@@ -102,8 +113,9 @@ pub trait CanonicalItem: CanonicalSerialize + CanonicalDeserialize + Sized + Dro
     /// Appends the spellings of the items, one behind the other. A refusal leaves `dest` as before.
     fn serialize_items(items: &[Self], dest: &mut Vec<u8>) -> Result<(), Error>
         ensures spelled { OnOk result (AllByRecursion Self.has_spelling (map Self.view items.now)) }
-        ensures appended { OnOk result (dest.new.items ≡ dest.old.items ++ flat_map Self.spelling (map Self.view items.now)) }
-        ensures refused { IfErr result (λ error. (error ≡ Error.OutOfMemory) × (dest.new.items ≡ dest.old.items)) }
+        ensures appended { let bytes = flat_map Self.spelling (map Self.view items.now) in
+            OnOk result (dest.new.items ≡ dest.old.items ++ bytes) }
+        ensures refused { LacksMemoryOnly result (dest.new.items ≡ dest.old.items) }
     {
         let start = dest.len();
         for item in items {
@@ -115,11 +127,12 @@ pub trait CanonicalItem: CanonicalSerialize + CanonicalDeserialize + Sized + Dro
         Ok(())
     }
 
-    /// Reads so many items, one behind the other, and the count of bytes that they take.
+    /// Reads `count` items, one behind the other, and the count of bytes that they take.
     ///
     /// Room is asked for at once, for no more items than the bytes that remain could spell.
     fn read_items(alloc: Global, count: u64, bytes: &[u8]) -> Result<(Vec<Self>, usize), Error>
-        ensures { Reads (λ items. map Self.view items.items) bytes.now (items_at Self.reads count bytes.now) result }
+        ensures { let reading = items_at Self.reads count bytes.now in
+            Reads (λ items. map Self.view items.items) bytes.now reading result }
     {
         let most = (bytes.len() / Self::LEAST) as u64;
         let mut items = Vec::with_capacity(alloc, count.min(most) as usize)?;
@@ -135,7 +148,8 @@ pub trait CanonicalItem: CanonicalSerialize + CanonicalDeserialize + Sized + Dro
     // No spelling is empty.
     ghost some: { 0 < LEAST };
 
-    ghost at_least: { (value : Self.Value) → Self.has_spelling value → LEAST ≤ length (Self.spelling value) };
+    ghost at_least: { (value : Self.Value)
+        → Self.has_spelling value → LEAST ≤ length (Self.spelling value) };
 }
 
 /// What stands behind the first bytes.

@@ -5,7 +5,7 @@ ghost use Rattle.ark_base.specs.Outcome.{Outcome, AnswersBy, IsDecided};
 
 use ark_base::error::Error;
 use ark_base::serialize::{
-    CanonicalDeserialize, CanonicalSerialize, DigestItem, Duplicate, Numbered,
+    CanonicalDeserialize, CanonicalSerialize, DigestItem, Duplicate, Numbered, ReadBack,
 };
 use rand::Rng;
 use std::alloc::Global;
@@ -18,7 +18,7 @@ pub trait CRHScheme {
 
     type Output: DigestItem + Debug + Hash;
 
-    type Parameters: CanonicalSerialize + CanonicalDeserialize + Duplicate;
+    type Parameters: CanonicalSerialize + CanonicalDeserialize + Duplicate + ReadBack;
 
     // The digest of an input, as its numbers, or the refusal of the input.
     ghost meaning: { Self.Parameters → Self.Input → Outcome (List ℕ) };
@@ -28,7 +28,7 @@ pub trait CRHScheme {
 
     ghost is_made: { Self.Parameters → Type 0 };
 
-    /// Makes parameters from what the generator gives. Which values it gives is the generator's matter.
+    /// Makes parameters from values that the random number generator chooses.
     ///
     /// Refusals: that of the scheme, where it has none to make; `OutOfMemory`.
     fn setup<R: Rng>(alloc: Global, rng: &mut R) -> Result<Self::Parameters, Error>
@@ -37,7 +37,7 @@ pub trait CRHScheme {
 
     /// The digest of an input.
     ///
-    /// Refusals: those of `meaning`, which never are want of memory; `OutOfMemory`.
+    /// Refusals: those of `meaning`, none of which is `OutOfMemory`; and `OutOfMemory`.
     fn evaluate(
         alloc: Global,
         parameters: &Self::Parameters,
@@ -49,8 +49,9 @@ pub trait CRHScheme {
 
     ghost setup_decided: { IsDecided setup_outcome };
 
-    // A copy of parameters hashes as they do.
-    ghost same_parameters: { (p q : Self.Parameters) → Self.Parameters.seen p ≡ Self.Parameters.seen q → meaning p ≡ meaning q };
+    // A copy of parameters hashes as they do, and so do parameters that were written and read again.
+    ghost same_parameters: { (p q : Self.Parameters)
+        → Self.Parameters.seen p ≡ Self.Parameters.seen q → meaning p ≡ meaning q };
 }
 
 /// A hash of two inputs, and of two of its own digests.
@@ -59,7 +60,7 @@ pub trait TwoToOneCRHScheme {
 
     type Output: DigestItem + Debug + Hash;
 
-    type Parameters: CanonicalSerialize + CanonicalDeserialize + Duplicate;
+    type Parameters: CanonicalSerialize + CanonicalDeserialize + Duplicate + ReadBack;
 
     // The digest of two inputs, left then right, as its numbers, or their refusal.
     ghost evaluated: { Self.Parameters → List ℕ → List ℕ → Outcome (List ℕ) };
@@ -78,34 +79,42 @@ pub trait TwoToOneCRHScheme {
 
     /// The digest of two inputs.
     ///
-    /// Refusals: those of `evaluated`, which never are want of memory; `OutOfMemory`.
+    /// Refusals: those of `evaluated`, none of which is `OutOfMemory`; and `OutOfMemory`.
     fn evaluate(
         alloc: Global,
         parameters: &Self::Parameters,
         left: &Self::Input,
         right: &Self::Input,
     ) -> Result<Self::Output, Error>
-        ensures { AnswersBy Self.Output.numbers (evaluated parameters.now (Self.Input.numbers left.now) (Self.Input.numbers right.now)) result };
+        ensures { let x = Self.Input.numbers left.now in
+            let y = Self.Input.numbers right.now in
+            AnswersBy Self.Output.numbers (evaluated parameters.now x y) result };
 
     /// The digest of two digests.
     ///
-    /// Refusals: those of `compressed`, which never are want of memory; `OutOfMemory`.
+    /// Refusals: those of `compressed`, none of which is `OutOfMemory`; and `OutOfMemory`.
     fn compress(
         alloc: Global,
         parameters: &Self::Parameters,
         left: &Self::Output,
         right: &Self::Output,
     ) -> Result<Self::Output, Error>
-        ensures { AnswersBy Self.Output.numbers (compressed parameters.now (Self.Output.numbers left.now) (Self.Output.numbers right.now)) result };
+        ensures { let x = Self.Output.numbers left.now in
+            let y = Self.Output.numbers right.now in
+            AnswersBy Self.Output.numbers (compressed parameters.now x y) result };
 
-    ghost evaluated_decided: { (p : Self.Parameters) (x y : List ℕ) → IsDecided (evaluated p x y) };
+    ghost evaluated_decided: { (p : Self.Parameters) (x y : List ℕ)
+        → IsDecided (evaluated p x y) };
 
-    ghost compressed_decided: { (p : Self.Parameters) (x y : List ℕ) → IsDecided (compressed p x y) };
+    ghost compressed_decided: { (p : Self.Parameters) (x y : List ℕ)
+        → IsDecided (compressed p x y) };
 
     ghost setup_decided: { IsDecided setup_outcome };
 
-    // A copy of parameters hashes as they do.
-    ghost evaluated_same: { (p q : Self.Parameters) → Self.Parameters.seen p ≡ Self.Parameters.seen q → evaluated p ≡ evaluated q };
+    // A copy of parameters hashes as they do, and so do parameters that were written and read again.
+    ghost evaluated_same: { (p q : Self.Parameters)
+        → Self.Parameters.seen p ≡ Self.Parameters.seen q → evaluated p ≡ evaluated q };
 
-    ghost compressed_same: { (p q : Self.Parameters) → Self.Parameters.seen p ≡ Self.Parameters.seen q → compressed p ≡ compressed q };
+    ghost compressed_same: { (p q : Self.Parameters)
+        → Self.Parameters.seen p ≡ Self.Parameters.seen q → compressed p ≡ compressed q };
 }

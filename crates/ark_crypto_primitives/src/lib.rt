@@ -2,12 +2,13 @@
 #![tactic(auto)]
 
 pub use ark_base::error::{Error, Refusal, SerializationError};
+pub use ark_base::to_uncompressed_bytes;
 
 /// Canonical bytes.
 pub mod serialize {
     pub use ark_base::serialize::{
         Canonical, CanonicalDeserialize, CanonicalItem, CanonicalSerialize, DigestItem, Duplicate,
-        Numbered,
+        Numbered, ReadBack, canonical_bytes,
     };
 }
 
@@ -19,7 +20,8 @@ pub mod ff {
 /// Groups.
 pub mod ec {
     pub use ark_groups::ec::{
-        CurveGroup, Residues, SWCoordinates, SWPoint, Small, SmallModulus, TECoordinates, TEPoint,
+        Additive, CurveGroup, Residues, SWCoordinates, SWPoint, Small, SmallModulus, TECoordinates,
+        TEPoint,
     };
 }
 
@@ -30,7 +32,13 @@ pub mod digest {
 
 /// Pseudorandom functions.
 pub mod prf {
-    pub use ark_schemes::prf::{Blake2s, Blake2s256, Blake2sWithParameterBlock, PRF};
+    pub use ark_schemes::prf::PRF;
+    pub use blake2s::{Blake2s, Blake2s256, Blake2sWithParameterBlock};
+
+    /// BLAKE2s (RFC 7693).
+    pub mod blake2s {
+        pub use ark_schemes::prf::{Blake2s, Blake2s256, Blake2sWithParameterBlock};
+    }
 }
 
 /// Commitments.
@@ -64,12 +72,12 @@ pub mod crh {
 
     /// Sums of elements at the set bits of an input.
     pub mod pedersen {
-        pub use ark_crh::pedersen::{CRH, Parameters, TwoToOneCRH, Window, bytes_to_bits};
+        pub use ark_pedersen::{CRH, Parameters, TwoToOneCRH, Window, bytes_to_bits};
     }
 
     /// Maps of such sums.
     pub mod injective_map {
-        pub use ark_crh::injective_map::{
+        pub use ark_pedersen::injective_map::{
             InjectiveMap, PedersenCRHCompressor, PedersenTwoToOneCRHCompressor, TECompressor,
         };
     }

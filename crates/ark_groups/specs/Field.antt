@@ -4,8 +4,8 @@ use Rattle.ark_base.specs.Digits.{number_of_bytes, bytes_for}
 
 -- a number that is not 0 has so many binary digits
 pub record HasBits (n bits : ℕ) : Type 0 where
-  pub fits : n < 2 ^ bits
-  pub top : 2 ^ bits ≤ 2 * n
+  pub no_more : n < 2 ^ bits
+  pub no_fewer : 2 ^ bits ≤ 2 * n
 
 -- what every modulus keeps
 pub record IsModulus (p bits : ℕ) : Type 0 where
@@ -19,6 +19,6 @@ pub record IsField {F : Type 0} (p : ℕ) (value : F → ℕ) : Type 0 where
   pub same : (x y : F) → value x ≡ value y → x ≡ y
   pub made : (n : ℕ) → n < p → (x : F) × (value x ≡ n)
 
--- The number that drawn bytes give: the lowest binary digits of the first bytes that hold them. Bytes that are missing are 0.
+-- The number that drawn bytes give: the lowest binary digits of the first bytes that hold them. Missing bytes are 0.
 abbrev pub drawn_number : ℕ → List ℕ → ℕ
 drawn_number bits bytes = number_of_bytes (take (bytes_for bits) bytes) % 2 ^ bits

@@ -1,7 +1,4 @@
-pub mod Field
-pub mod FieldLaws
-pub mod FpLaws
-pub mod Group
-pub mod GroupLaws
-pub mod NumberGroups
 pub mod Coordinates
+pub mod Field
+pub mod Group
+pub mod Laws

@@ -15,7 +15,7 @@ pub trait ByteDigest {
 
     /// The digest of the bytes.
     ///
-    /// Refusals: those of `meaning`, which never are want of memory; `OutOfMemory`.
+    /// Refusals: those of `meaning`, none of which is `OutOfMemory`; and `OutOfMemory`.
     fn digest(alloc: Global, input: &[u8]) -> Result<Vec<u8>, Error>
         ensures { AnswersBy (λ bytes. bytes.items) (meaning input.now) result };
 

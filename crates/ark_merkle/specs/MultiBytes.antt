@@ -2,9 +2,9 @@
 use Rattle.std.proofs.Common.{ℕ, ◌≤◌, List, length, map, arith}
 use Rattle.std.proofs.lemmas.List.{length-append}
 use Rattle.ark_base.specs.Reading.{Reading, IsCanonical}
-use Rattle.ark_base.specs.Spelling.{IsWord, word, word_at, IsCounted, counted, counted_at, BothFit, both, both_at, made_at}
+use Rattle.ark_base.specs.Spelling.{IsWord, word, word_at, IsCounted, counted_list, counted_list_at, BothFit, both, both_at, made_at}
 use Rattle.ark_base.specs.Laws.Numbers.{word_laws}
-use Rattle.ark_base.specs.Laws.Lists.{counted_laws, counted_is_long}
+use Rattle.ark_base.specs.Laws.Lists.{counted_list_laws, counted_list_is_long}
 use Rattle.ark_base.specs.Laws.Parts.{both_laws}
 use Rattle.ark_merkle.specs.Pairs.{Digest}
 use Rattle.ark_merkle.specs.MultiPaths.{MultiWay}
@@ -17,10 +17,10 @@ abbrev pub MultiFits : {L U : Type 0} → (L → Type 0) → (U → Type 0) → 
 MultiFits fits_leaf fits_inner = BothFit (IsCounted fits_leaf) (BothFit (IsCounted IsWord) (BothFit (IsCounted (IsCounted fits_inner)) (IsCounted IsWord)))
 
 abbrev pub multi_spelling : {L U : Type 0} → (L → List ℕ) → (U → List ℕ) → MultiParts L U → List ℕ
-multi_spelling leaf inner = both (counted leaf) (both (counted word) (both (counted (counted inner)) (counted word)))
+multi_spelling leaf inner = both (counted_list leaf) (both (counted_list word) (both (counted_list (counted_list inner)) (counted_list word)))
 
 abbrev pub multi_at : {L U : Type 0} → (List ℕ → Reading L) → (List ℕ → Reading U) → List ℕ → Reading (MultiParts L U)
-multi_at leaf_at inner_at = both_at (counted_at leaf_at) (both_at (counted_at word_at) (both_at (counted_at (counted_at inner_at)) (counted_at word_at)))
+multi_at leaf_at inner_at = both_at (counted_list_at leaf_at) (both_at (counted_list_at word_at) (both_at (counted_list_at (counted_list_at inner_at)) (counted_list_at word_at)))
 
 -- a multi-proof by its numbers, from the canonical values of its digests
 abbrev pub multi_way_of : {L U : Type 0} → (L → Digest) → (U → Digest) → MultiParts L U → MultiWay
@@ -37,24 +37,24 @@ multi_way_at leaf inner leaf_at inner_at = made_at (multi_way_of leaf inner) (mu
 module _ {L U : Type 0} (fits_leaf : L → Type 0) (leaf : L → List ℕ) (leaf_at : List ℕ → Reading L) (fits_inner : U → Type 0) (inner : U → List ℕ) (inner_at : List ℕ → Reading U) where
   pub multi_laws : IsCanonical fits_leaf leaf leaf_at → IsCanonical fits_inner inner inner_at → IsCanonical (MultiFits fits_leaf fits_inner) (multi_spelling leaf inner) (multi_at leaf_at inner_at)
   multi_laws leaf_laws inner_laws =
-      let words = counted_laws IsWord word word_at word_laws in
-      let suffix = counted_laws fits_inner inner inner_at inner_laws in
-      let suffixes = counted_laws (IsCounted fits_inner) (counted inner) (counted_at inner_at) suffix in
-      let behind = both_laws (IsCounted (IsCounted fits_inner)) (counted (counted inner)) (counted_at (counted_at inner_at)) (IsCounted IsWord) (counted word) (counted_at word_at) suffixes words in
-      let lists = both_laws (IsCounted IsWord) (counted word) (counted_at word_at) (BothFit (IsCounted (IsCounted fits_inner)) (IsCounted IsWord)) (both (counted (counted inner)) (counted word)) (both_at (counted_at (counted_at inner_at)) (counted_at word_at)) words behind in
-      both_laws (IsCounted fits_leaf) (counted leaf) (counted_at leaf_at) (BothFit (IsCounted IsWord) (BothFit (IsCounted (IsCounted fits_inner)) (IsCounted IsWord))) (both (counted word) (both (counted (counted inner)) (counted word)))
-      (both_at (counted_at word_at) (both_at (counted_at (counted_at inner_at)) (counted_at word_at))) (counted_laws fits_leaf leaf leaf_at leaf_laws) lists
+      let words = counted_list_laws IsWord word word_at word_laws in
+      let suffix = counted_list_laws fits_inner inner inner_at inner_laws in
+      let suffixes = counted_list_laws (IsCounted fits_inner) (counted_list inner) (counted_list_at inner_at) suffix in
+      let behind = both_laws (IsCounted (IsCounted fits_inner)) (counted_list (counted_list inner)) (counted_list_at (counted_list_at inner_at)) (IsCounted IsWord) (counted_list word) (counted_list_at word_at) suffixes words in
+      let lists = both_laws (IsCounted IsWord) (counted_list word) (counted_list_at word_at) (BothFit (IsCounted (IsCounted fits_inner)) (IsCounted IsWord)) (both (counted_list (counted_list inner)) (counted_list word)) (both_at (counted_list_at (counted_list_at inner_at)) (counted_list_at word_at)) words behind in
+      both_laws (IsCounted fits_leaf) (counted_list leaf) (counted_list_at leaf_at) (BothFit (IsCounted IsWord) (BothFit (IsCounted (IsCounted fits_inner)) (IsCounted IsWord))) (both (counted_list word) (both (counted_list (counted_list inner)) (counted_list word)))
+      (both_at (counted_list_at word_at) (both_at (counted_list_at (counted_list_at inner_at)) (counted_list_at word_at))) (counted_list_laws fits_leaf leaf leaf_at leaf_laws) lists
 
 pub multi_is_long : {L U : Type 0} (leaf : L → List ℕ) (inner : U → List ℕ) (parts : MultiParts L U) → 32 ≤ length (multi_spelling leaf inner parts)
 multi_is_long leaf inner parts =
     let suffixes = parts.1.1 in
     omega (
       arith,
-      length-append (counted leaf parts.0) (both (counted word) (both (counted (counted inner)) (counted word)) parts.1),
-      length-append (counted word parts.1.0) (both (counted (counted inner)) (counted word) suffixes),
-      length-append (counted (counted inner) suffixes.0) (counted word suffixes.1),
-      counted_is_long leaf parts.0,
-      counted_is_long word parts.1.0,
-      counted_is_long (counted inner) suffixes.0,
-      counted_is_long word suffixes.1,
+      length-append (counted_list leaf parts.0) (both (counted_list word) (both (counted_list (counted_list inner)) (counted_list word)) parts.1),
+      length-append (counted_list word parts.1.0) (both (counted_list (counted_list inner)) (counted_list word) suffixes),
+      length-append (counted_list (counted_list inner) suffixes.0) (counted_list word suffixes.1),
+      counted_list_is_long leaf parts.0,
+      counted_list_is_long word parts.1.0,
+      counted_list_is_long (counted_list inner) suffixes.0,
+      counted_list_is_long word suffixes.1,
     )

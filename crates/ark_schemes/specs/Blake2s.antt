@@ -1,6 +1,7 @@
 -- BLAKE2s without a key (RFC 7693), a function of lists of numbers. A text is a list of bytes, a word is a number below
 -- 2 ^ 32, and bytes and words meet least byte first (2.4). Numbers in brackets are the RFC's sections.
-use Rattle.std.specs.Prelude.{ℕ, zero, suc, ◌+◌, ◌-◌, ◌*◌, ◌/◌, ◌%◌, ◌^◌, max, Bool, true, false, List, [], ◌∷◌, ◌++◌, length, map, take, drop, replicate, bit_xor, slice_index, slice_index_or, slice_set, if◌then◌else◌}
+use Rattle.std.specs.Prelude.{ℕ, zero, suc, ◌+◌, ◌-◌, ◌*◌, ◌/◌, ◌%◌, ◌^◌, max, Bool, true, false, if◌then◌else◌, bit_xor}
+use Rattle.std.specs.Prelude.{List, [], ◌∷◌, ◌++◌, length, map, take, drop, replicate, slice_index, slice_index_or, slice_set}
 use Rattle.std.specs.List.{flat_map, fold, range_with_len}
 use Rattle.std.specs.Int.{w32, bit_not, rotate_right, from_le_bytes, to_le_bytes}
 
@@ -8,7 +9,9 @@ use Rattle.std.specs.Int.{w32, bit_not, rotate_right, from_le_bytes, to_le_bytes
 
 -- IV (2.6)
 abbrev pub initial_words : List ℕ
-initial_words = 0x6A09E667 ∷ 0xBB67AE85 ∷ 0x3C6EF372 ∷ 0xA54FF53A ∷ 0x510E527F ∷ 0x9B05688C ∷ 0x1F83D9AB ∷ 0x5BE0CD19 ∷ []
+initial_words =
+    0x6A09E667 ∷ 0xBB67AE85 ∷ 0x3C6EF372 ∷ 0xA54FF53A
+    ∷ 0x510E527F ∷ 0x9B05688C ∷ 0x1F83D9AB ∷ 0x5BE0CD19 ∷ []
 
 -- SIGMA (2.7)
 abbrev pub sigma : List (List ℕ)
@@ -28,40 +31,41 @@ sigma =
 -- ---- a block
 
 -- the exclusive or of two words, turned right by k bits (2.3)
-abbrev pub turned : ℕ → ℕ → ℕ → ℕ
-turned k x y = rotate_right w32 (bit_xor x y) k
+abbrev pub rotation : ℕ → ℕ → ℕ → ℕ
+rotation k x y = rotate_right w32 (bit_xor x y) k
 
 -- G on four words, with two words x and y of a block (3.1)
-unfoldable pub mixed : ℕ → ℕ → ℕ → ℕ → ℕ → ℕ → List ℕ
-mixed a b c d x y =
+unfoldable pub mixture : ℕ → ℕ → ℕ → ℕ → ℕ → ℕ → List ℕ
+mixture a b c d x y =
     let a1 : ℕ = (a + b + x) % 2 ^ 32 in
-    let d1 : ℕ = turned 16 d a1 in
+    let d1 : ℕ = rotation 16 d a1 in
     let c1 : ℕ = (c + d1) % 2 ^ 32 in
-    let b1 : ℕ = turned 12 b c1 in
+    let b1 : ℕ = rotation 12 b c1 in
     let a2 : ℕ = (a1 + b1 + y) % 2 ^ 32 in
-    let d2 : ℕ = turned 8 d1 a2 in
+    let d2 : ℕ = rotation 8 d1 a2 in
     let c2 : ℕ = (c1 + d2) % 2 ^ 32 in
-    let b2 : ℕ = turned 7 b1 c2 in
+    let b2 : ℕ = rotation 7 b1 c2 in
     a2 ∷ b2 ∷ c2 ∷ d2 ∷ []
 
 -- G on the words of v at the places a, b, c and d (3.1)
-abbrev pub mixed_at : ℕ → ℕ → ℕ → ℕ → ℕ → ℕ → List ℕ → List ℕ
-mixed_at a b c d x y v =
-    let w : List ℕ = mixed (slice_index v a) (slice_index v b) (slice_index v c) (slice_index v d) x y in
-    slice_set (slice_set (slice_set (slice_set v a (slice_index w 0)) b (slice_index w 1)) c (slice_index w 2)) d (slice_index w 3)
+abbrev pub mixture_at : ℕ → ℕ → ℕ → ℕ → ℕ → ℕ → List ℕ → List ℕ
+mixture_at a b c d x y v =
+    let w : List ℕ = mixture (slice_index v a) (slice_index v b) (slice_index v c) (slice_index v d) x y in
+    let first : List ℕ = slice_set (slice_set v a (slice_index w 0)) b (slice_index w 1) in
+    slice_set (slice_set first c (slice_index w 2)) d (slice_index w 3)
 
 -- a round with the words s of a block, in the order of a row of SIGMA: the columns, then the diagonals (3.2)
 unfoldable pub round : List ℕ → List ℕ → List ℕ
 round v s =
     let w : ℕ → ℕ = λ i. slice_index s i in
-    let v1 = mixed_at 0 4 8 12 (w 0) (w 1) v in
-    let v2 = mixed_at 1 5 9 13 (w 2) (w 3) v1 in
-    let v3 = mixed_at 2 6 10 14 (w 4) (w 5) v2 in
-    let v4 = mixed_at 3 7 11 15 (w 6) (w 7) v3 in
-    let v5 = mixed_at 0 5 10 15 (w 8) (w 9) v4 in
-    let v6 = mixed_at 1 6 11 12 (w 10) (w 11) v5 in
-    let v7 = mixed_at 2 7 8 13 (w 12) (w 13) v6 in
-    mixed_at 3 4 9 14 (w 14) (w 15) v7
+    let v1 = mixture_at 0 4 8 12 (w 0) (w 1) v in
+    let v2 = mixture_at 1 5 9 13 (w 2) (w 3) v1 in
+    let v3 = mixture_at 2 6 10 14 (w 4) (w 5) v2 in
+    let v4 = mixture_at 3 7 11 15 (w 6) (w 7) v3 in
+    let v5 = mixture_at 0 5 10 15 (w 8) (w 9) v4 in
+    let v6 = mixture_at 1 6 11 12 (w 10) (w 11) v5 in
+    let v7 = mixture_at 2 7 8 13 (w 12) (w 13) v6 in
+    mixture_at 3 4 9 14 (w 14) (w 15) v7
 
 -- the local vector: h, then IV with the counter t in two of its words, one inverted for the last block (3.2)
 abbrev pub local_vector : List ℕ → ℕ → Bool → List ℕ
@@ -76,12 +80,14 @@ unfoldable pub rounds : List ℕ → List ℕ → List ℕ
 rounds m v = fold (λ v row. round v (map (slice_index m) row)) v sigma
 
 -- each word of h with the two halves of v in it (3.2)
-abbrev pub finished : List ℕ → List ℕ → List ℕ
-finished h v = map (λ i. bit_xor (bit_xor (slice_index h i) (slice_index v i)) (slice_index v (i + 8))) (range_with_len 0 8)
+abbrev pub next_state : List ℕ → List ℕ → List ℕ
+next_state h v =
+    let word : ℕ → ℕ = λ i. bit_xor (bit_xor (slice_index h i) (slice_index v i)) (slice_index v (i + 8)) in
+    map word (range_with_len 0 8)
 
 -- F (3.2)
-unfoldable pub compressed : List ℕ → List ℕ → ℕ → Bool → List ℕ
-compressed h m t last = finished h (rounds m (local_vector h t last))
+unfoldable pub compression : List ℕ → List ℕ → ℕ → Bool → List ℕ
+compression h m t last = next_state h (rounds m (local_vector h t last))
 
 -- ---- a text
 
@@ -90,42 +96,47 @@ abbrev pub block_count : ℕ → ℕ
 block_count n = max 1 ((n + 63) / 64)
 
 -- the bytes with zeros behind them, up to 64 (3.3)
-abbrev pub filled : List ℕ → List ℕ
-filled bytes = bytes ++ replicate (64 - length bytes) 0
+abbrev pub full_block : List ℕ → List ℕ
+full_block bytes = bytes ++ replicate (64 - length bytes) 0
 
 -- the word at byte i (2.4)
-abbrev pub word_at : List ℕ → ℕ → ℕ
-word_at bytes i = from_le_bytes w32 (slice_index bytes i ∷ slice_index bytes (i + 1) ∷ slice_index bytes (i + 2) ∷ slice_index bytes (i + 3) ∷ [])
+abbrev pub word_from : List ℕ → ℕ → ℕ
+word_from bytes i =
+    let byte : ℕ → ℕ = λ k. slice_index bytes (i + k) in
+    from_le_bytes w32 (slice_index bytes i ∷ byte 1 ∷ byte 2 ∷ byte 3 ∷ [])
 
 -- sixteen words from byte i on
 unfoldable pub words_from : List ℕ → ℕ → List ℕ
-words_from bytes i = map (λ k. word_at bytes (i + 4 * k)) (range_with_len 0 16)
+words_from bytes i = map (λ k. word_from bytes (i + 4 * k)) (range_with_len 0 16)
 
 -- d, all blocks of a text as words (3.3)
 unfoldable pub blocks : List ℕ → List (List ℕ)
-blocks text = map (λ i. words_from (filled (take 64 (drop (64 * i) text))) 0) (range_with_len 0 (block_count (length text)))
+blocks text =
+    map (λ i. words_from (full_block (take 64 (drop (64 * i) text))) 0) (range_with_len 0 (block_count (length text)))
 
 -- h after the first n blocks of d, none of them the last: the counter is the bytes up to each one's end (3.3)
-unfoldable pub hashed : List ℕ → List (List ℕ) → ℕ → List ℕ
-hashed h d zero = h
-hashed h d (suc n) = compressed (hashed h d n) (slice_index_or d n []) (64 * (n + 1)) false
+unfoldable pub state_after : List ℕ → List (List ℕ) → ℕ → List ℕ
+state_after h d zero = h
+state_after h d (suc n) = compression (state_after h d n) (slice_index_or d n []) (64 * (n + 1)) false
 
 -- h after all blocks of d, the last one with the length of the text (3.3)
-abbrev pub hashed_whole : List ℕ → List (List ℕ) → ℕ → List ℕ
-hashed_whole h d len =
+abbrev pub last_state : List ℕ → List (List ℕ) → ℕ → List ℕ
+last_state h d len =
     let last = length d - 1 in
-    compressed (hashed h d last) (slice_index_or d last []) len true
+    compression (state_after h d last) (slice_index_or d last []) len true
 
 -- the words of the parameter block: 32 bytes out, no key, fanout and depth 1 (2.5), salt and personalization (section
 -- 2.8 of the BLAKE2 specification)
 abbrev pub parameter_words : List ℕ → List ℕ → List ℕ
 parameter_words salt personalization =
-    0x01010020 ∷ 0 ∷ 0 ∷ 0 ∷ word_at salt 0 ∷ word_at salt 4 ∷ word_at personalization 0 ∷ word_at personalization 4 ∷ []
+    0x01010020 ∷ 0 ∷ 0 ∷ 0 ∷ word_from salt 0 ∷ word_from salt 4
+    ∷ word_from personalization 0 ∷ word_from personalization 4 ∷ []
 
 -- IV with these words in it (3.3)
 unfoldable pub first_state : List ℕ → List ℕ → List ℕ
 first_state salt personalization =
-    map (λ i. bit_xor (slice_index initial_words i) (slice_index (parameter_words salt personalization) i)) (range_with_len 0 8)
+    let words : List ℕ = parameter_words salt personalization in
+    map (λ i. bit_xor (slice_index initial_words i) (slice_index words i)) (range_with_len 0 8)
 
 -- the 32 bytes of a state (2.4)
 unfoldable pub state_bytes : List ℕ → List ℕ
@@ -133,7 +144,8 @@ state_bytes h = flat_map (to_le_bytes w32) h
 
 -- BLAKE2s with salt and personalization (3.3)
 unfoldable pub blake2s_with : List ℕ → List ℕ → List ℕ → List ℕ
-blake2s_with salt personalization text = state_bytes (hashed_whole (first_state salt personalization) (blocks text) (length text))
+blake2s_with salt personalization text =
+    state_bytes (last_state (first_state salt personalization) (blocks text) (length text))
 
 -- BLAKE2s: neither salt nor personalization (3.3)
 abbrev pub blake2s : List ℕ → List ℕ

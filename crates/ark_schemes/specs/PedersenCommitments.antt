@@ -1,10 +1,13 @@
--- Pedersen commitments: the Pedersen hash of the input, hidden by a multiple of another element; the randomness is the count.
+-- Pedersen commitments: the Pedersen hash of the input, and to it another element as often as the randomness says.
 use Rattle.std.specs.Prelude.{◌≡◌, ℕ, ◌==◌, List, length, Ok, Err, if◌then◌else◌}
 use Rattle.ark_base.specs.Outcome.{Outcome, ◌>>=◌}
 use Rattle.ark_base.specs.declared.error.Error.TheVariants.{GenericError}
 use Rattle.ark_base.specs.declared.error.Refusal.TheVariants.{ParameterShape}
 use Rattle.ark_groups.specs.Group.{Group, times}
-use Rattle.ark_crh.specs.Pedersen.{bits_of_number, bits_of_bytes, union, AreDisjoint, pedersen_sum, doublings, AreWindows, pedersen_hash, windows_hash}
+use Rattle.ark_pedersen.specs.Pedersen.{bits_of_number, bits_of_bytes, union, AreDisjoint, pedersen_sum, doublings}
+use Rattle.ark_pedersen.specs.Pedersen.{lists_in, AreGeneratorsOf, pedersen_hash, windows_hash}
+use Rattle.ark_pedersen.specs.declared.window.Window.{Ghosts as Windows}
+use Rattle.ark_schemes.specs.declared.commitment.pedersen.parameters.Parameters.{Parameters}
 
 -- ---- parameters
 
@@ -13,32 +16,42 @@ pub record Generators (G : Type 0) : Type 0 where
   pub randomness : List G
   pub windows : List (List G)
 
--- those of an element for the randomness of so many bits, and of so many elements for windows of so many bits
-pub record AreOf {G : Type 0} (g : Group G) (bits count size : ℕ) (element : G) (elements : List G) (lists : Generators G) : Type 0 where
-  pub doubled : lists.randomness ≡ doublings g bits element
-  pub number : length elements ≡ count
-  pub in_windows : AreWindows g size elements lists.windows
+-- those of parameters
+abbrev pub elements_in : {G S : Type 0} → Parameters G S → Generators G
+elements_in parameters = record {
+  randomness = parameters.randomness_generator.items;
+  windows = lists_in parameters.generators.items;
+}
 
--- those of some elements or other
-abbrev pub AreMade : {G : Type 0} → Group G → ℕ → ℕ → ℕ → Generators G → Type 0
-AreMade {G} g bits count size lists = (element : G) × (elements : List G) × AreOf g bits count size element elements lists
+-- they are those of an element, for randomness of so many bits, and of the windows' elements
+pub record AreOf {G W : Type 0} (g : Group G) (bits : ℕ) (windows : Windows W)
+    (element : G) (elements : List G) (lists : Generators G) : Type 0 where
+  pub of_randomness : lists.randomness ≡ doublings g bits element
+  pub of_windows : AreGeneratorsOf g windows elements lists.windows
+
+-- they are those of some elements or other
+abbrev pub AreMade : {G W : Type 0} → Group G → ℕ → Windows W → Generators G → Type 0
+AreMade {G} g bits windows lists = (element : G) × (elements : List G) × AreOf g bits windows element elements lists
 
 -- ---- commitments
 
--- an element with the sum of those for the randomness at its set bits, refused where there is not one for each of so many bits
-abbrev pub hidden : {G : Type 0} → Group G → ℕ → List G → ℕ → G → Outcome G
-hidden g bits elements randomness x = if length elements == bits then Ok (g.plus x (pedersen_sum g elements (bits_of_number bits randomness))) else Err (GenericError ParameterShape)
+-- the sum of the elements at the set bits of the randomness, refused where there is not one for each of so many bits
+abbrev pub randomness_sum : {G : Type 0} → Group G → ℕ → List G → ℕ → Outcome G
+randomness_sum g bits elements randomness =
+    if length elements == bits then Ok (pedersen_sum g elements (bits_of_number bits randomness))
+    else Err (GenericError ParameterShape)
 
--- the hash of the input, hidden
-abbrev pub pedersen_commitment : {G : Type 0} → Group G → ℕ → ℕ → ℕ → Generators G → List ℕ → ℕ → Outcome G
-pedersen_commitment g bits count size lists input randomness = do
-  hash ← pedersen_hash g count size lists.windows input
-  hidden g bits lists.randomness randomness hash
+-- the hash of the input, and to it that sum
+abbrev pub pedersen_commitment : {G W : Type 0} → Group G → ℕ → Windows W → Generators G → List ℕ → ℕ → Outcome G
+pedersen_commitment g bits windows lists input randomness = do
+  hash ← pedersen_hash g windows lists.windows input
+  more ← randomness_sum g bits lists.randomness randomness
+  Ok (g.plus hash more)
 
--- the same where the lists are those of elements: the sum over the windows, and the element as often as the randomness says
-abbrev pub windows_commitment : {G : Type 0} → Group G → ℕ → ℕ → G → List G → List ℕ → ℕ → Outcome G
-windows_commitment g count size element elements input randomness = do
-  hash ← windows_hash g count size elements input
+-- the same where the lists are those of elements: the sum over the windows, and the element randomness times
+abbrev pub windows_commitment : {G W : Type 0} → Group G → Windows W → G → List G → List ℕ → ℕ → Outcome G
+windows_commitment g windows element elements input randomness = do
+  hash ← windows_hash g windows elements input
   Ok (g.plus hash (times g randomness element))
 
 -- ---- their sums

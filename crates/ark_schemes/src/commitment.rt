@@ -1,6 +1,7 @@
 //! Commitments.
 
 ghost use Rattle.std.specs.Prelude.{◌≡◌, ℕ, List, IfOk};
+ghost use Rattle.std.specs.Bool.{Decides};
 ghost use Rattle.ark_base.specs.Outcome.{Outcome, AnswersBy, IsDecided};
 
 pub mod blake2s;
@@ -31,7 +32,7 @@ pub trait CommitmentScheme {
 
     ghost is_made: { Self.Parameters → Type 0 };
 
-    /// Makes parameters from what the generator gives. Which values it gives is the generator's matter.
+    /// Makes parameters from values that the random number generator chooses.
     ///
     /// Refusals: that of the scheme, where it has none to make; `OutOfMemory`.
     fn setup<R: Rng>(alloc: Global, rng: &mut R) -> Result<Self::Parameters, Error>
@@ -40,19 +41,33 @@ pub trait CommitmentScheme {
 
     /// The commitment to bytes under randomness.
     ///
-    /// Refusals: those of `meaning`, which never are want of memory; `OutOfMemory`.
+    /// Refusals: those of `meaning`, none of which is `OutOfMemory`; and `OutOfMemory`.
     fn commit(
         alloc: Global,
         parameters: &Self::Parameters,
         input: &[u8],
         randomness: &Self::Randomness,
     ) -> Result<Self::Output, Error>
-        ensures { AnswersBy (λ output. Self.Output.spelling (Self.Output.view output)) (meaning parameters.now input.now randomness.now) result };
+        ensures { let bytes : Self.Output → List ℕ =
+            λ output. Self.Output.spelling (Self.Output.view output) in
+            AnswersBy bytes (meaning parameters.now input.now randomness.now) result };
 
-    ghost meaning_decided: { (p : Self.Parameters) (bytes : List ℕ) (r : Self.Randomness) → IsDecided (meaning p bytes r) };
+    ghost meaning_decided: { (p : Self.Parameters) (bytes : List ℕ) (r : Self.Randomness)
+        → IsDecided (meaning p bytes r) };
 
     ghost setup_decided: { IsDecided setup_outcome };
 
     // A copy of parameters commits as they do.
-    ghost same_parameters: { (p q : Self.Parameters) → Self.Parameters.seen p ≡ Self.Parameters.seen q → meaning p ≡ meaning q };
+    ghost same_parameters: { (p q : Self.Parameters)
+        → Self.Parameters.seen p ≡ Self.Parameters.seen q → meaning p ≡ meaning q };
+
+    // Randomness that was written and read again commits as it did.
+    ghost same_randomness: { (p : Self.Parameters) (bytes : List ℕ) (r s : Self.Randomness)
+        → Self.Randomness.view r ≡ Self.Randomness.view s → meaning p bytes r ≡ meaning p bytes s };
+
+    // Two outputs are equal only when their canonical bytes are.
+    ghost equal_if_same: { (a b : Self.Output)
+        → let bytes : Self.Output → List ℕ =
+        λ output. Self.Output.spelling (Self.Output.view output) in
+        Decides (Self.Output.eq a b) (bytes a ≡ bytes b) };
 }

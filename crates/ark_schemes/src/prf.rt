@@ -1,6 +1,7 @@
 //! Pseudorandom functions.
 
-ghost use Rattle.std.specs.Prelude.{ℕ, List};
+ghost use Rattle.std.specs.Prelude.{◌≡◌, ℕ, List};
+ghost use Rattle.std.specs.Bool.{Decides};
 ghost use Rattle.ark_base.specs.Outcome.{Outcome, AnswersBy, IsDecided};
 
 pub mod blake2s;
@@ -24,9 +25,24 @@ pub trait PRF {
 
     /// The output for a seed and an input.
     ///
-    /// Refusals: those of `meaning`, which never are want of memory; `OutOfMemory`.
+    /// Refusals: those of `meaning`, none of which is `OutOfMemory`; and `OutOfMemory`.
     fn evaluate(seed: &Self::Seed, input: &Self::Input) -> Result<Self::Output, Error>
-        ensures { AnswersBy (λ output. Self.Output.spelling (Self.Output.view output)) (meaning seed.now input.now) result };
+        ensures { let bytes : Self.Output → List ℕ =
+            λ output. Self.Output.spelling (Self.Output.view output) in
+            AnswersBy bytes (meaning seed.now input.now) result };
 
     ghost decided: { (seed : Self.Seed) (input : Self.Input) → IsDecided (meaning seed input) };
+
+    // Seeds and inputs that were written and read again give what they gave.
+    ghost same_seed: { (s t : Self.Seed)
+        → Self.Seed.view s ≡ Self.Seed.view t → meaning s ≡ meaning t };
+
+    ghost same_input: { (s : Self.Seed) (x y : Self.Input)
+        → Self.Input.view x ≡ Self.Input.view y → meaning s x ≡ meaning s y };
+
+    // Two outputs are equal only when their canonical bytes are.
+    ghost equal_if_same: { (a b : Self.Output)
+        → let bytes : Self.Output → List ℕ =
+        λ output. Self.Output.spelling (Self.Output.view output) in
+        Decides (Self.Output.eq a b) (bytes a ≡ bytes b) };
 }

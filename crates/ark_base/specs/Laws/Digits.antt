@@ -1,11 +1,13 @@
 -- The laws of the spellings of bool, of arrays of bytes, and of numbers below a modulus.
-use Rattle.std.proofs.Common.{◌≡◌, ℕ, zero, suc, ◌+◌, ◌*◌, ◌/◌, ◌%◌, ◌<◌, ◌≤◌, ◌^◌, Bool, true, false, ltb, cond, List, [], ◌∷◌, length, Ok, Err, refl, sym, ap, arith}
+use Rattle.std.proofs.Common.{◌≡◌, ℕ, zero, suc, ◌+◌, ◌*◌, ◌/◌, ◌%◌, ◌<◌, ◌≤◌, ◌^◌, Bool, true, false, ltb, cond}
+use Rattle.std.proofs.Common.{List, [], ◌∷◌, length, Ok, Err, refl, sym, ap, arith}
 use Rattle.std.proofs.lemmas.Bool.{ltb-true, lt-ltb}
 use Rattle.ark_base.specs.declared.error.SerializationError.{SerializationError}
 use Rattle.ark_base.specs.declared.error.SerializationError.TheVariants.{InvalidData}
 use Rattle.ark_base.specs.Reading.{IsBytes, IsCanonical}
 use Rattle.ark_base.specs.Spelling.{Always}
-use Rattle.ark_base.specs.Digits.{flag, flag_of, flag_at, AreBytes, itself, itself_of, bytes_at, number_of_bytes, bytes_of_number, IsBelow, below_of, below_at}
+use Rattle.ark_base.specs.Digits.{flag, flag_of, flag_at, AreBytes, itself, itself_of, bytes_at, number_of_bytes}
+use Rattle.ark_base.specs.Digits.{bytes_of_number, IsBelow, below_of, below_at}
 use Rattle.ark_base.specs.Laws.Steps.{done_injective}
 use Rattle.ark_base.specs.Laws.Parts.{fixed_laws}
 
@@ -27,7 +29,12 @@ flag_spelled (suc (suc b) ∷ []) v len e = absurd cc
 flag_spelled (b ∷ c ∷ bytes) v len e = absurd (omega arith)
 
 pub flag_laws : IsCanonical Always flag flag_at
-flag_laws = fixed_laws 1 Always flag flag_of (record { long = λ v h. length-flag v; again = λ v h. flag_again v; spelled = λ bytes v long fits e. flag_spelled bytes v long e })
+flag_laws =
+    fixed_laws 1 Always flag flag_of (record {
+      long = λ v h. length-flag v;
+      decodes = λ v h. flag_again v;
+      only = λ bytes v long fits e. flag_spelled bytes v long e;
+    })
 
 pub flag_is_long : (v : Bool) → 1 ≤ length (flag v)
 flag_is_long v = omega (arith, length-flag v)
@@ -38,7 +45,12 @@ pub bytes_are_long : (len : ℕ) (bytes : List ℕ) → AreBytes len bytes → l
 bytes_are_long len bytes are = omega (arith, are.0)
 
 pub bytes_laws : (len : ℕ) → IsCanonical (AreBytes len) itself (bytes_at len)
-bytes_laws len = fixed_laws len (AreBytes len) itself itself_of (record { long = λ v h. h.0; again = λ v h. refl; spelled = λ bytes v long fits e. let k = done_injective bytes v e in rw (← k) ((long, fits), refl) })
+bytes_laws len =
+    fixed_laws len (AreBytes len) itself itself_of (record {
+      long = λ v h. h.0;
+      decodes = λ v h. refl;
+      only = λ bytes v long fits e. let k = done_injective bytes v e in rw (← k) ((long, fits), refl);
+    })
 
 -- ---- numbers below a modulus
 
@@ -55,7 +67,8 @@ number_of_bytes-bytes_of_number (suc len) n h =
     let e = number_of_bytes-bytes_of_number len (n / 256) (omega arith) in
     omega arith
 
-pub bytes_of_number-number_of_bytes : (bytes : List ℕ) → IsBytes bytes → bytes_of_number (length bytes) (number_of_bytes bytes) ≡ bytes
+pub bytes_of_number-number_of_bytes : (bytes : List ℕ) → IsBytes bytes
+    → bytes_of_number (length bytes) (number_of_bytes bytes) ≡ bytes
 unfolding bytes_of_number
 bytes_of_number-number_of_bytes [] fits = refl
 bytes_of_number-number_of_bytes (b ∷ bytes) fits =
@@ -64,7 +77,8 @@ bytes_of_number-number_of_bytes (b ∷ bytes) fits =
     let high : (b + 256 * number_of_bytes bytes) / 256 ≡ number_of_bytes bytes = omega arith in
     rw (low, high, bytes_of_number-number_of_bytes bytes (λ i. fits (suc i))) refl
 
-tested_ok : {A : Type 0} (b : Bool) (fault : SerializationError) (x y : A) → cond b (Ok x) (Err fault) ≡ Ok y → (b ≡ true) × (x ≡ y)
+tested_ok : {A : Type 0} (b : Bool) (fault : SerializationError) (x y : A) → cond b (Ok x) (Err fault) ≡ Ok y
+    → (b ≡ true) × (x ≡ y)
 tested_ok true fault x y e = (refl, done_injective x y e)
 tested_ok false fault x y e = absurd cc
 
@@ -77,7 +91,8 @@ module _ (modulus len : ℕ) (holds : modulus ≤ 256 ^ len) where
       let below : ltb n modulus ≡ true = lt-ltb _ _ h in
       rw (e, below) refl
 
-  below_spelled : (bytes : List ℕ) (n : ℕ) → length bytes ≡ len → IsBytes bytes → below_of modulus bytes ≡ Ok n → IsBelow modulus n × (bytes ≡ bytes_of_number len n)
+  below_spelled : (bytes : List ℕ) (n : ℕ) → length bytes ≡ len → IsBytes bytes → below_of modulus bytes ≡ Ok n
+      → IsBelow modulus n × (bytes ≡ bytes_of_number len n)
   unfolding below_of
   below_spelled bytes n long fits e =
       let g = tested_ok (ltb (number_of_bytes bytes) modulus) InvalidData (number_of_bytes bytes) n e in
@@ -85,4 +100,9 @@ module _ (modulus len : ℕ) (holds : modulus ≤ 256 ^ len) where
       (rw (← g.1) below, rw (← g.1, ← long) (sym (bytes_of_number-number_of_bytes bytes fits)))
 
   pub below_laws : IsCanonical (IsBelow modulus) (bytes_of_number len) (below_at modulus len)
-  below_laws = fixed_laws len (IsBelow modulus) (bytes_of_number len) (below_of modulus) (record { long = λ n h. length-bytes_of_number len n; again = below_again; spelled = below_spelled })
+  below_laws =
+      fixed_laws len (IsBelow modulus) (bytes_of_number len) (below_of modulus) (record {
+        long = λ n h. length-bytes_of_number len n;
+        decodes = below_again;
+        only = below_spelled;
+      })

@@ -5,7 +5,7 @@ ghost use Rattle.std.specs.Bool.{Decides};
 ghost use Rattle.ark_base.specs.Outcome.{AnswersBy};
 
 use crate::error::Error;
-use crate::serialize::CanonicalItem;
+use crate::serialize::{Canonical, CanonicalItem};
 use std::alloc::Global;
 
 /// A value that can be copied where memory may be refused, in place of `Clone`.
@@ -18,6 +18,12 @@ pub trait Duplicate: Drop {
     /// That value once more. The only refusal is `OutOfMemory`.
     fn duplicate(&self, alloc: Global) -> Result<Self, Error>
         ensures { AnswersBy seen (Ok (seen self.now)) result };
+}
+
+/// A value that, written and read again, is seen as it was.
+pub trait ReadBack: Canonical + Duplicate {
+    // What has the same canonical value is seen alike.
+    ghost same_seen: { (a b : Self) → Self.view a ≡ Self.view b → Self.seen a ≡ Self.seen b };
 }
 
 /// A type whose values contracts see as lists of numbers.
@@ -43,7 +49,8 @@ pub trait DigestItem: Numbered + Duplicate + CanonicalItem + Eq {
     ghost equal_if_same: { (a b : Self) → Decides (Self.eq a b) (Self.numbers a ≡ Self.numbers b) };
 
     // A copy has the numbers, and nothing else is seen of a digest.
-    ghost seen_alike: { (a b : Self) → (Self.seen a ≡ Self.seen b) ↔ (Self.numbers a ≡ Self.numbers b) };
+    ghost seen_alike: { (a b : Self)
+        → (Self.seen a ≡ Self.seen b) ↔ (Self.numbers a ≡ Self.numbers b) };
 
     ghost bytes_are: { (a : Self) → Self.spelling (Self.view a) ≡ bytes_of (Self.numbers a) };
 
@@ -58,6 +65,10 @@ impl Duplicate for () {
     fn duplicate(&self, _alloc: Global) -> Result<(), Error> {
         Ok(())
     }
+}
+
+impl ReadBack for () {
+    ghost same_seen = { λ a b same. same };
 }
 
 impl Numbered for Vec<u8> {
@@ -77,12 +88,12 @@ impl Duplicate for Vec<u8> {
 impl DigestItem for Vec<u8> {
     ghost use Rattle.std.specs.Prelude.{[], drop};
     ghost use Rattle.std.proofs.lemmas.Slice.Eq.{bytes_eq-Decides};
-    ghost use Rattle.ark_base.specs.Spelling.{counted, byte};
+    ghost use Rattle.ark_base.specs.Spelling.{counted_list, byte};
     ghost use Rattle.ark_base.specs.Laws.Lists.{numbers_as_bytes, bytes_as_numbers};
 
     ghost blank_numbers = { [] };
 
-    ghost bytes_of = { counted byte };
+    ghost bytes_of = { counted_list byte };
 
     ghost numbers_of = { drop 8 };
 

@@ -3,7 +3,6 @@
 ghost use Rattle.std.specs.Prelude.{◌↔◌, ◌<◌, IsTrue};
 ghost use Rattle.std.specs.List.{All};
 
-use crate::Error;
 use crate::crh::pedersen::{CRH, Parameters, TwoToOneCRH, Window};
 use crate::crh::{CRHScheme, TwoToOneCRHScheme};
 use crate::ec::Residues;
@@ -11,7 +10,7 @@ use crate::ff::{Fp, M13, M61, PrimeField, UniformRand};
 use crate::merkle_tree::{
     ByteDigestConverter, Config, LeafParam, MerkleTree, MultiPath, TwoToOneParam, is_tree_size,
 };
-use ark_base::serialize::canonical_bytes;
+use crate::{Error, to_uncompressed_bytes};
 use rand::rngs::SmallRng;
 use rand::{Rng, SeedableRng};
 use std::alloc::Global;
@@ -107,7 +106,7 @@ impl Config for By61 {
 }
 
 fn residue(number: u64) -> Residues<M13> {
-    Residues(Fp::from_u64(number))
+    Residues::new(Fp::from_u64(number))
 }
 
 fn list(alloc: Global, numbers: &[u64]) -> Result<Vec<Residues<M13>>, Error> {
@@ -154,37 +153,49 @@ fn reckoned(alloc: Global) -> Result<MerkleTree<By13>, Error> {
     tree_of(alloc, &leaf_params(alloc)?, &two_params(alloc)?, &leaves)
 }
 
-fn bytes_of_proof(alloc: Global, tree: &MerkleTree<By13>) -> Result<Vec<u8>, Error> {
-    if tree.size() == 0 {
-        return Err(Error::IncorrectInputLength(0));
+fn bytes_of_proof<P: Config>(
+    alloc: Global,
+    tree: &MerkleTree<P>,
+    index: usize,
+) -> Result<Vec<u8>, Error> {
+    if index >= tree.size() {
+        return Err(Error::IncorrectInputLength(index));
     }
-    canonical_bytes(alloc, &tree.generate_proof(alloc, 0)?)
+    to_uncompressed_bytes!(in alloc; tree.generate_proof(alloc, index)?)
 }
 
-fn leaf_digest_beside(tree: &MerkleTree<By13>, index: usize) -> Option<u64> {
+fn leaf_digest_beside<P: Config>(tree: &MerkleTree<P>, index: usize) -> Option<&P::LeafDigest> {
     if index >= tree.size() {
         return None;
     }
-    Some(tree.get_leaf_sibling_hash(index).0.value())
+    Some(tree.get_leaf_sibling_hash(index))
 }
 
 #[test]
 fn leaf_digests_reach_the_pair_hash_as_bytes(rt: HostRuntime) -> Result<(), Fail> {
     let tree = reckoned(rt.alloc())?;
     assert!(rt; *tree.root() == residue(5));
-    assert_eq!(rt; leaf_digest_beside(&tree, 1), Some(9));
-    assert_eq!(rt; leaf_digest_beside(&tree, 0), Some(1));
-    assert_eq!(rt; leaf_digest_beside(&tree, 3), Some(0));
-    assert_eq!(rt; leaf_digest_beside(&tree, 2), Some(8));
+    assert_eq!(rt; leaf_digest_beside(&tree, 1), Some(&residue(9)));
+    assert_eq!(rt; leaf_digest_beside(&tree, 0), Some(&residue(1)));
+    assert_eq!(rt; leaf_digest_beside(&tree, 3), Some(&residue(0)));
+    assert_eq!(rt; leaf_digest_beside(&tree, 2), Some(&residue(8)));
     Ok(())
 }
 
 #[test]
 fn a_proof_has_bytes(rt: HostRuntime) -> Result<(), Fail> {
-    let bytes = bytes_of_proof(rt.alloc(), &reckoned(rt.alloc())?)?;
+    let alloc = rt.alloc();
+    let tree = reckoned(alloc)?;
+    let bytes = bytes_of_proof(alloc, &tree, 0)?;
     assert_eq!(rt;
-        hex::encode(rt.alloc(), &bytes)?.as_str(),
+        hex::encode(alloc, &bytes)?.as_str(),
         "010100000000000000080000000000000000"
+    );
+    // The node of the first two leaves is 10.
+    let bytes = bytes_of_proof(alloc, &tree, 2)?;
+    assert_eq!(rt;
+        hex::encode(alloc, &bytes)?.as_str(),
+        "0801000000000000000a0200000000000000"
     );
     Ok(())
 }

@@ -54,7 +54,7 @@ pub trait CurveGroup: Copy + Eq + Debug + Hash + Default + CanonicalItem {
         sum
     }
 
-    /// Some element: which one is the generator's matter.
+    /// An element that the random number generator chooses.
     fn rand<R: Rng>(rng: &mut R) -> Self;
 
     ghost laws: { IsCommutativeGroup group };

@@ -1,12 +1,12 @@
 //! Groups by worked examples.
 
 use super::*;
-use crate::ff::{Fp, M7, M13, M257, Modulus, PrimeField};
+use crate::ff::{Fp, M7, M13, M61, M257, Modulus, PrimeField};
 use crate::plain;
 use ark_base::error::{Error, SerializationError};
 use ark_base::serialize::{CanonicalDeserialize, CanonicalSerialize, DigestItem, Duplicate};
-use rand::SeedableRng;
 use rand::rngs::SmallRng;
+use rand::{Rng, RngExt, SeedableRng};
 use std::test::Fail;
 
 fn times<C: CurveGroup>(x: C, count: u64) -> C {
@@ -14,11 +14,11 @@ fn times<C: CurveGroup>(x: C, count: u64) -> C {
 }
 
 fn residue<M: Modulus>(number: u64) -> Residues<M> {
-    Residues(Fp::from_u64(number))
+    Residues::new(Fp::from_u64(number))
 }
 
 fn small<M: SmallModulus>(number: u64) -> Small<M> {
-    Small(Fp::from_u64(number))
+    Small::new(Fp::from_u64(number))
 }
 
 // A group whose sum and product are those of the trait alone.
@@ -130,4 +130,17 @@ fn each_element_is_drawn(rt: HostRuntime) {
     }
     assert_eq!(rt; seen, [true; 13]);
     assert_eq!(rt; seen_small, [true; 13]);
+}
+
+// One number below 2^61 - 1 for each element.
+#[test]
+fn wide_elements_are_drawn_as_their_numbers(rt: HostRuntime) {
+    let mut rng = SmallRng::seed_from_u64(61);
+    let mut twin = SmallRng::seed_from_u64(61);
+    for _ in 0..200 {
+        let drawn = <Residues<M61> as CurveGroup>::rand(&mut rng);
+        let number: u64 = twin.random_range(0..2305843009213693951);
+        assert_eq!(rt; drawn.0.value(), number);
+    }
+    assert_eq!(rt; rng.next_u64(), twin.next_u64());
 }

@@ -69,7 +69,7 @@ impl<M: Modulus> Fp<M> {
 }
 
 impl<M: Modulus> PrimeField for Fp<M> {
-    ghost use Rattle.ark_groups.specs.FpLaws.{fp_laws, fp_equal_if_same};
+    ghost use Rattle.ark_groups.specs.Laws.Fp.{fp_laws, fp_equal_if_same};
     ghost use Rattle.std.specs.Prelude.{refl};
 
     ghost MODULUS = { M.P };

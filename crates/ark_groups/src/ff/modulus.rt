@@ -31,7 +31,7 @@ pub fn byte_len<M: Modulus>() -> usize
 pub struct M7;
 
 impl Modulus for M7 {
-    ghost use Rattle.ark_groups.specs.FieldLaws.{IsModulus-7};
+    ghost use Rattle.ark_groups.specs.Laws.Field.{IsModulus-7};
 
     ghost P = { 7 };
 
@@ -48,7 +48,7 @@ impl Modulus for M7 {
 pub struct M13;
 
 impl Modulus for M13 {
-    ghost use Rattle.ark_groups.specs.FieldLaws.{IsModulus-13};
+    ghost use Rattle.ark_groups.specs.Laws.Field.{IsModulus-13};
 
     ghost P = { 13 };
 
@@ -65,7 +65,7 @@ impl Modulus for M13 {
 pub struct M257;
 
 impl Modulus for M257 {
-    ghost use Rattle.ark_groups.specs.FieldLaws.{IsModulus-257};
+    ghost use Rattle.ark_groups.specs.Laws.Field.{IsModulus-257};
 
     ghost P = { 257 };
 
@@ -82,7 +82,7 @@ impl Modulus for M257 {
 pub struct M65537;
 
 impl Modulus for M65537 {
-    ghost use Rattle.ark_groups.specs.FieldLaws.{IsModulus-65537};
+    ghost use Rattle.ark_groups.specs.Laws.Field.{IsModulus-65537};
 
     ghost P = { 65537 };
 
@@ -99,7 +99,7 @@ impl Modulus for M65537 {
 pub struct M61;
 
 impl Modulus for M61 {
-    ghost use Rattle.ark_groups.specs.FieldLaws.{IsModulus-61};
+    ghost use Rattle.ark_groups.specs.Laws.Field.{IsModulus-61};
 
     ghost P = { 2305843009213693951 };
 

@@ -96,9 +96,11 @@ pub trait PrimeField: Copy + Eq + Debug + Hash + Default + Numbered + CanonicalI
     // Its canonical bytes are those of its value, as many as the modulus needs.
     ghost is_spelled: { (x : Self) → Self.has_spelling (Self.view x) };
 
-    ghost spelling_is: { (x : Self) → Self.spelling (Self.view x) ≡ bytes_of_number (bytes_for MODULUS_BIT_SIZE) (value x) };
+    ghost spelling_is: { (x : Self)
+        → Self.spelling (Self.view x) ≡ bytes_of_number (bytes_for MODULUS_BIT_SIZE) (value x) };
 
     // What does not begin so is refused: cut short, or the modulus or more.
     ghost reading_refuses: { (bytes : List ℕ) (fault : SerializationError)
-        → below_at MODULUS (bytes_for MODULUS_BIT_SIZE) bytes ≡ Err fault → Self.reads bytes ≡ Err fault };
+        → below_at MODULUS (bytes_for MODULUS_BIT_SIZE) bytes ≡ Err fault
+        → Self.reads bytes ≡ Err fault };
 }

@@ -7,7 +7,7 @@ use crate::plain;
 use ark_base::error::{Error, SerializationError};
 use ark_base::serialize::{CanonicalDeserialize, CanonicalSerialize, DigestItem, Duplicate};
 use rand::rngs::SmallRng;
-use rand::{Rng, SeedableRng};
+use rand::{Rng, RngExt, SeedableRng};
 use std::hash::{DefaultHasher, Hash, Hasher};
 use std::test::Fail;
 
@@ -23,7 +23,11 @@ impl Modulus for Widest {
 
     const BITS: u32 = 64;
 
-    ghost laws = { record { at_least_two = lit≤ tt; in_word = lit< tt; digits = record { fits = lit< tt; top = lit≤ tt } } };
+    ghost laws = { record {
+      at_least_two = lit≤ tt;
+      in_word = lit< tt;
+      digits = record { no_more = lit< tt; no_fewer = lit≤ tt };
+    } };
 }
 
 // The smallest modulus, which is even.
@@ -38,7 +42,11 @@ impl Modulus for Two {
 
     const BITS: u32 = 2;
 
-    ghost laws = { record { at_least_two = lit≤ tt; in_word = lit< tt; digits = record { fits = lit< tt; top = lit≤ tt } } };
+    ghost laws = { record {
+      at_least_two = lit≤ tt;
+      in_word = lit< tt;
+      digits = record { no_more = lit< tt; no_fewer = lit≤ tt };
+    } };
 }
 
 fn element<F: PrimeField>(number: u64) -> F {
@@ -202,6 +210,24 @@ fn each_value_is_drawn(rt: HostRuntime) {
         seen[Fp::<M7>::rand(&mut rng).value() as usize] = true;
     }
     assert_eq!(rt; seen, [true; 7]);
+}
+
+// Numbers below 2^61 - 1 as the generator itself draws them, one for each element.
+#[test]
+fn wide_values_are_drawn_as_numbers_below_the_modulus(rt: HostRuntime) {
+    let mut rng = SmallRng::seed_from_u64(61);
+    let mut twin = SmallRng::seed_from_u64(61);
+    let mut wide = 0;
+    for _ in 0..200 {
+        let value = Fp::<M61>::rand(&mut rng).value();
+        let number: u64 = twin.random_range(0..2305843009213693951);
+        assert_eq!(rt; value, number);
+        if value >= 1 << 60 {
+            wide += 1;
+        }
+    }
+    assert!(rt; wide > 50 && wide < 150);
+    assert_eq!(rt; rng.next_u64(), twin.next_u64());
 }
 
 #[test]

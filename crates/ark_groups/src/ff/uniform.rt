@@ -4,7 +4,7 @@ use rand::Rng;
 
 /// Values that can be drawn from a generator's stream.
 pub trait UniformRand: Sized {
-    /// Some value: which one is the generator's matter.
+    /// A value that the random number generator chooses.
     fn rand<R: Rng>(rng: &mut R) -> Self;
 }
 

@@ -1,7 +1,8 @@
 //! The BLAKE2s commitment.
 
 ghost use Rattle.std.specs.Prelude.{◌≡◌, Ok, refl};
-ghost use Rattle.ark_schemes.specs.Commitments.{blake2s_commitment, blake2s_commitment-decided};
+ghost use Rattle.ark_schemes.specs.Commitments.{blake2s_commitment};
+ghost use Rattle.ark_schemes.specs.Laws.Commitments.{blake2s_commitment-decided};
 
 use crate::commitment::CommitmentScheme;
 use crate::prf::blake2s;
@@ -16,6 +17,9 @@ mod tests;
 pub struct Commitment;
 
 impl CommitmentScheme for Commitment {
+    ghost use Rattle.std.proofs.Common.{ap};
+    ghost use Rattle.std.proofs.lemmas.Slice.Eq.{bytes_eq-Decides};
+
     type Output = [u8; 32];
 
     type Parameters = ();
@@ -56,4 +60,8 @@ impl CommitmentScheme for Commitment {
     ghost setup_decided = { tt };
 
     ghost same_parameters = { λ p q same. refl };
+
+    ghost same_randomness = { λ p bytes r s same. ap (blake2s_commitment bytes) same };
+
+    ghost equal_if_same = { λ a b. bytes_eq-Decides a b };
 }

@@ -1,15 +1,14 @@
 //! The Pedersen commitment whose value is the image of an element under a map.
 
 ghost use Rattle.std.specs.Prelude.{Ok};
-ghost use Rattle.ark_crh.specs.Pedersen.{image_of};
-ghost use Rattle.ark_schemes.specs.PedersenCommitments.{AreMade, pedersen_commitment};
+ghost use Rattle.ark_pedersen.specs.Pedersen.{image_of};
+ghost use Rattle.ark_schemes.specs.PedersenCommitments.{elements_in, AreMade, pedersen_commitment};
 
 use crate::commitment::CommitmentScheme;
 use crate::commitment::pedersen::{Commitment, Parameters, Randomness, Window};
 use ark_base::error::Error;
-use ark_base::serialize::Duplicate;
-pub use ark_crh::injective_map::InjectiveMap;
 use ark_groups::ec::CurveGroup;
+pub use ark_pedersen::injective_map::InjectiveMap;
 use rand::Rng;
 use std::alloc::Global;
 use std::marker::PhantomData;
@@ -25,9 +24,10 @@ pub struct PedersenCommCompressor<C: CurveGroup, I: InjectiveMap<C>, W: Window> 
 
 impl<C: CurveGroup, I: InjectiveMap<C>, W: Window> CommitmentScheme
     for PedersenCommCompressor<C, I, W> {
-    ghost use Rattle.std.proofs.Common.{ap};
-    ghost use Rattle.ark_crh.specs.PedersenLaws.{image-decided};
-    ghost use Rattle.ark_schemes.specs.PedersenCommitmentLaws.{pedersen_commitment-decided};
+    ghost use Rattle.std.proofs.Common.{sym, ap, ◌∙◌};
+    ghost use Rattle.ark_groups.specs.Laws.Fp.{number-alone};
+    ghost use Rattle.ark_pedersen.specs.Laws.Pedersen.{image-decided};
+    ghost use Rattle.ark_schemes.specs.Laws.Commitments.{pedersen_commitment-decided};
 
     type Output = I::Output;
 
@@ -35,11 +35,16 @@ impl<C: CurveGroup, I: InjectiveMap<C>, W: Window> CommitmentScheme
 
     type Randomness = Randomness<C>;
 
-    ghost meaning = { λ parameters input randomness. image_of I.mapped (pedersen_commitment C.group C.ScalarField.MODULUS_BIT_SIZE W.NUM_WINDOWS W.WINDOW_SIZE (⟦<Parameters<C> as Duplicate>⟧.seen parameters) input (C.ScalarField.value randomness.0)) };
+    ghost meaning = { λ parameters input randomness.
+        let bits = C.ScalarField.MODULUS_BIT_SIZE in
+        let commitment = pedersen_commitment C.group bits W.Window in
+        let scalar = C.ScalarField.value randomness.0 in
+        image_of I.image (commitment (elements_in parameters) input scalar) };
 
     ghost setup_outcome = { Ok tt };
 
-    ghost is_made = { λ parameters. AreMade C.group C.ScalarField.MODULUS_BIT_SIZE W.NUM_WINDOWS W.WINDOW_SIZE (⟦<Parameters<C> as Duplicate>⟧.seen parameters) };
+    ghost is_made = { λ parameters.
+        AreMade C.group C.ScalarField.MODULUS_BIT_SIZE W.Window (elements_in parameters) };
 
     /// As `pedersen::Commitment::setup`.
     fn setup<R: Rng>(alloc: Global, rng: &mut R) -> Result<Parameters<C>, Error> {
@@ -59,9 +64,27 @@ impl<C: CurveGroup, I: InjectiveMap<C>, W: Window> CommitmentScheme
         I::injective_map(alloc, &commitment)
     }
 
-    ghost meaning_decided = { λ parameters input randomness. image-decided I.mapped _ I.mapped_decided (pedersen_commitment-decided C.group C.ScalarField.MODULUS_BIT_SIZE W.NUM_WINDOWS W.WINDOW_SIZE (⟦<Parameters<C> as Duplicate>⟧.seen parameters) input (C.ScalarField.value randomness.0)) };
+    ghost meaning_decided = { λ parameters input randomness.
+        image-decided I.image _ I.image_decided
+        (pedersen_commitment-decided C.group C.ScalarField.MODULUS_BIT_SIZE W.Window
+        (elements_in parameters) input (C.ScalarField.value randomness.0)) };
 
     ghost setup_decided = { tt };
 
-    ghost same_parameters = { λ p q same. ap (λ lists input randomness. image_of I.mapped (pedersen_commitment C.group C.ScalarField.MODULUS_BIT_SIZE W.NUM_WINDOWS W.WINDOW_SIZE lists input (C.ScalarField.value randomness.0))) same };
+    ghost same_parameters = { λ p q same.
+        ap (λ lists input randomness. image_of I.image
+        (pedersen_commitment C.group C.ScalarField.MODULUS_BIT_SIZE W.Window
+        lists input (C.ScalarField.value randomness.0))) same };
+
+    ghost same_randomness = { λ p bytes r s same.
+        ap (λ scalar. image_of I.image
+        (pedersen_commitment C.group C.ScalarField.MODULUS_BIT_SIZE W.Window
+        (elements_in p) bytes scalar))
+        (number-alone C.ScalarField.MODULUS C.ScalarField.MODULUS_BIT_SIZE
+        C.ScalarField.modulus_laws _ _
+        (C.ScalarField.PrimeField.laws.below r.0) (C.ScalarField.PrimeField.laws.below s.0)
+        (sym (C.ScalarField.spelling_is r.0) ∙ ap C.ScalarField.spelling same
+        ∙ C.ScalarField.spelling_is s.0)) };
+
+    ghost equal_if_same = { I.equal_if_same };
 }

@@ -1,8 +1,9 @@
 //! The Pedersen commitment.
 
 ghost use Rattle.std.specs.Prelude.{◌≡◌, ℕ, ◌+◌, ◌%◌, ◌<◌, ◌^◌, List, length, Ok};
-ghost use Rattle.ark_crh.specs.Pedersen.{bits_of_number, pedersen_sum, seen_by};
-ghost use Rattle.ark_schemes.specs.PedersenCommitments.{AreOf, AreMade, pedersen_commitment, windows_commitment, sum_of, IsUnion};
+ghost use Rattle.ark_pedersen.specs.Pedersen.{bits_of_number, pedersen_sum, seen_by};
+ghost use Rattle.ark_schemes.specs.PedersenCommitments.{elements_in, AreOf, AreMade, pedersen_commitment};
+ghost use Rattle.ark_schemes.specs.PedersenCommitments.{windows_commitment, sum_of, IsUnion};
 
 mod parameters;
 mod randomness;
@@ -11,11 +12,11 @@ mod tests;
 
 use crate::commitment::CommitmentScheme;
 use ark_base::error::{Error, Refusal};
-use ark_base::serialize::{Canonical, Duplicate};
-pub use ark_crh::pedersen::Window;
-use ark_crh::pedersen::{CRH, hash_bytes};
+use ark_base::serialize::Canonical;
 use ark_groups::ec::CurveGroup;
 use ark_groups::ff::PrimeField;
+pub use ark_pedersen::Window;
+use ark_pedersen::{CRH, hash_bytes};
 pub use parameters::Parameters;
 use rand::Rng;
 pub use randomness::Randomness;
@@ -29,9 +30,11 @@ pub struct Commitment<C: CurveGroup, W: Window> {
 }
 
 impl<C: CurveGroup, W: Window> CommitmentScheme for Commitment<C, W> {
-    ghost use Rattle.std.proofs.Common.{ap};
-    ghost use Rattle.ark_crh.specs.PedersenLaws.{seen-decided};
-    ghost use Rattle.ark_schemes.specs.PedersenCommitmentLaws.{pedersen_commitment-decided};
+    ghost use Rattle.std.proofs.Common.{sym, ap, ◌∙◌};
+    ghost use Rattle.ark_groups.specs.Laws.Fp.{number-alone};
+    ghost use Rattle.ark_pedersen.specs.Laws.Images.{bytes-Decides};
+    ghost use Rattle.ark_pedersen.specs.Laws.Pedersen.{seen-decided};
+    ghost use Rattle.ark_schemes.specs.Laws.Commitments.{pedersen_commitment-decided};
 
     type Output = C;
 
@@ -39,11 +42,16 @@ impl<C: CurveGroup, W: Window> CommitmentScheme for Commitment<C, W> {
 
     type Randomness = Randomness<C>;
 
-    ghost meaning = { λ parameters input randomness. seen_by (λ x. C.spelling (C.view x)) (pedersen_commitment C.group C.ScalarField.MODULUS_BIT_SIZE W.NUM_WINDOWS W.WINDOW_SIZE (⟦<Parameters<C> as Duplicate>⟧.seen parameters) input (C.ScalarField.value randomness.0)) };
+    ghost meaning = { λ parameters input randomness.
+        let bits = C.ScalarField.MODULUS_BIT_SIZE in
+        let commitment = pedersen_commitment C.group bits W.Window in
+        let scalar = C.ScalarField.value randomness.0 in
+        seen_by (λ x. C.spelling (C.view x)) (commitment (elements_in parameters) input scalar) };
 
     ghost setup_outcome = { Ok tt };
 
-    ghost is_made = { λ parameters. AreMade C.group C.ScalarField.MODULUS_BIT_SIZE W.NUM_WINDOWS W.WINDOW_SIZE (⟦<Parameters<C> as Duplicate>⟧.seen parameters) };
+    ghost is_made = { λ parameters.
+        AreMade C.group C.ScalarField.MODULUS_BIT_SIZE W.Window (elements_in parameters) };
 
     /// Draws the randomness element and puts its doublings, one for each bit of the scalars' modulus; then the generators of the
     /// hash, as its `create_generators` makes them.
@@ -66,27 +74,58 @@ impl<C: CurveGroup, W: Window> CommitmentScheme for Commitment<C, W> {
         input: &[u8],
         randomness: &Randomness<C>,
     ) -> Result<C, Error>
-        ensures exact { result ≡ pedersen_commitment C.group C.ScalarField.MODULUS_BIT_SIZE W.NUM_WINDOWS W.WINDOW_SIZE (⟦<Parameters<C> as Duplicate>⟧.seen parameters.now) input.now (C.ScalarField.value randomness.now.0) }
+        ensures exact { let bits = C.ScalarField.MODULUS_BIT_SIZE in
+            let commitment = pedersen_commitment C.group bits W.Window in
+            let scalar = C.ScalarField.value randomness.now.0 in
+            result ≡ commitment (elements_in parameters.now) input.now scalar }
 
-        // Where the generators are those of elements, the sum over the windows and so many times the randomness element.
-        ensures windows { (element : C) (elements : List C) → AreOf C.group C.ScalarField.MODULUS_BIT_SIZE W.NUM_WINDOWS W.WINDOW_SIZE element elements (⟦<Parameters<C> as Duplicate>⟧.seen parameters.now)
-            → result ≡ windows_commitment C.group W.NUM_WINDOWS W.WINDOW_SIZE element elements input.now (C.ScalarField.value randomness.now.0) }
+        // Where the generators are those of elements, the sum over the windows and the randomness element scalar times.
+        ensures windows { let bits = C.ScalarField.MODULUS_BIT_SIZE in
+            let scalar = C.ScalarField.value randomness.now.0 in
+            (element : C) (elements : List C)
+            → AreOf C.group bits W.Window element elements (elements_in parameters.now)
+            → result ≡ windows_commitment C.group W.Window element elements input.now scalar }
 
         // Where `setup` made the parameters, the sum of the commitments to two inputs that together have the bits of this one,
         // under two scalars that make the randomness.
-        ensures sums { AreMade C.group C.ScalarField.MODULUS_BIT_SIZE W.NUM_WINDOWS W.WINDOW_SIZE (⟦<Parameters<C> as Duplicate>⟧.seen parameters.now)
-            → (left right : List ℕ) (r s : C.ScalarField) → IsUnion input.now left right → C.ScalarField.value randomness.now.0 ≡ (C.ScalarField.value r + C.ScalarField.value s) % C.ScalarField.MODULUS
-            → let commitment = pedersen_commitment C.group C.ScalarField.MODULUS_BIT_SIZE W.NUM_WINDOWS W.WINDOW_SIZE (⟦<Parameters<C> as Duplicate>⟧.seen parameters.now) in
-            result ≡ sum_of C.group (commitment left (C.ScalarField.value r)) (commitment right (C.ScalarField.value s)) }
+        ensures sums { let bits = C.ScalarField.MODULUS_BIT_SIZE in
+            let lists = elements_in parameters.now in
+            let value = C.ScalarField.value in
+            let commitment = pedersen_commitment C.group bits W.Window lists in
+            AreMade C.group bits W.Window lists
+            → (left right : List ℕ) (r s : C.ScalarField) → IsUnion input.now left right
+            → value randomness.now.0 ≡ (value r + value s) % C.ScalarField.MODULUS
+            → result ≡ sum_of C.group (commitment left (value r)) (commitment right (value s)) }
     {
         commitment_of::<C, W>(parameters, input, randomness.0)
     }
 
-    ghost meaning_decided = { λ parameters input randomness. seen-decided (λ x. C.spelling (C.view x)) _ (pedersen_commitment-decided C.group C.ScalarField.MODULUS_BIT_SIZE W.NUM_WINDOWS W.WINDOW_SIZE (⟦<Parameters<C> as Duplicate>⟧.seen parameters) input (C.ScalarField.value randomness.0)) };
+    ghost meaning_decided = { λ parameters input randomness.
+        seen-decided (λ x. C.spelling (C.view x)) _
+        (pedersen_commitment-decided C.group C.ScalarField.MODULUS_BIT_SIZE W.Window
+        (elements_in parameters) input (C.ScalarField.value randomness.0)) };
 
     ghost setup_decided = { tt };
 
-    ghost same_parameters = { λ p q same. ap (λ lists input randomness. seen_by (λ x. C.spelling (C.view x)) (pedersen_commitment C.group C.ScalarField.MODULUS_BIT_SIZE W.NUM_WINDOWS W.WINDOW_SIZE lists input (C.ScalarField.value randomness.0))) same };
+    ghost same_parameters = { λ p q same.
+        ap (λ lists input randomness. seen_by (λ x. C.spelling (C.view x))
+        (pedersen_commitment C.group C.ScalarField.MODULUS_BIT_SIZE W.Window
+        lists input (C.ScalarField.value randomness.0))) same };
+
+    ghost same_randomness = { λ p bytes r s same.
+        ap (λ scalar. seen_by (λ x. C.spelling (C.view x))
+        (pedersen_commitment C.group C.ScalarField.MODULUS_BIT_SIZE W.Window
+        (elements_in p) bytes scalar))
+        (number-alone C.ScalarField.MODULUS C.ScalarField.MODULUS_BIT_SIZE
+        C.ScalarField.modulus_laws _ _
+        (C.ScalarField.PrimeField.laws.below r.0) (C.ScalarField.PrimeField.laws.below s.0)
+        (sym (C.ScalarField.spelling_is r.0) ∙ ap C.ScalarField.spelling same
+        ∙ C.ScalarField.spelling_is s.0)) };
+
+    ghost equal_if_same = { λ a b.
+        bytes-Decides C.view C.has_spelling C.spelling C.reads C.Canonical.laws
+        C.is_spelled C.same_view
+        a b _ (C.CurveGroup.equal_if_same a b) };
 }
 
 // The commitment under a scalar.
@@ -95,7 +134,10 @@ fn commitment_of<C: CurveGroup, W: Window>(
     input: &[u8],
     randomness: C::ScalarField,
 ) -> Result<C, Error>
-    ensures { result ≡ pedersen_commitment C.group C.ScalarField.MODULUS_BIT_SIZE W.NUM_WINDOWS W.WINDOW_SIZE (⟦<Parameters<C> as Duplicate>⟧.seen parameters.now) input.now (C.ScalarField.value randomness) }
+    ensures { let bits = C.ScalarField.MODULUS_BIT_SIZE in
+        let commitment = pedersen_commitment C.group bits W.Window in
+        let scalar = C.ScalarField.value randomness in
+        result ≡ commitment (elements_in parameters.now) input.now scalar }
 {
     let hash = hash_bytes::<C, W>(&parameters.generators, input)?;
     if parameters.randomness_generator.len() != C::ScalarField::MODULUS_BIT_SIZE as usize {
@@ -105,15 +147,14 @@ fn commitment_of<C: CurveGroup, W: Window>(
 }
 
 // The sum with the elements at the set bits of a number.
-fn add_set_bits<C: CurveGroup>(sum: C, elements: &[C], number: u64) -> C
+fn add_set_bits<C: CurveGroup>(mut sum: C, elements: &[C], mut number: u64) -> C
     requires { number < 2 ^ length elements.now }
-    ensures { result ≡ C.group.plus sum (pedersen_sum C.group elements.now (bits_of_number 64 number)) }
+    ensures { let more = pedersen_sum C.group elements.now (bits_of_number 64 number) in
+        result ≡ C.group.plus sum more }
 {
-    let mut sum = sum;
-    let mut rest = number;
-    while rest > 0 {
-        sum = sum.add(elements[rest.trailing_zeros() as usize]);
-        rest &= rest - 1;
+    while number > 0 {
+        sum = sum.add(elements[number.trailing_zeros() as usize]);
+        number &= number - 1;
     }
     sum
 }

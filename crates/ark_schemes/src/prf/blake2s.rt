@@ -42,6 +42,8 @@ impl ByteDigest for Blake2s256 {
 pub struct Blake2s;
 
 impl PRF for Blake2s {
+    ghost use Rattle.std.proofs.lemmas.Slice.Eq.{bytes_eq-Decides};
+
     type Input = [u8; 32];
 
     type Output = [u8; 32];
@@ -58,6 +60,12 @@ impl PRF for Blake2s {
     }
 
     ghost decided = { λ _ _. tt };
+
+    ghost same_seed = { λ s t same. λ i input. Ok (blake2s (same i ++ input)) };
+
+    ghost same_input = { λ s x y same. λ i. Ok (blake2s (s ++ same i)) };
+
+    ghost equal_if_same = { λ a b. bytes_eq-Decides a b };
 }
 
 /// BLAKE2s with 32 bytes out and no key, with salt and personalization in its parameter block.
@@ -76,7 +84,8 @@ pub struct Blake2sWithParameterBlock {
 impl Blake2sWithParameterBlock {
     /// The digest of the bytes. The only refusal is `OutOfMemory`.
     pub fn evaluate(&self, alloc: Global, input: &[u8]) -> Result<Vec<u8>, Error>
-        ensures { AnswersBy (λ bytes. bytes.items) (Ok (blake2s_with self.now.salt self.now.personalization input.now)) result }
+        ensures { let digest = blake2s_with self.now.salt self.now.personalization input.now in
+            AnswersBy (λ bytes. bytes.items) (Ok digest) result }
     {
         let digest = text::digest(&self.salt, &self.personalization, input, &[]);
         Ok(Vec::from_array(alloc, digest)?)

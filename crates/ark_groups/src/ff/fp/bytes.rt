@@ -13,7 +13,7 @@ use ark_base::serialize::{
 use std::alloc::Global;
 
 impl<M: Modulus> Canonical for Fp<M> {
-    ghost use Rattle.ark_groups.specs.FpLaws.{below_modulus_laws};
+    ghost use Rattle.ark_groups.specs.Laws.Fp.{below_modulus_laws};
 
     ghost Value = { ℕ };
 
@@ -42,7 +42,7 @@ impl<M: Modulus> CanonicalDeserialize for Fp<M> {
 }
 
 impl<M: Modulus> CanonicalItem for Fp<M> {
-    ghost use Rattle.ark_groups.specs.FpLaws.{some_bytes, as_long};
+    ghost use Rattle.ark_groups.specs.Laws.Fp.{some_bytes, as_long};
 
     ghost LEAST = { bytes_for M.BITS };
 
@@ -68,7 +68,7 @@ impl<M: Modulus> Duplicate for Fp<M> {
 }
 
 impl<M: Modulus> DigestItem for Fp<M> {
-    ghost use Rattle.ark_groups.specs.FpLaws.{one-Decides, one_alike, number_again};
+    ghost use Rattle.ark_groups.specs.Laws.Fp.{one-Decides, one_alike, number_again};
 
     ghost blank_numbers = { 0 ∷ [] };
 

@@ -2,9 +2,9 @@
 
 use super::*;
 use ark_base::error::Refusal;
-use ark_crh::injective_map::TECompressor;
 use ark_groups::ec::Small;
 use ark_groups::ff::{Fp, M13, M257, PrimeField};
+use ark_pedersen::injective_map::TECompressor;
 use rand::SeedableRng;
 use rand::rngs::SmallRng;
 use std::test::Fail;
@@ -33,7 +33,7 @@ type Compressed = PedersenCommCompressor<Small<M13>, TECompressor, Two>;
 fn list(alloc: Global, numbers: &[u64]) -> Result<Vec<Small<M13>>, Error> {
     let mut list = Vec::new(alloc);
     for number in numbers {
-        list.push(Small(Fp::from_u64(*number)))?;
+        list.push(Small::new(Fp::from_u64(*number)))?;
     }
     Ok(list)
 }

@@ -1,7 +1,6 @@
 //! The generators of a Pedersen commitment.
 
-ghost use Rattle.std.specs.Prelude.{map};
-ghost use Rattle.ark_schemes.specs.PedersenCommitments.{Generators};
+ghost use Rattle.ark_schemes.specs.PedersenCommitments.{Generators, elements_in};
 
 use ark_base::error::Error;
 use ark_base::serialize::Duplicate;
@@ -19,7 +18,7 @@ pub struct Parameters<C: CurveGroup> {
 impl<C: CurveGroup> Duplicate for Parameters<C> {
     ghost Data = { Generators C };
 
-    ghost seen = { λ parameters. record { randomness = parameters.randomness_generator.items; windows = map (λ list. list.items) parameters.generators.items } };
+    ghost seen = { elements_in };
 
     fn duplicate(&self, _alloc: Global) -> Result<Parameters<C>, Error> {
         Ok(Parameters {

@@ -1,7 +1,7 @@
 //! The randomness of a Pedersen commitment.
 
 use ark_base::error::Error;
-use ark_base::serialize::{Canonical, CanonicalDeserialize, CanonicalSerialize};
+use ark_base::serialize::{Canonical, CanonicalDeserialize, CanonicalItem, CanonicalSerialize};
 use ark_groups::ec::CurveGroup;
 use ark_groups::ff::UniformRand;
 use rand::Rng;
@@ -43,4 +43,14 @@ impl<C: CurveGroup> CanonicalDeserialize for Randomness<C> {
         let (scalar, used) = C::ScalarField::read(alloc, bytes)?;
         Ok((Randomness(scalar), used))
     }
+}
+
+impl<C: CurveGroup> CanonicalItem for Randomness<C> {
+    ghost LEAST = { ⟦<C::ScalarField as CanonicalItem>⟧.LEAST };
+
+    const LEAST: usize = <C::ScalarField as CanonicalItem>::LEAST;
+
+    ghost some = { C.ScalarField.CanonicalItem.some };
+
+    ghost at_least = { C.ScalarField.CanonicalItem.at_least };
 }

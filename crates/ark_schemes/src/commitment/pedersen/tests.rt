@@ -2,7 +2,7 @@
 
 use super::*;
 use ark_base::error::SerializationError;
-use ark_base::serialize::{CanonicalDeserialize, CanonicalSerialize};
+use ark_base::serialize::{CanonicalDeserialize, CanonicalSerialize, Duplicate};
 use ark_groups::ec::Residues;
 use ark_groups::ff::{Fp, M13, M61, UniformRand};
 use rand::SeedableRng;
@@ -52,7 +52,7 @@ impl Window for Three {
 }
 
 fn residue(number: u64) -> G13 {
-    Residues(Fp::from_u64(number))
+    Residues::new(Fp::from_u64(number))
 }
 
 fn list(alloc: Global, numbers: &[u64]) -> Result<Vec<G13>, Error> {
@@ -187,6 +187,11 @@ fn randomness_is_its_scalar(rt: HostRuntime) -> Result<(), Fail> {
     let (again, used) = Randomness::<G13>::deserialize(alloc, &written)?;
     assert_eq!(rt; used, 1);
     assert_eq!(rt; again, randomness);
+    let list = Vec::<Randomness<G13>>::deserialize(alloc, &[2, 0, 0, 0, 0, 0, 0, 0, 3, 12])?.0;
+    assert_eq!(rt;
+        list.as_slice(),
+        [randomness, Randomness(Fp::from_u64(12))].as_slice()
+    );
     assert_eq!(rt;
         Randomness::<G13>::deserialize(alloc, &[13u8]).err(),
         Some(Error::SerializationError(SerializationError::InvalidData))

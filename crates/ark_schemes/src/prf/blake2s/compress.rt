@@ -1,7 +1,7 @@
 //! The compression function of BLAKE2s (RFC 7693, section 3).
 
 ghost use Rattle.std.specs.Prelude.{◌≡◌};
-ghost use Rattle.ark_schemes.specs.Blake2s.{mixed, round, local_vector, rounds, finished, compressed};
+ghost use Rattle.ark_schemes.specs.Blake2s.{mixture, round, local_vector, rounds, next_state, compression};
 
 /// IV (section 2.6).
 pub(super) const IV: [u32; 8] = [
@@ -18,7 +18,7 @@ pub(super) const IV: [u32; 8] = [
 // G (section 3.1).
 #[inline(always)]
 fn mix(a: u32, b: u32, c: u32, d: u32, x: u32, y: u32) -> [u32; 4]
-    ensures { result ≡ mixed a b c d x y }
+    ensures { result ≡ mixture a b c d x y }
 {
     let a = a.wrapping_add(b).wrapping_add(x);
     let d = (d ^ a).rotate_right(16);
@@ -99,7 +99,7 @@ fn first_vector(h: [u32; 8], t: u64, last: bool) -> [u32; 16]
 // Both halves of the vector in the state (section 3.2).
 #[inline(always)]
 fn finish(h: [u32; 8], v: [u32; 16]) -> [u32; 8]
-    ensures { result ≡ finished h v }
+    ensures { result ≡ next_state h v }
 {
     [
         h[0] ^ v[0] ^ v[8],
@@ -114,9 +114,9 @@ fn finish(h: [u32; 8], v: [u32; 16]) -> [u32; 8]
 }
 
 /// F (section 3.2): takes a block of sixteen words into the state, with the counter and whether it is the last.
-#[tactic(auto, unfolding(crate::specs::Blake2s::compressed))]
+#[tactic(auto, unfolding(crate::specs::Blake2s::compression))]
 pub(super) fn compress(h: &mut [u32; 8], m: [u32; 16], t: u64, last: bool)
-    ensures { h.new ≡ compressed h.old m t last }
+    ensures { h.new ≡ compression h.old m t last }
 {
     *h = finish(*h, ten_rounds(first_vector(*h, t, last), m));
 }

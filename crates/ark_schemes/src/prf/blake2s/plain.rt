@@ -1,7 +1,7 @@
 //! The definition of specs/ as a plain, slow function, for tests to compare with: all blocks of the whole text first.
 
 ghost use Rattle.std.specs.Prelude.{◌≡◌, ◌<◌, ◌^◌, length, take, drop, slice_index, IfOk};
-ghost use Rattle.ark_schemes.specs.Blake2s.{blocks, filled, hashed_whole, blake2s_with};
+ghost use Rattle.ark_schemes.specs.Blake2s.{blocks, full_block, last_state, blake2s_with};
 
 use crate::prf::blake2s::compress::compress;
 use crate::prf::blake2s::text::{first_state, state_bytes, words_of};
@@ -20,7 +20,7 @@ fn byte_or_zero(bytes: &[u8], i: usize) -> u8
 
 // The first bytes, 64 at most, with zeros behind them up to 64.
 fn filled(bytes: &[u8]) -> [u8; 64]
-    ensures { result ≡ filled (take 64 bytes.now) }
+    ensures { result ≡ full_block (take 64 bytes.now) }
 {
     let mut block = [0; 64];
     'fill: for k in 0..64 {
@@ -46,7 +46,7 @@ fn blocks(alloc: Global, text: &[u8]) -> Result<Vec<[u32; 16]>, AllocError>
 fn hash_blocks(mut h: [u32; 8], blocks: &[[u32; 16]], len: u64) -> [u32; 8]
     requires some { 0 < length blocks.now }
     requires few { length blocks.now < 2 ^ 32 }
-    ensures { result ≡ hashed_whole h blocks.now len }
+    ensures { result ≡ last_state h blocks.now len }
 {
     let last = blocks.len() - 1;
     'whole: for i in 0..last {

@@ -1,7 +1,7 @@
 //! The digest of a text that is two slices, one after the other (RFC 7693, section 3.3).
 
 ghost use Rattle.std.specs.Prelude.{◌≡◌, ◌+◌, ◌^◌, ◌<◌, ◌≤◌, ◌++◌, length, slice_index};
-ghost use Rattle.ark_schemes.specs.Blake2s.{word_at, words_from, first_state, state_bytes, blake2s_with};
+ghost use Rattle.ark_schemes.specs.Blake2s.{word_from, words_from, first_state, state_bytes, blake2s_with};
 
 use crate::prf::blake2s::compress::{IV, compress};
 
@@ -23,7 +23,7 @@ fn byte_at(first: &[u8], second: &[u8], place: usize) -> u8
 // The word at a place of the text, byte by byte.
 fn word_by_bytes(first: &[u8], second: &[u8], place: usize) -> u32
     requires { place + 4 ≤ 2 ^ 64 }
-    ensures { result ≡ word_at (first.now ++ second.now) place }
+    ensures { result ≡ word_from (first.now ++ second.now) place }
 {
     u32::from_le_bytes([
         byte_at(first, second, place),
@@ -36,7 +36,7 @@ fn word_by_bytes(first: &[u8], second: &[u8], place: usize) -> u32
 // The word at a place of one slice.
 fn word_of(bytes: &[u8], i: usize) -> u32
     requires { i + 4 ≤ length bytes.now }
-    ensures { result ≡ word_at bytes.now i }
+    ensures { result ≡ word_from bytes.now i }
 {
     u32::from_le_bytes([bytes[i], bytes[i + 1], bytes[i + 2], bytes[i + 3]])
 }
@@ -44,7 +44,7 @@ fn word_of(bytes: &[u8], i: usize) -> u32
 // The word at a place of the text: from one slice, where it lies within it, and zero past the end.
 fn word_at(first: &[u8], second: &[u8], place: usize) -> u32
     requires { place + 4 ≤ 2 ^ 64 }
-    ensures { result ≡ word_at (first.now ++ second.now) place }
+    ensures { result ≡ word_from (first.now ++ second.now) place }
 {
     if place < first.len() {
         if first.len() - place >= 4 {

@@ -1,5 +1,0 @@
-pub mod BitSums
-pub mod Halves
-pub mod PedersenSums
-pub mod Shapes
-pub mod Windows

@@ -1,5 +1,0 @@
-use Rattle.ark_groups.specs.NumberGroups.{residues, same_number}
-use Rattle.ark_groups.proofs.ec.residues.ResiduesCurveGroup.neg.Goals as goal
-
-pub returns : goal.returns
-returns g c = same_number residues _ _ c.neg.ensures

@@ -1,0 +1,6 @@
+pub mod BitSums
+pub mod Copies
+pub mod Halves
+pub mod PedersenSums
+pub mod Shapes
+pub mod Windows

@@ -1,0 +1,44 @@
+-- Pedersen hashes over generators that are elements with their doublings.
+use Rattle.std.proofs.Common.{◌≡◌, ℕ, ◌*◌, Bool, true, false, cond, eqb, ◌&&◌, List, [], ◌∷◌, length, map, Ok, Err, refl, ap, ◌∙◌, nat_lt}
+use Rattle.std.specs.List.{list_all}
+use Rattle.std.proofs.lemmas.Bool.{eq-eqb}
+use Rattle.std.proofs.lemmas.List.{length-map}
+use Rattle.ark_base.specs.Outcome.{Outcome}
+use Rattle.ark_base.specs.declared.error.Error.TheVariants.{IncorrectInputLength, GenericError}
+use Rattle.ark_base.specs.declared.error.Refusal.TheVariants.{ParameterShape}
+use Rattle.ark_groups.specs.Group.{Group, IsCommutativeGroup}
+use Rattle.ark_pedersen.specs.Pedersen.{bits_of_bytes, pedersen_sum, doublings, capacity, concatenation, has_shape, AreGeneratorsOf, pedersen_hash, windows_hash}
+use Rattle.ark_pedersen.specs.declared.window.Window.{Ghosts as Windows}
+use Rattle.ark_pedersen.proofs.PedersenSums.{length-doublings, pedersen_sum-windows}
+
+module _ {G : Type 0} (g : Group G) where
+  lists_are_long : (size : ℕ) (elements : List G) → list_all (λ list. eqb (length list) size) (map (doublings g size) elements) ≡ true
+  lists_are_long size [] = refl
+  lists_are_long size (x ∷ elements) =
+      ap (λ (b : Bool). b && list_all (λ list. eqb (length list) size) (map (doublings g size) elements)) (eq-eqb _ _ (length-doublings g size x)) ∙ lists_are_long size elements
+
+  windows_have_shape : (count size : ℕ) (elements : List G) → length elements ≡ count → has_shape count size (map (doublings g size) elements) ≡ true
+  windows_have_shape count size elements long =
+      ap (λ (b : Bool). b && list_all (λ list. eqb (length list) size) (map (doublings g size) elements)) (eq-eqb _ _ (length-map elements (doublings g size) ∙ long)) ∙ lists_are_long size elements
+
+  -- the lists so far are those of so many elements, some or other
+  abbrev pub AreSoFar : ℕ → ℕ → List (List G) → Type 0
+  AreSoFar count size lists = (elements : List G) × (length elements ≡ count) × (lists ≡ map (doublings g size) elements)
+
+  -- the hash is the sum over the windows
+  pub pedersen_hash-windows : {W : Type 0} (windows : Windows W) (elements : List G) (lists : List (List G)) (input : List ℕ)
+      → IsCommutativeGroup g → AreGeneratorsOf g windows elements lists → pedersen_hash g windows lists input ≡ windows_hash g windows elements input
+  pedersen_hash-windows windows elements lists input laws are =
+      let size = windows.WINDOW_SIZE in
+      let bits = bits_of_bytes input in
+      let all = map (doublings g size) elements in
+      let sum : Outcome G = Ok (pedersen_sum g (concatenation all) bits) in
+      let shapeless : Outcome G = Err (GenericError ParameterShape) in
+      ap (λ (l : List (List G)). pedersen_hash g windows l input) are.1
+      ∙ by_test (nat_lt (capacity windows) (8 * length input))
+      (ap (λ (b : Bool). cond b sum shapeless) (windows_have_shape windows.NUM_WINDOWS size elements are.0)
+      ∙ ap (λ (x : G). let o : Outcome G = Ok x in o) (pedersen_sum-windows laws size elements bits))
+    where
+      by_test : {x y : Outcome G} (b : Bool) → x ≡ y → cond b (Err (IncorrectInputLength (length input))) x ≡ cond b (Err (IncorrectInputLength (length input))) y
+      by_test true e = refl
+      by_test false e = e

@@ -1,0 +1,3 @@
+-- The laws of Pedersen hashes.
+pub mod Images
+pub mod Pedersen

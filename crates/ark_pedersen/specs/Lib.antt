@@ -1,0 +1,3 @@
+pub mod Laws
+pub mod Pedersen
+pub use Rattle.ark_base.specs.Outcome

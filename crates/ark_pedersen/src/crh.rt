@@ -1,0 +1,105 @@
+//! The Pedersen hash of one input.
+
+ghost use Rattle.std.specs.Prelude.{◌≡◌, ℕ, List, Ok, IfOk, IfErr};
+ghost use Rattle.ark_pedersen.specs.Pedersen.{lists_in, generators_in, doublings, AreGeneratorsOf, AreGenerators};
+ghost use Rattle.ark_pedersen.specs.Pedersen.{pedersen_hash, windows_hash, seen_by};
+
+use crate::parameters::Parameters;
+use crate::sums::hash_bytes;
+use crate::window::Window;
+use ark_base::error::Error;
+use ark_base::serialize::DigestItem;
+use ark_crh::CRHScheme;
+use ark_groups::ec::CurveGroup;
+use rand::Rng;
+use std::alloc::Global;
+use std::marker::PhantomData;
+
+/// The Pedersen hash of one input.
+pub struct CRH<C: CurveGroup, W: Window> {
+    group: PhantomData<C>,
+    window: PhantomData<W>,
+}
+
+impl<C: CurveGroup, W: Window> CRH<C, W> {
+    /// A list for each window: an element that is drawn, then its doublings. The only refusal is `OutOfMemory`.
+    pub fn create_generators<R: Rng>(alloc: Global, rng: &mut R) -> Result<Vec<Vec<C>>, Error>
+        ensures made { IfOk result (λ made. AreGenerators C.group W.Window (lists_in made.items)) }
+        ensures refused { IfErr result (λ error. error ≡ Error.OutOfMemory) }
+    {
+        let mut lists = Vec::with_capacity(alloc, W::NUM_WINDOWS)?;
+        for _ in 0..W::NUM_WINDOWS {
+            lists.push(Self::generator_powers(alloc, W::WINDOW_SIZE, rng)?)?;
+        }
+        Ok(lists)
+    }
+
+    /// An element that is drawn, then its doublings, `count` in all. The only refusal is `OutOfMemory`.
+    pub fn generator_powers<R: Rng>(
+        alloc: Global,
+        count: usize,
+        rng: &mut R,
+    ) -> Result<Vec<C>, Error>
+        ensures made { IfOk result (λ list. (x : C) × (list.items ≡ doublings C.group count x)) }
+        ensures refused { IfErr result (λ error. error ≡ Error.OutOfMemory) }
+    {
+        let mut list = Vec::with_capacity(alloc, count)?;
+        let mut power = C::rand(rng);
+        for _ in 0..count {
+            list.push(power)?;
+            power = power.double();
+        }
+        Ok(list)
+    }
+}
+
+impl<C: CurveGroup + DigestItem, W: Window> CRHScheme for CRH<C, W> {
+    ghost use Rattle.std.proofs.Common.{ap};
+    ghost use Rattle.ark_pedersen.specs.Laws.Pedersen.{seen-decided, pedersen-decided};
+
+    type Input = Vec<u8>;
+
+    type Output = C;
+
+    type Parameters = Parameters<C>;
+
+    ghost meaning = { λ parameters input.
+        seen_by C.numbers (pedersen_hash C.group W.Window (generators_in parameters) input.items) };
+
+    ghost setup_outcome = { Ok tt };
+
+    ghost is_made = { λ parameters. AreGenerators C.group W.Window (generators_in parameters) };
+
+    /// Parameters of generators as `create_generators` makes them.
+    fn setup<R: Rng>(alloc: Global, rng: &mut R) -> Result<Parameters<C>, Error> {
+        Ok(Parameters {
+            generators: Self::create_generators(alloc, rng)?,
+        })
+    }
+
+    /// The sum of the generators at the set bits of the input. It takes no memory.
+    ///
+    /// Refusals: `IncorrectInputLength` with the input's bytes, where these have more bits than the windows;
+    /// `ParameterShape`, where the generators are not a list for each window with an element for each of its bits.
+    fn evaluate(_alloc: Global, parameters: &Parameters<C>, input: &Vec<u8>) -> Result<C, Error>
+        ensures exact { let lists = generators_in parameters.now in
+            result ≡ pedersen_hash C.group W.Window lists input.now.items }
+
+        // Where the generators are those of elements, the sum over the windows of the window's number times its element.
+        ensures windows { let lists = generators_in parameters.now in
+            (elements : List C) → AreGeneratorsOf C.group W.Window elements lists
+            → result ≡ windows_hash C.group W.Window elements input.now.items }
+    {
+        hash_bytes::<C, W>(&parameters.generators, input)
+    }
+
+    ghost meaning_decided = { λ parameters input.
+        seen-decided C.numbers _
+        (pedersen-decided C.group W.Window (generators_in parameters) input.items) };
+
+    ghost setup_decided = { tt };
+
+    ghost same_parameters = { λ p q same.
+        ap (λ lists input. seen_by C.numbers
+        (pedersen_hash C.group W.Window lists input.items)) same };
+}

@@ -1,0 +1,2 @@
+-- The laws of commitments.
+pub mod Commitments
