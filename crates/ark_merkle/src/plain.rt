@@ -3,16 +3,17 @@
 ghost use Rattle.std.specs.Prelude.{◌≡◌, ℕ, suc, ◌^◌, map, length, Ok, Err, MatchResult};
 ghost use Rattle.ark_base.specs.Outcome.{Outcome, AnswersBy};
 ghost use Rattle.ark_base.specs.declared.error.Error.TheVariants.{OutOfMemory};
-ghost use Rattle.ark_merkle.specs.Pairs.{Digest, HashPair};
-ghost use Rattle.ark_merkle.specs.Paths.{climbed};
-ghost use Rattle.ark_merkle.specs.Roots.{Place, Root, Refused, at_level, joined, place};
+ghost use Rattle.ark_merkle.specs.Pair.{Digest, HashPair};
+ghost use Rattle.ark_merkle.specs.Path.{climb};
+ghost use Rattle.ark_merkle.specs.Root.{Place, Root, Refused, place_at, place_of_halves, place};
 
 mod multi;
 
-use crate::bits::is_bit_set;
-use crate::config::{Config, Meaning, TwoToOneParam};
+use crate::config::{Config, TwoToOneParam};
 use crate::digests::copy_of;
-use crate::pairs::{hash_bottom, hash_upper};
+use crate::index::is_bit_set;
+use crate::pair::{hash_bottom, hash_upper};
+use crate::views::Views;
 use ark_base::error::Error;
 use ark_base::serialize::DigestItem;
 use ark_crh::TwoToOneCRHScheme;
@@ -33,7 +34,7 @@ impl<D: DigestItem> IsPlace for PlainPlace<D> {
 
 // What a pair of a level gives. Want of memory is no place.
 fn at_level<D: DigestItem>(level: usize, hashed: Result<D, Error>) -> Result<PlainPlace<D>, Error>
-    ensures { (o : Outcome Digest) → AnswersBy D.numbers o hashed → MatchResult result (λ p. at_level level o ≡ ⟦<PlainPlace<D> as IsPlace>⟧.place p) (λ error. error ≡ OutOfMemory) }
+    ensures { (o : Outcome Digest) → AnswersBy D.numbers o hashed → MatchResult result (λ p. place_at level o ≡ ⟦<PlainPlace<D> as IsPlace>⟧.place p) (λ error. error ≡ OutOfMemory) }
 {
     match hashed {
         Ok(digest) => Ok(Ok(digest)),
@@ -45,17 +46,17 @@ fn at_level<D: DigestItem>(level: usize, hashed: Result<D, Error>) -> Result<Pla
 // Two halves make a place.
 fn joined<H: TwoToOneCRHScheme>(
     alloc: Global,
-    two: &H::Parameters,
+    pair_parameters: &H::Parameters,
     level: usize,
     left: PlainPlace<H::Output>,
     right: PlainPlace<H::Output>,
 ) -> Result<PlainPlace<H::Output>, Error>
-    ensures { (h : HashPair) → h.upper ≡ H.compressed two.now → MatchResult result
-        (λ p. joined h level (⟦<PlainPlace<H::Output> as IsPlace>⟧.place left) (⟦<PlainPlace<H::Output> as IsPlace>⟧.place right) ≡ ⟦<PlainPlace<H::Output> as IsPlace>⟧.place p)
+    ensures { (h : HashPair) → h.upper ≡ H.compressed pair_parameters.now → MatchResult result
+        (λ p. place_of_halves h level (⟦<PlainPlace<H::Output> as IsPlace>⟧.place left) (⟦<PlainPlace<H::Output> as IsPlace>⟧.place right) ≡ ⟦<PlainPlace<H::Output> as IsPlace>⟧.place p)
         (λ error. error ≡ OutOfMemory) }
 {
     match (left, right) {
-        (Ok(a), Ok(b)) => at_level(level, H::compress(alloc, two, &a, &b)),
+        (Ok(a), Ok(b)) => at_level(level, H::compress(alloc, pair_parameters, &a, &b)),
         (Ok(_), Err(refused)) => Ok(Err(refused)),
         (Err(refused), Ok(_)) => Ok(Err(refused)),
         (Err((k, d)), Err((l, e))) => Ok(Err(if l < k { (l, e) } else { (k, d) })),
@@ -65,39 +66,48 @@ fn joined<H: TwoToOneCRHScheme>(
 /// The place of 2^(m + 1) leaf digests.
 pub fn place<P: Config>(
     alloc: Global,
-    two: &TwoToOneParam<P>,
+    pair_parameters: &TwoToOneParam<P>,
     m: usize,
     digests: &[P::LeafDigest],
 ) -> Result<PlainPlace<P::InnerDigest>, Error>
     requires { length digests.now ≡ 2 ^ suc m }
     ensures { MatchResult result
-        (λ p. place (⟦<P as Meaning>⟧.pair two.now) m (map P.LeafDigest.numbers digests.now) ≡ ⟦<PlainPlace<P::InnerDigest> as IsPlace>⟧.place p)
+        (λ p. place (⟦<P as Views>⟧.pair pair_parameters.now) m (map P.LeafDigest.numbers digests.now) ≡ ⟦<PlainPlace<P::InnerDigest> as IsPlace>⟧.place p)
         (λ error. error ≡ OutOfMemory) }
 {
     if m == 0 {
-        return at_level(0, hash_bottom::<P>(alloc, two, &digests[0], &digests[1]));
+        return at_level(
+            0,
+            hash_bottom::<P>(alloc, pair_parameters, &digests[0], &digests[1]),
+        );
     }
     let (left, right) = digests.split_at(digests.len() / 2);
-    let left = place::<P>(alloc, two, m - 1, left)?;
-    let right = place::<P>(alloc, two, m - 1, right)?;
-    joined::<P::TwoToOneHash>(alloc, two, m, left, right)
+    let left = place::<P>(alloc, pair_parameters, m - 1, left)?;
+    let right = place::<P>(alloc, pair_parameters, m - 1, right)?;
+    joined::<P::TwoToOneHash>(alloc, pair_parameters, m, left, right)
 }
 
 /// What the digests beside a way make of the lowest one on it.
 pub fn climbed<H: TwoToOneCRHScheme>(
     alloc: Global,
-    two: &H::Parameters,
+    pair_parameters: &H::Parameters,
     index: usize,
     beside: &[H::Output],
     lowest: &H::Output,
 ) -> Result<H::Output, Error>
-    ensures { AnswersBy H.Output.numbers (climbed (H.compressed two.now) index (map H.Output.numbers beside.now) (H.Output.numbers lowest.now)) result }
+    ensures { AnswersBy H.Output.numbers (climb (H.compressed pair_parameters.now) index (map H.Output.numbers beside.now) (H.Output.numbers lowest.now)) result }
 {
     match beside.split_first() {
         None => copy_of(alloc, lowest),
         Some((first, rest)) => {
-            let below = climbed::<H>(alloc, two, index, rest, lowest)?;
-            hash_upper::<H>(alloc, two, is_bit_set(index, beside.len()), &below, first)
+            let below = climbed::<H>(alloc, pair_parameters, index, rest, lowest)?;
+            hash_upper::<H>(
+                alloc,
+                pair_parameters,
+                is_bit_set(index, beside.len()),
+                &below,
+                first,
+            )
         }
     }
 }

@@ -1,10 +1,9 @@
 //! Trees over SHA-256.
 
-use crate::bits::is_bit_set;
 use crate::config::{Config, IdentityDigestConverter};
+use crate::index::{is_bit_set, is_tree_size};
 use crate::path::Path;
 use crate::plain;
-use crate::sizes::is_tree_size;
 use crate::tree::MerkleTree;
 use ark_base::error::{Error, SerializationError};
 use ark_base::serialize::{CanonicalDeserialize, CanonicalSerialize, Duplicate};

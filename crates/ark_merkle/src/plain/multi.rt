@@ -2,13 +2,14 @@
 
 ghost use Rattle.std.specs.Prelude.{◌≡◌, ◌+◌, ◌++◌, ◌<◌, ◌^◌, map, take, length, Ok};
 ghost use Rattle.ark_base.specs.Outcome.{Answers, AnswersBy};
-ghost use Rattle.ark_merkle.specs.MultiPaths.{decoded_from, verified_from, multi_verified};
+ghost use Rattle.ark_merkle.specs.MultiPath.{decoded_paths_from, multi_verdict_from, multi_verdict};
 
-use crate::config::{Config, LeafParam, Meaning, TwoToOneParam};
+use crate::config::{Config, LeafParam, TwoToOneParam};
 use crate::digests::{copies_of, copy_of};
-use crate::multi::MultiPath;
-use crate::multi::places::part_at;
+use crate::multi_path::MultiPath;
+use crate::multi_path::places::part_at;
 use crate::path::Path;
+use crate::views::Views;
 use ark_base::error::{Error, Refusal};
 use ark_base::serialize::{DigestItem, Duplicate};
 use ark_crh::CRHScheme;
@@ -17,13 +18,13 @@ use std::alloc::Global;
 /// What a multi-proof says of these leaves.
 pub fn multi_verified<P: Config>(
     alloc: Global,
-    leaf_params: &LeafParam<P>,
-    two_params: &TwoToOneParam<P>,
+    leaf_parameters: &LeafParam<P>,
+    pair_parameters: &TwoToOneParam<P>,
     root: &P::InnerDigest,
     proof: &MultiPath<P>,
     leaves: &[P::Leaf],
 ) -> Result<bool, Error>
-    ensures { Answers (multi_verified (⟦<P as Meaning>⟧.pair two_params.now) (map (P.LeafHash.meaning leaf_params.now) leaves.now) (⟦<MultiPath<P> as Duplicate>⟧.seen proof.now) (P.InnerDigest.numbers root.now)) result }
+    ensures { Answers (multi_verdict (⟦<P as Views>⟧.pair pair_parameters.now) (map (P.LeafHash.meaning leaf_parameters.now) leaves.now) (⟦<P as Views>⟧.multi_way proof.now) (P.InnerDigest.numbers root.now)) result }
 {
     if proof.leaf_indexes.is_empty() {
         return Err(Error::GenericError(Refusal::NoIndex));
@@ -31,8 +32,8 @@ pub fn multi_verified<P: Config>(
     let indexes = &proof.leaf_indexes;
     verified_from(
         alloc,
-        leaf_params,
-        two_params,
+        leaf_parameters,
+        pair_parameters,
         root,
         proof,
         0,
@@ -45,8 +46,8 @@ pub fn multi_verified<P: Config>(
 // What the places from one on say of these leaves, after the digests of the path before.
 fn verified_from<P: Config>(
     alloc: Global,
-    leaf_params: &LeafParam<P>,
-    two_params: &TwoToOneParam<P>,
+    leaf_parameters: &LeafParam<P>,
+    pair_parameters: &TwoToOneParam<P>,
     root: &P::InnerDigest,
     proof: &MultiPath<P>,
     place: usize,
@@ -55,8 +56,8 @@ fn verified_from<P: Config>(
     leaves: &[P::Leaf],
 ) -> Result<bool, Error>
     requires { place + length indexes.now < 2 ^ 64 }
-    ensures { Answers (verified_from (⟦<P as Meaning>⟧.pair two_params.now) (P.InnerDigest.numbers root.now) place
-        (decoded_from (⟦<MultiPath<P> as Duplicate>⟧.seen proof.now) place (map P.InnerDigest.numbers before.now) indexes.now) (map (P.LeafHash.meaning leaf_params.now) leaves.now)) result }
+    ensures { Answers (multi_verdict_from (⟦<P as Views>⟧.pair pair_parameters.now) (P.InnerDigest.numbers root.now) place
+        (decoded_paths_from (⟦<P as Views>⟧.multi_way proof.now) place (map P.InnerDigest.numbers before.now) indexes.now) (map (P.LeafHash.meaning leaf_parameters.now) leaves.now)) result }
 {
     let Some((index, indexes)) = indexes.split_first() else {
         return Ok(true);
@@ -72,14 +73,14 @@ fn verified_from<P: Config>(
         auth_path: extended(alloc, before, part.prefix, part.suffix)?,
         leaf_index: *index,
     };
-    if !path.verify(alloc, leaf_params, two_params, root, leaf)? {
+    if !path.verify(alloc, leaf_parameters, pair_parameters, root, leaf)? {
         return Ok(false);
     }
     let above = &path.auth_path;
     verified_from(
         alloc,
-        leaf_params,
-        two_params,
+        leaf_parameters,
+        pair_parameters,
         root,
         proof,
         place + 1,
