@@ -10,13 +10,6 @@ use ark_base::error::Error;
 use ark_base::serialize::{DigestItem, Duplicate};
 use std::alloc::Global;
 
-/// A digest once more.
-pub fn copy_of<D: DigestItem>(alloc: Global, digest: &D) -> Result<D, Error>
-    ensures { AnswersBy D.numbers (Ok (D.numbers digest.now)) result }
-{
-    digest.duplicate(alloc)
-}
-
 /// Whether two digests are the same.
 pub fn are_same<D: DigestItem>(a: &D, b: &D) -> bool
     ensures { result ≡ digest_eq (D.numbers a.now) (D.numbers b.now) }
@@ -26,11 +19,11 @@ pub fn are_same<D: DigestItem>(a: &D, b: &D) -> bool
 
 /// Digests once more.
 pub fn copies_of<D: DigestItem>(alloc: Global, digests: &[D]) -> Result<Vec<D>, Error>
-    ensures { AnswersBy (λ copies. map D.numbers copies.items) (Ok (map D.numbers digests.now)) result }
+    ensures { AnswersBy (digests_of D.numbers) (Ok (map D.numbers digests.now)) result }
 {
     let mut copies = Vec::with_capacity(alloc, digests.len())?;
     for digest in digests {
-        copies.push(copy_of(alloc, digest)?)?;
+        copies.push(digest.duplicate(alloc)?)?;
     }
     Ok(copies)
 }

@@ -2,15 +2,11 @@
 #![tactic(auto)]
 
 pub mod config;
-mod digests;
-mod index;
+pub mod digests;
+pub mod index;
 pub mod multi_path;
-mod pair;
+pub mod pair;
 pub mod path;
-#[cfg(test)]
-mod plain;
-#[cfg(test)]
-mod tests;
 pub mod tree;
 pub mod views;
 

@@ -5,9 +5,9 @@ ghost use Rattle.ark_base.specs.Outcome.{AnswersBy};
 ghost use Rattle.ark_merkle.specs.Pair.{hash_in_order};
 
 use crate::config::{Config, DigestConverter, TwoToOneParam};
-use crate::digests::copy_of;
 use crate::views::Views;
 use ark_base::error::Error;
+use ark_base::serialize::Duplicate;
 use ark_crh::TwoToOneCRHScheme;
 use std::alloc::Global;
 
@@ -22,8 +22,8 @@ pub fn hash_bottom<P: Config>(
         let numbers = P.LeafDigest.numbers in
         AnswersBy P.InnerDigest.numbers (hash (numbers left.now) (numbers right.now)) result }
 {
-    let left = P::LeafInnerDigestConverter::convert(alloc, copy_of(alloc, left)?)?;
-    let right = P::LeafInnerDigestConverter::convert(alloc, copy_of(alloc, right)?)?;
+    let left = P::LeafInnerDigestConverter::convert(alloc, left.duplicate(alloc)?)?;
+    let right = P::LeafInnerDigestConverter::convert(alloc, right.duplicate(alloc)?)?;
     P::TwoToOneHash::evaluate(alloc, pair_parameters, &left, &right)
 }
 

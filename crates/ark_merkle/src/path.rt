@@ -7,7 +7,7 @@ ghost use Rattle.ark_merkle.specs.PathBytes.{PathParts, PathFits, path_spelling,
 ghost use Rattle.ark_merkle.specs.Path.{Way, climb, verdict};
 
 use crate::config::{Config, LeafParam, TwoToOneParam};
-use crate::digests::{copies_of, copy_of};
+use crate::digests::copies_of;
 use crate::index::is_bit_set;
 use crate::pair::{hash_leaves, hash_upper};
 use crate::views::Views;
@@ -33,11 +33,15 @@ pub struct Path<P: Config> {
 impl<P: Config> Duplicate for Path<P> {
     ghost Data = { Way };
 
-    ghost seen = { λ path. record { sibling = P.LeafDigest.numbers path.leaf_sibling_hash; above = map P.InnerDigest.numbers path.auth_path.items; index = path.leaf_index } };
+    ghost seen = { λ path. record {
+      sibling = P.LeafDigest.numbers path.leaf_sibling_hash;
+      above = map P.InnerDigest.numbers path.auth_path.items;
+      index = path.leaf_index;
+    } };
 
     fn duplicate(&self, alloc: Global) -> Result<Path<P>, Error> {
         Ok(Path {
-            leaf_sibling_hash: copy_of(alloc, &self.leaf_sibling_hash)?,
+            leaf_sibling_hash: self.leaf_sibling_hash.duplicate(alloc)?,
             auth_path: copies_of(alloc, &self.auth_path)?,
             leaf_index: self.leaf_index,
         })
@@ -47,7 +51,10 @@ impl<P: Config> Duplicate for Path<P> {
 impl<P: Config> Canonical for Path<P> {
     ghost Value = { PathParts P.LeafDigest.Value P.InnerDigest.Value };
 
-    ghost view = { λ path. (P.LeafDigest.view path.leaf_sibling_hash, (map P.InnerDigest.view path.auth_path.items, path.leaf_index)) };
+    ghost view = { λ path. (
+      P.LeafDigest.view path.leaf_sibling_hash,
+      (map P.InnerDigest.view path.auth_path.items, path.leaf_index),
+    ) };
 
     ghost has_spelling = { PathFits P.LeafDigest.has_spelling P.InnerDigest.has_spelling };
 
@@ -55,7 +62,8 @@ impl<P: Config> Canonical for Path<P> {
 
     ghost reads = { path_at P.LeafDigest.reads P.InnerDigest.reads };
 
-    ghost laws = { path_laws P.LeafDigest.has_spelling P.LeafDigest.spelling P.LeafDigest.reads P.InnerDigest.has_spelling P.InnerDigest.spelling P.InnerDigest.reads
+    ghost laws = { path_laws P.LeafDigest.has_spelling P.LeafDigest.spelling P.LeafDigest.reads
+        P.InnerDigest.has_spelling P.InnerDigest.spelling P.InnerDigest.reads
         P.LeafDigest.Canonical.laws P.InnerDigest.Canonical.laws };
 }
 
@@ -92,7 +100,8 @@ impl<P: Config> CanonicalItem for Path<P> {
 
     ghost some = { lit< tt };
 
-    ghost at_least = { λ path fits. path_is_long P.LeafDigest.spelling P.InnerDigest.spelling path (P.LeafDigest.CanonicalItem.at_least path.0 fits.0) P.LeafDigest.CanonicalItem.some };
+    ghost at_least = { λ path fits. path_is_long P.LeafDigest.spelling P.InnerDigest.spelling path
+        (P.LeafDigest.CanonicalItem.at_least path.0 fits.0) P.LeafDigest.CanonicalItem.some };
 }
 
 impl<P: Views> Path<P> {

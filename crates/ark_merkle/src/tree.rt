@@ -14,7 +14,7 @@ mod rows;
 mod update;
 
 use crate::config::{Config, LeafParam, TwoToOneParam};
-use crate::digests::{blank_row, copies_of, copies_of_rows, copy_of};
+use crate::digests::{blank_row, copies_of, copies_of_rows};
 use crate::index::neighbour_of;
 use crate::path::Path;
 use crate::views::Views;
@@ -159,7 +159,7 @@ impl<P: Views> MerkleTree<P> {
         ensures accepted { IfOk result (λ path. IsAccepted (P.tree self.now) index (P.way path)) }
     {
         Ok(Path {
-            leaf_sibling_hash: copy_of(alloc, self.get_leaf_sibling_hash(index))?,
+            leaf_sibling_hash: self.get_leaf_sibling_hash(index).duplicate(alloc)?,
             auth_path: digests_beside(alloc, &self.rows, index)?,
             leaf_index: index,
         })

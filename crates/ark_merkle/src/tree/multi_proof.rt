@@ -9,14 +9,13 @@ ghost use Rattle.ark_merkle.specs.MultiPath.{decoded_paths};
 ghost use Rattle.ark_merkle.specs.MultiProof.{rising_set, shared_count, prefixes_of, suffixes_of, multi_path_in, paths_in, IsMultiAccepted};
 ghost use Rattle.ark_merkle.specs.Rows.{HoldsIndex, beside_in, digests_of, rows_seen};
 
-use crate::digests::copy_of;
 use crate::index::neighbour_of;
 use crate::multi_path::MultiPath;
 use crate::tree::MerkleTree;
 use crate::tree::rows::digests_beside;
 use crate::views::Views;
 use ark_base::error::Error;
-use ark_base::serialize::DigestItem;
+use ark_base::serialize::{DigestItem, Duplicate};
 use std::alloc::Global;
 
 impl<P: Views> MerkleTree<P> {
@@ -85,7 +84,7 @@ fn digests_at_neighbours<D: DigestItem>(
 {
     let mut digests = Vec::with_capacity(alloc, indexes.len())?;
     for index in indexes {
-        digests.push(copy_of(alloc, &leaves[neighbour_of(*index)])?)?;
+        digests.push(leaves[neighbour_of(*index)].duplicate(alloc)?)?;
     }
     Ok(digests)
 }

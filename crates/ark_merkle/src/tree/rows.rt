@@ -4,10 +4,9 @@ ghost use Rattle.std.specs.Prelude.{◌≡◌, ◌-◌, map, length, Ok};
 ghost use Rattle.ark_base.specs.Outcome.{AnswersBy};
 ghost use Rattle.ark_merkle.specs.Rows.{HoldsIndex, beside_in, digests_of};
 
-use crate::digests::copy_of;
 use crate::index::neighbour_of;
 use ark_base::error::Error;
-use ark_base::serialize::DigestItem;
+use ark_base::serialize::{DigestItem, Duplicate};
 use std::alloc::Global;
 
 /// The digests beside the way of an index, from below the root down.
@@ -26,7 +25,7 @@ pub fn digests_beside<D: DigestItem>(
         let level = rows.len() - 1 - above;
         let row = &rows[level];
         let place = neighbour_of(index >> (level + 1));
-        digests.push(copy_of(alloc, &row[place])?)?;
+        digests.push(row[place].duplicate(alloc)?)?;
     }
     Ok(digests)
 }

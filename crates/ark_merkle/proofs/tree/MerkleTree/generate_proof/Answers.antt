@@ -26,9 +26,9 @@ returns-clause-proof g c =
     let rows = c.self.inside.rows in
     let tree = seen_tree pair (rows_seen g.P.InnerDigest.Numbered.numbers rows) _ _ c.self.view_is c.self.invariant in
     let i = c.args.index in
-    let copied : numbers c.get_leaf_sibling_hash.result.now ≡ numbers c.in_ok-copy_of.field-0 = done_injective _ _ c.in_ok-copy_of.ensures in
+    let copied : numbers c.get_leaf_sibling_hash.result.now ≡ numbers c.in_ok-duplicate.field-0 = (g.met.P.LeafDigest.DigestItem.seen_alike _ _).0 (done_injective _ _ c.in_ok-duplicate.ensures) in
     rw (g.met.P.Views.tree_is, g.met.P.Views.way_is)
-    (ap Ok (own_path-read g.P.InnerDigest.Numbered.numbers (pair c.args.self.now.pair_parameters) c.args.self.now.leaves rows tree i (numbers c.in_ok-copy_of.field-0) c.deref.result.now _ c.requires (sym c.get_leaf_sibling_hash.ensures ∙ copied) c.deref.ensures.value (sym (done_injective _ _ c.in_ok-digests_beside.ensures))))
+    (ap Ok (own_path-read g.P.InnerDigest.Numbered.numbers (pair c.args.self.now.pair_parameters) c.args.self.now.leaves rows tree i (numbers c.in_ok-duplicate.field-0) c.deref.result.now _ c.requires (sym c.get_leaf_sibling_hash.ensures ∙ copied) c.deref.ensures.value (sym (done_injective _ _ c.in_ok-digests_beside.ensures))))
 
 pub returns-clause-accepted : goal.returns-clause-accepted
 returns-clause-accepted g c =

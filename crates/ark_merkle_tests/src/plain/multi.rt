@@ -4,19 +4,16 @@ ghost use Rattle.std.specs.Prelude.{◌≡◌, ◌+◌, ◌++◌, ◌<◌, ◌^�
 ghost use Rattle.ark_base.specs.Outcome.{Answers, AnswersBy};
 ghost use Rattle.ark_merkle.specs.MultiPath.{decoded_paths_from, multi_verdict_from, multi_verdict};
 
-use crate::config::{Config, LeafParam, TwoToOneParam};
-use crate::digests::{copies_of, copy_of};
-use crate::multi_path::MultiPath;
-use crate::multi_path::places::part_at;
-use crate::path::Path;
-use crate::views::Views;
 use ark_base::error::{Error, Refusal};
 use ark_base::serialize::{DigestItem, Duplicate};
 use ark_crh::CRHScheme;
+use ark_merkle::digests::copies_of;
+use ark_merkle::multi_path::places::part_at;
+use ark_merkle::{Config, LeafParam, MultiPath, Path, TwoToOneParam, Views};
 use std::alloc::Global;
 
 /// What a multi-proof says of these leaves.
-pub fn multi_verified<P: Config>(
+pub fn multi_verdict<P: Config>(
     alloc: Global,
     leaf_parameters: &LeafParam<P>,
     pair_parameters: &TwoToOneParam<P>,
@@ -24,13 +21,16 @@ pub fn multi_verified<P: Config>(
     proof: &MultiPath<P>,
     leaves: &[P::Leaf],
 ) -> Result<bool, Error>
-    ensures { Answers (multi_verdict (⟦<P as Views>⟧.pair pair_parameters.now) (map (P.LeafHash.meaning leaf_parameters.now) leaves.now) (⟦<P as Views>⟧.multi_way proof.now) (P.InnerDigest.numbers root.now)) result }
+    ensures { let hashes = ⟦<P as Views>⟧.hashes leaf_parameters.now pair_parameters.now in
+        let digests = map hashes.leaf leaves.now in
+        let given = P.InnerDigest.numbers root.now in
+        Answers (multi_verdict hashes.pair digests (⟦<P as Views>⟧.multi_way proof.now) given) result }
 {
     if proof.leaf_indexes.is_empty() {
         return Err(Error::GenericError(Refusal::NoIndex));
     }
     let indexes = &proof.leaf_indexes;
-    verified_from(
+    verdict_from(
         alloc,
         leaf_parameters,
         pair_parameters,
@@ -44,7 +44,7 @@ pub fn multi_verified<P: Config>(
 }
 
 // What the places from one on say of these leaves, after the digests of the path before.
-fn verified_from<P: Config>(
+fn verdict_from<P: Config>(
     alloc: Global,
     leaf_parameters: &LeafParam<P>,
     pair_parameters: &TwoToOneParam<P>,
@@ -56,20 +56,27 @@ fn verified_from<P: Config>(
     leaves: &[P::Leaf],
 ) -> Result<bool, Error>
     requires { place + length indexes.now < 2 ^ 64 }
-    ensures { Answers (multi_verdict_from (⟦<P as Views>⟧.pair pair_parameters.now) (P.InnerDigest.numbers root.now) place
-        (decoded_paths_from (⟦<P as Views>⟧.multi_way proof.now) place (map P.InnerDigest.numbers before.now) indexes.now) (map (P.LeafHash.meaning leaf_parameters.now) leaves.now)) result }
+    ensures { let hashes = ⟦<P as Views>⟧.hashes leaf_parameters.now pair_parameters.now in
+        let seen = map P.InnerDigest.numbers before.now in
+        let way = ⟦<P as Views>⟧.multi_way proof.now in
+        let paths = decoded_paths_from way place seen indexes.now in
+        let given = P.InnerDigest.numbers root.now in
+        let digests = map hashes.leaf leaves.now in
+        Answers (multi_verdict_from hashes.pair given place paths digests) result }
 {
     let Some((index, indexes)) = indexes.split_first() else {
         return Ok(true);
     };
-    let Some(part) = part_at(proof, place) else {
+    let siblings = &proof.leaf_siblings_hashes;
+    let prefixes = &proof.auth_paths_prefix_lenghts;
+    let Some(part) = part_at(siblings, prefixes, &proof.auth_paths_suffixes, place) else {
         return Err(Error::IncorrectInputLength(place));
     };
     let Some((leaf, leaves)) = leaves.split_first() else {
         return Err(Error::IncorrectInputLength(place));
     };
     let path = Path::<P> {
-        leaf_sibling_hash: copy_of(alloc, part.sibling)?,
+        leaf_sibling_hash: part.sibling.duplicate(alloc)?,
         auth_path: extended(alloc, before, part.prefix, part.suffix)?,
         leaf_index: *index,
     };
@@ -77,7 +84,7 @@ fn verified_from<P: Config>(
         return Ok(false);
     }
     let above = &path.auth_path;
-    verified_from(
+    verdict_from(
         alloc,
         leaf_parameters,
         pair_parameters,
@@ -97,7 +104,8 @@ fn extended<D: DigestItem>(
     prefix: usize,
     suffix: &[D],
 ) -> Result<Vec<D>, Error>
-    ensures { AnswersBy (λ above. map D.numbers above.items) (Ok (take prefix (map D.numbers before.now) ++ map D.numbers suffix.now)) result }
+    ensures { let above = take prefix (map D.numbers before.now) ++ map D.numbers suffix.now in
+        AnswersBy (λ above. map D.numbers above.items) (Ok above) result }
 {
     let mut above = copies_of(alloc, before)?;
     above.truncate(prefix);

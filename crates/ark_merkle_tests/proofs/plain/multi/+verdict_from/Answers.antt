@@ -5,8 +5,8 @@ use Rattle.ark_merkle.specs.MultiPath.{MultiWay, decoded_path}
 use Rattle.ark_merkle.specs.Pair.{Digest, pair_of}
 use Rattle.ark_merkle.specs.Path.{Way}
 use Rattle.ark_merkle.specs.Rows.{digests_of, rows_seen}
-use Rattle.ark_merkle.proofs.PlainMulti.{place-refused, place-accepted}
-use Rattle.ark_merkle.proofs.plain.multi.+verified_from.Goals as goal
+use Rattle.ark_merkle_tests.proofs.PlainMulti.{place-refused, place-accepted}
+use Rattle.ark_merkle_tests.proofs.plain.multi.+verdict_from.Goals as goal
 
 pub returns-in_err-verify : goal.returns-in_err-verify
 returns-in_err-verify g t c =
@@ -59,4 +59,4 @@ returns g t c =
       place-accepted h (inner c.args.root.now) m c.args.place (map inner c.args.before.now) index way decodes (hashed c.in-Some-split_first.leaf.now) c.in-Some.indexes.now (map hashed c.in-Some-split_first.leaves.now) (rw (yes) at c.in_ok-verify.ensures),
       ← c.deref.ensures.value,
     )
-    c.verified_from.ensures
+    c.verdict_from.ensures

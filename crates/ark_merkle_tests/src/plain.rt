@@ -9,15 +9,13 @@ ghost use Rattle.ark_merkle.specs.Root.{Place, Root, Refused, place_at, place_of
 
 mod multi;
 
-use crate::config::{Config, TwoToOneParam};
-use crate::digests::copy_of;
-use crate::index::is_bit_set;
-use crate::pair::{hash_bottom, hash_upper};
-use crate::views::Views;
 use ark_base::error::Error;
-use ark_base::serialize::DigestItem;
+use ark_base::serialize::{DigestItem, Duplicate};
 use ark_crh::TwoToOneCRHScheme;
-pub use multi::multi_verified;
+use ark_merkle::index::is_bit_set;
+use ark_merkle::pair::{hash_bottom, hash_upper};
+use ark_merkle::{Config, TwoToOneParam, Views};
+pub use multi::multi_verdict;
 use std::alloc::Global;
 
 /// A place of a list of leaf digests: its root, or the refusal in it with its level.
@@ -29,12 +27,17 @@ pub trait IsPlace {
 }
 
 impl<D: DigestItem> IsPlace for PlainPlace<D> {
-    ghost place = { λ p. elim p [ Ok digest ↦ Root (D.numbers digest) | Err refused ↦ Refused refused.0 refused.1 ] };
+    ghost place = { λ p. elim p [
+      | Ok digest ↦ Root (D.numbers digest)
+      | Err refused ↦ Refused refused.0 refused.1
+    ] };
 }
 
 // What a pair of a level gives. Want of memory is no place.
-fn at_level<D: DigestItem>(level: usize, hashed: Result<D, Error>) -> Result<PlainPlace<D>, Error>
-    ensures { (o : Outcome Digest) → AnswersBy D.numbers o hashed → MatchResult result (λ p. place_at level o ≡ ⟦<PlainPlace<D> as IsPlace>⟧.place p) (λ error. error ≡ OutOfMemory) }
+fn place_at<D: DigestItem>(level: usize, hashed: Result<D, Error>) -> Result<PlainPlace<D>, Error>
+    ensures { (o : Outcome Digest) → AnswersBy D.numbers o hashed → MatchResult result
+        (λ p. place_at level o ≡ ⟦<PlainPlace<D> as IsPlace>⟧.place p)
+        (λ error. error ≡ OutOfMemory) }
 {
     match hashed {
         Ok(digest) => Ok(Ok(digest)),
@@ -44,19 +47,20 @@ fn at_level<D: DigestItem>(level: usize, hashed: Result<D, Error>) -> Result<Pla
 }
 
 // Two halves make a place.
-fn joined<H: TwoToOneCRHScheme>(
+fn place_of_halves<H: TwoToOneCRHScheme>(
     alloc: Global,
     pair_parameters: &H::Parameters,
     level: usize,
     left: PlainPlace<H::Output>,
     right: PlainPlace<H::Output>,
 ) -> Result<PlainPlace<H::Output>, Error>
-    ensures { (h : HashPair) → h.upper ≡ H.compressed pair_parameters.now → MatchResult result
-        (λ p. place_of_halves h level (⟦<PlainPlace<H::Output> as IsPlace>⟧.place left) (⟦<PlainPlace<H::Output> as IsPlace>⟧.place right) ≡ ⟦<PlainPlace<H::Output> as IsPlace>⟧.place p)
+    ensures { let seen = ⟦<PlainPlace<H::Output> as IsPlace>⟧.place in
+        (h : HashPair) → h.upper ≡ H.compressed pair_parameters.now → MatchResult result
+        (λ p. place_of_halves h level (seen left) (seen right) ≡ seen p)
         (λ error. error ≡ OutOfMemory) }
 {
     match (left, right) {
-        (Ok(a), Ok(b)) => at_level(level, H::compress(alloc, pair_parameters, &a, &b)),
+        (Ok(a), Ok(b)) => place_at(level, H::compress(alloc, pair_parameters, &a, &b)),
         (Ok(_), Err(refused)) => Ok(Err(refused)),
         (Err(refused), Ok(_)) => Ok(Err(refused)),
         (Err((k, d)), Err((l, e))) => Ok(Err(if l < k { (l, e) } else { (k, d) })),
@@ -71,12 +75,13 @@ pub fn place<P: Config>(
     digests: &[P::LeafDigest],
 ) -> Result<PlainPlace<P::InnerDigest>, Error>
     requires { length digests.now ≡ 2 ^ suc m }
-    ensures { MatchResult result
-        (λ p. place (⟦<P as Views>⟧.pair pair_parameters.now) m (map P.LeafDigest.numbers digests.now) ≡ ⟦<PlainPlace<P::InnerDigest> as IsPlace>⟧.place p)
+    ensures { let h = ⟦<P as Views>⟧.pair pair_parameters.now in
+        let leaves = map P.LeafDigest.numbers digests.now in MatchResult result
+        (λ p. place h m leaves ≡ ⟦<PlainPlace<P::InnerDigest> as IsPlace>⟧.place p)
         (λ error. error ≡ OutOfMemory) }
 {
     if m == 0 {
-        return at_level(
+        return place_at(
             0,
             hash_bottom::<P>(alloc, pair_parameters, &digests[0], &digests[1]),
         );
@@ -84,23 +89,25 @@ pub fn place<P: Config>(
     let (left, right) = digests.split_at(digests.len() / 2);
     let left = place::<P>(alloc, pair_parameters, m - 1, left)?;
     let right = place::<P>(alloc, pair_parameters, m - 1, right)?;
-    joined::<P::TwoToOneHash>(alloc, pair_parameters, m, left, right)
+    place_of_halves::<P::TwoToOneHash>(alloc, pair_parameters, m, left, right)
 }
 
 /// What the digests beside a way make of the lowest one on it.
-pub fn climbed<H: TwoToOneCRHScheme>(
+pub fn climb<H: TwoToOneCRHScheme>(
     alloc: Global,
     pair_parameters: &H::Parameters,
     index: usize,
     beside: &[H::Output],
     lowest: &H::Output,
 ) -> Result<H::Output, Error>
-    ensures { AnswersBy H.Output.numbers (climb (H.compressed pair_parameters.now) index (map H.Output.numbers beside.now) (H.Output.numbers lowest.now)) result }
+    ensures { let numbers = H.Output.numbers in
+        let outcome = climb (H.compressed pair_parameters.now) index (map numbers beside.now) in
+        AnswersBy numbers (outcome (numbers lowest.now)) result }
 {
     match beside.split_first() {
-        None => copy_of(alloc, lowest),
+        None => lowest.duplicate(alloc),
         Some((first, rest)) => {
-            let below = climbed::<H>(alloc, pair_parameters, index, rest, lowest)?;
+            let below = climb::<H>(alloc, pair_parameters, index, rest, lowest)?;
             hash_upper::<H>(
                 alloc,
                 pair_parameters,

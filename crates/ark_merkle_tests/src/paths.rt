@@ -1,55 +1,15 @@
-//! Trees over SHA-256.
+//! Trees and their paths.
 
-use crate::config::{Config, IdentityDigestConverter};
-use crate::index::{is_bit_set, is_tree_size};
-use crate::path::Path;
 use crate::plain;
-use crate::tree::MerkleTree;
+use crate::samples::{Sha, leaves_of_bytes, proof_of, tree_of};
 use ark_base::error::{Error, SerializationError};
 use ark_base::serialize::{CanonicalDeserialize, CanonicalSerialize, Duplicate};
 use ark_crh::sha256::Sha256;
 use ark_crh::{CRHScheme, TwoToOneCRHScheme};
+use ark_merkle::index::is_bit_set;
+use ark_merkle::{MerkleTree, Path};
 use std::alloc::Global;
 use std::test::Fail;
-
-struct Sha;
-
-impl Config for Sha {
-    type Leaf = Vec<u8>;
-
-    type LeafDigest = Vec<u8>;
-
-    type LeafInnerDigestConverter = IdentityDigestConverter<Vec<u8>>;
-
-    type InnerDigest = Vec<u8>;
-
-    type LeafHash = Sha256;
-
-    type TwoToOneHash = Sha256;
-}
-
-// Leaves of one byte each: 0, 1, 2 and so on.
-fn leaves_of_bytes(alloc: Global, count: u8) -> Result<Vec<Vec<u8>>, Error> {
-    let mut leaves = Vec::new(alloc);
-    for byte in 0..count {
-        leaves.push(vec![in alloc; byte]?)?;
-    }
-    Ok(leaves)
-}
-
-fn tree_of(alloc: Global, leaves: &[Vec<u8>]) -> Result<MerkleTree<Sha>, Error> {
-    if !is_tree_size(leaves.len()) {
-        return Err(Error::IncorrectInputLength(leaves.len()));
-    }
-    MerkleTree::new(alloc, &(), &(), leaves)
-}
-
-fn proof_of(alloc: Global, tree: &MerkleTree<Sha>, index: usize) -> Result<Path<Sha>, Error> {
-    if index >= tree.size() {
-        return Err(Error::IncorrectInputLength(index));
-    }
-    tree.generate_proof(alloc, index)
-}
 
 // What the definition says of 2^(m + 1) leaf digests.
 fn defined_root(alloc: Global, m: usize, digests: &[Vec<u8>]) -> Result<Vec<u8>, Error> {
@@ -122,7 +82,7 @@ fn long_path(alloc: Global, digests: usize, index: usize) -> Result<(Path<Sha>, 
         (&leaf, &sibling)
     };
     let lowest = <Sha256 as TwoToOneCRHScheme>::evaluate(alloc, &(), left, right)?;
-    let top = plain::climbed::<Sha256>(alloc, &(), index, &auth_path, &lowest)?;
+    let top = plain::climb::<Sha256>(alloc, &(), index, &auth_path, &lowest)?;
     let path = Path {
         leaf_sibling_hash: sibling,
         auth_path,
