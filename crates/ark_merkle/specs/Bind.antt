@@ -18,11 +18,15 @@ couple is_right a b = if is_right then (b, a) else (a, b)
 -- the roots of the halves of 2 ^ (k + 1) leaf digests, or the two leaf digests
 abbrev pub halves : HashPair → ℕ → List Digest → Digest × Digest
 halves h zero digests = (get_or digests 0 [], get_or digests 1 [])
-halves h (suc k) digests = (root_digest (place h k (take (2 ^ suc k) digests)), root_digest (place h k (drop (2 ^ suc k) digests)))
+halves h (suc k) digests =
+    (root_digest (place h k (take (2 ^ suc k) digests)), root_digest (place h k (drop (2 ^ suc k) digests)))
 
--- The tree's pair at a level, counted from the root: that of the part of the leaf digests which holds the index modulo the size.
+-- The tree's pair at a level, counted from the root: that of the part of the leaf digests which holds the index modulo
+-- the size.
 abbrev pub tree_pair : HashPair → List Digest → ℕ → ℕ → Digest × Digest
-tree_pair h digests index level = let k = upper_levels digests - level in halves h k (part k (index % length digests / 2 ^ suc k) digests)
+tree_pair h digests index level =
+    let k = upper_levels digests - level in
+    halves h k (part k (index % length digests / 2 ^ suc k) digests)
 
 -- the pair below whose digest the first of some digests of a path stands
 abbrev pub pair_beside : HashPair → Way → Digest → List Digest → Outcome (Digest × Digest)
@@ -53,7 +57,9 @@ first_level holds level (suc count) = if holds level then Some level else first_
 
 -- the first level from the root down at which the pairs of path and tree differ
 abbrev pub difference : HashPair → List Digest → Way → Digest → Option ℕ
-difference h digests way digest = first_level (λ level. is_other (path_pair h way digest level) (tree_pair h digests way.index level)) 0 (suc (upper_levels digests))
+difference h digests way digest =
+    first_level (λ level. is_other (path_pair h way digest level) (tree_pair h digests way.index level)) 0
+    (suc (upper_levels digests))
 
 abbrev pub binding_of : Option ℕ → Binding
 binding_of None = Stands

@@ -12,3 +12,4 @@ pub mod MultiPath
 pub mod MultiPathBytes
 pub mod Leaves
 pub mod MultiProof
+pub mod Laws

@@ -6,8 +6,8 @@ use Rattle.ark_base.specs.Outcome.{Outcome, ◌>>=◌}
 use Rattle.ark_merkle.specs.Pair.{Digest, HashPair}
 use Rattle.ark_merkle.specs.Path.{Way, verdict}
 
--- a multi-proof by its numbers: for each place the digest beside the leaf's, how many first digests its path takes from the
--- path before, the digests that follow, and the leaf's index
+-- a multi-proof by its numbers: for each place the digest beside the leaf's, how many first digests its path takes from
+-- the path before, the digests that follow, and the leaf's index
 pub record MultiWay : Type 0 where
   pub siblings : List Digest
   pub prefixes : List ℕ
@@ -18,18 +18,21 @@ pub record MultiWay : Type 0 where
 abbrev pub path_length : MultiWay → ℕ
 path_length m = length (get_or m.suffixes 0 [])
 
--- the path of some parts, where all are there and make a path of this length: the first digests of the path before, then the
--- suffix
+-- the path of some parts, where all are there and make a path of this length: the first digests of the path before, then
+-- the suffix
 abbrev pub path_of_parts : ℕ → List Digest → ℕ → Option Digest → Option ℕ → Option (List Digest) → Option Way
 path_of_parts len before index None prefix suffix = None
 path_of_parts len before index (Some sibling) None suffix = None
 path_of_parts len before index (Some sibling) (Some prefix) None = None
 path_of_parts len before index (Some sibling) (Some prefix) (Some suffix) =
-    if prefix + length suffix == len then Some (record { sibling = sibling; above = take prefix before ++ suffix; index = index }) else None
+    if prefix + length suffix == len
+    then Some (record { sibling = sibling; above = take prefix before ++ suffix; index = index })
+    else None
 
 -- the path of place i, where it decodes, after the digests of the path before
 abbrev pub decoded_path : MultiWay → ℕ → List Digest → ℕ → Option Way
-decoded_path m i before index = path_of_parts (path_length m) before index (slice_get m.siblings i) (slice_get m.prefixes i) (slice_get m.suffixes i)
+decoded_path m i before index =
+    path_of_parts (path_length m) before index (slice_get m.siblings i) (slice_get m.prefixes i) (slice_get m.suffixes i)
 
 -- a path, and those that follow it; none follows a place that does not decode
 abbrev pub path_and_rest : Option Way → (Way → List (Option Way)) → List (Option Way)
@@ -39,7 +42,8 @@ path_and_rest (Some way) next = Some way ∷ next way
 -- the paths of these indexes, from place i on
 abbrev pub decoded_paths_from : MultiWay → ℕ → List Digest → List ℕ → List (Option Way)
 decoded_paths_from m i before [] = []
-decoded_paths_from m i before (index ∷ indexes) = path_and_rest (decoded_path m i before index) (λ way. decoded_paths_from m (suc i) way.above indexes)
+decoded_paths_from m i before (index ∷ indexes) =
+    path_and_rest (decoded_path m i before index) (λ way. decoded_paths_from m (suc i) way.above indexes)
 
 -- the decoded paths of a multi-proof; no digests stand before the first
 abbrev pub decoded_paths : MultiWay → List (Option Way)
@@ -56,4 +60,5 @@ multi_verdict_from h root i (Some way ∷ ways) (leaf ∷ leaves) = do
 
 -- what a multi-proof says of leaves, each of them by what its hash answers
 abbrev pub multi_verdict : HashPair → List (Outcome Digest) → MultiWay → Digest → Outcome Bool
-multi_verdict h leaves m root = if length m.indexes == 0 then Err (GenericError NoIndex) else multi_verdict_from h root 0 (decoded_paths m) leaves
+multi_verdict h leaves m root =
+    if length m.indexes == 0 then Err (GenericError NoIndex) else multi_verdict_from h root 0 (decoded_paths m) leaves

@@ -30,7 +30,8 @@ abbrev pub suffixes_of : List Digest → List (List Digest) → List (List Diges
 suffixes_of before [] = []
 suffixes_of before (list ∷ lists) = drop (shared_count before list) list ∷ suffixes_of list lists
 
--- the multi-proof of some paths, in which each takes as much from the one before as it can; no digests stand before the first
+-- the multi-proof of some paths, in which each takes as much from the one before as it can; no digests stand before the
+-- first
 abbrev pub multi_path_of : List Way → MultiWay
 multi_path_of ways = record {
   siblings = map (λ way. way.sibling) ways;

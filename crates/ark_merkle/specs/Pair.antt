@@ -22,15 +22,18 @@ pub record Hashes (A : Type 0) : Type 0 where
   pub pair : HashPair
 
 -- Both leaf digests are converted, left first, and then hashed.
-abbrev pub bottom_pair : (Digest → Outcome Digest) → (Digest → Digest → Outcome Digest) → Digest → Digest → Outcome Digest
+abbrev pub bottom_pair :
+    (Digest → Outcome Digest) → (Digest → Digest → Outcome Digest) → Digest → Digest → Outcome Digest
 bottom_pair conversion evaluated a b = do
   x ← conversion a
   y ← conversion b
   evaluated x y
 
 -- what a converter and a hash of two, at its parameters, make of pairs
-abbrev pub pair_of : {P : Type 0} → (Digest → Outcome Digest) → (P → Digest → Digest → Outcome Digest) → (P → Digest → Digest → Outcome Digest) → P → HashPair
-pair_of conversion evaluated compressed p = record { bottom = bottom_pair conversion (evaluated p); upper = compressed p }
+abbrev pub pair_of : {P : Type 0} → (Digest → Outcome Digest) → (P → Digest → Digest → Outcome Digest)
+    → (P → Digest → Digest → Outcome Digest) → P → HashPair
+pair_of conversion evaluated compressed p =
+    record { bottom = bottom_pair conversion (evaluated p); upper = compressed p }
 
 -- two digests in the order that a bit says: where it is set, the first stands right
 abbrev pub hash_in_order : (Digest → Digest → Outcome Digest) → Bool → Digest → Digest → Outcome Digest

@@ -10,8 +10,8 @@ pub record Way : Type 0 where
   pub above : List Digest
   pub index : ℕ
 
--- What the digests beside the way make of the lowest one on it. The first of them stands below the root: it is hashed with
--- what the rest makes, in the order that the index's bit of their level says.
+-- What the digests beside the way make of the lowest one on it. The first of them stands below the root: it is hashed
+-- with what the rest makes, in the order that the index's bit of their level says.
 abbrev pub climb : (Digest → Digest → Outcome Digest) → ℕ → List Digest → Digest → Outcome Digest
 climb hash index [] lowest = Ok lowest
 climb hash index (first ∷ rest) lowest = do

@@ -16,8 +16,8 @@ abbrev pub place_at : ℕ → Outcome Digest → Place
 place_at level (Ok digest) = Root digest
 place_at level (Err error) = Refused level error
 
--- Two halves make a place: their roots are hashed. Where a half has a refusal, the lower one decides, the left one among
--- equals.
+-- Two halves make a place: their roots are hashed. Where a half has a refusal, the lower one decides, the left one
+-- among equals.
 abbrev pub place_of_halves : HashPair → ℕ → Place → Place → Place
 place_of_halves h level (Root a) (Root b) = place_at level (h.upper a b)
 place_of_halves h level (Root a) (Refused l e) = Refused l e
@@ -27,7 +27,8 @@ place_of_halves h level (Refused k d) (Refused l e) = if nat_lt l k then Refused
 -- the place of 2 ^ (m + 1) leaf digests
 abbrev pub place : HashPair → ℕ → List Digest → Place
 place h zero digests = place_at 0 (h.bottom (get_or digests 0 []) (get_or digests 1 []))
-place h (suc m) digests = place_of_halves h (suc m) (place h m (take (2 ^ suc m) digests)) (place h m (drop (2 ^ suc m) digests))
+place h (suc m) digests =
+    place_of_halves h (suc m) (place h m (take (2 ^ suc m) digests)) (place h m (drop (2 ^ suc m) digests))
 
 abbrev pub outcome_of : Place → Outcome Digest
 outcome_of (Root digest) = Ok digest

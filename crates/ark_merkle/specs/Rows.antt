@@ -50,7 +50,8 @@ pub record IsTree (h : HashPair) (leaves : List Digest) (rows : List (List Diges
   pub size : length leaves ≡ 2 ^ suc (upper_levels leaves)
   pub count : length rows ≡ suc (upper_levels leaves)
   pub levels : AreLevels (length leaves) rows
-  pub roots : (k q : ℕ) → k < length rows → q < length (get_or rows k []) → place h k (part k q leaves) ≡ Root (get_or (get_or rows k []) q [])
+  pub roots : (k q : ℕ) → k < length rows → q < length (get_or rows k [])
+      → place h k (part k q leaves) ≡ Root (get_or (get_or rows k []) q [])
 
 -- the digests beside the way of an index below row k, from above down
 abbrev pub beside_in : List (List Digest) → ℕ → ℕ → List Digest

@@ -50,17 +50,24 @@ root_digest (Refused level error) = []
 
 -- ---- paths of a tree
 
--- the roots of the halves that do not hold the place of an index, from below the root down, for 2 ^ (m + 1) leaf digests
+-- the roots of the halves that do not hold the place of an index, from below the root down, for 2 ^ (m + 1) leaf
+-- digests
 abbrev pub halves_beside : HashPair → ℕ → ℕ → List Digest → List Digest
 halves_beside h zero index digests = []
 halves_beside h (suc m) index digests =
     let left = take (2 ^ suc m) digests in
     let right = drop (2 ^ suc m) digests in
-    if bit_at index (suc m) then root_digest (place h m left) ∷ halves_beside h m index right else (root_digest (place h m right) ∷ halves_beside h m index left)
+    if bit_at index (suc m)
+    then root_digest (place h m left) ∷ halves_beside h m index right
+    else (root_digest (place h m right) ∷ halves_beside h m index left)
 
 -- the path of an index: the digest beside its own, and the roots of the halves that do not hold it
 abbrev pub own_path : HashPair → ℕ → List Digest → Way
-own_path h i digests = record { sibling = get_or digests (neighbour i) []; above = halves_beside h (upper_levels digests) i digests; index = i }
+own_path h i digests = record {
+  sibling = get_or digests (neighbour i) [];
+  above = halves_beside h (upper_levels digests) i digests;
+  index = i;
+}
 
 -- the path of an index of a tree
 abbrev pub path_in : {A : Type 0} → HashedTree A → ℕ → Way

@@ -31,9 +31,11 @@ change_agrees tree index leaf asserted = do
 
 -- The digests are those on the way of an index, from the lowest row up: the roots of the parts that hold it.
 abbrev pub AreOnWay : HashPair → List Digest → ℕ → List Digest → Type 0
-AreOnWay h digests index way = (k : ℕ) → k < length way → place h k (part k (index / 2 ^ suc k) digests) ≡ Root (get_or way k [])
+AreOnWay h digests index way = (k : ℕ) → k < length way
+    → place h k (part k (index / 2 ^ suc k) digests) ≡ Root (get_or way k [])
 
 -- The digests are all on the way of an index at which this leaf digest stands.
-pub record ChangesWay (h : HashPair) (digests : List Digest) (index : ℕ) (digest : Digest) (way : List Digest) : Type 0 where
+pub record ChangesWay (h : HashPair) (digests : List Digest) (index : ℕ) (digest : Digest) (way : List Digest)
+    : Type 0 where
   pub count : length way ≡ suc (upper_levels digests)
   pub on_way : AreOnWay h (set digests index digest) index way

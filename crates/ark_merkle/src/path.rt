@@ -3,7 +3,8 @@
 ghost use Rattle.std.specs.Prelude.{◌≡◌, map};
 ghost use Rattle.std.proofs.Common.{lit<};
 ghost use Rattle.ark_base.specs.Outcome.{Answers, AnswersBy};
-ghost use Rattle.ark_merkle.specs.PathBytes.{PathParts, PathFits, path_spelling, path_at, path_laws, path_is_long};
+ghost use Rattle.ark_merkle.specs.PathBytes.{PathParts, PathFits, path_spelling, path_at};
+ghost use Rattle.ark_merkle.specs.Laws.Path.{path_laws, path_is_long};
 ghost use Rattle.ark_merkle.specs.Path.{Way, climb, verdict};
 
 use crate::config::{Config, LeafParam, TwoToOneParam};

@@ -5,14 +5,19 @@ ghost use Rattle.ark_base.specs.Reading.{Reading};
 ghost use Rattle.ark_merkle.specs.declared.multi_path.MultiPath.{MultiPath as OfMultiPath};
 ghost use Rattle.ark_merkle.specs.declared.path.Path.{Path as OfPath};
 ghost use Rattle.ark_merkle.specs.MultiPath.{MultiWay};
-ghost use Rattle.ark_merkle.specs.MultiPathBytes.{multi_bytes, multi_way_at};
+ghost use Rattle.ark_merkle.specs.MultiPathBytes.{multi_bytes, multi_way_at, multi_way_of};
+ghost use Rattle.ark_merkle.specs.Laws.MultiPath.{multi_way_of-value};
+ghost use Rattle.ark_merkle.specs.Laws.Path.{way_of-value};
 ghost use Rattle.ark_merkle.specs.Pair.{HashPair, Hashes, pair_of};
 ghost use Rattle.ark_merkle.specs.Path.{Way};
-ghost use Rattle.ark_merkle.specs.PathBytes.{way_bytes, way_at};
+ghost use Rattle.ark_merkle.specs.PathBytes.{way_bytes, way_at, way_of};
 ghost use Rattle.ark_merkle.specs.Rows.{digests_of, rows_seen};
 ghost use Rattle.ark_merkle.specs.Tree.{Tree, HashedTree};
 
 use crate::config::Config;
+use crate::multi_path::MultiPath;
+use crate::path::Path;
+use ark_base::serialize::{Canonical, DigestItem, Numbered};
 
 /// Hashes, trees and paths, as contracts see them. Each configuration has these views.
 pub trait Views: Config {
@@ -134,4 +139,35 @@ impl<P: Config> Views for P {
     ghost way_is = { refl };
 
     ghost multi_way_is = { refl };
+}
+
+/// What the canonical values of paths tell. Each configuration has these laws.
+pub trait Values: Views {
+    // The canonical value of a path forgets none of its numbers.
+    ghost path_value_is: { Self.way ≡ (λ path. way_of
+        (λ digest. Self.LeafDigest.numbers_of (Self.LeafDigest.spelling digest))
+        (λ digest. Self.InnerDigest.numbers_of (Self.InnerDigest.spelling digest))
+        (⟦<Path<Self> as Canonical>⟧.view path)) };
+
+    // Nor does that of a multi-proof.
+    ghost multi_path_value_is: { Self.multi_way ≡ (λ proof. multi_way_of
+        (λ digest. Self.LeafDigest.numbers_of (Self.LeafDigest.spelling digest))
+        (λ digest. Self.InnerDigest.numbers_of (Self.InnerDigest.spelling digest))
+        (⟦<MultiPath<Self> as Canonical>⟧.view proof)) };
+}
+
+impl<P: Config> Values for P {
+    ghost path_value_is = { λ i path. way_of-value P.LeafDigest.numbers P.LeafDigest.view
+        (λ digest. P.LeafDigest.numbers_of (P.LeafDigest.spelling digest))
+        P.LeafDigest.numbers_are P.InnerDigest.numbers P.InnerDigest.view
+        (λ digest. P.InnerDigest.numbers_of (P.InnerDigest.spelling digest))
+        P.InnerDigest.numbers_are path.leaf_sibling_hash path.auth_path.items path.leaf_index i };
+
+    ghost multi_path_value_is = { λ i proof. multi_way_of-value P.LeafDigest.numbers
+        P.LeafDigest.view (λ digest. P.LeafDigest.numbers_of (P.LeafDigest.spelling digest))
+        P.LeafDigest.numbers_are P.InnerDigest.numbers P.InnerDigest.view
+        (λ digest. P.InnerDigest.numbers_of (P.InnerDigest.spelling digest))
+        P.InnerDigest.numbers_are proof.leaf_siblings_hashes.items
+        proof.auth_paths_prefix_lenghts.items proof.auth_paths_suffixes.items
+        proof.leaf_indexes.items i };
 }

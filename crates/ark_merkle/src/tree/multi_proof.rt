@@ -114,10 +114,12 @@ fn prefix_at<D: DigestItem>(rows: &[Vec<D>], indexes: &[usize], place: usize) ->
     requires place { place < length indexes.now }
     requires held { All (HoldsIndex (map (digests_of D.numbers) rows.now)) indexes.now }
     ensures within { result ≤ length rows.now - 1 }
-    ensures prefix { let lists = beside_in (map (digests_of D.numbers) rows.now) (length rows.now - 1) in
+    ensures prefix { let seen = map (digests_of D.numbers) rows.now in
+        let lists = beside_in seen (length rows.now - 1) in
         let of = λ (n : ℕ). prefixes_of [] (map lists (take n indexes.now)) in
         of (place + 1) ≡ of place ++ result ∷ [] }
-    ensures suffix { let lists = beside_in (map (digests_of D.numbers) rows.now) (length rows.now - 1) in
+    ensures suffix { let seen = map (digests_of D.numbers) rows.now in
+        let lists = beside_in seen (length rows.now - 1) in
         let of = λ (n : ℕ). suffixes_of [] (map lists (take n indexes.now)) in
         of (place + 1) ≡ of place ++ drop result (lists (slice_index indexes.now place)) ∷ [] }
 {

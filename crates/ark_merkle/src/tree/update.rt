@@ -52,10 +52,10 @@ impl<P: Views> MerkleTree<P> {
         ensures kept { IfOk result (λ agrees. agrees ≡ false → self.new ≡ self.old) }
         ensures refused { OnErr result (self.new ≡ self.old) }
     {
-        let (digest, way) = self.changed_way(alloc, index, new_leaf)?;
-        let agrees = are_same(&way[way.len() - 1], asserted_new_root);
+        let (digest, on_way) = self.changed_way(alloc, index, new_leaf)?;
+        let agrees = are_same(&on_way[on_way.len() - 1], asserted_new_root);
         if agrees {
-            self.put_leaf(index, digest, way);
+            self.put_leaf(index, digest, on_way);
         }
         Ok(agrees)
     }

@@ -1,14 +1,15 @@
 //! Multi-proofs by their definition.
 
-ghost use Rattle.std.specs.Prelude.{◌≡◌, ◌+◌, ◌++◌, ◌<◌, ◌^◌, map, take, length, Ok};
+ghost use Rattle.std.specs.Prelude.{ℕ, List, MatchOption, Some, None, ◌≡◌, ◌+◌, ◌++◌, ◌<◌, ◌^◌, map, take, length, Ok};
 ghost use Rattle.ark_base.specs.Outcome.{Answers, AnswersBy};
-ghost use Rattle.ark_merkle.specs.MultiPath.{decoded_paths_from, multi_verdict_from, multi_verdict};
+ghost use Rattle.ark_merkle.specs.Pair.{Digest};
+ghost use Rattle.ark_merkle.specs.MultiPath.{decoded_path, decoded_paths_from, multi_verdict_from, multi_verdict};
 
 use ark_base::error::{Error, Refusal};
 use ark_base::serialize::{DigestItem, Duplicate};
 use ark_crh::CRHScheme;
 use ark_merkle::digests::copies_of;
-use ark_merkle::multi_path::places::part_at;
+use ark_merkle::multi_path::places::{Part, part_at};
 use ark_merkle::{Config, LeafParam, MultiPath, Path, TwoToOneParam, Views};
 use std::alloc::Global;
 
@@ -67,9 +68,7 @@ fn verdict_from<P: Config>(
     let Some((index, indexes)) = indexes.split_first() else {
         return Ok(true);
     };
-    let siblings = &proof.leaf_siblings_hashes;
-    let prefixes = &proof.auth_paths_prefix_lenghts;
-    let Some(part) = part_at(siblings, prefixes, &proof.auth_paths_suffixes, place) else {
+    let Some(part) = part_of(proof, place) else {
         return Err(Error::IncorrectInputLength(place));
     };
     let Some((leaf, leaves)) = leaves.split_first() else {
@@ -95,6 +94,25 @@ fn verdict_from<P: Config>(
         indexes,
         leaves,
     )
+}
+
+// The parts of a place, where it decodes.
+fn part_of<P: Config>(
+    proof: &MultiPath<P>,
+    place: usize,
+) -> Option<Part<'_, P::LeafDigest, P::InnerDigest>>
+    ensures { let way = ⟦<P as Views>⟧.multi_way proof.now in
+        (before : List Digest) (index : ℕ) → MatchOption result
+        (decoded_path way place before index ≡ None)
+        (λ part. decoded_path way place before index ≡ Some (record {
+          sibling = P.LeafDigest.numbers part.sibling.now;
+          above = take part.prefix before ++ map P.InnerDigest.numbers part.suffix.now;
+          index = index;
+        })) }
+{
+    let siblings = &proof.leaf_siblings_hashes;
+    let prefixes = &proof.auth_paths_prefix_lenghts;
+    part_at(siblings, prefixes, &proof.auth_paths_suffixes, place)
 }
 
 // The first digests of the path before, then the suffix.

@@ -23,10 +23,10 @@ returns-in_err-verify g t c =
     } in
     let index = c.in-Some.index.now in
     let above = c.in_ok-extended.field-0.items in
-    let way : Way = record { sibling = leaf_numbers c.in_ok-copy_of.field-0; above = map inner above; index = index } in
-    let sibling = done_injective {A = Digest} _ _ c.in_ok-copy_of.ensures in
+    let way : Way = record { sibling = leaf_numbers c.in_ok-duplicate.field-0; above = map inner above; index = index } in
+    let sibling = (g.met.P.LeafDigest.DigestItem.seen_alike _ _).0 (done_injective _ _ c.in_ok-duplicate.ensures) in
     let digests = done_injective {A = List Digest} _ _ c.in_ok-extended.ensures in
-    let decodes : decoded_path m c.args.place (map inner c.args.before.now) index ≡ Some way = rw (sibling, digests) at (c.in-Some-part_at.ensures (map inner c.args.before.now) index) in
+    let decodes : decoded_path m c.args.place (map inner c.args.before.now) index ≡ Some way = rw (sibling, digests) at (c.in-Some-part_of.ensures (map inner c.args.before.now) index) in
     let hashed = g.P.LeafHash.CRHScheme.meaning c.args.leaf_parameters.now in
     rw (c.in-Some.ensures.cases.0, c.in-Some-split_first.ensures.cases.0)
     (passed_on _ _ c.from_residual-in_err-verify.result c.in_err-verify.field-0.0 c.from_residual-in_err-verify.ensures.1 c.in_err-verify.ensures
@@ -47,10 +47,10 @@ returns g t c =
     } in
     let index = c.in-Some.index.now in
     let above = c.in_ok-extended.field-0.items in
-    let way : Way = record { sibling = leaf_numbers c.in_ok-copy_of.field-0; above = map inner above; index = index } in
-    let sibling = done_injective {A = Digest} _ _ c.in_ok-copy_of.ensures in
+    let way : Way = record { sibling = leaf_numbers c.in_ok-duplicate.field-0; above = map inner above; index = index } in
+    let sibling = (g.met.P.LeafDigest.DigestItem.seen_alike _ _).0 (done_injective _ _ c.in_ok-duplicate.ensures) in
     let digests = done_injective {A = List Digest} _ _ c.in_ok-extended.ensures in
-    let decodes : decoded_path m c.args.place (map inner c.args.before.now) index ≡ Some way = rw (sibling, digests) at (c.in-Some-part_at.ensures (map inner c.args.before.now) index) in
+    let decodes : decoded_path m c.args.place (map inner c.args.before.now) index ≡ Some way = rw (sibling, digests) at (c.in-Some-part_of.ensures (map inner c.args.before.now) index) in
     let hashed = g.P.LeafHash.CRHScheme.meaning c.args.leaf_parameters.now in
     let yes : c.in_ok-verify.field-0 ≡ true = search rules in
     rw (
