@@ -23,3 +23,5 @@ pub mod MultiShared
 pub mod MultiCommon
 pub mod MultiOwn
 pub mod MultiLists
+pub mod Compares
+pub mod NewWays
