@@ -1,0 +1,91 @@
+-- Steps of the way of a new leaf digest.
+use Rattle.std.proofs.Common.{◌≡◌, ◌<◌, ◌≤◌, ◌-◌, ◌/◌, ◌^◌, ◌∙◌, ℕ, suc, Bool, List, [], ◌∷◌, ◌++◌, length, map, get_or, set, Ok, Err, arith, ap, sym}
+use Rattle.std.proofs.lemmas.List.{length-map, get_or-map}
+use Rattle.std.specs.declared.vec.Vec.{Vec}
+use Rattle.ark_base.specs.declared.error.Error.{Error}
+use Rattle.ark_merkle.specs.Index.{bit_at, neighbour}
+use Rattle.ark_merkle.specs.Pair.{Digest, HashPair, hash_in_order}
+use Rattle.ark_merkle.specs.Root.{root, upper_levels}
+use Rattle.ark_merkle.specs.Rows.{IsTree, digests_of}
+use Rattle.ark_merkle.specs.Update.{AreOnWay, ChangesWay}
+use Rattle.ark_merkle.proofs.Changes.{lowest-on_way, lowest-refused, next-on_way, next-refused, root-way}
+use Rattle.ark_merkle.proofs.OwnPaths.{leaf-neighbour}
+use Rattle.ark_merkle.proofs.PlaceLemmas.{level-fits, way-neighbour}
+use Rattle.ark_merkle.proofs.Readings.{row_read, digest_read}
+
+module _ {A B Z : Type 0} (leaf_numbers : A → Digest) (numbers : B → Digest) (h : HashPair) (leaves_in : List A) (rows_in : List (Vec B Z))
+    (tree : IsTree h (map leaf_numbers leaves_in) (map (digests_of numbers) rows_in)) (index : ℕ) (within : index < length leaves_in) (digest : Digest) where
+  abbrev leaves : List Digest
+  leaves = map leaf_numbers leaves_in
+
+  abbrev rows : List (List Digest)
+  rows = map (digests_of numbers) rows_in
+
+  abbrev new : List Digest
+  new = set leaves index digest
+
+  inside : index < length leaves
+  inside = omega (arith, length-map leaves_in leaf_numbers, within)
+
+  counted : length rows ≡ length rows_in
+  counted = length-map rows_in (digests_of numbers)
+
+  pub rows-some : 0 < length rows_in
+  rows-some = omega (arith, counted, tree.count)
+
+  -- ---- the leaf digests
+
+  module _ (place : ℕ) (place_is : place ≡ neighbour index) (sibling : A) (read : sibling ≡ get_or leaves_in place sibling) (is_right : Bool) (side : is_right ≡ bit_at index 0) where
+    beside : get_or leaves (neighbour index) [] ≡ leaf_numbers sibling
+    beside =
+        let there : neighbour index < length leaves_in = rw (length-map leaves_in leaf_numbers) at (leaf-neighbour h leaves rows tree index inside) in
+        get_or-map leaf_numbers leaves_in (neighbour index) sibling [] there ∙ ap leaf_numbers (sym (rw place_is at read))
+
+    pub way-first : (d : Digest) → hash_in_order h.bottom is_right digest (leaf_numbers sibling) ≡ Ok d → AreOnWay h new index (d ∷ [])
+    way-first d hashed = lowest-on_way h leaves rows tree index inside digest (leaf_numbers sibling) beside d (rw side at hashed)
+
+    pub way-first-refused : (e : Error) → hash_in_order h.bottom is_right digest (leaf_numbers sibling) ≡ Err e → root h new ≡ Err e
+    way-first-refused e refused = lowest-refused h leaves rows tree index inside digest (leaf_numbers sibling) beside e (rw side at refused)
+
+  -- ---- a level
+
+  module _ (level : ℕ) (some : 1 ≤ level) (under : level < length rows_in) where
+    pub shift-fits : length leaves_in < 2 ^ 64 → suc level < 64
+    shift-fits fits = level-fits rows (length leaves) tree.levels level index (omega (arith, counted)) inside (omega (arith, length-map leaves_in leaf_numbers))
+
+    module _ (row : Vec B Z) (is : row ≡ get_or rows_in (level - 1) row) where
+      row_is : get_or rows (level - 1) [] ≡ digests_of numbers row
+      row_is = row_read numbers rows_in (level - 1) row (omega arith) is
+
+      pub beside-inside_row : neighbour (index / 2 ^ level) < length row.items
+      beside-inside_row =
+          let there = way-neighbour rows (length leaves) tree.levels index inside level some (omega (arith, counted)) in
+          omega (arith, there, ap length row_is, length-map row.items numbers)
+
+      module _ {Y : Type 0} (way : Vec B Y) (on_way : AreOnWay h new index (digests_of numbers way)) (long : length way.items ≡ level) (lower : B) (lower_read : lower ≡ get_or way.items (level - 1) lower)
+          (place : ℕ) (place_is : place ≡ neighbour (index / 2 ^ level)) (sibling : B) (read : sibling ≡ get_or row.items place sibling) (is_right : Bool) (side : is_right ≡ bit_at index level) where
+        lower_is : get_or (digests_of numbers way) (level - 1) [] ≡ numbers lower
+        lower_is = digest_read numbers way (level - 1) lower (omega (arith, long)) lower_read
+
+        beside_row : get_or (get_or rows (level - 1) []) (neighbour (index / 2 ^ level)) [] ≡ numbers sibling
+        beside_row = ap (λ r. get_or r (neighbour (index / 2 ^ level)) []) row_is ∙ digest_read numbers row (neighbour (index / 2 ^ level)) sibling beside-inside_row (rw place_is at read)
+
+        pub way-more : (d : Digest) → hash_in_order h.upper is_right (numbers lower) (numbers sibling) ≡ Ok d → AreOnWay h new index (digests_of numbers way ++ d ∷ [])
+        way-more d hashed =
+            next-on_way h leaves rows tree index inside digest (digests_of numbers way) on_way level (length-map way.items numbers ∙ long) some (omega (arith, counted)) (numbers lower) (numbers sibling) lower_is beside_row d (rw side at hashed)
+
+        pub way-more-refused : (e : Error) → hash_in_order h.upper is_right (numbers lower) (numbers sibling) ≡ Err e → root h new ≡ Err e
+        way-more-refused e refused =
+            next-refused h leaves rows tree index inside digest (digests_of numbers way) on_way level (length-map way.items numbers ∙ long) some (omega (arith, counted)) (numbers lower) (numbers sibling) lower_is beside_row e (rw side at refused)
+
+  -- ---- the whole way
+
+  module _ {Y : Type 0} (way : Vec B Y) (on_way : AreOnWay h new index (digests_of numbers way)) (long : length way.items ≡ length rows_in) where
+    whole : length (digests_of numbers way) ≡ length rows
+    whole = omega (arith, counted, length-map way.items numbers, long)
+
+    pub way-whole : ChangesWay h leaves index digest (digests_of numbers way)
+    way-whole = record { count = whole ∙ tree.count; on_way = on_way }
+
+    pub way-root : root h new ≡ Ok (get_or (digests_of numbers way) (upper_levels leaves) [])
+    way-root = root-way h leaves rows tree index inside digest (digests_of numbers way) on_way whole

@@ -1,0 +1,17 @@
+use Rattle.std.proofs.Common.{◌≡◌, ◌-◌, suc, length, map, Ok}
+use Rattle.ark_merkle.specs.Pair.{pair_of}
+use Rattle.ark_merkle.specs.Path.{Way}
+use Rattle.ark_merkle.proofs.Binds.{top_from}
+use Rattle.ark_merkle.proofs.Compares.{difference_from}
+use Rattle.ark_merkle.proofs.tree.bind.compare.Given as goal
+
+-- what the path gives so far, and the first level at which it differs so far
+abbrev pub invariant-loop-step : goal.invariant-loop-step
+invariant-loop-step g l =
+    let two = g.P.TwoToOneHash.TwoToOneCRHScheme in
+    let h = pair_of g.P.LeafInnerDigestConverter.DigestConverter.conversion two.evaluated two.compressed l.pair_parameters in
+    let numbers = g.P.InnerDigest.Numbered.numbers in
+    let leaf_numbers = g.P.LeafDigest.Numbered.numbers in
+    let way : Way = record { sibling = leaf_numbers l.path.leaf_sibling_hash; above = map numbers l.path.auth_path.items; index = l.path.leaf_index } in
+    let m = length l.path.auth_path.items in
+    (top_from h way (leaf_numbers l.digest) (m - l.step) ≡ Ok (numbers l.current)) × (l.difference ≡ difference_from h (map leaf_numbers l.leaves) way (leaf_numbers l.digest) (m - l.step) (suc l.step))

@@ -1,0 +1,3 @@
+-- The laws of the canonical bytes of paths.
+pub mod Path
+pub mod MultiPath
