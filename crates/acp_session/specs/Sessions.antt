@@ -1,0 +1,17 @@
+-- Whole sessions.
+use Rattle.std.specs.Prelude.{ℕ, List, [], ◌∷◌, Option, None, IfSome}
+use Rattle.std.specs.List.{flat_map}
+use Rattle.std.specs.Io.KnownBytes.{Appends}
+use Rattle.acp_session.specs.Lines.{lines_of, ended}
+
+-- some lines, one after another, from a state on, and the reply to each
+abbrev pub Session : {T : Type 0} → (T → List ℕ → T → List ℕ → Type 0) → T → List (List ℕ) → List (List ℕ) → Type 0
+Session step before [] [] = Unit {0}
+Session step before (line ∷ lines) (reply ∷ replies) = (after : _) × step before line after reply × Session step after lines replies
+Session step before [] (reply ∷ replies) = ⊥
+Session step before (line ∷ lines) [] = ⊥
+
+-- What the writer holds when all that a reader had is answered, from no tree on: what it held, then each reply with a line
+-- feed. A reader or a writer that does not tell its bytes is not spoken of.
+abbrev pub Serves : {T : Type 0} → (Option T → List ℕ → Option T → List ℕ → Type 0) → Option (List ℕ) → Option (List ℕ) → Option (List ℕ) → Type 0
+Serves step input before after = IfSome input (λ bytes. (replies : List (List ℕ)) × Session step None (lines_of bytes) replies × Appends before after (flat_map ended replies))

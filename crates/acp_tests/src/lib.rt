@@ -1,0 +1,13 @@
+//! Tests of the program: sessions, its statuses, and readers and writers that fail.
+#![tactic(auto)]
+
+#[cfg(test)]
+mod faults;
+#[cfg(test)]
+mod hashes;
+#[cfg(test)]
+mod multi;
+#[cfg(test)]
+mod sessions;
+#[cfg(test)]
+mod toy;
