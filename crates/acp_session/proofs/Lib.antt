@@ -1,9 +1,8 @@
 pub mod Cutting
-pub mod Leaves
-pub mod MultiSteps
-pub mod MultiWords
+pub mod Findings
+pub mod Indexes
 pub mod Numerals
-pub mod PathWords
 pub mod Runs
-pub mod StepLemmas
 pub mod ToyLemmas
+pub mod Trees
+pub mod Values

@@ -8,18 +8,18 @@ use Rattle.ark_merkle.specs.Paths.{Way}
 
 pub record Language : Type 0 where
   -- what the leaf hash answers for the leaf that a token says, if it says one
-  pub hashed : List ℕ → Option (Outcome Digest)
+  pub leaf : List ℕ → Option (Outcome Digest)
   -- the digest that a token says, if it says one
   pub digest : List ℕ → Option Digest
   -- the bytes that a token says, if it says some
   pub bytes : List ℕ → Option (List ℕ)
   -- the token bytes of a root
-  pub shown : Digest → List ℕ
+  pub root_bytes : Digest → List ℕ
   -- the hashes of pairs
   pub pair : HashPair
   -- the canonical bytes of a path, and how they are read
-  pub written : Way → List ℕ
-  pub read : List ℕ → Reading Way
+  pub path_bytes : Way → List ℕ
+  pub path_at : List ℕ → Reading Way
   -- the canonical bytes of a multi-proof, and how they are read
-  pub multi_written : MultiWay → List ℕ
-  pub multi_read : List ℕ → Reading MultiWay
+  pub multi_path_bytes : MultiWay → List ℕ
+  pub multi_path_at : List ℕ → Reading MultiWay

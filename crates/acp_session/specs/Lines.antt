@@ -6,7 +6,7 @@ abbrev pub onto_first : ℕ → List (List ℕ) → List (List ℕ)
 onto_first b [] = (b ∷ []) ∷ []
 onto_first b (piece ∷ pieces) = (b ∷ piece) ∷ pieces
 
--- the lines of some bytes: each is ended by a line feed, the last perhaps by the end
+-- the lines of some bytes: each ends with a line feed, the last perhaps with the bytes
 abbrev pub lines_of : List ℕ → List (List ℕ)
 lines_of [] = []
 lines_of (b ∷ bytes) = if b == 10 then [] ∷ lines_of bytes else onto_first b (lines_of bytes)
@@ -21,6 +21,6 @@ abbrev pub tokens_left : Option (List ℕ) → List (List ℕ)
 tokens_left None = []
 tokens_left (Some bytes) = tokens_of bytes
 
--- a line on the output
-abbrev pub ended : List ℕ → List ℕ
-ended line = line ++ 10 ∷ []
+-- a line as it is written
+abbrev pub with_line_feed : List ℕ → List ℕ
+with_line_feed line = line ++ 10 ∷ []

@@ -17,12 +17,12 @@ pub data Reply : Type 0 where
   Trailing : Reply
   Refused : (error : Error) → Reply
   Built : (size : ℕ) → Reply
-  Root : (shown : List ℕ) → Reply
-  Proof : (written : List ℕ) → Reply
+  Root : (bytes : List ℕ) → Reply
+  Proof : (bytes : List ℕ) → Reply
   Verdict : (holds : Bool) → Reply
   Changed : Reply
   Bound : (binding : Binding) → Reply
-  MultiProof : (written : List ℕ) → Reply
+  MultiProof : (bytes : List ℕ) → Reply
 
 -- why a call was refused, in a word
 abbrev pub why : Error → List ℕ
@@ -50,12 +50,12 @@ text NoIndex = codes "refused index"
 text Trailing = codes "refused trailing"
 text (Refused error) = codes "refused " ++ why error
 text (Built size) = codes "tree " ++ (decimal size ++ (codes " height " ++ decimal (log2 size + 1)))
-text (Root shown) = codes "root " ++ encode_lower shown
-text (Proof written) = codes "path " ++ encode_lower written
+text (Root bytes) = codes "root " ++ encode_lower bytes
+text (Proof bytes) = codes "path " ++ encode_lower bytes
 text (Verdict holds) = truth holds
 text Changed = codes "ok"
 text (Bound binding) = binding_text binding
-text (MultiProof written) = codes "multi " ++ encode_lower written
+text (MultiProof bytes) = codes "multi " ++ encode_lower bytes
 
 -- Want of memory may stand in place of this reply. It never does where the reply is decided before anything is asked for.
 abbrev pub MayLackMemory : Reply → Type 0
@@ -63,15 +63,15 @@ MayLackMemory BadLine = ⊥
 MayLackMemory NoTree = ⊥
 MayLackMemory NotLeaves = ⊥
 MayLackMemory NoIndex = ⊥
-MayLackMemory (Root shown) = ⊥
+MayLackMemory (Root bytes) = ⊥
 MayLackMemory Trailing = Unit {0}
 MayLackMemory (Refused error) = Unit {0}
 MayLackMemory (Built size) = Unit {0}
-MayLackMemory (Proof written) = Unit {0}
+MayLackMemory (Proof bytes) = Unit {0}
 MayLackMemory (Verdict holds) = Unit {0}
 MayLackMemory Changed = Unit {0}
 MayLackMemory (Bound binding) = Unit {0}
-MayLackMemory (MultiProof written) = Unit {0}
+MayLackMemory (MultiProof bytes) = Unit {0}
 
 -- The bytes are those of the reply, or tell of want of memory in its place.
 abbrev pub Tells : Reply → List ℕ → Type 0

@@ -1,5 +1,5 @@
 -- The configuration `toy`: leaves are numbers, digests numbers below 257.
-use Rattle.std.specs.Prelude.{ℕ, ◌+◌, ◌*◌, ◌%◌, ◌==◌, nat_lt, if◌then◌else◌, Bool, true, false, List, [], ◌∷◌, length, get_or, Option, Some, None, Ok, Err}
+use Rattle.std.specs.Prelude.{ℕ, ◌+◌, ◌*◌, ◌%◌, ◌==◌, if◌then◌else◌, Bool, true, false, List, [], ◌∷◌, length, get_or, Option, Some, None, Ok, Err}
 use Rattle.std.specs.Option.{option_map}
 use Rattle.ark_base.specs.declared.error.Error.TheVariants.{GenericError}
 use Rattle.ark_base.specs.declared.error.Refusal.TheVariants.{Custom}
@@ -10,15 +10,15 @@ use Rattle.ark_merkle.specs.MultiBytes.{multi_bytes, multi_way_at}
 use Rattle.ark_merkle.specs.Pairs.{Digest}
 use Rattle.ark_merkle.specs.PathBytes.{way_bytes, way_at}
 use Rattle.acp_session.specs.Language.{Language}
-use Rattle.acp_session.specs.Tokens.{some_bytes_of}
+use Rattle.acp_session.specs.Tokens.{number_of_token, some_bytes_of}
 
 -- the number of a digest
-abbrev pub number : Digest → ℕ
-number digest = get_or digest 0 0
+abbrev pub toy_number : Digest → ℕ
+toy_number digest = get_or digest 0 0
 
 -- the two canonical bytes of a digest
 abbrev pub toy_bytes : Digest → List ℕ
-toy_bytes digest = bytes_of_number 2 (number digest)
+toy_bytes digest = bytes_of_number 2 (toy_number digest)
 
 -- a leaf modulo 257; 999 is refused
 abbrev pub toy_leaf : ℕ → Outcome Digest
@@ -26,12 +26,7 @@ toy_leaf leaf = if leaf == 999 then Err (GenericError (Custom 1)) else Ok (leaf 
 
 -- the first, and twice the second, modulo 257
 abbrev pub toy_pair : Digest → Digest → Outcome Digest
-toy_pair a b = Ok ((number a + 2 * number b) % 257 ∷ [])
-
--- the number of one to eight bytes, the least first
-abbrev pub leaf_of : Option (List ℕ) → Option ℕ
-leaf_of None = None
-leaf_of (Some bytes) = if nat_lt 8 (length bytes) then None else Some (number_of_bytes bytes)
+toy_pair a b = Ok ((toy_number a + 2 * toy_number b) % 257 ∷ [])
 
 -- a digest that was read, where no bytes are left behind it
 abbrev pub whole_digest : Reading ℕ → Option Digest
@@ -39,21 +34,25 @@ whole_digest (Ok (value, [])) = Some (value ∷ [])
 whole_digest (Ok (value, byte ∷ bytes)) = None
 whole_digest (Err fault) = None
 
-abbrev pub digest_of : Option (List ℕ) → Option Digest
-digest_of None = None
-digest_of (Some bytes) = whole_digest (below_at 257 2 bytes)
+abbrev pub toy_digest : Option (List ℕ) → Option Digest
+toy_digest None = None
+toy_digest (Some bytes) = whole_digest (below_at 257 2 bytes)
+
+-- the digest of a number that was read
+abbrev pub read_digest : ℕ → Digest
+read_digest value = number_of_bytes (bytes_of_number 2 value) ∷ []
 
 abbrev pub toy_language : Language
 toy_language = record {
-  hashed = λ token. option_map toy_leaf (leaf_of (some_bytes_of token));
-  digest = λ token. digest_of (some_bytes_of token);
+  leaf = λ token. option_map toy_leaf (number_of_token token);
+  digest = λ token. toy_digest (some_bytes_of token);
   bytes = some_bytes_of;
-  shown = toy_bytes;
+  root_bytes = toy_bytes;
   pair = record { bottom = toy_pair; upper = toy_pair };
-  written = way_bytes toy_bytes toy_bytes;
-  read = way_at (λ value. number_of_bytes (bytes_of_number 2 value) ∷ []) (λ value. number_of_bytes (bytes_of_number 2 value) ∷ []) (below_at 257 2) (below_at 257 2);
-  multi_written = multi_bytes toy_bytes toy_bytes;
-  multi_read = multi_way_at (λ value. number_of_bytes (bytes_of_number 2 value) ∷ []) (λ value. number_of_bytes (bytes_of_number 2 value) ∷ []) (below_at 257 2) (below_at 257 2);
+  path_bytes = way_bytes toy_bytes toy_bytes;
+  path_at = way_at read_digest read_digest (below_at 257 2) (below_at 257 2);
+  multi_path_bytes = multi_bytes toy_bytes toy_bytes;
+  multi_path_at = multi_way_at read_digest read_digest (below_at 257 2) (below_at 257 2);
 }
 
 pub toy_leaf-decided : (leaf : ℕ) → IsDecided (toy_leaf leaf)

@@ -1,47 +1,70 @@
 //! The reply to a line.
 
 ghost use Rattle.std.specs.Prelude.{◌≡◌, IfOk, OnErr};
-ghost use Rattle.acp_session.specs.Steps.{Step, state_of};
+ghost use Rattle.acp_session.specs.Requests.{asked};
+ghost use Rattle.acp_session.specs.Steps.{Step, Takes, state_of, turn_of};
 
+use crate::line::{Line, line_of};
 use crate::replies::plain;
-use crate::shell::Shell;
-use crate::tokens::first_token;
+use crate::shell::{Hashing, Shell};
 use crate::words::{
-    bind_line, check_line, digests_line, mcheck_line, multi_line, proof_line, root_line, set_line,
-    tree_line,
+    bind_reply, check_reply, digests_reply, mcheck_reply, multi_reply, proof_reply, root_reply,
+    set_reply, tree_reply,
 };
-use ark_merkle::MerkleTree;
+use ark_base::serialize::Numbered;
+use ark_crh::CRHScheme;
+use ark_merkle::{LeafParam, MerkleTree, TwoToOneParam};
 use std::alloc::{AllocError, Global};
 
-/// The reply to one line, without a line feed. Only `tree`, `digests` and `set` change the tree.
+/// The reply to one line, without a line feed, in a session over hashes with these parameters. Only `tree`, `digests` and `set`
+/// change the tree.
 pub fn answer<C: Shell>(
     alloc: Global,
+    leaf_params: &LeafParam<C>,
+    two_params: &TwoToOneParam<C>,
     tree: &mut Option<MerkleTree<C>>,
     line: &[u8],
 ) -> Result<Vec<u8>, AllocError>
-    ensures step { IfOk result (λ reply. Step C.language (state_of tree.old) line.now (state_of tree.new) reply.items) }
+    requires { ⟦<C as Hashing>⟧.has_hashes leaf_params.now two_params.now tree.old }
+    ensures step { IfOk result (λ reply. let l = C.language leaf_params.now two_params.now in
+        Step l (state_of tree.old) line.now (state_of tree.new) reply.items) }
+    ensures hashes { ⟦<C as Hashing>⟧.has_hashes leaf_params.now two_params.now tree.new }
     ensures refused { OnErr result (tree.new ≡ tree.old) }
 {
-    let (word, left) = first_token(line);
-    if word == b"tree".as_slice() {
-        tree_line(alloc, tree, left)
-    } else if word == b"digests".as_slice() {
-        digests_line(alloc, tree, left)
-    } else if word == b"set".as_slice() {
-        set_line(alloc, tree, left)
-    } else if word == b"root".as_slice() {
-        root_line(alloc, tree, left)
-    } else if word == b"proof".as_slice() {
-        proof_line(alloc, tree, left)
-    } else if word == b"check".as_slice() {
-        check_line(alloc, tree, left)
-    } else if word == b"bind".as_slice() {
-        bind_line(alloc, tree, left)
-    } else if word == b"multi".as_slice() {
-        multi_line(alloc, tree, left)
-    } else if word == b"mcheck".as_slice() {
-        mcheck_line(alloc, tree, left)
-    } else {
-        plain(alloc, b"bad line")
+    match line_of::<C>(alloc, line)? {
+        Some(line) => reply_to(alloc, leaf_params, two_params, tree, line),
+        None => plain(alloc, b"bad line"),
+    }
+}
+
+// The reply to what a line asks.
+fn reply_to<C: Shell>(
+    alloc: Global,
+    leaf_params: &LeafParam<C>,
+    two_params: &TwoToOneParam<C>,
+    tree: &mut Option<MerkleTree<C>>,
+    line: Line<C::Leaf, C::LeafDigest>,
+) -> Result<Vec<u8>, AllocError>
+    requires { ⟦<C as Hashing>⟧.has_hashes leaf_params.now two_params.now tree.old }
+    ensures turn { IfOk result (λ reply. let l = C.language leaf_params.now two_params.now in
+        let request = asked (C.LeafHash.meaning leaf_params.now) C.LeafDigest.numbers line in
+        Takes (state_of tree.old) (turn_of l (state_of tree.old) request) (state_of tree.new) reply.items) }
+    ensures hashes { ⟦<C as Hashing>⟧.has_hashes leaf_params.now two_params.now tree.new }
+    ensures refused { OnErr result (tree.new ≡ tree.old) }
+{
+    match line {
+        Line::Tree(leaves) => tree_reply(alloc, leaf_params, two_params, tree, &leaves),
+        Line::Digests(digests) => digests_reply(alloc, leaf_params, two_params, tree, digests),
+        Line::Set { index, leaf } => set_reply(alloc, tree, index, &leaf),
+        Line::Root => root_reply(alloc, tree),
+        Line::Proof(index) => proof_reply(alloc, tree, index),
+        Line::Check { path, leaf } => {
+            check_reply(alloc, leaf_params, two_params, tree, &path, &leaf)
+        }
+        Line::Bind { path, leaf } => bind_reply(alloc, tree, &path, &leaf),
+        Line::Multi(indexes) => multi_reply(alloc, tree, &indexes),
+        Line::MultiCheck { proof, leaves } => {
+            mcheck_reply(alloc, leaf_params, two_params, tree, &proof, &leaves)
+        }
     }
 }

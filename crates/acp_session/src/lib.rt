@@ -2,13 +2,15 @@
 #![tactic(auto)]
 
 pub mod answer;
+mod arguments;
 pub mod command;
-mod multi_paths;
-mod paths;
+pub mod line;
+mod proofs;
 mod replies;
 pub mod run;
 pub mod sha256;
 pub mod shell;
-mod tokens;
+pub mod tokens;
 pub mod toy;
+mod word;
 mod words;

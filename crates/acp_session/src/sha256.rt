@@ -1,7 +1,8 @@
 //! The configuration `sha256`.
 
 ghost use Rattle.std.specs.Prelude.{◌≡◌, refl};
-ghost use Rattle.acp_session.specs.Sha256.{sha_language, read-sha, multi_read-sha};
+ghost use Rattle.acp_session.specs.Laws.Sha256.{path_at-sha, multi_path_at-sha};
+ghost use Rattle.acp_session.specs.Sha256.{sha_language};
 
 use crate::replies::push_hex;
 use crate::shell::Shell;
@@ -28,13 +29,7 @@ impl Config for Sha {
 }
 
 impl Shell for Sha {
-    ghost language = { sha_language };
-
-    ghost parameters = { tt };
-
-    fn leaf_params() {}
-
-    fn two_params() {}
+    ghost language = { λ _ _. sha_language };
 
     fn read_leaf(alloc: Global, token: &[u8]) -> Result<Option<Vec<u8>>, AllocError> {
         Self::read_bytes(alloc, token)
@@ -55,13 +50,13 @@ impl Shell for Sha {
         push_hex(reply, root)
     }
 
-    ghost pair_is = { λ p. refl };
+    ghost pair_is = { λ p q. refl };
 
-    ghost written_is = { refl };
+    ghost path_bytes_are = { λ p q. refl };
 
-    ghost read_is = { read-sha };
+    ghost path_at_is = { λ p q. path_at-sha };
 
-    ghost multi_written_is = { refl };
+    ghost multi_path_bytes_are = { λ p q. refl };
 
-    ghost multi_read_is = { multi_read-sha };
+    ghost multi_path_at_is = { λ p q. multi_path_at-sha };
 }

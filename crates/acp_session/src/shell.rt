@@ -1,53 +1,68 @@
 //! What a configuration of the program is.
 
-ghost use Rattle.std.specs.Prelude.{◌≡◌, ◌++◌, ℕ, List, IfOk, OnOk};
+ghost use Rattle.std.specs.Prelude.{◌≡◌, ◌++◌, Option, IfOk, OnOk};
 ghost use Rattle.std.specs.Option.{option_map};
 ghost use Rattle.hex.specs.Hex.{encode_lower};
-ghost use Rattle.ark_merkle.specs.Paths.{Way};
+ghost use Rattle.ark_merkle.specs.Trees.{Tree};
 ghost use Rattle.acp_session.specs.Language.{Language};
+ghost use Rattle.acp_session.specs.Steps.{HasHashes};
 
 use ark_base::serialize::Numbered;
 use ark_crh::{CRHScheme, TwoToOneCRHScheme};
+use ark_merkle::Config;
 use ark_merkle::config::Meaning;
 use ark_merkle::multi::MultiMeaning;
-use ark_merkle::{Config, LeafParam, TwoToOneParam};
 use std::alloc::{AllocError, Global};
 
-/// A configuration with tokens for its leaves and digests. Its hashes have one meaning, whatever their parameters.
+/// A configuration with tokens for its leaves and digests.
 pub trait Shell: Config {
-    // What contracts see of it.
-    ghost language: { Language };
-
-    // Some parameters of the leaf hash.
-    ghost parameters: { Self.LeafHash.Parameters };
-
-    fn leaf_params() -> LeafParam<Self>;
-
-    fn two_params() -> TwoToOneParam<Self>;
+    // What contracts see of it under some parameters of the leaf hash and of the pair hash.
+    ghost language: { Self.LeafHash.Parameters → Self.TwoToOneHash.Parameters → Language };
 
     /// The leaf that a token says, if it says one.
     fn read_leaf(alloc: Global, token: &[u8]) -> Result<Option<Self::Leaf>, AllocError>
-        ensures { IfOk result (λ leaf. (p : Self.LeafHash.Parameters) → option_map (Self.LeafHash.meaning p) leaf ≡ language.hashed token.now) };
+        ensures { IfOk result (λ leaf. (p : Self.LeafHash.Parameters) (q : Self.TwoToOneHash.Parameters)
+            → option_map (Self.LeafHash.meaning p) leaf ≡ (language p q).leaf token.now) };
 
     /// The digest that a token says, if it says one.
     fn read_digest(alloc: Global, token: &[u8]) -> Result<Option<Self::LeafDigest>, AllocError>
-        ensures { IfOk result (λ digest. option_map Self.LeafDigest.numbers digest ≡ language.digest token.now) };
+        ensures { IfOk result (λ digest. (p : Self.LeafHash.Parameters) (q : Self.TwoToOneHash.Parameters)
+            → option_map Self.LeafDigest.numbers digest ≡ (language p q).digest token.now) };
 
     /// The bytes that a token says, if it says some.
     fn read_bytes(alloc: Global, token: &[u8]) -> Result<Option<Vec<u8>>, AllocError>
-        ensures { IfOk result (λ bytes. option_map (λ bytes. bytes.items) bytes ≡ language.bytes token.now) };
+        ensures { IfOk result (λ bytes. (p : Self.LeafHash.Parameters) (q : Self.TwoToOneHash.Parameters)
+            → option_map (λ bytes. bytes.items) bytes ≡ (language p q).bytes token.now) };
 
     /// Appends the hexadecimal of a root's token bytes.
     fn show_root(root: &Self::InnerDigest, reply: &mut Vec<u8>) -> Result<(), AllocError>
-        ensures { OnOk result (reply.new.items ≡ reply.old.items ++ encode_lower (language.shown (Self.InnerDigest.numbers root.now))) };
+        ensures { OnOk result ((p : Self.LeafHash.Parameters) (q : Self.TwoToOneHash.Parameters)
+            → reply.new.items ≡ reply.old.items
+            ++ encode_lower ((language p q).root_bytes (Self.InnerDigest.numbers root.now))) };
 
-    ghost pair_is: { (p : Self.TwoToOneHash.Parameters) → ⟦<Self as Meaning>⟧.pair p ≡ language.pair };
+    ghost pair_is: { (p : Self.LeafHash.Parameters) (q : Self.TwoToOneHash.Parameters)
+        → ⟦<Self as Meaning>⟧.pair q ≡ (language p q).pair };
 
-    ghost written_is: { ⟦<Self as Meaning>⟧.written ≡ language.written };
+    ghost path_bytes_are: { (p : Self.LeafHash.Parameters) (q : Self.TwoToOneHash.Parameters)
+        → ⟦<Self as Meaning>⟧.written ≡ (language p q).path_bytes };
 
-    ghost read_is: { ⟦<Self as Meaning>⟧.read ≡ language.read };
+    ghost path_at_is: { (p : Self.LeafHash.Parameters) (q : Self.TwoToOneHash.Parameters)
+        → ⟦<Self as Meaning>⟧.read ≡ (language p q).path_at };
 
-    ghost multi_written_is: { ⟦<Self as MultiMeaning>⟧.multi_written ≡ language.multi_written };
+    ghost multi_path_bytes_are: { (p : Self.LeafHash.Parameters) (q : Self.TwoToOneHash.Parameters)
+        → ⟦<Self as MultiMeaning>⟧.multi_written ≡ (language p q).multi_path_bytes };
 
-    ghost multi_read_is: { ⟦<Self as MultiMeaning>⟧.multi_read ≡ language.multi_read };
+    ghost multi_path_at_is: { (p : Self.LeafHash.Parameters) (q : Self.TwoToOneHash.Parameters)
+        → ⟦<Self as MultiMeaning>⟧.multi_read ≡ (language p q).multi_path_at };
+}
+
+/// What contracts see of the hashes of a tree. Each configuration has it.
+pub trait Hashing: Config {
+    // The tree, if there is one, hashes as these parameters do.
+    ghost has_hashes: { Self.LeafHash.Parameters → Self.TwoToOneHash.Parameters
+        → Option (Tree Self.LeafHash.Parameters Self.TwoToOneHash.Parameters) → Type 0 };
+}
+
+impl<P: Config> Hashing for P {
+    ghost has_hashes = { HasHashes P.LeafHash.meaning ⟦<P as Meaning>⟧.pair };
 }

@@ -3,8 +3,9 @@
 ghost use Rattle.std.specs.Prelude.{◌≡◌, ◌<◌, ◌∷◌, [], ℕ, List, length, Option, IfOk, IfSome, IfNone};
 ghost use Rattle.std.specs.Option.{option_map, option_copied};
 ghost use Rattle.acp_session.specs.Lines.{tokens_of, tokens_left};
-ghost use Rattle.acp_session.specs.Tokens.{index_of, some_bytes_of};
+ghost use Rattle.acp_session.specs.Tokens.{index_of, number_of_token, some_bytes_of};
 
+use ark_base::serialize::number_of;
 use hex::FromHexError;
 use memchr::memchr;
 use std::alloc::{AllocError, Global};
@@ -21,7 +22,7 @@ pub fn first_token(line: &[u8]) -> (&[u8], Option<&[u8]>)
 }
 
 /// The number that a token spells in decimal without leading zeros, below 2^64.
-pub fn index_of(token: &[u8]) -> Option<u64>
+pub fn index_of(token: &[u8]) -> Option<usize>
     ensures { result ≡ index_of token.now }
 {
     let first = *token.first()?;
@@ -43,6 +44,19 @@ pub fn some_bytes_of(alloc: Global, token: &[u8]) -> Result<Option<Vec<u8>>, All
         Err(FromHexError::OutOfMemory) => Err(AllocError),
         Err(_) => Ok(None),
     }
+}
+
+/// The number of the one to eight bytes that a token spells in hexadecimal, the least first.
+pub fn number_of_token(alloc: Global, token: &[u8]) -> Result<Option<u64>, AllocError>
+    ensures { IfOk result (λ number. number ≡ number_of_token token.now) }
+{
+    let Some(bytes) = some_bytes_of(alloc, token)? else {
+        return Ok(None);
+    };
+    if bytes.len() > 8 {
+        return Ok(None);
+    }
+    Ok(Some(number_of(&bytes)))
 }
 
 /// The one token that is left, if there is one and no more.

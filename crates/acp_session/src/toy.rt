@@ -5,9 +5,9 @@ ghost use Rattle.acp_session.specs.Toy.{toy_language, toy_leaf, toy_leaf-decided
 
 use crate::replies::push_hex;
 use crate::shell::Shell;
-use crate::tokens::some_bytes_of;
+use crate::tokens::{number_of_token, some_bytes_of};
 use ark_base::error::{Error, Refusal};
-use ark_base::serialize::{CanonicalDeserialize, number_of};
+use ark_base::serialize::CanonicalDeserialize;
 use ark_crh::{CRHScheme, TwoToOneCRHScheme};
 use ark_groups::ff::{Fp, M257, PrimeField};
 use ark_merkle::{Config, IdentityDigestConverter};
@@ -117,22 +117,10 @@ impl TwoToOneCRHScheme for ToyPairHash {
 }
 
 impl Shell for Toy {
-    ghost language = { toy_language };
-
-    ghost parameters = { tt };
-
-    fn leaf_params() {}
-
-    fn two_params() {}
+    ghost language = { λ _ _. toy_language };
 
     fn read_leaf(alloc: Global, token: &[u8]) -> Result<Option<u64>, AllocError> {
-        let Some(bytes) = some_bytes_of(alloc, token)? else {
-            return Ok(None);
-        };
-        if bytes.len() > 8 {
-            return Ok(None);
-        }
-        Ok(Some(number_of(&bytes)))
+        number_of_token(alloc, token)
     }
 
     fn read_digest(alloc: Global, token: &[u8]) -> Result<Option<Fp<M257>>, AllocError> {
@@ -160,13 +148,13 @@ impl Shell for Toy {
         push_hex(reply, &[(value % 256) as u8, (value / 256 % 256) as u8])
     }
 
-    ghost pair_is = { λ p. refl };
+    ghost pair_is = { λ p q. refl };
 
-    ghost written_is = { refl };
+    ghost path_bytes_are = { λ p q. refl };
 
-    ghost read_is = { refl };
+    ghost path_at_is = { λ p q. refl };
 
-    ghost multi_written_is = { refl };
+    ghost multi_path_bytes_are = { λ p q. refl };
 
-    ghost multi_read_is = { refl };
+    ghost multi_path_at_is = { λ p q. refl };
 }

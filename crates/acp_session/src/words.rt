@@ -1,21 +1,11 @@
-//! The replies to the lines of each word.
+//! The replies to what lines ask.
 
-mod bind;
-mod check;
-mod digests;
-mod mcheck;
-mod multi;
-mod proof;
-mod root;
+mod checks;
 mod set;
-mod tree;
+mod shows;
+mod trees;
 
-pub use bind::bind_line;
-pub use check::check_line;
-pub use digests::digests_line;
-pub use mcheck::mcheck_line;
-pub use multi::multi_line;
-pub use proof::proof_line;
-pub use root::root_line;
-pub use set::set_line;
-pub use tree::tree_line;
+pub use checks::{bind_reply, check_reply, mcheck_reply};
+pub use set::set_reply;
+pub use shows::{multi_reply, proof_reply, root_reply};
+pub use trees::{digests_reply, tree_reply};

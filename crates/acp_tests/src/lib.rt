@@ -4,9 +4,15 @@
 #[cfg(test)]
 mod faults;
 #[cfg(test)]
+mod flushes;
+#[cfg(test)]
 mod hashes;
 #[cfg(test)]
+mod keyed;
+#[cfg(test)]
 mod multi;
+#[cfg(test)]
+mod rows;
 #[cfg(test)]
 mod sessions;
 #[cfg(test)]

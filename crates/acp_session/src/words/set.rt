@@ -1,63 +1,56 @@
 //! `set I L`.
 
 ghost use Rattle.std.specs.Prelude.{◌≡◌, Some, IfOk, OnErr};
-ghost use Rattle.std.specs.Option.{option_copied};
-ghost use Rattle.acp_session.specs.Lines.{tokens_left};
-ghost use Rattle.acp_session.specs.Steps.{set_turn, set_in, Takes, state_of};
+ghost use Rattle.acp_session.specs.Steps.{Takes, set_turn, state_of};
 
 use crate::replies::{plain, refused};
-use crate::shell::Shell;
-use crate::tokens::{index_of, two_tokens};
-use ark_crh::CRHScheme;
+use crate::shell::{Hashing, Shell};
+use ark_crh::{CRHScheme, TwoToOneCRHScheme};
 use ark_merkle::MerkleTree;
 use std::alloc::{AllocError, Global};
 
-// The tree with a leaf in the place of another, and the reply. Room for the reply is made before the tree changes.
-fn set_in<C: Shell>(
+// Puts a leaf in the place of another. Room for the reply is made before the tree changes.
+fn set_leaf<C: Shell>(
     alloc: Global,
-    tree: MerkleTree<C>,
+    tree: &mut MerkleTree<C>,
     index: usize,
     leaf: &C::Leaf,
-) -> (MerkleTree<C>, Result<Vec<u8>, AllocError>)
-    ensures turn { IfOk result.1 (λ reply. Takes (Some tree.leaves) (set_in C.language tree.leaves index (C.LeafHash.meaning tree.leaf_parameters leaf.now)) (Some result.0.leaves) reply.items) }
-    ensures refused { OnErr result.1 (result.0 ≡ tree) }
+) -> Result<Vec<u8>, AllocError>
+    ensures turn { IfOk result (λ reply. let before = Some tree.old.leaves in
+        let l = C.language tree.old.leaf_parameters tree.old.pair_parameters in
+        let hashed = C.LeafHash.meaning tree.old.leaf_parameters leaf.now in
+        Takes before (set_turn l before index hashed) (Some tree.new.leaves) reply.items) }
+    ensures leaf_parameters { tree.new.leaf_parameters ≡ tree.old.leaf_parameters }
+    ensures pair_parameters { tree.new.pair_parameters ≡ tree.old.pair_parameters }
+    ensures refused { OnErr result (tree.new ≡ tree.old) }
 {
     if index >= tree.size() {
-        return (tree, plain(alloc, b"refused index"));
+        return plain(alloc, b"refused index");
     }
-    let done = match plain(alloc, b"ok") {
-        Ok(done) => done,
-        Err(lack) => return (tree, Err(lack)),
-    };
-    let mut tree = tree;
+    let done = plain(alloc, b"ok")?;
     match tree.update(alloc, index, leaf) {
-        Ok(()) => (tree, Ok(done)),
-        Err(error) => (tree, refused(alloc, error)),
+        Ok(()) => Ok(done),
+        Err(error) => refused(alloc, error),
     }
 }
 
 /// The reply to `set`.
-pub fn set_line<C: Shell>(
+pub fn set_reply<C: Shell>(
     alloc: Global,
     tree: &mut Option<MerkleTree<C>>,
-    left: Option<&[u8]>,
+    index: usize,
+    leaf: &C::Leaf,
 ) -> Result<Vec<u8>, AllocError>
-    ensures turn { IfOk result (λ reply. Takes (state_of tree.old) (set_turn C.language (state_of tree.old) (tokens_left (option_copied left.entry))) (state_of tree.new) reply.items) }
+    ensures turn { IfOk result (λ reply. (p : C.LeafHash.Parameters) (q : C.TwoToOneHash.Parameters)
+        → ⟦<C as Hashing>⟧.has_hashes p q tree.old → let before = state_of tree.old in
+        let exact = set_turn (C.language p q) before index (C.LeafHash.meaning p leaf.now) in
+        Takes before exact (state_of tree.new) reply.items) }
+    ensures hashes { (p : C.LeafHash.Parameters) (q : C.TwoToOneHash.Parameters)
+        → ⟦<C as Hashing>⟧.has_hashes p q tree.old → ⟦<C as Hashing>⟧.has_hashes p q tree.new }
     ensures refused { OnErr result (tree.new ≡ tree.old) }
 {
-    let Some((index, leaf)) = two_tokens(left) else {
-        return plain(alloc, b"bad line");
-    };
-    let Some(index) = index_of(index) else {
-        return plain(alloc, b"bad line");
-    };
-    let Some(leaf) = C::read_leaf(alloc, leaf)? else {
-        return plain(alloc, b"bad line");
-    };
-    let Some(old) = tree.take() else {
-        return plain(alloc, b"refused tree");
-    };
-    let (new, reply) = set_in(alloc, old, index as usize, &leaf);
-    *tree = Some(new);
-    reply
+    match tree {
+        Some(tree) => set_leaf(alloc, tree, index, leaf),
+        None => plain(alloc, b"refused tree"),
+    }
 }
