@@ -5,11 +5,11 @@ use Rattle.ark_base.specs.declared.error.Error.{Error}
 use Rattle.ark_base.specs.declared.error.Error.TheVariants.{OutOfMemory}
 use Rattle.ark_base.specs.Outcome.{Outcome, Answers}
 use Rattle.ark_base.specs.Reading.{Reading, told}
-use Rattle.ark_merkle.specs.Bindings.{bound}
-use Rattle.ark_merkle.specs.MultiPaths.{MultiWay, multi_verified}
-use Rattle.ark_merkle.specs.Pairs.{Digest, HashPair}
-use Rattle.ark_merkle.specs.Paths.{Way}
-use Rattle.ark_merkle.specs.Roots.{root}
+use Rattle.ark_merkle.specs.Bind.{path_binding}
+use Rattle.ark_merkle.specs.MultiPath.{MultiWay, multi_verdict}
+use Rattle.ark_merkle.specs.Pair.{Digest, HashPair}
+use Rattle.ark_merkle.specs.Path.{Way}
+use Rattle.ark_merkle.specs.Root.{root}
 use Rattle.acp_session.specs.Language.{Language}
 use Rattle.acp_session.specs.Replies.{Reply, Refused, Verdict, Bound, MayLackMemory, Tells, text}
 use Rattle.acp_session.specs.Steps.{State, whole, whole_of, finding, finding_reply, path_holds, multi_path_holds, check_reply, bind_reply, mcheck_reply}
@@ -36,10 +36,10 @@ module _ {X : Type 0} (view : X → MultiWay) (o : Option X) (x : X) (reading : 
   rooted-k : root k digests ≡ Ok r
   rooted-k = rw (← same) rooted
 
-  pub multi_finding-refused : (e : Error) → multi_verified k leaves (view x) r ≡ Err e → finding (multi_path_holds k digests leaves) reading ≡ Err e
+  pub multi_finding-refused : (e : Error) → multi_verdict k leaves (view x) r ≡ Err e → finding (multi_path_holds k digests leaves) reading ≡ Err e
   multi_finding-refused e refused = rw (whole, is, rooted-k, refused) refl
 
-  pub multi_finding-said : (v : Bool) → multi_verified k leaves (view x) r ≡ Ok v → finding (multi_path_holds k digests leaves) reading ≡ Ok (Some v)
+  pub multi_finding-said : (v : Bool) → multi_verdict k leaves (view x) r ≡ Ok v → finding (multi_path_holds k digests leaves) reading ≡ Ok (Some v)
   multi_finding-said v said = rw (whole, is, rooted-k, said) refl
 
 module _ {V : Type 0} (reply : V → Reply) (may : (v : V) → MayLackMemory (reply v)) where
@@ -57,11 +57,11 @@ module _ {V : Type 0} (reply : V → Reply) (may : (v : V) → MayLackMemory (re
 -- ---- the replies where there is a tree
 
 module _ (l : Language) (before : State) (digests : List Digest) (was : before ≡ Some digests) (h : HashPair) (same : h ≡ l.pair) (bytes : List ℕ) where
-  pub check_reply-in : (leaf : Outcome Digest) (at : List ℕ → Reading Way) → at ≡ l.path_at → check_reply l before bytes leaf ≡ finding_reply Verdict (finding (path_holds h digests leaf) (at bytes))
+  pub check_reply-in : (leaf : Outcome Digest) (at : List ℕ → Reading Way) → at ≡ l.path_reading → check_reply l before bytes leaf ≡ finding_reply Verdict (finding (path_holds h digests leaf) (at bytes))
   check_reply-in leaf at read = rw (was, same, read) refl
 
-  pub bind_reply-in : (leaf hashed : Outcome Digest) (at : List ℕ → Reading Way) → hashed ≡ leaf → at ≡ l.path_at → bind_reply l before bytes leaf ≡ finding_reply Bound (finding (bound h digests hashed) (at bytes))
+  pub bind_reply-in : (leaf hashed : Outcome Digest) (at : List ℕ → Reading Way) → hashed ≡ leaf → at ≡ l.path_reading → bind_reply l before bytes leaf ≡ finding_reply Bound (finding (path_binding h digests hashed) (at bytes))
   bind_reply-in leaf hashed at hash read = rw (was, same, hash, read) refl
 
-  pub mcheck_reply-in : (leaves : List (Outcome Digest)) (at : List ℕ → Reading MultiWay) → at ≡ l.multi_path_at → mcheck_reply l before bytes leaves ≡ finding_reply Verdict (finding (multi_path_holds h digests leaves) (at bytes))
+  pub mcheck_reply-in : (leaves : List (Outcome Digest)) (at : List ℕ → Reading MultiWay) → at ≡ l.multi_path_reading → mcheck_reply l before bytes leaves ≡ finding_reply Verdict (finding (multi_path_holds h digests leaves) (at bytes))
   mcheck_reply-in leaves at read = rw (was, same, read) refl

@@ -2,7 +2,7 @@
 use Rattle.std.proofs.Common.{◌≡◌, Bor, true, ℕ, ◌+◌, List, [], ◌∷◌, ◌++◌, length, Option, Some, None, refl, sym, ap, ◌∙◌, append_assoc, append-nil}
 use Rattle.std.specs.Option.{option_map, option_copied, is_some}
 use Rattle.acp_session.specs.Arguments.{onto_all, values, some_values}
-use Rattle.acp_session.specs.declared.word.Word.TheVariants.{Root}
+use Rattle.acp_session.specs.declared.keyword.Keyword.TheVariants.{Root}
 use Rattle.acp_session.specs.Language.{Language}
 use Rattle.acp_session.specs.Lines.{tokens_of, tokens_left}
 use Rattle.acp_session.specs.Requests.{request_by}

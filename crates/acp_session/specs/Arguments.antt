@@ -2,10 +2,10 @@
 use Rattle.std.specs.Prelude.{ℕ, List, [], ◌∷◌, Option, Some, None}
 
 -- two values, where both are there
-abbrev pub couple : {A B : Type 0} → Option A → Option B → Option (A × B)
-couple (Some x) (Some y) = Some (x, y)
-couple (Some x) None = None
-couple None y = None
+abbrev pub both_values : {A B : Type 0} → Option A → Option B → Option (A × B)
+both_values (Some x) (Some y) = Some (x, y)
+both_values (Some x) None = None
+both_values None y = None
 
 -- a value before others, where all are there
 abbrev pub onto_all : {A : Type 0} → Option A → Option (List A) → Option (List A)
@@ -33,10 +33,11 @@ only_value value (token ∷ more ∷ tokens) = None
 abbrev pub two_values : {A B : Type 0} → (List ℕ → Option A) → (List ℕ → Option B) → List (List ℕ) → Option (A × B)
 two_values value other [] = None
 two_values value other (first ∷ []) = None
-two_values value other (first ∷ second ∷ []) = couple (value first) (other second)
+two_values value other (first ∷ second ∷ []) = both_values (value first) (other second)
 two_values value other (first ∷ second ∷ more ∷ tokens) = None
 
 -- the value of a first token, and those of the others
-abbrev pub value_and_others : {A B : Type 0} → (List ℕ → Option A) → (List ℕ → Option B) → List (List ℕ) → Option (A × List B)
+abbrev pub value_and_others : {A B : Type 0} → (List ℕ → Option A) → (List ℕ → Option B) → List (List ℕ)
+    → Option (A × List B)
 value_and_others value other [] = None
-value_and_others value other (first ∷ tokens) = couple (value first) (values other tokens)
+value_and_others value other (first ∷ tokens) = both_values (value first) (values other tokens)

@@ -9,7 +9,10 @@ use Rattle.acp_session.specs.Toy.{toy_language}
 
 -- the configuration that a word names
 abbrev pub named : List ℕ → Option Configuration
-named word = if bytes_eq word (codes "sha256") then Some Sha256 else if bytes_eq word (codes "toy") then Some Toy else None
+named word =
+    if bytes_eq word (codes "sha256") then Some Sha256
+    else if bytes_eq word (codes "toy") then Some Toy
+    else None
 
 -- the configuration that the words name: one word alone does
 abbrev pub configuration_of : List (List ℕ) → Option Configuration

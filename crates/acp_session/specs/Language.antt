@@ -2,9 +2,9 @@
 use Rattle.std.specs.Prelude.{ℕ, List, Option}
 use Rattle.ark_base.specs.Outcome.{Outcome}
 use Rattle.ark_base.specs.Reading.{Reading}
-use Rattle.ark_merkle.specs.MultiPaths.{MultiWay}
-use Rattle.ark_merkle.specs.Pairs.{Digest, HashPair}
-use Rattle.ark_merkle.specs.Paths.{Way}
+use Rattle.ark_merkle.specs.MultiPath.{MultiWay}
+use Rattle.ark_merkle.specs.Pair.{Digest, HashPair}
+use Rattle.ark_merkle.specs.Path.{Way}
 
 pub record Language : Type 0 where
   -- what the leaf hash answers for the leaf that a token says, if it says one
@@ -19,7 +19,7 @@ pub record Language : Type 0 where
   pub pair : HashPair
   -- the canonical bytes of a path, and how they are read
   pub path_bytes : Way → List ℕ
-  pub path_at : List ℕ → Reading Way
+  pub path_reading : List ℕ → Reading Way
   -- the canonical bytes of a multi-proof, and how they are read
   pub multi_path_bytes : MultiWay → List ℕ
-  pub multi_path_at : List ℕ → Reading MultiWay
+  pub multi_path_reading : List ℕ → Reading MultiWay

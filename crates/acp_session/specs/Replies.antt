@@ -5,9 +5,9 @@ use Rattle.hex.specs.Hex.{encode_lower}
 use Rattle.ark_base.specs.declared.error.Error.{Error}
 use Rattle.ark_base.specs.declared.error.Error.TheVariants.{IncorrectInputLength, NotPrimeOrder, GenericError, SerializationError as OfBytes, OutOfMemory}
 use Rattle.ark_base.specs.Texts.{fault_text, refusal_text}
-use Rattle.ark_merkle.specs.declared.tree.binding.Binding.{Binding}
-use Rattle.ark_merkle.specs.declared.tree.binding.Binding.TheVariants.{Rejected, Stands, Differs}
-use Rattle.ark_merkle.specs.Indexes.{log2}
+use Rattle.ark_merkle.specs.declared.tree.bind.Binding.{Binding}
+use Rattle.ark_merkle.specs.declared.tree.bind.Binding.TheVariants.{Rejected, Stands, Differs}
+use Rattle.ark_merkle.specs.Index.{log2}
 
 pub data Reply : Type 0 where
   BadLine : Reply
@@ -57,7 +57,8 @@ text Changed = codes "ok"
 text (Bound binding) = binding_text binding
 text (MultiProof bytes) = codes "multi " ++ encode_lower bytes
 
--- Want of memory may stand in place of this reply. It never does where the reply is decided before anything is asked for.
+-- Want of memory may stand in place of this reply. It never does where the reply is decided before anything is asked
+-- for.
 abbrev pub MayLackMemory : Reply → Type 0
 MayLackMemory BadLine = ⊥
 MayLackMemory NoTree = ⊥

@@ -3,11 +3,11 @@ use Rattle.std.specs.Prelude.{ℕ, List, [], ◌∷◌, map, if◌then◌else◌
 use Rattle.std.specs.Option.{option_map}
 use Rattle.std.specs.Str.{bytes_eq}
 use Rattle.ark_base.specs.Outcome.{Outcome}
-use Rattle.ark_merkle.specs.Pairs.{Digest}
+use Rattle.ark_merkle.specs.Pair.{Digest}
 use Rattle.acp_session.specs.declared.line.Line.{Line}
 use Rattle.acp_session.specs.declared.line.Line.TheVariants.{Tree, Digests, Set, Root, Proof, Check, Bind, Multi, MultiCheck}
-use Rattle.acp_session.specs.declared.word.Word.{Word}
-use Rattle.acp_session.specs.declared.word.Word.TheVariants.{Tree as TreeWord, Digests as DigestsWord, Set as SetWord, Root as RootWord, Proof as ProofWord, Check as CheckWord, Bind as BindWord, Multi as MultiWord, MultiCheck as MultiCheckWord}
+use Rattle.acp_session.specs.declared.keyword.Keyword.{Keyword}
+use Rattle.acp_session.specs.declared.keyword.Keyword.TheVariants.{Tree as TreeWord, Digests as DigestsWord, Set as SetWord, Root as RootWord, Proof as ProofWord, Check as CheckWord, Bind as BindWord, Multi as MultiWord, MultiCheck as MultiCheckWord}
 use Rattle.acp_session.specs.Arguments.{values, some_values, only_value, two_values, value_and_others}
 use Rattle.acp_session.specs.Language.{Language}
 use Rattle.acp_session.specs.Tokens.{index_of}
@@ -25,8 +25,8 @@ pub data Request : Type 0 where
   CheckMultiProof : (proof : List ℕ) (leaves : List (Outcome Digest)) → Request
 
 -- the word that a token spells
-abbrev pub word_of : List ℕ → Option Word
-word_of token =
+abbrev pub keyword_of : List ℕ → Option Keyword
+keyword_of token =
     if bytes_eq token (codes "tree") then Some TreeWord
     else if bytes_eq token (codes "digests") then Some DigestsWord
     else if bytes_eq token (codes "set") then Some SetWord
@@ -39,7 +39,7 @@ word_of token =
     else None
 
 -- what a word asks of the tokens behind it; nothing of others than it takes
-abbrev pub request_by : Language → Option Word → List (List ℕ) → Option Request
+abbrev pub request_by : Language → Option Keyword → List (List ℕ) → Option Request
 request_by l None tokens = None
 request_by l (Some TreeWord) tokens = option_map NewTree (some_values l.leaf tokens)
 request_by l (Some DigestsWord) tokens = option_map NewTreeOfDigests (some_values l.digest tokens)
@@ -50,12 +50,13 @@ request_by l (Some ProofWord) tokens = option_map ShowProof (only_value index_of
 request_by l (Some CheckWord) tokens = option_map (λ two. CheckPath two.0 two.1) (two_values l.bytes l.leaf tokens)
 request_by l (Some BindWord) tokens = option_map (λ two. BindPath two.0 two.1) (two_values l.bytes l.leaf tokens)
 request_by l (Some MultiWord) tokens = option_map ShowMultiProof (values index_of tokens)
-request_by l (Some MultiCheckWord) tokens = option_map (λ two. CheckMultiProof two.0 two.1) (value_and_others l.bytes l.leaf tokens)
+request_by l (Some MultiCheckWord) tokens =
+    option_map (λ two. CheckMultiProof two.0 two.1) (value_and_others l.bytes l.leaf tokens)
 
 -- what a line asks, if it is no bad one
 abbrev pub request_of : Language → List (List ℕ) → Option Request
 request_of l [] = None
-request_of l (word ∷ tokens) = request_by l (word_of word) tokens
+request_of l (word ∷ tokens) = request_by l (keyword_of word) tokens
 
 -- what a line that was read asks, its leaves seen by what the leaf hash answers for them, its digests by their numbers
 abbrev pub asked : {L D : Type 0} → (L → Outcome Digest) → (D → Digest) → Line L D → Request

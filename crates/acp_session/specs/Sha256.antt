@@ -1,9 +1,10 @@
--- The configuration `sha256`: leaf and digest tokens are their bytes, and both hashes of pairs are that of left, then right.
+-- The configuration `sha256`: leaf and digest tokens are their bytes, and both hashes of pairs are that of left, then
+-- right.
 use Rattle.std.specs.Prelude.{◌++◌, Ok}
 use Rattle.std.specs.Option.{option_map}
 use Rattle.sha2.specs.Sha256.{sha256}
 use Rattle.ark_base.specs.Spelling.{byte, byte_at, counted, counted_at}
-use Rattle.ark_merkle.specs.MultiBytes.{multi_bytes, multi_way_at}
+use Rattle.ark_merkle.specs.MultiPathBytes.{multi_bytes, multi_way_at}
 use Rattle.ark_merkle.specs.PathBytes.{way_bytes, way_at}
 use Rattle.acp_session.specs.Language.{Language}
 use Rattle.acp_session.specs.Tokens.{bytes_of}
@@ -14,9 +15,12 @@ sha_language = record {
   digest = bytes_of;
   bytes = bytes_of;
   root_bytes = λ digest. digest;
-  pair = record { bottom = λ left right. Ok (sha256 (left ++ right)); upper = λ left right. Ok (sha256 (left ++ right)) };
+  pair = record {
+    bottom = λ left right. Ok (sha256 (left ++ right));
+    upper = λ left right. Ok (sha256 (left ++ right));
+  };
   path_bytes = way_bytes (counted byte) (counted byte);
-  path_at = way_at (λ bytes. bytes) (λ bytes. bytes) (counted_at byte_at) (counted_at byte_at);
+  path_reading = way_at (λ bytes. bytes) (λ bytes. bytes) (counted_at byte_at) (counted_at byte_at);
   multi_path_bytes = multi_bytes (counted byte) (counted byte);
-  multi_path_at = multi_way_at (λ bytes. bytes) (λ bytes. bytes) (counted_at byte_at) (counted_at byte_at);
+  multi_path_reading = multi_way_at (λ bytes. bytes) (λ bytes. bytes) (counted_at byte_at) (counted_at byte_at);
 }

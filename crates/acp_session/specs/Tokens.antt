@@ -8,7 +8,10 @@ use Rattle.ark_base.specs.Digits.{number_of_bytes}
 
 -- digits, of which the first is no zero where more follow, and a number below 2 ^ 64
 abbrev pub is_index : List ℕ → Bool
-is_index token = nat_lt 0 (length token) && (all_ascii_digits token && (not (nat_lt 1 (length token) && (get_or token 0 0 == 48)) && nat_lt (digits_value 10 token) (2 ^ 64)))
+is_index token =
+    nat_lt 0 (length token)
+    && (all_ascii_digits token
+    && (not (nat_lt 1 (length token) && (get_or token 0 0 == 48)) && nat_lt (digits_value 10 token) (2 ^ 64)))
 
 -- the number that a token spells in decimal
 abbrev pub index_of : List ℕ → Option ℕ

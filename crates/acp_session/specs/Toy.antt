@@ -6,8 +6,8 @@ use Rattle.ark_base.specs.declared.error.Refusal.TheVariants.{Custom}
 use Rattle.ark_base.specs.Digits.{number_of_bytes, bytes_of_number, below_at}
 use Rattle.ark_base.specs.Outcome.{Outcome, IsDecided}
 use Rattle.ark_base.specs.Reading.{Reading}
-use Rattle.ark_merkle.specs.MultiBytes.{multi_bytes, multi_way_at}
-use Rattle.ark_merkle.specs.Pairs.{Digest}
+use Rattle.ark_merkle.specs.MultiPathBytes.{multi_bytes, multi_way_at}
+use Rattle.ark_merkle.specs.Pair.{Digest}
 use Rattle.ark_merkle.specs.PathBytes.{way_bytes, way_at}
 use Rattle.acp_session.specs.Language.{Language}
 use Rattle.acp_session.specs.Tokens.{number_of_token, some_bytes_of}
@@ -50,9 +50,9 @@ toy_language = record {
   root_bytes = toy_bytes;
   pair = record { bottom = toy_pair; upper = toy_pair };
   path_bytes = way_bytes toy_bytes toy_bytes;
-  path_at = way_at read_digest read_digest (below_at 257 2) (below_at 257 2);
+  path_reading = way_at read_digest read_digest (below_at 257 2) (below_at 257 2);
   multi_path_bytes = multi_bytes toy_bytes toy_bytes;
-  multi_path_at = multi_way_at read_digest read_digest (below_at 257 2) (below_at 257 2);
+  multi_path_reading = multi_way_at read_digest read_digest (below_at 257 2) (below_at 257 2);
 }
 
 pub toy_leaf-decided : (leaf : ℕ) → IsDecided (toy_leaf leaf)

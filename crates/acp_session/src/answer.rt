@@ -48,7 +48,8 @@ fn reply_to<C: Shell>(
     requires { ⟦<C as Hashing>⟧.has_hashes leaf_params.now two_params.now tree.old }
     ensures turn { IfOk result (λ reply. let l = C.language leaf_params.now two_params.now in
         let request = asked (C.LeafHash.meaning leaf_params.now) C.LeafDigest.numbers line in
-        Takes (state_of tree.old) (turn_of l (state_of tree.old) request) (state_of tree.new) reply.items) }
+        let exact = turn_of l (state_of tree.old) request in
+        Takes (state_of tree.old) exact (state_of tree.new) reply.items) }
     ensures hashes { ⟦<C as Hashing>⟧.has_hashes leaf_params.now two_params.now tree.new }
     ensures refused { OnErr result (tree.new ≡ tree.old) }
 {

@@ -25,7 +25,8 @@ pub trait Argument {
 
     /// The value that a token says, if it says one.
     fn read(alloc: Global, token: &[u8]) -> Result<Option<Self::Value>, AllocError>
-        ensures { IfOk result (λ x. (p : Parameters) → option_map (seen p) x ≡ value_of p token.now) };
+        ensures { IfOk result (λ x. (p : Parameters)
+            → option_map (seen p) x ≡ value_of p token.now) };
 }
 
 /// The values of all tokens, where each says one.

@@ -51,18 +51,22 @@ pub fn command<R: Read, W: Write, E: Write>(
     ensures usage { configuration_of (map string_bytes words.now) ≡ None
         → AppendsFront (E.contents faults.old) (E.contents faults.new) usage }
 
-    ensures status { configuration_of (map string_bytes words.now) ≢ None → result ≢ 0 → result ≡ 1 }
+    ensures status { configuration_of (map string_bytes words.now) ≢ None
+        → result ≢ 0 → result ≡ 1 }
     ensures served { IfSome (configuration_of (map string_bytes words.now)) (λ configuration.
-        let input = reader_remaining R.remaining lines.old in result ≡ 0
-        → Serves (Step (language_of configuration)) input (W.contents replies.old) (W.contents replies.new)) }
+        let input = reader_remaining R.remaining lines.old in
+        let step = Step (language_of configuration) in
+        result ≡ 0 → Serves step input (W.contents replies.old) (W.contents replies.new)) }
     ensures quiet { result ≡ 0 → faults.new ≡ faults.old }
 
     ensures stopped { IfSome (configuration_of (map string_bytes words.now)) (λ configuration.
-        let input = reader_remaining R.remaining lines.old in result ≡ 1
-        → Stops (Step (language_of configuration)) input (W.contents replies.old) (W.contents replies.new)) }
+        let input = reader_remaining R.remaining lines.old in
+        let step = Step (language_of configuration) in
+        result ≡ 1 → Stops step input (W.contents replies.old) (W.contents replies.new)) }
     ensures notice { result ≡ 1
         → AppendsFront (E.contents faults.old) (E.contents faults.new) stop_notice }
-    ensures read { let left = reader_remaining R.remaining in LosesFront (left lines.old) (left lines.new) }
+    ensures read { let left = reader_remaining R.remaining in
+        LosesFront (left lines.old) (left lines.new) }
 {
     match configuration_of(words) {
         Some(Configuration::Sha256) => {

@@ -4,6 +4,7 @@
 pub mod answer;
 mod arguments;
 pub mod command;
+mod keyword;
 pub mod line;
 mod proofs;
 mod replies;
@@ -12,5 +13,4 @@ pub mod sha256;
 pub mod shell;
 pub mod tokens;
 pub mod toy;
-mod word;
 mod words;

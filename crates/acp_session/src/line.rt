@@ -6,9 +6,9 @@ ghost use Rattle.acp_session.specs.Lines.{tokens_of, tokens_left};
 ghost use Rattle.acp_session.specs.Requests.{asked, request_by, request_of};
 
 use crate::arguments::{Argument, only_value, some_values, two_values, value_and_others, values};
+use crate::keyword::{Keyword, keyword_of};
 use crate::shell::Shell;
 use crate::tokens::{first_token, index_of};
-use crate::word::{Word, word_of};
 use ark_base::serialize::Numbered;
 use ark_crh::CRHScheme;
 use std::alloc::{AllocError, Global};
@@ -82,7 +82,7 @@ impl<C: Shell> Argument for Bytes<C> {
 
 impl<C: Shell> Argument for Leaf<C> {
     ghost use Rattle.ark_base.specs.Outcome.{Outcome};
-    ghost use Rattle.ark_merkle.specs.Pairs.{Digest};
+    ghost use Rattle.ark_merkle.specs.Pair.{Digest};
 
     type Value = C::Leaf;
 
@@ -100,7 +100,7 @@ impl<C: Shell> Argument for Leaf<C> {
 }
 
 impl<C: Shell> Argument for LeafDigest<C> {
-    ghost use Rattle.ark_merkle.specs.Pairs.{Digest};
+    ghost use Rattle.ark_merkle.specs.Pair.{Digest};
 
     type Value = C::LeafDigest;
 
@@ -127,7 +127,7 @@ pub fn line_of<C: Shell>(
         ≡ request_of (C.language p q) (tokens_of line.now)) }
 {
     let (word, left) = first_token(line);
-    match word_of(word) {
+    match keyword_of(word) {
         Some(word) => behind_word::<C>(alloc, word, left),
         None => Ok(None),
     }
@@ -136,7 +136,7 @@ pub fn line_of<C: Shell>(
 // The line of a word and of the tokens behind it, where they say what it takes.
 fn behind_word<C: Shell>(
     alloc: Global,
-    word: Word,
+    word: Keyword,
     left: Option<&[u8]>,
 ) -> Result<Option<Line<C::Leaf, C::LeafDigest>>, AllocError>
     ensures { IfOk result (λ line'. (p : C.LeafHash.Parameters) (q : C.TwoToOneHash.Parameters)
@@ -144,39 +144,39 @@ fn behind_word<C: Shell>(
         ≡ request_by (C.language p q) (Some word) (tokens_left (option_copied left.entry))) }
 {
     match word {
-        Word::Tree => match some_values::<Leaf<C>>(alloc, left)? {
+        Keyword::Tree => match some_values::<Leaf<C>>(alloc, left)? {
             Some(leaves) => Ok(Some(Line::Tree(leaves))),
             None => Ok(None),
         },
-        Word::Digests => match some_values::<LeafDigest<C>>(alloc, left)? {
+        Keyword::Digests => match some_values::<LeafDigest<C>>(alloc, left)? {
             Some(digests) => Ok(Some(Line::Digests(digests))),
             None => Ok(None),
         },
-        Word::Set => match two_values::<Index, Leaf<C>>(alloc, left)? {
+        Keyword::Set => match two_values::<Index, Leaf<C>>(alloc, left)? {
             Some((index, leaf)) => Ok(Some(Line::Set { index, leaf })),
             None => Ok(None),
         },
-        Word::Root => match left {
+        Keyword::Root => match left {
             Some(_) => Ok(None),
             None => Ok(Some(Line::Root)),
         },
-        Word::Proof => match only_value::<Index>(alloc, left)? {
+        Keyword::Proof => match only_value::<Index>(alloc, left)? {
             Some(index) => Ok(Some(Line::Proof(index))),
             None => Ok(None),
         },
-        Word::Check => match two_values::<Bytes<C>, Leaf<C>>(alloc, left)? {
+        Keyword::Check => match two_values::<Bytes<C>, Leaf<C>>(alloc, left)? {
             Some((path, leaf)) => Ok(Some(Line::Check { path, leaf })),
             None => Ok(None),
         },
-        Word::Bind => match two_values::<Bytes<C>, Leaf<C>>(alloc, left)? {
+        Keyword::Bind => match two_values::<Bytes<C>, Leaf<C>>(alloc, left)? {
             Some((path, leaf)) => Ok(Some(Line::Bind { path, leaf })),
             None => Ok(None),
         },
-        Word::Multi => match values::<Index>(alloc, left)? {
+        Keyword::Multi => match values::<Index>(alloc, left)? {
             Some(indexes) => Ok(Some(Line::Multi(indexes))),
             None => Ok(None),
         },
-        Word::MultiCheck => match value_and_others::<Bytes<C>, Leaf<C>>(alloc, left)? {
+        Keyword::MultiCheck => match value_and_others::<Bytes<C>, Leaf<C>>(alloc, left)? {
             Some((proof, leaves)) => Ok(Some(Line::MultiCheck { proof, leaves })),
             None => Ok(None),
         },

@@ -9,9 +9,7 @@ ghost use Rattle.acp_session.specs.Steps.{whole_of};
 
 use ark_base::error::Error;
 use ark_base::serialize::{Canonical, CanonicalDeserialize, CanonicalSerialize, Duplicate};
-use ark_merkle::config::Meaning;
-use ark_merkle::multi::MultiMeaning;
-use ark_merkle::{Config, MultiPath, Path};
+use ark_merkle::{Config, MultiPath, Path, Views};
 use std::alloc::Global;
 
 /// A path or a multi-proof, as contracts see it: by the numbers of its digests.
@@ -27,24 +25,24 @@ pub trait Proof: CanonicalSerialize + CanonicalDeserialize + Drop {
 
     ghost bytes_are: { (x : Self) → Self.spelling (Self.view x) ≡ bytes_of (numbers x) };
 
-    ghost numbers_are: { (bytes rest : List ℕ) (x : Self) → Self.reads bytes ≡ Ok (Self.view x, rest)
-        → numbers_at bytes ≡ Ok (numbers x, rest) };
+    ghost numbers_are: { (bytes rest : List ℕ) (x : Self)
+        → Self.reads bytes ≡ Ok (Self.view x, rest) → numbers_at bytes ≡ Ok (numbers x, rest) };
 
     ghost fault_is: { (bytes : List ℕ) (fault : SerializationError) → Self.reads bytes ≡ Err fault
         → numbers_at bytes ≡ Err fault };
 }
 
 impl<P: Config> Proof for Path<P> {
-    ghost use Rattle.ark_merkle.specs.Paths.{Way};
+    ghost use Rattle.ark_merkle.specs.Path.{Way};
     ghost use Rattle.acp_session.specs.Laws.Proofs.{path_spelling-way, way_at-ok, way_at-err};
 
     ghost Numbers = { Way };
 
-    ghost numbers = { ⟦<Path<P> as Duplicate>⟧.seen };
+    ghost numbers = { ⟦<P as Views>⟧.way };
 
-    ghost bytes_of = { ⟦<P as Meaning>⟧.written };
+    ghost bytes_of = { ⟦<P as Views>⟧.path_bytes };
 
-    ghost numbers_at = { ⟦<P as Meaning>⟧.read };
+    ghost numbers_at = { ⟦<P as Views>⟧.path_reading };
 
     ghost bytes_are = { λ x. path_spelling-way
         P.LeafDigest.view P.InnerDigest.view P.LeafDigest.numbers P.InnerDigest.numbers
@@ -64,16 +62,16 @@ impl<P: Config> Proof for Path<P> {
 }
 
 impl<P: Config> Proof for MultiPath<P> {
-    ghost use Rattle.ark_merkle.specs.MultiPaths.{MultiWay};
+    ghost use Rattle.ark_merkle.specs.MultiPath.{MultiWay};
     ghost use Rattle.acp_session.specs.Laws.Proofs.{multi_spelling-way, multi_way_at-ok, multi_way_at-err};
 
     ghost Numbers = { MultiWay };
 
-    ghost numbers = { ⟦<MultiPath<P> as Duplicate>⟧.seen };
+    ghost numbers = { ⟦<P as Views>⟧.multi_way };
 
-    ghost bytes_of = { ⟦<P as MultiMeaning>⟧.multi_written };
+    ghost bytes_of = { ⟦<P as Views>⟧.multi_path_bytes };
 
-    ghost numbers_at = { ⟦<P as MultiMeaning>⟧.multi_read };
+    ghost numbers_at = { ⟦<P as Views>⟧.multi_path_reading };
 
     ghost bytes_are = { λ x. multi_spelling-way
         P.LeafDigest.view P.InnerDigest.view P.LeafDigest.numbers P.InnerDigest.numbers

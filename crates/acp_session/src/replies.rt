@@ -33,7 +33,8 @@ pub fn refused(alloc: Global, error: Error) -> Result<Vec<u8>, AllocError>
 
 /// The size of a new tree, and its height.
 pub fn built(alloc: Global, size: usize, height: usize) -> Result<Vec<u8>, AllocError>
-    ensures { IfOk result (λ reply. reply.items ≡ codes "tree " ++ (decimal size ++ (codes " height " ++ decimal height))) }
+    ensures { IfOk result (λ reply.
+        reply.items ≡ codes "tree " ++ (decimal size ++ (codes " height " ++ decimal height))) }
 {
     Ok(format!(in alloc; "tree {size} height {height}")?.into_bytes())
 }

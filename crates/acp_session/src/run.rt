@@ -23,7 +23,8 @@ fn read_line<R: Read>(lines: &mut BufReader<R>, line: &mut Vec<u8>) -> io::Resul
     ensures some { IfOk result (λ is_there. is_there ≡ true → 0 < length line.new.items) }
     ensures end { let left = reader_remaining R.remaining in
         IfOk result (λ is_there. is_there ≡ false → IsAtEnd (left lines.old)) }
-    ensures read { let left = reader_remaining R.remaining in LosesFront (left lines.old) (left lines.new) }
+    ensures read { let left = reader_remaining R.remaining in
+        LosesFront (left lines.old) (left lines.new) }
 {
     line.clear();
     Ok(lines.read_until(b'\n', line)? > 0)
@@ -87,7 +88,8 @@ pub fn run<C: Shell, R: Read, W: Write>(
     ensures stopped { OnErr result (let step = Step (C.language leaf_params.now two_params.now) in
         let input = reader_remaining R.remaining lines.old in
         Stops step input (W.contents replies.old) (W.contents replies.new)) }
-    ensures read { let left = reader_remaining R.remaining in LosesFront (left lines.old) (left lines.new) }
+    ensures read { let left = reader_remaining R.remaining in
+        LosesFront (left lines.old) (left lines.new) }
 {
     let mut tree: Option<MerkleTree<C>> = None;
     let mut line = Vec::new(alloc);

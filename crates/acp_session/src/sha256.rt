@@ -1,7 +1,7 @@
 //! The configuration `sha256`.
 
 ghost use Rattle.std.specs.Prelude.{◌≡◌, refl};
-ghost use Rattle.acp_session.specs.Laws.Sha256.{path_at-sha, multi_path_at-sha};
+ghost use Rattle.acp_session.specs.Laws.Sha256.{path_reading-sha, multi_path_reading-sha};
 ghost use Rattle.acp_session.specs.Sha256.{sha_language};
 
 use crate::replies::push_hex;
@@ -54,9 +54,9 @@ impl Shell for Sha {
 
     ghost path_bytes_are = { λ p q. refl };
 
-    ghost path_at_is = { λ p q. path_at-sha };
+    ghost path_reading_is = { λ p q. path_reading-sha };
 
     ghost multi_path_bytes_are = { λ p q. refl };
 
-    ghost multi_path_at_is = { λ p q. multi_path_at-sha };
+    ghost multi_path_reading_is = { λ p q. multi_path_reading-sha };
 }

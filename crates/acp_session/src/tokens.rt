@@ -34,7 +34,8 @@ pub fn index_of(token: &[u8]) -> Option<usize>
 
 /// The bytes that a token spells in hexadecimal, one or more.
 pub fn some_bytes_of(alloc: Global, token: &[u8]) -> Result<Option<Vec<u8>>, AllocError>
-    ensures { IfOk result (λ bytes. option_map (λ bytes. bytes.items) bytes ≡ some_bytes_of token.now) }
+    ensures { IfOk result (λ bytes.
+        option_map (λ bytes. bytes.items) bytes ≡ some_bytes_of token.now) }
 {
     if token.is_empty() {
         return Ok(None);
@@ -61,8 +62,10 @@ pub fn number_of_token(alloc: Global, token: &[u8]) -> Result<Option<u64>, Alloc
 
 /// The one token that is left, if there is one and no more.
 pub fn only_token(left: Option<&[u8]>) -> Option<&[u8]>
-    ensures some { IfSome result (λ token. tokens_left (option_copied left.entry) ≡ token.now ∷ []) }
-    ensures none { IfNone result ((token : List ℕ) → tokens_left (option_copied left.entry) ≡ token ∷ [] → ⊥) }
+    ensures some { IfSome result (λ token.
+        tokens_left (option_copied left.entry) ≡ token.now ∷ []) }
+    ensures none { IfNone result ((token : List ℕ)
+        → tokens_left (option_copied left.entry) ≡ token ∷ [] → ⊥) }
 {
     let (token, rest) = first_token(left?);
     match rest {
@@ -73,8 +76,10 @@ pub fn only_token(left: Option<&[u8]>) -> Option<&[u8]>
 
 /// The two tokens that are left, if there are two and no more.
 pub fn two_tokens(left: Option<&[u8]>) -> Option<(&[u8], &[u8])>
-    ensures some { IfSome result (λ two. tokens_left (option_copied left.entry) ≡ two.0.now ∷ two.1.now ∷ []) }
-    ensures none { IfNone result ((first second : List ℕ) → tokens_left (option_copied left.entry) ≡ first ∷ second ∷ [] → ⊥) }
+    ensures some { IfSome result (λ two.
+        tokens_left (option_copied left.entry) ≡ two.0.now ∷ two.1.now ∷ []) }
+    ensures none { IfNone result ((first second : List ℕ)
+        → tokens_left (option_copied left.entry) ≡ first ∷ second ∷ [] → ⊥) }
 {
     let (first, rest) = first_token(left?);
     Some((first, only_token(rest)?))

@@ -152,9 +152,9 @@ impl Shell for Toy {
 
     ghost path_bytes_are = { λ p q. refl };
 
-    ghost path_at_is = { λ p q. refl };
+    ghost path_reading_is = { λ p q. refl };
 
     ghost multi_path_bytes_are = { λ p q. refl };
 
-    ghost multi_path_at_is = { λ p q. refl };
+    ghost multi_path_reading_is = { λ p q. refl };
 }

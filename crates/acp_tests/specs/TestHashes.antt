@@ -3,7 +3,7 @@ use Rattle.std.specs.Prelude.{◌==◌, if◌then◌else◌, Bool, true, false, 
 use Rattle.ark_base.specs.declared.error.Error.TheVariants.{GenericError}
 use Rattle.ark_base.specs.declared.error.Refusal.TheVariants.{Custom}
 use Rattle.ark_base.specs.Outcome.{Outcome, IsDecided}
-use Rattle.ark_merkle.specs.Pairs.{Digest}
+use Rattle.ark_merkle.specs.Pair.{Digest}
 use Rattle.acp_session.specs.Toy.{toy_number, toy_pair}
 
 -- the pair of `toy`, where the second is not 0; else a refusal with the first

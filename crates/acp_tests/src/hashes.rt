@@ -142,13 +142,13 @@ impl Config for Forgetting {
 struct Zero;
 
 impl DigestConverter<Fp<M257>, Fp<M257>> for Zero {
-    ghost converted = { λ _. Ok (0 ∷ []) };
+    ghost conversion = { λ _. Ok (0 ∷ []) };
 
     fn convert(_alloc: Global, _item: Fp<M257>) -> Result<Fp<M257>, Error> {
         Ok(<Fp<M257> as PrimeField>::zero())
     }
 
-    ghost converted_decided = { λ _. tt };
+    ghost conversion_is_decided = { λ _. tt };
 }
 
 // At the last level the pairs that differ are leaf digests before conversion.

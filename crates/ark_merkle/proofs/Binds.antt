@@ -8,11 +8,11 @@ use Rattle.std.proofs.lemmas.Nat.{pow-add}
 use Rattle.std.proofs.Math.Nat.{add-mul-div_left, div-add-mod, mod-lt, pow-suc}
 use Rattle.ark_base.specs.declared.error.Error.{Error}
 use Rattle.ark_base.specs.Outcome.{Outcome, ◌>>=◌}
-use Rattle.ark_merkle.specs.Bindings.{couple, tree_pair, path_pair, hash_at, is_other, first_level}
-use Rattle.ark_merkle.specs.Indexes.{bit_at, neighbour}
-use Rattle.ark_merkle.specs.Pairs.{Digest, HashPair, ordered, digest_eq}
-use Rattle.ark_merkle.specs.Paths.{Way, climbed, top}
-use Rattle.ark_merkle.specs.Roots.{upper_levels}
+use Rattle.ark_merkle.specs.Bind.{couple, tree_pair, path_pair, hash_at, is_other, first_level}
+use Rattle.ark_merkle.specs.Index.{bit_at, neighbour}
+use Rattle.ark_merkle.specs.Pair.{Digest, HashPair, hash_in_order, digest_eq}
+use Rattle.ark_merkle.specs.Path.{Way, climb, path_root}
+use Rattle.ark_merkle.specs.Root.{upper_levels}
 use Rattle.ark_merkle.specs.Rows.{IsTree, part}
 use Rattle.ark_merkle.proofs.OwnPaths.{IsCouple, is_couple, bit_at-level, place-above, bottom-row, upper-row}
 use Rattle.ark_merkle.proofs.Parts.{part-left, part-right, get_or-part}
@@ -43,7 +43,7 @@ is_other-couple row i false x y c =
     let beside : get_or row (2 * (i / 2) + 1) [] ≡ get_or row (i + 1) [] = ap (λ (n : ℕ). get_or row n []) (sym c.neighbour_is) in
     rw (own, beside) refl
 
-pub hashed-couple : (hash : Digest → Digest → Outcome Digest) (b : Bool) (x y : Digest) → hash (couple b x y).0 (couple b x y).1 ≡ ordered hash b x y
+pub hashed-couple : (hash : Digest → Digest → Outcome Digest) (b : Bool) (x y : Digest) → hash (couple b x y).0 (couple b x y).1 ≡ hash_in_order hash b x y
 hashed-couple hash true x y = refl
 hashed-couple hash false x y = refl
 
@@ -92,30 +92,30 @@ first_level-some other from (suc count) level some = by_test (other from) refl s
 
 -- from a level down
 abbrev pub top_from : HashPair → Way → Digest → ℕ → Outcome Digest
-top_from h way digest level = top h (record { sibling = way.sibling; above = drop level way.above; index = way.index }) digest
+top_from h way digest level = path_root h (record { sibling = way.sibling; above = drop level way.above; index = way.index }) digest
 
-climbed-refused : (hash : Digest → Digest → Outcome Digest) (index : ℕ) (ds : List Digest) (lowest : Digest) (level : ℕ) (e : Error) → climbed hash index (drop level ds) lowest ≡ Err e → climbed hash index ds lowest ≡ Err e
+climbed-refused : (hash : Digest → Digest → Outcome Digest) (index : ℕ) (ds : List Digest) (lowest : Digest) (level : ℕ) (e : Error) → climb hash index (drop level ds) lowest ≡ Err e → climb hash index ds lowest ≡ Err e
 climbed-refused hash index ds lowest zero e refused = refused
 climbed-refused hash index [] lowest (suc level) e refused = refused
 climbed-refused hash index (d ∷ ds) lowest (suc level) e refused = rw (climbed-refused hash index ds lowest level e refused)
 
 -- a refusal further down is that of the whole
-pub top_from-refused : (h : HashPair) (way : Way) (digest : Digest) (level : ℕ) (e : Error) → top_from h way digest level ≡ Err e → top h way digest ≡ Err e
-top_from-refused h way digest level e refused = by_lowest (ordered h.bottom (bit_at way.index 0) digest way.sibling) refused
+pub top_from-refused : (h : HashPair) (way : Way) (digest : Digest) (level : ℕ) (e : Error) → top_from h way digest level ≡ Err e → path_root h way digest ≡ Err e
+top_from-refused h way digest level e refused = by_lowest (hash_in_order h.bottom (bit_at way.index 0) digest way.sibling) refused
   where
-    by_lowest : (o : Outcome Digest) → (o >>= climbed h.upper way.index (drop level way.above)) ≡ Err e → (o >>= climbed h.upper way.index way.above) ≡ Err e
+    by_lowest : (o : Outcome Digest) → (o >>= climb h.upper way.index (drop level way.above)) ≡ Err e → (o >>= climb h.upper way.index way.above) ≡ Err e
     by_lowest (Ok lowest) r = climbed-refused h.upper way.index way.above lowest level e r
     by_lowest (Err f) r = r
 
 -- one level up
-pub top_from-up : (h : HashPair) (way : Way) (digest : Digest) (level : ℕ) → level < length way.above → top_from h way digest level ≡ (top_from h way digest (suc level) >>= λ below. ordered h.upper (bit_at way.index (length way.above - level)) below (get_or way.above level []))
+pub top_from-up : (h : HashPair) (way : Way) (digest : Digest) (level : ℕ) → level < length way.above → top_from h way digest level ≡ (top_from h way digest (suc level) >>= λ below. hash_in_order h.upper (bit_at way.index (length way.above - level)) below (get_or way.above level []))
 top_from-up h way digest level under =
     let cut : drop level way.above ≡ get_or way.above level [] ∷ drop (suc level) way.above = let one : level + 1 ≡ suc level = omega arith in rw (one) at (drop_more way.above level [] under) in
     let long : suc (length (drop (suc level) way.above)) ≡ length way.above - level = omega (arith, length-drop (suc level) way.above) in
-    by_lowest (ordered h.bottom (bit_at way.index 0) digest way.sibling) (drop level way.above) cut long
+    by_lowest (hash_in_order h.bottom (bit_at way.index 0) digest way.sibling) (drop level way.above) cut long
   where
     by_lowest : (o : Outcome Digest) (ds : List Digest) → ds ≡ get_or way.above level [] ∷ drop (suc level) way.above → suc (length (drop (suc level) way.above)) ≡ length way.above - level
-        → (o >>= climbed h.upper way.index ds) ≡ ((o >>= climbed h.upper way.index (drop (suc level) way.above)) >>= λ below. ordered h.upper (bit_at way.index (length way.above - level)) below (get_or way.above level []))
+        → (o >>= climb h.upper way.index ds) ≡ ((o >>= climb h.upper way.index (drop (suc level) way.above)) >>= λ below. hash_in_order h.upper (bit_at way.index (length way.above - level)) below (get_or way.above level []))
     by_lowest (Ok lowest) ds cut long = rw (cut, long) refl
     by_lowest (Err e) ds cut long = refl
 
@@ -135,8 +135,8 @@ bound_alone : (o : Outcome Digest) → (o >>= λ digest. Ok digest) ≡ o
 bound_alone (Ok digest) = refl
 bound_alone (Err e) = refl
 
-pub top_from-last : (h : HashPair) (way : Way) (digest : Digest) (level : ℕ) → level ≡ length way.above → top_from h way digest level ≡ ordered h.bottom (bit_at way.index 0) digest way.sibling
-top_from-last h way digest level last = let none : drop level way.above ≡ [] = drop_all level way.above (omega arith) in rw (none) (bound_alone (ordered h.bottom (bit_at way.index 0) digest way.sibling))
+pub top_from-last : (h : HashPair) (way : Way) (digest : Digest) (level : ℕ) → level ≡ length way.above → top_from h way digest level ≡ hash_in_order h.bottom (bit_at way.index 0) digest way.sibling
+top_from-last h way digest level last = let none : drop level way.above ≡ [] = drop_all level way.above (omega arith) in rw (none) (bound_alone (hash_in_order h.bottom (bit_at way.index 0) digest way.sibling))
 
 -- ---- against a tree
 
@@ -230,7 +230,7 @@ module _ (h : HashPair) (leaves : List Digest) (rows : List (List Digest)) (tree
       ∙ other-row h leaves rows tree way.index level k at current (get_or way.above level []) ∙ ap not (sym is)
 
   -- what the path gives one level up
-  pub top_from-row : (level k : ℕ) → level + suc k ≡ upper_levels leaves → (current : Digest) → top_from h way digest (suc level) ≡ Ok current → top_from h way digest level ≡ ordered h.upper (bit_at way.index (suc k)) current (get_or way.above level [])
+  pub top_from-row : (level k : ℕ) → level + suc k ≡ upper_levels leaves → (current : Digest) → top_from h way digest (suc level) ≡ Ok current → top_from h way digest level ≡ hash_in_order h.upper (bit_at way.index (suc k)) current (get_or way.above level [])
   top_from-row level k at current so =
       let up : length way.above - level ≡ suc k = omega (arith, long, at) in
       rw (so, up) at (top_from-up h way digest level (omega (arith, long, at)))

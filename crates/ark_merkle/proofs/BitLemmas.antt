@@ -1,7 +1,7 @@
 -- Bits of numbers.
 use Rattle.std.proofs.Common.{◌≡◌, ℕ, ◌<◌, ◌≤◌, ◌^◌, false, arith}
 use Rattle.std.proofs.Math.Nat.{div-eq_of_lt, pow-le-pow_right}
-use Rattle.ark_merkle.specs.Indexes.{bit_at}
+use Rattle.ark_merkle.specs.Index.{bit_at}
 
 -- past 64 bits there are none
 pub bit_at-past : (n bit : ℕ) → n < 2 ^ 64 → 64 ≤ bit → bit_at n bit ≡ false

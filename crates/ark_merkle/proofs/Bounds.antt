@@ -8,15 +8,15 @@ use Rattle.ark_base.specs.declared.error.Error.{Error}
 use Rattle.ark_base.specs.declared.error.Error.TheVariants.{IncorrectInputLength}
 use Rattle.ark_base.specs.Outcome.{Outcome, ◌>>=◌}
 use Rattle.ark_base.specs.Laws.Steps.{bind_ok, done_injective}
-use Rattle.ark_merkle.specs.declared.tree.binding.Binding.{Binding}
-use Rattle.ark_merkle.specs.declared.tree.binding.Binding.TheVariants.{Rejected, Stands, Differs}
-use Rattle.ark_merkle.specs.Bindings.{couple, tree_pair, path_pair, is_other, difference, binding_of, bound, is_accepted, Collides}
-use Rattle.ark_merkle.specs.Indexes.{bit_at}
-use Rattle.ark_merkle.specs.Pairs.{Digest, HashPair, digest_eq}
-use Rattle.ark_merkle.specs.Paths.{Way, top}
-use Rattle.ark_merkle.specs.Roots.{root, upper_levels}
+use Rattle.ark_merkle.specs.declared.tree.bind.Binding.{Binding}
+use Rattle.ark_merkle.specs.declared.tree.bind.Binding.TheVariants.{Rejected, Stands, Differs}
+use Rattle.ark_merkle.specs.Bind.{couple, tree_pair, path_pair, is_other, difference, binding_of, path_binding, binding_in, gives_root, Collides}
+use Rattle.ark_merkle.specs.Index.{bit_at}
+use Rattle.ark_merkle.specs.Pair.{Digest, HashPair, digest_eq}
+use Rattle.ark_merkle.specs.Path.{Way, path_root, verdict}
+use Rattle.ark_merkle.specs.Root.{root, upper_levels}
 use Rattle.ark_merkle.specs.Rows.{IsTree}
-use Rattle.ark_merkle.specs.Trees.{Tree}
+use Rattle.ark_merkle.specs.Tree.{HashedTree, root_in}
 use Rattle.ark_merkle.proofs.Binds.{hashed-couple, first_level-none, first_level-some, IsFirst, top_from, top_from-up, top_from-last, path_pair-up, path_pair-is, path_pair-last, own-inside, tree-hash-last, tree-hash-row, differs, differs-last, differs-row}
 use Rattle.ark_merkle.proofs.OwnPaths.{root-top}
 
@@ -55,19 +55,19 @@ pub record Answered (h : HashPair) (leaves : List Digest) (leaf : Outcome Digest
   pub top_digest : Digest
   pub root_is : root h leaves ≡ Ok top_digest
   pub given : Digest
-  pub top_is : top h way digest ≡ Ok given
+  pub top_is : path_root h way digest ≡ Ok given
   pub answer : b ≡ (if digest_eq given top_digest then binding_of (difference h leaves way digest) else Rejected)
 
 module _ (h : HashPair) (leaves : List Digest) (leaf : Outcome Digest) (way : Way) (b : Binding) where
-  pub answered : bound h leaves leaf way ≡ Ok b → Answered h leaves leaf way b
+  pub answered : path_binding h leaves leaf way ≡ Ok b → Answered h leaves leaf way b
   answered e = by_length (length way.above == upper_levels leaves) refl e
     where
       by_length : (t : Bool) → (length way.above == upper_levels leaves) ≡ t
-          → (if t then (leaf >>= λ digest. root h leaves >>= λ r. top h way digest >>= λ given. Ok (if digest_eq given r then binding_of (difference h leaves way digest) else Rejected)) else Err (IncorrectInputLength (length way.above))) ≡ Ok b → Answered h leaves leaf way b
+          → (if t then (leaf >>= λ digest. root h leaves >>= λ r. path_root h way digest >>= λ given. Ok (if digest_eq given r then binding_of (difference h leaves way digest) else Rejected)) else Err (IncorrectInputLength (length way.above))) ≡ Ok b → Answered h leaves leaf way b
       by_length true is e =
           let hashed = bind_ok leaf _ b e in
           let rooted = bind_ok (root h leaves) _ b hashed.2 in
-          let climbed = bind_ok (top h way hashed.0) _ b rooted.2 in
+          let climbed = bind_ok (path_root h way hashed.0) _ b rooted.2 in
           record {
             long = eqb-true (length way.above) (upper_levels leaves) is;
             digest = hashed.0;
@@ -80,10 +80,17 @@ module _ (h : HashPair) (leaves : List Digest) (leaf : Outcome Digest) (way : Wa
           }
       by_length false is e = absurd cc
 
-is_accepted-by : (t : Bool) (o : Option ℕ) (b : Binding) → b ≡ (if t then binding_of o else Rejected) → t ≡ is_accepted b
-is_accepted-by true None b e = rw (e) refl
-is_accepted-by true (Some level) b e = rw (e) refl
-is_accepted-by false o b e = rw (e) refl
+gives_root-by : (t : Bool) (o : Option ℕ) (b : Binding) → b ≡ (if t then binding_of o else Rejected) → t ≡ gives_root b
+gives_root-by true None b e = rw (e) refl
+gives_root-by true (Some level) b e = rw (e) refl
+gives_root-by false o b e = rw (e) refl
+
+-- it is not rejected exactly where the path gives the root
+pub bound-accepted : (h : HashPair) (leaves : List Digest) (leaf : Outcome Digest) (way : Way) (b : Binding) → path_binding h leaves leaf way ≡ Ok b → (r : Digest) → root h leaves ≡ Ok r → verdict h leaf way r ≡ Ok (gives_root b)
+bound-accepted h leaves leaf way b e r rooted =
+    let a = answered h leaves leaf way b e in
+    let same : r ≡ a.top_digest = done_injective _ _ (sym rooted ∙ a.root_is) in
+    rw (a.leaf_is, a.top_is, same) (ap Ok (gives_root-by (digest_eq a.given a.top_digest) (difference h leaves way a.digest) b a.answer))
 
 stands-by : (t : Bool) (o : Option ℕ) → Stands ≡ (if t then binding_of o else Rejected) → (t ≡ true) × (o ≡ None)
 stands-by true None e = (refl, refl)
@@ -113,7 +120,7 @@ module _ (h : HashPair) (leaves : List Digest) (rows : List (List Digest)) (tree
       digest_eq-true digest (get_or leaves index []) both.0
 
   -- where the pairs above agree, the path gives the tree's digest
-  top-own : (level k : ℕ) → level + k ≡ upper_levels leaves → ((l : ℕ) → l < level → other l ≡ false) → top h way digest ≡ root h leaves → top_from h way digest level ≡ Ok (own k)
+  top-own : (level k : ℕ) → level + k ≡ upper_levels leaves → ((l : ℕ) → l < level → other l ≡ false) → path_root h way digest ≡ root h leaves → top_from h way digest level ≡ Ok (own k)
   top-own zero k at before whole =
       let m = upper_levels leaves in
       let last : k ≡ m = omega arith in
@@ -128,7 +135,7 @@ module _ (h : HashPair) (leaves : List Digest) (rows : List (List Digest)) (tree
       let both = both_true _ _ (sym (differs-row h leaves rows tree way digest long l k (omega (arith, at)) below step.1 _ refl) ∙ before l (omega arith)) in
       step.1 ∙ ap Ok (digest_eq-true below (own k) both.0)
 
-  pub collides : (level : ℕ) → IsFirst other 0 (suc (upper_levels leaves)) level → top h way digest ≡ root h leaves → Collides h leaves way digest level
+  pub collides : (level : ℕ) → IsFirst other 0 (suc (upper_levels leaves)) level → path_root h way digest ≡ root h leaves → Collides h leaves way digest level
   collides level first whole =
       let m = upper_levels leaves in
       let before : (l : ℕ) → l < level → other l ≡ false = λ l under. first.before l (omega arith) under in
@@ -145,11 +152,11 @@ module _ (h : HashPair) (leaves : List Digest) (rows : List (List Digest)) (tree
             let upper : nat_lt level m ≡ true = grind (arith, nat_tests) in
             record {
               in_range = omega arith;
-              pair = couple bit step.0 beside;
-              pair_is = pair_is;
+              given = couple bit step.0 beside;
+              given_is = pair_is;
               differ = λ same. absurd (true_false (sym first.holds ∙ ap (λ o. is_other o (tree_pair h leaves way.index level)) pair_is ∙ is_other-same (couple bit step.0 beside) (tree_pair h leaves way.index level) same));
-              both = own (suc k);
-              pair_hash = rw (upper) (hashed-couple h.upper bit step.0 beside ∙ step.2);
+              common = own (suc k);
+              given_hash = rw (upper) (hashed-couple h.upper bit step.0 beside ∙ step.2);
               tree_hash = tree-hash-row h leaves rows tree way.index level k at;
               agree_above = agree;
             }
@@ -160,28 +167,28 @@ module _ (h : HashPair) (leaves : List Digest) (rows : List (List Digest)) (tree
             let bottom : nat_lt level m ≡ false = grind (arith, nat_tests) in
             record {
               in_range = omega (arith, last);
-              pair = couple bit digest way.sibling;
-              pair_is = pair_is;
+              given = couple bit digest way.sibling;
+              given_is = pair_is;
               differ = λ same. absurd (true_false (sym first.holds ∙ ap (λ o. is_other o (tree_pair h leaves way.index level)) pair_is ∙ is_other-same (couple bit digest way.sibling) (tree_pair h leaves way.index level) same));
-              both = own 0;
-              pair_hash = rw (bottom) (hashed-couple h.bottom bit digest way.sibling ∙ sym (top_from-last h way digest level (omega (arith, long, last))) ∙ top-own level 0 (omega (arith, last)) before whole);
+              common = own 0;
+              given_hash = rw (bottom) (hashed-couple h.bottom bit digest way.sibling ∙ sym (top_from-last h way digest level (omega (arith, long, last))) ∙ top-own level 0 (omega (arith, last)) before whole);
               tree_hash = tree-hash-last h leaves rows tree way.index level last;
               agree_above = agree;
             }
       ]
 
 module _ (h : HashPair) (leaves : List Digest) (rows : List (List Digest)) (tree : IsTree h leaves rows) (leaf : Outcome Digest) (way : Way) where
-  whole : (b : Binding) (a : Answered h leaves leaf way b) → digest_eq a.given a.top_digest ≡ true → top h way a.digest ≡ root h leaves
+  whole : (b : Binding) (a : Answered h leaves leaf way b) → digest_eq a.given a.top_digest ≡ true → path_root h way a.digest ≡ root h leaves
   whole b a same = a.top_is ∙ ap Ok (digest_eq-true a.given a.top_digest same) ∙ sym a.root_is
 
-  pub bound-stands : bound h leaves leaf way ≡ Ok Stands → leaf ≡ Ok (get_or leaves (way.index % length leaves) [])
+  pub bound-stands : path_binding h leaves leaf way ≡ Ok Stands → leaf ≡ Ok (get_or leaves (way.index % length leaves) [])
   bound-stands e =
       let a = answered h leaves leaf way Stands e in
       let known = stands-by (digest_eq a.given a.top_digest) (difference h leaves way a.digest) a.answer in
       let none = first_level-none (differs h leaves rows tree way a.digest a.long) 0 (suc (upper_levels leaves)) known.1 in
       a.leaf_is ∙ ap Ok (same-leaf h leaves rows tree way a.digest a.long (none (upper_levels leaves) (omega arith) (omega arith)))
 
-  pub bound-differs : (level : ℕ) → bound h leaves leaf way ≡ Ok (Differs level) → (digest : Digest) × (leaf ≡ Ok digest) × Collides h leaves way digest level
+  pub bound-differs : (level : ℕ) → path_binding h leaves leaf way ≡ Ok (Differs level) → (digest : Digest) × (leaf ≡ Ok digest) × Collides h leaves way digest level
   bound-differs level e =
       let a = answered h leaves leaf way (Differs level) e in
       let known = differs-by (digest_eq a.given a.top_digest) (difference h leaves way a.digest) level a.answer in
@@ -190,15 +197,18 @@ module _ (h : HashPair) (leaves : List Digest) (rows : List (List Digest)) (tree
 
 -- ---- the answer, from what the call knows
 
-module _ {L T : Type 0} (pair : T → HashPair) (meaning : L → Outcome Digest) (view now : Tree L T) (same : view ≡ now) (way : Way) (long : length way.above ≡ upper_levels view.leaves) (digest : Digest) (hashed : meaning view.leaf_parameters ≡ Ok digest) where
-  long_enough : (length way.above == upper_levels view.leaves) ≡ true
-  long_enough = eq-eqb (length way.above) (upper_levels view.leaves) long
+module _ {A : Type 0} (inside now : HashedTree A) (same : inside ≡ now) (seen way : Way) (alike : seen ≡ way) (long : length seen.above ≡ upper_levels inside.leaves) (leaf : A) (digest : Digest) (hashed : inside.hashes.leaf leaf ≡ Ok digest) where
+  long_enough : (length seen.above == upper_levels inside.leaves) ≡ true
+  long_enough = eq-eqb (length seen.above) (upper_levels inside.leaves) long
 
-  pub bound-refused : (r : Digest) → root (pair view.pair_parameters) view.leaves ≡ Ok r → (e : Error) → top (pair view.pair_parameters) way digest ≡ Err e → bound (pair now.pair_parameters) now.leaves (meaning now.leaf_parameters) way ≡ Err e
-  bound-refused r rooted e refused = subst (λ t. bound (pair t.pair_parameters) t.leaves (meaning t.leaf_parameters) way ≡ Err e) same (rw (long_enough, hashed, rooted, refused) refl)
+  moved : (o : Outcome Binding) → binding_in inside leaf seen ≡ o → binding_in now leaf way ≡ o
+  moved o e = ap (λ (t : HashedTree A). binding_in t leaf way) (sym same) ∙ ap (binding_in inside leaf) (sym alike) ∙ e
 
-  pub bound-ok : (r : Digest) → root (pair now.pair_parameters) now.leaves ≡ Ok r → (given : Digest) → top (pair view.pair_parameters) way digest ≡ Ok given → (is_root : Bool) → is_root ≡ digest_eq given r → (o : Option ℕ) → o ≡ difference (pair view.pair_parameters) view.leaves way digest → (b : Binding)
-      → b ≡ (if is_root then binding_of o else Rejected) → bound (pair now.pair_parameters) now.leaves (meaning now.leaf_parameters) way ≡ Ok b
+  pub bound-refused : (r : Digest) → root_in inside ≡ Ok r → (e : Error) → path_root inside.hashes.pair seen digest ≡ Err e → binding_in now leaf way ≡ Err e
+  bound-refused r rooted e refused = moved (Err e) (rw (long_enough, hashed, rooted, refused) refl)
+
+  pub bound-ok : (r : Digest) → root_in now ≡ Ok r → (given : Digest) → path_root inside.hashes.pair seen digest ≡ Ok given → (is_root : Bool) → is_root ≡ digest_eq given r → (o : Option ℕ) → o ≡ difference inside.hashes.pair inside.leaves seen digest → (b : Binding)
+      → b ≡ (if is_root then binding_of o else Rejected) → binding_in now leaf way ≡ Ok b
   bound-ok r rooted given climbed is_root is o found b answer =
-      let rooted_here : root (pair view.pair_parameters) view.leaves ≡ Ok r = subst (λ t. root (pair t.pair_parameters) t.leaves ≡ Ok r) (sym same) rooted in
-      subst (λ t. bound (pair t.pair_parameters) t.leaves (meaning t.leaf_parameters) way ≡ Ok b) same (rw (long_enough, hashed, rooted_here, climbed, ← is, ← found, ← answer) refl)
+      let rooted_here : root_in inside ≡ Ok r = ap root_in same ∙ rooted in
+      moved (Ok b) (rw (long_enough, hashed, rooted_here, climbed, ← is, ← found, ← answer) refl)

@@ -5,11 +5,11 @@ use Rattle.std.proofs.lemmas.List.{length-set, length-append, get_or_append_left
 use Rattle.std.proofs.Math.Seq.{get_or-append_seam}
 use Rattle.std.proofs.Math.Nat.{div-eq_of_lt-le}
 use Rattle.ark_base.specs.declared.error.Error.{Error}
-use Rattle.ark_merkle.specs.Indexes.{bit_at, neighbour}
-use Rattle.ark_merkle.specs.Pairs.{Digest, HashPair, ordered}
-use Rattle.ark_merkle.specs.Roots.{Place, Root, Refused, at_level, joined, place, outcome_of, root, upper_levels}
+use Rattle.ark_merkle.specs.Index.{bit_at, neighbour}
+use Rattle.ark_merkle.specs.Pair.{Digest, HashPair, hash_in_order}
+use Rattle.ark_merkle.specs.Root.{Place, Root, Refused, place_at, place_of_halves, place, outcome_of, root, upper_levels}
 use Rattle.ark_merkle.specs.Rows.{IsTree, part}
-use Rattle.ark_merkle.specs.Updates.{AreOnWay}
+use Rattle.ark_merkle.specs.Update.{AreOnWay}
 use Rattle.ark_merkle.proofs.OwnPaths.{IsCouple, is_couple, ordered-neighbour, bit_at-level, place-above, first_place}
 use Rattle.ark_merkle.proofs.Parts.{part-left, part-right, get_or-part, part-whole}
 use Rattle.ark_merkle.proofs.PlaceLemmas.{row-twice, place-inside, neighbour-inside}
@@ -32,7 +32,7 @@ part-set_other k q index digests digest other =
 
 -- two places make the one above them, in the order that the place's bit says
 joined-couple : (h : HashPair) (level : ℕ) (places : ℕ → Place) (p : ℕ) (b : Bool) (own beside : Digest) → IsCouple b p → places p ≡ Root own → places (if b then p - 1 else p + 1) ≡ Root beside
-    → joined h level (places (2 * (p / 2))) (places (2 * (p / 2) + 1)) ≡ at_level level (ordered h.upper b own beside)
+    → place_of_halves h level (places (2 * (p / 2))) (places (2 * (p / 2) + 1)) ≡ place_at level (hash_in_order h.upper b own beside)
 joined-couple h level places p true own beside c is other =
     let right : places (2 * (p / 2) + 1) ≡ Root own = rw (← c.place_is) is in
     let left : places (2 * (p / 2)) ≡ Root beside = rw (c.neighbour_is) at other in
@@ -43,7 +43,7 @@ joined-couple h level places p false own beside c is other =
     rw (left, right) refl
 
 joined-refused : (h : HashPair) (level : ℕ) (places : ℕ → Place) (p : ℕ) (b : Bool) (l : ℕ) (e : Error) (beside : Digest) → IsCouple b p → places p ≡ Refused l e → places (if b then p - 1 else p + 1) ≡ Root beside
-    → joined h level (places (2 * (p / 2))) (places (2 * (p / 2) + 1)) ≡ Refused l e
+    → place_of_halves h level (places (2 * (p / 2))) (places (2 * (p / 2) + 1)) ≡ Refused l e
 joined-refused h level places p true l e beside c is other =
     let right : places (2 * (p / 2) + 1) ≡ Refused l e = rw (← c.place_is) is in
     let left : places (2 * (p / 2)) ≡ Root beside = rw (c.neighbour_is) at other in
@@ -65,7 +65,7 @@ module _ (h : HashPair) (leaves : List Digest) (rows : List (List Digest)) (tree
   abbrev pub own : ℕ → List Digest
   own k = part k (index / 2 ^ suc k) new
 
-  pub lowest-place : place h 0 (own 0) ≡ at_level 0 (ordered h.bottom (bit_at index 0) digest (get_or leaves (neighbour index) []))
+  pub lowest-place : place h 0 (own 0) ≡ place_at 0 (hash_in_order h.bottom (bit_at index 0) digest (get_or leaves (neighbour index) []))
   lowest-place =
       let half : index / 2 ^ 1 ≡ index / 2 = omega arith in
       let q = index / 2 in
@@ -73,8 +73,8 @@ module _ (h : HashPair) (leaves : List Digest) (rows : List (List Digest)) (tree
       let right : get_or (part 0 q new) 1 [] ≡ get_or new (2 * q + 1) [] = get_or-part q 1 new (omega arith) in
       let here : get_or new index [] ≡ digest = get_or-set_same leaves index digest [] inside in
       let beside : get_or new (neighbour index) [] ≡ get_or leaves (neighbour index) [] = get_or-set_other leaves index (neighbour index) digest [] (neighbour-other (bit_at index 0) index (is_couple index (bit_at index 0) refl)) in
-      let couple : ordered h.bottom (bit_at index 0) digest (get_or leaves (neighbour index) []) ≡ h.bottom (get_or new (2 * q) []) (get_or new (2 * q + 1) []) = rw (here, beside) at (ordered-neighbour h.bottom new index) in
-      ap (λ (n : ℕ). place h 0 (part 0 n new)) half ∙ ap (at_level 0) (rw (left, right) (sym couple))
+      let couple : hash_in_order h.bottom (bit_at index 0) digest (get_or leaves (neighbour index) []) ≡ h.bottom (get_or new (2 * q) []) (get_or new (2 * q + 1) []) = rw (here, beside) at (ordered-neighbour h.bottom new index) in
+      ap (λ (n : ℕ). place h 0 (part 0 n new)) half ∙ ap (place_at 0) (rw (left, right) (sym couple))
 
   -- beside the way nothing changes
   place-beside : (k : ℕ) → suc k < length rows → place h k (part k (neighbour (index / 2 ^ suc k)) new) ≡ Root (get_or (get_or rows k []) (neighbour (index / 2 ^ suc k)) [])
@@ -85,15 +85,15 @@ module _ (h : HashPair) (leaves : List Digest) (rows : List (List Digest)) (tree
       let next : neighbour p < 2 * length (get_or rows (suc k) []) = neighbour-inside p (length (get_or rows (suc k) [])) (omega arith) in
       ap (place h k) (part-set_other k (neighbour p) index leaves digest (neighbour-other (bit_at p 0) p (is_couple p (bit_at p 0) refl))) ∙ tree.roots k (neighbour p) (omega arith) (rw twice next)
 
-  place-joined : (k : ℕ) → place h (suc k) (own (suc k)) ≡ joined h (suc k) (place h k (part k (2 * (index / 2 ^ suc k / 2)) new)) (place h k (part k (2 * (index / 2 ^ suc k / 2) + 1) new))
+  place-joined : (k : ℕ) → place h (suc k) (own (suc k)) ≡ place_of_halves h (suc k) (place h k (part k (2 * (index / 2 ^ suc k / 2)) new)) (place h k (part k (2 * (index / 2 ^ suc k / 2) + 1) new))
   place-joined k = let q = index / 2 ^ suc (suc k) in rw (part-left k q new, part-right k q new, place-above index (suc k)) refl
 
-  pub place-up : (k : ℕ) → suc k < length rows → (d : Digest) → place h k (own k) ≡ Root d → place h (suc k) (own (suc k)) ≡ at_level (suc k) (ordered h.upper (bit_at index (suc k)) d (get_or (get_or rows k []) (neighbour (index / 2 ^ suc k)) []))
+  pub place-up : (k : ℕ) → suc k < length rows → (d : Digest) → place h k (own k) ≡ Root d → place h (suc k) (own (suc k)) ≡ place_at (suc k) (hash_in_order h.upper (bit_at index (suc k)) d (get_or (get_or rows k []) (neighbour (index / 2 ^ suc k)) []))
   place-up k below d is =
       let p = index / 2 ^ suc k in
       let beside = get_or (get_or rows k []) (neighbour p) [] in
       place-joined k ∙ joined-couple h (suc k) (λ n. place h k (part k n new)) p (bit_at p 0) d beside (is_couple p (bit_at p 0) refl) is (place-beside k below)
-      ∙ ap (λ b. at_level (suc k) (ordered h.upper b d beside)) (bit_at-level index (suc k))
+      ∙ ap (λ b. place_at (suc k) (hash_in_order h.upper b d beside)) (bit_at-level index (suc k))
 
   refused-up : (l : ℕ) (e : Error) (k : ℕ) → suc k < length rows → place h k (own k) ≡ Refused l e → place h (suc k) (own (suc k)) ≡ Refused l e
   refused-up l e k below is =
@@ -127,24 +127,24 @@ module _ (h : HashPair) (leaves : List Digest) (rows : List (List Digest)) (tree
 
   -- the lowest digest
   module _ (sibling : Digest) (beside : get_or leaves (neighbour index) [] ≡ sibling) where
-    pub lowest-on_way : (d : Digest) → ordered h.bottom (bit_at index 0) digest sibling ≡ Ok d → AreOnWay h new index (d ∷ [])
+    pub lowest-on_way : (d : Digest) → hash_in_order h.bottom (bit_at index 0) digest sibling ≡ Ok d → AreOnWay h new index (d ∷ [])
     lowest-on_way d hashed zero below = lowest-place ∙ rw (beside, hashed) refl
     lowest-on_way d hashed (suc k) below = absurd (omega arith)
 
-    pub lowest-refused : (e : Error) → ordered h.bottom (bit_at index 0) digest sibling ≡ Err e → root h new ≡ Err e
+    pub lowest-refused : (e : Error) → hash_in_order h.bottom (bit_at index 0) digest sibling ≡ Err e → root h new ≡ Err e
     lowest-refused e refused = root-refused 0 0 e (omega (arith, tree.count)) (lowest-place ∙ rw (beside, refused) refl)
 
   -- the digest of a level, from the one below and that beside it
   module _ (way : List Digest) (on_way : AreOnWay h new index way) (level : ℕ) (long : length way ≡ level) (some : 0 < level) (inside_rows : level < length rows) (below sibling : Digest) (below_is : get_or way (level - 1) [] ≡ below) (sibling_is : get_or (get_or rows (level - 1) []) (neighbour (index / 2 ^ level)) [] ≡ sibling) where
-    level-place : place h level (own level) ≡ at_level level (ordered h.upper (bit_at index level) below sibling)
+    level-place : place h level (own level) ≡ place_at level (hash_in_order h.upper (bit_at index level) below sibling)
     level-place =
         let k = level - 1 in
         let is : suc k ≡ level = omega arith in
         let under : place h k (own k) ≡ Root below = on_way k (omega arith) ∙ ap Root below_is in
-        subst (λ (n : ℕ). n < length rows → place h n (own n) ≡ at_level n (ordered h.upper (bit_at index n) below (get_or (get_or rows k []) (neighbour (index / 2 ^ n)) []))) is (λ inner. place-up k inner below under) inside_rows
-        ∙ ap (λ (d : Digest). at_level level (ordered h.upper (bit_at index level) below d)) sibling_is
+        subst (λ (n : ℕ). n < length rows → place h n (own n) ≡ place_at n (hash_in_order h.upper (bit_at index n) below (get_or (get_or rows k []) (neighbour (index / 2 ^ n)) []))) is (λ inner. place-up k inner below under) inside_rows
+        ∙ ap (λ (d : Digest). place_at level (hash_in_order h.upper (bit_at index level) below d)) sibling_is
 
-    pub next-on_way : (d : Digest) → ordered h.upper (bit_at index level) below sibling ≡ Ok d → AreOnWay h new index (way ++ d ∷ [])
+    pub next-on_way : (d : Digest) → hash_in_order h.upper (bit_at index level) below sibling ≡ Ok d → AreOnWay h new index (way ++ d ∷ [])
     next-on_way d hashed k under = elim (cases_lt k (length way)) [
       | inl lt ↦ on_way k lt ∙ ap Root (sym (get_or_append_left way (d ∷ []) [] k lt))
       | inr ge ↦
@@ -153,7 +153,7 @@ module _ (h : HashPair) (leaves : List Digest) (rows : List (List Digest)) (tree
           rw (last, read, long) (level-place ∙ rw (hashed) refl)
     ]
 
-    pub next-refused : (e : Error) → ordered h.upper (bit_at index level) below sibling ≡ Err e → root h new ≡ Err e
+    pub next-refused : (e : Error) → hash_in_order h.upper (bit_at index level) below sibling ≡ Err e → root h new ≡ Err e
     next-refused e refused = root-refused level level e inside_rows (level-place ∙ rw (refused) refl)
 
   module _ (way : List Digest) (on_way : AreOnWay h new index way) (long : length way ≡ length rows) where

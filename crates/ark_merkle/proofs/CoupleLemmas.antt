@@ -3,8 +3,8 @@ use Rattle.std.proofs.Common.{zero, suc, ◌≡◌, ℕ, ◌+◌, ◌-◌, ◌*�
 use Rattle.std.proofs.lemmas.List.{length-map, get_or-map}
 use Rattle.ark_base.specs.declared.error.Error.{Error}
 use Rattle.ark_base.specs.Outcome.{Outcome, ◌>>=◌}
-use Rattle.ark_merkle.specs.Pairs.{Digest}
-use Rattle.ark_merkle.specs.Rows.{couples, paired}
+use Rattle.ark_merkle.specs.Pair.{Digest}
+use Rattle.ark_merkle.specs.Rows.{couples, row_above}
 use Rattle.ark_merkle.proofs.Eaches.{each-append, length-each, get_or-each, IsSoFar, IsSoFar-none, IsSoFar-more, IsSoFar-refused, IsSoFar-all}
 
 pub length-couples : {A : Type 0} (xs : List A) → length (couples xs) ≡ length xs / 2
@@ -27,14 +27,14 @@ couples-append n (a ∷ []) ys even = absurd (omega arith)
 couples-append n (a ∷ b ∷ rest) ys even = ap (λ c. (a, b) ∷ c) (couples-append (n - 1) rest ys (omega arith))
 
 module _ (hash : Digest → Digest → Outcome Digest) where
-  pub paired-append : (n : ℕ) (xs ys : List Digest) → length xs ≡ 2 * n → paired hash (xs ++ ys) ≡ (paired hash xs >>= λ cs. paired hash ys >>= λ ds. Ok (cs ++ ds))
+  pub paired-append : (n : ℕ) (xs ys : List Digest) → length xs ≡ 2 * n → row_above hash (xs ++ ys) ≡ (row_above hash xs >>= λ cs. row_above hash ys >>= λ ds. Ok (cs ++ ds))
   paired-append n xs ys even = rw (couples-append n xs ys even) (each-append (λ p. hash p.0 p.1) (couples xs) (couples ys))
 
-  pub length-paired : (row above : List Digest) → paired hash row ≡ Ok above → length above ≡ length row / 2
+  pub length-paired : (row above : List Digest) → row_above hash row ≡ Ok above → length above ≡ length row / 2
   length-paired row above e = length-each (λ p. hash p.0 p.1) (couples row) above e ∙ length-couples row
 
   -- a digest of a row is the hash of two of the row below
-  pub get_or-paired : (row above : List Digest) (i : ℕ) → paired hash row ≡ Ok above → i < length row / 2 → hash (get_or row (2 * i) []) (get_or row (2 * i + 1) []) ≡ Ok (get_or above i [])
+  pub get_or-paired : (row above : List Digest) (i : ℕ) → row_above hash row ≡ Ok above → i < length row / 2 → hash (get_or row (2 * i) []) (get_or row (2 * i + 1) []) ≡ Ok (get_or above i [])
   get_or-paired row above i e below =
       let two = get_or-couples row i [] ([], []) below in
       let hashed = get_or-each (λ p. hash p.0 p.1) (couples row) above i ([], []) [] e (omega (arith, length-couples row)) in
@@ -63,8 +63,8 @@ module _ {A : Type 0} (hash : Digest → Digest → Outcome Digest) (numbers : A
   pub ArePaired-more : (i : ℕ) (a b : A) (done : List Digest) (d : Digest) → i < length xs / 2 → a ≡ get_or xs (2 * i) a → b ≡ get_or xs (2 * i + 1) b → ArePaired i done → hash (numbers a) (numbers b) ≡ Ok d → ArePaired (i + 1) (done ++ d ∷ [])
   ArePaired-more i a b done d below a_is b_is so hashed = IsSoFar-more (λ p. hash p.0 p.1) (couples (map numbers xs)) i (numbers a, numbers b) done d (rw long below) (couple_read i a b below a_is b_is) so hashed
 
-  pub ArePaired-refused : (i : ℕ) (a b : A) (done : List Digest) (e : Error) → i < length xs / 2 → a ≡ get_or xs (2 * i) a → b ≡ get_or xs (2 * i + 1) b → ArePaired i done → hash (numbers a) (numbers b) ≡ Err e → paired hash (map numbers xs) ≡ Err e
+  pub ArePaired-refused : (i : ℕ) (a b : A) (done : List Digest) (e : Error) → i < length xs / 2 → a ≡ get_or xs (2 * i) a → b ≡ get_or xs (2 * i + 1) b → ArePaired i done → hash (numbers a) (numbers b) ≡ Err e → row_above hash (map numbers xs) ≡ Err e
   ArePaired-refused i a b done e below a_is b_is so refused = IsSoFar-refused (λ p. hash p.0 p.1) (couples (map numbers xs)) i (numbers a, numbers b) done e (rw long below) (couple_read i a b below a_is b_is) so refused
 
-  pub ArePaired-all : (i : ℕ) (done : List Digest) → length xs / 2 ≤ i → ArePaired i done → paired hash (map numbers xs) ≡ Ok done
+  pub ArePaired-all : (i : ℕ) (done : List Digest) → length xs / 2 ≤ i → ArePaired i done → row_above hash (map numbers xs) ≡ Ok done
   ArePaired-all i done past so = IsSoFar-all (λ p. hash p.0 p.1) (couples (map numbers xs)) i done (rw long past) so

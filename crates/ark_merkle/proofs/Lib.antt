@@ -16,8 +16,6 @@ pub mod Puts
 pub mod Readings
 pub mod OwnPaths
 pub mod TreeReads
-mod PlainMulti
-mod PlainPlaces
 pub mod SizeLemmas
 pub mod MultiWalks
 pub mod MultiIndexes

@@ -2,9 +2,9 @@
 use Rattle.std.proofs.Common.{zero, suc, ◌≡◌, ℕ, ◌*◌, ◌/◌, ◌<◌, ◌≤◌, ◌^◌, true, false, ltb, List, length, refl, ap, ◌∙◌, arith, pow_pos}
 use Rattle.std.proofs.lemmas.Bool.{le-ltb, lt-ltb}
 use Rattle.std.proofs.Math.Nat.{pow-succ'}
-use Rattle.ark_merkle.specs.Indexes.{halvings, log2}
-use Rattle.ark_merkle.specs.Pairs.{Digest}
-use Rattle.ark_merkle.specs.Roots.{upper_levels}
+use Rattle.ark_merkle.specs.Index.{halvings, log2}
+use Rattle.ark_merkle.specs.Pair.{Digest}
+use Rattle.ark_merkle.specs.Root.{upper_levels}
 
 halvings-between : (most k n : ℕ) → k ≤ most → 2 ^ k ≤ n → n < 2 * 2 ^ k → halvings most n ≡ k
 halvings-between zero k n le low high = omega arith

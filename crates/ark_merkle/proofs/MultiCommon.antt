@@ -4,9 +4,9 @@ use Rattle.std.specs.Bool.{Decides}
 use Rattle.std.specs.declared.vec.Vec.{Vec}
 use Rattle.std.proofs.lemmas.List.{get_or-take, length-take, length-map, map-append, take-map, take_more}
 use Rattle.std.proofs.lemmas.Slice.Eq.{bytes_eq-Decides}
-use Rattle.ark_merkle.specs.Indexes.{neighbour}
-use Rattle.ark_merkle.specs.MultiTrees.{shared, prefixes_of, suffixes_of}
-use Rattle.ark_merkle.specs.Pairs.{Digest, digest_eq}
+use Rattle.ark_merkle.specs.Index.{neighbour}
+use Rattle.ark_merkle.specs.MultiProof.{shared_count, prefixes_of, suffixes_of}
+use Rattle.ark_merkle.specs.Pair.{Digest, digest_eq}
 use Rattle.ark_merkle.specs.Rows.{HoldsIndex, beside_in, digests_of}
 use Rattle.ark_merkle.proofs.MultiShared.{shared-same, shared-other, shared-le, last_of, last_of-push, prefixes_of-push, suffixes_of-push}
 use Rattle.ark_merkle.proofs.OwnPaths.{length-beside_in}
@@ -23,7 +23,7 @@ beside_at-place rows k before index same = let one : k + 1 ≡ suc k = omega ari
 
 -- how many digests two ways have in common below row k
 abbrev pub common : List (List Digest) → ℕ → ℕ → ℕ → ℕ
-common rows k before index = shared (beside_in rows k before) (beside_in rows k index)
+common rows k before index = shared_count (beside_in rows k before) (beside_in rows k index)
 
 not_decided : (b : Bool) (P : Type 0) → Decides b P → (P → ⊥) → b ≡ false
 not_decided true P d denied = absurd (denied (d.0 refl))
@@ -65,7 +65,7 @@ drop-beside_in rows (suc p) (suc k) index le = let e : suc k - suc p ≡ k - p =
 pub HoldsIndex-take : (rows : List (List Digest)) (m index : ℕ) → HoldsIndex rows index → HoldsIndex (take m rows) index
 HoldsIndex-take rows m index holds = record {
   size = holds.size;
-  fits = holds.fits;
+  small = holds.small;
   inside = holds.inside;
   levels = λ k below. let row : get_or (take m rows) k [] ≡ get_or rows k [] = get_or-take m rows k [] (omega (arith, length-take m rows)) in rw row (holds.levels k (omega (arith, length-take m rows)));
 }
@@ -93,7 +93,7 @@ module _ (lists : ℕ → List Digest) (indexes : List ℕ) where
     pub prefixes : prefixes_of [] (map lists (take (place + 1) indexes)) ≡ prefixes_of [] (map lists (take place indexes)) ++ prefix ∷ []
     pub suffixes : suffixes_of [] (map lists (take (place + 1) indexes)) ≡ suffixes_of [] (map lists (take place indexes)) ++ drop prefix (lists (get_or indexes place 0)) ∷ []
 
-  next_parts : (place prefix : ℕ) → place < length indexes → prefix ≡ shared (last_of [] (map lists (take place indexes))) (lists (get_or indexes place 0)) → NextParts place prefix
+  next_parts : (place prefix : ℕ) → place < length indexes → prefix ≡ shared_count (last_of [] (map lists (take place indexes))) (lists (get_or indexes place 0)) → NextParts place prefix
   next_parts place prefix below is =
       let list = lists (get_or indexes place 0) in
       let before = map lists (take place indexes) in
@@ -105,11 +105,11 @@ module _ (lists : ℕ → List Digest) (indexes : List ℕ) where
   pub NextParts-first : (place : ℕ) → place < length indexes → place ≡ 0 → NextParts place 0
   NextParts-first place below first = next_parts place 0 below (rw first refl)
 
-  pub NextParts-next : (place prefix : ℕ) → place < length indexes → 0 < place → prefix ≡ shared (lists (get_or indexes (place - 1) 0)) (lists (get_or indexes place 0)) → NextParts place prefix
+  pub NextParts-next : (place prefix : ℕ) → place < length indexes → 0 < place → prefix ≡ shared_count (lists (get_or indexes (place - 1) 0)) (lists (get_or indexes place 0)) → NextParts place prefix
   NextParts-next place prefix below some is =
       let before : map lists (take place indexes) ≡ map lists (take (place - 1) indexes) ++ lists (get_or indexes (place - 1) 0) ∷ [] = let back : place - 1 + 1 ≡ place = omega arith in rw back at (map-take-more (place - 1) (omega arith)) in
       let last : last_of [] (map lists (take place indexes)) ≡ lists (get_or indexes (place - 1) 0) = ap (last_of []) before ∙ last_of-push [] (lists (get_or indexes (place - 1) 0)) (map lists (take (place - 1) indexes)) in
-      next_parts place prefix below (is ∙ ap (λ (ds : List Digest). shared ds (lists (get_or indexes place 0))) (sym last))
+      next_parts place prefix below (is ∙ ap (λ (ds : List Digest). shared_count ds (lists (get_or indexes place 0))) (sym last))
 
 -- ---- what is read
 
@@ -118,7 +118,7 @@ module _ {A Z : Type 0} (numbers : A → Digest) (rows : List (Vec A Z)) (row : 
   long = length-map rows (digests_of numbers)
 
   pub beside-level : k + 1 < 64
-  beside-level = omega (arith, level-fits (map (digests_of numbers) rows) holds.size holds.levels k index (omega (arith, long)) holds.inside holds.fits)
+  beside-level = omega (arith, level-fits (map (digests_of numbers) rows) holds.size holds.levels k index (omega (arith, long)) holds.inside holds.small)
 
   module _ (is : row ≡ get_or rows k row) (at : place ≡ neighbour (index / 2 ^ (k + 1))) where
     read : get_or (map (digests_of numbers) rows) k [] ≡ digests_of numbers row

@@ -5,7 +5,7 @@ use Rattle.std.specs.List.Sorted.{IsStrictlyIncreasing}
 use Rattle.std.proofs.lemmas.Bool.{cases_lt, lt-ltb, le-ltb, eq-eqb, ne_eqb}
 use Rattle.std.proofs.lemmas.List.Elements.{All-contains, All-from_get_or, Contains-get_or}
 use Rattle.std.proofs.lemmas.List.Kept.{AllPairs-from_increasing}
-use Rattle.ark_merkle.specs.MultiTrees.{placed, rising}
+use Rattle.ark_merkle.specs.MultiProof.{with_number, rising_set}
 
 -- ---- elements and order by recursion
 
@@ -84,17 +84,17 @@ trichotomy : (n x : ℕ) → (n < x) ⊎ ((n ≡ x) ⊎ (x < n))
 trichotomy n x = elim (cases_lt n x) [ inl lt ↦ inl lt | inr ge ↦ elim (cases_lt x n) [ inl gt ↦ inr (inr gt) | inr le ↦ inr (inl (omega arith)) ] ]
 
 module _ (n x : ℕ) (xs : List ℕ) where
-  placed-below : n < x → placed n (x ∷ xs) ≡ n ∷ x ∷ xs
+  placed-below : n < x → with_number n (x ∷ xs) ≡ n ∷ x ∷ xs
   placed-below lt = let e : ltb n x ≡ true = lt-ltb _ _ lt in rw e refl
 
-  placed-same : n ≡ x → placed n (x ∷ xs) ≡ x ∷ xs
+  placed-same : n ≡ x → with_number n (x ∷ xs) ≡ x ∷ xs
   placed-same same = let no : ltb n x ≡ false = le-ltb _ _ (omega arith) in let e : eqb n x ≡ true = eq-eqb n x same in rw (no, e) refl
 
-  placed-past : x < n → placed n (x ∷ xs) ≡ x ∷ placed n xs
+  placed-past : x < n → with_number n (x ∷ xs) ≡ x ∷ with_number n xs
   placed-past gt = let no : ltb n x ≡ false = le-ltb _ _ (omega arith) in let other : eqb n x ≡ false = ne_eqb n x (λ same. omega arith) in rw (no, other) refl
 
 module _ (n : ℕ) where
-  placed-holds : (xs : List ℕ) (k : ℕ) → (k ≡ n) ⊎ IsAmong k xs → IsAmong k (placed n xs)
+  placed-holds : (xs : List ℕ) (k : ℕ) → (k ≡ n) ⊎ IsAmong k xs → IsAmong k (with_number n xs)
   placed-holds [] k h = h
   placed-holds (x ∷ xs) k h =
       elim (trichotomy n x) [
@@ -107,12 +107,12 @@ module _ (n : ℕ) where
       at_same same (inl is) = inl (is ∙ same)
       at_same same (inr more) = more
 
-      at_past : ((k ≡ n) ⊎ IsAmong k xs → IsAmong k (placed n xs)) → (k ≡ n) ⊎ IsAmong k (x ∷ xs) → IsAmong k (x ∷ placed n xs)
+      at_past : ((k ≡ n) ⊎ IsAmong k xs → IsAmong k (with_number n xs)) → (k ≡ n) ⊎ IsAmong k (x ∷ xs) → IsAmong k (x ∷ with_number n xs)
       at_past further (inl is) = inr (further (inl is))
       at_past further (inr (inl first)) = inl first
       at_past further (inr (inr more)) = inr (further (inr more))
 
-  placed-adds : (xs : List ℕ) (k : ℕ) → IsAmong k (placed n xs) → (k ≡ n) ⊎ IsAmong k xs
+  placed-adds : (xs : List ℕ) (k : ℕ) → IsAmong k (with_number n xs) → (k ≡ n) ⊎ IsAmong k xs
   placed-adds [] k h = h
   placed-adds (x ∷ xs) k h =
       elim (trichotomy n x) [
@@ -125,51 +125,51 @@ module _ (n : ℕ) where
       regroup (inl is) = inl is
       regroup (inr more) = inr (inr more)
 
-      at_past : (IsAmong k (placed n xs) → (k ≡ n) ⊎ IsAmong k xs) → IsAmong k (x ∷ placed n xs) → (k ≡ n) ⊎ IsAmong k (x ∷ xs)
+      at_past : (IsAmong k (with_number n xs) → (k ≡ n) ⊎ IsAmong k xs) → IsAmong k (x ∷ with_number n xs) → (k ≡ n) ⊎ IsAmong k (x ∷ xs)
       at_past further (inl first) = inr (inl first)
       at_past further (inr more) = regroup (further more)
 
-  placed-rises : (xs : List ℕ) → Rise xs → Rise (placed n xs)
+  placed-rises : (xs : List ℕ) → Rise xs → Rise (with_number n xs)
   placed-rises [] r = (tt, tt)
   placed-rises (x ∷ xs) r =
       elim (trichotomy n x) [
         | inl lt ↦ rw (placed-below n x xs lt) ((lt, AreAbove-by n xs (λ k more. let above = AreAbove-among x xs k r.0 more in omega arith)), r)
         | inr (inl same) ↦ rw (placed-same n x xs same) r
-        | inr (inr gt) ↦ rw (placed-past n x xs gt) (AreAbove-by x (placed n xs) (λ k more. higher gt k (placed-adds xs k more)), placed-rises xs r.1)
+        | inr (inr gt) ↦ rw (placed-past n x xs gt) (AreAbove-by x (with_number n xs) (λ k more. higher gt k (placed-adds xs k more)), placed-rises xs r.1)
       ]
     where
       higher : x < n → (k : ℕ) → (k ≡ n) ⊎ IsAmong k xs → x < k
       higher gt k (inl is) = omega arith
       higher gt k (inr more) = AreAbove-among x xs k r.0 more
 
-rising-rises : (xs : List ℕ) → Rise (rising xs)
+rising-rises : (xs : List ℕ) → Rise (rising_set xs)
 rising-rises [] = tt
-rising-rises (x ∷ xs) = placed-rises x (rising xs) (rising-rises xs)
+rising-rises (x ∷ xs) = placed-rises x (rising_set xs) (rising-rises xs)
 
-rising-holds : (xs : List ℕ) (k : ℕ) → IsAmong k xs → IsAmong k (rising xs)
+rising-holds : (xs : List ℕ) (k : ℕ) → IsAmong k xs → IsAmong k (rising_set xs)
 rising-holds [] k none = none
-rising-holds (x ∷ xs) k (inl is) = placed-holds x (rising xs) k (inl is)
-rising-holds (x ∷ xs) k (inr more) = placed-holds x (rising xs) k (inr (rising-holds xs k more))
+rising-holds (x ∷ xs) k (inl is) = placed-holds x (rising_set xs) k (inl is)
+rising-holds (x ∷ xs) k (inr more) = placed-holds x (rising_set xs) k (inr (rising-holds xs k more))
 
-rising-adds : (xs : List ℕ) (k : ℕ) → IsAmong k (rising xs) → IsAmong k xs
+rising-adds : (xs : List ℕ) (k : ℕ) → IsAmong k (rising_set xs) → IsAmong k xs
 rising-adds [] k h = h
-rising-adds (x ∷ xs) k h = elim (placed-adds x (rising xs) k h) [ inl is ↦ inl is | inr more ↦ inr (rising-adds xs k more) ]
+rising-adds (x ∷ xs) k h = elim (placed-adds x (rising_set xs) k h) [ inl is ↦ inl is | inr more ↦ inr (rising-adds xs k more) ]
 
 -- ---- what callers need
 
-pub rising-increases : (xs : List ℕ) → IsStrictlyIncreasing (rising xs)
-rising-increases xs = IsStrictlyIncreasing-rise (rising xs) (rising-rises xs)
+pub rising-increases : (xs : List ℕ) → IsStrictlyIncreasing (rising_set xs)
+rising-increases xs = IsStrictlyIncreasing-rise (rising_set xs) (rising-rises xs)
 
-pub rising-elements : (xs : List ℕ) (n : ℕ) → Contains (rising xs) n ↔ Contains xs n
-rising-elements xs n = (λ h. Contains-among xs n (rising-adds xs n (IsAmong-contained (rising xs) n h)), λ h. Contains-among (rising xs) n (rising-holds xs n (IsAmong-contained xs n h)))
+pub rising-elements : (xs : List ℕ) (n : ℕ) → Contains (rising_set xs) n ↔ Contains xs n
+rising-elements xs n = (λ h. Contains-among xs n (rising-adds xs n (IsAmong-contained (rising_set xs) n h)), λ h. Contains-among (rising_set xs) n (rising-holds xs n (IsAmong-contained xs n h)))
 
-pub rising-unique : (xs ys : List ℕ) → IsStrictlyIncreasing ys → ((n : ℕ) → Contains xs n → Contains ys n) → ((n : ℕ) → Contains ys n → Contains xs n) → rising xs ≡ ys
+pub rising-unique : (xs ys : List ℕ) → IsStrictlyIncreasing ys → ((n : ℕ) → Contains xs n → Contains ys n) → ((n : ℕ) → Contains ys n → Contains xs n) → rising_set xs ≡ ys
 rising-unique xs ys increases keeps adds_none =
-    Rise-unique (rising xs) ys (rising-rises xs) (Rise-increasing ys increases) (λ k h. IsAmong-contained ys k (keeps k (Contains-among xs k (rising-adds xs k h)))) (λ k h. rising-holds xs k (IsAmong-contained xs k (adds_none k (Contains-among ys k h))))
+    Rise-unique (rising_set xs) ys (rising-rises xs) (Rise-increasing ys increases) (λ k h. IsAmong-contained ys k (keeps k (Contains-among xs k (rising-adds xs k h)))) (λ k h. rising-holds xs k (IsAmong-contained xs k (adds_none k (Contains-among ys k h))))
 
-pub All-rising : (P : ℕ → Type 0) (xs : List ℕ) → All P xs → All P (rising xs)
-All-rising P xs h = All-from_get_or P (rising xs) 0 (λ i below. All-contains P xs (get_or (rising xs) i 0) h ((rising-elements xs (get_or (rising xs) i 0)).0 (Contains-get_or (rising xs) i 0 below)))
+pub All-rising : (P : ℕ → Type 0) (xs : List ℕ) → All P xs → All P (rising_set xs)
+All-rising P xs h = All-from_get_or P (rising_set xs) 0 (λ i below. All-contains P xs (get_or (rising_set xs) i 0) h ((rising-elements xs (get_or (rising_set xs) i 0)).0 (Contains-get_or (rising_set xs) i 0 below)))
 
-pub rising-some : (xs : List ℕ) → 0 < length xs → 0 < length (rising xs)
+pub rising-some : (xs : List ℕ) → 0 < length xs → 0 < length (rising_set xs)
 rising-some [] some = absurd (omega arith)
-rising-some (x ∷ xs) some = let c = Contains-among (rising (x ∷ xs)) x (rising-holds (x ∷ xs) x (inl refl)) in omega (arith, c.1)
+rising-some (x ∷ xs) some = let c = Contains-among (rising_set (x ∷ xs)) x (rising-holds (x ∷ xs) x (inl refl)) in omega (arith, c.1)

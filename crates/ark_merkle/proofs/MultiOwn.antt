@@ -5,14 +5,14 @@ use Rattle.std.specs.declared.vec.Vec.{Vec}
 use Rattle.std.proofs.lemmas.Bool.{ne_eqb}
 use Rattle.std.proofs.lemmas.List.{length-map}
 use Rattle.ark_base.specs.Outcome.{Outcome}
-use Rattle.ark_merkle.specs.Indexes.{neighbour}
-use Rattle.ark_merkle.specs.MultiPaths.{MultiWay, decoded, verified_from, multi_verified}
-use Rattle.ark_merkle.specs.MultiTrees.{rising, prefixes_of, suffixes_of, own_multi_path}
-use Rattle.ark_merkle.specs.Pairs.{Digest, HashPair}
-use Rattle.ark_merkle.specs.Paths.{Way}
-use Rattle.ark_merkle.specs.Roots.{root, upper_levels}
+use Rattle.ark_merkle.specs.Index.{neighbour}
+use Rattle.ark_merkle.specs.MultiPath.{MultiWay, decoded_paths, multi_verdict_from, multi_verdict}
+use Rattle.ark_merkle.specs.MultiProof.{rising_set, prefixes_of, suffixes_of, own_multi_path}
+use Rattle.ark_merkle.specs.Pair.{Digest, HashPair}
+use Rattle.ark_merkle.specs.Path.{Way}
+use Rattle.ark_merkle.specs.Root.{root, upper_levels}
 use Rattle.ark_merkle.specs.Rows.{IsTree, HoldsIndex, beside_in, digests_of, rows_seen}
-use Rattle.ark_merkle.specs.Trees.{own_path}
+use Rattle.ark_merkle.specs.Tree.{own_path}
 use Rattle.ark_merkle.proofs.MultiIndexes.{All-rising, rising-some}
 use Rattle.ark_merkle.proofs.MultiShared.{decoded-merged}
 use Rattle.ark_merkle.proofs.OwnPaths.{length-beside_in, own_path-rows, own_path-accepted, leaf-neighbour}
@@ -55,51 +55,51 @@ module _ (h : HashPair) (leaves : List Digest) (rows : List (List Digest)) (tree
   own-some [] = refl
   own-some (i ∷ indexes) = ap (λ (ways : List (Option Way)). Some (own i) ∷ ways) (own-some indexes)
 
-  own-verified : (r : Digest) (place : ℕ) (indexes : List ℕ) → All IsInside indexes → root h leaves ≡ Ok r → verified_from h r place (map (λ i. Some (own_path h i leaves)) indexes) (map (λ i. Ok (get_or leaves i [])) indexes) ≡ Ok true
+  own-verified : (r : Digest) (place : ℕ) (indexes : List ℕ) → All IsInside indexes → root h leaves ≡ Ok r → multi_verdict_from h r place (map (λ i. Some (own_path h i leaves)) indexes) (map (λ i. Ok (get_or leaves i [])) indexes) ≡ Ok true
   own-verified r place [] inside rooted = refl
   own-verified r place (i ∷ indexes) inside rooted =
       rw (own_path-accepted h leaves rows tree i (first_of IsInside i indexes inside) (own i) (Ok (get_or leaves i [])) r refl refl rooted) (own-verified r (suc place) indexes (rest_of IsInside i indexes inside) rooted)
 
   module _ (asked : List ℕ) (inside : All IsInside asked) where
-    within : All IsInside (rising asked)
+    within : All IsInside (rising_set asked)
     within = All-rising IsInside asked inside
 
     -- a tree's own multi-proof, from its rows
     pub own_multi_path-rows : own_multi_path h asked leaves ≡ record {
-      siblings = map (λ i. get_or leaves (neighbour i) []) (rising asked);
-      prefixes = prefixes_of [] (map (beside_in rows (upper_levels leaves)) (rising asked));
-      suffixes = suffixes_of [] (map (beside_in rows (upper_levels leaves)) (rising asked));
-      indexes = rising asked;
+      siblings = map (λ i. get_or leaves (neighbour i) []) (rising_set asked);
+      prefixes = prefixes_of [] (map (beside_in rows (upper_levels leaves)) (rising_set asked));
+      suffixes = suffixes_of [] (map (beside_in rows (upper_levels leaves)) (rising_set asked));
+      indexes = rising_set asked;
     }
     own_multi_path-rows = λ j. record {
-      siblings = own-siblings (rising asked) j;
-      prefixes = prefixes_of [] (own-aboves (rising asked) within j);
-      suffixes = suffixes_of [] (own-aboves (rising asked) within j);
-      indexes = own-indexes (rising asked) j;
+      siblings = own-siblings (rising_set asked) j;
+      prefixes = prefixes_of [] (own-aboves (rising_set asked) within j);
+      suffixes = suffixes_of [] (own-aboves (rising_set asked) within j);
+      indexes = own-indexes (rising_set asked) j;
     }
 
-    own-decoded : decoded (own_multi_path h asked leaves) ≡ map (λ i. Some (own_path h i leaves)) (rising asked)
-    own-decoded = decoded-merged (upper_levels leaves) (map own (rising asked)) (own-long (rising asked) within) ∙ own-some (rising asked)
+    own-decoded : decoded_paths (own_multi_path h asked leaves) ≡ map (λ i. Some (own_path h i leaves)) (rising_set asked)
+    own-decoded = decoded-merged (upper_levels leaves) (map own (rising_set asked)) (own-long (rising_set asked) within) ∙ own-some (rising_set asked)
 
-    own-accepted : (r : Digest) → 0 < length asked → root h leaves ≡ Ok r → multi_verified h (map (λ i. Ok (get_or leaves i [])) (rising asked)) (own_multi_path h asked leaves) r ≡ Ok true
+    own-accepted : (r : Digest) → 0 < length asked → root h leaves ≡ Ok r → multi_verdict h (map (λ i. Ok (get_or leaves i [])) (rising_set asked)) (own_multi_path h asked leaves) r ≡ Ok true
     own-accepted r some rooted =
-        let long : length (map (λ way. way.index) (map own (rising asked))) ≡ length (rising asked) = ap length (own-indexes (rising asked)) in
-        let not_none : nat_eq (length (map (λ way. way.index) (map own (rising asked)))) 0 ≡ false = ne_eqb _ 0 (λ none. omega (arith, long, rising-some asked some)) in
-        rw (not_none, own-decoded) (own-verified r 0 (rising asked) within rooted)
+        let long : length (map (λ way. way.index) (map own (rising_set asked))) ≡ length (rising_set asked) = ap length (own-indexes (rising_set asked)) in
+        let not_none : nat_eq (length (map (λ way. way.index) (map own (rising_set asked)))) 0 ≡ false = ne_eqb _ 0 (λ none. omega (arith, long, rising-some asked some)) in
+        rw (not_none, own-decoded) (own-verified r 0 (rising_set asked) within rooted)
 
-    module _ (m : MultiWay) (indexes : List ℕ) (is : own_multi_path h asked leaves ≡ m) (once : rising asked ≡ indexes) where
+    module _ (m : MultiWay) (indexes : List ℕ) (is : own_multi_path h asked leaves ≡ m) (once : rising_set asked ≡ indexes) where
       -- it decodes to the own paths of its indexes
-      pub own_multi_path-decoded : decoded m ≡ map (λ i. Some (own_path h i leaves)) indexes
-      own_multi_path-decoded = ap decoded (sym is) ∙ own-decoded ∙ ap (map (λ i. Some (own_path h i leaves))) once
+      pub own_multi_path-decoded : decoded_paths m ≡ map (λ i. Some (own_path h i leaves)) indexes
+      own_multi_path-decoded = ap decoded_paths (sym is) ∙ own-decoded ∙ ap (map (λ i. Some (own_path h i leaves))) once
 
       -- it is accepted with the digests of its leaves
-      pub own_multi_path-accepted : (hashed : List (Outcome Digest)) (r : Digest) → 0 < length asked → hashed ≡ map (λ i. Ok (get_or leaves i [])) indexes → root h leaves ≡ Ok r → multi_verified h hashed m r ≡ Ok true
+      pub own_multi_path-accepted : (hashed : List (Outcome Digest)) (r : Digest) → 0 < length asked → hashed ≡ map (λ i. Ok (get_or leaves i [])) indexes → root h leaves ≡ Ok r → multi_verdict h hashed m r ≡ Ok true
       own_multi_path-accepted hashed r some are rooted =
-          ap (λ (ds : List (Outcome Digest)). multi_verified h ds m r) (are ∙ ap (map (λ i. Ok (get_or leaves i []))) (sym once)) ∙ ap (λ (w : MultiWay). multi_verified h (map (λ i. Ok (get_or leaves i [])) (rising asked)) w r) (sym is) ∙ own-accepted r some rooted
+          ap (λ (ds : List (Outcome Digest)). multi_verdict h ds m r) (are ∙ ap (map (λ i. Ok (get_or leaves i []))) (sym once)) ∙ ap (λ (w : MultiWay). multi_verdict h (map (λ i. Ok (get_or leaves i [])) (rising_set asked)) w r) (sym is) ∙ own-accepted r some rooted
 
 -- ---- as the calls of a tree read them
 
-module _ {L I W Z Y : Type 0} (leaf : L → Digest) (inner : I → Digest) (h : HashPair) (leaves : List Digest) (kept : Vec L W) (rows : Vec (Vec I Z) Y) (tree : IsTree h leaves (rows_seen inner rows)) (are : digests_of leaf kept ≡ leaves) (asked indexes : List ℕ) (inside : All (λ i. i < length leaves) asked) (once : rising asked ≡ indexes) where
+module _ {L I W Z Y : Type 0} (leaf : L → Digest) (inner : I → Digest) (h : HashPair) (leaves : List Digest) (kept : Vec L W) (rows : Vec (Vec I Z) Y) (tree : IsTree h leaves (rows_seen inner rows)) (are : digests_of leaf kept ≡ leaves) (asked indexes : List ℕ) (inside : All (λ i. i < length leaves) asked) (once : rising_set asked ≡ indexes) where
   inside_once : All (λ i. i < length leaves) indexes
   inside_once = rw once at (All-rising (λ i. i < length leaves) asked inside)
 
@@ -121,7 +121,7 @@ module _ {L I W Z Y : Type 0} (leaf : L → Digest) (inner : I → Digest) (h : 
       let m = upper_levels leaves in
       let seen = rows_seen inner rows in
       let last : length rows_in - 1 ≡ m = omega (arith, ap length same_rows, length-rows inner h leaves rows tree) in
-      let beside : map (λ i. get_or leaves (neighbour i) []) (rising asked) ≡ siblings = rw (once, ← are) (rw (same_leaves, same) at siblings_are) in
-      let shared : prefixes_of [] (map (beside_in seen m) (rising asked)) ≡ prefixes = rw once (rw (last, same_rows, same_more) at prefixes_are) in
-      let others : suffixes_of [] (map (beside_in seen m) (rising asked)) ≡ suffixes = rw once (rw (last, same_rows, same_more) at suffixes_are) in
+      let beside : map (λ i. get_or leaves (neighbour i) []) (rising_set asked) ≡ siblings = rw (once, ← are) (rw (same_leaves, same) at siblings_are) in
+      let shared : prefixes_of [] (map (beside_in seen m) (rising_set asked)) ≡ prefixes = rw once (rw (last, same_rows, same_more) at prefixes_are) in
+      let others : suffixes_of [] (map (beside_in seen m) (rising_set asked)) ≡ suffixes = rw once (rw (last, same_rows, same_more) at suffixes_are) in
       own_multi_path-rows h leaves seen tree asked inside ∙ (λ j. record { siblings = beside j; prefixes = shared j; suffixes = others j; indexes = once j })

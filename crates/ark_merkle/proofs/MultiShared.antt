@@ -4,34 +4,34 @@ use Rattle.std.specs.List.{AllByRecursion}
 use Rattle.std.proofs.lemmas.Bool.{eq-eqb}
 use Rattle.std.proofs.lemmas.List.{take-append-drop}
 use Rattle.std.proofs.lemmas.Slice.Eq.{bytes_eq-Decides}
-use Rattle.ark_merkle.specs.MultiPaths.{MultiWay, path_length, decoded_at, decoded_from, decoded}
-use Rattle.ark_merkle.specs.MultiTrees.{shared, prefixes_of, suffixes_of, merged}
-use Rattle.ark_merkle.specs.Pairs.{Digest, digest_eq}
-use Rattle.ark_merkle.specs.Paths.{Way}
+use Rattle.ark_merkle.specs.MultiPath.{MultiWay, path_length, decoded_path, decoded_paths_from, decoded_paths}
+use Rattle.ark_merkle.specs.MultiProof.{shared_count, prefixes_of, suffixes_of, multi_path_of}
+use Rattle.ark_merkle.specs.Pair.{Digest, digest_eq}
+use Rattle.ark_merkle.specs.Path.{Way}
 
 -- ---- digests in common
 
-pub shared-same : (x y : Digest) (xs ys : List Digest) → digest_eq x y ≡ true → shared (x ∷ xs) (y ∷ ys) ≡ suc (shared xs ys)
+pub shared-same : (x y : Digest) (xs ys : List Digest) → digest_eq x y ≡ true → shared_count (x ∷ xs) (y ∷ ys) ≡ suc (shared_count xs ys)
 shared-same x y xs ys same = rw same refl
 
-pub shared-other : (x y : Digest) (xs ys : List Digest) → digest_eq x y ≡ false → shared (x ∷ xs) (y ∷ ys) ≡ 0
+pub shared-other : (x y : Digest) (xs ys : List Digest) → digest_eq x y ≡ false → shared_count (x ∷ xs) (y ∷ ys) ≡ 0
 shared-other x y xs ys other = rw other refl
 
-shared-by : (x y : Digest) (xs ys : List Digest) (b : Bool) → digest_eq x y ≡ b → (shared xs ys ≤ length ys) × (take (shared xs ys) xs ≡ take (shared xs ys) ys) → (shared (x ∷ xs) (y ∷ ys) ≤ suc (length ys)) × (take (shared (x ∷ xs) (y ∷ ys)) (x ∷ xs) ≡ take (shared (x ∷ xs) (y ∷ ys)) (y ∷ ys))
-shared-by x y xs ys true e h = let same : x ≡ y = (bytes_eq-Decides x y).0 e in rw e (omega (arith, h.0), ap (λ (d : Digest). d ∷ take (shared xs ys) xs) same ∙ ap (λ (ds : List Digest). y ∷ ds) h.1)
+shared-by : (x y : Digest) (xs ys : List Digest) (b : Bool) → digest_eq x y ≡ b → (shared_count xs ys ≤ length ys) × (take (shared_count xs ys) xs ≡ take (shared_count xs ys) ys) → (shared_count (x ∷ xs) (y ∷ ys) ≤ suc (length ys)) × (take (shared_count (x ∷ xs) (y ∷ ys)) (x ∷ xs) ≡ take (shared_count (x ∷ xs) (y ∷ ys)) (y ∷ ys))
+shared-by x y xs ys true e h = let same : x ≡ y = (bytes_eq-Decides x y).0 e in rw e (omega (arith, h.0), ap (λ (d : Digest). d ∷ take (shared_count xs ys) xs) same ∙ ap (λ (ds : List Digest). y ∷ ds) h.1)
 shared-by x y xs ys false e h = rw e (omega arith, refl)
 
 -- both lists have as many digests, and these are the same
-shared-is : (xs ys : List Digest) → (shared xs ys ≤ length ys) × (take (shared xs ys) xs ≡ take (shared xs ys) ys)
+shared-is : (xs ys : List Digest) → (shared_count xs ys ≤ length ys) × (take (shared_count xs ys) xs ≡ take (shared_count xs ys) ys)
 shared-is [] ys = (omega arith, refl)
 shared-is (x ∷ xs) [] = (omega arith, refl)
 shared-is (x ∷ xs) (y ∷ ys) = shared-by x y xs ys (digest_eq x y) refl (shared-is xs ys)
 
-pub shared-le : (xs ys : List Digest) → shared xs ys ≤ length ys
+pub shared-le : (xs ys : List Digest) → shared_count xs ys ≤ length ys
 shared-le xs ys = (shared-is xs ys).0
 
-pub shared-rest : (before list : List Digest) → take (shared before list) before ++ drop (shared before list) list ≡ list
-shared-rest before list = ap (λ (ds : List Digest). ds ++ drop (shared before list) list) (shared-is before list).1 ∙ take-append-drop (shared before list) list
+pub shared-rest : (before list : List Digest) → take (shared_count before list) before ++ drop (shared_count before list) list ≡ list
+shared-rest before list = ap (λ (ds : List Digest). ds ++ drop (shared_count before list) list) (shared-is before list).1 ∙ take-append-drop (shared_count before list) list
 
 -- ---- lists of lists, from the front
 
@@ -44,13 +44,13 @@ pub last_of-push : (before list : List Digest) (lists : List (List Digest)) → 
 last_of-push before list [] = refl
 last_of-push before list (l ∷ lists) = last_of-push l list lists
 
-pub prefixes_of-push : (before list : List Digest) (lists : List (List Digest)) → prefixes_of before (lists ++ list ∷ []) ≡ prefixes_of before lists ++ shared (last_of before lists) list ∷ []
+pub prefixes_of-push : (before list : List Digest) (lists : List (List Digest)) → prefixes_of before (lists ++ list ∷ []) ≡ prefixes_of before lists ++ shared_count (last_of before lists) list ∷ []
 prefixes_of-push before list [] = refl
-prefixes_of-push before list (l ∷ lists) = ap (λ (ns : List ℕ). shared before l ∷ ns) (prefixes_of-push l list lists)
+prefixes_of-push before list (l ∷ lists) = ap (λ (ns : List ℕ). shared_count before l ∷ ns) (prefixes_of-push l list lists)
 
-pub suffixes_of-push : (before list : List Digest) (lists : List (List Digest)) → suffixes_of before (lists ++ list ∷ []) ≡ suffixes_of before lists ++ drop (shared (last_of before lists) list) list ∷ []
+pub suffixes_of-push : (before list : List Digest) (lists : List (List Digest)) → suffixes_of before (lists ++ list ∷ []) ≡ suffixes_of before lists ++ drop (shared_count (last_of before lists) list) list ∷ []
 suffixes_of-push before list [] = refl
-suffixes_of-push before list (l ∷ lists) = ap (λ (ds : List (List Digest)). drop (shared before l) l ∷ ds) (suffixes_of-push l list lists)
+suffixes_of-push before list (l ∷ lists) = ap (λ (ds : List (List Digest)). drop (shared_count before l) l ∷ ds) (suffixes_of-push l list lists)
 
 -- ---- decoding
 
@@ -75,15 +75,15 @@ record HasParts (m : MultiWay) (i : ℕ) (before : List Digest) (ways : List Way
   prefixes : drop i m.prefixes ≡ prefixes_of before (above_of ways)
   suffixes : drop i m.suffixes ≡ suffixes_of before (above_of ways)
 
-decoded_at-part : (m : MultiWay) (i : ℕ) (before : List Digest) (way : Way) (ways : List Way) → HasParts m i before (way ∷ ways) → length way.above ≡ path_length m → decoded_at m i before way.index ≡ Some way
+decoded_at-part : (m : MultiWay) (i : ℕ) (before : List Digest) (way : Way) (ways : List Way) → HasParts m i before (way ∷ ways) → length way.above ≡ path_length m → decoded_path m i before way.index ≡ Some way
 decoded_at-part m i before way ways parts long =
-    let n = shared before way.above in
+    let n = shared_count before way.above in
     let rest = drop n way.above in
     let fit : nat_eq (n + length rest) (path_length m) ≡ true = eq-eqb _ _ (omega (arith, long, length-drop n way.above, shared-le before way.above)) in
     rw (slice_get-drop m.siblings i way.sibling _ parts.siblings, slice_get-drop m.prefixes i n _ parts.prefixes, slice_get-drop m.suffixes i rest _ parts.suffixes, fit)
     (ap (λ (ds : List Digest). Some (record { sibling = way.sibling; above = ds; index = way.index })) (shared-rest before way.above))
 
-decoded_from-parts : (m : MultiWay) (i : ℕ) (before : List Digest) (ways : List Way) → HasParts m i before ways → AllByRecursion (λ way. length way.above ≡ path_length m) ways → decoded_from m i before (map (λ way. way.index) ways) ≡ map Some ways
+decoded_from-parts : (m : MultiWay) (i : ℕ) (before : List Digest) (ways : List Way) → HasParts m i before ways → AllByRecursion (λ way. length way.above ≡ path_length m) ways → decoded_paths_from m i before (map (λ way. way.index) ways) ≡ map Some ways
 decoded_from-parts m i before [] parts long = refl
 decoded_from-parts m i before (way ∷ ways) parts long =
     let next : HasParts m (suc i) way.above ways = record {
@@ -98,6 +98,6 @@ as_long k n [] same long = tt
 as_long k n (way ∷ ways) same long = (long.0 ∙ same, as_long k n ways same long.1)
 
 -- paths of one length are decoded from what they are merged to
-pub decoded-merged : (k : ℕ) (ways : List Way) → AllByRecursion (λ way. length way.above ≡ k) ways → decoded (merged ways) ≡ map Some ways
+pub decoded-merged : (k : ℕ) (ways : List Way) → AllByRecursion (λ way. length way.above ≡ k) ways → decoded_paths (multi_path_of ways) ≡ map Some ways
 decoded-merged k [] long = refl
-decoded-merged k (way ∷ ways) long = decoded_from-parts (merged (way ∷ ways)) 0 [] (way ∷ ways) (record { siblings = refl; prefixes = refl; suffixes = refl }) (as_long k (length way.above) (way ∷ ways) (sym long.0) long)
+decoded-merged k (way ∷ ways) long = decoded_from-parts (multi_path_of (way ∷ ways)) 0 [] (way ∷ ways) (record { siblings = refl; prefixes = refl; suffixes = refl }) (as_long k (length way.above) (way ∷ ways) (sym long.0) long)

@@ -4,16 +4,16 @@ use Rattle.std.proofs.lemmas.Slice.Eq.{bytes_eq-Decides}
 use Rattle.std.proofs.lemmas.Bool.{eqb-true, eqb-false}
 use Rattle.std.proofs.Math.Nat.{pow-suc, pow-succ', div-div-eq-div-mul, div-eq_of_lt}
 use Rattle.ark_base.specs.Outcome.{Outcome}
-use Rattle.ark_merkle.specs.Indexes.{bit_at, neighbour}
-use Rattle.ark_merkle.specs.Pairs.{Digest, HashPair, ordered, digest_eq}
-use Rattle.ark_merkle.specs.Paths.{Way, climbed, top, verified}
-use Rattle.ark_merkle.specs.Roots.{Root, at_level, place, outcome_of, root, upper_levels}
+use Rattle.ark_merkle.specs.Index.{bit_at, neighbour}
+use Rattle.ark_merkle.specs.Pair.{Digest, HashPair, hash_in_order, digest_eq}
+use Rattle.ark_merkle.specs.Path.{Way, climb, path_root, verdict}
+use Rattle.ark_merkle.specs.Root.{Root, place_at, place, outcome_of, root, upper_levels}
 use Rattle.ark_merkle.specs.Rows.{IsTree, part, beside_in}
-use Rattle.ark_merkle.specs.Trees.{digest_of, halves_beside, own_path}
+use Rattle.ark_merkle.specs.Tree.{root_digest, halves_beside, own_path}
 use Rattle.ark_merkle.proofs.Parts.{part-left, part-right, get_or-part, part-whole}
 use Rattle.ark_merkle.proofs.PlaceLemmas.{row-twice, place-inside, neighbour-inside}
 
-at_level-root : (level : ℕ) (o : Outcome Digest) (digest : Digest) → at_level level o ≡ Root digest → o ≡ Ok digest
+at_level-root : (level : ℕ) (o : Outcome Digest) (digest : Digest) → place_at level o ≡ Root digest → o ≡ Ok digest
 at_level-root level (Ok d) digest e = let same : d ≡ digest = cc in ap Ok same
 at_level-root level (Err f) digest e = absurd cc
 
@@ -39,12 +39,12 @@ pub is_couple : (i : ℕ) (b : Bool) → bit_at i 0 ≡ b → IsCouple b i
 is_couple i true is = let odd : (i / 2 ^ 0) % 2 ≡ 1 = eqb-true ((i / 2 ^ 0) % 2) 1 is in record { place_is = omega arith; neighbour_is = omega arith }
 is_couple i false is = let even : (i / 2 ^ 0) % 2 ≡ 1 → ⊥ = eqb-false ((i / 2 ^ 0) % 2) 1 is in record { place_is = omega arith; neighbour_is = omega arith }
 
-ordered_by : (hash : Digest → Digest → Outcome Digest) (row : List Digest) (i : ℕ) (b : Bool) → IsCouple b i → ordered hash b (get_or row i []) (get_or row (if b then i - 1 else i + 1) []) ≡ hash (get_or row (2 * (i / 2)) []) (get_or row (2 * (i / 2) + 1) [])
+ordered_by : (hash : Digest → Digest → Outcome Digest) (row : List Digest) (i : ℕ) (b : Bool) → IsCouple b i → hash_in_order hash b (get_or row i []) (get_or row (if b then i - 1 else i + 1) []) ≡ hash (get_or row (2 * (i / 2)) []) (get_or row (2 * (i / 2) + 1) [])
 ordered_by hash row i true c = rw (c.neighbour_is, ← c.place_is) refl
 ordered_by hash row i false c = rw (c.neighbour_is, ← c.place_is) refl
 
 -- Two neighbours make one pair, whichever of them comes first.
-pub ordered-neighbour : (hash : Digest → Digest → Outcome Digest) (row : List Digest) (i : ℕ) → ordered hash (bit_at i 0) (get_or row i []) (get_or row (neighbour i) []) ≡ hash (get_or row (2 * (i / 2)) []) (get_or row (2 * (i / 2) + 1) [])
+pub ordered-neighbour : (hash : Digest → Digest → Outcome Digest) (row : List Digest) (i : ℕ) → hash_in_order hash (bit_at i 0) (get_or row i []) (get_or row (neighbour i) []) ≡ hash (get_or row (2 * (i / 2)) []) (get_or row (2 * (i / 2) + 1) [])
 ordered-neighbour hash row i = ordered_by hash row i (bit_at i 0) (is_couple i (bit_at i 0) refl)
 
 pub length-beside_in : (rows : List (List Digest)) (k index : ℕ) → length (beside_in rows k index) ≡ k
@@ -53,12 +53,12 @@ length-beside_in rows (suc k) index = ap suc (length-beside_in rows k index)
 
 -- ---- the halves beside a way
 
-halves_by : (h : HashPair) (leaves : List Digest) (index k q p : ℕ) (b : Bool) → bit_at index (suc k) ≡ b → IsCouple b p → q ≡ p / 2 → halves_beside h (suc k) index (part (suc k) q leaves) ≡ digest_of (place h k (part k (if b then p - 1 else p + 1) leaves)) ∷ halves_beside h k index (part k p leaves)
+halves_by : (h : HashPair) (leaves : List Digest) (index k q p : ℕ) (b : Bool) → bit_at index (suc k) ≡ b → IsCouple b p → q ≡ p / 2 → halves_beside h (suc k) index (part (suc k) q leaves) ≡ root_digest (place h k (part k (if b then p - 1 else p + 1) leaves)) ∷ halves_beside h k index (part k p leaves)
 halves_by h leaves index k q p true is c half = rw (is, part-left k q leaves, part-right k q leaves, c.neighbour_is, half, ← c.place_is) refl
 halves_by h leaves index k q p false is c half = rw (is, part-left k q leaves, part-right k q leaves, c.neighbour_is, half, ← c.place_is) refl
 
 halves_beside-part : (h : HashPair) (leaves : List Digest) (index k : ℕ)
-    → halves_beside h (suc k) index (part (suc k) (index / 2 ^ suc (suc k)) leaves) ≡ digest_of (place h k (part k (neighbour (index / 2 ^ suc k)) leaves)) ∷ halves_beside h k index (part k (index / 2 ^ suc k) leaves)
+    → halves_beside h (suc k) index (part (suc k) (index / 2 ^ suc (suc k)) leaves) ≡ root_digest (place h k (part k (neighbour (index / 2 ^ suc k)) leaves)) ∷ halves_beside h k index (part k (index / 2 ^ suc k) leaves)
 halves_beside-part h leaves index k =
     let p = index / 2 ^ suc k in
     let bit : bit_at index (suc k) ≡ bit_at p 0 = sym (bit_at-level index (suc k)) in
@@ -117,17 +117,17 @@ module _ (h : HashPair) (leaves : List Digest) (rows : List (List Digest)) (tree
         let same : halves_beside h m index leaves ≡ above = ap (halves_beside h m index) (sym whole) ∙ sym (beside_in-halves m (omega (arith, tree.count))) ∙ sym is in
         ap (λ (ds : List Digest). record { sibling = get_or leaves (neighbour index) []; above = ds; index = index }) same
 
-    climbed-own : (k : ℕ) → k < length rows → (lowest : Digest) → lowest ≡ get_or (get_or rows 0 []) (index / 2 ^ 1) [] → climbed h.upper index (beside_in rows k index) lowest ≡ Ok (get_or (get_or rows k []) (index / 2 ^ suc k) [])
+    climbed-own : (k : ℕ) → k < length rows → (lowest : Digest) → lowest ≡ get_or (get_or rows 0 []) (index / 2 ^ 1) [] → climb h.upper index (beside_in rows k index) lowest ≡ Ok (get_or (get_or rows k []) (index / 2 ^ suc k) [])
     climbed-own zero below lowest is = ap Ok is
     climbed-own (suc k) below lowest is =
         let p = index / 2 ^ suc k in
         let half : index / 2 ^ suc (suc k) ≡ p / 2 = place-above index (suc k) in
         let above = place-inside rows (length leaves) tree.levels (suc k) index below inside in
-        let under : climbed h.upper index (beside_in rows k index) lowest ≡ Ok (get_or (get_or rows k []) p []) = climbed-own k (omega arith) lowest is in
+        let under : climb h.upper index (beside_in rows k index) lowest ≡ Ok (get_or (get_or rows k []) p []) = climbed-own k (omega arith) lowest is in
         let hashed = upper-row k (p / 2) below (omega arith) in
         rw (under, length-beside_in rows k index, half, ← bit_at-level index (suc k), ordered-neighbour h.upper (get_or rows k []) p) hashed
 
-    own_path-top : top h (own_path h index leaves) (get_or leaves index []) ≡ root h leaves
+    own_path-top : path_root h (own_path h index leaves) (get_or leaves index []) ≡ root h leaves
     own_path-top =
         let m = upper_levels leaves in
         let half : index / 2 ^ 1 ≡ index / 2 = omega arith in
@@ -135,7 +135,7 @@ module _ (h : HashPair) (leaves : List Digest) (rows : List (List Digest)) (tree
         let lowest = bottom-row (index / 2) (omega arith) in
         let own = own_path-rows (beside_in rows m index) refl in
         let up = climbed-own m (omega (arith, tree.count)) (get_or (get_or rows 0 []) (index / 2) []) (rw half refl) in
-        ap (λ (way : Way). top h way (get_or leaves index [])) own ∙ rw (ordered-neighbour h.bottom leaves index, lowest, up, first_place, root-top) refl
+        ap (λ (way : Way). path_root h way (get_or leaves index [])) own ∙ rw (ordered-neighbour h.bottom leaves index, lowest, up, first_place, root-top) refl
 
     -- beside a leaf stands another
     pub leaf-neighbour : neighbour index < length leaves
@@ -144,5 +144,5 @@ module _ (h : HashPair) (leaves : List Digest) (rows : List (List Digest)) (tree
         rw twice (neighbour-inside index (2 ^ upper_levels leaves) (omega arith))
 
     -- a tree's own path is accepted with its leaf's digest
-    pub own_path-accepted : (way : Way) (leaf : Outcome Digest) (r : Digest) → own_path h index leaves ≡ way → leaf ≡ Ok (get_or leaves index []) → root h leaves ≡ Ok r → verified h leaf way r ≡ Ok true
+    pub own_path-accepted : (way : Way) (leaf : Outcome Digest) (r : Digest) → own_path h index leaves ≡ way → leaf ≡ Ok (get_or leaves index []) → root h leaves ≡ Ok r → verdict h leaf way r ≡ Ok true
     own_path-accepted way leaf r own digest rooted = rw (← own, digest, own_path-top, rooted) (ap Ok (digest_eq-same r))

@@ -3,8 +3,8 @@ use Rattle.std.proofs.Common.{suc, ◌≡◌, ℕ, ◌+◌, ◌-◌, ◌*◌, �
 use Rattle.std.proofs.lemmas.Bool.{cases_lt, eqb-true, eqb-false}
 use Rattle.std.proofs.lemmas.Nat.{div_below, div-mul-add}
 use Rattle.std.proofs.Math.Nat.{pow-succ', pow-le-pow_right, le-mul_of_pos_right}
-use Rattle.ark_merkle.specs.Indexes.{bit_at, neighbour}
-use Rattle.ark_merkle.specs.Pairs.{Digest}
+use Rattle.ark_merkle.specs.Index.{bit_at, neighbour}
+use Rattle.ark_merkle.specs.Pair.{Digest}
 use Rattle.ark_merkle.specs.Rows.{AreLevels, HoldsIndex, beside_in}
 
 same_factor : (a b w : ℕ) → 0 < w → a * w ≡ b * w → a ≡ b

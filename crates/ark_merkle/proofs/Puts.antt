@@ -2,7 +2,7 @@
 use Rattle.std.proofs.Common.{suc, ◌≡◌, ◌≢◌, ℕ, ◌+◌, ◌/◌, ◌<◌, ◌≤◌, ◌^◌, List, [], length, get_or, set, arith, ◌∙◌, inl, inr}
 use Rattle.std.proofs.lemmas.List.{length-set, get_or-set_same, get_or-set_other}
 use Rattle.std.proofs.lemmas.Bool.{cases_lt}
-use Rattle.ark_merkle.specs.Pairs.{Digest}
+use Rattle.ark_merkle.specs.Pair.{Digest}
 use Rattle.ark_merkle.specs.Rows.{HoldsIndex}
 use Rattle.ark_merkle.proofs.PlaceLemmas.{place-inside}
 

@@ -2,7 +2,7 @@
 use Rattle.std.proofs.Common.{◌≡◌, ℕ, ◌<◌, List, [], length, map, get_or, sym, ap, ◌∙◌}
 use Rattle.std.proofs.lemmas.List.{get_or-map}
 use Rattle.std.specs.declared.vec.Vec.{Vec}
-use Rattle.ark_merkle.specs.Pairs.{Digest}
+use Rattle.ark_merkle.specs.Pair.{Digest}
 use Rattle.ark_merkle.specs.Rows.{digests_of}
 
 module _ {A Z : Type 0} (numbers : A → Digest) where

@@ -3,7 +3,7 @@ use Rattle.std.proofs.Common.{zero, suc, ◌≡◌, ℕ, ◌*◌, ◌%◌, ◌<�
 use Rattle.std.specs.Bool.{Decides}
 use Rattle.std.proofs.lemmas.Bool.{eqb-true, eq-eqb}
 use Rattle.std.proofs.Math.Nat.{mod-eq_of_lt}
-use Rattle.ark_merkle.specs.Indexes.{IsTreeSize, log2}
+use Rattle.ark_merkle.specs.Index.{IsTreeSize, log2}
 use Rattle.ark_merkle.proofs.Logs.{log2-between, log2-pow}
 
 by_exponent : (n j : ℕ) → 1 < n → n ≡ 2 ^ j → IsTreeSize n

@@ -1,27 +1,45 @@
 -- What the calls that change a tree make of its fields.
-use Rattle.std.proofs.Common.{◌≡◌, ℕ, ◌<◌, ◌-◌, ◌/◌, ◌^◌, suc, arith, Bool, [], length, get_or, set, Ok, refl, sym, subst, ◌∙◌}
+use Rattle.std.proofs.Common.{◌≡◌, ℕ, ◌<◌, ◌-◌, arith, ◌/◌, ◌^◌, suc, List, [], length, get_or, set, Ok, Err, refl, ap, sym, subst, ◌∙◌}
 use Rattle.std.proofs.lemmas.List.{length-map, map-set}
 use Rattle.std.specs.declared.vec.Vec.{Vec}
 use Rattle.std.specs.Vec.{with_item}
-use Rattle.ark_base.specs.Outcome.{Outcome}
-use Rattle.ark_merkle.specs.Pairs.{Digest, HashPair, digest_eq}
-use Rattle.ark_merkle.specs.Roots.{root}
+use Rattle.ark_base.specs.declared.error.Error.{Error}
+use Rattle.ark_base.specs.Outcome.{Outcome, ◌>>=◌}
+use Rattle.ark_merkle.specs.Pair.{Digest, HashPair}
+use Rattle.ark_merkle.specs.Root.{root, upper_levels}
 use Rattle.ark_merkle.specs.Rows.{IsTree, digests_of, rows_seen}
-use Rattle.ark_merkle.specs.Trees.{Tree}
-use Rattle.ark_merkle.specs.Updates.{changed, change_agrees, AreOnWay}
+use Rattle.ark_merkle.specs.Tree.{Tree, HashedTree, with_hashes}
+use Rattle.ark_merkle.specs.Update.{changed_leaves, with_leaf, new_root, AreOnWay, ChangesWay}
 use Rattle.ark_merkle.proofs.Changes.{is_tree-changed}
 use Rattle.ark_merkle.proofs.Readings.{digest_read}
 
--- what stands after a call whose new way and root are known
-pub changed-ok : {L T : Type 0} (pair : T → HashPair) (meaning : L → Outcome Digest) (view now : Tree L T) → view ≡ now → (index : ℕ) (digest r : Digest) → meaning view.leaf_parameters ≡ Ok digest → root (pair view.pair_parameters) (set view.leaves index digest) ≡ Ok r
-    → changed (pair now.pair_parameters) (meaning now.leaf_parameters) index now.leaves ≡ Ok (set view.leaves index digest)
-changed-ok pair meaning view now same index digest r hashed rooted =
-    subst (λ t. changed (pair t.pair_parameters) (meaning t.leaf_parameters) index t.leaves ≡ Ok (set view.leaves index digest)) same (rw (hashed, rooted) refl)
+-- ---- the tree with a leaf
 
-pub change_agrees-is : {L T : Type 0} (pair : T → HashPair) (meaning : L → Outcome Digest) (view now : Tree L T) → view ≡ now → (index : ℕ) (digest r asserted : Digest) (agrees : Bool) → meaning view.leaf_parameters ≡ Ok digest → root (pair view.pair_parameters) (set view.leaves index digest) ≡ Ok r
-    → agrees ≡ digest_eq r asserted → change_agrees (pair now.pair_parameters) (meaning now.leaf_parameters) index now.leaves asserted ≡ Ok agrees
-change_agrees-is pair meaning view now same index digest r asserted agrees hashed rooted is =
-    subst (λ t. change_agrees (pair t.pair_parameters) (meaning t.leaf_parameters) index t.leaves asserted ≡ Ok agrees) same (rw (hashed, rooted, is) refl)
+module _ {A : Type 0} (tree : HashedTree A) (index : ℕ) (leaf : A) where
+  pub with_leaf-ok : (digest r : Digest) → tree.hashes.leaf leaf ≡ Ok digest → new_root tree.hashes.pair (tree.hashes.leaf leaf) index tree.leaves ≡ Ok r
+      → with_leaf tree index leaf ≡ Ok (record { hashes = tree.hashes; leaves = set tree.leaves index digest })
+  with_leaf-ok digest r hashed rooted = let rooted_here : root tree.hashes.pair (set tree.leaves index digest) ≡ Ok r = rw hashed at rooted in rw (hashed, rooted_here) refl
+
+  -- the refusal of the root is that of the tree
+  pub with_leaf-refused : (e : Error) → new_root tree.hashes.pair (tree.hashes.leaf leaf) index tree.leaves ≡ Err e → with_leaf tree index leaf ≡ Err e
+  with_leaf-refused e = by_leaf (tree.hashes.leaf leaf)
+    where
+      by_root : (o : Outcome Digest) (digests : List Digest) → o ≡ Err e → with_hashes tree.hashes (o >>= λ _. Ok digests) ≡ Err e
+      by_root o digests refused = rw refused refl
+
+      by_leaf : (o : Outcome Digest) → new_root tree.hashes.pair o index tree.leaves ≡ Err e → with_hashes tree.hashes (changed_leaves tree.hashes.pair o index tree.leaves) ≡ Err e
+      by_leaf (Ok digest) refused = by_root (root tree.hashes.pair (set tree.leaves index digest)) (set tree.leaves index digest) refused
+      by_leaf (Err f) refused = let same : f ≡ e = cc in ap Err same
+
+-- the root with a leaf is the last digest on its way
+pub new_root-ok : {L T : Type 0} (pair : T → HashPair) (meaning : L → Outcome Digest) (view now : Tree L T) → view ≡ now → (index : ℕ) (digest : Digest) (way : List Digest) → meaning view.leaf_parameters ≡ Ok digest
+    → root (pair view.pair_parameters) (set view.leaves index digest) ≡ Ok (get_or way (upper_levels view.leaves) []) → new_root (pair now.pair_parameters) (meaning now.leaf_parameters) index now.leaves ≡ Ok (get_or way (upper_levels now.leaves) [])
+new_root-ok pair meaning view now same index digest way hashed rooted =
+    subst (λ t. new_root (pair t.pair_parameters) (meaning t.leaf_parameters) index t.leaves ≡ Ok (get_or way (upper_levels t.leaves) [])) same (rw (hashed, rooted) refl)
+
+-- the digests on a way are those of the tree that contracts see
+pub changes_way-seen : {L T : Type 0} (pair : T → HashPair) (view now : Tree L T) → view ≡ now → (index : ℕ) (digest : Digest) (way : List Digest) → ChangesWay (pair view.pair_parameters) view.leaves index digest way → ChangesWay (pair now.pair_parameters) now.leaves index digest way
+changes_way-seen pair view now same index digest way changes = subst (λ t. ChangesWay (pair t.pair_parameters) t.leaves index digest way) same changes
 
 module _ {A B Z Y W V : Type 0} (leaf_numbers : A → Digest) (numbers : B → Digest) (h : HashPair) (leaves : Vec A Z) (rows : Vec (Vec B Y) W) (tree : IsTree h (digests_of leaf_numbers leaves) (rows_seen numbers rows)) where
   -- the fields with a leaf digest put in, and the digests of its way
@@ -36,9 +54,8 @@ module _ {A B Z Y W V : Type 0} (leaf_numbers : A → Digest) (numbers : B → D
       (length-map way.items numbers ∙ long ∙ sym many) (rows_seen numbers put) (length-map put.items (digests_of numbers) ∙ count ∙ sym many)
       (λ k below. puts k (rw (many) at below)))
 
-  -- the last digest of a way
-  pub top-read : (way : Vec B V) (n : ℕ) (top : B) → length way.items ≡ length rows.items → n ≡ length rows.items → top ≡ get_or way.items (n - 1) top → get_or (digests_of numbers way) (length rows.items - 1) [] ≡ numbers top
-  top-read way n top long count is =
-      let some : 0 < length rows.items = omega (arith, tree.count, length-map rows.items (digests_of numbers)) in
-      let read : top ≡ get_or way.items (length rows.items - 1) top = rw (count) at is in
-      digest_read numbers way (length rows.items - 1) top (omega (arith, some, long)) read
+-- the last digest of a way that is as long as the tree has levels above the leaf digests
+pub top-read : {A Z : Type 0} (numbers : A → Digest) (way : Vec A Z) (n m : ℕ) (top : A) → n ≡ length way.items → length (digests_of numbers way) ≡ suc m → top ≡ get_or way.items (n - 1) top → get_or (digests_of numbers way) m [] ≡ numbers top
+top-read numbers way n m top count long is =
+    let last : n - 1 ≡ m = omega (arith, count, long, length-map way.items numbers) in
+    digest_read numbers way m top (omega (arith, long, length-map way.items numbers)) (rw last at is)

@@ -4,10 +4,11 @@ use Rattle.std.proofs.Math.Nat.{pow-succ'}
 use Rattle.ark_base.specs.declared.error.Error.{Error}
 use Rattle.ark_base.specs.Outcome.{Outcome, ◌>>=◌}
 use Rattle.ark_base.specs.Laws.Steps.{bind_ok}
-use Rattle.ark_merkle.specs.Indexes.{IsTreeSize}
-use Rattle.ark_merkle.specs.Pairs.{Digest, HashPair, bottom_pair, pair_of}
-use Rattle.ark_merkle.specs.Roots.{Root, place, rooted, upper_levels}
-use Rattle.ark_merkle.specs.Rows.{part, paired, rows_from, rows_of, IsTree}
+use Rattle.ark_merkle.specs.Index.{IsTreeSize}
+use Rattle.ark_merkle.specs.Pair.{Digest, HashPair, Hashes, bottom_pair, pair_of}
+use Rattle.ark_merkle.specs.Root.{Root, place, leaves_with_root, upper_levels}
+use Rattle.ark_merkle.specs.Tree.{with_hashes, tree_above}
+use Rattle.ark_merkle.specs.Rows.{part, row_above, rows_from, rows_of, IsTree}
 use Rattle.ark_merkle.proofs.CoupleLemmas.{length-paired, get_or-paired}
 use Rattle.ark_merkle.proofs.Logs.{upper_levels-is}
 use Rattle.ark_merkle.proofs.Levels.{root_of-rows}
@@ -19,7 +20,7 @@ upper_levels-size leaves size = rw (upper_levels-is size.0 leaves size.1) size.1
 
 module _ (h : HashPair) (leaves : List Digest) (rows : List (List Digest)) where
   -- each digest of the rows is the root of its part
-  roots_of : (m : ℕ) (row : List Digest) → paired h.bottom leaves ≡ Ok row → AreRows h.upper m row rows → (k q : ℕ) → k ≤ m → q < length (get_or rows k []) → place h k (part k q leaves) ≡ Root (get_or (get_or rows k []) q [])
+  roots_of : (m : ℕ) (row : List Digest) → row_above h.bottom leaves ≡ Ok row → AreRows h.upper m row rows → (k q : ℕ) → k ≤ m → q < length (get_or rows k []) → place h k (part k q leaves) ≡ Root (get_or (get_or rows k []) q [])
   roots_of m row lowest r zero q le below =
       let first : get_or rows 0 [] ≡ row = r.first in
       let here : q < length row = omega (arith, ap length first) in
@@ -40,7 +41,7 @@ module _ (h : HashPair) (leaves : List Digest) (rows : List (List Digest)) where
   is_tree size is =
       let m = upper_levels leaves in
       let long = upper_levels-size leaves size in
-      let lowest = bind_ok (paired h.bottom leaves) (rows_from h.upper m) rows is in
+      let lowest = bind_ok (row_above h.bottom leaves) (rows_from h.upper m) rows is in
       let twice : 2 ^ suc m ≡ 2 * 2 ^ m = pow-succ' 2 m in
       let r = are_rows h.upper m lowest.0 rows (omega (arith, length-paired h.bottom leaves lowest.0 lowest.1)) lowest.2 in
       record {
@@ -50,12 +51,16 @@ module _ (h : HashPair) (leaves : List Digest) (rows : List (List Digest)) where
         roots = λ k q below within. roots_of m lowest.0 lowest.1 r k q (omega (arith, r.count)) within;
       }
 
-  pub rooted-ok : IsTreeSize (length leaves) → rows_of h (upper_levels leaves) leaves ≡ Ok rows → rooted h leaves ≡ Ok leaves
+  pub rooted-ok : IsTreeSize (length leaves) → rows_of h (upper_levels leaves) leaves ≡ Ok rows → leaves_with_root h leaves ≡ Ok leaves
   rooted-ok size is = ap (λ o. o >>= λ _. Ok leaves) (root_of-rows h (upper_levels leaves) leaves (upper_levels-size leaves size)) ∙ rw is refl
 
-pub rooted-refused : (h : HashPair) (leaves : List Digest) (e : Error) → IsTreeSize (length leaves) → rows_of h (upper_levels leaves) leaves ≡ Err e → rooted h leaves ≡ Err e
+pub rooted-refused : (h : HashPair) (leaves : List Digest) (e : Error) → IsTreeSize (length leaves) → rows_of h (upper_levels leaves) leaves ≡ Err e → leaves_with_root h leaves ≡ Err e
 rooted-refused h leaves e size is = ap (λ o. o >>= λ _. Ok leaves) (root_of-rows h (upper_levels leaves) leaves (upper_levels-size leaves size)) ∙ rw is refl
 
 -- parameters of equal meanings make equal pairs
-pub pair_of-same : {P : Type 0} (converted : Digest → Outcome Digest) (evaluated compressed : P → Digest → Digest → Outcome Digest) (p q : P) → evaluated p ≡ evaluated q → compressed p ≡ compressed q → pair_of converted evaluated compressed p ≡ pair_of converted evaluated compressed q
-pair_of-same converted evaluated compressed p q e c = λ i. record { bottom = bottom_pair converted (e i); upper = c i }
+pub pair_of-same : {P : Type 0} (conversion : Digest → Outcome Digest) (evaluated compressed : P → Digest → Digest → Outcome Digest) (p q : P) → evaluated p ≡ evaluated q → compressed p ≡ compressed q → pair_of conversion evaluated compressed p ≡ pair_of conversion evaluated compressed q
+pair_of-same conversion evaluated compressed p q e c = λ i. record { bottom = bottom_pair conversion (e i); upper = c i }
+
+-- a tree whose hashes are copies is the tree above its digests
+pub tree_above-copied : {A : Type 0} (given copy : Hashes A) → given.leaf ≡ copy.leaf → given.pair ≡ copy.pair → (digests : List Digest) → leaves_with_root given.pair digests ≡ Ok digests → tree_above given digests ≡ Ok (record { hashes = copy; leaves = digests })
+tree_above-copied given copy leaf pair digests rooted = ap (with_hashes given) rooted ∙ (λ i. Ok (record { hashes = record { leaf = leaf i; pair = pair i }; leaves = digests }))

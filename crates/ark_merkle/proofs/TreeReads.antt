@@ -2,11 +2,12 @@
 use Rattle.std.proofs.Common.{◌≡◌, ℕ, ◌-◌, ◌<◌, ◌^◌, suc, List, [], length, map, get_or, Ok, arith, ap, sym, subst, ◌∙◌}
 use Rattle.std.proofs.lemmas.List.{length-map}
 use Rattle.std.specs.declared.vec.Vec.{Vec}
-use Rattle.ark_merkle.specs.Indexes.{log2, neighbour}
-use Rattle.ark_merkle.specs.Pairs.{Digest, HashPair}
-use Rattle.ark_merkle.specs.Roots.{root, upper_levels}
+use Rattle.ark_base.specs.Outcome.{Outcome}
+use Rattle.ark_merkle.specs.Index.{log2, neighbour}
+use Rattle.ark_merkle.specs.Pair.{Digest, HashPair}
+use Rattle.ark_merkle.specs.Root.{root, upper_levels}
 use Rattle.ark_merkle.specs.Rows.{IsTree, HoldsIndex, rows_seen, digests_of, beside_in}
-use Rattle.ark_merkle.specs.Trees.{Tree, own_path}
+use Rattle.ark_merkle.specs.Tree.{Tree, HashedTree, own_path}
 use Rattle.ark_merkle.proofs.Logs.{log2-pow}
 use Rattle.ark_merkle.proofs.OwnPaths.{root-top, top-row-some, own_path-rows}
 use Rattle.ark_merkle.proofs.Readings.{row_read, digest_read}
@@ -14,6 +15,13 @@ use Rattle.ark_merkle.proofs.Readings.{row_read, digest_read}
 -- the rows are those of the tree that contracts see
 pub seen_tree : {L T : Type 0} (pair : T → HashPair) (rows : List (List Digest)) (view now : Tree L T) → view ≡ now → IsTree (pair view.pair_parameters) view.leaves rows → IsTree (pair now.pair_parameters) now.leaves rows
 seen_tree pair rows view now same tree = subst (λ v. IsTree (pair v.pair_parameters) v.leaves rows) same tree
+
+-- what contracts see of a tree is what its fields make
+pub seen-tree : {L T A : Type 0} (view now : Tree L T) → view ≡ now → (meaning : L → A → Outcome Digest) (pair : T → HashPair) (tree : Tree L T → HashedTree A)
+    → tree ≡ (λ t. record { hashes = record { leaf = meaning t.leaf_parameters; pair = pair t.pair_parameters }; leaves = t.leaves })
+    → record { hashes = record { leaf = meaning view.leaf_parameters; pair = pair view.pair_parameters }; leaves = view.leaves } ≡ tree now
+seen-tree {A = A} view now same meaning pair tree is =
+    ap (λ t. record { hashes = record { leaf = meaning t.leaf_parameters; pair = pair t.pair_parameters }; leaves = t.leaves }) same ∙ ap (λ (f : Tree _ _ → HashedTree A). f now) (sym is)
 
 -- a tree has as many levels as its rows say
 pub log2-leaves : (h : HashPair) (leaves : List Digest) (rows : List (List Digest)) → IsTree h leaves rows → log2 (length leaves) ≡ length rows
@@ -41,7 +49,7 @@ module _ {A Z Y : Type 0} (numbers : A → Digest) (h : HashPair) (leaves : List
 
   -- the rows hold each index of the tree
   pub holds-index : (rows_in : List (Vec A Z)) (index : ℕ) → rows_in ≡ rows.items → length leaves < 2 ^ 64 → index < length leaves → HoldsIndex (map (digests_of numbers) rows_in) index
-  holds-index rows_in index same fits inside = rw same (record { size = length leaves; fits = fits; inside = inside; levels = tree.levels })
+  holds-index rows_in index same fits inside = rw same (record { size = length leaves; small = fits; inside = inside; levels = tree.levels })
 
   -- the path that is made of a sibling and of the digests beside the way is the tree's own
   pub own_path-read : (index : ℕ) (sibling : Digest) (rows_in : List (Vec A Z)) (above : List Digest) → index < length leaves → get_or leaves (neighbour index) [] ≡ sibling → rows_in ≡ rows.items

@@ -6,8 +6,8 @@ use Rattle.ark_base.specs.Spelling.{IsWord, word, word_at, IsCounted, counted, c
 use Rattle.ark_base.specs.Laws.Numbers.{word_laws, length-word}
 use Rattle.ark_base.specs.Laws.Lists.{counted_laws, counted_is_long}
 use Rattle.ark_base.specs.Laws.Parts.{both_laws}
-use Rattle.ark_merkle.specs.Pairs.{Digest}
-use Rattle.ark_merkle.specs.Paths.{Way}
+use Rattle.ark_merkle.specs.Pair.{Digest}
+use Rattle.ark_merkle.specs.Path.{Way}
 
 -- a path by the canonical values of its digests
 abbrev pub PathParts : Type 0 → Type 0 → Type 0

@@ -2,9 +2,9 @@
 use Rattle.std.specs.Prelude.{◌≡◌, ℕ, zero, suc, ◌*◌, ◌/◌, ◌<◌, ◌^◌, List, [], ◌∷◌, length, map, take, drop, get_or, Ok}
 use Rattle.std.specs.declared.vec.Vec.{Vec}
 use Rattle.ark_base.specs.Outcome.{Outcome, ◌>>=◌}
-use Rattle.ark_merkle.specs.Indexes.{neighbour}
-use Rattle.ark_merkle.specs.Pairs.{Digest, HashPair}
-use Rattle.ark_merkle.specs.Roots.{Root, place, each, upper_levels}
+use Rattle.ark_merkle.specs.Index.{neighbour}
+use Rattle.ark_merkle.specs.Pair.{Digest, HashPair}
+use Rattle.ark_merkle.specs.Root.{Root, place, all_hashes, upper_levels}
 
 -- the neighbours in a row, from the left
 abbrev pub couples : {A : Type 0} → List A → List (A × A)
@@ -13,21 +13,21 @@ couples (a ∷ []) = []
 couples (a ∷ b ∷ rest) = (a, b) ∷ couples rest
 
 -- the hashes of the neighbours in a row, or the first refusal
-abbrev pub paired : (Digest → Digest → Outcome Digest) → List Digest → Outcome (List Digest)
-paired hash row = each (λ p. hash p.0 p.1) (couples row)
+abbrev pub row_above : (Digest → Digest → Outcome Digest) → List Digest → Outcome (List Digest)
+row_above hash row = all_hashes (λ p. hash p.0 p.1) (couples row)
 
 -- a row of 2 ^ k digests, and those above it
 abbrev pub rows_from : (Digest → Digest → Outcome Digest) → ℕ → List Digest → Outcome (List (List Digest))
 rows_from hash zero row = Ok (row ∷ [])
 rows_from hash (suc k) row = do
-  next ← paired hash row
+  next ← row_above hash row
   rows ← rows_from hash k next
   Ok (row ∷ rows)
 
 -- the rows above 2 ^ (m + 1) leaf digests
 abbrev pub rows_of : HashPair → ℕ → List Digest → Outcome (List (List Digest))
 rows_of h m digests = do
-  row ← paired h.bottom digests
+  row ← row_above h.bottom digests
   rows_from h.upper m row
 
 -- the leaf digests below place q of row k
@@ -41,7 +41,7 @@ AreLevels size rows = (k : ℕ) → k < length rows → length (get_or rows k []
 -- the rows are levels above fewer than 2 ^ 64 leaf digests, of which one has this index
 pub record HoldsIndex (rows : List (List Digest)) (index : ℕ) : Type 0 where
   pub size : ℕ
-  pub fits : size < 2 ^ 64
+  pub small : size < 2 ^ 64
   pub inside : index < size
   pub levels : AreLevels size rows
 

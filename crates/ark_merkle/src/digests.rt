@@ -1,20 +1,14 @@
 //! Copies of digests.
 
-ghost use Rattle.std.specs.Prelude.{◌≡◌, map, replicate, Ok};
+ghost use Rattle.std.specs.Prelude.{◌≡◌, ◌≤◌, ◌-◌, ◌^◌, length, map, replicate, IfOk, Ok};
 ghost use Rattle.ark_base.specs.Outcome.{AnswersBy};
-ghost use Rattle.ark_merkle.specs.Pairs.{digest_eq};
+ghost use Rattle.ark_merkle.specs.Index.{IsTreeSize};
+ghost use Rattle.ark_merkle.specs.Pair.{digest_eq};
 ghost use Rattle.ark_merkle.specs.Rows.{digests_of, rows_seen};
 
 use ark_base::error::Error;
 use ark_base::serialize::{DigestItem, Duplicate};
 use std::alloc::Global;
-
-/// A digest once more.
-pub fn copy_of<D: DigestItem>(alloc: Global, digest: &D) -> Result<D, Error>
-    ensures { AnswersBy D.numbers (Ok (D.numbers digest.now)) result }
-{
-    digest.duplicate(alloc)
-}
 
 /// Whether two digests are the same.
 pub fn are_same<D: DigestItem>(a: &D, b: &D) -> bool
@@ -25,11 +19,11 @@ pub fn are_same<D: DigestItem>(a: &D, b: &D) -> bool
 
 /// Digests once more.
 pub fn copies_of<D: DigestItem>(alloc: Global, digests: &[D]) -> Result<Vec<D>, Error>
-    ensures { AnswersBy (λ copies. map D.numbers copies.items) (Ok (map D.numbers digests.now)) result }
+    ensures { AnswersBy (digests_of D.numbers) (Ok (map D.numbers digests.now)) result }
 {
     let mut copies = Vec::with_capacity(alloc, digests.len())?;
     for digest in digests {
-        copies.push(copy_of(alloc, digest)?)?;
+        copies.push(digest.duplicate(alloc)?)?;
     }
     Ok(copies)
 }
@@ -45,12 +39,17 @@ pub fn copies_of_rows<D: DigestItem>(alloc: Global, rows: &[Vec<D>]) -> Result<V
     Ok(copies)
 }
 
-/// Blank digests.
-pub fn blanks<D: DigestItem>(alloc: Global, count: usize) -> Result<Vec<D>, Error>
-    ensures { AnswersBy (λ digests. map D.numbers digests.items) (Ok (replicate count D.blank_numbers)) result }
+/// The blank leaf digests of a tree with so many levels.
+pub fn blank_row<D: DigestItem>(alloc: Global, height: usize) -> Result<Vec<D>, Error>
+    requires low { 2 ≤ height }
+    requires high { height ≤ 64 }
+    ensures digests { let digests = replicate (2 ^ (height - 1)) D.blank_numbers in
+        AnswersBy (digests_of D.numbers) (Ok digests) result }
+    ensures size { IfOk result (λ digests. IsTreeSize (length digests.items)) }
 {
-    let mut digests = Vec::with_capacity(alloc, count)?;
-    for _ in 0..count {
+    let size = 1usize << (height - 1);
+    let mut digests = Vec::with_capacity(alloc, size)?;
+    for _ in 0..size {
         digests.push(D::blank(alloc))?;
     }
     Ok(digests)

@@ -4,12 +4,13 @@ ghost use Rattle.std.specs.Prelude.{◌≡◌, map};
 ghost use Rattle.std.proofs.Common.{lit<};
 ghost use Rattle.ark_base.specs.Outcome.{Answers, AnswersBy};
 ghost use Rattle.ark_merkle.specs.PathBytes.{PathParts, PathFits, path_spelling, path_at, path_laws, path_is_long};
-ghost use Rattle.ark_merkle.specs.Paths.{Way, climbed, verified};
+ghost use Rattle.ark_merkle.specs.Path.{Way, climb, verdict};
 
-use crate::bits::is_bit_set;
-use crate::config::{Config, LeafParam, Meaning, TwoToOneParam};
-use crate::digests::{copies_of, copy_of};
-use crate::pairs::{hash_leaves, hash_upper};
+use crate::config::{Config, LeafParam, TwoToOneParam};
+use crate::digests::copies_of;
+use crate::index::is_bit_set;
+use crate::pair::{hash_leaves, hash_upper};
+use crate::views::Views;
 use ark_base::error::Error;
 use ark_base::serialize::{
     Canonical, CanonicalDeserialize, CanonicalItem, CanonicalSerialize, Duplicate,
@@ -32,11 +33,15 @@ pub struct Path<P: Config> {
 impl<P: Config> Duplicate for Path<P> {
     ghost Data = { Way };
 
-    ghost seen = { λ path. record { sibling = P.LeafDigest.numbers path.leaf_sibling_hash; above = map P.InnerDigest.numbers path.auth_path.items; index = path.leaf_index } };
+    ghost seen = { λ path. record {
+      sibling = P.LeafDigest.numbers path.leaf_sibling_hash;
+      above = map P.InnerDigest.numbers path.auth_path.items;
+      index = path.leaf_index;
+    } };
 
     fn duplicate(&self, alloc: Global) -> Result<Path<P>, Error> {
         Ok(Path {
-            leaf_sibling_hash: copy_of(alloc, &self.leaf_sibling_hash)?,
+            leaf_sibling_hash: self.leaf_sibling_hash.duplicate(alloc)?,
             auth_path: copies_of(alloc, &self.auth_path)?,
             leaf_index: self.leaf_index,
         })
@@ -46,7 +51,10 @@ impl<P: Config> Duplicate for Path<P> {
 impl<P: Config> Canonical for Path<P> {
     ghost Value = { PathParts P.LeafDigest.Value P.InnerDigest.Value };
 
-    ghost view = { λ path. (P.LeafDigest.view path.leaf_sibling_hash, (map P.InnerDigest.view path.auth_path.items, path.leaf_index)) };
+    ghost view = { λ path. (
+      P.LeafDigest.view path.leaf_sibling_hash,
+      (map P.InnerDigest.view path.auth_path.items, path.leaf_index),
+    ) };
 
     ghost has_spelling = { PathFits P.LeafDigest.has_spelling P.InnerDigest.has_spelling };
 
@@ -54,7 +62,8 @@ impl<P: Config> Canonical for Path<P> {
 
     ghost reads = { path_at P.LeafDigest.reads P.InnerDigest.reads };
 
-    ghost laws = { path_laws P.LeafDigest.has_spelling P.LeafDigest.spelling P.LeafDigest.reads P.InnerDigest.has_spelling P.InnerDigest.spelling P.InnerDigest.reads
+    ghost laws = { path_laws P.LeafDigest.has_spelling P.LeafDigest.spelling P.LeafDigest.reads
+        P.InnerDigest.has_spelling P.InnerDigest.spelling P.InnerDigest.reads
         P.LeafDigest.Canonical.laws P.InnerDigest.Canonical.laws };
 }
 
@@ -91,10 +100,11 @@ impl<P: Config> CanonicalItem for Path<P> {
 
     ghost some = { lit< tt };
 
-    ghost at_least = { λ path fits. path_is_long P.LeafDigest.spelling P.InnerDigest.spelling path (P.LeafDigest.CanonicalItem.at_least path.0 fits.0) P.LeafDigest.CanonicalItem.some };
+    ghost at_least = { λ path fits. path_is_long P.LeafDigest.spelling P.InnerDigest.spelling path
+        (P.LeafDigest.CanonicalItem.at_least path.0 fits.0) P.LeafDigest.CanonicalItem.some };
 }
 
-impl<P: Config> Path<P> {
+impl<P: Views> Path<P> {
     /// Whether the leaf's digest gives the root along this path.
     ///
     /// The path may have any length, and the index any bits: those past its length do not count. Refusals: that of the
@@ -102,48 +112,97 @@ impl<P: Config> Path<P> {
     pub fn verify(
         &self,
         alloc: Global,
-        leaf_params: &LeafParam<P>,
-        two_params: &TwoToOneParam<P>,
+        leaf_parameters: &LeafParam<P>,
+        pair_parameters: &TwoToOneParam<P>,
         root: &P::InnerDigest,
         leaf: &P::Leaf,
     ) -> Result<bool, Error>
-        ensures { Answers (verified (⟦<P as Meaning>⟧.pair two_params.now) (P.LeafHash.meaning leaf_params.now leaf.now)
-            (⟦<Path<P> as Duplicate>⟧.seen self.now) (P.InnerDigest.numbers root.now)) result }
+        ensures { let hashes = P.hashes leaf_parameters.now pair_parameters.now in
+            let given = P.InnerDigest.numbers root.now in
+            Answers (verdict hashes.pair (hashes.leaf leaf.now) (P.way self.now) given) result }
     {
-        let digest = P::LeafHash::evaluate(alloc, leaf_params, leaf)?;
-        let is_right = is_bit_set(self.leaf_index, 0);
-        let lowest = hash_leaves::<P>(
+        verify_leaf::<P, P::InnerDigest>(
             alloc,
-            two_params,
-            is_right,
-            &digest,
+            leaf_parameters,
+            pair_parameters,
+            root,
+            leaf,
             &self.leaf_sibling_hash,
-        )?;
-        let top = climb::<P::TwoToOneHash>(
-            alloc,
-            two_params,
-            self.leaf_index,
             &self.auth_path,
-            lowest,
-        )?;
-        Ok(top == *root)
+            self.leaf_index,
+        )
     }
 }
 
-// What the digests beside a way make of the lowest one on it.
-fn climb<H: TwoToOneCRHScheme>(
+/// A digest, or a reference to one.
+pub trait Lends<D> {
+    // The digest.
+    ghost lent: { Self → D };
+
+    /// The digest.
+    fn lend(&self) -> &D
+        ensures { result.now ≡ lent self.now };
+}
+
+impl<D> Lends<D> for D {
+    ghost lent = { λ digest. digest };
+
+    fn lend(&self) -> &D {
+        self
+    }
+}
+
+impl<'a, D> Lends<D> for &'a D {
+    ghost lent = { λ digest. digest.now };
+
+    fn lend(&self) -> &D {
+        *self
+    }
+}
+
+/// Whether a leaf's digest gives the root along the path of these parts.
+pub fn verify_leaf<P: Views, L: Lends<P::InnerDigest>>(
     alloc: Global,
-    two: &H::Parameters,
+    leaf_parameters: &LeafParam<P>,
+    pair_parameters: &TwoToOneParam<P>,
+    root: &P::InnerDigest,
+    leaf: &P::Leaf,
+    sibling: &P::LeafDigest,
+    above: &[L],
     index: usize,
-    beside: &[H::Output],
-    lowest: H::Output,
-) -> Result<H::Output, Error>
-    ensures { AnswersBy H.Output.numbers (climbed (H.compressed two.now) index (map H.Output.numbers beside.now) (H.Output.numbers lowest)) result }
+) -> Result<bool, Error>
+    ensures { let hashes = P.hashes leaf_parameters.now pair_parameters.now in
+        let way : Way = record {
+          sibling = P.LeafDigest.numbers sibling.now;
+          above = map (λ x. P.InnerDigest.numbers (L.lent x)) above.now;
+          index = index;
+        } in
+        let given = P.InnerDigest.numbers root.now in
+        Answers (verdict hashes.pair (hashes.leaf leaf.now) way given) result }
 {
-    let mut current = lowest;
+    let digest = P::LeafHash::evaluate(alloc, leaf_parameters, leaf)?;
+    let is_right = is_bit_set(index, 0);
+    let lowest = hash_leaves::<P>(alloc, pair_parameters, is_right, &digest, sibling)?;
+    let top = climb::<P::TwoToOneHash, L>(alloc, pair_parameters, index, above, lowest)?;
+    Ok(top == *root)
+}
+
+// What the digests beside a way make of the lowest one on it.
+fn climb<H: TwoToOneCRHScheme, L: Lends<H::Output>>(
+    alloc: Global,
+    pair_parameters: &H::Parameters,
+    index: usize,
+    beside: &[L],
+    mut current: H::Output,
+) -> Result<H::Output, Error>
+    ensures { let above = map (λ x. H.Output.numbers (L.lent x)) beside.now in
+        let outcome = climb (H.compressed pair_parameters.now) index above in
+        AnswersBy H.Output.numbers (outcome (H.Output.numbers current)) result }
+{
     for level in 0..beside.len() {
-        let sibling = &beside[beside.len() - 1 - level];
-        current = hash_upper::<H>(alloc, two, is_bit_set(index, level + 1), &current, sibling)?;
+        let sibling = beside[beside.len() - 1 - level].lend();
+        let is_right = is_bit_set(index, level + 1);
+        current = hash_upper::<H>(alloc, pair_parameters, is_right, &current, sibling)?;
     }
     Ok(current)
 }

@@ -1,36 +1,34 @@
 //! Merkle trees.
 
-ghost use Rattle.std.specs.Prelude.{◌≡◌, ◌<◌, ◌≤◌, ◌+◌, ◌-◌, ◌^◌, List, [], map, replicate, length, get_or, IfOk, Ok, true};
+ghost use Rattle.std.specs.Prelude.{◌≡◌, ◌<◌, ◌≤◌, ◌+◌, ◌-◌, ◌^◌, [], replicate, length, get_or, IfOk, Ok};
 ghost use Rattle.ark_base.specs.Outcome.{AnswersBy};
-ghost use Rattle.ark_merkle.specs.Indexes.{IsTreeSize, log2, neighbour};
-ghost use Rattle.ark_merkle.specs.Pairs.{Digest, pair_of};
-ghost use Rattle.ark_merkle.specs.Paths.{verified};
-ghost use Rattle.ark_merkle.specs.Roots.{root, built, rooted};
+ghost use Rattle.ark_merkle.specs.Index.{IsTreeSize, log2, neighbour};
+ghost use Rattle.ark_merkle.specs.Pair.{pair_of};
 ghost use Rattle.ark_merkle.specs.Rows.{IsTree, digests_of, rows_seen};
-ghost use Rattle.ark_merkle.specs.Trees.{Tree, own_path};
+ghost use Rattle.ark_merkle.specs.Tree.{Tree, HashedTree, tree_of, tree_above, root_in, path_in, IsAccepted};
 
-mod binding;
+mod bind;
 mod build;
-mod checked;
-mod multi;
-mod updates;
-mod ways;
+mod multi_proof;
+mod rows;
+mod update;
 
-use crate::config::{Config, LeafParam, Meaning, TwoToOneParam};
-use crate::digests::{blanks, copies_of, copies_of_rows, copy_of};
+use crate::config::{Config, LeafParam, TwoToOneParam};
+use crate::digests::{blank_row, copies_of, copies_of_rows};
+use crate::index::neighbour_of;
 use crate::path::Path;
+use crate::views::Views;
 use ark_base::error::Error;
 use ark_base::serialize::Duplicate;
-use ark_crh::{CRHScheme, TwoToOneCRHScheme};
-pub use binding::Binding;
+pub use bind::Binding;
 use build::{hash_all, rows_above};
+use rows::digests_beside;
 use std::alloc::Global;
 use std::marker::Model;
-use ways::{digests_beside, neighbour_of};
 
 /// A Merkle tree: a power of two above one of leaf digests, and the digests above them.
 ///
-/// Contracts see its parameters and its leaf digests. Its height is the logarithm of its size plus one.
+/// Contracts see what its hashes answer and its leaf digests. Its height is the logarithm of its size plus one.
 #[derive(Drop)]
 pub struct MerkleTree<P: Config> {
     leaf_parameters: LeafParam<P>,
@@ -43,30 +41,35 @@ pub struct MerkleTree<P: Config> {
 impl<P: Config> Model for MerkleTree<P> {
     ghost Value = { Tree P.LeafHash.Parameters P.TwoToOneHash.Parameters };
 
-    ghost view = { λ t. record { leaf_parameters = t.leaf_parameters; pair_parameters = t.pair_parameters; leaves = digests_of P.LeafDigest.numbers t.leaves } };
+    ghost view = { λ t. record {
+      leaf_parameters = t.leaf_parameters;
+      pair_parameters = t.pair_parameters;
+      leaves = digests_of P.LeafDigest.numbers t.leaves;
+    } };
 
-    ghost invariant = { λ t. IsTree (pair_of P.LeafInnerDigestConverter.converted P.TwoToOneHash.evaluated P.TwoToOneHash.compressed t.pair_parameters)
+    ghost invariant = { λ t. IsTree
+        (pair_of P.LeafInnerDigestConverter.conversion P.TwoToOneHash.evaluated
+        P.TwoToOneHash.compressed t.pair_parameters)
         (digests_of P.LeafDigest.numbers t.leaves) (rows_seen P.InnerDigest.numbers t.rows) };
 }
 
-impl<P: Config> MerkleTree<P> {
+impl<P: Views> MerkleTree<P> {
     /// The tree above these leaves, of which there are a power of two above one.
     ///
     /// Refusals: that of the first leaf from the left whose hash refuses; else that of the lowest pair, leftmost among
     /// equals; `OutOfMemory`.
     pub fn new(
         alloc: Global,
-        leaf_params: &LeafParam<P>,
-        two_params: &TwoToOneParam<P>,
+        leaf_parameters: &LeafParam<P>,
+        pair_parameters: &TwoToOneParam<P>,
         leaves: &[P::Leaf],
     ) -> Result<MerkleTree<P>, Error>
         requires { IsTreeSize (length leaves.now) }
-        ensures leaves { AnswersBy (λ tree. tree.leaves) (built (⟦<P as Meaning>⟧.pair two_params.now) (P.LeafHash.meaning leaf_params.now) leaves.now) result }
-        ensures leaf_parameters { IfOk result (λ tree. P.LeafHash.Parameters.seen tree.leaf_parameters ≡ P.LeafHash.Parameters.seen leaf_params.now) }
-        ensures pair_parameters { IfOk result (λ tree. P.TwoToOneHash.Parameters.seen tree.pair_parameters ≡ P.TwoToOneHash.Parameters.seen two_params.now) }
+        ensures { let hashes = P.hashes leaf_parameters.now pair_parameters.now in
+            AnswersBy P.tree (tree_of hashes leaves.now) result }
     {
-        let digests = hash_all::<P::LeafHash>(alloc, leaf_params, leaves)?;
-        MerkleTree::new_with_leaf_digest(alloc, leaf_params, two_params, digests)
+        let digests = hash_all::<P::LeafHash>(alloc, leaf_parameters, leaves)?;
+        MerkleTree::new_with_leaf_digest(alloc, leaf_parameters, pair_parameters, digests)
     }
 
     /// The tree above these leaf digests, of which there are a power of two above one.
@@ -74,18 +77,17 @@ impl<P: Config> MerkleTree<P> {
     /// Refusals: that of the lowest pair, leftmost among equals; `OutOfMemory`.
     pub fn new_with_leaf_digest(
         alloc: Global,
-        leaf_params: &LeafParam<P>,
-        two_params: &TwoToOneParam<P>,
+        leaf_parameters: &LeafParam<P>,
+        pair_parameters: &TwoToOneParam<P>,
         leaves: Vec<P::LeafDigest>,
     ) -> Result<MerkleTree<P>, Error>
         requires { IsTreeSize (length leaves.items) }
-        ensures leaves { AnswersBy (λ tree. tree.leaves) (rooted (⟦<P as Meaning>⟧.pair two_params.now) (digests_of P.LeafDigest.numbers leaves)) result }
-        ensures leaf_parameters { IfOk result (λ tree. P.LeafHash.Parameters.seen tree.leaf_parameters ≡ P.LeafHash.Parameters.seen leaf_params.now) }
-        ensures pair_parameters { IfOk result (λ tree. P.TwoToOneHash.Parameters.seen tree.pair_parameters ≡ P.TwoToOneHash.Parameters.seen two_params.now) }
+        ensures { let hashes = P.hashes leaf_parameters.now pair_parameters.now in
+            AnswersBy P.tree (tree_above hashes (digests_of P.LeafDigest.numbers leaves)) result }
     {
-        let rows = rows_above::<P>(alloc, two_params, &leaves)?;
-        let leaf_parameters = leaf_params.duplicate(alloc)?;
-        let pair_parameters = two_params.duplicate(alloc)?;
+        let rows = rows_above::<P>(alloc, pair_parameters, &leaves)?;
+        let leaf_parameters = leaf_parameters.duplicate(alloc)?;
+        let pair_parameters = pair_parameters.duplicate(alloc)?;
         Ok(MerkleTree {
             leaf_parameters,
             pair_parameters,
@@ -99,18 +101,18 @@ impl<P: Config> MerkleTree<P> {
     /// Refusals: that of their pair, or of the lowest one above; `OutOfMemory`.
     pub fn blank(
         alloc: Global,
-        leaf_params: &LeafParam<P>,
-        two_params: &TwoToOneParam<P>,
+        leaf_parameters: &LeafParam<P>,
+        pair_parameters: &TwoToOneParam<P>,
         height: usize,
     ) -> Result<MerkleTree<P>, Error>
         requires low { 2 ≤ height }
         requires high { height ≤ 64 }
-        ensures leaves { AnswersBy (λ tree. tree.leaves) (rooted (⟦<P as Meaning>⟧.pair two_params.now) (replicate (2 ^ (height - 1)) P.LeafDigest.blank_numbers)) result }
-        ensures leaf_parameters { IfOk result (λ tree. P.LeafHash.Parameters.seen tree.leaf_parameters ≡ P.LeafHash.Parameters.seen leaf_params.now) }
-        ensures pair_parameters { IfOk result (λ tree. P.TwoToOneHash.Parameters.seen tree.pair_parameters ≡ P.TwoToOneHash.Parameters.seen two_params.now) }
+        ensures { let hashes = P.hashes leaf_parameters.now pair_parameters.now in
+            let digests = replicate (2 ^ (height - 1)) P.LeafDigest.blank_numbers in
+            AnswersBy P.tree (tree_above hashes digests) result }
     {
-        let digests = blanks(alloc, 1 << (height - 1))?;
-        MerkleTree::new_with_leaf_digest(alloc, leaf_params, two_params, digests)
+        let digests = blank_row(alloc, height)?;
+        MerkleTree::new_with_leaf_digest(alloc, leaf_parameters, pair_parameters, digests)
     }
 
     /// The digest of the leaf beside that of an index below the size.
@@ -123,7 +125,7 @@ impl<P: Config> MerkleTree<P> {
 
     /// The root: the repeated halving of the leaf digests.
     pub fn root(&self) -> &P::InnerDigest
-        ensures { root (⟦<P as Meaning>⟧.pair self.now.pair_parameters) self.now.leaves ≡ Ok (P.InnerDigest.numbers result.now) }
+        ensures { root_in (P.tree self.now) ≡ Ok (P.InnerDigest.numbers result.now) }
     {
         let top = &self.rows[self.rows.len() - 1];
         &top[0]
@@ -140,7 +142,8 @@ impl<P: Config> MerkleTree<P> {
 
     /// The count of leaf digests.
     pub fn size(&self) -> usize
-        ensures { result ≡ length self.now.leaves }
+        ensures size { result ≡ length self.now.leaves }
+        ensures power { IsTreeSize result }
     {
         self.leaves.len()
     }
@@ -150,25 +153,23 @@ impl<P: Config> MerkleTree<P> {
         requires { index < length self.now.leaves }
 
         // The digest beside the index's own, the roots of the halves that do not hold it, and the index.
-        ensures proof { AnswersBy ⟦<Path<P> as Duplicate>⟧.seen (Ok (own_path (⟦<P as Meaning>⟧.pair self.now.pair_parameters) index self.now.leaves)) result }
+        ensures proof { AnswersBy P.way (Ok (path_in (P.tree self.now) index)) result }
 
         // `verify` accepts it under the tree's parameters and root, for any leaf with that digest.
-        ensures accepted { IfOk result (λ path. (leaf : P.Leaf) (r : Digest) → P.LeafHash.meaning self.now.leaf_parameters leaf ≡ Ok (get_or self.now.leaves index [])
-            → root (⟦<P as Meaning>⟧.pair self.now.pair_parameters) self.now.leaves ≡ Ok r
-            → verified (⟦<P as Meaning>⟧.pair self.now.pair_parameters) (P.LeafHash.meaning self.now.leaf_parameters leaf) (⟦<Path<P> as Duplicate>⟧.seen path) r ≡ Ok true) }
+        ensures accepted { IfOk result (λ path. IsAccepted (P.tree self.now) index (P.way path)) }
     {
         Ok(Path {
-            leaf_sibling_hash: copy_of(alloc, self.get_leaf_sibling_hash(index))?,
+            leaf_sibling_hash: self.get_leaf_sibling_hash(index).duplicate(alloc)?,
             auth_path: digests_beside(alloc, &self.rows, index)?,
             leaf_index: index,
         })
     }
 }
 
-impl<P: Config> Duplicate for MerkleTree<P> {
-    ghost Data = { P.LeafHash.Parameters.Data × P.TwoToOneHash.Parameters.Data × List Digest };
+impl<P: Views> Duplicate for MerkleTree<P> {
+    ghost Data = { HashedTree P.Leaf };
 
-    ghost seen = { λ tree. (P.LeafHash.Parameters.seen tree.leaf_parameters, P.TwoToOneHash.Parameters.seen tree.pair_parameters, tree.leaves) };
+    ghost seen = { λ tree. P.tree tree };
 
     fn duplicate(&self, alloc: Global) -> Result<MerkleTree<P>, Error> {
         Ok(MerkleTree {

@@ -6,11 +6,11 @@ use Rattle.std.proofs.lemmas.List.{length-map, map-id}
 use Rattle.ark_base.specs.declared.error.SerializationError.{SerializationError}
 use Rattle.ark_base.specs.Reading.{Reading}
 use Rattle.ark_base.specs.Spelling.{counted, made_at}
-use Rattle.ark_merkle.specs.MultiBytes.{MultiParts, multi_spelling, multi_bytes, multi_way_of, multi_at, multi_way_at}
-use Rattle.ark_merkle.specs.MultiPaths.{MultiWay}
-use Rattle.ark_merkle.specs.Pairs.{Digest}
+use Rattle.ark_merkle.specs.MultiPathBytes.{MultiParts, multi_path_spelling, multi_bytes, multi_way_of, multi_path_at, multi_way_at}
+use Rattle.ark_merkle.specs.MultiPath.{MultiWay}
+use Rattle.ark_merkle.specs.Pair.{Digest}
 use Rattle.ark_merkle.specs.PathBytes.{PathParts, path_spelling, path_at, way_of, way_bytes, way_at}
-use Rattle.ark_merkle.specs.Paths.{Way}
+use Rattle.ark_merkle.specs.Path.{Way}
 
 -- ---- what is made of what is read
 
@@ -64,8 +64,8 @@ module _ {L U : Type 0} (leaf_of : L → Digest) (inner_of : U → Digest) (leaf
   pub way_at-err : path_at leaf_at inner_at bytes ≡ Err fault → way_at leaf_of inner_of leaf_at inner_at bytes ≡ Err fault
   way_at-err = made_at-err (way_of leaf_of inner_of) (path_at leaf_at inner_at) bytes fault
 
-  pub multi_way_at-err : multi_at leaf_at inner_at bytes ≡ Err fault → multi_way_at leaf_of inner_of leaf_at inner_at bytes ≡ Err fault
-  multi_way_at-err = made_at-err (multi_way_of leaf_of inner_of) (multi_at leaf_at inner_at) bytes fault
+  pub multi_way_at-err : multi_path_at leaf_at inner_at bytes ≡ Err fault → multi_way_at leaf_of inner_of leaf_at inner_at bytes ≡ Err fault
+  multi_way_at-err = made_at-err (multi_way_of leaf_of inner_of) (multi_path_at leaf_at inner_at) bytes fault
 
 -- ---- multi-proofs
 
@@ -77,7 +77,7 @@ module _ {L U A B Z : Type 0} (leaf_view : A → L) (view : B → U) (leaf_numbe
   multi_numbers = record { siblings = map leaf_numbers siblings; prefixes = prefixes; suffixes = map (λ suffix. map numbers suffix.items) suffixes; indexes = indexes }
 
   pub multi_spelling-way : (leaf : L → List ℕ) (leaf_bytes : Digest → List ℕ) (inner : U → List ℕ) (bytes : Digest → List ℕ) → ((d : A) → leaf (leaf_view d) ≡ leaf_bytes (leaf_numbers d)) → ((d : B) → inner (view d) ≡ bytes (numbers d))
-      → multi_spelling leaf inner multi_parts ≡ multi_bytes leaf_bytes bytes multi_numbers
+      → multi_path_spelling leaf inner multi_parts ≡ multi_bytes leaf_bytes bytes multi_numbers
   multi_spelling-way leaf leaf_bytes inner bytes leaf_same same =
       let beside = counted-map leaf leaf_view leaf_bytes leaf_numbers leaf_same siblings in
       let below = counted-map (counted inner) (λ (suffix : Vec B Z). map view suffix.items) (counted bytes) (λ (suffix : Vec B Z). map numbers suffix.items) (λ suffix. counted-map inner view bytes numbers same suffix.items) suffixes in
@@ -90,6 +90,6 @@ module _ {L U A B Z : Type 0} (leaf_view : A → L) (view : B → U) (leaf_numbe
       rw (beside, below, map-id prefixes, map-id indexes) refl
 
   pub multi_way_at-ok : (leaf_of : L → Digest) (inner_of : U → Digest) → ((d : A) → leaf_numbers d ≡ leaf_of (leaf_view d)) → ((d : B) → numbers d ≡ inner_of (view d)) → (leaf_at : List ℕ → Reading L) (inner_at : List ℕ → Reading U) (bytes rest : List ℕ)
-      → multi_at leaf_at inner_at bytes ≡ Ok (multi_parts, rest) → multi_way_at leaf_of inner_of leaf_at inner_at bytes ≡ Ok (multi_numbers, rest)
+      → multi_path_at leaf_at inner_at bytes ≡ Ok (multi_parts, rest) → multi_way_at leaf_of inner_of leaf_at inner_at bytes ≡ Ok (multi_numbers, rest)
   multi_way_at-ok leaf_of inner_of leaf_same same leaf_at inner_at bytes rest =
-      made_at-ok (multi_way_of leaf_of inner_of) (multi_at leaf_at inner_at) bytes rest multi_parts multi_numbers (multi_way_of-parts leaf_of inner_of leaf_same same)
+      made_at-ok (multi_way_of leaf_of inner_of) (multi_path_at leaf_at inner_at) bytes rest multi_parts multi_numbers (multi_way_of-parts leaf_of inner_of leaf_same same)

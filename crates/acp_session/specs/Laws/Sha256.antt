@@ -2,13 +2,13 @@
 use Rattle.std.specs.Prelude.{◌≡◌, drop}
 use Rattle.ark_base.specs.Spelling.{byte, byte_at, counted, counted_at}
 use Rattle.ark_base.specs.Laws.Lists.{drop-counted}
-use Rattle.ark_merkle.specs.MultiBytes.{multi_way_at}
+use Rattle.ark_merkle.specs.MultiPathBytes.{multi_way_at}
 use Rattle.ark_merkle.specs.PathBytes.{way_at}
 use Rattle.acp_session.specs.Sha256.{sha_language}
 
 -- the bytes of a digest are what stands behind their count
-pub path_at-sha : way_at (λ bytes. drop 8 (counted byte bytes)) (λ bytes. drop 8 (counted byte bytes)) (counted_at byte_at) (counted_at byte_at) ≡ sha_language.path_at
-path_at-sha = λ i. way_at (λ bytes. drop-counted bytes i) (λ bytes. drop-counted bytes i) (counted_at byte_at) (counted_at byte_at)
+pub path_reading-sha : way_at (λ bytes. drop 8 (counted byte bytes)) (λ bytes. drop 8 (counted byte bytes)) (counted_at byte_at) (counted_at byte_at) ≡ sha_language.path_reading
+path_reading-sha = λ i. way_at (λ bytes. drop-counted bytes i) (λ bytes. drop-counted bytes i) (counted_at byte_at) (counted_at byte_at)
 
-pub multi_path_at-sha : multi_way_at (λ bytes. drop 8 (counted byte bytes)) (λ bytes. drop 8 (counted byte bytes)) (counted_at byte_at) (counted_at byte_at) ≡ sha_language.multi_path_at
-multi_path_at-sha = λ i. multi_way_at (λ bytes. drop-counted bytes i) (λ bytes. drop-counted bytes i) (counted_at byte_at) (counted_at byte_at)
+pub multi_path_reading-sha : multi_way_at (λ bytes. drop 8 (counted byte bytes)) (λ bytes. drop 8 (counted byte bytes)) (counted_at byte_at) (counted_at byte_at) ≡ sha_language.multi_path_reading
+multi_path_reading-sha = λ i. multi_way_at (λ bytes. drop-counted bytes i) (λ bytes. drop-counted bytes i) (counted_at byte_at) (counted_at byte_at)

@@ -2,7 +2,7 @@
 
 ghost use Rattle.std.specs.Prelude.{◌≡◌, map, IfOk};
 ghost use Rattle.ark_base.specs.Outcome.{Answers};
-ghost use Rattle.ark_merkle.specs.Bindings.{bound};
+ghost use Rattle.ark_merkle.specs.Bind.{path_binding};
 ghost use Rattle.acp_session.specs.Replies.{Verdict, Bound, Tells, text};
 ghost use Rattle.acp_session.specs.Steps.{bind_reply, check_reply, finding, finding_reply, mcheck_reply, multi_path_holds, path_holds, state_of};
 
@@ -11,9 +11,7 @@ use crate::replies::{plain, refused};
 use crate::shell::{Hashing, Shell};
 use ark_base::error::Error;
 use ark_crh::{CRHScheme, TwoToOneCRHScheme};
-use ark_merkle::config::Meaning;
-use ark_merkle::multi::MultiMeaning;
-use ark_merkle::{Binding, LeafParam, MerkleTree, MultiPath, Path, TwoToOneParam};
+use ark_merkle::{Binding, LeafParam, MerkleTree, MultiPath, Path, TwoToOneParam, Views};
 use std::alloc::{AllocError, Global};
 
 // Whether the path that the bytes spell gives the root for a leaf; nothing where bytes are left behind it.
@@ -25,10 +23,10 @@ fn verdict<C: Shell>(
     bytes: &[u8],
     leaf: &C::Leaf,
 ) -> Result<Option<bool>, Error>
-    requires { ⟦<C as Meaning>⟧.pair tree.now.pair_parameters ≡ ⟦<C as Meaning>⟧.pair two_params.now }
+    requires { ⟦<C as Views>⟧.pair tree.now.pair_parameters ≡ ⟦<C as Views>⟧.pair two_params.now }
     ensures { let hashed = C.LeafHash.meaning leaf_params.now leaf.now in
-        let holds = path_holds (⟦<C as Meaning>⟧.pair two_params.now) tree.now.leaves hashed in
-        Answers (finding holds (⟦<C as Meaning>⟧.read bytes.now)) result }
+        let holds = path_holds (⟦<C as Views>⟧.pair two_params.now) tree.now.leaves hashed in
+        Answers (finding holds (⟦<C as Views>⟧.path_reading bytes.now)) result }
 {
     let Some(path) = whole_proof::<Path<C>>(alloc, bytes)? else {
         return Ok(None);
@@ -46,10 +44,10 @@ fn multi_verdict<C: Shell>(
     bytes: &[u8],
     leaves: &[C::Leaf],
 ) -> Result<Option<bool>, Error>
-    requires { ⟦<C as Meaning>⟧.pair tree.now.pair_parameters ≡ ⟦<C as Meaning>⟧.pair two_params.now }
+    requires { ⟦<C as Views>⟧.pair tree.now.pair_parameters ≡ ⟦<C as Views>⟧.pair two_params.now }
     ensures { let hashed = map (C.LeafHash.meaning leaf_params.now) leaves.now in
-        let holds = multi_path_holds (⟦<C as Meaning>⟧.pair two_params.now) tree.now.leaves hashed in
-        Answers (finding holds (⟦<C as MultiMeaning>⟧.multi_read bytes.now)) result }
+        let holds = multi_path_holds (⟦<C as Views>⟧.pair two_params.now) tree.now.leaves hashed in
+        Answers (finding holds (⟦<C as Views>⟧.multi_path_reading bytes.now)) result }
 {
     let Some(proof) = whole_proof::<MultiPath<C>>(alloc, bytes)? else {
         return Ok(None);
@@ -66,8 +64,8 @@ fn binding<C: Shell>(
     leaf: &C::Leaf,
 ) -> Result<Option<Binding>, Error>
     ensures { let hashed = C.LeafHash.meaning tree.now.leaf_parameters leaf.now in
-        let say = bound (⟦<C as Meaning>⟧.pair tree.now.pair_parameters) tree.now.leaves hashed in
-        Answers (finding say (⟦<C as Meaning>⟧.read bytes.now)) result }
+        let say = path_binding (⟦<C as Views>⟧.pair tree.now.pair_parameters) tree.now.leaves hashed in
+        Answers (finding say (⟦<C as Views>⟧.path_reading bytes.now)) result }
 {
     let Some(path) = whole_proof::<Path<C>>(alloc, bytes)? else {
         return Ok(None);

@@ -6,7 +6,7 @@ ghost use Rattle.acp_session.specs.Steps.{Takes, set_turn, state_of};
 use crate::replies::{plain, refused};
 use crate::shell::{Hashing, Shell};
 use ark_crh::{CRHScheme, TwoToOneCRHScheme};
-use ark_merkle::MerkleTree;
+use ark_merkle::{MerkleTree, Views};
 use std::alloc::{AllocError, Global};
 
 // Puts a leaf in the place of another. Room for the reply is made before the tree changes.
@@ -20,8 +20,10 @@ fn set_leaf<C: Shell>(
         let l = C.language tree.old.leaf_parameters tree.old.pair_parameters in
         let hashed = C.LeafHash.meaning tree.old.leaf_parameters leaf.now in
         Takes before (set_turn l before index hashed) (Some tree.new.leaves) reply.items) }
-    ensures leaf_parameters { tree.new.leaf_parameters ≡ tree.old.leaf_parameters }
-    ensures pair_parameters { tree.new.pair_parameters ≡ tree.old.pair_parameters }
+    ensures leaf { let meaning = C.LeafHash.meaning in
+        meaning tree.new.leaf_parameters ≡ meaning tree.old.leaf_parameters }
+    ensures pair { let pair = ⟦<C as Views>⟧.pair in
+        pair tree.new.pair_parameters ≡ pair tree.old.pair_parameters }
     ensures refused { OnErr result (tree.new ≡ tree.old) }
 {
     if index >= tree.size() {

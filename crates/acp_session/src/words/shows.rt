@@ -3,8 +3,8 @@
 ghost use Rattle.std.specs.Prelude.{◌≡◌, ◌<◌, length, IfOk, Ok, true};
 ghost use Rattle.std.specs.List.{All};
 ghost use Rattle.ark_base.specs.Outcome.{AnswersBy};
-ghost use Rattle.ark_merkle.specs.MultiTrees.{own_multi_path};
-ghost use Rattle.ark_merkle.specs.Trees.{own_path};
+ghost use Rattle.ark_merkle.specs.MultiProof.{multi_path_in};
+ghost use Rattle.ark_merkle.specs.Tree.{path_in};
 ghost use Rattle.acp_session.specs.Replies.{Tells};
 ghost use Rattle.acp_session.specs.Steps.{all_below, multi_reply, proof_reply, root_reply, state_of};
 
@@ -13,9 +13,7 @@ use crate::replies::{plain, refused, with_bytes};
 use crate::shell::{Hashing, Shell};
 use ark_base::error::Error;
 use ark_crh::{CRHScheme, TwoToOneCRHScheme};
-use ark_merkle::MerkleTree;
-use ark_merkle::config::Meaning;
-use ark_merkle::multi::MultiMeaning;
+use ark_merkle::{MerkleTree, Views};
 use std::alloc::{AllocError, Global};
 
 /// The reply to `root`.
@@ -38,8 +36,8 @@ pub fn root_reply<C: Shell>(
 // The canonical bytes of an index's path.
 fn path_bytes<C: Shell>(alloc: Global, tree: &MerkleTree<C>, index: usize) -> Result<Vec<u8>, Error>
     requires { index < length tree.now.leaves }
-    ensures { let path = own_path (⟦<C as Meaning>⟧.pair tree.now.pair_parameters) index tree.now.leaves in
-        AnswersBy (λ bytes. bytes.items) (Ok (⟦<C as Meaning>⟧.written path)) result }
+    ensures { let path = path_in (⟦<C as Views>⟧.tree tree.now) index in
+        AnswersBy (λ bytes. bytes.items) (Ok (⟦<C as Views>⟧.path_bytes path)) result }
 {
     let path = tree.generate_proof(alloc, index)?;
     proof_bytes(alloc, &path)
@@ -87,9 +85,8 @@ fn multi_path_bytes<C: Shell>(
     indexes: &[usize],
 ) -> Result<Vec<u8>, Error>
     requires { All (λ i. i < length tree.now.leaves) indexes.now }
-    ensures { let pair = ⟦<C as Meaning>⟧.pair tree.now.pair_parameters in
-        let bytes = ⟦<C as MultiMeaning>⟧.multi_written (own_multi_path pair indexes.now tree.now.leaves) in
-        AnswersBy (λ bytes. bytes.items) (Ok bytes) result }
+    ensures { let proof = multi_path_in (⟦<C as Views>⟧.tree tree.now) indexes.now in
+        AnswersBy (λ bytes. bytes.items) (Ok (⟦<C as Views>⟧.multi_path_bytes proof)) result }
 {
     let proof = tree.generate_multi_proof(alloc, indexes)?;
     proof_bytes(alloc, &proof)

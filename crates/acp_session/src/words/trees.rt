@@ -22,7 +22,8 @@ pub fn tree_reply<C: Shell>(
     requires { ⟦<C as Hashing>⟧.has_hashes leaf_params.now two_params.now tree.old }
     ensures turn { IfOk result (λ reply. let l = C.language leaf_params.now two_params.now in
         let hashed = map (C.LeafHash.meaning leaf_params.now) leaves.now in
-        Takes (state_of tree.old) (tree_turn l (state_of tree.old) hashed) (state_of tree.new) reply.items) }
+        let exact = tree_turn l (state_of tree.old) hashed in
+        Takes (state_of tree.old) exact (state_of tree.new) reply.items) }
     ensures hashes { ⟦<C as Hashing>⟧.has_hashes leaf_params.now two_params.now tree.new }
     ensures refused { OnErr result (tree.new ≡ tree.old) }
 {
@@ -44,7 +45,8 @@ pub fn digests_reply<C: Shell>(
     requires { ⟦<C as Hashing>⟧.has_hashes leaf_params.now two_params.now tree.old }
     ensures turn { IfOk result (λ reply. let l = C.language leaf_params.now two_params.now in
         let numbers = map C.LeafDigest.numbers digests.items in
-        Takes (state_of tree.old) (digests_turn l (state_of tree.old) numbers) (state_of tree.new) reply.items) }
+        let exact = digests_turn l (state_of tree.old) numbers in
+        Takes (state_of tree.old) exact (state_of tree.new) reply.items) }
     ensures hashes { ⟦<C as Hashing>⟧.has_hashes leaf_params.now two_params.now tree.new }
     ensures refused { OnErr result (tree.new ≡ tree.old) }
 {

@@ -1,5 +1,5 @@
 use Rattle.std.specs.Io.Buffered.{reader_remaining}
-use Rattle.ark_merkle.specs.Pairs.{pair_of}
+use Rattle.ark_merkle.specs.Pair.{pair_of}
 use Rattle.acp_session.specs.Sessions.{LosesFront}
 use Rattle.acp_session.specs.Steps.{Step, HasHashes, state_of}
 use Rattle.acp_session.proofs.Runs.{Going}
@@ -12,5 +12,5 @@ invariant-loop g l =
     let two = g.C.TwoToOneHash.TwoToOneCRHScheme in record {
       going : Going (Step (g.C.Shell.language l.fn.leaf_params l.fn.two_params)) (left l.initial.lines) (g.W.Write.contents l.initial.replies) (state_of l.tree) (left l.lines) (g.W.Write.contents l.replies);
       read : LosesFront (left l.initial.lines) (left l.lines);
-      hashes : HasHashes g.C.LeafHash.CRHScheme.meaning (pair_of g.C.LeafInnerDigestConverter.DigestConverter.converted two.evaluated two.compressed) l.fn.leaf_params l.fn.two_params l.tree;
+      hashes : HasHashes g.C.LeafHash.CRHScheme.meaning (pair_of g.C.LeafInnerDigestConverter.DigestConverter.conversion two.evaluated two.compressed) l.fn.leaf_params l.fn.two_params l.tree;
     }

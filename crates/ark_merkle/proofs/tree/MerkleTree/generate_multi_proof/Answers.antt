@@ -1,9 +1,9 @@
 use Rattle.std.proofs.Common.{◌≡◌, ◌∙◌, length, Ok, ap, sym, arith}
 use Rattle.std.proofs.lemmas.List.{length-map}
 use Rattle.ark_base.specs.Laws.Steps.{done_injective}
-use Rattle.ark_merkle.specs.MultiTrees.{rising}
-use Rattle.ark_merkle.specs.Pairs.{pair_of}
-use Rattle.ark_merkle.specs.Rows.{rows_seen}
+use Rattle.ark_merkle.specs.MultiProof.{rising_set}
+use Rattle.ark_merkle.specs.Pair.{pair_of}
+use Rattle.ark_merkle.specs.Rows.{IsTree, rows_seen}
 use Rattle.ark_merkle.proofs.MultiIndexes.{rising-increases, rising-elements}
 use Rattle.ark_merkle.proofs.MultiOwn.{neighbours-inside, hold-indexes, own_multi_path-read, own_multi_path-decoded, own_multi_path-accepted}
 use Rattle.ark_merkle.proofs.TreeReads.{seen_tree}
@@ -13,11 +13,11 @@ pub digests_at_neighbours-requires : goal.digests_at_neighbours-requires
 digests_at_neighbours-requires g c =
     let inner = g.P.InnerDigest.Numbered.numbers in
     let two = g.P.TwoToOneHash.TwoToOneCRHScheme in
-    let pair = pair_of g.P.LeafInnerDigestConverter.DigestConverter.converted two.evaluated two.compressed in
+    let pair = pair_of g.P.LeafInnerDigestConverter.DigestConverter.conversion two.evaluated two.compressed in
     let rows = c.self.inside.rows in
     let tree = seen_tree pair (rows_seen inner rows) _ _ c.self.view_is c.self.invariant in
     let indexes = c.in_ok-leaf_indexes.leaf_indexes.items in
-    let once : rising c.args.indexes.now ≡ indexes = done_injective _ _ c.in_ok-leaf_indexes.ensures in
+    let once : rising_set c.args.indexes.now ≡ indexes = done_injective _ _ c.in_ok-leaf_indexes.ensures in
     neighbours-inside g.P.LeafDigest.Numbered.numbers inner (pair c.args.self.now.pair_parameters) c.args.self.now.leaves c.self.inside.leaves rows tree (ap (λ tree. tree.leaves) c.self.view_is) c.args.indexes.now indexes c.requires once
     c.deref.result.now c.deref-2.result.now c.deref.ensures.value c.deref-2.ensures.value
 
@@ -25,48 +25,56 @@ pub digests_beside_each-requires : goal.digests_beside_each-requires
 digests_beside_each-requires g c =
     let inner = g.P.InnerDigest.Numbered.numbers in
     let two = g.P.TwoToOneHash.TwoToOneCRHScheme in
-    let pair = pair_of g.P.LeafInnerDigestConverter.DigestConverter.converted two.evaluated two.compressed in
+    let pair = pair_of g.P.LeafInnerDigestConverter.DigestConverter.conversion two.evaluated two.compressed in
     let rows = c.self.inside.rows in
     let leaves = c.self.inside.leaves in
     let tree = seen_tree pair (rows_seen inner rows) _ _ c.self.view_is c.self.invariant in
     let indexes = c.in_ok-leaf_indexes.leaf_indexes.items in
-    let once : rising c.args.indexes.now ≡ indexes = done_injective _ _ c.in_ok-leaf_indexes.ensures in
+    let once : rising_set c.args.indexes.now ≡ indexes = done_injective _ _ c.in_ok-leaf_indexes.ensures in
     let long : length leaves.items ≡ length c.args.self.now.leaves = sym (length-map leaves.items g.P.LeafDigest.Numbered.numbers) ∙ ap (λ tree. length tree.leaves) c.self.view_is in
     hold-indexes g.P.LeafDigest.Numbered.numbers inner (pair c.args.self.now.pair_parameters) c.args.self.now.leaves leaves rows tree (ap (λ tree. tree.leaves) c.self.view_is) c.args.indexes.now indexes c.requires once
     c.deref-3.result.now c.deref-4.result.now c.deref-3.ensures.value c.deref-4.ensures.value (omega (arith, long, leaves.ok.0))
 
-pub returns-clause-indexes : goal.returns-clause-indexes
-returns-clause-indexes g c =
-    let once : rising c.args.indexes.now ≡ c.in_ok-leaf_indexes.leaf_indexes.items = done_injective _ _ c.in_ok-leaf_indexes.ensures in
-    rw (← once) (rising-increases c.args.indexes.now, rising-elements c.args.indexes.now)
+pub returns-clause-rising : goal.returns-clause-rising
+returns-clause-rising g c =
+    let once : rising_set c.args.indexes.now ≡ c.in_ok-leaf_indexes.leaf_indexes.items = done_injective _ _ c.in_ok-leaf_indexes.ensures in
+    rw (← once) (rising-increases c.args.indexes.now)
+
+pub returns-clause-same : goal.returns-clause-same
+returns-clause-same g c =
+    let once : rising_set c.args.indexes.now ≡ c.in_ok-leaf_indexes.leaf_indexes.items = done_injective _ _ c.in_ok-leaf_indexes.ensures in
+    rw (← once) (rising-elements c.args.indexes.now)
 
 pub returns-clause-proof : goal.returns-clause-proof
 returns-clause-proof g c =
     let inner = g.P.InnerDigest.Numbered.numbers in
     let two = g.P.TwoToOneHash.TwoToOneCRHScheme in
-    let pair = pair_of g.P.LeafInnerDigestConverter.DigestConverter.converted two.evaluated two.compressed in
+    let pair = pair_of g.P.LeafInnerDigestConverter.DigestConverter.conversion two.evaluated two.compressed in
     let rows = c.self.inside.rows in
     let tree = seen_tree pair (rows_seen inner rows) _ _ c.self.view_is c.self.invariant in
     let indexes = c.in_ok-leaf_indexes.leaf_indexes.items in
-    let once : rising c.args.indexes.now ≡ indexes = done_injective _ _ c.in_ok-leaf_indexes.ensures in
-    ap Ok (own_multi_path-read g.P.LeafDigest.Numbered.numbers inner (pair c.args.self.now.pair_parameters) c.args.self.now.leaves c.self.inside.leaves rows tree (ap (λ tree. tree.leaves) c.self.view_is) c.args.indexes.now indexes c.requires once
+    let once : rising_set c.args.indexes.now ≡ indexes = done_injective _ _ c.in_ok-leaf_indexes.ensures in
+    rw (g.met.P.Views.tree_is, g.met.P.Views.multi_way_is)
+    (ap Ok (own_multi_path-read g.P.LeafDigest.Numbered.numbers inner (pair c.args.self.now.pair_parameters) c.args.self.now.leaves c.self.inside.leaves rows tree (ap (λ tree. tree.leaves) c.self.view_is) c.args.indexes.now indexes c.requires once
     c.deref.result.now c.deref-3.result.now c.deref-2.result.now c.deref-4.result.now _ _ _ c.deref.ensures.value c.deref-3.ensures.value c.deref-2.ensures.value c.deref-4.ensures.value
-    (done_injective _ _ c.in_ok-leaf_siblings_hashes.ensures) (done_injective _ _ c.in_ok-auth_paths_prefix_lenghts.ensures.prefixes) (done_injective _ _ c.in_ok-auth_paths_prefix_lenghts.ensures.suffixes))
+    (done_injective _ _ c.in_ok-leaf_siblings_hashes.ensures) (done_injective _ _ c.in_ok-auth_paths_prefix_lenghts.ensures.prefixes) (done_injective _ _ c.in_ok-auth_paths_prefix_lenghts.ensures.suffixes)))
 
 pub returns-clause-decoded : goal.returns-clause-decoded
 returns-clause-decoded g c =
     let two = g.P.TwoToOneHash.TwoToOneCRHScheme in
-    let pair = pair_of g.P.LeafInnerDigestConverter.DigestConverter.converted two.evaluated two.compressed in
+    let pair = pair_of g.P.LeafInnerDigestConverter.DigestConverter.conversion two.evaluated two.compressed in
     let rows = rows_seen g.P.InnerDigest.Numbered.numbers c.self.inside.rows in
-    let tree = seen_tree pair rows _ _ c.self.view_is c.self.invariant in
-    let once : rising c.args.indexes.now ≡ c.in_ok-leaf_indexes.leaf_indexes.items = done_injective _ _ c.in_ok-leaf_indexes.ensures in
-    own_multi_path-decoded (pair c.args.self.now.pair_parameters) c.args.self.now.leaves rows tree c.args.indexes.now c.requires _ c.in_ok-leaf_indexes.leaf_indexes.items (done_injective _ _ (returns-clause-proof g c)) once
+    let now = g.P.Views.tree c.args.self.now in
+    let tree : IsTree now.hashes.pair now.leaves rows = rw g.met.P.Views.tree_is (seen_tree pair rows _ _ c.self.view_is c.self.invariant) in
+    let once : rising_set c.args.indexes.now ≡ c.in_ok-leaf_indexes.leaf_indexes.items = done_injective _ _ c.in_ok-leaf_indexes.ensures in
+    own_multi_path-decoded now.hashes.pair now.leaves rows tree c.args.indexes.now (rw g.met.P.Views.tree_is c.requires) _ c.in_ok-leaf_indexes.leaf_indexes.items (done_injective _ _ (returns-clause-proof g c)) once
 
 pub returns-clause-accepted : goal.returns-clause-accepted
-returns-clause-accepted g c = λ leaves r some hashed rooted.
+returns-clause-accepted g c =
     let two = g.P.TwoToOneHash.TwoToOneCRHScheme in
-    let pair = pair_of g.P.LeafInnerDigestConverter.DigestConverter.converted two.evaluated two.compressed in
+    let pair = pair_of g.P.LeafInnerDigestConverter.DigestConverter.conversion two.evaluated two.compressed in
     let rows = rows_seen g.P.InnerDigest.Numbered.numbers c.self.inside.rows in
-    let tree = seen_tree pair rows _ _ c.self.view_is c.self.invariant in
-    let once : rising c.args.indexes.now ≡ c.in_ok-leaf_indexes.leaf_indexes.items = done_injective _ _ c.in_ok-leaf_indexes.ensures in
-    own_multi_path-accepted (pair c.args.self.now.pair_parameters) c.args.self.now.leaves rows tree c.args.indexes.now c.requires _ c.in_ok-leaf_indexes.leaf_indexes.items (done_injective _ _ (returns-clause-proof g c)) once _ r some hashed rooted
+    let now = g.P.Views.tree c.args.self.now in
+    let tree : IsTree now.hashes.pair now.leaves rows = rw g.met.P.Views.tree_is (seen_tree pair rows _ _ c.self.view_is c.self.invariant) in
+    let once : rising_set c.args.indexes.now ≡ c.in_ok-leaf_indexes.leaf_indexes.items = done_injective _ _ c.in_ok-leaf_indexes.ensures in
+    λ some leaves r hashed rooted. own_multi_path-accepted now.hashes.pair now.leaves rows tree c.args.indexes.now (rw g.met.P.Views.tree_is c.requires) _ c.in_ok-leaf_indexes.leaf_indexes.items (done_injective _ _ (returns-clause-proof g c)) once _ r some hashed rooted

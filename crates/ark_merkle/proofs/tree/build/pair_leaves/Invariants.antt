@@ -1,7 +1,7 @@
 use Rattle.std.proofs.Common.{map}
-use Rattle.ark_merkle.specs.Pairs.{bottom_pair}
+use Rattle.ark_merkle.specs.Pair.{bottom_pair}
 use Rattle.ark_merkle.proofs.CoupleLemmas.{ArePaired}
 use Rattle.ark_merkle.proofs.tree.build.pair_leaves.Given as goal
 
 abbrev pub invariant-loop-place : goal.invariant-loop-place
-invariant-loop-place g l = ArePaired (bottom_pair g.P.LeafInnerDigestConverter.DigestConverter.converted (g.P.TwoToOneHash.TwoToOneCRHScheme.evaluated l.two)) g.P.LeafDigest.Numbered.numbers l.digests l.place (map g.P.InnerDigest.Numbered.numbers l.row.items)
+invariant-loop-place g l = ArePaired (bottom_pair g.P.LeafInnerDigestConverter.DigestConverter.conversion (g.P.TwoToOneHash.TwoToOneCRHScheme.evaluated l.pair_parameters)) g.P.LeafDigest.Numbered.numbers l.digests l.place (map g.P.InnerDigest.Numbered.numbers l.row.items)

@@ -4,18 +4,18 @@ use Rattle.ark_merkle.proofs.CoupleLemmas.{ArePaired-none, ArePaired-more, ArePa
 use Rattle.ark_merkle.proofs.tree.build.pair_row.Goals as goal
 
 pub loop-place-init : goal.loop-place-init
-loop-place-init g c = rw c.in_ok-row.ensures.items (ArePaired-none (g.H.TwoToOneCRHScheme.compressed c.args.two.now) g.H.Output.Numbered.numbers c.args.digests.now)
+loop-place-init g c = rw c.in_ok-row.ensures.items (ArePaired-none (g.H.TwoToOneCRHScheme.compressed c.args.pair_parameters.now) g.H.Output.Numbered.numbers c.args.digests.now)
 
 pub returns-in_err-compress : goal.returns-in_err-compress
 returns-in_err-compress g c =
     let e = c.in_err-compress.field-0.0 in
     passed_on _ _ c.from_residual-in_err-compress.result e c.from_residual-in_err-compress.ensures.1 c.in_err-compress.ensures
-    (ArePaired-refused (g.H.TwoToOneCRHScheme.compressed c.args.two.now) g.H.Output.Numbered.numbers c.args.digests.now c.loop-place.place c.index-digests-place.result c.index-digests-place-in-loop-place.result _ e c.loop-place-test.true c.index-digests-place.is c.index-digests-place-in-loop-place.is c.loop-place.invariant)
+    (ArePaired-refused (g.H.TwoToOneCRHScheme.compressed c.args.pair_parameters.now) g.H.Output.Numbered.numbers c.args.digests.now c.loop-place.place c.index-digests-place.result c.index-digests-place-in-loop-place.result _ e c.loop-place-test.true c.index-digests-place.is c.index-digests-place-in-loop-place.is c.loop-place.invariant)
 
 pub loop-place-preserved : goal.loop-place-preserved
 loop-place-preserved g c =
     rw (c.in_ok-push.ensures.items, map_push)
-    (ArePaired-more (g.H.TwoToOneCRHScheme.compressed c.args.two.now) g.H.Output.Numbered.numbers c.args.digests.now c.loop-place.place c.index-digests-place.result c.index-digests-place-in-loop-place.result _ _ c.loop-place-test.true c.index-digests-place.is c.index-digests-place-in-loop-place.is c.loop-place.invariant c.in_ok-compress.ensures)
+    (ArePaired-more (g.H.TwoToOneCRHScheme.compressed c.args.pair_parameters.now) g.H.Output.Numbered.numbers c.args.digests.now c.loop-place.place c.index-digests-place.result c.index-digests-place-in-loop-place.result _ _ c.loop-place-test.true c.index-digests-place.is c.index-digests-place-in-loop-place.is c.loop-place.invariant c.in_ok-compress.ensures)
 
 pub returns : goal.returns
-returns g c = ArePaired-all (g.H.TwoToOneCRHScheme.compressed c.args.two.now) g.H.Output.Numbered.numbers c.args.digests.now c.loop-place.place _ c.loop-place-test.false c.loop-place.invariant
+returns g c = ArePaired-all (g.H.TwoToOneCRHScheme.compressed c.args.pair_parameters.now) g.H.Output.Numbered.numbers c.args.digests.now c.loop-place.place _ c.loop-place-test.false c.loop-place.invariant

@@ -1,0 +1,13 @@
+use Rattle.std.proofs.Common.{◌≡◌, length, map, set}
+use Rattle.ark_merkle.specs.Pair.{pair_of}
+use Rattle.ark_merkle.specs.Rows.{digests_of}
+use Rattle.ark_merkle.specs.Update.{AreOnWay}
+use Rattle.ark_merkle.proofs.tree.update.new_way.Given as goal
+
+-- so many digests on the way
+abbrev pub invariant-loop-level : goal.invariant-loop-level
+invariant-loop-level g l =
+    let two = g.P.TwoToOneHash.TwoToOneCRHScheme in
+    let h = pair_of g.P.LeafInnerDigestConverter.DigestConverter.conversion two.evaluated two.compressed l.pair_parameters in
+    let new = set (map g.P.LeafDigest.Numbered.numbers l.leaves) l.index (g.P.LeafDigest.Numbered.numbers l.digest) in
+    (length l.way.items ≡ l.level) × AreOnWay h new l.index (digests_of g.P.InnerDigest.Numbered.numbers l.way)

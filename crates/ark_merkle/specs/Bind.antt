@@ -1,0 +1,104 @@
+-- What a path of the tree's height says of a leaf.
+use Rattle.std.specs.Prelude.{◌≡◌, ◌≢◌, ◌<◌, ◌≤◌, ℕ, zero, suc, ◌-◌, ◌^◌, ◌/◌, ◌%◌, ◌&&◌, not, ◌==◌, nat_lt, Bool, true, false, if◌then◌else◌, Option, Some, None, List, [], ◌∷◌, length, take, drop, get_or, Ok, Err}
+use Rattle.ark_base.specs.declared.error.Error.TheVariants.{IncorrectInputLength}
+use Rattle.ark_base.specs.Outcome.{Outcome, ◌>>=◌}
+use Rattle.ark_merkle.specs.declared.tree.bind.Binding.{Binding}
+use Rattle.ark_merkle.specs.declared.tree.bind.Binding.TheVariants.{Rejected, Stands, Differs}
+use Rattle.ark_merkle.specs.Index.{bit_at}
+use Rattle.ark_merkle.specs.Pair.{Digest, HashPair, digest_eq}
+use Rattle.ark_merkle.specs.Path.{Way, path_root, verdict}
+use Rattle.ark_merkle.specs.Root.{place, root, upper_levels}
+use Rattle.ark_merkle.specs.Rows.{part}
+use Rattle.ark_merkle.specs.Tree.{HashedTree, root_in, root_digest}
+
+-- two digests, left first: the first of them stands right where the bit is set
+abbrev pub couple : Bool → Digest → Digest → Digest × Digest
+couple is_right a b = if is_right then (b, a) else (a, b)
+
+-- the roots of the halves of 2 ^ (k + 1) leaf digests, or the two leaf digests
+abbrev pub halves : HashPair → ℕ → List Digest → Digest × Digest
+halves h zero digests = (get_or digests 0 [], get_or digests 1 [])
+halves h (suc k) digests = (root_digest (place h k (take (2 ^ suc k) digests)), root_digest (place h k (drop (2 ^ suc k) digests)))
+
+-- The tree's pair at a level, counted from the root: that of the part of the leaf digests which holds the index modulo the size.
+abbrev pub tree_pair : HashPair → List Digest → ℕ → ℕ → Digest × Digest
+tree_pair h digests index level = let k = upper_levels digests - level in halves h k (part k (index % length digests / 2 ^ suc k) digests)
+
+-- the pair below whose digest the first of some digests of a path stands
+abbrev pub pair_beside : HashPair → Way → Digest → List Digest → Outcome (Digest × Digest)
+pair_beside h way digest [] = Ok (couple (bit_at way.index 0) digest way.sibling)
+pair_beside h way digest (first ∷ rest) = do
+  below ← path_root h (record { sibling = way.sibling; above = rest; index = way.index }) digest
+  Ok (couple (bit_at way.index (length (first ∷ rest))) below first)
+
+-- the path's pair at a level, counted from the root
+abbrev pub path_pair : HashPair → Way → Digest → ℕ → Outcome (Digest × Digest)
+path_pair h way digest level = pair_beside h way digest (drop level way.above)
+
+-- the hash of the pairs at a level of so many above the lowest
+abbrev pub hash_at : HashPair → ℕ → ℕ → Digest × Digest → Outcome Digest
+hash_at h levels level pair = if nat_lt level levels then h.upper pair.0 pair.1 else h.bottom pair.0 pair.1
+
+-- ---- the answer
+
+-- whether there is a pair, and it is another one
+abbrev pub is_other : Outcome (Digest × Digest) → Digest × Digest → Bool
+is_other (Ok a) b = not (digest_eq a.0 b.0 && digest_eq a.1 b.1)
+is_other (Err error) b = true
+
+-- the first of so many levels, from one on, at which something holds
+abbrev pub first_level : (ℕ → Bool) → ℕ → ℕ → Option ℕ
+first_level holds level zero = None
+first_level holds level (suc count) = if holds level then Some level else first_level holds (suc level) count
+
+-- the first level from the root down at which the pairs of path and tree differ
+abbrev pub difference : HashPair → List Digest → Way → Digest → Option ℕ
+difference h digests way digest = first_level (λ level. is_other (path_pair h way digest level) (tree_pair h digests way.index level)) 0 (suc (upper_levels digests))
+
+abbrev pub binding_of : Option ℕ → Binding
+binding_of None = Stands
+binding_of (Some level) = Differs level
+
+-- the refusals in their order: a path of another length, the leaf's, the path's; else what the path says
+abbrev pub path_binding : HashPair → List Digest → Outcome Digest → Way → Outcome Binding
+path_binding h digests leaf way =
+    if length way.above == upper_levels digests then (do
+      digest ← leaf
+      r ← root h digests
+      given ← path_root h way digest
+      Ok (if digest_eq given r then binding_of (difference h digests way digest) else Rejected))
+    else Err (IncorrectInputLength (length way.above))
+
+-- ---- what the answer means
+
+abbrev pub gives_root : Binding → Bool
+gives_root Rejected = false
+gives_root Stands = true
+gives_root (Differs level) = true
+
+-- At this level the pairs of path and tree differ and hash alike, and at all levels above they agree.
+pub record Collides (h : HashPair) (digests : List Digest) (way : Way) (digest : Digest) (level : ℕ) : Type 0 where
+  pub in_range : level ≤ upper_levels digests
+  pub given : Digest × Digest
+  pub given_is : path_pair h way digest level ≡ Ok given
+  pub differ : given ≢ tree_pair h digests way.index level
+  pub common : Digest
+  pub given_hash : hash_at h (upper_levels digests) level given ≡ Ok common
+  pub tree_hash : hash_at h (upper_levels digests) level (tree_pair h digests way.index level) ≡ Ok common
+  pub agree_above : (l : ℕ) → l < level → path_pair h way digest l ≡ Ok (tree_pair h digests way.index l)
+
+-- ---- of a tree and a leaf
+
+-- what a path says of a leaf
+abbrev pub binding_in : {A : Type 0} → HashedTree A → A → Way → Outcome Binding
+binding_in tree leaf way = path_binding tree.hashes.pair tree.leaves (tree.hashes.leaf leaf) way
+
+-- It is not rejected exactly where the path gives the tree's root.
+abbrev pub MatchesVerdict : {A : Type 0} → HashedTree A → A → Way → Binding → Type 0
+MatchesVerdict tree leaf way binding = (r : Digest) → root_in tree ≡ Ok r
+    → verdict tree.hashes.pair (tree.hashes.leaf leaf) way r ≡ Ok (gives_root binding)
+
+-- The pairs of a path for a leaf and of the tree collide at a level.
+abbrev pub CollidesAt : {A : Type 0} → HashedTree A → A → Way → ℕ → Type 0
+CollidesAt tree leaf way level = (digest : Digest) × (tree.hashes.leaf leaf ≡ Ok digest)
+    × Collides tree.hashes.pair tree.leaves way digest level

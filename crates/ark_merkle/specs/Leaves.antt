@@ -1,0 +1,17 @@
+-- What a call says of the leaves that an iterator gives.
+use Rattle.std.specs.Prelude.{◌≡◌, ◌⊎◌, ℕ, ◌<◌, List, ◌++◌, length, map, take, Option, None, Err}
+use Rattle.std.specs.Iterator.{Yields}
+use Rattle.ark_base.specs.declared.error.Error.TheVariants.{IncorrectInputLength}
+use Rattle.ark_base.specs.Outcome.{Outcome, Answers}
+
+-- The call answers what `outcome` says of the items that an iterator gives from one state on, each as view sees it, and leaves
+-- the iterator in another state. It takes none that the answer does not need.
+pub record AnswersOver {S A B C : Type 0} (steps : S → Option A → S → Type 0) (view : A → B) (start behind : S)
+    (outcome : List B → Outcome C) (result : Outcome C) : Type 0 where
+  -- the items that were taken
+  pub taken : List A
+  -- each was needed: with those before it alone, the answer would be that its place has none
+  pub needed : (n : ℕ) → n < length taken → outcome (take n (map view taken)) ≡ Err (IncorrectInputLength n)
+  -- the answer is that of all items, where the iterator had no more; else that of these, whatever would follow
+  pub answered : ((last : S) × Yields steps start taken last × steps last None behind × Answers (outcome (map view taken)) result)
+      ⊎ (Yields steps start taken behind × ((more : List B) → Answers (outcome (map view taken ++ more)) result))

@@ -1,0 +1,153 @@
+//! Whether a leaf is bound to a tree's root.
+
+ghost use Rattle.std.specs.Prelude.{◌≡◌, ◌<◌, ◌%◌, ◌^◌, ◌&&◌, ℕ, suc, Some, [], map, length, get_or, IfOk, if◌then◌else◌};
+ghost use Rattle.ark_base.specs.Outcome.{Answers, AnswersBy};
+ghost use Rattle.ark_merkle.specs.declared.tree.bind.Binding.TheVariants.{Rejected, Stands, Differs};
+ghost use Rattle.ark_merkle.specs.Bind.{binding_in, binding_of, difference, MatchesVerdict, CollidesAt};
+ghost use Rattle.ark_merkle.specs.Index.{neighbour};
+ghost use Rattle.ark_merkle.specs.Pair.{digest_eq};
+ghost use Rattle.ark_merkle.specs.Path.{path_root};
+ghost use Rattle.ark_merkle.specs.Rows.{IsTree, digests_of};
+ghost use Rattle.ark_merkle.specs.Tree.{HoldsLeaf};
+
+use crate::config::{Config, TwoToOneParam};
+use crate::digests::are_same;
+use crate::index::{is_bit_set, neighbour_of};
+use crate::pair::{hash_leaves, hash_upper};
+use crate::path::Path;
+use crate::tree::MerkleTree;
+use crate::views::Views;
+use ark_base::error::Error;
+use ark_base::serialize::DigestItem;
+use ark_crh::CRHScheme;
+use std::alloc::Global;
+
+/// What a path with a leaf says of a tree's leaf digests.
+#[derive(Debug, PartialEq, Eq, Clone, Copy)]
+pub enum Binding {
+    /// The path does not give the root.
+    Rejected,
+    /// The leaf's digest is the tree's at the index modulo the size.
+    Stands,
+    /// At this level, the root's pair being level 0, two different pairs hash alike: the path's and the tree's.
+    Differs { level: usize },
+}
+
+impl<P: Views> MerkleTree<P> {
+    /// What a path says of a leaf, where it has one digest for each level between the leaf digests and the root. A path that
+    /// `verify` accepts binds its leaf: the leaf's digest stands at the index modulo the size, or two different pairs hash alike.
+    ///
+    /// Refusals: `IncorrectInputLength` for a path of another length; that of the leaf's hash; that of the path's lowest pair,
+    /// and so upward; `OutOfMemory`.
+    pub fn bind(&self, alloc: Global, path: &Path<P>, leaf: &P::Leaf) -> Result<Binding, Error>
+        ensures answer { Answers (binding_in (P.tree self.now) leaf.now (P.way path.now)) result }
+
+        // It is rejected exactly where `verify` says false.
+        ensures accepted { let tree = P.tree self.now in
+            IfOk result (λ binding. MatchesVerdict tree leaf.now (P.way path.now) binding) }
+
+        // The leaf's digest is the tree's at the index modulo the size.
+        ensures stands { let index = path.now.leaf_index % length self.now.leaves in
+            IfOk result (λ binding. binding ≡ Stands → HoldsLeaf (P.tree self.now) index leaf.now) }
+
+        // At the level that is named two different pairs hash alike.
+        ensures differs { let tree = P.tree self.now in
+            IfOk result (λ binding. (level : ℕ) → binding ≡ Differs level
+            → CollidesAt tree leaf.now (P.way path.now) level) }
+    {
+        let above = self.rows.len() - 1;
+        if path.auth_path.len() != above {
+            return Err(Error::IncorrectInputLength(path.auth_path.len()));
+        }
+        let digest = P::LeafHash::evaluate(alloc, &self.leaf_parameters, leaf)?;
+        let (top, difference) = compare::<P>(
+            alloc,
+            &self.pair_parameters,
+            &self.leaves,
+            &self.rows,
+            path,
+            &digest,
+        )?;
+        Ok(binding_of(are_same(&top, self.root()), difference))
+    }
+}
+
+// What a path says that gives the root or not, and that differs from the tree at this level or nowhere.
+fn binding_of(is_root: bool, difference: Option<usize>) -> Binding
+    ensures { result ≡ (if is_root then binding_of difference else Rejected) }
+{
+    if !is_root {
+        return Binding::Rejected;
+    }
+    match difference {
+        None => Binding::Stands,
+        Some(level) => Binding::Differs { level },
+    }
+}
+
+// What a path gives for a leaf digest, and the first level from the root down at which it differs from the tree.
+fn compare<P: Config>(
+    alloc: Global,
+    pair_parameters: &TwoToOneParam<P>,
+    leaves: &[P::LeafDigest],
+    rows: &[Vec<P::InnerDigest>],
+    path: &Path<P>,
+    digest: &P::LeafDigest,
+) -> Result<(P::InnerDigest, Option<usize>), Error>
+    requires tree { let h = ⟦<P as Views>⟧.pair pair_parameters.now in
+        let seen = map (digests_of P.InnerDigest.numbers) rows.now in
+        IsTree h (map P.LeafDigest.numbers leaves.now) seen }
+    requires fits { length leaves.now < 2 ^ 64 }
+    requires count { length rows.now ≡ suc (length path.now.auth_path.items) }
+    ensures top { let h = ⟦<P as Views>⟧.pair pair_parameters.now in
+        let top = path_root h (⟦<P as Views>⟧.way path.now) (P.LeafDigest.numbers digest.now) in
+        AnswersBy (λ r. P.InnerDigest.numbers r.0) top result }
+    ensures difference { let h = ⟦<P as Views>⟧.pair pair_parameters.now in
+        let way = ⟦<P as Views>⟧.way path.now in
+        let tree = map P.LeafDigest.numbers leaves.now in
+        IfOk result (λ r. r.1 ≡ difference h tree way (P.LeafDigest.numbers digest.now)) }
+{
+    let index = path.leaf_index % leaves.len();
+    let sibling = &path.leaf_sibling_hash;
+    let is_own = stand_at(leaves, index, digest, sibling);
+    let mut difference = other_at(is_own, path.auth_path.len(), None);
+    let mut current = hash_leaves::<P>(
+        alloc,
+        pair_parameters,
+        is_bit_set(path.leaf_index, 0),
+        digest,
+        sibling,
+    )?;
+    for step in 0..path.auth_path.len() {
+        let level = path.auth_path.len() - 1 - step;
+        let sibling = &path.auth_path[level];
+        let is_own = stand_at(&rows[step], index >> (step + 1), &current, sibling);
+        difference = other_at(is_own, level, difference);
+        current = hash_upper::<P::TwoToOneHash>(
+            alloc,
+            pair_parameters,
+            is_bit_set(path.leaf_index, step + 1),
+            &current,
+            sibling,
+        )?;
+    }
+    Ok((current, difference))
+}
+
+// Whether two digests stand at a place of a row and beside it.
+fn stand_at<D: DigestItem>(row: &[D], place: usize, digest: &D, sibling: &D) -> bool
+    requires inside { place < length row.now }
+    requires beside { neighbour place < length row.now }
+    ensures { let seen = map D.numbers row.now in
+        result ≡ (digest_eq (D.numbers digest.now) (get_or seen place [])
+        && digest_eq (D.numbers sibling.now) (get_or seen (neighbour place) [])) }
+{
+    are_same(digest, &row[place]) && are_same(sibling, &row[neighbour_of(place)])
+}
+
+// The first level at which pairs differ, one level further up.
+fn other_at(is_own: bool, level: usize, below: Option<usize>) -> Option<usize>
+    ensures { result ≡ (if is_own then below else Some level) }
+{
+    if is_own { below } else { Some(level) }
+}

@@ -1,0 +1,165 @@
+//! Changes of leaves.
+
+ghost use Rattle.std.specs.Prelude.{◌≡◌, ◌<◌, ◌/◌, ◌^◌, ℕ, suc, [], true, false, map, length, get_or, set, IfOk, OnErr, Ok};
+ghost use Rattle.ark_base.specs.Outcome.{Answers, AnswersBy};
+ghost use Rattle.ark_merkle.specs.Root.{root, upper_levels};
+ghost use Rattle.ark_merkle.specs.Rows.{IsTree, HoldsIndex, digests_of, rows_seen};
+ghost use Rattle.ark_merkle.specs.Update.{with_leaf, new_root, change_agrees, ChangesWay};
+
+use crate::config::{Config, TwoToOneParam};
+use crate::digests::are_same;
+use crate::index::{is_bit_set, neighbour_of};
+use crate::pair::{hash_leaves, hash_upper};
+use crate::tree::MerkleTree;
+use crate::views::Views;
+use ark_base::error::Error;
+use ark_base::serialize::DigestItem;
+use ark_crh::CRHScheme;
+use std::alloc::Global;
+use std::mem::swap;
+
+impl<P: Views> MerkleTree<P> {
+    /// Puts a leaf in the place of the one at an index below the size.
+    ///
+    /// Refusals, which leave the tree as it was: that of the leaf's hash; else that of the new leaf digests' halving;
+    /// `OutOfMemory`.
+    pub fn update(&mut self, alloc: Global, index: usize, new_leaf: &P::Leaf) -> Result<(), Error>
+        requires { index < length self.old.leaves }
+        ensures tree { let new = with_leaf (P.tree self.old) index new_leaf.now in
+            AnswersBy (λ _. P.tree self.new) new result }
+        ensures refused { OnErr result (self.new ≡ self.old) }
+    {
+        let (digest, way) = self.changed_way(alloc, index, new_leaf)?;
+        self.put_leaf(index, digest, way);
+        Ok(())
+    }
+
+    /// As `update` where the new root is the asserted one, and then `true`; else the tree is left as it was.
+    ///
+    /// Refusals: those of `update`, whatever is asserted.
+    pub fn check_update(
+        &mut self,
+        alloc: Global,
+        index: usize,
+        new_leaf: &P::Leaf,
+        asserted_new_root: &P::InnerDigest,
+    ) -> Result<bool, Error>
+        requires { index < length self.old.leaves }
+        ensures agrees { let asserted = P.InnerDigest.numbers asserted_new_root.now in
+            Answers (change_agrees (P.tree self.old) index new_leaf.now asserted) result }
+        ensures tree { let new = with_leaf (P.tree self.old) index new_leaf.now in
+            IfOk result (λ agrees. agrees ≡ true → new ≡ Ok (P.tree self.new)) }
+        ensures kept { IfOk result (λ agrees. agrees ≡ false → self.new ≡ self.old) }
+        ensures refused { OnErr result (self.new ≡ self.old) }
+    {
+        let (digest, way) = self.changed_way(alloc, index, new_leaf)?;
+        let agrees = are_same(&way[way.len() - 1], asserted_new_root);
+        if agrees {
+            self.put_leaf(index, digest, way);
+        }
+        Ok(agrees)
+    }
+}
+
+impl<P: Config> MerkleTree<P> {
+    // The digest of a leaf, and those on the way of an index where it stands there.
+    fn changed_way(
+        &self,
+        alloc: Global,
+        index: usize,
+        leaf: &P::Leaf,
+    ) -> Result<(P::LeafDigest, Vec<P::InnerDigest>), Error>
+        requires { index < length self.now.leaves }
+        ensures digest { let hashed = P.LeafHash.meaning self.now.leaf_parameters leaf.now in
+            IfOk result (λ r. hashed ≡ Ok (P.LeafDigest.numbers r.0)) }
+        ensures way { let h = ⟦<P as Views>⟧.pair self.now.pair_parameters in
+            IfOk result (λ r. ChangesWay h self.now.leaves index (P.LeafDigest.numbers r.0)
+            (digests_of P.InnerDigest.numbers r.1)) }
+        ensures root { let h = ⟦<P as Views>⟧.pair self.now.pair_parameters in
+            let hashed = P.LeafHash.meaning self.now.leaf_parameters leaf.now in
+            let top = upper_levels self.now.leaves in
+            AnswersBy (λ r. get_or (digests_of P.InnerDigest.numbers r.1) top [])
+            (new_root h hashed index self.now.leaves) result }
+    {
+        let digest = P::LeafHash::evaluate(alloc, &self.leaf_parameters, leaf)?;
+        let way = new_way::<P>(
+            alloc,
+            &self.pair_parameters,
+            &self.leaves,
+            &self.rows,
+            index,
+            &digest,
+        )?;
+        Ok((digest, way))
+    }
+
+    // Puts a leaf digest in its place, and those on its way in theirs.
+    fn put_leaf(&mut self, index: usize, digest: P::LeafDigest, way: Vec<P::InnerDigest>)
+        requires index { index < length self.old.leaves }
+        requires way { let h = ⟦<P as Views>⟧.pair self.old.pair_parameters in
+            ChangesWay h self.old.leaves index (P.LeafDigest.numbers digest)
+            (digests_of P.InnerDigest.numbers way) }
+        ensures { let leaves = set self.old.leaves index (P.LeafDigest.numbers digest) in
+            self.new ≡ record self.old { leaves = leaves } }
+    {
+        self.leaves[index] = digest;
+        put_way(&mut self.rows, index, way);
+    }
+}
+
+// The digests on the way of an index, the lowest first, where this digest stands there.
+fn new_way<P: Config>(
+    alloc: Global,
+    pair_parameters: &TwoToOneParam<P>,
+    leaves: &[P::LeafDigest],
+    rows: &[Vec<P::InnerDigest>],
+    index: usize,
+    digest: &P::LeafDigest,
+) -> Result<Vec<P::InnerDigest>, Error>
+    requires tree { let h = ⟦<P as Views>⟧.pair pair_parameters.now in
+        let seen = map (digests_of P.InnerDigest.numbers) rows.now in
+        IsTree h (map P.LeafDigest.numbers leaves.now) seen }
+    requires index { index < length leaves.now }
+    requires fits { length leaves.now < 2 ^ 64 }
+    ensures way { let h = ⟦<P as Views>⟧.pair pair_parameters.now in
+        let old = map P.LeafDigest.numbers leaves.now in
+        IfOk result (λ way. ChangesWay h old index (P.LeafDigest.numbers digest.now)
+        (digests_of P.InnerDigest.numbers way)) }
+    ensures root { let h = ⟦<P as Views>⟧.pair pair_parameters.now in
+        let old = map P.LeafDigest.numbers leaves.now in
+        AnswersBy (λ way. get_or (digests_of P.InnerDigest.numbers way) (upper_levels old) [])
+        (root h (set old index (P.LeafDigest.numbers digest.now))) result }
+{
+    let mut way = Vec::with_capacity(alloc, rows.len())?;
+    let sibling = &leaves[neighbour_of(index)];
+    let is_right = is_bit_set(index, 0);
+    way.push(hash_leaves::<P>(alloc, pair_parameters, is_right, digest, sibling)?)?;
+    for level in 1..rows.len() {
+        let row = &rows[level - 1];
+        let sibling = &row[neighbour_of(index >> level)];
+        let up = hash_upper::<P::TwoToOneHash>(
+            alloc,
+            pair_parameters,
+            is_bit_set(index, level),
+            &way[level - 1],
+            sibling,
+        )?;
+        way.push(up)?;
+    }
+    Ok(way)
+}
+
+// Puts the digests on the way of an index into the rows.
+fn put_way<D: DigestItem>(rows: &mut Vec<Vec<D>>, index: usize, mut way: Vec<D>)
+    requires holds { HoldsIndex (rows_seen D.numbers rows.old) index }
+    requires count { length way.items ≡ length rows.old.items }
+    ensures count { length rows.new.items ≡ length rows.old.items }
+    ensures rows { let old = rows_seen D.numbers rows.old in
+        let new = rows_seen D.numbers rows.new in
+        (k : ℕ) → k < length rows.old.items → get_or new k []
+        ≡ set (get_or old k []) (index / 2 ^ suc k) (get_or (digests_of D.numbers way) k []) }
+{
+    for level in 0..way.len() {
+        swap(&mut rows[level][index >> (level + 1)], &mut way[level]);
+    }
+}

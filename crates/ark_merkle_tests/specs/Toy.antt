@@ -1,0 +1,12 @@
+-- Hashes that can be reckoned by hand.
+use Rattle.std.specs.Prelude.{ℕ, ◌+◌, ◌*◌, ◌%◌, [], ◌∷◌, get_or, Ok}
+use Rattle.ark_base.specs.Outcome.{Outcome}
+use Rattle.ark_merkle.specs.Pair.{Digest}
+
+-- a leaf modulo 257
+abbrev pub toy_leaf : ℕ → Outcome Digest
+toy_leaf leaf = Ok (leaf % 257 ∷ [])
+
+-- the first number, and twice the second, modulo 257
+abbrev pub toy_pair : Digest → Digest → Outcome Digest
+toy_pair a b = Ok ((get_or a 0 0 + 2 * get_or b 0 0) % 257 ∷ [])

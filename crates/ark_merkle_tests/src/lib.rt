@@ -1,0 +1,12 @@
+//! Tests of the trees, and the definitions of their contracts as plain, slow functions to compare them with.
+#![tactic(auto)]
+
+#[cfg(test)]
+mod multi_paths;
+#[cfg(test)]
+mod paths;
+pub mod plain;
+#[cfg(test)]
+mod samples;
+#[cfg(test)]
+mod toy;
