@@ -1,7 +1,7 @@
 //! Sessions over a leaf hash with parameters.
 
-ghost use Rattle.std.specs.Prelude.{◌≡◌, Ok, refl, ap};
-ghost use Rattle.acp_session.specs.Toy.{toy_language};
+ghost use Rattle.std.specs.Prelude.{◌≡◌, Ok, refl};
+ghost use Rattle.std.proofs.Common.{ap};
 ghost use Rattle.acp_tests.specs.Keyed.{keyed_leaf, keyed_language};
 
 use acp_session::run::run;
