@@ -1,21 +1,7 @@
 //! The program `acp`: trees, proofs and checks, line by line.
 #![tactic(auto)]
 
-mod answer;
-mod command;
-mod multi_paths;
-mod paths;
-mod replies;
-mod run;
-mod sha256;
-mod shell;
-#[cfg(test)]
-mod tests;
-mod tokens;
-mod toy;
-mod words;
-
-use crate::command::command;
+use acp_session::command::command;
 use std::env;
 use std::io::{self, BufReader, BufWriter};
 use std::process::ExitCode;

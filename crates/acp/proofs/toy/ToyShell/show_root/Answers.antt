@@ -1,5 +1,0 @@
-use Rattle.acp.proofs.ToyLemmas.{toy_bytes-two}
-use Rattle.acp.proofs.toy.ToyShell.show_root.Goals as goal
-
-pub returns : goal.returns
-returns c = rw (toy_bytes-two c.args.root.now.value) (rw (c.value-value.ensures) at c.push_hex.ensures)

@@ -1,0 +1,176 @@
+-- How a session over lines goes on.
+use Rattle.std.proofs.Common.{◌≡◌, ℕ, zero, suc, ◌<◌, List, [], ◌∷◌, ◌++◌, length, take, drop, ◌+◌, Option, Some, None, Result, Ok, Err, refl, sym, ◌∙◌, ap, arith, append_assoc, append-nil, IfSome}
+use Rattle.std.specs.Prelude.{OnErr}
+use Rattle.std.specs.List.{flat_map}
+use Rattle.std.specs.Io.KnownBytes.{Appends, Keeps, IsAtEnd, Consumes}
+use Rattle.std.specs.Io.BufRead.{take_through, drop_through, strip_last, DropsThrough}
+use Rattle.std.proofs.lemmas.List.{flat_map_more}
+use Rattle.std.proofs.Math.Seq.{take-add}
+use Rattle.acp_session.specs.Lines.{lines_of, with_line_feed}
+use Rattle.acp_session.specs.Sessions.{Session, Serves, Stops, AppendsFront, LosesFront}
+use Rattle.acp_session.proofs.Cutting.{lines_of-cons}
+
+-- ---- what a writer holds
+
+appends_none : (w : Option (List ℕ)) → Appends w w []
+appends_none None = tt
+appends_none (Some xs) = sym (append-nil xs)
+
+pub appends_both : (a b c : Option (List ℕ)) (x y : List ℕ) → Appends a b x → Appends b c y → Appends a c (x ++ y)
+appends_both None b c x y h k = tt
+appends_both (Some xs) None c x y h k = absurd h
+appends_both (Some xs) (Some ys) None x y h k = absurd k
+appends_both (Some xs) (Some ys) (Some zs) x y h k = k ∙ ap (λ s. s ++ y) h ∙ append_assoc xs x y
+
+keeps-appends : (a b : Option (List ℕ)) → Keeps a b → Appends a b []
+keeps-appends None b k = tt
+keeps-appends (Some xs) None k = absurd k
+keeps-appends (Some xs) (Some ys) k = k ∙ sym (append-nil xs)
+
+pub appends_kept : (a b c : Option (List ℕ)) (x : List ℕ) → Appends a b x → Keeps b c → Appends a c x
+appends_kept a b c x h k = let all : Appends a c (x ++ []) = appends_both a b c x [] h (keeps-appends b c k) in rw append-nil at all
+
+pub kept_then : (a b c : Option (List ℕ)) (x : List ℕ) → Keeps a b → Appends b c x → Appends a c x
+kept_then a b c x k h = appends_both a b c [] x (keeps-appends a b k) h
+
+-- more of the bytes, where some are written
+pub appends_more : (a b c : Option (List ℕ)) (bytes : List ℕ) (n more : ℕ) → Appends a b (take n bytes) → Appends b c (take more (drop n bytes)) → Appends a c (take (n + more) bytes)
+appends_more a b c bytes n more h k = rw (take-add n more bytes) (appends_both a b c (take n bytes) (take more (drop n bytes)) h k)
+
+pub keeps_self : (w : Option (List ℕ)) → Keeps w w
+keeps_self None = tt
+keeps_self (Some xs) = refl
+
+-- ---- fronts of what is written
+
+take-all : {A : Type 0} (xs ys : List A) → take (length xs) (xs ++ ys) ≡ xs
+take-all [] ys = refl
+take-all (x ∷ xs) ys = ap (λ s. x ∷ s) (take-all xs ys)
+
+take-front : (n : ℕ) (x y : List ℕ) → (m : ℕ) × (take m (x ++ y) ≡ take n x)
+take-front zero x y = (0, refl)
+take-front (suc n) [] y = (0, refl)
+take-front (suc n) (b ∷ x) y = let more = take-front n x y in (suc more.0, ap (λ s. b ∷ s) more.1)
+
+take-behind : (x y : List ℕ) (n : ℕ) → (m : ℕ) × (take m (x ++ y) ≡ x ++ take n y)
+take-behind [] y n = (n, refl)
+take-behind (b ∷ x) y n = let more = take-behind x y n in (suc more.0, ap (λ s. b ∷ s) more.1)
+
+appends-front : (a b : Option (List ℕ)) (x : List ℕ) → Appends a b x → AppendsFront a b x
+appends-front a b x h = (length x, rw (ap (take (length x)) (sym (append-nil x)) ∙ take-all x []) h)
+
+-- a front of the first is one of both
+pub front_of_first : (a b : Option (List ℕ)) (x y : List ℕ) → AppendsFront a b x → AppendsFront a b (x ++ y)
+front_of_first a b x y front = let m = take-front front.0 x y in (m.0, rw m.1 front.1)
+
+-- the first, then a front of the second
+pub front_behind : (a b c : Option (List ℕ)) (x y : List ℕ) → Appends a b x → AppendsFront b c y → AppendsFront a c (x ++ y)
+front_behind a b c x y h front = let m = take-behind x y front.0 in (m.0, rw m.1 (appends_both a b c x (take front.0 y) h front.1))
+
+pub kept_front : (a b c : Option (List ℕ)) (x : List ℕ) → Keeps a b → AppendsFront b c x → AppendsFront a c x
+kept_front a b c x k front = (front.0, kept_then a b c (take front.0 x) k front.1)
+
+-- ---- what a reader has left
+
+pub loses_none : (r : Option (List ℕ)) → LosesFront r r
+loses_none None = ([], tt)
+loses_none (Some xs) = ([], refl)
+
+loses_more : (a b c : Option (List ℕ)) (x : List ℕ) → LosesFront a b → Consumes b c x → LosesFront a c
+loses_more None b c x h k = ([], tt)
+loses_more (Some xs) None c x h k = absurd h.1
+loses_more (Some xs) (Some ys) None x h k = absurd k
+loses_more (Some xs) (Some ys) (Some zs) x h k = (h.0 ++ x, h.1 ∙ ap (λ s. h.0 ++ s) k ∙ sym (append_assoc h.0 x zs))
+
+pub loses_both : (a b c : Option (List ℕ)) → LosesFront a b → LosesFront b c → LosesFront a c
+loses_both a b c h k = loses_more a b c k.0 h k.1
+
+-- what holds at all holds where a call failed
+pub on_err : {A E P : Type 0} (r : Result A E) → P → OnErr r P
+on_err (Ok x) p = tt
+on_err (Err e) p = p
+
+-- ---- chains of steps
+
+module _ {T : Type 0} (step : T → List ℕ → T → List ℕ → Type 0) where
+  -- some lines lead from a state to another, with the reply to each
+  abbrev Through : T → List (List ℕ) → List (List ℕ) → T → Type 0
+  Through before [] [] after = before ≡ after
+  Through before (line ∷ lines) (reply ∷ replies) after = (next : T) × step before line next reply × Through next lines replies after
+  Through before [] (reply ∷ replies) after = ⊥
+  Through before (line ∷ lines) [] after = ⊥
+
+  through-session : (before after : T) (lines replies : List (List ℕ)) → Through before lines replies after → Session step before lines replies
+  through-session before after [] [] h = tt
+  through-session before after (line ∷ lines) (reply ∷ replies) h = (h.0, h.1, through-session h.0 after lines replies h.2)
+  through-session before after [] (reply ∷ replies) h = absurd h
+  through-session before after (line ∷ lines) [] h = absurd h
+
+  through-more : (before middle after : T) (lines replies : List (List ℕ)) (line reply : List ℕ) → Through before lines replies middle → step middle line after reply → Through before (lines ++ line ∷ []) (replies ++ reply ∷ []) after
+  through-more before middle after [] [] line reply h does = (after, rw h does, refl)
+  through-more before middle after (l ∷ lines) (r ∷ replies) line reply h does = (h.0, h.1, through-more h.0 middle after lines replies line reply h.2 does)
+  through-more before middle after [] (r ∷ replies) line reply h does = absurd h
+  through-more before middle after (l ∷ lines) [] line reply h does = absurd h
+
+-- what is read up to a line feed is the first line
+next_line : (rest line : List ℕ) → 0 < length line → line ≡ take_through 10 rest → lines_of rest ≡ strip_last 10 line ∷ lines_of (drop_through 10 rest)
+next_line [] line some took = absurd (omega (arith, ap length took))
+next_line (b ∷ bs) line some took = lines_of-cons b bs ∙ ap (λ s. strip_last 10 s ∷ lines_of (drop_through 10 (b ∷ bs))) (sym took)
+
+one_more : (input done rest : List (List ℕ)) (line : List ℕ) (others : List (List ℕ)) → input ≡ done ++ rest → rest ≡ line ∷ others → input ≡ (done ++ line ∷ []) ++ others
+one_more input done rest line others is next = is ∙ ap (λ s. done ++ s) next ∙ sym (append_assoc done (line ∷ []) others)
+
+module _ {T : Type 0} (step : Option T → List ℕ → Option T → List ℕ → Type 0) where
+  -- A session that began with r0 to read and w0 written has come to this state, with r to read and w written: some lines are
+  -- done and the replies to them told, and the rest of the bytes is to come.
+  abbrev pub Going : (r0 w0 : Option (List ℕ)) → Option T → (r w : Option (List ℕ)) → Type 0
+  Going r0 w0 state r w = IfSome r0 (λ input. (told : List (List ℕ)) × (done : List (List ℕ)) × (rest : List ℕ) × (r ≡ Some rest)
+      × (lines_of input ≡ done ++ lines_of rest) × Through step None done told state
+      × Appends w0 w (flat_map with_line_feed told))
+
+  pub going_from_start : (r0 w0 : Option (List ℕ)) → Going r0 w0 None r0 w0
+  going_from_start None w0 = tt
+  going_from_start (Some input) w0 = ([], [], input, refl, refl, refl, appends_none w0)
+
+  pub going_on : (r0 w0 : Option (List ℕ)) (before after : Option T) (r r' w w1 w2 : Option (List ℕ)) (line reply : List ℕ) → Going r0 w0 before r w → 0 < length line → IfSome r (λ xs. line ≡ take_through 10 xs) → DropsThrough r r' 10 → step before (strip_last 10 line) after reply → Appends w w1 reply → Appends w1 w2 (10 ∷ []) → Going r0 w0 after r' w2
+  going_on None w0 before after r r' w w1 w2 line reply so_far some taken left does told ended_it = tt
+  going_on (Some input) w0 before after r r' w w1 w2 line reply so_far some taken left does told ended_it =
+      let rest = so_far.2 in
+      let took : line ≡ take_through 10 rest = rw so_far.3 at taken in
+      let leaves : r' ≡ Some (drop_through 10 rest) = rw so_far.3 at left in
+      let all = appends_both w0 w w2 (flat_map with_line_feed so_far.0) (reply ++ 10 ∷ []) so_far.6 (appends_both w w1 w2 reply (10 ∷ []) told ended_it) in (
+        so_far.0 ++ reply ∷ [],
+        so_far.1 ++ strip_last 10 line ∷ [],
+        drop_through 10 rest,
+        leaves,
+        one_more (lines_of input) so_far.1 (lines_of rest) (strip_last 10 line) (lines_of (drop_through 10 rest)) so_far.4 (next_line rest line some took),
+        through-more step None before after so_far.1 so_far.0 (strip_last 10 line) reply so_far.5 does,
+        rw (← flat_map_more with_line_feed [] so_far.0 reply) all,
+      )
+
+  pub going_to_end : (r0 w0 : Option (List ℕ)) (state : Option T) (r w w' : Option (List ℕ)) → Going r0 w0 state r w → IsAtEnd r → Keeps w w' → Serves step r0 w0 w'
+  going_to_end None w0 state r w w' so_far end kept = tt
+  going_to_end (Some input) w0 state r w w' so_far end kept =
+      let none_left : so_far.2 ≡ [] = rw so_far.3 at end in
+      let all : lines_of input ≡ so_far.1 = so_far.4 ∙ ap (λ s. so_far.1 ++ lines_of s) none_left ∙ append-nil so_far.1 in
+      (so_far.0, rw all (through-session step None state so_far.1 so_far.0 so_far.5), appends_kept w0 w w' _ so_far.6 kept)
+
+  -- it is cut short between two lines
+  pub stops_here : (r0 w0 : Option (List ℕ)) (state : Option T) (r w w' : Option (List ℕ)) → Going r0 w0 state r w → Keeps w w' → Stops step r0 w0 w'
+  stops_here None w0 state r w w' so_far kept = tt
+  stops_here (Some input) w0 state r w w' so_far kept =
+      let first : take (length so_far.1) (lines_of input) ≡ so_far.1 = ap (take (length so_far.1)) so_far.4 ∙ take-all so_far.1 (lines_of so_far.2) in
+      (length so_far.1, so_far.0, rw first (through-session step None state so_far.1 so_far.0 so_far.5), appends-front w0 w' _ (appends_kept w0 w w' _ so_far.6 kept))
+
+  -- it is cut short in a reply
+  pub stops_within : (r0 w0 : Option (List ℕ)) (before after : Option T) (r w w' : Option (List ℕ)) (line reply : List ℕ) → Going r0 w0 before r w → 0 < length line → IfSome r (λ xs. line ≡ take_through 10 xs) → step before (strip_last 10 line) after reply → AppendsFront w w' (reply ++ 10 ∷ []) → Stops step r0 w0 w'
+  stops_within None w0 before after r w w' line reply so_far some taken does front = tt
+  stops_within (Some input) w0 before after r w w' line reply so_far some taken does front =
+      let rest = so_far.2 in
+      let took : line ≡ take_through 10 rest = rw so_far.3 at taken in
+      let done = so_far.1 ++ strip_last 10 line ∷ [] in
+      let all = one_more (lines_of input) so_far.1 (lines_of rest) (strip_last 10 line) (lines_of (drop_through 10 rest)) so_far.4 (next_line rest line some took) in
+      let first : take (length done) (lines_of input) ≡ done = ap (take (length done)) all ∙ take-all done (lines_of (drop_through 10 rest)) in
+      let through = through-more step None before after so_far.1 so_far.0 (strip_last 10 line) reply so_far.5 does in
+      let written = front_behind w0 w w' (flat_map with_line_feed so_far.0) (reply ++ 10 ∷ []) so_far.6 front in
+      (length done, so_far.0 ++ reply ∷ [], rw first (through-session step None after done (so_far.0 ++ reply ∷ []) through), rw (← flat_map_more with_line_feed [] so_far.0 reply) written)

@@ -1,0 +1,59 @@
+-- What tokens say, one after the other.
+use Rattle.std.proofs.Common.{◌≡◌, Bor, true, ℕ, ◌+◌, List, [], ◌∷◌, ◌++◌, length, Option, Some, None, refl, sym, ap, ◌∙◌, append_assoc, append-nil}
+use Rattle.std.specs.Option.{option_map, option_copied, is_some}
+use Rattle.acp_session.specs.Arguments.{onto_all, values, some_values}
+use Rattle.acp_session.specs.declared.keyword.Keyword.TheVariants.{Root}
+use Rattle.acp_session.specs.Language.{Language}
+use Rattle.acp_session.specs.Lines.{tokens_of, tokens_left}
+use Rattle.acp_session.specs.Requests.{request_by}
+use Rattle.acp_session.proofs.Cutting.{tokens_of-some}
+
+-- some values before others, where those are there
+abbrev pub behind : {A : Type 0} → List A → Option (List A) → Option (List A)
+behind front rest = option_map (λ more. front ++ more) rest
+
+-- how much is left of a line, with the space before it
+abbrev pub left_size : Option (List ℕ) → ℕ
+left_size None = 0
+left_size (Some bytes) = 1 + length bytes
+
+module _ {A : Type 0} (said : List ℕ → Option A) where
+  behind-onto : (front : List A) (x : A) (rest : Option (List A)) → behind front (onto_all (Some x) rest) ≡ behind (front ++ x ∷ []) rest
+  behind-onto front x None = refl
+  behind-onto front x (Some more) = ap (λ (xs : List A). Some xs) (sym (append_assoc front (x ∷ []) more))
+
+  pub behind-more : (whole : Option (List A)) (front : List A) (token : List ℕ) (tokens : List (List ℕ)) (x : A) → whole ≡ behind front (values said (token ∷ tokens)) → said token ≡ Some x → whole ≡ behind (front ++ x ∷ []) (values said tokens)
+  behind-more whole front token tokens x so is = so ∙ rw is (behind-onto front x (values said tokens))
+
+  pub behind-nothing : (whole : Option (List A)) (front : List A) (token : List ℕ) (tokens : List (List ℕ)) → whole ≡ behind front (values said (token ∷ tokens)) → said token ≡ None → whole ≡ None
+  behind-nothing whole front token tokens so is = so ∙ rw is refl
+
+  pub behind-all : (whole : Option (List A)) (front : List A) → whole ≡ behind front (values said []) → whole ≡ Some front
+  behind-all whole front so = so ∙ ap (λ (xs : List A). Some xs) (append-nil front)
+
+-- what is left of a line has a token
+pub some_values-left : {A : Type 0} (value : List ℕ → Option A) (left : Option (Bor (List ℕ))) → is_some left ≡ true → values value (tokens_left (option_copied left)) ≡ some_values value (tokens_left (option_copied left))
+some_values-left value None some = absurd cc
+some_values-left value (Some line) some = by_tokens (tokens_of line.now) (tokens_of-some line.now)
+  where
+    by_tokens : (tokens : List (List ℕ)) → (tokens ≡ [] → ⊥) → values value tokens ≡ some_values value tokens
+    by_tokens [] none = absurd (none refl)
+    by_tokens (token ∷ tokens) none = refl
+
+-- what is seen of what is seen
+pub option_map-seen : {A B C : Type 0} (seen : A → B) (more : B → C) (x : Option A) → option_map (λ a. more (seen a)) x ≡ option_map more (option_map seen x)
+option_map-seen seen more None = refl
+option_map-seen seen more (Some a) = refl
+
+-- what is made of a value that is there, or not
+module _ {X Y Z : Type 0} (view : X → Y) (make : Y → Z) (o : Option X) where
+  pub made-some : (x : X) (seen : Option Y) → o ≡ Some x → option_map view o ≡ seen → Some (make (view x)) ≡ option_map make seen
+  made-some x seen is same = ap (option_map make) (sym (ap (option_map view) is) ∙ same)
+
+  pub made-none : (seen : Option Y) → o ≡ None → option_map view o ≡ seen → None ≡ option_map make seen
+  made-none seen is same = ap (option_map make) (sym (ap (option_map view) is) ∙ same)
+
+-- nothing stands behind `root`
+pub root-more : (l : Language) (tokens : List (List ℕ)) → (tokens ≡ [] → ⊥) → None ≡ request_by l (Some Root) tokens
+root-more l [] some = absurd (some refl)
+root-more l (token ∷ tokens) some = refl

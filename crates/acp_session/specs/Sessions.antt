@@ -1,0 +1,37 @@
+-- Whole sessions.
+use Rattle.std.specs.Prelude.{ℕ, List, [], ◌∷◌, take, Option, None, IfSome}
+use Rattle.std.specs.List.{flat_map}
+use Rattle.std.specs.Io.KnownBytes.{Appends, Consumes}
+use Rattle.acp_session.specs.Lines.{lines_of, with_line_feed}
+
+-- some lines, one after another, from a state on, and the reply to each
+abbrev pub Session : {T : Type 0} → (T → List ℕ → T → List ℕ → Type 0) → T → List (List ℕ) → List (List ℕ) → Type 0
+Session step before [] [] = Unit {0}
+Session step before (line ∷ lines) (reply ∷ replies) =
+    (after : _) × step before line after reply × Session step after lines replies
+Session step before [] (reply ∷ replies) = ⊥
+Session step before (line ∷ lines) [] = ⊥
+
+-- What a writer holds grows by a front of some bytes, where it tells what it holds.
+abbrev pub AppendsFront : Option (List ℕ) → Option (List ℕ) → List ℕ → Type 0
+AppendsFront before after bytes = (n : ℕ) × Appends before after (take n bytes)
+
+-- What a reader has left loses a front, where it tells what it has left.
+abbrev pub LosesFront : Option (List ℕ) → Option (List ℕ) → Type 0
+LosesFront before after = (front : List ℕ) × Consumes before after front
+
+-- What the writer holds when all that a reader had is answered, from no tree on: what it held, then each reply with a
+-- line feed. A reader or a writer that does not tell its bytes is not spoken of.
+abbrev pub Serves : {T : Type 0} → (Option T → List ℕ → Option T → List ℕ → Type 0)
+    → Option (List ℕ) → Option (List ℕ) → Option (List ℕ) → Type 0
+Serves step input before after =
+    IfSome input (λ bytes. (replies : List (List ℕ)) × Session step None (lines_of bytes) replies
+    × Appends before after (flat_map with_line_feed replies))
+
+-- What the writer holds when a session is cut short: what it held, then a front of the replies to some first lines of
+-- what the reader had, each with a line feed.
+abbrev pub Stops : {T : Type 0} → (Option T → List ℕ → Option T → List ℕ → Type 0)
+    → Option (List ℕ) → Option (List ℕ) → Option (List ℕ) → Type 0
+Stops step input before after =
+    IfSome input (λ bytes. (n : ℕ) × (replies : List (List ℕ)) × Session step None (take n (lines_of bytes)) replies
+    × AppendsFront before after (flat_map with_line_feed replies))

@@ -1,0 +1,35 @@
+-- What tokens say.
+use Rattle.std.specs.Prelude.{ℕ, ◌^◌, ◌==◌, ◌&&◌, not, nat_lt, length, get_or, List, [], Bool, if◌then◌else◌, Option, Some, None, codes}
+use Rattle.std.specs.Str.{bytes_eq, all_ascii_digits}
+use Rattle.std.specs.Str.Parse.{digits_value}
+use Rattle.std.specs.Result.{result_ok}
+use Rattle.hex.specs.Hex.{decode_of}
+use Rattle.ark_base.specs.Digits.{number_of_bytes}
+
+-- digits, of which the first is no zero where more follow, and a number below 2 ^ 64
+abbrev pub is_index : List ℕ → Bool
+is_index token =
+    nat_lt 0 (length token)
+    && (all_ascii_digits token
+    && (not (nat_lt 1 (length token) && (get_or token 0 0 == 48)) && nat_lt (digits_value 10 token) (2 ^ 64)))
+
+-- the number that a token spells in decimal
+abbrev pub index_of : List ℕ → Option ℕ
+index_of token = if is_index token then Some (digits_value 10 token) else None
+
+-- the bytes that a token spells in hexadecimal, one or more
+abbrev pub some_bytes_of : List ℕ → Option (List ℕ)
+some_bytes_of token = if nat_lt 0 (length token) then result_ok (decode_of token) else None
+
+-- the same, where `-` stands for no bytes
+abbrev pub bytes_of : List ℕ → Option (List ℕ)
+bytes_of token = if bytes_eq token (codes "-") then Some [] else some_bytes_of token
+
+-- the number of one to eight bytes, the least first
+abbrev pub number_of_some : Option (List ℕ) → Option ℕ
+number_of_some None = None
+number_of_some (Some bytes) = if nat_lt 8 (length bytes) then None else Some (number_of_bytes bytes)
+
+-- the number of the bytes that a token spells in hexadecimal
+abbrev pub number_of_token : List ℕ → Option ℕ
+number_of_token token = number_of_some (some_bytes_of token)

@@ -1,0 +1,63 @@
+-- The configuration `toy`: leaves are numbers, digests numbers below 257.
+use Rattle.std.specs.Prelude.{ℕ, ◌+◌, ◌*◌, ◌%◌, ◌==◌, if◌then◌else◌, Bool, true, false, List, [], ◌∷◌, length, get_or, Option, Some, None, Ok, Err}
+use Rattle.std.specs.Option.{option_map}
+use Rattle.ark_base.specs.declared.error.Error.TheVariants.{GenericError}
+use Rattle.ark_base.specs.declared.error.Refusal.TheVariants.{Custom}
+use Rattle.ark_base.specs.Digits.{number_of_bytes, bytes_of_number, below_at}
+use Rattle.ark_base.specs.Outcome.{Outcome, IsDecided}
+use Rattle.ark_base.specs.Reading.{Reading}
+use Rattle.ark_merkle.specs.MultiPathBytes.{multi_bytes, multi_way_at}
+use Rattle.ark_merkle.specs.Pair.{Digest}
+use Rattle.ark_merkle.specs.PathBytes.{way_bytes, way_at}
+use Rattle.acp_session.specs.Language.{Language}
+use Rattle.acp_session.specs.Tokens.{number_of_token, some_bytes_of}
+
+-- the number of a digest
+abbrev pub toy_number : Digest → ℕ
+toy_number digest = get_or digest 0 0
+
+-- the two canonical bytes of a digest
+abbrev pub toy_bytes : Digest → List ℕ
+toy_bytes digest = bytes_of_number 2 (toy_number digest)
+
+-- a leaf modulo 257; 999 is refused
+abbrev pub toy_leaf : ℕ → Outcome Digest
+toy_leaf leaf = if leaf == 999 then Err (GenericError (Custom 1)) else Ok (leaf % 257 ∷ [])
+
+-- the first, and twice the second, modulo 257
+abbrev pub toy_pair : Digest → Digest → Outcome Digest
+toy_pair a b = Ok ((toy_number a + 2 * toy_number b) % 257 ∷ [])
+
+-- a digest that was read, where no bytes are left behind it
+abbrev pub whole_digest : Reading ℕ → Option Digest
+whole_digest (Ok (value, [])) = Some (value ∷ [])
+whole_digest (Ok (value, byte ∷ bytes)) = None
+whole_digest (Err fault) = None
+
+abbrev pub toy_digest : Option (List ℕ) → Option Digest
+toy_digest None = None
+toy_digest (Some bytes) = whole_digest (below_at 257 2 bytes)
+
+-- the digest of a number that was read
+abbrev pub read_digest : ℕ → Digest
+read_digest value = number_of_bytes (bytes_of_number 2 value) ∷ []
+
+abbrev pub toy_language : Language
+toy_language = record {
+  leaf = λ token. option_map toy_leaf (number_of_token token);
+  digest = λ token. toy_digest (some_bytes_of token);
+  bytes = some_bytes_of;
+  root_bytes = toy_bytes;
+  pair = record { bottom = toy_pair; upper = toy_pair };
+  path_bytes = way_bytes toy_bytes toy_bytes;
+  path_reading = way_at read_digest read_digest (below_at 257 2) (below_at 257 2);
+  multi_path_bytes = multi_bytes toy_bytes toy_bytes;
+  multi_path_reading = multi_way_at read_digest read_digest (below_at 257 2) (below_at 257 2);
+}
+
+pub toy_leaf-decided : (leaf : ℕ) → IsDecided (toy_leaf leaf)
+toy_leaf-decided leaf = by_test (leaf == 999)
+  where
+    by_test : (t : Bool) → IsDecided (if t then Err (GenericError (Custom 1)) else Ok (leaf % 257 ∷ []))
+    by_test true = λ same. absurd cc
+    by_test false = tt

@@ -1,0 +1,16 @@
+//! Sessions of the program `acp`: trees, proofs and checks, line by line.
+#![tactic(auto)]
+
+pub mod answer;
+mod arguments;
+pub mod command;
+mod keyword;
+pub mod line;
+mod proofs;
+mod replies;
+pub mod run;
+pub mod sha256;
+pub mod shell;
+pub mod tokens;
+pub mod toy;
+mod words;

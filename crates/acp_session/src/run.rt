@@ -1,0 +1,107 @@
+//! Sessions over a reader and a writer.
+
+ghost use Rattle.std.specs.Prelude.{◌≡◌, ◌<◌, length, true, false, IfOk, IfSome, OnOk, OnErr};
+ghost use Rattle.std.specs.Io.BufRead.{DropsThrough, strip_last, take_through};
+ghost use Rattle.std.specs.Io.Buffered.{reader_remaining};
+ghost use Rattle.std.specs.Io.KnownBytes.{Appends, IsAtEnd, Keeps};
+ghost use Rattle.acp_session.specs.Sessions.{AppendsFront, LosesFront, Serves, Stops};
+ghost use Rattle.acp_session.specs.Steps.{Step};
+
+use crate::answer::answer;
+use crate::shell::Shell;
+use ark_merkle::{LeafParam, MerkleTree, TwoToOneParam};
+use memchr::memchr;
+use std::alloc::Global;
+use std::io::{self, BufRead, BufReader, ErrorKind, Read, Write};
+
+/// Reads the next line whole, with its line feed if it has one; answers whether there is one.
+fn read_line<R: Read>(lines: &mut BufReader<R>, line: &mut Vec<u8>) -> io::Result<bool>
+    ensures line { let left = reader_remaining R.remaining in
+        OnOk result (IfSome (left lines.old) (λ bytes. line.new.items ≡ take_through 10 bytes)) }
+    ensures rest { let left = reader_remaining R.remaining in
+        OnOk result (DropsThrough (left lines.old) (left lines.new) 10) }
+    ensures some { IfOk result (λ is_there. is_there ≡ true → 0 < length line.new.items) }
+    ensures end { let left = reader_remaining R.remaining in
+        IfOk result (λ is_there. is_there ≡ false → IsAtEnd (left lines.old)) }
+    ensures read { let left = reader_remaining R.remaining in
+        LosesFront (left lines.old) (left lines.new) }
+{
+    line.clear();
+    Ok(lines.read_until(b'\n', line)? > 0)
+}
+
+/// The line without the line feed at its end, if it has one.
+fn without_line_feed(line: &[u8]) -> &[u8]
+    ensures { result.now ≡ strip_last 10 line.now }
+{
+    match line.split_last() {
+        Some((b'\n', front)) => front,
+        _ => line,
+    }
+}
+
+/// Sends all replies off where the next line isn't there yet, so that its read may wait.
+fn flush_before_waiting<R: Read, W: Write>(lines: &BufReader<R>, replies: &mut W) -> io::Result<()>
+    ensures { Keeps (W.contents replies.old) (W.contents replies.new) }
+{
+    if memchr(b'\n', lines.buffer()).is_none() {
+        return replies.flush();
+    }
+    Ok(())
+}
+
+/// Writes bytes whole. Where that fails, a front of them was written.
+pub fn write_front<W: Write>(writer: &mut W, bytes: &[u8]) -> io::Result<()>
+    ensures whole { OnOk result (Appends (W.contents writer.old) (W.contents writer.new) bytes.now) }
+    ensures front { AppendsFront (W.contents writer.old) (W.contents writer.new) bytes.now }
+{
+    let mut written = 0;
+    for _ in 0..u64::MAX {
+        if written == bytes.len() {
+            return Ok(());
+        }
+        match writer.write(&bytes[written..]) {
+            Ok(0) => return Err(io::Error::from(ErrorKind::WriteZero)),
+            Ok(more) => written += more,
+            Err(fault) => {
+                if fault.kind() != ErrorKind::Interrupted {
+                    return Err(fault);
+                }
+            }
+        }
+    }
+    Err(io::Error::from(ErrorKind::Other))
+}
+
+/// Answers each line that comes, from no tree on, until the input ends, over hashes with these parameters. The first fault of the
+/// reader, of the writer or of memory ends it before.
+pub fn run<C: Shell, R: Read, W: Write>(
+    alloc: Global,
+    leaf_params: &LeafParam<C>,
+    two_params: &TwoToOneParam<C>,
+    lines: &mut BufReader<R>,
+    replies: &mut W,
+) -> io::Result<()>
+    ensures served { OnOk result (let step = Step (C.language leaf_params.now two_params.now) in
+        let input = reader_remaining R.remaining lines.old in
+        Serves step input (W.contents replies.old) (W.contents replies.new)) }
+    ensures stopped { OnErr result (let step = Step (C.language leaf_params.now two_params.now) in
+        let input = reader_remaining R.remaining lines.old in
+        Stops step input (W.contents replies.old) (W.contents replies.new)) }
+    ensures read { let left = reader_remaining R.remaining in
+        LosesFront (left lines.old) (left lines.new) }
+{
+    let mut tree: Option<MerkleTree<C>> = None;
+    let mut line = Vec::new(alloc);
+    for _ in 0..u64::MAX {
+        flush_before_waiting(lines, replies)?;
+        if !read_line(lines, &mut line)? {
+            return Ok(());
+        }
+        let asked = without_line_feed(&line);
+        let reply = answer(alloc, leaf_params, two_params, &mut tree, asked)?;
+        write_front(replies, &reply)?;
+        write_front(replies, b"\n")?;
+    }
+    Err(io::Error::from(ErrorKind::Other))
+}

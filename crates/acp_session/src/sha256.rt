@@ -1,0 +1,62 @@
+//! The configuration `sha256`.
+
+ghost use Rattle.std.specs.Prelude.{◌≡◌, refl};
+ghost use Rattle.acp_session.specs.Laws.Sha256.{path_reading-sha, multi_path_reading-sha};
+ghost use Rattle.acp_session.specs.Sha256.{sha_language};
+
+use crate::replies::push_hex;
+use crate::shell::Shell;
+use crate::tokens::some_bytes_of;
+use ark_crh::sha256::Sha256;
+use ark_merkle::{Config, IdentityDigestConverter};
+use std::alloc::{AllocError, Global};
+
+/// Trees of SHA-256, whose leaves and digests are bytes.
+pub struct Sha;
+
+impl Config for Sha {
+    type Leaf = Vec<u8>;
+
+    type LeafDigest = Vec<u8>;
+
+    type LeafInnerDigestConverter = IdentityDigestConverter<Vec<u8>>;
+
+    type InnerDigest = Vec<u8>;
+
+    type LeafHash = Sha256;
+
+    type TwoToOneHash = Sha256;
+}
+
+impl Shell for Sha {
+    ghost language = { λ _ _. sha_language };
+
+    fn read_leaf(alloc: Global, token: &[u8]) -> Result<Option<Vec<u8>>, AllocError> {
+        Self::read_bytes(alloc, token)
+    }
+
+    fn read_digest(alloc: Global, token: &[u8]) -> Result<Option<Vec<u8>>, AllocError> {
+        Self::read_bytes(alloc, token)
+    }
+
+    fn read_bytes(alloc: Global, token: &[u8]) -> Result<Option<Vec<u8>>, AllocError> {
+        if token == b"-".as_slice() {
+            return Ok(Some(Vec::new(alloc)));
+        }
+        some_bytes_of(alloc, token)
+    }
+
+    fn show_root(root: &Vec<u8>, reply: &mut Vec<u8>) -> Result<(), AllocError> {
+        push_hex(reply, root)
+    }
+
+    ghost pair_is = { λ p q. refl };
+
+    ghost path_bytes_are = { λ p q. refl };
+
+    ghost path_reading_is = { λ p q. path_reading-sha };
+
+    ghost multi_path_bytes_are = { λ p q. refl };
+
+    ghost multi_path_reading_is = { λ p q. multi_path_reading-sha };
+}

@@ -1,0 +1,69 @@
+//! What a configuration of the program is.
+
+ghost use Rattle.std.specs.Prelude.{◌≡◌, ◌++◌, Option, IfOk, OnOk};
+ghost use Rattle.std.specs.Option.{option_map};
+ghost use Rattle.hex.specs.Hex.{encode_lower};
+ghost use Rattle.ark_merkle.specs.Tree.{Tree};
+ghost use Rattle.acp_session.specs.Language.{Language};
+ghost use Rattle.acp_session.specs.Steps.{HasHashes};
+
+use ark_base::serialize::Numbered;
+use ark_crh::{CRHScheme, TwoToOneCRHScheme};
+use ark_merkle::{Config, Views};
+use std::alloc::{AllocError, Global};
+
+/// A configuration with tokens for its leaves and digests.
+pub trait Shell: Config {
+    // What contracts see of it under some parameters of the leaf hash and of the pair hash.
+    ghost language: { Self.LeafHash.Parameters → Self.TwoToOneHash.Parameters → Language };
+
+    /// The leaf that a token says, if it says one.
+    fn read_leaf(alloc: Global, token: &[u8]) -> Result<Option<Self::Leaf>, AllocError>
+        ensures { IfOk result (λ leaf.
+            (p : Self.LeafHash.Parameters) (q : Self.TwoToOneHash.Parameters)
+            → option_map (Self.LeafHash.meaning p) leaf ≡ (language p q).leaf token.now) };
+
+    /// The digest that a token says, if it says one.
+    fn read_digest(alloc: Global, token: &[u8]) -> Result<Option<Self::LeafDigest>, AllocError>
+        ensures { IfOk result (λ digest.
+            (p : Self.LeafHash.Parameters) (q : Self.TwoToOneHash.Parameters)
+            → option_map Self.LeafDigest.numbers digest ≡ (language p q).digest token.now) };
+
+    /// The bytes that a token says, if it says some.
+    fn read_bytes(alloc: Global, token: &[u8]) -> Result<Option<Vec<u8>>, AllocError>
+        ensures { IfOk result (λ bytes.
+            (p : Self.LeafHash.Parameters) (q : Self.TwoToOneHash.Parameters)
+            → option_map (λ bytes. bytes.items) bytes ≡ (language p q).bytes token.now) };
+
+    /// Appends the hexadecimal of a root's token bytes.
+    fn show_root(root: &Self::InnerDigest, reply: &mut Vec<u8>) -> Result<(), AllocError>
+        ensures { OnOk result ((p : Self.LeafHash.Parameters) (q : Self.TwoToOneHash.Parameters)
+            → reply.new.items ≡ reply.old.items
+            ++ encode_lower ((language p q).root_bytes (Self.InnerDigest.numbers root.now))) };
+
+    ghost pair_is: { (p : Self.LeafHash.Parameters) (q : Self.TwoToOneHash.Parameters)
+        → ⟦<Self as Views>⟧.pair q ≡ (language p q).pair };
+
+    ghost path_bytes_are: { (p : Self.LeafHash.Parameters) (q : Self.TwoToOneHash.Parameters)
+        → ⟦<Self as Views>⟧.path_bytes ≡ (language p q).path_bytes };
+
+    ghost path_reading_is: { (p : Self.LeafHash.Parameters) (q : Self.TwoToOneHash.Parameters)
+        → ⟦<Self as Views>⟧.path_reading ≡ (language p q).path_reading };
+
+    ghost multi_path_bytes_are: { (p : Self.LeafHash.Parameters) (q : Self.TwoToOneHash.Parameters)
+        → ⟦<Self as Views>⟧.multi_path_bytes ≡ (language p q).multi_path_bytes };
+
+    ghost multi_path_reading_is: { (p : Self.LeafHash.Parameters) (q : Self.TwoToOneHash.Parameters)
+        → ⟦<Self as Views>⟧.multi_path_reading ≡ (language p q).multi_path_reading };
+}
+
+/// What contracts see of the hashes of a tree. Each configuration has it.
+pub trait Hashing: Config {
+    // The tree, if there is one, hashes as these parameters do.
+    ghost has_hashes: { Self.LeafHash.Parameters → Self.TwoToOneHash.Parameters
+        → Option (Tree Self.LeafHash.Parameters Self.TwoToOneHash.Parameters) → Type 0 };
+}
+
+impl<P: Config> Hashing for P {
+    ghost has_hashes = { HasHashes P.LeafHash.meaning ⟦<P as Views>⟧.pair };
+}

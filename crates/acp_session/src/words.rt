@@ -1,0 +1,11 @@
+//! The replies to what lines ask.
+
+mod checks;
+mod set;
+mod shows;
+mod trees;
+
+pub use checks::{bind_reply, check_reply, mcheck_reply};
+pub use set::set_reply;
+pub use shows::{multi_reply, proof_reply, root_reply};
+pub use trees::{digests_reply, tree_reply};

@@ -1,0 +1,169 @@
+//! What a tree says of proofs: `check P L`, `bind P L` and `mcheck P L ..`.
+
+ghost use Rattle.std.specs.Prelude.{◌≡◌, map, IfOk};
+ghost use Rattle.ark_base.specs.Outcome.{Answers};
+ghost use Rattle.ark_merkle.specs.Bind.{path_binding};
+ghost use Rattle.acp_session.specs.Replies.{Verdict, Bound, Tells, text};
+ghost use Rattle.acp_session.specs.Steps.{bind_reply, check_reply, finding, finding_reply, mcheck_reply, multi_path_holds, path_holds, state_of};
+
+use crate::proofs::whole_proof;
+use crate::replies::{plain, refused};
+use crate::shell::{Hashing, Shell};
+use ark_base::error::Error;
+use ark_crh::{CRHScheme, TwoToOneCRHScheme};
+use ark_merkle::{Binding, LeafParam, MerkleTree, MultiPath, Path, TwoToOneParam, Views};
+use std::alloc::{AllocError, Global};
+
+// Whether the path that the bytes spell gives the root for a leaf; nothing where bytes are left behind it.
+fn verdict<C: Shell>(
+    alloc: Global,
+    leaf_params: &LeafParam<C>,
+    two_params: &TwoToOneParam<C>,
+    tree: &MerkleTree<C>,
+    bytes: &[u8],
+    leaf: &C::Leaf,
+) -> Result<Option<bool>, Error>
+    requires { ⟦<C as Views>⟧.pair tree.now.pair_parameters ≡ ⟦<C as Views>⟧.pair two_params.now }
+    ensures { let hashed = C.LeafHash.meaning leaf_params.now leaf.now in
+        let holds = path_holds (⟦<C as Views>⟧.pair two_params.now) tree.now.leaves hashed in
+        Answers (finding holds (⟦<C as Views>⟧.path_reading bytes.now)) result }
+{
+    let Some(path) = whole_proof::<Path<C>>(alloc, bytes)? else {
+        return Ok(None);
+    };
+    let holds = path.verify(alloc, leaf_params, two_params, tree.root(), leaf)?;
+    Ok(Some(holds))
+}
+
+// Whether the multi-proof that the bytes spell is accepted with the leaves; nothing where bytes are left behind it.
+fn multi_verdict<C: Shell>(
+    alloc: Global,
+    leaf_params: &LeafParam<C>,
+    two_params: &TwoToOneParam<C>,
+    tree: &MerkleTree<C>,
+    bytes: &[u8],
+    leaves: &[C::Leaf],
+) -> Result<Option<bool>, Error>
+    requires { ⟦<C as Views>⟧.pair tree.now.pair_parameters ≡ ⟦<C as Views>⟧.pair two_params.now }
+    ensures { let hashed = map (C.LeafHash.meaning leaf_params.now) leaves.now in
+        let holds = multi_path_holds (⟦<C as Views>⟧.pair two_params.now) tree.now.leaves hashed in
+        Answers (finding holds (⟦<C as Views>⟧.multi_path_reading bytes.now)) result }
+{
+    let Some(proof) = whole_proof::<MultiPath<C>>(alloc, bytes)? else {
+        return Ok(None);
+    };
+    let holds = proof.verify(alloc, leaf_params, two_params, tree.root(), leaves.iter())?;
+    Ok(Some(holds))
+}
+
+// What the path that the bytes spell says of a leaf; nothing where bytes are left behind it.
+fn binding<C: Shell>(
+    alloc: Global,
+    tree: &MerkleTree<C>,
+    bytes: &[u8],
+    leaf: &C::Leaf,
+) -> Result<Option<Binding>, Error>
+    ensures { let hashed = C.LeafHash.meaning tree.now.leaf_parameters leaf.now in
+        let say = path_binding (⟦<C as Views>⟧.pair tree.now.pair_parameters) tree.now.leaves hashed in
+        Answers (finding say (⟦<C as Views>⟧.path_reading bytes.now)) result }
+{
+    let Some(path) = whole_proof::<Path<C>>(alloc, bytes)? else {
+        return Ok(None);
+    };
+    let binding = tree.bind(alloc, &path, leaf)?;
+    Ok(Some(binding))
+}
+
+// The reply to a verdict.
+fn verdict_reply(alloc: Global, verdict: Result<Option<bool>, Error>) -> Result<Vec<u8>, AllocError>
+    ensures { IfOk result (λ reply. reply.items ≡ text (finding_reply Verdict verdict)) }
+{
+    match verdict {
+        Ok(Some(true)) => plain(alloc, b"true"),
+        Ok(Some(false)) => plain(alloc, b"false"),
+        Ok(None) => plain(alloc, b"refused trailing"),
+        Err(error) => refused(alloc, error),
+    }
+}
+
+// The reply to what a path says of a leaf.
+fn binding_reply(
+    alloc: Global,
+    binding: Result<Option<Binding>, Error>,
+) -> Result<Vec<u8>, AllocError>
+    ensures { IfOk result (λ reply. reply.items ≡ text (finding_reply Bound binding)) }
+{
+    match binding {
+        Ok(Some(Binding::Rejected)) => plain(alloc, b"rejected"),
+        Ok(Some(Binding::Stands)) => plain(alloc, b"stands"),
+        Ok(Some(Binding::Differs { level })) => {
+            Ok(format!(in alloc; "differs {level}")?.into_bytes())
+        }
+        Ok(None) => plain(alloc, b"refused trailing"),
+        Err(error) => refused(alloc, error),
+    }
+}
+
+/// The reply to `check`.
+pub fn check_reply<C: Shell>(
+    alloc: Global,
+    leaf_params: &LeafParam<C>,
+    two_params: &TwoToOneParam<C>,
+    tree: &Option<MerkleTree<C>>,
+    path: &[u8],
+    leaf: &C::Leaf,
+) -> Result<Vec<u8>, AllocError>
+    requires { ⟦<C as Hashing>⟧.has_hashes leaf_params.now two_params.now tree.now }
+    ensures { IfOk result (λ reply. let l = C.language leaf_params.now two_params.now in
+        let hashed = C.LeafHash.meaning leaf_params.now leaf.now in
+        Tells (check_reply l (state_of tree.now) path.now hashed) reply.items) }
+{
+    match tree {
+        Some(tree) => {
+            let verdict = verdict(alloc, leaf_params, two_params, tree, path, leaf);
+            verdict_reply(alloc, verdict)
+        }
+        None => plain(alloc, b"refused tree"),
+    }
+}
+
+/// The reply to `mcheck`.
+pub fn mcheck_reply<C: Shell>(
+    alloc: Global,
+    leaf_params: &LeafParam<C>,
+    two_params: &TwoToOneParam<C>,
+    tree: &Option<MerkleTree<C>>,
+    proof: &[u8],
+    leaves: &[C::Leaf],
+) -> Result<Vec<u8>, AllocError>
+    requires { ⟦<C as Hashing>⟧.has_hashes leaf_params.now two_params.now tree.now }
+    ensures { IfOk result (λ reply. let l = C.language leaf_params.now two_params.now in
+        let hashed = map (C.LeafHash.meaning leaf_params.now) leaves.now in
+        Tells (mcheck_reply l (state_of tree.now) proof.now hashed) reply.items) }
+{
+    match tree {
+        Some(tree) => {
+            let verdict = multi_verdict(alloc, leaf_params, two_params, tree, proof, leaves);
+            verdict_reply(alloc, verdict)
+        }
+        None => plain(alloc, b"refused tree"),
+    }
+}
+
+/// The reply to `bind`.
+pub fn bind_reply<C: Shell>(
+    alloc: Global,
+    tree: &Option<MerkleTree<C>>,
+    path: &[u8],
+    leaf: &C::Leaf,
+) -> Result<Vec<u8>, AllocError>
+    ensures { IfOk result (λ reply. (p : C.LeafHash.Parameters) (q : C.TwoToOneHash.Parameters)
+        → ⟦<C as Hashing>⟧.has_hashes p q tree.now
+        → let hashed = C.LeafHash.meaning p leaf.now in
+        Tells (bind_reply (C.language p q) (state_of tree.now) path.now hashed) reply.items) }
+{
+    match tree {
+        Some(tree) => binding_reply(alloc, binding(alloc, tree, path, leaf)),
+        None => plain(alloc, b"refused tree"),
+    }
+}

@@ -1,0 +1,111 @@
+//! Sessions over a leaf hash with parameters.
+
+ghost use Rattle.std.specs.Prelude.{◌≡◌, Ok, refl};
+ghost use Rattle.std.proofs.Common.{ap};
+ghost use Rattle.acp_tests.specs.Keyed.{keyed_leaf, keyed_language};
+
+use acp_session::run::run;
+use acp_session::shell::Shell;
+use acp_session::tokens::number_of_token;
+use acp_session::toy::{Toy, ToyPairHash};
+use ark_base::error::Error;
+use ark_crh::CRHScheme;
+use ark_groups::ff::{Fp, M257, PrimeField};
+use ark_merkle::{Config, IdentityDigestConverter};
+use rand::Rng;
+use std::alloc::{AllocError, Global};
+use std::io::BufReader;
+use std::test::Fail;
+
+// As `toy`, but each leaf is hashed with a key.
+struct Keyed;
+
+impl Config for Keyed {
+    type Leaf = u64;
+
+    type LeafDigest = Fp<M257>;
+
+    type LeafInnerDigestConverter = IdentityDigestConverter<Fp<M257>>;
+
+    type InnerDigest = Fp<M257>;
+
+    type LeafHash = KeyedLeafHash;
+
+    type TwoToOneHash = ToyPairHash;
+}
+
+// The key and the leaf, modulo 257.
+struct KeyedLeafHash;
+
+impl CRHScheme for KeyedLeafHash {
+    type Input = u64;
+
+    type Output = Fp<M257>;
+
+    type Parameters = Fp<M257>;
+
+    ghost meaning = { λ key leaf. keyed_leaf key.value leaf };
+
+    ghost setup_outcome = { Ok tt };
+
+    ghost is_made = { λ _. Unit {0} };
+
+    fn setup<R: Rng>(_alloc: Global, _rng: &mut R) -> Result<Fp<M257>, Error> {
+        Ok(Fp::from_u64(1))
+    }
+
+    fn evaluate(_alloc: Global, key: &Fp<M257>, input: &u64) -> Result<Fp<M257>, Error> {
+        Ok(PrimeField::add(*key, Fp::from_u64(*input)))
+    }
+
+    ghost meaning_decided = { λ _ _. tt };
+
+    ghost setup_decided = { tt };
+
+    ghost same_parameters = { λ p q same. ap keyed_leaf same };
+}
+
+impl Shell for Keyed {
+    ghost language = { λ key _. keyed_language key.value };
+
+    fn read_leaf(alloc: Global, token: &[u8]) -> Result<Option<u64>, AllocError> {
+        number_of_token(alloc, token)
+    }
+
+    fn read_digest(alloc: Global, token: &[u8]) -> Result<Option<Fp<M257>>, AllocError> {
+        Toy::read_digest(alloc, token)
+    }
+
+    fn read_bytes(alloc: Global, token: &[u8]) -> Result<Option<Vec<u8>>, AllocError> {
+        Toy::read_bytes(alloc, token)
+    }
+
+    fn show_root(root: &Fp<M257>, reply: &mut Vec<u8>) -> Result<(), AllocError> {
+        Toy::show_root(root, reply)
+    }
+
+    ghost pair_is = { λ p q. refl };
+
+    ghost path_bytes_are = { λ p q. refl };
+
+    ghost path_reading_is = { λ p q. refl };
+
+    ghost multi_path_bytes_are = { λ p q. refl };
+
+    ghost multi_path_reading_is = { λ p q. refl };
+}
+
+// Under the key 10 the leaves 1 and 2 have the digests 11 and 12, and 11 + 2 * 12 is 35.
+#[test]
+fn serves_a_hash_with_a_key(rt: HostRuntime) -> Result<(), Fail> {
+    let input =
+        b"tree 01 02\nroot\nproof 0\ncheck 0c0000000000000000000000000000000000 01\nset 0 05\nroot\n";
+    let mut lines = BufReader::new(rt.alloc(), input.as_slice())?;
+    let mut replies: Vec<u8> = Vec::new(rt.alloc());
+    let key = Fp::from_u64(10);
+    run::<Keyed, &[u8], Vec<u8>>(rt.alloc(), &key, &(), &mut lines, &mut replies)?;
+    let wanted =
+        b"tree 2 height 2\nroot 2300\npath 0c0000000000000000000000000000000000\ntrue\nok\nroot 2700\n";
+    assert_eq!(rt; replies.as_slice(), wanted.as_slice());
+    Ok(())
+}
