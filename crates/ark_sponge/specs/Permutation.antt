@@ -1,0 +1,58 @@
+-- The permutation of Poseidon, over lists of numbers modulo p.
+use Rattle.std.specs.Prelude.{ℕ, zero, suc, ◌+◌, ◌*◌, ◌/◌, ◌%◌, List, [], ◌∷◌, map, fold, take, drop, slice_range}
+
+-- What a sponge is set up with, by its numbers.
+pub record Parameters : Type 0 where
+  pub full_rounds : ℕ
+  pub partial_rounds : ℕ
+  pub alpha : ℕ
+  -- the matrix, row by row
+  pub mds : List (List ℕ)
+  -- the constants, a row for each round
+  pub ark : List (List ℕ)
+  pub rate : ℕ
+  pub capacity : ℕ
+
+-- how many elements a state has
+abbrev pub width : Parameters → ℕ
+width c = c.rate + c.capacity
+
+-- the numbers of one list added to the first ones of another
+abbrev pub sums : ℕ → List ℕ → List ℕ → List ℕ
+sums p [] ys = []
+sums p (x ∷ xs) [] = x ∷ xs
+sums p (x ∷ xs) (y ∷ ys) = (x + y) % p ∷ sums p xs ys
+
+-- the S-box of the first n numbers, and the others as they are
+abbrev pub front_images : (ℕ → ℕ) → ℕ → List ℕ → List ℕ
+front_images sbox zero xs = xs
+front_images sbox (suc n) [] = []
+front_images sbox (suc n) (x ∷ xs) = sbox x ∷ front_images sbox n xs
+
+-- the sum over j of number j of a row times number j of a list
+abbrev pub dot_product : List ℕ → List ℕ → ℕ
+dot_product [] xs = 0
+dot_product (m ∷ row) [] = 0
+dot_product (m ∷ row) (x ∷ xs) = m * x + dot_product row xs
+
+-- the matrix times the numbers
+abbrev pub matrix_product : ℕ → List (List ℕ) → List ℕ → List ℕ
+matrix_product p mds xs = map (λ row. dot_product row xs % p) mds
+
+-- one round: its constants are added, the S-box goes over the first n numbers, and the matrix is multiplied
+abbrev pub poseidon_round : ℕ → (ℕ → ℕ) → List (List ℕ) → ℕ → List ℕ → List ℕ → List ℕ
+poseidon_round p sbox mds n xs constants = matrix_product p mds (front_images sbox n (sums p xs constants))
+
+-- a round for each row of constants
+abbrev pub poseidon_rounds : ℕ → (ℕ → ℕ) → List (List ℕ) → ℕ → List (List ℕ) → List ℕ → List ℕ
+poseidon_rounds p sbox mds n ark xs = fold (poseidon_round p sbox mds n) xs ark
+
+-- half of the full rounds, rounded down, then the partial rounds, whose S-box takes the first number alone, then the other full
+-- rounds
+unfoldable pub permutation : ℕ → (ℕ → ℕ → ℕ) → Parameters → List ℕ → List ℕ
+permutation p sbox c xs =
+    let half = c.full_rounds / 2 in
+    let middle = half + c.partial_rounds in
+    let first = poseidon_rounds p (sbox c.alpha) c.mds (width c) (take half c.ark) xs in
+    let partial = poseidon_rounds p (sbox c.alpha) c.mds 1 (slice_range c.ark half middle) first in
+    poseidon_rounds p (sbox c.alpha) c.mds (width c) (drop middle c.ark) partial

@@ -1,0 +1,43 @@
+-- The sponge: what it holds, what its calls give, and what they leave.
+use Rattle.std.specs.Prelude.{ℕ, zero, suc, ◌+◌, ◌/◌, ◌%◌, List, [], ◌∷◌, replicate}
+use Rattle.ark_sponge.specs.Permutation.{Parameters, width, permutation}
+use Rattle.ark_sponge.specs.Duplex.{state_absorbing, nth_state, numbers_from_place, state_to_read}
+use Rattle.ark_sponge.specs.Mode.{absorb_index, squeezing_start}
+use Rattle.ark_sponge.specs.declared.mode.DuplexSpongeMode.{DuplexSpongeMode}
+use Rattle.ark_sponge.specs.declared.mode.DuplexSpongeMode.TheVariants.{Absorbing, Squeezing}
+
+pub record Sponge : Type 0 where
+  pub parameters : Parameters
+  pub state : List ℕ
+  pub mode : DuplexSpongeMode
+
+-- a new sponge is all zero, and absorbs at the front
+abbrev pub new_sponge : Parameters → Sponge
+new_sponge c = record { parameters = c; state = replicate (width c) 0; mode = Absorbing 0 }
+
+-- the sponge that has absorbed the numbers; absorbing none changes nothing
+abbrev pub after_absorbing : ℕ → (ℕ → ℕ → ℕ) → Sponge → List ℕ → Sponge
+after_absorbing p sbox s [] = s
+after_absorbing p sbox s (x ∷ xs) =
+    let c = s.parameters in
+    let left = state_absorbing p c.rate c.capacity (permutation p sbox c) s.state (absorb_index s.mode) (x ∷ xs) in
+    record { parameters = c; state = left.0; mode = Absorbing left.1 }
+
+-- the n numbers that a sponge gives
+abbrev pub squeezed_numbers : ℕ → (ℕ → ℕ → ℕ) → Sponge → ℕ → List ℕ
+squeezed_numbers p sbox s n =
+    let c = s.parameters in
+    let start = squeezing_start (permutation p sbox c) s.state s.mode in
+    numbers_from_place c.rate c.capacity (permutation p sbox c) start.0 start.1 n
+
+-- the sponge that has given n numbers; giving none is not idle
+abbrev pub after_squeezing : ℕ → (ℕ → ℕ → ℕ) → Sponge → ℕ → Sponge
+after_squeezing p sbox s zero =
+    let c = s.parameters in
+    let start = state_to_read c.rate (permutation p sbox c) (squeezing_start (permutation p sbox c) s.state s.mode) in
+    record { parameters = c; state = start.0; mode = Squeezing start.1 }
+after_squeezing p sbox s (suc n) =
+    let c = s.parameters in
+    let start = squeezing_start (permutation p sbox c) s.state s.mode in
+    let last = start.1 + n in
+    record { parameters = c; state = nth_state (permutation p sbox c) (last / c.rate) start.0; mode = Squeezing (last % c.rate + 1) }
