@@ -13,15 +13,15 @@ use Rattle.ark_sponge.specs.Duplex.{blocks_of_rate, with_block, over_blocks, las
 
 div_ceil-suc : (n r : ℕ) → 0 < n → 0 < r → div_ceil n r ≡ suc (div_ceil (n - r) r)
 div_ceil-suc n r some pos = elim (cases_lt n r) as (λ s. div_ceil n r ≡ suc (div_ceil (n - r) r)) [
-    inl short ↦
+  | inl short ↦
       let left : n - r ≡ 0 = omega (arith, short) in
-      rw (left, div-eq_of_lt short, mod-eq_of_lt short, zero-div r, zero-mod r) (omega (arith, some)) |
-    inr long ↦
+      rw (left, div-eq_of_lt short, mod-eq_of_lt short, zero-div r, zero-mod r) (omega (arith, some))
+  | inr long ↦
       let sum : n ≡ (n - r) + r = omega (arith, long) in
       let quotient : n / r ≡ suc ((n - r) / r) = ap (λ m. m / r) sum ∙ add-div_right (n - r) pos ∙ omega arith in
       let remainder : n % r ≡ (n - r) % r = ap (λ m. m % r) sum ∙ add-mod_right (n - r) r in
       rw (quotient, remainder) (omega arith)
-  ]
+]
 
 pub blocks_of_rate-cons : (r : ℕ) (xs : List ℕ) → 0 < r → 0 < length xs → blocks_of_rate r xs ≡ take r xs ∷ blocks_of_rate r (drop r xs)
 blocks_of_rate-cons r xs pos some =
@@ -84,16 +84,16 @@ module _ (p r capacity : ℕ) (permute : List ℕ → List ℕ) where
       let room : length (drop capacity s) ≡ r = length-drop capacity s ∙ omega (arith, len) in
       let behind = sums-zeros p (drop capacity s) first i (All-drop (λ x. x < p) capacity s below) (omega (arith, room, within)) in
       let joined : take capacity s ++ (take i (drop capacity s) ++ sums p (drop i (drop capacity s)) first) ≡ t =
-        sym (append_assoc (take capacity s) (take i (drop capacity s)) (sums p (drop i (drop capacity s)) first))
-        ∙ ap (λ u. u ++ sums p (drop i (drop capacity s)) first) (sym (take-add capacity i s))
-        ∙ ap (λ u. take (capacity + i) s ++ sums p u first) (drop-drop i capacity s) ∙ sym t-is in
+      sym (append_assoc (take capacity s) (take i (drop capacity s)) (sums p (drop i (drop capacity s)) first))
+      ∙ ap (λ u. u ++ sums p (drop i (drop capacity s)) first) (sym (take-add capacity i s))
+      ∙ ap (λ u. take (capacity + i) s ++ sums p u first) (drop-drop i capacity s) ∙ sym t-is in
       let added : with_block p capacity s (take r line) ≡ t = ap (with_block p capacity s) head ∙ ap (λ u. take capacity s ++ u) behind ∙ joined in
       let count : length (take r line) ≡ n = ap length head ∙ length-append zeros first ∙ ap (λ m. m + length first) front ∙ sym n-is in
       let cut = blocks_of_rate-cons r line pos (omega (arith, long, some)) in
       sym (ap (λ bs. (over_blocks p capacity permute s bs, last_length bs)) cut
-        ∙ ap (λ u. (fold over_next u (blocks_of_rate r (drop r line)), fold (λ m block. length block) (length (take r line)) (blocks_of_rate r (drop r line)))) added
-        ∙ ap (λ m. (fold over_next t (blocks_of_rate r (drop r line)), fold (λ m block. length block) m (blocks_of_rate r (drop r line)))) count
-        ∙ ap (λ u. (fold over_next t (blocks_of_rate r u), fold (λ m block. length block) n (blocks_of_rate r u))) tail)
+      ∙ ap (λ u. (fold over_next u (blocks_of_rate r (drop r line)), fold (λ m block. length block) (length (take r line)) (blocks_of_rate r (drop r line)))) added
+      ∙ ap (λ m. (fold over_next t (blocks_of_rate r (drop r line)), fold (λ m block. length block) m (blocks_of_rate r (drop r line)))) count
+      ∙ ap (λ u. (fold over_next t (blocks_of_rate r u), fold (λ m block. length block) n (blocks_of_rate r u))) tail)
 
 -- ---- the same over elements, whose numbers f gives
 

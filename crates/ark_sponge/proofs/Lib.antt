@@ -1,3 +1,9 @@
 pub mod Rows
-pub mod Blocks
 pub mod RowAt
+pub mod Blocks
+pub mod OneByOne
+pub mod Permuting
+pub mod Cuts
+pub mod Squeezes
+pub mod Cutting
+pub mod Calls

@@ -59,8 +59,8 @@ dot_product-step (m ∷ ms) (x ∷ xs) (suc j) = let h = dot_product-step ms xs 
 -- the steps, at elements of any type that f reads as numbers
 module _ {F : Type 0} (f : F → ℕ) (p : ℕ) where
   pub constant_added : (init s row : List F) (i : ℕ) (a b r : F) → length s ≡ length init → i < length init → i < length row
-    → map f s ≡ sums p (map f init) (take i (map f row)) → a ≡ get_or s i a → b ≡ get_or row i b → f r ≡ (f a + f b) % p
-    → map f (set s i r) ≡ sums p (map f init) (take (i + 1) (map f row))
+      → map f s ≡ sums p (map f init) (take i (map f row)) → a ≡ get_or s i a → b ≡ get_or row i b → f r ≡ (f a + f b) % p
+      → map f (set s i r) ≡ sums p (map f init) (take (i + 1) (map f row))
   constant_added init s row i a b r len within in_row so_far is_a is_b sum =
       let xs = map f init in
       let ys = map f row in
@@ -70,8 +70,8 @@ module _ {F : Type 0} (f : F → ℕ) (p : ℕ) where
       ∙ sums-step p xs ys i (rw length-map within) (rw length-map in_row) ∙ ap (λ n. sums p xs (take n ys)) (sym (add-one i))
 
   pub power_applied : (sbox : ℕ → ℕ) (init s : List F) (i : ℕ) (a r : F) → i < length s
-    → map f s ≡ front_images sbox i (map f init) → a ≡ get_or s i a → f r ≡ sbox (f a)
-    → map f (set s i r) ≡ front_images sbox (i + 1) (map f init)
+      → map f s ≡ front_images sbox i (map f init) → a ≡ get_or s i a → f r ≡ sbox (f a)
+      → map f (set s i r) ≡ front_images sbox (i + 1) (map f init)
   power_applied sbox init s i a r within so_far is_a is_r =
       let xs = map f init in
       let old : f a ≡ get_or xs i 0 = read f s i a within is_a ∙ ap (λ t. get_or t i 0) so_far ∙ front_images-rest sbox i xs in
@@ -79,8 +79,8 @@ module _ {F : Type 0} (f : F → ℕ) (p : ℕ) where
       ∙ front_images-step sbox i xs ∙ ap (λ n. front_images sbox n xs) (sym (add-one i))
 
   pub product_added : (row s : List F) (j : ℕ) (m x t u v : F) → j < length row → j < length s
-    → f t ≡ dot_product (take j (map f row)) (map f s) % p → m ≡ get_or row j m → x ≡ get_or s j x → f u ≡ (f m * f x) % p → f v ≡ (f t + f u) % p
-    → f v ≡ dot_product (take (j + 1) (map f row)) (map f s) % p
+      → f t ≡ dot_product (take j (map f row)) (map f s) % p → m ≡ get_or row j m → x ≡ get_or s j x → f u ≡ (f m * f x) % p → f v ≡ (f t + f u) % p
+      → f v ≡ dot_product (take (j + 1) (map f row)) (map f s) % p
   product_added row s j m x t u v in_row within so_far is_m is_x is_u is_v =
       let ms = map f row in
       let xs = map f s in
@@ -90,8 +90,8 @@ module _ {F : Type 0} (f : F → ℕ) (p : ℕ) where
       ∙ ap (λ n. n % p) (sym (dot_product-step ms xs j)) ∙ ap (λ n. dot_product (take n ms) xs % p) (sym (add-one j))
 
   pub product_written : (rows : List (List ℕ)) (out : List F) (xs r : List ℕ) (i : ℕ) (v : F) → i < length rows → i < length out
-    → map f (take i out) ≡ matrix_product p (take i rows) xs → r ≡ get_or rows i r → f v ≡ dot_product r xs % p
-    → map f (take (i + 1) (set out i v)) ≡ matrix_product p (take (i + 1) rows) xs
+      → map f (take i out) ≡ matrix_product p (take i rows) xs → r ≡ get_or rows i r → f v ≡ dot_product r xs % p
+      → map f (take (i + 1) (set out i v)) ≡ matrix_product p (take (i + 1) rows) xs
   product_written rows out xs r i v in_rows within so_far is_r is_v =
       let g : List ℕ → ℕ = λ row. dot_product row xs % p in
       let left : map f (take (i + 1) (set out i v)) ≡ map f (take i out) ++ f v ∷ [] = ap (map f) (take_more_set out i v within) ∙ map-append f (take i out) (v ∷ []) in
@@ -100,16 +100,16 @@ module _ {F : Type 0} (f : F → ℕ) (p : ℕ) where
 
   -- the numbers of the row at i
   pub row_read : {Row : Type 0} (items : Row → List F) (rows : List Row) (i : ℕ) (v : Row) (row : List F) → i < length rows → v ≡ get_or rows i v → row ≡ items v
-    → map f row ≡ get_or (map (λ w. map f (items w)) rows) i (map f row)
+      → map f row ≡ get_or (map (λ w. map f (items w)) rows) i (map f row)
   row_read {Row} items rows i v row within is_v is_row =
       let g = λ (w : Row). map f (items w) in
       ap (map f) is_row ∙ ap g is_v ∙ sym (get_or-map g rows i v (map f row) within)
 
 -- one more poseidon_round
 pub poseidon_rounds-more : (p : ℕ) (sbox : ℕ → ℕ) (mds : List (List ℕ)) (n : ℕ) (rows : List (List ℕ)) (init r s0 s1 s2 s3 : List ℕ) (i : ℕ) → i < length rows
-  → s0 ≡ poseidon_rounds p sbox mds n (take i rows) init → r ≡ get_or rows i r
-  → s1 ≡ sums p s0 r → s2 ≡ front_images sbox n s1 → s3 ≡ matrix_product p mds s2
-  → s3 ≡ poseidon_rounds p sbox mds n (take (i + 1) rows) init
+    → s0 ≡ poseidon_rounds p sbox mds n (take i rows) init → r ≡ get_or rows i r
+    → s1 ≡ sums p s0 r → s2 ≡ front_images sbox n s1 → s3 ≡ matrix_product p mds s2
+    → s3 ≡ poseidon_rounds p sbox mds n (take (i + 1) rows) init
 poseidon_rounds-more p sbox mds n rows init r s0 s1 s2 s3 i within is_0 is_r is_1 is_2 is_3 =
     is_3 ∙ ap (matrix_product p mds) (is_2 ∙ ap (front_images sbox n) (is_1 ∙ ap (λ s. sums p s r) is_0 ∙ ap (λ t. sums p (poseidon_rounds p sbox mds n (take i rows) init) t) is_r))
     ∙ sym (fold_more (poseidon_round p sbox mds n) init rows i r within)
@@ -119,11 +119,11 @@ slice_range-map g xs i j = sym (ap (take (j - i)) (drop-map g i xs) ∙ take-map
 
 -- the three runs of poseidon_rounds are the permutation
 pub permutation-parts : {Row : Type 0} (g : Row → List ℕ) (p : ℕ) (image : ℕ → ℕ → ℕ) (full part alpha : ℕ) (mds ark mds' ark' : List Row) (rate cap : ℕ) (s0 s1 s2 s3 : List ℕ)
-  → mds' ≡ mds → ark' ≡ ark
-  → s1 ≡ poseidon_rounds p (image alpha) (map g mds') (rate + cap) (map g (take (full / 2) ark')) s0
-  → s2 ≡ poseidon_rounds p (image alpha) (map g mds') 1 (map g (slice_range ark' (full / 2) (full / 2 + part))) s1
-  → s3 ≡ poseidon_rounds p (image alpha) (map g mds') (rate + cap) (map g (take (length ark' - (full / 2 + part)) (drop (full / 2 + part) ark'))) s2
-  → s3 ≡ permutation p image (record { full_rounds = full; partial_rounds = part; alpha = alpha; mds = map g mds; ark = map g ark; rate = rate; capacity = cap }) s0
+    → mds' ≡ mds → ark' ≡ ark
+    → s1 ≡ poseidon_rounds p (image alpha) (map g mds') (rate + cap) (map g (take (full / 2) ark')) s0
+    → s2 ≡ poseidon_rounds p (image alpha) (map g mds') 1 (map g (slice_range ark' (full / 2) (full / 2 + part))) s1
+    → s3 ≡ poseidon_rounds p (image alpha) (map g mds') (rate + cap) (map g (take (length ark' - (full / 2 + part)) (drop (full / 2 + part) ark'))) s2
+    → s3 ≡ permutation p image (record { full_rounds = full; partial_rounds = part; alpha = alpha; mds = map g mds; ark = map g ark; rate = rate; capacity = cap }) s0
 unfolding permutation
 permutation-parts g p image full part alpha mds ark mds' ark' rate cap s0 s1 s2 s3 is_mds is_ark is_1 is_2 is_3 =
     let half = full / 2 in
@@ -131,6 +131,6 @@ permutation-parts g p image full part alpha mds ark mds' ark' rate cap s0 s1 s2 
     let by_mds = λ (n : ℕ) (rows : List (List ℕ)) (s : List ℕ). ap (λ m. poseidon_rounds p (image alpha) (map g m) n rows s) is_mds in
     is_3 ∙ by_mds (rate + cap) (map g (take (length ark' - (half + part)) (drop (half + part) ark'))) s2 ∙ ap (λ r. run (rate + cap) r s2) (ap (map g) (take_all (length ark' - (half + part)) (drop (half + part) ark') (rw length-drop (omega arith))) ∙ ap (λ a. map g (drop (half + part) a)) is_ark ∙ sym (drop-map g (half + part) ark))
     ∙ ap (run (rate + cap) (drop (half + part) (map g ark)))
-      (is_2 ∙ by_mds 1 (map g (slice_range ark' half (half + part))) s1 ∙ ap (λ r. run 1 r s1) (ap (λ a. map g (slice_range a half (half + part))) is_ark ∙ slice_range-map g ark half (half + part))
-      ∙ ap (run 1 (slice_range (map g ark) half (half + part)))
-        (is_1 ∙ by_mds (rate + cap) (map g (take half ark')) s0 ∙ ap (λ r. run (rate + cap) r s0) (ap (λ a. map g (take half a)) is_ark ∙ sym (take-map g half ark))))
+    (is_2 ∙ by_mds 1 (map g (slice_range ark' half (half + part))) s1 ∙ ap (λ r. run 1 r s1) (ap (λ a. map g (slice_range a half (half + part))) is_ark ∙ slice_range-map g ark half (half + part))
+    ∙ ap (run 1 (slice_range (map g ark) half (half + part)))
+    (is_1 ∙ by_mds (rate + cap) (map g (take half ark')) s0 ∙ ap (λ r. run (rate + cap) r s0) (ap (λ a. map g (take half a)) is_ark ∙ sym (take-map g half ark))))

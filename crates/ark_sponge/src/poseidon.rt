@@ -3,6 +3,8 @@
 mod config;
 mod duplex;
 mod permutation;
+mod sponge;
 
 pub use config::PoseidonConfig;
 pub use permutation::SBox;
+pub use sponge::PoseidonSponge;

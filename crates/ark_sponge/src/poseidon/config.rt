@@ -26,13 +26,13 @@ impl<F: PrimeField> Model for PoseidonConfig<F> {
     ghost Value = { Parameters };
 
     ghost view = { λ c. record {
-        full_rounds = c.full_rounds;
-        partial_rounds = c.partial_rounds;
-        alpha = c.alpha;
-        mds = map (λ row. map F.value row.items) c.mds.items;
-        ark = map (λ row. map F.value row.items) c.ark.items;
-        rate = c.rate;
-        capacity = c.capacity;
+      full_rounds = c.full_rounds;
+      partial_rounds = c.partial_rounds;
+      alpha = c.alpha;
+      mds = map (λ row. map F.value row.items) c.mds.items;
+      ark = map (λ row. map F.value row.items) c.ark.items;
+      rate = c.rate;
+      capacity = c.capacity;
     } };
 
     ghost invariant = { λ c. (0 < c.rate)

@@ -53,7 +53,7 @@ fn multiply<F: PrimeField>(mds: &[Vec<F>], state: &[F], product: &mut [F])
     requires columns { All (λ row. vec_len row ≡ length state.now) mds.now }
     ensures { map F.value product.new
         ≡ matrix_product F.MODULUS (map (λ row. map F.value row.items) mds.now)
-            (map F.value state.now) }
+        (map F.value state.now) }
 {
     for (i, row) in mds.iter().enumerate() {
         product[i] = dot_product(row, state);
@@ -76,7 +76,7 @@ pub fn apply_rounds<F: PrimeField, S: SBox<F>>(
     requires columns { All (λ row. vec_len row ≡ length state.old) mds.now }
     ensures { map F.value state.new
         ≡ poseidon_rounds F.MODULUS (S.image alpha) (map (λ row. map F.value row.items) mds.now)
-            count (map (λ row. map F.value row.items) constants.now) (map F.value state.old) }
+        count (map (λ row. map F.value row.items) constants.now) (map F.value state.old) }
 {
     for row in constants {
         add_row(state, row);

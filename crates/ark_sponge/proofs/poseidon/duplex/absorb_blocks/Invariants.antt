@@ -11,7 +11,7 @@ invariant-loop-index g l =
     let permute = permutation f.MODULUS g.S.SBox.image c in
     record {
       so_far : blocks_left f.MODULUS c.rate c.capacity permute (map f.value l.state) l.index (map f.value l.rest)
-        ≡ state_absorbing f.MODULUS c.rate c.capacity permute (map f.value l.fn.state) l.start (map f.value l.elements);
+          ≡ state_absorbing f.MODULUS c.rate c.capacity permute (map f.value l.fn.state) l.start (map f.value l.elements);
       within : l.index ≤ c.rate;
       state : length l.state ≡ width c;
       scratch : length l.scratch ≡ width c;

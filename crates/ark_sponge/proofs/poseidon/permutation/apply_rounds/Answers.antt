@@ -12,5 +12,5 @@ loop-row-preserved g c =
     let in_rows : i < length rows = omega arith in
     ap (map f.value) c.copy_from_slice.ensures.after
     ∙ poseidon_rounds-more f.MODULUS _ _ c.args.count _ _ (map f.value row) _ _ _ _ i (rw length-map in_rows)
-      c.loop-row.invariant (row_read f.value f.MODULUS (λ v. v.items) rows i _ row in_rows c.row-item.is c.deref.ensures.value)
-      c.add_row.ensures c.apply_sbox.ensures c.multiply.ensures
+    c.loop-row.invariant (row_read f.value f.MODULUS (λ v. v.items) rows i _ row in_rows c.row-item.is c.deref.ensures.value)
+    c.add_row.ensures c.apply_sbox.ensures c.multiply.ensures
