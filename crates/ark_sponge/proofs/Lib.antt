@@ -1,4 +1,5 @@
 pub mod Rows
+pub mod Matrices
 pub mod RowAt
 pub mod Blocks
 pub mod OneByOne

@@ -1,5 +1,9 @@
 -- The permutation of Poseidon, over lists of numbers modulo p.
-use Rattle.std.specs.Prelude.{ℕ, zero, suc, ◌+◌, ◌*◌, ◌/◌, ◌%◌, List, [], ◌∷◌, map, fold, take, drop, slice_range}
+use Rattle.std.specs.Prelude.{ℕ, zero, suc, ◌+◌, ◌*◌, ◌/◌, ◌%◌, ◌==◌, nat_lt, Bool, ◌&&◌, if◌then◌else◌, List, [], ◌∷◌, length, map, fold, take, drop, slice_range, Ok, Err}
+use Rattle.std.specs.List.{list_all}
+use Rattle.ark_base.specs.declared.error.Error.TheVariants.{GenericError}
+use Rattle.ark_base.specs.declared.error.Refusal.TheVariants.{FieldTooSmall, ZeroRate, ParameterShape}
+use Rattle.ark_base.specs.Outcome.{Outcome}
 
 -- What a sponge is set up with, by its numbers.
 pub record Parameters : Type 0 where
@@ -56,3 +60,21 @@ permutation p sbox c xs =
     let first = poseidon_rounds p (sbox c.alpha) c.mds (width c) (take half c.ark) xs in
     let partial = poseidon_rounds p (sbox c.alpha) c.mds 1 (slice_range c.ark half middle) first in
     poseidon_rounds p (sbox c.alpha) c.mds (width c) (drop middle c.ark) partial
+
+-- ---- shapes
+
+-- so many rows of so many numbers
+abbrev pub is_matrix : ℕ → ℕ → List (List ℕ) → Bool
+is_matrix count len rows = (length rows == count) && list_all (λ row. length row == len) rows
+
+-- a row of constants for each round, and as many rows of the matrix as a state has elements, each as long as a state
+abbrev pub has_poseidon_shape : Parameters → Bool
+has_poseidon_shape c = is_matrix (c.full_rounds + c.partial_rounds) (width c) c.ark && is_matrix (width c) (width c) c.mds
+
+-- Parameters over a modulus of so many bits, or why they are refused: fewer than nine bits, a rate of 0, or another shape.
+abbrev pub lawful_parameters : ℕ → Parameters → Outcome Parameters
+lawful_parameters bits c =
+    if nat_lt bits 9 then Err (GenericError FieldTooSmall)
+    else if c.rate == 0 then Err (GenericError ZeroRate)
+    else if has_poseidon_shape c then Ok c
+    else Err (GenericError ParameterShape)

@@ -1,5 +1,7 @@
 -- The sponge: what it holds, what its calls give, and what they leave.
-use Rattle.std.specs.Prelude.{◌≡◌, ℕ, zero, suc, ◌+◌, ◌/◌, ◌%◌, ◌<◌, List, [], ◌∷◌, ◌++◌, replicate}
+use Rattle.std.specs.Prelude.{◌≡◌, ℕ, zero, suc, ◌+◌, ◌/◌, ◌%◌, ◌<◌, List, [], ◌∷◌, ◌++◌, replicate, Ok}
+use Rattle.ark_base.specs.Outcome.{Outcome, ◌>>=◌}
+use Rattle.ark_absorb.specs.Elements.{Elements}
 use Rattle.ark_sponge.specs.Permutation.{Parameters, width, permutation}
 use Rattle.ark_sponge.specs.Duplex.{state_absorbing, nth_state, numbers_from_place, state_to_read}
 use Rattle.ark_sponge.specs.Mode.{absorb_index, squeezing_start}
@@ -22,6 +24,12 @@ after_absorbing p sbox s (x ∷ xs) =
     let c = s.parameters in
     let left = state_absorbing p c.rate c.capacity (permutation p sbox c) s.state (absorb_index s.mode) (x ∷ xs) in
     record { parameters = c; state = left.0; mode = Absorbing left.1 }
+
+-- the sponge that has absorbed some elements, or their refusal
+abbrev pub with_absorbed : ℕ → (ℕ → ℕ → ℕ) → Sponge → Elements → Outcome Sponge
+with_absorbed p sbox s elements = do
+  xs ← elements
+  Ok (after_absorbing p sbox s xs)
 
 -- the n numbers that a sponge gives
 abbrev pub squeezed_numbers : ℕ → (ℕ → ℕ → ℕ) → Sponge → ℕ → List ℕ

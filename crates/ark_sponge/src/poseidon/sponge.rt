@@ -2,12 +2,13 @@
 
 ghost use Rattle.std.specs.Prelude.{◌≡◌, map, OnOk, OnErr, Ok};
 ghost use Rattle.ark_base.specs.Outcome.{AnswersBy};
-ghost use Rattle.ark_sponge.specs.Sponge.{new_sponge, after_absorbing, squeezed_numbers, after_squeezing, AbsorbsAsOne, GivesAsOne, LeavesAsOne};
+ghost use Rattle.ark_sponge.specs.Sponge.{new_sponge, after_absorbing, with_absorbed, squeezed_numbers, after_squeezing, AbsorbsAsOne, GivesAsOne, LeavesAsOne};
 
 use crate::mode::{DuplexSpongeMode, absorb_index};
 use crate::poseidon::config::PoseidonConfig;
 use crate::poseidon::duplex::{absorb_blocks, begin_squeezing, squeeze_blocks, turn};
 use crate::poseidon::permutation::SBox;
+use ark_absorb::Absorb;
 use ark_base::error::Error;
 use ark_groups::ff::PrimeField;
 use std::alloc::Global;
@@ -54,6 +55,42 @@ impl<F: PrimeField, S: SBox<F>> PoseidonSponge<F, S> {
             },
             sbox: PhantomData,
         })
+    }
+
+    /// How the sponge is set up.
+    pub fn parameters(&self) -> &PoseidonConfig<F>
+        ensures { result.now ≡ self.now.parameters }
+    {
+        &self.parameters
+    }
+
+    /// The state, its capacity first.
+    pub fn state(&self) -> &[F]
+        ensures { map F.value result.now ≡ self.now.state }
+    {
+        &self.state
+    }
+
+    /// What the sponge does next.
+    pub fn mode(&self) -> DuplexSpongeMode
+        ensures { result ≡ self.now.mode }
+    {
+        self.mode
+    }
+
+    /// Absorbs a value's elements. A value without elements changes nothing, not even the mode.
+    ///
+    /// Refusals, which leave the sponge as it was: `ForeignField` of an element of another field, `OutOfMemory`.
+    pub fn absorb<A: Absorb>(&mut self, input: &A) -> Result<(), Error>
+        ensures sponge { AnswersBy (λ _. self.new)
+            (with_absorbed F.MODULUS S.image self.old
+                (A.sponge_elements input.now F.MODULUS F.MODULUS_BIT_SIZE)) result }
+        ensures refused { OnErr result (self.new ≡ self.old) }
+    {
+        let _known = self.parameters.rate();
+        let elements = input.to_sponge_field_elements_as_vec::<F>(*self.state.allocator())?;
+        self.absorb_native(&elements);
+        Ok(())
     }
 
     /// Absorbs elements of the sponge's own field. It takes no memory.
