@@ -71,13 +71,13 @@ impl<F: PrimeField> PoseidonConfig<F> {
         capacity: usize,
     ) -> Result<PoseidonConfig<F>, Error>
         ensures { result ≡ lawful_parameters F.MODULUS_BIT_SIZE (record {
-            full_rounds = full_rounds;
-            partial_rounds = partial_rounds;
-            alpha = alpha;
-            mds = map (λ row. map F.value row.items) mds.items;
-            ark = map (λ row. map F.value row.items) ark.items;
-            rate = rate;
-            capacity = capacity;
+          full_rounds = full_rounds;
+          partial_rounds = partial_rounds;
+          alpha = alpha;
+          mds = map (λ row. map F.value row.items) mds.items;
+          ark = map (λ row. map F.value row.items) ark.items;
+          rate = rate;
+          capacity = capacity;
         }) }
     {
         if F::MODULUS_BIT_SIZE < 9 {

@@ -84,7 +84,7 @@ impl<F: PrimeField, S: SBox<F>> PoseidonSponge<F, S> {
     pub fn absorb<A: Absorb>(&mut self, input: &A) -> Result<(), Error>
         ensures sponge { AnswersBy (λ _. self.new)
             (with_absorbed F.MODULUS S.image self.old
-                (A.sponge_elements input.now F.MODULUS F.MODULUS_BIT_SIZE)) result }
+            (A.sponge_elements input.now F.MODULUS F.MODULUS_BIT_SIZE)) result }
         ensures refused { OnErr result (self.new ≡ self.old) }
     {
         let _known = self.parameters.rate();
