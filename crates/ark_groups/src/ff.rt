@@ -2,6 +2,7 @@
 
 mod fp;
 mod modulus;
+mod parts;
 mod prime_field;
 mod product;
 #[cfg(test)]
@@ -10,5 +11,6 @@ mod uniform;
 
 pub use fp::Fp;
 pub use modulus::{M7, M13, M61, M257, M65537, Modulus};
+pub use parts::{is_same_field, push_low_bytes, same_element};
 pub use prime_field::PrimeField;
 pub use uniform::UniformRand;

@@ -1,0 +1,13 @@
+use Rattle.ark_absorb.proofs.ByItem.{Put-undone, Put-refused}
+use Rattle.ark_absorb.proofs.batch.push_elements_by_item.Goals as goal
+
+pub returns-in-Err : goal.returns-in-Err
+returns-in-Err g c =
+    let elements = λ (x : g.row.A.Denot). g.A.AbsorbItem.sponge_elements x g.F.PrimeField.MODULUS g.F.PrimeField.MODULUS_BIT_SIZE in
+    let value = g.F.PrimeField.value in
+    let refused = c.in-Err.ensures in
+    let undone = Put-undone value elements c.args.batch.now c.loop-item.item-index c.args.dest.now.items c.loop-item.dest.items c.loop-item.invariant in (
+      Put-refused value elements c.args.batch.now c.loop-item.item-index c.item-item.result c.in-Err.refusal c.args.dest.now.items c.loop-item.dest.items
+          c.loop-item-test.true c.item-item.is c.loop-item.invariant refused.0,
+      rw (c.truncate.ensures.items, refused.1, c.len-start.ensures, c.args.dest.now.ok.0) undone,
+    )

@@ -1,0 +1,13 @@
+use Rattle.std.proofs.Common.{subst}
+use Rattle.ark_groups.specs.declared.ff.fp.Fp.{Fp}
+use Rattle.ark_absorb.specs.Appending.{AppendsElements}
+use Rattle.ark_absorb.proofs.ByItem.{batch_by_item-own}
+use Rattle.ark_absorb.proofs.fields.FpAbsorb.batch_to_sponge_field_elements.Goals as goal
+
+pub returns : goal.returns
+returns g c =
+    let own = g.M.Modulus.P in
+    let modulus = g.F.PrimeField.MODULUS in
+    let same = c.is_same_field.ensures.0 c.if-not-is_same_field.false in
+    let by_item = batch_by_item-own (λ (x : Fp g.row.M.Denot g.M.Modulus). x.value) own modulus g.F.PrimeField.MODULUS_BIT_SIZE c.args.batch.now same in
+    subst (λ e. AppendsElements g.F.PrimeField.value e c.args.dest.now.items c.push_elements_by_item.new.dest.items c.push_elements_by_item.result) by_item c.push_elements_by_item.ensures

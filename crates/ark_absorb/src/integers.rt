@@ -1,0 +1,203 @@
+//! Integers: in two's complement, the least byte first; the magnitude, negated where the integer is negative.
+
+ghost use Rattle.std.specs.Int.{w8, w16, w32, w64, w128, to_le_bytes};
+ghost use Rattle.std.proofs.Common.{of_z};
+ghost use Rattle.ark_absorb.specs.Elements.{integer_element, batch_by_item};
+
+use crate::absorb::{Absorb, AbsorbItem};
+use crate::batch::push_elements_by_item;
+use ark_base::error::Error;
+use ark_groups::ff::PrimeField;
+
+impl AbsorbItem for i8 {
+    ghost sponge_bytes = { λ n. to_le_bytes w8 (of_z w8 n) };
+
+    ghost sponge_elements = { integer_element };
+
+    fn push_bytes(&self, dest: &mut Vec<u8>) -> Result<(), Error> {
+        dest.extend_from_slice(&self.to_le_bytes())?;
+        Ok(())
+    }
+
+    fn push_elements<F: PrimeField>(&self, dest: &mut Vec<F>) -> Result<(), Error> {
+        let magnitude = F::from_u64(self.unsigned_abs() as u64);
+        dest.push(if *self < 0 {
+            magnitude.neg()
+        } else {
+            magnitude
+        })?;
+        Ok(())
+    }
+}
+
+impl Absorb for i8 {
+    ghost batch_elements = { batch_by_item integer_element };
+
+    fn batch_to_sponge_field_elements<F: PrimeField>(
+        batch: &[i8],
+        dest: &mut Vec<F>,
+    ) -> Result<(), Error> {
+        push_elements_by_item(batch, dest)
+    }
+}
+
+impl AbsorbItem for i16 {
+    ghost sponge_bytes = { λ n. to_le_bytes w16 (of_z w16 n) };
+
+    ghost sponge_elements = { integer_element };
+
+    fn push_bytes(&self, dest: &mut Vec<u8>) -> Result<(), Error> {
+        dest.extend_from_slice(&self.to_le_bytes())?;
+        Ok(())
+    }
+
+    fn push_elements<F: PrimeField>(&self, dest: &mut Vec<F>) -> Result<(), Error> {
+        let magnitude = F::from_u64(self.unsigned_abs() as u64);
+        dest.push(if *self < 0 {
+            magnitude.neg()
+        } else {
+            magnitude
+        })?;
+        Ok(())
+    }
+}
+
+impl Absorb for i16 {
+    ghost batch_elements = { batch_by_item integer_element };
+
+    fn batch_to_sponge_field_elements<F: PrimeField>(
+        batch: &[i16],
+        dest: &mut Vec<F>,
+    ) -> Result<(), Error> {
+        push_elements_by_item(batch, dest)
+    }
+}
+
+impl AbsorbItem for i32 {
+    ghost sponge_bytes = { λ n. to_le_bytes w32 (of_z w32 n) };
+
+    ghost sponge_elements = { integer_element };
+
+    fn push_bytes(&self, dest: &mut Vec<u8>) -> Result<(), Error> {
+        dest.extend_from_slice(&self.to_le_bytes())?;
+        Ok(())
+    }
+
+    fn push_elements<F: PrimeField>(&self, dest: &mut Vec<F>) -> Result<(), Error> {
+        let magnitude = F::from_u64(self.unsigned_abs() as u64);
+        dest.push(if *self < 0 {
+            magnitude.neg()
+        } else {
+            magnitude
+        })?;
+        Ok(())
+    }
+}
+
+impl Absorb for i32 {
+    ghost batch_elements = { batch_by_item integer_element };
+
+    fn batch_to_sponge_field_elements<F: PrimeField>(
+        batch: &[i32],
+        dest: &mut Vec<F>,
+    ) -> Result<(), Error> {
+        push_elements_by_item(batch, dest)
+    }
+}
+
+impl AbsorbItem for i64 {
+    ghost sponge_bytes = { λ n. to_le_bytes w64 (of_z w64 n) };
+
+    ghost sponge_elements = { integer_element };
+
+    fn push_bytes(&self, dest: &mut Vec<u8>) -> Result<(), Error> {
+        dest.extend_from_slice(&self.to_le_bytes())?;
+        Ok(())
+    }
+
+    fn push_elements<F: PrimeField>(&self, dest: &mut Vec<F>) -> Result<(), Error> {
+        let magnitude = F::from_u64(self.unsigned_abs());
+        dest.push(if *self < 0 {
+            magnitude.neg()
+        } else {
+            magnitude
+        })?;
+        Ok(())
+    }
+}
+
+impl Absorb for i64 {
+    ghost batch_elements = { batch_by_item integer_element };
+
+    fn batch_to_sponge_field_elements<F: PrimeField>(
+        batch: &[i64],
+        dest: &mut Vec<F>,
+    ) -> Result<(), Error> {
+        push_elements_by_item(batch, dest)
+    }
+}
+
+impl AbsorbItem for isize {
+    ghost sponge_bytes = { λ n. to_le_bytes w64 (of_z w64 n) };
+
+    ghost sponge_elements = { integer_element };
+
+    fn push_bytes(&self, dest: &mut Vec<u8>) -> Result<(), Error> {
+        dest.extend_from_slice(&self.to_le_bytes())?;
+        Ok(())
+    }
+
+    fn push_elements<F: PrimeField>(&self, dest: &mut Vec<F>) -> Result<(), Error> {
+        let magnitude = F::from_u64(self.unsigned_abs() as u64);
+        dest.push(if *self < 0 {
+            magnitude.neg()
+        } else {
+            magnitude
+        })?;
+        Ok(())
+    }
+}
+
+impl Absorb for isize {
+    ghost batch_elements = { batch_by_item integer_element };
+
+    fn batch_to_sponge_field_elements<F: PrimeField>(
+        batch: &[isize],
+        dest: &mut Vec<F>,
+    ) -> Result<(), Error> {
+        push_elements_by_item(batch, dest)
+    }
+}
+
+impl AbsorbItem for i128 {
+    ghost sponge_bytes = { λ n. to_le_bytes w128 (of_z w128 n) };
+
+    ghost sponge_elements = { integer_element };
+
+    fn push_bytes(&self, dest: &mut Vec<u8>) -> Result<(), Error> {
+        let number = *self;
+        dest.extend_from_slice(&number.to_le_bytes())?;
+        Ok(())
+    }
+
+    fn push_elements<F: PrimeField>(&self, dest: &mut Vec<F>) -> Result<(), Error> {
+        let magnitude = F::from_u128(self.unsigned_abs());
+        dest.push(if *self < 0 {
+            magnitude.neg()
+        } else {
+            magnitude
+        })?;
+        Ok(())
+    }
+}
+
+impl Absorb for i128 {
+    ghost batch_elements = { batch_by_item integer_element };
+
+    fn batch_to_sponge_field_elements<F: PrimeField>(
+        batch: &[i128],
+        dest: &mut Vec<F>,
+    ) -> Result<(), Error> {
+        push_elements_by_item(batch, dest)
+    }
+}

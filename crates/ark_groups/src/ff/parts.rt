@@ -1,0 +1,40 @@
+//! Parts of elements, and elements of one field as those of another: what callers need so as to read no number as a word.
+
+ghost use Rattle.std.specs.Prelude.{◌≡◌, ◌≤◌, ◌++◌, MatchResult};
+ghost use Rattle.std.specs.Bool.{Decides};
+ghost use Rattle.ark_base.specs.Digits.{bytes_of_number};
+
+use crate::ff::PrimeField;
+use ark_base::error::Error;
+use ark_base::serialize::serialize_number;
+
+/// Whether two fields have one modulus.
+pub fn is_same_field<F: PrimeField, G: PrimeField>() -> bool
+    ensures { Decides result (F.MODULUS ≡ G.MODULUS) }
+{
+    F::MODULUS == G::MODULUS
+}
+
+/// The element of another field that has the same modulus.
+pub fn same_element<F: PrimeField, G: PrimeField>(element: G) -> F
+    requires { F.MODULUS ≡ G.MODULUS }
+    ensures { F.value result ≡ G.value element }
+{
+    F::from_u64(element.value())
+}
+
+/// Appends the lowest bytes of an element's number, so many, the least first. Bytes past the number's are 0.
+///
+/// The only refusal is `OutOfMemory`, and it leaves `dest` as before.
+pub fn push_low_bytes<F: PrimeField>(
+    element: F,
+    count: usize,
+    dest: &mut Vec<u8>,
+) -> Result<(), Error>
+    requires { count ≤ 8 }
+    ensures { MatchResult result
+        (λ _. dest.new.items ≡ dest.old.items ++ bytes_of_number count (F.value element))
+        (λ error. (error ≡ Error.OutOfMemory) × (dest.new.items ≡ dest.old.items)) }
+{
+    serialize_number(element.value(), count, dest)
+}

@@ -1,0 +1,10 @@
+pub mod Rows
+pub mod Matrices
+pub mod RowAt
+pub mod Blocks
+pub mod OneByOne
+pub mod Permuting
+pub mod Cuts
+pub mod Squeezes
+pub mod Cutting
+pub mod Calls

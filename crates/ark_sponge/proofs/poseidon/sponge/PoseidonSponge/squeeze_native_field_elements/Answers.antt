@@ -1,0 +1,23 @@
+use Rattle.std.proofs.Common.{◌<◌, rules}
+use Rattle.ark_sponge.proofs.Cutting.{squeezed_numbers-cut, after_squeezing-cut}
+use Rattle.ark_sponge.proofs.poseidon.sponge.PoseidonSponge.squeeze_native_field_elements.Goals as goal
+
+pub returns-clause-given : goal.returns-clause-given
+returns-clause-given g c =
+    let pos : 0 < c.args.self.now.parameters.rate = search rules in
+    squeezed_numbers-cut g.F.PrimeField.MODULUS g.S.SBox.image c.args.self.now pos c.args.count
+
+pub returns-clause-left : goal.returns-clause-left
+returns-clause-left g c =
+    let pos : 0 < c.args.self.now.parameters.rate = search rules in
+    after_squeezing-cut g.F.PrimeField.MODULUS g.S.SBox.image c.args.self.now pos c.args.count
+
+pub returns-in_err-elements-clause-given : goal.returns-in_err-elements-clause-given
+returns-in_err-elements-clause-given g c =
+    let pos : 0 < c.args.self.now.parameters.rate = search rules in
+    squeezed_numbers-cut g.F.PrimeField.MODULUS g.S.SBox.image c.args.self.now pos c.args.count
+
+pub returns-in_err-elements-clause-left : goal.returns-in_err-elements-clause-left
+returns-in_err-elements-clause-left g c =
+    let pos : 0 < c.args.self.now.parameters.rate = search rules in
+    after_squeezing-cut g.F.PrimeField.MODULUS g.S.SBox.image c.args.self.now pos c.args.count

@@ -1,0 +1,5 @@
+pub use Rattle.ark_base.specs.Outcome
+pub mod Permutation
+pub mod Duplex
+pub mod Mode
+pub mod Sponge
