@@ -85,7 +85,7 @@ module _ {A B Z : Type 0} (leaf_numbers : A → Digest) (numbers : B → Digest)
     whole = omega (arith, counted, length-map way.items numbers, long)
 
     pub way-whole : ChangesWay h leaves index digest (digests_of numbers way)
-    way-whole = record { count = whole ∙ tree.count; on_way = on_way }
+    way-whole = record { whole = whole ∙ tree.count; on_way = on_way }
 
     pub way-root : root h new ≡ Ok (get_or (digests_of numbers way) (upper_levels leaves) [])
     way-root = root-way h leaves rows tree index inside digest (digests_of numbers way) on_way whole

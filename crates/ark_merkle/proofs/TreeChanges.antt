@@ -1,35 +1,15 @@
 -- What the calls that change a tree make of its fields.
-use Rattle.std.proofs.Common.{◌≡◌, ℕ, ◌<◌, ◌-◌, arith, ◌/◌, ◌^◌, suc, List, [], length, get_or, set, Ok, Err, refl, ap, sym, subst, ◌∙◌}
+use Rattle.std.proofs.Common.{◌≡◌, ℕ, ◌<◌, ◌/◌, ◌^◌, suc, List, [], length, get_or, set, Ok, refl, sym, subst, ◌∙◌}
 use Rattle.std.proofs.lemmas.List.{length-map, map-set}
 use Rattle.std.specs.declared.vec.Vec.{Vec}
 use Rattle.std.specs.Vec.{with_item}
-use Rattle.ark_base.specs.declared.error.Error.{Error}
-use Rattle.ark_base.specs.Outcome.{Outcome, ◌>>=◌}
+use Rattle.ark_base.specs.Outcome.{Outcome}
 use Rattle.ark_merkle.specs.Pair.{Digest, HashPair}
 use Rattle.ark_merkle.specs.Root.{root, upper_levels}
 use Rattle.ark_merkle.specs.Rows.{IsTree, digests_of, rows_seen}
-use Rattle.ark_merkle.specs.Tree.{Tree, HashedTree, with_hashes}
-use Rattle.ark_merkle.specs.Update.{changed_leaves, with_leaf, new_root, AreOnWay, ChangesWay}
+use Rattle.ark_merkle.specs.Tree.{Tree}
+use Rattle.ark_merkle.specs.Update.{new_root, AreOnWay, ChangesWay}
 use Rattle.ark_merkle.proofs.Changes.{is_tree-changed}
-use Rattle.ark_merkle.proofs.Readings.{digest_read}
-
--- ---- the tree with a leaf
-
-module _ {A : Type 0} (tree : HashedTree A) (index : ℕ) (leaf : A) where
-  pub with_leaf-ok : (digest r : Digest) → tree.hashes.leaf leaf ≡ Ok digest → new_root tree.hashes.pair (tree.hashes.leaf leaf) index tree.leaves ≡ Ok r
-      → with_leaf tree index leaf ≡ Ok (record { hashes = tree.hashes; leaves = set tree.leaves index digest })
-  with_leaf-ok digest r hashed rooted = let rooted_here : root tree.hashes.pair (set tree.leaves index digest) ≡ Ok r = rw hashed at rooted in rw (hashed, rooted_here) refl
-
-  -- the refusal of the root is that of the tree
-  pub with_leaf-refused : (e : Error) → new_root tree.hashes.pair (tree.hashes.leaf leaf) index tree.leaves ≡ Err e → with_leaf tree index leaf ≡ Err e
-  with_leaf-refused e = by_leaf (tree.hashes.leaf leaf)
-    where
-      by_root : (o : Outcome Digest) (digests : List Digest) → o ≡ Err e → with_hashes tree.hashes (o >>= λ _. Ok digests) ≡ Err e
-      by_root o digests refused = rw refused refl
-
-      by_leaf : (o : Outcome Digest) → new_root tree.hashes.pair o index tree.leaves ≡ Err e → with_hashes tree.hashes (changed_leaves tree.hashes.pair o index tree.leaves) ≡ Err e
-      by_leaf (Ok digest) refused = by_root (root tree.hashes.pair (set tree.leaves index digest)) (set tree.leaves index digest) refused
-      by_leaf (Err f) refused = let same : f ≡ e = cc in ap Err same
 
 -- the root with a leaf is the last digest on its way
 pub new_root-ok : {L T : Type 0} (pair : T → HashPair) (meaning : L → Outcome Digest) (view now : Tree L T) → view ≡ now → (index : ℕ) (digest : Digest) (way : List Digest) → meaning view.leaf_parameters ≡ Ok digest
@@ -53,9 +33,3 @@ module _ {A B Z Y W V : Type 0} (leaf_numbers : A → Digest) (numbers : B → D
       (is_tree-changed h (digests_of leaf_numbers leaves) (rows_seen numbers rows) tree index inside (leaf_numbers digest) (digests_of numbers way) on_way
       (length-map way.items numbers ∙ long ∙ sym many) (rows_seen numbers put) (length-map put.items (digests_of numbers) ∙ count ∙ sym many)
       (λ k below. puts k (rw (many) at below)))
-
--- the last digest of a way that is as long as the tree has levels above the leaf digests
-pub top-read : {A Z : Type 0} (numbers : A → Digest) (way : Vec A Z) (n m : ℕ) (top : A) → n ≡ length way.items → length (digests_of numbers way) ≡ suc m → top ≡ get_or way.items (n - 1) top → get_or (digests_of numbers way) m [] ≡ numbers top
-top-read numbers way n m top count long is =
-    let last : n - 1 ≡ m = omega (arith, count, long, length-map way.items numbers) in
-    digest_read numbers way m top (omega (arith, long, length-map way.items numbers)) (rw last at is)

@@ -18,8 +18,8 @@ pub record MultiWay : Type 0 where
 abbrev pub path_length : MultiWay → ℕ
 path_length m = length (get_or m.suffixes 0 [])
 
--- the path of some parts, where all are there and make a path of this length: the first digests of the path before, then
--- the suffix
+-- the path of some parts, where all are there and make a path of this length: the first digests of the path before,
+-- then the suffix
 abbrev pub path_of_parts : ℕ → List Digest → ℕ → Option Digest → Option ℕ → Option (List Digest) → Option Way
 path_of_parts len before index None prefix suffix = None
 path_of_parts len before index (Some sibling) None suffix = None
@@ -32,7 +32,8 @@ path_of_parts len before index (Some sibling) (Some prefix) (Some suffix) =
 -- the path of place i, where it decodes, after the digests of the path before
 abbrev pub decoded_path : MultiWay → ℕ → List Digest → ℕ → Option Way
 decoded_path m i before index =
-    path_of_parts (path_length m) before index (slice_get m.siblings i) (slice_get m.prefixes i) (slice_get m.suffixes i)
+    path_of_parts (path_length m) before index (slice_get m.siblings i) (slice_get m.prefixes i)
+    (slice_get m.suffixes i)
 
 -- a path, and those that follow it; none follows a place that does not decode
 abbrev pub path_and_rest : Option Way → (Way → List (Option Way)) → List (Option Way)

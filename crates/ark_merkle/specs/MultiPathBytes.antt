@@ -11,7 +11,8 @@ MultiParts L U = List L × (List ℕ × (List (List U) × List ℕ))
 
 abbrev pub MultiFits : {L U : Type 0} → (L → Type 0) → (U → Type 0) → MultiParts L U → Type 0
 MultiFits fits_leaf fits_inner =
-    BothFit (IsCounted fits_leaf) (BothFit (IsCounted IsWord) (BothFit (IsCounted (IsCounted fits_inner)) (IsCounted IsWord)))
+    BothFit (IsCounted fits_leaf)
+    (BothFit (IsCounted IsWord) (BothFit (IsCounted (IsCounted fits_inner)) (IsCounted IsWord)))
 
 abbrev pub multi_path_spelling : {L U : Type 0} → (L → List ℕ) → (U → List ℕ) → MultiParts L U → List ℕ
 multi_path_spelling leaf inner =
@@ -20,7 +21,8 @@ multi_path_spelling leaf inner =
 abbrev pub multi_path_at : {L U : Type 0} → (List ℕ → Reading L) → (List ℕ → Reading U)
     → List ℕ → Reading (MultiParts L U)
 multi_path_at leaf_at inner_at =
-    both_at (counted_list_at leaf_at) (both_at (counted_list_at word_at) (both_at (counted_list_at (counted_list_at inner_at)) (counted_list_at word_at)))
+    both_at (counted_list_at leaf_at)
+    (both_at (counted_list_at word_at) (both_at (counted_list_at (counted_list_at inner_at)) (counted_list_at word_at)))
 
 -- a multi-proof by its numbers, from the canonical values of its digests
 abbrev pub multi_way_of : {L U : Type 0} → (L → Digest) → (U → Digest) → MultiParts L U → MultiWay

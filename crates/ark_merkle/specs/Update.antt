@@ -37,5 +37,5 @@ AreOnWay h digests index way = (k : ℕ) → k < length way
 -- The digests are all on the way of an index at which this leaf digest stands.
 pub record ChangesWay (h : HashPair) (digests : List Digest) (index : ℕ) (digest : Digest) (way : List Digest)
     : Type 0 where
-  pub count : length way ≡ suc (upper_levels digests)
+  pub whole : length way ≡ suc (upper_levels digests)
   pub on_way : AreOnWay h (set digests index digest) index way

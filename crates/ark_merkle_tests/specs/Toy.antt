@@ -4,9 +4,9 @@ use Rattle.ark_base.specs.Outcome.{Outcome}
 use Rattle.ark_merkle.specs.Pair.{Digest}
 
 -- a leaf modulo 257
-abbrev pub toy_leaf : ℕ → Outcome Digest
-toy_leaf leaf = Ok (leaf % 257 ∷ [])
+abbrev pub leaf_modulo : ℕ → Outcome Digest
+leaf_modulo leaf = Ok (leaf % 257 ∷ [])
 
 -- the first number, and twice the second, modulo 257
-abbrev pub toy_pair : Digest → Digest → Outcome Digest
-toy_pair a b = Ok ((get_or a 0 0 + 2 * get_or b 0 0) % 257 ∷ [])
+abbrev pub sum_modulo : Digest → Digest → Outcome Digest
+sum_modulo a b = Ok ((get_or a 0 0 + 2 * get_or b 0 0) % 257 ∷ [])

@@ -1,7 +1,7 @@
 //! Trees of numbers below 257, whose digests can be reckoned by hand.
 
 ghost use Rattle.std.specs.Prelude.{Ok, refl};
-ghost use Rattle.ark_merkle_tests.specs.Toy.{toy_leaf, toy_pair};
+ghost use Rattle.ark_merkle_tests.specs.Toy.{leaf_modulo, sum_modulo};
 
 use crate::samples::are_inside;
 use ark_base::error::Error;
@@ -38,7 +38,7 @@ impl CRHScheme for ToyLeafHash {
 
     type Parameters = ();
 
-    ghost meaning = { λ _ leaf. toy_leaf leaf };
+    ghost meaning = { λ _ leaf. leaf_modulo leaf };
 
     ghost setup_outcome = { Ok tt };
 
@@ -69,9 +69,9 @@ impl TwoToOneCRHScheme for ToyPairHash {
 
     type Parameters = ();
 
-    ghost evaluated = { λ _ left right. toy_pair left right };
+    ghost evaluated = { λ _ left right. sum_modulo left right };
 
-    ghost compressed = { λ _ left right. toy_pair left right };
+    ghost compressed = { λ _ left right. sum_modulo left right };
 
     ghost setup_outcome = { Ok tt };
 

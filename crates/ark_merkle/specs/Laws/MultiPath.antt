@@ -74,9 +74,10 @@ pub multi_way_of-value : {A B L U Z : Type 0} (leaf_numbers : A → Digest) (lea
       map leaf_view siblings,
       (map (λ n. n) prefixes, (map (λ suffix. map view suffix.items) suffixes, map (λ n. n) indexes)),
     ))
-multi_way_of-value leaf_numbers leaf_view leaf_back leaf_are numbers view back are siblings prefixes suffixes indexes = λ i. record {
-  siblings = map-viewed leaf_numbers leaf_view leaf_back leaf_are siblings i;
-  prefixes = map-itself prefixes i;
-  suffixes = rows-viewed numbers view back are suffixes i;
-  indexes = map-itself indexes i;
-}
+multi_way_of-value leaf_numbers leaf_view leaf_back leaf_are numbers view back are siblings prefixes suffixes indexes =
+    λ i. record {
+      siblings = map-viewed leaf_numbers leaf_view leaf_back leaf_are siblings i;
+      prefixes = map-itself prefixes i;
+      suffixes = rows-viewed numbers view back are suffixes i;
+      indexes = map-itself indexes i;
+    }

@@ -25,7 +25,8 @@ pub fn multi_verdict<P: Config>(
     ensures { let hashes = ⟦<P as Views>⟧.hashes leaf_parameters.now pair_parameters.now in
         let digests = map hashes.leaf leaves.now in
         let given = P.InnerDigest.numbers root.now in
-        Answers (multi_verdict hashes.pair digests (⟦<P as Views>⟧.multi_way proof.now) given) result }
+        let way = ⟦<P as Views>⟧.multi_way proof.now in
+        Answers (multi_verdict hashes.pair digests way given) result }
 {
     if proof.leaf_indexes.is_empty() {
         return Err(Error::GenericError(Refusal::NoIndex));
