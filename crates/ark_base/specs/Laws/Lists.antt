@@ -68,7 +68,8 @@ module _ {V : Type 0} (has_spelling : V → Type 0) (spelling : V → List ℕ) 
   counted_list_laws = then_laws length IsWord word word_at (AllByRecursion has_spelling) (flat_map spelling)
       (items_at reads) word_laws items_laws
 
-pub counted_list_is_long : {V : Type 0} (spelling : V → List ℕ) (values : List V) → 8 ≤ length (counted_list spelling values)
+pub counted_list_is_long : {V : Type 0} (spelling : V → List ℕ) (values : List V)
+    → 8 ≤ length (counted_list spelling values)
 counted_list_is_long spelling values =
     omega (arith, length-append (word (length values)) (flat_map spelling values), length-word (length values))
 

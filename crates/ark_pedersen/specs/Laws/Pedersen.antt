@@ -67,5 +67,6 @@ pub lists_in-same : {G V Z : Type 0} (view : G → V) → ((x y : G) → view x 
     → lists_in p ≡ lists_in q
 lists_in-same {G} {V} {Z} view alone p q e =
     map-through (λ (list : Vec G Z). map view list.items) (λ (list : Vec G Z). list.items)
-    (λ x y same. sym (map-itself x.items) ∙ map-through view (λ (a : G). a) alone x.items y.items same ∙ map-itself y.items)
+    (λ x y same. sym (map-itself x.items)
+    ∙ map-through view (λ (a : G). a) alone x.items y.items same ∙ map-itself y.items)
     p q e
