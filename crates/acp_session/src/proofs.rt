@@ -53,11 +53,14 @@ impl<P: Config> Proof for Path<P> {
     ghost numbers_are = { λ bytes rest x. way_at-ok
         P.LeafDigest.view P.InnerDigest.view P.LeafDigest.numbers P.InnerDigest.numbers
         x.leaf_sibling_hash x.auth_path.items x.leaf_index
-        (λ d. P.LeafDigest.numbers_of (P.LeafDigest.spelling d)) (λ d. P.InnerDigest.numbers_of (P.InnerDigest.spelling d))
-        P.LeafDigest.numbers_are P.InnerDigest.numbers_are P.LeafDigest.reads P.InnerDigest.reads bytes rest };
+        (λ d. P.LeafDigest.numbers_of (P.LeafDigest.spelling d))
+        (λ d. P.InnerDigest.numbers_of (P.InnerDigest.spelling d))
+        P.LeafDigest.numbers_are P.InnerDigest.numbers_are
+        P.LeafDigest.reads P.InnerDigest.reads bytes rest };
 
     ghost fault_is = { λ bytes fault. way_at-err
-        (λ d. P.LeafDigest.numbers_of (P.LeafDigest.spelling d)) (λ d. P.InnerDigest.numbers_of (P.InnerDigest.spelling d))
+        (λ d. P.LeafDigest.numbers_of (P.LeafDigest.spelling d))
+        (λ d. P.InnerDigest.numbers_of (P.InnerDigest.spelling d))
         P.LeafDigest.reads P.InnerDigest.reads bytes fault };
 }
 
@@ -75,18 +78,23 @@ impl<P: Config> Proof for MultiPath<P> {
 
     ghost bytes_are = { λ x. multi_spelling-way
         P.LeafDigest.view P.InnerDigest.view P.LeafDigest.numbers P.InnerDigest.numbers
-        x.leaf_siblings_hashes.items x.auth_paths_prefix_lenghts.items x.auth_paths_suffixes.items x.leaf_indexes.items
+        x.leaf_siblings_hashes.items x.auth_paths_prefix_lenghts.items
+        x.auth_paths_suffixes.items x.leaf_indexes.items
         P.LeafDigest.spelling P.LeafDigest.bytes_of P.InnerDigest.spelling P.InnerDigest.bytes_of
         P.LeafDigest.bytes_are P.InnerDigest.bytes_are };
 
     ghost numbers_are = { λ bytes rest x. multi_way_at-ok
         P.LeafDigest.view P.InnerDigest.view P.LeafDigest.numbers P.InnerDigest.numbers
-        x.leaf_siblings_hashes.items x.auth_paths_prefix_lenghts.items x.auth_paths_suffixes.items x.leaf_indexes.items
-        (λ d. P.LeafDigest.numbers_of (P.LeafDigest.spelling d)) (λ d. P.InnerDigest.numbers_of (P.InnerDigest.spelling d))
-        P.LeafDigest.numbers_are P.InnerDigest.numbers_are P.LeafDigest.reads P.InnerDigest.reads bytes rest };
+        x.leaf_siblings_hashes.items x.auth_paths_prefix_lenghts.items
+        x.auth_paths_suffixes.items x.leaf_indexes.items
+        (λ d. P.LeafDigest.numbers_of (P.LeafDigest.spelling d))
+        (λ d. P.InnerDigest.numbers_of (P.InnerDigest.spelling d))
+        P.LeafDigest.numbers_are P.InnerDigest.numbers_are
+        P.LeafDigest.reads P.InnerDigest.reads bytes rest };
 
     ghost fault_is = { λ bytes fault. multi_way_at-err
-        (λ d. P.LeafDigest.numbers_of (P.LeafDigest.spelling d)) (λ d. P.InnerDigest.numbers_of (P.InnerDigest.spelling d))
+        (λ d. P.LeafDigest.numbers_of (P.LeafDigest.spelling d))
+        (λ d. P.InnerDigest.numbers_of (P.InnerDigest.spelling d))
         P.LeafDigest.reads P.InnerDigest.reads bytes fault };
 }
 

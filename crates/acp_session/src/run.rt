@@ -52,7 +52,8 @@ fn flush_before_waiting<R: Read, W: Write>(lines: &BufReader<R>, replies: &mut W
 
 /// Writes bytes whole. Where that fails, a front of them was written.
 pub fn write_front<W: Write>(writer: &mut W, bytes: &[u8]) -> io::Result<()>
-    ensures whole { OnOk result (Appends (W.contents writer.old) (W.contents writer.new) bytes.now) }
+    ensures whole { let held = W.contents in
+        OnOk result (Appends (held writer.old) (held writer.new) bytes.now) }
     ensures front { AppendsFront (W.contents writer.old) (W.contents writer.new) bytes.now }
 {
     let mut written = 0;

@@ -64,7 +64,8 @@ fn binding<C: Shell>(
     leaf: &C::Leaf,
 ) -> Result<Option<Binding>, Error>
     ensures { let hashed = C.LeafHash.meaning tree.now.leaf_parameters leaf.now in
-        let say = path_binding (⟦<C as Views>⟧.pair tree.now.pair_parameters) tree.now.leaves hashed in
+        let pair = ⟦<C as Views>⟧.pair tree.now.pair_parameters in
+        let say = path_binding pair tree.now.leaves hashed in
         Answers (finding say (⟦<C as Views>⟧.path_reading bytes.now)) result }
 {
     let Some(path) = whole_proof::<Path<C>>(alloc, bytes)? else {
