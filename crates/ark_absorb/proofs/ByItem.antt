@@ -58,7 +58,7 @@ pub record Put {A F : Type 0} (value : F → ℕ) (f : A → Elements) (items : 
   pub so_far : StandBehind value (elements_by_item f (take i items)) old now
 
 pub Put-zero : {A F : Type 0} (value : F → ℕ) (f : A → Elements) (items : List A) (old : List F) → Put value f items 0 old old
-Put-zero value f items old = record { so_far = record { behind = []; list = sym (append-nil old); values = refl } }
+Put-zero value f items old = record { so_far = record { behind = []; list = sym (append-nil old); numbers_are = refl } }
 
 -- one list of elements behind another
 pub StandBehind-then : {F : Type 0} (value : F → ℕ) (old mid now : List F) (a b : Elements) → StandBehind value a old mid → StandBehind value b mid now
@@ -67,7 +67,7 @@ StandBehind-then value old mid now a b p q =
     record {
       behind = p.behind ++ q.behind;
       list = q.list ∙ (ap (λ t. t ++ q.behind) p.list ∙ append_assoc old p.behind q.behind);
-      values = rw (p.values, q.values) (ap Ok (sym (map-append value p.behind q.behind)));
+      numbers_are = rw (p.numbers_are, q.numbers_are) (ap Ok (sym (map-append value p.behind q.behind)));
     }
 
 -- what stood behind is cut off again
@@ -87,7 +87,7 @@ Put-suc value f items i x old mid now lt is p q =
 pub Put-refused : {A F : Type 0} (value : F → ℕ) (f : A → Elements) (items : List A) (i : ℕ) (x : A) (e : Error) (old mid : List F) → i < length items
     → x ≡ get_or items i x → Put value f items i old mid → (e ≡ OutOfMemory) ⊎ (f x ≡ Err e) → (e ≡ OutOfMemory) ⊎ (elements_by_item f items ≡ Err e)
 Put-refused value f items i x e old mid lt is p (inl memory) = inl memory
-Put-refused value f items i x e old mid lt is p (inr bad) = inr (elements_by_item-refused f items i x e (map value p.so_far.behind) lt is p.so_far.values bad)
+Put-refused value f items i x e old mid lt is p (inr bad) = inr (elements_by_item-refused f items i x e (map value p.so_far.behind) lt is p.so_far.numbers_are bad)
 
 pub ruleset bytes_steps = (Wrote-suc, Wrote-undone)
 

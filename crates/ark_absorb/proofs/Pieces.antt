@@ -40,7 +40,7 @@ pub Packed-all : {F : Type 0} (value : F → ℕ) (modulus size count done : ℕ
 Packed-all value modulus size count done all rest old now count-is over w =
     let none : count - done ≡ 0 = omega arith in
     let whole = sym w.to_come ∙ (ap (λ n. map value w.behind ++ numbers_of_pieces modulus (pieces size n rest)) none ∙ append-nil (map value w.behind)) in
-    record { behind = w.behind; list = w.list; values = ap Ok (ap (λ n. numbers_of_pieces modulus (pieces size n all)) (sym count-is) ∙ whole) }
+    record { behind = w.behind; list = w.list; numbers_are = ap Ok (ap (λ n. numbers_of_pieces modulus (pieces size n all)) (sym count-is) ∙ whole) }
 
 pub Packed-undone : {F : Type 0} (value : F → ℕ) (modulus size count done : ℕ) (all rest : List ℕ) (old now : List F)
     → Packed value modulus size count done all rest old now → take (length old) now ≡ old

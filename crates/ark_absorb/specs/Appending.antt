@@ -12,7 +12,7 @@ AppendsBytes bytes old new result = MatchResult result (λ _. new ≡ old ++ byt
 pub record StandBehind {F : Type 0} (value : F → ℕ) (numbers : Elements) (old new : List F) : Type 0 where
   pub behind : List F
   pub list : new ≡ old ++ behind
-  pub values : numbers ≡ Ok (map value behind)
+  pub numbers_are : numbers ≡ Ok (map value behind)
 
 -- The elements stand behind what was there; or they are refused, or memory was, and the list is as before.
 abbrev pub AppendsElements : {F : Type 0} → (F → ℕ) → Elements → List F → List F → Outcome (Unit {0}) → Type 0

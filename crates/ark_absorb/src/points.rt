@@ -45,7 +45,8 @@ impl<G: TECoordinates + Copy> AbsorbItem for TEPoint<G> {
 }
 
 impl<G: TECoordinates + Copy> Absorb for TEPoint<G> {
-    ghost batch_elements = { batch_by_item (λ p. point_elements G.BaseField.MODULUS (G.x p.0) (G.y p.0)) };
+    ghost batch_elements = { batch_by_item
+        (λ p. point_elements G.BaseField.MODULUS (G.x p.0) (G.y p.0)) };
 
     fn batch_to_sponge_field_elements<F: PrimeField>(
         batch: &[TEPoint<G>],
@@ -59,7 +60,8 @@ impl<G: TECoordinates + Copy> Absorb for TEPoint<G> {
 impl<G: SWCoordinates + Copy> AbsorbItem for SWPoint<G> {
     ghost sponge_bytes = { λ p. point_bytes (G.x p.0) (G.y p.0) ++ flag (G.infinity p.0) };
 
-    ghost sponge_elements = { λ p. flagged_elements G.BaseField.MODULUS (G.x p.0) (G.y p.0) (G.infinity p.0) };
+    ghost sponge_elements = { λ p.
+        flagged_elements G.BaseField.MODULUS (G.x p.0) (G.y p.0) (G.infinity p.0) };
 
     fn push_bytes(&self, dest: &mut Vec<u8>) -> Result<(), Error> {
         let start = dest.len();
@@ -110,7 +112,8 @@ impl<M: SmallModulus> AbsorbItem for Small<M> {
 }
 
 impl<M: SmallModulus> Absorb for Small<M> {
-    ghost batch_elements = { batch_by_item (λ p. point_elements 257 (x_of p.0.value) (y_of p.0.value)) };
+    ghost batch_elements = { batch_by_item
+        (λ p. point_elements 257 (x_of p.0.value) (y_of p.0.value)) };
 
     fn batch_to_sponge_field_elements<F: PrimeField>(
         batch: &[Small<M>],

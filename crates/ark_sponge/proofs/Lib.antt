@@ -7,4 +7,3 @@ pub mod Permuting
 pub mod Cuts
 pub mod Squeezes
 pub mod Cutting
-pub mod Calls

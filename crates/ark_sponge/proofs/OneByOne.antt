@@ -33,9 +33,6 @@ drop-zeros zero i x xs h = absurd (omega (arith, h))
 drop-zeros (suc r) zero x xs h = refl
 drop-zeros (suc r) (suc i) x xs h = drop-zeros r i x xs (omega (arith, h))
 
-pub eqb_of_ne : (a b : ℕ) → (a ≡ b → ⊥) → eqb a b ≡ false
-eqb_of_ne a b h = elim (eqb a b) as (λ t. eqb a b ≡ t → t ≡ false) [ true ↦ λ e. absurd (h (eqb-true a b e)) | false ↦ λ e. refl ] refl
-
 pub eqb_of_lt : (a b : ℕ) → a < b → eqb a b ≡ false
 eqb_of_lt a b h = elim (eqb a b) as (λ t. eqb a b ≡ t → t ≡ false) [ true ↦ λ e. absurd (omega (arith, eqb-true a b e)) | false ↦ λ e. refl ] refl
 

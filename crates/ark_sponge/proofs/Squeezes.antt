@@ -18,9 +18,6 @@ abbrev picked : List ℕ × ℕ → List ℕ × ℕ → Bool → List ℕ × ℕ
 picked x y b = cond b x y
 
 module _ (r : ℕ) (permute : List ℕ → List ℕ) (init : List ℕ) where
-  pub at_start : (index : ℕ) → index ≤ r → IsAt r permute init index init index
-  at_start index h = record { turns = 0; state = refl; count = omega arith; within = h }
-
   pub at_turn : (total index place : ℕ) (s t : List ℕ) → 0 < r → IsAt r permute init total s index → (t, place) ≡ state_to_read r permute (s, index) → IsAt r permute init total t place × (place < r)
   at_turn total index place s t pos h e =
       let now : List ℕ × ℕ = (t, place) in

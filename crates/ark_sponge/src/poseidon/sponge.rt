@@ -31,7 +31,11 @@ impl<F: PrimeField, S: SBox<F>> Model for PoseidonSponge<F, S> {
 
     ghost Value = { Sponge };
 
-    ghost view = { λ s. record { parameters = s.parameters; state = map F.value s.state.items; mode = s.mode } };
+    ghost view = { λ s. record {
+      parameters = s.parameters;
+      state = map F.value s.state.items;
+      mode = s.mode;
+    } };
 
     ghost invariant = { λ s. (vec_len s.state ≡ s.parameters.rate + s.parameters.capacity)
         × (vec_len s.scratch ≡ vec_len s.state)

@@ -62,7 +62,7 @@ fn elements_of_values(rt: HostRuntime) -> Result<(), Fail> {
         numbers::<M257, u128>(alloc, &u128::MAX)?.as_slice(),
         [0].as_slice()
     );
-    let residue = Residues::<M257>(Fp::from_u64(256));
+    let residue = Residues::<M257>::new(Fp::from_u64(256));
     assert_eq!(rt;
         numbers::<M257, Residues<M257>>(alloc, &residue)?.as_slice(),
         [256].as_slice()
@@ -78,13 +78,13 @@ fn elements_of_values(rt: HostRuntime) -> Result<(), Fail> {
 #[test]
 fn coordinates_of_elements(rt: HostRuntime) -> Result<(), Fail> {
     let alloc = rt.alloc();
-    let nine = Small::<M13>(Fp::from_u64(9));
+    let nine = Small::<M13>::new(Fp::from_u64(9));
     let bytes = TEPoint(nine).to_sponge_bytes_as_vec(alloc)?;
     let both = [211, 0, 0, 0, 0, 0, 0, 0, 14, 0, 0, 0, 0, 0, 0, 0];
     assert_eq!(rt; bytes.as_slice(), both.as_slice());
     let finite = numbers::<M257, SWPoint<Small<M13>>>(alloc, &SWPoint(nine))?;
     assert_eq!(rt; finite.as_slice(), [211, 14, 0].as_slice());
-    let zero = SWPoint(Small::<M13>(Fp::from_u64(0)));
+    let zero = SWPoint(Small::<M13>::new(Fp::from_u64(0)));
     let infinite = numbers::<M257, SWPoint<Small<M13>>>(alloc, &zero)?;
     assert_eq!(rt; infinite.as_slice(), [0, 1, 1].as_slice());
     Ok(())
