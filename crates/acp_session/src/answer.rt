@@ -20,19 +20,20 @@ use std::alloc::{AllocError, Global};
 /// change the tree.
 pub fn answer<C: Shell>(
     alloc: Global,
-    leaf_params: &LeafParam<C>,
-    two_params: &TwoToOneParam<C>,
+    leaf_parameters: &LeafParam<C>,
+    pair_parameters: &TwoToOneParam<C>,
     tree: &mut Option<MerkleTree<C>>,
     line: &[u8],
 ) -> Result<Vec<u8>, AllocError>
-    requires { ⟦<C as Hashing>⟧.has_hashes leaf_params.now two_params.now tree.old }
-    ensures step { IfOk result (λ reply. let l = C.language leaf_params.now two_params.now in
+    requires { ⟦<C as Hashing>⟧.has_hashes leaf_parameters.now pair_parameters.now tree.old }
+    ensures step { IfOk result (λ reply.
+        let l = C.language leaf_parameters.now pair_parameters.now in
         Step l (state_of tree.old) line.now (state_of tree.new) reply.items) }
-    ensures hashes { ⟦<C as Hashing>⟧.has_hashes leaf_params.now two_params.now tree.new }
+    ensures hashes { ⟦<C as Hashing>⟧.has_hashes leaf_parameters.now pair_parameters.now tree.new }
     ensures refused { OnErr result (tree.new ≡ tree.old) }
 {
     match line_of::<C>(alloc, line)? {
-        Some(line) => reply_to(alloc, leaf_params, two_params, tree, line),
+        Some(line) => reply_to(alloc, leaf_parameters, pair_parameters, tree, line),
         None => plain(alloc, b"bad line"),
     }
 }
@@ -40,32 +41,46 @@ pub fn answer<C: Shell>(
 // The reply to what a line asks.
 fn reply_to<C: Shell>(
     alloc: Global,
-    leaf_params: &LeafParam<C>,
-    two_params: &TwoToOneParam<C>,
+    leaf_parameters: &LeafParam<C>,
+    pair_parameters: &TwoToOneParam<C>,
     tree: &mut Option<MerkleTree<C>>,
     line: Line<C::Leaf, C::LeafDigest>,
 ) -> Result<Vec<u8>, AllocError>
-    requires { ⟦<C as Hashing>⟧.has_hashes leaf_params.now two_params.now tree.old }
-    ensures turn { IfOk result (λ reply. let l = C.language leaf_params.now two_params.now in
-        let request = asked (C.LeafHash.meaning leaf_params.now) C.LeafDigest.numbers line in
+    requires { ⟦<C as Hashing>⟧.has_hashes leaf_parameters.now pair_parameters.now tree.old }
+    ensures turn { IfOk result (λ reply.
+        let l = C.language leaf_parameters.now pair_parameters.now in
+        let request = asked (C.LeafHash.meaning leaf_parameters.now) C.LeafDigest.numbers line in
         let exact = turn_of l (state_of tree.old) request in
         Takes (state_of tree.old) exact (state_of tree.new) reply.items) }
-    ensures hashes { ⟦<C as Hashing>⟧.has_hashes leaf_params.now two_params.now tree.new }
+    ensures hashes { ⟦<C as Hashing>⟧.has_hashes leaf_parameters.now pair_parameters.now tree.new }
     ensures refused { OnErr result (tree.new ≡ tree.old) }
 {
     match line {
-        Line::Tree(leaves) => tree_reply(alloc, leaf_params, two_params, tree, &leaves),
-        Line::Digests(digests) => digests_reply(alloc, leaf_params, two_params, tree, digests),
+        Line::Tree(leaves) => tree_reply(alloc, leaf_parameters, pair_parameters, tree, &leaves),
+        Line::Digests(digests) => digests_reply(
+            alloc,
+            leaf_parameters,
+            pair_parameters,
+            tree,
+            digests,
+        ),
         Line::Set { index, leaf } => set_reply(alloc, tree, index, &leaf),
         Line::Root => root_reply(alloc, tree),
         Line::Proof(index) => proof_reply(alloc, tree, index),
         Line::Check { path, leaf } => {
-            check_reply(alloc, leaf_params, two_params, tree, &path, &leaf)
+            check_reply(alloc, leaf_parameters, pair_parameters, tree, &path, &leaf)
         }
         Line::Bind { path, leaf } => bind_reply(alloc, tree, &path, &leaf),
         Line::Multi(indexes) => multi_reply(alloc, tree, &indexes),
         Line::MultiCheck { proof, leaves } => {
-            mcheck_reply(alloc, leaf_params, two_params, tree, &proof, &leaves)
+            mcheck_reply(
+                alloc,
+                leaf_parameters,
+                pair_parameters,
+                tree,
+                &proof,
+                &leaves,
+            )
         }
     }
 }

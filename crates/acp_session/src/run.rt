@@ -78,15 +78,17 @@ pub fn write_front<W: Write>(writer: &mut W, bytes: &[u8]) -> io::Result<()>
 /// reader, of the writer or of memory ends it before.
 pub fn run<C: Shell, R: Read, W: Write>(
     alloc: Global,
-    leaf_params: &LeafParam<C>,
-    two_params: &TwoToOneParam<C>,
+    leaf_parameters: &LeafParam<C>,
+    pair_parameters: &TwoToOneParam<C>,
     lines: &mut BufReader<R>,
     replies: &mut W,
 ) -> io::Result<()>
-    ensures served { OnOk result (let step = Step (C.language leaf_params.now two_params.now) in
+    ensures served { OnOk result
+        (let step = Step (C.language leaf_parameters.now pair_parameters.now) in
         let input = reader_remaining R.remaining lines.old in
         Serves step input (W.contents replies.old) (W.contents replies.new)) }
-    ensures stopped { OnErr result (let step = Step (C.language leaf_params.now two_params.now) in
+    ensures stopped { OnErr result
+        (let step = Step (C.language leaf_parameters.now pair_parameters.now) in
         let input = reader_remaining R.remaining lines.old in
         Stops step input (W.contents replies.old) (W.contents replies.new)) }
     ensures read { let left = reader_remaining R.remaining in
@@ -100,7 +102,7 @@ pub fn run<C: Shell, R: Read, W: Write>(
             return Ok(());
         }
         let asked = without_line_feed(&line);
-        let reply = answer(alloc, leaf_params, two_params, &mut tree, asked)?;
+        let reply = answer(alloc, leaf_parameters, pair_parameters, &mut tree, asked)?;
         write_front(replies, &reply)?;
         write_front(replies, b"\n")?;
     }

@@ -17,42 +17,51 @@ use std::alloc::{AllocError, Global};
 // Whether the path that the bytes spell gives the root for a leaf; nothing where bytes are left behind it.
 fn verdict<C: Shell>(
     alloc: Global,
-    leaf_params: &LeafParam<C>,
-    two_params: &TwoToOneParam<C>,
+    leaf_parameters: &LeafParam<C>,
+    pair_parameters: &TwoToOneParam<C>,
     tree: &MerkleTree<C>,
     bytes: &[u8],
     leaf: &C::Leaf,
 ) -> Result<Option<bool>, Error>
-    requires { ⟦<C as Views>⟧.pair tree.now.pair_parameters ≡ ⟦<C as Views>⟧.pair two_params.now }
-    ensures { let hashed = C.LeafHash.meaning leaf_params.now leaf.now in
-        let holds = path_holds (⟦<C as Views>⟧.pair two_params.now) tree.now.leaves hashed in
+    requires { let pair = ⟦<C as Views>⟧.pair in
+        pair tree.now.pair_parameters ≡ pair pair_parameters.now }
+    ensures { let hashed = C.LeafHash.meaning leaf_parameters.now leaf.now in
+        let holds = path_holds (⟦<C as Views>⟧.pair pair_parameters.now) tree.now.leaves hashed in
         Answers (finding holds (⟦<C as Views>⟧.path_reading bytes.now)) result }
 {
     let Some(path) = whole_proof::<Path<C>>(alloc, bytes)? else {
         return Ok(None);
     };
-    let holds = path.verify(alloc, leaf_params, two_params, tree.root(), leaf)?;
+    let holds = path.verify(alloc, leaf_parameters, pair_parameters, tree.root(), leaf)?;
     Ok(Some(holds))
 }
 
 // Whether the multi-proof that the bytes spell is accepted with the leaves; nothing where bytes are left behind it.
 fn multi_verdict<C: Shell>(
     alloc: Global,
-    leaf_params: &LeafParam<C>,
-    two_params: &TwoToOneParam<C>,
+    leaf_parameters: &LeafParam<C>,
+    pair_parameters: &TwoToOneParam<C>,
     tree: &MerkleTree<C>,
     bytes: &[u8],
     leaves: &[C::Leaf],
 ) -> Result<Option<bool>, Error>
-    requires { ⟦<C as Views>⟧.pair tree.now.pair_parameters ≡ ⟦<C as Views>⟧.pair two_params.now }
-    ensures { let hashed = map (C.LeafHash.meaning leaf_params.now) leaves.now in
-        let holds = multi_path_holds (⟦<C as Views>⟧.pair two_params.now) tree.now.leaves hashed in
+    requires { let pair = ⟦<C as Views>⟧.pair in
+        pair tree.now.pair_parameters ≡ pair pair_parameters.now }
+    ensures { let hashed = map (C.LeafHash.meaning leaf_parameters.now) leaves.now in
+        let pair = ⟦<C as Views>⟧.pair pair_parameters.now in
+        let holds = multi_path_holds pair tree.now.leaves hashed in
         Answers (finding holds (⟦<C as Views>⟧.multi_path_reading bytes.now)) result }
 {
     let Some(proof) = whole_proof::<MultiPath<C>>(alloc, bytes)? else {
         return Ok(None);
     };
-    let holds = proof.verify(alloc, leaf_params, two_params, tree.root(), leaves.iter())?;
+    let holds = proof.verify(
+        alloc,
+        leaf_parameters,
+        pair_parameters,
+        tree.root(),
+        leaves.iter(),
+    )?;
     Ok(Some(holds))
 }
 
@@ -108,20 +117,20 @@ fn binding_reply(
 /// The reply to `check`.
 pub fn check_reply<C: Shell>(
     alloc: Global,
-    leaf_params: &LeafParam<C>,
-    two_params: &TwoToOneParam<C>,
+    leaf_parameters: &LeafParam<C>,
+    pair_parameters: &TwoToOneParam<C>,
     tree: &Option<MerkleTree<C>>,
     path: &[u8],
     leaf: &C::Leaf,
 ) -> Result<Vec<u8>, AllocError>
-    requires { ⟦<C as Hashing>⟧.has_hashes leaf_params.now two_params.now tree.now }
-    ensures { IfOk result (λ reply. let l = C.language leaf_params.now two_params.now in
-        let hashed = C.LeafHash.meaning leaf_params.now leaf.now in
+    requires { ⟦<C as Hashing>⟧.has_hashes leaf_parameters.now pair_parameters.now tree.now }
+    ensures { IfOk result (λ reply. let l = C.language leaf_parameters.now pair_parameters.now in
+        let hashed = C.LeafHash.meaning leaf_parameters.now leaf.now in
         Tells (check_reply l (state_of tree.now) path.now hashed) reply.items) }
 {
     match tree {
         Some(tree) => {
-            let verdict = verdict(alloc, leaf_params, two_params, tree, path, leaf);
+            let verdict = verdict(alloc, leaf_parameters, pair_parameters, tree, path, leaf);
             verdict_reply(alloc, verdict)
         }
         None => plain(alloc, b"refused tree"),
@@ -131,20 +140,27 @@ pub fn check_reply<C: Shell>(
 /// The reply to `mcheck`.
 pub fn mcheck_reply<C: Shell>(
     alloc: Global,
-    leaf_params: &LeafParam<C>,
-    two_params: &TwoToOneParam<C>,
+    leaf_parameters: &LeafParam<C>,
+    pair_parameters: &TwoToOneParam<C>,
     tree: &Option<MerkleTree<C>>,
     proof: &[u8],
     leaves: &[C::Leaf],
 ) -> Result<Vec<u8>, AllocError>
-    requires { ⟦<C as Hashing>⟧.has_hashes leaf_params.now two_params.now tree.now }
-    ensures { IfOk result (λ reply. let l = C.language leaf_params.now two_params.now in
-        let hashed = map (C.LeafHash.meaning leaf_params.now) leaves.now in
+    requires { ⟦<C as Hashing>⟧.has_hashes leaf_parameters.now pair_parameters.now tree.now }
+    ensures { IfOk result (λ reply. let l = C.language leaf_parameters.now pair_parameters.now in
+        let hashed = map (C.LeafHash.meaning leaf_parameters.now) leaves.now in
         Tells (mcheck_reply l (state_of tree.now) proof.now hashed) reply.items) }
 {
     match tree {
         Some(tree) => {
-            let verdict = multi_verdict(alloc, leaf_params, two_params, tree, proof, leaves);
+            let verdict = multi_verdict(
+                alloc,
+                leaf_parameters,
+                pair_parameters,
+                tree,
+                proof,
+                leaves,
+            );
             verdict_reply(alloc, verdict)
         }
         None => plain(alloc, b"refused tree"),

@@ -14,46 +14,48 @@ use std::alloc::{AllocError, Global};
 /// The reply to `tree`, which puts the tree above these leaves in the place of the one before.
 pub fn tree_reply<C: Shell>(
     alloc: Global,
-    leaf_params: &LeafParam<C>,
-    two_params: &TwoToOneParam<C>,
+    leaf_parameters: &LeafParam<C>,
+    pair_parameters: &TwoToOneParam<C>,
     tree: &mut Option<MerkleTree<C>>,
     leaves: &[C::Leaf],
 ) -> Result<Vec<u8>, AllocError>
-    requires { ⟦<C as Hashing>⟧.has_hashes leaf_params.now two_params.now tree.old }
-    ensures turn { IfOk result (λ reply. let l = C.language leaf_params.now two_params.now in
-        let hashed = map (C.LeafHash.meaning leaf_params.now) leaves.now in
+    requires { ⟦<C as Hashing>⟧.has_hashes leaf_parameters.now pair_parameters.now tree.old }
+    ensures turn { IfOk result (λ reply.
+        let l = C.language leaf_parameters.now pair_parameters.now in
+        let hashed = map (C.LeafHash.meaning leaf_parameters.now) leaves.now in
         let exact = tree_turn l (state_of tree.old) hashed in
         Takes (state_of tree.old) exact (state_of tree.new) reply.items) }
-    ensures hashes { ⟦<C as Hashing>⟧.has_hashes leaf_params.now two_params.now tree.new }
+    ensures hashes { ⟦<C as Hashing>⟧.has_hashes leaf_parameters.now pair_parameters.now tree.new }
     ensures refused { OnErr result (tree.new ≡ tree.old) }
 {
     if !is_tree_size(leaves.len()) {
         return plain(alloc, b"refused leaves");
     }
-    let made = MerkleTree::new(alloc, leaf_params, two_params, leaves);
+    let made = MerkleTree::new(alloc, leaf_parameters, pair_parameters, leaves);
     settle(alloc, tree, made)
 }
 
 /// The reply to `digests`, which puts the tree above these leaf digests in the place of the one before.
 pub fn digests_reply<C: Shell>(
     alloc: Global,
-    leaf_params: &LeafParam<C>,
-    two_params: &TwoToOneParam<C>,
+    leaf_parameters: &LeafParam<C>,
+    pair_parameters: &TwoToOneParam<C>,
     tree: &mut Option<MerkleTree<C>>,
     digests: Vec<C::LeafDigest>,
 ) -> Result<Vec<u8>, AllocError>
-    requires { ⟦<C as Hashing>⟧.has_hashes leaf_params.now two_params.now tree.old }
-    ensures turn { IfOk result (λ reply. let l = C.language leaf_params.now two_params.now in
+    requires { ⟦<C as Hashing>⟧.has_hashes leaf_parameters.now pair_parameters.now tree.old }
+    ensures turn { IfOk result (λ reply.
+        let l = C.language leaf_parameters.now pair_parameters.now in
         let numbers = map C.LeafDigest.numbers digests.items in
         let exact = digests_turn l (state_of tree.old) numbers in
         Takes (state_of tree.old) exact (state_of tree.new) reply.items) }
-    ensures hashes { ⟦<C as Hashing>⟧.has_hashes leaf_params.now two_params.now tree.new }
+    ensures hashes { ⟦<C as Hashing>⟧.has_hashes leaf_parameters.now pair_parameters.now tree.new }
     ensures refused { OnErr result (tree.new ≡ tree.old) }
 {
     if !is_tree_size(digests.len()) {
         return plain(alloc, b"refused leaves");
     }
-    let made = MerkleTree::new_with_leaf_digest(alloc, leaf_params, two_params, digests);
+    let made = MerkleTree::new_with_leaf_digest(alloc, leaf_parameters, pair_parameters, digests);
     settle(alloc, tree, made)
 }
 

@@ -119,22 +119,22 @@ fn list(alloc: Global, numbers: &[u64]) -> Result<Vec<Residues<M13>>, Error> {
 
 fn tree_of<P: Config>(
     alloc: Global,
-    leaf_params: &LeafParam<P>,
-    two_params: &TwoToOneParam<P>,
+    leaf_parameters: &LeafParam<P>,
+    pair_parameters: &TwoToOneParam<P>,
     leaves: &[P::Leaf],
 ) -> Result<MerkleTree<P>, Error> {
     if !is_tree_size(leaves.len()) {
         return Err(Error::IncorrectInputLength(leaves.len()));
     }
-    MerkleTree::new(alloc, leaf_params, two_params, leaves)
+    MerkleTree::new(alloc, leaf_parameters, pair_parameters, leaves)
 }
 
-fn leaf_params(alloc: Global) -> Result<Parameters<Residues<M13>>, Error> {
+fn leaf_parameters(alloc: Global) -> Result<Parameters<Residues<M13>>, Error> {
     let generators = vec![in alloc; list(alloc, &[1, 2, 4, 8])?, list(alloc, &[2, 4, 8, 3])?]?;
     Ok(Parameters { generators })
 }
 
-fn two_params(alloc: Global) -> Result<Parameters<Residues<M13>>, Error> {
+fn pair_parameters(alloc: Global) -> Result<Parameters<Residues<M13>>, Error> {
     let mut generators = Vec::new(alloc);
     for _ in 0..4u8 {
         generators.push(list(alloc, &[1, 2, 4, 8])?)?;
@@ -150,7 +150,7 @@ fn reckoned(alloc: Global) -> Result<MerkleTree<By13>, Error> {
         Vec::new(alloc),
         vec![in alloc; 0x40u8]?,
     ]?;
-    tree_of(alloc, &leaf_params(alloc)?, &two_params(alloc)?, &leaves)
+    tree_of(alloc, &leaf_parameters(alloc)?, &pair_parameters(alloc)?, &leaves)
 }
 
 fn bytes_of_proof<P: Config>(
@@ -236,8 +236,8 @@ fn multi_proof_of_all<P: Config>(
 fn all_are_accepted<P: Config>(
     alloc: Global,
     tree: &MerkleTree<P>,
-    leaf_params: &LeafParam<P>,
-    two_params: &TwoToOneParam<P>,
+    leaf_parameters: &LeafParam<P>,
+    pair_parameters: &TwoToOneParam<P>,
     leaves: &[P::Leaf],
 ) -> Result<bool, Error> {
     for (index, leaf) in leaves.iter().enumerate() {
@@ -245,12 +245,12 @@ fn all_are_accepted<P: Config>(
             return Err(Error::IncorrectInputLength(index));
         }
         let path = tree.generate_proof(alloc, index)?;
-        if !path.verify(alloc, leaf_params, two_params, tree.root(), leaf)? {
+        if !path.verify(alloc, leaf_parameters, pair_parameters, tree.root(), leaf)? {
             return Ok(false);
         }
     }
     let proof = multi_proof_of_all(alloc, tree)?;
-    proof.verify(alloc, leaf_params, two_params, tree.root(), leaves.iter())
+    proof.verify(alloc, leaf_parameters, pair_parameters, tree.root(), leaves.iter())
 }
 
 fn set_leaf<P: Config>(
@@ -272,9 +272,9 @@ fn set_leaf<P: Config>(
 type Drawn = (Parameters<Residues<M61>>, Parameters<Residues<M61>>);
 
 fn draw<R: Rng>(alloc: Global, rng: &mut R) -> Result<Drawn, Error> {
-    let leaf_params = CRH::<Residues<M61>, Many>::setup(alloc, rng)?;
+    let leaf_parameters = CRH::<Residues<M61>, Many>::setup(alloc, rng)?;
     Ok((
-        leaf_params,
+        leaf_parameters,
         TwoToOneCRH::<Residues<M61>, Many>::setup(alloc, rng)?,
     ))
 }
@@ -282,17 +282,17 @@ fn draw<R: Rng>(alloc: Global, rng: &mut R) -> Result<Drawn, Error> {
 // Whether all proofs of a tree are accepted before these leaves are set, and after.
 fn stays_accepted(alloc: Global, count: usize, indexes: &[usize]) -> Result<bool, Error> {
     let mut rng = SmallRng::seed_from_u64(61);
-    let (leaf_params, two_params) = draw(alloc, &mut rng)?;
+    let (leaf_parameters, pair_parameters) = draw(alloc, &mut rng)?;
     let mut leaves = drawn_leaves(alloc, count, &mut rng)?;
-    let mut tree = tree_of::<By61>(alloc, &leaf_params, &two_params, &leaves)?;
-    if !all_are_accepted(alloc, &tree, &leaf_params, &two_params, &leaves)? {
+    let mut tree = tree_of::<By61>(alloc, &leaf_parameters, &pair_parameters, &leaves)?;
+    if !all_are_accepted(alloc, &tree, &leaf_parameters, &pair_parameters, &leaves)? {
         return Ok(false);
     }
     for index in indexes {
         let leaf = drawn_leaf(alloc, &mut rng)?;
         set_leaf(alloc, &mut tree, &mut leaves, *index, leaf)?;
     }
-    all_are_accepted(alloc, &tree, &leaf_params, &two_params, &leaves)
+    all_are_accepted(alloc, &tree, &leaf_parameters, &pair_parameters, &leaves)
 }
 
 #[test]
@@ -306,9 +306,9 @@ fn own_proofs_are_accepted_before_and_after_updates(rt: HostRuntime) -> Result<(
 // The multi-proof of all indexes of a tree of drawn leaves.
 fn drawn_proof(alloc: Global, count: usize) -> Result<MultiPath<By61>, Error> {
     let mut rng = SmallRng::seed_from_u64(8);
-    let (leaf_params, two_params) = draw(alloc, &mut rng)?;
+    let (leaf_parameters, pair_parameters) = draw(alloc, &mut rng)?;
     let leaves = drawn_leaves(alloc, count, &mut rng)?;
-    multi_proof_of_all(alloc, &tree_of(alloc, &leaf_params, &two_params, &leaves)?)
+    multi_proof_of_all(alloc, &tree_of(alloc, &leaf_parameters, &pair_parameters, &leaves)?)
 }
 
 #[test]

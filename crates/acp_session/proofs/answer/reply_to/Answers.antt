@@ -2,7 +2,7 @@ use Rattle.std.proofs.lemmas.Result.{IfOk-weaker}
 use Rattle.acp_session.proofs.answer.reply_to.Goals as goal
 
 pub returns-in-Set-clause-turn : goal.returns-in-Set-clause-turn
-returns-in-Set-clause-turn g c = rw c.in-Set.is (IfOk-weaker c.set_reply.result _ _ (λ reply turn. turn c.args.leaf_params.now c.args.two_params.now c.requires) c.set_reply.ensures.turn)
+returns-in-Set-clause-turn g c = rw c.in-Set.is (IfOk-weaker c.set_reply.result _ _ (λ reply turn. turn c.args.leaf_parameters.now c.args.pair_parameters.now c.requires) c.set_reply.ensures.turn)
 
 pub returns-in-Set-clause-hashes : goal.returns-in-Set-clause-hashes
-returns-in-Set-clause-hashes g c = c.set_reply.ensures.hashes c.args.leaf_params.now c.args.two_params.now c.requires
+returns-in-Set-clause-hashes g c = c.set_reply.ensures.hashes c.args.leaf_parameters.now c.args.pair_parameters.now c.requires

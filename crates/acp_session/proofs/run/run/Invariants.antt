@@ -10,7 +10,7 @@ abbrev pub invariant-loop : goal.invariant-loop
 invariant-loop g l =
     let left = reader_remaining g.R.Read.remaining in
     let two = g.C.TwoToOneHash.TwoToOneCRHScheme in record {
-      going : Going (Step (g.C.Shell.language l.fn.leaf_params l.fn.two_params)) (left l.initial.lines) (g.W.Write.contents l.initial.replies) (state_of l.tree) (left l.lines) (g.W.Write.contents l.replies);
+      going : Going (Step (g.C.Shell.language l.fn.leaf_parameters l.fn.pair_parameters)) (left l.initial.lines) (g.W.Write.contents l.initial.replies) (state_of l.tree) (left l.lines) (g.W.Write.contents l.replies);
       read : LosesFront (left l.initial.lines) (left l.lines);
-      hashes : HasHashes g.C.LeafHash.CRHScheme.meaning (pair_of g.C.LeafInnerDigestConverter.DigestConverter.conversion two.evaluated two.compressed) l.fn.leaf_params l.fn.two_params l.tree;
+      hashes : HasHashes g.C.LeafHash.CRHScheme.meaning (pair_of g.C.LeafInnerDigestConverter.DigestConverter.conversion two.evaluated two.compressed) l.fn.leaf_parameters l.fn.pair_parameters l.tree;
     }

@@ -8,7 +8,7 @@ use crate::ff::{Fp, Modulus};
 use ark_base::error::Error;
 use ark_base::serialize::{
     Canonical, CanonicalDeserialize, CanonicalItem, CanonicalSerialize, DigestItem, Duplicate,
-    Numbered, read_below, serialize_number,
+    Numbered, ReadBack, read_below, serialize_number,
 };
 use std::alloc::Global;
 
@@ -65,6 +65,10 @@ impl<M: Modulus> Duplicate for Fp<M> {
     fn duplicate(&self, _alloc: Global) -> Result<Fp<M>, Error> {
         Ok(*self)
     }
+}
+
+impl<M: Modulus> ReadBack for Fp<M> {
+    ghost same_seen = { λ x y same. same };
 }
 
 impl<M: Modulus> DigestItem for Fp<M> {

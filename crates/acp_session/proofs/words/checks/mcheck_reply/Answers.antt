@@ -7,7 +7,7 @@ use Rattle.acp_session.proofs.words.checks.mcheck_reply.Goals as goal
 
 pub returns-in-Some : goal.returns-in-Some
 returns-in-Some g c =
-    let p = c.args.leaf_params.now in
-    let q = c.args.two_params.now in
+    let p = c.args.leaf_parameters.now in
+    let q = c.args.pair_parameters.now in
     let exact = mcheck_reply-in (g.C.Shell.language p q) _ _ (ap state_of c.in-Some.is) _ (g.met.C.Shell.pair_is p q) c.args.proof.now (map (g.C.LeafHash.CRHScheme.meaning p) c.args.leaves.now) _ (g.met.C.Shell.multi_path_reading_is p q) in
     IfOk-weaker c.verdict_reply.result _ _ (λ reply told. rw exact (tells_finding Verdict (λ _. tt) _ c.multi_verdict-verdict.result reply.items c.multi_verdict-verdict.ensures told)) c.verdict_reply.ensures

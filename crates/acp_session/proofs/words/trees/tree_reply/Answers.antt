@@ -8,8 +8,8 @@ use Rattle.acp_session.proofs.words.trees.tree_reply.Goals as goal
 
 pub returns-clause-turn : goal.returns-clause-turn
 returns-clause-turn g c =
-    let p = c.args.leaf_params.now in
-    let q = c.args.two_params.now in
+    let p = c.args.leaf_parameters.now in
+    let q = c.args.pair_parameters.now in
     let fits : is_tree_size (length c.args.leaves.now) ≡ true = sym c.is_tree_size.ensures.test ∙ c.if-not-is_tree_size.false in
     let exact = tree_turn-built (g.C.Shell.language p q) (state_of c.args.tree.now) (g.C.LeafHash.CRHScheme.meaning p) c.args.leaves.now _ (g.met.C.Shell.pair_is p q) fits in
     let two = g.C.TwoToOneHash.TwoToOneCRHScheme in
@@ -19,8 +19,8 @@ returns-clause-turn g c =
 
 pub returns-clause-hashes : goal.returns-clause-hashes
 returns-clause-hashes g c =
-    let p = c.args.leaf_params.now in
-    let q = c.args.two_params.now in
+    let p = c.args.leaf_parameters.now in
+    let q = c.args.pair_parameters.now in
     let meaning = g.C.LeafHash.CRHScheme.meaning in
     let two = g.C.TwoToOneHash.TwoToOneCRHScheme in
     let pair = pair_of g.C.LeafInnerDigestConverter.DigestConverter.conversion two.evaluated two.compressed in
