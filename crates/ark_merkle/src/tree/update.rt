@@ -159,7 +159,7 @@ fn put_way<D: DigestItem>(rows: &mut Vec<Vec<D>>, index: usize, mut way: Vec<D>)
         (k : ℕ) → k < length rows.old.items → get_or new k []
         ≡ set (get_or old k []) (index / 2 ^ suc k) (get_or (digests_of D.numbers way) k []) }
 {
-    for level in way.len() / 2..way.len() {
+    for level in 0..way.len() {
         swap(&mut rows[level][index >> (level + 1)], &mut way[level]);
     }
 }
