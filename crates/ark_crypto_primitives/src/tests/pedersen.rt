@@ -150,7 +150,12 @@ fn reckoned(alloc: Global) -> Result<MerkleTree<By13>, Error> {
         Vec::new(alloc),
         vec![in alloc; 0x40u8]?,
     ]?;
-    tree_of(alloc, &leaf_parameters(alloc)?, &pair_parameters(alloc)?, &leaves)
+    tree_of(
+        alloc,
+        &leaf_parameters(alloc)?,
+        &pair_parameters(alloc)?,
+        &leaves,
+    )
 }
 
 fn bytes_of_proof<P: Config>(
@@ -250,7 +255,13 @@ fn all_are_accepted<P: Config>(
         }
     }
     let proof = multi_proof_of_all(alloc, tree)?;
-    proof.verify(alloc, leaf_parameters, pair_parameters, tree.root(), leaves.iter())
+    proof.verify(
+        alloc,
+        leaf_parameters,
+        pair_parameters,
+        tree.root(),
+        leaves.iter(),
+    )
 }
 
 fn set_leaf<P: Config>(
@@ -308,7 +319,10 @@ fn drawn_proof(alloc: Global, count: usize) -> Result<MultiPath<By61>, Error> {
     let mut rng = SmallRng::seed_from_u64(8);
     let (leaf_parameters, pair_parameters) = draw(alloc, &mut rng)?;
     let leaves = drawn_leaves(alloc, count, &mut rng)?;
-    multi_proof_of_all(alloc, &tree_of(alloc, &leaf_parameters, &pair_parameters, &leaves)?)
+    multi_proof_of_all(
+        alloc,
+        &tree_of(alloc, &leaf_parameters, &pair_parameters, &leaves)?,
+    )
 }
 
 #[test]
