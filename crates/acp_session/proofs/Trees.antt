@@ -18,10 +18,10 @@ all_hashes-map hash [] = refl
 all_hashes-map hash (x ∷ xs) = rw (all_hashes-map hash xs) refl
 
 -- the turn of leaves that fit, by the hash of each
-pub tree_turn-built : {A : Type 0} (l : Language) (before : State) (hash : A → Outcome Digest) (leaves : List A) (h : HashPair) → h ≡ l.pair → is_tree_size (length leaves) ≡ true → tree_turn l before (map hash leaves) ≡ new_tree_turn before (tree_leaves h hash leaves)
+pub tree_turn-built : {A : Type 0} (l : Language) (before : State) (hash : A → Outcome Digest) (leaves : List A) (h : HashPair) → h ≡ l.pair_hashes → is_tree_size (length leaves) ≡ true → tree_turn l before (map hash leaves) ≡ new_tree_turn before (tree_leaves h hash leaves)
 tree_turn-built l before hash leaves h same fits = rw (length-map leaves hash, fits, all_hashes-map hash leaves, same) refl
 
-pub digests_turn-built : {A : Type 0} (l : Language) (before : State) (numbers : A → Digest) (digests : List A) (h : HashPair) → h ≡ l.pair → is_tree_size (length digests) ≡ true → digests_turn l before (map numbers digests) ≡ new_tree_turn before (leaves_with_root h (map numbers digests))
+pub digests_turn-built : {A : Type 0} (l : Language) (before : State) (numbers : A → Digest) (digests : List A) (h : HashPair) → h ≡ l.pair_hashes → is_tree_size (length digests) ≡ true → digests_turn l before (map numbers digests) ≡ new_tree_turn before (leaves_with_root h (map numbers digests))
 digests_turn-built l before numbers digests h same fits = rw (length-map digests numbers, fits, same) refl
 
 MayLackMemory-new_tree : (before : State) (o : Outcome (List Digest)) → MayLackMemory (new_tree_turn before o).0

@@ -8,7 +8,7 @@ use Rattle.ark_merkle.specs.Path.{Way}
 
 pub record Language : Type 0 where
   -- what the leaf hash answers for the leaf that a token says, if it says one
-  pub leaf : List ℕ → Option (Outcome Digest)
+  pub leaf_outcome : List ℕ → Option (Outcome Digest)
   -- the digest that a token says, if it says one
   pub digest : List ℕ → Option Digest
   -- the bytes that a token says, if it says some
@@ -16,7 +16,7 @@ pub record Language : Type 0 where
   -- the token bytes of a root
   pub root_bytes : Digest → List ℕ
   -- the hashes of pairs
-  pub pair : HashPair
+  pub pair_hashes : HashPair
   -- the canonical bytes of a path, and how they are read
   pub path_bytes : Way → List ℕ
   pub path_reading : List ℕ → Reading Way

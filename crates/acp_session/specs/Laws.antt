@@ -1,2 +1,3 @@
 pub mod Proofs
 pub mod Sha256
+pub mod Toy

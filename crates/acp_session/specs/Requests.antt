@@ -41,17 +41,17 @@ keyword_of token =
 -- what a word asks of the tokens behind it; nothing of others than it takes
 abbrev pub request_by : Language → Option Keyword → List (List ℕ) → Option Request
 request_by l None tokens = None
-request_by l (Some TreeWord) tokens = option_map NewTree (some_values l.leaf tokens)
+request_by l (Some TreeWord) tokens = option_map NewTree (some_values l.leaf_outcome tokens)
 request_by l (Some DigestsWord) tokens = option_map NewTreeOfDigests (some_values l.digest tokens)
-request_by l (Some SetWord) tokens = option_map (λ two. NewLeaf two.0 two.1) (two_values index_of l.leaf tokens)
+request_by l (Some SetWord) tokens = option_map (λ two. NewLeaf two.0 two.1) (two_values index_of l.leaf_outcome tokens)
 request_by l (Some RootWord) [] = Some ShowRoot
 request_by l (Some RootWord) (token ∷ tokens) = None
 request_by l (Some ProofWord) tokens = option_map ShowProof (only_value index_of tokens)
-request_by l (Some CheckWord) tokens = option_map (λ two. CheckPath two.0 two.1) (two_values l.bytes l.leaf tokens)
-request_by l (Some BindWord) tokens = option_map (λ two. BindPath two.0 two.1) (two_values l.bytes l.leaf tokens)
+request_by l (Some CheckWord) tokens = option_map (λ two. CheckPath two.0 two.1) (two_values l.bytes l.leaf_outcome tokens)
+request_by l (Some BindWord) tokens = option_map (λ two. BindPath two.0 two.1) (two_values l.bytes l.leaf_outcome tokens)
 request_by l (Some MultiWord) tokens = option_map ShowMultiProof (values index_of tokens)
 request_by l (Some MultiCheckWord) tokens =
-    option_map (λ two. CheckMultiProof two.0 two.1) (value_and_others l.bytes l.leaf tokens)
+    option_map (λ two. CheckMultiProof two.0 two.1) (value_and_others l.bytes l.leaf_outcome tokens)
 
 -- what a line asks, if it is no bad one
 abbrev pub request_of : Language → List (List ℕ) → Option Request

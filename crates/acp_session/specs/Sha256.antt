@@ -11,11 +11,11 @@ use Rattle.acp_session.specs.Tokens.{bytes_of}
 
 abbrev pub sha_language : Language
 sha_language = record {
-  leaf = λ token. option_map (λ bytes. Ok (sha256 bytes)) (bytes_of token);
+  leaf_outcome = λ token. option_map (λ bytes. Ok (sha256 bytes)) (bytes_of token);
   digest = bytes_of;
   bytes = bytes_of;
   root_bytes = λ digest. digest;
-  pair = record {
+  pair_hashes = record {
     bottom = λ left right. Ok (sha256 (left ++ right));
     upper = λ left right. Ok (sha256 (left ++ right));
   };

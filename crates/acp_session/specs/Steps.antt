@@ -46,13 +46,13 @@ new_tree_turn before (Err error) = (Refused error, before)
 abbrev pub tree_turn : Language → State → List (Outcome Digest) → Turn
 tree_turn l before leaves =
     if is_tree_size (length leaves)
-    then new_tree_turn before (tree_leaves l.pair (λ digest. digest) leaves)
+    then new_tree_turn before (tree_leaves l.pair_hashes (λ digest. digest) leaves)
     else ((NotLeaves, before))
 
 abbrev pub digests_turn : Language → State → List Digest → Turn
 digests_turn l before digests =
     if is_tree_size (length digests)
-    then new_tree_turn before (leaves_with_root l.pair digests)
+    then new_tree_turn before (leaves_with_root l.pair_hashes digests)
     else ((NotLeaves, before))
 
 -- The tree before, a tree that was made or its refusal, the tree after and the bytes of the reply: a new tree takes the
@@ -71,7 +71,7 @@ abbrev pub set_turn : Language → State → ℕ → Outcome Digest → Turn
 set_turn l None index leaf = (NoTree, None)
 set_turn l (Some digests) index leaf =
     if nat_lt index (length digests)
-    then new_leaf_turn (Some digests) (changed_leaves l.pair leaf index digests)
+    then new_leaf_turn (Some digests) (changed_leaves l.pair_hashes leaf index digests)
     else ((NoIndex, Some digests))
 
 -- ---- what a tree shows
@@ -82,12 +82,12 @@ shown_root l (Err error) = Refused error
 
 abbrev pub root_reply : Language → State → Reply
 root_reply l None = NoTree
-root_reply l (Some digests) = shown_root l (root l.pair digests)
+root_reply l (Some digests) = shown_root l (root l.pair_hashes digests)
 
 abbrev pub proof_reply : Language → State → ℕ → Reply
 proof_reply l None index = NoTree
 proof_reply l (Some digests) index =
-    if nat_lt index (length digests) then Proof (l.path_bytes (own_path l.pair index digests)) else NoIndex
+    if nat_lt index (length digests) then Proof (l.path_bytes (own_path l.pair_hashes index digests)) else NoIndex
 
 -- whether each index is below a size
 abbrev pub all_below : ℕ → List ℕ → Bool
@@ -98,21 +98,21 @@ abbrev pub multi_reply : Language → State → List ℕ → Reply
 multi_reply l None indexes = NoTree
 multi_reply l (Some digests) indexes =
     if all_below (length digests) indexes
-    then MultiProof (l.multi_path_bytes (own_multi_path l.pair indexes digests))
+    then MultiProof (l.multi_path_bytes (own_multi_path l.pair_hashes indexes digests))
     else NoIndex
 
 -- ---- what a tree says of bytes
 
 -- a value, where no bytes are left behind it
-abbrev pub whole : {W : Type 0} → W × List ℕ → Outcome (Option W)
-whole (w, []) = Ok (Some w)
-whole (w, byte ∷ bytes) = Ok None
+abbrev pub alone : {W : Type 0} → W × List ℕ → Outcome (Option W)
+alone (w, []) = Ok (Some w)
+alone (w, byte ∷ bytes) = Ok None
 
 -- what some bytes spell, where no bytes are left behind it, or their fault
-abbrev pub whole_of : {W : Type 0} → Reading W → Outcome (Option W)
-whole_of reading = do
+abbrev pub alone_of : {W : Type 0} → Reading W → Outcome (Option W)
+alone_of reading = do
   x ← reading_outcome reading
-  whole x
+  alone x
 
 -- what is said of a value that is there
 abbrev pub about : {W V : Type 0} → (W → Outcome V) → Option W → Outcome (Option V)
@@ -125,7 +125,7 @@ about say (Some w) = do
 -- refusal
 abbrev pub finding : {W V : Type 0} → (W → Outcome V) → Reading W → Outcome (Option V)
 finding say reading = do
-  w ← whole_of reading
+  w ← alone_of reading
   about say w
 
 abbrev pub finding_reply : {V : Type 0} → (V → Reply) → Outcome (Option V) → Reply
@@ -148,17 +148,17 @@ multi_path_holds h digests leaves proof = do
 abbrev pub check_reply : Language → State → List ℕ → Outcome Digest → Reply
 check_reply l None bytes leaf = NoTree
 check_reply l (Some digests) bytes leaf =
-    finding_reply Verdict (finding (path_holds l.pair digests leaf) (l.path_reading bytes))
+    finding_reply Verdict (finding (path_holds l.pair_hashes digests leaf) (l.path_reading bytes))
 
 abbrev pub bind_reply : Language → State → List ℕ → Outcome Digest → Reply
 bind_reply l None bytes leaf = NoTree
 bind_reply l (Some digests) bytes leaf =
-    finding_reply Bound (finding (path_binding l.pair digests leaf) (l.path_reading bytes))
+    finding_reply Bound (finding (path_binding l.pair_hashes digests leaf) (l.path_reading bytes))
 
 abbrev pub mcheck_reply : Language → State → List ℕ → List (Outcome Digest) → Reply
 mcheck_reply l None bytes leaves = NoTree
 mcheck_reply l (Some digests) bytes leaves =
-    finding_reply Verdict (finding (multi_path_holds l.pair digests leaves) (l.multi_path_reading bytes))
+    finding_reply Verdict (finding (multi_path_holds l.pair_hashes digests leaves) (l.multi_path_reading bytes))
 
 -- ---- lines
 

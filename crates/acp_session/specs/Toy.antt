@@ -1,10 +1,10 @@
 -- The configuration `toy`: leaves are numbers, digests numbers below 257.
-use Rattle.std.specs.Prelude.{ℕ, ◌+◌, ◌*◌, ◌%◌, ◌==◌, if◌then◌else◌, Bool, true, false, List, [], ◌∷◌, length, get_or, Option, Some, None, Ok, Err}
+use Rattle.std.specs.Prelude.{ℕ, ◌+◌, ◌*◌, ◌%◌, ◌==◌, if◌then◌else◌, List, [], ◌∷◌, get_or, Option, Some, None, Ok, Err}
 use Rattle.std.specs.Option.{option_map}
 use Rattle.ark_base.specs.declared.error.Error.TheVariants.{GenericError}
 use Rattle.ark_base.specs.declared.error.Refusal.TheVariants.{Custom}
 use Rattle.ark_base.specs.Digits.{number_of_bytes, bytes_of_number, below_at}
-use Rattle.ark_base.specs.Outcome.{Outcome, IsDecided}
+use Rattle.ark_base.specs.Outcome.{Outcome}
 use Rattle.ark_base.specs.Reading.{Reading}
 use Rattle.ark_merkle.specs.MultiPathBytes.{multi_bytes, multi_way_at}
 use Rattle.ark_merkle.specs.Pair.{Digest}
@@ -44,20 +44,13 @@ read_digest value = number_of_bytes (bytes_of_number 2 value) ∷ []
 
 abbrev pub toy_language : Language
 toy_language = record {
-  leaf = λ token. option_map toy_leaf (number_of_token token);
+  leaf_outcome = λ token. option_map toy_leaf (number_of_token token);
   digest = λ token. toy_digest (some_bytes_of token);
   bytes = some_bytes_of;
   root_bytes = toy_bytes;
-  pair = record { bottom = toy_pair; upper = toy_pair };
+  pair_hashes = record { bottom = toy_pair; upper = toy_pair };
   path_bytes = way_bytes toy_bytes toy_bytes;
   path_reading = way_at read_digest read_digest (below_at 257 2) (below_at 257 2);
   multi_path_bytes = multi_bytes toy_bytes toy_bytes;
   multi_path_reading = multi_way_at read_digest read_digest (below_at 257 2) (below_at 257 2);
 }
-
-pub toy_leaf-decided : (leaf : ℕ) → IsDecided (toy_leaf leaf)
-toy_leaf-decided leaf = by_test (leaf == 999)
-  where
-    by_test : (t : Bool) → IsDecided (if t then Err (GenericError (Custom 1)) else Ok (leaf % 257 ∷ []))
-    by_test true = λ same. absurd cc
-    by_test false = tt

@@ -92,7 +92,7 @@ impl<C: Shell> Argument for Leaf<C> {
 
     ghost seen = { λ p. C.LeafHash.meaning p.0 };
 
-    ghost value_of = { λ p. (C.language p.0 p.1).leaf };
+    ghost value_of = { λ p. (C.language p.0 p.1).leaf_outcome };
 
     fn read(alloc: Global, token: &[u8]) -> Result<Option<C::Leaf>, AllocError> {
         C::read_leaf(alloc, token)

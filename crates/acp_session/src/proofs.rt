@@ -5,7 +5,7 @@ ghost use Rattle.std.specs.Option.{option_map};
 ghost use Rattle.ark_base.specs.Outcome.{AnswersBy};
 ghost use Rattle.ark_base.specs.Reading.{Reading};
 ghost use Rattle.ark_base.specs.declared.error.SerializationError.{SerializationError};
-ghost use Rattle.acp_session.specs.Steps.{whole_of};
+ghost use Rattle.acp_session.specs.Steps.{alone_of};
 
 use ark_base::error::Error;
 use ark_base::serialize::{Canonical, CanonicalDeserialize, CanonicalSerialize, Duplicate};
@@ -111,7 +111,7 @@ pub fn proof_bytes<T: Proof>(alloc: Global, proof: &T) -> Result<Vec<u8>, Error>
 ///
 /// Refusals: `SerializationError` with the first fault from the left, `OutOfMemory`.
 pub fn whole_proof<T: Proof>(alloc: Global, bytes: &[u8]) -> Result<Option<T>, Error>
-    ensures { AnswersBy (option_map T.numbers) (whole_of (T.numbers_at bytes.now)) result }
+    ensures { AnswersBy (option_map T.numbers) (alone_of (T.numbers_at bytes.now)) result }
 {
     let (proof, used) = T::deserialize(alloc, bytes)?;
     if used < bytes.len() {

@@ -21,7 +21,7 @@ pub trait Shell: Config {
     fn read_leaf(alloc: Global, token: &[u8]) -> Result<Option<Self::Leaf>, AllocError>
         ensures { IfOk result (λ leaf.
             (p : Self.LeafHash.Parameters) (q : Self.TwoToOneHash.Parameters)
-            → option_map (Self.LeafHash.meaning p) leaf ≡ (language p q).leaf token.now) };
+            → option_map (Self.LeafHash.meaning p) leaf ≡ (language p q).leaf_outcome token.now) };
 
     /// The digest that a token says, if it says one.
     fn read_digest(alloc: Global, token: &[u8]) -> Result<Option<Self::LeafDigest>, AllocError>
@@ -42,7 +42,7 @@ pub trait Shell: Config {
             ++ encode_lower ((language p q).root_bytes (Self.InnerDigest.numbers root.now))) };
 
     ghost pair_is: { (p : Self.LeafHash.Parameters) (q : Self.TwoToOneHash.Parameters)
-        → ⟦<Self as Views>⟧.pair q ≡ (language p q).pair };
+        → ⟦<Self as Views>⟧.pair q ≡ (language p q).pair_hashes };
 
     ghost path_bytes_are: { (p : Self.LeafHash.Parameters) (q : Self.TwoToOneHash.Parameters)
         → ⟦<Self as Views>⟧.path_bytes ≡ (language p q).path_bytes };

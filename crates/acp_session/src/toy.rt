@@ -1,7 +1,8 @@
 //! The configuration `toy`.
 
 ghost use Rattle.std.specs.Prelude.{◌≡◌, Ok, refl};
-ghost use Rattle.acp_session.specs.Toy.{toy_language, toy_leaf, toy_leaf-decided, toy_pair};
+ghost use Rattle.acp_session.specs.Toy.{toy_language, toy_leaf, toy_pair};
+ghost use Rattle.acp_session.specs.Laws.Toy.{toy_leaf-decided};
 
 use crate::replies::push_hex;
 use crate::shell::Shell;

@@ -13,4 +13,4 @@ keyed_leaf key leaf = Ok ((key + leaf % 257) % 257 ∷ [])
 
 -- that of `toy`, but for the leaves
 abbrev pub keyed_language : ℕ → Language
-keyed_language key = record toy_language { leaf = λ token. option_map (keyed_leaf key) (number_of_token token) }
+keyed_language key = record toy_language { leaf_outcome = λ token. option_map (keyed_leaf key) (number_of_token token) }

@@ -1,7 +1,8 @@
 //! Trees whose pair hash refuses, and trees whose converter forgets the leaf.
 
 ghost use Rattle.std.specs.Prelude.{◌≡◌, [], ◌∷◌, Ok, refl};
-ghost use Rattle.acp_tests.specs.TestHashes.{refusing_pair, refusing_pair-decided};
+ghost use Rattle.acp_tests.specs.TestHashes.{refusing_pair};
+ghost use Rattle.acp_tests.specs.Laws.{refusing_pair-decided};
 
 use acp_session::toy::{ToyLeafHash, ToyPairHash};
 use ark_base::error::{Error, Refusal};

@@ -8,7 +8,7 @@ use Rattle.ark_base.specs.declared.error.Error.TheVariants.{IncorrectInputLength
 use Rattle.ark_base.specs.declared.error.Refusal.TheVariants.{ParameterShape}
 use Rattle.ark_groups.specs.Group.{Group, IsCommutativeGroup}
 use Rattle.ark_groups.proofs.Multiples.{right_identity}
-use Rattle.ark_pedersen.specs.Pedersen.{bits_of_number, bits_of_bytes, pedersen_sum, capacity, concatenation, has_shape, sum_from}
+use Rattle.ark_pedersen.specs.Pedersen.{bits_of_number, bits_of_bytes, pedersen_sum, window_bits, concatenation, has_shape, sum_from}
 use Rattle.ark_pedersen.specs.Pedersen.{pedersen_hash, full_halves, of_halves}
 use Rattle.ark_pedersen.specs.declared.window.Window.{Ghosts as Windows}
 use Rattle.ark_pedersen.proofs.BitSums.{length-bits_of_number, pedersen_sum-zero}
@@ -50,11 +50,11 @@ module _ {G : Type 0} {g : Group G} (laws : IsCommutativeGroup g) where
 
   -- halves that fit are summed, left and then right behind it
   pub of_halves-sum : {W : Type 0} (windows : Windows W) (lists : List (List G)) (left right : List ℕ)
-      → length left ≡ length right → length left ≤ capacity windows / 2 / 8 → has_shape windows.NUM_WINDOWS windows.WINDOW_SIZE lists ≡ true
+      → length left ≡ length right → length left ≤ window_bits windows / 2 / 8 → has_shape windows.NUM_WINDOWS windows.WINDOW_SIZE lists ≡ true
       → of_halves windows (pedersen_hash g windows lists) left right
       ≡ Ok (g.plus (sum_from g 0 lists (bits_of_bytes left)) (sum_from g (8 * length left) lists (bits_of_bytes right)))
   of_halves-sum windows lists left right same short shape =
-      let bits = capacity windows in
+      let bits = window_bits windows in
       let whole = full_halves (bits / 2) left right in
       let hash : Outcome G = pedersen_hash g windows lists whole in
       let long : Outcome G = Err (IncorrectInputLength (length left)) in

@@ -7,7 +7,7 @@ use Rattle.ark_base.specs.Outcome.{Outcome}
 use Rattle.ark_base.specs.declared.error.Error.TheVariants.{IncorrectInputLength, GenericError}
 use Rattle.ark_base.specs.declared.error.Refusal.TheVariants.{ParameterShape}
 use Rattle.ark_groups.specs.Group.{Group, IsCommutativeGroup}
-use Rattle.ark_pedersen.specs.Pedersen.{bits_of_bytes, pedersen_sum, doublings, capacity, concatenation, has_shape, AreGeneratorsOf, pedersen_hash, windows_hash}
+use Rattle.ark_pedersen.specs.Pedersen.{bits_of_bytes, pedersen_sum, doublings, window_bits, concatenation, has_shape, AreGeneratorsOf, pedersen_hash, windows_hash}
 use Rattle.ark_pedersen.specs.declared.window.Window.{Ghosts as Windows}
 use Rattle.ark_pedersen.proofs.PedersenSums.{length-doublings, pedersen_sum-windows}
 
@@ -35,7 +35,7 @@ module _ {G : Type 0} (g : Group G) where
       let sum : Outcome G = Ok (pedersen_sum g (concatenation all) bits) in
       let shapeless : Outcome G = Err (GenericError ParameterShape) in
       ap (λ (l : List (List G)). pedersen_hash g windows l input) are.1
-      ∙ by_test (nat_lt (capacity windows) (8 * length input))
+      ∙ by_test (nat_lt (window_bits windows) (8 * length input))
       (ap (λ (b : Bool). cond b sum shapeless) (windows_have_shape windows.NUM_WINDOWS size elements are.0)
       ∙ ap (λ (x : G). let o : Outcome G = Ok x in o) (pedersen_sum-windows laws size elements bits))
     where

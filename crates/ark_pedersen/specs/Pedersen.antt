@@ -58,8 +58,8 @@ windows_sum g size (x ∷ xs) bits =
 -- ---- parameters
 
 -- the bits of all windows
-abbrev pub capacity : {W : Type 0} → Windows W → ℕ
-capacity windows = windows.WINDOW_SIZE * windows.NUM_WINDOWS
+abbrev pub window_bits : {W : Type 0} → Windows W → ℕ
+window_bits windows = windows.WINDOW_SIZE * windows.NUM_WINDOWS
 
 -- lists as their items
 abbrev pub lists_in : {G Z : Type 0} → List (Vec G Z) → List (List G)
@@ -96,7 +96,7 @@ sum_from g first lists bits = pedersen_sum g (drop first (concatenation lists)) 
 -- where the lists have not the windows' shape.
 abbrev pub pedersen_hash : {G W : Type 0} → Group G → Windows W → List (List G) → List ℕ → Outcome G
 pedersen_hash g windows lists input =
-    if nat_lt (capacity windows) (8 * length input) then Err (IncorrectInputLength (length input))
+    if nat_lt (window_bits windows) (8 * length input) then Err (IncorrectInputLength (length input))
     else if has_shape windows.NUM_WINDOWS windows.WINDOW_SIZE lists then
     Ok (pedersen_sum g (concatenation lists) (bits_of_bytes input))
     else Err (GenericError ParameterShape)
@@ -104,7 +104,7 @@ pedersen_hash g windows lists input =
 -- the same where the lists are those of elements: the sum over the windows of the window's number times its element
 abbrev pub windows_hash : {G W : Type 0} → Group G → Windows W → List G → List ℕ → Outcome G
 windows_hash g windows elements input =
-    if nat_lt (capacity windows) (8 * length input) then Err (IncorrectInputLength (length input))
+    if nat_lt (window_bits windows) (8 * length input) then Err (IncorrectInputLength (length input))
     else Ok (windows_sum g windows.WINDOW_SIZE elements (bits_of_bytes input))
 
 -- left, right, and zeros behind them up to the bytes of two halves of so many bits
@@ -122,7 +122,7 @@ hash_of_halves half hash left right =
 
 -- the same of two inputs, each of half of the windows' bits at most
 abbrev pub of_halves : {G W : Type 0} → Windows W → (List ℕ → Outcome G) → List ℕ → List ℕ → Outcome G
-of_halves windows hash left right = hash_of_halves (capacity windows / 2) hash left right
+of_halves windows hash left right = hash_of_halves (window_bits windows / 2) hash left right
 
 -- what is seen of the value, where there is one
 abbrev pub seen_by : {A B : Type 0} → (A → B) → Outcome A → Outcome B

@@ -98,7 +98,7 @@ where
 
     ghost is_made = { λ parameters. AreGenerators C.group W.Window (generators_in parameters) };
 
-    /// As `pedersen::CRH::setup`.
+    /// As `CRH::setup`.
     fn setup<R: Rng>(alloc: Global, rng: &mut R) -> Result<Parameters<C>, Error> {
         Ok(Parameters {
             generators: CRH::<C, W>::create_generators(alloc, rng)?,
@@ -107,7 +107,7 @@ where
 
     /// The image of the Pedersen hash.
     ///
-    /// Refusals: those of `pedersen::CRH::evaluate`; those of the map; `OutOfMemory`.
+    /// Refusals: those of `CRH::evaluate`; those of the map; `OutOfMemory`.
     fn evaluate(
         alloc: Global,
         parameters: &Parameters<C>,
@@ -161,7 +161,7 @@ where
 
     ghost is_made = { λ parameters. AreGenerators C.group W.Window (generators_in parameters) };
 
-    /// As `pedersen::TwoToOneCRH::setup`.
+    /// As `TwoToOneCRH::setup`.
     fn setup<R: Rng>(alloc: Global, rng: &mut R) -> Result<Parameters<C>, Error> {
         Ok(Parameters {
             generators: TwoToOneCRH::<C, W>::create_generators(alloc, rng)?,
@@ -170,7 +170,7 @@ where
 
     /// The image of the Pedersen hash of two inputs.
     ///
-    /// Refusals: those of `pedersen::TwoToOneCRH::evaluate`; those of the map; `OutOfMemory`.
+    /// Refusals: those of `TwoToOneCRH::evaluate`; those of the map; `OutOfMemory`.
     fn evaluate(
         alloc: Global,
         parameters: &Parameters<C>,

@@ -1,7 +1,7 @@
 //! The sum of the generators at the set bits of an input.
 
 ghost use Rattle.std.specs.Prelude.{◌≡◌, ◌+◌, ◌*◌, ◌-◌, ◌<◌, ◌≤◌, ◌^◌, length, IsTrue};
-ghost use Rattle.ark_pedersen.specs.Pedersen.{bits_of_number, bits_of_bytes, capacity, lists_in, has_shape};
+ghost use Rattle.ark_pedersen.specs.Pedersen.{bits_of_number, bits_of_bytes, window_bits, lists_in, has_shape};
 ghost use Rattle.ark_pedersen.specs.Pedersen.{sum_from, pedersen_hash, of_halves};
 
 use crate::Window;
@@ -65,7 +65,7 @@ fn add_bytes<C: CurveGroup, W: Window>(
     bytes: &[u8],
 ) -> C
     requires shape { IsTrue (has_shape W.NUM_WINDOWS W.WINDOW_SIZE (lists_in generators.now)) }
-    requires fits { first + 8 * length bytes.now ≤ capacity W.Window }
+    requires fits { first + 8 * length bytes.now ≤ window_bits W.Window }
     ensures { let lists = lists_in generators.now in
         let more = sum_from C.group first lists (bits_of_bytes bytes.now) in
         result ≡ C.group.plus sum more }
@@ -88,8 +88,8 @@ fn add_word<C: CurveGroup, W: Window>(
     mut word: u64,
 ) -> C
     requires shape { IsTrue (has_shape W.NUM_WINDOWS W.WINDOW_SIZE (lists_in generators.now)) }
-    requires first_in { first ≤ capacity W.Window }
-    requires fits { word < 2 ^ (capacity W.Window - first) }
+    requires first_in { first ≤ window_bits W.Window }
+    requires fits { word < 2 ^ (window_bits W.Window - first) }
     ensures { let lists = lists_in generators.now in
         let more = sum_from C.group first lists (bits_of_number 64 word) in
         result ≡ C.group.plus sum more }

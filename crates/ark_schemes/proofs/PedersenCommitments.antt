@@ -8,7 +8,7 @@ use Rattle.ark_base.specs.declared.error.Refusal.TheVariants.{ParameterShape}
 use Rattle.ark_groups.specs.Field.{IsModulus, IsField}
 use Rattle.ark_groups.specs.Group.{Group, IsCommutativeGroup, times}
 use Rattle.ark_groups.proofs.Multiples.{swap_last, times-add, times-mod}
-use Rattle.ark_pedersen.specs.Pedersen.{bits_of_number, bits_of_bytes, number_of_bits, pedersen_sum, doublings, capacity, concatenation, has_shape, AreGeneratorsOf, pedersen_hash}
+use Rattle.ark_pedersen.specs.Pedersen.{bits_of_number, bits_of_bytes, number_of_bits, pedersen_sum, doublings, window_bits, concatenation, has_shape, AreGeneratorsOf, pedersen_hash}
 use Rattle.ark_pedersen.specs.declared.window.Window.{Ghosts as Windows}
 use Rattle.ark_pedersen.proofs.BitSums.{pedersen_sum-more}
 use Rattle.ark_pedersen.proofs.Halves.{length-bits_of_bytes}
@@ -92,7 +92,7 @@ module _ {G W : Type 0} {g : Group G} (laws : IsCommutativeGroup g) (bits : ℕ)
   -- ---- sums
 
   abbrev is_long : ℕ → Bool
-  is_long len = nat_lt (capacity windows) (8 * len)
+  is_long len = nat_lt (window_bits windows) (8 * len)
 
   abbrev shaped : Bool
   shaped = has_shape windows.NUM_WINDOWS windows.WINDOW_SIZE lists.windows

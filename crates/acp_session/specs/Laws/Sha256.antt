@@ -1,14 +1,22 @@
 -- How the paths and multi-proofs of `sha256` are read.
-use Rattle.std.specs.Prelude.{◌≡◌, drop}
+use Rattle.std.specs.Prelude.{◌≡◌, ℕ, List, drop}
 use Rattle.ark_base.specs.Spelling.{byte, byte_at, counted_list, counted_list_at}
 use Rattle.ark_base.specs.Laws.Lists.{drop-counted_list}
 use Rattle.ark_merkle.specs.MultiPathBytes.{multi_way_at}
 use Rattle.ark_merkle.specs.PathBytes.{way_at}
 use Rattle.acp_session.specs.Sha256.{sha_language}
 
--- the bytes of a digest are what stands behind their count
-pub path_reading-sha : way_at (λ bytes. drop 8 (counted_list byte bytes)) (λ bytes. drop 8 (counted_list byte bytes)) (counted_list_at byte_at) (counted_list_at byte_at) ≡ sha_language.path_reading
-path_reading-sha = λ i. way_at (λ bytes. drop-counted_list bytes i) (λ bytes. drop-counted_list bytes i) (counted_list_at byte_at) (counted_list_at byte_at)
+-- the bytes of a digest, as they stand behind their count
+abbrev behind_count : List ℕ → List ℕ
+behind_count bytes = drop 8 (counted_list byte bytes)
 
-pub multi_path_reading-sha : multi_way_at (λ bytes. drop 8 (counted_list byte bytes)) (λ bytes. drop 8 (counted_list byte bytes)) (counted_list_at byte_at) (counted_list_at byte_at) ≡ sha_language.multi_path_reading
-multi_path_reading-sha = λ i. multi_way_at (λ bytes. drop-counted_list bytes i) (λ bytes. drop-counted_list bytes i) (counted_list_at byte_at) (counted_list_at byte_at)
+pub path_reading-sha :
+    way_at behind_count behind_count (counted_list_at byte_at) (counted_list_at byte_at) ≡ sha_language.path_reading
+path_reading-sha = λ i. way_at (λ bytes. drop-counted_list bytes i) (λ bytes. drop-counted_list bytes i)
+    (counted_list_at byte_at) (counted_list_at byte_at)
+
+pub multi_path_reading-sha :
+    multi_way_at behind_count behind_count (counted_list_at byte_at) (counted_list_at byte_at)
+    ≡ sha_language.multi_path_reading
+multi_path_reading-sha = λ i. multi_way_at (λ bytes. drop-counted_list bytes i) (λ bytes. drop-counted_list bytes i)
+    (counted_list_at byte_at) (counted_list_at byte_at)

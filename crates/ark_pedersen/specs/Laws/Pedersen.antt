@@ -1,10 +1,11 @@
 -- The laws of Pedersen hashes: refusals that are never want of memory, and generators that are known by their values.
 use Rattle.std.proofs.Common.{ℕ, suc, ◌≡◌, ◌+◌, refl, sym, ap, ◌∙◌, arith, get_or}
-use Rattle.std.specs.Prelude.{◌/◌, ◌*◌, ◌==◌, Bool, true, false, List, [], ◌∷◌, length, map, drop, Ok, Err, nat_lt, if◌then◌else◌}
+use Rattle.std.specs.Prelude.{◌/◌, ◌*◌, ◌==◌, List, [], ◌∷◌, length, map, drop, Ok, Err, nat_lt}
 use Rattle.std.specs.declared.vec.Vec.{Vec}
 use Rattle.ark_base.specs.Outcome.{Outcome, IsDecided}
+use Rattle.ark_base.specs.Laws.Outcomes.{tested-decided}
 use Rattle.ark_groups.specs.Group.{Group}
-use Rattle.ark_pedersen.specs.Pedersen.{has_shape, lists_in, capacity, pedersen_hash}
+use Rattle.ark_pedersen.specs.Pedersen.{has_shape, lists_in, window_bits, pedersen_hash}
 use Rattle.ark_pedersen.specs.Pedersen.{full_halves, of_halves, seen_by, image_of, seen_image}
 use Rattle.ark_pedersen.specs.declared.window.Window.{Ghosts as Windows}
 
@@ -23,21 +24,15 @@ pub seen_image-decided : {A B D : Type 0} (view : B → D) (mapped : A → Outco
 seen_image-decided view mapped outcome after first =
     seen-decided view (image_of mapped outcome) (image-decided mapped outcome after first)
 
--- a refusal by a test, and else a decided outcome
-pub tested-decided : {A : Type 0} (test : Bool) (refusal outcome : Outcome A)
-    → IsDecided refusal → IsDecided outcome → IsDecided (if test then refusal else outcome)
-tested-decided true refusal outcome first second = first
-tested-decided false refusal outcome first second = second
-
 module _ {G W : Type 0} (g : Group G) (windows : Windows W) (lists : List (List G)) where
   pub pedersen-decided : (input : List ℕ) → IsDecided (pedersen_hash g windows lists input)
   pedersen-decided input =
-      tested-decided (nat_lt (capacity windows) (8 * length input)) _ _ (λ same. cc)
+      tested-decided (nat_lt (window_bits windows) (8 * length input)) _ _ (λ same. cc)
       (tested-decided (has_shape windows.NUM_WINDOWS windows.WINDOW_SIZE lists) _ _ tt (λ same. cc))
 
   pub halves-decided : (left right : List ℕ) → IsDecided (of_halves windows (pedersen_hash g windows lists) left right)
   halves-decided left right =
-      let half = capacity windows / 2 in
+      let half = window_bits windows / 2 in
       tested-decided (length left == length right) _ _
       (tested-decided (nat_lt half (8 * length left)) _ _ (λ same. cc) (pedersen-decided (full_halves half left right)))
       (λ same. cc)

@@ -1,9 +1,10 @@
 -- The refusals of commitments are never want of memory.
 use Rattle.std.specs.Prelude.{ℕ, ◌+◌, ◌^◌, ◌==◌, List, length, nat_lt}
 use Rattle.ark_base.specs.Outcome.{IsDecided}
+use Rattle.ark_base.specs.Laws.Outcomes.{tested-decided}
 use Rattle.ark_groups.specs.Group.{Group}
 use Rattle.ark_pedersen.specs.Pedersen.{pedersen_hash}
-use Rattle.ark_pedersen.specs.Laws.Pedersen.{tested-decided, seen-decided, image-decided, pedersen-decided}
+use Rattle.ark_pedersen.specs.Laws.Pedersen.{seen-decided, image-decided, pedersen-decided}
 use Rattle.ark_pedersen.specs.declared.window.Window.{Ghosts as Windows}
 use Rattle.ark_schemes.specs.Commitments.{blake2s_commitment}
 use Rattle.ark_schemes.specs.PedersenCommitments.{Generators, randomness_sum, pedersen_commitment}

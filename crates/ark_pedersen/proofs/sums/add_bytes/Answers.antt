@@ -6,7 +6,7 @@ use Rattle.ark_base.specs.Reading.{IsBytes}
 use Rattle.ark_base.specs.Laws.Steps.{IsBytes-drop, IsBytes-take}
 use Rattle.ark_groups.specs.Group.{Group, IsCommutativeGroup}
 use Rattle.ark_groups.proofs.Multiples.{right_identity}
-use Rattle.ark_pedersen.specs.Pedersen.{bits_of_number, bits_of_bytes, capacity, lists_in, concatenation, pedersen_sum}
+use Rattle.ark_pedersen.specs.Pedersen.{bits_of_number, bits_of_bytes, window_bits, lists_in, concatenation, pedersen_sum}
 use Rattle.ark_pedersen.proofs.BitSums.{pedersen_sum-word, number_of_bytes-below}
 use Rattle.ark_pedersen.proofs.PedersenSums.{pedersen_sum-none}
 use Rattle.ark_pedersen.proofs.sums.add_bytes.Goals as goal
@@ -48,7 +48,7 @@ step {G} {g} laws all bytes sum new first start n number fits within short is ad
 pub add_word-sum-requires-clause-fits : goal.add_word-sum-requires-clause-fits
 add_word-sum-requires-clause-fits g c =
     let fits : IsBytes c.args.bytes.now = λ i. omega (arith, c.type_inv.bytes i) in
-    rw c.number_of-word.ensures (word_below c.args.bytes.now c.args.first c.loop-start.start c.min.result (capacity g.W.Window) fits (omega (arith, c.min.ensures)) c.requires.fits)
+    rw c.number_of-word.ensures (word_below c.args.bytes.now c.args.first c.loop-start.start c.min.result (window_bits g.W.Window) fits (omega (arith, c.min.ensures)) c.requires.fits)
 
 pub loop-start-preserved : goal.loop-start-preserved
 loop-start-preserved g c =

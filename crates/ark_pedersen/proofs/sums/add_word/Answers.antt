@@ -4,7 +4,7 @@ use Rattle.std.specs.Int.Count.{count_trailing_zeros}
 use Rattle.std.proofs.lemmas.Nat.{and_le_l}
 use Rattle.ark_groups.proofs.Multiples.{right_identity}
 use Rattle.ark_groups.specs.Group.{Group, IsCommutativeGroup}
-use Rattle.ark_pedersen.specs.Pedersen.{bits_of_number, capacity, lists_in, concatenation, pedersen_sum}
+use Rattle.ark_pedersen.specs.Pedersen.{bits_of_number, window_bits, lists_in, concatenation, pedersen_sum}
 use Rattle.ark_pedersen.proofs.BitSums.{pedersen_sum-lowest, pedersen_sum-zero, trailing_below}
 use Rattle.ark_pedersen.proofs.Shapes.{shape_all, value_in, element_in, element_at}
 use Rattle.ark_pedersen.proofs.sums.add_word.Goals as goal
@@ -29,7 +29,7 @@ step {G} {g} laws xs sum x first rest some fits within is =
 pub bounds-generators-place : goal.bounds-generators-place
 bounds-generators-place g c =
     let W = g.W.Window in
-    let within = place_in c.args.first (capacity W) c.loop-word.word c.args.word c.requires.first_in c.loop-word-test.true (omega arith) c.loop-word.invariant.1 c.requires.fits in
+    let within = place_in c.args.first (window_bits W) c.loop-word.word c.args.word c.requires.first_in c.loop-word-test.true (omega arith) c.loop-word.invariant.1 c.requires.fits in
     rw c.WINDOW_SIZE.ensures (value_in W.NUM_WINDOWS W.WINDOW_SIZE (λ list. list.items) c.args.generators.now c.requires.shape _ within)
 
 pub offset_bounds-generators-place : goal.offset_bounds-generators-place
@@ -41,7 +41,7 @@ pub index-requires : goal.index-requires
 index-requires g c =
     let W = g.W.Window in
     let list = c.index-generators-place.result in
-    let within = place_in c.args.first (capacity W) c.loop-word.word c.args.word c.requires.first_in c.loop-word-test.true (omega arith) c.loop-word.invariant.1 c.requires.fits in
+    let within = place_in c.args.first (window_bits W) c.loop-word.word c.args.word c.requires.first_in c.loop-word-test.true (omega arith) c.loop-word.invariant.1 c.requires.fits in
     let is = rw c.WINDOW_SIZE.ensures at c.index-generators-place.is in
     let low = element_in W.NUM_WINDOWS W.WINDOW_SIZE (λ list. list.items) c.args.generators.now c.requires.shape _ within list is in
     rw c.WINDOW_SIZE-in-loop-word.ensures (omega (arith, list.ok.0, low))
@@ -51,7 +51,7 @@ loop-word-preserved g c =
     let W = g.W.Window in
     let lists = lists_in c.args.generators.now in
     let list = c.index-generators-place.result in
-    let within = place_in c.args.first (capacity W) c.loop-word.word c.args.word c.requires.first_in c.loop-word-test.true (omega arith) c.loop-word.invariant.1 c.requires.fits in
+    let within = place_in c.args.first (window_bits W) c.loop-word.word c.args.word c.requires.first_in c.loop-word-test.true (omega arith) c.loop-word.invariant.1 c.requires.fits in
     let is = rw c.WINDOW_SIZE.ensures at c.index-generators-place.is in
     let x = c.index.result.now in
     let here : get_or (concatenation lists) (c.args.first + count_trailing_zeros 64 c.loop-word.word) x ≡ x =

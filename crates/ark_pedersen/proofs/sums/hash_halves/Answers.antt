@@ -1,14 +1,14 @@
 use Rattle.std.proofs.Common.{◌≡◌, ℕ, ◌*◌, ◌/◌, ◌≤◌, true, Ok, List, length, sym, ap, ◌∙◌}
 use Rattle.ark_base.specs.Outcome.{Outcome}
 use Rattle.ark_groups.specs.Group.{Group, IsCommutativeGroup}
-use Rattle.ark_pedersen.specs.Pedersen.{bits_of_bytes, capacity, lists_in, has_shape, sum_from, pedersen_hash, of_halves}
+use Rattle.ark_pedersen.specs.Pedersen.{bits_of_bytes, window_bits, lists_in, has_shape, sum_from, pedersen_hash, of_halves}
 use Rattle.ark_pedersen.specs.declared.window.Window.{Ghosts as Windows}
 use Rattle.ark_pedersen.proofs.Halves.{of_halves-sum}
 use Rattle.ark_pedersen.proofs.sums.hash_halves.Goals as goal
 
 -- left was added to zero, and right to that
 in_turn : {G W : Type 0} {g : Group G} (laws : IsCommutativeGroup g) (windows : Windows W) (lists : List (List G)) (left right : List ℕ) (zero sum whole : G)
-    → length left ≡ length right → length left ≤ capacity windows / 2 / 8 → has_shape windows.NUM_WINDOWS windows.WINDOW_SIZE lists ≡ true
+    → length left ≡ length right → length left ≤ window_bits windows / 2 / 8 → has_shape windows.NUM_WINDOWS windows.WINDOW_SIZE lists ≡ true
     → zero ≡ g.identity
     → sum ≡ g.plus zero (sum_from g 0 lists (bits_of_bytes left))
     → whole ≡ g.plus sum (sum_from g (8 * length left) lists (bits_of_bytes right))

@@ -1,0 +1,10 @@
+-- The refusals of the tests' hashes are never want of memory.
+use Rattle.std.specs.Prelude.{◌==◌}
+use Rattle.ark_base.specs.Outcome.{IsDecided}
+use Rattle.ark_base.specs.Laws.Outcomes.{tested-decided}
+use Rattle.ark_merkle.specs.Pair.{Digest}
+use Rattle.acp_session.specs.Toy.{toy_number}
+use Rattle.acp_tests.specs.TestHashes.{refusing_pair}
+
+pub refusing_pair-decided : (a b : Digest) → IsDecided (refusing_pair a b)
+refusing_pair-decided a b = tested-decided (toy_number b == 0) _ _ (λ same. cc) tt
