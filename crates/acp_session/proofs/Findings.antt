@@ -48,7 +48,7 @@ module _ {V : Type 0} (reply : V → Reply) (may : (v : V) → MayLackMemory (re
   MayLackMemory-finding (Ok None) = tt
   MayLackMemory-finding (Err error) = tt
 
-  -- what a call answered is told, or want of memory
+  -- what a call answered is told, or that memory lacks
   pub tells_finding : (o result : Outcome (Option V)) (bytes : List ℕ) → Answers o result → bytes ≡ text (finding_reply reply result) → Tells (finding_reply reply o) bytes
   tells_finding o (Ok value) bytes is reading_outcome = inl (reading_outcome ∙ ap (λ o. text (finding_reply reply o)) (sym is))
   tells_finding o (Err e) bytes (inl memory) reading_outcome = inr (reading_outcome ∙ ap (λ e. text (Refused e)) memory, MayLackMemory-finding o)

@@ -57,7 +57,7 @@ text Changed = codes "ok"
 text (Bound binding) = binding_text binding
 text (MultiProof bytes) = codes "multi " ++ encode_lower bytes
 
--- Want of memory may stand in place of this reply. It never does where the reply is decided before anything is asked
+-- A lack of memory may be told in place of this reply. It never does where the reply is decided before anything is asked
 -- for.
 abbrev pub MayLackMemory : Reply → Type 0
 MayLackMemory BadLine = ⊥
@@ -74,6 +74,6 @@ MayLackMemory Changed = Unit {0}
 MayLackMemory (Bound binding) = Unit {0}
 MayLackMemory (MultiProof bytes) = Unit {0}
 
--- The bytes are those of the reply, or tell of want of memory in its place.
+-- The bytes are those of the reply, or say in its place that memory lacks.
 abbrev pub Tells : Reply → List ℕ → Type 0
 Tells reply bytes = (bytes ≡ text reply) ⊎ ((bytes ≡ text (Refused OutOfMemory)) × MayLackMemory reply)

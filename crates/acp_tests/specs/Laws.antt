@@ -1,4 +1,4 @@
--- The refusals of the tests' hashes are never want of memory.
+-- No refusal of the tests' hashes is `OutOfMemory`.
 use Rattle.std.specs.Prelude.{◌==◌}
 use Rattle.ark_base.specs.Outcome.{IsDecided}
 use Rattle.ark_base.specs.Laws.Outcomes.{tested-decided}

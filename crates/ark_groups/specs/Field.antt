@@ -2,7 +2,7 @@
 use Rattle.std.specs.Prelude.{◌≡◌, ℕ, ◌*◌, ◌%◌, ◌^◌, ◌<◌, ◌≤◌, List, take}
 use Rattle.ark_base.specs.Digits.{number_of_bytes, bytes_for}
 
--- a number that is not 0 has so many binary digits
+-- n is not 0 and has this many binary digits
 pub record HasBits (n bits : ℕ) : Type 0 where
   pub no_more : n < 2 ^ bits
   pub no_fewer : 2 ^ bits ≤ 2 * n

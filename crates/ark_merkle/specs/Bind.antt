@@ -39,7 +39,7 @@ pair_beside h way digest (first ∷ rest) = do
 abbrev pub path_pair : HashPair → Way → Digest → ℕ → Outcome (Digest × Digest)
 path_pair h way digest level = pair_beside h way digest (drop level way.above)
 
--- the hash of the pairs at a level of so many above the lowest
+-- the hash of the pairs at a level, where a number of levels stand above the lowest
 abbrev pub hash_at : HashPair → ℕ → ℕ → Digest × Digest → Outcome Digest
 hash_at h levels level pair = if nat_lt level levels then h.upper pair.0 pair.1 else h.bottom pair.0 pair.1
 
@@ -50,7 +50,7 @@ abbrev pub is_other : Outcome (Digest × Digest) → Digest × Digest → Bool
 is_other (Ok a) b = not (digest_eq a.0 b.0 && digest_eq a.1 b.1)
 is_other (Err error) b = true
 
--- the first of so many levels, from one on, at which something holds
+-- the first level at which something holds, from one on and among a count of levels
 abbrev pub first_level : (ℕ → Bool) → ℕ → ℕ → Option ℕ
 first_level holds level zero = None
 first_level holds level (suc count) = if holds level then Some level else first_level holds (suc level) count

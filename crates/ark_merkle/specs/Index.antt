@@ -9,7 +9,7 @@ bit_at n bit = (n / 2 ^ bit) % 2 == 1
 abbrev pub neighbour : ℕ → ℕ
 neighbour i = if bit_at i 0 then i - 1 else i + 1
 
--- how often a number can be halved before it is below two, at most so many times
+-- how often a number can be halved before it is below two, at most as often as the first number says
 abbrev pub halvings : ℕ → ℕ → ℕ
 halvings zero n = 0
 halvings (suc most) n = if nat_lt n 2 then 0 else suc (halvings most (n / 2))

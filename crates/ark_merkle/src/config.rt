@@ -15,7 +15,7 @@ use std::marker::PhantomData;
 pub trait DigestConverter<From: DigestItem, To: Numbered> {
     ghost conversion: { List ℕ → Outcome (List ℕ) };
 
-    /// Refusals: those of `conversion`, which never are want of memory; `OutOfMemory`.
+    /// Refusals: those of `conversion`, of which none is `OutOfMemory`; `OutOfMemory`.
     fn convert(alloc: Global, item: From) -> Result<To, Error>
         ensures { AnswersBy To.numbers (conversion (From.numbers item)) result };
 

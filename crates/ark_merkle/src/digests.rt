@@ -39,7 +39,7 @@ pub fn copies_of_rows<D: DigestItem>(alloc: Global, rows: &[Vec<D>]) -> Result<V
     Ok(copies)
 }
 
-/// The blank leaf digests of a tree with so many levels.
+/// The blank leaf digests of a tree of this height.
 pub fn blank_row<D: DigestItem>(alloc: Global, height: usize) -> Result<Vec<D>, Error>
     requires low { 2 ≤ height }
     requires high { height ≤ 64 }

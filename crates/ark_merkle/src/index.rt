@@ -23,8 +23,8 @@ pub fn neighbour_of(place: usize) -> usize
     }
 }
 
-/// Whether a tree can have so many leaves: a power of two above one. No tree has another size, so whoever builds one of
-/// a stranger's leaves asks this first.
+/// Whether a tree can have this many leaves: a power of two above one. No tree has another size, so whoever builds one
+/// of a stranger's leaves asks this first.
 pub fn is_tree_size(size: usize) -> bool
     ensures decides { Decides result (IsTreeSize size) }
     ensures test { result ≡ is_tree_size size }

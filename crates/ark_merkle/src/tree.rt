@@ -96,7 +96,7 @@ impl<P: Views> MerkleTree<P> {
         })
     }
 
-    /// The tree above blank leaf digests, with so many levels.
+    /// The tree of this height above blank leaf digests.
     ///
     /// Refusals: that of their pair, or of the lowest one above; `OutOfMemory`.
     pub fn blank(

@@ -67,7 +67,7 @@ fn eight_leaves_against_the_definitions(rt: HostRuntime) -> Result<(), Fail> {
     Ok(())
 }
 
-// A path of so many digests, each another, and the top that the definition gives it for the leaf of no bytes.
+// A path of distinct digests, and the top that the definition gives it for the leaf of no bytes.
 fn long_path(alloc: Global, digests: usize, index: usize) -> Result<(Path<Sha>, Vec<u8>), Error> {
     let nothing = Vec::new(alloc);
     let leaf = <Sha256 as CRHScheme>::evaluate(alloc, &(), &nothing)?;

@@ -33,7 +33,7 @@ impl<D: DigestItem> IsPlace for PlainPlace<D> {
     ] };
 }
 
-// What a pair of a level gives. Want of memory is no place.
+// What a pair of a level gives. `OutOfMemory` is no place.
 fn place_at<D: DigestItem>(level: usize, hashed: Result<D, Error>) -> Result<PlainPlace<D>, Error>
     ensures { (o : Outcome Digest) → AnswersBy D.numbers o hashed → MatchResult result
         (λ p. place_at level o ≡ ⟦<PlainPlace<D> as IsPlace>⟧.place p)

@@ -21,7 +21,7 @@ module _ {G : Type 0} (g : Group G) where
   windows_have_shape count size elements long =
       ap (λ (b : Bool). b && list_all (λ list. eqb (length list) size) (map (doublings g size) elements)) (eq-eqb _ _ (length-map elements (doublings g size) ∙ long)) ∙ lists_are_long size elements
 
-  -- the lists so far are those of so many elements, some or other
+  -- the lists so far are those of some elements, one for each list
   abbrev pub AreSoFar : ℕ → ℕ → List (List G) → Type 0
   AreSoFar count size lists = (elements : List G) × (length elements ≡ count) × (lists ≡ map (doublings g size) elements)
 

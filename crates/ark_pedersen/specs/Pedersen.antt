@@ -12,7 +12,7 @@ use Rattle.ark_pedersen.specs.declared.window.Window.{Ghosts as Windows}
 
 -- ---- bits
 
--- so many binary digits of a number, the lowest first
+-- the lowest binary digits of a number, as many as are asked for, the lowest first
 unfoldable pub bits_of_number : ℕ → ℕ → List Bool
 bits_of_number zero n = []
 bits_of_number (suc count) n = (n % 2 == 1) ∷ bits_of_number count (n / 2)
@@ -44,12 +44,12 @@ pedersen_sum g [] bits = g.identity
 pedersen_sum g (x ∷ xs) [] = g.identity
 pedersen_sum g (x ∷ xs) (b ∷ bits) = if b then g.plus x (pedersen_sum g xs bits) else pedersen_sum g xs bits
 
--- an element, its double, the double of that, so many in all
+-- an element, its double, the double of that, up to a count of elements
 unfoldable pub doublings : {G : Type 0} → Group G → ℕ → G → List G
 doublings g zero x = []
 doublings g (suc count) x = x ∷ doublings g count (g.plus x x)
 
--- the sum over windows of so many bits of the window's number times its element
+-- the sum over windows of one size of the window's number times its element
 unfoldable pub windows_sum : {G : Type 0} → Group G → ℕ → List G → List Bool → G
 windows_sum g size [] bits = g.identity
 windows_sum g size (x ∷ xs) bits =
@@ -73,7 +73,7 @@ generators_in parameters = lists_in parameters.generators.items
 abbrev pub concatenation : {G : Type 0} → List (List G) → List G
 concatenation lists = flat_map (λ list. list) lists
 
--- so many lists of so many elements each
+-- the lists are as many as a count says, and each has one size
 abbrev pub has_shape : {G : Type 0} → ℕ → ℕ → List (List G) → Bool
 has_shape count size lists = (length lists == count) && list_all (λ list. length list == size) lists
 
@@ -107,12 +107,12 @@ windows_hash g windows elements input =
     if nat_lt (window_bits windows) (8 * length input) then Err (IncorrectInputLength (length input))
     else Ok (windows_sum g windows.WINDOW_SIZE elements (bits_of_bytes input))
 
--- left, right, and zeros behind them up to the bytes of two halves of so many bits
+-- left, right, and zeros behind them up to the bytes of two halves, whose size is given in bits
 abbrev pub full_halves : ℕ → List ℕ → List ℕ → List ℕ
 full_halves half left right = (left ++ right) ++ replicate (2 * half / 8 - length (left ++ right)) 0
 
--- The hash of two halves of so many bits, refused where right is not as long as left, and where left has more bits than
--- a half.
+-- The hash of two halves, whose size is given in bits: refused where right is not as long as left, and where left has
+-- more bits than a half.
 abbrev pub hash_of_halves : {G : Type 0} → ℕ → (List ℕ → Outcome G) → List ℕ → List ℕ → Outcome G
 hash_of_halves half hash left right =
     if length left == length right then

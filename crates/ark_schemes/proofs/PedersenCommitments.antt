@@ -65,7 +65,7 @@ module _ {G W : Type 0} {g : Group G} (laws : IsCommutativeGroup g) (bits : ℕ)
   abbrev with_multiple : ℕ → Outcome G → Outcome G
   with_multiple n hash = hash >>= (λ x. Ok (g.plus x (times g n element)))
 
-  -- a commitment is the hash and so many times that element
+  -- a commitment is the hash and n times that element
   as_multiple : (input : List ℕ) (n : ℕ) → n < 2 ^ bits → pedersen_commitment g bits windows lists input n ≡ with_multiple n (pedersen_hash g windows lists.windows input)
   as_multiple input n fits =
       then_same (pedersen_hash g windows lists.windows input) with_sum (λ (x : G). let o : Outcome G = Ok (g.plus x (times g n element)) in o)
@@ -83,7 +83,7 @@ module _ {G W : Type 0} {g : Group G} (laws : IsCommutativeGroup g) (bits : ℕ)
           ∙ randomness_sum-long g bits (doublings g bits element) n (length-doublings g bits element)
           ∙ ap (λ (y : G). let o : Outcome G = Ok y in o) sum
 
-  -- the sum over the windows, and so many times the element
+  -- the sum over the windows, and n times the element
   pub pedersen_commitment-windows : (elements : List G) (input : List ℕ) (n : ℕ) → n < 2 ^ bits → AreGeneratorsOf g windows elements lists.windows
       → pedersen_commitment g bits windows lists input n ≡ windows_commitment g windows element elements input n
   pedersen_commitment-windows elements input n fits are =

@@ -23,7 +23,7 @@ elements_in parameters = record {
   windows = lists_in parameters.generators.items;
 }
 
--- they are those of an element, for randomness of so many bits, and of the windows' elements
+-- they are those of an element, one for each bit of the randomness, and of the windows' elements
 pub record AreOf {G W : Type 0} (g : Group G) (bits : ℕ) (windows : Windows W)
     (element : G) (elements : List G) (lists : Generators G) : Type 0 where
   pub of_randomness : lists.randomness ≡ doublings g bits element
@@ -35,7 +35,7 @@ AreMade {G} g bits windows lists = (element : G) × (elements : List G) × AreOf
 
 -- ---- commitments
 
--- the sum of the elements at the set bits of the randomness, refused where there is not one for each of so many bits
+-- the sum of the elements at the set bits of the randomness, refused where there is not one for each bit
 abbrev pub randomness_sum : {G : Type 0} → Group G → ℕ → List G → ℕ → Outcome G
 randomness_sum g bits elements randomness =
     if length elements == bits then Ok (pedersen_sum g elements (bits_of_number bits randomness))

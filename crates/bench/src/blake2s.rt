@@ -7,7 +7,7 @@ use ark_crypto_primitives::commitment::blake2s::Commitment;
 use ark_crypto_primitives::prf::{Blake2s, Blake2sWithParameterBlock, PRF};
 use std::alloc::Global;
 
-/// Digests of a text of so many bytes, `count` times.
+/// Digests of a text of `len` bytes, `count` times.
 pub fn digests(alloc: Global, len: usize, count: u64) -> Result<u64, Error> {
     let text = vec![in alloc; 7u8; len]?;
     let hash = Blake2sWithParameterBlock {

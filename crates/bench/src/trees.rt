@@ -24,7 +24,7 @@ impl Config for Sha {
     type TwoToOneHash = Sha256;
 }
 
-/// Builds a tree of so many leaves, `count` times.
+/// Builds a tree of `size` leaves, `count` times.
 pub fn builds(alloc: Global, size: usize, count: u64) -> Result<u64, Error> {
     let leaves = leaves_of(alloc, size)?;
     let mut sum = 0;

@@ -1,4 +1,4 @@
--- The refusals of `toy` are never want of memory.
+-- No refusal of `toy` is `OutOfMemory`.
 use Rattle.std.specs.Prelude.{ℕ, ◌==◌}
 use Rattle.ark_base.specs.Outcome.{IsDecided}
 use Rattle.ark_base.specs.Laws.Outcomes.{tested-decided}

@@ -23,7 +23,7 @@ pub fn same_element<F: PrimeField, G: PrimeField>(element: G) -> F
     F::from_u64(element.value())
 }
 
-/// Appends the lowest bytes of an element's number, so many, the least first. Bytes past the number's are 0.
+/// Appends the `count` lowest bytes of an element's number, the least first. Bytes past the number's are 0.
 ///
 /// The only refusal is `OutOfMemory`, and it leaves `dest` as before.
 pub fn push_low_bytes<F: PrimeField>(

@@ -1,4 +1,4 @@
--- The refusals of commitments are never want of memory.
+-- No refusal of a commitment is `OutOfMemory`.
 use Rattle.std.specs.Prelude.{ℕ, ◌+◌, ◌^◌, ◌==◌, List, length, nat_lt}
 use Rattle.ark_base.specs.Outcome.{IsDecided}
 use Rattle.ark_base.specs.Laws.Outcomes.{tested-decided}

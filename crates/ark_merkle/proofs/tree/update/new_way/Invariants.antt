@@ -4,7 +4,7 @@ use Rattle.ark_merkle.specs.Rows.{digests_of}
 use Rattle.ark_merkle.specs.Update.{AreOnWay}
 use Rattle.ark_merkle.proofs.tree.update.new_way.Given as goal
 
--- so many digests on the way
+-- the digests on the way so far, one for each level
 abbrev pub invariant-loop-level : goal.invariant-loop-level
 invariant-loop-level g l =
     let two = g.P.TwoToOneHash.TwoToOneCRHScheme in
