@@ -87,7 +87,7 @@ pub mod crh {
 pub mod merkle_tree {
     pub use ark_merkle::{
         Binding, ByteDigestConverter, Config, DigestConverter, IdentityDigestConverter, LeafParam,
-        MerkleTree, MultiPath, Path, TwoToOneParam, is_tree_size,
+        MerkleTree, MultiPath, Path, TwoToOneParam, Views, is_tree_size,
     };
 }
 

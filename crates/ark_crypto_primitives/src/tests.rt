@@ -32,6 +32,10 @@ fn two_empty_leaves(rt: HostRuntime) -> Result<(), Fail> {
     let root = Sha256::compress(alloc, &(), &digest, &digest)?;
     let tree = MerkleTree::<Sha>::new(alloc, &(), &(), &leaves)?;
     assert!(rt; *tree.root() == root);
+    if 1 < tree.size() {
+        let path = tree.generate_proof(alloc, 1)?;
+        assert!(rt; path.verify(alloc, &(), &(), tree.root(), &leaves[1])?);
+    }
     let text = Error::IncorrectInputLength(3).to_string(alloc)?;
     assert_eq!(rt; text.as_str(), "incorrect input length: 3");
     Ok(())
