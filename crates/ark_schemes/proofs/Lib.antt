@@ -1,5 +1,5 @@
 pub mod Mixing
 pub mod PedersenCommitments
-pub mod PlainBlocks
+pub mod Pieces
 pub mod Texts
 pub mod Vectors

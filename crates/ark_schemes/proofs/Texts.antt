@@ -1,9 +1,9 @@
 -- A text, its words and its blocks.
-use Rattle.std.proofs.Common.{◌≡◌, ℕ, zero, suc, ◌+◌, ◌-◌, ◌*◌, ◌<◌, ◌≤◌, List, [], ◌++◌, length, map, take, drop, replicate, slice_index, refl, sym, ◌∙◌, arith, inl, inr, true, false, add-one, add-zero, zero-add, add_assoc}
+use Rattle.std.proofs.Common.{◌≡◌, ℕ, zero, suc, ◌+◌, ◌-◌, ◌*◌, ◌<◌, ◌≤◌, List, [], length, map, take, drop, replicate, slice_index, refl, sym, ◌∙◌, arith, inl, inr, true, false, add-one, add-zero, zero-add, add_assoc}
 use Rattle.std.specs.List.{range_with_len}
-use Rattle.std.specs.Prelude.{slice_index_or, slice_range}
+use Rattle.std.specs.Prelude.{slice_index_or}
 use Rattle.std.proofs.lemmas.Bool.{cases_lt}
-use Rattle.std.proofs.lemmas.List.{length-append, get_or_append_left, get_or-append_right, get_or-take, get_or-drop, get_or_past, length-take, length-drop}
+use Rattle.std.proofs.lemmas.List.{get_or_append_left, get_or-append_right, get_or-take, get_or-drop, get_or_past, length-take, length-drop}
 use Rattle.std.proofs.lemmas.List.FromFn.{fill_by_all, get_or-map-range_with_len, length-map-range_with_len}
 use Rattle.ark_schemes.specs.Blake2s.{compression, word_from, words_from, full_block, block_count, blocks, state_after, last_state}
 
@@ -55,43 +55,6 @@ unfolding blocks
 block_at text i lt =
     get_or-map-range_with_len (λ i. words_from (full_block (take 64 (drop (64 * i) text))) 0) 0 (block_count (length text)) i i [] lt (omega arith)
     ∙ words_from-same (full_block (take 64 (drop (64 * i) text))) text 0 (64 * i) (λ k below. rw (zero-add) (full_block-at text (64 * i) k below))
-
--- ---- a text of two slices
-
--- a byte of the first slice
-byte_of_first : (first second : List ℕ) (p : ℕ) → p < length first → slice_index first p ≡ slice_index (first ++ second) p
-byte_of_first first second p lt = sym (get_or_append_left first second 0 p lt)
-
--- a byte of the second slice
-byte_of_second : (first second : List ℕ) (p i : ℕ) → p ≡ length first + i → slice_index second i ≡ slice_index (first ++ second) p
-byte_of_second first second p i place =
-    let behind : p - length first ≡ i = omega arith in
-    sym (rw (behind) at (get_or-append_right first second (length first) p 0 refl (omega arith)))
-
--- a word within the first slice
-pub word_of_first : (first second : List ℕ) (p : ℕ) → p + 4 ≤ length first → word_from first p ≡ word_from (first ++ second) p
-word_of_first first second p le = word_from-same first (first ++ second) p p (λ k lt. byte_of_first first second (p + k) (omega arith))
-
--- a word within the second slice, which it enters at i
-pub word_of_second : (first second : List ℕ) (p i : ℕ) → p ≡ length first + i → word_from second i ≡ word_from (first ++ second) p
-word_of_second first second p i place = word_from-same second (first ++ second) i p (λ k lt. byte_of_second first second (p + k) (i + k) (omega arith))
-
--- a word past the end
-pub word_past : (first second : List ℕ) (p : ℕ) → length first + length second ≤ p → 0 ≡ word_from (first ++ second) p
-word_past first second p past =
-    word_from-same [] (first ++ second) 0 p (λ k lt. sym (get_or_past (first ++ second) (p + k) 0 (omega (arith, length-append first second))))
-
--- a block within the first slice
-pub words_of_first : (first second : List ℕ) (p : ℕ) → p + 64 ≤ length first → words_from (slice_range first p (p + 64)) 0 ≡ words_from (first ++ second) p
-words_of_first first second p le =
-    words_from-same (slice_range first p (p + 64)) (first ++ second) 0 p (λ k lt.
-    rw (zero-add) (get_or-take (p + 64 - p) (drop p first) k 0 (omega arith) ∙ get_or-drop p first k 0 ∙ byte_of_first first second (p + k) (omega arith)))
-
--- a block within the second slice, which it enters at i
-pub words_of_second : (first second : List ℕ) (p i : ℕ) → p ≡ length first + i → words_from (slice_range second i (i + 64)) 0 ≡ words_from (first ++ second) p
-words_of_second first second p i place =
-    words_from-same (slice_range second i (i + 64)) (first ++ second) 0 p (λ k lt.
-    rw (zero-add) (get_or-take (i + 64 - i) (drop i second) k 0 (omega arith) ∙ get_or-drop i second k 0 ∙ byte_of_second first second (p + k) (i + k) (omega arith)))
 
 -- ---- a state, block by block
 

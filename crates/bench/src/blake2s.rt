@@ -1,10 +1,12 @@
 //! Works on BLAKE2s.
 
+ghost use Rattle.std.specs.Prelude.{◌<◌};
+
 use crate::sums::sum_of;
 use ark_crypto_primitives::Error;
 use ark_crypto_primitives::commitment::CommitmentScheme;
 use ark_crypto_primitives::commitment::blake2s::Commitment;
-use ark_crypto_primitives::prf::{Blake2s, Blake2sWithParameterBlock, PRF};
+use ark_crypto_primitives::prf::{Blake2s, Blake2s256, Blake2sWithParameterBlock, PRF};
 use std::alloc::Global;
 
 /// Digests of a text of `len` bytes, `count` times.
@@ -19,6 +21,22 @@ pub fn digests(alloc: Global, len: usize, count: u64) -> Result<u64, Error> {
     let mut sum = 0;
     for _ in 0..count {
         sum ^= sum_of(&hash.evaluate(alloc, &text)?);
+    }
+    Ok(sum)
+}
+
+/// Digests of a mebibyte that comes in pieces of so many bytes, `count` times.
+pub fn digests_of_pieces(alloc: Global, size: usize, count: u64) -> Result<u64, Error>
+    requires { 0 < size }
+{
+    let text = vec![in alloc; 7u8; 1 << 20]?;
+    let mut sum = 0;
+    for _ in 0..count {
+        let mut hasher = Blake2s256::new();
+        for piece in text.chunks(size) {
+            hasher.update(piece);
+        }
+        sum ^= sum_of(&hasher.finalize());
     }
     Ok(sum)
 }

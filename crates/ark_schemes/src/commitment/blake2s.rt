@@ -5,13 +5,10 @@ ghost use Rattle.ark_schemes.specs.Commitments.{blake2s_commitment};
 ghost use Rattle.ark_schemes.specs.Laws.Commitments.{blake2s_commitment-decided};
 
 use crate::commitment::CommitmentScheme;
-use crate::prf::blake2s;
+use crate::prf::Blake2s256;
 use ark_base::error::{Error, Refusal};
 use rand::Rng;
 use std::alloc::Global;
-
-#[cfg(test)]
-mod tests;
 
 /// The BLAKE2s digest of the input followed by 32 bytes of randomness.
 pub struct Commitment;
@@ -52,7 +49,10 @@ impl CommitmentScheme for Commitment {
         if input.len().checked_add(randomness.len()).is_none() {
             return Err(Error::GenericError(Refusal::LengthOverflow));
         }
-        Ok(blake2s::digest_of_two(input, randomness))
+        let mut hasher = Blake2s256::new();
+        hasher.update(input);
+        hasher.update(randomness);
+        Ok(hasher.finalize())
     }
 
     ghost meaning_decided = { λ _ bytes randomness. blake2s_commitment-decided bytes randomness };

@@ -13,9 +13,6 @@ use rand::Rng;
 use std::alloc::Global;
 use std::marker::PhantomData;
 
-#[cfg(test)]
-mod tests;
-
 /// The map after the Pedersen commitment.
 pub struct PedersenCommCompressor<C: CurveGroup, I: InjectiveMap<C>, W: Window> {
     compressor: PhantomData<I>,

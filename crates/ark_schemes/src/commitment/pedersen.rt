@@ -7,8 +7,6 @@ ghost use Rattle.ark_schemes.specs.PedersenCommitments.{windows_commitment, sum_
 
 mod parameters;
 mod randomness;
-#[cfg(test)]
-mod tests;
 
 use crate::commitment::CommitmentScheme;
 use ark_base::error::{Error, Refusal};

@@ -1,37 +1,64 @@
 //! BLAKE2s (RFC 7693), with salt and personalization from the BLAKE2 specification.
 
-ghost use Rattle.std.specs.Prelude.{◌≡◌, ◌+◌, ◌^◌, ◌<◌, ◌++◌, length, Ok};
+ghost use Rattle.std.specs.Prelude.{◌≡◌, ◌+◌, ◌^◌, ◌<◌, ℕ, List, [], ◌++◌, length, Ok};
 ghost use Rattle.ark_base.specs.Outcome.{AnswersBy};
 ghost use Rattle.ark_schemes.specs.Blake2s.{blake2s, blake2s_with};
+ghost use Rattle.ark_schemes.specs.Hashers.{HoldsText, AloneHoldsText};
 
-mod compress;
-#[cfg(test)]
-mod plain;
-#[cfg(test)]
-mod tests;
-mod text;
+pub mod compress;
+mod hasher;
+pub mod words;
 
 use crate::prf::PRF;
+use crate::prf::blake2s::hasher::Hasher;
 use ark_base::error::Error;
 use ark_groups::digest::ByteDigest;
 use std::alloc::Global;
 
-// The digest of `first` followed by `second`, with neither salt nor personalization.
-pub(crate) fn digest_of_two(first: &[u8], second: &[u8]) -> [u8; 32]
-    requires { length first.now + length second.now < 2 ^ 64 }
-    ensures { result ≡ blake2s (first.now ++ second.now) }
-{
-    text::digest(&[0; 8], &[0; 8], first, second)
+/// BLAKE2s with 32 bytes out, no key, no salt and no personalization (RFC 7693): the digest of a text that comes piece by piece,
+/// or, by `ByteDigest`, at once.
+#[derive(Drop)]
+pub struct Blake2s256 {
+    hasher: Hasher,
 }
 
-/// BLAKE2s with 32 bytes out, no key, no salt and no personalization, as a digest of bytes.
-pub struct Blake2s256;
+impl Blake2s256 {
+    /// The hasher of the text of no bytes. It takes no memory.
+    pub fn new() -> Blake2s256
+        ensures { HoldsText result [] }
+    {
+        Blake2s256 {
+            hasher: Hasher::new(&[0; 8], &[0; 8]),
+        }
+    }
+
+    /// Appends bytes to the text. It takes no memory. A text of 2^64 bytes or more has no digest: none is promised.
+    pub fn update(&mut self, input: &[u8])
+        ensures text { (text : List ℕ) → length text + length input.now < 2 ^ 64
+            → HoldsText self.old text → HoldsText self.new (text ++ input.now) }
+
+        // Cut into other pieces, the text leaves the same hasher.
+        ensures cut { (text : List ℕ) → length text + length input.now < 2 ^ 64
+            → HoldsText self.old text → AloneHoldsText self.new (text ++ input.now) }
+    {
+        self.hasher.update(input);
+    }
+
+    /// The digest of the text. It takes no memory.
+    pub fn finalize(self) -> [u8; 32]
+        ensures { (text : List ℕ) → HoldsText self text → result ≡ blake2s text }
+    {
+        self.hasher.finalize()
+    }
+}
 
 impl ByteDigest for Blake2s256 {
     ghost meaning = { λ bytes. Ok (blake2s bytes) };
 
     fn digest(alloc: Global, input: &[u8]) -> Result<Vec<u8>, Error> {
-        Ok(Vec::from_array(alloc, digest_of_two(input, &[]))?)
+        let mut hasher = Blake2s256::new();
+        hasher.update(input);
+        Ok(Vec::from_array(alloc, hasher.finalize())?)
     }
 
     ghost decided = { λ _. tt };
@@ -56,7 +83,10 @@ impl PRF for Blake2s {
     fn evaluate(seed: &[u8; 32], input: &[u8; 32]) -> Result<[u8; 32], Error>
         ensures { result ≡ Ok (blake2s (seed.now ++ input.now)) }
     {
-        Ok(digest_of_two(seed, input))
+        let mut keyed = Blake2s256::new();
+        keyed.update(seed);
+        keyed.update(input);
+        Ok(keyed.finalize())
     }
 
     ghost decided = { λ _ _. tt };
@@ -87,7 +117,8 @@ impl Blake2sWithParameterBlock {
         ensures { let digest = blake2s_with self.now.salt self.now.personalization input.now in
             AnswersBy (λ bytes. bytes.items) (Ok digest) result }
     {
-        let digest = text::digest(&self.salt, &self.personalization, input, &[]);
-        Ok(Vec::from_array(alloc, digest)?)
+        let mut hasher = Hasher::new(&self.salt, &self.personalization);
+        hasher.update(input);
+        Ok(Vec::from_array(alloc, hasher.finalize())?)
     }
 }

@@ -115,7 +115,7 @@ fn finish(h: [u32; 8], v: [u32; 16]) -> [u32; 8]
 
 /// F (section 3.2): takes a block of sixteen words into the state, with the counter and whether it is the last.
 #[tactic(auto, unfolding(crate::specs::Blake2s::compression))]
-pub(super) fn compress(h: &mut [u32; 8], m: [u32; 16], t: u64, last: bool)
+pub fn compress(h: &mut [u32; 8], m: [u32; 16], t: u64, last: bool)
     ensures { h.new ≡ compression h.old m t last }
 {
     *h = finish(*h, ten_rounds(first_vector(*h, t, last), m));
