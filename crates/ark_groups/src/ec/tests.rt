@@ -1,13 +1,11 @@
 //! Groups by worked examples.
 
 use super::*;
+use crate::asked::{INVALID, TRUNCATED, fault, is_digest, is_spelled};
 use crate::ff::{Fp, M7, M13, M61, M257, Modulus, PrimeField};
 use crate::plain;
-use ark_base::error::{Error, SerializationError};
-use ark_base::serialize::{CanonicalDeserialize, CanonicalSerialize, DigestItem, Duplicate};
 use rand::rngs::SmallRng;
 use rand::{Rng, RngExt, SeedableRng};
-use std::test::Fail;
 
 fn times<C: CurveGroup>(x: C, count: u64) -> C {
     x.mul(C::ScalarField::from_u64(count))
@@ -74,49 +72,30 @@ fn points_are_what_they_wrap(rt: HostRuntime) {
 }
 
 #[test]
-fn elements_are_spelled_as_their_numbers(rt: HostRuntime) -> Result<(), Fail> {
+fn elements_are_spelled_as_their_numbers(rt: HostRuntime) {
     let alloc = rt.alloc();
-    let mut bytes = Vec::new(alloc);
-    residue::<M257>(256).serialize(&mut bytes)?;
-    small::<M13>(12).serialize(&mut bytes)?;
-    assert_eq!(rt; bytes.as_slice(), [0, 1, 12].as_slice());
-    assert_eq!(rt;
-        Residues::<M257>::deserialize(alloc, &bytes)?,
-        (residue(256), 2)
-    );
-    assert_eq!(rt; Small::<M13>::deserialize(alloc, &[12, 7])?, (small(12), 1));
-    assert_eq!(rt; Residues::<M13>::deserialize(alloc, &[5])?, (residue(5), 1));
-    assert_eq!(rt; Small::<M7>::deserialize(alloc, &[6])?, (small(6), 1));
-    let invalid = Error::SerializationError(SerializationError::InvalidData);
-    assert_eq!(rt;
-        Residues::<M257>::deserialize(alloc, &[1, 1]).err(),
-        Some(invalid)
-    );
-    assert_eq!(rt; Small::<M7>::deserialize(alloc, &[7]).err(), Some(invalid));
-    let truncated = Error::SerializationError(SerializationError::Truncated);
-    assert_eq!(rt;
-        Residues::<M257>::deserialize(alloc, &[1]).err(),
-        Some(truncated)
-    );
-    assert_eq!(rt;
-        Small::<M13>::deserialize(alloc, &[]).err(),
-        Some(truncated)
-    );
-    Ok(())
+    assert!(rt; is_spelled(alloc, &residue::<M257>(256), &[0, 1]));
+    assert!(rt; is_spelled(alloc, &residue::<M13>(5), &[5]));
+    assert!(rt; is_spelled(alloc, &small::<M13>(12), &[12]));
+    assert!(rt; is_spelled(alloc, &small::<M7>(6), &[6]));
 }
 
 #[test]
-fn elements_are_digests(rt: HostRuntime) -> Result<(), Fail> {
+fn the_modulus_and_cut_bytes_are_refused(rt: HostRuntime) {
     let alloc = rt.alloc();
-    assert_eq!(rt; residue::<M257>(256).duplicate(alloc)?, residue(256));
-    assert_eq!(rt; small::<M13>(5).duplicate(alloc)?, small(5));
-    assert_eq!(rt; residue::<M7>(3).duplicate(alloc)?, residue(3));
-    assert_eq!(rt; small::<M7>(6).duplicate(alloc)?, small(6));
-    assert_eq!(rt; <Residues<M257> as DigestItem>::blank(alloc), residue(0));
-    assert_eq!(rt; <Residues<M7> as DigestItem>::blank(alloc), residue(0));
-    assert_eq!(rt; <Small<M7> as DigestItem>::blank(alloc), small(0));
-    assert_eq!(rt; <Small<M13> as DigestItem>::blank(alloc), small(0));
-    Ok(())
+    assert_eq!(rt; fault::<Residues<M257>>(alloc, &[1, 1]), INVALID);
+    assert_eq!(rt; fault::<Small<M7>>(alloc, &[7]), INVALID);
+    assert_eq!(rt; fault::<Residues<M257>>(alloc, &[1]), TRUNCATED);
+    assert_eq!(rt; fault::<Small<M13>>(alloc, &[]), TRUNCATED);
+}
+
+#[test]
+fn elements_are_digests(rt: HostRuntime) {
+    let alloc = rt.alloc();
+    assert!(rt; is_digest(alloc, &residue::<M257>(256), &residue(0)));
+    assert!(rt; is_digest(alloc, &residue::<M7>(3), &residue(0)));
+    assert!(rt; is_digest(alloc, &small::<M13>(5), &small(0)));
+    assert!(rt; is_digest(alloc, &small::<M7>(6), &small(0)));
 }
 
 #[test]

@@ -3,9 +3,8 @@
 ghost use Rattle.std.proofs.Common.{lit<, lit≤};
 
 use super::*;
+use crate::asked::{INVALID, TRUNCATED, fault, is_digest, is_spelled};
 use crate::plain;
-use ark_base::error::{Error, SerializationError};
-use ark_base::serialize::{CanonicalDeserialize, CanonicalSerialize, DigestItem, Duplicate};
 use rand::rngs::SmallRng;
 use rand::{Rng, RngExt, SeedableRng};
 use std::hash::{DefaultHasher, Hash, Hasher};
@@ -135,47 +134,35 @@ fn bytes_are_digits_of_256(rt: HostRuntime) {
 }
 
 #[test]
-fn elements_have_canonical_bytes(rt: HostRuntime) -> Result<(), Fail> {
+fn elements_have_canonical_bytes(rt: HostRuntime) {
     let alloc = rt.alloc();
-    let mut bytes = Vec::new(alloc);
-    element::<Fp<M257>>(256).serialize(&mut bytes)?;
-    element::<Fp<M13>>(12).serialize(&mut bytes)?;
-    element::<Fp<M65537>>(65536).serialize(&mut bytes)?;
-    element::<Fp<M61>>(1).serialize(&mut bytes)?;
-    assert_eq!(rt;
-        bytes.as_slice(),
-        [0, 1, 12, 0, 0, 1, 1, 0, 0, 0, 0, 0, 0, 0].as_slice()
-    );
-    let (x, used) = Fp::<M257>::deserialize(alloc, &bytes)?;
-    assert_eq!(rt; (x.value(), used), (256, 2));
-    let invalid = Error::SerializationError(SerializationError::InvalidData);
-    assert_eq!(rt;
-        Fp::<M257>::deserialize(alloc, &[1, 1]).err(),
-        Some(invalid)
-    );
-    let truncated = Error::SerializationError(SerializationError::Truncated);
-    assert_eq!(rt; Fp::<M257>::deserialize(alloc, &[1]).err(), Some(truncated));
-    assert_eq!(rt; Fp::<M13>::deserialize(alloc, &[13]).err(), Some(invalid));
-    let list = Vec::<Fp<M257>>::deserialize(alloc, &[1, 0, 0, 0, 0, 0, 0, 0, 5, 0]);
-    assert_eq!(rt; list?.0.as_slice(), [element::<Fp<M257>>(5)].as_slice());
-    assert_eq!(rt; Fp::<M7>::deserialize(alloc, &[6, 1])?, (element(6), 1));
-    let top = Fp::<M61>::deserialize(alloc, &[254, 255, 255, 255, 255, 255, 255, 31]);
-    assert_eq!(rt; top?, (element(2305843009213693950), 8));
-    let over = Fp::<M61>::deserialize(alloc, &[255, 255, 255, 255, 255, 255, 255, 31]);
-    assert_eq!(rt; over.err(), Some(invalid));
-    Ok(())
+    assert!(rt; is_spelled(alloc, &element::<Fp<M257>>(256), &[0, 1]));
+    assert!(rt; is_spelled(alloc, &element::<Fp<M7>>(6), &[6]));
+    assert!(rt; is_spelled(alloc, &element::<Fp<M13>>(12), &[12]));
+    assert!(rt; is_spelled(alloc, &element::<Fp<M65537>>(65536), &[0, 0, 1]));
+    let top = [254, 255, 255, 255, 255, 255, 255, 31];
+    assert!(rt; is_spelled(alloc, &element::<Fp<M61>>(2305843009213693950), &top));
 }
 
 #[test]
-fn elements_are_digests(rt: HostRuntime) -> Result<(), Fail> {
+fn the_modulus_and_cut_bytes_are_refused(rt: HostRuntime) {
     let alloc = rt.alloc();
-    let x = element::<Fp<M257>>(256);
-    assert_eq!(rt; x.duplicate(alloc)?, x);
-    assert_eq!(rt; <Fp<M257> as DigestItem>::blank(alloc).value(), 0);
-    let y = element::<Fp<M61>>(7);
-    assert_eq!(rt; y.duplicate(alloc)?, y);
-    assert_eq!(rt; <Fp<M61> as DigestItem>::blank(alloc).value(), 0);
-    Ok(())
+    assert_eq!(rt; fault::<Fp<M257>>(alloc, &[1, 1]), INVALID);
+    assert_eq!(rt; fault::<Fp<M13>>(alloc, &[13]), INVALID);
+    let modulus = [255, 255, 255, 255, 255, 255, 255, 31];
+    assert_eq!(rt; fault::<Fp<M61>>(alloc, &modulus), INVALID);
+    assert_eq!(rt; fault::<Fp<M257>>(alloc, &[1]), TRUNCATED);
+    assert_eq!(rt;
+        fault::<Vec<Fp<M257>>>(alloc, &[1, 0, 0, 0, 0, 0, 0, 0, 5]),
+        TRUNCATED
+    );
+}
+
+#[test]
+fn elements_are_digests(rt: HostRuntime) {
+    let alloc = rt.alloc();
+    assert!(rt; is_digest(alloc, &element::<Fp<M257>>(256), &element(0)));
+    assert!(rt; is_digest(alloc, &element::<Fp<M61>>(7), &element(0)));
 }
 
 fn hash_of<T: Hash>(x: &T) -> u64 {
