@@ -1,13 +1,13 @@
-//! Pedersen hashes by worked examples.
+//! Pedersen hashes by worked examples. A row is one call that answers a value, so that no test owns lists at its many exits.
 
-use crate::{CRH, Parameters, TwoToOneCRH, Window, bytes_to_bits, hash_bytes, hash_halves};
+use crate::{CRH, Parameters, TwoToOneCRH, Window, bytes_to_bits};
 use ark_base::error::{Error, Refusal, SerializationError};
-use ark_base::serialize::{CanonicalDeserialize, CanonicalSerialize, Duplicate};
+use ark_base::serialize::{CanonicalDeserialize, DigestItem, Duplicate, canonical_bytes};
 use ark_crh::{CRHScheme, TwoToOneCRHScheme};
 use ark_groups::ec::{CurveGroup, Residues};
 use ark_groups::ff::{Fp, M13, M61, PrimeField};
-use rand::SeedableRng;
 use rand::rngs::SmallRng;
+use rand::{Rng, SeedableRng};
 use std::alloc::Global;
 use std::test::Fail;
 
@@ -89,6 +89,12 @@ fn two_windows(alloc: Global) -> Result<Parameters<G13>, Error> {
     })
 }
 
+fn uneven_windows(alloc: Global) -> Result<Parameters<G13>, Error> {
+    let mut parameters = two_windows(alloc)?;
+    parameters.generators.push(list(alloc, &[1, 2, 4])?)?;
+    Ok(parameters)
+}
+
 fn four_windows(alloc: Global) -> Result<Parameters<G13>, Error> {
     let mut generators = Vec::new(alloc);
     for _ in 0..4u8 {
@@ -97,123 +103,121 @@ fn four_windows(alloc: Global) -> Result<Parameters<G13>, Error> {
     Ok(Parameters { generators })
 }
 
-fn bytes(alloc: Global, items: &[u8]) -> Result<Vec<u8>, Error> {
-    Ok(Vec::from_slice(alloc, items)?)
+// The hash of bytes, where parameters could be made.
+fn hash<W: Window>(
+    alloc: Global,
+    parameters: Result<Parameters<G13>, Error>,
+    input: &[u8],
+) -> Result<G13, Error> {
+    let input = Vec::from_slice(alloc, input)?;
+    CRH::<G13, W>::evaluate(alloc, &parameters?, &input)
+}
+
+fn hash_of_two<W: Window>(
+    alloc: Global,
+    parameters: Result<Parameters<G13>, Error>,
+    left: &[u8],
+    right: &[u8],
+) -> Result<G13, Error> {
+    let left = Vec::from_slice(alloc, left)?;
+    let right = Vec::from_slice(alloc, right)?;
+    TwoToOneCRH::<G13, W>::evaluate(alloc, &parameters?, &left, &right)
+}
+
+fn hash_of_elements<W: Window>(
+    alloc: Global,
+    parameters: Result<Parameters<G13>, Error>,
+    left: G13,
+    right: G13,
+) -> Result<G13, Error> {
+    TwoToOneCRH::<G13, W>::compress(alloc, &parameters?, &left, &right)
 }
 
 const SHAPE: Error = Error::GenericError(Refusal::ParameterShape);
 
 #[test]
-fn generators_are_added_at_set_bits(rt: HostRuntime) -> Result<(), Fail> {
+fn generators_are_added_at_set_bits(rt: HostRuntime) {
     let alloc = rt.alloc();
-    let parameters = two_windows(alloc)?;
-    let input = bytes(alloc, &[0x25])?;
+    let hash_in_two = |input: &[u8]| hash::<Two>(alloc, two_windows(alloc), input);
+    assert_eq!(rt; hash_in_two(&[0x25]), Ok(residue(9)));
+    assert_eq!(rt; hash_in_two(&[0xff]), Ok(residue(6)));
+    assert_eq!(rt; hash_in_two(&[]), Ok(residue(0)));
     assert_eq!(rt;
-        CRH::<G13, Two>::evaluate(alloc, &parameters, &input)?,
-        residue(9)
+        hash_in_two(&[0x25, 0x25]),
+        Err(Error::IncorrectInputLength(2))
     );
-    assert_eq!(rt;
-        hash_bytes::<G13, Two>(&parameters.generators, &[0xff])?,
-        residue(6)
-    );
-    assert_eq!(rt;
-        hash_bytes::<G13, Two>(&parameters.generators, &[])?,
-        residue(0)
-    );
-    let long = bytes(alloc, &[0x25, 0x25])?;
-    assert_eq!(rt;
-        CRH::<G13, Two>::evaluate(alloc, &parameters, &long).err(),
-        Some(Error::IncorrectInputLength(2))
-    );
-    Ok(())
 }
 
 #[test]
-fn generators_of_another_shape_are_refused(rt: HostRuntime) -> Result<(), Fail> {
+fn generators_of_another_shape_are_refused(rt: HostRuntime) {
     let alloc = rt.alloc();
-    let mut parameters = two_windows(alloc)?;
-    let input = bytes(alloc, &[0x25])?;
-    let long = bytes(alloc, &[0x25, 0x25])?;
     assert_eq!(rt;
-        CRH::<G13, Three>::evaluate(alloc, &parameters, &input).err(),
-        Some(SHAPE)
+        hash::<Three>(alloc, two_windows(alloc), &[0x25]),
+        Err(SHAPE)
+    );
+    let long = Err(Error::IncorrectInputLength(2));
+    assert_eq!(rt;
+        hash::<Three>(alloc, two_windows(alloc), &[0x25, 0x25]),
+        long
     );
     assert_eq!(rt;
-        CRH::<G13, Three>::evaluate(alloc, &parameters, &long).err(),
-        Some(Error::IncorrectInputLength(2))
-    );
-    parameters.generators.push(list(alloc, &[1, 2, 4])?)?;
-    assert_eq!(rt;
-        CRH::<G13, Three>::evaluate(alloc, &parameters, &input).err(),
-        Some(SHAPE)
+        hash::<Three>(alloc, uneven_windows(alloc), &[0x25]),
+        Err(SHAPE)
     );
     assert_eq!(rt;
-        CRH::<G13, Two>::evaluate(alloc, &parameters, &input).err(),
-        Some(SHAPE)
+        hash::<Two>(alloc, uneven_windows(alloc), &[0x25]),
+        Err(SHAPE)
     );
-    Ok(())
+    assert_eq!(rt;
+        hash_of_two::<Three>(alloc, four_windows(alloc), &[], &[]),
+        Err(SHAPE)
+    );
 }
 
 #[test]
-fn halves_stand_behind_one_another(rt: HostRuntime) -> Result<(), Fail> {
+fn halves_stand_behind_one_another(rt: HostRuntime) {
     let alloc = rt.alloc();
-    let parameters = four_windows(alloc)?;
-    let none = bytes(alloc, &[])?;
-    let one = bytes(alloc, &[5])?;
-    let two = bytes(alloc, &[5, 5])?;
-    let hash = <TwoToOneCRH<G13, Four> as TwoToOneCRHScheme>::compress(
+    let hash_in_four = |left: &[u8], right: &[u8]| hash_of_two::<Four>(
         alloc,
-        &parameters,
-        &residue(5),
-        &residue(9),
-    )?;
-    assert_eq!(rt; hash, residue(1));
-    let hash = <TwoToOneCRH<G13, Four> as TwoToOneCRHScheme>::evaluate(
-        alloc,
-        &parameters,
-        &one,
-        &one,
-    )?;
-    assert_eq!(rt; hash, residue(10));
-    let unequal = <TwoToOneCRH<G13, Four> as TwoToOneCRHScheme>::evaluate(
-        alloc,
-        &parameters,
-        &none,
-        &one,
+        four_windows(alloc),
+        left,
+        right,
     );
-    assert_eq!(rt; unequal.err(), Some(Error::IncorrectInputLength(1)));
-    let long = <TwoToOneCRH<G13, Four> as TwoToOneCRHScheme>::evaluate(
-        alloc,
-        &parameters,
-        &two,
-        &two,
-    );
-    assert_eq!(rt; long.err(), Some(Error::IncorrectInputLength(2)));
+    assert_eq!(rt; hash_in_four(&[5], &[5]), Ok(residue(10)));
     assert_eq!(rt;
-        hash_halves::<G13, Three>(&parameters.generators, &[], &[]).err(),
-        Some(SHAPE)
+        hash_in_four(&[], &[5]),
+        Err(Error::IncorrectInputLength(1))
     );
-    Ok(())
+    assert_eq!(rt;
+        hash_in_four(&[5, 5], &[5, 5]),
+        Err(Error::IncorrectInputLength(2))
+    );
+    let of_elements = hash_of_elements::<Four>(alloc, four_windows(alloc), residue(5), residue(9));
+    assert_eq!(rt; of_elements, Ok(residue(1)));
 }
 
 // The digests of a tree of four leaves, by hand.
 #[test]
-fn digests_of_a_tree(rt: HostRuntime) -> Result<(), Fail> {
+fn digests_of_a_tree(rt: HostRuntime) {
     let alloc = rt.alloc();
-    let leaf = two_windows(alloc)?.generators;
-    assert_eq!(rt; hash_bytes::<G13, Two>(&leaf, &[0x25])?, residue(9));
-    assert_eq!(rt; hash_bytes::<G13, Two>(&leaf, &[0x01])?, residue(1));
-    assert_eq!(rt; hash_bytes::<G13, Two>(&leaf, &[])?, residue(0));
-    assert_eq!(rt; hash_bytes::<G13, Two>(&leaf, &[0x40])?, residue(8));
-    let pair = four_windows(alloc)?.generators;
-    assert_eq!(rt; hash_halves::<G13, Four>(&pair, &[9], &[1])?, residue(10));
-    assert_eq!(rt; hash_halves::<G13, Four>(&pair, &[0], &[8])?, residue(8));
-    assert_eq!(rt; hash_halves::<G13, Four>(&pair, &[10], &[8])?, residue(5));
-    Ok(())
+    let leaf = |input: &[u8]| hash::<Two>(alloc, two_windows(alloc), input);
+    assert_eq!(rt; leaf(&[0x25]), Ok(residue(9)));
+    assert_eq!(rt; leaf(&[0x01]), Ok(residue(1)));
+    assert_eq!(rt; leaf(&[]), Ok(residue(0)));
+    assert_eq!(rt; leaf(&[0x40]), Ok(residue(8)));
+    let pair = |left: &[u8], right: &[u8]| hash_of_two::<Four>(
+        alloc,
+        four_windows(alloc),
+        left,
+        right,
+    );
+    assert_eq!(rt; pair(&[9], &[1]), Ok(residue(10)));
+    assert_eq!(rt; pair(&[0], &[8]), Ok(residue(8)));
+    assert_eq!(rt; pair(&[10], &[8]), Ok(residue(5)));
 }
 
-// Whether the list is an element with its doublings.
-fn is_doubled<C: CurveGroup>(list: &[C], element: C) -> bool {
+// Whether the list is an element with its doublings, as many in all.
+fn is_doubled<C: CurveGroup>(list: &[C], element: C, count: usize) -> bool {
     let mut power = element;
     for item in list {
         if *item != power {
@@ -221,39 +225,74 @@ fn is_doubled<C: CurveGroup>(list: &[C], element: C) -> bool {
         }
         power = power.double();
     }
-    true
+    list.len() == count
+}
+
+// Whether there is a list for each window: an element of the twin's with its doublings.
+fn are_drawn<C: CurveGroup, W: Window, R: Rng>(lists: &[Vec<C>], twin: &mut R) -> bool {
+    for list in lists {
+        if !is_doubled(list, C::rand(twin), W::WINDOW_SIZE) {
+            return false;
+        }
+    }
+    lists.len() == W::NUM_WINDOWS
+}
+
+fn setup_is_drawn<C: CurveGroup + DigestItem, W: Window>(alloc: Global, seed: u64) -> Result<bool, Error> {
+    let mut rng = SmallRng::seed_from_u64(seed);
+    let parameters = <CRH<C, W> as CRHScheme>::setup(alloc, &mut rng)?;
+    let mut twin = SmallRng::seed_from_u64(seed);
+    Ok(are_drawn::<C, W, SmallRng>(&parameters.generators, &mut twin))
+}
+
+fn setup_of_two_is_drawn<C: CurveGroup + DigestItem, W: Window>(
+    alloc: Global,
+    seed: u64,
+) -> Result<bool, Error> {
+    let mut rng = SmallRng::seed_from_u64(seed);
+    let parameters = <TwoToOneCRH<C, W> as TwoToOneCRHScheme>::setup(alloc, &mut rng)?;
+    let mut twin = SmallRng::seed_from_u64(seed);
+    Ok(are_drawn::<C, W, SmallRng>(&parameters.generators, &mut twin))
+}
+
+fn generators_are_drawn<C: CurveGroup + DigestItem, W: Window>(alloc: Global, seed: u64) -> Result<bool, Error> {
+    let mut rng = SmallRng::seed_from_u64(seed);
+    let lists = TwoToOneCRH::<C, W>::create_generators(alloc, &mut rng)?;
+    let mut twin = SmallRng::seed_from_u64(seed);
+    Ok(are_drawn::<C, W, SmallRng>(&lists, &mut twin))
+}
+
+fn powers_are_drawn<C: CurveGroup + DigestItem, W: Window>(
+    alloc: Global,
+    seed: u64,
+    count: usize,
+) -> Result<bool, Error> {
+    let mut rng = SmallRng::seed_from_u64(seed);
+    let powers = CRH::<C, W>::generator_powers(alloc, count, &mut rng)?;
+    let mut twin = SmallRng::seed_from_u64(seed);
+    Ok(is_doubled(&powers, C::rand(&mut twin), count))
 }
 
 #[test]
-fn setup_doubles_what_is_drawn(rt: HostRuntime) -> Result<(), Fail> {
+fn setup_doubles_what_is_drawn(rt: HostRuntime) {
     let alloc = rt.alloc();
-    let parameters = <CRH<Residues<M61>, Three> as CRHScheme>::setup(
-        alloc,
-        &mut SmallRng::seed_from_u64(7),
-    )?;
-    let of_two = <TwoToOneCRH<Residues<M61>, Three> as TwoToOneCRHScheme>::setup(
-        alloc,
-        &mut SmallRng::seed_from_u64(7),
-    )?;
-    let mut twin = SmallRng::seed_from_u64(7);
-    assert_eq!(rt; parameters.generators.len(), 3);
-    for list in &parameters.generators {
-        assert_eq!(rt; list.len(), 4);
-        assert!(rt; is_doubled(list, <Residues<M61> as CurveGroup>::rand(&mut twin)));
-    }
-    assert_eq!(rt; of_two.generators, parameters.generators);
-    let mut twin = SmallRng::seed_from_u64(7);
-    let lists = TwoToOneCRH::<Residues<M61>, Three>::create_generators(alloc, &mut twin)?;
-    assert_eq!(rt; lists, parameters.generators);
-    let mut twin = SmallRng::seed_from_u64(7);
-    let powers = CRH::<Residues<M61>, Three>::generator_powers(alloc, 6, &mut twin)?;
-    assert_eq!(rt; powers.len(), 6);
-    let mut twin = SmallRng::seed_from_u64(7);
-    assert!(rt; is_doubled(&powers, <Residues<M61> as CurveGroup>::rand(&mut twin)));
-    let mut twin = SmallRng::seed_from_u64(7);
-    let none = TwoToOneCRH::<Residues<M61>, Three>::generator_powers(alloc, 0, &mut twin)?;
-    assert!(rt; none.is_empty());
-    Ok(())
+    assert_eq!(rt; setup_is_drawn::<Residues<M61>, Three>(alloc, 7), Ok(true));
+    assert_eq!(rt;
+        setup_of_two_is_drawn::<Residues<M61>, Three>(alloc, 7),
+        Ok(true)
+    );
+    assert_eq!(rt;
+        generators_are_drawn::<Residues<M61>, Three>(alloc, 7),
+        Ok(true)
+    );
+    assert_eq!(rt;
+        powers_are_drawn::<Residues<M61>, Three>(alloc, 7, 6),
+        Ok(true)
+    );
+    assert_eq!(rt;
+        powers_are_drawn::<Residues<M61>, Three>(alloc, 7, 0),
+        Ok(true)
+    );
 }
 
 #[test]
@@ -268,35 +307,45 @@ fn bits_are_read_the_lowest_first(rt: HostRuntime) -> Result<(), Fail> {
     Ok(())
 }
 
-#[test]
-fn parameters_have_canonical_bytes(rt: HostRuntime) -> Result<(), Fail> {
-    let alloc = rt.alloc();
+// The bytes of two windows.
+const SPELLED: [u8; 32] = [
+    2, 0, 0, 0, 0, 0, 0, 0, 4, 0, 0, 0, 0, 0, 0, 0, 1, 2, 4, 8, 4, 0, 0, 0, 0, 0, 0, 0, 2, 4, 8, 3,
+];
+
+fn is_spelled(alloc: Global, bytes: &[u8]) -> Result<bool, Error> {
+    Ok(canonical_bytes(alloc, &two_windows(alloc)?)?.as_slice() == bytes)
+}
+
+fn is_read(alloc: Global, bytes: &[u8]) -> Result<bool, Error> {
+    let (again, used) = Parameters::<G13>::deserialize(alloc, bytes)?;
+    Ok(used == bytes.len() && again.generators == two_windows(alloc)?.generators)
+}
+
+fn is_duplicated(alloc: Global) -> Result<bool, Error> {
     let parameters = two_windows(alloc)?;
-    let mut written = Vec::new(alloc);
-    parameters.serialize(&mut written)?;
-    let spelled = [
-        2, 0, 0, 0, 0, 0, 0, 0, 4, 0, 0, 0, 0, 0, 0, 0, 1, 2, 4, 8, 4, 0, 0, 0, 0, 0, 0, 0, 2, 4,
-        8, 3,
-    ];
-    assert_eq!(rt; written.as_slice(), spelled.as_slice());
-    let (again, used) = Parameters::<G13>::deserialize(alloc, &written)?;
-    assert_eq!(rt; used, 32);
-    assert_eq!(rt; again.generators, parameters.generators);
-    assert_eq!(rt;
-        parameters.duplicate(alloc)?.generators,
-        parameters.generators
-    );
-    let mut several = Vec::new(alloc);
-    vec![in alloc; parameters, two_windows(alloc)?]?.serialize(&mut several)?;
-    let (list, used) = Vec::<Parameters<G13>>::deserialize(alloc, &several)?;
-    assert_eq!(rt; (list.len(), used), (2, 72));
-    assert_eq!(rt; list[1].generators, again.generators);
-    let cut = Parameters::<G13>::deserialize(alloc, &written[..31]);
-    assert_eq!(rt;
-        cut.err(),
-        Some(Error::SerializationError(SerializationError::Truncated))
-    );
-    Ok(())
+    Ok(parameters.duplicate(alloc)?.generators == parameters.generators)
+}
+
+fn stands_in_lists(alloc: Global) -> Result<bool, Error> {
+    let several = vec![in alloc; uneven_windows(alloc)?, two_windows(alloc)?]?;
+    let bytes = canonical_bytes(alloc, &several)?;
+    let (list, used) = Vec::<Parameters<G13>>::deserialize(alloc, &bytes)?;
+    Ok(
+        used == bytes.len()
+            && list.len() == 2
+            && list[1].generators == two_windows(alloc)?.generators,
+    )
+}
+
+#[test]
+fn parameters_have_canonical_bytes(rt: HostRuntime) {
+    let alloc = rt.alloc();
+    assert_eq!(rt; is_spelled(alloc, &SPELLED), Ok(true));
+    assert_eq!(rt; is_read(alloc, &SPELLED), Ok(true));
+    assert_eq!(rt; is_duplicated(alloc), Ok(true));
+    assert_eq!(rt; stands_in_lists(alloc), Ok(true));
+    let truncated = Error::SerializationError(SerializationError::Truncated);
+    assert_eq!(rt; is_read(alloc, &SPELLED[..31]), Err(truncated));
 }
 
 #[test]
