@@ -172,36 +172,49 @@ fn setup_doubles_what_is_drawn(rt: HostRuntime) -> Result<(), Fail> {
     Ok(())
 }
 
+fn randomness_of_three() -> Randomness<G13> {
+    Randomness(Fp::from_u64(3))
+}
+
 #[test]
 fn randomness_is_its_scalar(rt: HostRuntime) -> Result<(), Fail> {
     let alloc = rt.alloc();
-    let randomness = Randomness::<G13>(Fp::from_u64(3));
-    assert_eq!(rt;
-        format!(in alloc; "{randomness:?}")?.as_str(),
-        "Randomness(3)"
-    );
-    assert_eq!(rt; randomness.clone()?, randomness);
-    assert_ne!(rt; Randomness::<G13>::default(), randomness);
-    assert_eq!(rt; Randomness::<G13>::default(), Randomness(Fp::from_u64(0)));
+    let shown = format!(in alloc; "{:?}", randomness_of_three())?;
+    assert_eq!(rt; shown.as_str(), "Randomness(3)");
+    assert!(rt; randomness_of_three().clone()? == randomness_of_three());
+    assert!(rt; Randomness::<G13>::default() != randomness_of_three());
+    assert!(rt; Randomness::<G13>::default() == Randomness(Fp::from_u64(0)));
+    Ok(())
+}
+
+// The randomness that bytes spell, as its scalar, and how many bytes that took.
+fn read(alloc: Global, bytes: &[u8]) -> Result<(u64, usize), Error> {
+    let (randomness, used) = Randomness::<G13>::deserialize(alloc, bytes)?;
+    Ok((randomness.0.value(), used))
+}
+
+#[test]
+fn randomness_is_written_and_read(rt: HostRuntime) -> Result<(), Fail> {
+    let alloc = rt.alloc();
     let mut written = Vec::new(alloc);
-    randomness.serialize(&mut written)?;
+    randomness_of_three().serialize(&mut written)?;
     assert_eq!(rt; written.as_slice(), [3u8].as_slice());
-    let (again, used) = Randomness::<G13>::deserialize(alloc, &written)?;
-    assert_eq!(rt; used, 1);
-    assert_eq!(rt; again, randomness);
-    let list = Vec::<Randomness<G13>>::deserialize(alloc, &[2, 0, 0, 0, 0, 0, 0, 0, 3, 12])?.0;
-    assert_eq!(rt;
-        list.as_slice(),
-        [randomness, Randomness(Fp::from_u64(12))].as_slice()
-    );
-    assert_eq!(rt;
-        Randomness::<G13>::deserialize(alloc, &[13u8]).err(),
-        Some(Error::SerializationError(SerializationError::InvalidData))
-    );
-    assert_eq!(rt;
-        Randomness::<G13>::deserialize(alloc, &[]).err(),
-        Some(Error::SerializationError(SerializationError::Truncated))
-    );
+    assert!(rt; read(alloc, &written)? == (3, 1));
+    let invalid = Error::SerializationError(SerializationError::InvalidData);
+    assert!(rt; read(alloc, &[13u8]) == Err(invalid));
+    let cut = Error::SerializationError(SerializationError::Truncated);
+    assert!(rt; read(alloc, &[]) == Err(cut));
+    Ok(())
+}
+
+#[test]
+fn lists_of_randomness_are_read(rt: HostRuntime) -> Result<(), Fail> {
+    let bytes = [2u8, 0, 0, 0, 0, 0, 0, 0, 3, 12];
+    let (list, used) = Vec::<Randomness<G13>>::deserialize(rt.alloc(), &bytes)?;
+    assert_eq!(rt; used, 10);
+    assert_eq!(rt; list.len(), 2);
+    assert_eq!(rt; list[0].0.value(), 3);
+    assert_eq!(rt; list[1].0.value(), 12);
     Ok(())
 }
 
