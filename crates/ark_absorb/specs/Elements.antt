@@ -74,10 +74,12 @@ packed_elements text modulus bits = Ok (piece_numbers modulus ((bits - 1) / 8) (
 
 -- ---- an item that may be there: 1 and the item, or 0
 
+-- the bytes
 abbrev pub optional_bytes : {A : Type 0} → (A → List ℕ) → Option A → List ℕ
 optional_bytes bytes None = 0 ∷ []
 optional_bytes bytes (Some x) = 1 ∷ bytes x
 
+-- the elements
 abbrev pub optional_elements : {A : Type 0} → (A → ℕ → ℕ → Elements) → Option A → ℕ → ℕ → Elements
 optional_elements elements None modulus bits = number_element 0 modulus bits
 optional_elements elements (Some x) modulus bits = elements_then (number_element 1 modulus bits) (elements x modulus bits)
@@ -92,5 +94,6 @@ point_bytes x y = bytes_of_number 8 x ++ bytes_of_number 8 y
 abbrev pub point_elements : ℕ → ℕ → ℕ → ℕ → ℕ → Elements
 point_elements own x y modulus bits = own_elements own (x ∷ y ∷ []) modulus bits
 
+-- the same, and behind them whether the point is the one at infinity
 abbrev pub flagged_elements : ℕ → ℕ → ℕ → Bool → ℕ → ℕ → Elements
 flagged_elements own x y infinity modulus bits = elements_then (point_elements own x y modulus bits) (truth_element infinity modulus bits)

@@ -39,8 +39,8 @@ pub trait Absorb: AbsorbItem {
 
     /// Appends the elements of a batch: item by item, but for `u8`, whose bytes are packed behind their count.
     ///
-    /// Refusals, which leave `dest` as before: `ForeignField` of an element of another field, and of an empty batch of such
-    /// elements too; `OutOfMemory`.
+    /// Refusals, which leave `dest` as before: `ForeignField` of an element of another field, and of an empty batch of `Fp` or
+    /// `Residues` of another field too; `OutOfMemory`.
     fn batch_to_sponge_field_elements<F: PrimeField>(
         batch: &[Self],
         dest: &mut Vec<F>,

@@ -1,6 +1,6 @@
 //! Bytes and texts.
 
-ghost use Rattle.std.specs.Prelude.{◌≡◌, ℕ, List, string_bytes};
+ghost use Rattle.std.specs.Prelude.{◌≡◌, ℕ, List, map, string_bytes};
 ghost use Rattle.std.specs.List.{flat_map};
 ghost use Rattle.ark_base.specs.Spelling.{byte};
 ghost use Rattle.ark_absorb.specs.Appending.{AppendsBytes};
@@ -69,8 +69,9 @@ impl Absorb for String {
         ensures bytes { AppendsBytes (flat_map (λ s. text_bytes (string_bytes s)) batch.now)
             dest.old.items dest.new.items result }
 
-        // The bytes belong to no other list of texts.
-        ensures only { (texts others : List (List ℕ)) → AreShort texts → AreShort others
+        // The bytes belong to no other list of texts, each shorter than 2^64 bytes.
+        ensures only { let texts = map string_bytes batch.now in
+            (others : List (List ℕ)) → AreShort texts → AreShort others
             → flat_map text_bytes texts ≡ flat_map text_bytes others → texts ≡ others }
     {
         push_bytes_by_item(batch, dest)

@@ -1,3 +1,4 @@
+pub mod Bits
 pub mod Coordinates
 pub mod Field
 pub mod Group

@@ -11,6 +11,8 @@ mod uniform;
 
 pub use fp::Fp;
 pub use modulus::{M7, M13, M61, M257, M65537, Modulus};
-pub use parts::{is_same_field, push_low_bytes, same_element};
+pub use parts::{
+    element_of_bits, is_same_field, push_low_bytes, same_element, write_low_bits, write_low_bytes,
+};
 pub use prime_field::PrimeField;
 pub use uniform::UniformRand;

@@ -1,5 +1,5 @@
--- What is blocks_of_rate in two is after_absorbing alike.
-use Rattle.std.proofs.Common.{◌≡◌, ℕ, ◌+◌, ◌<◌, ◌≤◌, List, [], ◌∷◌, ◌++◌, length, refl, sym, ◌∙◌, ap, arith}
+-- A list that is cut in two is absorbed alike.
+use Rattle.std.proofs.Common.{◌≡◌, ℕ, ◌+◌, ◌<◌, ◌≤◌, List, [], ◌∷◌, ◌++◌, length, refl, sym, ap, arith}
 use Rattle.std.proofs.lemmas.List.{append-nil}
 use Rattle.ark_sponge.specs.Permutation.{permutation}
 use Rattle.ark_sponge.specs.Sponge.{Sponge, after_absorbing}

@@ -7,3 +7,5 @@ pub mod Permuting
 pub mod Cuts
 pub mod Squeezes
 pub mod Cutting
+pub mod Spreads
+pub mod Sizes

@@ -1,10 +1,10 @@
 -- One step of each loop over a state.
-use Rattle.std.proofs.Common.{length-drop, ◌≡◌, ℕ, zero, suc, ◌+◌, ◌*◌, ◌%◌, ◌<◌, ◌≤◌, List, [], ◌∷◌, ◌++◌, length, get_or, set, take, drop, map, slice_range, ◌/◌, ◌-◌, refl, sym, ◌∙◌, ap, arith, add-one}
+use Rattle.std.proofs.Common.{length-drop, ◌≡◌, ℕ, zero, suc, ◌+◌, ◌*◌, ◌%◌, ◌<◌, List, [], ◌∷◌, ◌++◌, length, get_or, set, take, drop, map, slice_range, ◌/◌, ◌-◌, refl, sym, ◌∙◌, ap, arith, add-one}
 use Rattle.std.proofs.lemmas.List.{get_or-map, map-set, take_more, take_more_set, map-append, take-map, drop-map, take_all}
 use Rattle.std.proofs.Math.Nat.{mod-add-mod, add-mod-mod}
 use Rattle.std.proofs.Math.ListN.{length-map}
 use Rattle.std.proofs.lemmas.List.Sums.{fold_more}
-use Rattle.ark_sponge.specs.Permutation.{sums, front_images, dot_product, matrix_product, poseidon_round, poseidon_rounds, permutation, Parameters}
+use Rattle.ark_sponge.specs.Permutation.{sums, front_images, dot_product, matrix_product, poseidon_round, poseidon_rounds, permutation}
 
 -- what f reads of the element at i
 pub read : {F : Type 0} (f : F → ℕ) (xs : List F) (i : ℕ) (x : F) → i < length xs → x ≡ get_or xs i x → f x ≡ get_or (map f xs) i 0
@@ -105,7 +105,7 @@ module _ {F : Type 0} (f : F → ℕ) (p : ℕ) where
       let g = λ (w : Row). map f (items w) in
       ap (map f) is_row ∙ ap g is_v ∙ sym (get_or-map g rows i v (map f row) within)
 
--- one more poseidon_round
+-- one round more
 pub poseidon_rounds-more : (p : ℕ) (sbox : ℕ → ℕ) (mds : List (List ℕ)) (n : ℕ) (rows : List (List ℕ)) (init r s0 s1 s2 s3 : List ℕ) (i : ℕ) → i < length rows
     → s0 ≡ poseidon_rounds p sbox mds n (take i rows) init → r ≡ get_or rows i r
     → s1 ≡ sums p s0 r → s2 ≡ front_images sbox n s1 → s3 ≡ matrix_product p mds s2
@@ -117,7 +117,7 @@ poseidon_rounds-more p sbox mds n rows init r s0 s1 s2 s3 i within is_0 is_r is_
 slice_range-map : {A B : Type 0} (g : A → B) (xs : List A) (i j : ℕ) → map g (slice_range xs i j) ≡ slice_range (map g xs) i j
 slice_range-map g xs i j = sym (ap (take (j - i)) (drop-map g i xs) ∙ take-map g (j - i) (drop i xs))
 
--- the three runs of poseidon_rounds are the permutation
+-- the three runs of rounds are the permutation
 pub permutation-parts : {Row : Type 0} (g : Row → List ℕ) (p : ℕ) (image : ℕ → ℕ → ℕ) (full part alpha : ℕ) (mds ark mds' ark' : List Row) (rate cap : ℕ) (s0 s1 s2 s3 : List ℕ)
     → mds' ≡ mds → ark' ≡ ark
     → s1 ≡ poseidon_rounds p (image alpha) (map g mds') (rate + cap) (map g (take (full / 2) ark')) s0

@@ -1,5 +1,5 @@
 -- The duplex sponge over whole lists, block by block, over any permutation of its state.
-use Rattle.std.specs.Prelude.{ℕ, zero, suc, ◌+◌, ◌-◌, ◌*◌, ◌/◌, ◌%◌, ◌==◌, if◌then◌else◌, List, [], ◌∷◌, ◌++◌, length, map, fold, take, drop, replicate, slice_index}
+use Rattle.std.specs.Prelude.{ℕ, zero, suc, ◌+◌, ◌/◌, ◌%◌, ◌==◌, if◌then◌else◌, List, [], ◌∷◌, ◌++◌, length, map, fold, take, drop, replicate, slice_index}
 use Rattle.std.specs.List.{range_with_len}
 use Rattle.std.specs.Int.{div_ceil}
 use Rattle.ark_absorb.specs.Elements.{pieces}
@@ -34,7 +34,8 @@ abbrev pub nth_state : (List ℕ → List ℕ) → ℕ → List ℕ → List ℕ
 nth_state permute zero state = state
 nth_state permute (suc n) state = permute (nth_state permute n state)
 
--- The rates of the state, of its permutation, of the permutation of that and so on make one list: its number at a place.
+-- The parts behind the capacity of the state, of its permutation, of the permutation of that and so on make one list: its
+-- number at a place.
 abbrev pub number_at_place : ℕ → ℕ → (List ℕ → List ℕ) → List ℕ → ℕ → ℕ
 number_at_place rate capacity permute state place = slice_index (nth_state permute (place / rate) state) (capacity + place % rate)
 

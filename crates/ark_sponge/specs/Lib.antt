@@ -3,3 +3,5 @@ pub mod Permutation
 pub mod Duplex
 pub mod Mode
 pub mod Sponge
+pub mod Sizes
+pub mod Squeezing

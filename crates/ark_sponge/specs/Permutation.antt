@@ -5,7 +5,8 @@ use Rattle.ark_base.specs.declared.error.Error.TheVariants.{GenericError}
 use Rattle.ark_base.specs.declared.error.Refusal.TheVariants.{FieldTooSmall, ZeroRate, ParameterShape}
 use Rattle.ark_base.specs.Outcome.{Outcome}
 
--- What a sponge is set up with, by its numbers.
+-- What a sponge is set up with, by its numbers: the counts of rounds, the exponent of the S-box, the constants, and how a
+-- state is parted into capacity and rate.
 pub record Parameters : Type 0 where
   pub full_rounds : ℕ
   pub partial_rounds : ℕ
@@ -21,7 +22,7 @@ pub record Parameters : Type 0 where
 abbrev pub width : Parameters → ℕ
 width c = c.rate + c.capacity
 
--- the numbers of one list added to the first ones of another
+-- the numbers of one list added to the first ones of another, modulo p
 abbrev pub sums : ℕ → List ℕ → List ℕ → List ℕ
 sums p [] ys = []
 sums p (x ∷ xs) [] = x ∷ xs
@@ -39,7 +40,7 @@ dot_product [] xs = 0
 dot_product (m ∷ row) [] = 0
 dot_product (m ∷ row) (x ∷ xs) = m * x + dot_product row xs
 
--- the matrix times the numbers
+-- the matrix times the numbers, modulo p
 abbrev pub matrix_product : ℕ → List (List ℕ) → List ℕ → List ℕ
 matrix_product p mds xs = map (λ row. dot_product row xs % p) mds
 

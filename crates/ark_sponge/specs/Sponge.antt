@@ -1,21 +1,37 @@
 -- The sponge: what it holds, what its calls give, and what they leave.
-use Rattle.std.specs.Prelude.{◌≡◌, ℕ, zero, suc, ◌+◌, ◌/◌, ◌%◌, ◌<◌, List, [], ◌∷◌, ◌++◌, replicate, Ok}
+use Rattle.std.specs.Prelude.{◌≡◌, ℕ, zero, suc, ◌+◌, ◌/◌, ◌%◌, ◌<◌, ◌==◌, nat_lt, if◌then◌else◌, List, [], ◌∷◌, ◌++◌, length, replicate, Ok, Err}
+use Rattle.ark_base.specs.declared.error.Error.TheVariants.{GenericError}
+use Rattle.ark_base.specs.declared.error.Refusal.TheVariants.{StateShape}
 use Rattle.ark_base.specs.Outcome.{Outcome, ◌>>=◌}
 use Rattle.ark_absorb.specs.Elements.{Elements}
 use Rattle.ark_sponge.specs.Permutation.{Parameters, width, permutation}
 use Rattle.ark_sponge.specs.Duplex.{state_absorbing, nth_state, numbers_from_place, state_to_read}
-use Rattle.ark_sponge.specs.Mode.{absorb_index, squeezing_start}
+use Rattle.ark_sponge.specs.Mode.{mode_index, absorb_index, squeezing_start}
 use Rattle.ark_sponge.specs.declared.mode.DuplexSpongeMode.{DuplexSpongeMode}
 use Rattle.ark_sponge.specs.declared.mode.DuplexSpongeMode.TheVariants.{Absorbing, Squeezing}
 
+-- A sponge: what it is set up with, its state, the capacity first, and what it does next.
 pub record Sponge : Type 0 where
   pub parameters : Parameters
+  pub state : List ℕ
+  pub mode : DuplexSpongeMode
+
+-- What a sponge holds besides what it is set up with.
+pub record SpongeState : Type 0 where
   pub state : List ℕ
   pub mode : DuplexSpongeMode
 
 -- a new sponge is all zero, and absorbs at the front
 abbrev pub new_sponge : Parameters → Sponge
 new_sponge c = record { parameters = c; state = replicate (width c) 0; mode = Absorbing 0 }
+
+-- the sponge with a state and parameters; refused are another count of numbers than theirs, and an index past the rate
+abbrev pub restored_sponge : SpongeState → Parameters → Outcome Sponge
+restored_sponge held c =
+    if length held.state == width c then
+    if nat_lt c.rate (mode_index held.mode) then Err (GenericError StateShape)
+    else Ok (record { parameters = c; state = held.state; mode = held.mode })
+    else Err (GenericError StateShape)
 
 -- the sponge that has absorbed the numbers; absorbing none changes nothing
 abbrev pub after_absorbing : ℕ → (ℕ → ℕ → ℕ) → Sponge → List ℕ → Sponge

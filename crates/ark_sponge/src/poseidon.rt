@@ -7,4 +7,4 @@ mod sponge;
 
 pub use config::PoseidonConfig;
 pub use permutation::SBox;
-pub use sponge::PoseidonSponge;
+pub use sponge::{PoseidonSponge, PoseidonSpongeState};

@@ -1,3 +1,5 @@
 mod encodings;
 mod hand;
 mod poseidon;
+mod squeezing;
+mod states;

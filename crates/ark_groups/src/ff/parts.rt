@@ -1,8 +1,9 @@
 //! Parts of elements, and elements of one field as those of another: what callers need so as to read no number as a word.
 
-ghost use Rattle.std.specs.Prelude.{◌≡◌, ◌≤◌, ◌++◌, MatchResult};
+ghost use Rattle.std.specs.Prelude.{◌≡◌, ◌≤◌, ◌%◌, ◌++◌, length, MatchResult};
 ghost use Rattle.std.specs.Bool.{Decides};
 ghost use Rattle.ark_base.specs.Digits.{bytes_of_number};
+ghost use Rattle.ark_groups.specs.Bits.{low_bits, number_of_low_bits};
 
 use crate::ff::PrimeField;
 use ark_base::error::Error;
@@ -37,4 +38,38 @@ pub fn push_low_bytes<F: PrimeField>(
         (λ error. (error ≡ Error.OutOfMemory) × (dest.new.items ≡ dest.old.items)) }
 {
     serialize_number(element.value(), count, dest)
+}
+
+/// Fills a list with the lowest bytes of an element's number, the least first. Bytes past the number's are 0.
+pub fn write_low_bytes<F: PrimeField>(element: F, out: &mut [u8])
+    requires { length out.old ≤ 8 }
+    ensures { out.new ≡ bytes_of_number (length out.old) (F.value element) }
+{
+    let bytes = element.value().to_le_bytes();
+    out.copy_from_slice(&bytes[..out.len()]);
+}
+
+/// Fills a list with the lowest bits of an element's number, the lowest first. Bits past the number's are 0.
+pub fn write_low_bits<F: PrimeField>(element: F, out: &mut [bool])
+    ensures { out.new ≡ low_bits (length out.old) (F.value element) }
+{
+    let mut rest = element.value();
+    for i in 0..out.len() {
+        out[i] = rest % 2 == 1;
+        rest /= 2;
+    }
+}
+
+/// The number that bits are, the lowest first, modulo the modulus.
+pub fn element_of_bits<F: PrimeField>(bits: &[bool]) -> F
+    ensures { F.value result ≡ number_of_low_bits bits.now % F.MODULUS }
+{
+    let mut element = F::zero();
+    for i in (0..bits.len()).rev() {
+        element = element.double();
+        if bits[i] {
+            element = element.add(F::one());
+        }
+    }
+    element
 }

@@ -1,11 +1,14 @@
 //! What a sponge is set up with.
 
-ghost use Rattle.std.specs.Prelude.{◌≡◌, ◌+◌, ◌^◌, ◌<◌, ◌≤◌, true, map, length, All, vec_len};
-ghost use Rattle.ark_sponge.specs.Permutation.{width, permutation, is_matrix, lawful_parameters};
+ghost use Rattle.std.specs.Prelude.{◌≡◌, ◌+◌, ◌^◌, ◌<◌, ◌≤◌, true, map, length, All, vec_len, Ok};
+ghost use Rattle.ark_base.specs.Outcome.{AnswersBy};
+ghost use Rattle.ark_sponge.specs.Permutation.{Parameters, width, permutation, is_matrix, lawful_parameters};
 
 use crate::poseidon::permutation::{SBox, apply_rounds};
 use ark_base::error::{Error, Refusal};
+use ark_base::serialize::Duplicate;
 use ark_groups::ff::PrimeField;
+use std::alloc::Global;
 use std::marker::Model;
 
 /// The constants of a permutation, and how its state is parted into rate and capacity.
@@ -107,9 +110,47 @@ impl<F: PrimeField> PoseidonConfig<F> {
         })
     }
 
+    /// The count of full rounds.
+    pub fn full_rounds(&self) -> usize
+        ensures { result ≡ self.now.full_rounds }
+    {
+        self.full_rounds
+    }
+
+    /// The count of partial rounds.
+    pub fn partial_rounds(&self) -> usize
+        ensures { result ≡ self.now.partial_rounds }
+    {
+        self.partial_rounds
+    }
+
+    /// The exponent that the S-box takes.
+    pub fn alpha(&self) -> u64
+        ensures { result ≡ self.now.alpha }
+    {
+        self.alpha
+    }
+
+    /// The matrix, row by row.
+    pub fn mds(&self) -> &[Vec<F>]
+        ensures { map (λ row. map F.value row.items) result.now ≡ self.now.mds }
+    {
+        &self.mds
+    }
+
+    /// The constants, a row for each round.
+    pub fn ark(&self) -> &[Vec<F>]
+        ensures { map (λ row. map F.value row.items) result.now ≡ self.now.ark }
+    {
+        &self.ark
+    }
+
     /// How many elements of a state are absorbed or given before it is permuted, one or more.
     pub fn rate(&self) -> usize
         ensures value { result ≡ self.now.rate }
+
+        // `new` takes these parameters.
+        ensures lawful { lawful_parameters F.MODULUS_BIT_SIZE self.now ≡ Ok self.now }
         ensures positive { 0 < result }
         ensures rows { length self.now.mds ≡ width self.now }
         ensures fits { result + self.now.capacity < 2 ^ 64 }
@@ -140,5 +181,33 @@ impl<F: PrimeField> PoseidonConfig<F> {
         apply_rounds::<F, S>(state, scratch, &ark[..half], mds, self.alpha, width);
         apply_rounds::<F, S>(state, scratch, &ark[half..middle], mds, self.alpha, 1);
         apply_rounds::<F, S>(state, scratch, &ark[middle..], mds, self.alpha, width);
+    }
+}
+
+// The rows once more.
+fn copy_of_rows<F: PrimeField>(rows: &Vec<Vec<F>>) -> Result<Vec<Vec<F>>, Error>
+    ensures { let numbers = map (λ row. map F.value row.items) in
+        AnswersBy (λ copy. numbers copy.items) (Ok (numbers rows.now.items)) result }
+{
+    Ok(rows.clone()?)
+}
+
+impl<F: PrimeField> Duplicate for PoseidonConfig<F> {
+    ghost Data = { Parameters };
+
+    ghost seen = { λ parameters. parameters };
+
+    fn duplicate(&self, _alloc: Global) -> Result<PoseidonConfig<F>, Error> {
+        let mds = copy_of_rows(&self.mds)?;
+        let ark = copy_of_rows(&self.ark)?;
+        PoseidonConfig::new(
+            self.full_rounds,
+            self.partial_rounds,
+            self.alpha,
+            mds,
+            ark,
+            self.rate(),
+            self.capacity,
+        )
     }
 }

@@ -1,16 +1,19 @@
 //! The sponge.
 
-ghost use Rattle.std.specs.Prelude.{◌≡◌, map, OnOk, OnErr, Ok};
+ghost use Rattle.std.specs.Prelude.{◌≡◌, map, length, Ok};
 ghost use Rattle.ark_base.specs.Outcome.{AnswersBy};
-ghost use Rattle.ark_sponge.specs.Sponge.{new_sponge, after_absorbing, with_absorbed, squeezed_numbers, after_squeezing, AbsorbsAsOne, GivesAsOne, LeavesAsOne};
+ghost use Rattle.ark_sponge.specs.Sponge.{new_sponge, after_absorbing, squeezed_numbers, after_squeezing, AbsorbsAsOne};
+
+mod calls;
+mod state;
 
 use crate::mode::{DuplexSpongeMode, absorb_index};
 use crate::poseidon::config::PoseidonConfig;
 use crate::poseidon::duplex::{absorb_blocks, begin_squeezing, squeeze_blocks, turn};
 use crate::poseidon::permutation::SBox;
-use ark_absorb::Absorb;
 use ark_base::error::Error;
 use ark_groups::ff::PrimeField;
+pub use state::PoseidonSpongeState;
 use std::alloc::Global;
 use std::marker::{Model, PhantomData};
 
@@ -82,21 +85,6 @@ impl<F: PrimeField, S: SBox<F>> PoseidonSponge<F, S> {
         self.mode
     }
 
-    /// Absorbs a value's elements. A value without elements changes nothing, not even the mode.
-    ///
-    /// Refusals, which leave the sponge as it was: `ForeignField` of an element of another field, `OutOfMemory`.
-    pub fn absorb<A: Absorb>(&mut self, input: &A) -> Result<(), Error>
-        ensures sponge { AnswersBy (λ _. self.new)
-            (with_absorbed F.MODULUS S.image self.old
-            (A.sponge_elements input.now F.MODULUS F.MODULUS_BIT_SIZE)) result }
-        ensures refused { OnErr result (self.new ≡ self.old) }
-    {
-        let _known = self.parameters.rate();
-        let elements = input.to_sponge_field_elements_as_vec::<F>(*self.state.allocator())?;
-        self.absorb_native(&elements);
-        Ok(())
-    }
-
     /// Absorbs elements of the sponge's own field. It takes no memory.
     pub fn absorb_native(&mut self, elements: &[F])
         ensures sponge { self.new ≡ after_absorbing F.MODULUS S.image self.old
@@ -106,6 +94,7 @@ impl<F: PrimeField, S: SBox<F>> PoseidonSponge<F, S> {
         ensures cut { AbsorbsAsOne F.MODULUS S.image self.old (map F.value elements.now) }
     {
         if !elements.is_empty() {
+            // The call tells the proof what every sponge's parameters keep.
             let _known = self.parameters.rate();
             let start = absorb_index(self.mode);
             let index = absorb_blocks::<F, S>(
@@ -121,30 +110,22 @@ impl<F: PrimeField, S: SBox<F>> PoseidonSponge<F, S> {
         }
     }
 
-    /// The next `count` elements. The only refusal is `OutOfMemory`, and it leaves the sponge as it was.
-    pub fn squeeze_native_field_elements(
-        &mut self,
-        alloc: Global,
-        count: usize,
-    ) -> Result<Vec<F>, Error>
-        ensures numbers { AnswersBy (λ elements. map F.value elements.items)
-            (Ok (squeezed_numbers F.MODULUS S.image self.old count)) result }
-        ensures sponge { OnOk result (self.new ≡ after_squeezing F.MODULUS S.image self.old count) }
-        ensures refused { OnErr result (self.new ≡ self.old) }
-
-        // What two calls give and leave is what one gives and leaves.
-        ensures given { GivesAsOne F.MODULUS S.image self.old count }
-        ensures left { LeavesAsOne F.MODULUS S.image self.old count }
+    /// Fills a list with the next elements of the sponge's own field. It takes no memory.
+    pub fn squeeze_into(&mut self, out: &mut [F])
+        ensures numbers { map F.value out.new
+            ≡ squeezed_numbers F.MODULUS S.image self.old (length out.old) }
+        ensures sponge { self.new ≡ after_squeezing F.MODULUS S.image self.old (length out.old) }
+        ensures length { length out.new ≡ length out.old }
     {
+        // As in `absorb_native`.
         let _known = self.parameters.rate();
-        let mut elements = vec![in alloc; F::zero(); count]?;
         let start = begin_squeezing::<F, S>(
             &self.parameters,
             &mut self.state,
             &mut self.scratch,
             self.mode,
         );
-        let index = if count == 0 {
+        let index = if out.is_empty() {
             turn::<F, S>(&self.parameters, &mut self.state, &mut self.scratch, start)
         } else {
             squeeze_blocks::<F, S>(
@@ -152,12 +133,11 @@ impl<F: PrimeField, S: SBox<F>> PoseidonSponge<F, S> {
                 &mut self.state,
                 &mut self.scratch,
                 start,
-                &mut elements,
+                out,
             )
         };
         self.mode = DuplexSpongeMode::Squeezing {
             next_squeeze_index: index,
         };
-        Ok(elements)
     }
 }

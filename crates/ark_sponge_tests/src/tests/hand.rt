@@ -53,6 +53,13 @@ pub fn parameters<M: Modulus>(alloc: Global, rate: usize) -> Result<PoseidonConf
     PoseidonConfig::new(1, 0, 3, mds, ark, rate, 1)
 }
 
+/// Parameters with another matrix and two full rounds, between which a partial one stands.
+pub fn three_rounds(alloc: Global) -> Result<PoseidonConfig<Fp<M257>>, Error> {
+    let mds = rows(alloc, &[[2, 1, 1], [1, 2, 1], [1, 1, 3]])?;
+    let ark = rows(alloc, &[[1, 2, 3], [4, 5, 6], [7, 8, 9]])?;
+    PoseidonConfig::new(2, 1, 3, mds, ark, 2, 1)
+}
+
 /// The sponge that has absorbed nothing.
 pub fn hand(alloc: Global) -> Result<Hand, Error> {
     PoseidonSponge::over(alloc, parameters::<M257>(alloc, 2)?)

@@ -1,13 +1,13 @@
 use crate::tests::hand::{Hand, elements, hand, parameters, values};
 use ark_base::error::{Error, Refusal};
 use ark_groups::ff::{Fp, M13, M257, M65537, PrimeField};
-use ark_sponge::DuplexSpongeMode;
 use ark_sponge::poseidon::PoseidonConfig;
+use ark_sponge::{CryptographicSponge, DuplexSpongeMode, FieldBasedCryptographicSponge};
 use std::alloc::Global;
 use std::test::Fail;
 
-// Whether a sponge holds these numbers and stands so.
-fn stands(
+/// Whether a sponge holds these numbers and stands so.
+pub fn stands(
     alloc: Global,
     sponge: &Hand,
     state: &[u64],
@@ -16,21 +16,24 @@ fn stands(
     Ok(values(alloc, sponge.state())?.as_slice() == state && sponge.mode() == mode)
 }
 
-fn absorbing(next_absorb_index: usize) -> DuplexSpongeMode {
+/// It absorbs at an index.
+pub fn absorbing(next_absorb_index: usize) -> DuplexSpongeMode {
     DuplexSpongeMode::Absorbing { next_absorb_index }
 }
 
-fn squeezing(next_squeeze_index: usize) -> DuplexSpongeMode {
+/// It squeezes at an index.
+pub fn squeezing(next_squeeze_index: usize) -> DuplexSpongeMode {
     DuplexSpongeMode::Squeezing { next_squeeze_index }
 }
 
-fn absorb(alloc: Global, sponge: &mut Hand, numbers: &[u64]) -> Result<(), Error> {
+/// Absorbs elements of these numbers.
+pub fn absorb(alloc: Global, sponge: &mut Hand, numbers: &[u64]) -> Result<(), Error> {
     sponge.absorb(&elements::<M257>(alloc, numbers)?)
 }
 
-// What a sponge gives, as numbers.
-fn squeeze(alloc: Global, sponge: &mut Hand, count: usize) -> Result<Vec<u64>, Error> {
-    let given = sponge.squeeze_native_field_elements(alloc, count)?;
+/// What a sponge gives, as numbers.
+pub fn squeeze(alloc: Global, sponge: &mut Hand, count: usize) -> Result<Vec<u64>, Error> {
+    let given = sponge.squeeze_native_field_elements(count)?;
     values(alloc, &given)
 }
 
@@ -120,7 +123,7 @@ fn what_is_refused_leaves_the_sponge(rt: HostRuntime) -> Result<(), Fail> {
     absorb(alloc, &mut sponge, &[5])?;
     let foreign = sponge.absorb(&Fp::<M65537>::from_u64(7));
     assert!(rt; matches!(&foreign, Err(Error::GenericError(Refusal::ForeignField))));
-    let huge = sponge.squeeze_native_field_elements(alloc, 1 << 60);
+    let huge = sponge.squeeze_native_field_elements(1 << 60);
     assert!(rt; matches!(&huge, Err(Error::OutOfMemory)));
     assert!(rt; stands(alloc, &sponge, &[0, 5, 0], absorbing(1))?);
     Ok(())

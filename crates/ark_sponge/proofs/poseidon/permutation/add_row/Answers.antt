@@ -1,4 +1,4 @@
-use Rattle.std.proofs.Common.{◌≡◌, ◌<◌, sym, ◌∙◌, arith, length}
+use Rattle.std.proofs.Common.{sym, arith}
 use Rattle.ark_sponge.proofs.Rows.{constant_added, sums-nil}
 use Rattle.ark_sponge.proofs.poseidon.permutation.add_row.Goals as goal
 

@@ -1,4 +1,4 @@
-use Rattle.std.proofs.Common.{◌≡◌, ◌<◌, map, length, sym, ◌∙◌, ap, arith}
+use Rattle.std.proofs.Common.{◌<◌, map, length, ◌∙◌, ap, arith}
 use Rattle.std.proofs.Math.ListN.{length-map}
 use Rattle.ark_sponge.proofs.Rows.{poseidon_rounds-more, row_read}
 use Rattle.ark_sponge.proofs.poseidon.permutation.apply_rounds.Goals as goal

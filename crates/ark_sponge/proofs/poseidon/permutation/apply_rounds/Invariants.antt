@@ -1,4 +1,4 @@
-use Rattle.std.proofs.Common.{◌≡◌, map, take, ◌%◌}
+use Rattle.std.proofs.Common.{◌≡◌, map, take}
 use Rattle.ark_sponge.specs.Permutation.{poseidon_rounds}
 use Rattle.ark_sponge.proofs.poseidon.permutation.apply_rounds.Given as goal
 

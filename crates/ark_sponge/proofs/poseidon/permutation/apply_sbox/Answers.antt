@@ -1,4 +1,4 @@
-use Rattle.std.proofs.Common.{◌≡◌, ◌<◌, sym, ◌∙◌, arith, length}
+use Rattle.std.proofs.Common.{arith}
 use Rattle.ark_sponge.proofs.Rows.{power_applied}
 use Rattle.ark_sponge.proofs.poseidon.permutation.apply_sbox.Goals as goal
 

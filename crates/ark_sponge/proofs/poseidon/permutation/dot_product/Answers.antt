@@ -1,4 +1,4 @@
-use Rattle.std.proofs.Common.{◌≡◌, ◌<◌, sym, ◌∙◌, arith, length}
+use Rattle.std.proofs.Common.{arith}
 use Rattle.ark_sponge.proofs.Rows.{product_added}
 use Rattle.ark_sponge.proofs.poseidon.permutation.dot_product.Goals as goal
 

@@ -1,4 +1,4 @@
-use Rattle.std.proofs.Common.{◌≡◌, ◌<◌, map, length, sym, ◌∙◌, arith}
+use Rattle.std.proofs.Common.{◌<◌, map, length, arith}
 use Rattle.std.proofs.Math.ListN.{length-map}
 use Rattle.ark_sponge.proofs.Rows.{product_written, row_read}
 use Rattle.ark_sponge.proofs.poseidon.permutation.multiply.Goals as goal

@@ -1,4 +1,4 @@
-use Rattle.std.proofs.Common.{◌≡◌, map, take, ◌%◌}
+use Rattle.std.proofs.Common.{◌≡◌, map, take}
 use Rattle.ark_sponge.specs.Permutation.{matrix_product}
 use Rattle.ark_sponge.proofs.poseidon.permutation.multiply.Given as goal
 

@@ -1,4 +1,4 @@
-use Rattle.std.proofs.Common.{◌≡◌, ◌<◌, arith, map}
+use Rattle.std.proofs.Common.{◌<◌, arith, map}
 use Rattle.ark_sponge.specs.Permutation.{permutation}
 use Rattle.ark_sponge.proofs.Cuts.{after_absorbing-cut, within_start}
 use Rattle.ark_sponge.proofs.Permuting.{numbers-state}

@@ -1,5 +1,5 @@
-use Rattle.std.proofs.Common.{◌≡◌, ℕ, ◌+◌, zero, suc, map, replicate, List, [], ◌∷◌, sym, ap, ◌∙◌, refl, arith, Ok}
-use Rattle.ark_sponge.specs.Sponge.{Sponge, new_sponge}
+use Rattle.std.proofs.Common.{◌≡◌, ℕ, ◌+◌, zero, suc, map, replicate, List, ◌∷◌, sym, ap, ◌∙◌, refl, arith, Ok}
+use Rattle.ark_sponge.specs.Sponge.{Sponge}
 use Rattle.ark_base.specs.Outcome.{Outcome}
 use Rattle.ark_sponge.specs.declared.mode.DuplexSpongeMode.TheVariants.{Absorbing}
 use Rattle.ark_sponge.proofs.poseidon.sponge.PoseidonSponge.over.Goals as goal

@@ -1,9 +1,9 @@
 use Rattle.std.proofs.Common.{◌<◌, rules}
 use Rattle.ark_sponge.proofs.Cutting.{squeezed_numbers-cut, after_squeezing-cut}
-use Rattle.ark_sponge.proofs.poseidon.sponge.PoseidonSponge.squeeze_native_field_elements.Goals as goal
+use Rattle.ark_sponge.proofs.poseidon.sponge.calls.PoseidonSpongeFieldBasedCryptographicSponge.squeeze_native_field_elements.Goals as goal
 
-pub returns-clause-given : goal.returns-clause-given
-returns-clause-given g c =
+pub returns-clause-cut : goal.returns-clause-cut
+returns-clause-cut g c =
     let pos : 0 < c.args.self.now.parameters.rate = search rules in
     squeezed_numbers-cut g.F.PrimeField.MODULUS g.S.SBox.image c.args.self.now pos c.args.count
 
@@ -12,8 +12,8 @@ returns-clause-left g c =
     let pos : 0 < c.args.self.now.parameters.rate = search rules in
     after_squeezing-cut g.F.PrimeField.MODULUS g.S.SBox.image c.args.self.now pos c.args.count
 
-pub returns-in_err-elements-clause-given : goal.returns-in_err-elements-clause-given
-returns-in_err-elements-clause-given g c =
+pub returns-in_err-elements-clause-cut : goal.returns-in_err-elements-clause-cut
+returns-in_err-elements-clause-cut g c =
     let pos : 0 < c.args.self.now.parameters.rate = search rules in
     squeezed_numbers-cut g.F.PrimeField.MODULUS g.S.SBox.image c.args.self.now pos c.args.count
 

@@ -1,0 +1,6 @@
+use Rattle.std.proofs.Common.{◌≡◌, length, take, map}
+use Rattle.ark_sponge.proofs.spread.own_elements.Given as goal
+
+abbrev pub invariant-loop-i : goal.invariant-loop-i
+invariant-loop-i g l =
+    (length l.out ≡ length l.elements) × (map g.G.PrimeField.value (take l.i l.out) ≡ map g.F.PrimeField.value (take l.i l.elements))

@@ -1,0 +1,133 @@
+use crate::tests::hand::{Hand, elements, hand, three_rounds, values};
+use crate::tests::poseidon::{absorb, absorbing, squeeze, squeezing, stands};
+use ark_base::error::{Error, Refusal};
+use ark_groups::ff::{Fp, M13, M61, M257, Modulus, PrimeField};
+use ark_sponge::poseidon::PoseidonSponge;
+use ark_sponge::{CryptographicSponge, FieldBasedCryptographicSponge, FieldElementSize};
+use std::alloc::Global;
+use std::test::Fail;
+
+// Elements of sizes over a modulus, as numbers.
+fn sized<M: Modulus>(
+    alloc: Global,
+    sponge: &mut Hand,
+    sizes: &[FieldElementSize],
+) -> Result<Vec<u64>, Error> {
+    let given = sponge.squeeze_field_elements_with_sizes::<Fp<M>>(sizes)?;
+    values(alloc, &given)
+}
+
+#[test]
+fn bytes_and_bits_are_the_lowest(rt: HostRuntime) -> Result<(), Fail> {
+    let alloc = rt.alloc();
+    let mut sponge = hand(alloc)?;
+    assert_eq!(rt; sponge.squeeze_bytes(2)?.as_slice(), [27, 1].as_slice());
+    let mut sponge = hand(alloc)?;
+    let bits = [true, true, false, true, true, false, false, false, true];
+    assert_eq!(rt; sponge.squeeze_bits(9)?.as_slice(), bits.as_slice());
+    Ok(())
+}
+
+#[test]
+fn no_bytes_and_no_bits_are_not_idle(rt: HostRuntime) -> Result<(), Fail> {
+    let alloc = rt.alloc();
+    let mut sponge = hand(alloc)?;
+    assert!(rt; sponge.squeeze_bytes(0)?.is_empty());
+    assert!(rt; stands(alloc, &sponge, &[8, 27, 1], squeezing(0))?);
+    let mut sponge = hand(alloc)?;
+    assert!(rt; sponge.squeeze_bits(0)?.is_empty());
+    assert!(rt; stands(alloc, &sponge, &[8, 27, 1], squeezing(0))?);
+    Ok(())
+}
+
+#[test]
+fn elements_have_sizes(rt: HostRuntime) -> Result<(), Fail> {
+    let alloc = rt.alloc();
+    let two = [FieldElementSize::Full, FieldElementSize::Truncated(3)];
+    let given = sized::<M257>(alloc, &mut hand(alloc)?, &two)?;
+    assert_eq!(rt; given.as_slice(), [27, 1].as_slice());
+    let given = sized::<M13>(alloc, &mut hand(alloc)?, &[FieldElementSize::Full])?;
+    assert_eq!(rt; given.as_slice(), [3].as_slice());
+    let given = sized::<M13>(alloc, &mut hand(alloc)?, &[FieldElementSize::Truncated(4)])?;
+    assert_eq!(rt; given.as_slice(), [11].as_slice());
+    let mut sponge = hand(alloc)?;
+    let given = sponge.squeeze_native_field_elements_with_sizes(&two)?;
+    assert_eq!(rt; values(alloc, &given)?.as_slice(), [27, 1].as_slice());
+    let mut sponge = hand(alloc)?;
+    let given = sponge.squeeze_field_elements::<Fp<M257>>(2)?;
+    assert_eq!(rt; values(alloc, &given)?.as_slice(), [27, 1].as_slice());
+    let mut sponge = hand(alloc)?;
+    let given = sponge.squeeze_field_elements::<Fp<M13>>(1)?;
+    assert_eq!(rt; values(alloc, &given)?.as_slice(), [3].as_slice());
+    Ok(())
+}
+
+#[test]
+fn no_sizes_are_idle_over_another_field(rt: HostRuntime) -> Result<(), Fail> {
+    let alloc = rt.alloc();
+    let mut sponge = hand(alloc)?;
+    assert!(rt; sized::<M13>(alloc, &mut sponge, &[])?.is_empty());
+    assert!(rt; stands(alloc, &sponge, &[0, 0, 0], absorbing(0))?);
+    assert!(rt; sized::<M257>(alloc, &mut sponge, &[])?.is_empty());
+    assert!(rt; stands(alloc, &sponge, &[8, 27, 1], squeezing(0))?);
+    let mut sponge = hand(alloc)?;
+    assert!(rt;
+        sponge
+            .squeeze_native_field_elements_with_sizes(&[])?
+            .is_empty()
+    );
+    assert!(rt; stands(alloc, &sponge, &[8, 27, 1], squeezing(0))?);
+    Ok(())
+}
+
+#[test]
+fn sizes_are_added_up(rt: HostRuntime) {
+    let two = [FieldElementSize::Full, FieldElementSize::Truncated(3)];
+    assert_eq!(rt; FieldElementSize::sum::<Fp<M257>>(&two), Ok(11));
+    let past = [FieldElementSize::Full, FieldElementSize::Truncated(10)];
+    let refused = Err(Error::GenericError(Refusal::SizePastField));
+    assert_eq!(rt; FieldElementSize::sum::<Fp<M257>>(&past), refused);
+}
+
+#[test]
+fn sizes_past_the_field_leave_the_sponge(rt: HostRuntime) -> Result<(), Fail> {
+    let alloc = rt.alloc();
+    let mut sponge = hand(alloc)?;
+    let past = Some(Error::GenericError(Refusal::SizePastField));
+    let wide = [FieldElementSize::Full, FieldElementSize::Truncated(10)];
+    assert_eq!(rt; sized::<M257>(alloc, &mut sponge, &wide).err(), past);
+    let wide = [FieldElementSize::Truncated(5)];
+    assert_eq!(rt; sized::<M13>(alloc, &mut sponge, &wide).err(), past);
+    let many = sponge.squeeze_field_elements::<Fp<M61>>(1 << 60).err();
+    assert_eq!(rt; many, Some(Error::GenericError(Refusal::LengthOverflow)));
+    let many = sponge.squeeze_field_elements::<Fp<M257>>(1 << 60).err();
+    assert_eq!(rt; many, Some(Error::OutOfMemory));
+    assert_eq!(rt;
+        sponge.squeeze_bytes(usize::MAX).err(),
+        Some(Error::OutOfMemory)
+    );
+    assert_eq!(rt;
+        sponge.squeeze_bits(usize::MAX).err(),
+        Some(Error::OutOfMemory)
+    );
+    assert!(rt; stands(alloc, &sponge, &[0, 0, 0], absorbing(0))?);
+    Ok(())
+}
+
+// Computed by a program of a few lines in another language.
+#[test]
+fn a_partial_round_stands_between_full_ones(rt: HostRuntime) -> Result<(), Fail> {
+    let alloc = rt.alloc();
+    let mut sponge = PoseidonSponge::over(alloc, three_rounds(alloc)?)?;
+    assert!(rt; squeeze(alloc, &mut sponge, 0)?.is_empty());
+    assert!(rt; stands(alloc, &sponge, &[30, 92, 204], squeezing(0))?);
+    let mut sponge = PoseidonSponge::over(alloc, three_rounds(alloc)?)?;
+    absorb(alloc, &mut sponge, &[5, 6])?;
+    assert_eq!(rt;
+        squeeze(alloc, &mut sponge, 2)?.as_slice(),
+        [174, 68].as_slice()
+    );
+    let given = elements::<M257>(alloc, &[209, 174, 68])?;
+    assert_eq!(rt; sponge.state(), given.as_slice());
+    Ok(())
+}
