@@ -13,7 +13,8 @@ use Rattle.ark_base.specs.Reading.{IsBytes}
 use Rattle.ark_base.specs.Digits.{number_of_bytes}
 use Rattle.ark_base.specs.Laws.Steps.{IsBytes-take}
 use Rattle.ark_groups.specs.Group.{Group, IsCommutativeGroup}
-use Rattle.ark_pedersen.specs.Pedersen.{bits_of_number, bits_of_bytes, pedersen_sum}
+use Rattle.ark_groups.specs.Bits.{bits_of_number}
+use Rattle.ark_pedersen.specs.Pedersen.{bits_of_bytes, pedersen_sum}
 use Rattle.ark_pedersen.proofs.PedersenSums.{pedersen_sum-behind}
 
 -- ---- bits of a number

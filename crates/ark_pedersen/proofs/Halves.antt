@@ -8,7 +8,8 @@ use Rattle.ark_base.specs.declared.error.Error.TheVariants.{IncorrectInputLength
 use Rattle.ark_base.specs.declared.error.Refusal.TheVariants.{ParameterShape}
 use Rattle.ark_groups.specs.Group.{Group, IsCommutativeGroup}
 use Rattle.ark_groups.proofs.Multiples.{right_identity}
-use Rattle.ark_pedersen.specs.Pedersen.{bits_of_number, bits_of_bytes, pedersen_sum, window_bits, concatenation, has_shape, sum_from}
+use Rattle.ark_groups.specs.Bits.{bits_of_number}
+use Rattle.ark_pedersen.specs.Pedersen.{bits_of_bytes, pedersen_sum, window_bits, concatenation, has_shape, sum_from}
 use Rattle.ark_pedersen.specs.Pedersen.{pedersen_hash, full_halves, of_halves}
 use Rattle.ark_pedersen.specs.declared.window.Window.{Ghosts as Windows}
 use Rattle.ark_pedersen.proofs.BitSums.{length-bits_of_number, pedersen_sum-zero}

@@ -2,7 +2,8 @@
 use Rattle.std.proofs.Common.{◌≡◌, ℕ, zero, suc, ◌+◌, ◌*◌, Bool, true, false, ◌&&◌, ◌||◌, List, [], ◌∷◌, ◌++◌, length, take, drop, map, refl, sym, ap, ◌∙◌, arith}
 use Rattle.ark_groups.specs.Group.{Group, IsCommutativeGroup, times}
 use Rattle.ark_groups.proofs.Multiples.{times_at, times-plus, times-add}
-use Rattle.ark_pedersen.specs.Pedersen.{number_of_bits, union, AreDisjoint, pedersen_sum, doublings, windows_sum, concatenation}
+use Rattle.ark_groups.specs.Bits.{number_of_bits}
+use Rattle.ark_pedersen.specs.Pedersen.{union, AreDisjoint, pedersen_sum, doublings, windows_sum, concatenation}
 
 pub length-doublings : {G : Type 0} (g : Group G) (count : ℕ) (x : G) → length (doublings g count x) ≡ count
 unfolding doublings

@@ -6,25 +6,16 @@ use Rattle.std.specs.List.{flat_map, list_all}
 use Rattle.ark_base.specs.Outcome.{Outcome, ◌>>=◌}
 use Rattle.ark_base.specs.declared.error.Error.TheVariants.{IncorrectInputLength, GenericError}
 use Rattle.ark_base.specs.declared.error.Refusal.TheVariants.{ParameterShape}
+use Rattle.ark_groups.specs.Bits.{bits_of_number, number_of_bits}
 use Rattle.ark_groups.specs.Group.{Group, times}
 use Rattle.ark_pedersen.specs.declared.parameters.Parameters.{Parameters}
 use Rattle.ark_pedersen.specs.declared.window.Window.{Ghosts as Windows}
 
 -- ---- bits
 
--- the lowest binary digits of a number, as many as are asked for, the lowest first
-unfoldable pub bits_of_number : ℕ → ℕ → List Bool
-bits_of_number zero n = []
-bits_of_number (suc count) n = (n % 2 == 1) ∷ bits_of_number count (n / 2)
-
 -- the binary digits of bytes, the lowest of each byte first
 abbrev pub bits_of_bytes : List ℕ → List Bool
 bits_of_bytes bytes = flat_map (bits_of_number 8) bytes
-
--- the number that bits are, the lowest first
-unfoldable pub number_of_bits : List Bool → ℕ
-number_of_bits [] = 0
-number_of_bits (b ∷ bits) = (if b then 1 else 0) + 2 * number_of_bits bits
 
 -- a bit is set where it is set in one of two lists
 unfoldable pub union : List Bool → List Bool → List Bool

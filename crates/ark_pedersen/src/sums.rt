@@ -1,7 +1,8 @@
 //! The sum of the generators at the set bits of an input.
 
 ghost use Rattle.std.specs.Prelude.{◌≡◌, ◌+◌, ◌*◌, ◌-◌, ◌<◌, ◌≤◌, ◌^◌, length, IsTrue};
-ghost use Rattle.ark_pedersen.specs.Pedersen.{bits_of_number, bits_of_bytes, window_bits, lists_in, has_shape};
+ghost use Rattle.ark_groups.specs.Bits.{bits_of_number};
+ghost use Rattle.ark_pedersen.specs.Pedersen.{bits_of_bytes, window_bits, lists_in, has_shape};
 ghost use Rattle.ark_pedersen.specs.Pedersen.{sum_from, pedersen_hash, of_halves};
 
 use crate::Window;

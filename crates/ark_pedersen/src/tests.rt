@@ -238,7 +238,10 @@ fn are_drawn<C: CurveGroup, W: Window, R: Rng>(lists: &[Vec<C>], twin: &mut R) -
     lists.len() == W::NUM_WINDOWS
 }
 
-fn setup_is_drawn<C: CurveGroup + DigestItem, W: Window>(alloc: Global, seed: u64) -> Result<bool, Error> {
+fn setup_is_drawn<C: CurveGroup + DigestItem, W: Window>(
+    alloc: Global,
+    seed: u64,
+) -> Result<bool, Error> {
     let mut rng = SmallRng::seed_from_u64(seed);
     let parameters = <CRH<C, W> as CRHScheme>::setup(alloc, &mut rng)?;
     let mut twin = SmallRng::seed_from_u64(seed);
@@ -255,7 +258,10 @@ fn setup_of_two_is_drawn<C: CurveGroup + DigestItem, W: Window>(
     Ok(are_drawn::<C, W, SmallRng>(&parameters.generators, &mut twin))
 }
 
-fn generators_are_drawn<C: CurveGroup + DigestItem, W: Window>(alloc: Global, seed: u64) -> Result<bool, Error> {
+fn generators_are_drawn<C: CurveGroup + DigestItem, W: Window>(
+    alloc: Global,
+    seed: u64,
+) -> Result<bool, Error> {
     let mut rng = SmallRng::seed_from_u64(seed);
     let lists = TwoToOneCRH::<C, W>::create_generators(alloc, &mut rng)?;
     let mut twin = SmallRng::seed_from_u64(seed);

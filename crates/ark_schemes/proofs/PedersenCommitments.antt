@@ -8,7 +8,8 @@ use Rattle.ark_base.specs.declared.error.Refusal.TheVariants.{ParameterShape}
 use Rattle.ark_groups.specs.Field.{IsModulus, IsField}
 use Rattle.ark_groups.specs.Group.{Group, IsCommutativeGroup, times}
 use Rattle.ark_groups.proofs.Multiples.{swap_last, times-add, times-mod}
-use Rattle.ark_pedersen.specs.Pedersen.{bits_of_number, bits_of_bytes, number_of_bits, pedersen_sum, doublings, window_bits, concatenation, has_shape, AreGeneratorsOf, pedersen_hash}
+use Rattle.ark_groups.specs.Bits.{bits_of_number, number_of_bits}
+use Rattle.ark_pedersen.specs.Pedersen.{bits_of_bytes, pedersen_sum, doublings, window_bits, concatenation, has_shape, AreGeneratorsOf, pedersen_hash}
 use Rattle.ark_pedersen.specs.declared.window.Window.{Ghosts as Windows}
 use Rattle.ark_pedersen.proofs.BitSums.{pedersen_sum-more}
 use Rattle.ark_pedersen.proofs.Halves.{length-bits_of_bytes}

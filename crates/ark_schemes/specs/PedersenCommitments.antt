@@ -4,7 +4,8 @@ use Rattle.ark_base.specs.Outcome.{Outcome, ◌>>=◌}
 use Rattle.ark_base.specs.declared.error.Error.TheVariants.{GenericError}
 use Rattle.ark_base.specs.declared.error.Refusal.TheVariants.{ParameterShape}
 use Rattle.ark_groups.specs.Group.{Group, times}
-use Rattle.ark_pedersen.specs.Pedersen.{bits_of_number, bits_of_bytes, union, AreDisjoint, pedersen_sum, doublings}
+use Rattle.ark_groups.specs.Bits.{bits_of_number}
+use Rattle.ark_pedersen.specs.Pedersen.{bits_of_bytes, union, AreDisjoint, pedersen_sum, doublings}
 use Rattle.ark_pedersen.specs.Pedersen.{lists_in, AreGeneratorsOf, pedersen_hash, windows_hash}
 use Rattle.ark_pedersen.specs.declared.window.Window.{Ghosts as Windows}
 use Rattle.ark_schemes.specs.declared.commitment.pedersen.parameters.Parameters.{Parameters}

@@ -5,21 +5,21 @@ use Rattle.std.proofs.lemmas.List.{append-nil, length-append, take_all, take_mor
 use Rattle.std.proofs.lemmas.Bool.{cases_lt}
 use Rattle.std.proofs.Math.Seq.{take-append-add}
 use Rattle.std.proofs.lemmas.List.{take-append-le}
-use Rattle.ark_groups.specs.Bits.{low_bits}
+use Rattle.ark_groups.specs.Bits.{bits_of_number}
 
 -- ---- digits, so many
 
-pub length-low_bits : (count n : ℕ) → length (low_bits count n) ≡ count
-unfolding low_bits
-length-low_bits zero n = refl
-length-low_bits (suc count) n = ap suc (length-low_bits count (n / 2))
+pub length-bits_of_number : (count n : ℕ) → length (bits_of_number count n) ≡ count
+unfolding bits_of_number
+length-bits_of_number zero n = refl
+length-bits_of_number (suc count) n = ap suc (length-bits_of_number count (n / 2))
 
-pub take-low_bits : (count more n : ℕ) → take count (low_bits (count + more) n) ≡ low_bits count n
-unfolding low_bits
-take-low_bits zero more n = refl
-take-low_bits (suc count) more n =
+pub take-bits_of_number : (count more n : ℕ) → take count (bits_of_number (count + more) n) ≡ bits_of_number count n
+unfolding bits_of_number
+take-bits_of_number zero more n = refl
+take-bits_of_number (suc count) more n =
     let whole : suc count + more ≡ suc (count + more) = omega arith in
-    rw whole (ap (λ (t : List Bool). eqb (n % 2) 1 ∷ t) (take-low_bits count more (n / 2)))
+    rw whole (ap (λ (t : List Bool). eqb (n % 2) 1 ∷ t) (take-bits_of_number count more (n / 2)))
 
 -- ---- lists
 

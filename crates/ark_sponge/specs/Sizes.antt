@@ -4,7 +4,7 @@ use Rattle.std.specs.List.{list_all}
 use Rattle.ark_base.specs.declared.error.Error.TheVariants.{GenericError}
 use Rattle.ark_base.specs.declared.error.Refusal.TheVariants.{SizePastField, LengthOverflow}
 use Rattle.ark_base.specs.Outcome.{Outcome}
-use Rattle.ark_groups.specs.Bits.{number_of_low_bits}
+use Rattle.ark_groups.specs.Bits.{number_of_bits}
 use Rattle.ark_sponge.specs.declared.size.FieldElementSize.{FieldElementSize}
 use Rattle.ark_sponge.specs.declared.size.FieldElementSize.TheVariants.{Full, Truncated}
 
@@ -32,7 +32,7 @@ abbrev pub cut_numbers : ℕ → ℕ → List FieldElementSize → List Bool →
 cut_numbers p bits [] given = []
 cut_numbers p bits (size ∷ sizes) given =
     let width = size_width bits size in
-    (number_of_low_bits (take width given) % p) ∷ cut_numbers p bits sizes (drop width given)
+    (number_of_bits (take width given) % p) ∷ cut_numbers p bits sizes (drop width given)
 
 abbrev pub is_full : FieldElementSize → Bool
 is_full Full = true

@@ -4,7 +4,7 @@ use Rattle.std.specs.List.{flat_map}
 use Rattle.std.specs.Int.{div_ceil}
 use Rattle.ark_base.specs.Digits.{bytes_of_number}
 use Rattle.ark_base.specs.Outcome.{Outcome, ◌>>=◌}
-use Rattle.ark_groups.specs.Bits.{low_bits}
+use Rattle.ark_groups.specs.Bits.{bits_of_number}
 use Rattle.ark_sponge.specs.declared.size.FieldElementSize.{FieldElementSize}
 use Rattle.ark_sponge.specs.Sizes.{sum_of_sizes, cut_numbers, are_full}
 use Rattle.ark_sponge.specs.Sponge.{Sponge, squeezed_numbers, after_squeezing}
@@ -24,7 +24,7 @@ bytes_squeezed p bits sbox s n =
 abbrev pub bits_squeezed : ℕ → ℕ → (ℕ → ℕ → ℕ) → Sponge → ℕ → List Bool × Sponge
 bits_squeezed p bits sbox s n =
     let squeezed = native_squeezed p sbox s (div_ceil n (bits - 1)) in
-    (take n (flat_map (low_bits (bits - 1)) squeezed.0), squeezed.1)
+    (take n (flat_map (bits_of_number (bits - 1)) squeezed.0), squeezed.1)
 
 -- elements of a target field of sizes, cut from as many bits as the sizes have in all; for no sizes nothing happens
 abbrev pub cut_squeezed : ℕ → ℕ → (ℕ → ℕ → ℕ) → Sponge → ℕ → ℕ → List FieldElementSize → Outcome (List ℕ × Sponge)

@@ -3,7 +3,7 @@
 ghost use Rattle.std.specs.Prelude.{◌≡◌, ◌+◌, ◌*◌, ◌≤◌, ◌++◌, map, length, take};
 ghost use Rattle.std.specs.List.{flat_map};
 ghost use Rattle.ark_base.specs.Digits.{bytes_of_number};
-ghost use Rattle.ark_groups.specs.Bits.{low_bits};
+ghost use Rattle.ark_groups.specs.Bits.{bits_of_number};
 ghost use Rattle.ark_sponge.specs.Sizes.{cut_numbers};
 
 use crate::size::FieldElementSize;
@@ -24,7 +24,7 @@ fn write_bytes_at<F: PrimeField>(out: &mut [u8], place: usize, count: usize, ele
 fn write_bits_at<F: PrimeField>(out: &mut [bool], place: usize, count: usize, element: F)
     requires inside { place + count ≤ length out.old }
     ensures front { take (place + count) out.new
-        ≡ take place out.old ++ low_bits count (F.value element) }
+        ≡ take place out.old ++ bits_of_number count (F.value element) }
     ensures length { length out.new ≡ length out.old }
 {
     write_low_bits(element, &mut out[place..place + count]);
@@ -49,7 +49,7 @@ pub fn spread_bytes<F: PrimeField>(elements: &[F], size: usize, out: &mut [u8])
 pub fn spread_bits<F: PrimeField>(elements: &[F], size: usize, out: &mut [bool])
     requires enough { length out.old ≤ length elements.now * size }
     ensures { out.new ≡ take (length out.old)
-        (flat_map (low_bits size) (map F.value elements.now)) }
+        (flat_map (bits_of_number size) (map F.value elements.now)) }
 {
     let mut done = 0;
     for element in elements {

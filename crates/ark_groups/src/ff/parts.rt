@@ -3,7 +3,7 @@
 ghost use Rattle.std.specs.Prelude.{◌≡◌, ◌≤◌, ◌%◌, ◌++◌, length, MatchResult};
 ghost use Rattle.std.specs.Bool.{Decides};
 ghost use Rattle.ark_base.specs.Digits.{bytes_of_number};
-ghost use Rattle.ark_groups.specs.Bits.{low_bits, number_of_low_bits};
+ghost use Rattle.ark_groups.specs.Bits.{bits_of_number, number_of_bits};
 
 use crate::ff::PrimeField;
 use ark_base::error::Error;
@@ -51,7 +51,7 @@ pub fn write_low_bytes<F: PrimeField>(element: F, out: &mut [u8])
 
 /// Fills a list with the lowest bits of an element's number, the lowest first. Bits past the number's are 0.
 pub fn write_low_bits<F: PrimeField>(element: F, out: &mut [bool])
-    ensures { out.new ≡ low_bits (length out.old) (F.value element) }
+    ensures { out.new ≡ bits_of_number (length out.old) (F.value element) }
 {
     let mut rest = element.value();
     for i in 0..out.len() {
@@ -62,7 +62,7 @@ pub fn write_low_bits<F: PrimeField>(element: F, out: &mut [bool])
 
 /// The number that bits are, the lowest first, modulo the modulus.
 pub fn element_of_bits<F: PrimeField>(bits: &[bool]) -> F
-    ensures { F.value result ≡ number_of_low_bits bits.now % F.MODULUS }
+    ensures { F.value result ≡ number_of_bits bits.now % F.MODULUS }
 {
     let mut element = F::zero();
     for i in (0..bits.len()).rev() {

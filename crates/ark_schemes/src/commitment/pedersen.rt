@@ -1,7 +1,8 @@
 //! The Pedersen commitment.
 
 ghost use Rattle.std.specs.Prelude.{◌≡◌, ℕ, ◌+◌, ◌%◌, ◌<◌, ◌^◌, List, length, Ok};
-ghost use Rattle.ark_pedersen.specs.Pedersen.{bits_of_number, pedersen_sum, seen_by};
+ghost use Rattle.ark_groups.specs.Bits.{bits_of_number};
+ghost use Rattle.ark_pedersen.specs.Pedersen.{pedersen_sum, seen_by};
 ghost use Rattle.ark_schemes.specs.PedersenCommitments.{elements_in, AreOf, AreMade, pedersen_commitment};
 ghost use Rattle.ark_schemes.specs.PedersenCommitments.{windows_commitment, sum_of, IsUnion};
 

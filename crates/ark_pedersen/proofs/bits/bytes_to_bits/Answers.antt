@@ -1,6 +1,7 @@
 use Rattle.std.proofs.Common.{◌≡◌, ℕ, suc, ◌+◌, ◌-◌, ◌/◌, ◌%◌, ◌<◌, ◌≤◌, Bool, eqb, List, [], ◌∷◌, ◌++◌, length, get_or, take, sym, ap, ◌∙◌, append_assoc, arith}
 use Rattle.std.proofs.lemmas.List.{append-nil, take_more, flat_map_more}
-use Rattle.ark_pedersen.specs.Pedersen.{bits_of_number, bits_of_bytes}
+use Rattle.ark_groups.specs.Bits.{bits_of_number}
+use Rattle.ark_pedersen.specs.Pedersen.{bits_of_bytes}
 use Rattle.ark_pedersen.proofs.bits.bytes_to_bits.Goals as goal
 
 -- one bit more

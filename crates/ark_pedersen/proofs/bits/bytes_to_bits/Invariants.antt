@@ -1,5 +1,6 @@
 use Rattle.std.proofs.Common.{◌≡◌, ◌-◌, ◌++◌, take}
-use Rattle.ark_pedersen.specs.Pedersen.{bits_of_number, bits_of_bytes}
+use Rattle.ark_groups.specs.Bits.{bits_of_number}
+use Rattle.ark_pedersen.specs.Pedersen.{bits_of_bytes}
 use Rattle.ark_pedersen.proofs.bits.bytes_to_bits.Given as goal
 
 -- the bits of the byte that were put, and those that are still to be put, are the whole

@@ -6,7 +6,8 @@ use Rattle.ark_base.specs.Reading.{IsBytes}
 use Rattle.ark_base.specs.Laws.Steps.{IsBytes-drop, IsBytes-take}
 use Rattle.ark_groups.specs.Group.{Group, IsCommutativeGroup}
 use Rattle.ark_groups.proofs.Multiples.{right_identity}
-use Rattle.ark_pedersen.specs.Pedersen.{bits_of_number, bits_of_bytes, window_bits, lists_in, concatenation, pedersen_sum}
+use Rattle.ark_groups.specs.Bits.{bits_of_number}
+use Rattle.ark_pedersen.specs.Pedersen.{bits_of_bytes, window_bits, lists_in, concatenation, pedersen_sum}
 use Rattle.ark_pedersen.proofs.BitSums.{pedersen_sum-word, number_of_bytes-below}
 use Rattle.ark_pedersen.proofs.PedersenSums.{pedersen_sum-none}
 use Rattle.ark_pedersen.proofs.sums.add_bytes.Goals as goal

@@ -4,7 +4,8 @@ use Rattle.std.specs.Int.Count.{count_trailing_zeros}
 use Rattle.std.proofs.lemmas.Nat.{and_le_l}
 use Rattle.ark_groups.proofs.Multiples.{right_identity}
 use Rattle.ark_groups.specs.Group.{Group, IsCommutativeGroup}
-use Rattle.ark_pedersen.specs.Pedersen.{bits_of_number, window_bits, lists_in, concatenation, pedersen_sum}
+use Rattle.ark_groups.specs.Bits.{bits_of_number}
+use Rattle.ark_pedersen.specs.Pedersen.{window_bits, lists_in, concatenation, pedersen_sum}
 use Rattle.ark_pedersen.proofs.BitSums.{pedersen_sum-lowest, pedersen_sum-zero, trailing_below}
 use Rattle.ark_pedersen.proofs.Shapes.{shape_all, value_in, element_in, element_at}
 use Rattle.ark_pedersen.proofs.sums.add_word.Goals as goal

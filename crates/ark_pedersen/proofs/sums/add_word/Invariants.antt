@@ -1,5 +1,6 @@
 use Rattle.std.proofs.Common.{◌≡◌, ◌≤◌, ℕ}
-use Rattle.ark_pedersen.specs.Pedersen.{bits_of_number, lists_in, sum_from}
+use Rattle.ark_groups.specs.Bits.{bits_of_number}
+use Rattle.ark_pedersen.specs.Pedersen.{lists_in, sum_from}
 use Rattle.ark_pedersen.proofs.sums.add_word.Given as goal
 
 -- what was added, and what is still to be added, are the whole

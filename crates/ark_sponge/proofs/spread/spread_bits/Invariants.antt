@@ -1,8 +1,8 @@
 use Rattle.std.proofs.Common.{length, take, map}
-use Rattle.ark_groups.specs.Bits.{low_bits}
+use Rattle.ark_groups.specs.Bits.{bits_of_number}
 use Rattle.ark_sponge.proofs.Spreads.{IsFilled}
 use Rattle.ark_sponge.proofs.spread.spread_bits.Given as goal
 
 abbrev pub invariant-loop-element : goal.invariant-loop-element
 invariant-loop-element g l =
-    IsFilled (low_bits l.size) l.size (length l.initial.out) (map g.F.PrimeField.value (take l.element-index l.elements)) l.done l.out
+    IsFilled (bits_of_number l.size) l.size (length l.initial.out) (map g.F.PrimeField.value (take l.element-index l.elements)) l.done l.out

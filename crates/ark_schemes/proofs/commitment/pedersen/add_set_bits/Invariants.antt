@@ -1,5 +1,6 @@
 use Rattle.std.proofs.Common.{◌≡◌, ◌≤◌, ℕ}
-use Rattle.ark_pedersen.specs.Pedersen.{bits_of_number, pedersen_sum}
+use Rattle.ark_groups.specs.Bits.{bits_of_number}
+use Rattle.ark_pedersen.specs.Pedersen.{pedersen_sum}
 use Rattle.ark_schemes.proofs.commitment.pedersen.add_set_bits.Given as goal
 
 -- what was added, and what is still to be added, are the whole
