@@ -14,7 +14,7 @@ whole-preserved c = λ first text n fits at rest held.
 
 pub returns-clause-state : goal.returns-clause-state
 returns-clause-state c = λ first text n fits at rest held.
-    let size : length c.args.bytes.now ≡ length text - c.args.before = ap length rest
-    ∙ length-drop c.args.before text in
+    let size : length c.args.bytes.now ≡ length text - c.args.before =
+    ap length rest ∙ length-drop c.args.before text in
     let last : block_count (length text) - 1 ≡ n + c.whole.i = omega (arith, size) in
     rw last (c.whole.invariant first text n fits at rest held)
