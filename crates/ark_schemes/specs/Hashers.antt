@@ -8,8 +8,8 @@ use Rattle.ark_schemes.specs.declared.prf.blake2s.hasher.Hasher.{Hasher}
 abbrev pub bytes_before_last : ℕ → ℕ
 bytes_before_last n = 64 * (block_count n - 1)
 
--- the hasher of a text: the state after all blocks but the last, the last block's bytes with zeros behind them up to 64, and
--- the length (3.3)
+-- the hasher of a text: the state after all blocks but the last, the last block's bytes with zeros behind them up to
+-- 64, and the length (3.3)
 unfoldable pub hasher_of : List ℕ → List ℕ → List ℕ → Hasher
 hasher_of salt personalization text = record {
   state = state_after (first_state salt personalization) (blocks text) (block_count (length text) - 1);

@@ -8,5 +8,6 @@ returns-then-used-eq0-clause-state c = λ salt personalization text fits at held
 
 pub returns-clause-state : goal.returns-clause-state
 returns-clause-state c = λ salt personalization text fits at held.
-    state_after-filled salt personalization text c.args.input.now _ _ _ c.args.self.now c.args.used (64 - c.args.used) (64 - c.args.used) _ held at (omega arith) (omega arith) (omega arith) (omega arith) fits
+    state_after-filled salt personalization text c.args.input.now _ _ _ c.args.self.now c.args.used (64 - c.args.used)
+    (64 - c.args.used) _ held at (omega arith) (omega arith) (omega arith) (omega arith) fits
     (rw c.copy_from_slice.ensures.after refl) c.words_of.ensures refl c.compress.ensures
