@@ -1,9 +1,9 @@
 //! Strict multi-proofs: those with one spelling.
 
-ghost use Rattle.std.specs.Prelude.{◌≡◌, ◌==◌, true, ◌+◌, ◌^◌, ◌++◌, ◌&&◌, ◌≤◌, ℕ, List, [], length, map, drop, take, nat_lt, IfOk, Ok, Some};
+ghost use Rattle.std.specs.Prelude.{◌≡◌, ◌==◌, true, ◌+◌, ◌^◌, ◌++◌, ◌&&◌, ◌≤◌, ℕ, List, [], length, map, drop, take, nat_lt, IfOk, MatchResult, Ok, Some};
 ghost use Rattle.std.specs.List.{list_all};
-ghost use Rattle.ark_base.specs.Outcome.{Answers, AnswersBy};
-ghost use Rattle.ark_base.specs.Reading.{reading_outcome};
+ghost use Rattle.ark_base.specs.Outcome.{Answers, AnswersBy, IsMemory};
+ghost use Rattle.ark_base.specs.Reading.{Spells, reading_outcome};
 ghost use Rattle.ark_merkle.specs.MultiPath.{MultiWay, decoded_paths};
 ghost use Rattle.ark_merkle.specs.MultiPathStrict.{AreInOrder, are_rising, are_longest, is_strict, strict_reading};
 ghost use Rattle.ark_merkle.specs.MultiProof.{shared_count};
@@ -15,7 +15,7 @@ use crate::multi_path::MultiPath;
 use crate::multi_path::places::extend;
 use crate::views::Values;
 use ark_base::error::{Error, SerializationError};
-use ark_base::serialize::{CanonicalDeserialize, DigestItem};
+use ark_base::serialize::{Canonical, CanonicalDeserialize, DigestItem};
 use std::alloc::Global;
 
 impl<P: Values> MultiPath<P> {
@@ -38,6 +38,14 @@ impl<P: Values> MultiPath<P> {
         // What is read is spelled so.
         ensures spelled { IfOk result (λ read.
             take read.1 bytes.now ≡ P.multi_path_bytes (P.multi_way read.0)) }
+
+        // A strict multi-proof that a front of the bytes spells is read, whatever follows it.
+        ensures only { let IsSpelledBy = Spells ⟦<MultiPath<P> as Canonical>⟧.has_spelling
+            ⟦<MultiPath<P> as Canonical>⟧.spelling in
+            (proof : _) (n : ℕ) → is_strict (P.multi_way proof) ≡ true → n ≤ length bytes.now
+            → IsSpelledBy (⟦<MultiPath<P> as Canonical>⟧.view proof) (take n bytes.now)
+            → MatchResult result
+            (λ read. (P.multi_way read.0 ≡ P.multi_way proof) × (read.1 ≡ n)) IsMemory }
 
         // Two strict multi-proofs of the same paths are the same, and so are their bytes.
         ensures one_spelling { (a b : MultiWay) → is_strict a ≡ true → is_strict b ≡ true
