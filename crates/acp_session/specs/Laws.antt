@@ -1,2 +1,1 @@
-pub mod Proofs
 pub mod Sha256
