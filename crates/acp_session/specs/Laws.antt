@@ -1,3 +1,2 @@
-pub mod Proofs
 pub mod Sha256
 pub mod Toy

@@ -23,6 +23,7 @@ pub data Reply : Type 0 where
   Changed : Reply
   Bound : (binding : Binding) → Reply
   MultiProof : (bytes : List ℕ) → Reply
+  Strict : (indexes : ℕ) → Reply
 
 -- why a call was refused, in a word
 abbrev pub why : Error → List ℕ
@@ -56,6 +57,7 @@ text (Verdict holds) = truth holds
 text Changed = codes "ok"
 text (Bound binding) = binding_text binding
 text (MultiProof bytes) = codes "multi " ++ encode_lower bytes
+text (Strict indexes) = codes "strict " ++ decimal indexes
 
 -- A lack of memory may be told in place of this reply. It never does where the reply is decided before anything is asked
 -- for.
@@ -73,6 +75,7 @@ MayLackMemory (Verdict holds) = Unit {0}
 MayLackMemory Changed = Unit {0}
 MayLackMemory (Bound binding) = Unit {0}
 MayLackMemory (MultiProof bytes) = Unit {0}
+MayLackMemory (Strict indexes) = Unit {0}
 
 -- The bytes are those of the reply, or say in its place that memory lacks.
 abbrev pub Tells : Reply → List ℕ → Type 0

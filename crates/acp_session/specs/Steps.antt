@@ -7,6 +7,7 @@ use Rattle.ark_base.specs.Reading.{Reading, reading_outcome}
 use Rattle.ark_merkle.specs.Bind.{path_binding}
 use Rattle.ark_merkle.specs.Index.{is_tree_size}
 use Rattle.ark_merkle.specs.MultiPath.{MultiWay, multi_verdict}
+use Rattle.ark_merkle.specs.MultiPathStrict.{strict_reading}
 use Rattle.ark_merkle.specs.MultiProof.{own_multi_path}
 use Rattle.ark_merkle.specs.Pair.{Digest, HashPair}
 use Rattle.ark_merkle.specs.Path.{Way, verdict}
@@ -15,8 +16,8 @@ use Rattle.ark_merkle.specs.Tree.{Tree, own_path}
 use Rattle.ark_merkle.specs.Update.{changed_leaves}
 use Rattle.acp_session.specs.Language.{Language}
 use Rattle.acp_session.specs.Lines.{tokens_of}
-use Rattle.acp_session.specs.Replies.{Reply, BadLine, NoTree, NotLeaves, NoIndex, Trailing, Refused, Built, Root, Proof, Verdict, Changed, Bound, MultiProof, MayLackMemory, text}
-use Rattle.acp_session.specs.Requests.{Request, NewTree, NewTreeOfDigests, NewLeaf, ShowRoot, ShowProof, CheckPath, BindPath, ShowMultiProof, CheckMultiProof, request_of}
+use Rattle.acp_session.specs.Replies.{Reply, BadLine, NoTree, NotLeaves, NoIndex, Trailing, Refused, Built, Root, Proof, Verdict, Changed, Bound, MultiProof, Strict, MayLackMemory, text}
+use Rattle.acp_session.specs.Requests.{Request, NewTree, NewTreeOfDigests, NewLeaf, ShowRoot, ShowProof, CheckPath, BindPath, ShowMultiProof, CheckMultiProof, ReadStrictly, request_of}
 
 -- the tree's leaf digests, or no tree yet
 abbrev pub State : Type 0
@@ -160,6 +161,15 @@ mcheck_reply l None bytes leaves = NoTree
 mcheck_reply l (Some digests) bytes leaves =
     finding_reply Verdict (finding (multi_path_holds l.pair_hashes digests leaves) (l.multi_path_reading bytes))
 
+-- ---- what bytes say by themselves
+
+-- how many indexes a multi-proof has
+abbrev pub count_of : MultiWay → Outcome ℕ
+count_of proof = Ok (length proof.indexes)
+
+abbrev pub strict_reply : Language → List ℕ → Reply
+strict_reply l bytes = finding_reply Strict (finding count_of (strict_reading (l.multi_path_reading bytes)))
+
 -- ---- lines
 
 abbrev pub turn_of : Language → State → Request → Turn
@@ -172,6 +182,7 @@ turn_of l before (CheckPath path leaf) = (check_reply l before path leaf, before
 turn_of l before (BindPath path leaf) = (bind_reply l before path leaf, before)
 turn_of l before (ShowMultiProof indexes) = (multi_reply l before indexes, before)
 turn_of l before (CheckMultiProof proof leaves) = (mcheck_reply l before proof leaves, before)
+turn_of l before (ReadStrictly proof) = (strict_reply l proof, before)
 
 abbrev pub turn_by : Language → State → Option Request → Turn
 turn_by l before None = (BadLine, before)

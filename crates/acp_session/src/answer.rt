@@ -9,7 +9,7 @@ use crate::replies::plain;
 use crate::shell::{Hashing, Shell};
 use crate::words::{
     bind_reply, check_reply, digests_reply, mcheck_reply, multi_reply, proof_reply, root_reply,
-    set_reply, tree_reply,
+    set_reply, strict_reply, tree_reply,
 };
 use ark_base::serialize::Numbered;
 use ark_crh::CRHScheme;
@@ -82,5 +82,6 @@ fn reply_to<C: Shell>(
                 &leaves,
             )
         }
+        Line::Strict(proof) => strict_reply::<C>(alloc, &proof),
     }
 }

@@ -15,6 +15,7 @@ pub enum Keyword {
     Bind,
     Multi,
     MultiCheck,
+    Strict,
 }
 
 /// The word that a token spells.
@@ -39,6 +40,8 @@ pub fn keyword_of(token: &[u8]) -> Option<Keyword>
         Some(Keyword::Multi)
     } else if token == b"mcheck".as_slice() {
         Some(Keyword::MultiCheck)
+    } else if token == b"strict".as_slice() {
+        Some(Keyword::Strict)
     } else {
         None
     }

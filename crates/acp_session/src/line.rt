@@ -26,6 +26,7 @@ pub enum Line<L, D> {
     Bind { path: Vec<u8>, leaf: L },
     Multi(Vec<usize>),
     MultiCheck { proof: Vec<u8>, leaves: Vec<L> },
+    Strict(Vec<u8>),
 }
 
 // The kinds of tokens.
@@ -178,6 +179,10 @@ fn behind_word<C: Shell>(
         },
         Keyword::MultiCheck => match value_and_others::<Bytes<C>, Leaf<C>>(alloc, left)? {
             Some((proof, leaves)) => Ok(Some(Line::MultiCheck { proof, leaves })),
+            None => Ok(None),
+        },
+        Keyword::Strict => match only_value::<Bytes<C>>(alloc, left)? {
+            Some(proof) => Ok(Some(Line::Strict(proof))),
             None => Ok(None),
         },
     }

@@ -20,6 +20,11 @@ pub mod SizeLemmas
 pub mod MultiWalks
 pub mod MultiIndexes
 pub mod MultiShared
+pub mod MultiStrict
+pub mod StrictIndexes
+pub mod StrictReadings
+pub mod StrictLaws
+pub mod StrictOwn
 pub mod MultiCommon
 pub mod MultiOwn
 pub mod MultiLists

@@ -25,10 +25,10 @@ first_of : {X : Type 0} (P : X → Type 0) (x : X) (xs : List X) → All P (x �
 first_of P x xs h = h 0 x (omega arith)
 
 module _ (h : HashPair) (leaves : List Digest) (rows : List (List Digest)) (tree : IsTree h leaves rows) where
-  abbrev own : ℕ → Way
+  abbrev pub own : ℕ → Way
   own index = own_path h index leaves
 
-  abbrev IsInside : ℕ → Type 0
+  abbrev pub IsInside : ℕ → Type 0
   IsInside index = index < length leaves
 
   own-above : (index : ℕ) → IsInside index → (own index).above ≡ beside_in rows (upper_levels leaves) index
@@ -38,7 +38,7 @@ module _ (h : HashPair) (leaves : List Digest) (rows : List (List Digest)) (tree
   own-siblings [] = refl
   own-siblings (i ∷ indexes) = ap (λ (ds : List Digest). get_or leaves (neighbour i) [] ∷ ds) (own-siblings indexes)
 
-  own-indexes : (indexes : List ℕ) → map (λ way. way.index) (map own indexes) ≡ indexes
+  pub own-indexes : (indexes : List ℕ) → map (λ way. way.index) (map own indexes) ≡ indexes
   own-indexes [] = refl
   own-indexes (i ∷ indexes) = ap (λ (ns : List ℕ). i ∷ ns) (own-indexes indexes)
 
@@ -47,7 +47,7 @@ module _ (h : HashPair) (leaves : List Digest) (rows : List (List Digest)) (tree
   own-aboves (i ∷ indexes) inside =
       ap (λ (ds : List Digest). ds ∷ map (λ way. way.above) (map own indexes)) (own-above i (first_of IsInside i indexes inside)) ∙ ap (λ (lists : List (List Digest)). beside_in rows (upper_levels leaves) i ∷ lists) (own-aboves indexes (rest_of IsInside i indexes inside))
 
-  own-long : (indexes : List ℕ) → All IsInside indexes → AllByRecursion (λ way. length way.above ≡ upper_levels leaves) (map own indexes)
+  pub own-long : (indexes : List ℕ) → All IsInside indexes → AllByRecursion (λ way. length way.above ≡ upper_levels leaves) (map own indexes)
   own-long [] inside = tt
   own-long (i ∷ indexes) inside = (ap length (own-above i (first_of IsInside i indexes inside)) ∙ length-beside_in rows (upper_levels leaves) i, own-long indexes (rest_of IsInside i indexes inside))
 
@@ -61,7 +61,7 @@ module _ (h : HashPair) (leaves : List Digest) (rows : List (List Digest)) (tree
       rw (own_path-accepted h leaves rows tree i (first_of IsInside i indexes inside) (own i) (Ok (get_or leaves i [])) r refl refl rooted) (own-verified r (suc place) indexes (rest_of IsInside i indexes inside) rooted)
 
   module _ (asked : List ℕ) (inside : All IsInside asked) where
-    within : All IsInside (rising_set asked)
+    pub within : All IsInside (rising_set asked)
     within = All-rising IsInside asked inside
 
     -- a tree's own multi-proof, from its rows

@@ -54,7 +54,7 @@ suffixes_of-push before list (l ∷ lists) = ap (λ (ds : List (List Digest)). d
 
 -- ---- decoding
 
-slice_get-drop : {X : Type 0} (xs : List X) (i : ℕ) (x : X) (rest : List X) → drop i xs ≡ x ∷ rest → slice_get xs i ≡ Some x
+pub slice_get-drop : {X : Type 0} (xs : List X) (i : ℕ) (x : X) (rest : List X) → drop i xs ≡ x ∷ rest → slice_get xs i ≡ Some x
 slice_get-drop [] zero x rest e = absurd cc
 slice_get-drop [] (suc i) x rest e = absurd cc
 slice_get-drop (y ∷ xs) zero x rest e = let same : y ≡ x = cc in ap Some same
@@ -66,14 +66,14 @@ drop-next [] (suc i) x rest e = absurd cc
 drop-next (y ∷ xs) zero x rest e = cc
 drop-next (y ∷ xs) (suc i) x rest e = drop-next xs i x rest e
 
-abbrev above_of : List Way → List (List Digest)
+abbrev pub above_of : List Way → List (List Digest)
 above_of ways = map (λ way. way.above) ways
 
 -- from place i on, the parts are those of these paths
-record HasParts (m : MultiWay) (i : ℕ) (before : List Digest) (ways : List Way) : Type 0 where
-  siblings : drop i m.siblings ≡ map (λ way. way.sibling) ways
-  prefixes : drop i m.prefixes ≡ prefixes_of before (above_of ways)
-  suffixes : drop i m.suffixes ≡ suffixes_of before (above_of ways)
+pub record HasParts (m : MultiWay) (i : ℕ) (before : List Digest) (ways : List Way) : Type 0 where
+  pub siblings : drop i m.siblings ≡ map (λ way. way.sibling) ways
+  pub prefixes : drop i m.prefixes ≡ prefixes_of before (above_of ways)
+  pub suffixes : drop i m.suffixes ≡ suffixes_of before (above_of ways)
 
 decoded_at-part : (m : MultiWay) (i : ℕ) (before : List Digest) (way : Way) (ways : List Way) → HasParts m i before (way ∷ ways) → length way.above ≡ path_length m → decoded_path m i before way.index ≡ Some way
 decoded_at-part m i before way ways parts long =

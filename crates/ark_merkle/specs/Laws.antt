@@ -1,3 +1,4 @@
 -- The laws of the canonical bytes of paths.
 pub mod Path
 pub mod MultiPath
+pub mod ByNumbers

@@ -10,6 +10,7 @@ pub mod Bind
 pub mod Update
 pub mod MultiPath
 pub mod MultiPathBytes
+pub mod MultiPathStrict
 pub mod Leaves
 pub mod MultiProof
 pub mod Laws

@@ -1,11 +1,13 @@
 //! What contracts see of a configuration.
 
-ghost use Rattle.std.specs.Prelude.{◌≡◌, ℕ, List, map, refl};
+ghost use Rattle.std.specs.Prelude.{◌≡◌, ℕ, List, map, refl, Ok, Err};
+ghost use Rattle.ark_base.specs.declared.error.SerializationError.{SerializationError};
 ghost use Rattle.ark_base.specs.Reading.{Reading};
 ghost use Rattle.ark_merkle.specs.declared.multi_path.MultiPath.{MultiPath as OfMultiPath};
 ghost use Rattle.ark_merkle.specs.declared.path.Path.{Path as OfPath};
 ghost use Rattle.ark_merkle.specs.MultiPath.{MultiWay};
 ghost use Rattle.ark_merkle.specs.MultiPathBytes.{multi_bytes, multi_way_at, multi_way_of};
+ghost use Rattle.ark_merkle.specs.Laws.ByNumbers.{multi_spelling-way, multi_way_at-ok, multi_way_at-err};
 ghost use Rattle.ark_merkle.specs.Laws.MultiPath.{multi_way_of-value};
 ghost use Rattle.ark_merkle.specs.Laws.Path.{way_of-value};
 ghost use Rattle.ark_merkle.specs.Pair.{HashPair, Hashes, pair_of};
@@ -154,6 +156,21 @@ pub trait Values: Views {
         (λ digest. Self.LeafDigest.numbers_of (Self.LeafDigest.spelling digest))
         (λ digest. Self.InnerDigest.numbers_of (Self.InnerDigest.spelling digest))
         (⟦<MultiPath<Self> as Canonical>⟧.view proof)) };
+
+    // Its canonical bytes are those of its numbers.
+    ghost multi_path_bytes_are: { (proof : _) → ⟦<MultiPath<Self> as Canonical>⟧.spelling
+        (⟦<MultiPath<Self> as Canonical>⟧.view proof)
+        ≡ Self.multi_path_bytes (Self.multi_way proof) };
+
+    // Where it is read, its numbers are; a fault is the same for both.
+    ghost multi_path_is_read: { (bytes rest : List ℕ) (proof : _)
+        → ⟦<MultiPath<Self> as Canonical>⟧.reads bytes
+        ≡ Ok (⟦<MultiPath<Self> as Canonical>⟧.view proof, rest)
+        → Self.multi_path_reading bytes ≡ Ok (Self.multi_way proof, rest) };
+
+    ghost multi_path_fault_is: { (bytes : List ℕ) (fault : SerializationError)
+        → ⟦<MultiPath<Self> as Canonical>⟧.reads bytes ≡ Err fault
+        → Self.multi_path_reading bytes ≡ Err fault };
 }
 
 impl<P: Config> Values for P {
@@ -170,4 +187,25 @@ impl<P: Config> Values for P {
         P.InnerDigest.numbers_are proof.leaf_siblings_hashes.items
         proof.auth_paths_prefix_lenghts.items proof.auth_paths_suffixes.items
         proof.leaf_indexes.items i };
+
+    ghost multi_path_bytes_are = { λ proof. multi_spelling-way P.LeafDigest.view
+        P.InnerDigest.view P.LeafDigest.numbers P.InnerDigest.numbers
+        proof.leaf_siblings_hashes.items proof.auth_paths_prefix_lenghts.items
+        proof.auth_paths_suffixes.items proof.leaf_indexes.items
+        P.LeafDigest.spelling P.LeafDigest.bytes_of P.InnerDigest.spelling P.InnerDigest.bytes_of
+        P.LeafDigest.bytes_are P.InnerDigest.bytes_are };
+
+    ghost multi_path_is_read = { λ bytes rest proof. multi_way_at-ok P.LeafDigest.view
+        P.InnerDigest.view P.LeafDigest.numbers P.InnerDigest.numbers
+        proof.leaf_siblings_hashes.items proof.auth_paths_prefix_lenghts.items
+        proof.auth_paths_suffixes.items proof.leaf_indexes.items
+        (λ digest. P.LeafDigest.numbers_of (P.LeafDigest.spelling digest))
+        (λ digest. P.InnerDigest.numbers_of (P.InnerDigest.spelling digest))
+        P.LeafDigest.numbers_are P.InnerDigest.numbers_are
+        P.LeafDigest.reads P.InnerDigest.reads bytes rest };
+
+    ghost multi_path_fault_is = { λ bytes fault. multi_way_at-err
+        (λ digest. P.LeafDigest.numbers_of (P.LeafDigest.spelling digest))
+        (λ digest. P.InnerDigest.numbers_of (P.InnerDigest.spelling digest))
+        P.LeafDigest.reads P.InnerDigest.reads bytes fault };
 }

@@ -1,11 +1,12 @@
 //! A tree's own multi-proofs.
 
-ghost use Rattle.std.specs.Prelude.{◌≡◌, ◌↔◌, ◌<◌, ◌≤◌, ◌+◌, ◌-◌, ◌++◌, ℕ, [], ◌∷◌, map, take, drop, length, get_or, slice_index, IfOk, Ok};
+ghost use Rattle.std.specs.Prelude.{◌≡◌, ◌↔◌, ◌<◌, ◌≤◌, ◌+◌, ◌-◌, ◌++◌, ℕ, [], ◌∷◌, map, take, drop, length, get_or, slice_index, true, IfOk, Ok};
 ghost use Rattle.std.specs.List.{All, Contains};
 ghost use Rattle.std.specs.List.Sorted.{IsStrictlyIncreasing};
 ghost use Rattle.ark_base.specs.Outcome.{AnswersBy};
 ghost use Rattle.ark_merkle.specs.Index.{neighbour};
 ghost use Rattle.ark_merkle.specs.MultiPath.{decoded_paths};
+ghost use Rattle.ark_merkle.specs.MultiPathStrict.{is_strict};
 ghost use Rattle.ark_merkle.specs.MultiProof.{rising_set, shared_count, prefixes_of, suffixes_of, multi_path_in, paths_in, IsMultiAccepted};
 ghost use Rattle.ark_merkle.specs.Rows.{HoldsIndex, beside_in, digests_of, rows_seen};
 
@@ -35,6 +36,10 @@ impl<P: Views> MerkleTree<P> {
         // Of the paths of these indexes, each takes as many first digests from the one before as they have in common.
         ensures proof { let proof = multi_path_in (P.tree self.now) indexes.now in
             AnswersBy P.multi_way (Ok proof) result }
+
+        // No other multi-proof of these paths is strict.
+        ensures strict { IfOk result (λ proof. 0 < length indexes.now →
+            is_strict (P.multi_way proof) ≡ true) }
 
         // Each place decodes to the path of its index.
         ensures decoded { let paths = paths_in (P.tree self.now) in IfOk result

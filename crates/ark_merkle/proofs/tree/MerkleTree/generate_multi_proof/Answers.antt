@@ -6,6 +6,7 @@ use Rattle.ark_merkle.specs.Pair.{pair_of}
 use Rattle.ark_merkle.specs.Rows.{IsTree, rows_seen}
 use Rattle.ark_merkle.proofs.MultiIndexes.{rising-increases, rising-elements}
 use Rattle.ark_merkle.proofs.MultiOwn.{neighbours-inside, hold-indexes, own_multi_path-read, own_multi_path-decoded, own_multi_path-accepted}
+use Rattle.ark_merkle.proofs.StrictOwn.{own_multi_path-strict}
 use Rattle.ark_merkle.proofs.TreeReads.{seen_tree}
 use Rattle.ark_merkle.proofs.tree.MerkleTree.generate_multi_proof.Goals as goal
 
@@ -58,6 +59,15 @@ returns-clause-proof g c =
     (ap Ok (own_multi_path-read g.P.LeafDigest.Numbered.numbers inner (pair c.args.self.now.pair_parameters) c.args.self.now.leaves c.self.inside.leaves rows tree (ap (λ tree. tree.leaves) c.self.view_is) c.args.indexes.now indexes c.requires once
     c.deref.result.now c.deref-3.result.now c.deref-2.result.now c.deref-4.result.now _ _ _ c.deref.ensures.value c.deref-3.ensures.value c.deref-2.ensures.value c.deref-4.ensures.value
     (done_injective _ _ c.in_ok-leaf_siblings_hashes.ensures) (done_injective _ _ c.in_ok-auth_paths_prefix_lenghts.ensures.prefixes) (done_injective _ _ c.in_ok-auth_paths_prefix_lenghts.ensures.suffixes)))
+
+pub returns-clause-strict : goal.returns-clause-strict
+returns-clause-strict g c =
+    let two = g.P.TwoToOneHash.TwoToOneCRHScheme in
+    let pair = pair_of g.P.LeafInnerDigestConverter.DigestConverter.conversion two.evaluated two.compressed in
+    let rows = rows_seen g.P.InnerDigest.Numbered.numbers c.self.inside.rows in
+    let now = g.P.Views.tree c.args.self.now in
+    let tree : IsTree now.hashes.pair now.leaves rows = rw g.met.P.Views.tree_is (seen_tree pair rows _ _ c.self.view_is c.self.invariant) in
+    λ some. own_multi_path-strict now.hashes.pair now.leaves rows tree c.args.indexes.now (rw g.met.P.Views.tree_is c.requires) some _ (done_injective _ _ (returns-clause-proof g c))
 
 pub returns-clause-decoded : goal.returns-clause-decoded
 returns-clause-decoded g c =
