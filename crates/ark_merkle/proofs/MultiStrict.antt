@@ -31,7 +31,7 @@ shared-le_before [] ys = omega arith
 shared-le_before (x ∷ xs) [] = omega arith
 shared-le_before (x ∷ xs) (y ∷ ys) = shared-le_by x y xs ys (digest_eq x y) refl (shared-le_before xs ys)
 
--- whether so many first digests of the path before are all that it has in common with these and a suffix
+-- whether a count of first digests of the path before are all that it has in common with these and a suffix
 abbrev pub all_shared : List Digest → ℕ → List Digest → Bool
 all_shared before prefix suffix = nat_eq prefix (shared_count before (take prefix before ++ suffix))
 
@@ -71,7 +71,7 @@ module _ (before suffix : List Digest) (prefix : ℕ) where
     pub all_shared-same : digest_eq x y ≡ true → all_shared before prefix suffix ≡ false
     all_shared-same same = ne_eqb prefix _ (λ is. omega (arith, shared-behind within, heads, shared-same x y xs ys same))
 
-  -- so many first digests and a suffix make a path of this length, and they are all that the path before has in common with it
+  -- some first digests and a suffix make a path of this length, and they are all that the path before has in common with it
   pub longest-by : (b : Bool) (len long : ℕ) → nat_eq (prefix + long) len ≡ true → long ≡ length suffix → b ≡ all_shared before prefix suffix → b ≡ nat_eq (prefix + length suffix) len && all_shared before prefix suffix
   longest-by b len long fits same is = let sums : nat_eq (prefix + length suffix) len ≡ true = rw same at fits in rw sums is
 

@@ -100,7 +100,7 @@ fn are_rising(numbers: &[usize]) -> bool
     true
 }
 
-// Whether all indexes are those of leaves in a tree whose paths have so many digests.
+// Whether all indexes are those of leaves in a tree whose paths have `len` digests.
 fn are_inside(indexes: &[usize], len: usize) -> bool
     ensures { result ≡ list_all (λ index. nat_lt index (2 ^ (len + 1))) indexes.now }
 {
@@ -150,8 +150,8 @@ fn are_longest<D: DigestItem>(
     Ok(true)
 }
 
-// Whether a suffix makes a path of this length of so many first digests of the path before, and these are all that the
-// two have in common.
+// Whether a suffix and `prefix` first digests of the path before make a path of this length, and these are all that the two
+// have in common.
 fn is_longest<D: DigestItem>(before: &[&D], prefix: usize, suffix: &[D], len: usize) -> bool
     ensures { let given = map (λ x. D.numbers x.now) before.now in
         let digests = map D.numbers suffix.now in

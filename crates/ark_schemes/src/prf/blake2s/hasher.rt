@@ -107,7 +107,8 @@ impl Hasher {
     }
 }
 
-// Compresses the blocks that a further byte follows, out of the bytes behind so many. Answers how many bytes these blocks have.
+// Compresses the blocks that a further byte follows, out of bytes that stand behind `before` others. Answers how many bytes
+// these blocks have.
 fn compress_front(state: &mut [u32; 8], before: u64, bytes: &[u8]) -> usize
     requires { 0 < length bytes.now }
     ensures taken { result ≡ bytes_before_last (length bytes.now) }
