@@ -25,7 +25,7 @@ pub fn digests(alloc: Global, len: usize, count: u64) -> Result<u64, Error> {
     Ok(sum)
 }
 
-/// Digests of a mebibyte that comes in pieces of some bytes, `count` times.
+/// Digests of a mebibyte that comes in pieces of `size` bytes, `count` times.
 pub fn digests_of_pieces(alloc: Global, size: usize, count: u64) -> Result<u64, Error>
     requires { 0 < size }
 {
