@@ -1,18 +1,18 @@
 -- What is told of bytes that spell a path or a multi-proof.
-use Rattle.std.proofs.Common.{◌≡◌, ℕ, ◌<◌, List, [], ◌∷◌, length, Bool, Option, Some, None, Ok, Err, refl, sym, ap, ◌∙◌, inl, inr, arith}
+use Rattle.std.proofs.Common.{◌≡◌, ◌⊎◌, ℕ, ◌<◌, List, [], ◌∷◌, length, Bool, Option, Some, None, Ok, Err, refl, sym, ap, ◌∙◌, inl, inr, arith}
 use Rattle.std.specs.Option.{option_map}
 use Rattle.ark_base.specs.declared.error.Error.{Error}
-use Rattle.ark_base.specs.Outcome.{Outcome, Answers, ◌>>=◌}
+use Rattle.ark_base.specs.declared.error.Error.TheVariants.{OutOfMemory}
+use Rattle.ark_base.specs.Outcome.{Outcome, Answers}
 use Rattle.ark_base.specs.Reading.{Reading, reading_outcome}
 use Rattle.ark_merkle.specs.Bind.{path_binding}
 use Rattle.ark_merkle.specs.MultiPath.{MultiWay, multi_verdict}
-use Rattle.ark_merkle.specs.MultiPathStrict.{strict_reading}
 use Rattle.ark_merkle.specs.Pair.{Digest, HashPair}
 use Rattle.ark_merkle.specs.Path.{Way}
 use Rattle.ark_merkle.specs.Root.{root}
 use Rattle.acp_session.specs.Language.{Language}
-use Rattle.acp_session.specs.Replies.{Reply, Refused, Verdict, Bound, Strict, MayLackMemory, Tells, text}
-use Rattle.acp_session.specs.Steps.{State, alone, alone_of, finding, finding_reply, path_holds, multi_path_holds, check_reply, bind_reply, mcheck_reply, about, count_of, strict_reply}
+use Rattle.acp_session.specs.Replies.{Reply, Refused, Verdict, Bound, MayLackMemory, Tells, text}
+use Rattle.acp_session.specs.Steps.{State, alone, alone_of, finding, finding_reply, path_holds, multi_path_holds, check_reply, bind_reply, mcheck_reply}
 
 -- ---- proofs as bytes
 
@@ -65,26 +65,3 @@ module _ (l : Language) (before : State) (digests : List Digest) (was : before �
 
   pub mcheck_reply-in : (leaves : List (Outcome Digest)) (at : List ℕ → Reading MultiWay) → at ≡ l.multi_path_reading → mcheck_reply l before bytes leaves ≡ finding_reply Verdict (finding (multi_path_holds h digests leaves) (at bytes))
   mcheck_reply-in leaves at read = rw (was, same, read) refl
-
--- ---- what is said of a value that was read
-
-pub finding-refused : {W V : Type 0} (say : W → Outcome V) (reading : Reading W) (e : Error) → reading_outcome reading ≡ Err e → finding say reading ≡ Err e
-finding-refused say reading e refused = rw refused refl
-
-module _ {W V : Type 0} (say : W → Outcome V) (reading : Reading W) (w : W) (rest : List ℕ) (read : reading_outcome reading ≡ Ok (w, rest)) where
-  pub finding-more : 0 < length rest → finding say reading ≡ Ok None
-  finding-more some = rw read (by_rest rest some)
-    where
-      by_rest : (bytes : List ℕ) → 0 < length bytes → (whole (w, bytes) >>= about say) ≡ Ok None
-      by_rest [] some = absurd (omega arith)
-      by_rest (b ∷ bytes) some = refl
-
-  pub finding-said : length rest ≡ 0 → (v : V) → say w ≡ Ok v → finding say reading ≡ Ok (Some v)
-  finding-said none v said = rw read (by_rest rest none)
-    where
-      by_rest : (bytes : List ℕ) → length bytes ≡ 0 → (whole (w, bytes) >>= about say) ≡ Ok (Some v)
-      by_rest [] none = rw said refl
-      by_rest (b ∷ bytes) none = absurd (omega arith)
-
-pub strict_reply-by : (l : Language) (bytes : List ℕ) (at : List ℕ → Reading MultiWay) → at ≡ l.multi_path_reading → strict_reply l bytes ≡ finding_reply Strict (finding count_of (strict_reading (at bytes)))
-strict_reply-by l bytes at read = rw read refl

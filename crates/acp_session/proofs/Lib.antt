@@ -1,5 +1,6 @@
 pub mod Cutting
 pub mod Findings
+pub mod StrictFindings
 pub mod Indexes
 pub mod Numerals
 pub mod Runs

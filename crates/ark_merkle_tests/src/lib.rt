@@ -9,4 +9,6 @@ pub mod plain;
 #[cfg(test)]
 mod samples;
 #[cfg(test)]
+mod strict;
+#[cfg(test)]
 mod toy;

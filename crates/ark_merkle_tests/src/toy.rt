@@ -4,6 +4,7 @@ ghost use Rattle.std.specs.Prelude.{Ok, refl};
 ghost use Rattle.ark_merkle_tests.specs.Toy.{leaf_modulo, sum_modulo};
 
 use crate::samples::are_inside;
+use crate::strict::is_read;
 use ark_base::error::Error;
 use ark_crh::{CRHScheme, TwoToOneCRHScheme};
 use ark_groups::ff::{Fp, M257, PrimeField};
@@ -169,6 +170,7 @@ fn all_indexes_of_a_blank_tree(rt: HostRuntime) -> Result<(), Fail> {
             proof.auth_paths_prefix_lenghts.as_slice(),
             [0, 2, 2, 2, 2, 2, 2, 2].as_slice()
         );
+        assert!(rt; is_read(alloc, &proof)?);
         let leaves = [0u64; 8];
         assert!(rt; proof.verify(alloc, &(), &(), tree.root(), leaves.iter())?);
     }

@@ -1,7 +1,7 @@
 use Rattle.std.proofs.Common.{◌≡◌, length, drop, length-drop, Ok, ap, arith}
 use Rattle.ark_base.proofs.Refusals.{passed_on}
 use Rattle.acp_session.specs.Steps.{count_of}
-use Rattle.acp_session.proofs.Findings.{finding-refused, finding-more, finding-said}
+use Rattle.acp_session.proofs.StrictFindings.{finding-refused, finding-more, finding-said}
 use Rattle.acp_session.proofs.words.strict.strict_count.Goals as goal
 
 pub returns-in_err-proof : goal.returns-in_err-proof

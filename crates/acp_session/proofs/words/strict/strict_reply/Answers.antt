@@ -1,6 +1,7 @@
 use Rattle.std.proofs.lemmas.Result.{IfOk-weaker}
 use Rattle.acp_session.specs.Replies.{Strict}
-use Rattle.acp_session.proofs.Findings.{strict_reply-by, tells_finding}
+use Rattle.acp_session.proofs.Findings.{tells_finding}
+use Rattle.acp_session.proofs.StrictFindings.{strict_reply-by}
 use Rattle.acp_session.proofs.words.strict.strict_reply.Goals as goal
 
 pub returns : goal.returns
