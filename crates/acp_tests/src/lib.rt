@@ -16,4 +16,6 @@ mod rows;
 #[cfg(test)]
 mod sessions;
 #[cfg(test)]
+mod strict;
+#[cfg(test)]
 mod toy;
