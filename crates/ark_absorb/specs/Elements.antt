@@ -51,7 +51,7 @@ elements_by_item elements (x ∷ xs) = elements_then (elements x) (elements_by_i
 abbrev pub batch_by_item : {A : Type 0} → (A → ℕ → ℕ → Elements) → List A → ℕ → ℕ → Elements
 batch_by_item elements batch modulus bits = elements_by_item (λ x. elements x modulus bits) batch
 
--- bytes in so many pieces of a size, one behind the other; the last may be shorter
+-- bytes in a count of pieces of a size, one behind the other; the last may be shorter
 abbrev pub pieces : ℕ → ℕ → List ℕ → List (List ℕ)
 pieces size zero bytes = []
 pieces size (suc count) bytes = take size bytes ∷ pieces size count (drop size bytes)
@@ -68,7 +68,7 @@ text_bytes text = to_le_bytes w64 (length text) ++ text
 abbrev pub AreShort : List (List ℕ) → Type 0
 AreShort texts = AllByRecursion (λ text. length text < 2 ^ 64) texts
 
--- a text behind its length, in pieces of as many bytes as fit below a modulus of so many bits
+-- a text behind its length, in pieces of as many bytes as fit below a modulus of some bits
 abbrev pub packed_elements : List ℕ → ℕ → ℕ → Elements
 packed_elements text modulus bits = Ok (piece_numbers modulus ((bits - 1) / 8) (text_bytes text))
 

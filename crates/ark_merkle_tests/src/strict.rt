@@ -91,7 +91,7 @@ fn shorter_prefixes_are_not_strict(rt: HostRuntime) -> Result<(), Fail> {
     Ok(())
 }
 
-// A multi-proof of many places of which all but the first take so many digests from the path before.
+// A multi-proof of many places of which all but the first take `prefix` digests from the path before.
 fn long_proof(alloc: Global, len: usize, prefix: usize) -> Result<MultiPath<Sha>, Error> {
     let mut first = Vec::new(alloc);
     for _ in 0..len {

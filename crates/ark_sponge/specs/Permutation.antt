@@ -64,7 +64,7 @@ permutation p sbox c xs =
 
 -- ---- shapes
 
--- so many rows of so many numbers
+-- the rows are as many as a count says, and each has one length
 abbrev pub is_matrix : ℕ → ℕ → List (List ℕ) → Bool
 is_matrix count len rows = (length rows == count) && list_all (λ row. length row == len) rows
 
@@ -72,7 +72,7 @@ is_matrix count len rows = (length rows == count) && list_all (λ row. length ro
 abbrev pub has_poseidon_shape : Parameters → Bool
 has_poseidon_shape c = is_matrix (c.full_rounds + c.partial_rounds) (width c) c.ark && is_matrix (width c) (width c) c.mds
 
--- Parameters over a modulus of so many bits, or why they are refused: fewer than nine bits, a rate of 0, or another shape.
+-- Parameters over a modulus of some bits, or why they are refused: fewer than nine bits, a rate of 0, or another shape.
 abbrev pub lawful_parameters : ℕ → Parameters → Outcome Parameters
 lawful_parameters bits c =
     if nat_lt bits 9 then Err (GenericError FieldTooSmall)

@@ -8,12 +8,12 @@ use Rattle.ark_groups.specs.Bits.{number_of_bits}
 use Rattle.ark_sponge.specs.declared.size.FieldElementSize.{FieldElementSize}
 use Rattle.ark_sponge.specs.declared.size.FieldElementSize.TheVariants.{Full, Truncated}
 
--- how many bits an element of a size takes, over a modulus of so many bits
+-- how many bits an element of a size takes, over a modulus of some bits
 abbrev pub size_width : ℕ → FieldElementSize → ℕ
 size_width bits Full = bits - 1
 size_width bits (Truncated n) = n
 
--- The bits of sizes, behind so many others. From left to right, the first size past the modulus's bits or the first sum
+-- The bits of sizes, behind a total of others. From left to right, the first size past the modulus's bits or the first sum
 -- past a word is refused.
 abbrev pub bits_behind : ℕ → ℕ → List FieldElementSize → Outcome ℕ
 bits_behind bits total [] = Ok total

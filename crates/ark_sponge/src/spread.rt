@@ -9,7 +9,7 @@ ghost use Rattle.ark_sponge.specs.Sizes.{cut_numbers};
 use crate::size::FieldElementSize;
 use ark_groups::ff::{PrimeField, element_of_bits, same_element, write_low_bits, write_low_bytes};
 
-// Writes the lowest bytes of an element, so many, from a place on.
+// Writes the `count` lowest bytes of an element from a place on.
 fn write_bytes_at<F: PrimeField>(out: &mut [u8], place: usize, count: usize, element: F)
     requires inside { place + count ≤ length out.old }
     requires count { count ≤ 8 }
@@ -20,7 +20,7 @@ fn write_bytes_at<F: PrimeField>(out: &mut [u8], place: usize, count: usize, ele
     write_low_bytes(element, &mut out[place..place + count]);
 }
 
-// Writes the lowest bits of an element, so many, from a place on.
+// Writes the `count` lowest bits of an element from a place on.
 fn write_bits_at<F: PrimeField>(out: &mut [bool], place: usize, count: usize, element: F)
     requires inside { place + count ≤ length out.old }
     ensures front { take (place + count) out.new

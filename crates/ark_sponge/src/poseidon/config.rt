@@ -49,7 +49,7 @@ impl<F: PrimeField> Model for PoseidonConfig<F> {
         × (9 ≤ F.MODULUS_BIT_SIZE) };
 }
 
-// Whether there are so many rows of so many elements.
+// Whether there are `count` rows of `len` elements.
 fn is_matrix<F: PrimeField>(rows: &[Vec<F>], count: usize, len: usize) -> bool
     ensures test { result ≡ is_matrix count len (map (λ row. map F.value row.items) rows.now) }
     ensures count { result ≡ true → length rows.now ≡ count }

@@ -24,7 +24,7 @@ pub fn add_row<F: PrimeField>(state: &mut [F], row: &[F])
     }
 }
 
-// Applies the S-box to the first elements, so many.
+// Applies the S-box to the `count` first elements.
 fn apply_sbox<F: PrimeField, S: SBox<F>>(state: &mut [F], alpha: u64, count: usize)
     requires { count ≤ length state.old }
     ensures { map F.value state.new ≡ front_images (S.image alpha) count (map F.value state.old) }
