@@ -147,7 +147,7 @@ module _ (k : ℕ) (ways : List Way) (order : AreInOrder k ways) where
       rw first (all-inside len same ways (λ i d below. inside (suc i) d (omega (arith, below))))
 
   pub decoded-in_order : decoded_paths (multi_path_of ways) ≡ map Some ways
-  decoded-in_order = decoded-merged k ways (by_recursion (λ way. length way.above ≡ k) ways order.as_long)
+  decoded-in_order = decoded-merged k ways (by_recursion (λ way. length way.above ≡ k) ways order.same_length)
 
   pub strict-in_order : is_strict (multi_path_of ways) ≡ true
   strict-in_order =
@@ -157,7 +157,7 @@ module _ (k : ℕ) (ways : List Way) (order : AreInOrder k ways) where
       let siblings = eq-eqb (length m.siblings) (length m.indexes) (length-map ways (λ way. way.sibling) ∙ sym indexes) in
       let prefixes = eq-eqb (length m.prefixes) (length m.indexes) (length-prefixes_of [] (above_of ways) ∙ length-map ways (λ way. way.above) ∙ sym indexes) in
       let suffixes = eq-eqb (length m.suffixes) (length m.indexes) (length-suffixes_of [] (above_of ways) ∙ length-map ways (λ way. way.above) ∙ sym indexes) in
-      rw (count, siblings, prefixes, suffixes, rising-from m.indexes order.rising, all-inside (path_length m) (first-long ways order.some order.as_long) ways order.in_range, decoded-in_order) (longest-from [] ways)
+      rw (count, siblings, prefixes, suffixes, rising-from m.indexes order.rising, all-inside (path_length m) (first-long ways order.some order.same_length) ways order.within_tree, decoded-in_order) (longest-from [] ways)
 
 -- ---- as contracts say it
 

@@ -33,7 +33,7 @@ module _ (h : HashPair) (leaves : List Digest) (rows : List (List Digest)) (tree
       let ways = map (own h leaves rows tree) indexes in
       ap is_strict (sym is) ∙ strict-in_order (upper_levels leaves) ways (record {
         some = omega (arith, length-map indexes (own h leaves rows tree), rising-some asked some);
-        as_long = from_recursion (λ way. length way.above ≡ upper_levels leaves) ways (own-long h leaves rows tree indexes all);
+        same_length = from_recursion (λ way. length way.above ≡ upper_levels leaves) ways (own-long h leaves rows tree indexes all);
         rising = subst IsStrictlyIncreasing (sym (own-indexes h leaves rows tree indexes)) (rising-increases asked);
-        in_range = from_recursion (λ way. way.index < 2 ^ (upper_levels leaves + 1)) ways (inside-by indexes all);
+        within_tree = from_recursion (λ way. way.index < 2 ^ (upper_levels leaves + 1)) ways (inside-by indexes all);
       })

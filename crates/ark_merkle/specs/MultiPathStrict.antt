@@ -49,6 +49,6 @@ strict_reading reading = do
 -- some paths of k digests, at rising indexes below 2 ^ (k + 1)
 pub record AreInOrder (k : ℕ) (ways : List Way) : Type 0 where
   pub some : 0 < length ways
-  pub as_long : All (λ way. length way.above ≡ k) ways
+  pub same_length : All (λ way. length way.above ≡ k) ways
   pub rising : IsStrictlyIncreasing (map (λ way. way.index) ways)
-  pub in_range : All (λ way. way.index < 2 ^ (k + 1)) ways
+  pub within_tree : All (λ way. way.index < 2 ^ (k + 1)) ways
