@@ -1,3 +1,4 @@
+mod calls;
 mod encodings;
 mod hand;
 mod poseidon;

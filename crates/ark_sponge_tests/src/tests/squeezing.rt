@@ -1,172 +1,163 @@
-use crate::tests::hand::{Hand, hand, three_rounds, values};
-use crate::tests::poseidon::{absorb, absorbing, squeeze, squeezing, stands};
+use crate::tests::calls::{Call, absorbing, leaves, leaves_over, squeezing, stands};
+use crate::tests::hand::{hand, three_rounds, values};
 use ark_base::error::{Error, Refusal};
 use ark_groups::ff::{Fp, M13, M61, M257, Modulus};
-use ark_sponge::poseidon::PoseidonSponge;
 use ark_sponge::{CryptographicSponge, FieldBasedCryptographicSponge, FieldElementSize};
 use std::alloc::Global;
-use std::test::Fail;
 
-// Elements of sizes over a modulus, as numbers.
-fn sized<M: Modulus>(
+const TWO: [FieldElementSize; 2] = [FieldElementSize::Full, FieldElementSize::Truncated(3)];
+
+const PAST: Error = Error::GenericError(Refusal::SizePastField);
+
+// Whether these are the first bytes.
+fn gives_bytes(alloc: Global, bytes: &[u8]) -> Result<bool, Error> {
+    Ok(hand(alloc)?.squeeze_bytes(bytes.len())?.as_slice() == bytes)
+}
+
+fn gives_bits(alloc: Global, bits: &[bool]) -> Result<bool, Error> {
+    Ok(hand(alloc)?.squeeze_bits(bits.len())?.as_slice() == bits)
+}
+
+// Whether these are the numbers of the first elements of sizes over a modulus.
+fn gives_sized<M: Modulus>(
     alloc: Global,
-    sponge: &mut Hand,
     sizes: &[FieldElementSize],
-) -> Result<Vec<u64>, Error> {
-    let given = sponge.squeeze_field_elements_with_sizes::<Fp<M>>(sizes)?;
-    values(alloc, &given)
+    numbers: &[u64],
+) -> Result<bool, Error> {
+    let given = hand(alloc)?.squeeze_field_elements_with_sizes::<Fp<M>>(sizes)?;
+    Ok(values(alloc, &given)?.as_slice() == numbers)
 }
 
-// The same from a new sponge.
-fn first_sized<M: Modulus>(alloc: Global, sizes: &[FieldElementSize]) -> Result<Vec<u64>, Error> {
-    sized::<M>(alloc, &mut hand(alloc)?, sizes)
+fn gives_native(alloc: Global, sizes: &[FieldElementSize], numbers: &[u64]) -> Result<bool, Error> {
+    let given = hand(alloc)?.squeeze_native_field_elements_with_sizes(sizes)?;
+    Ok(values(alloc, &given)?.as_slice() == numbers)
 }
 
-// Elements of full size over a modulus from a new sponge, as numbers.
-fn first_full<M: Modulus>(alloc: Global, count: usize) -> Result<Vec<u64>, Error> {
-    let given = hand(alloc)?.squeeze_field_elements::<Fp<M>>(count)?;
-    values(alloc, &given)
-}
-
-#[test]
-fn bytes_are_the_lowest(rt: HostRuntime) -> Result<(), Fail> {
-    let alloc = rt.alloc();
-    let given = hand(alloc)?.squeeze_bytes(2)?;
-    assert_eq!(rt; given.as_slice(), [27, 1].as_slice());
-    Ok(())
+// Whether these are the numbers of the first elements of full size over a modulus.
+fn gives_full<M: Modulus>(alloc: Global, numbers: &[u64]) -> Result<bool, Error> {
+    let given = hand(alloc)?.squeeze_field_elements::<Fp<M>>(numbers.len())?;
+    Ok(values(alloc, &given)?.as_slice() == numbers)
 }
 
 #[test]
-fn bits_are_the_lowest(rt: HostRuntime) -> Result<(), Fail> {
+fn bytes_and_bits_are_the_lowest(rt: HostRuntime) {
     let alloc = rt.alloc();
-    let given = hand(alloc)?.squeeze_bits(9)?;
+    assert_eq!(rt; gives_bytes(alloc, &[27, 1]), Ok(true));
     let bits = [true, true, false, true, true, false, false, false, true];
-    assert_eq!(rt; given.as_slice(), bits.as_slice());
-    Ok(())
+    assert_eq!(rt; gives_bits(alloc, &bits), Ok(true));
 }
 
 #[test]
-fn no_bytes_are_not_idle(rt: HostRuntime) -> Result<(), Fail> {
+fn no_bytes_and_no_bits_are_not_idle(rt: HostRuntime) {
     let alloc = rt.alloc();
-    let mut sponge = hand(alloc)?;
-    assert!(rt; sponge.squeeze_bytes(0)?.is_empty());
-    assert!(rt; stands(alloc, &sponge, &[8, 27, 1], squeezing(0))?);
-    Ok(())
-}
-
-#[test]
-fn no_bits_are_not_idle(rt: HostRuntime) -> Result<(), Fail> {
-    let alloc = rt.alloc();
-    let mut sponge = hand(alloc)?;
-    assert!(rt; sponge.squeeze_bits(0)?.is_empty());
-    assert!(rt; stands(alloc, &sponge, &[8, 27, 1], squeezing(0))?);
-    Ok(())
-}
-
-#[test]
-fn elements_have_sizes(rt: HostRuntime) -> Result<(), Fail> {
-    let alloc = rt.alloc();
-    let two = [FieldElementSize::Full, FieldElementSize::Truncated(3)];
+    let no_bytes = [Call::Bytes(0)];
     assert_eq!(rt;
-        first_sized::<M257>(alloc, &two)?.as_slice(),
-        [27, 1].as_slice()
+        leaves(alloc, &no_bytes, &[8, 27, 1], squeezing(0)),
+        Ok(true)
     );
-    let full = [FieldElementSize::Full];
+    let no_bits = [Call::Bits(0)];
     assert_eq!(rt;
-        first_sized::<M13>(alloc, &full)?.as_slice(),
-        [3].as_slice()
+        leaves(alloc, &no_bits, &[8, 27, 1], squeezing(0)),
+        Ok(true)
+    );
+}
+
+#[test]
+fn elements_have_sizes(rt: HostRuntime) {
+    let alloc = rt.alloc();
+    assert_eq!(rt; gives_sized::<M257>(alloc, &TWO, &[27, 1]), Ok(true));
+    assert_eq!(rt;
+        gives_sized::<M13>(alloc, &[FieldElementSize::Full], &[3]),
+        Ok(true)
     );
     let four = [FieldElementSize::Truncated(4)];
-    assert_eq!(rt;
-        first_sized::<M13>(alloc, &four)?.as_slice(),
-        [11].as_slice()
-    );
-    Ok(())
+    assert_eq!(rt; gives_sized::<M13>(alloc, &four, &[11]), Ok(true));
+    assert_eq!(rt; gives_native(alloc, &TWO, &[27, 1]), Ok(true));
+    assert_eq!(rt; gives_full::<M257>(alloc, &[27, 1]), Ok(true));
+    assert_eq!(rt; gives_full::<M13>(alloc, &[3]), Ok(true));
 }
 
-#[test]
-fn native_elements_have_sizes(rt: HostRuntime) -> Result<(), Fail> {
-    let alloc = rt.alloc();
-    let two = [FieldElementSize::Full, FieldElementSize::Truncated(3)];
-    let given = hand(alloc)?.squeeze_native_field_elements_with_sizes(&two)?;
-    assert_eq!(rt; values(alloc, &given)?.as_slice(), [27, 1].as_slice());
-    Ok(())
-}
-
-#[test]
-fn elements_are_full(rt: HostRuntime) -> Result<(), Fail> {
-    let alloc = rt.alloc();
-    assert_eq!(rt;
-        first_full::<M257>(alloc, 2)?.as_slice(),
-        [27, 1].as_slice()
-    );
-    assert_eq!(rt; first_full::<M13>(alloc, 1)?.as_slice(), [3].as_slice());
-    Ok(())
-}
-
-#[test]
-fn no_sizes_are_idle_over_another_field(rt: HostRuntime) -> Result<(), Fail> {
-    let alloc = rt.alloc();
+// Whether elements of no sizes leave this.
+fn none_leaves<M: Modulus>(
+    alloc: Global,
+    state: &[u64],
+    index: Option<usize>,
+) -> Result<bool, Error> {
     let mut sponge = hand(alloc)?;
-    assert!(rt; sized::<M13>(alloc, &mut sponge, &[])?.is_empty());
-    assert!(rt; stands(alloc, &sponge, &[0, 0, 0], absorbing(0))?);
-    assert!(rt; sized::<M257>(alloc, &mut sponge, &[])?.is_empty());
-    assert!(rt; stands(alloc, &sponge, &[8, 27, 1], squeezing(0))?);
-    Ok(())
+    let given = sponge.squeeze_field_elements_with_sizes::<Fp<M>>(&[])?;
+    let mode = match index {
+        Some(index) => squeezing(index),
+        None => absorbing(0),
+    };
+    Ok(given.is_empty() && stands(alloc, &sponge, state, mode)?)
+}
+
+#[test]
+fn no_sizes_are_idle_over_another_field(rt: HostRuntime) {
+    let alloc = rt.alloc();
+    assert_eq!(rt; none_leaves::<M13>(alloc, &[0, 0, 0], None), Ok(true));
+    assert_eq!(rt; none_leaves::<M257>(alloc, &[8, 27, 1], Some(0)), Ok(true));
 }
 
 #[test]
 fn sizes_are_added_up(rt: HostRuntime) {
-    let two = [FieldElementSize::Full, FieldElementSize::Truncated(3)];
-    assert_eq!(rt; FieldElementSize::sum::<Fp<M257>>(&two), Ok(11));
+    assert_eq!(rt; FieldElementSize::sum::<Fp<M257>>(&TWO), Ok(11));
     let past = [FieldElementSize::Full, FieldElementSize::Truncated(10)];
-    let refused = Err(Error::GenericError(Refusal::SizePastField));
-    assert_eq!(rt; FieldElementSize::sum::<Fp<M257>>(&past), refused);
+    assert_eq!(rt; FieldElementSize::sum::<Fp<M257>>(&past), Err(PAST));
+}
+
+// Why elements of sizes are refused, and whether the sponge is as before.
+fn sized_refusal<M: Modulus>(
+    alloc: Global,
+    sizes: &[FieldElementSize],
+) -> Result<(Option<Error>, bool), Error> {
+    let mut sponge = hand(alloc)?;
+    let refusal = sponge
+        .squeeze_field_elements_with_sizes::<Fp<M>>(sizes)
+        .err();
+    Ok((refusal, stands(alloc, &sponge, &[0, 0, 0], absorbing(0))?))
+}
+
+// The refusals of more elements and more bytes than there can be, and whether the sponge is as before.
+fn count_refusals(alloc: Global) -> Result<(Option<Error>, Option<Error>, bool), Error> {
+    let mut sponge = hand(alloc)?;
+    let elements = sponge.squeeze_field_elements::<Fp<M61>>(1 << 60).err();
+    let bytes = sponge.squeeze_bytes(usize::MAX).err();
+    Ok((
+        elements,
+        bytes,
+        stands(alloc, &sponge, &[0, 0, 0], absorbing(0))?,
+    ))
 }
 
 #[test]
-fn sizes_past_the_field_leave_the_sponge(rt: HostRuntime) -> Result<(), Fail> {
+fn what_is_refused_leaves_the_sponge(rt: HostRuntime) {
     let alloc = rt.alloc();
-    let mut sponge = hand(alloc)?;
-    let past = Some(Error::GenericError(Refusal::SizePastField));
-    let wide = [FieldElementSize::Full, FieldElementSize::Truncated(10)];
-    assert_eq!(rt; sized::<M257>(alloc, &mut sponge, &wide).err(), past);
-    let wide = [FieldElementSize::Truncated(5)];
-    assert_eq!(rt; sized::<M13>(alloc, &mut sponge, &wide).err(), past);
-    assert!(rt; stands(alloc, &sponge, &[0, 0, 0], absorbing(0))?);
-    Ok(())
-}
-
-#[test]
-fn counts_past_memory_leave_the_sponge(rt: HostRuntime) -> Result<(), Fail> {
-    let alloc = rt.alloc();
-    let mut sponge = hand(alloc)?;
-    let many = sponge.squeeze_field_elements::<Fp<M61>>(1 << 60).err();
-    assert_eq!(rt; many, Some(Error::GenericError(Refusal::LengthOverflow)));
+    let past = [FieldElementSize::Full, FieldElementSize::Truncated(10)];
+    assert_eq!(rt; sized_refusal::<M257>(alloc, &past), Ok((Some(PAST), true)));
+    let five = [FieldElementSize::Truncated(5)];
+    assert_eq!(rt; sized_refusal::<M13>(alloc, &five), Ok((Some(PAST), true)));
+    let long = Some(Error::GenericError(Refusal::LengthOverflow));
     assert_eq!(rt;
-        sponge.squeeze_bytes(usize::MAX).err(),
-        Some(Error::OutOfMemory)
+        count_refusals(alloc),
+        Ok((long, Some(Error::OutOfMemory), true))
     );
-    assert!(rt; stands(alloc, &sponge, &[0, 0, 0], absorbing(0))?);
-    Ok(())
 }
 
-// Computed by a program of a few lines in another language, as are the next.
+// Computed by a program of a few lines in another language.
 #[test]
-fn a_partial_round_stands_between_full_ones(rt: HostRuntime) -> Result<(), Fail> {
+fn a_partial_round_takes_the_first_element(rt: HostRuntime) {
     let alloc = rt.alloc();
-    let mut sponge = PoseidonSponge::over(alloc, three_rounds(alloc)?)?;
-    assert!(rt; squeeze(alloc, &mut sponge, 0)?.is_empty());
-    assert!(rt; stands(alloc, &sponge, &[30, 92, 204], squeezing(0))?);
-    Ok(())
-}
-
-#[test]
-fn a_partial_round_takes_the_first_element(rt: HostRuntime) -> Result<(), Fail> {
-    let alloc = rt.alloc();
-    let mut sponge = PoseidonSponge::over(alloc, three_rounds(alloc)?)?;
-    absorb(alloc, &mut sponge, &[5, 6])?;
-    assert!(rt; squeeze(alloc, &mut sponge, 0)?.is_empty());
-    assert!(rt; stands(alloc, &sponge, &[209, 174, 68], squeezing(0))?);
-    Ok(())
+    let none = [Call::Squeeze(0)];
+    let state = [30, 92, 204];
+    assert_eq!(rt;
+        leaves_over(alloc, three_rounds(alloc), &none, &state, squeezing(0)),
+        Ok(true)
+    );
+    let two = [Call::Absorb(&[5, 6]), Call::Squeeze(0)];
+    let state = [209, 174, 68];
+    assert_eq!(rt;
+        leaves_over(alloc, three_rounds(alloc), &two, &state, squeezing(0)),
+        Ok(true)
+    );
 }
