@@ -1,5 +1,7 @@
 //! Strict multi-proofs.
 
+ghost use Rattle.std.specs.Prelude.{◌<◌};
+
 use crate::samples::{Sha, leaves_of_bytes, multi_proof_of, tree_of};
 use ark_base::error::{Error, SerializationError};
 use ark_base::serialize::{CanonicalSerialize, Duplicate, canonical_bytes};
@@ -95,7 +97,9 @@ fn damaged_proofs_are_not_strict(rt: HostRuntime) -> Result<(), Fail> {
 }
 
 // The proof of the indexes up to a place, the last of which takes nothing from the path before.
-fn shortened(alloc: Global, tree: &MerkleTree<Sha>, place: usize) -> Result<MultiPath<Sha>, Error> {
+fn shortened(alloc: Global, tree: &MerkleTree<Sha>, place: usize) -> Result<MultiPath<Sha>, Error>
+    requires { place < 8 }
+{
     let mut proof = multi_proof_of(alloc, tree, &[0, 1, 2, 3, 4, 5, 6, 7])?;
     proof.auth_paths_prefix_lenghts.truncate(place);
     proof.auth_paths_prefix_lenghts.push(0)?;
@@ -108,7 +112,9 @@ fn shortened(alloc: Global, tree: &MerkleTree<Sha>, place: usize) -> Result<Mult
 }
 
 // Whether that proof is accepted, and whether it is strict.
-fn shortened_is_strict(alloc: Global, place: usize) -> Result<(bool, bool), Error> {
+fn shortened_is_strict(alloc: Global, place: usize) -> Result<(bool, bool), Error>
+    requires { place < 8 }
+{
     let leaves = leaves_of_bytes(alloc, 8)?;
     let tree = tree_of(alloc, &leaves)?;
     let proof = shortened(alloc, &tree, place)?;
