@@ -5,7 +5,8 @@
 mod multi_paths;
 #[cfg(test)]
 mod paths;
-pub mod plain;
+#[cfg(test)]
+mod plain;
 #[cfg(test)]
 mod samples;
 #[cfg(test)]
