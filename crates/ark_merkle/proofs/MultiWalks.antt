@@ -21,7 +21,7 @@ Yields-more steps s t u (z ∷ xs) x y n = (y.0, y.1, Yields-more steps y.0 t u 
 
 -- ---- what was taken so far
 
--- So many items were taken, each of them needed, and the answer is what is left to say of the items that follow.
+-- Some items were taken, each of them needed, and the answer is what is left to say of the items that follow.
 pub record Walked {S A B C : Type 0} (steps : S → Option A → S → Type 0) (view : A → B) (start here : S) (count : ℕ) (outcome left : List B → Outcome C) : Type 0 where
   pub taken : List A
   pub gave : Yields steps start taken here

@@ -35,7 +35,7 @@ pub refused_alike : {A B : Type 0} (plain : Reading A) (reading : Reading MultiW
     → (view : B → MultiWay × List ℕ) (result : Outcome B) (e : Error) → IsErrAnd result (λ d. d ≡ e) → (e ≡ OutOfMemory) ⊎ (reading_outcome plain ≡ Err e) → AnswersBy view (reading_outcome (strict_reading reading)) result
 refused_alike plain reading alike view result e is_err refused = passed_on view _ result e is_err refused (λ plainly. let f = fault_of plain e plainly in strict-fault reading f.0 (alike f.0 f.1) ∙ ap Err (sym f.2))
 
--- want of memory, as it is passed on
+-- `OutOfMemory`, as it is passed on
 pub memory_passed : {B : Type 0} (P : B → Type 0) (Q : Error → Type 0) (result : Outcome B) (e : Error) → IsErrAnd result (λ d. d ≡ e) → Q e → MatchResult result P Q
 memory_passed P Q result e is_err memory = let p = err_from_is_err_and result is_err in rw (p.1, p.2) memory
 

@@ -31,7 +31,7 @@ pub trait CryptographicSponge: Duplicate {
     // The sponge that has absorbed a value, by the value's bytes and its elements of a target field, or the refusal.
     ghost absorbed: { Value → List ℕ → (ℕ → ℕ → Elements) → Outcome Value };
 
-    // So many bytes, bits, and numbers of the sponge's own field, each with the sponge that has given them.
+    // Bytes, bits and numbers of the own field, as many as are asked for, each with the sponge that has given them.
     ghost bytes_given: { Value → ℕ → List ℕ × Value };
 
     ghost bits_given: { Value → ℕ → List Bool × Value };

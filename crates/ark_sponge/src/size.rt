@@ -11,7 +11,7 @@ use ark_groups::ff::PrimeField;
 pub enum FieldElementSize {
     /// One bit fewer than the field's modulus has.
     Full,
-    /// So many, and no more than the field's modulus has.
+    /// This many, and no more than the field's modulus has.
     Truncated(usize),
 }
 
