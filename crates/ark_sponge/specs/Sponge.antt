@@ -64,18 +64,27 @@ after_squeezing p sbox s (suc n) =
     let c = s.parameters in
     let start = squeezing_start (permutation p sbox c) s.state s.mode in
     let last = start.1 + n in
-    record { parameters = c; state = nth_state (permutation p sbox c) (last / c.rate) start.0; mode = Squeezing (last % c.rate + 1) }
+    record {
+      parameters = c;
+      state = nth_state (permutation p sbox c) (last / c.rate) start.0;
+      mode = Squeezing (last % c.rate + 1);
+    }
 
 -- ---- laws
 
 -- what is absorbed in two calls is absorbed as in one
 abbrev pub AbsorbsAsOne : ℕ → (ℕ → ℕ → ℕ) → Sponge → List ℕ → Type 0
-AbsorbsAsOne p sbox s xs = (more : List ℕ) → after_absorbing p sbox (after_absorbing p sbox s xs) more ≡ after_absorbing p sbox s (xs ++ more)
+AbsorbsAsOne p sbox s xs =
+    (more : List ℕ) → after_absorbing p sbox (after_absorbing p sbox s xs) more ≡ after_absorbing p sbox s (xs ++ more)
 
 -- what two calls give is what one gives
 abbrev pub GivesAsOne : ℕ → (ℕ → ℕ → ℕ) → Sponge → ℕ → Type 0
-GivesAsOne p sbox s n = (more : ℕ) → squeezed_numbers p sbox s (n + more) ≡ squeezed_numbers p sbox s n ++ squeezed_numbers p sbox (after_squeezing p sbox s n) more
+GivesAsOne p sbox s n =
+    (more : ℕ) → squeezed_numbers p sbox s (n + more)
+    ≡ squeezed_numbers p sbox s n ++ squeezed_numbers p sbox (after_squeezing p sbox s n) more
 
 -- and what they leave is what one leaves, where the second gives some
 abbrev pub LeavesAsOne : ℕ → (ℕ → ℕ → ℕ) → Sponge → ℕ → Type 0
-LeavesAsOne p sbox s n = (more : ℕ) → 0 < more → after_squeezing p sbox (after_squeezing p sbox s n) more ≡ after_squeezing p sbox s (n + more)
+LeavesAsOne p sbox s n =
+    (more : ℕ) → 0 < more
+    → after_squeezing p sbox (after_squeezing p sbox s n) more ≡ after_squeezing p sbox s (n + more)
