@@ -1,9 +1,11 @@
-use acp_session::command::command;
-use std::io::{self, BufReader, Read, Write};
-use std::process::Abort;
-use std::test::Fail;
+//! Readers and writers that fail.
 
-/// A reader that gives three bytes at a time, and fails when its calls are used up.
+use crate::commands::{INPUT, REPLIES, count_lines, status_of};
+use ark_base::error::Error;
+use std::alloc::Global;
+use std::io::{self, Read, Write};
+
+// A reader that gives three bytes at a time, and fails when its calls are used up.
 #[derive(Drop)]
 struct Trickle<'a> {
     left: &'a [u8],
@@ -23,7 +25,7 @@ impl<'a> Read for Trickle<'a> {
     }
 }
 
-/// A writer that takes four bytes at a time, and fails when its calls are used up.
+// A writer that takes four bytes at a time, and fails when its calls are used up.
 #[derive(Drop)]
 struct Sink {
     bytes: Vec<u8>,
@@ -46,91 +48,74 @@ impl Write for Sink {
     }
 }
 
-const INPUT: &[u8] = b"root\ntree - -\ntree -\n\nproof 2";
-
-const REPLIES: &[u8] = b"refused tree\ntree 2 height 2\nrefused leaves\nbad line\nrefused index\n";
-
-fn expect_run(
-    rt: &(impl Abort + AllocGlobal),
-    reads: usize,
-    writes: usize,
-) -> Result<(u8, Vec<u8>), Fail> {
-    let words = vec![in rt.alloc(); String::from_str(rt.alloc(), "sha256")?]?;
-    let mut lines = BufReader::new(
-        rt.alloc(),
-        Trickle {
-            left: INPUT,
-            calls_left: reads,
-        },
-    )?;
+// The status, and how many lines were answered, where what was written is a front of the replies and the faults are those of the
+// status.
+fn ended(alloc: Global, reads: usize, writes: usize) -> Result<Option<(u8, usize)>, Error> {
     let mut sink = Sink {
-        bytes: Vec::new(rt.alloc()),
+        bytes: Vec::new(alloc),
         calls_left: writes,
     };
-    let mut faults = Vec::new(rt.alloc());
-    let status = command(rt.alloc(), &words, &mut lines, &mut sink, &mut faults);
-    if status == 0 {
-        assert_eq!(rt; faults.len(), 0);
+    let reader = Trickle {
+        left: INPUT,
+        calls_left: reads,
+    };
+    let (status, told) = status_of(alloc, &["sha256"], reader, &mut sink)?;
+    let is_front = REPLIES.starts_with(&sink.bytes);
+    Ok(if told && is_front {
+        Some((status, count_lines(&sink.bytes)))
     } else {
-        assert_eq!(rt; faults.as_slice(), b"acp: stopped\n".as_slice());
-    }
-    assert!(rt; REPLIES.starts_with(&sink.bytes));
-    Ok((status, sink.bytes))
+        None
+    })
 }
 
 #[test]
-fn stops_at_each_failed_read(rt: HostRuntime) -> Result<(), Fail> {
+fn stops_at_each_failed_read(rt: HostRuntime) {
+    // Reads of three bytes, and two at the end that have none.
     let reads = INPUT.len().div_ceil(3) + 2;
-    for k in 0..reads {
-        let (status, told) = expect_run(&rt, k, 1000)?;
-        assert_eq!(rt; status, 1, "at read {k}");
-        // What was read before the fault was answered.
-        let lines = INPUT.iter().take(3 * k).filter(|b| **b == b'\n').count();
-        let answered = told.as_slice().iter().filter(|b| **b == b'\n').count();
-        if k + 2 < reads {
-            assert_eq!(rt; answered, lines, "at read {k}");
-        }
+    // What was read before the fault was answered. The last line stands where the reader ends.
+    for k in 0..reads - 2 {
+        let lines = INPUT
+            .iter()
+            .take(3 * k)
+            .filter(|byte| **byte == b'\n')
+            .count();
+        assert_eq!(rt;
+            ended(rt.alloc(), k, 1000),
+            Ok(Some((1, lines))),
+            "at read {k}"
+        );
     }
-    let (status, told) = expect_run(&rt, reads, 1000)?;
-    assert_eq!(rt; status, 0);
-    assert_eq!(rt; told.as_slice(), REPLIES);
-    Ok(())
+    assert_eq!(rt; ended(rt.alloc(), reads, 1000), Ok(Some((0, 5))));
 }
 
 #[test]
-fn stops_at_each_failed_write(rt: HostRuntime) -> Result<(), Fail> {
-    for k in 0..100 {
-        let (status, _) = expect_run(&rt, 1000, k)?;
-        if status == 0 {
-            assert!(rt; k > 10 && k < 40, "{k}");
-            return Ok(());
-        }
-        assert_eq!(rt; status, 1, "at write {k}");
+fn stops_at_each_failed_write(rt: HostRuntime) {
+    // The replies have 74 bytes, and no reply is written together with the next one.
+    for k in 0..19usize {
+        assert!(rt;
+            ended(rt.alloc(), 1000, k).is_ok_and(|said| said.is_some_and(|it| it.0 == 1)),
+            "at write {k}"
+        );
     }
-    assert!(rt; false, "it never ends well");
-    Ok(())
+    assert_eq!(rt; ended(rt.alloc(), 1000, 40), Ok(Some((0, 5))));
 }
 
-fn expect_usage(rt: &(impl Abort + AllocGlobal), words: &[&str]) -> Result<(), Fail> {
-    let mut owned = Vec::new(rt.alloc());
-    for word in words {
-        owned.push(String::from_str(rt.alloc(), word)?)?;
-    }
-    let mut lines = BufReader::new(rt.alloc(), INPUT)?;
-    let mut replies = Vec::new(rt.alloc());
-    let mut faults = Vec::new(rt.alloc());
-    let status = command(rt.alloc(), &owned, &mut lines, &mut replies, &mut faults);
-    assert_eq!(rt; status, 2);
-    assert_eq!(rt; faults.as_slice(), b"usage: acp sha256|toy\n".as_slice());
-    assert_eq!(rt; replies.len(), 0);
-    Ok(())
+// The status of some words, where nothing is written and the faults are those of the status.
+fn told_usage(alloc: Global, words: &[&str]) -> Result<Option<u8>, Error> {
+    let mut replies = Vec::new(alloc);
+    let (status, told) = status_of(alloc, words, INPUT, &mut replies)?;
+    Ok(if told && replies.is_empty() {
+        Some(status)
+    } else {
+        None
+    })
 }
 
 #[test]
-fn tells_its_usage(rt: HostRuntime) -> Result<(), Fail> {
-    expect_usage(&rt, &[])?;
-    expect_usage(&rt, &["sha"])?;
-    expect_usage(&rt, &["Toy"])?;
-    expect_usage(&rt, &["sha256", "toy"])?;
-    expect_usage(&rt, &["sha256", "sha256"])
+fn tells_its_usage(rt: HostRuntime) {
+    assert_eq!(rt; told_usage(rt.alloc(), &[]), Ok(Some(2)));
+    assert_eq!(rt; told_usage(rt.alloc(), &["sha"]), Ok(Some(2)));
+    assert_eq!(rt; told_usage(rt.alloc(), &["Toy"]), Ok(Some(2)));
+    assert_eq!(rt; told_usage(rt.alloc(), &["sha256", "toy"]), Ok(Some(2)));
+    assert_eq!(rt; told_usage(rt.alloc(), &["sha256", "sha256"]), Ok(Some(2)));
 }

@@ -1,12 +1,12 @@
 //! When replies are sent off: a writer that holds back what is not flushed, and a reader that asks for it.
 
-use acp_session::command::command;
+use crate::commands::{INPUT, REPLIES, count_lines, status_of};
+use ark_base::error::Error;
+use std::alloc::Global;
 use std::cell::Cell;
-use std::io::{self, BufReader, Read, Write};
-use std::process::Abort;
-use std::test::Fail;
+use std::io::{self, Read, Write};
 
-/// A writer that holds back what is not flushed. It counts its flushes, and fails at one of them.
+// A writer that holds back what is not flushed. It counts its flushes, and fails at one of them.
 #[derive(Drop)]
 struct Holding<'a> {
     held: Vec<u8>,
@@ -29,13 +29,12 @@ impl<'a> Write for Holding<'a> {
         }
         self.sent.extend_from_slice(&self.held)?;
         self.held.clear();
-        let lines = self.sent.iter().filter(|b| **b == b'\n').count();
-        self.lines_sent.set(lines);
+        self.lines_sent.set(count_lines(&self.sent));
         Ok(())
     }
 }
 
-/// A reader that gives a line at a time, each only once the reply to the one before has been sent off.
+// A reader that gives a line at a time, each only once the reply to the one before has been sent off.
 #[derive(Drop)]
 struct Asking<'a> {
     left: &'a [u8],
@@ -62,74 +61,67 @@ impl<'a> Read for Asking<'a> {
     }
 }
 
-const INPUT: &[u8] = b"root\ntree - -\ntree -\n\nproof 2";
-
-const REPLIES: &[u8] = b"refused tree\ntree 2 height 2\nrefused leaves\nbad line\nrefused index\n";
-
-fn new_writer<'a>(
-    rt: &(impl Abort + AllocGlobal),
+// How a session over a writer ends that fails at one of its flushes, or at none where this is 0: the status, how many flushes there
+// were, and how many bytes were sent off, where these are a front of the replies.
+fn ended<'a, R: Read + Drop>(
+    alloc: Global,
+    reader: R,
     fails_at: usize,
     lines_sent: &'a Cell<usize>,
-) -> Holding<'a> {
-    Holding {
-        held: Vec::new(rt.alloc()),
-        sent: Vec::new(rt.alloc()),
+) -> Result<Option<(u8, usize, usize)>, Error> {
+    let mut writer = Holding {
+        held: Vec::new(alloc),
+        sent: Vec::new(alloc),
         flushes: 0,
         fails_at,
         lines_sent,
-    }
-}
-
-fn status_of<R: Read + Drop, W: Write>(
-    rt: &(impl Abort + AllocGlobal),
-    reader: R,
-    writer: &mut W,
-) -> Result<u8, Fail> {
-    let words = vec![in rt.alloc(); String::from_str(rt.alloc(), "sha256")?]?;
-    let mut lines = BufReader::new(rt.alloc(), reader)?;
-    let mut faults = Vec::new(rt.alloc());
-    Ok(command(rt.alloc(), &words, &mut lines, writer, &mut faults))
+    };
+    let (status, told) = status_of(alloc, &["sha256"], reader, &mut writer)?;
+    let is_front = REPLIES.starts_with(&writer.sent);
+    Ok(if told && is_front {
+        Some((status, writer.flushes, writer.sent.len()))
+    } else {
+        None
+    })
 }
 
 // Where all lines are buffered at once, they are answered before anything is sent: at the start, before the last line, which
 // has no line feed, and at the end.
 #[test]
-fn buffered_lines_are_flushed_together(rt: HostRuntime) -> Result<(), Fail> {
+fn buffered_lines_are_flushed_together(rt: HostRuntime) {
     let lines_sent = Cell::new(0);
-    let mut writer = new_writer(&rt, 0, &lines_sent);
-    let status = status_of(&rt, INPUT, &mut writer)?;
-    assert_eq!(rt; status, 0);
-    assert_eq!(rt; writer.sent.as_slice(), REPLIES);
-    assert_eq!(rt; writer.flushes, 3);
-    Ok(())
+    let all = Ok(Some((0, 3, REPLIES.len())));
+    assert_eq!(rt; ended(rt.alloc(), INPUT, 0, &lines_sent), all);
 }
 
-// A reader that waits for each reply gets it.
-#[test]
-fn each_reply_is_sent_before_the_next_read(rt: HostRuntime) -> Result<(), Fail> {
+// The status where a reader waits for each reply, and whether all replies were sent off.
+fn asked(alloc: Global) -> Result<Option<(u8, bool)>, Error> {
     let lines_sent = Cell::new(0);
     let reader = Asking {
         left: b"root\ntree - -\ntree -\n\nproof 2\n",
         lines_given: 0,
         lines_sent: &lines_sent,
     };
-    let mut writer = new_writer(&rt, 0, &lines_sent);
-    let status = status_of(&rt, reader, &mut writer)?;
-    assert_eq!(rt; status, 0);
-    assert_eq!(rt; writer.sent.as_slice(), REPLIES);
-    Ok(())
+    let ended = ended(alloc, reader, 0, &lines_sent)?;
+    Ok(ended.map(|it| (it.0, it.2 == REPLIES.len())))
+}
+
+// A reader that waits for each reply gets it.
+#[test]
+fn each_reply_is_sent_before_the_next_read(rt: HostRuntime) {
+    assert_eq!(rt; asked(rt.alloc()), Ok(Some((0, true))));
 }
 
 // A flush that fails ends the session; what was sent before is a front of the replies.
 #[test]
-fn a_failed_flush_ends_the_session(rt: HostRuntime) -> Result<(), Fail> {
-    for fails_at in 1..=3 {
+fn a_failed_flush_ends_the_session(rt: HostRuntime) {
+    for fails_at in 1..=3usize {
         let lines_sent = Cell::new(0);
-        let mut writer = new_writer(&rt, fails_at, &lines_sent);
-        let status = status_of(&rt, INPUT, &mut writer)?;
-        assert_eq!(rt; status, 1, "at flush {fails_at}");
-        assert!(rt; REPLIES.starts_with(&writer.sent), "at flush {fails_at}");
-        assert_eq!(rt; writer.flushes, fails_at + 1);
+        assert!(rt;
+            ended(rt.alloc(), INPUT, fails_at, &lines_sent).is_ok_and(|said| said.is_some_and(
+                |it| it.0 == 1 && it.1 == fails_at + 1
+            )),
+            "at flush {fails_at}"
+        );
     }
-    Ok(())
 }

@@ -13,7 +13,6 @@ use ark_merkle::{
 };
 use rand::Rng;
 use std::alloc::Global;
-use std::test::Fail;
 
 fn tree_of<P: Config<Leaf = u64, LeafHash = ToyLeafHash, LeafDigest = Fp<M257>>>(
     alloc: Global,
@@ -97,30 +96,41 @@ impl TwoToOneCRHScheme for RefusingPairHash {
     ghost compressed_same = { λ p q same. refl };
 }
 
+// The number that the refusal of a tree names.
+fn custom_of(alloc: Global, leaves: &[u64]) -> Option<u64> {
+    match tree_of::<Refusing>(alloc, &(), leaves) {
+        Err(Error::GenericError(Refusal::Custom(number))) => Some(number),
+        _ => None,
+    }
+}
+
 // The lowest pair that refuses is named, and the leftmost of its row: a walk into the depth would meet (5, 0), the node over
 // 1 2 249 4, first.
 #[test]
-fn the_lowest_refusal_decides(rt: HostRuntime) -> Result<(), Fail> {
-    let custom = |first| Some(Error::GenericError(Refusal::Custom(first)));
-    let refused = tree_of::<Refusing>(rt.alloc(), &(), &[1, 2, 249, 4, 5, 6, 7, 0]);
-    assert!(rt; refused.err() == custom(7));
-    let refused = tree_of::<Refusing>(rt.alloc(), &(), &[1, 2, 249, 4, 5, 6, 7, 8]);
-    assert!(rt; refused.err() == custom(5));
-    let refused = tree_of::<Refusing>(rt.alloc(), &(), &[1, 2, 3, 0, 5, 6, 7, 0]);
-    assert!(rt; refused.err() == custom(3));
-    Ok(())
+fn the_lowest_refusal_decides(rt: HostRuntime) {
+    assert_eq!(rt; custom_of(rt.alloc(), &[1, 2, 249, 4, 5, 6, 7, 0]), Some(7));
+    assert_eq!(rt; custom_of(rt.alloc(), &[1, 2, 249, 4, 5, 6, 7, 8]), Some(5));
+    assert_eq!(rt; custom_of(rt.alloc(), &[1, 2, 3, 0, 5, 6, 7, 0]), Some(3));
+}
+
+// What an update of the tree of 1 2 3 4 answers, and the root behind it.
+fn updated(alloc: Global, index: usize, leaf: u64) -> Result<(Result<(), Error>, Fp<M257>), Error> {
+    let mut tree = tree_of::<Refusing>(alloc, &(), &[1, 2, 3, 4])?;
+    if index >= tree.size() {
+        return Err(Error::IncorrectInputLength(index));
+    }
+    let answer = tree.update(alloc, index, &leaf);
+    Ok((answer, *tree.root()))
 }
 
 // A refused pair leaves the tree as it was.
 #[test]
-fn a_refused_pair_changes_nothing(rt: HostRuntime) -> Result<(), Fail> {
-    let mut tree = tree_of::<Refusing>(rt.alloc(), &(), &[1, 2, 3, 4])?;
-    if tree.size() == 4 {
-        let refused = tree.update(rt.alloc(), 2, &249);
-        assert!(rt; refused == Err(Error::GenericError(Refusal::Custom(5))));
-        assert!(rt; *tree.root() == Fp::from_u64(27));
-    }
-    Ok(())
+fn a_refused_pair_changes_nothing(rt: HostRuntime) {
+    let refused = Err(Error::GenericError(Refusal::Custom(5)));
+    assert_eq!(rt;
+        updated(rt.alloc(), 2, 249),
+        Ok((refused, Fp::from_u64(27)))
+    );
 }
 
 // As `toy`, but its converter gives 0 for every leaf digest.
@@ -152,35 +162,42 @@ impl DigestConverter<Fp<M257>, Fp<M257>> for Zero {
     ghost conversion_is_decided = { λ _. tt };
 }
 
+// A path of zeros beside a leaf digest of 5.
+fn path_of_zeros(alloc: Global, len: usize) -> Result<Path<Forgetting>, Error> {
+    Ok(Path::<Forgetting> {
+        leaf_sibling_hash: Fp::from_u64(5),
+        auth_path: vec![in alloc; Fp::from_u64(0); len]?,
+        leaf_index: 0,
+    })
+}
+
+fn forgetful(alloc: Global) -> Result<MerkleTree<Forgetting>, Error> {
+    tree_of::<Forgetting>(alloc, &(), &[1, 2])
+}
+
+fn is_accepted(alloc: Global) -> Result<bool, Error> {
+    path_of_zeros(alloc, 0)?.verify(alloc, &(), &(), forgetful(alloc)?.root(), &9)
+}
+
+fn bound(alloc: Global, len: usize) -> Result<Binding, Error> {
+    forgetful(alloc)?.bind(alloc, &path_of_zeros(alloc, len)?, &9)
+}
+
 // At the last level the pairs that differ are leaf digests before conversion.
 #[test]
-fn digests_that_are_converted_alike_collide(rt: HostRuntime) -> Result<(), Fail> {
-    let alloc = rt.alloc();
-    let tree = tree_of::<Forgetting>(alloc, &(), &[1, 2])?;
-    assert!(rt; *tree.root() == Fp::from_u64(0));
-    let path = Path::<Forgetting> {
-        leaf_sibling_hash: Fp::from_u64(5),
-        auth_path: Vec::new(alloc),
-        leaf_index: 0,
-    };
-    assert!(rt; path.verify(alloc, &(), &(), tree.root(), &9)?);
-    assert_eq!(rt; tree.bind(alloc, &path, &9)?, Binding::Differs { level: 0 });
-    Ok(())
+fn digests_that_are_converted_alike_collide(rt: HostRuntime) {
+    assert_eq!(rt; is_accepted(rt.alloc()), Ok(true));
+    assert_eq!(rt; bound(rt.alloc(), 0), Ok(Binding::Differs { level: 0 }));
 }
 
 // A path that has not one digest for each level between the leaf digests and the root is refused, however long it is.
 #[test]
-fn bind_asks_for_a_path_of_the_height(rt: HostRuntime) -> Result<(), Fail> {
-    let alloc = rt.alloc();
-    let tree = tree_of::<Forgetting>(alloc, &(), &[1, 2])?;
+fn bind_asks_for_a_path_of_the_height(rt: HostRuntime) {
     for len in [1usize, 63, 64, 3000] {
-        let path = Path::<Forgetting> {
-            leaf_sibling_hash: Fp::from_u64(5),
-            auth_path: vec![in alloc; Fp::from_u64(0); len]?,
-            leaf_index: 0,
-        };
-        let refused = tree.bind(alloc, &path, &9);
-        assert!(rt; refused == Err(Error::IncorrectInputLength(len)));
+        assert_eq!(rt;
+            bound(rt.alloc(), len),
+            Err(Error::IncorrectInputLength(len)),
+            "{len}"
+        );
     }
-    Ok(())
 }

@@ -15,7 +15,6 @@ use ark_merkle::{Config, IdentityDigestConverter};
 use rand::Rng;
 use std::alloc::{AllocError, Global};
 use std::io::BufReader;
-use std::test::Fail;
 
 // As `toy`, but each leaf is hashed with a key.
 struct Keyed;
@@ -95,17 +94,21 @@ impl Shell for Keyed {
     ghost multi_path_reading_is = { λ p q. refl };
 }
 
+// Whether a session over this key is answered so.
+fn answers(alloc: Global, key: u64, input: &[u8], replies: &[u8]) -> Result<bool, Error> {
+    let mut lines = BufReader::new(alloc, input).map_err(|_| Error::OutOfMemory)?;
+    let mut written: Vec<u8> = Vec::new(alloc);
+    let key = Fp::from_u64(key);
+    let ended = run::<Keyed, &[u8], Vec<u8>>(alloc, &key, &(), &mut lines, &mut written);
+    Ok(ended.is_ok() && written.as_slice() == replies)
+}
+
 // Under the key 10 the leaves 1 and 2 have the digests 11 and 12, and 11 + 2 * 12 is 35.
 #[test]
-fn serves_a_hash_with_a_key(rt: HostRuntime) -> Result<(), Fail> {
+fn serves_a_hash_with_a_key(rt: HostRuntime) {
     let input =
         b"tree 01 02\nroot\nproof 0\ncheck 0c0000000000000000000000000000000000 01\nset 0 05\nroot\n";
-    let mut lines = BufReader::new(rt.alloc(), input.as_slice())?;
-    let mut replies: Vec<u8> = Vec::new(rt.alloc());
-    let key = Fp::from_u64(10);
-    run::<Keyed, &[u8], Vec<u8>>(rt.alloc(), &key, &(), &mut lines, &mut replies)?;
     let wanted =
         b"tree 2 height 2\nroot 2300\npath 0c0000000000000000000000000000000000\ntrue\nok\nroot 2700\n";
-    assert_eq!(rt; replies.as_slice(), wanted.as_slice());
-    Ok(())
+    assert_eq!(rt; answers(rt.alloc(), 10, input, wanted), Ok(true));
 }

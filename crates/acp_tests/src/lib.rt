@@ -1,6 +1,8 @@
-//! Tests of the program: sessions, its statuses, and readers and writers that fail.
+//! Tests of the program's parts: readers and writers that fail, when replies are sent off, trees of its configurations.
 #![tactic(auto)]
 
+#[cfg(test)]
+mod commands;
 #[cfg(test)]
 mod faults;
 #[cfg(test)]
@@ -10,12 +12,4 @@ mod hashes;
 #[cfg(test)]
 mod keyed;
 #[cfg(test)]
-mod multi;
-#[cfg(test)]
-mod rows;
-#[cfg(test)]
-mod sessions;
-#[cfg(test)]
-mod strict;
-#[cfg(test)]
-mod toy;
+mod trees;

@@ -20,8 +20,6 @@ mod lists;
 mod numbers;
 mod pairs;
 mod slices;
-#[cfg(test)]
-mod tests;
 mod whole;
 
 use crate::error::Error;

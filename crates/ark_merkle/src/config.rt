@@ -3,6 +3,7 @@
 ghost use Rattle.std.specs.Prelude.{◌≡◌, ℕ, List, map, Ok};
 ghost use Rattle.ark_base.specs.Outcome.{Outcome, AnswersBy, IsDecided};
 
+use ark_absorb::Absorb;
 use ark_base::error::Error;
 use ark_base::serialize::{DigestItem, Numbered, canonical_bytes};
 use ark_crh::{CRHScheme, TwoToOneCRHScheme};
@@ -67,7 +68,7 @@ pub trait Config {
         <Self::TwoToOneHash as TwoToOneCRHScheme>::Input,
     >;
 
-    type InnerDigest: DigestItem + Debug + Hash;
+    type InnerDigest: DigestItem + Absorb + Debug + Hash;
 
     type LeafHash: CRHScheme<Input = Self::Leaf, Output = Self::LeafDigest>;
 

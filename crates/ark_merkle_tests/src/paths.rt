@@ -1,15 +1,48 @@
 //! Trees and their paths.
 
 use crate::plain;
-use crate::samples::{Sha, leaves_of_bytes, proof_of, tree_of};
+use crate::samples::{Grown, Sha, grown, proof_of, tree_of};
 use ark_base::error::{Error, SerializationError};
-use ark_base::serialize::{CanonicalDeserialize, CanonicalSerialize, Duplicate};
+use ark_base::serialize::{CanonicalDeserialize, Duplicate, canonical_bytes};
 use ark_crh::sha256::Sha256;
 use ark_crh::{CRHScheme, TwoToOneCRHScheme};
 use ark_merkle::index::is_bit_set;
 use ark_merkle::{MerkleTree, Path};
 use std::alloc::Global;
 use std::test::Fail;
+
+fn two_empty_leaves(alloc: Global) -> Result<MerkleTree<Sha>, Error> {
+    tree_of(alloc, &[Vec::new(alloc), Vec::new(alloc)])
+}
+
+fn size_and_height(tree: Result<MerkleTree<Sha>, Error>) -> Result<(usize, usize), Error> {
+    let tree = tree?;
+    Ok((tree.size(), tree.height()))
+}
+
+// Whether the second path of the tree of two empty leaves has these canonical bytes, in hexadecimal.
+fn second_is(alloc: Global, text: &str) -> Result<bool, Error> {
+    let path = proof_of(alloc, &two_empty_leaves(alloc)?, 1)?;
+    let bytes = canonical_bytes(alloc, &path)?;
+    Ok(hex::encode(alloc, &bytes)?.as_str() == text)
+}
+
+fn second_accepts(alloc: Global, leaf: &[u8]) -> Result<bool, Error> {
+    let tree = two_empty_leaves(alloc)?;
+    let path = proof_of(alloc, &tree, 1)?;
+    path.verify(alloc, &(), &(), tree.root(), &leaf.to_vec(alloc)?)
+}
+
+#[test]
+fn a_tree_of_two_empty_leaves(rt: HostRuntime) {
+    let alloc = rt.alloc();
+    assert_eq!(rt; size_and_height(two_empty_leaves(alloc)), Ok((2, 2)));
+    let text =
+        "2000000000000000e3b0c44298fc1c149afbf4c8996fb92427ae41e4649b934ca495991b7852b85500000000000000000100000000000000";
+    assert_eq!(rt; second_is(alloc, text), Ok(true));
+    assert_eq!(rt; second_accepts(alloc, &[]), Ok(true));
+    assert_eq!(rt; second_accepts(alloc, b"a"), Ok(false));
+}
 
 // What the definition says of 2^(m + 1) leaf digests.
 fn defined_root(alloc: Global, m: usize, digests: &[Vec<u8>]) -> Result<Vec<u8>, Error> {
@@ -19,166 +52,201 @@ fn defined_root(alloc: Global, m: usize, digests: &[Vec<u8>]) -> Result<Vec<u8>,
     plain::place::<Sha>(alloc, &(), m, digests)?.map_err(|refused| refused.1)
 }
 
-#[test]
-fn a_tree_of_two_empty_leaves(rt: HostRuntime) -> Result<(), Fail> {
-    let alloc = rt.alloc();
-    let leaves = vec![in alloc; Vec::new(alloc), Vec::new(alloc)]?;
-    let tree = MerkleTree::<Sha>::new(alloc, &(), &(), &leaves)?;
-    assert_eq!(rt; (tree.size(), tree.height()), (2, 2));
-    let path = tree.generate_proof(alloc, 1)?;
-    let mut bytes = Vec::new(alloc);
-    path.serialize(&mut bytes)?;
-    assert_eq!(rt;
-        hex::encode(alloc, &bytes)?.as_str(),
-        "2000000000000000e3b0c44298fc1c149afbf4c8996fb92427ae41e4649b934ca495991b7852b85500000000000000000100000000000000"
-    );
-    assert!(rt; path.verify(alloc, &(), &(), tree.root(), &Vec::new(alloc))?);
-    assert!(rt; !path.verify(alloc, &(), &(), tree.root(), &vec![in alloc; b'a']?)?);
-    Ok(())
-}
-
-#[test]
-fn eight_leaves_against_the_definitions(rt: HostRuntime) -> Result<(), Fail> {
-    let alloc = rt.alloc();
-    let leaves = leaves_of_bytes(alloc, 8)?;
+fn digests_of(alloc: Global, leaves: &[Vec<u8>]) -> Result<Vec<Vec<u8>>, Error> {
     let mut digests = Vec::new(alloc);
-    for leaf in &leaves {
+    for leaf in leaves {
         digests.push(<Sha256 as CRHScheme>::evaluate(alloc, &(), leaf)?)?;
     }
-    let tree = tree_of(alloc, &leaves)?;
-    assert_eq!(rt; (tree.size(), tree.height()), (8, 4));
-    assert!(rt; defined_root(alloc, 2, &digests)? == *tree.root());
-    for index in 0..8 {
-        let path = proof_of(alloc, &tree, index)?;
-        assert_eq!(rt; path.leaf_index, index);
-        assert!(rt; Some(&path.leaf_sibling_hash) == digests.get(index ^ 1));
-        let half = digests.chunks(4).nth(index / 4 ^ 1).unwrap_or(&[]);
-        let quarter = digests.chunks(2).nth(index / 2 ^ 1).unwrap_or(&[]);
-        let beside = vec![in alloc;
-            defined_root(alloc, 1, half)?,
-            defined_root(alloc, 0, quarter)?,
-        ]?;
-        assert!(rt; path.auth_path == beside);
-        for (other, leaf) in leaves.iter().enumerate() {
-            let accepted = path.verify(alloc, &(), &(), tree.root(), leaf)?;
-            assert!(rt; accepted == (other == index), "leaf {other} at {index}");
-        }
-    }
-    Ok(())
+    Ok(digests)
 }
 
-// A path of distinct digests, and the top that the definition gives it for the leaf of no bytes.
-fn long_path(alloc: Global, digests: usize, index: usize) -> Result<(Path<Sha>, Vec<u8>), Error> {
-    let nothing = Vec::new(alloc);
-    let leaf = <Sha256 as CRHScheme>::evaluate(alloc, &(), &nothing)?;
+fn eight_have_their_root(alloc: Global) -> Result<bool, Error> {
+    let eight = grown(alloc, 8)?;
+    Ok(defined_root(alloc, 2, &digests_of(alloc, &eight.leaves)?)? == *eight.tree.root())
+}
+
+// Whether a path in a tree of eight has the digests that the definition gives.
+fn is_beside(alloc: Global, path: &Path<Sha>, digests: &[Vec<u8>]) -> Result<bool, Error> {
+    let index = path.leaf_index;
+    let half = digests.chunks(4).nth(index / 4 ^ 1).unwrap_or(&[]);
+    let quarter = digests.chunks(2).nth(index / 2 ^ 1).unwrap_or(&[]);
+    Ok(
+        digests.get(index ^ 1) == Some(&path.leaf_sibling_hash)
+            && path.auth_path.len() == 2
+            && path.auth_path.first() == Some(&defined_root(alloc, 1, half)?)
+            && path.auth_path.last() == Some(&defined_root(alloc, 0, quarter)?),
+    )
+}
+
+// Whether a path is accepted with the leaf of its index and with no other one.
+fn is_of_one_leaf(alloc: Global, grown: &Grown, path: &Path<Sha>) -> Result<bool, Error> {
+    for (other, leaf) in grown.leaves.iter().enumerate() {
+        if grown.accepts(alloc, path, leaf)? != (other == path.leaf_index) {
+            return Ok(false);
+        }
+    }
+    Ok(true)
+}
+
+fn path_of_eight_is_right(alloc: Global, index: usize) -> Result<bool, Error> {
+    let eight = grown(alloc, 8)?;
+    let path = proof_of(alloc, &eight.tree, index)?;
+    Ok(
+        path.leaf_index == index
+            && is_beside(alloc, &path, &digests_of(alloc, &eight.leaves)?)?
+            && is_of_one_leaf(alloc, &eight, &path)?,
+    )
+}
+
+#[test]
+fn eight_leaves_against_the_definitions(rt: HostRuntime) {
+    let alloc = rt.alloc();
+    assert_eq!(rt; eight_have_their_root(alloc), Ok(true));
+    for index in 0..8usize {
+        assert_eq!(rt; path_of_eight_is_right(alloc, index), Ok(true), "{index}");
+    }
+}
+
+// A path of distinct digests.
+fn long_path(alloc: Global, digests: usize, index: usize) -> Result<Path<Sha>, Error> {
     let mut auth_path = Vec::new(alloc);
     for level in 0..digests {
         auth_path.push(vec![in alloc; (level % 256) as u8, (level / 256 % 256) as u8]?)?;
     }
-    let sibling = vec![in alloc; 7u8]?;
-    let (left, right) = if is_bit_set(index, 0) {
-        (&sibling, &leaf)
-    } else {
-        (&leaf, &sibling)
-    };
-    let lowest = <Sha256 as TwoToOneCRHScheme>::evaluate(alloc, &(), left, right)?;
-    let top = plain::climb::<Sha256>(alloc, &(), index, &auth_path, &lowest)?;
-    let path = Path {
-        leaf_sibling_hash: sibling,
+    Ok(Path {
+        leaf_sibling_hash: vec![in alloc; 7u8]?,
         auth_path,
         leaf_index: index,
+    })
+}
+
+// The top that the definition gives a path for a leaf.
+fn top_of(alloc: Global, path: &Path<Sha>, leaf: &Vec<u8>) -> Result<Vec<u8>, Error> {
+    let leaf = <Sha256 as CRHScheme>::evaluate(alloc, &(), leaf)?;
+    let (left, right) = if is_bit_set(path.leaf_index, 0) {
+        (&path.leaf_sibling_hash, &leaf)
+    } else {
+        (&leaf, &path.leaf_sibling_hash)
     };
-    Ok((path, top))
+    let lowest = <Sha256 as TwoToOneCRHScheme>::evaluate(alloc, &(), left, right)?;
+    plain::climb::<Sha256>(alloc, &(), path.leaf_index, &path.auth_path, &lowest)
+}
+
+// Whether a long path is accepted with its top, and with 32 zeros.
+fn long_is_accepted(alloc: Global, digests: usize, index: usize) -> Result<(bool, bool), Error> {
+    let path = long_path(alloc, digests, index)?;
+    let leaf = Vec::new(alloc);
+    let top = top_of(alloc, &path, &leaf)?;
+    let zeros = vec![in alloc; 0u8; 32]?;
+    Ok((
+        path.verify(alloc, &(), &(), &top, &leaf)?,
+        path.verify(alloc, &(), &(), &zeros, &leaf)?,
+    ))
 }
 
 #[test]
-fn paths_of_any_length(rt: HostRuntime) -> Result<(), Fail> {
-    let alloc = rt.alloc();
-    let leaf = Vec::new(alloc);
+fn paths_of_any_length(rt: HostRuntime) {
     for digests in [0usize, 1, 63, 64, 3000] {
         for index in [0usize, 1, 0x5555_5555_5555_5555, usize::MAX] {
-            let (path, top) = long_path(alloc, digests, index)?;
-            assert!(rt;
-                path.verify(alloc, &(), &(), &top, &leaf)?,
+            assert_eq!(rt;
+                long_is_accepted(rt.alloc(), digests, index),
+                Ok((true, false)),
                 "{digests} digests, {index}"
             );
-            let other = vec![in alloc; 0u8; 32]?;
-            assert!(rt; !path.verify(alloc, &(), &(), &other, &leaf)?);
         }
     }
-    Ok(())
+}
+
+// Whether the path of leaf 2 of four is accepted with this index in the place of its own.
+fn is_accepted_at(alloc: Global, index: usize) -> Result<bool, Error> {
+    let four = grown(alloc, 4)?;
+    let mut path = proof_of(alloc, &four.tree, 2)?;
+    path.leaf_index = index;
+    four.accepts(alloc, &path, &vec![in alloc; 2u8]?)
 }
 
 #[test]
-fn index_bits_past_the_path_do_not_count(rt: HostRuntime) -> Result<(), Fail> {
-    let alloc = rt.alloc();
-    let leaves = leaves_of_bytes(alloc, 4)?;
-    let tree = tree_of(alloc, &leaves)?;
-    let leaf = vec![in alloc; 2u8]?;
-    let mut path = proof_of(alloc, &tree, 2)?;
-    path.leaf_index = 6;
-    assert!(rt; path.verify(alloc, &(), &(), tree.root(), &leaf)?);
-    path.leaf_index = 7;
-    assert!(rt; !path.verify(alloc, &(), &(), tree.root(), &leaf)?);
-    Ok(())
+fn index_bits_past_the_path_do_not_count(rt: HostRuntime) {
+    assert_eq!(rt; is_accepted_at(rt.alloc(), 6), Ok(true));
+    assert_eq!(rt; is_accepted_at(rt.alloc(), 7), Ok(false));
+}
+
+fn last_of_four(alloc: Global) -> Result<Path<Sha>, Error> {
+    proof_of(alloc, &grown(alloc, 4)?.tree, 3)
+}
+
+// Whether a path is read back from its canonical bytes with three more behind them, of which none is used.
+fn is_read_back(alloc: Global, path: &Path<Sha>) -> Result<bool, Error> {
+    let mut bytes = canonical_bytes(alloc, path)?;
+    let len = bytes.len();
+    bytes.extend_from_slice(&[1, 2, 3])?;
+    let (read, used) = Path::<Sha>::deserialize(alloc, &bytes)?;
+    Ok(read == *path && used == len)
+}
+
+fn is_truncated(alloc: Global, bytes: &[u8]) -> bool {
+    Path::<Sha>::deserialize(alloc, bytes).err()
+        == Some(Error::SerializationError(SerializationError::Truncated))
+}
+
+fn each_cut_is_truncated(alloc: Global, path: &Path<Sha>) -> Result<bool, Error> {
+    let bytes = canonical_bytes(alloc, path)?;
+    Ok((0..bytes.len()).all(|end| is_truncated(alloc, &bytes[..end])))
+}
+
+// A count of 2^64 - 1 digests asks for no memory.
+fn huge_is_truncated(alloc: Global, path: &Path<Sha>) -> Result<bool, Error> {
+    let mut bytes = canonical_bytes(alloc, path)?;
+    for byte in bytes.iter_mut().skip(40).take(8) {
+        *byte = 255;
+    }
+    Ok(is_truncated(alloc, &bytes))
 }
 
 #[test]
 fn paths_have_bytes(rt: HostRuntime) -> Result<(), Fail> {
-    let alloc = rt.alloc();
-    let tree = tree_of(alloc, &leaves_of_bytes(alloc, 4)?)?;
-    let path = proof_of(alloc, &tree, 3)?;
-    let mut bytes = Vec::new(alloc);
-    path.serialize(&mut bytes)?;
-    let len = bytes.len();
-    bytes.extend_from_slice(&[1, 2, 3])?;
-    let (read, used) = Path::<Sha>::deserialize(alloc, &bytes)?;
-    assert!(rt; read == path);
-    assert_eq!(rt; used, len);
-    for end in 0..len {
-        let cut = Path::<Sha>::deserialize(alloc, &bytes[..end]);
-        assert_eq!(rt;
-            cut.err(),
-            Some(Error::SerializationError(SerializationError::Truncated)),
-            "cut at {end}"
-        );
-    }
-    // A count of 2^64 - 1 digests asks for no memory.
-    for byte in bytes.iter_mut().skip(40).take(8) {
-        *byte = 255;
-    }
-    let huge = Path::<Sha>::deserialize(alloc, &bytes);
-    assert_eq!(rt;
-        huge.err(),
-        Some(Error::SerializationError(SerializationError::Truncated))
-    );
+    let path = last_of_four(rt.alloc())?;
+    assert_eq!(rt; is_read_back(rt.alloc(), &path), Ok(true));
+    assert_eq!(rt; each_cut_is_truncated(rt.alloc(), &path), Ok(true));
+    assert_eq!(rt; huge_is_truncated(rt.alloc(), &path), Ok(true));
     Ok(())
 }
 
-#[test]
-fn copies_are_the_same(rt: HostRuntime) -> Result<(), Fail> {
-    let alloc = rt.alloc();
-    let tree = tree_of(alloc, &leaves_of_bytes(alloc, 4)?)?;
+// Whether a tree of four and its copy have one root and the same path at an index, which is its own copy.
+fn copy_is_the_same(alloc: Global, index: usize) -> Result<bool, Error> {
+    let tree = grown(alloc, 4)?.tree;
     let copy = tree.duplicate(alloc)?;
-    assert!(rt; copy.root() == tree.root());
-    let path = proof_of(alloc, &tree, 1)?;
-    assert!(rt; path.duplicate(alloc)? == path);
-    assert!(rt; proof_of(alloc, &copy, 1)? == path);
-    assert!(rt; proof_of(alloc, &copy, 2)? != path);
-    Ok(())
+    let path = proof_of(alloc, &tree, index)?;
+    Ok(
+        copy.root() == tree.root()
+            && proof_of(alloc, &copy, index)? == path
+            && path.duplicate(alloc)? == path,
+    )
+}
+
+fn paths_are_the_same(alloc: Global, index: usize, other: usize) -> Result<bool, Error> {
+    let tree = grown(alloc, 4)?.tree;
+    Ok(proof_of(alloc, &tree, index)? == proof_of(alloc, &tree, other)?)
 }
 
 #[test]
-fn paths_have_a_debug_text(rt: HostRuntime) -> Result<(), Fail> {
-    let alloc = rt.alloc();
+fn copies_are_the_same(rt: HostRuntime) {
+    assert_eq!(rt; copy_is_the_same(rt.alloc(), 1), Ok(true));
+    assert_eq!(rt; paths_are_the_same(rt.alloc(), 1, 2), Ok(false));
+}
+
+// Whether a path of one digest has this text.
+fn has_text(alloc: Global, text: &str) -> Result<bool, Error> {
     let path = Path::<Sha> {
-        leaf_sibling_hash: vec![in alloc; 7u8]?,
         auth_path: vec![in alloc; vec![in alloc; 8u8, 9]?]?,
+        leaf_sibling_hash: vec![in alloc; 7u8]?,
         leaf_index: 1,
     };
-    assert_eq!(rt;
-        format!(in alloc; "{path:?}")?.as_str(),
-        "Path { leaf_sibling_hash: [7], auth_path: [[8, 9]], leaf_index: 1 }"
-    );
-    Ok(())
+    Ok(format!(in alloc; "{path:?}")?.as_str() == text)
+}
+
+#[test]
+fn paths_have_a_debug_text(rt: HostRuntime) {
+    let text = "Path { leaf_sibling_hash: [7], auth_path: [[8, 9]], leaf_index: 1 }";
+    assert_eq!(rt; has_text(rt.alloc(), text), Ok(true));
 }

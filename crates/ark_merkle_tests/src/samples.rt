@@ -67,3 +67,34 @@ pub fn multi_proof_of(
     }
     tree.generate_multi_proof(alloc, indexes)
 }
+
+/// A tree with its leaves.
+#[derive(Drop)]
+pub struct Grown {
+    pub leaves: Vec<Vec<u8>>,
+    pub tree: MerkleTree<Sha>,
+}
+
+/// The tree of `count` leaves of one byte.
+pub fn grown(alloc: Global, count: u8) -> Result<Grown, Error> {
+    let leaves = leaves_of_bytes(alloc, count)?;
+    let tree = tree_of(alloc, &leaves)?;
+    Ok(Grown { leaves, tree })
+}
+
+impl Grown {
+    /// Whether the tree's root comes of a path and a leaf.
+    pub fn accepts(&self, alloc: Global, path: &Path<Sha>, leaf: &Vec<u8>) -> Result<bool, Error> {
+        path.verify(alloc, &(), &(), self.tree.root(), leaf)
+    }
+
+    /// Whether the tree's root comes of a multi-proof and these leaves.
+    pub fn accepts_all(
+        &self,
+        alloc: Global,
+        proof: &MultiPath<Sha>,
+        leaves: &[Vec<u8>],
+    ) -> Result<bool, Error> {
+        proof.verify(alloc, &(), &(), self.tree.root(), leaves.iter())
+    }
+}

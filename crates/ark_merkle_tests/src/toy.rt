@@ -8,10 +8,9 @@ use crate::strict::is_read;
 use ark_base::error::Error;
 use ark_crh::{CRHScheme, TwoToOneCRHScheme};
 use ark_groups::ff::{Fp, M257, PrimeField};
-use ark_merkle::{Config, IdentityDigestConverter, MerkleTree, is_tree_size};
+use ark_merkle::{Config, IdentityDigestConverter, MerkleTree, MultiPath, is_tree_size};
 use rand::Rng;
 use std::alloc::Global;
-use std::test::Fail;
 
 struct Toy;
 
@@ -118,61 +117,95 @@ fn tree_of(alloc: Global, leaves: &[u64]) -> Result<MerkleTree<Toy>, Error> {
     MerkleTree::new(alloc, &(), &(), leaves)
 }
 
-fn digest(value: u64) -> Fp<M257> {
-    Fp::from_u64(value)
+// The tree of four zero digests.
+fn zeros(alloc: Global) -> Result<MerkleTree<Toy>, Error> {
+    let digests = Vec::from_array(alloc, [Fp::from_u64(0); 4])?;
+    MerkleTree::<Toy>::new_with_leaf_digest(alloc, &(), &(), digests)
+}
+
+fn root_of(tree: Result<MerkleTree<Toy>, Error>) -> Result<u64, Error> {
+    Ok(tree?.root().value())
 }
 
 // The digest beside a leaf, and the one beside the pair that holds it, in a tree of four.
-fn beside(alloc: Global, tree: &MerkleTree<Toy>, index: usize) -> Result<[Fp<M257>; 2], Error> {
+fn beside(
+    alloc: Global,
+    tree: Result<MerkleTree<Toy>, Error>,
+    index: usize,
+) -> Result<(u64, Option<u64>), Error> {
+    let tree = tree?;
     if index >= tree.size() {
         return Err(Error::IncorrectInputLength(index));
     }
     let path = tree.generate_proof(alloc, index)?;
-    let above = path.auth_path.first().copied().unwrap_or(digest(256));
-    Ok([path.leaf_sibling_hash, above])
+    Ok((
+        path.leaf_sibling_hash.value(),
+        path.auth_path.first().map(|digest| digest.value()),
+    ))
+}
+
+fn beside_one_to_four(alloc: Global, index: usize) -> Result<(u64, Option<u64>), Error> {
+    beside(alloc, tree_of(alloc, &[1, 2, 3, 4]), index)
 }
 
 #[test]
-fn pairs_of_four_leaves(rt: HostRuntime) -> Result<(), Fail> {
+fn pairs_of_four_leaves(rt: HostRuntime) {
     let alloc = rt.alloc();
-    let tree = tree_of(alloc, &[1, 2, 3, 4])?;
-    assert!(rt; *tree.root() == digest(27));
-    assert!(rt; beside(alloc, &tree, 0)? == [digest(2), digest(11)]);
-    assert!(rt; beside(alloc, &tree, 1)? == [digest(1), digest(11)]);
-    assert!(rt; beside(alloc, &tree, 2)? == [digest(4), digest(5)]);
-    assert!(rt; beside(alloc, &tree, 3)? == [digest(3), digest(5)]);
-    Ok(())
+    assert_eq!(rt; root_of(tree_of(alloc, &[1, 2, 3, 4])), Ok(27));
+    assert_eq!(rt; beside_one_to_four(alloc, 0), Ok((2, Some(11))));
+    assert_eq!(rt; beside_one_to_four(alloc, 1), Ok((1, Some(11))));
+    assert_eq!(rt; beside_one_to_four(alloc, 2), Ok((4, Some(5))));
+    assert_eq!(rt; beside_one_to_four(alloc, 3), Ok((3, Some(5))));
 }
 
 #[test]
-fn pairs_of_four_zeros(rt: HostRuntime) -> Result<(), Fail> {
+fn pairs_of_four_zeros(rt: HostRuntime) {
     let alloc = rt.alloc();
-    let zeros = vec![in alloc; digest(0), digest(0), digest(0), digest(0)]?;
-    let tree = MerkleTree::<Toy>::new_with_leaf_digest(alloc, &(), &(), zeros)?;
-    assert!(rt; *tree.root() == digest(0));
-    for index in 0..4 {
-        assert!(rt; beside(alloc, &tree, index)? == [digest(0), digest(0)]);
-    }
-    Ok(())
-}
-
-#[test]
-fn all_indexes_of_a_blank_tree(rt: HostRuntime) -> Result<(), Fail> {
-    let alloc = rt.alloc();
-    let tree = MerkleTree::<Toy>::blank(alloc, &(), &(), 4)?;
-    assert_eq!(rt; (tree.size(), tree.height()), (8, 4));
-    let all = [0, 1, 2, 3, 4, 5, 6, 7];
-    assert!(rt; are_inside(&all, tree.size()));
-    if are_inside(&all, tree.size()) {
-        let proof = tree.generate_multi_proof(alloc, &all)?;
-        assert_eq!(rt; proof.leaf_indexes.as_slice(), all.as_slice());
+    assert_eq!(rt; root_of(zeros(alloc)), Ok(0));
+    for index in 0..4usize {
         assert_eq!(rt;
-            proof.auth_paths_prefix_lenghts.as_slice(),
-            [0, 2, 2, 2, 2, 2, 2, 2].as_slice()
+            beside(alloc, zeros(alloc), index),
+            Ok((0, Some(0))),
+            "{index}"
         );
-        assert!(rt; is_read(alloc, &proof)?);
-        let leaves = [0u64; 8];
-        assert!(rt; proof.verify(alloc, &(), &(), tree.root(), leaves.iter())?);
     }
-    Ok(())
+}
+
+const ALL: [usize; 8] = [0, 1, 2, 3, 4, 5, 6, 7];
+
+fn blank(alloc: Global) -> Result<MerkleTree<Toy>, Error> {
+    MerkleTree::<Toy>::blank(alloc, &(), &(), 4)
+}
+
+fn size_and_height(tree: Result<MerkleTree<Toy>, Error>) -> Result<(usize, usize), Error> {
+    let tree = tree?;
+    Ok((tree.size(), tree.height()))
+}
+
+fn proof_of_all(alloc: Global, tree: &MerkleTree<Toy>) -> Result<MultiPath<Toy>, Error> {
+    if !are_inside(&ALL, tree.size()) {
+        return Err(Error::IncorrectInputLength(tree.size()));
+    }
+    tree.generate_multi_proof(alloc, &ALL)
+}
+
+// Whether the proof of all leaves of the blank tree of eight shares all it can, is strict, and is accepted.
+fn blank_shares(alloc: Global, shared: &[usize]) -> Result<bool, Error> {
+    let tree = blank(alloc)?;
+    let proof = proof_of_all(alloc, &tree)?;
+    Ok(
+        proof.leaf_indexes.as_slice() == ALL.as_slice()
+            && proof.auth_paths_prefix_lenghts.as_slice() == shared
+            && is_read(alloc, &proof)?
+            && proof.verify(alloc, &(), &(), tree.root(), [0u64; 8].iter())?,
+    )
+}
+
+#[test]
+fn all_indexes_of_a_blank_tree(rt: HostRuntime) {
+    assert_eq!(rt; size_and_height(blank(rt.alloc())), Ok((8, 4)));
+    assert_eq!(rt;
+        blank_shares(rt.alloc(), &[0, 2, 2, 2, 2, 2, 2, 2]),
+        Ok(true)
+    );
 }

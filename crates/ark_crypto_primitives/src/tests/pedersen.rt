@@ -109,12 +109,21 @@ fn residue(number: u64) -> Residues<M13> {
     Residues::new(Fp::from_u64(number))
 }
 
-fn list(alloc: Global, numbers: &[u64]) -> Result<Vec<Residues<M13>>, Error> {
-    let mut list = Vec::new(alloc);
-    for number in numbers {
-        list.push(residue(*number))?;
+// Generators, a list for each window.
+fn parameters(alloc: Global, windows: &[[u64; 4]]) -> Result<Parameters<Residues<M13>>, Error> {
+    let mut generators = Vec::new(alloc);
+    for numbers in windows {
+        generators.push(Vec::from_array(alloc, numbers.map(residue))?)?;
     }
-    Ok(list)
+    Ok(Parameters { generators })
+}
+
+fn leaves_of(alloc: Global, texts: &[&[u8]]) -> Result<Vec<Vec<u8>>, Error> {
+    let mut leaves = Vec::new(alloc);
+    for text in texts {
+        leaves.push(text.to_vec(alloc)?)?;
+    }
+    Ok(leaves)
 }
 
 fn tree_of<P: Config>(
@@ -129,80 +138,84 @@ fn tree_of<P: Config>(
     MerkleTree::new(alloc, leaf_parameters, pair_parameters, leaves)
 }
 
-fn leaf_parameters(alloc: Global) -> Result<Parameters<Residues<M13>>, Error> {
-    let generators = vec![in alloc; list(alloc, &[1, 2, 4, 8])?, list(alloc, &[2, 4, 8, 3])?]?;
-    Ok(Parameters { generators })
-}
-
-fn pair_parameters(alloc: Global) -> Result<Parameters<Residues<M13>>, Error> {
-    let mut generators = Vec::new(alloc);
-    for _ in 0..4u8 {
-        generators.push(list(alloc, &[1, 2, 4, 8])?)?;
-    }
-    Ok(Parameters { generators })
-}
-
 // The tree of 25, 01, no bytes and 40.
 fn reckoned(alloc: Global) -> Result<MerkleTree<By13>, Error> {
-    let leaves = vec![in alloc;
-        vec![in alloc; 0x25u8]?,
-        vec![in alloc; 0x01u8]?,
-        Vec::new(alloc),
-        vec![in alloc; 0x40u8]?,
-    ]?;
-    tree_of(
-        alloc,
-        &leaf_parameters(alloc)?,
-        &pair_parameters(alloc)?,
-        &leaves,
-    )
+    let two = parameters(alloc, &[[1, 2, 4, 8], [2, 4, 8, 3]])?;
+    let four = parameters(alloc, &[[1, 2, 4, 8]; 4])?;
+    let leaves = leaves_of(alloc, &[&[0x25], &[0x01], &[], &[0x40]])?;
+    tree_of(alloc, &two, &four, &leaves)
 }
 
-fn bytes_of_proof<P: Config>(
-    alloc: Global,
-    tree: &MerkleTree<P>,
-    index: usize,
-) -> Result<Vec<u8>, Error> {
+fn reckoned_root(alloc: Global) -> Result<Residues<M13>, Error> {
+    Ok(*reckoned(alloc)?.root())
+}
+
+// The digest beside a leaf.
+fn reckoned_beside(alloc: Global, index: usize) -> Result<Residues<M13>, Error> {
+    let tree = reckoned(alloc)?;
     if index >= tree.size() {
         return Err(Error::IncorrectInputLength(index));
     }
-    to_uncompressed_bytes!(in alloc; tree.generate_proof(alloc, index)?)
+    Ok(*tree.get_leaf_sibling_hash(index))
 }
 
-fn leaf_digest_beside<P: Config>(tree: &MerkleTree<P>, index: usize) -> Option<&P::LeafDigest> {
+// Whether the path of a leaf has these canonical bytes.
+fn has_bytes(
+    alloc: Global,
+    tree: &MerkleTree<By13>,
+    index: usize,
+    bytes: &[u8],
+) -> Result<bool, Error> {
     if index >= tree.size() {
-        return None;
+        return Err(Error::IncorrectInputLength(index));
     }
-    Some(tree.get_leaf_sibling_hash(index))
+    let written = to_uncompressed_bytes!(in alloc; tree.generate_proof(alloc, index)?)?;
+    Ok(written.as_slice() == bytes)
+}
+
+fn reckoned_has_bytes(alloc: Global, index: usize, bytes: &[u8]) -> Result<bool, Error> {
+    has_bytes(alloc, &reckoned(alloc)?, index, bytes)
 }
 
 #[test]
 fn leaf_digests_reach_the_pair_hash_as_bytes(rt: HostRuntime) -> Result<(), Fail> {
-    let tree = reckoned(rt.alloc())?;
-    assert!(rt; *tree.root() == residue(5));
-    assert_eq!(rt; leaf_digest_beside(&tree, 1), Some(&residue(9)));
-    assert_eq!(rt; leaf_digest_beside(&tree, 0), Some(&residue(1)));
-    assert_eq!(rt; leaf_digest_beside(&tree, 3), Some(&residue(0)));
-    assert_eq!(rt; leaf_digest_beside(&tree, 2), Some(&residue(8)));
+    assert_eq!(rt; reckoned_root(rt.alloc()), Ok(residue(5)));
+    assert_eq!(rt; reckoned_beside(rt.alloc(), 1), Ok(residue(9)));
+    assert_eq!(rt; reckoned_beside(rt.alloc(), 0), Ok(residue(1)));
+    assert_eq!(rt; reckoned_beside(rt.alloc(), 3), Ok(residue(0)));
+    assert_eq!(rt; reckoned_beside(rt.alloc(), 2), Ok(residue(8)));
     Ok(())
 }
 
 #[test]
 fn a_proof_has_bytes(rt: HostRuntime) -> Result<(), Fail> {
-    let alloc = rt.alloc();
-    let tree = reckoned(alloc)?;
-    let bytes = bytes_of_proof(alloc, &tree, 0)?;
     assert_eq!(rt;
-        hex::encode(alloc, &bytes)?.as_str(),
-        "010100000000000000080000000000000000"
+        reckoned_has_bytes(
+            rt.alloc(),
+            0,
+            &[1, 1, 0, 0, 0, 0, 0, 0, 0, 8, 0, 0, 0, 0, 0, 0, 0, 0]
+        ),
+        Ok(true)
     );
     // The node of the first two leaves is 10.
-    let bytes = bytes_of_proof(alloc, &tree, 2)?;
     assert_eq!(rt;
-        hex::encode(alloc, &bytes)?.as_str(),
-        "0801000000000000000a0200000000000000"
+        reckoned_has_bytes(
+            rt.alloc(),
+            2,
+            &[8, 1, 0, 0, 0, 0, 0, 0, 0, 10, 2, 0, 0, 0, 0, 0, 0, 0]
+        ),
+        Ok(true)
     );
     Ok(())
+}
+
+// A tree of drawn leaves of 32 bytes, with its drawn parameters.
+#[derive(Drop)]
+struct Drawn {
+    leaf_parameters: Parameters<Residues<M61>>,
+    pair_parameters: Parameters<Residues<M61>>,
+    leaves: Vec<Vec<u8>>,
+    tree: MerkleTree<By61>,
 }
 
 fn drawn_leaf<R: Rng>(alloc: Global, rng: &mut R) -> Result<Vec<u8>, Error> {
@@ -217,131 +230,134 @@ fn drawn_leaves<R: Rng>(alloc: Global, count: usize, rng: &mut R) -> Result<Vec<
     Ok(leaves)
 }
 
+fn drawn<R: Rng>(alloc: Global, count: usize, rng: &mut R) -> Result<Drawn, Error> {
+    let leaf_parameters = CRH::<Residues<M61>, Many>::setup(alloc, rng)?;
+    let pair_parameters = TwoToOneCRH::<Residues<M61>, Many>::setup(alloc, rng)?;
+    let leaves = drawn_leaves(alloc, count, rng)?;
+    let tree = tree_of::<By61>(alloc, &leaf_parameters, &pair_parameters, &leaves)?;
+    Ok(Drawn {
+        leaf_parameters,
+        pair_parameters,
+        leaves,
+        tree,
+    })
+}
+
 fn are_inside(indexes: &[usize], size: usize) -> bool
     ensures { IsTrue result ↔ All (λ i. i < size) indexes.now }
 {
     indexes.iter().all(|index| *index < size)
 }
 
-fn multi_proof_of_all<P: Config>(
-    alloc: Global,
-    tree: &MerkleTree<P>,
-) -> Result<MultiPath<P>, Error> {
-    let mut indexes = Vec::new(alloc);
-    for index in 0..tree.size() {
-        indexes.push(index)?;
-    }
-    if !are_inside(&indexes, tree.size()) {
-        return Err(Error::IncorrectInputLength(indexes.len()));
-    }
-    tree.generate_multi_proof(alloc, &indexes)
-}
-
-// Whether each own path is accepted with its leaf, and the multi-proof of all indexes with all leaves.
-fn all_are_accepted<P: Config>(
-    alloc: Global,
-    tree: &MerkleTree<P>,
-    leaf_parameters: &LeafParam<P>,
-    pair_parameters: &TwoToOneParam<P>,
-    leaves: &[P::Leaf],
-) -> Result<bool, Error> {
-    for (index, leaf) in leaves.iter().enumerate() {
-        if index >= tree.size() {
+impl Drawn {
+    fn path_is_accepted(&self, alloc: Global, index: usize, leaf: &Vec<u8>) -> Result<bool, Error> {
+        if index >= self.tree.size() {
             return Err(Error::IncorrectInputLength(index));
         }
-        let path = tree.generate_proof(alloc, index)?;
-        if !path.verify(alloc, leaf_parameters, pair_parameters, tree.root(), leaf)? {
-            return Ok(false);
+        let path = self.tree.generate_proof(alloc, index)?;
+        path.verify(
+            alloc,
+            &self.leaf_parameters,
+            &self.pair_parameters,
+            self.tree.root(),
+            leaf,
+        )
+    }
+
+    fn proof_of_all(&self, alloc: Global) -> Result<MultiPath<By61>, Error> {
+        let mut indexes = Vec::new(alloc);
+        for index in 0..self.tree.size() {
+            indexes.push(index)?;
         }
+        if !are_inside(&indexes, self.tree.size()) {
+            return Err(Error::IncorrectInputLength(indexes.len()));
+        }
+        self.tree.generate_multi_proof(alloc, &indexes)
     }
-    let proof = multi_proof_of_all(alloc, tree)?;
-    proof.verify(
-        alloc,
-        leaf_parameters,
-        pair_parameters,
-        tree.root(),
-        leaves.iter(),
-    )
-}
 
-fn set_leaf<P: Config>(
-    alloc: Global,
-    tree: &mut MerkleTree<P>,
-    leaves: &mut Vec<P::Leaf>,
-    index: usize,
-    leaf: P::Leaf,
-) -> Result<(), Error> {
-    if index >= tree.size() || index >= leaves.len() {
-        return Err(Error::IncorrectInputLength(index));
+    // Whether each own path is accepted with its leaf, and the multi-proof of all indexes with all leaves.
+    fn all_are_accepted(&self, alloc: Global) -> Result<bool, Error> {
+        for (index, leaf) in self.leaves.iter().enumerate() {
+            if !self.path_is_accepted(alloc, index, leaf)? {
+                return Ok(false);
+            }
+        }
+        self.proof_of_all(alloc)?.verify(
+            alloc,
+            &self.leaf_parameters,
+            &self.pair_parameters,
+            self.tree.root(),
+            self.leaves.iter(),
+        )
     }
-    tree.update(alloc, index, &leaf)?;
-    leaves[index] = leaf;
-    Ok(())
+
+    fn set_leaf(&mut self, alloc: Global, index: usize, leaf: Vec<u8>) -> Result<(), Error> {
+        if index >= self.tree.size() || index >= self.leaves.len() {
+            return Err(Error::IncorrectInputLength(index));
+        }
+        self.tree.update(alloc, index, &leaf)?;
+        self.leaves[index] = leaf;
+        Ok(())
+    }
+
+    fn set_drawn_leaves<R: Rng>(
+        &mut self,
+        alloc: Global,
+        indexes: &[usize],
+        rng: &mut R,
+    ) -> Result<(), Error> {
+        for index in indexes {
+            self.set_leaf(alloc, *index, drawn_leaf(alloc, rng)?)?;
+        }
+        Ok(())
+    }
 }
 
-// The parameters of the leaf hash and of the pair hash.
-type Drawn = (Parameters<Residues<M61>>, Parameters<Residues<M61>>);
-
-fn draw<R: Rng>(alloc: Global, rng: &mut R) -> Result<Drawn, Error> {
-    let leaf_parameters = CRH::<Residues<M61>, Many>::setup(alloc, rng)?;
-    Ok((
-        leaf_parameters,
-        TwoToOneCRH::<Residues<M61>, Many>::setup(alloc, rng)?,
-    ))
-}
-
-// Whether all proofs of a tree are accepted before these leaves are set, and after.
+// Whether all proofs of a tree are accepted before leaves are set at these indexes, and after.
 fn stays_accepted(alloc: Global, count: usize, indexes: &[usize]) -> Result<bool, Error> {
     let mut rng = SmallRng::seed_from_u64(61);
-    let (leaf_parameters, pair_parameters) = draw(alloc, &mut rng)?;
-    let mut leaves = drawn_leaves(alloc, count, &mut rng)?;
-    let mut tree = tree_of::<By61>(alloc, &leaf_parameters, &pair_parameters, &leaves)?;
-    if !all_are_accepted(alloc, &tree, &leaf_parameters, &pair_parameters, &leaves)? {
+    let mut drawn = drawn(alloc, count, &mut rng)?;
+    if !drawn.all_are_accepted(alloc)? {
         return Ok(false);
     }
-    for index in indexes {
-        let leaf = drawn_leaf(alloc, &mut rng)?;
-        set_leaf(alloc, &mut tree, &mut leaves, *index, leaf)?;
-    }
-    all_are_accepted(alloc, &tree, &leaf_parameters, &pair_parameters, &leaves)
+    drawn.set_drawn_leaves(alloc, indexes, &mut rng)?;
+    drawn.all_are_accepted(alloc)
 }
 
 #[test]
 fn own_proofs_are_accepted_before_and_after_updates(rt: HostRuntime) -> Result<(), Fail> {
-    assert!(rt; stays_accepted(rt.alloc(), 2, &[0, 1])?);
-    assert!(rt; stays_accepted(rt.alloc(), 4, &[3])?);
-    assert!(rt; stays_accepted(rt.alloc(), 128, &[2, 3, 5, 111, 127])?);
+    assert_eq!(rt; stays_accepted(rt.alloc(), 2, &[0, 1]), Ok(true));
+    assert_eq!(rt; stays_accepted(rt.alloc(), 4, &[3]), Ok(true));
+    assert_eq!(rt;
+        stays_accepted(rt.alloc(), 128, &[2, 3, 5, 111, 127]),
+        Ok(true)
+    );
     Ok(())
 }
 
-// The multi-proof of all indexes of a tree of drawn leaves.
-fn drawn_proof(alloc: Global, count: usize) -> Result<MultiPath<By61>, Error> {
-    let mut rng = SmallRng::seed_from_u64(8);
-    let (leaf_parameters, pair_parameters) = draw(alloc, &mut rng)?;
-    let leaves = drawn_leaves(alloc, count, &mut rng)?;
-    multi_proof_of_all(
-        alloc,
-        &tree_of(alloc, &leaf_parameters, &pair_parameters, &leaves)?,
+// Whether the multi-proof of all indexes of a tree of eight drawn leaves has these numbers of shared and of own digests.
+fn shares(alloc: Global, shared: &[usize], own: &[usize]) -> Result<bool, Error> {
+    let proof = drawn(alloc, 8, &mut SmallRng::seed_from_u64(8))?.proof_of_all(alloc)?;
+    Ok(
+        proof.leaf_indexes.iter().copied().eq(0..8usize)
+            && proof.auth_paths_prefix_lenghts.as_slice() == shared
+            && proof
+                .auth_paths_suffixes
+                .iter()
+                .map(|suffix| suffix.len())
+                .eq(own.iter().copied()),
     )
 }
 
 #[test]
 fn a_multi_proof_shares_what_its_paths_share(rt: HostRuntime) -> Result<(), Fail> {
-    let proof = drawn_proof(rt.alloc(), 8)?;
     assert_eq!(rt;
-        proof.leaf_indexes.as_slice(),
-        [0, 1, 2, 3, 4, 5, 6, 7].as_slice()
-    );
-    assert_eq!(rt;
-        proof.auth_paths_prefix_lenghts.as_slice(),
-        [0, 2, 1, 2, 0, 2, 1, 2].as_slice()
-    );
-    assert!(rt;
-        proof
-            .auth_paths_suffixes
-            .iter()
-            .map(|suffix| suffix.len())
-            .eq([2usize, 0, 1, 0, 2, 0, 1, 0])
+        shares(
+            rt.alloc(),
+            &[0, 2, 1, 2, 0, 2, 1, 2],
+            &[2, 0, 1, 0, 2, 0, 1, 0]
+        ),
+        Ok(true)
     );
     Ok(())
 }

@@ -1,0 +1,49 @@
+//! Commands over readers and writers of the tests' own.
+
+use acp_session::command::command;
+use ark_base::error::Error;
+use std::alloc::Global;
+use std::io::{BufReader, Read, Write};
+
+/// Five lines, the last of which has no line feed.
+pub const INPUT: &[u8] = b"root\ntree - -\ntree -\n\nproof 2";
+
+/// What they are answered.
+pub const REPLIES: &[u8] =
+    b"refused tree\ntree 2 height 2\nrefused leaves\nbad line\nrefused index\n";
+
+fn owned(alloc: Global, words: &[&str]) -> Result<Vec<String>, Error> {
+    let mut owned = Vec::new(alloc);
+    for word in words {
+        owned.push(String::from_str(alloc, word)?)?;
+    }
+    Ok(owned)
+}
+
+// What stands among the faults where a command ends with a status.
+fn fault(status: u8) -> &'static [u8] {
+    match status {
+        0 => b"",
+        1 => b"acp: stopped\n",
+        _ => b"usage: acp sha256|toy\n",
+    }
+}
+
+/// The status of a command, and whether the faults are those of this status.
+pub fn status_of<R: Read + Drop, W: Write>(
+    alloc: Global,
+    words: &[&str],
+    reader: R,
+    writer: &mut W,
+) -> Result<(u8, bool), Error> {
+    let words = owned(alloc, words)?;
+    let mut lines = BufReader::new(alloc, reader).map_err(|_| Error::OutOfMemory)?;
+    let mut faults = Vec::new(alloc);
+    let status = command(alloc, &words, &mut lines, writer, &mut faults);
+    Ok((status, faults.as_slice() == fault(status)))
+}
+
+/// How many line feeds some bytes have.
+pub fn count_lines(bytes: &[u8]) -> usize {
+    bytes.iter().filter(|byte| **byte == b'\n').count()
+}
