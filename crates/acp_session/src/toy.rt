@@ -44,9 +44,9 @@ impl CRHScheme for ToyLeafHash {
 
     ghost meaning = { λ _ leaf. toy_leaf leaf };
 
-    ghost setup_outcome = { Ok tt };
+    ghost setup_outcome = { Ok };
 
-    ghost is_made = { λ _. Unit {0} };
+    ghost is_made = { λ _ _. Unit {0} };
 
     fn setup<R: Rng>(_alloc: Global, _rng: &mut R) -> Result<(), Error> {
         Ok(())
@@ -61,7 +61,9 @@ impl CRHScheme for ToyLeafHash {
 
     ghost meaning_decided = { λ _ leaf. toy_leaf-decided leaf };
 
-    ghost setup_decided = { tt };
+    ghost setup_decided = { λ _. tt };
+
+    ghost made_alike = { λ _ p q _ _. refl };
 
     ghost same_parameters = { λ p q same. refl };
 }
@@ -80,9 +82,9 @@ impl TwoToOneCRHScheme for ToyPairHash {
 
     ghost compressed = { λ _ left right. toy_pair left right };
 
-    ghost setup_outcome = { Ok tt };
+    ghost setup_outcome = { Ok };
 
-    ghost is_made = { λ _. Unit {0} };
+    ghost is_made = { λ _ _. Unit {0} };
 
     fn setup<R: Rng>(_alloc: Global, _rng: &mut R) -> Result<(), Error> {
         Ok(())
@@ -110,7 +112,9 @@ impl TwoToOneCRHScheme for ToyPairHash {
 
     ghost compressed_decided = { λ _ _ _. tt };
 
-    ghost setup_decided = { tt };
+    ghost setup_decided = { λ _. tt };
+
+    ghost made_alike = { λ _ p q _ _. refl };
 
     ghost evaluated_same = { λ p q same. refl };
 

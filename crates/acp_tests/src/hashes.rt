@@ -55,9 +55,9 @@ impl TwoToOneCRHScheme for RefusingPairHash {
 
     ghost compressed = { λ _ left right. refusing_pair left right };
 
-    ghost setup_outcome = { Ok tt };
+    ghost setup_outcome = { Ok };
 
-    ghost is_made = { λ _. Unit {0} };
+    ghost is_made = { λ _ _. Unit {0} };
 
     fn setup<R: Rng>(_alloc: Global, _rng: &mut R) -> Result<(), Error> {
         Ok(())
@@ -89,7 +89,9 @@ impl TwoToOneCRHScheme for RefusingPairHash {
 
     ghost compressed_decided = { λ _ left right. refusing_pair-decided left right };
 
-    ghost setup_decided = { tt };
+    ghost setup_decided = { λ _. tt };
+
+    ghost made_alike = { λ _ p q _ _. refl };
 
     ghost evaluated_same = { λ p q same. refl };
 

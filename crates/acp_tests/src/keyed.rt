@@ -1,7 +1,7 @@
 //! Sessions over a leaf hash with parameters.
 
 ghost use Rattle.std.specs.Prelude.{◌≡◌, Ok, refl};
-ghost use Rattle.std.proofs.Common.{ap};
+ghost use Rattle.std.proofs.Common.{ap, sym, ◌∙◌};
 ghost use Rattle.acp_tests.specs.Keyed.{keyed_leaf, keyed_language};
 
 use acp_session::run::run;
@@ -45,9 +45,9 @@ impl CRHScheme for KeyedLeafHash {
 
     ghost meaning = { λ key leaf. keyed_leaf key.value leaf };
 
-    ghost setup_outcome = { Ok tt };
+    ghost setup_outcome = { Ok };
 
-    ghost is_made = { λ _. Unit {0} };
+    ghost is_made = { λ _ key. key.value ≡ 1 };
 
     fn setup<R: Rng>(_alloc: Global, _rng: &mut R) -> Result<Fp<M257>, Error> {
         Ok(Fp::from_u64(1))
@@ -59,7 +59,9 @@ impl CRHScheme for KeyedLeafHash {
 
     ghost meaning_decided = { λ _ _. tt };
 
-    ghost setup_decided = { tt };
+    ghost setup_decided = { λ _. tt };
+
+    ghost made_alike = { λ _ p q made also. made ∙ sym also };
 
     ghost same_parameters = { λ p q same. ap keyed_leaf same };
 }

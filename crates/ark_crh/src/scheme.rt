@@ -1,6 +1,7 @@
 //! What a hash is.
 
 ghost use Rattle.std.specs.Prelude.{◌≡◌, ℕ, List, IfOk};
+ghost use Rattle.rand_core.specs.Stream.{Stream};
 ghost use Rattle.ark_base.specs.Outcome.{Outcome, AnswersBy, IsDecided};
 
 use ark_base::error::Error;
@@ -23,17 +24,19 @@ pub trait CRHScheme {
     // The digest of an input, as its numbers, or the refusal of the input.
     ghost meaning: { Self.Parameters → Self.Input → Outcome (List ℕ) };
 
-    // Whether parameters can be made, or why not, and what is known of those that are made.
-    ghost setup_outcome: { Outcome (Unit {0}) };
+    // What `setup` leaves of a stream once it has made parameters of it, or why it makes none.
+    ghost setup_outcome: { Stream → Outcome Stream };
 
-    ghost is_made: { Self.Parameters → Type 0 };
+    // The parameters are those that `setup` makes of the stream.
+    ghost is_made: { Stream → Self.Parameters → Type 0 };
 
-    /// Makes parameters from values that the random number generator chooses.
+    /// Makes parameters from what it draws. After a refusal the draws stay taken.
     ///
     /// Refusals: that of the scheme, where it has none to make; `OutOfMemory`.
     fn setup<R: Rng>(alloc: Global, rng: &mut R) -> Result<Self::Parameters, Error>
-        ensures outcome { AnswersBy (λ _. tt) setup_outcome result }
-        ensures made { IfOk result is_made };
+        ensures outcome { let left = R.stream rng.new in
+            AnswersBy (λ _. left) (setup_outcome (R.stream rng.old)) result }
+        ensures made { IfOk result (is_made (R.stream rng.old)) };
 
     /// The digest of an input.
     ///
@@ -47,7 +50,11 @@ pub trait CRHScheme {
 
     ghost meaning_decided: { (p : Self.Parameters) (x : Self.Input) → IsDecided (meaning p x) };
 
-    ghost setup_decided: { IsDecided setup_outcome };
+    ghost setup_decided: { (s : Stream) → IsDecided (setup_outcome s) };
+
+    // Parameters that are made of one stream are seen alike.
+    ghost made_alike: { (s : Stream) (p q : Self.Parameters)
+        → is_made s p → is_made s q → Self.Parameters.seen p ≡ Self.Parameters.seen q };
 
     // A copy of parameters hashes as they do, and so do parameters that were written and read again.
     ghost same_parameters: { (p q : Self.Parameters)
@@ -68,14 +75,16 @@ pub trait TwoToOneCRHScheme {
     // The same of two digests.
     ghost compressed: { Self.Parameters → List ℕ → List ℕ → Outcome (List ℕ) };
 
-    ghost setup_outcome: { Outcome (Unit {0}) };
+    // As in `CRHScheme`.
+    ghost setup_outcome: { Stream → Outcome Stream };
 
-    ghost is_made: { Self.Parameters → Type 0 };
+    ghost is_made: { Stream → Self.Parameters → Type 0 };
 
     /// As `CRHScheme::setup`.
     fn setup<R: Rng>(alloc: Global, rng: &mut R) -> Result<Self::Parameters, Error>
-        ensures outcome { AnswersBy (λ _. tt) setup_outcome result }
-        ensures made { IfOk result is_made };
+        ensures outcome { let left = R.stream rng.new in
+            AnswersBy (λ _. left) (setup_outcome (R.stream rng.old)) result }
+        ensures made { IfOk result (is_made (R.stream rng.old)) };
 
     /// The digest of two inputs.
     ///
@@ -109,7 +118,11 @@ pub trait TwoToOneCRHScheme {
     ghost compressed_decided: { (p : Self.Parameters) (x y : List ℕ)
         → IsDecided (compressed p x y) };
 
-    ghost setup_decided: { IsDecided setup_outcome };
+    ghost setup_decided: { (s : Stream) → IsDecided (setup_outcome s) };
+
+    // Parameters that are made of one stream are seen alike.
+    ghost made_alike: { (s : Stream) (p q : Self.Parameters)
+        → is_made s p → is_made s q → Self.Parameters.seen p ≡ Self.Parameters.seen q };
 
     // A copy of parameters hashes as they do, and so do parameters that were written and read again.
     ghost evaluated_same: { (p q : Self.Parameters)

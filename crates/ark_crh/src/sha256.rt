@@ -24,9 +24,9 @@ impl CRHScheme for Sha256 {
 
     ghost meaning = { λ _ input. Ok (sha256 input.items) };
 
-    ghost setup_outcome = { Ok tt };
+    ghost setup_outcome = { Ok };
 
-    ghost is_made = { λ _. Unit {0} };
+    ghost is_made = { λ _ _. Unit {0} };
 
     fn setup<R: Rng>(_alloc: Global, _rng: &mut R) -> Result<(), Error> {
         Ok(())
@@ -38,7 +38,9 @@ impl CRHScheme for Sha256 {
 
     ghost meaning_decided = { λ _ _. tt };
 
-    ghost setup_decided = { tt };
+    ghost setup_decided = { λ _. tt };
+
+    ghost made_alike = { λ _ p q _ _. refl };
 
     ghost same_parameters = { λ p q same. refl };
 }
@@ -54,9 +56,9 @@ impl TwoToOneCRHScheme for Sha256 {
 
     ghost compressed = { λ _ left right. Ok (sha256 (left ++ right)) };
 
-    ghost setup_outcome = { Ok tt };
+    ghost setup_outcome = { Ok };
 
-    ghost is_made = { λ _. Unit {0} };
+    ghost is_made = { λ _ _. Unit {0} };
 
     fn setup<R: Rng>(alloc: Global, rng: &mut R) -> Result<(), Error> {
         <Sha256 as CRHScheme>::setup(alloc, rng)
@@ -87,7 +89,9 @@ impl TwoToOneCRHScheme for Sha256 {
 
     ghost compressed_decided = { λ _ _ _. tt };
 
-    ghost setup_decided = { tt };
+    ghost setup_decided = { λ _. tt };
+
+    ghost made_alike = { λ _ p q _ _. refl };
 
     ghost evaluated_same = { λ p q same. refl };
 

@@ -40,9 +40,9 @@ impl CRHScheme for ToyLeafHash {
 
     ghost meaning = { λ _ leaf. leaf_modulo leaf };
 
-    ghost setup_outcome = { Ok tt };
+    ghost setup_outcome = { Ok };
 
-    ghost is_made = { λ _. Unit {0} };
+    ghost is_made = { λ _ _. Unit {0} };
 
     fn setup<R: Rng>(_alloc: Global, _rng: &mut R) -> Result<(), Error> {
         Ok(())
@@ -54,7 +54,9 @@ impl CRHScheme for ToyLeafHash {
 
     ghost meaning_decided = { λ _ leaf. tt };
 
-    ghost setup_decided = { tt };
+    ghost setup_decided = { λ _. tt };
+
+    ghost made_alike = { λ _ p q _ _. refl };
 
     ghost same_parameters = { λ p q same. refl };
 }
@@ -73,9 +75,9 @@ impl TwoToOneCRHScheme for ToyPairHash {
 
     ghost compressed = { λ _ left right. sum_modulo left right };
 
-    ghost setup_outcome = { Ok tt };
+    ghost setup_outcome = { Ok };
 
-    ghost is_made = { λ _. Unit {0} };
+    ghost is_made = { λ _ _. Unit {0} };
 
     fn setup<R: Rng>(_alloc: Global, _rng: &mut R) -> Result<(), Error> {
         Ok(())
@@ -103,7 +105,9 @@ impl TwoToOneCRHScheme for ToyPairHash {
 
     ghost compressed_decided = { λ _ _ _. tt };
 
-    ghost setup_decided = { tt };
+    ghost setup_decided = { λ _. tt };
+
+    ghost made_alike = { λ _ p q _ _. refl };
 
     ghost evaluated_same = { λ p q same. refl };
 

@@ -1,11 +1,13 @@
 -- Pedersen hashes: the sum of the elements at the set bits of an input.
-use Rattle.std.specs.Prelude.{◌≡◌, ℕ, zero, suc, ◌+◌, ◌*◌, ◌-◌, ◌/◌, ◌%◌, Bool, false, ◌&&◌, ◌||◌, ◌==◌}
+use Rattle.std.specs.Prelude.{◌≡◌, ℕ, zero, suc, ◌*◌, ◌-◌, ◌/◌, Bool, false, ◌&&◌, ◌||◌, ◌==◌}
 use Rattle.std.specs.Prelude.{List, [], ◌∷◌, ◌++◌, length, replicate, map, take, drop, Ok, Err, nat_lt, if◌then◌else◌}
 use Rattle.std.specs.declared.vec.Vec.{Vec}
 use Rattle.std.specs.List.{flat_map, list_all}
 use Rattle.ark_base.specs.Outcome.{Outcome, ◌>>=◌}
 use Rattle.ark_base.specs.declared.error.Error.TheVariants.{IncorrectInputLength, GenericError}
 use Rattle.ark_base.specs.declared.error.Refusal.TheVariants.{ParameterShape}
+use Rattle.rand_core.specs.Stream.{Stream}
+use Rattle.ark_groups.specs.Draws.{drawn_values}
 use Rattle.ark_groups.specs.Bits.{bits_of_number, number_of_bits}
 use Rattle.ark_groups.specs.Group.{Group, times}
 use Rattle.ark_pedersen.specs.declared.parameters.Parameters.{Parameters}
@@ -73,9 +75,13 @@ abbrev pub AreGeneratorsOf : {G W : Type 0} → Group G → Windows W → List G
 AreGeneratorsOf g windows elements lists =
     (length elements ≡ windows.NUM_WINDOWS) × (lists ≡ map (doublings g windows.WINDOW_SIZE) elements)
 
--- the lists are those of some elements or other
-abbrev pub AreGenerators : {G W : Type 0} → Group G → Windows W → List (List G) → Type 0
-AreGenerators {G} g windows lists = (elements : List G) × AreGeneratorsOf g windows elements lists
+-- The elements of the windows, drawn one after another from a stream, and the stream that is left.
+abbrev pub window_elements : {G W : Type 0} → (Stream → G × Stream) → Windows W → Stream → List G × Stream
+window_elements draw windows stream = drawn_values draw windows.NUM_WINDOWS stream
+
+-- the lists are those of the elements that are drawn
+abbrev pub AreDrawn : {G W : Type 0} → Group G → (Stream → G × Stream) → Windows W → Stream → List (List G) → Type 0
+AreDrawn g draw windows stream lists = AreGeneratorsOf g windows (window_elements draw windows stream).0 lists
 
 -- the sum of the elements of lists at the set bits, the lowest of which stands at this place
 abbrev pub sum_from : {G : Type 0} → Group G → ℕ → List (List G) → List Bool → G

@@ -1,7 +1,8 @@
 //! The Pedersen hash of one input.
 
-ghost use Rattle.std.specs.Prelude.{◌≡◌, ℕ, List, Ok, IfOk, IfErr};
-ghost use Rattle.ark_pedersen.specs.Pedersen.{lists_in, generators_in, doublings, AreGeneratorsOf, AreGenerators};
+ghost use Rattle.std.specs.Prelude.{◌≡◌, ℕ, List, Ok, IfOk, OnOk, IfErr};
+ghost use Rattle.ark_pedersen.specs.Pedersen.{lists_in, generators_in, doublings, AreGeneratorsOf};
+ghost use Rattle.ark_pedersen.specs.Pedersen.{window_elements, AreDrawn};
 ghost use Rattle.ark_pedersen.specs.Pedersen.{pedersen_hash, windows_hash, seen_by};
 
 use crate::parameters::Parameters;
@@ -24,7 +25,10 @@ pub struct CRH<C: CurveGroup, W: Window> {
 impl<C: CurveGroup, W: Window> CRH<C, W> {
     /// A list for each window: an element that is drawn, then its doublings. The only refusal is `OutOfMemory`.
     pub fn create_generators<R: Rng>(alloc: Global, rng: &mut R) -> Result<Vec<Vec<C>>, Error>
-        ensures made { IfOk result (λ made. AreGenerators C.group W.Window (lists_in made.items)) }
+        ensures made { let stream = R.stream rng.old in
+            IfOk result (λ made. AreDrawn C.group C.draw W.Window stream (lists_in made.items)) }
+        ensures left { OnOk result
+            (R.stream rng.new ≡ (window_elements C.draw W.Window (R.stream rng.old)).1) }
         ensures refused { IfErr result (λ error. error ≡ Error.OutOfMemory) }
     {
         let mut lists = Vec::with_capacity(alloc, W::NUM_WINDOWS)?;
@@ -40,7 +44,9 @@ impl<C: CurveGroup, W: Window> CRH<C, W> {
         count: usize,
         rng: &mut R,
     ) -> Result<Vec<C>, Error>
-        ensures made { IfOk result (λ list. (x : C) × (list.items ≡ doublings C.group count x)) }
+        ensures made { let element = (C.draw (R.stream rng.old)).0 in
+            IfOk result (λ list. list.items ≡ doublings C.group count element) }
+        ensures left { OnOk result (R.stream rng.new ≡ (C.draw (R.stream rng.old)).1) }
         ensures refused { IfErr result (λ error. error ≡ Error.OutOfMemory) }
     {
         let mut list = Vec::with_capacity(alloc, count)?;
@@ -54,7 +60,7 @@ impl<C: CurveGroup, W: Window> CRH<C, W> {
 }
 
 impl<C: CurveGroup + DigestItem, W: Window> CRHScheme for CRH<C, W> {
-    ghost use Rattle.std.proofs.Common.{ap};
+    ghost use Rattle.std.proofs.Common.{sym, ap, ◌∙◌};
     ghost use Rattle.ark_pedersen.specs.Laws.Pedersen.{seen-decided, pedersen-decided};
 
     type Input = Vec<u8>;
@@ -66,9 +72,10 @@ impl<C: CurveGroup + DigestItem, W: Window> CRHScheme for CRH<C, W> {
     ghost meaning = { λ parameters input.
         seen_by C.numbers (pedersen_hash C.group W.Window (generators_in parameters) input.items) };
 
-    ghost setup_outcome = { Ok tt };
+    ghost setup_outcome = { λ stream. Ok (window_elements C.draw W.Window stream).1 };
 
-    ghost is_made = { λ parameters. AreGenerators C.group W.Window (generators_in parameters) };
+    ghost is_made = { λ stream parameters.
+        AreDrawn C.group C.draw W.Window stream (generators_in parameters) };
 
     /// Parameters of generators as `create_generators` makes them.
     fn setup<R: Rng>(alloc: Global, rng: &mut R) -> Result<Parameters<C>, Error> {
@@ -97,7 +104,9 @@ impl<C: CurveGroup + DigestItem, W: Window> CRHScheme for CRH<C, W> {
         seen-decided C.numbers _
         (pedersen-decided C.group W.Window (generators_in parameters) input.items) };
 
-    ghost setup_decided = { tt };
+    ghost setup_decided = { λ _. tt };
+
+    ghost made_alike = { λ s p q made also. made.1 ∙ sym also.1 };
 
     ghost same_parameters = { λ p q same.
         ap (λ lists input. seen_by C.numbers

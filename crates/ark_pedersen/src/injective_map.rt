@@ -4,7 +4,7 @@ ghost use Rattle.std.specs.Prelude.{◌≡◌, ℕ, List, Ok, IsOkAnd};
 ghost use Rattle.std.specs.Bool.{Decides};
 ghost use Rattle.ark_base.specs.Outcome.{Outcome, AnswersBy, IsDecided};
 ghost use Rattle.ark_base.specs.Digits.{bytes_for, bytes_of_number};
-ghost use Rattle.ark_pedersen.specs.Pedersen.{generators_in, AreGenerators, pedersen_hash, of_halves, seen_image};
+ghost use Rattle.ark_pedersen.specs.Pedersen.{generators_in, window_elements, AreDrawn, pedersen_hash, of_halves, seen_image};
 
 #[cfg(test)]
 mod tests;
@@ -81,7 +81,7 @@ impl<C: CurveGroup, I: InjectiveMap<C>, W: Window> CRHScheme for PedersenCRHComp
 where
     I::Output: DigestItem,
 {
-    ghost use Rattle.std.proofs.Common.{ap};
+    ghost use Rattle.std.proofs.Common.{sym, ap, ◌∙◌};
     ghost use Rattle.ark_pedersen.specs.Laws.Pedersen.{seen_image-decided, pedersen-decided};
 
     type Input = Vec<u8>;
@@ -94,9 +94,10 @@ where
         let hash = pedersen_hash C.group W.Window (generators_in parameters) input.items in
         seen_image I.Output.numbers_of I.image hash };
 
-    ghost setup_outcome = { Ok tt };
+    ghost setup_outcome = { λ stream. Ok (window_elements C.draw W.Window stream).1 };
 
-    ghost is_made = { λ parameters. AreGenerators C.group W.Window (generators_in parameters) };
+    ghost is_made = { λ stream parameters.
+        AreDrawn C.group C.draw W.Window stream (generators_in parameters) };
 
     /// As `CRH::setup`.
     fn setup<R: Rng>(alloc: Global, rng: &mut R) -> Result<Parameters<C>, Error> {
@@ -121,7 +122,9 @@ where
         seen_image-decided I.Output.numbers_of I.image _ I.image_decided
         (pedersen-decided C.group W.Window (generators_in parameters) input.items) };
 
-    ghost setup_decided = { tt };
+    ghost setup_decided = { λ _. tt };
+
+    ghost made_alike = { λ s p q made also. made.1 ∙ sym also.1 };
 
     ghost same_parameters = { λ p q same.
         ap (λ lists input. seen_image I.Output.numbers_of I.image
@@ -139,7 +142,7 @@ impl<C: CurveGroup, I: InjectiveMap<C>, W: Window> TwoToOneCRHScheme
 where
     I::Output: DigestItem,
 {
-    ghost use Rattle.std.proofs.Common.{ap};
+    ghost use Rattle.std.proofs.Common.{sym, ap, ◌∙◌};
     ghost use Rattle.ark_pedersen.specs.Laws.Pedersen.{seen_image-decided, halves-decided};
 
     type Input = Vec<u8>;
@@ -157,9 +160,10 @@ where
         let whole = of_halves W.Window hash (I.Output.bytes_of left) (I.Output.bytes_of right) in
         seen_image I.Output.numbers_of I.image whole };
 
-    ghost setup_outcome = { Ok tt };
+    ghost setup_outcome = { λ stream. Ok (window_elements C.draw W.Window stream).1 };
 
-    ghost is_made = { λ parameters. AreGenerators C.group W.Window (generators_in parameters) };
+    ghost is_made = { λ stream parameters.
+        AreDrawn C.group C.draw W.Window stream (generators_in parameters) };
 
     /// As `TwoToOneCRH::setup`.
     fn setup<R: Rng>(alloc: Global, rng: &mut R) -> Result<Parameters<C>, Error> {
@@ -205,7 +209,9 @@ where
         (halves-decided C.group W.Window (generators_in parameters)
         (I.Output.bytes_of left) (I.Output.bytes_of right)) };
 
-    ghost setup_decided = { tt };
+    ghost setup_decided = { λ _. tt };
+
+    ghost made_alike = { λ s p q made also. made.1 ∙ sym also.1 };
 
     ghost evaluated_same = { λ p q same.
         ap (λ lists left right. seen_image I.Output.numbers_of I.image

@@ -1,8 +1,9 @@
 //! The Pedersen hash of two inputs.
 
-ghost use Rattle.std.specs.Prelude.{◌≡◌, ℕ, List, Ok, IfOk, IfErr};
+ghost use Rattle.std.specs.Prelude.{◌≡◌, ℕ, List, Ok, IfOk, OnOk, IfErr};
 ghost use Rattle.ark_base.specs.Outcome.{Answers};
-ghost use Rattle.ark_pedersen.specs.Pedersen.{lists_in, generators_in, doublings, AreGeneratorsOf, AreGenerators};
+ghost use Rattle.ark_pedersen.specs.Pedersen.{lists_in, generators_in, doublings, AreGeneratorsOf};
+ghost use Rattle.ark_pedersen.specs.Pedersen.{window_elements, AreDrawn};
 ghost use Rattle.ark_pedersen.specs.Pedersen.{pedersen_hash, windows_hash, of_halves, seen_by};
 
 use crate::{CRH, Parameters, Window, hash_halves};
@@ -23,7 +24,10 @@ pub struct TwoToOneCRH<C: CurveGroup, W: Window> {
 impl<C: CurveGroup, W: Window> TwoToOneCRH<C, W> {
     /// As `CRH::create_generators`.
     pub fn create_generators<R: Rng>(alloc: Global, rng: &mut R) -> Result<Vec<Vec<C>>, Error>
-        ensures made { IfOk result (λ made. AreGenerators C.group W.Window (lists_in made.items)) }
+        ensures made { let stream = R.stream rng.old in
+            IfOk result (λ made. AreDrawn C.group C.draw W.Window stream (lists_in made.items)) }
+        ensures left { OnOk result
+            (R.stream rng.new ≡ (window_elements C.draw W.Window (R.stream rng.old)).1) }
         ensures refused { IfErr result (λ error. error ≡ Error.OutOfMemory) }
     {
         CRH::<C, W>::create_generators(alloc, rng)
@@ -35,7 +39,9 @@ impl<C: CurveGroup, W: Window> TwoToOneCRH<C, W> {
         count: usize,
         rng: &mut R,
     ) -> Result<Vec<C>, Error>
-        ensures made { IfOk result (λ list. (x : C) × (list.items ≡ doublings C.group count x)) }
+        ensures made { let element = (C.draw (R.stream rng.old)).0 in
+            IfOk result (λ list. list.items ≡ doublings C.group count element) }
+        ensures left { OnOk result (R.stream rng.new ≡ (C.draw (R.stream rng.old)).1) }
         ensures refused { IfErr result (λ error. error ≡ Error.OutOfMemory) }
     {
         CRH::<C, W>::generator_powers(alloc, count, rng)
@@ -43,7 +49,7 @@ impl<C: CurveGroup, W: Window> TwoToOneCRH<C, W> {
 }
 
 impl<C: CurveGroup + DigestItem, W: Window> TwoToOneCRHScheme for TwoToOneCRH<C, W> {
-    ghost use Rattle.std.proofs.Common.{ap};
+    ghost use Rattle.std.proofs.Common.{sym, ap, ◌∙◌};
     ghost use Rattle.ark_pedersen.specs.Laws.Pedersen.{seen-decided, halves-decided};
 
     type Input = Vec<u8>;
@@ -60,9 +66,10 @@ impl<C: CurveGroup + DigestItem, W: Window> TwoToOneCRHScheme for TwoToOneCRH<C,
         let hash = pedersen_hash C.group W.Window (generators_in parameters) in
         seen_by C.numbers (of_halves W.Window hash (C.bytes_of left) (C.bytes_of right)) };
 
-    ghost setup_outcome = { Ok tt };
+    ghost setup_outcome = { λ stream. Ok (window_elements C.draw W.Window stream).1 };
 
-    ghost is_made = { λ parameters. AreGenerators C.group W.Window (generators_in parameters) };
+    ghost is_made = { λ stream parameters.
+        AreDrawn C.group C.draw W.Window stream (generators_in parameters) };
 
     /// As `CRH::setup`.
     fn setup<R: Rng>(alloc: Global, rng: &mut R) -> Result<Parameters<C>, Error> {
@@ -114,7 +121,9 @@ impl<C: CurveGroup + DigestItem, W: Window> TwoToOneCRHScheme for TwoToOneCRH<C,
         (halves-decided C.group W.Window (generators_in parameters)
         (C.bytes_of left) (C.bytes_of right)) };
 
-    ghost setup_decided = { tt };
+    ghost setup_decided = { λ _. tt };
+
+    ghost made_alike = { λ s p q made also. made.1 ∙ sym also.1 };
 
     ghost evaluated_same = { λ p q same.
         ap (λ lists left right. seen_by C.numbers

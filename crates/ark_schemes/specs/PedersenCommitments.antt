@@ -3,10 +3,11 @@ use Rattle.std.specs.Prelude.{◌≡◌, ℕ, ◌==◌, List, length, Ok, Err, i
 use Rattle.ark_base.specs.Outcome.{Outcome, ◌>>=◌}
 use Rattle.ark_base.specs.declared.error.Error.TheVariants.{GenericError}
 use Rattle.ark_base.specs.declared.error.Refusal.TheVariants.{ParameterShape}
+use Rattle.rand_core.specs.Stream.{Stream}
 use Rattle.ark_groups.specs.Group.{Group, times}
 use Rattle.ark_groups.specs.Bits.{bits_of_number}
 use Rattle.ark_pedersen.specs.Pedersen.{bits_of_bytes, union, AreDisjoint, pedersen_sum, doublings}
-use Rattle.ark_pedersen.specs.Pedersen.{lists_in, AreGeneratorsOf, pedersen_hash, windows_hash}
+use Rattle.ark_pedersen.specs.Pedersen.{lists_in, AreGeneratorsOf, window_elements, pedersen_hash, windows_hash}
 use Rattle.ark_pedersen.specs.declared.window.Window.{Ghosts as Windows}
 use Rattle.ark_schemes.specs.declared.commitment.pedersen.parameters.Parameters.{Parameters}
 
@@ -33,6 +34,18 @@ pub record AreOf {G W : Type 0} (g : Group G) (bits : ℕ) (windows : Windows W)
 -- they are those of some elements or other
 abbrev pub AreMade : {G W : Type 0} → Group G → ℕ → Windows W → Generators G → Type 0
 AreMade {G} g bits windows lists = (element : G) × (elements : List G) × AreOf g bits windows element elements lists
+
+-- The randomness element and the windows' elements, drawn one after another from a stream, and the stream that is left.
+abbrev pub drawn_elements : {G W : Type 0} → (Stream → G × Stream) → Windows W → Stream → (G × List G) × Stream
+drawn_elements draw windows stream =
+    let others = window_elements draw windows (draw stream).1 in
+    (((draw stream).0, others.0), others.1)
+
+-- they are those of the elements that are drawn
+abbrev pub AreDrawn : {G W : Type 0} → Group G → (Stream → G × Stream) → ℕ → Windows W → Stream → Generators G → Type 0
+AreDrawn g draw bits windows stream lists =
+    let elements = (drawn_elements draw windows stream).0 in
+    AreOf g bits windows elements.0 elements.1 lists
 
 -- ---- commitments
 

@@ -2,6 +2,7 @@
 
 ghost use Rattle.std.specs.Prelude.{◌≡◌, ℕ, List, IfOk};
 ghost use Rattle.std.specs.Bool.{Decides};
+ghost use Rattle.rand_core.specs.Stream.{Stream};
 ghost use Rattle.ark_base.specs.Outcome.{Outcome, AnswersBy, IsDecided};
 
 pub mod blake2s;
@@ -27,17 +28,19 @@ pub trait CommitmentScheme {
     // The canonical bytes of the commitment to bytes under randomness, or their refusal.
     ghost meaning: { Self.Parameters → List ℕ → Self.Randomness → Outcome (List ℕ) };
 
-    // Whether parameters can be made, or why not, and what is known of those that are made.
-    ghost setup_outcome: { Outcome (Unit {0}) };
+    // What `setup` leaves of a stream once it has made parameters of it, or why it makes none.
+    ghost setup_outcome: { Stream → Outcome Stream };
 
-    ghost is_made: { Self.Parameters → Type 0 };
+    // The parameters are those that `setup` makes of the stream.
+    ghost is_made: { Stream → Self.Parameters → Type 0 };
 
-    /// Makes parameters from values that the random number generator chooses.
+    /// Makes parameters from what it draws. After a refusal the draws stay taken.
     ///
     /// Refusals: that of the scheme, where it has none to make; `OutOfMemory`.
     fn setup<R: Rng>(alloc: Global, rng: &mut R) -> Result<Self::Parameters, Error>
-        ensures outcome { AnswersBy (λ _. tt) setup_outcome result }
-        ensures made { IfOk result is_made };
+        ensures outcome { let left = R.stream rng.new in
+            AnswersBy (λ _. left) (setup_outcome (R.stream rng.old)) result }
+        ensures made { IfOk result (is_made (R.stream rng.old)) };
 
     /// The commitment to bytes under randomness.
     ///
@@ -55,7 +58,11 @@ pub trait CommitmentScheme {
     ghost meaning_decided: { (p : Self.Parameters) (bytes : List ℕ) (r : Self.Randomness)
         → IsDecided (meaning p bytes r) };
 
-    ghost setup_decided: { IsDecided setup_outcome };
+    ghost setup_decided: { (s : Stream) → IsDecided (setup_outcome s) };
+
+    // Parameters that are made of one stream are seen alike.
+    ghost made_alike: { (s : Stream) (p q : Self.Parameters)
+        → is_made s p → is_made s q → Self.Parameters.seen p ≡ Self.Parameters.seen q };
 
     // A copy of parameters commits as they do.
     ghost same_parameters: { (p q : Self.Parameters)

@@ -42,10 +42,14 @@ impl<M: Modulus, K> fmt::Debug for Additive<M, K> {
 
 impl<M: Modulus, K> CurveGroup for Additive<M, K> {
     ghost use Rattle.ark_groups.specs.Laws.NumberGroups.{number_group, number_laws, number_order, same_element, same_number, is_identity, number-Decides};
+    ghost use Rattle.ark_groups.specs.Laws.NumberGroups.{wrapping};
+    ghost use Rattle.rand.specs.Draw.{draw_map};
 
     type ScalarField = Fp<M>;
 
     ghost group = { number_group };
+
+    ghost draw = { draw_map wrapping.wrap ⟦<Fp<M> as UniformRand>⟧.draw };
 
     fn zero() -> Additive<M, K> {
         Additive::new(<Fp<M> as PrimeField>::zero())

@@ -50,6 +50,10 @@ impl<M: Modulus> Default for Fp<M> {
 }
 
 impl<M: Modulus> UniformRand for Fp<M> {
+    ghost use Rattle.ark_groups.specs.Draws.{fp_draw};
+
+    ghost draw = { fp_draw };
+
     fn rand<R: Rng>(rng: &mut R) -> Fp<M> {
         Fp::reduced(rng.random_range(0..M::P))
     }

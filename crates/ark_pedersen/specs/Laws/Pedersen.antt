@@ -1,5 +1,5 @@
 -- The laws of Pedersen hashes: no refusal is `OutOfMemory`, and generators that are known by their values.
-use Rattle.std.proofs.Common.{ℕ, suc, ◌≡◌, ◌+◌, refl, sym, ap, ◌∙◌, arith, get_or}
+use Rattle.std.proofs.Common.{ℕ, ◌≡◌, refl, sym, ap, ◌∙◌, arith, get_or}
 use Rattle.std.specs.Prelude.{◌/◌, ◌*◌, ◌==◌, List, [], ◌∷◌, length, map, drop, Ok, Err, nat_lt}
 use Rattle.std.specs.declared.vec.Vec.{Vec}
 use Rattle.ark_base.specs.Outcome.{Outcome, IsDecided}

@@ -1,13 +1,15 @@
--- No refusal of a commitment is `OutOfMemory`.
+-- The laws of commitments: no refusal is `OutOfMemory`, and elements drawn from one stream are the same.
+use Rattle.std.proofs.Common.{◌≡◌, sym, ◌∙◌}
 use Rattle.std.specs.Prelude.{ℕ, ◌+◌, ◌^◌, ◌==◌, List, length, nat_lt}
 use Rattle.ark_base.specs.Outcome.{IsDecided}
 use Rattle.ark_base.specs.Laws.Outcomes.{tested-decided}
+use Rattle.rand_core.specs.Stream.{Stream}
 use Rattle.ark_groups.specs.Group.{Group}
 use Rattle.ark_pedersen.specs.Pedersen.{pedersen_hash}
 use Rattle.ark_pedersen.specs.Laws.Pedersen.{seen-decided, image-decided, pedersen-decided}
 use Rattle.ark_pedersen.specs.declared.window.Window.{Ghosts as Windows}
 use Rattle.ark_schemes.specs.Commitments.{blake2s_commitment}
-use Rattle.ark_schemes.specs.PedersenCommitments.{Generators, randomness_sum, pedersen_commitment}
+use Rattle.ark_schemes.specs.PedersenCommitments.{Generators, AreDrawn, randomness_sum, pedersen_commitment}
 
 pub blake2s_commitment-decided : (bytes randomness : List ℕ) → IsDecided (blake2s_commitment bytes randomness)
 blake2s_commitment-decided bytes randomness =
@@ -24,3 +26,11 @@ pedersen_commitment-decided g bits windows lists input randomness =
     (λ hash. seen-decided (g.plus hash) (randomness_sum g bits lists.randomness randomness)
     (randomness_sum-decided g bits lists.randomness randomness))
     (pedersen-decided g windows lists.windows input)
+
+pub drawn-alike : {G W : Type 0} (g : Group G) (draw : Stream → G × Stream) (bits : ℕ) (windows : Windows W)
+    (stream : Stream) (p q : Generators G)
+    → AreDrawn g draw bits windows stream p → AreDrawn g draw bits windows stream q → p ≡ q
+drawn-alike g draw bits windows stream p q made also =
+    let same_windows = made.of_windows.1 ∙ sym also.of_windows.1 in
+    let same_randomness = made.of_randomness ∙ sym also.of_randomness in
+    λ i. record { randomness = same_randomness i; windows = same_windows i }

@@ -25,13 +25,14 @@ impl CommitmentScheme for Commitment {
 
     ghost meaning = { λ _ bytes randomness. blake2s_commitment bytes randomness };
 
-    ghost setup_outcome = { Ok tt };
+    ghost setup_outcome = { Ok };
 
-    ghost is_made = { λ _. Unit {0} };
+    ghost is_made = { λ _ _. Unit {0} };
 
     /// Draws nothing.
-    fn setup<R: Rng>(_alloc: Global, _rng: &mut R) -> Result<(), Error>
-        ensures { result ≡ Ok tt }
+    fn setup<R: Rng>(_alloc: Global, rng: &mut R) -> Result<(), Error>
+        ensures made { result ≡ Ok tt }
+        ensures as_before { R.stream rng.new ≡ R.stream rng.old }
     {
         Ok(())
     }
@@ -57,7 +58,9 @@ impl CommitmentScheme for Commitment {
 
     ghost meaning_decided = { λ _ bytes randomness. blake2s_commitment-decided bytes randomness };
 
-    ghost setup_decided = { tt };
+    ghost setup_decided = { λ _. tt };
+
+    ghost made_alike = { λ _ p q _ _. refl };
 
     ghost same_parameters = { λ p q same. refl };
 

@@ -2,7 +2,7 @@
 
 ghost use Rattle.std.specs.Prelude.{Ok};
 ghost use Rattle.ark_pedersen.specs.Pedersen.{image_of};
-ghost use Rattle.ark_schemes.specs.PedersenCommitments.{elements_in, AreMade, pedersen_commitment};
+ghost use Rattle.ark_schemes.specs.PedersenCommitments.{elements_in, drawn_elements, AreDrawn, pedersen_commitment};
 
 use crate::commitment::CommitmentScheme;
 use crate::commitment::pedersen::{Commitment, Parameters, Randomness, Window};
@@ -24,7 +24,7 @@ impl<C: CurveGroup, I: InjectiveMap<C>, W: Window> CommitmentScheme
     ghost use Rattle.std.proofs.Common.{sym, ap, ◌∙◌};
     ghost use Rattle.ark_groups.specs.Laws.Fp.{number-alone};
     ghost use Rattle.ark_pedersen.specs.Laws.Pedersen.{image-decided};
-    ghost use Rattle.ark_schemes.specs.Laws.Commitments.{pedersen_commitment-decided};
+    ghost use Rattle.ark_schemes.specs.Laws.Commitments.{pedersen_commitment-decided, drawn-alike};
 
     type Output = I::Output;
 
@@ -38,10 +38,11 @@ impl<C: CurveGroup, I: InjectiveMap<C>, W: Window> CommitmentScheme
         let scalar = C.ScalarField.value randomness.0 in
         image_of I.image (commitment (elements_in parameters) input scalar) };
 
-    ghost setup_outcome = { Ok tt };
+    ghost setup_outcome = { λ stream. Ok (drawn_elements C.draw W.Window stream).1 };
 
-    ghost is_made = { λ parameters.
-        AreMade C.group C.ScalarField.MODULUS_BIT_SIZE W.Window (elements_in parameters) };
+    ghost is_made = { λ stream parameters.
+        let bits = C.ScalarField.MODULUS_BIT_SIZE in
+        AreDrawn C.group C.draw bits W.Window stream (elements_in parameters) };
 
     /// As `pedersen::Commitment::setup`.
     fn setup<R: Rng>(alloc: Global, rng: &mut R) -> Result<Parameters<C>, Error> {
@@ -66,7 +67,11 @@ impl<C: CurveGroup, I: InjectiveMap<C>, W: Window> CommitmentScheme
         (pedersen_commitment-decided C.group C.ScalarField.MODULUS_BIT_SIZE W.Window
         (elements_in parameters) input (C.ScalarField.value randomness.0)) };
 
-    ghost setup_decided = { tt };
+    ghost setup_decided = { λ _. tt };
+
+    ghost made_alike = { λ s p q.
+        drawn-alike C.group C.draw C.ScalarField.MODULUS_BIT_SIZE W.Window s
+        (elements_in p) (elements_in q) };
 
     ghost same_parameters = { λ p q same.
         ap (λ lists input randomness. image_of I.image

@@ -3,7 +3,7 @@
 ghost use Rattle.std.specs.Prelude.{◌≡◌, ℕ, ◌+◌, ◌%◌, ◌<◌, ◌^◌, List, length, Ok};
 ghost use Rattle.ark_groups.specs.Bits.{bits_of_number};
 ghost use Rattle.ark_pedersen.specs.Pedersen.{pedersen_sum, seen_by};
-ghost use Rattle.ark_schemes.specs.PedersenCommitments.{elements_in, AreOf, AreMade, pedersen_commitment};
+ghost use Rattle.ark_schemes.specs.PedersenCommitments.{elements_in, AreOf, AreMade, drawn_elements, AreDrawn, pedersen_commitment};
 ghost use Rattle.ark_schemes.specs.PedersenCommitments.{windows_commitment, sum_of, IsUnion};
 
 mod parameters;
@@ -33,7 +33,7 @@ impl<C: CurveGroup, W: Window> CommitmentScheme for Commitment<C, W> {
     ghost use Rattle.ark_groups.specs.Laws.Fp.{number-alone};
     ghost use Rattle.ark_pedersen.specs.Laws.Images.{bytes-Decides};
     ghost use Rattle.ark_pedersen.specs.Laws.Pedersen.{seen-decided};
-    ghost use Rattle.ark_schemes.specs.Laws.Commitments.{pedersen_commitment-decided};
+    ghost use Rattle.ark_schemes.specs.Laws.Commitments.{pedersen_commitment-decided, drawn-alike};
 
     type Output = C;
 
@@ -47,10 +47,11 @@ impl<C: CurveGroup, W: Window> CommitmentScheme for Commitment<C, W> {
         let scalar = C.ScalarField.value randomness.0 in
         seen_by (λ x. C.spelling (C.view x)) (commitment (elements_in parameters) input scalar) };
 
-    ghost setup_outcome = { Ok tt };
+    ghost setup_outcome = { λ stream. Ok (drawn_elements C.draw W.Window stream).1 };
 
-    ghost is_made = { λ parameters.
-        AreMade C.group C.ScalarField.MODULUS_BIT_SIZE W.Window (elements_in parameters) };
+    ghost is_made = { λ stream parameters.
+        let bits = C.ScalarField.MODULUS_BIT_SIZE in
+        AreDrawn C.group C.draw bits W.Window stream (elements_in parameters) };
 
     /// Draws the randomness element and puts its doublings, one for each bit of the scalars' modulus; then the generators of the
     /// hash, as its `create_generators` makes them.
@@ -104,7 +105,11 @@ impl<C: CurveGroup, W: Window> CommitmentScheme for Commitment<C, W> {
         (pedersen_commitment-decided C.group C.ScalarField.MODULUS_BIT_SIZE W.Window
         (elements_in parameters) input (C.ScalarField.value randomness.0)) };
 
-    ghost setup_decided = { tt };
+    ghost setup_decided = { λ _. tt };
+
+    ghost made_alike = { λ s p q.
+        drawn-alike C.group C.draw C.ScalarField.MODULUS_BIT_SIZE W.Window s
+        (elements_in p) (elements_in q) };
 
     ghost same_parameters = { λ p q same.
         ap (λ lists input randomness. seen_by (λ x. C.spelling (C.view x))

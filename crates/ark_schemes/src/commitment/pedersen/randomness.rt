@@ -13,6 +13,9 @@ use std::alloc::Global;
 pub struct Randomness<C: CurveGroup>(pub C::ScalarField);
 
 impl<C: CurveGroup> UniformRand for Randomness<C> {
+    ghost draw = { λ stream.
+        (record { 0 = (C.ScalarField.draw stream).0 }, (C.ScalarField.draw stream).1) };
+
     fn rand<R: Rng>(rng: &mut R) -> Randomness<C> {
         Randomness(C::ScalarField::rand(rng))
     }

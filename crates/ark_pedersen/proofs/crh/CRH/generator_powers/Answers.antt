@@ -1,5 +1,6 @@
 use Rattle.std.proofs.Common.{◌≡◌, ℕ, suc, ◌+◌, ◌-◌, ◌≤◌, ◌++◌, ◌∷◌, List, [], ◌∙◌, sym, ap, append_assoc, arith}
 use Rattle.std.proofs.lemmas.List.{append-nil}
+use Rattle.rand_core.specs.Stream.{Stream}
 use Rattle.ark_groups.specs.Group.{Group}
 use Rattle.ark_pedersen.specs.Pedersen.{doublings}
 use Rattle.ark_pedersen.proofs.crh.CRH.generator_powers.Goals as goal
@@ -27,4 +28,8 @@ loop-preserved g c =
 
 pub returns-clause-made : goal.returns-clause-made
 returns-clause-made g c =
-    (c.rand-power.result, all g.C.CurveGroup.group c.loop.list.items c.loop.power c.args.count c.loop.counter _ (omega arith) c.loop.invariant)
+    all g.C.CurveGroup.group c.loop.list.items c.loop.power c.args.count c.loop.counter _ (omega arith) c.loop.invariant
+    ∙ ap (λ (drawn : g.row.C.Denot × Stream). doublings g.C.CurveGroup.group c.args.count drawn.0) c.rand-power.ensures
+
+pub returns-clause-left : goal.returns-clause-left
+returns-clause-left g c = ap (λ (drawn : g.row.C.Denot × Stream). drawn.1) c.rand-power.ensures
