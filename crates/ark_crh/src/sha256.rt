@@ -10,9 +10,6 @@ use rand::Rng;
 use sha2::Digest;
 use std::alloc::Global;
 
-#[cfg(test)]
-mod tests;
-
 pub use sha2::Sha256;
 
 impl CRHScheme for Sha256 {

@@ -5,8 +5,6 @@ mod modulus;
 mod parts;
 mod prime_field;
 mod product;
-#[cfg(test)]
-mod tests;
 mod uniform;
 
 pub use fp::Fp;

@@ -6,8 +6,6 @@ mod crh;
 pub mod injective_map;
 mod parameters;
 mod sums;
-#[cfg(test)]
-mod tests;
 mod two_to_one;
 mod window;
 

@@ -1,190 +1,121 @@
 //! Pedersen commitments by worked examples.
 
+use crate::samples::{TWO, Three, Two, are_drawn, element, is_doubled, list, lists};
 use ark_base::error::{Error, Refusal, SerializationError};
-use ark_base::serialize::{CanonicalDeserialize, CanonicalSerialize, Duplicate};
+use ark_base::serialize::{CanonicalDeserialize, Duplicate, canonical_bytes};
 use ark_groups::ec::{CurveGroup, Residues};
 use ark_groups::ff::{Fp, M13, M61, PrimeField, UniformRand};
 use ark_schemes::commitment::CommitmentScheme;
-use ark_schemes::commitment::pedersen::{Commitment, Parameters, Randomness, Window};
+use ark_schemes::commitment::pedersen::{Commitment, Parameters, Randomness};
 use rand::rngs::SmallRng;
 use rand::{Rng, SeedableRng};
 use std::alloc::Global;
-use std::test::Fail;
 
 type G13 = Residues<M13>;
 
 type G61 = Residues<M61>;
 
-// Windows of four bits.
-
-struct Two;
-
-impl Window for Two {
-    ghost use Rattle.std.proofs.Common.{lit<};
-
-    ghost WINDOW_SIZE = { 4 };
-
-    const WINDOW_SIZE: usize = 4;
-
-    ghost NUM_WINDOWS = { 2 };
-
-    const NUM_WINDOWS: usize = 2;
-
-    ghost some = { lit< tt };
-
-    ghost fits = { lit< tt };
-}
-
-struct Three;
-
-impl Window for Three {
-    ghost use Rattle.std.proofs.Common.{lit<};
-
-    ghost WINDOW_SIZE = { 4 };
-
-    const WINDOW_SIZE: usize = 4;
-
-    ghost NUM_WINDOWS = { 3 };
-
-    const NUM_WINDOWS: usize = 3;
-
-    ghost some = { lit< tt };
-
-    ghost fits = { lit< tt };
-}
-
 fn residue(number: u64) -> G13 {
-    Residues::new(Fp::from_u64(number))
+    element(number)
 }
 
-fn list(alloc: Global, numbers: &[u64]) -> Result<Vec<G13>, Error> {
-    let mut list = Vec::new(alloc);
-    for number in numbers {
-        list.push(residue(*number))?;
-    }
-    Ok(list)
-}
-
-fn two_windows(alloc: Global, doubled: &[u64]) -> Result<Parameters<G13>, Error> {
-    let first = list(alloc, &[1, 2, 4, 8])?;
-    let second = list(alloc, &[2, 4, 8, 3])?;
-    Ok(Parameters {
-        randomness_generator: list(alloc, doubled)?,
-        generators: vec![in alloc; first, second]?,
-    })
-}
-
-fn committed<S: CommitmentScheme>(
+// The commitment over two windows, with these doublings of the randomness element.
+fn over(
     alloc: Global,
-    parameters: &S::Parameters,
-    input: &[u8],
-    randomness: &S::Randomness,
-) -> Result<S::Output, Error> {
-    S::commit(alloc, parameters, input, randomness)
-}
-
-fn under(
-    alloc: Global,
-    parameters: &Parameters<G13>,
+    doubled: &[u64],
+    rows: &[&[u64]],
     input: &[u8],
     number: u64,
 ) -> Result<G13, Error> {
-    committed::<Commitment<G13, Two>>(alloc, parameters, input, &Randomness(Fp::from_u64(number)))
+    let randomness_generator = list(alloc, doubled)?;
+    let parameters = Parameters {
+        generators: lists(alloc, rows)?,
+        randomness_generator,
+    };
+    Commitment::<G13, Two>::commit(alloc, &parameters, input, &Randomness(Fp::from_u64(number)))
+}
+
+fn under(alloc: Global, input: &[u8], number: u64) -> Result<G13, Error> {
+    over(alloc, &[5, 10, 7, 1], &TWO, input, number)
+}
+
+#[test]
+fn randomness_is_added_to_the_hash(rt: HostRuntime) {
+    let alloc = rt.alloc();
+    assert_eq!(rt; under(alloc, &[0x25], 3), Ok(residue(11)));
+    assert_eq!(rt; under(alloc, &[0x25], 0), Ok(residue(9)));
+    assert_eq!(rt; under(alloc, &[], 3), Ok(residue(2)));
+    let long = Error::IncorrectInputLength(2);
+    assert_eq!(rt; under(alloc, &[0x25, 0x25], 3), Err(long));
+}
+
+#[test]
+fn commitments_are_summed(rt: HostRuntime) {
+    let alloc = rt.alloc();
+    assert_eq!(rt; under(alloc, &[0x21], 3), Ok(residue(7)));
+    assert_eq!(rt; under(alloc, &[0x04], 7), Ok(residue(0)));
+    assert_eq!(rt; under(alloc, &[0x25], 10), Ok(residue(7)));
 }
 
 const SHAPE: Error = Error::GenericError(Refusal::ParameterShape);
 
 #[test]
-fn randomness_is_added_to_the_hash(rt: HostRuntime) -> Result<(), Fail> {
+fn parameters_of_another_shape_are_refused(rt: HostRuntime) {
     let alloc = rt.alloc();
-    let parameters = two_windows(alloc, &[5, 10, 7, 1])?;
-    assert_eq!(rt; under(alloc, &parameters, &[0x25], 3)?, residue(11));
-    assert_eq!(rt; under(alloc, &parameters, &[0x25], 0)?, residue(9));
-    assert_eq!(rt; under(alloc, &parameters, &[], 3)?, residue(2));
+    assert_eq!(rt; over(alloc, &[5, 10, 7], &TWO, &[0x25], 3), Err(SHAPE));
+    let long = Error::IncorrectInputLength(2);
+    assert_eq!(rt; over(alloc, &[5, 10, 7], &TWO, &[0x25, 0x25], 3), Err(long));
     assert_eq!(rt;
-        under(alloc, &parameters, &[0x25, 0x25], 3).err(),
-        Some(Error::IncorrectInputLength(2))
+        over(alloc, &[5, 10, 7, 1, 2], &TWO, &[0x25], 3),
+        Err(SHAPE)
     );
-    Ok(())
+    let three: [&[u64]; 3] = [&[1, 2, 4, 8], &[2, 4, 8, 3], &[1, 2, 4, 8]];
+    assert_eq!(rt; over(alloc, &[5, 10, 7, 1], &three, &[0x25], 3), Err(SHAPE));
+}
+
+// Whether `setup` doubles what a twin draws, and what it makes is duplicated.
+fn setup_is_drawn<R: Rng>(alloc: Global, rng: &mut R, twin: &mut R) -> Result<bool, Error> {
+    let parameters = Commitment::<G61, Three>::setup(alloc, rng)?;
+    let again = parameters.duplicate(alloc)?;
+    let randomness_element = <G61 as CurveGroup>::rand(twin);
+    Ok(
+        is_doubled(&parameters.randomness_generator, randomness_element, 61)
+            && are_drawn::<G61, Three, R>(&parameters.generators, twin)
+            && again.randomness_generator == parameters.randomness_generator
+            && again.generators == parameters.generators,
+    )
 }
 
 #[test]
-fn commitments_are_summed(rt: HostRuntime) -> Result<(), Fail> {
-    let alloc = rt.alloc();
-    let parameters = two_windows(alloc, &[5, 10, 7, 1])?;
-    assert_eq!(rt; under(alloc, &parameters, &[0x21], 3)?, residue(7));
-    assert_eq!(rt; under(alloc, &parameters, &[0x04], 7)?, residue(0));
-    assert_eq!(rt; under(alloc, &parameters, &[0x25], 10)?, residue(7));
-    Ok(())
-}
-
-#[test]
-fn parameters_of_another_shape_are_refused(rt: HostRuntime) -> Result<(), Fail> {
-    let alloc = rt.alloc();
-    let short = two_windows(alloc, &[5, 10, 7])?;
-    assert_eq!(rt; under(alloc, &short, &[0x25], 3).err(), Some(SHAPE));
-    assert_eq!(rt;
-        under(alloc, &short, &[0x25, 0x25], 3).err(),
-        Some(Error::IncorrectInputLength(2))
-    );
-    let long = two_windows(alloc, &[5, 10, 7, 1, 2])?;
-    assert_eq!(rt; under(alloc, &long, &[0x25], 3).err(), Some(SHAPE));
-    let mut windows = two_windows(alloc, &[5, 10, 7, 1])?;
-    windows.generators.push(list(alloc, &[1, 2, 4, 8])?)?;
-    assert_eq!(rt; under(alloc, &windows, &[0x25], 3).err(), Some(SHAPE));
-    Ok(())
-}
-
-// Whether the list is an element with its doublings.
-fn is_doubled(list: &[G61], element: G61) -> bool {
-    let mut power = element;
-    for item in list {
-        if *item != power {
-            return false;
-        }
-        power = power.double();
-    }
-    true
-}
-
-#[test]
-fn setup_doubles_what_is_drawn(rt: HostRuntime) -> Result<(), Fail> {
-    let alloc = rt.alloc();
+fn setup_doubles_what_is_drawn(rt: HostRuntime) {
     let mut rng = SmallRng::seed_from_u64(7);
     let mut twin = SmallRng::seed_from_u64(7);
-    let parameters = Commitment::<G61, Three>::setup(alloc, &mut rng)?;
-    assert_eq!(rt; parameters.randomness_generator.len(), 61);
-    assert!(rt;
-        is_doubled(
-            &parameters.randomness_generator,
-            <G61 as CurveGroup>::rand(&mut twin)
-        )
-    );
-    assert_eq!(rt; parameters.generators.len(), 3);
-    for list in &parameters.generators {
-        assert_eq!(rt; list.len(), 4);
-        assert!(rt; is_doubled(list, <G61 as CurveGroup>::rand(&mut twin)));
-    }
+    assert_eq!(rt; setup_is_drawn(rt.alloc(), &mut rng, &mut twin), Ok(true));
     assert_eq!(rt; rng.next_u64(), twin.next_u64());
-    let again = parameters.duplicate(alloc)?;
-    assert_eq!(rt; again.randomness_generator, parameters.randomness_generator);
-    assert_eq!(rt; again.generators, parameters.generators);
-    Ok(())
 }
 
-fn randomness_of_three() -> Randomness<G13> {
-    Randomness(Fp::from_u64(3))
+fn randomness_of(number: u64) -> Randomness<G13> {
+    Randomness(Fp::from_u64(number))
+}
+
+fn has_text(alloc: Global, number: u64, text: &str) -> Result<bool, Error> {
+    Ok(format!(in alloc; "{:?}", randomness_of(number))?.as_str() == text)
+}
+
+fn is_cloned(number: u64) -> Result<bool, Error> {
+    Ok(randomness_of(number).clone()? == randomness_of(number))
 }
 
 #[test]
-fn randomness_is_its_scalar(rt: HostRuntime) -> Result<(), Fail> {
-    let alloc = rt.alloc();
-    let shown = format!(in alloc; "{:?}", randomness_of_three())?;
-    assert_eq!(rt; shown.as_str(), "Randomness(3)");
-    assert!(rt; randomness_of_three().clone()? == randomness_of_three());
-    assert!(rt; Randomness::<G13>::default() != randomness_of_three());
-    assert!(rt; Randomness::<G13>::default() == Randomness(Fp::from_u64(0)));
-    Ok(())
+fn randomness_is_its_scalar(rt: HostRuntime) {
+    assert_eq!(rt; has_text(rt.alloc(), 3, "Randomness(3)"), Ok(true));
+    assert_eq!(rt; is_cloned(3), Ok(true));
+    assert!(rt; Randomness::<G13>::default() != randomness_of(3));
+    assert!(rt; Randomness::<G13>::default() == randomness_of(0));
+}
+
+fn is_written(alloc: Global, number: u64, bytes: &[u8]) -> Result<bool, Error> {
+    Ok(canonical_bytes(alloc, &randomness_of(number))?.as_slice() == bytes)
 }
 
 // The randomness that bytes spell, as its scalar, and how many bytes that took.
@@ -194,36 +125,37 @@ fn read(alloc: Global, bytes: &[u8]) -> Result<(u64, usize), Error> {
 }
 
 #[test]
-fn randomness_is_written_and_read(rt: HostRuntime) -> Result<(), Fail> {
-    let alloc = rt.alloc();
-    let mut written = Vec::new(alloc);
-    randomness_of_three().serialize(&mut written)?;
-    assert_eq!(rt; written.as_slice(), [3u8].as_slice());
-    assert!(rt; read(alloc, &written)? == (3, 1));
+fn randomness_is_written_and_read(rt: HostRuntime) {
+    assert_eq!(rt; is_written(rt.alloc(), 3, &[3]), Ok(true));
+    assert_eq!(rt; read(rt.alloc(), &[3]), Ok((3, 1)));
     let invalid = Error::SerializationError(SerializationError::InvalidData);
-    assert!(rt; read(alloc, &[13u8]) == Err(invalid));
+    assert_eq!(rt; read(rt.alloc(), &[13]), Err(invalid));
     let cut = Error::SerializationError(SerializationError::Truncated);
-    assert!(rt; read(alloc, &[]) == Err(cut));
-    Ok(())
+    assert_eq!(rt; read(rt.alloc(), &[]), Err(cut));
+}
+
+// The scalars of a list of two, and how many bytes it took.
+fn read_two(alloc: Global, bytes: &[u8]) -> Result<([u64; 2], usize), Error> {
+    let (list, used) = Vec::<Randomness<G13>>::deserialize(alloc, bytes)?;
+    if list.len() != 2 {
+        return Err(Error::IncorrectInputLength(list.len()));
+    }
+    Ok(([list[0].0.value(), list[1].0.value()], used))
 }
 
 #[test]
-fn lists_of_randomness_are_read(rt: HostRuntime) -> Result<(), Fail> {
-    let bytes = [2u8, 0, 0, 0, 0, 0, 0, 0, 3, 12];
-    let (list, used) = Vec::<Randomness<G13>>::deserialize(rt.alloc(), &bytes)?;
-    assert_eq!(rt; used, 10);
-    assert_eq!(rt; list.len(), 2);
-    assert_eq!(rt; list[0].0.value(), 3);
-    assert_eq!(rt; list[1].0.value(), 12);
-    Ok(())
+fn lists_of_randomness_are_read(rt: HostRuntime) {
+    let bytes = [2, 0, 0, 0, 0, 0, 0, 0, 3, 12];
+    assert_eq!(rt; read_two(rt.alloc(), &bytes), Ok(([3, 12], 10)));
 }
 
 #[test]
-fn randomness_is_drawn_as_a_scalar(rt: HostRuntime) -> Result<(), Fail> {
+fn randomness_is_drawn_as_a_scalar(rt: HostRuntime) {
     let mut rng = SmallRng::seed_from_u64(7);
     let mut twin = SmallRng::seed_from_u64(7);
-    let drawn = Randomness::<G61>::rand(&mut rng);
-    assert_eq!(rt; drawn.0, Fp::<M61>::rand(&mut twin));
+    assert_eq!(rt;
+        Randomness::<G61>::rand(&mut rng).0,
+        Fp::<M61>::rand(&mut twin)
+    );
     assert_eq!(rt; rng.next_u64(), twin.next_u64());
-    Ok(())
 }

@@ -4,7 +4,7 @@ ghost use Rattle.std.specs.Prelude.{◌≡◌, ◌≤◌, length};
 ghost use Rattle.ark_base.specs.Digits.{number_of_bytes};
 ghost use Rattle.ark_groups.specs.Group.{times};
 
-use crate::ec::CurveGroup;
+use ark_groups::ec::CurveGroup;
 
 /// The element, added so often.
 pub fn times<C: CurveGroup>(count: u64, x: C) -> C

@@ -4,7 +4,7 @@ use Rattle.ark_base.specs.Reading.{IsBytes}
 use Rattle.ark_base.specs.Digits.{number_of_bytes}
 use Rattle.ark_base.specs.Laws.Steps.{IsBytes-take, IsBytes-drop}
 use Rattle.ark_base.proofs.Numerals.{number_of_bytes-lt}
-use Rattle.ark_groups.proofs.plain.+number.Goals as goal
+use Rattle.ark_groups_tests.proofs.plain.+number.Goals as goal
 
 -- all bytes but the first of at most sixteen
 others-lt : (bytes : List ℕ) → length bytes ≤ 16 → 1 ≤ length bytes → IsBytes bytes → number_of_bytes (take (length bytes - 1) (drop 1 bytes)) < 256 ^ 15

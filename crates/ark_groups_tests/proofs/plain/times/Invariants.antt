@@ -1,6 +1,6 @@
 use Rattle.std.proofs.Common.{◌≡◌}
 use Rattle.ark_groups.specs.Group.{times}
-use Rattle.ark_groups.proofs.plain.times.Given as goal
+use Rattle.ark_groups_tests.proofs.plain.times.Given as goal
 
 abbrev pub invariant-loop : goal.invariant-loop
 invariant-loop g l = l.sum ≡ times g.C.CurveGroup.group l.counter l.x

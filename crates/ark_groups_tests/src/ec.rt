@@ -1,9 +1,11 @@
 //! Groups by worked examples.
 
-use super::*;
 use crate::asked::{INVALID, TRUNCATED, fault, is_digest, is_spelled};
-use crate::ff::{Fp, M7, M13, M61, M257, Modulus, PrimeField};
 use crate::plain;
+use ark_groups::ec::{
+    CurveGroup, Residues, SWCoordinates, SWPoint, Small, SmallModulus, TECoordinates, TEPoint,
+};
+use ark_groups::ff::{Fp, M7, M13, M61, M257, Modulus, PrimeField};
 use rand::rngs::SmallRng;
 use rand::{Rng, RngExt, SeedableRng};
 

@@ -1,136 +1,52 @@
 //! Pedersen hashes by worked examples. A row is one call that answers a value, so that no test owns lists at its many exits.
 
-use crate::{CRH, Parameters, TwoToOneCRH, Window, bytes_to_bits};
+use crate::samples::{FOUR, Four, TWO, Three, Two, UNEVEN, are_drawn, element, is_doubled, lists};
 use ark_base::error::{Error, Refusal, SerializationError};
 use ark_base::serialize::{CanonicalDeserialize, DigestItem, Duplicate, canonical_bytes};
 use ark_crh::{CRHScheme, TwoToOneCRHScheme};
 use ark_groups::ec::{CurveGroup, Residues};
-use ark_groups::ff::{Fp, M13, M61, PrimeField};
+use ark_groups::ff::{M13, M61};
+use ark_pedersen::{CRH, Parameters, TwoToOneCRH, Window, bytes_to_bits};
+use rand::SeedableRng;
 use rand::rngs::SmallRng;
-use rand::{Rng, SeedableRng};
 use std::alloc::Global;
-use std::test::Fail;
 
 type G13 = Residues<M13>;
 
-// Windows of four bits.
-
-struct Two;
-
-impl Window for Two {
-    ghost use Rattle.std.proofs.Common.{lit<};
-
-    ghost WINDOW_SIZE = { 4 };
-
-    const WINDOW_SIZE: usize = 4;
-
-    ghost NUM_WINDOWS = { 2 };
-
-    const NUM_WINDOWS: usize = 2;
-
-    ghost some = { lit< tt };
-
-    ghost fits = { lit< tt };
-}
-
-struct Three;
-
-impl Window for Three {
-    ghost use Rattle.std.proofs.Common.{lit<};
-
-    ghost WINDOW_SIZE = { 4 };
-
-    const WINDOW_SIZE: usize = 4;
-
-    ghost NUM_WINDOWS = { 3 };
-
-    const NUM_WINDOWS: usize = 3;
-
-    ghost some = { lit< tt };
-
-    ghost fits = { lit< tt };
-}
-
-struct Four;
-
-impl Window for Four {
-    ghost use Rattle.std.proofs.Common.{lit<};
-
-    ghost WINDOW_SIZE = { 4 };
-
-    const WINDOW_SIZE: usize = 4;
-
-    ghost NUM_WINDOWS = { 4 };
-
-    const NUM_WINDOWS: usize = 4;
-
-    ghost some = { lit< tt };
-
-    ghost fits = { lit< tt };
-}
-
 fn residue(number: u64) -> G13 {
-    Residues::new(Fp::from_u64(number))
+    element(number)
 }
 
-fn list(alloc: Global, numbers: &[u64]) -> Result<Vec<G13>, Error> {
-    let mut list = Vec::new(alloc);
-    for number in numbers {
-        list.push(residue(*number))?;
-    }
-    Ok(list)
-}
-
-fn two_windows(alloc: Global) -> Result<Parameters<G13>, Error> {
-    let first = list(alloc, &[1, 2, 4, 8])?;
-    let second = list(alloc, &[2, 4, 8, 3])?;
+fn parameters(alloc: Global, rows: &[&[u64]]) -> Result<Parameters<G13>, Error> {
     Ok(Parameters {
-        generators: vec![in alloc; first, second]?,
+        generators: lists(alloc, rows)?,
     })
 }
 
-fn uneven_windows(alloc: Global) -> Result<Parameters<G13>, Error> {
-    let mut parameters = two_windows(alloc)?;
-    parameters.generators.push(list(alloc, &[1, 2, 4])?)?;
-    Ok(parameters)
-}
-
-fn four_windows(alloc: Global) -> Result<Parameters<G13>, Error> {
-    let mut generators = Vec::new(alloc);
-    for _ in 0..4u8 {
-        generators.push(list(alloc, &[1, 2, 4, 8])?)?;
-    }
-    Ok(Parameters { generators })
-}
-
-// The hash of bytes, where parameters could be made.
-fn hash<W: Window>(
-    alloc: Global,
-    parameters: Result<Parameters<G13>, Error>,
-    input: &[u8],
-) -> Result<G13, Error> {
+// The hash of bytes.
+fn hash<W: Window>(alloc: Global, rows: &[&[u64]], input: &[u8]) -> Result<G13, Error> {
     let input = Vec::from_slice(alloc, input)?;
-    CRH::<G13, W>::evaluate(alloc, &parameters?, &input)
+    CRH::<G13, W>::evaluate(alloc, &parameters(alloc, rows)?, &input)
 }
 
 fn hash_of_two<W: Window>(
     alloc: Global,
-    parameters: Result<Parameters<G13>, Error>,
+    rows: &[&[u64]],
     left: &[u8],
     right: &[u8],
 ) -> Result<G13, Error> {
     let left = Vec::from_slice(alloc, left)?;
     let right = Vec::from_slice(alloc, right)?;
-    TwoToOneCRH::<G13, W>::evaluate(alloc, &parameters?, &left, &right)
+    TwoToOneCRH::<G13, W>::evaluate(alloc, &parameters(alloc, rows)?, &left, &right)
 }
 
 fn hash_of_elements<W: Window>(
     alloc: Global,
-    parameters: Result<Parameters<G13>, Error>,
+    rows: &[&[u64]],
     left: G13,
     right: G13,
 ) -> Result<G13, Error> {
-    TwoToOneCRH::<G13, W>::compress(alloc, &parameters?, &left, &right)
+    TwoToOneCRH::<G13, W>::compress(alloc, &parameters(alloc, rows)?, &left, &right)
 }
 
 const SHAPE: Error = Error::GenericError(Refusal::ParameterShape);
@@ -138,7 +54,7 @@ const SHAPE: Error = Error::GenericError(Refusal::ParameterShape);
 #[test]
 fn generators_are_added_at_set_bits(rt: HostRuntime) {
     let alloc = rt.alloc();
-    let hash_in_two = |input: &[u8]| hash::<Two>(alloc, two_windows(alloc), input);
+    let hash_in_two = |input: &[u8]| hash::<Two>(alloc, &TWO, input);
     assert_eq!(rt; hash_in_two(&[0x25]), Ok(residue(9)));
     assert_eq!(rt; hash_in_two(&[0xff]), Ok(residue(6)));
     assert_eq!(rt; hash_in_two(&[]), Ok(residue(0)));
@@ -151,38 +67,18 @@ fn generators_are_added_at_set_bits(rt: HostRuntime) {
 #[test]
 fn generators_of_another_shape_are_refused(rt: HostRuntime) {
     let alloc = rt.alloc();
-    assert_eq!(rt;
-        hash::<Three>(alloc, two_windows(alloc), &[0x25]),
-        Err(SHAPE)
-    );
+    assert_eq!(rt; hash::<Three>(alloc, &TWO, &[0x25]), Err(SHAPE));
     let long = Err(Error::IncorrectInputLength(2));
-    assert_eq!(rt;
-        hash::<Three>(alloc, two_windows(alloc), &[0x25, 0x25]),
-        long
-    );
-    assert_eq!(rt;
-        hash::<Three>(alloc, uneven_windows(alloc), &[0x25]),
-        Err(SHAPE)
-    );
-    assert_eq!(rt;
-        hash::<Two>(alloc, uneven_windows(alloc), &[0x25]),
-        Err(SHAPE)
-    );
-    assert_eq!(rt;
-        hash_of_two::<Three>(alloc, four_windows(alloc), &[], &[]),
-        Err(SHAPE)
-    );
+    assert_eq!(rt; hash::<Three>(alloc, &TWO, &[0x25, 0x25]), long);
+    assert_eq!(rt; hash::<Three>(alloc, &UNEVEN, &[0x25]), Err(SHAPE));
+    assert_eq!(rt; hash::<Two>(alloc, &UNEVEN, &[0x25]), Err(SHAPE));
+    assert_eq!(rt; hash_of_two::<Three>(alloc, &FOUR, &[], &[]), Err(SHAPE));
 }
 
 #[test]
 fn halves_stand_behind_one_another(rt: HostRuntime) {
     let alloc = rt.alloc();
-    let hash_in_four = |left: &[u8], right: &[u8]| hash_of_two::<Four>(
-        alloc,
-        four_windows(alloc),
-        left,
-        right,
-    );
+    let hash_in_four = |left: &[u8], right: &[u8]| hash_of_two::<Four>(alloc, &FOUR, left, right);
     assert_eq!(rt; hash_in_four(&[5], &[5]), Ok(residue(10)));
     assert_eq!(rt;
         hash_in_four(&[], &[5]),
@@ -192,7 +88,7 @@ fn halves_stand_behind_one_another(rt: HostRuntime) {
         hash_in_four(&[5, 5], &[5, 5]),
         Err(Error::IncorrectInputLength(2))
     );
-    let of_elements = hash_of_elements::<Four>(alloc, four_windows(alloc), residue(5), residue(9));
+    let of_elements = hash_of_elements::<Four>(alloc, &FOUR, residue(5), residue(9));
     assert_eq!(rt; of_elements, Ok(residue(1)));
 }
 
@@ -200,42 +96,15 @@ fn halves_stand_behind_one_another(rt: HostRuntime) {
 #[test]
 fn digests_of_a_tree(rt: HostRuntime) {
     let alloc = rt.alloc();
-    let leaf = |input: &[u8]| hash::<Two>(alloc, two_windows(alloc), input);
+    let leaf = |input: &[u8]| hash::<Two>(alloc, &TWO, input);
     assert_eq!(rt; leaf(&[0x25]), Ok(residue(9)));
     assert_eq!(rt; leaf(&[0x01]), Ok(residue(1)));
     assert_eq!(rt; leaf(&[]), Ok(residue(0)));
     assert_eq!(rt; leaf(&[0x40]), Ok(residue(8)));
-    let pair = |left: &[u8], right: &[u8]| hash_of_two::<Four>(
-        alloc,
-        four_windows(alloc),
-        left,
-        right,
-    );
+    let pair = |left: &[u8], right: &[u8]| hash_of_two::<Four>(alloc, &FOUR, left, right);
     assert_eq!(rt; pair(&[9], &[1]), Ok(residue(10)));
     assert_eq!(rt; pair(&[0], &[8]), Ok(residue(8)));
     assert_eq!(rt; pair(&[10], &[8]), Ok(residue(5)));
-}
-
-// Whether the list is an element with its doublings, as many in all.
-fn is_doubled<C: CurveGroup>(list: &[C], element: C, count: usize) -> bool {
-    let mut power = element;
-    for item in list {
-        if *item != power {
-            return false;
-        }
-        power = power.double();
-    }
-    list.len() == count
-}
-
-// Whether there is a list for each window: an element of the twin's with its doublings.
-fn are_drawn<C: CurveGroup, W: Window, R: Rng>(lists: &[Vec<C>], twin: &mut R) -> bool {
-    for list in lists {
-        if !is_doubled(list, C::rand(twin), W::WINDOW_SIZE) {
-            return false;
-        }
-    }
-    lists.len() == W::NUM_WINDOWS
 }
 
 fn setup_is_drawn<C: CurveGroup + DigestItem, W: Window>(
@@ -301,16 +170,17 @@ fn setup_doubles_what_is_drawn(rt: HostRuntime) {
     );
 }
 
+fn has_bits(alloc: Global, bytes: &[u8], bits: &[bool]) -> Result<bool, Error> {
+    Ok(bytes_to_bits(alloc, bytes)?.as_slice() == bits)
+}
+
 #[test]
-fn bits_are_read_the_lowest_first(rt: HostRuntime) -> Result<(), Fail> {
-    let alloc = rt.alloc();
-    let bits = bytes_to_bits(alloc, &[0x25, 0x80])?;
-    let read = [
+fn bits_are_read_the_lowest_first(rt: HostRuntime) {
+    let bits = [
         true, false, true, false, false, true, false, false, false, false, false, false, false,
         false, false, true,
     ];
-    assert_eq!(rt; bits.as_slice(), read.as_slice());
-    Ok(())
+    assert_eq!(rt; has_bits(rt.alloc(), &[0x25, 0x80], &bits), Ok(true));
 }
 
 // The bytes of two windows.
@@ -319,27 +189,27 @@ const SPELLED: [u8; 32] = [
 ];
 
 fn is_spelled(alloc: Global, bytes: &[u8]) -> Result<bool, Error> {
-    Ok(canonical_bytes(alloc, &two_windows(alloc)?)?.as_slice() == bytes)
+    Ok(canonical_bytes(alloc, &parameters(alloc, &TWO)?)?.as_slice() == bytes)
 }
 
 fn is_read(alloc: Global, bytes: &[u8]) -> Result<bool, Error> {
     let (again, used) = Parameters::<G13>::deserialize(alloc, bytes)?;
-    Ok(used == bytes.len() && again.generators == two_windows(alloc)?.generators)
+    Ok(used == bytes.len() && again.generators == parameters(alloc, &TWO)?.generators)
 }
 
 fn is_duplicated(alloc: Global) -> Result<bool, Error> {
-    let parameters = two_windows(alloc)?;
+    let parameters = parameters(alloc, &TWO)?;
     Ok(parameters.duplicate(alloc)?.generators == parameters.generators)
 }
 
 fn stands_in_lists(alloc: Global) -> Result<bool, Error> {
-    let several = vec![in alloc; uneven_windows(alloc)?, two_windows(alloc)?]?;
+    let several = vec![in alloc; parameters(alloc, &UNEVEN)?, parameters(alloc, &TWO)?]?;
     let bytes = canonical_bytes(alloc, &several)?;
     let (list, used) = Vec::<Parameters<G13>>::deserialize(alloc, &bytes)?;
     Ok(
         used == bytes.len()
             && list.len() == 2
-            && list[1].generators == two_windows(alloc)?.generators,
+            && list[1].generators == parameters(alloc, &TWO)?.generators,
     )
 }
 
@@ -354,21 +224,15 @@ fn parameters_have_canonical_bytes(rt: HostRuntime) {
     assert_eq!(rt; is_read(alloc, &SPELLED[..31]), Err(truncated));
 }
 
+fn has_text(alloc: Global, rows: &[&[u64]], text: &str) -> Result<bool, Error> {
+    let parameters = parameters(alloc, rows)?;
+    Ok(format!(in alloc; "{parameters:?}")?.as_str() == text)
+}
+
 #[test]
-fn parameters_are_printed(rt: HostRuntime) -> Result<(), Fail> {
-    let alloc = rt.alloc();
-    let none = Parameters::<G13> {
-        generators: Vec::new(alloc),
-    };
-    let text = format!(in alloc; "{none:?}")?;
-    assert_eq!(rt; text.as_str(), "Pedersen Hash Parameters {\n}\n");
-    let one = Parameters {
-        generators: vec![in alloc; list(alloc, &[1, 2])?]?,
-    };
-    let text = format!(in alloc; "{one:?}")?;
-    assert_eq!(rt;
-        text.as_str(),
-        "Pedersen Hash Parameters {\n\t  Generator 0: [1, 2]\n}\n"
-    );
-    Ok(())
+fn parameters_are_printed(rt: HostRuntime) {
+    let none = "Pedersen Hash Parameters {\n}\n";
+    assert_eq!(rt; has_text(rt.alloc(), &[], none), Ok(true));
+    let one = "Pedersen Hash Parameters {\n\t  Generator 0: [1, 2]\n}\n";
+    assert_eq!(rt; has_text(rt.alloc(), &[&[1, 2]], one), Ok(true));
 }
