@@ -40,6 +40,33 @@ impl Absorb for u8 {
     }
 }
 
+/// A digest of 32 bytes: as the slice of its bytes.
+impl AbsorbItem for [u8; 32] {
+    ghost sponge_bytes = { λ bytes. bytes };
+
+    ghost sponge_elements = { packed_elements };
+
+    fn push_bytes(&self, dest: &mut Vec<u8>) -> Result<(), Error> {
+        dest.extend_from_slice(self.as_slice())?;
+        Ok(())
+    }
+
+    fn push_elements<F: PrimeField>(&self, dest: &mut Vec<F>) -> Result<(), Error> {
+        push_packed(self.as_slice(), dest)
+    }
+}
+
+impl Absorb for [u8; 32] {
+    ghost batch_elements = { batch_by_item packed_elements };
+
+    fn batch_to_sponge_field_elements<F: PrimeField>(
+        batch: &[[u8; 32]],
+        dest: &mut Vec<F>,
+    ) -> Result<(), Error> {
+        push_elements_by_item(batch, dest)
+    }
+}
+
 /// The bytes of the text, behind their count in eight bytes.
 impl AbsorbItem for String {
     ghost sponge_bytes = { λ s. text_bytes (string_bytes s) };

@@ -2,6 +2,7 @@ pub mod BitLemmas
 pub mod Binds
 pub mod Bounds
 pub mod Changes
+pub mod Clients
 pub mod Climbs
 pub mod Eaches
 pub mod CoupleLemmas
@@ -14,6 +15,7 @@ pub mod TreeLemmas
 pub mod PlaceLemmas
 pub mod Puts
 pub mod Readings
+pub mod Receiveds
 pub mod OwnPaths
 pub mod TreeReads
 pub mod SizeLemmas

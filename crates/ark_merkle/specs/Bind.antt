@@ -1,15 +1,16 @@
 -- What a path of the tree's height says of a leaf.
-use Rattle.std.specs.Prelude.{◌≡◌, ◌≢◌, ◌<◌, ◌≤◌, ℕ, zero, suc, ◌-◌, ◌^◌, ◌/◌, ◌%◌, ◌&&◌, not, ◌==◌, nat_lt, Bool, true, false, if◌then◌else◌, Option, Some, None, List, [], ◌∷◌, length, take, drop, get_or, Ok, Err}
+use Rattle.std.specs.Prelude.{◌≡◌, ◌≢◌, ◌⊎◌, ◌<◌, ◌≤◌, ℕ, zero, suc, ◌-◌, ◌^◌, ◌/◌, ◌%◌, ◌&&◌, not, ◌==◌, nat_lt, Bool, true, false, if◌then◌else◌, Option, Some, None, List, [], ◌∷◌, length, map, take, drop, get_or, Ok, Err}
+use Rattle.std.specs.Iterator.{Yields}
 use Rattle.ark_base.specs.declared.error.Error.TheVariants.{IncorrectInputLength}
 use Rattle.ark_base.specs.Outcome.{Outcome, ◌>>=◌}
 use Rattle.ark_merkle.specs.declared.tree.bind.Binding.{Binding}
 use Rattle.ark_merkle.specs.declared.tree.bind.Binding.TheVariants.{Rejected, Stands, Differs}
-use Rattle.ark_merkle.specs.Index.{bit_at}
-use Rattle.ark_merkle.specs.Pair.{Digest, HashPair, digest_eq}
+use Rattle.ark_merkle.specs.Index.{IsTreeSize, bit_at}
+use Rattle.ark_merkle.specs.Pair.{Digest, HashPair, Hashes, digest_eq}
 use Rattle.ark_merkle.specs.Path.{Way, path_root, verdict}
 use Rattle.ark_merkle.specs.Root.{place, root, upper_levels}
 use Rattle.ark_merkle.specs.Rows.{part}
-use Rattle.ark_merkle.specs.Tree.{HashedTree, root_in, root_digest}
+use Rattle.ark_merkle.specs.Tree.{HashedTree, HoldsLeaf, root_in, root_digest}
 
 -- two digests, left first: the first of them stands right where the bit is set
 abbrev pub couple : Bool → Digest → Digest → Digest × Digest
@@ -108,3 +109,33 @@ MatchesVerdict tree leaf way binding = (r : Digest) → root_in tree ≡ Ok r
 abbrev pub CollidesAt : {A : Type 0} → HashedTree A → A → Way → ℕ → Type 0
 CollidesAt tree leaf way level = (digest : Digest) × (tree.hashes.leaf leaf ≡ Ok digest)
     × Collides tree.hashes.pair tree.leaves way digest level
+
+-- The leaf stands in the tree at an index, or the pairs of a path for it and of the tree collide at a level.
+abbrev pub StandsOrCollides : {A : Type 0} → HashedTree A → ℕ → A → Way → Type 0
+StandsOrCollides tree index leaf way = HoldsLeaf tree index leaf ⊎ ((level : ℕ) × CollidesAt tree leaf way level)
+
+-- ---- of a root alone
+
+-- A path binds a leaf to a root: in every tree of these hashes with that root whose height the path has, the leaf
+-- stands at the path's index modulo the size, or pairs collide.
+abbrev pub BindsLeaf : {A : Type 0} → Hashes A → Digest → A → Way → Type 0
+BindsLeaf hashes root_given leaf way =
+    (digests : List Digest) → IsTreeSize (length digests) → length way.above ≡ upper_levels digests
+    → root hashes.pair digests ≡ Ok root_given
+    → StandsOrCollides (record { hashes = hashes; leaves = digests }) (way.index % length digests) leaf way
+
+-- Each path is there, and binds the leaf at its place.
+abbrev pub BindsLeaves : {A : Type 0} → Hashes A → Digest → List A → List (Option Way) → Type 0
+BindsLeaves hashes root_given leaves [] = Unit {0}
+BindsLeaves hashes root_given leaves (None ∷ ways) = ⊥
+BindsLeaves hashes root_given [] (Some way ∷ ways) = ⊥
+BindsLeaves hashes root_given (leaf ∷ leaves) (Some way ∷ ways) =
+    BindsLeaf hashes root_given leaf way × BindsLeaves hashes root_given leaves ways
+
+-- Paths bind the leaves that an iterator gives first, each as view sees it.
+pub record BindsGiven {S A B : Type 0} (steps : S → Option B → S → Type 0) (view : B → A) (start : S)
+    (hashes : Hashes A) (root_given : Digest) (ways : List (Option Way)) : Type 0 where
+  pub taken : List B
+  pub after : S
+  pub gave : Yields steps start taken after
+  pub bound : BindsLeaves hashes root_given (map view taken) ways

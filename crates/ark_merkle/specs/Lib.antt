@@ -8,6 +8,7 @@ pub mod Rows
 pub mod Tree
 pub mod Bind
 pub mod Update
+pub mod Received
 pub mod MultiPath
 pub mod MultiPathBytes
 pub mod MultiPathStrict

@@ -1,8 +1,8 @@
 //! Indexes of leaves, and sizes of trees.
 
 ghost use Rattle.std.specs.Bool.{Decides};
-ghost use Rattle.std.specs.Prelude.{◌≡◌, ◌<◌, ◌^◌};
-ghost use Rattle.ark_merkle.specs.Index.{bit_at, neighbour, IsTreeSize, is_tree_size};
+ghost use Rattle.std.specs.Prelude.{◌≡◌, ◌<◌, ◌-◌, ◌^◌};
+ghost use Rattle.ark_merkle.specs.Index.{bit_at, log2, neighbour, IsTreeSize, is_tree_size};
 
 /// Whether a bit of a number is set. Those past its 64 are not.
 pub fn is_bit_set(n: usize, bit: usize) -> bool
@@ -30,4 +30,12 @@ pub fn is_tree_size(size: usize) -> bool
     ensures test { result ≡ is_tree_size size }
 {
     size > 1 && size == 1 << size.ilog2()
+}
+
+/// How many levels of a tree with this many leaves stand between the leaf digests and the root.
+pub fn levels_between(size: usize) -> usize
+    requires { IsTreeSize size }
+    ensures { result ≡ log2 size - 1 }
+{
+    size.ilog2() as usize - 1
 }

@@ -7,6 +7,7 @@ pub mod index;
 pub mod multi_path;
 pub mod pair;
 pub mod path;
+mod received;
 pub mod tree;
 pub mod views;
 

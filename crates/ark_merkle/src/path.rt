@@ -1,8 +1,9 @@
 //! Paths from a leaf to the root.
 
-ghost use Rattle.std.specs.Prelude.{◌≡◌, map};
+ghost use Rattle.std.specs.Prelude.{◌≡◌, true, map, IfOk};
 ghost use Rattle.std.proofs.Common.{lit<};
 ghost use Rattle.ark_base.specs.Outcome.{Answers, AnswersBy};
+ghost use Rattle.ark_merkle.specs.Bind.{BindsLeaf};
 ghost use Rattle.ark_merkle.specs.PathBytes.{PathParts, PathFits, path_spelling, path_at};
 ghost use Rattle.ark_merkle.specs.Laws.Path.{path_laws, path_is_long};
 ghost use Rattle.ark_merkle.specs.Path.{Way, climb, verdict};
@@ -118,9 +119,15 @@ impl<P: Views> Path<P> {
         root: &P::InnerDigest,
         leaf: &P::Leaf,
     ) -> Result<bool, Error>
-        ensures { let hashes = P.hashes leaf_parameters.now pair_parameters.now in
+        ensures answer { let hashes = P.hashes leaf_parameters.now pair_parameters.now in
             let given = P.InnerDigest.numbers root.now in
             Answers (verdict hashes.pair (hashes.leaf leaf.now) (P.way self.now) given) result }
+
+        // In every tree with this root whose height the path has, the leaf's digest stands at the index modulo the size, or
+        // at some level the path's pair and the tree's differ and hash alike.
+        ensures bound { let hashes = P.hashes leaf_parameters.now pair_parameters.now in
+            let given = P.InnerDigest.numbers root.now in
+            IfOk result (λ accepted. accepted ≡ true → BindsLeaf hashes given leaf.now (P.way self.now)) }
     {
         verify_leaf::<P, P::InnerDigest>(
             alloc,

@@ -7,7 +7,7 @@ ghost use Rattle.ark_merkle.specs.declared.multi_path.MultiPath.{MultiPath as Of
 ghost use Rattle.ark_merkle.specs.declared.path.Path.{Path as OfPath};
 ghost use Rattle.ark_merkle.specs.MultiPath.{MultiWay};
 ghost use Rattle.ark_merkle.specs.MultiPathBytes.{multi_bytes, multi_way_at, multi_way_of};
-ghost use Rattle.ark_merkle.specs.Laws.ByNumbers.{multi_spelling-way, multi_way_at-ok, multi_way_at-err};
+ghost use Rattle.ark_merkle.specs.Laws.ByNumbers.{way_at-ok, way_at-err, multi_spelling-way, multi_way_at-ok, multi_way_at-err};
 ghost use Rattle.ark_merkle.specs.Laws.MultiPath.{multi_way_of-value};
 ghost use Rattle.ark_merkle.specs.Laws.Path.{way_of-value};
 ghost use Rattle.ark_merkle.specs.Pair.{HashPair, Hashes, pair_of};
@@ -151,7 +151,17 @@ pub trait Values: Views {
         (λ digest. Self.InnerDigest.numbers_of (Self.InnerDigest.spelling digest))
         (⟦<Path<Self> as Canonical>⟧.view path)) };
 
-    // Nor does that of a multi-proof.
+    // Where a path is read, its numbers are; a fault is the same for both.
+    ghost path_is_read: { (bytes rest : List ℕ) (path : _)
+        → ⟦<Path<Self> as Canonical>⟧.reads bytes
+        ≡ Ok (⟦<Path<Self> as Canonical>⟧.view path, rest)
+        → Self.path_reading bytes ≡ Ok (Self.way path, rest) };
+
+    ghost path_fault_is: { (bytes : List ℕ) (fault : SerializationError)
+        → ⟦<Path<Self> as Canonical>⟧.reads bytes ≡ Err fault
+        → Self.path_reading bytes ≡ Err fault };
+
+    // The canonical value of a multi-proof forgets none of its numbers.
     ghost multi_path_value_is: { Self.multi_way ≡ (λ proof. multi_way_of
         (λ digest. Self.LeafDigest.numbers_of (Self.LeafDigest.spelling digest))
         (λ digest. Self.InnerDigest.numbers_of (Self.InnerDigest.spelling digest))
@@ -179,6 +189,19 @@ impl<P: Config> Values for P {
         P.LeafDigest.numbers_are P.InnerDigest.numbers P.InnerDigest.view
         (λ digest. P.InnerDigest.numbers_of (P.InnerDigest.spelling digest))
         P.InnerDigest.numbers_are path.leaf_sibling_hash path.auth_path.items path.leaf_index i };
+
+    ghost path_is_read = { λ bytes rest path. way_at-ok P.LeafDigest.view P.InnerDigest.view
+        P.LeafDigest.numbers P.InnerDigest.numbers
+        path.leaf_sibling_hash path.auth_path.items path.leaf_index
+        (λ digest. P.LeafDigest.numbers_of (P.LeafDigest.spelling digest))
+        (λ digest. P.InnerDigest.numbers_of (P.InnerDigest.spelling digest))
+        P.LeafDigest.numbers_are P.InnerDigest.numbers_are
+        P.LeafDigest.reads P.InnerDigest.reads bytes rest };
+
+    ghost path_fault_is = { λ bytes fault. way_at-err
+        (λ digest. P.LeafDigest.numbers_of (P.LeafDigest.spelling digest))
+        (λ digest. P.InnerDigest.numbers_of (P.InnerDigest.spelling digest))
+        P.LeafDigest.reads P.InnerDigest.reads bytes fault };
 
     ghost multi_path_value_is = { λ i proof. multi_way_of-value P.LeafDigest.numbers
         P.LeafDigest.view (λ digest. P.LeafDigest.numbers_of (P.LeafDigest.spelling digest))

@@ -109,3 +109,43 @@ impl DigestItem for Vec<u8> {
 
     ghost numbers_are = { λ a. bytes_as_numbers a.items };
 }
+
+impl Numbered for [u8; 32] {
+    ghost numbers = { λ bytes. bytes };
+}
+
+impl Duplicate for [u8; 32] {
+    ghost Data = { List ℕ };
+
+    ghost seen = { λ bytes. bytes };
+
+    /// The array once more, which takes no memory.
+    fn duplicate(&self, _alloc: Global) -> Result<[u8; 32], Error> {
+        Ok(*self)
+    }
+}
+
+/// Its bytes are the array's, and the blank one has zeros alone.
+impl DigestItem for [u8; 32] {
+    ghost use Rattle.std.specs.Prelude.{replicate, refl};
+    ghost use Rattle.std.proofs.lemmas.Slice.Eq.{bytes_eq-Decides};
+    ghost use Rattle.ark_base.specs.Digits.{itself};
+
+    ghost blank_numbers = { replicate 32 0 };
+
+    ghost bytes_of = { itself };
+
+    ghost numbers_of = { itself };
+
+    fn blank(_alloc: Global) -> [u8; 32] {
+        [0; 32]
+    }
+
+    ghost equal_if_same = { λ a b. bytes_eq-Decides a b };
+
+    ghost seen_alike = { λ a b. (λ same. same, λ same. same) };
+
+    ghost bytes_are = { λ a. refl };
+
+    ghost numbers_are = { λ a. refl };
+}

@@ -29,7 +29,7 @@ returns-in_err-verify g t c =
     let decodes : decoded_path m c.args.place (map inner c.args.before.now) index ≡ Some way = rw (sibling, digests) at (c.in-Some-part_of.ensures (map inner c.args.before.now) index) in
     let hashed = g.P.LeafHash.CRHScheme.meaning c.args.leaf_parameters.now in
     rw (c.in-Some.ensures.cases.0, c.in-Some-split_first.ensures.cases.0)
-    (passed_on _ _ c.from_residual-in_err-verify.result c.in_err-verify.field-0.0 c.from_residual-in_err-verify.ensures.1 c.in_err-verify.ensures
+    (passed_on _ _ c.from_residual-in_err-verify.result c.in_err-verify.field-0.0 c.from_residual-in_err-verify.ensures.1 c.in_err-verify.ensures.answer
     (λ refused. place-refused h (inner c.args.root.now) m c.args.place (map inner c.args.before.now) index way decodes (hashed c.in-Some-split_first.leaf.now) c.in-Some.indexes.now (map hashed c.in-Some-split_first.leaves.now) c.in_err-verify.field-0.0 refused))
 
 pub returns : goal.returns
@@ -56,7 +56,7 @@ returns g t c =
     rw (
       c.in-Some.ensures.cases.0,
       c.in-Some-split_first.ensures.cases.0,
-      place-accepted h (inner c.args.root.now) m c.args.place (map inner c.args.before.now) index way decodes (hashed c.in-Some-split_first.leaf.now) c.in-Some.indexes.now (map hashed c.in-Some-split_first.leaves.now) (rw (yes) at c.in_ok-verify.ensures),
+      place-accepted h (inner c.args.root.now) m c.args.place (map inner c.args.before.now) index way decodes (hashed c.in-Some-split_first.leaf.now) c.in-Some.indexes.now (map hashed c.in-Some-split_first.leaves.now) (rw (yes) at c.in_ok-verify.ensures.answer),
       ← c.deref.ensures.value,
     )
     c.verdict_from.ensures

@@ -1,0 +1,90 @@
+-- What an accepted path says to whoever has a root alone.
+use Rattle.std.proofs.Common.{◌≡◌, ℕ, suc, ◌%◌, Bool, true, false, if◌then◌else◌, ◌==◌, Option, Some, None, List, [], ◌∷◌, ◌++◌, length, map, ◌⊎◌, Ok, Err, refl, ap, sym, ◌∙◌, inl, inr}
+use Rattle.std.specs.Iterator.{Yields}
+use Rattle.std.specs.Result.{IfOk}
+use Rattle.std.proofs.lemmas.Bool.{eq-eqb}
+use Rattle.std.proofs.lemmas.List.{append-nil}
+use Rattle.ark_base.specs.declared.error.Error.TheVariants.{GenericError}
+use Rattle.ark_base.specs.declared.error.Refusal.TheVariants.{NoIndex}
+use Rattle.ark_base.specs.Outcome.{Outcome, Answers, ◌>>=◌}
+use Rattle.ark_base.specs.Laws.Steps.{bind_ok, done_injective}
+use Rattle.ark_merkle.specs.Bind.{difference, binding_of, path_binding, StandsOrCollides, BindsLeaf, BindsLeaves, BindsGiven}
+use Rattle.ark_merkle.specs.Index.{IsTreeSize}
+use Rattle.ark_merkle.specs.Leaves.{AnswersOver}
+use Rattle.ark_merkle.specs.MultiPath.{MultiWay, decoded_paths, multi_verdict_from, multi_verdict}
+use Rattle.ark_merkle.specs.Pair.{Digest, HashPair, Hashes, digest_eq}
+use Rattle.ark_merkle.specs.Path.{Way, path_root, verdict}
+use Rattle.ark_merkle.specs.Root.{root, upper_levels}
+use Rattle.ark_merkle.specs.Rows.{IsTree, rows_of}
+use Rattle.ark_merkle.proofs.Bounds.{bound-stands, bound-differs}
+use Rattle.ark_merkle.proofs.Levels.{root_of-rows, top_digest}
+use Rattle.ark_merkle.proofs.TreeLemmas.{is_tree, upper_levels-size}
+
+-- leaf digests that have a root have rows
+rooted-tree : (h : HashPair) (digests : List Digest) (r : Digest) → IsTreeSize (length digests) → root h digests ≡ Ok r → (rows : List (List Digest)) × IsTree h digests rows
+rooted-tree h digests r size rooted =
+    let m = upper_levels digests in
+    let made = bind_ok (rows_of h m digests) (λ rows. Ok (top_digest rows)) r (sym (root_of-rows h m digests (upper_levels-size digests size)) ∙ rooted) in
+    (made.0, is_tree h digests made.0 size made.1)
+
+-- an accepted path of the height is not rejected
+accepted-binding : (h : HashPair) (digests : List Digest) (leaf : Outcome Digest) (way : Way) (r : Digest) → length way.above ≡ upper_levels digests → root h digests ≡ Ok r → verdict h leaf way r ≡ Ok true
+    → (found : Option ℕ) × (path_binding h digests leaf way ≡ Ok (binding_of found))
+accepted-binding h digests leaf way r long rooted accepted =
+    let hashed = bind_ok leaf (λ digest. path_root h way digest >>= λ given. Ok (digest_eq given r)) true accepted in
+    let climbed = bind_ok (path_root h way hashed.0) (λ given. Ok (digest_eq given r)) true hashed.2 in
+    (difference h digests way hashed.0, by_parts hashed.0 hashed.1 climbed.0 climbed.1 (done_injective _ _ climbed.2))
+  where
+    by_parts : (digest : Digest) → leaf ≡ Ok digest → (given : Digest) → path_root h way digest ≡ Ok given → digest_eq given r ≡ true → path_binding h digests leaf way ≡ Ok (binding_of (difference h digests way digest))
+    by_parts digest is given climbed same = let fits = eq-eqb (length way.above) (upper_levels digests) long in rw (fits, is, rooted, climbed, same) refl
+
+module _ {A : Type 0} (hashes : Hashes A) (r : Digest) where
+  accepted-bound : (leaf : A) (way : Way) → verdict hashes.pair (hashes.leaf leaf) way r ≡ Ok true → BindsLeaf hashes r leaf way
+  accepted-bound leaf way accepted digests size long rooted =
+      let tree = rooted-tree hashes.pair digests r size rooted in
+      let bound = accepted-binding hashes.pair digests (hashes.leaf leaf) way r long rooted accepted in
+      by_level tree.0 tree.1 bound.0 bound.1
+    where
+      by_level : (rows : List (List Digest)) → IsTree hashes.pair digests rows → (found : Option ℕ) → path_binding hashes.pair digests (hashes.leaf leaf) way ≡ Ok (binding_of found)
+          → StandsOrCollides (record { hashes = hashes; leaves = digests }) (way.index % length digests) leaf way
+      by_level rows tree None bound = inl (bound-stands hashes.pair digests rows tree (hashes.leaf leaf) way bound)
+      by_level rows tree (Some level) bound = inr (level, bound-differs hashes.pair digests rows tree (hashes.leaf leaf) way level bound)
+
+  pub answered-bound : (leaf : A) (way : Way) (result : Outcome Bool) → Answers (verdict hashes.pair (hashes.leaf leaf) way r) result → IfOk result (λ accepted. accepted ≡ true → BindsLeaf hashes r leaf way)
+  answered-bound leaf way (Ok accepted) answer = λ is. accepted-bound leaf way (answer ∙ ap Ok is)
+  answered-bound leaf way (Err e) answer = tt
+
+  module _ {S B : Type 0} (steps : S → Option B → S → Type 0) (view : B → A) where
+    all-bound : (i : ℕ) (ways : List (Option Way)) (taken : List B) → multi_verdict_from hashes.pair r i ways (map (λ x. hashes.leaf (view x)) taken) ≡ Ok true → BindsLeaves hashes r (map view taken) ways
+    all-bound i [] taken accepted = tt
+    all-bound i (None ∷ ways) taken accepted = absurd cc
+    all-bound i (Some way ∷ ways) [] accepted = absurd cc
+    all-bound i (Some way ∷ ways) (x ∷ taken) accepted =
+        let first = bind_ok (verdict hashes.pair (hashes.leaf (view x)) way r) (λ holds. if holds then multi_verdict_from hashes.pair r (suc i) ways (map (λ x. hashes.leaf (view x)) taken) else Ok false) true accepted in
+        by_first first.0 first.1 first.2 (all-bound (suc i) ways taken)
+      where
+        by_first : (holds : Bool) → verdict hashes.pair (hashes.leaf (view x)) way r ≡ Ok holds → (if holds then multi_verdict_from hashes.pair r (suc i) ways (map (λ x. hashes.leaf (view x)) taken) else Ok false) ≡ Ok true
+            → (multi_verdict_from hashes.pair r (suc i) ways (map (λ x. hashes.leaf (view x)) taken) ≡ Ok true → BindsLeaves hashes r (map view taken) ways) → BindsLeaves hashes r (view x ∷ map view taken) (Some way ∷ ways)
+        by_first true is rest next = (accepted-bound (view x) way is, next rest)
+        by_first false is rest next = absurd cc
+
+    module _ (m : MultiWay) (start behind : S) where
+      decided-bound : (taken : List B) → multi_verdict hashes.pair (map (λ x. hashes.leaf (view x)) taken) m r ≡ Ok true → BindsLeaves hashes r (map view taken) (decoded_paths m)
+      decided-bound taken accepted = by_count (length m.indexes == 0) accepted
+        where
+          by_count : (none : Bool) → (if none then Err (GenericError NoIndex) else multi_verdict_from hashes.pair r 0 (decoded_paths m) (map (λ x. hashes.leaf (view x)) taken)) ≡ Ok true → BindsLeaves hashes r (map view taken) (decoded_paths m)
+          by_count true accepted = absurd cc
+          by_count false accepted = all-bound 0 (decoded_paths m) taken accepted
+
+      -- the leaves that were taken are bound
+      pub given-bound : (result : Outcome Bool) → AnswersOver steps (λ x. hashes.leaf (view x)) start behind (λ digests. multi_verdict hashes.pair digests m r) result → IfOk result (λ accepted. accepted ≡ true → BindsGiven steps view start hashes r (decoded_paths m))
+      given-bound (Err e) over = tt
+      given-bound (Ok accepted) over = λ is. by_end is over.answered
+        where
+          by_end : accepted ≡ true
+              → (((last : S) × Yields steps start over.taken last × steps last None behind × (multi_verdict hashes.pair (map (λ x. hashes.leaf (view x)) over.taken) m r ≡ Ok accepted))
+              ⊎ (Yields steps start over.taken behind × ((more : List (Outcome Digest)) → multi_verdict hashes.pair (map (λ x. hashes.leaf (view x)) over.taken ++ more) m r ≡ Ok accepted))) → BindsGiven steps view start hashes r (decoded_paths m)
+          by_end is (inl ended) = record { taken = over.taken; after = ended.0; gave = ended.1; bound = decided-bound over.taken (ended.3 ∙ ap Ok is) }
+          by_end is (inr went) =
+              let all = append-nil (map (λ x. hashes.leaf (view x)) over.taken) in
+              record { taken = over.taken; after = behind; gave = went.0; bound = decided-bound over.taken (ap (λ (leaves : List (Outcome Digest)). multi_verdict hashes.pair leaves m r) (sym all) ∙ went.1 [] ∙ ap Ok is) }

@@ -1,0 +1,56 @@
+-- What whoever has a root alone makes of a stranger's bytes.
+use Rattle.std.specs.Prelude.{◌≡◌, ◌<◌, ℕ, ◌-◌, ◌==◌, ◌&&◌, nat_lt, Bool, List, [], length, if◌then◌else◌, Ok, Err}
+use Rattle.ark_base.specs.declared.error.Error.{Error}
+use Rattle.ark_base.specs.declared.error.Error.TheVariants.{IncorrectInputLength, SerializationError as OfBytes}
+use Rattle.ark_base.specs.declared.error.SerializationError.TheVariants.{InvalidData}
+use Rattle.ark_base.specs.Outcome.{Outcome, ◌>>=◌}
+use Rattle.ark_base.specs.Reading.{Reading, reading_outcome}
+use Rattle.ark_merkle.specs.Bind.{StandsOrCollides}
+use Rattle.ark_merkle.specs.Index.{log2, is_tree_size}
+use Rattle.ark_merkle.specs.Pair.{Digest, Hashes}
+use Rattle.ark_merkle.specs.Path.{Way, verdict}
+use Rattle.ark_merkle.specs.Root.{root}
+
+-- nothing, where a condition holds; else a refusal
+abbrev pub provided : Bool → Error → Outcome (Unit {0})
+provided holds error = if holds then Ok tt else Err error
+
+-- The refusals of a proof that was read, in their order: that of bytes behind it, that of paths with another length than
+-- those of a tree of this size, that of an index that was not asked for.
+abbrev pub is_fit : ℕ → List ℕ → ℕ → Bool → Outcome (Unit {0})
+is_fit size behind above is_asked = do
+  _ ← provided (length behind == 0) (OfBytes InvalidData)
+  _ ← provided (above == log2 size - 1) (IncorrectInputLength above)
+  provided is_asked (OfBytes InvalidData)
+
+-- the path of an index in a tree of a size, as it was read, or its refusal
+abbrev pub fit_path : ℕ → ℕ → Way × List ℕ → Outcome Way
+fit_path size index read = do
+  _ ← is_fit size read.1 (length read.0.above) ((read.0.index == index) && nat_lt index size)
+  Ok read.0
+
+-- such a path from a reading: the refusal of the size comes first, then the first fault of the bytes
+abbrev pub received_path : ℕ → ℕ → Reading Way → Outcome Way
+received_path size index reading = do
+  _ ← provided (is_tree_size size) (IncorrectInputLength size)
+  read ← reading_outcome reading
+  fit_path size index read
+
+-- what such a path says of a leaf: the refusal of the path, of the leaf's hash and of the path's pairs, else whether the
+-- path gives the root
+abbrev pub received_verdict : {A : Type 0} → Hashes A → Digest → ℕ → ℕ → A → Reading Way → Outcome Bool
+received_verdict hashes root_given size index leaf reading = do
+  way ← received_path size index reading
+  verdict hashes.pair (hashes.leaf leaf) way root_given
+
+-- In every tree of these hashes with this root and size the leaf stands at the index, or pairs of a path for it and of
+-- the tree collide.
+abbrev pub StandsAt : {A : Type 0} → Hashes A → Digest → ℕ → ℕ → A → Way → Type 0
+StandsAt hashes root_given size index leaf way =
+    (digests : List Digest) → length digests ≡ size → root hashes.pair digests ≡ Ok root_given
+    → StandsOrCollides (record { hashes = hashes; leaves = digests }) index leaf way
+
+-- A path that was read alone shows so.
+abbrev pub ShowsLeaf : {A : Type 0} → Hashes A → Digest → ℕ → ℕ → A → Reading Way → Type 0
+ShowsLeaf hashes root_given size index leaf reading =
+    (way : Way) × (reading ≡ Ok (way, [])) × (index < size) × StandsAt hashes root_given size index leaf way

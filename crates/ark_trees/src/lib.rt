@@ -1,0 +1,12 @@
+//! Configurations of trees, ready for use: SHA-256 (FIPS 180-4) over leaves that are byte strings.
+#![tactic(auto)]
+
+mod arrays;
+mod rfc6962;
+mod strings;
+#[cfg(test)]
+mod tests;
+
+pub use arrays::{ArraySha256, Sha256Arrays};
+pub use rfc6962::{LogSha256, Sha256Log};
+pub use strings::Sha256Strings;

@@ -1,0 +1,126 @@
+//! Trees as transparency logs hash them (RFC 6962, section 2.1).
+
+ghost use Rattle.std.specs.Prelude.{◌≡◌, Ok, refl};
+ghost use Rattle.ark_trees.specs.Rfc6962.{entry_hash, node_hash};
+
+use ark_base::error::Error;
+use ark_crh::{CRHScheme, TwoToOneCRHScheme};
+use ark_merkle::{Config, IdentityDigestConverter};
+use rand::Rng;
+use sha2::{Digest, Sha256};
+use std::alloc::Global;
+
+/// Trees with the hashing of RFC 6962: a zero byte stands before a leaf, a one byte before a pair, so that no pair is taken
+/// for a leaf. The roots are those of logs over as many entries, a power of two of them; digests are arrays.
+pub struct Sha256Log;
+
+impl Config for Sha256Log {
+    type Leaf = Vec<u8>;
+
+    type LeafDigest = [u8; 32];
+
+    type LeafInnerDigestConverter = IdentityDigestConverter<[u8; 32]>;
+
+    type InnerDigest = [u8; 32];
+
+    type LeafHash = LogSha256;
+
+    type TwoToOneHash = LogSha256;
+}
+
+/// SHA-256 of a zero byte and a byte string, and of a one byte and two digests.
+pub struct LogSha256;
+
+impl CRHScheme for LogSha256 {
+    type Input = Vec<u8>;
+
+    type Output = [u8; 32];
+
+    type Parameters = ();
+
+    ghost meaning = { λ _ input. Ok (entry_hash input.items) };
+
+    ghost setup_outcome = { Ok };
+
+    ghost is_made = { λ _ _. Unit {0} };
+
+    fn setup<R: Rng>(_alloc: Global, _rng: &mut R) -> Result<(), Error> {
+        Ok(())
+    }
+
+    fn evaluate(_alloc: Global, _parameters: &(), input: &Vec<u8>) -> Result<[u8; 32], Error> {
+        let mut hasher = Sha256::new();
+        hasher.update([0].as_slice());
+        hasher.update(input.as_slice());
+        Ok(hasher.finalize())
+    }
+
+    ghost meaning_decided = { λ _ _. tt };
+
+    ghost setup_decided = { λ _. tt };
+
+    ghost made_alike = { λ _ p q _ _. refl };
+
+    ghost same_parameters = { λ p q same. refl };
+}
+
+impl TwoToOneCRHScheme for LogSha256 {
+    type Input = [u8; 32];
+
+    type Output = [u8; 32];
+
+    type Parameters = ();
+
+    ghost evaluated = { λ _ left right. Ok (node_hash left right) };
+
+    ghost compressed = { λ _ left right. Ok (node_hash left right) };
+
+    ghost setup_outcome = { Ok };
+
+    ghost is_made = { λ _ _. Unit {0} };
+
+    fn setup<R: Rng>(_alloc: Global, _rng: &mut R) -> Result<(), Error> {
+        Ok(())
+    }
+
+    fn evaluate(
+        _alloc: Global,
+        _parameters: &(),
+        left: &[u8; 32],
+        right: &[u8; 32],
+    ) -> Result<[u8; 32], Error> {
+        Ok(digest_of_node(left, right))
+    }
+
+    fn compress(
+        _alloc: Global,
+        _parameters: &(),
+        left: &[u8; 32],
+        right: &[u8; 32],
+    ) -> Result<[u8; 32], Error> {
+        Ok(digest_of_node(left, right))
+    }
+
+    ghost evaluated_decided = { λ _ _ _. tt };
+
+    ghost compressed_decided = { λ _ _ _. tt };
+
+    ghost setup_decided = { λ _. tt };
+
+    ghost made_alike = { λ _ p q _ _. refl };
+
+    ghost evaluated_same = { λ p q same. refl };
+
+    ghost compressed_same = { λ p q same. refl };
+}
+
+// The digest of a one byte, left and right.
+fn digest_of_node(left: &[u8; 32], right: &[u8; 32]) -> [u8; 32]
+    ensures { result ≡ node_hash left.now right.now }
+{
+    let mut hasher = Sha256::new();
+    hasher.update([1].as_slice());
+    hasher.update(left.as_slice());
+    hasher.update(right.as_slice());
+    hasher.finalize()
+}

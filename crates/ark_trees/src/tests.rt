@@ -1,0 +1,133 @@
+//! Roots that other implementations give, and what a client answers.
+
+use crate::{Sha256Arrays, Sha256Log, Sha256Strings};
+use ark_base::error::{Error, SerializationError};
+use ark_base::serialize::canonical_bytes;
+use ark_merkle::{Config, LeafParam, MerkleTree, Path, TwoToOneParam, is_tree_size};
+use std::alloc::Global;
+use std::test::Fail;
+
+// The entries that implementations of RFC 6962 are tested with.
+const ENTRIES: [&[u8]; 8] = [
+    &[],
+    &[0x00],
+    &[0x10],
+    &[0x20, 0x21],
+    &[0x30, 0x31],
+    &[0x40, 0x41, 0x42, 0x43],
+    &[0x50, 0x51, 0x52, 0x53, 0x54, 0x55, 0x56, 0x57],
+    b"`abcdefghijklmno",
+];
+
+// The roots of the first two, the first four and all of them.
+const OF_TWO: &str = "fac54203e7cc696cf0dfcb42c92a1d9dbaf70ad9e621f4bd8d98662f00e3c125";
+
+const OF_FOUR: &str = "d37ee418976dd95753c1c73862b9398fa2a2cf9b4ff0fdfe8b30cd95209614b7";
+
+const OF_ALL: &str = "5dc9da79a70659a9ad559cb701ded9a2ab9d823aad2f4960cfe370eff4604328";
+
+// That of all with no byte before them, by Python's hashlib.
+const PLAIN: &str = "03b3e0e5b23746036c9c7185c1fc12bc6f8ff41cc2b97b24fb451f2cc291d2b4";
+
+fn tree_of<P: Config<Leaf = Vec<u8>>>(
+    alloc: Global,
+    leaf_parameters: &LeafParam<P>,
+    pair_parameters: &TwoToOneParam<P>,
+    count: usize,
+) -> Result<MerkleTree<P>, Error> {
+    let mut leaves = Vec::new(alloc);
+    for entry in ENTRIES.iter().take(count) {
+        let mut leaf = Vec::new(alloc);
+        leaf.extend_from_slice(*entry)?;
+        leaves.push(leaf)?;
+    }
+    if !is_tree_size(leaves.len()) {
+        return Err(Error::IncorrectInputLength(leaves.len()));
+    }
+    MerkleTree::new(alloc, leaf_parameters, pair_parameters, &leaves)
+}
+
+// The last 32 bytes of the root's, in hexadecimal.
+fn root_of<P: Config<Leaf = Vec<u8>>>(
+    alloc: Global,
+    leaf_parameters: &LeafParam<P>,
+    pair_parameters: &TwoToOneParam<P>,
+    count: usize,
+) -> Result<String, Error> {
+    let tree = tree_of::<P>(alloc, leaf_parameters, pair_parameters, count)?;
+    let bytes = canonical_bytes(alloc, tree.root())?;
+    Ok(hex::encode(alloc, &bytes[bytes.len().saturating_sub(32)..])?)
+}
+
+#[test]
+fn roots_of_logs(rt: HostRuntime) -> Result<(), Fail> {
+    let alloc = rt.alloc();
+    assert_eq!(rt; root_of::<Sha256Log>(alloc, &(), &(), 2)?.as_str(), OF_TWO);
+    assert_eq!(rt; root_of::<Sha256Log>(alloc, &(), &(), 4)?.as_str(), OF_FOUR);
+    assert_eq!(rt; root_of::<Sha256Log>(alloc, &(), &(), 8)?.as_str(), OF_ALL);
+    Ok(())
+}
+
+#[test]
+fn arrays_and_strings_have_one_root(rt: HostRuntime) -> Result<(), Fail> {
+    let alloc = rt.alloc();
+    assert_eq!(rt;
+        root_of::<Sha256Arrays>(alloc, &(), &(), 8)?.as_str(),
+        PLAIN
+    );
+    assert_eq!(rt;
+        root_of::<Sha256Strings>(alloc, &(), &(), 8)?.as_str(),
+        PLAIN
+    );
+    Ok(())
+}
+
+// What a client answers who was told the size, the index and the fourth entry, and was sent the path of an index in the log
+// of eight entries with some zeros behind it.
+fn answer(
+    alloc: Global,
+    own: usize,
+    zeros: usize,
+    size: usize,
+    index: usize,
+) -> Result<bool, Error> {
+    let log = tree_of::<Sha256Log>(alloc, &(), &(), 8)?;
+    if own >= log.size() {
+        return Err(Error::IncorrectInputLength(own));
+    }
+    let mut bytes = canonical_bytes(alloc, &log.generate_proof(alloc, own)?)?;
+    for _ in 0..zeros {
+        bytes.push(0)?;
+    }
+    let entry = vec![in alloc; 0x20, 0x21]?;
+    Path::<Sha256Log>::verify_bytes(alloc, &(), &(), log.root(), size, index, &bytes, &entry)
+}
+
+const INVALID: Error = Error::SerializationError(SerializationError::InvalidData);
+
+#[test]
+fn a_client_answers(rt: HostRuntime) -> Result<(), Fail> {
+    let alloc = rt.alloc();
+    assert_eq!(rt; answer(alloc, 3, 0, 8, 3), Ok(true));
+    assert_eq!(rt; answer(alloc, 5, 0, 8, 5), Ok(false));
+    Ok(())
+}
+
+#[test]
+fn a_client_refuses(rt: HostRuntime) -> Result<(), Fail> {
+    let alloc = rt.alloc();
+    // Another index, one past the size, and a byte behind the path.
+    assert_eq!(rt; answer(alloc, 3, 0, 8, 4), Err(INVALID));
+    assert_eq!(rt; answer(alloc, 3, 0, 8, 11), Err(INVALID));
+    assert_eq!(rt; answer(alloc, 3, 1, 8, 3), Err(INVALID));
+    // Trees of 16 leaves have three digests above the sibling; no tree has six leaves.
+    assert_eq!(rt;
+        answer(alloc, 3, 0, 16, 3),
+        Err(Error::IncorrectInputLength(2))
+    );
+    assert_eq!(rt;
+        answer(alloc, 3, 0, 6, 3),
+        Err(Error::IncorrectInputLength(6))
+    );
+    Ok(())
+}
