@@ -47,25 +47,8 @@ take-all : {A : Type 0} (xs ys : List A) → take (length xs) (xs ++ ys) ≡ xs
 take-all [] ys = refl
 take-all (x ∷ xs) ys = ap (λ s. x ∷ s) (take-all xs ys)
 
-take-front : (n : ℕ) (x y : List ℕ) → (m : ℕ) × (take m (x ++ y) ≡ take n x)
-take-front zero x y = (0, refl)
-take-front (suc n) [] y = (0, refl)
-take-front (suc n) (b ∷ x) y = let more = take-front n x y in (suc more.0, ap (λ s. b ∷ s) more.1)
-
-take-behind : (x y : List ℕ) (n : ℕ) → (m : ℕ) × (take m (x ++ y) ≡ x ++ take n y)
-take-behind [] y n = (n, refl)
-take-behind (b ∷ x) y n = let more = take-behind x y n in (suc more.0, ap (λ s. b ∷ s) more.1)
-
 appends-front : (a b : Option (List ℕ)) (x : List ℕ) → Appends a b x → AppendsFront a b x
 appends-front a b x h = (length x, rw (ap (take (length x)) (sym (append-nil x)) ∙ take-all x []) h)
-
--- a front of the first is one of both
-pub front_of_first : (a b : Option (List ℕ)) (x y : List ℕ) → AppendsFront a b x → AppendsFront a b (x ++ y)
-front_of_first a b x y front = let m = take-front front.0 x y in (m.0, rw m.1 front.1)
-
--- the first, then a front of the second
-pub front_behind : (a b c : Option (List ℕ)) (x y : List ℕ) → Appends a b x → AppendsFront b c y → AppendsFront a c (x ++ y)
-front_behind a b c x y h front = let m = take-behind x y front.0 in (m.0, rw m.1 (appends_both a b c x (take front.0 y) h front.1))
 
 pub kept_front : (a b c : Option (List ℕ)) (x : List ℕ) → Keeps a b → AppendsFront b c x → AppendsFront a c x
 kept_front a b c x k front = (front.0, kept_then a b c (take front.0 x) k front.1)
@@ -132,13 +115,13 @@ module _ {T : Type 0} (step : Option T → List ℕ → Option T → List ℕ �
   going_from_start None w0 = tt
   going_from_start (Some input) w0 = ([], [], input, refl, refl, refl, appends_none w0)
 
-  pub going_on : (r0 w0 : Option (List ℕ)) (before after : Option T) (r r' w w1 w2 : Option (List ℕ)) (line reply : List ℕ) → Going r0 w0 before r w → 0 < length line → IfSome r (λ xs. line ≡ take_through 10 xs) → DropsThrough r r' 10 → step before (strip_last 10 line) after reply → Appends w w1 reply → Appends w1 w2 (10 ∷ []) → Going r0 w0 after r' w2
-  going_on None w0 before after r r' w w1 w2 line reply so_far some taken left does told ended_it = tt
-  going_on (Some input) w0 before after r r' w w1 w2 line reply so_far some taken left does told ended_it =
+  pub going_on : (r0 w0 : Option (List ℕ)) (before after : Option T) (r r' w w' : Option (List ℕ)) (line reply : List ℕ) → Going r0 w0 before r w → 0 < length line → IfSome r (λ xs. line ≡ take_through 10 xs) → DropsThrough r r' 10 → step before (strip_last 10 line) after reply → Appends w w' (with_line_feed reply) → Going r0 w0 after r' w'
+  going_on None w0 before after r r' w w' line reply so_far some taken left does told = tt
+  going_on (Some input) w0 before after r r' w w' line reply so_far some taken left does told =
       let rest = so_far.2 in
       let took : line ≡ take_through 10 rest = rw so_far.3 at taken in
       let leaves : r' ≡ Some (drop_through 10 rest) = rw so_far.3 at left in
-      let all = appends_both w0 w w2 (flat_map with_line_feed so_far.0) (reply ++ 10 ∷ []) so_far.6 (appends_both w w1 w2 reply (10 ∷ []) told ended_it) in (
+      let all = appends_both w0 w w' (flat_map with_line_feed so_far.0) (with_line_feed reply) so_far.6 told in (
         so_far.0 ++ reply ∷ [],
         so_far.1 ++ strip_last 10 line ∷ [],
         drop_through 10 rest,

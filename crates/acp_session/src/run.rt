@@ -4,6 +4,7 @@ ghost use Rattle.std.specs.Prelude.{◌≡◌, ◌<◌, length, true, false, IfO
 ghost use Rattle.std.specs.Io.BufRead.{DropsThrough, strip_last, take_through};
 ghost use Rattle.std.specs.Io.Buffered.{reader_remaining};
 ghost use Rattle.std.specs.Io.KnownBytes.{Appends, IsAtEnd, Keeps};
+ghost use Rattle.acp_session.specs.Lines.{with_line_feed};
 ghost use Rattle.acp_session.specs.Sessions.{AppendsFront, LosesFront, Serves, Stops};
 ghost use Rattle.acp_session.specs.Steps.{Step};
 
@@ -74,6 +75,17 @@ pub fn write_front<W: Write>(writer: &mut W, bytes: &[u8]) -> io::Result<()>
     Err(io::Error::from(ErrorKind::Other))
 }
 
+/// Writes a reply and a line feed. Where that fails, a front of them was written.
+fn write_reply<W: Write>(writer: &mut W, mut reply: Vec<u8>) -> io::Result<()>
+    ensures whole { let held = W.contents in
+        OnOk result (Appends (held writer.old) (held writer.new) (with_line_feed reply.items)) }
+    ensures front { let held = W.contents in
+        AppendsFront (held writer.old) (held writer.new) (with_line_feed reply.items) }
+{
+    reply.push(b'\n')?;
+    write_front(writer, &reply)
+}
+
 /// Answers each line that comes, from no tree on, until the input ends, over hashes with these parameters. The first fault of the
 /// reader, of the writer or of memory ends it before.
 pub fn run<C: Shell, R: Read, W: Write>(
@@ -103,8 +115,7 @@ pub fn run<C: Shell, R: Read, W: Write>(
         }
         let asked = without_line_feed(&line);
         let reply = answer(alloc, leaf_parameters, pair_parameters, &mut tree, asked)?;
-        write_front(replies, &reply)?;
-        write_front(replies, b"\n")?;
+        write_reply(replies, reply)?;
     }
     Err(io::Error::from(ErrorKind::Other))
 }
