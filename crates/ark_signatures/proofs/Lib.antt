@@ -1,0 +1,4 @@
+pub mod Claims
+pub mod Decrypting
+pub mod Highest
+pub mod Nonces

@@ -1,0 +1,2 @@
+pub mod ElGamal
+pub mod Schnorr
