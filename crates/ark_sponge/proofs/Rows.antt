@@ -1,10 +1,10 @@
 -- One step of each loop over a state.
-use Rattle.std.proofs.Common.{length-drop, ◌≡◌, ℕ, zero, suc, ◌+◌, ◌*◌, ◌%◌, ◌<◌, List, [], ◌∷◌, ◌++◌, length, get_or, set, take, drop, map, slice_range, ◌/◌, ◌-◌, refl, sym, ◌∙◌, ap, arith, add-one}
+use Rattle.std.proofs.Common.{length-drop, ◌≡◌, ℕ, zero, suc, ◌+◌, ◌%◌, ◌<◌, List, [], ◌∷◌, ◌++◌, length, get_or, set, take, drop, map, slice_range, ◌/◌, ◌-◌, refl, sym, ◌∙◌, ap, arith, add-one}
 use Rattle.std.proofs.lemmas.List.{get_or-map, map-set, take_more, take_more_set, map-append, take-map, drop-map, take_all}
-use Rattle.std.proofs.Math.Nat.{mod-add-mod, add-mod-mod}
 use Rattle.std.proofs.Math.ListN.{length-map}
 use Rattle.std.proofs.lemmas.List.Sums.{fold_more}
-use Rattle.ark_sponge.specs.Permutation.{sums, front_images, dot_product, matrix_product, poseidon_round, poseidon_rounds, permutation}
+use Rattle.ark_groups.specs.Field.{dot_product}
+use Rattle.ark_sponge.specs.Permutation.{sums, front_images, matrix_product, poseidon_round, poseidon_rounds, permutation}
 
 -- what f reads of the element at i
 pub read : {F : Type 0} (f : F → ℕ) (xs : List F) (i : ℕ) (x : F) → i < length xs → x ≡ get_or xs i x → f x ≡ get_or (map f xs) i 0
@@ -48,14 +48,6 @@ front_images-rest f zero xs = refl
 front_images-rest f (suc i) [] = refl
 front_images-rest f (suc i) (x ∷ xs) = front_images-rest f i xs
 
-pub dot_product-step : (ms xs : List ℕ) (j : ℕ) → dot_product (take (suc j) ms) xs ≡ dot_product (take j ms) xs + get_or ms j 0 * get_or xs j 0
-dot_product-step [] xs zero = omega arith
-dot_product-step [] xs (suc j) = omega arith
-dot_product-step (m ∷ ms) [] zero = omega arith
-dot_product-step (m ∷ ms) [] (suc j) = omega arith
-dot_product-step (m ∷ ms) (x ∷ xs) zero = omega arith
-dot_product-step (m ∷ ms) (x ∷ xs) (suc j) = let h = dot_product-step ms xs j in omega (arith, h)
-
 -- the steps, at elements of any type that f reads as numbers
 module _ {F : Type 0} (f : F → ℕ) (p : ℕ) where
   pub constant_added : (init s row : List F) (i : ℕ) (a b r : F) → length s ≡ length init → i < length init → i < length row
@@ -77,17 +69,6 @@ module _ {F : Type 0} (f : F → ℕ) (p : ℕ) where
       let old : f a ≡ get_or xs i 0 = read f s i a within is_a ∙ ap (λ t. get_or t i 0) so_far ∙ front_images-rest sbox i xs in
       map-set f s i r ∙ ap (λ t. set t i (f r)) so_far ∙ ap (λ n. set (front_images sbox i xs) i n) (is_r ∙ ap sbox old)
       ∙ front_images-step sbox i xs ∙ ap (λ n. front_images sbox n xs) (sym (add-one i))
-
-  pub product_added : (row s : List F) (j : ℕ) (m x t u v : F) → j < length row → j < length s
-      → f t ≡ dot_product (take j (map f row)) (map f s) % p → m ≡ get_or row j m → x ≡ get_or s j x → f u ≡ (f m * f x) % p → f v ≡ (f t + f u) % p
-      → f v ≡ dot_product (take (j + 1) (map f row)) (map f s) % p
-  product_added row s j m x t u v in_row within so_far is_m is_x is_u is_v =
-      let ms = map f row in
-      let xs = map f s in
-      let d = dot_product (take j ms) xs in
-      is_v ∙ ap (λ n. (n + f u) % p) so_far ∙ ap (λ n. (d % p + n) % p) is_u ∙ mod-add-mod d p _ ∙ add-mod-mod d (f m * f x) p
-      ∙ ap (λ n. (d + n * f x) % p) (read f row j m in_row is_m) ∙ ap (λ n. (d + get_or ms j 0 * n) % p) (read f s j x within is_x)
-      ∙ ap (λ n. n % p) (sym (dot_product-step ms xs j)) ∙ ap (λ n. dot_product (take n ms) xs % p) (sym (add-one j))
 
   pub product_written : (rows : List (List ℕ)) (out : List F) (xs r : List ℕ) (i : ℕ) (v : F) → i < length rows → i < length out
       → map f (take i out) ≡ matrix_product p (take i rows) xs → r ≡ get_or rows i r → f v ≡ dot_product r xs % p

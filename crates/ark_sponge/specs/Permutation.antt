@@ -1,9 +1,10 @@
 -- The permutation of Poseidon, over lists of numbers modulo p.
-use Rattle.std.specs.Prelude.{ℕ, zero, suc, ◌+◌, ◌*◌, ◌/◌, ◌%◌, ◌==◌, nat_lt, Bool, ◌&&◌, if◌then◌else◌, List, [], ◌∷◌, length, map, fold, take, drop, slice_range, Ok, Err}
+use Rattle.std.specs.Prelude.{ℕ, zero, suc, ◌+◌, ◌/◌, ◌%◌, ◌==◌, nat_lt, Bool, ◌&&◌, if◌then◌else◌, List, [], ◌∷◌, length, map, fold, take, drop, slice_range, Ok, Err}
 use Rattle.std.specs.List.{list_all}
 use Rattle.ark_base.specs.declared.error.Error.TheVariants.{GenericError}
 use Rattle.ark_base.specs.declared.error.Refusal.TheVariants.{FieldTooSmall, ZeroRate, ParameterShape}
 use Rattle.ark_base.specs.Outcome.{Outcome}
+use Rattle.ark_groups.specs.Field.{dot_product}
 
 -- What a sponge is set up with, by its numbers: the counts of rounds, the exponent of the S-box, the constants, and how a
 -- state is parted into capacity and rate.
@@ -33,12 +34,6 @@ abbrev pub front_images : (ℕ → ℕ) → ℕ → List ℕ → List ℕ
 front_images sbox zero xs = xs
 front_images sbox (suc n) [] = []
 front_images sbox (suc n) (x ∷ xs) = sbox x ∷ front_images sbox n xs
-
--- the sum over j of number j of a row times number j of a list
-abbrev pub dot_product : List ℕ → List ℕ → ℕ
-dot_product [] xs = 0
-dot_product (m ∷ row) [] = 0
-dot_product (m ∷ row) (x ∷ xs) = m * x + dot_product row xs
 
 -- the matrix times the numbers, modulo p
 abbrev pub matrix_product : ℕ → List (List ℕ) → List ℕ → List ℕ

@@ -1,16 +1,18 @@
 -- The laws of the field of the numbers below a modulus.
 use Rattle.std.proofs.Common.{◌≡◌, ℕ, zero, suc, ◌+◌, ◌*◌, ◌^◌, ◌<◌, ◌≤◌, ◌==◌, ◌↔◌, List, [], ◌∷◌, get_or, length}
-use Rattle.std.proofs.Common.{refl, sym, ap, ◌∙◌, arith, lit<}
+use Rattle.std.proofs.Common.{Ok, Err, refl, sym, ap, ◌∙◌, arith, lit<}
 use Rattle.std.proofs.Math.Nat.{pow-le-pow_right, pow-suc}
 use Rattle.std.proofs.lemmas.Nat.{pow-add}
 use Rattle.std.proofs.lemmas.Bool.Decides.{Decides-eqb}
 use Rattle.std.specs.Bool.{Decides}
 use Rattle.std.specs.Coded.{le_prop}
 use mathlib.Core.HLevel.{is_prop→PathP}
-use Rattle.ark_base.specs.Reading.{IsCanonical}
+use Rattle.ark_base.specs.Reading.{Reading, IsCanonical}
+use Rattle.ark_base.specs.Spelling.{made_at}
+use Rattle.ark_base.specs.Outcome.{◌>>=◌}
 use Rattle.ark_base.specs.Digits.{number_of_bytes, bytes_of_number, IsBelow, below_at, bytes_for}
 use Rattle.ark_base.specs.Laws.Digits.{below_laws, length-bytes_of_number, number_of_bytes-bytes_of_number}
-use Rattle.ark_groups.specs.Field.{IsField, IsModulus}
+use Rattle.ark_groups.specs.Field.{IsField, IsModulus, ReadsNumbers}
 use Rattle.ark_groups.specs.Laws.Field.{at_least_two_bits}
 use Rattle.ark_groups.specs.declared.ff.modulus.Modulus.{Ghosts}
 use Rattle.ark_groups.specs.declared.ff.fp.Fp.{Fp}
@@ -70,6 +72,21 @@ number-alone p bits laws m n below_m below_n e =
     sym (number_of_bytes-bytes_of_number len m (omega (arith, all)))
     ∙ ap number_of_bytes e
     ∙ number_of_bytes-bytes_of_number len n (omega (arith, all))
+
+-- what is read as it is
+made_as_read : {V : Type 0} (reads : List ℕ → Reading V) (bytes : List ℕ)
+    → made_at (λ v. v) reads bytes ≡ reads bytes
+unfolding made_at
+made_as_read {V} reads bytes = by_reading (reads bytes)
+  where
+    by_reading : (r : Reading V) → (r >>= λ v. Ok (v.0, v.1)) ≡ r
+    by_reading (Ok v) = refl
+    by_reading (Err fault) = refl
+
+pub fp_reads_numbers : {M : Type 0} {g : Ghosts M}
+    → ReadsNumbers g.P g.BITS (λ (x : Fp M g). x.value) (below_at g.P (bytes_for g.BITS)) (λ (x : Fp M g). x.value)
+fp_reads_numbers {M} {g} =
+    record { number = λ n. n; of_view = λ x. refl; reading = made_as_read (below_at g.P (bytes_for g.BITS)) }
 
 -- ---- elements as digests: lists of one number
 

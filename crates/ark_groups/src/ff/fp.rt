@@ -3,7 +3,7 @@
 ghost use Rattle.std.specs.Prelude.{◌≡◌, ◌<◌, ⊤};
 
 use crate::ff::modulus::byte_len;
-use crate::ff::product::{product, remainder};
+use crate::ff::product::{product, product_added, reduced_sum, remainder};
 use crate::ff::{Modulus, PrimeField, UniformRand};
 use ark_base::serialize::number_of;
 use rand::{Rng, RngExt};
@@ -73,7 +73,7 @@ impl<M: Modulus> Fp<M> {
 }
 
 impl<M: Modulus> PrimeField for Fp<M> {
-    ghost use Rattle.ark_groups.specs.Laws.Fp.{fp_laws, fp_equal_if_same};
+    ghost use Rattle.ark_groups.specs.Laws.Fp.{fp_laws, fp_equal_if_same, fp_reads_numbers};
     ghost use Rattle.std.specs.Prelude.{refl};
 
     ghost MODULUS = { M.P };
@@ -83,6 +83,8 @@ impl<M: Modulus> PrimeField for Fp<M> {
     ghost MODULUS_BIT_SIZE = { M.BITS };
 
     const MODULUS_BIT_SIZE: u32 = M::BITS;
+
+    ghost modulus_laws = { M.laws };
 
     ghost value = { λ x. x.value };
 
@@ -123,6 +125,14 @@ impl<M: Modulus> PrimeField for Fp<M> {
         Fp::reduced(product::<M>(self.value, other.value))
     }
 
+    fn sum_of_products(xs: &[Fp<M>], ys: &[Fp<M>]) -> Fp<M> {
+        let mut sum = 0;
+        for (i, x) in xs.iter().enumerate() {
+            sum = product_added::<M>(sum, x.value, ys[i].value);
+        }
+        Fp::reduced(reduced_sum::<M>(sum))
+    }
+
     fn double(self) -> Fp<M> {
         PrimeField::add(self, self)
     }
@@ -153,8 +163,6 @@ impl<M: Modulus> PrimeField for Fp<M> {
         }
     }
 
-    ghost modulus_laws = { M.laws };
-
     ghost laws = { fp_laws };
 
     ghost equal_if_same = { fp_equal_if_same };
@@ -172,4 +180,6 @@ impl<M: Modulus> PrimeField for Fp<M> {
     ghost spelling_is = { λ x. refl };
 
     ghost reading_refuses = { λ bytes fault refused. refused };
+
+    ghost reads_numbers = { fp_reads_numbers };
 }

@@ -1,6 +1,6 @@
 //! Products and remainders, by the fastest way that the modulus allows.
 
-ghost use Rattle.std.specs.Prelude.{◌≡◌, ◌*◌, ◌%◌, ◌<◌, ◌^◌};
+ghost use Rattle.std.specs.Prelude.{◌≡◌, ◌+◌, ◌*◌, ◌%◌, ◌<◌, ◌^◌};
 ghost use Rattle.ark_base.specs.Digits.{number_of_bytes};
 
 use crate::ff::Modulus;
@@ -21,6 +21,37 @@ pub fn product<M: Modulus>(a: u64, b: u64) -> u64
         folded(a as u128 * b as u128)
     } else {
         (a as u128 * b as u128 % M::P as u128) as u64
+    }
+}
+
+/// A sum with the product of two numbers below the modulus. It is reduced only where it outgrows its bound.
+pub fn product_added<M: Modulus>(sum: u128, a: u64, b: u64) -> u128
+    requires first { a < M.P }
+    requires second { b < M.P }
+    requires sum { sum < 2 ^ 127 }
+    ensures same { result % M.P ≡ (sum + a * b) % M.P }
+    ensures bound { result < 2 ^ 127 }
+{
+    if M::P < 1 << 63 {
+        let more = sum + a as u128 * b as u128;
+        if more < 1 << 127 {
+            more
+        } else {
+            more % M::P as u128
+        }
+    } else {
+        sum % M::P as u128 + product::<M>(a, b) as u128
+    }
+}
+
+/// A sum modulo the modulus, by the fastest way that it allows.
+pub fn reduced_sum<M: Modulus>(sum: u128) -> u64
+    ensures { result ≡ sum % M.P }
+{
+    if M::P == MERSENNE {
+        folded(sum % (1 << 61) + (sum >> 61))
+    } else {
+        (sum % M::P as u128) as u64
     }
 }
 

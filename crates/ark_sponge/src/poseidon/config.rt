@@ -4,6 +4,8 @@ ghost use Rattle.std.specs.Prelude.{◌≡◌, ◌+◌, ◌^◌, ◌<◌, ◌≤
 ghost use Rattle.ark_base.specs.Outcome.{AnswersBy};
 ghost use Rattle.ark_sponge.specs.Permutation.{Parameters, width, permutation, is_matrix, lawful_parameters};
 
+mod bytes;
+
 use crate::poseidon::permutation::{SBox, apply_rounds};
 use ark_base::error::{Error, Refusal};
 use ark_base::serialize::Duplicate;

@@ -1,7 +1,7 @@
 //! The rounds of the permutation, in place.
 
 ghost use Rattle.std.specs.Prelude.{◌≡◌, ℕ, ◌%◌, ◌≤◌, List, map, length, All, vec_len};
-ghost use Rattle.ark_sponge.specs.Permutation.{sums, front_images, dot_product, matrix_product, poseidon_rounds};
+ghost use Rattle.ark_sponge.specs.Permutation.{sums, front_images, matrix_product, poseidon_rounds};
 
 use ark_groups::ff::PrimeField;
 
@@ -34,19 +34,6 @@ fn apply_sbox<F: PrimeField, S: SBox<F>>(state: &mut [F], alpha: u64, count: usi
     }
 }
 
-// The sum of the products of a row and a state.
-fn dot_product<F: PrimeField>(row: &[F], state: &[F]) -> F
-    requires { length row.now ≡ length state.now }
-    ensures { F.value result
-        ≡ dot_product (map F.value row.now) (map F.value state.now) % F.MODULUS }
-{
-    let mut sum = F::zero();
-    for (j, m) in row.iter().enumerate() {
-        sum = sum.add(m.mul(state[j]));
-    }
-    sum
-}
-
 // The matrix times the state.
 fn multiply<F: PrimeField>(mds: &[Vec<F>], state: &[F], product: &mut [F])
     requires rows { length mds.now ≡ length product.old }
@@ -56,7 +43,7 @@ fn multiply<F: PrimeField>(mds: &[Vec<F>], state: &[F], product: &mut [F])
         (map F.value state.now) }
 {
     for (i, row) in mds.iter().enumerate() {
-        product[i] = dot_product(row, state);
+        product[i] = F::sum_of_products(row, state);
     }
 }
 

@@ -11,4 +11,4 @@ loop-i-preserved g c =
     let row = c.deref.result.now in
     let in_rows : i < length rows = omega arith in
     product_written f.value f.MODULUS (map (λ row. map f.value row.items) rows) c.loop-i.product (map f.value c.args.state.now) (map f.value row) i _ (rw length-map in_rows) (omega arith)
-    c.loop-i.invariant (row_read f.value f.MODULUS (λ v. v.items) rows i _ row in_rows c.index-mds-i.is c.deref.ensures.value) c.dot_product.ensures
+    c.loop-i.invariant (row_read f.value f.MODULUS (λ v. v.items) rows i _ row in_rows c.index-mds-i.is c.deref.ensures.value) c.sum_of_products.ensures

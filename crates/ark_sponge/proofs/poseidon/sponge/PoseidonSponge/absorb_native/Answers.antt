@@ -12,7 +12,7 @@ returns-then-not-is_empty-clause-cut g c =
     let q = i.parameters in
     let r = c.rate-known.ensures in
     let pos : 0 < q.rate = omega arith in
-    let p_pos : 0 < f.MODULUS = omega (arith, laws.modulus_laws.at_least_two) in
+    let p_pos : 0 < f.MODULUS = omega (arith, f.modulus_laws.at_least_two) in
     let pi = permutation f.MODULUS g.S.SBox.image q in
     rw (← c.self.view_is)
     (after_absorbing-cut f.MODULUS g.S.SBox.image (record { parameters = q; state = map f.value i.state.items; mode = i.mode }) pos p_pos r.rows

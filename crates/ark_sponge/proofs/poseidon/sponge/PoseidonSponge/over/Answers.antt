@@ -1,12 +1,9 @@
-use Rattle.std.proofs.Common.{◌≡◌, ℕ, ◌+◌, zero, suc, map, replicate, List, ◌∷◌, sym, ap, ◌∙◌, refl, arith, Ok}
+use Rattle.std.proofs.Common.{◌≡◌, ℕ, ◌+◌, map, replicate, List, sym, ap, ◌∙◌, arith, Ok}
 use Rattle.ark_sponge.specs.Sponge.{Sponge}
 use Rattle.ark_base.specs.Outcome.{Outcome}
 use Rattle.ark_sponge.specs.declared.mode.DuplexSpongeMode.TheVariants.{Absorbing}
+use Rattle.ark_sponge.proofs.Zeros.{all_zero}
 use Rattle.ark_sponge.proofs.poseidon.sponge.PoseidonSponge.over.Goals as goal
-
-all_zero : {F : Type 0} (f : F → ℕ) (n : ℕ) (z : F) → f z ≡ 0 → map f (replicate n z) ≡ replicate n 0
-all_zero f zero z e = refl
-all_zero f (suc n) z e = ap (λ x. x ∷ map f (replicate n z)) e ∙ ap (λ t. 0 ∷ t) (all_zero f n z e)
 
 pub returns : goal.returns
 returns g c =

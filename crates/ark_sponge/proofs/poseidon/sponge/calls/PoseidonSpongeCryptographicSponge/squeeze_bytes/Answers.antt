@@ -6,8 +6,7 @@ use Rattle.ark_sponge.proofs.poseidon.sponge.calls.PoseidonSpongeCryptographicSp
 
 pub spread_bytes-requires-clause-size : goal.spread_bytes-requires-clause-size
 spread_bytes-requires-clause-size g c =
-    let f = g.met.F.PrimeField in
-    let most : c.MODULUS_BIT_SIZE.result ≤ 64 = omega (arith, c.MODULUS_BIT_SIZE.ensures, at_most_64_bits g.F.PrimeField.MODULUS g.F.PrimeField.MODULUS_BIT_SIZE f.modulus_laws) in
+    let most : c.MODULUS_BIT_SIZE.result ≤ 64 = omega (arith, c.MODULUS_BIT_SIZE.ensures, at_most_64_bits g.F.PrimeField.MODULUS g.F.PrimeField.MODULUS_BIT_SIZE g.F.PrimeField.modulus_laws) in
     omega (arith, most)
 
 pub spread_bytes-requires-clause-enough : goal.spread_bytes-requires-clause-enough

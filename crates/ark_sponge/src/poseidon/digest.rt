@@ -1,0 +1,63 @@
+//! The digest of a list.
+
+ghost use Rattle.std.specs.Prelude.{◌≡◌, ℕ, List, ◌∷◌, [], map, replicate, vec_len, IfOk, Ok};
+ghost use Rattle.ark_base.specs.Outcome.{AnswersBy};
+ghost use Rattle.ark_sponge.specs.Sponge.{new_sponge, poseidon_digest, AbsorbsAsOne};
+
+use crate::poseidon::config::PoseidonConfig;
+use crate::poseidon::duplex::{absorb_blocks, squeeze_blocks};
+use crate::poseidon::permutation::SBox;
+use ark_base::error::Error;
+use ark_groups::ff::PrimeField;
+use std::alloc::Global;
+
+// Elements that are zero.
+fn zeros<F: PrimeField>(alloc: Global, count: usize) -> Result<Vec<F>, Error>
+    ensures numbers { AnswersBy (λ list. map F.value list.items) (Ok (replicate count 0)) result }
+    ensures count { IfOk result (λ list. vec_len list ≡ count) }
+{
+    Ok(vec![in alloc; F::zero(); count]?)
+}
+
+// As `digest`.
+fn digest_of<F: PrimeField, S: SBox<F>>(
+    alloc: Global,
+    parameters: &PoseidonConfig<F>,
+    elements: &[F],
+) -> Result<F, Error>
+    ensures { let digest = poseidon_digest F.MODULUS S.image parameters.now
+        (map F.value elements.now) in
+        AnswersBy (λ x. F.value x ∷ []) (Ok digest) result }
+{
+    let width = parameters.rate() + parameters.capacity();
+    let mut state = zeros::<F>(alloc, width)?;
+    let mut scratch = zeros::<F>(alloc, width)?;
+    if !elements.is_empty() {
+        absorb_blocks::<F, S>(parameters, &mut state, &mut scratch, 0, elements);
+    }
+    parameters.permute::<S>(&mut state, &mut scratch);
+    let mut given = [F::zero()];
+    squeeze_blocks::<F, S>(parameters, &mut state, &mut scratch, 0, &mut given);
+    Ok(given[0])
+}
+
+/// The element that a new sponge gives once it has absorbed elements. No parameters are copied.
+///
+/// The only refusal is `OutOfMemory`.
+pub fn digest<F: PrimeField, S: SBox<F>>(
+    alloc: Global,
+    parameters: &PoseidonConfig<F>,
+    elements: &[F],
+) -> Result<F, Error>
+    ensures digest { let digest = poseidon_digest F.MODULUS S.image parameters.now
+        (map F.value elements.now) in
+        AnswersBy (λ x. F.value x ∷ []) (Ok digest) result }
+
+    // What a new sponge absorbs in two calls it absorbs as in one.
+    ensures cut { (numbers : List ℕ)
+        → AbsorbsAsOne F.MODULUS S.image (new_sponge parameters.now) numbers }
+{
+    // The call tells the proof that the rate is not 0.
+    let _known = parameters.rate();
+    digest_of::<F, S>(alloc, parameters, elements)
+}
