@@ -91,5 +91,10 @@ pub mod merkle_tree {
     };
 }
 
+/// Configurations of trees, ready for use.
+pub mod trees {
+    pub use ark_trees::{ArraySha256, LogSha256, Sha256Arrays, Sha256Log, Sha256Strings};
+}
+
 #[cfg(test)]
 mod tests;

@@ -4,7 +4,7 @@ use Rattle.std.specs.List.{All, AllByRecursion, list_all}
 use Rattle.std.specs.List.Sorted.{IsStrictlyIncreasing}
 use Rattle.std.proofs.Math.Seq.{drop-append_seam}
 use Rattle.std.proofs.lemmas.Bool.{lt-ltb, eq-eqb, eqb-true}
-use Rattle.std.proofs.lemmas.List.{drop_more, drop_all, length-map, length-take-le}
+use Rattle.std.proofs.lemmas.List.{drop_more, drop_all, length-append, length-map, length-take-le}
 use Rattle.ark_merkle.specs.MultiPath.{MultiWay, path_length, decoded_path, decoded_paths_from, decoded_paths}
 use Rattle.ark_merkle.specs.MultiPathStrict.{AreInOrder, are_rising, are_longest, is_strict}
 use Rattle.ark_merkle.specs.MultiProof.{shared_count, prefixes_of, suffixes_of, multi_path_of}
@@ -23,11 +23,12 @@ next-is : {X : Type 0} (xs : List X) (i : ℕ) (d : X) → i < length xs → dro
 next-is xs i d below = drop_more xs i d below ∙ ap (λ (n : ℕ). get_or xs i d ∷ drop n xs) (add-one i)
 
 -- the paths from place i on, with the parts that are theirs
-record IsMadeOf (m : MultiWay) (i : ℕ) (before : List Digest) : Type 0 where
-  ways : List Way
-  decoded : decoded_paths_from m i before (drop i m.indexes) ≡ map Some ways
-  parts : HasParts m i before ways
-  indexes : drop i m.indexes ≡ map (λ way. way.index) ways
+pub record IsMadeOf (m : MultiWay) (i : ℕ) (before : List Digest) : Type 0 where
+  pub ways : List Way
+  pub decoded : decoded_paths_from m i before (drop i m.indexes) ≡ map Some ways
+  pub parts : HasParts m i before ways
+  pub indexes : drop i m.indexes ≡ map (λ way. way.index) ways
+  pub long : AllByRecursion (λ way. length way.above ≡ path_length m) ways
 
 module _ (m : MultiWay) (siblings : length m.siblings ≡ length m.indexes) (prefixes : length m.prefixes ≡ length m.indexes) (suffixes : length m.suffixes ≡ length m.indexes) where
   module _ (i : ℕ) (before : List Digest) (below : i < length m.indexes) where
@@ -55,6 +56,7 @@ module _ (m : MultiWay) (siblings : length m.siblings ≡ length m.indexes) (pre
             suffixes = next-is m.suffixes i [] (omega (arith, suffixes)) ∙ ap (λ (ds : List Digest). ds ∷ drop (suc i) m.suffixes) (others ∙ ap (λ (n : ℕ). drop n here.above) longest) ∙ ap (λ (ds : List (List Digest)). drop (shared_count before here.above) here.above ∷ ds) rest.parts.suffixes;
           };
           indexes = next-is m.indexes i 0 below ∙ ap (λ (ns : List ℕ). here.index ∷ ns) rest.indexes;
+          long = (omega (arith, length-append (take prefix before) suffix, length-take-le prefix before within, eqb-true (prefix + length suffix) (path_length m) sums), rest.long);
         }
 
   IsMadeOf-left : (left i : ℕ) (before : List Digest) → i + left ≡ length m.indexes → longest_left m i before ≡ true → IsMadeOf m i before
@@ -65,6 +67,7 @@ module _ (m : MultiWay) (siblings : length m.siblings ≡ length m.indexes) (pre
         decoded = rw none refl;
         parts = record { siblings = drop_all i m.siblings (omega (arith, siblings)); prefixes = drop_all i m.prefixes (omega (arith, prefixes)); suffixes = drop_all i m.suffixes (omega (arith, suffixes)) };
         indexes = none;
+        long = tt;
       }
   IsMadeOf-left (suc left) i before all holds =
       let prefix = get_or m.prefixes i 0 in
@@ -81,7 +84,7 @@ tests m =
     nat_lt 0 (length m.indexes) && nat_eq (length m.siblings) (length m.indexes) && nat_eq (length m.prefixes) (length m.indexes) && nat_eq (length m.suffixes) (length m.indexes)
     && are_rising m.indexes && list_all (λ index. nat_lt index (2 ^ (path_length m + 1))) m.indexes
 
-made_of : (m : MultiWay) → is_strict m ≡ true → IsMadeOf m 0 []
+pub made_of : (m : MultiWay) → is_strict m ≡ true → IsMadeOf m 0 []
 made_of m strict =
     let longest = both_hold (tests m) (longest_left m 0 []) strict in
     let below = both_hold _ (list_all (λ index. nat_lt index (2 ^ (path_length m + 1))) m.indexes) longest.0 in
@@ -90,6 +93,10 @@ made_of m strict =
     let prefixes = both_hold _ (nat_eq (length m.prefixes) (length m.indexes)) suffixes.0 in
     let siblings = both_hold _ (nat_eq (length m.siblings) (length m.indexes)) prefixes.0 in
     IsMadeOf-left m (eqb-true _ _ siblings.1) (eqb-true _ _ prefixes.1) (eqb-true _ _ suffixes.1) (length m.indexes) 0 [] (omega arith) longest.1
+
+-- its indexes are inside the tree of its height
+pub within_tree : (m : MultiWay) → is_strict m ≡ true → list_all (λ index. nat_lt index (2 ^ (path_length m + 1))) m.indexes ≡ true
+within_tree m strict = (both_hold _ (list_all (λ index. nat_lt index (2 ^ (path_length m + 1))) m.indexes) (both_hold (tests m) (longest_left m 0 []) strict).0).1
 
 is_of_its_paths : (m : MultiWay) (made : IsMadeOf m 0 []) → m ≡ multi_path_of made.ways
 is_of_its_paths m made = λ i. record { siblings = made.parts.siblings i; prefixes = made.parts.prefixes i; suffixes = made.parts.suffixes i; indexes = made.indexes i }

@@ -1,5 +1,6 @@
 -- What whoever has a root alone makes of a stranger's bytes.
-use Rattle.std.specs.Prelude.{◌≡◌, ◌<◌, ℕ, ◌-◌, ◌==◌, ◌&&◌, nat_lt, Bool, List, [], length, if◌then◌else◌, Ok, Err}
+use Rattle.std.specs.Prelude.{◌≡◌, ◌<◌, ℕ, ◌-◌, ◌==◌, ◌&&◌, nat_lt, Bool, Some, List, [], ◌∷◌, length, map, if◌then◌else◌, Ok, Err}
+use Rattle.std.specs.Str.{bytes_eq}
 use Rattle.ark_base.specs.declared.error.Error.{Error}
 use Rattle.ark_base.specs.declared.error.Error.TheVariants.{IncorrectInputLength, SerializationError as OfBytes}
 use Rattle.ark_base.specs.declared.error.SerializationError.TheVariants.{InvalidData}
@@ -7,6 +8,8 @@ use Rattle.ark_base.specs.Outcome.{Outcome, ◌>>=◌}
 use Rattle.ark_base.specs.Reading.{Reading, reading_outcome}
 use Rattle.ark_merkle.specs.Bind.{StandsOrCollides}
 use Rattle.ark_merkle.specs.Index.{log2, is_tree_size}
+use Rattle.ark_merkle.specs.MultiPath.{MultiWay, path_length, decoded_paths, multi_verdict}
+use Rattle.ark_merkle.specs.MultiPathStrict.{strict_reading}
 use Rattle.ark_merkle.specs.Pair.{Digest, Hashes}
 use Rattle.ark_merkle.specs.Path.{Way, verdict}
 use Rattle.ark_merkle.specs.Root.{root}
@@ -43,14 +46,54 @@ received_verdict hashes root_given size index leaf reading = do
   way ← received_path size index reading
   verdict hashes.pair (hashes.leaf leaf) way root_given
 
--- In every tree of these hashes with this root and size the leaf stands at the index, or pairs of a path for it and of
--- the tree collide.
+-- The index is below the size, and in every tree of these hashes with this root and size the leaf stands at it, or pairs
+-- of a path for it and of the tree collide.
 abbrev pub StandsAt : {A : Type 0} → Hashes A → Digest → ℕ → ℕ → A → Way → Type 0
 StandsAt hashes root_given size index leaf way =
-    (digests : List Digest) → length digests ≡ size → root hashes.pair digests ≡ Ok root_given
-    → StandsOrCollides (record { hashes = hashes; leaves = digests }) index leaf way
+    (index < size) × ((digests : List Digest) → length digests ≡ size → root hashes.pair digests ≡ Ok root_given
+    → StandsOrCollides (record { hashes = hashes; leaves = digests }) index leaf way)
 
--- A path that was read alone shows so.
+-- The bytes are those of a path that shows so.
 abbrev pub ShowsLeaf : {A : Type 0} → Hashes A → Digest → ℕ → ℕ → A → Reading Way → Type 0
 ShowsLeaf hashes root_given size index leaf reading =
-    (way : Way) × (reading ≡ Ok (way, [])) × (index < size) × StandsAt hashes root_given size index leaf way
+    (way : Way) × (reading ≡ Ok (way, [])) × StandsAt hashes root_given size index leaf way
+
+-- ---- strict multi-proofs
+
+-- the multi-proof of some indexes in a tree of a size, as it was read, or its refusal
+abbrev pub fit_multi_path : ℕ → List ℕ → MultiWay × List ℕ → Outcome MultiWay
+fit_multi_path size indexes read = do
+  _ ← is_fit size read.1 (path_length read.0) (bytes_eq read.0.indexes indexes)
+  Ok read.0
+
+-- such a multi-proof from a reading: the refusal of the size comes first, then the first fault of the bytes, then that it
+-- is not strict
+abbrev pub received_multi_path : ℕ → List ℕ → Reading MultiWay → Outcome MultiWay
+received_multi_path size indexes reading = do
+  _ ← provided (is_tree_size size) (IncorrectInputLength size)
+  read ← reading_outcome (strict_reading reading)
+  fit_multi_path size indexes read
+
+-- what such a multi-proof says of leaves: its refusal, else what its decoded paths say
+abbrev pub received_multi_verdict : {A : Type 0} → Hashes A → Digest → ℕ → List ℕ → List A → Reading MultiWay
+    → Outcome Bool
+received_multi_verdict hashes root_given size indexes leaves reading = do
+  proof ← received_multi_path size indexes reading
+  multi_verdict hashes.pair (map hashes.leaf leaves) proof root_given
+
+-- Each leaf stands at the index of its path, or pairs collide.
+abbrev pub StandInTurn : {A : Type 0} → Hashes A → Digest → ℕ → List A → List Way → Type 0
+StandInTurn hashes root_given size leaves [] = Unit {0}
+StandInTurn hashes root_given size [] (way ∷ ways) = ⊥
+StandInTurn hashes root_given size (leaf ∷ leaves) (way ∷ ways) =
+    StandsAt hashes root_given size way.index leaf way × StandInTurn hashes root_given size leaves ways
+
+-- The bytes are those of a strict multi-proof whose paths, one for each of these indexes, show so.
+pub record ShowsLeaves {A : Type 0} (hashes : Hashes A) (root_given : Digest) (size : ℕ) (indexes : List ℕ)
+    (leaves : List A) (reading : Reading MultiWay) : Type 0 where
+  pub proof : MultiWay
+  pub read : strict_reading reading ≡ Ok (proof, [])
+  pub ways : List Way
+  pub decoded : decoded_paths proof ≡ map Some ways
+  pub places : map (λ way. way.index) ways ≡ indexes
+  pub stand : StandInTurn hashes root_given size leaves ways

@@ -1,12 +1,14 @@
 //! Proofs that come as bytes, in the hands of whoever has a root and the count of leaves alone.
 
-ghost use Rattle.std.specs.Prelude.{◌≡◌, ◌==◌, ◌&&◌, nat_lt, true, Bool, IfOk};
+ghost use Rattle.std.specs.Prelude.{◌≡◌, ◌==◌, ◌&&◌, nat_lt, true, Bool, ℕ, [], length, map, get_or, IfOk};
+ghost use Rattle.std.specs.Str.{bytes_eq};
 ghost use Rattle.ark_base.specs.Outcome.{Answers, AnswersBy};
 ghost use Rattle.ark_merkle.specs.Index.{IsTreeSize};
-ghost use Rattle.ark_merkle.specs.Received.{is_fit, received_path, received_verdict, ShowsLeaf};
+ghost use Rattle.ark_merkle.specs.Received.{is_fit, received_multi_path, received_multi_verdict, received_path, received_verdict, ShowsLeaf, ShowsLeaves};
 
 use crate::config::{LeafParam, TwoToOneParam};
 use crate::index::{is_tree_size, levels_between};
+use crate::multi_path::MultiPath;
 use crate::path::Path;
 use crate::views::Values;
 use ark_base::error::{Error, SerializationError};
@@ -87,5 +89,73 @@ impl<P: Values> Path<P> {
     {
         let path = Path::<P>::read_at(alloc, bytes, size, index)?;
         path.verify(alloc, leaf_parameters, pair_parameters, root, leaf)
+    }
+}
+
+// How many items the first of some lists has; none where there is no list.
+fn first_length<D>(lists: &[Vec<D>]) -> usize
+    ensures { result ≡ length (get_or (map (λ list. list.items) lists.now) 0 []) }
+{
+    match lists.first() {
+        Some(list) => list.len(),
+        None => 0,
+    }
+}
+
+impl<P: Values> MultiPath<P> {
+    /// The strict multi-proof of some indexes in a tree of `size` leaves, which the bytes spell, all of them: as
+    /// `Path::read_at`, of many indexes at once, which rise.
+    ///
+    /// Refusals, the first that applies: `IncorrectInputLength(size)` where the size is no power of two above one; those of
+    /// `read_strict`; `InvalidData` where bytes are left; `IncorrectInputLength` with the length of the first suffix where it is
+    /// not the logarithm of the size less one; `InvalidData` where the proof's own indexes are others; `OutOfMemory`.
+    pub fn read_strict_at(
+        alloc: Global,
+        bytes: &[u8],
+        size: usize,
+        indexes: &[usize],
+    ) -> Result<MultiPath<P>, Error>
+        ensures { let reading = P.multi_path_reading bytes.now in
+            AnswersBy P.multi_way (received_multi_path size indexes.now reading) result }
+    {
+        if !is_tree_size(size) {
+            return Err(Error::IncorrectInputLength(size));
+        }
+        let (proof, used) = MultiPath::<P>::read_strict(alloc, bytes)?;
+        let above = first_length(&proof.auth_paths_suffixes);
+        let is_asked = proof.leaf_indexes.as_slice() == indexes;
+        is_fit(size, rest_of(bytes, used), above, is_asked)?;
+        Ok(proof)
+    }
+
+    /// Whether the bytes of a strict multi-proof show leaves at these indexes, in their order, to whoever has the root of a
+    /// tree of `size` leaves alone.
+    ///
+    /// Refusals: those of `read_strict_at`, then those of `verify`. Leaves past the last index are ignored.
+    pub fn verify_bytes(
+        alloc: Global,
+        leaf_parameters: &LeafParam<P>,
+        pair_parameters: &TwoToOneParam<P>,
+        root: &P::InnerDigest,
+        size: usize,
+        indexes: &[usize],
+        bytes: &[u8],
+        leaves: &[P::Leaf],
+    ) -> Result<bool, Error>
+        ensures answer { let hashes = P.hashes leaf_parameters.now pair_parameters.now in
+            let given = P.InnerDigest.numbers root.now in
+            let reading = P.multi_path_reading bytes.now in
+            let verdict = received_multi_verdict hashes given size in
+            Answers (verdict indexes.now leaves.now reading) result }
+
+        // Each leaf's digest stands at its index, as in `Path::verify_bytes`.
+        ensures bound { let hashes = P.hashes leaf_parameters.now pair_parameters.now in
+            let given = P.InnerDigest.numbers root.now in
+            let reading = P.multi_path_reading bytes.now in
+            IfOk result (λ accepted. accepted ≡ true
+            → ShowsLeaves hashes given size indexes.now leaves.now reading) }
+    {
+        let proof = MultiPath::<P>::read_strict_at(alloc, bytes, size, indexes)?;
+        proof.verify(alloc, leaf_parameters, pair_parameters, root, leaves.iter())
     }
 }

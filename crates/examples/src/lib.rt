@@ -1,0 +1,8 @@
+//! Examples of library use: each a few proved functions to copy.
+#![tactic(auto)]
+
+pub mod log;
+pub mod reveal;
+pub mod store;
+#[cfg(test)]
+mod tests;
