@@ -1,7 +1,8 @@
 //! The hash of a list.
 
-ghost use Rattle.std.specs.Prelude.{ℕ, List, ◌∷◌, [], map, Ok};
+ghost use Rattle.std.specs.Prelude.{◌≡◌, ℕ, List, ◌∷◌, [], map, Ok, Err};
 ghost use Rattle.ark_base.specs.Outcome.{AnswersBy};
+ghost use Rattle.ark_base.specs.declared.error.Refusal.TheVariants.{SetupNotAvailable};
 ghost use Rattle.ark_sponge.specs.Sponge.{poseidon_digest};
 ghost use Rattle.ark_poseidon.specs.Laws.{no_setup};
 
@@ -39,7 +40,9 @@ impl<F: PrimeField + DigestItem, S: SBox<F>> CRHScheme for CRH<F, S> {
     ghost is_made = { λ _ _. ⊥ };
 
     /// No parameters are made here: `SetupNotAvailable`.
-    fn setup<R: Rng>(_alloc: Global, _rng: &mut R) -> Result<PoseidonConfig<F>, Error> {
+    fn setup<R: Rng>(_alloc: Global, _rng: &mut R) -> Result<PoseidonConfig<F>, Error>
+        ensures { result ≡ Err (Error.GenericError SetupNotAvailable) }
+    {
         Err(Error::GenericError(Refusal::SetupNotAvailable))
     }
 

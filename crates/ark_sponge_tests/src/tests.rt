@@ -1,4 +1,5 @@
 mod calls;
+mod config_bytes;
 mod encodings;
 mod hand;
 mod poseidon;
