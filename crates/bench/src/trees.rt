@@ -1,70 +1,78 @@
 //! Works on trees over SHA-256, whose leaves have eight bytes each.
 
-use crate::sums::sum_of;
 use ark_crypto_primitives::Error;
-use ark_crypto_primitives::crh::sha256::Sha256;
 use ark_crypto_primitives::merkle_tree::{
-    Binding, Config, IdentityDigestConverter, MerkleTree, Path, is_tree_size,
+    Binding, Config, LeafParam, MerkleTree, Path, TwoToOneParam, is_tree_size,
 };
+use ark_crypto_primitives::serialize::{CanonicalSerialize, canonical_bytes};
 use std::alloc::Global;
 
-struct Sha;
-
-impl Config for Sha {
-    type Leaf = Vec<u8>;
-
-    type LeafDigest = Vec<u8>;
-
-    type LeafInnerDigestConverter = IdentityDigestConverter<Vec<u8>>;
-
-    type InnerDigest = Vec<u8>;
-
-    type LeafHash = Sha256;
-
-    type TwoToOneHash = Sha256;
-}
-
 /// Builds a tree of `size` leaves, `count` times.
-pub fn builds(alloc: Global, size: usize, count: u64) -> Result<u64, Error> {
+pub fn builds<P: Config<Leaf = Vec<u8>>>(
+    alloc: Global,
+    leaf: &LeafParam<P>,
+    pair: &TwoToOneParam<P>,
+    size: usize,
+    count: u64,
+) -> Result<u64, Error> {
     let leaves = leaves_of(alloc, size)?;
     let mut sum = 0;
     for _ in 0..count {
-        sum ^= sum_of(tree_over(alloc, &leaves)?.root());
+        sum ^= sum_of(alloc, tree_over::<P>(alloc, leaf, pair, &leaves)?.root())?;
     }
     Ok(sum)
 }
 
 /// Sets `count` leaves of such a tree.
-pub fn updates(alloc: Global, size: usize, count: u64) -> Result<u64, Error> {
-    let mut tree = tree_over(alloc, &leaves_of(alloc, size)?)?;
+pub fn updates<P: Config<Leaf = Vec<u8>>>(
+    alloc: Global,
+    leaf: &LeafParam<P>,
+    pair: &TwoToOneParam<P>,
+    size: usize,
+    count: u64,
+) -> Result<u64, Error> {
+    let mut tree = tree_over::<P>(alloc, leaf, pair, &leaves_of(alloc, size)?)?;
     for step in 0..count {
-        let leaf = leaf_of(alloc, step)?;
+        let item = leaf_of(alloc, step)?;
         let index = place(step, size);
         if index < tree.size() {
-            tree.update(alloc, index, &leaf)?;
+            tree.update(alloc, index, &item)?;
         }
     }
-    Ok(sum_of(tree.root()))
+    sum_of(alloc, tree.root())
 }
 
 /// Makes `count` proofs in such a tree.
-pub fn proofs(alloc: Global, size: usize, count: u64) -> Result<u64, Error> {
-    let tree = tree_over(alloc, &leaves_of(alloc, size)?)?;
+pub fn proofs<P: Config<Leaf = Vec<u8>>>(
+    alloc: Global,
+    leaf: &LeafParam<P>,
+    pair: &TwoToOneParam<P>,
+    size: usize,
+    count: u64,
+) -> Result<u64, Error> {
+    let tree = tree_over::<P>(alloc, leaf, pair, &leaves_of(alloc, size)?)?;
     let mut sum = 0;
     for step in 0..count {
-        sum ^= sum_of(&proof_of(alloc, &tree, place(step, size))?.leaf_sibling_hash);
+        let path = proof_of::<P>(alloc, &tree, place(step, size))?;
+        sum = path.auth_path.len() as u64 ^ sum;
     }
     Ok(sum)
 }
 
 /// Checks one proof of such a tree `count` times.
-pub fn verifications(alloc: Global, size: usize, count: u64) -> Result<u64, Error> {
-    let tree = tree_over(alloc, &leaves_of(alloc, size)?)?;
-    let path = proof_of(alloc, &tree, 1)?;
-    let leaf = leaf_of(alloc, 1)?;
+pub fn verifications<P: Config<Leaf = Vec<u8>>>(
+    alloc: Global,
+    leaf: &LeafParam<P>,
+    pair: &TwoToOneParam<P>,
+    size: usize,
+    count: u64,
+) -> Result<u64, Error> {
+    let tree = tree_over::<P>(alloc, leaf, pair, &leaves_of(alloc, size)?)?;
+    let path = proof_of::<P>(alloc, &tree, 1)?;
+    let item = leaf_of(alloc, 1)?;
     let mut accepted = 0u64;
     for _ in 0..count {
-        if path.verify(alloc, &(), &(), tree.root(), &leaf)? {
+        if path.verify(alloc, leaf, pair, tree.root(), &item)? {
             accepted = accepted.wrapping_add(1);
         }
     }
@@ -72,13 +80,19 @@ pub fn verifications(alloc: Global, size: usize, count: u64) -> Result<u64, Erro
 }
 
 /// Binds one leaf of such a tree `count` times.
-pub fn bindings(alloc: Global, size: usize, count: u64) -> Result<u64, Error> {
-    let tree = tree_over(alloc, &leaves_of(alloc, size)?)?;
-    let path = proof_of(alloc, &tree, 1)?;
-    let leaf = leaf_of(alloc, 1)?;
+pub fn bindings<P: Config<Leaf = Vec<u8>>>(
+    alloc: Global,
+    leaf: &LeafParam<P>,
+    pair: &TwoToOneParam<P>,
+    size: usize,
+    count: u64,
+) -> Result<u64, Error> {
+    let tree = tree_over::<P>(alloc, leaf, pair, &leaves_of(alloc, size)?)?;
+    let path = proof_of::<P>(alloc, &tree, 1)?;
+    let item = leaf_of(alloc, 1)?;
     let mut stands = 0u64;
     for _ in 0..count {
-        if tree.bind(alloc, &path, &leaf)? == Binding::Stands {
+        if tree.bind(alloc, &path, &item)? == Binding::Stands {
             stands = stands.wrapping_add(1);
         }
     }
@@ -97,14 +111,23 @@ fn leaves_of(alloc: Global, size: usize) -> Result<Vec<Vec<u8>>, Error> {
     Ok(leaves)
 }
 
-fn tree_over(alloc: Global, leaves: &[Vec<u8>]) -> Result<MerkleTree<Sha>, Error> {
+fn tree_over<P: Config<Leaf = Vec<u8>>>(
+    alloc: Global,
+    leaf: &LeafParam<P>,
+    pair: &TwoToOneParam<P>,
+    leaves: &[Vec<u8>],
+) -> Result<MerkleTree<P>, Error> {
     if !is_tree_size(leaves.len()) {
         return Err(Error::IncorrectInputLength(leaves.len()));
     }
-    MerkleTree::new(alloc, &(), &(), leaves)
+    MerkleTree::new(alloc, leaf, pair, leaves)
 }
 
-fn proof_of(alloc: Global, tree: &MerkleTree<Sha>, index: usize) -> Result<Path<Sha>, Error> {
+fn proof_of<P: Config>(
+    alloc: Global,
+    tree: &MerkleTree<P>,
+    index: usize,
+) -> Result<Path<P>, Error> {
     if index >= tree.size() {
         return Err(Error::IncorrectInputLength(index));
     }
@@ -115,4 +138,13 @@ fn proof_of(alloc: Global, tree: &MerkleTree<Sha>, index: usize) -> Result<Path<
 fn place(step: u64, size: usize) -> usize {
     let far = step.wrapping_mul(0x9e37_79b9_7f4a_7c15) >> 32;
     (far as usize).checked_rem(size).unwrap_or(0)
+}
+
+// The last eight bytes of a digest as a number.
+fn sum_of<D: CanonicalSerialize>(alloc: Global, digest: &D) -> Result<u64, Error> {
+    let mut sum = 0;
+    for byte in canonical_bytes(alloc, digest)?.iter().rev().take(8) {
+        sum = sum << 8 | *byte as u64;
+    }
+    Ok(sum)
 }

@@ -4,6 +4,7 @@ use crate::fields::{Widest, product_chain};
 use crate::{blake2s, pedersen, trees};
 use ark_crypto_primitives::Error;
 use ark_crypto_primitives::ff::{Fp, M61, M257, M65537, PrimeField};
+use ark_crypto_primitives::trees::{Sha256Arrays, Sha256Strings};
 use std::alloc::Global;
 
 /// The checksum of the work that two words name, its name and how often it is done, if they name one.
@@ -28,16 +29,26 @@ pub fn checksum(alloc: Global, words: &[String]) -> Result<Option<u64>, Error> {
         "blake2s-commitment" => blake2s::commitments(alloc, count)?,
         "pedersen-hash" => pedersen::hashes(alloc, count)?,
         "pedersen-commitment" => pedersen::commitments(alloc, count)?,
-        "build-16" => trees::builds(alloc, 1 << 16, count)?,
-        "build-20" => trees::builds(alloc, 1 << 20, count)?,
-        "update-16" => trees::updates(alloc, 1 << 16, count)?,
-        "update-20" => trees::updates(alloc, 1 << 20, count)?,
-        "proof-16" => trees::proofs(alloc, 1 << 16, count)?,
-        "proof-20" => trees::proofs(alloc, 1 << 20, count)?,
-        "verify-16" => trees::verifications(alloc, 1 << 16, count)?,
-        "verify-20" => trees::verifications(alloc, 1 << 20, count)?,
-        "bind-16" => trees::bindings(alloc, 1 << 16, count)?,
-        "bind-20" => trees::bindings(alloc, 1 << 20, count)?,
+        "build-16" => trees::builds::<Sha256Strings>(alloc, &(), &(), 1 << 16, count)?,
+        "array-build-16" => trees::builds::<Sha256Arrays>(alloc, &(), &(), 1 << 16, count)?,
+        "build-20" => trees::builds::<Sha256Strings>(alloc, &(), &(), 1 << 20, count)?,
+        "array-build-20" => trees::builds::<Sha256Arrays>(alloc, &(), &(), 1 << 20, count)?,
+        "update-16" => trees::updates::<Sha256Strings>(alloc, &(), &(), 1 << 16, count)?,
+        "array-update-16" => trees::updates::<Sha256Arrays>(alloc, &(), &(), 1 << 16, count)?,
+        "update-20" => trees::updates::<Sha256Strings>(alloc, &(), &(), 1 << 20, count)?,
+        "array-update-20" => trees::updates::<Sha256Arrays>(alloc, &(), &(), 1 << 20, count)?,
+        "proof-16" => trees::proofs::<Sha256Strings>(alloc, &(), &(), 1 << 16, count)?,
+        "array-proof-16" => trees::proofs::<Sha256Arrays>(alloc, &(), &(), 1 << 16, count)?,
+        "proof-20" => trees::proofs::<Sha256Strings>(alloc, &(), &(), 1 << 20, count)?,
+        "array-proof-20" => trees::proofs::<Sha256Arrays>(alloc, &(), &(), 1 << 20, count)?,
+        "verify-16" => trees::verifications::<Sha256Strings>(alloc, &(), &(), 1 << 16, count)?,
+        "array-verify-16" => trees::verifications::<Sha256Arrays>(alloc, &(), &(), 1 << 16, count)?,
+        "verify-20" => trees::verifications::<Sha256Strings>(alloc, &(), &(), 1 << 20, count)?,
+        "array-verify-20" => trees::verifications::<Sha256Arrays>(alloc, &(), &(), 1 << 20, count)?,
+        "bind-16" => trees::bindings::<Sha256Strings>(alloc, &(), &(), 1 << 16, count)?,
+        "array-bind-16" => trees::bindings::<Sha256Arrays>(alloc, &(), &(), 1 << 16, count)?,
+        "bind-20" => trees::bindings::<Sha256Strings>(alloc, &(), &(), 1 << 20, count)?,
+        "array-bind-20" => trees::bindings::<Sha256Arrays>(alloc, &(), &(), 1 << 20, count)?,
         _ => return Ok(None),
     };
     Ok(Some(sum))
