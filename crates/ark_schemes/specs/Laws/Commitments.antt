@@ -9,7 +9,7 @@ use Rattle.ark_pedersen.specs.Pedersen.{pedersen_hash}
 use Rattle.ark_pedersen.specs.Laws.Pedersen.{seen-decided, image-decided, pedersen-decided}
 use Rattle.ark_pedersen.specs.declared.window.Window.{Ghosts as Windows}
 use Rattle.ark_schemes.specs.Commitments.{blake2s_commitment}
-use Rattle.ark_schemes.specs.PedersenCommitments.{Generators, AreDrawn, randomness_sum, pedersen_commitment}
+use Rattle.ark_schemes.specs.PedersenCommitments.{Generators, AreAllDrawn, randomness_sum, pedersen_commitment}
 
 pub blake2s_commitment-decided : (bytes randomness : List ℕ) → IsDecided (blake2s_commitment bytes randomness)
 blake2s_commitment-decided bytes randomness =
@@ -29,7 +29,7 @@ pedersen_commitment-decided g bits windows lists input randomness =
 
 pub drawn-alike : {G W : Type 0} (g : Group G) (draw : Stream → G × Stream) (bits : ℕ) (windows : Windows W)
     (stream : Stream) (p q : Generators G)
-    → AreDrawn g draw bits windows stream p → AreDrawn g draw bits windows stream q → p ≡ q
+    → AreAllDrawn g draw bits windows stream p → AreAllDrawn g draw bits windows stream q → p ≡ q
 drawn-alike g draw bits windows stream p q made also =
     let same_windows = made.of_windows.1 ∙ sym also.of_windows.1 in
     let same_randomness = made.of_randomness ∙ sym also.of_randomness in

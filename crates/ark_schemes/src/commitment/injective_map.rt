@@ -2,7 +2,7 @@
 
 ghost use Rattle.std.specs.Prelude.{Ok};
 ghost use Rattle.ark_pedersen.specs.Pedersen.{image_of};
-ghost use Rattle.ark_schemes.specs.PedersenCommitments.{elements_in, drawn_elements, AreDrawn, pedersen_commitment};
+ghost use Rattle.ark_schemes.specs.PedersenCommitments.{elements_in, drawn_elements, AreAllDrawn, pedersen_commitment};
 
 use crate::commitment::CommitmentScheme;
 use crate::commitment::pedersen::{Commitment, Parameters, Randomness, Window};
@@ -42,7 +42,7 @@ impl<C: CurveGroup, I: InjectiveMap<C>, W: Window> CommitmentScheme
 
     ghost is_made = { λ stream parameters.
         let bits = C.ScalarField.MODULUS_BIT_SIZE in
-        AreDrawn C.group C.draw bits W.Window stream (elements_in parameters) };
+        AreAllDrawn C.group C.draw bits W.Window stream (elements_in parameters) };
 
     /// As `pedersen::Commitment::setup`.
     fn setup<R: Rng>(alloc: Global, rng: &mut R) -> Result<Parameters<C>, Error> {

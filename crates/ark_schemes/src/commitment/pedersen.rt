@@ -3,7 +3,7 @@
 ghost use Rattle.std.specs.Prelude.{◌≡◌, ℕ, ◌+◌, ◌%◌, ◌<◌, ◌^◌, List, length, Ok};
 ghost use Rattle.ark_groups.specs.Bits.{bits_of_number};
 ghost use Rattle.ark_pedersen.specs.Pedersen.{pedersen_sum, seen_by};
-ghost use Rattle.ark_schemes.specs.PedersenCommitments.{elements_in, AreOf, AreMade, drawn_elements, AreDrawn, pedersen_commitment};
+ghost use Rattle.ark_schemes.specs.PedersenCommitments.{elements_in, AreOf, AreMade, drawn_elements, AreAllDrawn, pedersen_commitment};
 ghost use Rattle.ark_schemes.specs.PedersenCommitments.{windows_commitment, sum_of, IsUnion};
 
 mod parameters;
@@ -51,7 +51,7 @@ impl<C: CurveGroup, W: Window> CommitmentScheme for Commitment<C, W> {
 
     ghost is_made = { λ stream parameters.
         let bits = C.ScalarField.MODULUS_BIT_SIZE in
-        AreDrawn C.group C.draw bits W.Window stream (elements_in parameters) };
+        AreAllDrawn C.group C.draw bits W.Window stream (elements_in parameters) };
 
     /// Draws the randomness element and puts its doublings, one for each bit of the scalars' modulus; then the generators of the
     /// hash, as its `create_generators` makes them.
