@@ -1,7 +1,7 @@
 //! The works by their names.
 
 use crate::fields::{Widest, product_chain};
-use crate::{blake2s, pedersen, trees};
+use crate::{blake2s, pedersen, poseidon, trees};
 use ark_crypto_primitives::Error;
 use ark_crypto_primitives::ff::{Fp, M61, M257, M65537, PrimeField};
 use std::alloc::Global;
@@ -28,6 +28,10 @@ pub fn checksum(alloc: Global, words: &[String]) -> Result<Option<u64>, Error> {
         "blake2s-commitment" => blake2s::commitments(alloc, count)?,
         "pedersen-hash" => pedersen::hashes(alloc, count)?,
         "pedersen-commitment" => pedersen::commitments(alloc, count)?,
+        "poseidon-permutation" => poseidon::permutations(alloc, count)?,
+        "poseidon-absorb" => poseidon::absorptions(alloc, count)?,
+        "poseidon-squeeze" => poseidon::squeezes(alloc, count)?,
+        "poseidon-hash" => poseidon::pair_hashes(alloc, count)?,
         "build-16" => trees::builds(alloc, 1 << 16, count)?,
         "build-20" => trees::builds(alloc, 1 << 20, count)?,
         "update-16" => trees::updates(alloc, 1 << 16, count)?,
