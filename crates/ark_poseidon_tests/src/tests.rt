@@ -1,5 +1,7 @@
 //! A state of three elements of 257, one full round, and the cube as S-box.
 
+mod tree;
+
 ghost use Rattle.std.specs.Prelude.{◌*◌, ◌%◌};
 
 use ark_base::error::{Error, Refusal};
