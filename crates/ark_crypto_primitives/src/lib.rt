@@ -2,7 +2,9 @@
 #![tactic(auto)]
 
 pub use ark_base::error::{Error, Refusal, SerializationError};
+pub use ark_absorb::{collect_sponge_bytes, collect_sponge_field_elements};
 pub use ark_base::to_uncompressed_bytes;
+pub use ark_sponge::absorb;
 
 /// Canonical bytes.
 pub mod serialize {
@@ -70,6 +72,11 @@ pub mod crh {
         pub use ark_crh::sha256::Sha256;
     }
 
+    /// What a new sponge gives once it has absorbed the input.
+    pub mod poseidon {
+        pub use ark_poseidon::{CRH, TwoToOneCRH};
+    }
+
     /// Sums of elements at the set bits of an input.
     pub mod pedersen {
         pub use ark_pedersen::{CRH, Parameters, TwoToOneCRH, Window, bytes_to_bits};
@@ -79,6 +86,22 @@ pub mod crh {
     pub mod injective_map {
         pub use ark_pedersen::injective_map::{
             InjectiveMap, PedersenCRHCompressor, PedersenTwoToOneCRHCompressor, TECompressor,
+        };
+    }
+}
+
+/// Sponges, and what they absorb.
+pub mod sponge {
+    pub use ark_absorb::{Absorb, AbsorbItem, AbsorbWithLength};
+    pub use ark_sponge::{
+        CryptographicSponge, DuplexSpongeMode, FieldBasedCryptographicSponge, FieldElementSize,
+        SpongeExt,
+    };
+
+    /// The duplex sponge over Poseidon's permutation.
+    pub mod poseidon {
+        pub use ark_sponge::poseidon::{
+            PoseidonConfig, PoseidonSponge, PoseidonSpongeState, SBox,
         };
     }
 }

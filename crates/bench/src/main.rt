@@ -5,6 +5,7 @@
 mod blake2s;
 mod fields;
 mod pedersen;
+mod poseidon;
 mod sums;
 mod trees;
 mod works;

@@ -1,7 +1,7 @@
 //! The works by their names.
 
 use crate::fields::{Widest, product_chain};
-use crate::{blake2s, pedersen, trees};
+use crate::{blake2s, pedersen, poseidon, trees};
 use ark_crypto_primitives::Error;
 use ark_crypto_primitives::ff::{Fp, M61, M257, M65537, PrimeField};
 use ark_crypto_primitives::trees::{Sha256Arrays, Sha256Strings};
@@ -29,6 +29,10 @@ pub fn checksum(alloc: Global, words: &[String]) -> Result<Option<u64>, Error> {
         "blake2s-commitment" => blake2s::commitments(alloc, count)?,
         "pedersen-hash" => pedersen::hashes(alloc, count)?,
         "pedersen-commitment" => pedersen::commitments(alloc, count)?,
+        "poseidon-permutation" => poseidon::permutations(alloc, count)?,
+        "poseidon-absorb" => poseidon::absorptions(alloc, count)?,
+        "poseidon-squeeze" => poseidon::squeezes(alloc, count)?,
+        "poseidon-hash" => poseidon::pair_hashes(alloc, count)?,
         "build-16" => trees::builds::<Sha256Strings>(alloc, &(), &(), 1 << 16, count)?,
         "array-build-16" => trees::builds::<Sha256Arrays>(alloc, &(), &(), 1 << 16, count)?,
         "build-20" => trees::builds::<Sha256Strings>(alloc, &(), &(), 1 << 20, count)?,
