@@ -5,6 +5,7 @@
 mod blake2s;
 mod fields;
 mod pedersen;
+mod signatures;
 mod sums;
 mod trees;
 mod works;

@@ -1,7 +1,7 @@
 //! The works by their names.
 
 use crate::fields::{Widest, product_chain};
-use crate::{blake2s, pedersen, trees};
+use crate::{blake2s, pedersen, signatures, trees};
 use ark_crypto_primitives::Error;
 use ark_crypto_primitives::ff::{Fp, M61, M257, M65537, PrimeField};
 use std::alloc::Global;
@@ -28,6 +28,10 @@ pub fn checksum(alloc: Global, words: &[String]) -> Result<Option<u64>, Error> {
         "blake2s-commitment" => blake2s::commitments(alloc, count)?,
         "pedersen-hash" => pedersen::hashes(alloc, count)?,
         "pedersen-commitment" => pedersen::commitments(alloc, count)?,
+        "schnorr-sign" => signatures::signatures(alloc, count)?,
+        "schnorr-verify" => signatures::verifications(alloc, count)?,
+        "elgamal-encrypt" => signatures::ciphertexts(alloc, count)?,
+        "elgamal-decrypt" => signatures::messages(alloc, count)?,
         "build-16" => trees::builds(alloc, 1 << 16, count)?,
         "build-20" => trees::builds(alloc, 1 << 20, count)?,
         "update-16" => trees::updates(alloc, 1 << 16, count)?,
