@@ -63,6 +63,30 @@ pub mod commitment {
     }
 }
 
+/// Encryption under a public key.
+pub mod encryption {
+    pub use ark_signatures::encryption::AsymmetricEncryptionScheme;
+
+    /// ElGamal encryption.
+    pub mod elgamal {
+        pub use ark_signatures::encryption::elgamal::{
+            Ciphertext, ElGamal, Parameters, Plaintext, PublicKey, Randomness, SecretKey,
+        };
+    }
+}
+
+/// Signatures.
+pub mod signature {
+    pub use ark_signatures::signature::SignatureScheme;
+
+    /// Schnorr signatures.
+    pub mod schnorr {
+        pub use ark_signatures::signature::schnorr::{
+            Challenges, Parameters, PublicKey, Schnorr, SecretKey, Signature, bytes_to_bits,
+        };
+    }
+}
+
 /// Hashes of one input and of two.
 pub mod crh {
     pub use ark_crh::{CRHScheme, TwoToOneCRHScheme};

@@ -6,6 +6,7 @@ mod blake2s;
 mod fields;
 mod pedersen;
 mod poseidon;
+mod signatures;
 mod sums;
 mod trees;
 mod works;

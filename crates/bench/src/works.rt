@@ -1,7 +1,7 @@
 //! The works by their names.
 
 use crate::fields::{Widest, product_chain};
-use crate::{blake2s, pedersen, poseidon, trees};
+use crate::{blake2s, pedersen, poseidon, signatures, trees};
 use ark_crypto_primitives::Error;
 use ark_crypto_primitives::ff::{Fp, M61, M257, M65537, PrimeField};
 use ark_crypto_primitives::trees::{Sha256Arrays, Sha256Strings};
@@ -33,6 +33,10 @@ pub fn checksum(alloc: Global, words: &[String]) -> Result<Option<u64>, Error> {
         "poseidon-absorb" => poseidon::absorptions(alloc, count)?,
         "poseidon-squeeze" => poseidon::squeezes(alloc, count)?,
         "poseidon-hash" => poseidon::pair_hashes(alloc, count)?,
+        "schnorr-sign" => signatures::signatures(alloc, count)?,
+        "schnorr-verify" => signatures::verifications(alloc, count)?,
+        "elgamal-encrypt" => signatures::ciphertexts(alloc, count)?,
+        "elgamal-decrypt" => signatures::messages(alloc, count)?,
         "build-16" => trees::builds::<Sha256Strings>(alloc, &(), &(), 1 << 16, count)?,
         "array-build-16" => trees::builds::<Sha256Arrays>(alloc, &(), &(), 1 << 16, count)?,
         "build-20" => trees::builds::<Sha256Strings>(alloc, &(), &(), 1 << 20, count)?,
