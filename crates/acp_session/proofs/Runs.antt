@@ -47,8 +47,16 @@ take-all : {A : Type 0} (xs ys : List A) → take (length xs) (xs ++ ys) ≡ xs
 take-all [] ys = refl
 take-all (x ∷ xs) ys = ap (λ s. x ∷ s) (take-all xs ys)
 
+take-behind : (x y : List ℕ) (n : ℕ) → (m : ℕ) × (take m (x ++ y) ≡ x ++ take n y)
+take-behind [] y n = (n, refl)
+take-behind (b ∷ x) y n = let more = take-behind x y n in (suc more.0, ap (λ s. b ∷ s) more.1)
+
 appends-front : (a b : Option (List ℕ)) (x : List ℕ) → Appends a b x → AppendsFront a b x
 appends-front a b x h = (length x, rw (ap (take (length x)) (sym (append-nil x)) ∙ take-all x []) h)
+
+-- the first, then a front of the second
+front_behind : (a b c : Option (List ℕ)) (x y : List ℕ) → Appends a b x → AppendsFront b c y → AppendsFront a c (x ++ y)
+front_behind a b c x y h front = let m = take-behind x y front.0 in (m.0, rw m.1 (appends_both a b c x (take front.0 y) h front.1))
 
 pub kept_front : (a b c : Option (List ℕ)) (x : List ℕ) → Keeps a b → AppendsFront b c x → AppendsFront a c x
 kept_front a b c x k front = (front.0, kept_then a b c (take front.0 x) k front.1)

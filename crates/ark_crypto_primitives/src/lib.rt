@@ -1,8 +1,8 @@
 //! Cryptographic primitives that proof systems stand on, under the names of the Rust crate ark-crypto-primitives.
 #![tactic(auto)]
 
-pub use ark_base::error::{Error, Refusal, SerializationError};
 pub use ark_absorb::{collect_sponge_bytes, collect_sponge_field_elements};
+pub use ark_base::error::{Error, Refusal, SerializationError};
 pub use ark_base::to_uncompressed_bytes;
 pub use ark_sponge::absorb;
 
@@ -124,9 +124,7 @@ pub mod sponge {
 
     /// The duplex sponge over Poseidon's permutation.
     pub mod poseidon {
-        pub use ark_sponge::poseidon::{
-            PoseidonConfig, PoseidonSponge, PoseidonSpongeState, SBox,
-        };
+        pub use ark_sponge::poseidon::{PoseidonConfig, PoseidonSponge, PoseidonSpongeState, SBox};
     }
 }
 

@@ -1,7 +1,7 @@
 //! Trees and their paths.
 
 use crate::plain;
-use crate::samples::{Grown, Sha, grown, proof_of, tree_of};
+use crate::samples::{Grown, Sha, grow, proof_of, tree_of};
 use ark_base::error::{Error, SerializationError};
 use ark_base::serialize::{CanonicalDeserialize, Duplicate, canonical_bytes};
 use ark_crh::sha256::Sha256;
@@ -61,7 +61,7 @@ fn digests_of(alloc: Global, leaves: &[Vec<u8>]) -> Result<Vec<Vec<u8>>, Error> 
 }
 
 fn eight_have_their_root(alloc: Global) -> Result<bool, Error> {
-    let eight = grown(alloc, 8)?;
+    let eight = grow(alloc, 8)?;
     Ok(defined_root(alloc, 2, &digests_of(alloc, &eight.leaves)?)? == *eight.tree.root())
 }
 
@@ -89,7 +89,7 @@ fn is_of_one_leaf(alloc: Global, grown: &Grown, path: &Path<Sha>) -> Result<bool
 }
 
 fn path_of_eight_is_right(alloc: Global, index: usize) -> Result<bool, Error> {
-    let eight = grown(alloc, 8)?;
+    let eight = grow(alloc, 8)?;
     let path = proof_of(alloc, &eight.tree, index)?;
     Ok(
         path.leaf_index == index
@@ -159,7 +159,7 @@ fn paths_of_any_length(rt: HostRuntime) {
 
 // Whether the path of leaf 2 of four is accepted with this index in the place of its own.
 fn is_accepted_at(alloc: Global, index: usize) -> Result<bool, Error> {
-    let four = grown(alloc, 4)?;
+    let four = grow(alloc, 4)?;
     let mut path = proof_of(alloc, &four.tree, 2)?;
     path.leaf_index = index;
     four.accepts(alloc, &path, &vec![in alloc; 2u8]?)
@@ -172,7 +172,7 @@ fn index_bits_past_the_path_do_not_count(rt: HostRuntime) {
 }
 
 fn last_of_four(alloc: Global) -> Result<Path<Sha>, Error> {
-    proof_of(alloc, &grown(alloc, 4)?.tree, 3)
+    proof_of(alloc, &grow(alloc, 4)?.tree, 3)
 }
 
 // Whether a path is read back from its canonical bytes with three more behind them, of which none is used.
@@ -214,7 +214,7 @@ fn paths_have_bytes(rt: HostRuntime) -> Result<(), Fail> {
 
 // Whether a tree of four and its copy have one root and the same path at an index, which is its own copy.
 fn copy_is_the_same(alloc: Global, index: usize) -> Result<bool, Error> {
-    let tree = grown(alloc, 4)?.tree;
+    let tree = grow(alloc, 4)?.tree;
     let copy = tree.duplicate(alloc)?;
     let path = proof_of(alloc, &tree, index)?;
     Ok(
@@ -225,7 +225,7 @@ fn copy_is_the_same(alloc: Global, index: usize) -> Result<bool, Error> {
 }
 
 fn paths_are_the_same(alloc: Global, index: usize, other: usize) -> Result<bool, Error> {
-    let tree = grown(alloc, 4)?.tree;
+    let tree = grow(alloc, 4)?.tree;
     Ok(proof_of(alloc, &tree, index)? == proof_of(alloc, &tree, other)?)
 }
 

@@ -76,7 +76,7 @@ pub struct Grown {
 }
 
 /// The tree of `count` leaves of one byte.
-pub fn grown(alloc: Global, count: u8) -> Result<Grown, Error> {
+pub fn grow(alloc: Global, count: u8) -> Result<Grown, Error> {
     let leaves = leaves_of_bytes(alloc, count)?;
     let tree = tree_of(alloc, &leaves)?;
     Ok(Grown { leaves, tree })

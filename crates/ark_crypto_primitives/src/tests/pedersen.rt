@@ -230,7 +230,7 @@ fn drawn_leaves<R: Rng>(alloc: Global, count: usize, rng: &mut R) -> Result<Vec<
     Ok(leaves)
 }
 
-fn drawn<R: Rng>(alloc: Global, count: usize, rng: &mut R) -> Result<Drawn, Error> {
+fn draw<R: Rng>(alloc: Global, count: usize, rng: &mut R) -> Result<Drawn, Error> {
     let leaf_parameters = CRH::<Residues<M61>, Many>::setup(alloc, rng)?;
     let pair_parameters = TwoToOneCRH::<Residues<M61>, Many>::setup(alloc, rng)?;
     let leaves = drawn_leaves(alloc, count, rng)?;
@@ -316,7 +316,7 @@ impl Drawn {
 // Whether all proofs of a tree are accepted before leaves are set at these indexes, and after.
 fn stays_accepted(alloc: Global, count: usize, indexes: &[usize]) -> Result<bool, Error> {
     let mut rng = SmallRng::seed_from_u64(61);
-    let mut drawn = drawn(alloc, count, &mut rng)?;
+    let mut drawn = draw(alloc, count, &mut rng)?;
     if !drawn.all_are_accepted(alloc)? {
         return Ok(false);
     }
@@ -337,7 +337,7 @@ fn own_proofs_are_accepted_before_and_after_updates(rt: HostRuntime) -> Result<(
 
 // Whether the multi-proof of all indexes of a tree of eight drawn leaves has these numbers of shared and of own digests.
 fn shares(alloc: Global, shared: &[usize], own: &[usize]) -> Result<bool, Error> {
-    let proof = drawn(alloc, 8, &mut SmallRng::seed_from_u64(8))?.proof_of_all(alloc)?;
+    let proof = draw(alloc, 8, &mut SmallRng::seed_from_u64(8))?.proof_of_all(alloc)?;
     Ok(
         proof.leaf_indexes.iter().copied().eq(0..8usize)
             && proof.auth_paths_prefix_lenghts.as_slice() == shared
