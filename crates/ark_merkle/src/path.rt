@@ -127,7 +127,8 @@ impl<P: Views> Path<P> {
         // at some level the path's pair and the tree's differ and hash alike.
         ensures bound { let hashes = P.hashes leaf_parameters.now pair_parameters.now in
             let given = P.InnerDigest.numbers root.now in
-            IfOk result (λ accepted. accepted ≡ true → BindsLeaf hashes given leaf.now (P.way self.now)) }
+            IfOk result (λ accepted. accepted ≡ true
+            → BindsLeaf hashes given leaf.now (P.way self.now)) }
     {
         verify_leaf::<P, P::InnerDigest>(
             alloc,

@@ -60,7 +60,8 @@ pub trait SignatureScheme {
         message: &[u8],
         rng: &mut R,
     ) -> Result<Self::Signature, Error>
-        ensures { sign_gives pp.now sk.now message.now (R.stream rng.old) result (R.stream rng.new) };
+        ensures { sign_gives pp.now sk.now message.now (R.stream rng.old) result
+            (R.stream rng.new) };
 
     /// Whether the message is signed under the public key.
     fn verify(

@@ -14,7 +14,8 @@ use std::alloc::Global;
 pub struct Fifth;
 
 impl<F: PrimeField> SBox<F> for Fifth {
-    ghost image = { λ alpha x. (((x * x) % F.MODULUS * ((x * x) % F.MODULUS)) % F.MODULUS * x) % F.MODULUS };
+    ghost image = { λ alpha x.
+        (((x * x) % F.MODULUS * ((x * x) % F.MODULUS)) % F.MODULUS * x) % F.MODULUS };
 
     fn apply(_alpha: u64, x: F) -> F {
         let square = x.mul(x);
@@ -33,7 +34,9 @@ fn elements(alloc: Global, seed: u64, count: usize) -> Result<Vec<Element>, Erro
     let mut made = Vec::with_capacity(alloc, count)?;
     let mut element = Element::from_u64(seed);
     for _ in 0..count {
-        element = element.mul(element).add(Element::from_u64(11400714819323198485));
+        element = element
+            .mul(element)
+            .add(Element::from_u64(11400714819323198485));
         made.push(element)?;
     }
     Ok(made)
@@ -48,7 +51,15 @@ fn rows(alloc: Global, seed: u64, count: usize) -> Result<Vec<Vec<Element>>, Err
 }
 
 fn parameters(alloc: Global) -> Result<PoseidonConfig<Element>, Error> {
-    PoseidonConfig::new(8, 31, 5, rows(alloc, 1 << 20, 3)?, rows(alloc, 1 << 30, 39)?, 2, 1)
+    PoseidonConfig::new(
+        8,
+        31,
+        5,
+        rows(alloc, 1 << 20, 3)?,
+        rows(alloc, 1 << 30, 39)?,
+        2,
+        1,
+    )
 }
 
 /// Permutations, `count` times, of one state.

@@ -167,7 +167,8 @@ impl<C: CurveGroup, D: ByteDigest> SignatureScheme for Schnorr<C, D> {
         ensures exact { let value = C.ScalarField.value in
             let m = multiplier randomness.now in
             let numbers = numbers_of value signature.now in
-            IsOkAnd result (λ new. numbers_of value new ≡ randomised C.ScalarField.MODULUS m numbers) }
+            IsOkAnd result (λ new.
+            numbers_of value new ≡ randomised C.ScalarField.MODULUS m numbers) }
 
         // Under each key, made random by the same bytes, it is valid exactly where the signature was under the key, whatever
         // the message and the digest, refusals too.

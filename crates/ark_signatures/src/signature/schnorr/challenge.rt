@@ -64,7 +64,8 @@ pub fn draw_nonce<C: CurveGroup, D: ByteDigest, R: Rng>(
 ) -> Result<(C::ScalarField, C::ScalarField), Error>
     ensures { let value = C.ScalarField.value in
         let challenge : ℕ → Outcome (Option ℕ) = λ k.
-        ⟦<C as Challenges<D>>⟧.challenge pp.now.salt message.now (times C.group k pp.now.generator) in
+        ⟦<C as Challenges<D>>⟧.challenge pp.now.salt message.now
+        (times C.group k pp.now.generator) in
         let nonce = first_nonce C.ScalarField.draw value challenge 128 (R.stream rng.old) in
         let left = R.stream rng.new in
         AnswersBy (λ pair. ((value pair.0, value pair.1), left)) nonce result }
