@@ -18,7 +18,7 @@ returns-clause-alike g c challenge key =
     let s = field.value c.args.signature.now.prover_response in
     let e = field.value c.args.signature.now.verifier_challenge in
     let group = g.met.C.CurveGroup in
-    verified-randomised group.laws field.MODULUS (omega (arith, g.met.C.ScalarField.PrimeField.modulus_laws.at_least_two)) c.args.pp.now.generator (group.order c.args.pp.now.generator)
+    verified-randomised group.laws field.MODULUS (omega (arith, g.C.ScalarField.PrimeField.modulus_laws.at_least_two)) c.args.pp.now.generator (group.order c.args.pp.now.generator)
     challenge key (multiplier c.args.randomness.now) e s (field.value c.sub.result)
     (c.sub.ensures ∙ ap (λ n. (s + (field.MODULUS - n)) % field.MODULUS) c.mul.ensures
     ∙ response-multiplier field.MODULUS (multiplier c.args.randomness.now) (field.value c.multiplier-m.result) s e c.multiplier-m.ensures)
