@@ -25,11 +25,20 @@ fn read<T: CanonicalDeserialize>(alloc: Global, bytes: &[u8]) -> Result<(T, usiz
 fn numbers_are_spelled_the_least_byte_first(rt: HostRuntime) {
     let alloc = rt.alloc();
     assert_eq!(rt; has_bytes(alloc, &7u8, &[7]), Ok(true));
-    assert_eq!(rt; has_bytes(alloc, &258u64, &[2, 1, 0, 0, 0, 0, 0, 0]), Ok(true));
-    assert_eq!(rt; has_bytes(alloc, &1usize, &[1, 0, 0, 0, 0, 0, 0, 0]), Ok(true));
+    assert_eq!(rt;
+        has_bytes(alloc, &258u64, &[2, 1, 0, 0, 0, 0, 0, 0]),
+        Ok(true)
+    );
+    assert_eq!(rt;
+        has_bytes(alloc, &1usize, &[1, 0, 0, 0, 0, 0, 0, 0]),
+        Ok(true)
+    );
     assert_eq!(rt; has_bytes(alloc, &(), &[]), Ok(true));
     assert_eq!(rt; read::<u8>(alloc, &[7, 2]), Ok((7, 1)));
-    assert_eq!(rt; read::<u64>(alloc, &[2, 1, 0, 0, 0, 0, 0, 0, 1]), Ok((258, 8)));
+    assert_eq!(rt;
+        read::<u64>(alloc, &[2, 1, 0, 0, 0, 0, 0, 0, 1]),
+        Ok((258, 8))
+    );
     assert_eq!(rt; read::<usize>(alloc, &[1, 0, 0, 0, 0, 0, 0, 0]), Ok((1, 8)));
     assert_eq!(rt; read::<()>(alloc, &[7]), Ok(((), 0)));
 }
@@ -149,7 +158,10 @@ fn slice_has_bytes(alloc: Global, items: &[bool], bytes: &[u8]) -> Result<bool, 
 #[test]
 fn slices_are_written_as_lists(rt: HostRuntime) {
     let listed = [2, 0, 0, 0, 0, 0, 0, 0, 1, 0];
-    assert_eq!(rt; slice_has_bytes(rt.alloc(), &[true, false], &listed), Ok(true));
+    assert_eq!(rt;
+        slice_has_bytes(rt.alloc(), &[true, false], &listed),
+        Ok(true)
+    );
 }
 
 // Whether a number is written in three bytes as these.

@@ -6,7 +6,6 @@ ghost use Rattle.ark_base.specs.Outcome.{Outcome, AnswersBy, IsDecided};
 ghost use Rattle.ark_base.specs.Digits.{bytes_for, bytes_of_number};
 ghost use Rattle.ark_pedersen.specs.Pedersen.{generators_in, window_elements, AreDrawn, pedersen_hash, of_halves, seen_image};
 
-
 use crate::{CRH, Parameters, TwoToOneCRH, Window, hash_bytes, hash_halves};
 use ark_base::error::Error;
 use ark_base::serialize::{CanonicalItem, DigestItem, Duplicate, canonical_bytes};
