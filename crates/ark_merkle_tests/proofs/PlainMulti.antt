@@ -1,5 +1,5 @@
 -- A place of a multi-proof, as the plain function takes it.
-use Rattle.std.proofs.Common.{◌≡◌, ℕ, ◌+◌, List, ◌∷◌, true, Some, Ok, Err, refl, add-one}
+use Rattle.std.proofs.Common.{◌≡◌, ◌∙◌, ℕ, ◌+◌, List, ◌∷◌, true, Some, Ok, Err, refl, add-one}
 use Rattle.ark_base.specs.declared.error.Error.{Error}
 use Rattle.ark_base.specs.Outcome.{Outcome}
 use Rattle.ark_merkle.specs.MultiPath.{MultiWay, decoded_path, decoded_paths_from, multi_verdict_from}
@@ -12,3 +12,10 @@ module _ (h : HashPair) (root : Digest) (m : MultiWay) (i : ℕ) (before : List 
 
   pub place-accepted : verdict h leaf way root ≡ Ok true → multi_verdict_from h root i (decoded_paths_from m i before (index ∷ indexes)) (leaf ∷ leaves) ≡ multi_verdict_from h root (i + 1) (decoded_paths_from m (i + 1) way.above indexes) leaves
   place-accepted accepted = rw (decodes, accepted, add-one) refl
+
+-- a decoded path by a sibling and digests that are the same
+pub decoded_path-alike : (m : MultiWay) (place : ℕ) (before : List Digest) (index : ℕ) {s s' : Digest} {a a' : List Digest}
+    → decoded_path m place before index ≡ Some (record { sibling = s; above = a; index = index }) → s ≡ s' → a ≡ a'
+    → decoded_path m place before index ≡ Some (record { sibling = s'; above = a'; index = index })
+decoded_path-alike m place before index decodes same_sibling same_above =
+    decodes ∙ (λ i. Some (record { sibling = same_sibling i; above = same_above i; index = index }))

@@ -5,7 +5,7 @@ use Rattle.ark_merkle.specs.MultiPath.{MultiWay, decoded_path}
 use Rattle.ark_merkle.specs.Pair.{Digest, pair_of}
 use Rattle.ark_merkle.specs.Path.{Way}
 use Rattle.ark_merkle.specs.Rows.{digests_of, rows_seen}
-use Rattle.ark_merkle_tests.proofs.PlainMulti.{place-refused, place-accepted}
+use Rattle.ark_merkle_tests.proofs.PlainMulti.{decoded_path-alike, place-refused, place-accepted}
 use Rattle.ark_merkle_tests.proofs.plain.multi.+verdict_from.Goals as goal
 
 pub returns-in_err-verify : goal.returns-in_err-verify
@@ -26,7 +26,7 @@ returns-in_err-verify g t c =
     let way : Way = record { sibling = leaf_numbers c.in_ok-duplicate.field-0; above = map inner above; index = index } in
     let sibling = (g.met.P.LeafDigest.DigestItem.seen_alike _ _).0 (done_injective _ _ c.in_ok-duplicate.ensures) in
     let digests = done_injective {A = List Digest} _ _ c.in_ok-extended.ensures in
-    let decodes : decoded_path m c.args.place (map inner c.args.before.now) index ≡ Some way = rw (sibling, digests) at (c.in-Some-part_of.ensures (map inner c.args.before.now) index) in
+    let decodes : decoded_path m c.args.place (map inner c.args.before.now) index ≡ Some way = decoded_path-alike m c.args.place (map inner c.args.before.now) index (c.in-Some-part_of.ensures (map inner c.args.before.now) index) sibling digests in
     let hashed = g.P.LeafHash.CRHScheme.meaning c.args.leaf_parameters.now in
     rw (c.in-Some.ensures.cases.0, c.in-Some-split_first.ensures.cases.0)
     (passed_on _ _ c.from_residual-in_err-verify.result c.in_err-verify.field-0.0 c.from_residual-in_err-verify.ensures.1 c.in_err-verify.ensures.answer
@@ -50,7 +50,7 @@ returns g t c =
     let way : Way = record { sibling = leaf_numbers c.in_ok-duplicate.field-0; above = map inner above; index = index } in
     let sibling = (g.met.P.LeafDigest.DigestItem.seen_alike _ _).0 (done_injective _ _ c.in_ok-duplicate.ensures) in
     let digests = done_injective {A = List Digest} _ _ c.in_ok-extended.ensures in
-    let decodes : decoded_path m c.args.place (map inner c.args.before.now) index ≡ Some way = rw (sibling, digests) at (c.in-Some-part_of.ensures (map inner c.args.before.now) index) in
+    let decodes : decoded_path m c.args.place (map inner c.args.before.now) index ≡ Some way = decoded_path-alike m c.args.place (map inner c.args.before.now) index (c.in-Some-part_of.ensures (map inner c.args.before.now) index) sibling digests in
     let hashed = g.P.LeafHash.CRHScheme.meaning c.args.leaf_parameters.now in
     let yes : c.in_ok-verify.field-0 ≡ true = search rules in
     rw (
