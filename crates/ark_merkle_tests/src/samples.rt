@@ -33,6 +33,15 @@ pub fn leaves_of_bytes(alloc: Global, count: u8) -> Result<Vec<Vec<u8>>, Error> 
     Ok(leaves)
 }
 
+/// Leaves of these bytes, one each.
+pub fn leaves_of(alloc: Global, bytes: &[u8]) -> Result<Vec<Vec<u8>>, Error> {
+    let mut leaves = Vec::new(alloc);
+    for byte in bytes {
+        leaves.push(vec![in alloc; *byte]?)?;
+    }
+    Ok(leaves)
+}
+
 /// The tree of these leaves, if there is one.
 pub fn tree_of(alloc: Global, leaves: &[Vec<u8>]) -> Result<MerkleTree<Sha>, Error> {
     if !is_tree_size(leaves.len()) {
