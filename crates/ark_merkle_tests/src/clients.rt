@@ -40,23 +40,29 @@ fn answer_of_two(
     answer(alloc, &sent(alloc, &[1, 6], zeros)?, size, indexes, leaves)
 }
 
+const INVALID: Error = Error::SerializationError(SerializationError::InvalidData);
+
+// The zeros behind the proof of the leaves 1 and 6, the size that the client was told, an index and a leaf in the places of the
+// second ones, and his answer. Trees of 16 leaves have three digests above the sibling; no tree has six leaves.
+const ANSWERS: [(u8, usize, usize, u8, Result<bool, Error>); 6] = [
+    (0, 8, 6, 6, Ok(true)),
+    (0, 8, 6, 7, Ok(false)),
+    (0, 8, 5, 5, Err(INVALID)),
+    (1, 8, 6, 6, Err(INVALID)),
+    (0, 16, 6, 6, Err(Error::IncorrectInputLength(2))),
+    (0, 6, 6, 6, Err(Error::IncorrectInputLength(6))),
+];
+
 #[test]
 fn a_client_answers(rt: HostRuntime) {
     let alloc = rt.alloc();
-    assert_eq!(rt; answer_of_two(alloc, 0, 8, &[1, 6], &[1, 6]), Ok(true));
-    assert_eq!(rt; answer_of_two(alloc, 0, 8, &[1, 6], &[1, 7]), Ok(false));
+    for (zeros, size, index, leaf, wanted) in ANSWERS {
+        assert_eq!(rt;
+            answer_of_two(alloc, zeros, size, &[1, index], &[1, leaf]),
+            wanted,
+            "{zeros} {size} {index} {leaf}"
+        );
+    }
     let short = Err(Error::IncorrectInputLength(1));
     assert_eq!(rt; answer_of_two(alloc, 0, 8, &[1, 6], &[1]), short);
-}
-
-#[test]
-fn a_client_refuses(rt: HostRuntime) {
-    let alloc = rt.alloc();
-    let invalid = Err(Error::SerializationError(SerializationError::InvalidData));
-    assert_eq!(rt; answer_of_two(alloc, 0, 8, &[1, 5], &[1, 5]), invalid);
-    assert_eq!(rt; answer_of_two(alloc, 1, 8, &[1, 6], &[1, 6]), invalid);
-    let long = Err(Error::IncorrectInputLength(2));
-    assert_eq!(rt; answer_of_two(alloc, 0, 16, &[1, 6], &[1, 6]), long);
-    let no_size = Err(Error::IncorrectInputLength(6));
-    assert_eq!(rt; answer_of_two(alloc, 0, 6, &[1, 6], &[1, 6]), no_size);
 }

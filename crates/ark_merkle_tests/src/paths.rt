@@ -1,48 +1,14 @@
 //! Trees and their paths.
 
 use crate::plain;
-use crate::samples::{Grown, Sha, grow, proof_of, tree_of};
-use ark_base::error::{Error, SerializationError};
-use ark_base::serialize::{CanonicalDeserialize, Duplicate, canonical_bytes};
+use crate::samples::{Grown, Sha, grow, proof_of};
+use ark_base::error::Error;
+use ark_base::serialize::Duplicate;
 use ark_crh::sha256::Sha256;
 use ark_crh::{CRHScheme, TwoToOneCRHScheme};
+use ark_merkle::Path;
 use ark_merkle::index::is_bit_set;
-use ark_merkle::{MerkleTree, Path};
 use std::alloc::Global;
-use std::test::Fail;
-
-fn two_empty_leaves(alloc: Global) -> Result<MerkleTree<Sha>, Error> {
-    tree_of(alloc, &[Vec::new(alloc), Vec::new(alloc)])
-}
-
-fn size_and_height(tree: Result<MerkleTree<Sha>, Error>) -> Result<(usize, usize), Error> {
-    let tree = tree?;
-    Ok((tree.size(), tree.height()))
-}
-
-// Whether the second path of the tree of two empty leaves has these canonical bytes, in hexadecimal.
-fn second_is(alloc: Global, text: &str) -> Result<bool, Error> {
-    let path = proof_of(alloc, &two_empty_leaves(alloc)?, 1)?;
-    let bytes = canonical_bytes(alloc, &path)?;
-    Ok(hex::encode(alloc, &bytes)?.as_str() == text)
-}
-
-fn second_accepts(alloc: Global, leaf: &[u8]) -> Result<bool, Error> {
-    let tree = two_empty_leaves(alloc)?;
-    let path = proof_of(alloc, &tree, 1)?;
-    path.verify(alloc, &(), &(), tree.root(), &leaf.to_vec(alloc)?)
-}
-
-#[test]
-fn a_tree_of_two_empty_leaves(rt: HostRuntime) {
-    let alloc = rt.alloc();
-    assert_eq!(rt; size_and_height(two_empty_leaves(alloc)), Ok((2, 2)));
-    let text =
-        "2000000000000000e3b0c44298fc1c149afbf4c8996fb92427ae41e4649b934ca495991b7852b85500000000000000000100000000000000";
-    assert_eq!(rt; second_is(alloc, text), Ok(true));
-    assert_eq!(rt; second_accepts(alloc, &[]), Ok(true));
-    assert_eq!(rt; second_accepts(alloc, b"a"), Ok(false));
-}
 
 // What the definition says of 2^(m + 1) leaf digests.
 fn defined_root(alloc: Global, m: usize, digests: &[Vec<u8>]) -> Result<Vec<u8>, Error> {
@@ -167,49 +133,9 @@ fn is_accepted_at(alloc: Global, index: usize) -> Result<bool, Error> {
 
 #[test]
 fn index_bits_past_the_path_do_not_count(rt: HostRuntime) {
-    assert_eq!(rt; is_accepted_at(rt.alloc(), 6), Ok(true));
-    assert_eq!(rt; is_accepted_at(rt.alloc(), 7), Ok(false));
-}
-
-fn last_of_four(alloc: Global) -> Result<Path<Sha>, Error> {
-    proof_of(alloc, &grow(alloc, 4)?.tree, 3)
-}
-
-// Whether a path is read back from its canonical bytes with three more behind them, of which none is used.
-fn is_read_back(alloc: Global, path: &Path<Sha>) -> Result<bool, Error> {
-    let mut bytes = canonical_bytes(alloc, path)?;
-    let len = bytes.len();
-    bytes.extend_from_slice(&[1, 2, 3])?;
-    let (read, used) = Path::<Sha>::deserialize(alloc, &bytes)?;
-    Ok(read == *path && used == len)
-}
-
-fn is_truncated(alloc: Global, bytes: &[u8]) -> bool {
-    Path::<Sha>::deserialize(alloc, bytes).err()
-        == Some(Error::SerializationError(SerializationError::Truncated))
-}
-
-fn each_cut_is_truncated(alloc: Global, path: &Path<Sha>) -> Result<bool, Error> {
-    let bytes = canonical_bytes(alloc, path)?;
-    Ok((0..bytes.len()).all(|end| is_truncated(alloc, &bytes[..end])))
-}
-
-// A count of 2^64 - 1 digests asks for no memory.
-fn huge_is_truncated(alloc: Global, path: &Path<Sha>) -> Result<bool, Error> {
-    let mut bytes = canonical_bytes(alloc, path)?;
-    for byte in bytes.iter_mut().skip(40).take(8) {
-        *byte = 255;
+    for index in [6usize, 7] {
+        assert_eq!(rt; is_accepted_at(rt.alloc(), index), Ok(index == 6));
     }
-    Ok(is_truncated(alloc, &bytes))
-}
-
-#[test]
-fn paths_have_bytes(rt: HostRuntime) -> Result<(), Fail> {
-    let path = last_of_four(rt.alloc())?;
-    assert_eq!(rt; is_read_back(rt.alloc(), &path), Ok(true));
-    assert_eq!(rt; each_cut_is_truncated(rt.alloc(), &path), Ok(true));
-    assert_eq!(rt; huge_is_truncated(rt.alloc(), &path), Ok(true));
-    Ok(())
 }
 
 // Whether a tree of four and its copy have one root and the same path at an index, which is its own copy.

@@ -4,7 +4,7 @@ ghost use Rattle.std.specs.Prelude.{◌<◌};
 
 use crate::samples::{Sha, leaves_of_bytes, multi_proof_of, tree_of};
 use ark_base::error::{Error, SerializationError};
-use ark_base::serialize::{CanonicalSerialize, Duplicate, canonical_bytes};
+use ark_base::serialize::{CanonicalSerialize, Duplicate};
 use ark_merkle::{Config, MerkleTree, MultiPath};
 use std::alloc::Global;
 use std::test::Fail;
@@ -167,10 +167,13 @@ fn long_is_strict(alloc: Global, len: usize, prefix: usize) -> Result<bool, Erro
 #[test]
 fn long_proofs_are_strict_with_the_longest_prefixes(rt: HostRuntime) {
     let alloc = rt.alloc();
-    assert_eq!(rt; long_is_strict(alloc, 13, 13), Ok(true));
-    assert_eq!(rt; long_is_strict(alloc, 13, 12), Ok(false));
-    assert_eq!(rt; long_is_strict(alloc, 13, 14), Ok(false));
-    assert_eq!(rt; long_is_strict(alloc, 12, 12), Ok(false));
+    for (len, prefix) in [(13usize, 13usize), (13, 12), (13, 14), (12, 12)] {
+        assert_eq!(rt;
+            long_is_strict(alloc, len, prefix),
+            Ok(len == 13 && prefix == 13),
+            "{len} digests, {prefix} shared"
+        );
+    }
 }
 
 // The suffixes of two paths of digests, the second of which has all from the first.
@@ -200,24 +203,4 @@ fn paths_past_the_word_are_strict(rt: HostRuntime) {
     for len in [62, 63, 64, 70] {
         assert_eq!(rt; high_is_strict(alloc, len), Ok(len > 62), "length {len}");
     }
-}
-
-fn fault(alloc: Global, bytes: &[u8]) -> Option<Error> {
-    MultiPath::<Sha>::read_strict(alloc, bytes).err()
-}
-
-fn bytes_of_two(alloc: Global) -> Result<Vec<u8>, Error> {
-    let tree = tree_of(alloc, &leaves_of_bytes(alloc, 4)?)?;
-    canonical_bytes(alloc, &multi_proof_of(alloc, &tree, &[0, 2])?)
-}
-
-#[test]
-fn cut_bytes_are_truncated(rt: HostRuntime) -> Result<(), Fail> {
-    let alloc = rt.alloc();
-    let bytes = bytes_of_two(alloc)?;
-    let truncated = Some(Error::SerializationError(SerializationError::Truncated));
-    for end in 0..bytes.len() {
-        assert_eq!(rt; fault(alloc, &bytes[..end]), truncated, "cut at {end}");
-    }
-    Ok(())
 }

@@ -8,7 +8,7 @@ use crate::strict::is_read;
 use ark_base::error::Error;
 use ark_crh::{CRHScheme, TwoToOneCRHScheme};
 use ark_groups::ff::{Fp, M257, PrimeField};
-use ark_merkle::{Config, IdentityDigestConverter, MerkleTree, MultiPath, is_tree_size};
+use ark_merkle::{Config, IdentityDigestConverter, MerkleTree, MultiPath};
 use rand::Rng;
 use std::alloc::Global;
 
@@ -114,13 +114,6 @@ impl TwoToOneCRHScheme for ToyPairHash {
     ghost compressed_same = { λ p q same. refl };
 }
 
-fn tree_of(alloc: Global, leaves: &[u64]) -> Result<MerkleTree<Toy>, Error> {
-    if !is_tree_size(leaves.len()) {
-        return Err(Error::IncorrectInputLength(leaves.len()));
-    }
-    MerkleTree::new(alloc, &(), &(), leaves)
-}
-
 // The tree of four zero digests.
 fn zeros(alloc: Global) -> Result<MerkleTree<Toy>, Error> {
     let digests = Vec::from_array(alloc, [Fp::from_u64(0); 4])?;
@@ -146,20 +139,6 @@ fn beside(
         path.leaf_sibling_hash.value(),
         path.auth_path.first().map(|digest| digest.value()),
     ))
-}
-
-fn beside_one_to_four(alloc: Global, index: usize) -> Result<(u64, Option<u64>), Error> {
-    beside(alloc, tree_of(alloc, &[1, 2, 3, 4]), index)
-}
-
-#[test]
-fn pairs_of_four_leaves(rt: HostRuntime) {
-    let alloc = rt.alloc();
-    assert_eq!(rt; root_of(tree_of(alloc, &[1, 2, 3, 4])), Ok(27));
-    assert_eq!(rt; beside_one_to_four(alloc, 0), Ok((2, Some(11))));
-    assert_eq!(rt; beside_one_to_four(alloc, 1), Ok((1, Some(11))));
-    assert_eq!(rt; beside_one_to_four(alloc, 2), Ok((4, Some(5))));
-    assert_eq!(rt; beside_one_to_four(alloc, 3), Ok((3, Some(5))));
 }
 
 #[test]

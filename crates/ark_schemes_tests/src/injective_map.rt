@@ -35,25 +35,31 @@ fn under(alloc: Global, input: &[u8], number: u64) -> Result<Fp<M257>, Error> {
 #[test]
 fn the_first_coordinate_is_the_commitment(rt: HostRuntime) {
     let alloc = rt.alloc();
-    assert_eq!(rt; under(alloc, &[0x25], 3), Ok(coordinate(239)));
-    assert_eq!(rt; under(alloc, &[0x21], 3), Ok(coordinate(163)));
-    assert_eq!(rt; under(alloc, &[0x04], 7), Ok(coordinate(0)));
+    for (input, randomness, first) in [(0x25, 3, 239), (0x21, 3, 163), (0x04, 7, 0)] {
+        assert_eq!(rt;
+            under(alloc, &[input], randomness),
+            Ok(coordinate(first)),
+            "{first}"
+        );
+    }
     let long = Error::IncorrectInputLength(2);
     assert_eq!(rt; under(alloc, &[0x25, 0x25], 3), Err(long));
     let shape = Error::GenericError(Refusal::ParameterShape);
     assert_eq!(rt; over(alloc, &[5, 10, 7], &[0x25], 3), Err(shape));
 }
 
-// Whether both draw the same of one seed, and commit to no bytes under no randomness as they should.
-fn setup_is_the_same(alloc: Global, seed: u64) -> Result<bool, Error> {
-    let parameters = Compressed::setup(alloc, &mut SmallRng::seed_from_u64(seed))?;
+// Whether parameters are those that the Pedersen commitment draws of a seed.
+fn is_drawn(alloc: Global, parameters: &Parameters<Small<M13>>, seed: u64) -> Result<bool, Error> {
     let made = Commitment::<Small<M13>, Two>::setup(alloc, &mut SmallRng::seed_from_u64(seed))?;
-    let none = Randomness(Fp::from_u64(0));
     Ok(
         parameters.randomness_generator == made.randomness_generator
-            && parameters.generators == made.generators
-            && Compressed::commit(alloc, &parameters, &[], &none)? == coordinate(0),
+            && parameters.generators == made.generators,
     )
+}
+
+fn setup_is_the_same(alloc: Global, seed: u64) -> Result<bool, Error> {
+    let parameters = Compressed::setup(alloc, &mut SmallRng::seed_from_u64(seed))?;
+    is_drawn(alloc, &parameters, seed)
 }
 
 #[test]

@@ -39,22 +39,27 @@ fn under(alloc: Global, input: &[u8], number: u64) -> Result<G13, Error> {
     over(alloc, &[5, 10, 7, 1], &TWO, input, number)
 }
 
-#[test]
-fn randomness_is_added_to_the_hash(rt: HostRuntime) {
-    let alloc = rt.alloc();
-    assert_eq!(rt; under(alloc, &[0x25], 3), Ok(residue(11)));
-    assert_eq!(rt; under(alloc, &[0x25], 0), Ok(residue(9)));
-    assert_eq!(rt; under(alloc, &[], 3), Ok(residue(2)));
-    let long = Error::IncorrectInputLength(2);
-    assert_eq!(rt; under(alloc, &[0x25, 0x25], 3), Err(long));
-}
+// An input, the randomness, and the commitment. The third, fourth and fifth show that commitments are summed.
+const COMMITMENTS: [(&[u8], u64, u64); 6] = [
+    (&[0x25], 3, 11),
+    (&[0x25], 0, 9),
+    (&[0x21], 3, 7),
+    (&[0x04], 7, 0),
+    (&[0x25], 10, 7),
+    (&[], 3, 2),
+];
 
 #[test]
-fn commitments_are_summed(rt: HostRuntime) {
-    let alloc = rt.alloc();
-    assert_eq!(rt; under(alloc, &[0x21], 3), Ok(residue(7)));
-    assert_eq!(rt; under(alloc, &[0x04], 7), Ok(residue(0)));
-    assert_eq!(rt; under(alloc, &[0x25], 10), Ok(residue(7)));
+fn randomness_is_added_to_the_hash(rt: HostRuntime) {
+    for (input, randomness, commitment) in COMMITMENTS {
+        assert_eq!(rt;
+            under(rt.alloc(), input, randomness),
+            Ok(residue(commitment)),
+            "{commitment}"
+        );
+    }
+    let long = Error::IncorrectInputLength(2);
+    assert_eq!(rt; under(rt.alloc(), &[0x25, 0x25], 3), Err(long));
 }
 
 const SHAPE: Error = Error::GenericError(Refusal::ParameterShape);
@@ -62,13 +67,11 @@ const SHAPE: Error = Error::GenericError(Refusal::ParameterShape);
 #[test]
 fn parameters_of_another_shape_are_refused(rt: HostRuntime) {
     let alloc = rt.alloc();
-    assert_eq!(rt; over(alloc, &[5, 10, 7], &TWO, &[0x25], 3), Err(SHAPE));
+    for doubled in [[5, 10, 7].as_slice(), &[5, 10, 7, 1, 2]] {
+        assert_eq!(rt; over(alloc, doubled, &TWO, &[0x25], 3), Err(SHAPE));
+    }
     let long = Error::IncorrectInputLength(2);
     assert_eq!(rt; over(alloc, &[5, 10, 7], &TWO, &[0x25, 0x25], 3), Err(long));
-    assert_eq!(rt;
-        over(alloc, &[5, 10, 7, 1, 2], &TWO, &[0x25], 3),
-        Err(SHAPE)
-    );
     let three: [&[u64]; 3] = [&[1, 2, 4, 8], &[2, 4, 8, 3], &[1, 2, 4, 8]];
     assert_eq!(rt; over(alloc, &[5, 10, 7, 1], &three, &[0x25], 3), Err(SHAPE));
 }
@@ -110,8 +113,12 @@ fn is_cloned(number: u64) -> Result<bool, Error> {
 fn randomness_is_its_scalar(rt: HostRuntime) {
     assert_eq!(rt; has_text(rt.alloc(), 3, "Randomness(3)"), Ok(true));
     assert_eq!(rt; is_cloned(3), Ok(true));
-    assert!(rt; Randomness::<G13>::default() != randomness_of(3));
-    assert!(rt; Randomness::<G13>::default() == randomness_of(0));
+    for number in [0, 3] {
+        assert_eq!(rt;
+            Randomness::<G13>::default() == randomness_of(number),
+            number == 0
+        );
+    }
 }
 
 fn is_written(alloc: Global, number: u64, bytes: &[u8]) -> Result<bool, Error> {
@@ -134,19 +141,16 @@ fn randomness_is_written_and_read(rt: HostRuntime) {
     assert_eq!(rt; read(rt.alloc(), &[]), Err(cut));
 }
 
-// The scalars of a list of two, and how many bytes it took.
-fn read_two(alloc: Global, bytes: &[u8]) -> Result<([u64; 2], usize), Error> {
-    let (list, used) = Vec::<Randomness<G13>>::deserialize(alloc, bytes)?;
-    if list.len() != 2 {
-        return Err(Error::IncorrectInputLength(list.len()));
-    }
-    Ok(([list[0].0.value(), list[1].0.value()], used))
+// Whether bytes are read as a list of randomness, and written again.
+fn is_list(alloc: Global, bytes: &[u8]) -> Result<bool, Error> {
+    let list = Vec::<Randomness<G13>>::deserialize(alloc, bytes)?.0;
+    Ok(list.len() == 2 && canonical_bytes(alloc, &list)?.as_slice() == bytes)
 }
 
 #[test]
 fn lists_of_randomness_are_read(rt: HostRuntime) {
     let bytes = [2, 0, 0, 0, 0, 0, 0, 0, 3, 12];
-    assert_eq!(rt; read_two(rt.alloc(), &bytes), Ok(([3, 12], 10)));
+    assert_eq!(rt; is_list(rt.alloc(), &bytes), Ok(true));
 }
 
 #[test]

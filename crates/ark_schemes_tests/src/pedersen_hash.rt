@@ -51,60 +51,58 @@ fn hash_of_elements<W: Window>(
 
 const SHAPE: Error = Error::GenericError(Refusal::ParameterShape);
 
+// The leaves of a tree of four, by hand, and a full byte, each with the sum of its generators.
+const LEAVES: [(&[u8], u64); 5] = [
+    (&[0x25], 9),
+    (&[0x01], 1),
+    (&[], 0),
+    (&[0x40], 8),
+    (&[0xff], 6),
+];
+
 #[test]
 fn generators_are_added_at_set_bits(rt: HostRuntime) {
     let alloc = rt.alloc();
-    let hash_in_two = |input: &[u8]| hash::<Two>(alloc, &TWO, input);
-    assert_eq!(rt; hash_in_two(&[0x25]), Ok(residue(9)));
-    assert_eq!(rt; hash_in_two(&[0xff]), Ok(residue(6)));
-    assert_eq!(rt; hash_in_two(&[]), Ok(residue(0)));
-    assert_eq!(rt;
-        hash_in_two(&[0x25, 0x25]),
-        Err(Error::IncorrectInputLength(2))
-    );
+    for (input, sum) in LEAVES {
+        assert_eq!(rt; hash::<Two>(alloc, &TWO, input), Ok(residue(sum)), "{sum}");
+    }
+    let long = Err(Error::IncorrectInputLength(2));
+    assert_eq!(rt; hash::<Two>(alloc, &TWO, &[0x25, 0x25]), long);
 }
 
 #[test]
 fn generators_of_another_shape_are_refused(rt: HostRuntime) {
     let alloc = rt.alloc();
-    assert_eq!(rt; hash::<Three>(alloc, &TWO, &[0x25]), Err(SHAPE));
+    for rows in [TWO.as_slice(), &UNEVEN] {
+        assert_eq!(rt; hash::<Three>(alloc, rows, &[0x25]), Err(SHAPE));
+    }
     let long = Err(Error::IncorrectInputLength(2));
     assert_eq!(rt; hash::<Three>(alloc, &TWO, &[0x25, 0x25]), long);
-    assert_eq!(rt; hash::<Three>(alloc, &UNEVEN, &[0x25]), Err(SHAPE));
     assert_eq!(rt; hash::<Two>(alloc, &UNEVEN, &[0x25]), Err(SHAPE));
     assert_eq!(rt; hash_of_two::<Three>(alloc, &FOUR, &[], &[]), Err(SHAPE));
 }
 
+// Two equal halves, and the three pairs above the leaves.
+const HALVES: [(u8, u8, u64); 4] = [(5, 5, 10), (9, 1, 10), (0, 8, 8), (10, 8, 5)];
+
 #[test]
 fn halves_stand_behind_one_another(rt: HostRuntime) {
     let alloc = rt.alloc();
-    let hash_in_four = |left: &[u8], right: &[u8]| hash_of_two::<Four>(alloc, &FOUR, left, right);
-    assert_eq!(rt; hash_in_four(&[5], &[5]), Ok(residue(10)));
-    assert_eq!(rt;
-        hash_in_four(&[], &[5]),
-        Err(Error::IncorrectInputLength(1))
-    );
-    assert_eq!(rt;
-        hash_in_four(&[5, 5], &[5, 5]),
-        Err(Error::IncorrectInputLength(2))
-    );
+    for (left, right, sum) in HALVES {
+        assert_eq!(rt;
+            hash_of_two::<Four>(alloc, &FOUR, &[left], &[right]),
+            Ok(residue(sum)),
+            "{sum}"
+        );
+    }
+    for (left, right, len) in [(&[][..], &[5u8][..], 1usize), (&[5, 5], &[5, 5], 2)] {
+        assert_eq!(rt;
+            hash_of_two::<Four>(alloc, &FOUR, left, right),
+            Err(Error::IncorrectInputLength(len))
+        );
+    }
     let of_elements = hash_of_elements::<Four>(alloc, &FOUR, residue(5), residue(9));
     assert_eq!(rt; of_elements, Ok(residue(1)));
-}
-
-// The digests of a tree of four leaves, by hand.
-#[test]
-fn digests_of_a_tree(rt: HostRuntime) {
-    let alloc = rt.alloc();
-    let leaf = |input: &[u8]| hash::<Two>(alloc, &TWO, input);
-    assert_eq!(rt; leaf(&[0x25]), Ok(residue(9)));
-    assert_eq!(rt; leaf(&[0x01]), Ok(residue(1)));
-    assert_eq!(rt; leaf(&[]), Ok(residue(0)));
-    assert_eq!(rt; leaf(&[0x40]), Ok(residue(8)));
-    let pair = |left: &[u8], right: &[u8]| hash_of_two::<Four>(alloc, &FOUR, left, right);
-    assert_eq!(rt; pair(&[9], &[1]), Ok(residue(10)));
-    assert_eq!(rt; pair(&[0], &[8]), Ok(residue(8)));
-    assert_eq!(rt; pair(&[10], &[8]), Ok(residue(5)));
 }
 
 fn setup_is_drawn<C: CurveGroup + DigestItem, W: Window>(
@@ -148,26 +146,17 @@ fn powers_are_drawn<C: CurveGroup + DigestItem, W: Window>(
     Ok(is_doubled(&powers, C::rand(&mut twin), count))
 }
 
+type G61 = Residues<M61>;
+
 #[test]
 fn setup_doubles_what_is_drawn(rt: HostRuntime) {
     let alloc = rt.alloc();
-    assert_eq!(rt; setup_is_drawn::<Residues<M61>, Three>(alloc, 7), Ok(true));
-    assert_eq!(rt;
-        setup_of_two_is_drawn::<Residues<M61>, Three>(alloc, 7),
-        Ok(true)
-    );
-    assert_eq!(rt;
-        generators_are_drawn::<Residues<M61>, Three>(alloc, 7),
-        Ok(true)
-    );
-    assert_eq!(rt;
-        powers_are_drawn::<Residues<M61>, Three>(alloc, 7, 6),
-        Ok(true)
-    );
-    assert_eq!(rt;
-        powers_are_drawn::<Residues<M61>, Three>(alloc, 7, 0),
-        Ok(true)
-    );
+    assert_eq!(rt; setup_is_drawn::<G61, Three>(alloc, 7), Ok(true));
+    assert_eq!(rt; setup_of_two_is_drawn::<G61, Three>(alloc, 7), Ok(true));
+    assert_eq!(rt; generators_are_drawn::<G61, Three>(alloc, 7), Ok(true));
+    for count in [0usize, 6] {
+        assert_eq!(rt; powers_are_drawn::<G61, Three>(alloc, 7, count), Ok(true));
+    }
 }
 
 fn has_bits(alloc: Global, bytes: &[u8], bits: &[bool]) -> Result<bool, Error> {
@@ -202,15 +191,21 @@ fn is_duplicated(alloc: Global) -> Result<bool, Error> {
     Ok(parameters.duplicate(alloc)?.generators == parameters.generators)
 }
 
+fn list_of_two(alloc: Global) -> Result<Vec<u8>, Error> {
+    let mut several = Vec::new(alloc);
+    several.push(parameters(alloc, &UNEVEN)?)?;
+    several.push(parameters(alloc, &TWO)?)?;
+    canonical_bytes(alloc, &several)
+}
+
+// Whether bytes are read as a list of parameters, and written again.
+fn is_list(alloc: Global, bytes: &[u8]) -> Result<bool, Error> {
+    let list = Vec::<Parameters<G13>>::deserialize(alloc, bytes)?.0;
+    Ok(list.len() == 2 && canonical_bytes(alloc, &list)?.as_slice() == bytes)
+}
+
 fn stands_in_lists(alloc: Global) -> Result<bool, Error> {
-    let several = vec![in alloc; parameters(alloc, &UNEVEN)?, parameters(alloc, &TWO)?]?;
-    let bytes = canonical_bytes(alloc, &several)?;
-    let (list, used) = Vec::<Parameters<G13>>::deserialize(alloc, &bytes)?;
-    Ok(
-        used == bytes.len()
-            && list.len() == 2
-            && list[1].generators == parameters(alloc, &TWO)?.generators,
-    )
+    is_list(alloc, &list_of_two(alloc)?)
 }
 
 #[test]

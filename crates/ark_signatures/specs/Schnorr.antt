@@ -32,7 +32,7 @@ challenge_of modulus bits digest = digest >>= λ bytes. Ok (scalar_of modulus bi
 
 -- The first number, drawn one after another, whose multiple of the generator has a challenge; that challenge; and the
 -- stream behind the draw. The digest's refusal is told at the first multiple that meets one, and `DrawsExhausted` after
--- so many draws without a challenge.
+-- the given count of draws without a challenge.
 unfoldable pub first_nonce : {F : Type 0} → (Stream → F × Stream) → (F → ℕ) → (ℕ → Outcome (Option ℕ)) → ℕ → Stream
     → Outcome ((ℕ × ℕ) × Stream)
 first_nonce draw value challenge zero stream = Err (GenericError DrawsExhausted)

@@ -1,7 +1,7 @@
 //! Schnorr signatures with keys that are drawn.
 
 ghost use Rattle.std.specs.Prelude.{Ok, replicate};
-ghost use Rattle.ark_signatures_tests.specs.Refusing.{refused, refused-decided};
+ghost use Rattle.ark_signatures_tests.specs.Refusing.{refused};
 
 use ark_base::error::{Error, Refusal};
 use ark_base::serialize::{CanonicalDeserialize, CanonicalSerialize, canonical_bytes};
@@ -43,7 +43,7 @@ impl ByteDigest for Refuses {
         Err(Error::GenericError(Refusal::Custom(7)))
     }
 
-    ghost decided = { refused-decided };
+    ghost decided = { λ _ same. cc };
 }
 
 // Whether a text is told to be signed, where another is.
@@ -124,7 +124,7 @@ fn keys_and_nonces_are_drawn(rt: HostRuntime) {
     assert_eq!(rt; is_response(rt.alloc(), 12345), Ok(true));
 }
 
-// Why a text is not signed under a digest, and whether so many draws were taken.
+// Why a text is not signed under a digest, and whether this count of draws was taken.
 fn refusal<D: ByteDigest>(alloc: Global, draws: u32) -> (Option<Error>, bool) {
     let mut rng = ChaCha20Rng::seed_from_u64(26);
     let mut twin = ChaCha20Rng::seed_from_u64(26);

@@ -4,8 +4,6 @@
 mod arrays;
 mod rfc6962;
 mod strings;
-#[cfg(test)]
-mod tests;
 
 pub use arrays::{ArraySha256, Sha256Arrays};
 pub use rfc6962::{LogSha256, Sha256Log};

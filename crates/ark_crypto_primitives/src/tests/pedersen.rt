@@ -14,7 +14,6 @@ use crate::{Error, to_uncompressed_bytes};
 use rand::rngs::SmallRng;
 use rand::{Rng, SeedableRng};
 use std::alloc::Global;
-use std::test::Fail;
 
 // Windows of four bits: two, four, 256.
 
@@ -151,71 +150,60 @@ fn reckoned_root(alloc: Global) -> Result<Residues<M13>, Error> {
 }
 
 // The digest beside a leaf.
-fn reckoned_beside(alloc: Global, index: usize) -> Result<Residues<M13>, Error> {
-    let tree = reckoned(alloc)?;
+fn beside<P: Config>(tree: &MerkleTree<P>, index: usize) -> Result<&P::LeafDigest, Error> {
     if index >= tree.size() {
         return Err(Error::IncorrectInputLength(index));
     }
-    Ok(*tree.get_leaf_sibling_hash(index))
+    Ok(tree.get_leaf_sibling_hash(index))
 }
 
-// Whether the path of a leaf has these canonical bytes.
-fn has_bytes(
+fn reckoned_beside(alloc: Global, index: usize) -> Result<Residues<M13>, Error> {
+    Ok(*beside(&reckoned(alloc)?, index)?)
+}
+
+// The canonical bytes of the path of a leaf.
+fn path_bytes<P: Config>(
     alloc: Global,
-    tree: &MerkleTree<By13>,
+    tree: &MerkleTree<P>,
     index: usize,
-    bytes: &[u8],
-) -> Result<bool, Error> {
+) -> Result<Vec<u8>, Error> {
     if index >= tree.size() {
         return Err(Error::IncorrectInputLength(index));
     }
-    let written = to_uncompressed_bytes!(in alloc; tree.generate_proof(alloc, index)?)?;
-    Ok(written.as_slice() == bytes)
+    to_uncompressed_bytes!(in alloc; tree.generate_proof(alloc, index)?)
 }
 
 fn reckoned_has_bytes(alloc: Global, index: usize, bytes: &[u8]) -> Result<bool, Error> {
-    has_bytes(alloc, &reckoned(alloc)?, index, bytes)
+    Ok(path_bytes(alloc, &reckoned(alloc)?, index)?.as_slice() == bytes)
 }
 
 #[test]
-fn leaf_digests_reach_the_pair_hash_as_bytes(rt: HostRuntime) -> Result<(), Fail> {
+fn leaf_digests_reach_the_pair_hash_as_bytes(rt: HostRuntime) {
     assert_eq!(rt; reckoned_root(rt.alloc()), Ok(residue(5)));
-    assert_eq!(rt; reckoned_beside(rt.alloc(), 1), Ok(residue(9)));
-    assert_eq!(rt; reckoned_beside(rt.alloc(), 0), Ok(residue(1)));
-    assert_eq!(rt; reckoned_beside(rt.alloc(), 3), Ok(residue(0)));
-    assert_eq!(rt; reckoned_beside(rt.alloc(), 2), Ok(residue(8)));
-    Ok(())
+    for (index, beside) in [(0usize, 1u64), (1, 9), (2, 8), (3, 0)] {
+        assert_eq!(rt;
+            reckoned_beside(rt.alloc(), index),
+            Ok(residue(beside)),
+            "{index}"
+        );
+    }
 }
+
+// The node of the first two leaves is 10.
+const PATHS: [(usize, [u8; 18]); 2] = [
+    (0, [1, 1, 0, 0, 0, 0, 0, 0, 0, 8, 0, 0, 0, 0, 0, 0, 0, 0]),
+    (2, [8, 1, 0, 0, 0, 0, 0, 0, 0, 10, 2, 0, 0, 0, 0, 0, 0, 0]),
+];
 
 #[test]
-fn a_proof_has_bytes(rt: HostRuntime) -> Result<(), Fail> {
-    assert_eq!(rt;
-        reckoned_has_bytes(
-            rt.alloc(),
-            0,
-            &[1, 1, 0, 0, 0, 0, 0, 0, 0, 8, 0, 0, 0, 0, 0, 0, 0, 0]
-        ),
-        Ok(true)
-    );
-    // The node of the first two leaves is 10.
-    assert_eq!(rt;
-        reckoned_has_bytes(
-            rt.alloc(),
-            2,
-            &[8, 1, 0, 0, 0, 0, 0, 0, 0, 10, 2, 0, 0, 0, 0, 0, 0, 0]
-        ),
-        Ok(true)
-    );
-    Ok(())
-}
-
-// A tree of drawn leaves of 32 bytes, with its drawn parameters.
-#[derive(Drop)]
-struct Drawn {
-    leaf_parameters: Parameters<Residues<M61>>,
-    pair_parameters: Parameters<Residues<M61>>,
-    leaves: Vec<Vec<u8>>,
-    tree: MerkleTree<By61>,
+fn a_proof_has_bytes(rt: HostRuntime) {
+    for (index, bytes) in PATHS {
+        assert_eq!(rt;
+            reckoned_has_bytes(rt.alloc(), index, &bytes),
+            Ok(true),
+            "{index}"
+        );
+    }
 }
 
 fn drawn_leaf<R: Rng>(alloc: Global, rng: &mut R) -> Result<Vec<u8>, Error> {
@@ -230,134 +218,136 @@ fn drawn_leaves<R: Rng>(alloc: Global, count: usize, rng: &mut R) -> Result<Vec<
     Ok(leaves)
 }
 
-fn draw<R: Rng>(alloc: Global, count: usize, rng: &mut R) -> Result<Drawn, Error> {
-    let leaf_parameters = CRH::<Residues<M61>, Many>::setup(alloc, rng)?;
-    let pair_parameters = TwoToOneCRH::<Residues<M61>, Many>::setup(alloc, rng)?;
-    let leaves = drawn_leaves(alloc, count, rng)?;
-    let tree = tree_of::<By61>(alloc, &leaf_parameters, &pair_parameters, &leaves)?;
-    Ok(Drawn {
-        leaf_parameters,
-        pair_parameters,
-        leaves,
-        tree,
-    })
-}
-
 fn are_inside(indexes: &[usize], size: usize) -> bool
     ensures { IsTrue result ↔ All (λ i. i < size) indexes.now }
 {
     indexes.iter().all(|index| *index < size)
 }
 
-impl Drawn {
-    fn path_is_accepted(&self, alloc: Global, index: usize, leaf: &Vec<u8>) -> Result<bool, Error> {
-        if index >= self.tree.size() {
-            return Err(Error::IncorrectInputLength(index));
-        }
-        let path = self.tree.generate_proof(alloc, index)?;
-        path.verify(
-            alloc,
-            &self.leaf_parameters,
-            &self.pair_parameters,
-            self.tree.root(),
-            leaf,
-        )
+fn proof_of_all<P: Config>(alloc: Global, tree: &MerkleTree<P>) -> Result<MultiPath<P>, Error> {
+    let mut indexes = Vec::new(alloc);
+    for index in 0..tree.size() {
+        indexes.push(index)?;
     }
-
-    fn proof_of_all(&self, alloc: Global) -> Result<MultiPath<By61>, Error> {
-        let mut indexes = Vec::new(alloc);
-        for index in 0..self.tree.size() {
-            indexes.push(index)?;
-        }
-        if !are_inside(&indexes, self.tree.size()) {
-            return Err(Error::IncorrectInputLength(indexes.len()));
-        }
-        self.tree.generate_multi_proof(alloc, &indexes)
+    if !are_inside(&indexes, tree.size()) {
+        return Err(Error::IncorrectInputLength(indexes.len()));
     }
-
-    // Whether each own path is accepted with its leaf, and the multi-proof of all indexes with all leaves.
-    fn all_are_accepted(&self, alloc: Global) -> Result<bool, Error> {
-        for (index, leaf) in self.leaves.iter().enumerate() {
-            if !self.path_is_accepted(alloc, index, leaf)? {
-                return Ok(false);
-            }
-        }
-        self.proof_of_all(alloc)?.verify(
-            alloc,
-            &self.leaf_parameters,
-            &self.pair_parameters,
-            self.tree.root(),
-            self.leaves.iter(),
-        )
-    }
-
-    fn set_leaf(&mut self, alloc: Global, index: usize, leaf: Vec<u8>) -> Result<(), Error> {
-        if index >= self.tree.size() || index >= self.leaves.len() {
-            return Err(Error::IncorrectInputLength(index));
-        }
-        self.tree.update(alloc, index, &leaf)?;
-        self.leaves[index] = leaf;
-        Ok(())
-    }
-
-    fn set_drawn_leaves<R: Rng>(
-        &mut self,
-        alloc: Global,
-        indexes: &[usize],
-        rng: &mut R,
-    ) -> Result<(), Error> {
-        for index in indexes {
-            self.set_leaf(alloc, *index, drawn_leaf(alloc, rng)?)?;
-        }
-        Ok(())
-    }
+    tree.generate_multi_proof(alloc, &indexes)
 }
 
-// Whether all proofs of a tree are accepted before leaves are set at these indexes, and after.
-fn stays_accepted(alloc: Global, count: usize, indexes: &[usize]) -> Result<bool, Error> {
-    let mut rng = SmallRng::seed_from_u64(61);
-    let mut drawn = draw(alloc, count, &mut rng)?;
-    if !drawn.all_are_accepted(alloc)? {
-        return Ok(false);
+fn path_is_accepted<P: Config>(
+    alloc: Global,
+    leaf_parameters: &LeafParam<P>,
+    pair_parameters: &TwoToOneParam<P>,
+    tree: &MerkleTree<P>,
+    index: usize,
+    leaf: &P::Leaf,
+) -> Result<bool, Error> {
+    if index >= tree.size() {
+        return Err(Error::IncorrectInputLength(index));
     }
-    drawn.set_drawn_leaves(alloc, indexes, &mut rng)?;
-    drawn.all_are_accepted(alloc)
+    let path = tree.generate_proof(alloc, index)?;
+    path.verify(alloc, leaf_parameters, pair_parameters, tree.root(), leaf)
 }
 
-#[test]
-fn own_proofs_are_accepted_before_and_after_updates(rt: HostRuntime) -> Result<(), Fail> {
-    assert_eq!(rt; stays_accepted(rt.alloc(), 2, &[0, 1]), Ok(true));
-    assert_eq!(rt; stays_accepted(rt.alloc(), 4, &[3]), Ok(true));
-    assert_eq!(rt;
-        stays_accepted(rt.alloc(), 128, &[2, 3, 5, 111, 127]),
-        Ok(true)
-    );
+// Whether each own path is accepted with its leaf, and the multi-proof of all indexes with all leaves.
+fn all_are_accepted<P: Config>(
+    alloc: Global,
+    leaf_parameters: &LeafParam<P>,
+    pair_parameters: &TwoToOneParam<P>,
+    tree: &MerkleTree<P>,
+    leaves: &[P::Leaf],
+) -> Result<bool, Error> {
+    for (index, leaf) in leaves.iter().enumerate() {
+        if !path_is_accepted(alloc, leaf_parameters, pair_parameters, tree, index, leaf)? {
+            return Ok(false);
+        }
+    }
+    proof_of_all(alloc, tree)?.verify(
+        alloc,
+        leaf_parameters,
+        pair_parameters,
+        tree.root(),
+        leaves.iter(),
+    )
+}
+
+fn set_leaf<P: Config>(
+    alloc: Global,
+    tree: &mut MerkleTree<P>,
+    leaves: &mut [P::Leaf],
+    index: usize,
+    leaf: P::Leaf,
+) -> Result<(), Error> {
+    if index >= tree.size() || index >= leaves.len() {
+        return Err(Error::IncorrectInputLength(index));
+    }
+    tree.update(alloc, index, &leaf)?;
+    leaves[index] = leaf;
     Ok(())
 }
 
-// Whether the multi-proof of all indexes of a tree of eight drawn leaves has these numbers of shared and of own digests.
-fn shares(alloc: Global, shared: &[usize], own: &[usize]) -> Result<bool, Error> {
-    let proof = draw(alloc, 8, &mut SmallRng::seed_from_u64(8))?.proof_of_all(alloc)?;
-    Ok(
-        proof.leaf_indexes.iter().copied().eq(0..8usize)
-            && proof.auth_paths_prefix_lenghts.as_slice() == shared
-            && proof
-                .auth_paths_suffixes
-                .iter()
-                .map(|suffix| suffix.len())
-                .eq(own.iter().copied()),
+fn set_drawn_leaves<P: Config<Leaf = Vec<u8>>, R: Rng>(
+    alloc: Global,
+    tree: &mut MerkleTree<P>,
+    leaves: &mut [Vec<u8>],
+    indexes: &[usize],
+    rng: &mut R,
+) -> Result<(), Error> {
+    for index in indexes {
+        set_leaf(alloc, tree, leaves, *index, drawn_leaf(alloc, rng)?)?;
+    }
+    Ok(())
+}
+
+// Whether the tree of some leaves accepts its own proofs, before drawn leaves are set at these indexes and after.
+fn tree_stays_accepted<P: Config<Leaf = Vec<u8>>, R: Rng>(
+    alloc: Global,
+    leaf_parameters: &LeafParam<P>,
+    pair_parameters: &TwoToOneParam<P>,
+    leaves: &mut [Vec<u8>],
+    indexes: &[usize],
+    rng: &mut R,
+) -> Result<bool, Error> {
+    let mut tree = tree_of::<P>(alloc, leaf_parameters, pair_parameters, leaves)?;
+    if !all_are_accepted(alloc, leaf_parameters, pair_parameters, &tree, leaves)? {
+        return Ok(false);
+    }
+    set_drawn_leaves(alloc, &mut tree, leaves, indexes, rng)?;
+    all_are_accepted(alloc, leaf_parameters, pair_parameters, &tree, leaves)
+}
+
+// Such a tree of drawn leaves of 32 bytes, over drawn parameters.
+fn stays_accepted<P: Config<Leaf = Vec<u8>>>(
+    alloc: Global,
+    count: usize,
+    indexes: &[usize],
+) -> Result<bool, Error> {
+    let mut rng = SmallRng::seed_from_u64(61);
+    let leaf_parameters = P::LeafHash::setup(alloc, &mut rng)?;
+    let pair_parameters = P::TwoToOneHash::setup(alloc, &mut rng)?;
+    let mut leaves = drawn_leaves(alloc, count, &mut rng)?;
+    tree_stays_accepted::<P, SmallRng>(
+        alloc,
+        &leaf_parameters,
+        &pair_parameters,
+        &mut leaves,
+        indexes,
+        &mut rng,
     )
 }
 
 #[test]
-fn a_multi_proof_shares_what_its_paths_share(rt: HostRuntime) -> Result<(), Fail> {
-    assert_eq!(rt;
-        shares(
-            rt.alloc(),
-            &[0, 2, 1, 2, 0, 2, 1, 2],
-            &[2, 0, 1, 0, 2, 0, 1, 0]
-        ),
-        Ok(true)
-    );
-    Ok(())
+fn own_proofs_are_accepted_before_and_after_updates(rt: HostRuntime) {
+    for (count, indexes) in [
+        (2usize, [0usize, 1].as_slice()),
+        (4, &[3]),
+        (128, &[2, 3, 5, 111, 127]),
+    ] {
+        assert_eq!(rt;
+            stays_accepted::<By61>(rt.alloc(), count, indexes),
+            Ok(true),
+            "{count} leaves"
+        );
+    }
 }

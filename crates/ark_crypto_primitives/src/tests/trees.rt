@@ -1,11 +1,10 @@
 //! Roots that other implementations give, and what a client answers.
 
-use crate::{Sha256Arrays, Sha256Log, Sha256Strings};
-use ark_base::error::{Error, SerializationError};
-use ark_base::serialize::canonical_bytes;
-use ark_merkle::{Config, LeafParam, MerkleTree, Path, TwoToOneParam, is_tree_size};
+use crate::merkle_tree::{Config, LeafParam, MerkleTree, Path, TwoToOneParam, is_tree_size};
+use crate::serialize::canonical_bytes;
+use crate::trees::{Sha256Arrays, Sha256Log, Sha256Strings};
+use crate::{Error, SerializationError};
 use std::alloc::Global;
-use std::test::Fail;
 
 // The entries that implementations of RFC 6962 are tested with.
 const ENTRIES: [&[u8]; 8] = [
@@ -47,39 +46,41 @@ fn tree_of<P: Config<Leaf = Vec<u8>>>(
     MerkleTree::new(alloc, leaf_parameters, pair_parameters, &leaves)
 }
 
-// The last 32 bytes of the root's, in hexadecimal.
-fn root_of<P: Config<Leaf = Vec<u8>>>(
+// Whether the last 32 bytes of the root's are shown so in hexadecimal.
+fn has_root<P: Config<Leaf = Vec<u8>>>(
     alloc: Global,
     leaf_parameters: &LeafParam<P>,
     pair_parameters: &TwoToOneParam<P>,
     count: usize,
-) -> Result<String, Error> {
+    root: &str,
+) -> Result<bool, Error> {
     let tree = tree_of::<P>(alloc, leaf_parameters, pair_parameters, count)?;
     let bytes = canonical_bytes(alloc, tree.root())?;
-    Ok(hex::encode(alloc, &bytes[bytes.len().saturating_sub(32)..])?)
+    Ok(hex::encode(alloc, &bytes[bytes.len().saturating_sub(32)..])?.as_str() == root)
 }
 
 #[test]
-fn roots_of_logs(rt: HostRuntime) -> Result<(), Fail> {
-    let alloc = rt.alloc();
-    assert_eq!(rt; root_of::<Sha256Log>(alloc, &(), &(), 2)?.as_str(), OF_TWO);
-    assert_eq!(rt; root_of::<Sha256Log>(alloc, &(), &(), 4)?.as_str(), OF_FOUR);
-    assert_eq!(rt; root_of::<Sha256Log>(alloc, &(), &(), 8)?.as_str(), OF_ALL);
-    Ok(())
+fn roots_of_logs(rt: HostRuntime) {
+    for (count, root) in [(2usize, OF_TWO), (4, OF_FOUR), (8, OF_ALL)] {
+        assert_eq!(rt;
+            has_root::<Sha256Log>(rt.alloc(), &(), &(), count, root),
+            Ok(true),
+            "{count}"
+        );
+    }
 }
 
 #[test]
-fn arrays_and_strings_have_one_root(rt: HostRuntime) -> Result<(), Fail> {
+fn arrays_and_strings_have_one_root(rt: HostRuntime) {
     let alloc = rt.alloc();
     assert_eq!(rt;
-        root_of::<Sha256Arrays>(alloc, &(), &(), 8)?.as_str(),
-        PLAIN
+        has_root::<Sha256Arrays>(alloc, &(), &(), 8, PLAIN),
+        Ok(true)
     );
     assert_eq!(rt;
-        root_of::<Sha256Strings>(alloc, &(), &(), 8)?.as_str(),
-        PLAIN
+        has_root::<Sha256Strings>(alloc, &(), &(), 8, PLAIN),
+        Ok(true)
     );
-    Ok(())
 }
 
 // What a client answers who was told the size, the index and the fourth entry, and was sent the path of an index in the log
@@ -105,29 +106,27 @@ fn answer(
 
 const INVALID: Error = Error::SerializationError(SerializationError::InvalidData);
 
-#[test]
-fn a_client_answers(rt: HostRuntime) -> Result<(), Fail> {
-    let alloc = rt.alloc();
-    assert_eq!(rt; answer(alloc, 3, 0, 8, 3), Ok(true));
-    assert_eq!(rt; answer(alloc, 5, 0, 8, 5), Ok(false));
-    Ok(())
-}
+// The index of a path, the zeros behind it, the size and the index that the client was told, and his answer.
+//
+// He refuses another index, one past the size, and a byte behind the path. Trees of 16 leaves have three digests above the
+// sibling; no tree has six leaves.
+const ANSWERS: [(usize, usize, usize, usize, Result<bool, Error>); 7] = [
+    (3, 0, 8, 3, Ok(true)),
+    (5, 0, 8, 5, Ok(false)),
+    (3, 0, 8, 4, Err(INVALID)),
+    (3, 0, 8, 11, Err(INVALID)),
+    (3, 1, 8, 3, Err(INVALID)),
+    (3, 0, 16, 3, Err(Error::IncorrectInputLength(2))),
+    (3, 0, 6, 3, Err(Error::IncorrectInputLength(6))),
+];
 
 #[test]
-fn a_client_refuses(rt: HostRuntime) -> Result<(), Fail> {
-    let alloc = rt.alloc();
-    // Another index, one past the size, and a byte behind the path.
-    assert_eq!(rt; answer(alloc, 3, 0, 8, 4), Err(INVALID));
-    assert_eq!(rt; answer(alloc, 3, 0, 8, 11), Err(INVALID));
-    assert_eq!(rt; answer(alloc, 3, 1, 8, 3), Err(INVALID));
-    // Trees of 16 leaves have three digests above the sibling; no tree has six leaves.
-    assert_eq!(rt;
-        answer(alloc, 3, 0, 16, 3),
-        Err(Error::IncorrectInputLength(2))
-    );
-    assert_eq!(rt;
-        answer(alloc, 3, 0, 6, 3),
-        Err(Error::IncorrectInputLength(6))
-    );
-    Ok(())
+fn a_client_answers(rt: HostRuntime) {
+    for (own, zeros, size, index, wanted) in ANSWERS {
+        assert_eq!(rt;
+            answer(rt.alloc(), own, zeros, size, index),
+            wanted,
+            "{own} {zeros} {size} {index}"
+        );
+    }
 }
