@@ -25,7 +25,7 @@ length-bits_of_number zero n = refl
 length-bits_of_number (suc k) n = ap suc (length-bits_of_number k (n / 2))
 
 -- the digits of a number that is put together of two
-bits_of_number-add : (k m low high : ℕ) → low < 2 ^ k → bits_of_number (k + m) (low + 2 ^ k * high) ≡ bits_of_number k low ++ bits_of_number m high
+pub bits_of_number-add : (k m low high : ℕ) → low < 2 ^ k → bits_of_number (k + m) (low + 2 ^ k * high) ≡ bits_of_number k low ++ bits_of_number m high
 unfolding bits_of_number
 bits_of_number-add zero m low high fits =
     let none : low + 2 ^ 0 * high ≡ high = omega arith in

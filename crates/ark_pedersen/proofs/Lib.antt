@@ -1,5 +1,6 @@
 pub mod BitSums
 pub mod Copies
+pub mod DrawnLists
 pub mod Halves
 pub mod PedersenSums
 pub mod Shapes

@@ -51,8 +51,8 @@ pub fn hash_halves<C: CurveGroup, W: Window>(
     Ok(add_bytes::<C, W>(sum, generators, 8 * left.len(), right))
 }
 
-// Whether there is a list for each window, with an element for each of its bits.
-fn has_shape<C: CurveGroup, W: Window>(generators: &[Vec<C>]) -> bool
+/// Whether there is a list for each window, with as many elements as its size says.
+pub fn has_shape<C: CurveGroup, W: Window>(generators: &[Vec<C>]) -> bool
     ensures { result ≡ has_shape W.NUM_WINDOWS W.WINDOW_SIZE (lists_in generators.now) }
 {
     generators.len() == W::NUM_WINDOWS && generators.iter().all(|list| list.len() == W::WINDOW_SIZE)
