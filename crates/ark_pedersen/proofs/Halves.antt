@@ -20,9 +20,20 @@ length-bits_of_bytes [] = refl
 length-bits_of_bytes (b ∷ bytes) =
     omega (arith, length-append (bits_of_number 8 b) (bits_of_bytes bytes), length-bits_of_number 8 b, length-bits_of_bytes bytes)
 
-length-full_halves : (half : ℕ) (left right : List ℕ) → length left ≡ length right → length left ≤ half / 8 → length (full_halves half left right) ≡ 2 * half / 8
+pub length-full_halves : (half : ℕ) (left right : List ℕ) → length left ≡ length right → length left ≤ half / 8 → length (full_halves half left right) ≡ 2 * half / 8
 length-full_halves half left right same short =
     omega (arith, length-append (left ++ right) (replicate (2 * half / 8 - length (left ++ right)) 0), length-append left right, length-replicate {A = ℕ} (2 * half / 8 - length (left ++ right)) 0)
+
+-- the hash of halves that fit is that of the whole
+pub of_halves-full : {G W : Type 0} (windows : Windows W) (hash : List ℕ → Outcome G) (left right : List ℕ) → length left ≡ length right → length left ≤ window_bits windows / 2 / 8
+    → of_halves windows hash left right ≡ hash (full_halves (window_bits windows / 2) left right)
+of_halves-full {G} windows hash left right same short =
+    let half = window_bits windows / 2 in
+    let long : Outcome G = Err (IncorrectInputLength (length left)) in
+    let unequal : Outcome G = Err (IncorrectInputLength (length right)) in
+    let whole : Outcome G = hash (full_halves half left right) in
+    ap (λ (b : Bool). cond b (cond (ltb half (8 * length left)) long whole) unequal) (eq-eqb _ _ same)
+    ∙ ap (λ (b : Bool). cond b long whole) (le-ltb _ _ (omega arith))
 
 module _ {G : Type 0} {g : Group G} (laws : IsCommutativeGroup g) where
   -- zeros add nothing
@@ -57,16 +68,12 @@ module _ {G : Type 0} {g : Group G} (laws : IsCommutativeGroup g) where
   of_halves-sum windows lists left right same short shape =
       let bits = window_bits windows in
       let whole = full_halves (bits / 2) left right in
-      let hash : Outcome G = pedersen_hash g windows lists whole in
-      let long : Outcome G = Err (IncorrectInputLength (length left)) in
-      let unequal : Outcome G = Err (IncorrectInputLength (length right)) in
       let too_long : Outcome G = Err (IncorrectInputLength (length whole)) in
       let shapeless : Outcome G = Err (GenericError ParameterShape) in
       let sum : Outcome G = Ok (pedersen_sum g (concatenation lists) (bits_of_bytes whole)) in
       let shaped = has_shape windows.NUM_WINDOWS windows.WINDOW_SIZE lists in
       let fits : ltb bits (8 * length whole) ≡ false = le-ltb _ _ (omega (arith, length-full_halves (bits / 2) left right same (omega arith))) in
-      ap (λ (b : Bool). cond b (cond (ltb (bits / 2) (8 * length left)) long hash) unequal) (eq-eqb _ _ same)
-      ∙ ap (λ (b : Bool). cond b long hash) (le-ltb _ _ (omega arith))
+      of_halves-full windows (pedersen_hash g windows lists) left right same short
       ∙ ap (λ (b : Bool). cond b too_long (cond shaped sum shapeless)) fits
       ∙ ap (λ (b : Bool). cond b sum shapeless) shape
       ∙ ap (λ (x : G). let o : Outcome G = Ok x in o) (sum_of_halves (concatenation lists) (bits / 2) left right)

@@ -1,0 +1,6 @@
+pub mod Chunks
+pub mod Hashes
+pub mod Scalars
+pub mod Segments
+pub mod SignedTimes
+pub mod Words

@@ -1,0 +1,2 @@
+-- The laws of Bowe-Hopwood hashes.
+pub mod BoweHopwood

@@ -1,0 +1,3 @@
+pub mod BoweHopwood
+pub mod Laws
+pub use Rattle.ark_base.specs.Outcome

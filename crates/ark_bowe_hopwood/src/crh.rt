@@ -1,0 +1,140 @@
+//! The Bowe-Hopwood hash of one input.
+
+ghost use Rattle.std.specs.Prelude.{◌≡◌, ◌∷◌, [], ℕ, List, IfOk, OnOk, IfErr};
+ghost use Rattle.ark_base.specs.Outcome.{AnswersBy};
+ghost use Rattle.ark_pedersen.specs.Pedersen.{lists_in, window_elements, seen_by};
+ghost use Rattle.ark_bowe_hopwood.specs.BoweHopwood.{sixteenfolds, TellsChunksApart};
+ghost use Rattle.ark_bowe_hopwood.specs.BoweHopwood.{AreSegmentsOf, AreDrawnSegments, segments_outcome};
+ghost use Rattle.ark_bowe_hopwood.specs.BoweHopwood.{bowe_hopwood_hash, segments_hash};
+
+use crate::parameters::Parameters;
+use crate::setup::is_fitting;
+use crate::sums::hash_bytes;
+use ark_base::error::{Error, Refusal};
+use ark_base::serialize::DigestItem;
+use ark_crh::CRHScheme;
+use ark_groups::ec::{CurveGroup, TECoordinates};
+use ark_groups::ff::PrimeField;
+use ark_pedersen::Window;
+use rand::Rng;
+use std::alloc::Global;
+use std::marker::PhantomData;
+
+/// The Bowe-Hopwood hash of one input.
+pub struct CRH<G: CurveGroup + TECoordinates, W: Window> {
+    group: PhantomData<G>,
+    window: PhantomData<W>,
+}
+
+impl<G: CurveGroup + TECoordinates, W: Window> CRH<G, W> {
+    /// A list for each window: an element that is drawn, then each sixteen times the one before, as many as the window
+    /// has chunks. The only refusal is `OutOfMemory`.
+    pub fn create_generators<R: Rng>(alloc: Global, rng: &mut R) -> Result<Vec<Vec<G>>, Error>
+        ensures made { let stream = R.stream rng.old in
+            IfOk result (λ made. AreDrawnSegments G.group G.draw W.Window stream (lists_in made.items)) }
+        ensures left { OnOk result
+            (R.stream rng.new ≡ (window_elements G.draw W.Window (R.stream rng.old)).1) }
+        ensures refused { IfErr result (λ error. error ≡ Error.OutOfMemory) }
+    {
+        let mut lists = Vec::with_capacity(alloc, W::NUM_WINDOWS)?;
+        for _ in 0..W::NUM_WINDOWS {
+            lists.push(segment(alloc, W::WINDOW_SIZE, G::rand(rng))?)?;
+        }
+        Ok(lists)
+    }
+}
+
+// An element, then each sixteen times the one before, `count` in all. The only refusal is `OutOfMemory`.
+fn segment<G: CurveGroup>(alloc: Global, count: usize, element: G) -> Result<Vec<G>, Error>
+    ensures made { IfOk result (λ list. list.items ≡ sixteenfolds G.group count element) }
+    ensures refused { IfErr result (λ error. error ≡ Error.OutOfMemory) }
+{
+    let mut list = Vec::with_capacity(alloc, count)?;
+    let mut last = element;
+    for _ in 0..count {
+        list.push(last)?;
+        last = last.double().double().double().double();
+    }
+    Ok(list)
+}
+
+impl<G: CurveGroup + TECoordinates, W: Window> CRHScheme for CRH<G, W>
+where
+    G::BaseField: DigestItem,
+{
+    ghost use Rattle.std.proofs.Common.{sym, ap, ◌∙◌};
+    ghost use Rattle.ark_pedersen.specs.Laws.Pedersen.{seen-decided};
+    ghost use Rattle.ark_bowe_hopwood.specs.Laws.BoweHopwood.{bowe_hopwood-decided, segments-decided};
+
+    type Input = Vec<u8>;
+
+    type Output = G::BaseField;
+
+    type Parameters = Parameters<G>;
+
+    ghost meaning = { λ parameters input. let lists = lists_in parameters.generators.items in
+        seen_by (λ x. x ∷ []) (bowe_hopwood_hash G.group G.x W.Window lists input.items) };
+
+    ghost setup_outcome = { segments_outcome G.ScalarField.MODULUS G.draw W.Window };
+
+    ghost is_made = { λ stream parameters.
+        AreDrawnSegments G.group G.draw W.Window stream (lists_in parameters.generators.items) };
+
+    /// Parameters of generators as `create_generators` makes them.
+    ///
+    /// Refusals: `WindowTooLarge`, where four times the sum of the powers of 16 below a window's size passes half of the
+    /// order less one; `OutOfMemory`.
+    fn setup<R: Rng>(alloc: Global, rng: &mut R) -> Result<Parameters<G>, Error>
+        ensures outcome { let left = R.stream rng.new in
+            let outcome = segments_outcome G.ScalarField.MODULUS G.draw W.Window in
+            AnswersBy (λ _. left) (outcome (R.stream rng.old)) result }
+        ensures made { let AreMade = AreDrawnSegments G.group G.draw W.Window (R.stream rng.old) in
+            IfOk result (λ parameters. AreMade (lists_in parameters.generators.items)) }
+
+        // No two lists of chunks of one length, at most a window's, have the same multiples of each element.
+        ensures unique { OnOk result (TellsChunksApart G.ScalarField.MODULUS W.WINDOW_SIZE) }
+    {
+        if !is_fitting(G::ScalarField::MODULUS, W::WINDOW_SIZE) {
+            return Err(Error::GenericError(Refusal::WindowTooLarge));
+        }
+        Ok(Parameters {
+            generators: Self::create_generators(alloc, rng)?,
+        })
+    }
+
+    /// The first coordinate of the sum of the generators, each as often as the digit of its chunk of the input says. It
+    /// takes no memory.
+    ///
+    /// Refusals: `IncorrectInputLength` with the input's bytes, where these have more bits than three for each generator;
+    /// `ParameterShape`, where the generators are not a list for each window with an element for each of its chunks.
+    fn evaluate(
+        _alloc: Global,
+        parameters: &Parameters<G>,
+        input: &Vec<u8>,
+    ) -> Result<G::BaseField, Error>
+        ensures exact { let lists = lists_in parameters.now.generators.items in
+            let hash = bowe_hopwood_hash G.group G.x W.Window lists in
+            seen_by G.BaseField.value result ≡ hash input.now.items }
+
+        // Where the generators are those of elements, by the sum over the segments of the segment's scalar times its element.
+        ensures segments { let lists = lists_in parameters.now.generators.items in
+            (elements : List G) → AreSegmentsOf G.group W.Window elements lists
+            → let hash = segments_hash G.group G.x W.Window elements in
+            seen_by G.BaseField.value result ≡ hash input.now.items }
+    {
+        hash_bytes::<G, W>(&parameters.generators, input)
+    }
+
+    ghost meaning_decided = { λ parameters input.
+        seen-decided (λ x. x ∷ []) _
+        (bowe_hopwood-decided G.group G.x W.Window (lists_in parameters.generators.items)
+        input.items) };
+
+    ghost setup_decided = { segments-decided G.ScalarField.MODULUS G.draw W.Window };
+
+    ghost made_alike = { λ s p q made also. made.1 ∙ sym also.1 };
+
+    ghost same_parameters = { λ p q same.
+        ap (λ lists input. seen_by (λ x. x ∷ [])
+        (bowe_hopwood_hash G.group G.x W.Window lists input.items)) same };
+}

@@ -1,0 +1,16 @@
+//! Bowe-Hopwood hashes: the first coordinate of a sum of elements, each as often as a signed digit of three bits says.
+#![tactic(auto)]
+
+mod crh;
+mod parameters;
+mod setup;
+mod sums;
+mod text;
+mod two_to_one;
+
+pub use crh::CRH;
+pub use parameters::Parameters;
+pub use two_to_one::TwoToOneCRH;
+
+/// The bits of a chunk (Zcash protocol specification, section 5.4.1.7).
+pub const CHUNK_SIZE: usize = 3;
