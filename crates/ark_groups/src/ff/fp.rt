@@ -97,6 +97,11 @@ impl<M: Modulus> PrimeField for Fp<M> {
     }
 
     fn add(self, other: Fp<M>) -> Fp<M> {
+        // Below 2^63 a sum of two is a word.
+        if M::P <= 1 << 63 {
+            let sum = self.value + other.value;
+            return Fp::reduced(if sum >= M::P { sum - M::P } else { sum });
+        }
         let room = M::P - other.value;
         Fp::reduced(if self.value < room {
             self.value + other.value

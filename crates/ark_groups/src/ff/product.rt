@@ -57,18 +57,13 @@ pub fn reduced_sum<M: Modulus>(sum: u128) -> u64
 
 // The remainder by 2^61 - 1, by shift and add: 2^61 is 1 modulo it.
 fn folded(number: u128) -> u64
-    requires { number < 2 ^ 122 }
+    requires { number < 2 ^ 61 * 2305843009213693951 }
     ensures { result ≡ number % 2305843009213693951 }
 {
     let low = (number % (1 << 61)) as u64;
     let high = (number >> 61) as u64;
     let sum = low + high;
-    let once = if sum >= MERSENNE { sum - MERSENNE } else { sum };
-    if once >= MERSENNE {
-        once - MERSENNE
-    } else {
-        once
-    }
+    if sum >= MERSENNE { sum - MERSENNE } else { sum }
 }
 
 /// The number that the bytes are, the least first, modulo the modulus: eight bytes at a time, from the last.

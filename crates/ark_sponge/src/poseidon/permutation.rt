@@ -24,13 +24,22 @@ pub fn add_row<F: PrimeField>(state: &mut [F], row: &[F])
     }
 }
 
-// Applies the S-box to the `count` first elements.
-fn apply_sbox<F: PrimeField, S: SBox<F>>(state: &mut [F], alpha: u64, count: usize)
-    requires { count ≤ length state.old }
-    ensures { map F.value state.new ≡ front_images (S.image alpha) count (map F.value state.old) }
+// Writes what a round's matrix is multiplied with: the sums of a state and a row of constants, and the images of the `count` first.
+fn write_images<F: PrimeField, S: SBox<F>>(
+    state: &[F],
+    row: &[F],
+    alpha: u64,
+    count: usize,
+    out: &mut [F],
+)
+    requires row { length row.now ≡ length state.now }
+    requires out { length out.old ≡ length state.now }
+    ensures { map F.value out.new ≡ front_images (S.image alpha) count
+        (sums F.MODULUS (map F.value state.now) (map F.value row.now)) }
 {
-    for i in 0..count {
-        state[i] = S::apply(alpha, state[i]);
+    for (i, x) in state.iter().enumerate() {
+        let sum = x.add(row[i]);
+        out[i] = if i < count { S::apply(alpha, sum) } else { sum };
     }
 }
 
@@ -66,9 +75,7 @@ pub fn apply_rounds<F: PrimeField, S: SBox<F>>(
         count (map (λ row. map F.value row.items) constants.now) (map F.value state.old) }
 {
     for row in constants {
-        add_row(state, row);
-        apply_sbox::<F, S>(state, alpha, count);
-        multiply(mds, state, scratch);
-        state.copy_from_slice(scratch);
+        write_images::<F, S>(state, row, alpha, count, scratch);
+        multiply(mds, scratch, state);
     }
 }

@@ -1,4 +1,4 @@
-use Rattle.std.proofs.Common.{◌<◌, map, length, ◌∙◌, ap, arith}
+use Rattle.std.proofs.Common.{◌<◌, map, length, arith}
 use Rattle.std.proofs.Math.ListN.{length-map}
 use Rattle.ark_sponge.proofs.Rows.{poseidon_rounds-more, row_read}
 use Rattle.ark_sponge.proofs.poseidon.permutation.apply_rounds.Goals as goal
@@ -10,7 +10,6 @@ loop-row-preserved g c =
     let i = c.loop-row.row-index in
     let row = c.deref.result.now in
     let in_rows : i < length rows = omega arith in
-    ap (map f.value) c.copy_from_slice.ensures.after
-    ∙ poseidon_rounds-more f.MODULUS _ _ c.args.count _ _ (map f.value row) _ _ _ _ i (rw length-map in_rows)
+    poseidon_rounds-more f.MODULUS _ _ c.args.count _ _ (map f.value row) _ _ _ i (rw length-map in_rows)
     c.loop-row.invariant (row_read f.value f.MODULUS (λ v. v.items) rows i _ row in_rows c.row-item.is c.deref.ensures.value)
-    c.add_row.ensures c.apply_sbox.ensures c.multiply.ensures
+    c.write_images.ensures c.multiply.ensures
