@@ -10,7 +10,6 @@ use ark_base::error::Error;
 use ark_groups::ff::PrimeField;
 
 /// Appends the bytes of the items.
-#[tactic(auto, using(crate::proofs::ByItem::bytes_steps))]
 pub fn push_bytes_by_item<A: AbsorbItem>(batch: &[A], dest: &mut Vec<u8>) -> Result<(), Error>
     ensures { AppendsBytes (flat_map A.sponge_bytes batch.now)
         dest.old.items dest.new.items result }
@@ -26,7 +25,6 @@ pub fn push_bytes_by_item<A: AbsorbItem>(batch: &[A], dest: &mut Vec<u8>) -> Res
 }
 
 /// Appends the elements of the items.
-#[tactic(auto, using(crate::proofs::ByItem::element_steps))]
 pub fn push_elements_by_item<A: AbsorbItem, F: PrimeField>(
     batch: &[A],
     dest: &mut Vec<F>,

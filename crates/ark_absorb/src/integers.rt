@@ -6,6 +6,7 @@ ghost use Rattle.ark_absorb.specs.Elements.{integer_element, batch_by_item};
 
 use crate::absorb::{Absorb, AbsorbItem};
 use crate::batch::push_elements_by_item;
+use crate::push::{push_integer, push_slice};
 use ark_base::error::Error;
 use ark_groups::ff::PrimeField;
 
@@ -15,18 +16,11 @@ impl AbsorbItem for i8 {
     ghost sponge_elements = { integer_element };
 
     fn push_bytes(&self, dest: &mut Vec<u8>) -> Result<(), Error> {
-        dest.extend_from_slice(&self.to_le_bytes())?;
-        Ok(())
+        push_slice(&self.to_le_bytes(), dest)
     }
 
     fn push_elements<F: PrimeField>(&self, dest: &mut Vec<F>) -> Result<(), Error> {
-        let magnitude = F::from_u64(self.unsigned_abs() as u64);
-        dest.push(if *self < 0 {
-            magnitude.neg()
-        } else {
-            magnitude
-        })?;
-        Ok(())
+        push_integer(*self as i64, dest)
     }
 }
 
@@ -47,18 +41,11 @@ impl AbsorbItem for i16 {
     ghost sponge_elements = { integer_element };
 
     fn push_bytes(&self, dest: &mut Vec<u8>) -> Result<(), Error> {
-        dest.extend_from_slice(&self.to_le_bytes())?;
-        Ok(())
+        push_slice(&self.to_le_bytes(), dest)
     }
 
     fn push_elements<F: PrimeField>(&self, dest: &mut Vec<F>) -> Result<(), Error> {
-        let magnitude = F::from_u64(self.unsigned_abs() as u64);
-        dest.push(if *self < 0 {
-            magnitude.neg()
-        } else {
-            magnitude
-        })?;
-        Ok(())
+        push_integer(*self as i64, dest)
     }
 }
 
@@ -79,18 +66,11 @@ impl AbsorbItem for i32 {
     ghost sponge_elements = { integer_element };
 
     fn push_bytes(&self, dest: &mut Vec<u8>) -> Result<(), Error> {
-        dest.extend_from_slice(&self.to_le_bytes())?;
-        Ok(())
+        push_slice(&self.to_le_bytes(), dest)
     }
 
     fn push_elements<F: PrimeField>(&self, dest: &mut Vec<F>) -> Result<(), Error> {
-        let magnitude = F::from_u64(self.unsigned_abs() as u64);
-        dest.push(if *self < 0 {
-            magnitude.neg()
-        } else {
-            magnitude
-        })?;
-        Ok(())
+        push_integer(*self as i64, dest)
     }
 }
 
@@ -111,18 +91,11 @@ impl AbsorbItem for i64 {
     ghost sponge_elements = { integer_element };
 
     fn push_bytes(&self, dest: &mut Vec<u8>) -> Result<(), Error> {
-        dest.extend_from_slice(&self.to_le_bytes())?;
-        Ok(())
+        push_slice(&self.to_le_bytes(), dest)
     }
 
     fn push_elements<F: PrimeField>(&self, dest: &mut Vec<F>) -> Result<(), Error> {
-        let magnitude = F::from_u64(self.unsigned_abs());
-        dest.push(if *self < 0 {
-            magnitude.neg()
-        } else {
-            magnitude
-        })?;
-        Ok(())
+        push_integer(*self, dest)
     }
 }
 
@@ -143,18 +116,11 @@ impl AbsorbItem for isize {
     ghost sponge_elements = { integer_element };
 
     fn push_bytes(&self, dest: &mut Vec<u8>) -> Result<(), Error> {
-        dest.extend_from_slice(&self.to_le_bytes())?;
-        Ok(())
+        push_slice(&self.to_le_bytes(), dest)
     }
 
     fn push_elements<F: PrimeField>(&self, dest: &mut Vec<F>) -> Result<(), Error> {
-        let magnitude = F::from_u64(self.unsigned_abs() as u64);
-        dest.push(if *self < 0 {
-            magnitude.neg()
-        } else {
-            magnitude
-        })?;
-        Ok(())
+        push_integer(*self as i64, dest)
     }
 }
 

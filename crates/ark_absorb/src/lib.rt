@@ -10,6 +10,7 @@ mod macros;
 mod numbers;
 mod packing;
 mod points;
+mod push;
 mod texts;
 mod with_length;
 

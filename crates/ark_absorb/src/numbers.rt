@@ -6,6 +6,7 @@ ghost use Rattle.ark_absorb.specs.Elements.{number_element, truth_element, batch
 
 use crate::absorb::{Absorb, AbsorbItem};
 use crate::batch::push_elements_by_item;
+use crate::push::{push_number, push_slice};
 use ark_base::error::Error;
 use ark_groups::ff::PrimeField;
 
@@ -46,13 +47,11 @@ impl AbsorbItem for u16 {
     ghost sponge_elements = { number_element };
 
     fn push_bytes(&self, dest: &mut Vec<u8>) -> Result<(), Error> {
-        dest.extend_from_slice(&self.to_le_bytes())?;
-        Ok(())
+        push_slice(&self.to_le_bytes(), dest)
     }
 
     fn push_elements<F: PrimeField>(&self, dest: &mut Vec<F>) -> Result<(), Error> {
-        dest.push(F::from_u64(*self as u64))?;
-        Ok(())
+        push_number(*self as u64, dest)
     }
 }
 
@@ -73,13 +72,11 @@ impl AbsorbItem for u32 {
     ghost sponge_elements = { number_element };
 
     fn push_bytes(&self, dest: &mut Vec<u8>) -> Result<(), Error> {
-        dest.extend_from_slice(&self.to_le_bytes())?;
-        Ok(())
+        push_slice(&self.to_le_bytes(), dest)
     }
 
     fn push_elements<F: PrimeField>(&self, dest: &mut Vec<F>) -> Result<(), Error> {
-        dest.push(F::from_u64(*self as u64))?;
-        Ok(())
+        push_number(*self as u64, dest)
     }
 }
 
@@ -100,13 +97,11 @@ impl AbsorbItem for u64 {
     ghost sponge_elements = { number_element };
 
     fn push_bytes(&self, dest: &mut Vec<u8>) -> Result<(), Error> {
-        dest.extend_from_slice(&self.to_le_bytes())?;
-        Ok(())
+        push_slice(&self.to_le_bytes(), dest)
     }
 
     fn push_elements<F: PrimeField>(&self, dest: &mut Vec<F>) -> Result<(), Error> {
-        dest.push(F::from_u64(*self))?;
-        Ok(())
+        push_number(*self, dest)
     }
 }
 
@@ -127,13 +122,11 @@ impl AbsorbItem for usize {
     ghost sponge_elements = { number_element };
 
     fn push_bytes(&self, dest: &mut Vec<u8>) -> Result<(), Error> {
-        dest.extend_from_slice(&self.to_le_bytes())?;
-        Ok(())
+        push_slice(&self.to_le_bytes(), dest)
     }
 
     fn push_elements<F: PrimeField>(&self, dest: &mut Vec<F>) -> Result<(), Error> {
-        dest.push(F::from_u64(*self as u64))?;
-        Ok(())
+        push_number(*self as u64, dest)
     }
 }
 
@@ -154,8 +147,7 @@ impl AbsorbItem for u128 {
     ghost sponge_elements = { number_element };
 
     fn push_bytes(&self, dest: &mut Vec<u8>) -> Result<(), Error> {
-        dest.extend_from_slice(&self.to_le_bytes())?;
-        Ok(())
+        push_slice(&self.to_le_bytes(), dest)
     }
 
     fn push_elements<F: PrimeField>(&self, dest: &mut Vec<F>) -> Result<(), Error> {

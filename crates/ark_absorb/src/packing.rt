@@ -1,6 +1,6 @@
 //! Bytes as elements, several in one.
 
-ghost use Rattle.std.specs.Prelude.{ℕ, ◌<◌, ◌≤◌, length, Ok};
+ghost use Rattle.std.specs.Prelude.{◌≡◌, ℕ, ◌+◌, ◌<◌, ◌≤◌, ◌++◌, length, take, Ok};
 ghost use Rattle.ark_absorb.specs.Appending.{AppendsElements};
 ghost use Rattle.ark_absorb.specs.Elements.{piece_numbers, packed_elements};
 
@@ -17,16 +17,25 @@ pub fn push_packed<F: PrimeField>(text: &[u8], dest: &mut Vec<F>) -> Result<(), 
     // The pieces that the length reaches into are taken from a list of their own, all others from the text where it lies.
     let reached = 8usize.div_ceil(size) * size - 8;
     let (front, rest) = text.split_at(reached.min(text.len()));
-    let mut head = Vec::with_capacity(*dest.allocator(), 8 + front.len())?;
-    head.extend_from_slice(&(text.len() as u64).to_le_bytes())?;
-    head.extend_from_slice(front)?;
+    let mut head = [0; 16];
+    write_at(&mut head, 0, &(text.len() as u64).to_le_bytes());
+    write_at(&mut head, 8, front);
     let start = dest.len();
-    push_pieces(&head, size, dest)?;
+    push_pieces(&head[..8 + front.len()], size, dest)?;
     if let Err(refusal) = push_pieces(rest, size, dest) {
         dest.truncate(start);
         return Err(refusal);
     }
     Ok(())
+}
+
+// Writes a part of a list over.
+fn write_at(list: &mut [u8], place: usize, part: &[u8])
+    requires { place + length part.now ≤ length list.old }
+    ensures front { take (place + length part.now) list.new ≡ take place list.old ++ part.now }
+    ensures length { length list.new ≡ length list.old }
+{
+    list[place..place + part.len()].copy_from_slice(part);
 }
 
 // Appends the pieces of a size that hold all the bytes.

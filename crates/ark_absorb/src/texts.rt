@@ -9,6 +9,7 @@ ghost use Rattle.ark_absorb.specs.Elements.{number_element, AreShort, batch_by_i
 use crate::absorb::{Absorb, AbsorbItem};
 use crate::batch::{push_bytes_by_item, push_elements_by_item};
 use crate::packing::push_packed;
+use crate::push::{push_number, push_slice};
 use ark_base::error::Error;
 use ark_groups::ff::PrimeField;
 
@@ -23,8 +24,7 @@ impl AbsorbItem for u8 {
     }
 
     fn push_elements<F: PrimeField>(&self, dest: &mut Vec<F>) -> Result<(), Error> {
-        dest.push(F::from_u64(*self as u64))?;
-        Ok(())
+        push_number(*self as u64, dest)
     }
 }
 
@@ -47,8 +47,7 @@ impl AbsorbItem for [u8; 32] {
     ghost sponge_elements = { packed_elements };
 
     fn push_bytes(&self, dest: &mut Vec<u8>) -> Result<(), Error> {
-        dest.extend_from_slice(self.as_slice())?;
-        Ok(())
+        push_slice(self.as_slice(), dest)
     }
 
     fn push_elements<F: PrimeField>(&self, dest: &mut Vec<F>) -> Result<(), Error> {
