@@ -1,0 +1,21 @@
+/* What the library says of itself. */
+#include "paxidore.h"
+
+const char *paxidore_version(void) { return PAXIDORE_VERSION_STRING; }
+
+const char *paxidore_strerror(int32_t answer) {
+    switch (answer) {
+    case PAXIDORE_OK: return "shown, or done";
+    case PAXIDORE_NOT_SHOWN: return "the proof does not lead from the leaves to the root";
+    case PAXIDORE_E_MEMORY: return "a request for memory was refused";
+    case PAXIDORE_E_TRUNCATED: return "the bytes of the proof end early";
+    case PAXIDORE_E_INVALID: return "the bytes are no proof for these indexes";
+    case PAXIDORE_E_HEIGHT: return "the proof is for a tree of another size";
+    case PAXIDORE_E_SIZE: return "no tree has so many leaves";
+    case PAXIDORE_E_LENGTHS: return "the lengths of the leaves do not sum to that of their bytes";
+    case PAXIDORE_E_COUNT: return "there are not as many leaves as indexes";
+    case PAXIDORE_E_INDEX: return "there is no index, or no leaf at one";
+    case PAXIDORE_E_ROOM: return "the buffer is too short";
+    default: return "unknown answer";
+    }
+}

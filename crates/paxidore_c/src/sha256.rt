@@ -1,0 +1,198 @@
+//! Trees whose hashes are SHA-256 of the leaf, and of left followed by right.
+
+ghost use Rattle.std.specs.Prelude.{◌≡◌, ◌≢◌, pos, length, IfOk, Ok};
+ghost use Rattle.ark_merkle.specs.Received.{ShowsLeaf, ShowsLeaves};
+ghost use Rattle.ark_merkle.specs.Tree.{root_in};
+ghost use Rattle.paxidore_c.specs.Answer.{Gives, GivesBy, Hands, all_shown, done_code, leaves_for, multi_path_of_leaves, path_of_leaves, results_of, shown, tree_leaves_in, verdict_code};
+ghost use Rattle.paxidore_c.specs.Hashing.{hashes_of, read_multi_path, read_path, sha256_hashing, tree_over};
+ghost use Rattle.sha2.specs.Sha256.{sha256};
+
+use crate::buffer::hand_over;
+use crate::leaves::{PlainDigest, are_indexes, leaves_for, of_leaves};
+use crate::refused::{Refused, verdict_code};
+use ark_base::serialize::canonical_bytes;
+use ark_merkle::{MerkleTree, MultiPath, Path, is_tree_size};
+use ark_trees::Sha256Arrays;
+use std::alloc::Global;
+
+/// Whether the bytes of a path show a leaf at an index of a tree with this root and size.
+#[unsafe(no_mangle)]
+pub extern "C" fn paxidore_sha256_verify(
+    alloc: Global,
+    root: &[u8; 32],
+    size: usize,
+    index: usize,
+    leaf: &[u8],
+    path: &[u8],
+) -> i32
+    ensures answer { let outcome = shown sha256_hashing root.now size index leaf.now path.now in
+        Gives (verdict_code outcome) result }
+
+    // 0 says: in every tree with this root and size the leaf stands at the index, or two different pairs are named that have
+    // one SHA-256.
+    ensures shows { result ≡ pos 0 → ShowsLeaf
+        (hashes_of sha256_hashing) root.now size index leaf.now (read_path path.now) }
+{
+    if !is_tree_size(size) {
+        return Refused::Size.code();
+    }
+    let Ok(leaf) = Vec::from_slice(alloc, leaf) else {
+        return Refused::Memory.code();
+    };
+    verdict_code(Path::<Sha256Arrays>::verify_bytes(
+        alloc,
+        &(),
+        &(),
+        root,
+        size,
+        index,
+        path,
+        &leaf,
+    ))
+}
+
+/// Whether the bytes of a strict multi-proof show leaves, one for each of some rising indexes, in such a tree.
+#[unsafe(no_mangle)]
+pub extern "C" fn paxidore_sha256_multi_verify(
+    alloc: Global,
+    root: &[u8; 32],
+    size: usize,
+    indexes: &[usize],
+    leaves: &[u8],
+    lengths: &[usize],
+    proof: &[u8],
+) -> i32
+    ensures answer { let of_leaves = all_shown sha256_hashing root.now size indexes.now in
+        Gives (verdict_code (of_leaves leaves.now lengths.now proof.now)) result }
+
+    // 0 says the same of each leaf and its index.
+    ensures shows { let hashes = hashes_of sha256_hashing in
+        let reading = read_multi_path proof.now in
+        result ≡ pos 0 → IfOk (leaves_for size (length indexes.now) leaves.now lengths.now)
+        (λ xs. ShowsLeaves hashes root.now size indexes.now xs reading) }
+{
+    match leaves_for(alloc, size, indexes.len(), leaves, lengths) {
+        Ok(leaves) => verdict_code(MultiPath::<Sha256Arrays>::verify_bytes(
+            alloc,
+            &(),
+            &(),
+            root,
+            size,
+            indexes,
+            proof,
+            &leaves,
+        )),
+        Err(refused) => refused.code(),
+    }
+}
+
+// The tree above some leaves.
+fn tree_of(
+    alloc: Global,
+    leaves: &[u8],
+    lengths: &[usize],
+) -> Result<MerkleTree<Sha256Arrays>, Refused>
+    ensures { let outcome = results_of sha256 (tree_leaves_in leaves.now lengths.now) in
+        GivesBy (λ tree. tree.leaves) outcome result }
+{
+    if !is_tree_size(lengths.len()) {
+        return Err(Refused::Size);
+    }
+    let digests = of_leaves::<PlainDigest>(alloc, leaves, lengths)?;
+    Ok(MerkleTree::new_with_leaf_digest(alloc, &(), &(), digests)?)
+}
+
+// The bytes of the path of an index in that tree.
+fn path_of(
+    alloc: Global,
+    leaves: &[u8],
+    lengths: &[usize],
+    index: usize,
+) -> Result<Vec<u8>, Refused>
+    ensures { let outcome = path_of_leaves sha256_hashing leaves.now lengths.now index in
+        GivesBy (λ bytes. bytes.items) outcome result }
+{
+    let tree = tree_of(alloc, leaves, lengths)?;
+    if index >= tree.size() {
+        return Err(Refused::Index);
+    }
+    let path = tree.generate_proof(alloc, index)?;
+    Ok(canonical_bytes(alloc, &path)?)
+}
+
+// The bytes of the multi-proof of some indexes in that tree.
+fn multi_path_of(
+    alloc: Global,
+    leaves: &[u8],
+    lengths: &[usize],
+    indexes: &[usize],
+) -> Result<Vec<u8>, Refused>
+    ensures { let of_indexes = multi_path_of_leaves sha256_hashing leaves.now lengths.now in
+        GivesBy (λ bytes. bytes.items) (of_indexes indexes.now) result }
+{
+    let tree = tree_of(alloc, leaves, lengths)?;
+    if !are_indexes(tree.size(), indexes) {
+        return Err(Refused::Index);
+    }
+    let proof = tree.generate_multi_proof(alloc, indexes)?;
+    Ok(canonical_bytes(alloc, &proof)?)
+}
+
+/// The root of the tree above the leaves, to `root`. A refusal leaves that as before.
+#[unsafe(no_mangle)]
+pub extern "C" fn paxidore_sha256_root(
+    alloc: Global,
+    root: &mut [u8; 32],
+    leaves: &[u8],
+    lengths: &[usize],
+) -> i32
+    ensures answer { Gives (done_code (tree_leaves_in leaves.now lengths.now)) result }
+    ensures root { result ≡ pos 0 → IfOk (tree_leaves_in leaves.now lengths.now)
+        (λ xs. root_in (tree_over sha256_hashing xs) ≡ Ok root.new) }
+    ensures kept { result ≢ pos 0 → root.new ≡ root.old }
+{
+    match tree_of(alloc, leaves, lengths) {
+        Ok(tree) => {
+            *root = *tree.root();
+            0
+        }
+        Err(refused) => refused.code(),
+    }
+}
+
+/// The bytes of the path of an index in the tree above the leaves, to the front of `path`, and their count.
+#[unsafe(no_mangle)]
+pub extern "C" fn paxidore_sha256_path(
+    alloc: Global,
+    path: &mut [u8],
+    path_len: &mut usize,
+    leaves: &[u8],
+    lengths: &[usize],
+    index: usize,
+) -> i32
+    ensures { let outcome = path_of_leaves sha256_hashing leaves.now lengths.now index in
+        Hands outcome path.old path.new path_len.old path_len.new result }
+{
+    hand_over(path_of(alloc, leaves, lengths, index), path, path_len)
+}
+
+/// The bytes of the multi-proof of some indexes in the tree above the leaves, to the front of `proof`, and their count.
+#[unsafe(no_mangle)]
+pub extern "C" fn paxidore_sha256_multi_path(
+    alloc: Global,
+    proof: &mut [u8],
+    proof_len: &mut usize,
+    leaves: &[u8],
+    lengths: &[usize],
+    indexes: &[usize],
+) -> i32
+    ensures { let of_indexes = multi_path_of_leaves sha256_hashing leaves.now lengths.now in
+        let outcome = of_indexes indexes.now in
+        Hands outcome proof.old proof.new proof_len.old proof_len.new result }
+{
+    hand_over(
+        multi_path_of(alloc, leaves, lengths, indexes),
+        proof,
+        proof_len,
+    )
+}

@@ -1,0 +1,114 @@
+/* Paxidore: Merkle trees over byte strings, and BLAKE2s. The code behind these calls is proved.
+ *
+ * Every call owns nothing when it returns, keeps nothing, and may run in any thread at any time. Want of memory (malloc) is an
+ * answer like others. Only inputs may overlap. A pointer to a first byte or number is not NULL and may be read, or written
+ * where it is not const, for its length; with length 0 it is not looked at and may be NULL. */
+#ifndef PAXIDORE_H
+#define PAXIDORE_H
+
+#include <stddef.h>
+#include <stdint.h>
+
+#ifdef __cplusplus
+extern "C" {
+#endif
+
+#define PAXIDORE_VERSION_STRING "1.0.0"
+
+/* Roots, digests, and the digests in proofs. */
+#define PAXIDORE_DIGESTBYTES 32U
+
+/* The canonical bytes of a path in a tree of 2^log2_of_size leaves, and of the longest path there is. */
+#define PAXIDORE_PATHBYTES(log2_of_size) (16U + 32U * (size_t)(log2_of_size))
+#define PAXIDORE_PATHBYTES_MAX PAXIDORE_PATHBYTES(63U)
+
+/* What a call answers. Only 0 is a yes: compare with PAXIDORE_OK. After another answer each buffer is as it was. */
+enum paxidore_answer {
+    PAXIDORE_OK = 0,           /* shown, or done */
+    PAXIDORE_NOT_SHOWN = 1,    /* a proof was read, and it does not lead from the leaves to the root */
+    PAXIDORE_E_MEMORY = -1,    /* a request for memory was refused */
+    PAXIDORE_E_TRUNCATED = -2, /* the bytes of the proof end early */
+    PAXIDORE_E_INVALID = -3,   /* the bytes are no proof for these indexes: of others, not canonical, or with bytes behind */
+    PAXIDORE_E_HEIGHT = -4,    /* the proof is for a tree of another size */
+    PAXIDORE_E_SIZE = -5,      /* no tree has so many leaves: a tree has 2, 4, 8, 16 .. of them */
+    PAXIDORE_E_LENGTHS = -6,   /* the lengths of the leaves do not sum to that of their bytes */
+    PAXIDORE_E_COUNT = -7,     /* there are not as many leaves as indexes */
+    PAXIDORE_E_INDEX = -8,     /* an index is not below the count of leaves, or there is none */
+    PAXIDORE_E_ROOM = -9       /* the buffer is too short; the count that is needed was written */
+};
+
+/* A few words on an answer, for people. Never NULL. */
+const char *paxidore_strerror(int32_t answer);
+
+/* PAXIDORE_VERSION_STRING of the library that is linked. */
+const char *paxidore_version(void);
+
+/* ---- Trees whose hashes are SHA-256 of a leaf, and of left followed by right.
+ *
+ * Leaves are handed over one behind the other, with the length of each: `leaves_len` is the sum of the `count` lengths. A
+ * pair can be taken for a leaf of 64 bytes in these trees: where leaves may be strangers' bytes of any length, take the trees
+ * of RFC 6962 below. */
+
+/* PAXIDORE_OK where the bytes of a path show that `leaf` stands at `index` in the tree of `size` leaves with this root: then it
+ * does, or two different inputs with one SHA-256 are at hand. Bytes of another path, of another tree, or with anything
+ * behind them are refused. PAXIDORE_NOT_SHOWN, E_SIZE, E_TRUNCATED, E_INVALID, E_HEIGHT, E_MEMORY. */
+int32_t paxidore_sha256_verify(const uint8_t root[PAXIDORE_DIGESTBYTES], size_t size, size_t index,
+                               const uint8_t *leaf, size_t leaf_len,
+                               const uint8_t *path, size_t path_len);
+
+/* The same of several leaves at once, one for each index; the indexes rise. Also E_LENGTHS, E_COUNT. */
+int32_t paxidore_sha256_multi_verify(const uint8_t root[PAXIDORE_DIGESTBYTES], size_t size,
+                                     const size_t *indexes, size_t indexes_count,
+                                     const uint8_t *leaves, size_t leaves_len,
+                                     const size_t *lengths, size_t count,
+                                     const uint8_t *proof, size_t proof_len);
+
+/* Writes the root of the tree above the leaves. E_SIZE, E_LENGTHS, E_MEMORY. */
+int32_t paxidore_sha256_root(uint8_t root[PAXIDORE_DIGESTBYTES],
+                             const uint8_t *leaves, size_t leaves_len,
+                             const size_t *lengths, size_t count);
+
+/* Writes the bytes of the path of `index` to the front of `path`, which has room for `path_room`, and their count to
+ * `path_len`. Where the room is too short, the answer is E_ROOM and `path_len` is what is needed: PAXIDORE_PATHBYTES.
+ * E_SIZE, E_LENGTHS, E_INDEX, E_ROOM, E_MEMORY. */
+int32_t paxidore_sha256_path(uint8_t *path, size_t path_room, size_t *path_len,
+                             const uint8_t *leaves, size_t leaves_len,
+                             const size_t *lengths, size_t count, size_t index);
+
+/* Writes the bytes of the multi-proof of some indexes, in any order, which shows them rising and each once. As above. */
+int32_t paxidore_sha256_multi_path(uint8_t *proof, size_t proof_room, size_t *proof_len,
+                                   const uint8_t *leaves, size_t leaves_len,
+                                   const size_t *lengths, size_t count,
+                                   const size_t *indexes, size_t indexes_count);
+
+/* ---- Trees as transparency logs hash them (RFC 6962, section 2.1): a zero byte stands before a leaf, a one byte before a pair, so
+ * that no pair is taken for a leaf. The calls are those above. */
+
+int32_t paxidore_rfc6962_verify(const uint8_t root[PAXIDORE_DIGESTBYTES], size_t size, size_t index,
+                                const uint8_t *leaf, size_t leaf_len,
+                                const uint8_t *path, size_t path_len);
+
+int32_t paxidore_rfc6962_multi_verify(const uint8_t root[PAXIDORE_DIGESTBYTES], size_t size,
+                                      const size_t *indexes, size_t indexes_count,
+                                      const uint8_t *leaves, size_t leaves_len,
+                                      const size_t *lengths, size_t count,
+                                      const uint8_t *proof, size_t proof_len);
+
+int32_t paxidore_rfc6962_root(uint8_t root[PAXIDORE_DIGESTBYTES],
+                              const uint8_t *leaves, size_t leaves_len,
+                              const size_t *lengths, size_t count);
+
+int32_t paxidore_rfc6962_path(uint8_t *path, size_t path_room, size_t *path_len,
+                              const uint8_t *leaves, size_t leaves_len,
+                              const size_t *lengths, size_t count, size_t index);
+
+int32_t paxidore_rfc6962_multi_path(uint8_t *proof, size_t proof_room, size_t *proof_len,
+                                    const uint8_t *leaves, size_t leaves_len,
+                                    const size_t *lengths, size_t count,
+                                    const size_t *indexes, size_t indexes_count);
+
+#ifdef __cplusplus
+}
+#endif
+
+#endif
