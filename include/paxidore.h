@@ -22,6 +22,9 @@ extern "C" {
 #define PAXIDORE_PATHBYTES(log2_of_size) (16U + 32U * (size_t)(log2_of_size))
 #define PAXIDORE_PATHBYTES_MAX PAXIDORE_PATHBYTES(63U)
 
+/* A multi-proof of some indexes in such a tree has no more. */
+#define PAXIDORE_MULTIPATHBYTES_MAX(indexes_count, log2_of_size) (32U + (24U + 32U * (size_t)(log2_of_size)) * (size_t)(indexes_count))
+
 /* What a call answers. Only 0 is a yes: compare with PAXIDORE_OK. After another answer each buffer is as it was. */
 enum paxidore_answer {
     PAXIDORE_OK = 0,           /* shown, or done */
@@ -106,6 +109,10 @@ int32_t paxidore_rfc6962_multi_path(uint8_t *proof, size_t proof_room, size_t *p
                                     const uint8_t *leaves, size_t leaves_len,
                                     const size_t *lengths, size_t count,
                                     const size_t *indexes, size_t indexes_count);
+
+/* ---- BLAKE2s with 32 bytes out and no key (RFC 7693). Nothing is refused. */
+
+void paxidore_blake2s(uint8_t digest[PAXIDORE_DIGESTBYTES], const uint8_t *input, size_t input_len);
 
 #ifdef __cplusplus
 }

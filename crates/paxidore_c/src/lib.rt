@@ -4,6 +4,7 @@
 //! leaf, or a negative code, and then leaves the caller's buffers as they were.
 #![tactic(auto)]
 
+pub mod blake2s;
 mod buffer;
 mod leaves;
 mod refused;

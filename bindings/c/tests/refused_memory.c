@@ -1,0 +1,103 @@
+/* Each request for memory refused in turn: the answer is PAXIDORE_E_MEMORY, nothing is lost and no buffer is touched. A million
+ * calls leave nothing behind. Linked with -Wl,--wrap=malloc,--wrap=realloc,--wrap=free. */
+#include "paxidore.h"
+
+#include <stdio.h>
+#include <string.h>
+
+static long calls, left = -1, live;
+
+void *__real_malloc(size_t);
+void *__real_realloc(void *, size_t);
+void __real_free(void *);
+
+static int is_refused(void) {
+    calls++;
+    if (left == 0)
+        return 1;
+    if (left > 0)
+        left--;
+    return 0;
+}
+
+void *__wrap_malloc(size_t size) {
+    void *block = is_refused() ? NULL : __real_malloc(size);
+    live += block != NULL;
+    return block;
+}
+
+void *__wrap_realloc(void *old, size_t size) {
+    void *block = is_refused() ? NULL : __real_realloc(old, size);
+    live += block != NULL && old == NULL;
+    return block;
+}
+
+void __wrap_free(void *block) {
+    live -= block != NULL;
+    __real_free(block);
+}
+
+static const uint8_t LEAVES[] = "aaabbbcccdddeeefffggghhh";
+static const size_t LENGTHS[8] = {3, 3, 3, 3, 3, 3, 3, 3}, INDEXES[3] = {1, 4, 5}, SHOWN[3] = {3, 3, 3};
+static uint8_t root[32], path[112], proof[512];
+static size_t path_len, proof_len;
+
+static uint8_t to_root[32], to_path[112], to_proof[512];
+static size_t to_len;
+
+static int32_t call(int which) {
+    switch (which) {
+    case 0: return paxidore_rfc6962_root(to_root, LEAVES, 24, LENGTHS, 8);
+    case 1: return paxidore_rfc6962_path(to_path, sizeof to_path, &to_len, LEAVES, 24, LENGTHS, 8, 4);
+    case 2: return paxidore_rfc6962_multi_path(to_proof, sizeof to_proof, &to_len, LEAVES, 24, LENGTHS, 8, INDEXES, 3);
+    case 3: return paxidore_rfc6962_verify(root, 8, 4, LEAVES + 12, 3, path, path_len);
+    default:
+        return paxidore_rfc6962_multi_verify(root, 8, INDEXES, 3, (const uint8_t *)"bbbeeefff", 9, SHOWN, 3, proof, proof_len);
+    }
+}
+
+static int is_filled(const uint8_t *bytes, size_t len) {
+    for (size_t i = 0; i < len; i++)
+        if (bytes[i] != 0xaa)
+            return 0;
+    return 1;
+}
+
+int main(void) {
+    int passed = 0, failed = 0;
+    if (paxidore_rfc6962_root(root, LEAVES, 24, LENGTHS, 8) != PAXIDORE_OK ||
+        paxidore_rfc6962_path(path, sizeof path, &path_len, LEAVES, 24, LENGTHS, 8, 4) != PAXIDORE_OK ||
+        paxidore_rfc6962_multi_path(proof, sizeof proof, &proof_len, LEAVES, 24, LENGTHS, 8, INDEXES, 3) != PAXIDORE_OK)
+        failed++;
+    for (int which = 0; which < 5; which++) {
+        calls = 0;
+        int is_well = call(which) == PAXIDORE_OK && calls > 0 && live == 0;
+        long most = calls;
+        for (long refused = 0; refused < most; refused++) {
+            memset(to_root, 0xaa, sizeof to_root);
+            memset(to_path, 0xaa, sizeof to_path);
+            memset(to_proof, 0xaa, sizeof to_proof);
+            to_len = 7;
+            left = refused;
+            int32_t answer = call(which);
+            left = -1;
+            is_well = is_well && answer == PAXIDORE_E_MEMORY && live == 0 && to_len == 7 &&
+                      is_filled(to_root, sizeof to_root) && is_filled(to_path, sizeof to_path) &&
+                      is_filled(to_proof, sizeof to_proof);
+        }
+        if (is_well) {
+            passed++;
+        } else {
+            failed++;
+            fprintf(stderr, "refused_memory.c: call %d\n", which);
+        }
+    }
+    for (long i = 0; i < 1000000; i++)
+        call(3);
+    if (live == 0)
+        passed++;
+    else
+        failed++;
+    printf("%d passed, %d failed\n", passed, failed);
+    return failed != 0;
+}

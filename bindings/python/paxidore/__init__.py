@@ -1,0 +1,247 @@
+"""Merkle trees over byte strings, and BLAKE2s, by the proved code of libpaxidore.
+
+A log or a store publishes the root of its leaves and their count, and hands out paths::
+
+    from paxidore import rfc6962
+
+    root = rfc6962.root(leaves)
+    path = rfc6962.path(leaves, 3)
+
+Whoever has the root and the count checks them without the other leaves::
+
+    if rfc6962.verify(root, 8, 3, leaf, path): ...
+
+``sha256`` has the same calls for trees whose hashes are SHA-256 of a leaf, and of left followed by right. There are 2, 4, 8, 16 ..
+leaves in a tree.
+
+The library is found by the variable ``PAXIDORE_LIBRARY`` (a path), else as the system finds ``libpaxidore.so.1``.
+"""
+import ctypes
+import os
+from typing import List, Sequence, Tuple
+
+__all__ = [
+    "CountError",
+    "HeightError",
+    "IndexBeyondSize",
+    "InvalidProof",
+    "LengthsError",
+    "OutOfMemory",
+    "Refused",
+    "SizeError",
+    "TruncatedProof",
+    "Trees",
+    "blake2s",
+    "rfc6962",
+    "sha256",
+    "version",
+]
+
+DIGEST_BYTES = 32
+
+_size = ctypes.c_size_t
+_sizes = ctypes.POINTER(_size)
+_bytes = ctypes.c_char_p
+_library = ctypes.CDLL(os.environ.get("PAXIDORE_LIBRARY", "libpaxidore.so.1"))
+_library.paxidore_strerror.argtypes = [ctypes.c_int32]
+_library.paxidore_strerror.restype = ctypes.c_char_p
+_library.paxidore_version.argtypes = []
+_library.paxidore_version.restype = ctypes.c_char_p
+_library.paxidore_blake2s.argtypes = [ctypes.c_void_p, _bytes, _size]
+_library.paxidore_blake2s.restype = None
+
+
+class Refused(Exception):
+    """A call was refused. ``code`` is the answer of the library, as ``paxidore.h`` lists them."""
+
+    code = 0
+
+
+class TruncatedProof(Refused, ValueError):
+    """The bytes of the proof end early."""
+
+    code = -2
+
+
+class InvalidProof(Refused, ValueError):
+    """The bytes are no proof for these indexes: of others, not canonical, or with bytes behind."""
+
+    code = -3
+
+
+class HeightError(Refused, ValueError):
+    """The proof is for a tree of another size."""
+
+    code = -4
+
+
+class SizeError(Refused, ValueError):
+    """No tree has so many leaves: a tree has 2, 4, 8, 16 .. of them."""
+
+    code = -5
+
+
+class LengthsError(Refused, ValueError):
+    """The lengths of the leaves do not sum to that of their bytes. No call of this module gives it."""
+
+    code = -6
+
+
+class CountError(Refused, ValueError):
+    """There are not as many leaves as indexes."""
+
+    code = -7
+
+
+class IndexBeyondSize(Refused, IndexError):
+    """An index is not below the count of leaves, or there is none."""
+
+    code = -8
+
+
+class OutOfMemory(Refused, MemoryError):
+    """A request for memory was refused."""
+
+    code = -1
+
+
+_ROOM = -9
+_KINDS = {
+    kind.code: kind
+    for kind in (
+        OutOfMemory,
+        TruncatedProof,
+        InvalidProof,
+        HeightError,
+        SizeError,
+        LengthsError,
+        CountError,
+        IndexBeyondSize,
+    )
+}
+
+
+def _refusal(answer: int) -> Refused:
+    return _KINDS.get(answer, Refused)(_library.paxidore_strerror(answer).decode("ascii"))
+
+
+def _digest(root: bytes) -> bytes:
+    if len(root) != DIGEST_BYTES:
+        raise ValueError("a root has 32 bytes, not %d" % len(root))
+    return root
+
+
+def _word(number: int) -> int:
+    # ctypes would take a number modulo 2^64
+    if not 0 <= number < 1 << 64:
+        raise OverflowError("not a number of 64 bits: %d" % number)
+    return number
+
+
+def _words(numbers: Sequence[int]) -> "ctypes.Array[ctypes.c_size_t]":
+    return (_size * len(numbers))(*map(_word, numbers))
+
+
+def _flat(leaves: Sequence[bytes]) -> Tuple[bytes, int, "ctypes.Array[ctypes.c_size_t]", int]:
+    joined = b"".join(leaves)
+    return joined, len(joined), (_size * len(leaves))(*map(len, leaves)), len(leaves)
+
+
+class Trees:
+    """The calls of one hashing: ``sha256`` or ``rfc6962``."""
+
+    def __init__(self, name: str) -> None:
+        def call(what: str, *types: type):  # type: ignore[no-untyped-def]
+            function = getattr(_library, "paxidore_%s_%s" % (name, what))
+            function.argtypes = types
+            function.restype = ctypes.c_int32
+            return function
+
+        self.name = name
+        leaves = (_bytes, _size, _sizes, _size)
+        buffer = (ctypes.c_void_p, _size, _sizes)
+        self._verify = call("verify", _bytes, _size, _size, _bytes, _size, _bytes, _size)
+        self._multi_verify = call("multi_verify", _bytes, _size, _sizes, _size, *leaves, _bytes, _size)
+        self._root = call("root", ctypes.c_void_p, *leaves)
+        self._path = call("path", *buffer, *leaves, _size)
+        self._multi_path = call("multi_path", *buffer, *leaves, _sizes, _size)
+
+    def __repr__(self) -> str:
+        return "paxidore." + self.name
+
+    def verify(self, root: bytes, size: int, index: int, leaf: bytes, path: bytes) -> bool:
+        """Whether the path shows that the leaf stands at the index of the tree of ``size`` leaves with this root.
+
+        ``False`` says that the path was read and leads elsewhere. Raises ``SizeError``, ``TruncatedProof``, ``InvalidProof``,
+        ``HeightError``, ``OutOfMemory``; ``ValueError`` where the root has not 32 bytes.
+        """
+        if len(root) != 32 or not 0 <= size < 1 << 64 or not 0 <= index < 1 << 64:
+            _digest(root), _word(size), _word(index)
+        answer: int = self._verify(root, size, index, leaf, len(leaf), path, len(path))
+        if answer < 0:
+            raise _refusal(answer)
+        return answer == 0
+
+    def multi_verify(
+        self, root: bytes, size: int, indexes: Sequence[int], leaves: Sequence[bytes], proof: bytes
+    ) -> bool:
+        """Whether the proof shows each leaf at its index. The indexes rise, and there are as many leaves.
+
+        Raises as ``verify`` does, and ``CountError``.
+        """
+        answer: int = self._multi_verify(
+            _digest(root), _word(size), _words(indexes), len(indexes), *_flat(leaves), proof, len(proof)
+        )
+        if answer < 0:
+            raise _refusal(answer)
+        return answer == 0
+
+    def root(self, leaves: Sequence[bytes]) -> bytes:
+        """The root of the tree above the leaves. Raises ``SizeError``, ``OutOfMemory``."""
+        root = ctypes.create_string_buffer(DIGEST_BYTES)
+        answer: int = self._root(root, *_flat(leaves))
+        if answer != 0:
+            raise _refusal(answer)
+        return root.raw
+
+    def path(self, leaves: Sequence[bytes], index: int) -> bytes:
+        """The bytes of the path of an index. Raises ``SizeError``, ``IndexBeyondSize``, ``OutOfMemory``."""
+        # as many as the path has: 16, and 32 for each bit of the largest index
+        room = 16 + 32 * max(len(leaves) - 1, 0).bit_length()
+        count = _size()
+        path = ctypes.create_string_buffer(room)
+        answer: int = self._path(path, room, ctypes.byref(count), *_flat(leaves), _word(index))
+        if answer != 0:
+            raise _refusal(answer)
+        return path.raw[: count.value]
+
+    def multi_path(self, leaves: Sequence[bytes], indexes: Sequence[int]) -> bytes:
+        """The bytes of the multi-proof of some indexes, in any order; it shows them rising and each once.
+
+        Raises as ``path`` does.
+        """
+        flat, given, count = _flat(leaves), _words(indexes), _size()
+        # no proof has more: four counts, and for each index 24 bytes and a path
+        room = 32 + len(indexes) * (24 + 32 * max(len(leaves) - 1, 0).bit_length())
+        proof = ctypes.create_string_buffer(room)
+        answer: int = self._multi_path(proof, room, ctypes.byref(count), *flat, given, len(indexes))
+        if answer != 0:
+            raise _refusal(answer)
+        return proof.raw[: count.value]
+
+
+sha256 = Trees("sha256")
+rfc6962 = Trees("rfc6962")
+
+
+def blake2s(data: bytes) -> bytes:
+    """The BLAKE2s of some bytes: 32 of them, with no key (RFC 7693)."""
+    digest = ctypes.create_string_buffer(DIGEST_BYTES)
+    _library.paxidore_blake2s(digest, data, len(data))
+    return digest.raw
+
+
+def version() -> str:
+    """The version of the library that was found."""
+    text: bytes = _library.paxidore_version()
+    return text.decode("ascii")

@@ -1,0 +1,173 @@
+"""Every call, against trees that hashlib makes."""
+import hashlib
+import random
+import resource
+import struct
+import unittest
+
+import paxidore
+
+DRAWS = random.Random(20)
+
+
+def sha(data):
+    return hashlib.sha256(data).digest()
+
+
+HASHINGS = (
+    (paxidore.sha256, sha, lambda left, right: sha(left + right)),
+    (paxidore.rfc6962, lambda leaf: sha(b"\0" + leaf), lambda left, right: sha(b"\1" + left + right)),
+)
+
+
+def word(number):
+    return struct.pack("<Q", number)
+
+
+class Tree:
+    """A tree by hashlib, and its canonical bytes."""
+
+    def __init__(self, leaf, node, leaves):
+        self.rows = [[leaf(bytes_) for bytes_ in leaves]]
+        while len(self.rows[-1]) > 1:
+            row = self.rows[-1]
+            self.rows.append([node(row[i], row[i + 1]) for i in range(0, len(row), 2)])
+        self.root = self.rows[-1][0]
+
+    def above(self, index):
+        return [self.rows[level][index >> level ^ 1] for level in range(len(self.rows) - 2, 0, -1)]
+
+    def path(self, index):
+        above = self.above(index)
+        return self.rows[0][index ^ 1] + word(len(above)) + b"".join(above) + word(index)
+
+    def multi_path(self, indexes):
+        siblings, prefixes, suffixes, before = b"", b"", b"", []
+        for index in indexes:
+            above = self.above(index)
+            shared = 0
+            while shared < len(before) and before[shared] == above[shared]:
+                shared += 1
+            siblings += self.rows[0][index ^ 1]
+            prefixes += word(shared)
+            suffixes += word(len(above) - shared) + b"".join(above[shared:])
+            before = above
+        count = word(len(indexes))
+        return count + siblings + count + prefixes + count + suffixes + count + b"".join(map(word, indexes))
+
+
+def drawn_leaves(count):
+    return [DRAWS.randbytes(DRAWS.randrange(80)) for _ in range(count)]
+
+
+def flips(data, count):
+    for place in DRAWS.sample(range(8 * len(data)), min(count, 8 * len(data))):
+        other = bytearray(data)
+        other[place // 8] ^= 1 << place % 8
+        yield bytes(other)
+
+
+class Calls(unittest.TestCase):
+    def test_trees_of_every_size(self):
+        for trees, leaf, node in HASHINGS:
+            for log2 in range(1, 13):
+                size = 1 << log2
+                leaves = drawn_leaves(size)
+                tree = Tree(leaf, node, leaves)
+                self.assertEqual(trees.root(leaves), tree.root)
+                for index in range(size):
+                    self.assertTrue(trees.verify(tree.root, size, index, leaves[index], tree.path(index)))
+                for index in range(size) if log2 < 6 else DRAWS.sample(range(size), 8):
+                    path = trees.path(leaves, index)
+                    self.assertEqual(path, tree.path(index))
+                    self.assertFalse(trees.verify(tree.root, size, index, leaves[index] + b"x", path))
+                    self.assertFalse(trees.verify(sha(tree.root), size, index, leaves[index], path))
+                for _ in range(8):
+                    indexes = sorted(DRAWS.sample(range(size), DRAWS.randrange(1, min(size, 200) + 1)))
+                    proof = trees.multi_path(leaves, DRAWS.sample(indexes, len(indexes)))
+                    self.assertEqual(proof, tree.multi_path(indexes))
+                    shown = [leaves[index] for index in indexes]
+                    self.assertTrue(trees.multi_verify(tree.root, size, indexes, shown, proof))
+                    shown[DRAWS.randrange(len(shown))] += b"x"
+                    self.assertFalse(trees.multi_verify(tree.root, size, indexes, shown, proof))
+
+    def test_no_flipped_bit_is_accepted(self):
+        for trees, leaf, node in HASHINGS:
+            leaves = drawn_leaves(1024)
+            tree = Tree(leaf, node, leaves)
+            index = DRAWS.randrange(1024)
+            for other in flips(tree.path(index), 1 << 20):
+                self.assertIsNot(self.answer(trees.verify, tree.root, 1024, index, leaves[index], other), True)
+            indexes = sorted(DRAWS.sample(range(1024), 40))
+            shown = [leaves[index] for index in indexes]
+            for other in flips(tree.multi_path(indexes), 2000):
+                self.assertIsNot(self.answer(trees.multi_verify, tree.root, 1024, indexes, shown, other), True)
+
+    def test_bytes_at_random_are_refused(self):
+        for trees, _, _ in HASHINGS:
+            for _ in range(3000):
+                count = DRAWS.choice([0, 1, 2, 1 << 32, 1 << 63, (1 << 64) - 1])
+                noise = DRAWS.randbytes(32) + word(count) + DRAWS.randbytes(DRAWS.randrange(100))
+                self.assertIsNot(self.answer(trees.verify, bytes(32), 4, 1, b"leaf", noise), True)
+                noise = word(count) + DRAWS.randbytes(DRAWS.randrange(100))
+                self.assertIsNot(self.answer(trees.multi_verify, bytes(32), 4, [1], [b"leaf"], noise), True)
+
+    def answer(self, call, *words):
+        try:
+            return call(*words)
+        except paxidore.Refused as refused:
+            return refused.code
+
+    def test_refusals(self):
+        trees = paxidore.sha256
+        leaves = [b"", b"a", b"bb", b"ccc"]
+        root, path = trees.root(leaves), trees.path(leaves, 2)
+        proof = trees.multi_path(leaves, [0, 3])
+        for error, call in (
+            (paxidore.SizeError, lambda: trees.root(leaves[:3])),
+            (paxidore.SizeError, lambda: trees.root([])),
+            (paxidore.SizeError, lambda: trees.verify(root, 3, 2, b"bb", path)),
+            (paxidore.HeightError, lambda: trees.verify(root, 8, 2, b"bb", path)),
+            (paxidore.InvalidProof, lambda: trees.verify(root, 4, 3, b"bb", path)),
+            (paxidore.InvalidProof, lambda: trees.verify(root, 4, 2, b"bb", path + b"\0")),
+            (paxidore.TruncatedProof, lambda: trees.verify(root, 4, 2, b"bb", path[:-1])),
+            (paxidore.TruncatedProof, lambda: trees.verify(root, 4, 2, b"bb", b"")),
+            (paxidore.IndexBeyondSize, lambda: trees.path(leaves, 4)),
+            (paxidore.IndexBeyondSize, lambda: trees.multi_path(leaves, [1, 4])),
+            (paxidore.IndexBeyondSize, lambda: trees.multi_path(leaves, [])),
+            (paxidore.CountError, lambda: trees.multi_verify(root, 4, [0, 3], [b""], proof)),
+            (paxidore.InvalidProof, lambda: trees.multi_verify(root, 4, [3, 0], [b"ccc", b""], proof)),
+            (ValueError, lambda: trees.verify(root[1:], 4, 2, b"bb", path)),
+            (OverflowError, lambda: trees.verify(root, 4, 2 + (1 << 64), b"bb", path)),
+            (OverflowError, lambda: trees.path(leaves, -1)),
+        ):
+            self.assertRaises(error, call)
+        self.assertTrue(trees.multi_verify(root, 4, [0, 3], [b"", b"ccc"], proof))
+        self.assertEqual(repr(trees), "paxidore.sha256")
+        self.assertEqual(str(self.refusal(lambda: trees.root([]))), "no tree has so many leaves")
+
+    def refusal(self, call):
+        try:
+            call()
+        except paxidore.Refused as refused:
+            return refused
+
+    def test_blake2s(self):
+        for length in list(range(260)) + [1 << 16]:
+            data = DRAWS.randbytes(length)
+            self.assertEqual(paxidore.blake2s(data), hashlib.blake2s(data).digest())
+
+    def test_memory_does_not_grow(self):
+        leaves = drawn_leaves(16)
+        root, path = paxidore.rfc6962.root(leaves), paxidore.rfc6962.path(leaves, 5)
+        before = resource.getrusage(resource.RUSAGE_SELF).ru_maxrss
+        for _ in range(100_000):
+            paxidore.rfc6962.verify(root, 16, 5, leaves[5], path)
+        self.assertLess(resource.getrusage(resource.RUSAGE_SELF).ru_maxrss - before, 2048)
+
+    def test_version(self):
+        self.assertEqual(paxidore.version(), "1.0.0")
+
+
+if __name__ == "__main__":
+    unittest.main()

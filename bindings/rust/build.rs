@@ -1,0 +1,18 @@
+//! Links libpaxidore: from the folder that PAXIDORE_LIB_DIR names, else from out/lib of the repository, where tools/build-library
+//! puts it, else as the linker finds it.
+
+use std::path::PathBuf;
+
+fn main() {
+    println!("cargo:rerun-if-env-changed=PAXIDORE_LIB_DIR");
+    let built = PathBuf::from(std::env::var("CARGO_MANIFEST_DIR").unwrap()).join("../../out/lib");
+    let named = std::env::var("PAXIDORE_LIB_DIR").map(PathBuf::from);
+    let folder = named.unwrap_or(built);
+    if folder.join("libpaxidore.a").exists() {
+        println!("cargo:rerun-if-changed={}", folder.join("libpaxidore.a").display());
+        println!("cargo:rustc-link-search=native={}", folder.display());
+        println!("cargo:rustc-link-lib=static=paxidore");
+    } else {
+        println!("cargo:rustc-link-lib=dylib=paxidore");
+    }
+}

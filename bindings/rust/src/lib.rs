@@ -1,0 +1,242 @@
+//! Merkle trees over byte strings, and BLAKE2s, by the proved code of libpaxidore.
+//!
+//! A log or a store publishes the root of its leaves and their count, and hands out paths. Whoever has the root and the count
+//! checks them without the other leaves:
+//!
+//! ```
+//! use paxidore::Trees;
+//!
+//! let leaves = ["ann", "bob", "cat", "dan"];
+//! let root = Trees::RFC6962.root(&leaves)?;
+//! let path = Trees::RFC6962.path(&leaves, 2)?;
+//! assert!(Trees::RFC6962.verify(&root, 4, 2, b"cat", &path)?);
+//! # Ok::<(), paxidore::Refused>(())
+//! ```
+#![warn(missing_docs)]
+
+mod sys;
+
+use std::error::Error;
+use std::ffi::CStr;
+use std::fmt;
+
+/// A root, or another digest.
+pub type Digest = [u8; 32];
+
+/// Why a call was refused.
+#[derive(Debug, Clone, Copy, PartialEq, Eq, Hash)]
+#[non_exhaustive]
+pub enum Refused {
+    /// A request for memory was refused.
+    Memory,
+    /// The bytes of the proof end early.
+    Truncated,
+    /// The bytes are no proof for these indexes: of others, not canonical, or with bytes behind.
+    Invalid,
+    /// The proof is for a tree of another size.
+    Height,
+    /// No tree has so many leaves: a tree has 2, 4, 8, 16 .. of them.
+    Size,
+    /// The lengths of the leaves do not sum to that of their bytes. No call of this crate gives it.
+    Lengths,
+    /// There are not as many leaves as indexes.
+    Count,
+    /// An index is not below the count of leaves, or there is none.
+    Index,
+    /// Another answer of a library that is newer than this crate.
+    Other(i32),
+}
+
+impl Refused {
+    fn of(answer: i32) -> Refused {
+        match answer {
+            -1 => Refused::Memory,
+            -2 => Refused::Truncated,
+            -3 => Refused::Invalid,
+            -4 => Refused::Height,
+            -5 => Refused::Size,
+            -6 => Refused::Lengths,
+            -7 => Refused::Count,
+            -8 => Refused::Index,
+            other => Refused::Other(other),
+        }
+    }
+}
+
+impl fmt::Display for Refused {
+    fn fmt(&self, f: &mut fmt::Formatter<'_>) -> fmt::Result {
+        match self {
+            Refused::Memory => f.write_str("a request for memory was refused"),
+            Refused::Truncated => f.write_str("the bytes of the proof end early"),
+            Refused::Invalid => f.write_str("the bytes are no proof for these indexes"),
+            Refused::Height => f.write_str("the proof is for a tree of another size"),
+            Refused::Size => f.write_str("no tree has so many leaves"),
+            Refused::Lengths => f.write_str("the lengths of the leaves do not sum to that of their bytes"),
+            Refused::Count => f.write_str("there are not as many leaves as indexes"),
+            Refused::Index => f.write_str("there is no index, or no leaf at one"),
+            Refused::Other(answer) => write!(f, "unknown answer {answer}"),
+        }
+    }
+}
+
+impl Error for Refused {}
+
+// What a proof shows.
+fn verdict(answer: i32) -> Result<bool, Refused> {
+    match answer {
+        0 => Ok(true),
+        1 => Ok(false),
+        refused => Err(Refused::of(refused)),
+    }
+}
+
+// Leaves one behind the other, and the length of each.
+struct Flat {
+    bytes: Vec<u8>,
+    lengths: Vec<usize>,
+}
+
+impl Flat {
+    fn of<L: AsRef<[u8]>>(leaves: &[L]) -> Flat {
+        let lengths: Vec<usize> = leaves.iter().map(|leaf| leaf.as_ref().len()).collect();
+        let mut bytes = Vec::with_capacity(lengths.iter().sum());
+        for leaf in leaves {
+            bytes.extend_from_slice(leaf.as_ref());
+        }
+        Flat { bytes, lengths }
+    }
+}
+
+// Bytes that a call writes into a buffer which is long enough, with their count.
+fn written(room: usize, call: impl FnOnce(*mut u8, usize, *mut usize) -> i32) -> Result<Vec<u8>, Refused> {
+    let (mut bytes, mut count) = (vec![0; room], 0);
+    match call(bytes.as_mut_ptr(), room, &mut count) {
+        0 => {
+            bytes.truncate(count);
+            Ok(bytes)
+        }
+        refused => Err(Refused::of(refused)),
+    }
+}
+
+/// The calls of one hashing.
+#[derive(Clone, Copy)]
+pub struct Trees {
+    calls: &'static sys::Calls,
+}
+
+impl fmt::Debug for Trees {
+    fn fmt(&self, f: &mut fmt::Formatter<'_>) -> fmt::Result {
+        f.debug_struct("Trees").finish_non_exhaustive()
+    }
+}
+
+impl Trees {
+    /// SHA-256 of a leaf, and of left followed by right. A pair can be taken for a leaf of 64 bytes.
+    pub const SHA256: Trees = Trees { calls: &sys::SHA256 };
+
+    /// As transparency logs hash (RFC 6962, section 2.1): no pair is taken for a leaf.
+    pub const RFC6962: Trees = Trees { calls: &sys::RFC6962 };
+
+    /// Whether the path shows that the leaf stands at the index of the tree of `size` leaves with this root.
+    ///
+    /// `Ok(false)` says that the path was read and leads elsewhere. Refusals: `Size`, `Truncated`, `Invalid`, `Height`, `Memory`.
+    pub fn verify(self, root: &Digest, size: usize, index: usize, leaf: &[u8], path: &[u8]) -> Result<bool, Refused> {
+        // SAFETY: each pointer with its length is that of a borrowed slice, and the call asks for nothing else.
+        verdict(unsafe {
+            (self.calls.verify)(root.as_ptr(), size, index, leaf.as_ptr(), leaf.len(), path.as_ptr(), path.len())
+        })
+    }
+
+    /// Whether the proof shows each leaf at its index. The indexes rise, and there are as many leaves.
+    ///
+    /// Refusals: those of `verify`, and `Count`.
+    pub fn multi_verify<L: AsRef<[u8]>>(
+        self,
+        root: &Digest,
+        size: usize,
+        indexes: &[usize],
+        leaves: &[L],
+        proof: &[u8],
+    ) -> Result<bool, Refused> {
+        let Flat { bytes, lengths } = Flat::of(leaves);
+        // SAFETY: as in `verify`.
+        verdict(unsafe {
+            (self.calls.multi_verify)(
+                root.as_ptr(),
+                size,
+                indexes.as_ptr(),
+                indexes.len(),
+                bytes.as_ptr(),
+                bytes.len(),
+                lengths.as_ptr(),
+                lengths.len(),
+                proof.as_ptr(),
+                proof.len(),
+            )
+        })
+    }
+
+    /// The root of the tree above the leaves. Refusals: `Size`, `Memory`.
+    pub fn root<L: AsRef<[u8]>>(self, leaves: &[L]) -> Result<Digest, Refused> {
+        let Flat { bytes, lengths } = Flat::of(leaves);
+        let mut root = [0; 32];
+        // SAFETY: as in `verify`, and `root` has room for 32 bytes that nothing else lends.
+        let answer = unsafe {
+            (self.calls.root)(root.as_mut_ptr(), bytes.as_ptr(), bytes.len(), lengths.as_ptr(), lengths.len())
+        };
+        match answer {
+            0 => Ok(root),
+            refused => Err(Refused::of(refused)),
+        }
+    }
+
+    /// The bytes of the path of an index. Refusals: `Size`, `Index`, `Memory`.
+    pub fn path<L: AsRef<[u8]>>(self, leaves: &[L], index: usize) -> Result<Vec<u8>, Refused> {
+        let Flat { bytes, lengths } = Flat::of(leaves);
+        let room = 16 + path_digests(lengths.len());
+        // SAFETY: as in `verify`, and the buffer has room for `room` bytes that nothing else lends.
+        written(room, |path, room, count| unsafe {
+            (self.calls.path)(path, room, count, bytes.as_ptr(), bytes.len(), lengths.as_ptr(), lengths.len(), index)
+        })
+    }
+
+    /// The bytes of the multi-proof of some indexes, in any order; it shows them rising and each once. Refusals: as `path`.
+    pub fn multi_path<L: AsRef<[u8]>>(self, leaves: &[L], indexes: &[usize]) -> Result<Vec<u8>, Refused> {
+        let Flat { bytes, lengths } = Flat::of(leaves);
+        let room = 32 + indexes.len().saturating_mul(24 + path_digests(lengths.len()));
+        // SAFETY: as in `path`.
+        written(room, |proof, room, count| unsafe {
+            (self.calls.multi_path)(
+                proof,
+                room,
+                count,
+                bytes.as_ptr(),
+                bytes.len(),
+                lengths.as_ptr(),
+                lengths.len(),
+                indexes.as_ptr(),
+                indexes.len(),
+            )
+        })
+    }
+}
+
+// How many bytes the digests of a path have in a tree of this size.
+fn path_digests(size: usize) -> usize {
+    32 * (usize::BITS - size.saturating_sub(1).leading_zeros()) as usize
+}
+
+/// The BLAKE2s of some bytes, with no key (RFC 7693).
+pub fn blake2s(input: &[u8]) -> Digest {
+    let mut digest = [0; 32];
+    // SAFETY: as in `Trees::root`.
+    unsafe { sys::paxidore_blake2s(digest.as_mut_ptr(), input.as_ptr(), input.len()) };
+    digest
+}
+
+/// The version of the library that is linked.
+pub fn version() -> &'static str {
+    // SAFETY: the library answers a text of its own, which ends with a zero byte and never changes.
+    unsafe { CStr::from_ptr(sys::paxidore_version()) }.to_str().unwrap_or("")
+}

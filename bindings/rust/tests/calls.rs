@@ -1,0 +1,89 @@
+//! Each call once, the refusals, and values of other implementations.
+
+use paxidore::{blake2s, version, Refused, Trees};
+
+fn hex(bytes: &[u8]) -> String {
+    bytes.iter().map(|byte| format!("{byte:02x}")).collect()
+}
+
+// The entries that implementations of RFC 6962 are tested with.
+const ENTRIES: [&[u8]; 8] = [
+    b"",
+    b"\x00",
+    b"\x10",
+    b"\x20\x21",
+    b"\x30\x31",
+    b"\x40\x41\x42\x43",
+    b"\x50\x51\x52\x53\x54\x55\x56\x57",
+    b"`abcdefghijklmno",
+];
+
+#[test]
+fn roots() {
+    let of = |trees: Trees, count: usize| trees.root(&ENTRIES[..count]).map(|root| hex(&root));
+    let known = [
+        (2, "fac54203e7cc696cf0dfcb42c92a1d9dbaf70ad9e621f4bd8d98662f00e3c125"),
+        (4, "d37ee418976dd95753c1c73862b9398fa2a2cf9b4ff0fdfe8b30cd95209614b7"),
+        (8, "5dc9da79a70659a9ad559cb701ded9a2ab9d823aad2f4960cfe370eff4604328"),
+    ];
+    for (count, root) in known {
+        assert_eq!(of(Trees::RFC6962, count).as_deref(), Ok(root));
+    }
+    let plain = "03b3e0e5b23746036c9c7185c1fc12bc6f8ff41cc2b97b24fb451f2cc291d2b4";
+    assert_eq!(of(Trees::SHA256, 8).as_deref(), Ok(plain));
+    for count in [0, 1, 3, 5, 6, 7] {
+        assert_eq!(of(Trees::SHA256, count), Err(Refused::Size));
+    }
+}
+
+#[test]
+fn paths() -> Result<(), Refused> {
+    for trees in [Trees::SHA256, Trees::RFC6962] {
+        let root = trees.root(&ENTRIES)?;
+        for (index, leaf) in ENTRIES.iter().enumerate() {
+            let path = trees.path(&ENTRIES, index)?;
+            assert!(trees.verify(&root, 8, index, leaf, &path)?);
+            assert!(!trees.verify(&root, 8, index, b"other", &path)?);
+            assert_eq!(trees.verify(&root, 8, index ^ 1, leaf, &path), Err(Refused::Invalid));
+            assert_eq!(trees.verify(&root, 16, index, leaf, &path), Err(Refused::Height));
+            assert_eq!(trees.verify(&root, 7, index, leaf, &path), Err(Refused::Size));
+            assert_eq!(trees.verify(&root, 8, index, leaf, &path[1..]), Err(Refused::Truncated));
+            for bit in 0..8 * path.len() {
+                let mut other = path.clone();
+                other[bit / 8] ^= 1 << (bit % 8);
+                assert_ne!(trees.verify(&root, 8, index, leaf, &other), Ok(true));
+            }
+        }
+        assert_eq!(trees.path(&ENTRIES, 8), Err(Refused::Index));
+        assert_eq!(trees.path(&ENTRIES[..3], 0), Err(Refused::Size));
+        assert_eq!(trees.path::<&[u8]>(&[], 0), Err(Refused::Size));
+    }
+    Ok(())
+}
+
+#[test]
+fn multi_paths() -> Result<(), Refused> {
+    for trees in [Trees::SHA256, Trees::RFC6962] {
+        let root = trees.root(&ENTRIES)?;
+        for set in 1..256_usize {
+            let indexes: Vec<usize> = (0..8).filter(|index| set >> index & 1 == 1).collect();
+            let leaves: Vec<&[u8]> = indexes.iter().map(|&index| ENTRIES[index]).collect();
+            let proof = trees.multi_path(&ENTRIES, &indexes)?;
+            assert!(trees.multi_verify(&root, 8, &indexes, &leaves, &proof)?);
+            assert_eq!(trees.multi_verify(&root, 8, &indexes, &leaves[1..], &proof), Err(Refused::Count));
+            assert_eq!(trees.multi_verify(&root, 8, &indexes, &leaves, &proof[1..]).is_ok(), false);
+        }
+        assert_eq!(trees.multi_path(&ENTRIES, &[]), Err(Refused::Index));
+        assert_eq!(trees.multi_path(&ENTRIES, &[3, 8]), Err(Refused::Index));
+    }
+    Ok(())
+}
+
+#[test]
+fn others() {
+    // RFC 7693, appendix B
+    let abc = "508c5e8c327c14e2e1a72ba34eeb452f37458b209ed63a294d999b4c86675982";
+    assert_eq!(hex(&blake2s(b"abc")), abc);
+    assert_eq!(version(), "1.0.0");
+    assert_eq!(Refused::Size.to_string(), "no tree has so many leaves");
+}
