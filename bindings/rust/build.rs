@@ -9,7 +9,10 @@ fn main() {
     let named = std::env::var("PAXIDORE_LIB_DIR").map(PathBuf::from);
     let folder = named.unwrap_or(built);
     if folder.join("libpaxidore.a").exists() {
-        println!("cargo:rerun-if-changed={}", folder.join("libpaxidore.a").display());
+        println!(
+            "cargo:rerun-if-changed={}",
+            folder.join("libpaxidore.a").display()
+        );
         println!("cargo:rustc-link-search=native={}", folder.display());
         println!("cargo:rustc-link-lib=static=paxidore");
     } else {

@@ -71,7 +71,9 @@ impl fmt::Display for Refused {
             Refused::Invalid => f.write_str("the bytes are no proof for these indexes"),
             Refused::Height => f.write_str("the proof is for a tree of another size"),
             Refused::Size => f.write_str("no tree has so many leaves"),
-            Refused::Lengths => f.write_str("the lengths of the leaves do not sum to that of their bytes"),
+            Refused::Lengths => {
+                f.write_str("the lengths of the leaves do not sum to that of their bytes")
+            }
             Refused::Count => f.write_str("there are not as many leaves as indexes"),
             Refused::Index => f.write_str("there is no index, or no leaf at one"),
             Refused::Other(answer) => write!(f, "unknown answer {answer}"),
@@ -108,7 +110,10 @@ impl Flat {
 }
 
 // Bytes that a call writes into a buffer which is long enough, with their count.
-fn written(room: usize, call: impl FnOnce(*mut u8, usize, *mut usize) -> i32) -> Result<Vec<u8>, Refused> {
+fn written(
+    room: usize,
+    call: impl FnOnce(*mut u8, usize, *mut usize) -> i32,
+) -> Result<Vec<u8>, Refused> {
     let (mut bytes, mut count) = (vec![0; room], 0);
     match call(bytes.as_mut_ptr(), room, &mut count) {
         0 => {
@@ -133,18 +138,37 @@ impl fmt::Debug for Trees {
 
 impl Trees {
     /// SHA-256 of a leaf, and of left followed by right. A pair can be taken for a leaf of 64 bytes.
-    pub const SHA256: Trees = Trees { calls: &sys::SHA256 };
+    pub const SHA256: Trees = Trees {
+        calls: &sys::SHA256,
+    };
 
     /// As transparency logs hash (RFC 6962, section 2.1): no pair is taken for a leaf.
-    pub const RFC6962: Trees = Trees { calls: &sys::RFC6962 };
+    pub const RFC6962: Trees = Trees {
+        calls: &sys::RFC6962,
+    };
 
     /// Whether the path shows that the leaf stands at the index of the tree of `size` leaves with this root.
     ///
     /// `Ok(false)` says that the path was read and leads elsewhere. Refusals: `Size`, `Truncated`, `Invalid`, `Height`, `Memory`.
-    pub fn verify(self, root: &Digest, size: usize, index: usize, leaf: &[u8], path: &[u8]) -> Result<bool, Refused> {
+    pub fn verify(
+        self,
+        root: &Digest,
+        size: usize,
+        index: usize,
+        leaf: &[u8],
+        path: &[u8],
+    ) -> Result<bool, Refused> {
         // SAFETY: each pointer with its length is that of a borrowed slice, and the call asks for nothing else.
         verdict(unsafe {
-            (self.calls.verify)(root.as_ptr(), size, index, leaf.as_ptr(), leaf.len(), path.as_ptr(), path.len())
+            (self.calls.verify)(
+                root.as_ptr(),
+                size,
+                index,
+                leaf.as_ptr(),
+                leaf.len(),
+                path.as_ptr(),
+                path.len(),
+            )
         })
     }
 
@@ -183,7 +207,13 @@ impl Trees {
         let mut root = [0; 32];
         // SAFETY: as in `verify`, and `root` has room for 32 bytes that nothing else lends.
         let answer = unsafe {
-            (self.calls.root)(root.as_mut_ptr(), bytes.as_ptr(), bytes.len(), lengths.as_ptr(), lengths.len())
+            (self.calls.root)(
+                root.as_mut_ptr(),
+                bytes.as_ptr(),
+                bytes.len(),
+                lengths.as_ptr(),
+                lengths.len(),
+            )
         };
         match answer {
             0 => Ok(root),
@@ -197,14 +227,30 @@ impl Trees {
         let room = 16 + path_digests(lengths.len());
         // SAFETY: as in `verify`, and the buffer has room for `room` bytes that nothing else lends.
         written(room, |path, room, count| unsafe {
-            (self.calls.path)(path, room, count, bytes.as_ptr(), bytes.len(), lengths.as_ptr(), lengths.len(), index)
+            (self.calls.path)(
+                path,
+                room,
+                count,
+                bytes.as_ptr(),
+                bytes.len(),
+                lengths.as_ptr(),
+                lengths.len(),
+                index,
+            )
         })
     }
 
     /// The bytes of the multi-proof of some indexes, in any order; it shows them rising and each once. Refusals: as `path`.
-    pub fn multi_path<L: AsRef<[u8]>>(self, leaves: &[L], indexes: &[usize]) -> Result<Vec<u8>, Refused> {
+    pub fn multi_path<L: AsRef<[u8]>>(
+        self,
+        leaves: &[L],
+        indexes: &[usize],
+    ) -> Result<Vec<u8>, Refused> {
         let Flat { bytes, lengths } = Flat::of(leaves);
-        let room = 32 + indexes.len().saturating_mul(24 + path_digests(lengths.len()));
+        let room = 32
+            + indexes
+                .len()
+                .saturating_mul(24 + path_digests(lengths.len()));
         // SAFETY: as in `path`.
         written(room, |proof, room, count| unsafe {
             (self.calls.multi_path)(
@@ -238,5 +284,7 @@ pub fn blake2s(input: &[u8]) -> Digest {
 /// The version of the library that is linked.
 pub fn version() -> &'static str {
     // SAFETY: the library answers a text of its own, which ends with a zero byte and never changes.
-    unsafe { CStr::from_ptr(sys::paxidore_version()) }.to_str().unwrap_or("")
+    unsafe { CStr::from_ptr(sys::paxidore_version()) }
+        .to_str()
+        .unwrap_or("")
 }

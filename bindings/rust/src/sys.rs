@@ -4,16 +4,43 @@ use std::os::raw::c_char;
 
 /// The five calls of one hashing.
 pub struct Calls {
-    pub verify: unsafe extern "C" fn(*const u8, usize, usize, *const u8, usize, *const u8, usize) -> i32,
+    pub verify:
+        unsafe extern "C" fn(*const u8, usize, usize, *const u8, usize, *const u8, usize) -> i32,
     #[allow(clippy::type_complexity)]
     pub multi_verify: unsafe extern "C" fn(
-        *const u8, usize, *const usize, usize, *const u8, usize, *const usize, usize, *const u8, usize,
+        *const u8,
+        usize,
+        *const usize,
+        usize,
+        *const u8,
+        usize,
+        *const usize,
+        usize,
+        *const u8,
+        usize,
     ) -> i32,
     pub root: unsafe extern "C" fn(*mut u8, *const u8, usize, *const usize, usize) -> i32,
-    pub path: unsafe extern "C" fn(*mut u8, usize, *mut usize, *const u8, usize, *const usize, usize, usize) -> i32,
+    pub path: unsafe extern "C" fn(
+        *mut u8,
+        usize,
+        *mut usize,
+        *const u8,
+        usize,
+        *const usize,
+        usize,
+        usize,
+    ) -> i32,
     #[allow(clippy::type_complexity)]
     pub multi_path: unsafe extern "C" fn(
-        *mut u8, usize, *mut usize, *const u8, usize, *const usize, usize, *const usize, usize,
+        *mut u8,
+        usize,
+        *mut usize,
+        *const u8,
+        usize,
+        *const usize,
+        usize,
+        *const usize,
+        usize,
     ) -> i32,
 }
 
@@ -21,23 +48,62 @@ macro_rules! calls {
     ($verify:ident $multi_verify:ident $root:ident $path:ident $multi_path:ident) => {{
         extern "C" {
             fn $verify(
-                root: *const u8, size: usize, index: usize, leaf: *const u8, leaf_len: usize, path: *const u8, path_len: usize,
+                root: *const u8,
+                size: usize,
+                index: usize,
+                leaf: *const u8,
+                leaf_len: usize,
+                path: *const u8,
+                path_len: usize,
             ) -> i32;
             fn $multi_verify(
-                root: *const u8, size: usize, indexes: *const usize, indexes_count: usize, leaves: *const u8, leaves_len: usize,
-                lengths: *const usize, count: usize, proof: *const u8, proof_len: usize,
+                root: *const u8,
+                size: usize,
+                indexes: *const usize,
+                indexes_count: usize,
+                leaves: *const u8,
+                leaves_len: usize,
+                lengths: *const usize,
+                count: usize,
+                proof: *const u8,
+                proof_len: usize,
             ) -> i32;
-            fn $root(root: *mut u8, leaves: *const u8, leaves_len: usize, lengths: *const usize, count: usize) -> i32;
+            fn $root(
+                root: *mut u8,
+                leaves: *const u8,
+                leaves_len: usize,
+                lengths: *const usize,
+                count: usize,
+            ) -> i32;
             fn $path(
-                path: *mut u8, path_room: usize, path_len: *mut usize, leaves: *const u8, leaves_len: usize,
-                lengths: *const usize, count: usize, index: usize,
+                path: *mut u8,
+                path_room: usize,
+                path_len: *mut usize,
+                leaves: *const u8,
+                leaves_len: usize,
+                lengths: *const usize,
+                count: usize,
+                index: usize,
             ) -> i32;
             fn $multi_path(
-                proof: *mut u8, proof_room: usize, proof_len: *mut usize, leaves: *const u8, leaves_len: usize,
-                lengths: *const usize, count: usize, indexes: *const usize, indexes_count: usize,
+                proof: *mut u8,
+                proof_room: usize,
+                proof_len: *mut usize,
+                leaves: *const u8,
+                leaves_len: usize,
+                lengths: *const usize,
+                count: usize,
+                indexes: *const usize,
+                indexes_count: usize,
             ) -> i32;
         }
-        Calls { verify: $verify, multi_verify: $multi_verify, root: $root, path: $path, multi_path: $multi_path }
+        Calls {
+            verify: $verify,
+            multi_verify: $multi_verify,
+            root: $root,
+            path: $path,
+            multi_path: $multi_path,
+        }
     }};
 }
 

@@ -22,9 +22,18 @@ const ENTRIES: [&[u8]; 8] = [
 fn roots() {
     let of = |trees: Trees, count: usize| trees.root(&ENTRIES[..count]).map(|root| hex(&root));
     let known = [
-        (2, "fac54203e7cc696cf0dfcb42c92a1d9dbaf70ad9e621f4bd8d98662f00e3c125"),
-        (4, "d37ee418976dd95753c1c73862b9398fa2a2cf9b4ff0fdfe8b30cd95209614b7"),
-        (8, "5dc9da79a70659a9ad559cb701ded9a2ab9d823aad2f4960cfe370eff4604328"),
+        (
+            2,
+            "fac54203e7cc696cf0dfcb42c92a1d9dbaf70ad9e621f4bd8d98662f00e3c125",
+        ),
+        (
+            4,
+            "d37ee418976dd95753c1c73862b9398fa2a2cf9b4ff0fdfe8b30cd95209614b7",
+        ),
+        (
+            8,
+            "5dc9da79a70659a9ad559cb701ded9a2ab9d823aad2f4960cfe370eff4604328",
+        ),
     ];
     for (count, root) in known {
         assert_eq!(of(Trees::RFC6962, count).as_deref(), Ok(root));
@@ -44,10 +53,22 @@ fn paths() -> Result<(), Refused> {
             let path = trees.path(&ENTRIES, index)?;
             assert!(trees.verify(&root, 8, index, leaf, &path)?);
             assert!(!trees.verify(&root, 8, index, b"other", &path)?);
-            assert_eq!(trees.verify(&root, 8, index ^ 1, leaf, &path), Err(Refused::Invalid));
-            assert_eq!(trees.verify(&root, 16, index, leaf, &path), Err(Refused::Height));
-            assert_eq!(trees.verify(&root, 7, index, leaf, &path), Err(Refused::Size));
-            assert_eq!(trees.verify(&root, 8, index, leaf, &path[1..]), Err(Refused::Truncated));
+            assert_eq!(
+                trees.verify(&root, 8, index ^ 1, leaf, &path),
+                Err(Refused::Invalid)
+            );
+            assert_eq!(
+                trees.verify(&root, 16, index, leaf, &path),
+                Err(Refused::Height)
+            );
+            assert_eq!(
+                trees.verify(&root, 7, index, leaf, &path),
+                Err(Refused::Size)
+            );
+            assert_eq!(
+                trees.verify(&root, 8, index, leaf, &path[1..]),
+                Err(Refused::Truncated)
+            );
             for bit in 0..8 * path.len() {
                 let mut other = path.clone();
                 other[bit / 8] ^= 1 << (bit % 8);
@@ -70,8 +91,13 @@ fn multi_paths() -> Result<(), Refused> {
             let leaves: Vec<&[u8]> = indexes.iter().map(|&index| ENTRIES[index]).collect();
             let proof = trees.multi_path(&ENTRIES, &indexes)?;
             assert!(trees.multi_verify(&root, 8, &indexes, &leaves, &proof)?);
-            assert_eq!(trees.multi_verify(&root, 8, &indexes, &leaves[1..], &proof), Err(Refused::Count));
-            assert_eq!(trees.multi_verify(&root, 8, &indexes, &leaves, &proof[1..]).is_ok(), false);
+            assert_eq!(
+                trees.multi_verify(&root, 8, &indexes, &leaves[1..], &proof),
+                Err(Refused::Count)
+            );
+            assert!(trees
+                .multi_verify(&root, 8, &indexes, &leaves, &proof[1..])
+                .is_err());
         }
         assert_eq!(trees.multi_path(&ENTRIES, &[]), Err(Refused::Index));
         assert_eq!(trees.multi_path(&ENTRIES, &[3, 8]), Err(Refused::Index));
