@@ -1,8 +1,9 @@
 /* Paxidore: Merkle trees over byte strings, and BLAKE2s. The code behind these calls is proved.
  *
- * Every call owns nothing when it returns, keeps nothing, and may run in any thread at any time. Want of memory (malloc) is an
- * answer like others. Only inputs may overlap. A pointer to a first byte or number is not NULL and may be read, or written
- * where it is not const, for its length; with length 0 it is not looked at and may be NULL. */
+ * Every call owns nothing when it returns, keeps nothing, and may run in any thread at any time, but not in a signal handler.
+ * Want of memory (malloc) is an answer like others. size_t has 64 bits. Only inputs may overlap. A pointer to a first byte or
+ * number is not NULL and may be read, or written where it is not const, for its length; with length 0 it is not looked at and
+ * may be NULL. */
 #ifndef PAXIDORE_H
 #define PAXIDORE_H
 
@@ -23,7 +24,8 @@ extern "C" {
 #define PAXIDORE_PATHBYTES_MAX PAXIDORE_PATHBYTES(63U)
 
 /* A multi-proof of some indexes in such a tree has no more. */
-#define PAXIDORE_MULTIPATHBYTES_MAX(indexes_count, log2_of_size) (32U + (24U + 32U * (size_t)(log2_of_size)) * (size_t)(indexes_count))
+#define PAXIDORE_MULTIPATHBYTES_MAX(indexes_count, log2_of_size) \
+    (32U + (24U + 32U * (size_t)(log2_of_size)) * (size_t)(indexes_count))
 
 /* What a call answers. Only 0 is a yes: compare with PAXIDORE_OK. After another answer each buffer is as it was. */
 enum paxidore_answer {
@@ -84,8 +86,8 @@ int32_t paxidore_sha256_multi_path(uint8_t *proof, size_t proof_room, size_t *pr
                                    const size_t *lengths, size_t count,
                                    const size_t *indexes, size_t indexes_count);
 
-/* ---- Trees as transparency logs hash them (RFC 6962, section 2.1): a zero byte stands before a leaf, a one byte before a pair, so
- * that no pair is taken for a leaf. The calls are those above. */
+/* ---- Trees as transparency logs hash them (RFC 6962, section 2.1): a zero byte stands before a leaf, a one byte before a
+ * pair, so that no pair is taken for a leaf. The calls are those above. */
 
 int32_t paxidore_rfc6962_verify(const uint8_t root[PAXIDORE_DIGESTBYTES], size_t size, size_t index,
                                 const uint8_t *leaf, size_t leaf_len,
