@@ -41,8 +41,8 @@ module _ {V : Type 0} (fits : V → Type 0) (spell : V → List ℕ) (reads : Li
       (both (counted_list (counted_list spell)) spell_second)
       (both_at (counted_list_at (counted_list_at reads)) second)
   behind_rows fits_second spell_second second =
-      both_laws (IsCounted (IsCounted fits)) (counted_list (counted_list spell)) (counted_list_at (counted_list_at reads))
-      fits_second spell_second second rows_laws
+      both_laws (IsCounted (IsCounted fits)) (counted_list (counted_list spell))
+      (counted_list_at (counted_list_at reads)) fits_second spell_second second rows_laws
 
   fields_laws : IsCanonical (HaveSpelling fits) (fields_spelling spell) (fields_at reads)
   fields_laws =
@@ -89,8 +89,8 @@ module _ {V : Type 0} (test : V → Outcome V) (same : (v w : V) → test v ≡ 
 
 -- ---- parameters
 
-guarded-Ok : {A : Type 0} (b : Bool) (refusal : Error) (outcome : Outcome A) (x : A) → cond b (Err refusal) outcome ≡ Ok x
-    → outcome ≡ Ok x
+guarded-Ok : {A : Type 0} (b : Bool) (refusal : Error) (outcome : Outcome A) (x : A)
+    → cond b (Err refusal) outcome ≡ Ok x → outcome ≡ Ok x
 guarded-Ok true refusal outcome x e = absurd cc
 guarded-Ok false refusal outcome x e = e
 

@@ -1,7 +1,8 @@
 //! The digest of a list.
 
-ghost use Rattle.std.specs.Prelude.{◌≡◌, ℕ, List, ◌∷◌, [], map, replicate, vec_len, IfOk, Ok};
+ghost use Rattle.std.specs.Prelude.{◌≡◌, ℕ, List, ◌∷◌, [], map, length, replicate, vec_len, IfOk, Ok};
 ghost use Rattle.ark_base.specs.Outcome.{AnswersBy};
+ghost use Rattle.ark_sponge.specs.Permutation.{width};
 ghost use Rattle.ark_sponge.specs.Sponge.{new_sponge, poseidon_digest, AbsorbsAsOne};
 
 use crate::poseidon::config::PoseidonConfig;
@@ -19,6 +20,28 @@ fn zeros<F: PrimeField>(alloc: Global, count: usize) -> Result<Vec<F>, Error>
     Ok(vec![in alloc; F::zero(); count]?)
 }
 
+// Writes the element that a state of zeros gives once it has absorbed elements.
+fn write_digest<F: PrimeField, S: SBox<F>>(
+    parameters: &PoseidonConfig<F>,
+    state: &mut [F],
+    scratch: &mut [F],
+    elements: &[F],
+    out: &mut [F],
+)
+    requires zeros { map F.value state.old ≡ replicate (width parameters.now) 0 }
+    requires width { length state.old ≡ width parameters.now }
+    requires scratch { length scratch.old ≡ length state.old }
+    requires one { length out.old ≡ 1 }
+    ensures { map F.value out.new ≡ poseidon_digest F.MODULUS S.image parameters.now
+        (map F.value elements.now) }
+{
+    if !elements.is_empty() {
+        absorb_blocks::<F, S>(parameters, state, scratch, 0, elements);
+    }
+    parameters.permute::<S>(state, scratch);
+    squeeze_blocks::<F, S>(parameters, state, scratch, 0, out);
+}
+
 // As `digest`.
 fn digest_of<F: PrimeField, S: SBox<F>>(
     alloc: Global,
@@ -32,12 +55,8 @@ fn digest_of<F: PrimeField, S: SBox<F>>(
     let width = parameters.rate() + parameters.capacity();
     let mut state = zeros::<F>(alloc, width)?;
     let mut scratch = zeros::<F>(alloc, width)?;
-    if !elements.is_empty() {
-        absorb_blocks::<F, S>(parameters, &mut state, &mut scratch, 0, elements);
-    }
-    parameters.permute::<S>(&mut state, &mut scratch);
     let mut given = [F::zero()];
-    squeeze_blocks::<F, S>(parameters, &mut state, &mut scratch, 0, &mut given);
+    write_digest::<F, S>(parameters, &mut state, &mut scratch, elements, &mut given);
     Ok(given[0])
 }
 
