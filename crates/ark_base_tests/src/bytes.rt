@@ -100,8 +100,13 @@ fn each_beginning_is_cut_short(rt: HostRuntime) {
 #[test]
 fn a_huge_count_is_cut_short(rt: HostRuntime) {
     let alloc = rt.alloc();
-    assert_eq!(rt; fault::<Vec<u8>>(alloc, &[255; 8]), Some(TRUNCATED));
-    assert_eq!(rt; fault::<Vec<u8>>(alloc, &[255; 24]), Some(TRUNCATED));
+    for len in [8usize, 24] {
+        assert_eq!(rt;
+            fault::<Vec<u8>>(alloc, &[255; 24][..len]),
+            Some(TRUNCATED),
+            "{len}"
+        );
+    }
     assert_eq!(rt; fault::<Vec<u64>>(alloc, &[255; 24]), Some(TRUNCATED));
     assert_eq!(rt; fault::<Vec<Vec<u8>>>(alloc, &[255; 24]), Some(TRUNCATED));
 }
@@ -121,12 +126,17 @@ fn copies_are_equal(rt: HostRuntime) {
 #[test]
 fn flags_are_zero_or_one(rt: HostRuntime) {
     let alloc = rt.alloc();
-    assert_eq!(rt; has_bytes(alloc, &false, &[0]), Ok(true));
-    assert_eq!(rt; has_bytes(alloc, &true, &[1]), Ok(true));
-    assert_eq!(rt; read::<bool>(alloc, &[0, 1]), Ok((false, 1)));
-    assert_eq!(rt; read::<bool>(alloc, &[1, 7]), Ok((true, 1)));
-    assert_eq!(rt; read::<bool>(alloc, &[2]), Err(INVALID));
-    assert_eq!(rt; read::<bool>(alloc, &[]), Err(TRUNCATED));
+    for (flag, byte) in [(false, 0u8), (true, 1)] {
+        assert_eq!(rt; has_bytes(alloc, &flag, &[byte]), Ok(true), "{byte}");
+    }
+    for (bytes, wanted) in [
+        ([0u8, 1].as_slice(), Ok((false, 1usize))),
+        (&[1, 7], Ok((true, 1))),
+        (&[2], Err(INVALID)),
+        (&[], Err(TRUNCATED)),
+    ] {
+        assert_eq!(rt; read::<bool>(alloc, bytes), wanted);
+    }
     let short = [2, 0, 0, 0, 0, 0, 0, 0, 1];
     assert_eq!(rt; fault::<Vec<bool>>(alloc, &short), Some(TRUNCATED));
 }
@@ -175,8 +185,9 @@ fn in_three(alloc: Global, number: u64, bytes: &[u8]) -> Result<bool, Error> {
 fn numbers_below_a_modulus_are_cut_to_its_bytes(rt: HostRuntime) {
     let bytes = [0, 0, 1];
     assert_eq!(rt; in_three(rt.alloc(), 65536, &bytes), Ok(true));
-    assert_eq!(rt; read_below(65537, 3, &bytes), Ok((65536, 3)));
-    assert_eq!(rt; read_below(65536, 3, &bytes), Err(INVALID));
+    for (modulus, wanted) in [(65537u64, Ok((65536u64, 3usize))), (65536, Err(INVALID))] {
+        assert_eq!(rt; read_below(modulus, 3, &bytes), wanted, "{modulus}");
+    }
     assert_eq!(rt; read_below(65537, 4, &bytes), Err(TRUNCATED));
     assert_eq!(rt; number_of(&[2, 1]), 258);
 }
