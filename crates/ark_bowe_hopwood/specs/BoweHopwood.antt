@@ -23,13 +23,13 @@ chunks_of (a ∷ []) = (a, false, false) ∷ []
 chunks_of (a ∷ b ∷ []) = (a, b, false) ∷ []
 chunks_of (a ∷ b ∷ c ∷ bits) = (a, b, c) ∷ chunks_of bits
 
--- 1 for a set bit
-abbrev pub whole : Bool → ℤ
-whole b = if b then pos 1 else pos 0
+-- 1 where a bit is set, else 0
+abbrev pub one_if : Bool → ℤ
+one_if b = if b then pos 1 else pos 0
 
 -- the digit of a chunk: one of -4 .. -1 and 1 .. 4, negative where the third bit is set
 abbrev pub digit : Chunk → ℤ
-digit (a, b, c) = (pos 1 -ℤ pos 2 *ℤ whole c) *ℤ (pos 1 +ℤ whole a +ℤ pos 2 *ℤ whole b)
+digit (a, b, c) = (pos 1 -ℤ pos 2 *ℤ one_if c) *ℤ (pos 1 +ℤ one_if a +ℤ pos 2 *ℤ one_if b)
 
 -- the scalar of the chunks of a segment: the sum of digit j times 16 ^ j
 unfoldable pub segment_scalar : List Chunk → ℤ

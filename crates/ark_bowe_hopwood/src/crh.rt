@@ -30,8 +30,8 @@ impl<G: CurveGroup + TECoordinates, W: Window> CRH<G, W> {
     /// A list for each window: an element that is drawn, then each sixteen times the one before, as many as the window
     /// has chunks. The only refusal is `OutOfMemory`.
     pub fn create_generators<R: Rng>(alloc: Global, rng: &mut R) -> Result<Vec<Vec<G>>, Error>
-        ensures made { let stream = R.stream rng.old in
-            IfOk result (λ made. AreDrawnSegments G.group G.draw W.Window stream (lists_in made.items)) }
+        ensures made { let AreMade = AreDrawnSegments G.group G.draw W.Window (R.stream rng.old) in
+            IfOk result (λ lists. AreMade (lists_in lists.items)) }
         ensures left { OnOk result
             (R.stream rng.new ≡ (window_elements G.draw W.Window (R.stream rng.old)).1) }
         ensures refused { IfErr result (λ error. error ≡ Error.OutOfMemory) }

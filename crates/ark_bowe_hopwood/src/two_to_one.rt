@@ -27,8 +27,8 @@ pub struct TwoToOneCRH<G: CurveGroup + TECoordinates, W: Window> {
 impl<G: CurveGroup + TECoordinates, W: Window> TwoToOneCRH<G, W> {
     /// As `CRH::create_generators`.
     pub fn create_generators<R: Rng>(alloc: Global, rng: &mut R) -> Result<Vec<Vec<G>>, Error>
-        ensures made { let stream = R.stream rng.old in
-            IfOk result (λ made. AreDrawnSegments G.group G.draw W.Window stream (lists_in made.items)) }
+        ensures made { let AreMade = AreDrawnSegments G.group G.draw W.Window (R.stream rng.old) in
+            IfOk result (λ lists. AreMade (lists_in lists.items)) }
         ensures left { OnOk result
             (R.stream rng.new ≡ (window_elements G.draw W.Window (R.stream rng.old)).1) }
         ensures refused { IfErr result (λ error. error ≡ Error.OutOfMemory) }
@@ -128,7 +128,8 @@ where
 
     ghost evaluated_decided = { λ parameters left right.
         seen-decided (λ x. x ∷ []) _
-        (bowe_hopwood_halves-decided G.group G.x W.Window (lists_in parameters.generators.items) left right) };
+        (bowe_hopwood_halves-decided G.group G.x W.Window (lists_in parameters.generators.items)
+        left right) };
 
     ghost compressed_decided = { λ parameters left right.
         seen-decided (λ x. x ∷ []) _
