@@ -106,7 +106,12 @@ pub mod crh {
         pub use ark_pedersen::{CRH, Parameters, TwoToOneCRH, Window, bytes_to_bits};
     }
 
-    /// Maps of such sums.
+    /// The first coordinate of sums of elements, each as often as a signed digit of three bits says.
+    pub mod bowe_hopwood {
+        pub use ark_bowe_hopwood::{CHUNK_SIZE, CRH, Parameters, TwoToOneCRH};
+    }
+
+    /// Maps of Pedersen hashes.
     pub mod injective_map {
         pub use ark_pedersen::injective_map::{
             InjectiveMap, PedersenCRHCompressor, PedersenTwoToOneCRHCompressor, TECompressor,
