@@ -3,6 +3,7 @@
 #![tactic(auto)]
 
 mod blake2s;
+mod bowe_hopwood;
 mod fields;
 mod pedersen;
 mod poseidon;

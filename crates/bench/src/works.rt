@@ -1,7 +1,7 @@
 //! The works by their names.
 
 use crate::fields::{Widest, product_chain};
-use crate::{blake2s, pedersen, poseidon, signatures, trees};
+use crate::{blake2s, bowe_hopwood, pedersen, poseidon, signatures, trees};
 use ark_crypto_primitives::Error;
 use ark_crypto_primitives::ff::{Fp, M61, M257, M65537, PrimeField};
 use ark_crypto_primitives::trees::{Sha256Arrays, Sha256Strings};
@@ -29,6 +29,7 @@ pub fn checksum(alloc: Global, words: &[String]) -> Result<Option<u64>, Error> {
         "blake2s-commitment" => blake2s::commitments(alloc, count)?,
         "pedersen-hash" => pedersen::hashes(alloc, count)?,
         "pedersen-commitment" => pedersen::commitments(alloc, count)?,
+        "bowe-hopwood" => bowe_hopwood::hashes(alloc, count)?,
         "poseidon-permutation" => poseidon::permutations(alloc, count)?,
         "poseidon-absorb" => poseidon::absorptions(alloc, count)?,
         "poseidon-squeeze" => poseidon::squeezes(alloc, count)?,
