@@ -116,6 +116,18 @@ int32_t paxidore_rfc6962_multi_path(uint8_t *proof, size_t proof_room, size_t *p
 
 void paxidore_blake2s(uint8_t digest[PAXIDORE_DIGESTBYTES], const uint8_t *input, size_t input_len);
 
+/* A text that comes piece by piece, in memory of the caller's: `init`, any number of `update`, `final`, which makes it ready
+ * for another text. It may be copied at any time. Its members are the library's own. */
+typedef struct paxidore_blake2s_state {
+    uint32_t state[8];
+    uint8_t block[64];
+    uint64_t len;
+} paxidore_blake2s_state;
+
+void paxidore_blake2s_init(paxidore_blake2s_state *state);
+void paxidore_blake2s_update(paxidore_blake2s_state *state, const uint8_t *input, size_t input_len);
+void paxidore_blake2s_final(paxidore_blake2s_state *state, uint8_t digest[PAXIDORE_DIGESTBYTES]);
+
 #ifdef __cplusplus
 }
 #endif

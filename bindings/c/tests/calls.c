@@ -199,6 +199,38 @@ static void multi_paths(const struct hashing *h) {
     CHECK(h->multi_verify(root, SIZE, NULL, 0, NULL, 0, NULL, 0, NULL, 0) == PAXIDORE_E_TRUNCATED);
 }
 
+static void blake2s(void) {
+    static uint8_t text[1000];
+    uint8_t once[32], pieces[32];
+    paxidore_blake2s_state state, copy;
+    for (size_t i = 0; i < sizeof text; i++)
+        text[i] = (uint8_t)(i * 167 >> 3);
+    /* RFC 7693, appendix B; no bytes by Python's hashlib */
+    paxidore_blake2s(once, (const uint8_t *)"abc", 3);
+    CHECK(is_hex(once, "508c5e8c327c14e2e1a72ba34eeb452f37458b209ed63a294d999b4c86675982"));
+    paxidore_blake2s(once, NULL, 0);
+    CHECK(is_hex(once, "69217a3079908094e11121d042354a7c1f55b6482ca1a51e1b250dfd1ed0eef9"));
+    paxidore_blake2s_init(&state);
+    for (size_t len = 0; len <= sizeof text; len += 37)
+        for (size_t piece = 1; piece <= 200; piece += 33) {
+            paxidore_blake2s(once, text, len);
+            for (size_t at = 0; at < len; at += piece)
+                paxidore_blake2s_update(&state, text + at, len - at < piece ? len - at : piece);
+            paxidore_blake2s_update(&state, NULL, 0);
+            copy = state;
+            paxidore_blake2s_final(&state, pieces);
+            CHECK(memcmp(once, pieces, 32) == 0);
+            paxidore_blake2s_final(&copy, pieces);
+            CHECK(memcmp(once, pieces, 32) == 0);
+        }
+    /* memory that no call made ready: any digest, and no harm */
+    memset(&state, 0xff, sizeof state);
+    paxidore_blake2s_update(&state, text, sizeof text);
+    paxidore_blake2s_final(&state, pieces);
+    paxidore_blake2s_final(&state, pieces);
+    CHECK(is_hex(pieces, "69217a3079908094e11121d042354a7c1f55b6482ca1a51e1b250dfd1ed0eef9"));
+}
+
 int main(void) {
     const struct hashing *all[2] = {&sha256, &rfc6962};
     for (int i = 0; i < 2; i++) {
@@ -206,6 +238,7 @@ int main(void) {
         paths(all[i]);
         multi_paths(all[i]);
     }
+    blake2s();
     CHECK(strcmp(paxidore_version(), PAXIDORE_VERSION_STRING) == 0);
     for (int32_t answer = -11; answer <= 2; answer++)
         CHECK((strcmp(paxidore_strerror(answer), "unknown answer") == 0) == (answer < -9 || answer > 1));

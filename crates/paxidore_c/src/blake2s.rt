@@ -1,9 +1,11 @@
 //! BLAKE2s with 32 bytes out, no key, no salt and no personalization (RFC 7693).
 
-ghost use Rattle.std.specs.Prelude.{◌≡◌};
+ghost use Rattle.std.specs.Prelude.{◌≡◌, ◌+◌, ◌^◌, ◌<◌, ℕ, List, [], ◌++◌, length};
 ghost use Rattle.ark_schemes.specs.Blake2s.{blake2s};
+ghost use Rattle.ark_schemes.specs.Hashers.{HoldsText};
 
 use ark_schemes::prf::blake2s::Blake2s256;
+use std::mem;
 
 /// The digest of some bytes, to `digest`. It takes no memory and refuses nothing.
 #[unsafe(no_mangle)]
@@ -13,4 +15,30 @@ pub extern "C" fn paxidore_blake2s(digest: &mut [u8; 32], input: &[u8])
     let mut hasher = Blake2s256::new();
     hasher.update(input);
     *digest = hasher.finalize();
+}
+
+/// Makes of the caller's memory the hasher of the text of no bytes.
+#[unsafe(no_mangle)]
+pub extern "C" fn paxidore_blake2s_init(state: &mut Blake2s256)
+    ensures { HoldsText state.new [] }
+{
+    *state = Blake2s256::new();
+}
+
+/// Appends bytes to the text.
+#[unsafe(no_mangle)]
+pub extern "C" fn paxidore_blake2s_update(state: &mut Blake2s256, input: &[u8])
+    ensures { (text : List ℕ) → length text + length input.now < 2 ^ 64
+        → HoldsText state.old text → HoldsText state.new (text ++ input.now) }
+{
+    state.update(input);
+}
+
+/// The digest of the text, to `digest`; the hasher is then that of the text of no bytes.
+#[unsafe(no_mangle)]
+pub extern "C" fn paxidore_blake2s_final(state: &mut Blake2s256, digest: &mut [u8; 32])
+    ensures digest { (text : List ℕ) → HoldsText state.old text → digest.new ≡ blake2s text }
+    ensures empty { HoldsText state.new [] }
+{
+    *digest = mem::replace(state, Blake2s256::new()).finalize();
 }

@@ -18,6 +18,7 @@ use std::alloc::Global;
 /// BLAKE2s with 32 bytes out, no key, no salt and no personalization (RFC 7693): the digest of a text that comes piece by piece,
 /// or, by `ByteDigest`, at once.
 #[derive(Drop)]
+#[repr(C)]
 pub struct Blake2s256 {
     hasher: Hasher,
 }

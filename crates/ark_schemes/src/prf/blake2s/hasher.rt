@@ -12,6 +12,7 @@ const BLOCK_LEN: usize = 64;
 
 /// What is kept of a text that has come so far.
 #[derive(Drop)]
+#[repr(C)]
 pub struct Hasher {
     // The state after all blocks but the last.
     state: [u32; 8],
