@@ -92,7 +92,8 @@ pub fn of_leaves<M: OfLeaf>(
 ) -> Result<Vec<M::Made>, Refused>
     ensures made { let outcome = results_of M.made (leaves_in (cut bytes.now lengths.now)) in
         GivesBy (λ all. map M.seen all.items) outcome result }
-    ensures size { IfOk result (λ all. IsTreeSize (length lengths.now) → IsTreeSize (length all.items)) }
+    ensures size { IfOk result (λ all.
+        IsTreeSize (length lengths.now) → IsTreeSize (length all.items)) }
 {
     let mut all = Vec::with_capacity(alloc, lengths.len())?;
     let mut rest = bytes;
@@ -117,7 +118,8 @@ pub fn leaves_for(
     bytes: &[u8],
     lengths: &[usize],
 ) -> Result<Vec<Vec<u8>>, Refused>
-    ensures { let outcome = results_of (λ leaf. leaf) (leaves_for size count bytes.now lengths.now) in
+    ensures { let given = leaves_for size count bytes.now lengths.now in
+        let outcome = results_of (λ leaf. leaf) given in
         GivesBy (λ all. map (λ leaf. leaf.items) all.items) outcome result }
 {
     if !is_tree_size(size) {
