@@ -35,7 +35,7 @@ enum paxidore_answer {
     PAXIDORE_E_TRUNCATED = -2, /* the bytes of the proof end early */
     PAXIDORE_E_INVALID = -3,   /* the bytes are no proof for these indexes: of others, not canonical, or with bytes behind */
     PAXIDORE_E_HEIGHT = -4,    /* the proof is for a tree of another size */
-    PAXIDORE_E_SIZE = -5,      /* no tree has so many leaves: a tree has 2, 4, 8, 16 .. of them */
+    PAXIDORE_E_SIZE = -5,      /* no tree has this count of leaves: a tree has 2, 4, 8, 16 .. of them */
     PAXIDORE_E_LENGTHS = -6,   /* the lengths of the leaves do not sum to that of their bytes */
     PAXIDORE_E_COUNT = -7,     /* there are not as many leaves as indexes */
     PAXIDORE_E_INDEX = -8,     /* an index is not below the count of leaves, or there is none */

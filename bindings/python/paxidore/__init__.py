@@ -76,7 +76,7 @@ class HeightError(Refused, ValueError):
 
 
 class SizeError(Refused, ValueError):
-    """No tree has so many leaves: a tree has 2, 4, 8, 16 .. of them."""
+    """No tree has this count of leaves: a tree has 2, 4, 8, 16 .. of them."""
 
     code = -5
 

@@ -144,7 +144,7 @@ class Calls(unittest.TestCase):
             self.assertRaises(error, call)
         self.assertTrue(trees.multi_verify(root, 4, [0, 3], [b"", b"ccc"], proof))
         self.assertEqual(repr(trees), "paxidore.sha256")
-        self.assertEqual(str(self.refusal(lambda: trees.root([]))), "no tree has so many leaves")
+        self.assertEqual(str(self.refusal(lambda: trees.root([]))), "no tree has this count of leaves")
 
     def refusal(self, call):
         try:

@@ -35,7 +35,7 @@ pub enum Refused {
     Invalid,
     /// The proof is for a tree of another size.
     Height,
-    /// No tree has so many leaves: a tree has 2, 4, 8, 16 .. of them.
+    /// No tree has this count of leaves: a tree has 2, 4, 8, 16 .. of them.
     Size,
     /// The lengths of the leaves do not sum to that of their bytes. No call of this crate gives it.
     Lengths,
@@ -70,7 +70,7 @@ impl fmt::Display for Refused {
             Refused::Truncated => f.write_str("the bytes of the proof end early"),
             Refused::Invalid => f.write_str("the bytes are no proof for these indexes"),
             Refused::Height => f.write_str("the proof is for a tree of another size"),
-            Refused::Size => f.write_str("no tree has so many leaves"),
+            Refused::Size => f.write_str("no tree has this count of leaves"),
             Refused::Lengths => {
                 f.write_str("the lengths of the leaves do not sum to that of their bytes")
             }

@@ -111,5 +111,5 @@ fn others() {
     let abc = "508c5e8c327c14e2e1a72ba34eeb452f37458b209ed63a294d999b4c86675982";
     assert_eq!(hex(&blake2s(b"abc")), abc);
     assert_eq!(version(), "1.0.0");
-    assert_eq!(Refused::Size.to_string(), "no tree has so many leaves");
+    assert_eq!(Refused::Size.to_string(), "no tree has this count of leaves");
 }
