@@ -1,7 +1,7 @@
 /* Paxidore: Merkle trees over byte strings, and BLAKE2s. The code behind these calls is proved.
  *
  * Every call owns nothing when it returns, keeps nothing, and may run in any thread at any time, but not in a signal handler.
- * Want of memory (malloc) is an answer like others. size_t has 64 bits. Only inputs may overlap. A pointer to a first byte or
+ * A refused request for memory (malloc) is an answer like others. size_t has 64 bits. Only inputs may overlap. A pointer to a first byte or
  * number is not NULL and may be read, or written where it is not const, for its length; with length 0 it is not looked at and
  * may be NULL. */
 #ifndef PAXIDORE_H
@@ -61,7 +61,8 @@ int32_t paxidore_sha256_verify(const uint8_t root[PAXIDORE_DIGESTBYTES], size_t 
                                const uint8_t *leaf, size_t leaf_len,
                                const uint8_t *path, size_t path_len);
 
-/* The same of several leaves at once, one for each index; the indexes rise. Also E_LENGTHS, E_COUNT. */
+/* The same of several leaves at once, one for each index; the indexes rise. Also E_COUNT and E_LENGTHS, before the bytes of the
+ * proof are looked at. */
 int32_t paxidore_sha256_multi_verify(const uint8_t root[PAXIDORE_DIGESTBYTES], size_t size,
                                      const size_t *indexes, size_t indexes_count,
                                      const uint8_t *leaves, size_t leaves_len,

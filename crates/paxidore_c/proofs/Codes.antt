@@ -29,7 +29,7 @@ refusal-no Other zero = cc
 -- What an accepted path shows, where the answer is 0.
 module _ (h : Hashing) {A : Type 0} (bytes_of : A → List ℕ) (root : Digest) (size index : ℕ) (path : List ℕ) where
   pub shows-zero : (held : A) (leaf : List ℕ) → bytes_of held ≡ leaf → (result : Outcome Bool)
-      → IfOk result (λ accepted. accepted ≡ true → ShowsLeaf (record { leaf = λ x. Ok (h.leaf (bytes_of x)); pair = node_pair h }) root size index held (read_path path))
+      → IfOk result (λ accepted. accepted ≡ true → ShowsLeaf (record { leaf = λ x. Ok (h.leaf_hash (bytes_of x)); pair = node_pair h }) root size index held (read_path path))
       → (code : ℤ) → code ≡ verdict_code (refusing result) → to_z w32 (of_z w32 code) ≡ pos 0 → ShowsLeaf (hashes_of h) root size index leaf (read_path path)
   shows-zero held leaf same (Ok true) shows code is zero = let P : List ℕ → Type 0 = λ l. ShowsLeaf (hashes_of h) root size index l (read_path path) in subst P same (shows refl)
   shows-zero held leaf same (Ok false) shows code is zero = let no = rw is at zero in absurd cc
@@ -58,7 +58,7 @@ results-same (Err refused) = refl
 
 module _ (h : Hashing) {A : Type 0} (bytes_of : A → List ℕ) (root : Digest) (size : ℕ) where
   abbrev held_hashes : Hashes A
-  held_hashes = record { leaf = λ x. Ok (h.leaf (bytes_of x)); pair = node_pair h }
+  held_hashes = record { leaf = λ x. Ok (h.leaf_hash (bytes_of x)); pair = node_pair h }
 
   stand-held : (held : List A) (ways : List Way) → StandInTurn held_hashes root size held ways → StandInTurn (hashes_of h) root size (map bytes_of held) ways
   stand-held held [] stand = tt

@@ -5,7 +5,7 @@ use Rattle.std.proofs.lemmas.Bool.{le-ltb, lt-ltb}
 use Rattle.std.proofs.lemmas.List.{drop_all}
 use Rattle.std.specs.Option.{option_map}
 use Rattle.paxidore_c.specs.Answer.{leaves_in, results_of}
-use Rattle.paxidore_c.specs.Cut.{cut}
+use Rattle.paxidore_c.specs.Cut.{parts_by}
 use Rattle.paxidore_c.specs.declared.refused.Refused.{Refused}
 use Rattle.paxidore_c.specs.declared.refused.Refused.TheVariants.{Lengths}
 
@@ -25,7 +25,7 @@ behind-onto front x (Err refused) = refl
 module _ {B : Type 0} (made : List ℕ → B) where
   -- what is made of the parts of some bytes
   abbrev pub of_parts : List ℕ → List ℕ → Result (List B) Refused
-  of_parts bytes lengths = results_of made (leaves_in (cut bytes lengths))
+  of_parts bytes lengths = results_of made (leaves_in (parts_by bytes lengths))
 
   first-part : (part : List ℕ) (rest : Option (List (List ℕ))) → results_of made (leaves_in (option_map (λ parts. part ∷ parts) rest)) ≡ behind (made part ∷ []) (results_of made (leaves_in rest))
   first-part part None = refl
@@ -47,7 +47,7 @@ module _ {B : Type 0} (made : List ℕ → B) where
       so_far-more fits =
           let len = get_or lengths i 0 in
           let test : nat_lt (length rest) len ≡ false = le-ltb (length rest) len fits in
-          so ∙ rw (here, test, first-part (take len rest) (cut (drop len rest) (drop (suc i) lengths))) (behind-onto front (made (take len rest)) (of_parts (drop len rest) (drop (suc i) lengths)))
+          so ∙ rw (here, test, first-part (take len rest) (parts_by (drop len rest) (drop (suc i) lengths))) (behind-onto front (made (take len rest)) (of_parts (drop len rest) (drop (suc i) lengths)))
 
       pub so_far-short : length rest < get_or lengths i 0 → of_parts bytes lengths ≡ Err Lengths
       so_far-short short =

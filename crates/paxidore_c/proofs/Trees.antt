@@ -16,7 +16,7 @@ use Rattle.ark_merkle.specs.Pair.{Digest}
 use Rattle.ark_merkle.specs.Root.{Root, place, root, upper_levels}
 use Rattle.ark_merkle.specs.Tree.{tree_above}
 use Rattle.paxidore_c.specs.Answer.{GivesBy, are_indexes, multi_path_of_leaves, only_if, refused_of, results_of, tree_leaves_in}
-use Rattle.paxidore_c.specs.Hashing.{Hashing, node_pair, multi_path_bytes, tree_over}
+use Rattle.paxidore_c.specs.Hashing.{Hashing, node_pair, bytes_of_multi_path, tree_over}
 use Rattle.paxidore_c.specs.declared.refused.Refused.{Refused}
 use Rattle.paxidore_c.specs.declared.refused.Refused.TheVariants.{Index}
 
@@ -55,21 +55,21 @@ over-leaves made (Err refused) digests is P holds = tt
 -- what is written of a multi-proof, and the bytes of its numbers
 pub written-multi : (siblings : List Digest) (prefixes : List ℕ) (suffixes : List (Vec Digest Global)) (indexes : List ℕ)
     → multi_path_spelling itself itself (map itself siblings, (map (λ n. n) prefixes, (map (λ suffix. map itself suffix.items) suffixes, map (λ n. n) indexes)))
-    ≡ multi_path_bytes (record { siblings = map itself siblings; prefixes = prefixes; suffixes = map (λ suffix. map itself suffix.items) suffixes; indexes = indexes })
+    ≡ bytes_of_multi_path (record { siblings = map itself siblings; prefixes = prefixes; suffixes = map (λ suffix. map itself suffix.items) suffixes; indexes = indexes })
 written-multi siblings prefixes suffixes indexes = multi_spelling-way itself itself itself itself siblings prefixes suffixes indexes itself itself itself itself (λ d. refl) (λ d. refl)
 
-pub multi-made : (h : Hashing) (leaves lengths indexes : List ℕ) (digests : List Digest) → results_of h.leaf (tree_leaves_in leaves lengths) ≡ Ok digests → are_indexes (length digests) indexes ≡ true
-    → (way : MultiWay) → Outcomes (Ok (own_multi_path (node_pair h) indexes digests)) (Ok way) → (bytes : List ℕ) → bytes ≡ multi_path_bytes way → multi_path_of_leaves h leaves lengths indexes ≡ Ok bytes
+pub multi-made : (h : Hashing) (leaves lengths indexes : List ℕ) (digests : List Digest) → results_of h.leaf_hash (tree_leaves_in leaves lengths) ≡ Ok digests → are_indexes (length digests) indexes ≡ true
+    → (way : MultiWay) → Outcomes (Ok (own_multi_path (node_pair h) indexes digests)) (Ok way) → (bytes : List ℕ) → bytes ≡ bytes_of_multi_path way → multi_path_of_leaves h leaves lengths indexes ≡ Ok bytes
 multi-made h leaves lengths indexes digests made inside way own bytes written = by_leaves (tree_leaves_in leaves lengths) made
   where
     same : own_multi_path (node_pair h) indexes digests ≡ way
     same = cc
 
-    by_leaves : (xs : Result (List (List ℕ)) Refused) → results_of h.leaf xs ≡ Ok digests
-        → (xs >>= λ xs. only_if (are_indexes (length xs) indexes) Index (Ok (multi_path_bytes (multi_path_in (tree_over h xs) indexes)))) ≡ Ok bytes
+    by_leaves : (xs : Result (List (List ℕ)) Refused) → results_of h.leaf_hash xs ≡ Ok digests
+        → (xs >>= λ xs. only_if (are_indexes (length xs) indexes) Index (Ok (bytes_of_multi_path (multi_path_in (tree_over h xs) indexes)))) ≡ Ok bytes
     by_leaves (Err refused) is = absurd cc
     by_leaves (Ok xs) is =
-        let are : map h.leaf xs ≡ digests = cc in
-        let long : length xs ≡ length digests = sym (length-map xs h.leaf) ∙ ap length are in
+        let are : map h.leaf_hash xs ≡ digests = cc in
+        let long : length xs ≡ length digests = sym (length-map xs h.leaf_hash) ∙ ap length are in
         let ok : List ℕ → Result (List ℕ) Refused = λ b. Ok b in
-        rw (long, inside) (ap ok (ap (λ (ds : List Digest). multi_path_bytes (own_multi_path (node_pair h) indexes ds)) are ∙ ap multi_path_bytes same ∙ sym written))
+        rw (long, inside) (ap ok (ap (λ (ds : List Digest). bytes_of_multi_path (own_multi_path (node_pair h) indexes ds)) are ∙ ap bytes_of_multi_path same ∙ sym written))

@@ -12,8 +12,8 @@ use Rattle.ark_merkle.specs.Received.{received_verdict, received_multi_verdict}
 use Rattle.ark_merkle.specs.Tree.{path_in}
 use Rattle.paxidore_c.specs.declared.refused.Refused.{Refused}
 use Rattle.paxidore_c.specs.declared.refused.Refused.TheVariants.{Memory, Truncated, Invalid, Height, Size, Lengths, Count, Index, Room, Other}
-use Rattle.paxidore_c.specs.Cut.{cut}
-use Rattle.paxidore_c.specs.Hashing.{Hashing, hashes_of, tree_over, path_bytes, read_path, multi_path_bytes, read_multi_path}
+use Rattle.paxidore_c.specs.Cut.{parts_by}
+use Rattle.paxidore_c.specs.Hashing.{Hashing, hashes_of, tree_over, bytes_of_path, read_path, bytes_of_multi_path, read_multi_path}
 
 -- ---- refusals and their codes
 
@@ -51,7 +51,7 @@ abbrev pub done_code : {A : Type 0} → Result A Refused → ℤ
 done_code (Ok value) = pos 0
 done_code (Err refused) = refusal_code refused
 
--- The call answers this code, or that of want of memory.
+-- The call answers this code, or that of refused memory.
 abbrev pub Gives : ℤ → ℤ → Type 0
 Gives code result = (result ≡ code) ⊎ (result ≡ refusal_code Memory)
 
@@ -79,7 +79,7 @@ shown h root size index leaf path = only_if (is_tree_size size) Size
 -- the leaves for as many indexes of such a tree
 abbrev pub leaves_for : ℕ → ℕ → List ℕ → List ℕ → Result (List (List ℕ)) Refused
 leaves_for size count leaves lengths = only_if (is_tree_size size) Size
-    (only_if (length lengths == count) Count (leaves_in (cut leaves lengths)))
+    (only_if (length lengths == count) Count (leaves_in (parts_by leaves lengths)))
 
 -- whether the bytes of a strict multi-proof show leaves, one for each of some indexes
 abbrev pub all_shown : Hashing → Digest → ℕ → List ℕ → List ℕ → List ℕ → List ℕ → Result Bool Refused
@@ -91,7 +91,7 @@ all_shown h root size indexes leaves lengths proof = do
 
 -- those of a tree, which has a power of two above one of them
 abbrev pub tree_leaves_in : List ℕ → List ℕ → Result (List (List ℕ)) Refused
-tree_leaves_in leaves lengths = only_if (is_tree_size (length lengths)) Size (leaves_in (cut leaves lengths))
+tree_leaves_in leaves lengths = only_if (is_tree_size (length lengths)) Size (leaves_in (parts_by leaves lengths))
 
 -- what is made of each item
 abbrev pub results_of : {A B : Type 0} → (A → B) → Result (List A) Refused → Result (List B) Refused
@@ -104,7 +104,7 @@ results_of made (Err refused) = Err refused
 abbrev pub path_of_leaves : Hashing → List ℕ → List ℕ → ℕ → Result (List ℕ) Refused
 path_of_leaves h leaves lengths index = do
   xs ← tree_leaves_in leaves lengths
-  only_if (nat_lt index (length xs)) Index (Ok (path_bytes (path_in (tree_over h xs) index)))
+  only_if (nat_lt index (length xs)) Index (Ok (bytes_of_path (path_in (tree_over h xs) index)))
 
 -- whether all indexes are of leaves, and there is one
 abbrev pub are_indexes : ℕ → List ℕ → Bool
@@ -114,7 +114,7 @@ are_indexes size indexes = nat_lt 0 (length indexes) && list_all (λ i. nat_lt i
 abbrev pub multi_path_of_leaves : Hashing → List ℕ → List ℕ → List ℕ → Result (List ℕ) Refused
 multi_path_of_leaves h leaves lengths indexes = do
   xs ← tree_leaves_in leaves lengths
-  only_if (are_indexes (length xs) indexes) Index (Ok (multi_path_bytes (multi_path_in (tree_over h xs) indexes)))
+  only_if (are_indexes (length xs) indexes) Index (Ok (bytes_of_multi_path (multi_path_in (tree_over h xs) indexes)))
 
 -- the code of bytes for a buffer, or of their refusal
 abbrev pub written_code : Result (List ℕ) Refused → ℕ → ℤ
@@ -124,11 +124,11 @@ written_code (Err refused) room = refusal_code refused
 -- What a call does to the caller's buffer and count, where it has these bytes for them or refuses.
 pub record Hands (outcome : Result (List ℕ) Refused) (before after : List ℕ) (count_before count_after : ℕ)
     (code : ℤ) : Type 0 where
-  pub answer : Gives (written_code outcome (length before)) code
+  pub right_code : Gives (written_code outcome (length before)) code
   -- the bytes stand in front, and behind them all is as before
   pub written : code ≡ pos 0 → IfOk outcome (λ bytes. after ≡ bytes ++ drop (length bytes) before)
   pub counted : code ≡ pos 0 → IfOk outcome (λ bytes. count_after ≡ length bytes)
   -- a buffer that is too short stays as it was, and the count is the one that it needs
-  pub needed : code ≡ refusal_code Room → IfOk outcome (λ bytes. count_after ≡ length bytes)
+  pub room_needed : code ≡ refusal_code Room → IfOk outcome (λ bytes. count_after ≡ length bytes)
   pub kept : code ≢ pos 0 → after ≡ before
   pub uncounted : code ≢ pos 0 → code ≢ refusal_code Room → count_after ≡ count_before

@@ -3,8 +3,8 @@ use Rattle.std.specs.Prelude.{ℕ, List, [], ◌∷◌, length, take, drop, Opti
 use Rattle.std.specs.Option.{option_map}
 
 -- the parts of some bytes that have these lengths in turn, where they are all of the bytes
-abbrev pub cut : List ℕ → List ℕ → Option (List (List ℕ))
-cut bytes [] = if nat_lt 0 (length bytes) then None else Some []
-cut bytes (len ∷ lengths) =
+abbrev pub parts_by : List ℕ → List ℕ → Option (List (List ℕ))
+parts_by bytes [] = if nat_lt 0 (length bytes) then None else Some []
+parts_by bytes (len ∷ lengths) =
     if nat_lt (length bytes) len then None
-    else (option_map (λ parts. take len bytes ∷ parts) (cut (drop len bytes) lengths))
+    else (option_map (λ parts. take len bytes ∷ parts) (parts_by (drop len bytes) lengths))

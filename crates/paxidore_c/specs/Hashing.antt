@@ -13,38 +13,38 @@ use Rattle.ark_trees.specs.Rfc6962.{entry_hash, node_hash}
 
 -- how a tree is hashed: the digest of a leaf, and that of two digests, left first
 pub record Hashing : Type 0 where
-  pub leaf : List ℕ → Digest
+  pub leaf_hash : List ℕ → Digest
   pub node : Digest → Digest → Digest
 
 -- SHA-256 of the leaf, and of left followed by right
 abbrev pub sha256_hashing : Hashing
-sha256_hashing = record { leaf = sha256; node = λ left right. sha256 (left ++ right) }
+sha256_hashing = record { leaf_hash = sha256; node = λ left right. sha256 (left ++ right) }
 
 -- as transparency logs hash (RFC 6962, section 2.1)
 abbrev pub rfc6962_hashing : Hashing
-rfc6962_hashing = record { leaf = entry_hash; node = node_hash }
+rfc6962_hashing = record { leaf_hash = entry_hash; node = node_hash }
 
 -- both levels of pairs are hashed alike, and nothing is refused
 abbrev pub node_pair : Hashing → HashPair
 node_pair h = record { bottom = λ left right. Ok (h.node left right); upper = λ left right. Ok (h.node left right) }
 
 abbrev pub hashes_of : Hashing → Hashes (List ℕ)
-hashes_of h = record { leaf = λ leaf. Ok (h.leaf leaf); pair = node_pair h }
+hashes_of h = record { leaf = λ leaf. Ok (h.leaf_hash leaf); pair = node_pair h }
 
 -- the tree above some leaves
 abbrev pub tree_over : Hashing → List (List ℕ) → HashedTree (List ℕ)
-tree_over h leaves = record { hashes = hashes_of h; leaves = map h.leaf leaves }
+tree_over h leaves = record { hashes = hashes_of h; leaves = map h.leaf_hash leaves }
 
 -- ---- paths of digests of 32 bytes, which stand in them with no count
 
-abbrev pub path_bytes : Way → List ℕ
-path_bytes = way_bytes itself itself
+abbrev pub bytes_of_path : Way → List ℕ
+bytes_of_path = way_bytes itself itself
 
 abbrev pub read_path : List ℕ → Reading Way
 read_path = way_at itself itself (bytes_at 32) (bytes_at 32)
 
-abbrev pub multi_path_bytes : MultiWay → List ℕ
-multi_path_bytes = multi_bytes itself itself
+abbrev pub bytes_of_multi_path : MultiWay → List ℕ
+bytes_of_multi_path = multi_bytes itself itself
 
 abbrev pub read_multi_path : List ℕ → Reading MultiWay
 read_multi_path = multi_way_at itself itself (bytes_at 32) (bytes_at 32)

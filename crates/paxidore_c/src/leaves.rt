@@ -5,7 +5,7 @@ ghost use Rattle.std.specs.List.{All, list_all};
 ghost use Rattle.ark_merkle.specs.Index.{IsTreeSize};
 ghost use Rattle.ark_trees.specs.Rfc6962.{entry_hash};
 ghost use Rattle.paxidore_c.specs.Answer.{GivesBy, are_indexes, leaves_for, leaves_in, results_of};
-ghost use Rattle.paxidore_c.specs.Cut.{cut};
+ghost use Rattle.paxidore_c.specs.Cut.{parts_by};
 ghost use Rattle.sha2.specs.Sha256.{sha256};
 
 use crate::refused::Refused;
@@ -90,7 +90,7 @@ pub fn of_leaves<M: OfLeaf>(
     bytes: &[u8],
     lengths: &[usize],
 ) -> Result<Vec<M::Made>, Refused>
-    ensures made { let outcome = results_of M.made (leaves_in (cut bytes.now lengths.now)) in
+    ensures made { let outcome = results_of M.made (leaves_in (parts_by bytes.now lengths.now)) in
         GivesBy (λ all. map M.seen all.items) outcome result }
     ensures size { IfOk result (λ all.
         IsTreeSize (length lengths.now) → IsTreeSize (length all.items)) }
