@@ -1,14 +1,18 @@
 /* Paxidore: Merkle trees over byte strings, and BLAKE2s. The code behind these calls is proved.
  *
- * Every call owns nothing when it returns, keeps nothing, and may run in any thread at any time, but not in a signal handler.
- * A refused request for memory (malloc) is an answer like others. size_t has 64 bits. Only inputs may overlap. A pointer to a first byte or
- * number is not NULL and may be read, or written where it is not const, for its length; with length 0 it is not looked at and
- * may be NULL. */
+ * No call keeps memory or a pointer, and each may run in any thread at any time, but not in a signal handler. A refused
+ * request for memory (malloc) is an answer like others. size_t has 64 bits. Only inputs may overlap. A pointer to a first byte
+ * or number is not NULL and may be read, or written where it is not const, for its length; with length 0 it is not looked at
+ * and may be NULL. */
 #ifndef PAXIDORE_H
 #define PAXIDORE_H
 
 #include <stddef.h>
 #include <stdint.h>
+
+#if SIZE_MAX != 0xffffffffffffffff
+#error "size_t has not 64 bits"
+#endif
 
 #ifdef __cplusplus
 extern "C" {
@@ -61,8 +65,8 @@ int32_t paxidore_sha256_verify(const uint8_t root[PAXIDORE_DIGESTBYTES], size_t 
                                const uint8_t *leaf, size_t leaf_len,
                                const uint8_t *path, size_t path_len);
 
-/* The same of several leaves at once, one for each index; the indexes rise. Also E_COUNT and E_LENGTHS, before the bytes of the
- * proof are looked at. */
+/* The same of several leaves at once, one for each index; the indexes rise. Also E_COUNT and E_LENGTHS, before the bytes of
+ * the proof are looked at. */
 int32_t paxidore_sha256_multi_verify(const uint8_t root[PAXIDORE_DIGESTBYTES], size_t size,
                                      const size_t *indexes, size_t indexes_count,
                                      const uint8_t *leaves, size_t leaves_len,
@@ -74,9 +78,9 @@ int32_t paxidore_sha256_root(uint8_t root[PAXIDORE_DIGESTBYTES],
                              const uint8_t *leaves, size_t leaves_len,
                              const size_t *lengths, size_t count);
 
-/* Writes the bytes of the path of `index` to the front of `path`, which has room for `path_room`, and their count to
- * `path_len`. Where the room is too short, the answer is E_ROOM and `path_len` is what is needed: PAXIDORE_PATHBYTES.
- * E_SIZE, E_LENGTHS, E_INDEX, E_ROOM, E_MEMORY. */
+/* Builds the tree above the leaves, and writes the bytes of the path of `index` to the front of `path`, which has room for
+ * `path_room`, and their count to `path_len`. Where the room is too short, the answer is E_ROOM and `path_len` is what is
+ * needed: PAXIDORE_PATHBYTES. E_SIZE, E_LENGTHS, E_INDEX, E_ROOM, E_MEMORY. */
 int32_t paxidore_sha256_path(uint8_t *path, size_t path_room, size_t *path_len,
                              const uint8_t *leaves, size_t leaves_len,
                              const size_t *lengths, size_t count, size_t index);

@@ -8,12 +8,11 @@ fn main() {
     let built = PathBuf::from(std::env::var("CARGO_MANIFEST_DIR").unwrap()).join("../../out/lib");
     let named = std::env::var("PAXIDORE_LIB_DIR").map(PathBuf::from);
     let folder = named.unwrap_or(built);
-    if folder.join("libpaxidore.a").exists() {
-        println!(
-            "cargo:rerun-if-changed={}",
-            folder.join("libpaxidore.a").display()
-        );
-        println!("cargo:rustc-link-search=native={}", folder.display());
+    let archive = folder.join("libpaxidore.a");
+    // a library that is built later is found then
+    println!("cargo:rerun-if-changed={}", archive.display());
+    println!("cargo:rustc-link-search=native={}", folder.display());
+    if archive.exists() {
         println!("cargo:rustc-link-lib=static=paxidore");
     } else {
         println!("cargo:rustc-link-lib=dylib=paxidore");

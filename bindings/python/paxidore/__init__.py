@@ -143,8 +143,15 @@ def _words(numbers: Sequence[int]) -> "ctypes.Array[ctypes.c_size_t]":
 
 
 def _flat(leaves: Sequence[bytes]) -> Tuple[bytes, int, "ctypes.Array[ctypes.c_size_t]", int]:
+    if not all(type(leaf) is bytes for leaf in leaves):
+        raise TypeError("a leaf is bytes")
     joined = b"".join(leaves)
     return joined, len(joined), (_size * len(leaves))(*map(len, leaves)), len(leaves)
+
+
+def _path_digests(size: int) -> int:
+    # how many bytes the digests of a path have in a tree of this size
+    return DIGEST_BYTES * max(size - 1, 0).bit_length()
 
 
 class Trees:
@@ -173,9 +180,10 @@ class Trees:
         """Whether the path shows that the leaf stands at the index of the tree of ``size`` leaves with this root.
 
         ``False`` says that the path was read and leads elsewhere. Raises ``SizeError``, ``TruncatedProof``, ``InvalidProof``,
-        ``HeightError``, ``OutOfMemory``; ``ValueError`` where the root has not 32 bytes.
+        ``HeightError``, ``OutOfMemory``; ``ValueError`` where the root has not 32 bytes, ``OverflowError`` where a number has not
+        64 bits (as all calls do).
         """
-        if len(root) != 32 or not 0 <= size < 1 << 64 or not 0 <= index < 1 << 64:
+        if len(root) != DIGEST_BYTES or not 0 <= size < 1 << 64 or not 0 <= index < 1 << 64:
             _digest(root), _word(size), _word(index)
         answer: int = self._verify(root, size, index, leaf, len(leaf), path, len(path))
         if answer < 0:
@@ -206,14 +214,14 @@ class Trees:
 
     def path(self, leaves: Sequence[bytes], index: int) -> bytes:
         """The bytes of the path of an index. Raises ``SizeError``, ``IndexBeyondSize``, ``OutOfMemory``."""
-        # as many as the path has: 16, and 32 for each bit of the largest index
-        room = 16 + 32 * max(len(leaves) - 1, 0).bit_length()
+        # as many as the path has
+        room = 16 + _path_digests(len(leaves))
         count = _size()
         path = ctypes.create_string_buffer(room)
         answer: int = self._path(path, room, ctypes.byref(count), *_flat(leaves), _word(index))
         if answer != 0:
             raise _refusal(answer)
-        return path.raw[: count.value]
+        return ctypes.string_at(path, count.value)
 
     def multi_path(self, leaves: Sequence[bytes], indexes: Sequence[int]) -> bytes:
         """The bytes of the multi-proof of some indexes, in any order; it shows them rising and each once.
@@ -221,13 +229,13 @@ class Trees:
         Raises as ``path`` does.
         """
         flat, given, count = _flat(leaves), _words(indexes), _size()
-        # no proof has more: four counts, and for each index 24 bytes and a path
-        room = 32 + len(indexes) * (24 + 32 * max(len(leaves) - 1, 0).bit_length())
+        # no proof has more: four counts, and for each index, which is shown once, 24 bytes and a path
+        room = 32 + min(len(indexes), len(leaves)) * (24 + _path_digests(len(leaves)))
         proof = ctypes.create_string_buffer(room)
         answer: int = self._multi_path(proof, room, ctypes.byref(count), *flat, given, len(indexes))
         if answer != 0:
             raise _refusal(answer)
-        return proof.raw[: count.value]
+        return ctypes.string_at(proof, count.value)
 
 
 sha256 = Trees("sha256")

@@ -100,12 +100,16 @@ struct Flat {
 
 impl Flat {
     fn of<L: AsRef<[u8]>>(leaves: &[L]) -> Flat {
-        let lengths: Vec<usize> = leaves.iter().map(|leaf| leaf.as_ref().len()).collect();
-        let mut bytes = Vec::with_capacity(lengths.iter().sum());
+        let mut flat = Flat {
+            bytes: Vec::new(),
+            lengths: Vec::with_capacity(leaves.len()),
+        };
         for leaf in leaves {
-            bytes.extend_from_slice(leaf.as_ref());
+            let leaf = leaf.as_ref();
+            flat.bytes.extend_from_slice(leaf);
+            flat.lengths.push(leaf.len());
         }
-        Flat { bytes, lengths }
+        flat
     }
 }
 
@@ -124,7 +128,8 @@ fn written(
     }
 }
 
-/// The calls of one hashing.
+/// The calls of one hashing. `Memory` is a refusal of the library's own requests; the copies of leaves that these calls hand to it
+/// are Rust's `Vec`s, which end the process where there is no room for them.
 #[derive(Clone, Copy)]
 pub struct Trees {
     calls: &'static sys::Calls,
@@ -247,10 +252,9 @@ impl Trees {
         indexes: &[usize],
     ) -> Result<Vec<u8>, Refused> {
         let Flat { bytes, lengths } = Flat::of(leaves);
-        let room = 32
-            + indexes
-                .len()
-                .saturating_mul(24 + path_digests(lengths.len()));
+        // each index is shown once, so that there are no more than leaves
+        let shown = indexes.len().min(lengths.len());
+        let room = 32 + shown * (24 + path_digests(lengths.len()));
         // SAFETY: as in `path`.
         written(room, |proof, room, count| unsafe {
             (self.calls.multi_path)(

@@ -91,7 +91,7 @@ where
         ensures made { let AreMade = AreDrawnSegments G.group G.draw W.Window (R.stream rng.old) in
             IfOk result (λ parameters. AreMade (lists_in parameters.generators.items)) }
 
-        // No two lists of chunks of one length, at most a window's, have the same multiples of each element.
+        // Two lists of chunks of one length, at most a window's, are equal where their scalars leave one remainder by the order.
         ensures unique { OnOk result (TellsChunksApart G.ScalarField.MODULUS W.WINDOW_SIZE) }
     {
         if !is_fitting(G::ScalarField::MODULUS, W::WINDOW_SIZE) {
