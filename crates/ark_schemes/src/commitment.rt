@@ -34,7 +34,7 @@ pub trait CommitmentScheme {
     // The parameters are those that `setup` makes of the stream.
     ghost is_made: { Stream → Self.Parameters → Type 0 };
 
-    /// Makes parameters from what it draws. After a refusal the draws stay taken.
+    /// Makes parameters from what it draws.
     ///
     /// Refusals: that of the scheme, where it has none to make; `OutOfMemory`.
     fn setup<R: Rng>(alloc: Global, rng: &mut R) -> Result<Self::Parameters, Error>

@@ -69,7 +69,7 @@ pub trait CryptographicSponge: Duplicate {
     /// Elements of a field, each made of as many bits as its size says.
     ///
     /// Refusals: `SizePastField` of a size of more bits than the field's modulus has, `LengthOverflow` of a sum of bits past
-    /// a `usize`, the first from the left, both told before any list is made; `OutOfMemory`.
+    /// a `usize`, the first from the left; `OutOfMemory`.
     fn squeeze_field_elements_with_sizes<F: PrimeField>(
         &mut self,
         sizes: &[FieldElementSize],

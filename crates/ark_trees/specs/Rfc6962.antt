@@ -1,5 +1,5 @@
 -- The hashes of transparency logs (RFC 6962, section 2.1).
-use Rattle.std.specs.Prelude.{ℕ, List, ◌∷◌, ◌++◌}
+use Rattle.std.specs.Prelude.{ℕ, zero, suc, ◌^◌, List, [], ◌∷◌, ◌++◌, take, drop, get_or}
 use Rattle.sha2.specs.Sha256.{sha256}
 
 -- the hash of an entry: of a zero byte and its bytes
@@ -9,3 +9,9 @@ entry_hash entry = sha256 (0 ∷ entry)
 -- the hash of a node: of a one byte and the hashes below it, left first
 abbrev pub node_hash : List ℕ → List ℕ → List ℕ
 node_hash left right = sha256 (1 ∷ left ++ right)
+
+-- the Merkle tree hash of 2 ^ m entries: of one entry its hash; else the hash of the node over those of the halves
+abbrev pub merkle_tree_hash : ℕ → List (List ℕ) → List ℕ
+merkle_tree_hash zero entries = entry_hash (get_or entries 0 [])
+merkle_tree_hash (suc m) entries =
+    node_hash (merkle_tree_hash m (take (2 ^ m) entries)) (merkle_tree_hash m (drop (2 ^ m) entries))

@@ -10,8 +10,8 @@ use rand::Rng;
 use sha2::{Digest, Sha256};
 use std::alloc::Global;
 
-/// Trees of byte strings whose digests are arrays, which no memory is asked for: the digest of a leaf is its SHA-256, that
-/// of a pair the SHA-256 of left followed by right.
+/// Trees of byte strings whose digests are arrays: the digest of a leaf is its SHA-256, that of a pair the SHA-256 of left
+/// followed by right. No digest asks for memory.
 pub struct Sha256Arrays;
 
 impl Config for Sha256Arrays {
@@ -48,7 +48,10 @@ impl CRHScheme for ArraySha256 {
         Ok(())
     }
 
-    fn evaluate(_alloc: Global, _parameters: &(), input: &Vec<u8>) -> Result<[u8; 32], Error> {
+    /// The digest of the input. It takes no memory.
+    fn evaluate(_alloc: Global, _parameters: &(), input: &Vec<u8>) -> Result<[u8; 32], Error>
+        ensures exact { result ≡ Ok (sha256 input.now.items) }
+    {
         Ok(Sha256::digest(input.as_slice()))
     }
 
@@ -80,21 +83,27 @@ impl TwoToOneCRHScheme for ArraySha256 {
         Ok(())
     }
 
+    /// The digest of left followed by right. It takes no memory.
     fn evaluate(
         _alloc: Global,
         _parameters: &(),
         left: &[u8; 32],
         right: &[u8; 32],
-    ) -> Result<[u8; 32], Error> {
+    ) -> Result<[u8; 32], Error>
+        ensures exact { result ≡ Ok (sha256 (left.now ++ right.now)) }
+    {
         Ok(digest_of_pair(left, right))
     }
 
+    /// The digest of left followed by right. It takes no memory.
     fn compress(
         _alloc: Global,
         _parameters: &(),
         left: &[u8; 32],
         right: &[u8; 32],
-    ) -> Result<[u8; 32], Error> {
+    ) -> Result<[u8; 32], Error>
+        ensures exact { result ≡ Ok (sha256 (left.now ++ right.now)) }
+    {
         Ok(digest_of_pair(left, right))
     }
 

@@ -1,11 +1,14 @@
 //! Trees as transparency logs hash them (RFC 6962, section 2.1).
 
-ghost use Rattle.std.specs.Prelude.{◌≡◌, Ok, refl};
-ghost use Rattle.ark_trees.specs.Rfc6962.{entry_hash, node_hash};
+ghost use Rattle.std.specs.Prelude.{◌≡◌, Ok, IfOk, refl, length, map};
+ghost use Rattle.ark_base.specs.Outcome.{AnswersBy};
+ghost use Rattle.ark_merkle.specs.Index.{IsTreeSize, log2};
+ghost use Rattle.ark_merkle.specs.Tree.{root_in, tree_of};
+ghost use Rattle.ark_trees.specs.Rfc6962.{entry_hash, node_hash, merkle_tree_hash};
 
 use ark_base::error::Error;
 use ark_crh::{CRHScheme, TwoToOneCRHScheme};
-use ark_merkle::{Config, IdentityDigestConverter};
+use ark_merkle::{Config, IdentityDigestConverter, MerkleTree, Views};
 use rand::Rng;
 use sha2::{Digest, Sha256};
 use std::alloc::Global;
@@ -28,6 +31,26 @@ impl Config for Sha256Log {
     type TwoToOneHash = LogSha256;
 }
 
+impl Sha256Log {
+    /// The tree of a log over these entries, of which there are a power of two above one. The only refusal is
+    /// `OutOfMemory`.
+    pub fn tree(alloc: Global, entries: &[Vec<u8>]) -> Result<MerkleTree<Sha256Log>, Error>
+        requires { IsTreeSize (length entries.now) }
+        ensures tree { let hashes = ⟦<Sha256Log as Views>⟧.hashes tt tt in
+            AnswersBy ⟦<Sha256Log as Views>⟧.tree (tree_of hashes entries.now) result }
+
+        // Its root is the Merkle tree hash of the entries (section 2.1).
+        ensures root { let entries = map (λ entry. entry.items) entries.now in
+            let hash = merkle_tree_hash (log2 (length entries)) entries in
+            IfOk result (λ tree. root_in (⟦<Sha256Log as Views>⟧.tree tree) ≡ Ok hash) }
+    {
+        let tree = MerkleTree::<Sha256Log>::new(alloc, &(), &(), entries)?;
+        // The call tells the proof that the size is a power of two.
+        let _levels = tree.height();
+        Ok(tree)
+    }
+}
+
 /// SHA-256 of a zero byte and a byte string, and of a one byte and two digests.
 pub struct LogSha256;
 
@@ -48,7 +71,10 @@ impl CRHScheme for LogSha256 {
         Ok(())
     }
 
-    fn evaluate(_alloc: Global, _parameters: &(), input: &Vec<u8>) -> Result<[u8; 32], Error> {
+    /// The hash of an entry. It takes no memory.
+    fn evaluate(_alloc: Global, _parameters: &(), input: &Vec<u8>) -> Result<[u8; 32], Error>
+        ensures exact { result ≡ Ok (entry_hash input.now.items) }
+    {
         let mut hasher = Sha256::new();
         hasher.update([0].as_slice());
         hasher.update(input.as_slice());
@@ -83,21 +109,27 @@ impl TwoToOneCRHScheme for LogSha256 {
         Ok(())
     }
 
+    /// The hash of the node over two others. It takes no memory.
     fn evaluate(
         _alloc: Global,
         _parameters: &(),
         left: &[u8; 32],
         right: &[u8; 32],
-    ) -> Result<[u8; 32], Error> {
+    ) -> Result<[u8; 32], Error>
+        ensures exact { result ≡ Ok (node_hash left.now right.now) }
+    {
         Ok(digest_of_node(left, right))
     }
 
+    /// The hash of the node over two others. It takes no memory.
     fn compress(
         _alloc: Global,
         _parameters: &(),
         left: &[u8; 32],
         right: &[u8; 32],
-    ) -> Result<[u8; 32], Error> {
+    ) -> Result<[u8; 32], Error>
+        ensures exact { result ≡ Ok (node_hash left.now right.now) }
+    {
         Ok(digest_of_node(left, right))
     }
 

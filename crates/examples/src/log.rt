@@ -22,7 +22,7 @@ pub fn open(alloc: Global, entries: &[Vec<u8>]) -> Result<MerkleTree<Sha256Log>,
     if !is_tree_size(entries.len()) {
         return Err(Error::IncorrectInputLength(entries.len()));
     }
-    MerkleTree::new(alloc, &(), &(), entries)
+    Sha256Log::tree(alloc, entries)
 }
 
 /// What the log publishes.
