@@ -39,6 +39,34 @@ IsModulus-61 = record {
   digits = record { no_more = lit< tt; no_fewer = lit≤ tt };
 }
 
+pub IsModulus-31 : IsModulus 2147483647 31
+IsModulus-31 = record {
+  at_least_two = lit≤ tt;
+  in_word = lit< tt;
+  digits = record { no_more = lit< tt; no_fewer = lit≤ tt };
+}
+
+pub IsModulus-babybear : IsModulus 2013265921 31
+IsModulus-babybear = record {
+  at_least_two = lit≤ tt;
+  in_word = lit< tt;
+  digits = record { no_more = lit< tt; no_fewer = lit≤ tt };
+}
+
+pub IsModulus-koalabear : IsModulus 2130706433 31
+IsModulus-koalabear = record {
+  at_least_two = lit≤ tt;
+  in_word = lit< tt;
+  digits = record { no_more = lit< tt; no_fewer = lit≤ tt };
+}
+
+pub IsModulus-goldilocks : IsModulus 18446744069414584321 64
+IsModulus-goldilocks = record {
+  at_least_two = lit≤ tt;
+  in_word = lit< tt;
+  digits = record { no_more = lit< tt; no_fewer = lit≤ tt };
+}
+
 pub at_least_two_bits : (p bits : ℕ) → IsModulus p bits → 2 ≤ bits
 at_least_two_bits p zero laws = absurd (omega (arith, laws.digits.no_more, laws.at_least_two))
 at_least_two_bits p (suc zero) laws = absurd (omega (arith, laws.digits.no_more, laws.at_least_two))

@@ -3,7 +3,7 @@
 ghost use Rattle.std.specs.Prelude.{◌≡◌, ◌<◌, ⊤};
 
 use crate::ff::modulus::byte_len;
-use crate::ff::product::{product, product_added, reduced_sum, remainder};
+use crate::ff::product::{product, product_added, remainder, remainder_below, remainder_of, sum};
 use crate::ff::{Modulus, PrimeField, UniformRand};
 use ark_base::serialize::number_of;
 use rand::{Rng, RngExt};
@@ -97,17 +97,7 @@ impl<M: Modulus> PrimeField for Fp<M> {
     }
 
     fn add(self, other: Fp<M>) -> Fp<M> {
-        // Below 2^63 a sum of two is a word.
-        if M::P <= 1 << 63 {
-            let sum = self.value + other.value;
-            return Fp::reduced(if sum >= M::P { sum - M::P } else { sum });
-        }
-        let room = M::P - other.value;
-        Fp::reduced(if self.value < room {
-            self.value + other.value
-        } else {
-            self.value - room
-        })
+        Fp::reduced(sum::<M>(self.value, other.value))
     }
 
     fn sub(self, other: Fp<M>) -> Fp<M> {
@@ -135,7 +125,7 @@ impl<M: Modulus> PrimeField for Fp<M> {
         for (i, x) in xs.iter().enumerate() {
             sum = product_added::<M>(sum, x.value, ys[i].value);
         }
-        Fp::reduced(reduced_sum::<M>(sum))
+        Fp::reduced(remainder_below::<M>(sum))
     }
 
     fn double(self) -> Fp<M> {
@@ -151,7 +141,7 @@ impl<M: Modulus> PrimeField for Fp<M> {
     }
 
     fn from_u128(number: u128) -> Fp<M> {
-        Fp::reduced((number % M::P as u128) as u64)
+        Fp::reduced(remainder_of::<M>(number))
     }
 
     fn from_le_bytes_mod_order(bytes: &[u8]) -> Fp<M> {

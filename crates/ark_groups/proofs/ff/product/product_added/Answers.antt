@@ -1,11 +1,16 @@
-use Rattle.std.proofs.Common.{ap, ◌∙◌, ◌+◌, ◌*◌, ◌%◌, ℕ}
-use Rattle.std.proofs.Math.Nat.{mod-add-mod, add-mod-mod}
+use Rattle.std.proofs.Common.{◌≡◌, ◌-◌, ◌+◌, ◌*◌, ◌<◌, ℕ, arith}
+use Rattle.std.proofs.lemmas.Nat.{mul-lt}
+use Rattle.ark_groups.proofs.Reduction.{mod-less}
 use Rattle.ark_groups.proofs.ff.product.product_added.Goals as goal
 
-pub returns-else-P-clause-same : goal.returns-else-P-clause-same
-returns-else-P-clause-same g c =
+pub returns-else-more-bound-clause-same : goal.returns-else-more-bound-clause-same
+returns-else-more-bound-clause-same g c =
     let p = g.M.Modulus.P in
-    let sum = c.args.sum in
+    let whole = c.args.sum + c.args.a * c.args.b in
+    mod-less (whole - c.P.result * 18446744073709551616) 18446744073709551616 p whole (omega (arith, c.P.ensures, c.if-more-bound.false))
+
+pub returns-else-sum-room-clause-same : goal.returns-else-sum-room-clause-same
+returns-else-sum-room-clause-same g c =
+    let p = g.M.Modulus.P in
     let both = c.args.a * c.args.b in
-    ap (λ (q : ℕ). (sum % q + c.product.result) % p) c.P-else-P.ensures ∙ ap (λ (n : ℕ). (sum % p + n) % p) c.product.ensures
-    ∙ mod-add-mod sum p (both % p) ∙ add-mod-mod sum both p
+    mod-less (c.args.sum - (c.P.result * 18446744073709551616 - both)) 18446744073709551616 p (c.args.sum + both) (omega (arith, c.P.ensures, c.if-sum-room.false, mul-lt c.args.a c.args.b p 18446744073709551616 c.requires.first c.ranges.b.fits))
