@@ -57,18 +57,10 @@ greatest_scalar-suc n = let whole = sixteenth n in omega (arith, pow-suc 16 n)
     sixteenth (suc n) = let h = sixteenth n in omega (arith, pow-suc 16 n)
 
 more_within : (m : ℕ) (d s : ℤ) → IsWithin 4 d → IsWithin m s → IsWithin (16 * m + 4) (d +ℤ pos 16 *ℤ s)
-more_within m d s first others =
-    let a = first.over in
-    let b = first.under in
-    let c = others.over in
-    let e = others.under in
-    record { over = omega (arith, ints); under = omega (arith, ints) }
+more_within m d s first others = record { over = omega (arith, ints); under = omega (arith, ints) }
 
 wider : (m n : ℕ) (z : ℤ) → m ≤ n → IsWithin m z → IsWithin n z
-wider m n z le within =
-    let a = within.over in
-    let b = within.under in
-    record { over = omega (arith, ints); under = omega (arith, ints) }
+wider m n z le within = record { over = omega (arith, ints); under = omega (arith, ints) }
 
 scalar-within : (chunks : List Chunk) (n : ℕ) → length chunks ≤ n → IsWithin (greatest_scalar n) (segment_scalar chunks)
 unfolding segment_scalar
@@ -80,12 +72,7 @@ scalar-within (c ∷ chunks) (suc n) few =
 
 -- a digit and what stands behind it are told by their sum
 split : (d e s t : ℤ) → IsWithin 4 d → IsWithin 4 e → d +ℤ pos 16 *ℤ s ≡ e +ℤ pos 16 *ℤ t → (d ≡ e) × (s ≡ t)
-split d e s t first second same =
-    let a = first.over in
-    let b = first.under in
-    let x = second.over in
-    let y = second.under in
-    (omega (arith, ints), omega (arith, ints))
+split d e s t first second same = (omega (arith, ints), omega (arith, ints))
 
 alone : (a b : List Chunk) → length a ≡ length b → segment_scalar a ≡ segment_scalar b → a ≡ b
 unfolding segment_scalar
@@ -97,36 +84,29 @@ alone (x ∷ a) (y ∷ b) long same =
     let first : x ≡ y = sym (chunk_of-digit x) ∙ ap chunk_of parts.0 ∙ chunk_of-digit y in
     ap (λ (c : Chunk). c ∷ a) first ∙ ap (λ (t : List Chunk). y ∷ t) (alone a b (omega arith) parts.1)
 
+-- the number that a whole number is, or that stands below its negative
+abbrev number_of : ℤ → ℕ
+number_of (pos n) = n
+number_of (negsuc n) = n
+
+number_of-below : (m order : ℕ) (z : ℤ) → 2 * m < order → IsWithin m z → number_of z % order ≡ number_of z
+number_of-below m order (pos n) half within = mod-eq_of_lt (omega (arith, ints))
+number_of-below m order (negsuc n) half within = mod-eq_of_lt (omega (arith, ints))
+
 -- whole numbers that lie within half of the order are told by their remainders
-remainders : (order m : ℕ) (a b : ℤ) → 2 * m < order → IsWithin m a → IsWithin m b → int_rem_euclid a (pos order) ≡ int_rem_euclid b (pos order) → a ≡ b
-remainders order m (pos a) (pos b) half first second same =
-    let x = first.over in
-    let y = second.over in
-    let left : a % order ≡ a = mod-eq_of_lt (omega (arith, ints)) in
-    let right : b % order ≡ b = mod-eq_of_lt (omega (arith, ints)) in
-    omega (arith, ints)
-remainders order m (pos a) (negsuc b) half first second same =
-    let x = first.over in
-    let y = second.under in
-    let left : a % order ≡ a = mod-eq_of_lt (omega (arith, ints)) in
-    let right : b % order ≡ b = mod-eq_of_lt (omega (arith, ints)) in
-    absurd (omega (arith, ints))
-remainders order m (negsuc a) (pos b) half first second same =
-    let x = first.under in
-    let y = second.over in
-    let left : a % order ≡ a = mod-eq_of_lt (omega (arith, ints)) in
-    let right : b % order ≡ b = mod-eq_of_lt (omega (arith, ints)) in
-    absurd (omega (arith, ints))
-remainders order m (negsuc a) (negsuc b) half first second same =
-    let x = first.under in
-    let y = second.under in
-    let left : a % order ≡ a = mod-eq_of_lt (omega (arith, ints)) in
-    let right : b % order ≡ b = mod-eq_of_lt (omega (arith, ints)) in
-    omega (arith, ints)
+remainders : (m order : ℕ) (a b : ℤ) → 2 * m < order → IsWithin m a → IsWithin m b → number_of a % order ≡ number_of a → number_of b % order ≡ number_of b
+    → int_rem_euclid a (pos order) ≡ int_rem_euclid b (pos order) → a ≡ b
+remainders m order (pos a) (pos b) half first second left right same = omega (arith, ints)
+remainders m order (pos a) (negsuc b) half first second left right same = omega (arith, ints)
+remainders m order (negsuc a) (pos b) half first second left right same = omega (arith, ints)
+remainders m order (negsuc a) (negsuc b) half first second left right same = omega (arith, ints)
 
 pub fitting_tells : (order size : ℕ) → is_fitting order size ≡ true → 0 < order → TellsChunksApart order size
 unfolding is_fitting
 fitting_tells order size fitting some a b long few same =
-    let half : 2 * greatest_scalar size < order = omega (arith, leb-true _ _ fitting) in
+    let most = greatest_scalar size in
+    let half : 2 * most < order = omega (arith, leb-true _ _ fitting) in
+    let first = scalar-within a size few in
+    let second = scalar-within b size (omega arith) in
     alone a b long
-    (remainders order (greatest_scalar size) (segment_scalar a) (segment_scalar b) half (scalar-within a size few) (scalar-within b size (omega arith)) same)
+    (remainders most order (segment_scalar a) (segment_scalar b) half first second (number_of-below most order _ half first) (number_of-below most order _ half second) same)

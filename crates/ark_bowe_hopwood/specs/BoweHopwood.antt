@@ -1,6 +1,6 @@
 -- Bowe-Hopwood hashes: the first coordinate of a sum of elements, each as often as a signed digit of three bits says.
-use Rattle.std.specs.Prelude.{◌≡◌, ℕ, zero, suc, ◌*◌, ◌-◌, ◌/◌, ◌^◌, ◌≤◌, Bool, false, List, [], ◌∷◌, length, map, take, drop}
-use Rattle.std.specs.Prelude.{ℤ, pos, negsuc, ◌+ℤ◌, ◌-ℤ◌, ◌*ℤ◌, Ok, Err, nat_lt, nat_le, if◌then◌else◌}
+use Rattle.std.specs.Prelude.{◌≡◌, ℕ, zero, suc, ◌*◌, ◌-◌, ◌/◌, ◌^◌, ◌≤◌, nat_lt, nat_le, Bool, false, if◌then◌else◌}
+use Rattle.std.specs.Prelude.{List, [], ◌∷◌, length, map, take, drop, ℤ, pos, negsuc, ◌+ℤ◌, ◌-ℤ◌, ◌*ℤ◌, Ok, Err}
 use Rattle.std.specs.Int.{int_rem_euclid}
 use Rattle.ark_base.specs.Outcome.{Outcome}
 use Rattle.ark_base.specs.declared.error.Error.TheVariants.{IncorrectInputLength, GenericError}
@@ -82,7 +82,8 @@ AreSegmentsOf g windows elements lists =
     (length elements ≡ windows.NUM_WINDOWS) × (lists ≡ map (sixteenfolds g windows.WINDOW_SIZE) elements)
 
 -- the lists are those of the elements that are drawn
-abbrev pub AreDrawnSegments : {G W : Type 0} → Group G → (Stream → G × Stream) → Windows W → Stream → List (List G) → Type 0
+abbrev pub AreDrawnSegments : {G W : Type 0}
+    → Group G → (Stream → G × Stream) → Windows W → Stream → List (List G) → Type 0
 AreDrawnSegments g draw windows stream lists =
     AreSegmentsOf g windows (window_elements draw windows stream).0 lists
 
