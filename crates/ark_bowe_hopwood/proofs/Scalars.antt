@@ -31,9 +31,9 @@ chunk_of-digit (false, false, true) = refl
 chunk_of-digit (false, false, false) = refl
 
 -- the absolute value of z is m at most
-record IsWithin (m : ℕ) (z : ℤ) : Type 0 where
-  over : z ≤ℤ pos m
-  under : pos 0 ≤ℤ (z +ℤ pos m)
+pub record IsWithin (m : ℕ) (z : ℤ) : Type 0 where
+  pub over : z ≤ℤ pos m
+  pub under : pos 0 ≤ℤ (z +ℤ pos m)
 
 digit-within : (c : Chunk) → IsWithin 4 (digit c)
 digit-within (true, true, true) = record { over = omega (arith, ints); under = omega (arith, ints) }
@@ -62,7 +62,7 @@ more_within m d s first others = record { over = omega (arith, ints); under = om
 wider : (m n : ℕ) (z : ℤ) → m ≤ n → IsWithin m z → IsWithin n z
 wider m n z le within = record { over = omega (arith, ints); under = omega (arith, ints) }
 
-scalar-within : (chunks : List Chunk) (n : ℕ) → length chunks ≤ n → IsWithin (greatest_scalar n) (segment_scalar chunks)
+pub scalar-within : (chunks : List Chunk) (n : ℕ) → length chunks ≤ n → IsWithin (greatest_scalar n) (segment_scalar chunks)
 unfolding segment_scalar
 scalar-within [] n few = record { over = omega (arith, ints); under = omega (arith, ints) }
 scalar-within (c ∷ chunks) zero few = absurd (omega arith)
@@ -84,7 +84,7 @@ alone (x ∷ a) (y ∷ b) long same =
     let first : x ≡ y = sym (chunk_of-digit x) ∙ ap chunk_of parts.0 ∙ chunk_of-digit y in
     ap (λ (c : Chunk). c ∷ a) first ∙ ap (λ (t : List Chunk). y ∷ t) (alone a b (omega arith) parts.1)
 
--- the number that a whole number is, or that stands below its negative
+-- the number that a whole number is, or one less than its negative
 abbrev number_of : ℤ → ℕ
 number_of (pos n) = n
 number_of (negsuc n) = n

@@ -1,4 +1,4 @@
-//! Hashes of drawn bytes over drawn generators, by the definition as a plain function.
+//! Hashes of drawn bytes over drawn generators, against the definition as a plain function.
 
 use crate::plain;
 use crate::samples::{One, Seven, Sixteen, Twelve, Wide};
@@ -37,8 +37,59 @@ fn drawn_parameters<G: CurveGroup, W: Window, R: Rng>(
     Ok(Parameters { generators })
 }
 
-// Whether inputs of drawn bytes, one of each length that the windows take, have the hashes that the definition gives.
-fn drawn_inputs_agree<G: CurveGroup + TECoordinates, W: Window>(
+fn drawn_bytes<R: Rng>(alloc: Global, len: usize, rng: &mut R) -> Result<Vec<u8>, Error> {
+    let mut bytes = vec![in alloc; 0u8; len]?;
+    rng.fill_bytes(&mut bytes);
+    Ok(bytes)
+}
+
+// Whether drawn bytes have the hash that the definition gives.
+fn digits_agree<G: CurveGroup + TECoordinates, W: Window, R: Rng>(
+    alloc: Global,
+    len: usize,
+    rng: &mut R,
+) -> Result<bool, Error>
+where
+    G::BaseField: DigestItem,
+{
+    let parameters = drawn_parameters::<G, W, R>(alloc, rng)?;
+    let input = drawn_bytes(alloc, len, rng)?;
+    let defined = plain::coordinate(alloc, &parameters.generators, &input)?;
+    Ok(CRH::<G, W>::evaluate(alloc, &parameters, &input)? == defined)
+}
+
+fn first_elements<G: CurveGroup>(alloc: Global, lists: &[Vec<G>]) -> Result<Vec<G>, Error> {
+    let mut elements = Vec::new(alloc);
+    for list in lists {
+        if let Some(element) = list.first() {
+            elements.push(*element)?;
+        }
+    }
+    Ok(elements)
+}
+
+// Whether they have that of the sum over the segments, which are to be of few chunks.
+fn segments_agree<G: CurveGroup + TECoordinates, W: Window, R: Rng>(
+    alloc: Global,
+    len: usize,
+    rng: &mut R,
+) -> Result<bool, Error>
+where
+    G::BaseField: DigestItem,
+{
+    let size = W::WINDOW_SIZE;
+    if size > 15 {
+        return Ok(false);
+    }
+    let generators = CRH::<G, W>::create_generators(alloc, rng)?;
+    let elements = first_elements(alloc, &generators)?;
+    let input = drawn_bytes(alloc, len, rng)?;
+    let defined = plain::coordinate_of_segments(alloc, size, &elements, &input)?;
+    Ok(CRH::<G, W>::evaluate(alloc, &Parameters { generators }, &input)? == defined)
+}
+
+// Whether each of twenty inputs of each length that the windows take has the first hash.
+fn drawn_digits_agree<G: CurveGroup + TECoordinates, W: Window>(
     alloc: Global,
     seed: u64,
 ) -> Result<bool, Error>
@@ -46,13 +97,30 @@ where
     G::BaseField: DigestItem,
 {
     let mut rng = SmallRng::seed_from_u64(seed);
-    let parameters = drawn_parameters::<G, W, SmallRng>(alloc, &mut rng)?;
     for len in 0..=CHUNK_SIZE * (W::WINDOW_SIZE * W::NUM_WINDOWS) / 8 {
-        let mut input = vec![in alloc; 0u8; len]?;
-        rng.fill_bytes(&mut input);
-        let defined = plain::coordinate(alloc, &parameters.generators, &input)?;
-        if CRH::<G, W>::evaluate(alloc, &parameters, &input)? != defined {
-            return Ok(false);
+        for _ in 0..20u8 {
+            if !digits_agree::<G, W, SmallRng>(alloc, len, &mut rng)? {
+                return Ok(false);
+            }
+        }
+    }
+    Ok(true)
+}
+
+// Whether each of twenty has the second.
+fn drawn_segments_agree<G: CurveGroup + TECoordinates, W: Window>(
+    alloc: Global,
+    seed: u64,
+) -> Result<bool, Error>
+where
+    G::BaseField: DigestItem,
+{
+    let mut rng = SmallRng::seed_from_u64(seed);
+    for len in 0..=CHUNK_SIZE * (W::WINDOW_SIZE * W::NUM_WINDOWS) / 8 {
+        for _ in 0..20u8 {
+            if !segments_agree::<G, W, SmallRng>(alloc, len, &mut rng)? {
+                return Ok(false);
+            }
         }
     }
     Ok(true)
@@ -61,31 +129,23 @@ where
 #[test]
 fn drawn_inputs_have_the_defined_hashes(rt: HostRuntime) {
     let alloc = rt.alloc();
-    for seed in 0..20u64 {
-        assert_eq!(rt;
-            drawn_inputs_agree::<Small<M13>, One>(alloc, seed),
-            Ok(true),
-            "{seed}"
-        );
-        assert_eq!(rt;
-            drawn_inputs_agree::<Small<M13>, Wide>(alloc, seed),
-            Ok(true),
-            "{seed}"
-        );
-        assert_eq!(rt;
-            drawn_inputs_agree::<Small<M13>, Sixteen>(alloc, seed),
-            Ok(true),
-            "{seed}"
-        );
-        assert_eq!(rt;
-            drawn_inputs_agree::<Small<M13>, Seven>(alloc, seed),
-            Ok(true),
-            "{seed}"
-        );
-        assert_eq!(rt;
-            drawn_inputs_agree::<Small<M13>, Twelve>(alloc, seed),
-            Ok(true),
-            "{seed}"
-        );
-    }
+    assert_eq!(rt; drawn_digits_agree::<Small<M13>, One>(alloc, 1), Ok(true));
+    assert_eq!(rt; drawn_digits_agree::<Small<M13>, Wide>(alloc, 2), Ok(true));
+    assert_eq!(rt;
+        drawn_digits_agree::<Small<M13>, Sixteen>(alloc, 3),
+        Ok(true)
+    );
+    assert_eq!(rt; drawn_digits_agree::<Small<M13>, Seven>(alloc, 4), Ok(true));
+    assert_eq!(rt;
+        drawn_digits_agree::<Small<M13>, Twelve>(alloc, 5),
+        Ok(true)
+    );
+    assert_eq!(rt;
+        drawn_segments_agree::<Small<M13>, Wide>(alloc, 6),
+        Ok(true)
+    );
+    assert_eq!(rt;
+        drawn_segments_agree::<Small<M13>, Sixteen>(alloc, 7),
+        Ok(true)
+    );
 }

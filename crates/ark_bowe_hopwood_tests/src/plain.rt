@@ -1,9 +1,10 @@
-//! The sum of a Bowe-Hopwood hash as plain, slow functions, for tests to compare with: all bits of the input first.
+//! The sums of Bowe-Hopwood hashes as plain, slow functions, for tests to compare with: all chunks of the input first.
 
-ghost use Rattle.std.specs.Prelude.{◌≡◌, ◌++◌, false, drop, slice_index_or, IfOk, OnOk};
+ghost use Rattle.std.specs.Prelude.{◌≡◌, ◌≤◌, ◌++◌, false, length, take, drop, slice_index_or, IfOk, OnOk};
 ghost use Rattle.ark_groups.specs.Bits.{bits_of_number};
 ghost use Rattle.ark_pedersen.specs.Pedersen.{bits_of_bytes, lists_in, concatenation};
-ghost use Rattle.ark_bowe_hopwood.specs.BoweHopwood.{chunks_of, digit, signed_times, digits_sum};
+ghost use Rattle.ark_bowe_hopwood.specs.BoweHopwood.{chunks_of, digit, segment_scalar};
+ghost use Rattle.ark_bowe_hopwood.specs.BoweHopwood.{signed_times, digits_sum, segments_sum};
 
 use ark_groups::ec::{CurveGroup, TECoordinates};
 use std::alloc::{AllocError, Global};
@@ -44,15 +45,66 @@ fn behind<T>(items: &[T], count: usize) -> &[T]
     &items[count.min(items.len())..]
 }
 
-// The sum of the elements, each as often as the digit of its three bits says.
-fn sum<G: CurveGroup>(elements: &[G], bits: &[bool]) -> G
-    ensures { result ≡ digits_sum G.group elements.now (chunks_of bits.now) }
+// The first items, or all where there are fewer.
+fn front<T>(items: &[T], count: usize) -> &[T]
+    ensures { result.now ≡ take count items.now }
 {
-    if elements.len().min(bits.len()) == 0 {
+    &items[..count.min(items.len())]
+}
+
+// Bits in threes; missing ones are not set.
+fn chunks_of(alloc: Global, bits: &[bool]) -> Result<Vec<(bool, bool, bool)>, AllocError>
+    ensures { IfOk result (λ chunks. chunks.items ≡ chunks_of bits.now) }
+{
+    let mut chunks = Vec::new(alloc);
+    let mut rest = bits;
+    while !rest.is_empty() {
+        chunks.push((bit_at(rest, 0), bit_at(rest, 1), bit_at(rest, 2)))?;
+        rest = behind(rest, 3);
+    }
+    Ok(chunks)
+}
+
+// The sum of the elements, each as often as the digit of its chunk says.
+fn digits_sum<G: CurveGroup>(elements: &[G], chunks: &[(bool, bool, bool)]) -> G
+    ensures { result ≡ digits_sum G.group elements.now chunks.now }
+{
+    if elements.len().min(chunks.len()) == 0 {
         return G::zero();
     }
-    let digit = digit(bit_at(bits, 0), bit_at(bits, 1), bit_at(bits, 2));
-    signed_times(digit, elements[0]).add(sum(behind(elements, 1), behind(bits, 3)))
+    let (a, b, c) = chunks[0];
+    signed_times(digit(a, b, c), elements[0]).add(digits_sum(
+        behind(elements, 1),
+        behind(chunks, 1),
+    ))
+}
+
+// The scalar of a segment of a few chunks.
+fn segment_scalar(chunks: &[(bool, bool, bool)]) -> i64
+    requires { length chunks.now ≤ 15 }
+    ensures { result ≡ segment_scalar chunks.now }
+{
+    if chunks.is_empty() {
+        return 0;
+    }
+    let (a, b, c) = chunks[0];
+    digit(a, b, c) + 16 * segment_scalar(behind(chunks, 1))
+}
+
+// The sum over segments of one size, each element as often as the scalar of its segment says.
+fn segments_sum<G: CurveGroup>(size: usize, elements: &[G], chunks: &[(bool, bool, bool)]) -> G
+    requires { size ≤ 15 }
+    ensures { result ≡ segments_sum G.group size elements.now chunks.now }
+{
+    if elements.is_empty() {
+        return G::zero();
+    }
+    let scalar = segment_scalar(front(chunks, size));
+    signed_times(scalar, elements[0]).add(segments_sum(
+        size,
+        behind(elements, 1),
+        behind(chunks, size),
+    ))
 }
 
 // The binary digits of a byte, the lowest first, behind those that are there.
@@ -91,6 +143,13 @@ fn concatenation<G: CurveGroup>(alloc: Global, lists: &[Vec<G>]) -> Result<Vec<G
     Ok(all)
 }
 
+// All chunks of an input.
+fn input_chunks(alloc: Global, input: &[u8]) -> Result<Vec<(bool, bool, bool)>, AllocError>
+    ensures { IfOk result (λ chunks. chunks.items ≡ chunks_of (bits_of_bytes input.now)) }
+{
+    chunks_of(alloc, &bits_of(alloc, input)?)
+}
+
 /// The first coordinate of the sum of the elements of lists, each as often as the digit of its chunk of the input says.
 pub fn coordinate<G: CurveGroup + TECoordinates>(
     alloc: Global,
@@ -102,5 +161,20 @@ pub fn coordinate<G: CurveGroup + TECoordinates>(
         IfOk result (λ x. G.BaseField.value x ≡ G.x sum) }
 {
     let all = concatenation(alloc, lists)?;
-    Ok(sum(&all, &bits_of(alloc, input)?).x())
+    Ok(digits_sum(&all, &input_chunks(alloc, input)?).x())
+}
+
+/// The same over segments of at most fifteen chunks, each element as often as the scalar of its segment says.
+pub fn coordinate_of_segments<G: CurveGroup + TECoordinates>(
+    alloc: Global,
+    size: usize,
+    elements: &[G],
+    input: &[u8],
+) -> Result<G::BaseField, AllocError>
+    requires { size ≤ 15 }
+    ensures { let chunks = chunks_of (bits_of_bytes input.now) in
+        let sum = segments_sum G.group size elements.now chunks in
+        IfOk result (λ x. G.BaseField.value x ≡ G.x sum) }
+{
+    Ok(segments_sum(size, elements, &input_chunks(alloc, input)?).x())
 }
