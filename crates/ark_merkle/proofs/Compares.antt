@@ -1,30 +1,25 @@
 -- Steps of the comparison of a path with a tree.
 use Rattle.std.proofs.Common.{◌≡◌, ◌<◌, ◌≤◌, ◌+◌, ◌-◌, ◌/◌, ◌%◌, ◌^◌, ◌∙◌, ◌&&◌, if◌then◌else◌, ℕ, suc, Bool, Option, None, Some, List, [], length, map, get_or, Ok, Err, arith, refl, ap, sym, pow_pos, mod-lt}
 use Rattle.std.proofs.lemmas.List.{length-map, get_or-map}
-use Rattle.std.specs.declared.vec.Vec.{Vec}
 use Rattle.ark_base.specs.declared.error.Error.{Error}
 use Rattle.ark_merkle.specs.Bind.{path_pair, tree_pair, is_other, first_level, difference}
 use Rattle.ark_merkle.specs.Index.{bit_at, neighbour}
 use Rattle.ark_merkle.specs.Pair.{Digest, HashPair, digest_eq, hash_in_order}
 use Rattle.ark_merkle.specs.Path.{Way, path_root}
 use Rattle.ark_merkle.specs.Root.{upper_levels}
-use Rattle.ark_merkle.specs.Rows.{IsTree, digests_of}
+use Rattle.ark_merkle.specs.Rows.{IsTree}
 use Rattle.ark_merkle.proofs.Binds.{own-inside, first_level-up, top_from, top_from-refused, top_from-last, differs, differs-last, differs-row, top_from-row}
 use Rattle.ark_merkle.proofs.OwnPaths.{leaf-neighbour}
 use Rattle.ark_merkle.proofs.PlaceLemmas.{level-fits, place-inside, way-neighbour}
-use Rattle.ark_merkle.proofs.Readings.{row_read}
 
 -- the first level, from one on, at which a path and a tree differ
 abbrev pub difference_from : HashPair → List Digest → Way → Digest → ℕ → ℕ → Option ℕ
 difference_from h leaves way digest level count = first_level (λ l. is_other (path_pair h way digest l) (tree_pair h leaves way.index l)) level count
 
-module _ {A B Z : Type 0} (leaf_numbers : A → Digest) (numbers : B → Digest) (h : HashPair) (leaves_in : List A) (rows_in : List (Vec B Z))
-    (tree : IsTree h (map leaf_numbers leaves_in) (map (digests_of numbers) rows_in)) (sibling : Digest) (above_in : List B) (index : ℕ) (count : length rows_in ≡ suc (length above_in)) where
+module _ {A B : Type 0} (leaf_numbers : A → Digest) (numbers : B → Digest) (h : HashPair) (leaves_in : List A) (rows : List (List Digest))
+    (tree : IsTree h (map leaf_numbers leaves_in) rows) (sibling : Digest) (above_in : List B) (index : ℕ) (count : length rows ≡ suc (length above_in)) where
   abbrev leaves : List Digest
   leaves = map leaf_numbers leaves_in
-
-  abbrev rows : List (List Digest)
-  rows = map (digests_of numbers) rows_in
 
   abbrev way : Way
   way = record { sibling = sibling; above = map numbers above_in; index = index }
@@ -32,11 +27,8 @@ module _ {A B Z : Type 0} (leaf_numbers : A → Digest) (numbers : B → Digest)
   long : length leaves ≡ length leaves_in
   long = length-map leaves_in leaf_numbers
 
-  rows_long : length rows ≡ suc (length above_in)
-  rows_long = length-map rows_in (digests_of numbers) ∙ count
-
   levels : length above_in ≡ upper_levels leaves
-  levels = omega (arith, tree.count, rows_long)
+  levels = omega (arith, tree.count, count)
 
   high : length way.above ≡ upper_levels leaves
   high = length-map above_in numbers ∙ levels
@@ -59,12 +51,14 @@ module _ {A B Z : Type 0} (leaf_numbers : A → Digest) (numbers : B → Digest)
     pub climb-first : (current : Digest) (is_right : Bool) → is_right ≡ bit_at index 0 → hash_in_order h.bottom is_right digest sibling ≡ Ok current → top_from h way digest (length above_in - 0) ≡ Ok current
     climb-first current is_right side hashed = top_from-last h way digest (length above_in - 0) (omega (arith, levels, high)) ∙ rw side at hashed
 
-    pub differs-first : (is_own : Bool) (n : ℕ) (o : Option ℕ) → is_own ≡ (digest_eq digest (get_or leaves (index % length leaves_in) []) && digest_eq sibling (get_or leaves (neighbour (index % length leaves_in)) []))
-        → n ≡ length above_in → o ≡ (if is_own then None else Some n) → o ≡ difference_from h leaves way digest (length above_in - 0) 1
-    differs-first is_own n o is n_is answer =
+    pub differs-first : (is_own : Bool) (n place : ℕ) (own_in beside_in : A) (o : Option ℕ) → is_own ≡ (digest_eq digest (leaf_numbers own_in) && digest_eq sibling (leaf_numbers beside_in))
+        → own_in ≡ get_or leaves_in (index % length leaves_in) own_in → place ≡ neighbour (index % length leaves_in) → beside_in ≡ get_or leaves_in place beside_in → n ≡ length above_in → o ≡ (if is_own then None else Some n) → o ≡ difference_from h leaves way digest (length above_in - 0) 1
+    differs-first is_own n place own_in beside_in o is own_is at beside_is n_is answer =
         let level = length above_in - 0 in
+        let here : leaf_numbers own_in ≡ get_or leaves (index % length leaves_in) [] = ap leaf_numbers own_is ∙ sym (get_or-map leaf_numbers leaves_in (index % length leaves_in) own_in [] own-here) in
+        let there : leaf_numbers beside_in ≡ get_or leaves (neighbour (index % length leaves_in)) [] = ap leaf_numbers (rw at at beside_is) ∙ sym (get_or-map leaf_numbers leaves_in (neighbour (index % length leaves_in)) beside_in [] beside-here) in
         let same : n ≡ level = omega (arith, n_is) in
-        first_level-up (differs h leaves rows tree way digest high) level (suc level) 0 1 is_own None o refl refl (differs-last h leaves rows tree way digest high level (omega (arith, levels)) is_own (rw own at is)) refl (rw same at answer)
+        first_level-up (differs h leaves rows tree way digest high) level (suc level) 0 1 is_own None o refl refl (differs-last h leaves rows tree way digest high level (omega (arith, levels)) is_own (rw (here, there, own) at is)) refl (rw same at answer)
 
     -- all levels have been compared
     pub differs-end : (step : ℕ) (o : Option ℕ) → length above_in ≤ step → step ≤ length above_in → o ≡ difference_from h leaves way digest (length above_in - step) (suc step) → o ≡ difference h leaves way digest
@@ -77,7 +71,7 @@ module _ {A B Z : Type 0} (leaf_numbers : A → Digest) (numbers : B → Digest)
 
   module _ (step : ℕ) (below : step < length above_in) where
     inside : step < length rows
-    inside = omega (arith, rows_long)
+    inside = omega (arith, count)
 
     one : step + 1 ≡ suc step
     one = omega arith
@@ -85,21 +79,14 @@ module _ {A B Z : Type 0} (leaf_numbers : A → Digest) (numbers : B → Digest)
     pub step-fits : length leaves_in < 2 ^ 64 → suc step < 64
     step-fits fits = level-fits rows (length leaves) tree.levels step (index % length leaves) inside (own-inside h leaves rows tree index) (omega (arith, long))
 
-    module _ (row : Vec B Z) (is : row ≡ get_or rows_in step row) where
-      row_is : get_or rows step [] ≡ digests_of numbers row
-      row_is = row_read numbers rows_in step row (omega (arith, count)) is
+    pub own-in_row : index % length leaves_in / 2 ^ (step + 1) < length (get_or rows step [])
+    own-in_row = rw (own, one) (place-inside rows (length leaves) tree.levels step (index % length leaves) inside (own-inside h leaves rows tree index))
 
-      pub own-in_row : index % length leaves_in / 2 ^ (step + 1) < length row.items
-      own-in_row =
-          let there = place-inside rows (length leaves) tree.levels step (index % length leaves) inside (own-inside h leaves rows tree index) in
-          rw (own, one) (omega (arith, there, ap length row_is, length-map row.items numbers))
-
-      pub beside-in_row : neighbour (index % length leaves_in / 2 ^ (step + 1)) < length row.items
-      beside-in_row =
-          let there = way-neighbour rows (length leaves) tree.levels (index % length leaves) (own-inside h leaves rows tree index) (step + 1) (omega arith) (omega (arith, rows_long)) in
-          let back : step + 1 - 1 ≡ step = omega arith in
-          let here = rw back at there in
-          rw own (omega (arith, here, ap length row_is, length-map row.items numbers))
+    pub beside-in_row : neighbour (index % length leaves_in / 2 ^ (step + 1)) < length (get_or rows step [])
+    beside-in_row =
+        let there = way-neighbour rows (length leaves) tree.levels (index % length leaves) (own-inside h leaves rows tree index) (step + 1) (omega arith) (omega (arith, count)) in
+        let back : step + 1 - 1 ≡ step = omega arith in
+        rw own (rw back at there)
 
     module _ (digest current : Digest) (so : top_from h way digest (length above_in - step) ≡ Ok current) (n : ℕ) (n_is : n ≡ length above_in) (beside : B) (read : beside ≡ get_or above_in (n - 1 - step) beside) where
       level : ℕ
@@ -131,12 +118,13 @@ module _ {A B Z : Type 0} (leaf_numbers : A → Digest) (numbers : B → Digest)
       unfolding level
       climb-more higher is_right side hashed = next ∙ rw side at hashed
 
-      pub differs-more : (row : Vec B Z) → row ≡ get_or rows_in step row → (row_in : List B) → row_in ≡ row.items → (is_own : Bool)
-          → is_own ≡ (digest_eq current (get_or (map numbers row_in) (index % length leaves_in / 2 ^ (step + 1)) []) && digest_eq (numbers beside) (get_or (map numbers row_in) (neighbour (index % length leaves_in / 2 ^ (step + 1))) []))
+      pub differs-more : (place : ℕ) → place ≡ neighbour (index % length leaves_in / 2 ^ (step + 1)) → (own_row beside_row : Digest)
+          → own_row ≡ get_or (get_or rows step []) (index % length leaves_in / 2 ^ (step + 1)) [] → beside_row ≡ get_or (get_or rows step []) place [] → (is_own : Bool)
+          → is_own ≡ (digest_eq current own_row && digest_eq (numbers beside) beside_row)
           → (lower o : Option ℕ) → lower ≡ difference_from h leaves way digest (length above_in - step) (suc step) → o ≡ (if is_own then lower else Some (n - 1 - step))
           → o ≡ difference_from h leaves way digest (length above_in - (step + 1)) (suc (step + 1))
       unfolding level
-      differs-more row is row_in row_in_is is_own stands lower o so_far answer =
-          let stood = rw (own, one, row_in_is, ← row_is row is, ← beside_is) at stands in
+      differs-more place at own_row beside_row own_is beside_row_is is_own stands lower o so_far answer =
+          let stood = rw (rw at at beside_row_is, own_is, own, one, ← beside_is) at stands in
           let differ = differs-row h leaves rows tree way digest high level step here current (rw up at so) is_own stood in
           first_level-up (differs h leaves rows tree way digest high) level (length above_in - step) (suc step) (suc (step + 1)) is_own lower o (sym up) (omega arith) differ so_far (rw same at answer)

@@ -8,6 +8,8 @@ pub mod Eaches
 pub mod CoupleLemmas
 pub mod Logs
 pub mod Levels
+pub mod LevelOrder
+pub mod Piles
 pub mod RowLemmas
 pub mod Parts
 pub mod TreeChanges

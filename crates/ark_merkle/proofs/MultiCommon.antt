@@ -1,17 +1,15 @@
 -- What the ways of two indexes have in common, row by row.
 use Rattle.std.proofs.Common.{◌≡◌, ℕ, zero, suc, ◌+◌, ◌-◌, ◌/◌, ◌<◌, ◌≤◌, ◌^◌, Bool, true, false, List, [], ◌∷◌, ◌++◌, length, map, take, drop, get_or, refl, ap, sym, ◌∙◌, arith}
 use Rattle.std.specs.Bool.{Decides}
-use Rattle.std.specs.declared.vec.Vec.{Vec}
-use Rattle.std.proofs.lemmas.List.{get_or-take, length-take, length-map, map-append, take-map, take_more}
+use Rattle.std.proofs.lemmas.List.{map-append, take_more}
 use Rattle.std.proofs.lemmas.Slice.Eq.{bytes_eq-Decides}
 use Rattle.ark_merkle.specs.Index.{neighbour}
 use Rattle.ark_merkle.specs.MultiProof.{shared_count, prefixes_of, suffixes_of}
 use Rattle.ark_merkle.specs.Pair.{Digest, digest_eq}
-use Rattle.ark_merkle.specs.Rows.{HoldsIndex, beside_in, digests_of}
+use Rattle.ark_merkle.specs.Rows.{HoldsIndex, beside_in}
 use Rattle.ark_merkle.proofs.MultiShared.{shared-same, shared-other, shared-le, last_of, last_of-push, prefixes_of-push, suffixes_of-push}
 use Rattle.ark_merkle.proofs.OwnPaths.{length-beside_in}
 use Rattle.ark_merkle.proofs.PlaceLemmas.{level-fits, beside-inside}
-use Rattle.ark_merkle.proofs.Readings.{row_read, digest_read}
 
 -- the digest beside the way of an index in row k
 abbrev pub beside_at : List (List Digest) → ℕ → ℕ → Digest
@@ -51,36 +49,10 @@ common-le rows k before index = omega (arith, shared-le (beside_in rows k before
 
 -- ---- the rows below
 
-pub beside_in-take : (rows : List (List Digest)) (m k index : ℕ) → k ≤ m → beside_in (take m rows) k index ≡ beside_in rows k index
-beside_in-take rows m zero index le = refl
-beside_in-take rows m (suc k) index le =
-    let row : get_or (take m rows) k [] ≡ get_or rows k [] = get_or-take m rows k [] (omega arith) in
-    rw row (ap (λ (ds : List Digest). beside_at rows k index ∷ ds) (beside_in-take rows m k index (omega arith)))
-
 pub drop-beside_in : (rows : List (List Digest)) (p k index : ℕ) → p ≤ k → drop p (beside_in rows k index) ≡ beside_in rows (k - p) index
 drop-beside_in rows zero k index le = let e : k - 0 ≡ k = omega arith in rw e refl
 drop-beside_in rows (suc p) zero index le = absurd (omega arith)
 drop-beside_in rows (suc p) (suc k) index le = let e : suc k - suc p ≡ k - p = omega arith in rw e (drop-beside_in rows p k index (omega arith))
-
-pub HoldsIndex-take : (rows : List (List Digest)) (m index : ℕ) → HoldsIndex rows index → HoldsIndex (take m rows) index
-HoldsIndex-take rows m index holds = record {
-  size = holds.size;
-  small = holds.small;
-  inside = holds.inside;
-  levels = λ k below. let row : get_or (take m rows) k [] ≡ get_or rows k [] = get_or-take m rows k [] (omega (arith, length-take m rows)) in rw row (holds.levels k (omega (arith, length-take m rows)));
-}
-
--- the digests below those in common
-pub beside_in-rest : {A Z : Type 0} (numbers : A → Digest) (rows : List (Vec A Z)) (prefix index : ℕ) → prefix ≤ length rows - 1
-    → beside_in (map (digests_of numbers) (take (length rows - prefix) rows)) (length (take (length rows - prefix) rows) - 1) index ≡ drop prefix (beside_in (map (digests_of numbers) rows) (length rows - 1) index)
-beside_in-rest numbers rows prefix index le =
-    let seen = map (digests_of numbers) rows in
-    let m = length rows - prefix in
-    let last : length (take m rows) - 1 ≡ length rows - 1 - prefix = omega (arith, length-take m rows) in
-    rw (last, ← take-map (digests_of numbers) m rows) (beside_in-take seen m (length rows - 1 - prefix) index (omega arith) ∙ sym (drop-beside_in seen prefix (length rows - 1) index le))
-
-pub HoldsIndex-front : {A Z : Type 0} (numbers : A → Digest) (rows : List (Vec A Z)) (m index : ℕ) → HoldsIndex (map (digests_of numbers) rows) index → HoldsIndex (map (digests_of numbers) (take m rows)) index
-HoldsIndex-front numbers rows m index holds = rw (← take-map (digests_of numbers) m rows) (HoldsIndex-take (map (digests_of numbers) rows) m index holds)
 
 -- ---- one index more
 
@@ -113,25 +85,13 @@ module _ (lists : ℕ → List Digest) (indexes : List ℕ) where
 
 -- ---- what is read
 
-module _ {A Z : Type 0} (numbers : A → Digest) (rows : List (Vec A Z)) (row : Vec A Z) (k index place : ℕ) (holds : HoldsIndex (map (digests_of numbers) rows) index) (below : k + 1 < length rows) where
-  long : length (map (digests_of numbers) rows) ≡ length rows
-  long = length-map rows (digests_of numbers)
-
+module _ (rows : List (List Digest)) (k index : ℕ) (holds : HoldsIndex rows index) (below : k + 1 < length rows) where
   pub beside-level : k + 1 < 64
-  beside-level = omega (arith, level-fits (map (digests_of numbers) rows) holds.size holds.levels k index (omega (arith, long)) holds.inside holds.small)
+  beside-level = omega (arith, level-fits rows holds.size holds.levels k index (omega arith) holds.inside holds.small)
 
-  module _ (is : row ≡ get_or rows k row) (at : place ≡ neighbour (index / 2 ^ (k + 1))) where
-    read : get_or (map (digests_of numbers) rows) k [] ≡ digests_of numbers row
-    read = row_read numbers rows k row (omega arith) is
+  module _ (place : ℕ) (at : place ≡ neighbour (index / 2 ^ (k + 1))) where
+    pub beside-bound : place < length (get_or rows k [])
+    beside-bound = let one : k + 1 ≡ suc k = omega arith in rw (at, one) (beside-inside rows index holds k (omega arith))
 
-    pub beside-bound : place < length row.items
-    beside-bound =
-        let one : k + 1 ≡ suc k = omega arith in
-        let inside = beside-inside (map (digests_of numbers) rows) index holds k (omega (arith, long)) in
-        rw (at, one) (omega (arith, inside, ap length read, length-map row.items numbers))
-
-    pub beside-read : (digest : A) → digest ≡ get_or row.items place digest → beside_at (map (digests_of numbers) rows) k index ≡ numbers digest
-    beside-read digest found =
-        let one : k + 1 ≡ suc k = omega arith in
-        let there : place ≡ neighbour (index / 2 ^ suc k) = rw one at at in
-        rw (read, ← there) (digest_read numbers row place digest beside-bound found)
+    pub beside-read : (digest : Digest) → digest ≡ get_or (get_or rows k []) place [] → beside_at rows k index ≡ digest
+    beside-read digest found = let one : k + 1 ≡ suc k = omega arith in let there : place ≡ neighbour (index / 2 ^ suc k) = rw one at at in rw (← there) (sym found)

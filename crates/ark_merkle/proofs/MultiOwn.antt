@@ -11,12 +11,12 @@ use Rattle.ark_merkle.specs.MultiProof.{rising_set, prefixes_of, suffixes_of, ow
 use Rattle.ark_merkle.specs.Pair.{Digest, HashPair}
 use Rattle.ark_merkle.specs.Path.{Way}
 use Rattle.ark_merkle.specs.Root.{root, upper_levels}
-use Rattle.ark_merkle.specs.Rows.{IsTree, HoldsIndex, beside_in, digests_of, rows_seen}
+use Rattle.ark_merkle.specs.Rows.{IsTree, HoldsIndex, beside_in, digests_of}
 use Rattle.ark_merkle.specs.Tree.{own_path}
 use Rattle.ark_merkle.proofs.MultiIndexes.{All-rising, rising-some}
 use Rattle.ark_merkle.proofs.MultiShared.{decoded-merged}
 use Rattle.ark_merkle.proofs.OwnPaths.{length-beside_in, own_path-rows, own_path-accepted, leaf-neighbour}
-use Rattle.ark_merkle.proofs.TreeReads.{length-rows, holds-index}
+use Rattle.ark_merkle.proofs.TreeReads.{holds-index}
 
 rest_of : {X : Type 0} (P : X → Type 0) (x : X) (xs : List X) → All P (x ∷ xs) → All P xs
 rest_of P x xs h k d below = h (suc k) d (omega arith)
@@ -99,29 +99,25 @@ module _ (h : HashPair) (leaves : List Digest) (rows : List (List Digest)) (tree
 
 -- ---- as the calls of a tree read them
 
-module _ {L I W Z Y : Type 0} (leaf : L → Digest) (inner : I → Digest) (h : HashPair) (leaves : List Digest) (kept : Vec L W) (rows : Vec (Vec I Z) Y) (tree : IsTree h leaves (rows_seen inner rows)) (are : digests_of leaf kept ≡ leaves) (asked indexes : List ℕ) (inside : All (λ i. i < length leaves) asked) (once : rising_set asked ≡ indexes) where
+module _ {L W : Type 0} (leaf : L → Digest) (h : HashPair) (leaves : List Digest) (kept : Vec L W) (rows : List (List Digest)) (tree : IsTree h leaves rows) (are : digests_of leaf kept ≡ leaves) (asked indexes : List ℕ) (inside : All (λ i. i < length leaves) asked) (once : rising_set asked ≡ indexes) where
   inside_once : All (λ i. i < length leaves) indexes
   inside_once = rw once at (All-rising (λ i. i < length leaves) asked inside)
 
   pub neighbours-inside : (leaves_in : List L) (indexes_in : List ℕ) → leaves_in ≡ kept.items → indexes_in ≡ indexes → All (λ i. neighbour i < length leaves_in) indexes_in
   neighbours-inside leaves_in indexes_in same_leaves same =
       let long : length leaves_in ≡ length leaves = ap length same_leaves ∙ sym (length-map kept.items leaf) ∙ ap length are in
-      rw (same, long) (λ k d below. leaf-neighbour h leaves (rows_seen inner rows) tree (get_or indexes k d) (inside_once k d below))
+      rw (same, long) (λ k d below. leaf-neighbour h leaves rows tree (get_or indexes k d) (inside_once k d below))
 
-  pub hold-indexes : (rows_in : List (Vec I Z)) (indexes_in : List ℕ) → rows_in ≡ rows.items → indexes_in ≡ indexes → length leaves < 2 ^ 64 → All (HoldsIndex (map (digests_of inner) rows_in)) indexes_in
-  hold-indexes rows_in indexes_in same_rows same fits = rw same (λ k d below. holds-index inner h leaves rows tree rows_in (get_or indexes k d) same_rows fits (inside_once k d below))
+  pub hold-indexes : (indexes_in : List ℕ) → indexes_in ≡ indexes → length leaves < 2 ^ 64 → All (HoldsIndex rows) indexes_in
+  hold-indexes indexes_in same fits = rw same (λ k d below. holds-index h leaves rows tree (get_or indexes k d) fits (inside_once k d below))
 
-  pub own_multi_path-read : (leaves_in : List L) (rows_in : List (Vec I Z)) (indexes_in more_in : List ℕ) (siblings : List Digest) (prefixes : List ℕ) (suffixes : List (List Digest))
-      → leaves_in ≡ kept.items → rows_in ≡ rows.items → indexes_in ≡ indexes → more_in ≡ indexes
-      → map (λ i. get_or (map leaf leaves_in) (neighbour i) []) indexes_in ≡ siblings
-      → prefixes_of [] (map (beside_in (map (digests_of inner) rows_in) (length rows_in - 1)) more_in) ≡ prefixes
-      → suffixes_of [] (map (beside_in (map (digests_of inner) rows_in) (length rows_in - 1)) more_in) ≡ suffixes
+  pub own_multi_path-read : (leaves_in : List L) (indexes_in more_in : List ℕ) (siblings : List Digest) (prefixes : List ℕ) (suffixes : List (List Digest)) → leaves_in ≡ kept.items → indexes_in ≡ indexes → more_in ≡ indexes
+      → map (λ i. get_or (map leaf leaves_in) (neighbour i) []) indexes_in ≡ siblings → prefixes_of [] (map (beside_in rows (length rows - 1)) more_in) ≡ prefixes → suffixes_of [] (map (beside_in rows (length rows - 1)) more_in) ≡ suffixes
       → own_multi_path h asked leaves ≡ record { siblings = siblings; prefixes = prefixes; suffixes = suffixes; indexes = indexes }
-  own_multi_path-read leaves_in rows_in indexes_in more_in siblings prefixes suffixes same_leaves same_rows same same_more siblings_are prefixes_are suffixes_are =
+  own_multi_path-read leaves_in indexes_in more_in siblings prefixes suffixes same_leaves same same_more siblings_are prefixes_are suffixes_are =
       let m = upper_levels leaves in
-      let seen = rows_seen inner rows in
-      let last : length rows_in - 1 ≡ m = omega (arith, ap length same_rows, length-rows inner h leaves rows tree) in
+      let last : length rows - 1 ≡ m = omega (arith, tree.count) in
       let beside : map (λ i. get_or leaves (neighbour i) []) (rising_set asked) ≡ siblings = rw (once, ← are) (rw (same_leaves, same) at siblings_are) in
-      let shared : prefixes_of [] (map (beside_in seen m) (rising_set asked)) ≡ prefixes = rw once (rw (last, same_rows, same_more) at prefixes_are) in
-      let others : suffixes_of [] (map (beside_in seen m) (rising_set asked)) ≡ suffixes = rw once (rw (last, same_rows, same_more) at suffixes_are) in
-      own_multi_path-rows h leaves seen tree asked inside ∙ (λ j. record { siblings = beside j; prefixes = shared j; suffixes = others j; indexes = once j })
+      let shared : prefixes_of [] (map (beside_in rows m) (rising_set asked)) ≡ prefixes = rw once (rw (last, same_more) at prefixes_are) in
+      let others : suffixes_of [] (map (beside_in rows m) (rising_set asked)) ≡ suffixes = rw once (rw (last, same_more) at suffixes_are) in
+      own_multi_path-rows h leaves rows tree asked inside ∙ (λ j. record { siblings = beside j; prefixes = shared j; suffixes = others j; indexes = once j })

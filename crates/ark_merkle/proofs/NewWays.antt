@@ -11,15 +11,12 @@ use Rattle.ark_merkle.specs.Update.{AreOnWay, ChangesWay}
 use Rattle.ark_merkle.proofs.Changes.{lowest-on_way, lowest-refused, next-on_way, next-refused, root-way}
 use Rattle.ark_merkle.proofs.OwnPaths.{leaf-neighbour}
 use Rattle.ark_merkle.proofs.PlaceLemmas.{level-fits, way-neighbour}
-use Rattle.ark_merkle.proofs.Readings.{row_read, digest_read}
+use Rattle.ark_merkle.proofs.Readings.{digest_read}
 
-module _ {A B Z : Type 0} (leaf_numbers : A → Digest) (numbers : B → Digest) (h : HashPair) (leaves_in : List A) (rows_in : List (Vec B Z))
-    (tree : IsTree h (map leaf_numbers leaves_in) (map (digests_of numbers) rows_in)) (index : ℕ) (within : index < length leaves_in) (digest : Digest) where
+module _ {A B : Type 0} (leaf_numbers : A → Digest) (numbers : B → Digest) (h : HashPair) (leaves_in : List A) (rows : List (List Digest))
+    (tree : IsTree h (map leaf_numbers leaves_in) rows) (index : ℕ) (within : index < length leaves_in) (digest : Digest) where
   abbrev leaves : List Digest
   leaves = map leaf_numbers leaves_in
-
-  abbrev rows : List (List Digest)
-  rows = map (digests_of numbers) rows_in
 
   abbrev new : List Digest
   new = set leaves index digest
@@ -27,11 +24,8 @@ module _ {A B Z : Type 0} (leaf_numbers : A → Digest) (numbers : B → Digest)
   inside : index < length leaves
   inside = omega (arith, length-map leaves_in leaf_numbers, within)
 
-  counted : length rows ≡ length rows_in
-  counted = length-map rows_in (digests_of numbers)
-
-  pub rows-some : 0 < length rows_in
-  rows-some = omega (arith, counted, tree.count)
+  pub rows-some : 0 < length rows
+  rows-some = omega (arith, tree.count)
 
   -- ---- the leaf digests
 
@@ -49,40 +43,34 @@ module _ {A B Z : Type 0} (leaf_numbers : A → Digest) (numbers : B → Digest)
 
   -- ---- a level
 
-  module _ (level : ℕ) (some : 1 ≤ level) (under : level < length rows_in) where
+  module _ (level : ℕ) (some : 1 ≤ level) (under : level < length rows) where
     pub shift-fits : length leaves_in < 2 ^ 64 → suc level < 64
-    shift-fits fits = level-fits rows (length leaves) tree.levels level index (omega (arith, counted)) inside (omega (arith, length-map leaves_in leaf_numbers))
+    shift-fits fits = level-fits rows (length leaves) tree.levels level index under inside (omega (arith, length-map leaves_in leaf_numbers))
 
-    module _ (row : Vec B Z) (is : row ≡ get_or rows_in (level - 1) row) where
-      row_is : get_or rows (level - 1) [] ≡ digests_of numbers row
-      row_is = row_read numbers rows_in (level - 1) row (omega arith) is
+    pub beside-inside_row : neighbour (index / 2 ^ level) < length (get_or rows (level - 1) [])
+    beside-inside_row = way-neighbour rows (length leaves) tree.levels index inside level some under
 
-      pub beside-inside_row : neighbour (index / 2 ^ level) < length row.items
-      beside-inside_row =
-          let there = way-neighbour rows (length leaves) tree.levels index inside level some (omega (arith, counted)) in
-          omega (arith, there, ap length row_is, length-map row.items numbers)
+    module _ {Y : Type 0} (way : Vec B Y) (on_way : AreOnWay h new index (digests_of numbers way)) (long : length way.items ≡ level) (lower : B) (lower_read : lower ≡ get_or way.items (level - 1) lower)
+        (place : ℕ) (place_is : place ≡ neighbour (index / 2 ^ level)) (sibling : Digest) (read : sibling ≡ get_or (get_or rows (level - 1) []) place []) (is_right : Bool) (side : is_right ≡ bit_at index level) where
+      lower_is : get_or (digests_of numbers way) (level - 1) [] ≡ numbers lower
+      lower_is = digest_read numbers way (level - 1) lower (omega (arith, long)) lower_read
 
-      module _ {Y : Type 0} (way : Vec B Y) (on_way : AreOnWay h new index (digests_of numbers way)) (long : length way.items ≡ level) (lower : B) (lower_read : lower ≡ get_or way.items (level - 1) lower)
-          (place : ℕ) (place_is : place ≡ neighbour (index / 2 ^ level)) (sibling : B) (read : sibling ≡ get_or row.items place sibling) (is_right : Bool) (side : is_right ≡ bit_at index level) where
-        lower_is : get_or (digests_of numbers way) (level - 1) [] ≡ numbers lower
-        lower_is = digest_read numbers way (level - 1) lower (omega (arith, long)) lower_read
+      beside_row : get_or (get_or rows (level - 1) []) (neighbour (index / 2 ^ level)) [] ≡ sibling
+      beside_row = sym (rw place_is at read)
 
-        beside_row : get_or (get_or rows (level - 1) []) (neighbour (index / 2 ^ level)) [] ≡ numbers sibling
-        beside_row = ap (λ r. get_or r (neighbour (index / 2 ^ level)) []) row_is ∙ digest_read numbers row (neighbour (index / 2 ^ level)) sibling beside-inside_row (rw place_is at read)
+      pub way-more : (d : Digest) → hash_in_order h.upper is_right (numbers lower) sibling ≡ Ok d → AreOnWay h new index (digests_of numbers way ++ d ∷ [])
+      way-more d hashed =
+          next-on_way h leaves rows tree index inside digest (digests_of numbers way) on_way level (length-map way.items numbers ∙ long) some under (numbers lower) sibling lower_is beside_row d (rw side at hashed)
 
-        pub way-more : (d : Digest) → hash_in_order h.upper is_right (numbers lower) (numbers sibling) ≡ Ok d → AreOnWay h new index (digests_of numbers way ++ d ∷ [])
-        way-more d hashed =
-            next-on_way h leaves rows tree index inside digest (digests_of numbers way) on_way level (length-map way.items numbers ∙ long) some (omega (arith, counted)) (numbers lower) (numbers sibling) lower_is beside_row d (rw side at hashed)
-
-        pub way-more-refused : (e : Error) → hash_in_order h.upper is_right (numbers lower) (numbers sibling) ≡ Err e → root h new ≡ Err e
-        way-more-refused e refused =
-            next-refused h leaves rows tree index inside digest (digests_of numbers way) on_way level (length-map way.items numbers ∙ long) some (omega (arith, counted)) (numbers lower) (numbers sibling) lower_is beside_row e (rw side at refused)
+      pub way-more-refused : (e : Error) → hash_in_order h.upper is_right (numbers lower) sibling ≡ Err e → root h new ≡ Err e
+      way-more-refused e refused =
+          next-refused h leaves rows tree index inside digest (digests_of numbers way) on_way level (length-map way.items numbers ∙ long) some under (numbers lower) sibling lower_is beside_row e (rw side at refused)
 
   -- ---- the whole way
 
-  module _ {Y : Type 0} (way : Vec B Y) (on_way : AreOnWay h new index (digests_of numbers way)) (long : length way.items ≡ length rows_in) where
+  module _ {Y : Type 0} (way : Vec B Y) (on_way : AreOnWay h new index (digests_of numbers way)) (long : length way.items ≡ length rows) where
     whole : length (digests_of numbers way) ≡ length rows
-    whole = omega (arith, counted, length-map way.items numbers, long)
+    whole = length-map way.items numbers ∙ long
 
     pub way-whole : ChangesWay h leaves index digest (digests_of numbers way)
     way-whole = record { whole = whole ∙ tree.count; on_way = on_way }

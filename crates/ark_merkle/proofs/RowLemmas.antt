@@ -1,50 +1,11 @@
 -- The rows above some digests, one after the other.
-use Rattle.std.proofs.Common.{zero, suc, ◌≡◌, ℕ, ◌*◌, ◌<◌, ◌≤◌, ◌^◌, List, [], ◌∷◌, ◌++◌, length, get_or, Ok, Err, arith, refl, ap, sym, ◌∙◌, pow_pos}
+use Rattle.std.proofs.Common.{zero, suc, ◌≡◌, ℕ, ◌*◌, ◌<◌, ◌≤◌, ◌^◌, List, [], ◌∷◌, length, get_or, Ok, arith, refl, ap, sym, ◌∙◌}
 use Rattle.std.proofs.Math.Nat.{pow-succ'}
-use Rattle.ark_base.specs.declared.error.Error.{Error}
 use Rattle.ark_base.specs.Outcome.{Outcome, ◌>>=◌}
 use Rattle.ark_base.specs.Laws.Steps.{bind_ok, done_injective}
 use Rattle.ark_merkle.specs.Pair.{Digest}
 use Rattle.ark_merkle.specs.Rows.{row_above, rows_from}
-use Rattle.ark_merkle.proofs.Eaches.{begun, begun-nil, begun-more}
 use Rattle.ark_merkle.proofs.CoupleLemmas.{length-paired}
-
--- ---- as a loop makes them
-
--- the rows so far, and the row from which the others are made
-pub record Rising (hash : Digest → Digest → Outcome Digest) (k : ℕ) (start : List Digest) (done : List (List Digest)) (row : List Digest) : Type 0 where
-  pub left : ℕ
-  pub size : length row ≡ 2 ^ left
-  pub so_far : rows_from hash k start ≡ begun done (rows_from hash left row)
-
-module _ (hash : Digest → Digest → Outcome Digest) (k : ℕ) (start : List Digest) (done : List (List Digest)) (row : List Digest) where
-  pub Rising-refused : (e : Error) → Rising hash k start done row → 1 < length row → row_above hash row ≡ Err e → rows_from hash k start ≡ Err e
-  Rising-refused e r more refused = by_left r.left r.size r.so_far
-    where
-      by_left : (left : ℕ) → length row ≡ 2 ^ left → rows_from hash k start ≡ begun done (rows_from hash left row) → rows_from hash k start ≡ Err e
-      by_left zero size so_far = absurd (omega arith)
-      by_left (suc left) size so_far = so_far ∙ rw refused
-
-  pub Rising-more : (next : List Digest) → Rising hash k start done row → 1 < length row → row_above hash row ≡ Ok next → Rising hash k start (done ++ row ∷ []) next
-  Rising-more next r more is = by_left r.left r.size r.so_far
-    where
-      by_left : (left : ℕ) → length row ≡ 2 ^ left → rows_from hash k start ≡ begun done (rows_from hash left row) → Rising hash k start (done ++ row ∷ []) next
-      by_left zero size so_far = absurd (omega arith)
-      by_left (suc left) size so_far =
-          let twice : 2 ^ suc left ≡ 2 * 2 ^ left = pow-succ' 2 left in
-          record { left = left; size = omega (arith, length-paired hash row next is); so_far = so_far ∙ rw is (begun-more done row (rows_from hash left next)) }
-
-  pub Rising-end : Rising hash k start done row → length row ≤ 1 → rows_from hash k start ≡ Ok (done ++ row ∷ [])
-  Rising-end r last = by_left r.left r.size r.so_far
-    where
-      by_left : (left : ℕ) → length row ≡ 2 ^ left → rows_from hash k start ≡ begun done (rows_from hash left row) → rows_from hash k start ≡ Ok (done ++ row ∷ [])
-      by_left zero size so_far = so_far
-      by_left (suc left) size so_far = let twice : 2 ^ suc left ≡ 2 * 2 ^ left = pow-succ' 2 left in let some : 0 < 2 ^ left = pow_pos left in absurd (omega arith)
-
-pub Rising-begin : (hash : Digest → Digest → Outcome Digest) (k : ℕ) (row : List Digest) → length row ≡ 2 ^ k → Rising hash k row [] row
-Rising-begin hash k row size = record { left = k; size = size; so_far = begun-nil (rows_from hash k row) }
-
--- ---- as they stand in a tree
 
 -- the rows from a row on: how many, how long each is, and how one comes of the one below
 pub record AreRows (hash : Digest → Digest → Outcome Digest) (k : ℕ) (row : List Digest) (rows : List (List Digest)) : Type 0 where

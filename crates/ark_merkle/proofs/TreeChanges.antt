@@ -1,12 +1,12 @@
 -- What the calls that change a tree make of its fields.
-use Rattle.std.proofs.Common.{◌≡◌, ℕ, ◌<◌, ◌/◌, ◌^◌, suc, List, [], length, get_or, set, Ok, refl, sym, subst, ◌∙◌}
+use Rattle.std.proofs.Common.{◌≡◌, ℕ, ◌<◌, ◌/◌, ◌^◌, suc, List, [], length, get_or, set, Ok, refl, subst, ◌∙◌}
 use Rattle.std.proofs.lemmas.List.{length-map, map-set}
 use Rattle.std.specs.declared.vec.Vec.{Vec}
 use Rattle.std.specs.Vec.{with_item}
 use Rattle.ark_base.specs.Outcome.{Outcome}
 use Rattle.ark_merkle.specs.Pair.{Digest, HashPair}
 use Rattle.ark_merkle.specs.Root.{root, upper_levels}
-use Rattle.ark_merkle.specs.Rows.{IsTree, digests_of, rows_seen}
+use Rattle.ark_merkle.specs.Rows.{IsTree, digests_of}
 use Rattle.ark_merkle.specs.Tree.{Tree}
 use Rattle.ark_merkle.specs.Update.{new_root, AreOnWay, ChangesWay}
 use Rattle.ark_merkle.proofs.Changes.{is_tree-changed}
@@ -21,15 +21,11 @@ new_root-ok pair meaning view now same index digest way hashed rooted =
 pub changes_way-seen : {L T : Type 0} (pair : T → HashPair) (view now : Tree L T) → view ≡ now → (index : ℕ) (digest : Digest) (way : List Digest) → ChangesWay (pair view.pair_parameters) view.leaves index digest way → ChangesWay (pair now.pair_parameters) now.leaves index digest way
 changes_way-seen pair view now same index digest way changes = subst (λ t. ChangesWay (pair t.pair_parameters) t.leaves index digest way) same changes
 
-module _ {A B Z Y W V : Type 0} (leaf_numbers : A → Digest) (numbers : B → Digest) (h : HashPair) (leaves : Vec A Z) (rows : Vec (Vec B Y) W) (tree : IsTree h (digests_of leaf_numbers leaves) (rows_seen numbers rows)) where
+module _ {A B Z V : Type 0} (leaf_numbers : A → Digest) (numbers : B → Digest) (h : HashPair) (leaves : Vec A Z) (rows : List (List Digest)) (tree : IsTree h (digests_of leaf_numbers leaves) rows) where
   -- the fields with a leaf digest put in, and the digests of its way
-  pub is_tree-put : (index : ℕ) (digest : A) (way : Vec B V) (put : Vec (Vec B Y) W) → index < length (digests_of leaf_numbers leaves) → AreOnWay h (set (digests_of leaf_numbers leaves) index (leaf_numbers digest)) index (digests_of numbers way)
-      → length way.items ≡ length rows.items → length put.items ≡ length rows.items
-      → ((k : ℕ) → k < length rows.items → get_or (rows_seen numbers put) k [] ≡ set (get_or (rows_seen numbers rows) k []) (index / 2 ^ suc k) (get_or (digests_of numbers way) k []))
-      → IsTree h (digests_of leaf_numbers (with_item leaves index digest)) (rows_seen numbers put)
+  pub is_tree-put : (index : ℕ) (digest : A) (way : Vec B V) (put : List (List Digest)) → index < length (digests_of leaf_numbers leaves) → AreOnWay h (set (digests_of leaf_numbers leaves) index (leaf_numbers digest)) index (digests_of numbers way)
+      → length way.items ≡ length rows → length put ≡ length rows → ((k : ℕ) → k < length rows → get_or put k [] ≡ set (get_or rows k []) (index / 2 ^ suc k) (get_or (digests_of numbers way) k []))
+      → IsTree h (digests_of leaf_numbers (with_item leaves index digest)) put
   is_tree-put index digest way put inside on_way long count puts =
-      let many : length (rows_seen numbers rows) ≡ length rows.items = length-map rows.items (digests_of numbers) in
       rw (map-set leaf_numbers leaves.items index digest)
-      (is_tree-changed h (digests_of leaf_numbers leaves) (rows_seen numbers rows) tree index inside (leaf_numbers digest) (digests_of numbers way) on_way
-      (length-map way.items numbers ∙ long ∙ sym many) (rows_seen numbers put) (length-map put.items (digests_of numbers) ∙ count ∙ sym many)
-      (λ k below. puts k (rw (many) at below)))
+      (is_tree-changed h (digests_of leaf_numbers leaves) rows tree index inside (leaf_numbers digest) (digests_of numbers way) on_way (length-map way.items numbers ∙ long) put count puts)

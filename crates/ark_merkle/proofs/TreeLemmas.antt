@@ -64,3 +64,7 @@ pair_of-same conversion evaluated compressed p q e c = λ i. record { bottom = b
 -- a tree whose hashes are copies is the tree above its digests
 pub tree_above-copied : {A : Type 0} (given copy : Hashes A) → given.leaf ≡ copy.leaf → given.pair ≡ copy.pair → (digests : List Digest) → leaves_with_root given.pair digests ≡ Ok digests → tree_above given digests ≡ Ok (record { hashes = copy; leaves = digests })
 tree_above-copied given copy leaf pair digests rooted = ap (with_hashes given) rooted ∙ (λ i. Ok (record { hashes = record { leaf = leaf i; pair = pair i }; leaves = digests }))
+
+-- a copy of a tree is one
+pub is_tree-copied : (h k : HashPair) (leaves copies : List Digest) (rows again : List (List Digest)) → h ≡ k → leaves ≡ copies → rows ≡ again → IsTree h leaves rows → IsTree k copies again
+is_tree-copied h k leaves copies rows again pair same alike tree = rw (← pair, ← same, ← alike) tree

@@ -5,6 +5,7 @@ pub mod Path
 pub mod PathBytes
 pub mod Root
 pub mod Rows
+pub mod LevelOrder
 pub mod Tree
 pub mod Bind
 pub mod Update

@@ -4,17 +4,18 @@ ghost use Rattle.std.specs.Prelude.{◌≡◌, ◌<◌, ◌≤◌, ◌+◌, ◌-
 ghost use Rattle.ark_base.specs.Outcome.{AnswersBy};
 ghost use Rattle.ark_merkle.specs.Index.{IsTreeSize, log2, neighbour};
 ghost use Rattle.ark_merkle.specs.Pair.{pair_of};
-ghost use Rattle.ark_merkle.specs.Rows.{IsTree, digests_of, rows_seen};
+ghost use Rattle.ark_merkle.specs.Rows.{IsTree, digests_of};
 ghost use Rattle.ark_merkle.specs.Tree.{Tree, HashedTree, tree_of, tree_above, root_in, path_in, IsAccepted};
 
 mod bind;
 mod build;
+mod levels;
 mod multi_proof;
 mod rows;
 mod update;
 
 use crate::config::{Config, LeafParam, TwoToOneParam};
-use crate::digests::{blank_row, copies_of, copies_of_rows};
+use crate::digests::{blank_row, copies_of};
 use crate::index::neighbour_of;
 use crate::path::Path;
 use crate::views::Views;
@@ -22,6 +23,7 @@ use ark_base::error::Error;
 use ark_base::serialize::Duplicate;
 pub use bind::Binding;
 use build::{hash_all, rows_above};
+use levels::Levels;
 use rows::digests_beside;
 use std::alloc::Global;
 use std::marker::Model;
@@ -34,8 +36,7 @@ pub struct MerkleTree<P: Config> {
     leaf_parameters: LeafParam<P>,
     pair_parameters: TwoToOneParam<P>,
     leaves: Vec<P::LeafDigest>,
-    // The lowest first; the last is the root alone.
-    rows: Vec<Vec<P::InnerDigest>>,
+    rows: Levels<P::InnerDigest>,
 }
 
 impl<P: Config> Model for MerkleTree<P> {
@@ -50,7 +51,7 @@ impl<P: Config> Model for MerkleTree<P> {
     ghost invariant = { λ t. IsTree
         (pair_of P.LeafInnerDigestConverter.conversion P.TwoToOneHash.evaluated
         P.TwoToOneHash.compressed t.pair_parameters)
-        (digests_of P.LeafDigest.numbers t.leaves) (rows_seen P.InnerDigest.numbers t.rows) };
+        (digests_of P.LeafDigest.numbers t.leaves) t.rows };
 }
 
 impl<P: Views> MerkleTree<P> {
@@ -127,8 +128,7 @@ impl<P: Views> MerkleTree<P> {
     pub fn root(&self) -> &P::InnerDigest
         ensures { root_in (P.tree self.now) ≡ Ok (P.InnerDigest.numbers result.now) }
     {
-        let top = &self.rows[self.rows.len() - 1];
-        &top[0]
+        self.rows.at(self.rows.len() - 1, 0)
     }
 
     /// The count of levels, that of the leaf digests and that of the root included: the logarithm of the size to base
@@ -160,7 +160,7 @@ impl<P: Views> MerkleTree<P> {
     {
         Ok(Path {
             leaf_sibling_hash: self.get_leaf_sibling_hash(index).duplicate(alloc)?,
-            auth_path: digests_beside(alloc, &self.rows, index)?,
+            auth_path: digests_beside(alloc, &self.rows, self.rows.len(), index)?,
             leaf_index: index,
         })
     }
@@ -176,7 +176,7 @@ impl<P: Views> Duplicate for MerkleTree<P> {
             leaf_parameters: self.leaf_parameters.duplicate(alloc)?,
             pair_parameters: self.pair_parameters.duplicate(alloc)?,
             leaves: copies_of(alloc, &self.leaves)?,
-            rows: copies_of_rows(alloc, &self.rows)?,
+            rows: self.rows.duplicate(alloc)?,
         })
     }
 }

@@ -16,6 +16,7 @@ use crate::index::{is_bit_set, neighbour_of};
 use crate::pair::{hash_leaves, hash_upper};
 use crate::path::Path;
 use crate::tree::MerkleTree;
+use crate::tree::levels::Levels;
 use crate::views::Views;
 use ark_base::error::Error;
 use ark_base::serialize::DigestItem;
@@ -90,13 +91,12 @@ fn compare<P: Config>(
     alloc: Global,
     pair_parameters: &TwoToOneParam<P>,
     leaves: &[P::LeafDigest],
-    rows: &[Vec<P::InnerDigest>],
+    rows: &Levels<P::InnerDigest>,
     path: &Path<P>,
     digest: &P::LeafDigest,
 ) -> Result<(P::InnerDigest, Option<usize>), Error>
     requires tree { let h = ⟦<P as Views>⟧.pair pair_parameters.now in
-        let seen = map (digests_of P.InnerDigest.numbers) rows.now in
-        IsTree h (map P.LeafDigest.numbers leaves.now) seen }
+        IsTree h (map P.LeafDigest.numbers leaves.now) rows.now }
     requires fits { length leaves.now < 2 ^ 64 }
     requires count { length rows.now ≡ suc (length path.now.auth_path.items) }
     ensures top { let h = ⟦<P as Views>⟧.pair pair_parameters.now in
@@ -109,7 +109,12 @@ fn compare<P: Config>(
 {
     let index = path.leaf_index % leaves.len();
     let sibling = &path.leaf_sibling_hash;
-    let is_own = stand_at(leaves, index, digest, sibling);
+    let is_own = are_both(
+        digest,
+        &leaves[index],
+        sibling,
+        &leaves[neighbour_of(index)],
+    );
     let mut difference = other_at(is_own, path.auth_path.len(), None);
     let mut current = hash_leaves::<P>(
         alloc,
@@ -121,7 +126,9 @@ fn compare<P: Config>(
     for step in 0..path.auth_path.len() {
         let level = path.auth_path.len() - 1 - step;
         let sibling = &path.auth_path[level];
-        let is_own = stand_at(&rows[step], index >> (step + 1), &current, sibling);
+        let place = index >> (step + 1);
+        let own = rows.at(step, place);
+        let is_own = are_both(&current, own, sibling, rows.at(step, neighbour_of(place)));
         difference = other_at(is_own, level, difference);
         current = hash_upper::<P::TwoToOneHash>(
             alloc,
@@ -134,15 +141,12 @@ fn compare<P: Config>(
     Ok((current, difference))
 }
 
-// Whether two digests stand at a place of a row and beside it.
-fn stand_at<D: DigestItem>(row: &[D], place: usize, digest: &D, sibling: &D) -> bool
-    requires inside { place < length row.now }
-    requires beside { neighbour place < length row.now }
-    ensures { let seen = map D.numbers row.now in
-        result ≡ (digest_eq (D.numbers digest.now) (get_or seen place [])
-        && digest_eq (D.numbers sibling.now) (get_or seen (neighbour place) [])) }
+// Whether two digests are those that stand at a place and beside it.
+fn are_both<D: DigestItem>(digest: &D, own: &D, sibling: &D, beside: &D) -> bool
+    ensures { result ≡ (digest_eq (D.numbers digest.now) (D.numbers own.now)
+        && digest_eq (D.numbers sibling.now) (D.numbers beside.now)) }
 {
-    are_same(digest, &row[place]) && are_same(sibling, &row[neighbour_of(place)])
+    are_same(digest, own) && are_same(sibling, beside)
 }
 
 // The first level at which pairs differ, one level further up.

@@ -1,13 +1,15 @@
 //! The digests above the leaves, row by row.
 
-ghost use Rattle.std.specs.Prelude.{◌≡◌, ◌^◌, ℕ, map, length, IfOk};
-ghost use Rattle.ark_base.specs.Outcome.{AnswersBy};
+ghost use Rattle.std.specs.Prelude.{◌≡◌, ◌+◌, ◌-◌, ◌^◌, ℕ, suc, map, length, IfOk};
+ghost use Rattle.ark_base.specs.Outcome.{Answers, AnswersBy};
 ghost use Rattle.ark_merkle.specs.Index.{IsTreeSize};
+ghost use Rattle.ark_merkle.specs.LevelOrder.{rows_in_turn};
 ghost use Rattle.ark_merkle.specs.Root.{all_hashes, upper_levels};
-ghost use Rattle.ark_merkle.specs.Rows.{row_above, rows_from, rows_of, digests_of, rows_seen};
+ghost use Rattle.ark_merkle.specs.Rows.{row_above, rows_from, rows_of, digests_of};
 
 use crate::config::{Config, TwoToOneParam};
 use crate::pair::hash_bottom;
+use crate::tree::levels::Levels;
 use crate::views::Views;
 use ark_base::error::Error;
 use ark_crh::{CRHScheme, TwoToOneCRHScheme};
@@ -31,7 +33,7 @@ pub fn hash_all<H: CRHScheme>(
     Ok(digests)
 }
 
-// The hashes of the neighbours among leaf digests.
+// The hashes of the neighbours among leaf digests, in a list with room for all digests above them.
 fn pair_leaves<P: Config>(
     alloc: Global,
     pair_parameters: &TwoToOneParam<P>,
@@ -41,7 +43,7 @@ fn pair_leaves<P: Config>(
         let row = map P.LeafDigest.numbers digests.now in
         AnswersBy (digests_of P.InnerDigest.numbers) (row_above hash row) result }
 {
-    let mut row = Vec::with_capacity(alloc, digests.len() / 2)?;
+    let mut row = Vec::with_capacity(alloc, digests.len().saturating_sub(1))?;
     for place in 0..digests.len() / 2 {
         row.push(hash_bottom::<P>(
             alloc,
@@ -53,46 +55,27 @@ fn pair_leaves<P: Config>(
     Ok(row)
 }
 
-// The hashes of the neighbours in a row.
-fn pair_row<H: TwoToOneCRHScheme>(
+// A row, and behind it the rows above it: the neighbours in the list are hashed from its first ones on, and each hash is put
+// behind it.
+fn pair_rows<H: TwoToOneCRHScheme>(
     alloc: Global,
     pair_parameters: &H::Parameters,
-    digests: &[H::Output],
+    mut digests: Vec<H::Output>,
 ) -> Result<Vec<H::Output>, Error>
-    ensures { let row = map H.Output.numbers digests.now in
-        let above = row_above (H.compressed pair_parameters.now) row in
-        AnswersBy (digests_of H.Output.numbers) above result }
+    ensures rows { let row = digests_of H.Output.numbers digests in
+        (k : ℕ) → length row ≡ 2 ^ k →
+        let rows = rows_from (H.compressed pair_parameters.now) k row in
+        AnswersBy (λ all. rows_in_turn (suc k) (digests_of H.Output.numbers all)) rows result }
+    ensures whole { let count = length digests.items in
+        IfOk result (λ all. length all.items ≡ count + (count - 1)) }
 {
-    let mut row = Vec::with_capacity(alloc, digests.len() / 2)?;
-    for place in 0..digests.len() / 2 {
-        row.push(H::compress(
-            alloc,
-            pair_parameters,
-            &digests[2 * place],
-            &digests[2 * place + 1],
-        )?)?;
+    for couple in 0..digests.len().saturating_sub(1) {
+        let left = &digests[2 * couple];
+        let right = &digests[2 * couple + 1];
+        let up = H::compress(alloc, pair_parameters, left, right)?;
+        digests.push(up)?;
     }
-    Ok(row)
-}
-
-// A row and those above it.
-fn rows_on<H: TwoToOneCRHScheme>(
-    alloc: Global,
-    pair_parameters: &H::Parameters,
-    mut row: Vec<H::Output>,
-) -> Result<Vec<Vec<H::Output>>, Error>
-    ensures { let numbers = H.Output.numbers in (k : ℕ) → length row.items ≡ 2 ^ k →
-        let rows = rows_from (H.compressed pair_parameters.now) k (digests_of numbers row) in
-        AnswersBy (rows_seen numbers) rows result }
-{
-    let mut rows = Vec::new(alloc);
-    'levels: while row.len() > 1 {
-        let next = pair_row::<H>(alloc, pair_parameters, &row)?;
-        rows.push(row)?;
-        row = next;
-    }
-    rows.push(row)?;
-    Ok(rows)
+    Ok(digests)
 }
 
 /// The rows above leaf digests.
@@ -100,12 +83,13 @@ pub fn rows_above<P: Config>(
     alloc: Global,
     pair_parameters: &TwoToOneParam<P>,
     digests: &[P::LeafDigest],
-) -> Result<Vec<Vec<P::InnerDigest>>, Error>
+) -> Result<Levels<P::InnerDigest>, Error>
     requires { IsTreeSize (length digests.now) }
     ensures { let leaves = map P.LeafDigest.numbers digests.now in
         let rows = rows_of (⟦<P as Views>⟧.pair pair_parameters.now) (upper_levels leaves) leaves in
-        AnswersBy (rows_seen P.InnerDigest.numbers) rows result }
+        Answers rows result }
 {
     let row = pair_leaves::<P>(alloc, pair_parameters, digests)?;
-    rows_on::<P::TwoToOneHash>(alloc, pair_parameters, row)
+    let rows = pair_rows::<P::TwoToOneHash>(alloc, pair_parameters, row)?;
+    Ok(Levels::of_rows(rows, digests.len().ilog2() as usize))
 }

@@ -13,6 +13,7 @@ ghost use Rattle.ark_merkle.specs.Rows.{HoldsIndex, beside_in, digests_of, rows_
 use crate::index::neighbour_of;
 use crate::multi_path::MultiPath;
 use crate::tree::MerkleTree;
+use crate::tree::levels::Levels;
 use crate::tree::rows::digests_beside;
 use crate::views::Views;
 use ark_base::error::Error;
@@ -95,19 +96,17 @@ fn digests_at_neighbours<D: DigestItem>(
 }
 
 // How many first digests beside the ways of two indexes they have in common.
-fn digests_in_common<D: DigestItem>(rows: &[Vec<D>], before: usize, index: usize) -> usize
-    requires before { HoldsIndex (map (digests_of D.numbers) rows.now) before }
-    requires index { HoldsIndex (map (digests_of D.numbers) rows.now) index }
-    ensures { let rows = map (digests_of D.numbers) rows.now in
-        let beside = beside_in rows (length rows - 1) in
+fn digests_in_common<D: DigestItem>(rows: &Levels<D>, before: usize, index: usize) -> usize
+    requires before { HoldsIndex rows.now before }
+    requires index { HoldsIndex rows.now index }
+    ensures { let beside = beside_in rows.now (length rows.now - 1) in
         result ≡ shared_count (beside before) (beside index) }
 {
     for above in 1..rows.len() {
         let level = rows.len() - 1 - above;
-        let row = &rows[level];
         let there = neighbour_of(before >> (level + 1));
         let here = neighbour_of(index >> (level + 1));
-        if here != there && row[there] != row[here] {
+        if here != there && *rows.at(level, there) != *rows.at(level, here) {
             return above - 1;
         }
     }
@@ -115,16 +114,14 @@ fn digests_in_common<D: DigestItem>(rows: &[Vec<D>], before: usize, index: usize
 }
 
 // How many first digests beside the way of an index are those of the index before; none before the first.
-fn prefix_at<D: DigestItem>(rows: &[Vec<D>], indexes: &[usize], place: usize) -> usize
+fn prefix_at<D: DigestItem>(rows: &Levels<D>, indexes: &[usize], place: usize) -> usize
     requires place { place < length indexes.now }
-    requires held { All (HoldsIndex (map (digests_of D.numbers) rows.now)) indexes.now }
+    requires held { All (HoldsIndex rows.now) indexes.now }
     ensures within { result ≤ length rows.now - 1 }
-    ensures prefix { let seen = map (digests_of D.numbers) rows.now in
-        let lists = beside_in seen (length rows.now - 1) in
+    ensures prefix { let lists = beside_in rows.now (length rows.now - 1) in
         let of = λ (n : ℕ). prefixes_of [] (map lists (take n indexes.now)) in
         of (place + 1) ≡ of place ++ result ∷ [] }
-    ensures suffix { let seen = map (digests_of D.numbers) rows.now in
-        let lists = beside_in seen (length rows.now - 1) in
+    ensures suffix { let lists = beside_in rows.now (length rows.now - 1) in
         let of = λ (n : ℕ). suffixes_of [] (map lists (take n indexes.now)) in
         of (place + 1) ≡ of place ++ drop result (lists (slice_index indexes.now place)) ∷ [] }
 {
@@ -138,15 +135,13 @@ fn prefix_at<D: DigestItem>(rows: &[Vec<D>], indexes: &[usize], place: usize) ->
 // The digests beside the way of each index: how many they have in common with those of the index before, and the others.
 fn digests_beside_each<D: DigestItem>(
     alloc: Global,
-    rows: &[Vec<D>],
+    rows: &Levels<D>,
     indexes: &[usize],
 ) -> Result<(Vec<usize>, Vec<Vec<D>>), Error>
-    requires { All (HoldsIndex (map (digests_of D.numbers) rows.now)) indexes.now }
-    ensures prefixes { let seen = map (digests_of D.numbers) rows.now in
-        let lists = map (beside_in seen (length rows.now - 1)) indexes.now in
+    requires { All (HoldsIndex rows.now) indexes.now }
+    ensures prefixes { let lists = map (beside_in rows.now (length rows.now - 1)) indexes.now in
         AnswersBy (λ made. made.0.items) (Ok (prefixes_of [] lists)) result }
-    ensures suffixes { let seen = map (digests_of D.numbers) rows.now in
-        let lists = map (beside_in seen (length rows.now - 1)) indexes.now in
+    ensures suffixes { let lists = map (beside_in rows.now (length rows.now - 1)) indexes.now in
         AnswersBy (λ made. rows_seen D.numbers made.1) (Ok (suffixes_of [] lists)) result }
 {
     let mut prefixes = Vec::with_capacity(alloc, indexes.len())?;
@@ -154,8 +149,8 @@ fn digests_beside_each<D: DigestItem>(
     for place in 0..indexes.len() {
         let prefix = prefix_at(rows, indexes, place);
         prefixes.push(prefix)?;
-        let below = &rows[..rows.len() - prefix];
-        suffixes.push(digests_beside(alloc, below, indexes[place])?)?;
+        let below = rows.len() - prefix;
+        suffixes.push(digests_beside(alloc, rows, below, indexes[place])?)?;
     }
     Ok((prefixes, suffixes))
 }

@@ -3,7 +3,7 @@
 ghost use Rattle.std.specs.Prelude.{◌≡◌, ◌<◌, ◌/◌, ◌^◌, ℕ, suc, [], true, false, map, length, get_or, set, IfOk, OnErr, Ok};
 ghost use Rattle.ark_base.specs.Outcome.{Answers, AnswersBy};
 ghost use Rattle.ark_merkle.specs.Root.{root, upper_levels};
-ghost use Rattle.ark_merkle.specs.Rows.{IsTree, HoldsIndex, digests_of, rows_seen};
+ghost use Rattle.ark_merkle.specs.Rows.{IsTree, HoldsIndex, digests_of};
 ghost use Rattle.ark_merkle.specs.Update.{with_leaf, new_root, change_agrees, ChangesWay};
 
 use crate::config::{Config, TwoToOneParam};
@@ -11,12 +11,12 @@ use crate::digests::are_same;
 use crate::index::{is_bit_set, neighbour_of};
 use crate::pair::{hash_leaves, hash_upper};
 use crate::tree::MerkleTree;
+use crate::tree::levels::Levels;
 use crate::views::Views;
 use ark_base::error::Error;
 use ark_base::serialize::DigestItem;
 use ark_crh::CRHScheme;
 use std::alloc::Global;
-use std::mem::swap;
 
 impl<P: Views> MerkleTree<P> {
     /// Puts a leaf in the place of the one at an index below the size.
@@ -112,13 +112,12 @@ fn new_way<P: Config>(
     alloc: Global,
     pair_parameters: &TwoToOneParam<P>,
     leaves: &[P::LeafDigest],
-    rows: &[Vec<P::InnerDigest>],
+    rows: &Levels<P::InnerDigest>,
     index: usize,
     digest: &P::LeafDigest,
 ) -> Result<Vec<P::InnerDigest>, Error>
     requires tree { let h = ⟦<P as Views>⟧.pair pair_parameters.now in
-        let seen = map (digests_of P.InnerDigest.numbers) rows.now in
-        IsTree h (map P.LeafDigest.numbers leaves.now) seen }
+        IsTree h (map P.LeafDigest.numbers leaves.now) rows.now }
     requires index { index < length leaves.now }
     requires fits { length leaves.now < 2 ^ 64 }
     ensures way { let h = ⟦<P as Views>⟧.pair pair_parameters.now in
@@ -135,8 +134,7 @@ fn new_way<P: Config>(
     let is_right = is_bit_set(index, 0);
     way.push(hash_leaves::<P>(alloc, pair_parameters, is_right, digest, sibling)?)?;
     for level in 1..rows.len() {
-        let row = &rows[level - 1];
-        let sibling = &row[neighbour_of(index >> level)];
+        let sibling = rows.at(level - 1, neighbour_of(index >> level));
         let up = hash_upper::<P::TwoToOneHash>(
             alloc,
             pair_parameters,
@@ -150,16 +148,14 @@ fn new_way<P: Config>(
 }
 
 // Puts the digests on the way of an index into the rows.
-fn put_way<D: DigestItem>(rows: &mut Vec<Vec<D>>, index: usize, mut way: Vec<D>)
-    requires holds { HoldsIndex (rows_seen D.numbers rows.old) index }
-    requires count { length way.items ≡ length rows.old.items }
-    ensures count { length rows.new.items ≡ length rows.old.items }
-    ensures rows { let old = rows_seen D.numbers rows.old in
-        let new = rows_seen D.numbers rows.new in
-        (k : ℕ) → k < length rows.old.items → get_or new k []
-        ≡ set (get_or old k []) (index / 2 ^ suc k) (get_or (digests_of D.numbers way) k []) }
+fn put_way<D: DigestItem>(rows: &mut Levels<D>, index: usize, mut way: Vec<D>)
+    requires holds { HoldsIndex rows.old index }
+    requires count { length way.items ≡ length rows.old }
+    ensures count { length rows.new ≡ length rows.old }
+    ensures rows { (k : ℕ) → k < length rows.old → get_or rows.new k []
+        ≡ set (get_or rows.old k []) (index / 2 ^ suc k) (get_or (digests_of D.numbers way) k []) }
 {
     for level in 0..way.len() {
-        swap(&mut rows[level][index >> (level + 1)], &mut way[level]);
+        rows.exchange(level, index >> (level + 1), &mut way[level]);
     }
 }

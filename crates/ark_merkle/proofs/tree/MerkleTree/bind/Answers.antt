@@ -5,7 +5,7 @@ use Rattle.ark_merkle.specs.Bind.{difference}
 use Rattle.ark_merkle.specs.Pair.{pair_of}
 use Rattle.ark_merkle.specs.Path.{Way}
 use Rattle.ark_merkle.specs.Root.{upper_levels}
-use Rattle.ark_merkle.specs.Rows.{IsTree, digests_of, rows_seen}
+use Rattle.ark_merkle.specs.Rows.{IsTree, digests_of}
 use Rattle.ark_merkle.proofs.Bounds.{bound-accepted, bound-stands, bound-differs, bound-refused, bound-ok}
 use Rattle.ark_merkle.proofs.OwnPaths.{root-top}
 use Rattle.ark_merkle.proofs.TreeReads.{seen-tree}
@@ -19,10 +19,10 @@ returns-in_err-top-clause-answer g c =
     let leaf_numbers = g.P.LeafDigest.Numbered.numbers in
     let path = c.args.path.now in
     let inside = c.self.inside in
-    let rows = rows_seen numbers inside.rows in
+    let rows = inside.rows in
     let seen : Way = record { sibling = leaf_numbers path.leaf_sibling_hash; above = map numbers path.auth_path.items; index = path.leaf_index } in
     let same = seen-tree _ _ c.self.view_is g.P.LeafHash.CRHScheme.meaning pair g.P.Views.tree g.met.P.Views.tree_is in
-    let high : length seen.above ≡ upper_levels (digests_of leaf_numbers inside.leaves) = omega (arith, length-map path.auth_path.items numbers, path.auth_path.ok.0, c.if-len-above.false, c.len.ensures, c.len-above.ensures, inside.rows.ok.0, length-map inside.rows.items (digests_of numbers), c.self.invariant.count) in
+    let high : length seen.above ≡ upper_levels (digests_of leaf_numbers inside.leaves) = omega (arith, length-map path.auth_path.items numbers, path.auth_path.ok.0, c.if-len-above.false, c.len.ensures, c.len-above.ensures.count, c.self.invariant.count) in
     passed_on _ _ c.from_residual-in_err-top.result c.in_err-top.field-0.0 c.from_residual-in_err-top.ensures.1 c.in_err-top.ensures.top
     (bound-refused _ _ same seen (g.P.Views.way path) (sym (ap (λ (f : _ → Way). f path) g.met.P.Views.way_is)) high c.args.leaf.now (leaf_numbers c.in_ok-digest.digest) c.in_ok-digest.ensures
     _ (root-top (pair inside.pair_parameters) (digests_of leaf_numbers inside.leaves) rows c.self.invariant) c.in_err-top.field-0.0)
@@ -37,7 +37,7 @@ returns-clause-answer g c =
     let inside = c.self.inside in
     let seen : Way = record { sibling = leaf_numbers path.leaf_sibling_hash; above = map numbers path.auth_path.items; index = path.leaf_index } in
     let same = seen-tree _ _ c.self.view_is g.P.LeafHash.CRHScheme.meaning pair g.P.Views.tree g.met.P.Views.tree_is in
-    let high : length seen.above ≡ upper_levels (digests_of leaf_numbers inside.leaves) = omega (arith, length-map path.auth_path.items numbers, path.auth_path.ok.0, c.if-len-above.false, c.len.ensures, c.len-above.ensures, inside.rows.ok.0, length-map inside.rows.items (digests_of numbers), c.self.invariant.count) in
+    let high : length seen.above ≡ upper_levels (digests_of leaf_numbers inside.leaves) = omega (arith, length-map path.auth_path.items numbers, path.auth_path.ok.0, c.if-len-above.false, c.len.ensures, c.len-above.ensures.count, c.self.invariant.count) in
     let found : c.in_ok-top.difference ≡ difference (pair inside.pair_parameters) (digests_of leaf_numbers inside.leaves) seen (leaf_numbers c.in_ok-digest.digest)
     = subst (λ (ls : List _). c.in_ok-top.difference ≡ difference (pair inside.pair_parameters) (map leaf_numbers ls) seen (leaf_numbers c.in_ok-digest.digest)) c.deref.ensures.value c.in_ok-top.ensures.difference in
     bound-ok _ _ same seen (g.P.Views.way path) (sym (ap (λ (f : _ → Way). f path) g.met.P.Views.way_is)) high c.args.leaf.now (leaf_numbers c.in_ok-digest.digest) c.in_ok-digest.ensures
@@ -52,7 +52,7 @@ pub returns-clause-stands : goal.returns-clause-stands
 returns-clause-stands g c =
     let two = g.P.TwoToOneHash.TwoToOneCRHScheme in
     let pair = pair_of g.P.LeafInnerDigestConverter.DigestConverter.conversion two.evaluated two.compressed in
-    let rows = rows_seen g.P.InnerDigest.Numbered.numbers c.self.inside.rows in
+    let rows = c.self.inside.rows in
     let now = g.P.Views.tree c.args.self.now in
     let way = g.P.Views.way c.args.path.now in
     let tree = subst (λ t. IsTree t.hashes.pair t.leaves rows) (seen-tree _ _ c.self.view_is g.P.LeafHash.CRHScheme.meaning pair g.P.Views.tree g.met.P.Views.tree_is) c.self.invariant in
@@ -63,7 +63,7 @@ pub returns-clause-differs : goal.returns-clause-differs
 returns-clause-differs g c =
     let two = g.P.TwoToOneHash.TwoToOneCRHScheme in
     let pair = pair_of g.P.LeafInnerDigestConverter.DigestConverter.conversion two.evaluated two.compressed in
-    let rows = rows_seen g.P.InnerDigest.Numbered.numbers c.self.inside.rows in
+    let rows = c.self.inside.rows in
     let now = g.P.Views.tree c.args.self.now in
     let tree = subst (λ t. IsTree t.hashes.pair t.leaves rows) (seen-tree _ _ c.self.view_is g.P.LeafHash.CRHScheme.meaning pair g.P.Views.tree g.met.P.Views.tree_is) c.self.invariant in
     λ level same. bound-differs now.hashes.pair now.leaves rows tree _ (g.P.Views.way c.args.path.now) level (returns-clause-answer g c ∙ ap Ok same)

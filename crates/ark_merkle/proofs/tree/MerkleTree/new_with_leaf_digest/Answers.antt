@@ -4,7 +4,7 @@ use Rattle.ark_base.specs.Laws.Steps.{done_injective}
 use Rattle.ark_base.proofs.Refusals.{passed_on}
 use Rattle.ark_merkle.specs.Index.{IsTreeSize}
 use Rattle.ark_merkle.specs.Pair.{pair_of}
-use Rattle.ark_merkle.specs.Rows.{digests_of, rows_seen}
+use Rattle.ark_merkle.specs.Rows.{digests_of}
 use Rattle.ark_merkle.specs.Tree.{with_hashes}
 use Rattle.ark_merkle.proofs.TreeLemmas.{is_tree, tree_above-copied, rooted-ok, rooted-refused, pair_of-same}
 use Rattle.ark_merkle.proofs.tree.MerkleTree.new_with_leaf_digest.Goals as goal
@@ -33,7 +33,7 @@ invariant_of-result g c =
     let numbers = g.P.LeafDigest.Numbered.numbers in
     let leaves = digests_of numbers c.args.leaves in
     let size : IsTreeSize (length leaves) = (c.requires.0, length-map c.args.leaves.items numbers ∙ c.requires.1) in
-    rw (← pairs) (is_tree (pair_of conversion two.evaluated two.compressed given) leaves (rows_seen g.P.InnerDigest.Numbered.numbers c.in_ok-rows.rows) size (rw c.deref.ensures.value at c.in_ok-rows.ensures))
+    rw (← pairs) (is_tree (pair_of conversion two.evaluated two.compressed given) leaves c.in_ok-rows.rows size (rw c.deref.ensures.value at c.in_ok-rows.ensures))
 
 pub returns : goal.returns
 returns g c =
@@ -52,4 +52,4 @@ returns g c =
     let size : IsTreeSize (length leaves) = (c.requires.0, length-map c.args.leaves.items numbers ∙ c.requires.1) in
     rw (g.met.P.Views.hashes_are, g.met.P.Views.tree_is)
     (tree_above-copied (record { leaf = g.P.LeafHash.CRHScheme.meaning leaf_given; pair = pair_of conversion two.evaluated two.compressed given }) (record { leaf = g.P.LeafHash.CRHScheme.meaning leaf_copy; pair = pair_of conversion two.evaluated two.compressed copy })
-    hashes pairs leaves (rooted-ok (pair_of conversion two.evaluated two.compressed given) leaves (rows_seen g.P.InnerDigest.Numbered.numbers c.in_ok-rows.rows) size (rw c.deref.ensures.value at c.in_ok-rows.ensures)))
+    hashes pairs leaves (rooted-ok (pair_of conversion two.evaluated two.compressed given) leaves c.in_ok-rows.rows size (rw c.deref.ensures.value at c.in_ok-rows.ensures)))

@@ -18,7 +18,7 @@ put_way-requires g c =
     let changes = changes_way-seen pair c.args.self.now _ (sym c.self.view_is) c.args.index (numbers c.args.digest) (digests_of inner c.args.way) c.requires.way in
     record {
       holds = record { size = length (digests_of numbers leaves); small = omega (arith, long, leaves.ok.0); inside = inside; levels = c.self.invariant.levels };
-      count = omega (arith, changes.whole, c.self.invariant.count, length-map c.args.way.items inner, length-map c.self.inside.rows.items (digests_of inner));
+      count = omega (arith, changes.whole, c.self.invariant.count, length-map c.args.way.items inner);
     }
 
 pub invariant_of-self : goal.invariant_of-self
@@ -30,7 +30,7 @@ invariant_of-self g c =
     let inside : c.args.index < length (digests_of numbers c.self.inside.leaves) = rw (ap (λ t. length t.leaves) c.self.view_is) c.requires.index in
     let changes = changes_way-seen pair c.args.self.now _ (sym c.self.view_is) c.args.index (numbers c.args.digest) (digests_of inner c.args.way) c.requires.way in
     is_tree-put numbers inner (pair c.self.inside.pair_parameters) c.self.inside.leaves c.self.inside.rows c.self.invariant c.args.index c.args.digest c.args.way c.put_way.new.rows inside changes.on_way
-    (omega (arith, changes.whole, c.self.invariant.count, length-map c.args.way.items inner, length-map c.self.inside.rows.items (digests_of inner))) c.put_way.ensures.count c.put_way.ensures.rows
+    (omega (arith, changes.whole, c.self.invariant.count, length-map c.args.way.items inner)) c.put_way.ensures.count c.put_way.ensures.rows
 
 pub returns : goal.returns
 returns g c =

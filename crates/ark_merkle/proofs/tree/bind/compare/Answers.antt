@@ -1,4 +1,4 @@
-use Rattle.std.proofs.Common.{◌∙◌, length, ap, arith}
+use Rattle.std.proofs.Common.{◌∙◌, arith}
 use Rattle.ark_base.proofs.Refusals.{passed_on}
 use Rattle.ark_merkle.proofs.Compares.{leaves-some, own-here, beside-here, climb-first, differs-first, differs-end, step-fits, own-in_row, beside-in_row, climb-refused, climb-more, differs-more}
 use Rattle.ark_merkle.proofs.tree.bind.compare.Goals as goal
@@ -6,11 +6,23 @@ use Rattle.ark_merkle.proofs.tree.bind.compare.Goals as goal
 pub nonzero_rem-index : goal.nonzero_rem-index
 nonzero_rem-index g c = omega (arith, leaves-some g.P.LeafDigest.Numbered.numbers g.P.InnerDigest.Numbered.numbers _ c.args.leaves.now c.args.rows.now c.requires.tree (g.P.LeafDigest.Numbered.numbers c.args.path.now.leaf_sibling_hash) c.args.path.now.auth_path.items c.args.path.now.leaf_index c.requires.count)
 
-pub stand_at-is_own-requires : goal.stand_at-is_own-requires
-stand_at-is_own-requires g c = record {
-  inside = own-here g.P.LeafDigest.Numbered.numbers g.P.InnerDigest.Numbered.numbers _ c.args.leaves.now c.args.rows.now c.requires.tree (g.P.LeafDigest.Numbered.numbers c.args.path.now.leaf_sibling_hash) c.args.path.now.auth_path.items c.args.path.now.leaf_index c.requires.count;
-  beside = beside-here g.P.LeafDigest.Numbered.numbers g.P.InnerDigest.Numbered.numbers _ c.args.leaves.now c.args.rows.now c.requires.tree (g.P.LeafDigest.Numbered.numbers c.args.path.now.leaf_sibling_hash) c.args.path.now.auth_path.items c.args.path.now.leaf_index c.requires.count;
-}
+pub bounds-leaves-index : goal.bounds-leaves-index
+bounds-leaves-index g c = own-here g.P.LeafDigest.Numbered.numbers g.P.InnerDigest.Numbered.numbers _ c.args.leaves.now c.args.rows.now c.requires.tree (g.P.LeafDigest.Numbered.numbers c.args.path.now.leaf_sibling_hash) c.args.path.now.auth_path.items c.args.path.now.leaf_index c.requires.count
+
+pub offset_bounds-leaves-index : goal.offset_bounds-leaves-index
+offset_bounds-leaves-index g c = omega (arith, own-here g.P.LeafDigest.Numbered.numbers g.P.InnerDigest.Numbered.numbers _ c.args.leaves.now c.args.rows.now c.requires.tree (g.P.LeafDigest.Numbered.numbers c.args.path.now.leaf_sibling_hash) c.args.path.now.auth_path.items c.args.path.now.leaf_index c.requires.count)
+
+pub bounds-leaves-neighbour_of : goal.bounds-leaves-neighbour_of
+bounds-leaves-neighbour_of g c = rw c.neighbour_of.ensures (beside-here g.P.LeafDigest.Numbered.numbers g.P.InnerDigest.Numbered.numbers _ c.args.leaves.now c.args.rows.now c.requires.tree (g.P.LeafDigest.Numbered.numbers c.args.path.now.leaf_sibling_hash) c.args.path.now.auth_path.items c.args.path.now.leaf_index c.requires.count)
+
+pub offset_bounds-leaves-neighbour_of : goal.offset_bounds-leaves-neighbour_of
+offset_bounds-leaves-neighbour_of g c = omega (arith, bounds-leaves-neighbour_of g c)
+
+pub at-own-requires-clause-place : goal.at-own-requires-clause-place
+at-own-requires-clause-place g c = own-in_row g.P.LeafDigest.Numbered.numbers g.P.InnerDigest.Numbered.numbers _ c.args.leaves.now c.args.rows.now c.requires.tree (g.P.LeafDigest.Numbered.numbers c.args.path.now.leaf_sibling_hash) c.args.path.now.auth_path.items c.args.path.now.leaf_index c.requires.count c.loop-step.step (omega arith)
+
+pub at-requires-clause-place : goal.at-requires-clause-place
+at-requires-clause-place g c = rw c.neighbour_of-in-loop-step.ensures (beside-in_row g.P.LeafDigest.Numbered.numbers g.P.InnerDigest.Numbered.numbers _ c.args.leaves.now c.args.rows.now c.requires.tree (g.P.LeafDigest.Numbered.numbers c.args.path.now.leaf_sibling_hash) c.args.path.now.auth_path.items c.args.path.now.leaf_index c.requires.count c.loop-step.step (omega arith))
 
 pub loop-step-init : goal.loop-step-init
 loop-step-init g c =
@@ -19,28 +31,17 @@ loop-step-init g c =
       climb-first g.P.LeafDigest.Numbered.numbers g.P.InnerDigest.Numbered.numbers _ c.args.leaves.now c.args.rows.now c.requires.tree (g.P.LeafDigest.Numbered.numbers c.args.path.now.leaf_sibling_hash) c.args.path.now.auth_path.items c.args.path.now.leaf_index c.requires.count digest
           _ c.is_bit_set.result c.is_bit_set.ensures c.in_ok-current.ensures,
       differs-first g.P.LeafDigest.Numbered.numbers g.P.InnerDigest.Numbered.numbers _ c.args.leaves.now c.args.rows.now c.requires.tree (g.P.LeafDigest.Numbered.numbers c.args.path.now.leaf_sibling_hash) c.args.path.now.auth_path.items c.args.path.now.leaf_index c.requires.count digest
-          c.stand_at-is_own.result c.len.result c.other_at-difference.result c.stand_at-is_own.ensures (c.len.ensures ∙ path.auth_path.ok.0) c.other_at-difference.ensures,
+          c.are_both-is_own.result c.len.result c.neighbour_of.result c.index-leaves-index.result c.index-leaves-neighbour_of.result c.other_at-difference.result c.are_both-is_own.ensures
+          c.index-leaves-index.is c.neighbour_of.ensures c.index-leaves-neighbour_of.is (c.len.ensures ∙ path.auth_path.ok.0) c.other_at-difference.ensures,
     )
 
-pub overflow_shr-index : goal.overflow_shr-index
-overflow_shr-index g c =
+pub overflow_shr-place : goal.overflow_shr-place
+overflow_shr-place g c =
     omega (
       arith,
       step-fits g.P.LeafDigest.Numbered.numbers g.P.InnerDigest.Numbered.numbers _ c.args.leaves.now c.args.rows.now c.requires.tree (g.P.LeafDigest.Numbered.numbers c.args.path.now.leaf_sibling_hash) c.args.path.now.auth_path.items c.args.path.now.leaf_index c.requires.count
           c.loop-step.step (omega arith) c.requires.fits,
     )
-
-pub stand_at-is_own-requires-in-loop-step : goal.stand_at-is_own-requires-in-loop-step
-stand_at-is_own-requires-in-loop-step g c =
-    let row = c.index-rows-step.result in
-    let inside = own-in_row g.P.LeafDigest.Numbered.numbers g.P.InnerDigest.Numbered.numbers _ c.args.leaves.now c.args.rows.now c.requires.tree (g.P.LeafDigest.Numbered.numbers c.args.path.now.leaf_sibling_hash) c.args.path.now.auth_path.items c.args.path.now.leaf_index c.requires.count
-    c.loop-step.step (omega arith) row c.index-rows-step.is in
-    let beside = beside-in_row g.P.LeafDigest.Numbered.numbers g.P.InnerDigest.Numbered.numbers _ c.args.leaves.now c.args.rows.now c.requires.tree (g.P.LeafDigest.Numbered.numbers c.args.path.now.leaf_sibling_hash) c.args.path.now.auth_path.items c.args.path.now.leaf_index c.requires.count
-    c.loop-step.step (omega arith) row c.index-rows-step.is in
-    record {
-      inside = omega (arith, inside, ap length c.deref.ensures.value);
-      beside = omega (arith, beside, ap length c.deref.ensures.value);
-    }
 
 pub returns-in_err-current-2-clause-top : goal.returns-in_err-current-2-clause-top
 returns-in_err-current-2-clause-top g c =
@@ -60,7 +61,7 @@ loop-step-preserved g c =
           _ c.is_bit_set-in-loop-step.result c.is_bit_set-in-loop-step.ensures c.in_ok-current-2.ensures,
       differs-more g.P.LeafDigest.Numbered.numbers g.P.InnerDigest.Numbered.numbers _ c.args.leaves.now c.args.rows.now c.requires.tree (g.P.LeafDigest.Numbered.numbers c.args.path.now.leaf_sibling_hash) c.args.path.now.auth_path.items c.args.path.now.leaf_index c.requires.count
           c.loop-step.step (omega arith) digest current c.loop-step.invariant.0 c.len-in-loop-step.result count c.index-sibling.result.now c.index-sibling.ensures
-          c.index-rows-step.result c.index-rows-step.is c.deref.result.now c.deref.ensures.value c.stand_at-is_own-in-loop-step.result c.stand_at-is_own-in-loop-step.ensures
+          c.neighbour_of-in-loop-step.result c.neighbour_of-in-loop-step.ensures _ _ c.at-own.ensures c.at.ensures c.are_both-is_own-in-loop-step.result c.are_both-is_own-in-loop-step.ensures
           c.loop-step.difference c.other_at-difference-in-loop-step.result c.loop-step.invariant.1 c.other_at-difference-in-loop-step.ensures,
     )
 

@@ -1,16 +1,13 @@
-use Rattle.std.proofs.Common.{◌≡◌, ◌∙◌, ◌-◌, ◌++◌, ℕ, List, [], ◌∷◌, length, map, drop, get_or, ap, sym}
+use Rattle.std.proofs.Common.{◌≡◌, ◌∙◌, ◌-◌, ◌++◌, ℕ, List, [], ◌∷◌, length, drop, get_or, ap, sym, arith}
 use Rattle.std.proofs.lemmas.List.{map_push}
 use Rattle.ark_base.specs.Laws.Steps.{done_injective}
 use Rattle.ark_merkle.specs.Pair.{Digest}
 use Rattle.ark_merkle.specs.Rows.{beside_in, digests_of}
-use Rattle.ark_merkle.proofs.MultiCommon.{HoldsIndex-front, beside_in-rest}
+use Rattle.ark_merkle.proofs.MultiCommon.{drop-beside_in}
 use Rattle.ark_merkle.proofs.tree.multi_proof.digests_beside_each.Goals as goal
 
 pub digests_beside-requires : goal.digests_beside-requires
-digests_beside-requires g c =
-    let numbers = g.D.Numbered.numbers in
-    let rows = c.args.rows.now in
-    HoldsIndex-front numbers rows (length rows - c.prefix_at-prefix.result) _ (c.requires c.loop-place.place 0 c.loop-place-test.true)
+digests_beside-requires g c = record { holds = c.requires c.loop-place.place 0 c.loop-place-test.true; count = omega (arith, c.len.ensures.count) }
 
 pub loop-place-preserved : goal.loop-place-preserved
 loop-place-preserved g c =
@@ -19,7 +16,9 @@ loop-place-preserved g c =
     let made = c.in_ok-digests_beside.field-0 in
     let prefix = c.prefix_at-prefix.result in
     let index = get_or c.args.indexes.now c.loop-place.place 0 in
-    let rest : drop prefix (beside_in (map (digests_of numbers) rows) (length rows - 1) index) ≡ digests_of numbers made = sym (beside_in-rest numbers rows prefix index c.prefix_at-prefix.ensures.within) ∙ done_injective _ _ c.in_ok-digests_beside.ensures in
+    let level : length rows - prefix - 1 ≡ length rows - 1 - prefix = omega arith in
+    let below = rw (c.len.ensures.count, level) at c.in_ok-digests_beside.ensures in
+    let rest : drop prefix (beside_in rows (length rows - 1) index) ≡ digests_of numbers made = drop-beside_in rows prefix (length rows - 1) index c.prefix_at-prefix.ensures.within ∙ done_injective _ _ below in
     record {
       prefixes = c.in_ok-push.ensures.items ∙ ap (λ (ns : List ℕ). ns ++ prefix ∷ []) c.loop-place.invariant.prefixes ∙ sym c.prefix_at-prefix.ensures.prefix;
       suffixes = rw (c.in_ok-push-2.ensures.items, map_push) (ap (λ (ds : List (List Digest)). ds ++ digests_of numbers made ∷ []) c.loop-place.invariant.suffixes ∙ sym (rw rest at c.prefix_at-prefix.ensures.suffix));

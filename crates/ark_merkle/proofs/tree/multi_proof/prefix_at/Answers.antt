@@ -1,22 +1,20 @@
-use Rattle.std.proofs.Common.{◌≡◌, ◌-◌, length, map, get_or, arith}
-use Rattle.std.proofs.lemmas.List.{length-map}
-use Rattle.ark_merkle.specs.Rows.{beside_in, digests_of}
-use Rattle.ark_merkle.proofs.MultiCommon.{common, common-le, NextParts-first, NextParts-next}
+use Rattle.std.proofs.Common.{◌-◌, length, get_or, arith}
+use Rattle.ark_merkle.specs.Rows.{beside_in}
+use Rattle.ark_merkle.proofs.MultiCommon.{common-le, NextParts-first, NextParts-next}
 use Rattle.ark_merkle.proofs.tree.multi_proof.prefix_at.Goals as goal
 
 pub returns-then-place-eq0 : goal.returns-then-place-eq0
 returns-then-place-eq0 g c =
-    let rows = map (digests_of g.D.Numbered.numbers) c.args.rows.now in
-    let parts = NextParts-first (beside_in rows (length c.args.rows.now - 1)) c.args.indexes.now c.args.place c.requires.place c.if-place-eq0.true in
+    let rows = c.args.rows.now in
+    let parts = NextParts-first (beside_in rows (length rows - 1)) c.args.indexes.now c.args.place c.requires.place c.if-place-eq0.true in
     record { within = omega arith; prefix = parts.prefixes; suffix = parts.suffixes }
 
 pub returns-else-place-eq0 : goal.returns-else-place-eq0
 returns-else-place-eq0 g c =
-    let rows = map (digests_of g.D.Numbered.numbers) c.args.rows.now in
-    let n = length c.args.rows.now in
+    let rows = c.args.rows.now in
+    let n = length rows in
     let indexes = c.args.indexes.now in
     let place = c.args.place in
-    let prefix = c.digests_in_common.result in
-    let is : prefix ≡ common rows (n - 1) (get_or indexes (place - 1) 0) (get_or indexes place 0) = rw (length-map c.args.rows.now (digests_of g.D.Numbered.numbers)) at c.digests_in_common.ensures in
-    let parts = NextParts-next (beside_in rows (n - 1)) indexes place prefix c.requires.place (omega arith) is in
+    let is = c.digests_in_common.ensures in
+    let parts = NextParts-next (beside_in rows (n - 1)) indexes place c.digests_in_common.result c.requires.place (omega arith) is in
     record { within = omega (arith, is, common-le rows (n - 1) (get_or indexes (place - 1) 0) (get_or indexes place 0)); prefix = parts.prefixes; suffix = parts.suffixes }

@@ -26,31 +26,26 @@ overflow_shr-index g c =
           c.loop-level.level c.loop-level.auto.level (omega arith) c.requires.fits,
     )
 
-pub index-sibling-requires : goal.index-sibling-requires
-index-sibling-requires g c =
-    let row = c.index-rows-level.result in
+pub at-sibling-requires-clause-place : goal.at-sibling-requires-clause-place
+at-sibling-requires-clause-place g c =
     rw c.neighbour_of-in-loop-level.ensures
-    (omega (
-      arith,
-      row.ok.0,
-      beside-inside_row g.P.LeafDigest.Numbered.numbers g.P.InnerDigest.Numbered.numbers _ c.args.leaves.now c.args.rows.now c.requires.tree c.args.index c.requires.index (g.P.LeafDigest.Numbered.numbers c.args.digest.now)
-          c.loop-level.level c.loop-level.auto.level (omega arith) row c.index-rows-level.is,
-    ))
+    (beside-inside_row g.P.LeafDigest.Numbered.numbers g.P.InnerDigest.Numbered.numbers _ c.args.leaves.now c.args.rows.now c.requires.tree c.args.index c.requires.index (g.P.LeafDigest.Numbered.numbers c.args.digest.now)
+    c.loop-level.level c.loop-level.auto.level (omega arith))
 
 pub returns-in_err-up-clause-root : goal.returns-in_err-up-clause-root
 returns-in_err-up-clause-root g c =
     passed_on _ _ c.from_residual-in_err-up.result c.in_err-up.field-0.0 c.from_residual-in_err-up.ensures.1 c.in_err-up.ensures
     (way-more-refused g.P.LeafDigest.Numbered.numbers g.P.InnerDigest.Numbered.numbers _ c.args.leaves.now c.args.rows.now c.requires.tree c.args.index c.requires.index (g.P.LeafDigest.Numbered.numbers c.args.digest.now)
-    c.loop-level.level c.loop-level.auto.level (omega arith) c.index-rows-level.result c.index-rows-level.is c.loop-level.way c.loop-level.invariant.1 c.loop-level.invariant.0 c.index.result.now c.index.ensures
-    c.neighbour_of-in-loop-level.result c.neighbour_of-in-loop-level.ensures c.index-sibling.result.now c.index-sibling.ensures c.is_bit_set.result c.is_bit_set.ensures c.in_err-up.field-0.0)
+    c.loop-level.level c.loop-level.auto.level (omega arith) c.loop-level.way c.loop-level.invariant.1 c.loop-level.invariant.0 c.index.result.now c.index.ensures
+    c.neighbour_of-in-loop-level.result c.neighbour_of-in-loop-level.ensures _ c.at-sibling.ensures c.is_bit_set.result c.is_bit_set.ensures c.in_err-up.field-0.0)
 
 pub loop-level-preserved : goal.loop-level-preserved
 loop-level-preserved g c =
     rw (c.in_ok-push-2.ensures.items, map_push) (
       omega (arith, length-append c.loop-level.way.items (c.in_ok-up.up ∷ []), c.loop-level.invariant.0),
       way-more g.P.LeafDigest.Numbered.numbers g.P.InnerDigest.Numbered.numbers _ c.args.leaves.now c.args.rows.now c.requires.tree c.args.index c.requires.index (g.P.LeafDigest.Numbered.numbers c.args.digest.now)
-          c.loop-level.level c.loop-level.auto.level (omega arith) c.index-rows-level.result c.index-rows-level.is c.loop-level.way c.loop-level.invariant.1 c.loop-level.invariant.0 c.index.result.now c.index.ensures
-          c.neighbour_of-in-loop-level.result c.neighbour_of-in-loop-level.ensures c.index-sibling.result.now c.index-sibling.ensures c.is_bit_set.result c.is_bit_set.ensures _ c.in_ok-up.ensures,
+          c.loop-level.level c.loop-level.auto.level (omega arith) c.loop-level.way c.loop-level.invariant.1 c.loop-level.invariant.0 c.index.result.now c.index.ensures
+          c.neighbour_of-in-loop-level.result c.neighbour_of-in-loop-level.ensures _ c.at-sibling.ensures c.is_bit_set.result c.is_bit_set.ensures _ c.in_ok-up.ensures,
     )
 
 pub returns : goal.returns
