@@ -6,8 +6,12 @@ mod asked;
 #[cfg(test)]
 mod digest;
 #[cfg(test)]
+mod drawn;
+#[cfg(test)]
 mod ec;
 #[cfg(test)]
 mod ff;
 #[cfg(test)]
 mod plain;
+#[cfg(test)]
+mod products;
