@@ -16,7 +16,10 @@ pub mod serialize {
 
 /// Fields.
 pub mod ff {
-    pub use ark_groups::ff::{Fp, M7, M13, M61, M257, M65537, Modulus, PrimeField, UniformRand};
+    pub use ark_groups::ff::{
+        BabyBear, Fp, Goldilocks, KoalaBear, M7, M13, M61, M257, M65537, Mersenne31, Modulus,
+        PrimeField, UniformRand,
+    };
 }
 
 /// Groups.

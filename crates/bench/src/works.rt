@@ -1,9 +1,11 @@
 //! The works by their names.
 
-use crate::fields::{Widest, product_chain};
+use crate::fields::{Widest, product_chain, reductions, sums};
 use crate::{blake2s, bowe_hopwood, pedersen, poseidon, signatures, trees};
 use ark_crypto_primitives::Error;
-use ark_crypto_primitives::ff::{Fp, M61, M257, M65537, PrimeField};
+use ark_crypto_primitives::ff::{
+    BabyBear, Fp, Goldilocks, KoalaBear, M61, M257, M65537, Mersenne31, PrimeField,
+};
 use ark_crypto_primitives::trees::{Sha256Arrays, Sha256Strings};
 use std::alloc::Global;
 
@@ -20,6 +22,14 @@ pub fn checksum(alloc: Global, words: &[String]) -> Result<Option<u64>, Error> {
         "product-65537" => products::<Fp<M65537>>(count),
         "product-61" => products::<Fp<M61>>(count),
         "product-64" => products::<Fp<Widest>>(count),
+        "product-goldilocks" => products::<Fp<Goldilocks>>(count),
+        "product-babybear" => products::<Fp<BabyBear>>(count),
+        "product-koalabear" => products::<Fp<KoalaBear>>(count),
+        "product-mersenne31" => products::<Fp<Mersenne31>>(count),
+        "sum-61" => sums::<M61>(count),
+        "sum-64" => sums::<Widest>(count),
+        "sum-goldilocks" => sums::<Goldilocks>(count),
+        "reduce-64-bytes" => reductions::<Fp<M61>>(count),
         "blake2s-64" => blake2s::digests(alloc, 64, count)?,
         "blake2s-mebibyte" => blake2s::digests(alloc, 1 << 20, count)?,
         "blake2s-pieces-64" => blake2s::digests_of_pieces(alloc, 64, count)?,
