@@ -2,4 +2,3 @@ pub mod Mixing
 pub mod PedersenCommitments
 pub mod Pieces
 pub mod Texts
-pub mod Vectors
