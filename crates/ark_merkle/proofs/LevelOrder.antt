@@ -4,7 +4,7 @@ use Rattle.std.proofs.lemmas.Bool.{cases_lt}
 use Rattle.std.proofs.lemmas.List.{length-map, length-append, length-reverse, reverse-append, reverse-reverse, take_at, drop-drop, with_items_is, map-set, map-append, drop-map, take-map, take_all, drop_at, take-append-le, drop-append-le, length-take-le, length-drop, get_or-take, get_or-drop, drop-set-lt, drop-set-add, take-set-le}
 use Rattle.std.proofs.Math.Seq.{take-set-lt}
 use Rattle.std.proofs.Math.Nat.{pow-succ', pow-le-pow_right}
-use Rattle.ark_merkle.specs.LevelOrder.{rows_in_order, rows_in_turn, highest_first}
+use Rattle.ark_merkle.specs.LevelOrder.{rows_in_order, rows_in_turn, highest_row_first}
 use Rattle.std.specs.declared.vec.Vec.{Vec}
 use Rattle.std.specs.Vec.{with_item, with_items}
 use Rattle.ark_merkle.specs.Pair.{Digest}
@@ -122,22 +122,22 @@ module _ {A Z : Type 0} (numbers : A → Digest) (digests : Vec A Z) (count : �
 
 -- ---- rows that stand in turn, put into level order
 
-pub map-highest_first : {A : Type 0} (numbers : A → Digest) (n : ℕ) (digests : List A) → map numbers (highest_first n digests) ≡ highest_first n (map numbers digests)
-map-highest_first numbers zero digests = refl
-map-highest_first numbers (suc n) digests =
-    map-append numbers (highest_first n (drop (2 ^ n) digests)) (take (2 ^ n) digests)
-    ∙ rw (map-highest_first numbers n (drop (2 ^ n) digests), drop-map numbers (2 ^ n) digests, take-map numbers (2 ^ n) digests) refl
+pub map-highest_row_first : {A : Type 0} (numbers : A → Digest) (n : ℕ) (digests : List A) → map numbers (highest_row_first n digests) ≡ highest_row_first n (map numbers digests)
+map-highest_row_first numbers zero digests = refl
+map-highest_row_first numbers (suc n) digests =
+    map-append numbers (highest_row_first n (drop (2 ^ n) digests)) (take (2 ^ n) digests)
+    ∙ rw (map-highest_row_first numbers n (drop (2 ^ n) digests), drop-map numbers (2 ^ n) digests, take-map numbers (2 ^ n) digests) refl
 
-length-highest_first : {A : Type 0} (n : ℕ) (digests : List A) → length digests + 1 ≡ 2 ^ n → length (highest_first n digests) ≡ length digests
-length-highest_first zero digests long = omega arith
-length-highest_first (suc n) digests long =
+length-highest_row_first : {A : Type 0} (n : ℕ) (digests : List A) → length digests + 1 ≡ 2 ^ n → length (highest_row_first n digests) ≡ length digests
+length-highest_row_first zero digests long = omega arith
+length-highest_row_first (suc n) digests long =
     let w = 2 ^ n in
     let twice : 2 ^ suc n ≡ 2 * w = pow-succ' 2 n in
     let some : 0 < w = pow_pos n in
     let rest : length (drop w digests) ≡ length digests - w = length-drop w digests in
     let front : length (take w digests) ≡ w = length-take-le w digests (omega arith) in
-    let above = length-highest_first n (drop w digests) (omega arith) in
-    omega (arith, length-append (highest_first n (drop w digests)) (take w digests))
+    let above = length-highest_row_first n (drop w digests) (omega arith) in
+    omega (arith, length-append (highest_row_first n (drop w digests)) (take w digests))
 
 rows_in_order-append : (n : ℕ) (digests more : List Digest) → 2 ^ n ≤ length digests + 1 → rows_in_order n (digests ++ more) ≡ rows_in_order n digests
 rows_in_order-append zero digests more long = refl
@@ -148,31 +148,31 @@ rows_in_order-append (suc n) digests more long =
     let rest : length (drop (w - 1) digests) ≡ length digests - (w - 1) = length-drop (w - 1) digests in
     rw (drop-append-le (w - 1) digests more (omega arith), take-append-le w (drop (w - 1) digests) more (omega arith), rows_in_order-append n digests more (omega arith)) refl
 
-pub rows-highest_first : (n : ℕ) (digests : List Digest) → length digests + 1 ≡ 2 ^ n → rows_in_order n (highest_first n digests) ≡ rows_in_turn n digests
-rows-highest_first zero digests long = refl
-rows-highest_first (suc n) digests long =
+pub rows-highest_row_first : (n : ℕ) (digests : List Digest) → length digests + 1 ≡ 2 ^ n → rows_in_order n (highest_row_first n digests) ≡ rows_in_turn n digests
+rows-highest_row_first zero digests long = refl
+rows-highest_row_first (suc n) digests long =
     let w = 2 ^ n in
     let twice : 2 ^ suc n ≡ 2 * w = pow-succ' 2 n in
     let some : 0 < w = pow_pos n in
     let above = drop w digests in
     let rest : length above ≡ length digests - w = length-drop w digests in
     let front : length (take w digests) ≡ w = length-take-le w digests (omega arith) in
-    let high : length (highest_first n above) ≡ length above = length-highest_first n above (omega arith) in
-    rw (drop_at (highest_first n above) (take w digests) (w - 1) (omega arith), take_all w (take w digests) (omega arith), rows_in_order-append n (highest_first n above) (take w digests) (omega arith), rows-highest_first n above (omega arith)) refl
+    let high : length (highest_row_first n above) ≡ length above = length-highest_row_first n above (omega arith) in
+    rw (drop_at (highest_row_first n above) (take w digests) (w - 1) (omega arith), take_all w (take w digests) (omega arith), rows_in_order-append n (highest_row_first n above) (take w digests) (omega arith), rows-highest_row_first n above (omega arith)) refl
 
 -- The highest rows are in level order, and the others stand in turn, all reversed.
 abbrev pub IsTurned : {A : Type 0} → List A → ℕ → List A → Type 0
 IsTurned digests level now =
     let below = length digests - (2 ^ level - 1) in
-    now ≡ highest_first level (drop below digests) ++ reverse (take below digests)
+    now ≡ highest_row_first level (drop below digests) ++ reverse (take below digests)
 
 pub turned-none : {A : Type 0} (digests : List A) → IsTurned digests 0 (reverse digests)
 turned-none digests = let e : length digests - (2 ^ 0 - 1) ≡ length digests = omega arith in rw (e, take_all (length digests) digests (omega arith)) refl
 
-pub turned-all : {A : Type 0} (digests now : List A) (count : ℕ) → length digests + 1 ≡ 2 ^ count → IsTurned digests count now → now ≡ highest_first count digests
+pub turned-all : {A : Type 0} (digests now : List A) (count : ℕ) → length digests + 1 ≡ 2 ^ count → IsTurned digests count now → now ≡ highest_row_first count digests
 turned-all digests now count long so =
     let e : length digests - (2 ^ count - 1) ≡ 0 = omega arith in
-    so ∙ rw e (append-nil (highest_first count digests))
+    so ∙ rw e (append-nil (highest_row_first count digests))
 
 -- one row is turned back
 pub turned-more : {A : Type 0} (digests now : List A) (level count : ℕ) → length digests + 1 ≡ 2 ^ count → level < count → IsTurned digests level now → (row : List A) → row ≡ reverse (take (2 ^ level) (drop (2 ^ level - 1) now))
@@ -187,10 +187,10 @@ turned-more digests now level count long below so row is =
     let next = length digests - (2 ^ suc level - 1) in
     let step : next + w ≡ here = omega arith in
     let own = take w (drop next digests) in
-    let high = highest_first level (drop here digests) in
+    let high = highest_row_first level (drop here digests) in
     let low = take next digests in
     let rest : length (drop here digests) ≡ length digests - here = length-drop here digests in
-    let tall : length high ≡ length (drop here digests) = length-highest_first level (drop here digests) (omega arith) in
+    let tall : length high ≡ length (drop here digests) = length-highest_row_first level (drop here digests) (omega arith) in
     let front : length high ≡ w - 1 = omega arith in
     let split : take here digests ≡ low ++ own = rw (← step) (take-add next w digests) in
     let back : reverse (take here digests) ≡ reverse own ++ reverse low = ap reverse split ∙ reverse-append low own in
@@ -203,16 +203,16 @@ turned-more digests now level count long below so row is =
     let above : drop w (drop next digests) ≡ drop here digests = drop-drop w next digests ∙ ap (λ (n : ℕ). drop n digests) step in
     rw (first, turned, last, one, above) (sym (append_assoc high own (reverse low)))
 
-pub of_rows-seen : {A Z : Type 0} (numbers : A → Digest) (count : ℕ) (digests : Vec A Z) (given made : List A) → given ≡ digests.items → made ≡ highest_first count given → digests.len ≡ length digests.items → length digests.items + 1 ≡ 2 ^ count
+pub of_rows-seen : {A Z : Type 0} (numbers : A → Digest) (count : ℕ) (digests : Vec A Z) (given made : List A) → given ≡ digests.items → made ≡ highest_row_first count given → digests.len ≡ length digests.items → length digests.items + 1 ≡ 2 ^ count
     → rows_in_order count (digests_of numbers (with_items digests made)) ≡ rows_in_turn count (digests_of numbers digests)
 of_rows-seen numbers count digests given made same is len long =
-    let made_is : made ≡ highest_first count digests.items = is ∙ ap (highest_first count) same in
-    let size : length made ≡ digests.len = ap length made_is ∙ length-highest_first count digests.items long ∙ sym len in
-    rw (with_items_is digests made size, made_is, map-highest_first numbers count digests.items)
-    (rows-highest_first count (map numbers digests.items) (omega (arith, length-map digests.items numbers)))
+    let made_is : made ≡ highest_row_first count digests.items = is ∙ ap (highest_row_first count) same in
+    let size : length made ≡ digests.len = ap length made_is ∙ length-highest_row_first count digests.items long ∙ sym len in
+    rw (with_items_is digests made size, made_is, map-highest_row_first numbers count digests.items)
+    (rows-highest_row_first count (map numbers digests.items) (omega (arith, length-map digests.items numbers)))
 
-pub of_rows-whole : {A Z : Type 0} (count : ℕ) (digests : Vec A Z) (given made : List A) → given ≡ digests.items → made ≡ highest_first count given → digests.len ≡ length digests.items → length digests.items + 1 ≡ 2 ^ count → length (with_items digests made).items + 1 ≡ 2 ^ count
+pub of_rows-whole : {A Z : Type 0} (count : ℕ) (digests : Vec A Z) (given made : List A) → given ≡ digests.items → made ≡ highest_row_first count given → digests.len ≡ length digests.items → length digests.items + 1 ≡ 2 ^ count → length (with_items digests made).items + 1 ≡ 2 ^ count
 of_rows-whole count digests given made same is len long =
-    let made_is : made ≡ highest_first count digests.items = is ∙ ap (highest_first count) same in
-    let size : length made ≡ digests.len = ap length made_is ∙ length-highest_first count digests.items long ∙ sym len in
+    let made_is : made ≡ highest_row_first count digests.items = is ∙ ap (highest_row_first count) same in
+    let size : length made ≡ digests.len = ap length made_is ∙ length-highest_row_first count digests.items long ∙ sym len in
     rw (with_items_is digests made size) (omega arith)

@@ -1,7 +1,7 @@
 //! The digests above the leaf digests, in one list.
 
 ghost use Rattle.std.specs.Prelude.{◌≡◌, ◌<◌, ◌≤◌, ◌+◌, ◌-◌, ◌^◌, ◌++◌, List, [], length, take, drop, reverse, get_or, set};
-ghost use Rattle.ark_merkle.specs.LevelOrder.{rows_in_order, rows_in_turn, highest_first};
+ghost use Rattle.ark_merkle.specs.LevelOrder.{rows_in_order, rows_in_turn, highest_row_first};
 ghost use Rattle.ark_merkle.specs.Pair.{Digest};
 ghost use Rattle.ark_merkle.specs.Rows.{digests_of};
 
@@ -53,7 +53,7 @@ fn turn_back<D: DigestItem>(digests: &mut [D], first: usize, count: usize)
 fn put_in_order<D: DigestItem>(digests: &mut [D], count: usize)
     requires fits { count ≤ 64 }
     requires whole { length digests.old + 1 ≡ 2 ^ count }
-    ensures { digests.new ≡ highest_first count digests.old }
+    ensures { digests.new ≡ highest_row_first count digests.old }
 {
     digests.reverse();
     for level in 0..count {
