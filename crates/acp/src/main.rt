@@ -1,7 +1,7 @@
 //! The program `acp`: trees, proofs and checks, line by line.
 #![tactic(auto)]
 
-use acp_session::command::command;
+use acp_run::command::command;
 use std::env;
 use std::io::{self, BufReader, BufWriter};
 use std::process::ExitCode;

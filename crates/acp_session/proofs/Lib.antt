@@ -3,7 +3,6 @@ pub mod Findings
 pub mod StrictFindings
 pub mod Indexes
 pub mod Numerals
-pub mod Runs
 pub mod ToyLemmas
 pub mod Trees
 pub mod Values

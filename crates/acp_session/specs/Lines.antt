@@ -1,15 +1,10 @@
--- Lines, and the tokens of a line.
-use Rattle.std.specs.Prelude.{ℕ, ◌==◌, if◌then◌else◌, List, [], ◌∷◌, ◌++◌, Option, Some, None}
+-- The tokens of a line.
+use Rattle.std.specs.Prelude.{ℕ, ◌==◌, if◌then◌else◌, List, [], ◌∷◌, Option, Some, None}
 
 -- a byte at the front of the first piece
 abbrev pub onto_first : ℕ → List (List ℕ) → List (List ℕ)
 onto_first b [] = (b ∷ []) ∷ []
 onto_first b (piece ∷ pieces) = (b ∷ piece) ∷ pieces
-
--- the lines of some bytes: each ends with a line feed, the last perhaps with the bytes
-abbrev pub lines_of : List ℕ → List (List ℕ)
-lines_of [] = []
-lines_of (b ∷ bytes) = if b == 10 then [] ∷ lines_of bytes else onto_first b (lines_of bytes)
 
 -- the tokens of a line: what stands between its spaces, so one token more than there are spaces
 abbrev pub tokens_of : List ℕ → List (List ℕ)
@@ -20,7 +15,3 @@ tokens_of (b ∷ bytes) = if b == 32 then [] ∷ tokens_of bytes else onto_first
 abbrev pub tokens_left : Option (List ℕ) → List (List ℕ)
 tokens_left None = []
 tokens_left (Some bytes) = tokens_of bytes
-
--- a line as it is written
-abbrev pub with_line_feed : List ℕ → List ℕ
-with_line_feed line = line ++ 10 ∷ []

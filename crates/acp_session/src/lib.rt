@@ -3,12 +3,10 @@
 
 pub mod answer;
 mod arguments;
-pub mod command;
 mod keyword;
 pub mod line;
 mod proofs;
 mod replies;
-pub mod run;
 pub mod sha256;
 pub mod shell;
 pub mod tokens;

@@ -1,6 +1,6 @@
 //! Commands over readers and writers of the tests' own.
 
-use acp_session::command::command;
+use acp_run::command::command;
 use ark_base::error::Error;
 use std::alloc::Global;
 use std::io::{BufReader, Read, Write};

@@ -4,7 +4,7 @@ ghost use Rattle.std.specs.Prelude.{◌≡◌, Ok, refl};
 ghost use Rattle.std.proofs.Common.{ap, sym, ◌∙◌};
 ghost use Rattle.acp_tests.specs.Keyed.{keyed_leaf, keyed_language};
 
-use acp_session::run::run;
+use acp_run::run::run;
 use acp_session::shell::Shell;
 use acp_session::tokens::number_of_token;
 use acp_session::toy::{Toy, ToyPairHash};

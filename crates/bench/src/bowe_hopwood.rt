@@ -33,9 +33,18 @@ type Hash = CRH<Small<M13>, Wide>;
 // The bytes of the first input, of which each work changes the first.
 const INPUT: [u8; 32] = [0xa5; 32];
 
-/// Hashes of 32 bytes, `count` times, the first byte being that of the hash before. The generators are made without `setup`,
-/// since windows of four chunks pass the order.
-pub fn hashes(alloc: Global, count: u64) -> Result<u64, Error> {
+/// The work that a word names, `count` times.
+pub fn checksum(alloc: Global, work: &str, count: u64) -> Result<Option<u64>, Error> {
+    let sum = match work {
+        "hopwood" => hashes(alloc, count)?,
+        _ => return Ok(None),
+    };
+    Ok(Some(sum))
+}
+
+// Hashes of 32 bytes, `count` times, the first byte being that of the hash before. The generators are made without `setup`,
+// since windows of four chunks pass the order.
+fn hashes(alloc: Global, count: u64) -> Result<u64, Error> {
     let mut rng = SmallRng::seed_from_u64(4);
     let parameters = Parameters {
         generators: Hash::create_generators(alloc, &mut rng)?,

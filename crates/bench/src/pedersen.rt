@@ -34,8 +34,18 @@ type Group = Residues<M61>;
 // The bytes of the first input, of which each work changes the first.
 const INPUT: [u8; 32] = [0xa5; 32];
 
-/// Hashes of 32 bytes, `count` times, the first byte being that of the hash before.
-pub fn hashes(alloc: Global, count: u64) -> Result<u64, Error> {
+/// The work that a word names, `count` times.
+pub fn checksum(alloc: Global, work: &str, count: u64) -> Result<Option<u64>, Error> {
+    let sum = match work {
+        "hash" => hashes(alloc, count)?,
+        "commitment" => commitments(alloc, count)?,
+        _ => return Ok(None),
+    };
+    Ok(Some(sum))
+}
+
+// Hashes of 32 bytes, `count` times, the first byte being that of the hash before.
+fn hashes(alloc: Global, count: u64) -> Result<u64, Error> {
     let mut rng = SmallRng::seed_from_u64(4);
     let parameters = CRH::<Group, Wide>::setup(alloc, &mut rng)?;
     let mut input = Vec::from_array(alloc, INPUT)?;
@@ -51,8 +61,8 @@ pub fn hashes(alloc: Global, count: u64) -> Result<u64, Error> {
     Ok(value)
 }
 
-/// Commitments to 32 bytes, `count` times, each under the one before.
-pub fn commitments(alloc: Global, count: u64) -> Result<u64, Error> {
+// Commitments to 32 bytes, `count` times, each under the one before.
+fn commitments(alloc: Global, count: u64) -> Result<u64, Error> {
     let mut rng = SmallRng::seed_from_u64(4);
     let parameters = Commitment::<Group, Wide>::setup(alloc, &mut rng)?;
     let mut randomness = Randomness::<Group>::default();

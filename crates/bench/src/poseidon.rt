@@ -1,11 +1,12 @@
-//! Works on Poseidon: states of three elements of 2^61 - 1, eight full and 31 partial rounds, and fifth powers.
+//! Works on Poseidon over any field: states with one element of capacity, eight full rounds.
 
 ghost use Rattle.std.specs.Prelude.{◌*◌, ◌%◌};
 
 use ark_crypto_primitives::Error;
 use ark_crypto_primitives::crh::TwoToOneCRHScheme;
 use ark_crypto_primitives::crh::poseidon::TwoToOneCRH;
-use ark_crypto_primitives::ff::{Fp, M61, PrimeField};
+use ark_crypto_primitives::ff::PrimeField;
+use ark_crypto_primitives::sponge::Absorb;
 use ark_crypto_primitives::sponge::poseidon::{PoseidonConfig, PoseidonSponge, SBox};
 use ark_crypto_primitives::sponge::{CryptographicSponge, FieldBasedCryptographicSponge};
 use std::alloc::Global;
@@ -23,91 +24,133 @@ impl<F: PrimeField> SBox<F> for Fifth {
     }
 }
 
-type Element = Fp<M61>;
+/// Seventh powers, the least that are a permutation over Goldilocks and BabyBear.
+pub struct Seventh;
 
-type Sponge = PoseidonSponge<Element, Fifth>;
+impl<F: PrimeField> SBox<F> for Seventh {
+    ghost image = { λ alpha x.
+        (((x * x) % F.MODULUS * ((x * x) % F.MODULUS)) % F.MODULUS * ((x * x) % F.MODULUS * x % F.MODULUS)) % F.MODULUS };
 
-type PairHash = TwoToOneCRH<Element, Fifth>;
+    fn apply(_alpha: u64, x: F) -> F {
+        let square = x.mul(x);
+        square.mul(square).mul(square.mul(x))
+    }
+}
+
+/// The work that a word names, `count` times, over states of `width` elements with `partial_rounds`.
+pub fn checksum<F: PrimeField + Absorb, S: SBox<F>>(
+    alloc: Global,
+    work: &str,
+    width: usize,
+    partial_rounds: usize,
+    count: u64,
+) -> Result<Option<u64>, Error> {
+    let Some(rate) = width.checked_sub(1) else {
+        return Ok(None);
+    };
+    let parameters = PoseidonConfig::new(
+        8,
+        partial_rounds,
+        5,
+        rows(alloc, 1 << 20, width, width)?,
+        rows(alloc, 1 << 30, partial_rounds.saturating_add(8), width)?,
+        rate,
+        1,
+    )?;
+    let element: F = match work {
+        "permutation" => permutations::<F, S>(alloc, &parameters, count)?,
+        "absorb" => absorptions::<F, S>(alloc, &parameters, count)?,
+        "squeeze" => squeezes::<F, S>(alloc, &parameters, count)?,
+        "hash" => pair_hashes::<F, S>(alloc, &parameters, count)?,
+        _ => return Ok(None),
+    };
+    Ok(Some(element.value()))
+}
 
 // Elements that have no pattern.
-fn elements(alloc: Global, seed: u64, count: usize) -> Result<Vec<Element>, Error> {
+fn elements<F: PrimeField>(alloc: Global, seed: u64, count: usize) -> Result<Vec<F>, Error> {
     let mut made = Vec::with_capacity(alloc, count)?;
-    let mut element = Element::from_u64(seed);
+    let mut element = F::from_u64(seed);
     for _ in 0..count {
-        element = element
-            .mul(element)
-            .add(Element::from_u64(11400714819323198485));
+        element = element.mul(element).add(F::from_u64(11400714819323198485));
         made.push(element)?;
     }
     Ok(made)
 }
 
-fn rows(alloc: Global, seed: u64, count: usize) -> Result<Vec<Vec<Element>>, Error> {
+fn rows<F: PrimeField>(
+    alloc: Global,
+    seed: u64,
+    count: usize,
+    width: usize,
+) -> Result<Vec<Vec<F>>, Error> {
     let mut made = Vec::with_capacity(alloc, count)?;
     for i in 0..count {
-        made.push(elements(alloc, seed ^ i as u64, 3)?)?;
+        made.push(elements(alloc, seed ^ i as u64, width)?)?;
     }
     Ok(made)
 }
 
-fn parameters(alloc: Global) -> Result<PoseidonConfig<Element>, Error> {
-    PoseidonConfig::new(
-        8,
-        31,
-        5,
-        rows(alloc, 1 << 20, 3)?,
-        rows(alloc, 1 << 30, 39)?,
-        2,
-        1,
-    )
-}
-
-/// Permutations, `count` times, of one state.
-pub fn permutations(alloc: Global, count: u64) -> Result<u64, Error> {
-    let parameters = parameters(alloc)?;
+// Permutations of one state.
+fn permutations<F: PrimeField, S: SBox<F>>(
+    alloc: Global,
+    parameters: &PoseidonConfig<F>,
+    count: u64,
+) -> Result<F, Error> {
     let width = parameters.rate() + parameters.capacity();
-    let mut state = vec![in alloc; Element::one(); width]?;
-    let mut scratch = vec![in alloc; Element::zero(); width]?;
+    let mut state = vec![in alloc; F::one(); width]?;
+    let mut scratch = vec![in alloc; F::zero(); width]?;
     for _ in 0..count {
-        parameters.permute::<Fifth>(&mut state, &mut scratch);
+        parameters.permute::<S>(&mut state, &mut scratch);
     }
-    Ok(first_value(&state))
+    Ok(first_of(&state))
 }
 
-fn first_value(elements: &[Element]) -> u64 {
+fn first_of<F: PrimeField>(elements: &[F]) -> F {
     match elements.first() {
-        Some(element) => element.value(),
-        None => 0,
+        Some(element) => *element,
+        None => F::zero(),
     }
 }
 
-/// Absorbing 1,000 elements, `count` times, into one sponge.
-pub fn absorptions(alloc: Global, count: u64) -> Result<u64, Error> {
-    let mut sponge = Sponge::new(alloc, &parameters(alloc)?)?;
-    let input = elements(alloc, 1 << 40, 1000)?;
+// Absorbing 1,000 elements into one sponge.
+fn absorptions<F: PrimeField + Absorb, S: SBox<F>>(
+    alloc: Global,
+    parameters: &PoseidonConfig<F>,
+    count: u64,
+) -> Result<F, Error> {
+    let mut sponge = PoseidonSponge::<F, S>::new(alloc, parameters)?;
+    let input = elements::<F>(alloc, 1 << 40, 1000)?;
     for _ in 0..count {
         sponge.absorb(&input)?;
     }
-    Ok(first_value(sponge.state()))
+    Ok(first_of(sponge.state()))
 }
 
-/// Squeezing 1,000 elements, `count` times, out of one sponge.
-pub fn squeezes(alloc: Global, count: u64) -> Result<u64, Error> {
-    let mut sponge = Sponge::new(alloc, &parameters(alloc)?)?;
-    let mut value = 0;
+// Squeezing 1,000 elements out of one sponge.
+fn squeezes<F: PrimeField + Absorb, S: SBox<F>>(
+    alloc: Global,
+    parameters: &PoseidonConfig<F>,
+    count: u64,
+) -> Result<F, Error> {
+    let mut sponge = PoseidonSponge::<F, S>::new(alloc, parameters)?;
+    let mut element = F::zero();
     for _ in 0..count {
-        value = first_value(&sponge.squeeze_native_field_elements(1000)?);
+        element = first_of(&sponge.squeeze_native_field_elements(1000)?);
     }
-    Ok(value)
+    Ok(element)
 }
 
-/// Hashes of two elements, `count` times, the left one being the hash before.
-pub fn pair_hashes(alloc: Global, count: u64) -> Result<u64, Error> {
-    let parameters = parameters(alloc)?;
-    let right = Element::from_u64(1 << 50);
+// Hashes of two elements, the left one being the hash before.
+fn pair_hashes<F: PrimeField + Absorb, S: SBox<F>>(
+    alloc: Global,
+    parameters: &PoseidonConfig<F>,
+    count: u64,
+) -> Result<F, Error> {
+    let right = F::from_u64(1 << 50);
     let mut left = right;
     for _ in 0..count {
-        left = PairHash::compress(alloc, &parameters, &left, &right)?;
+        left = TwoToOneCRH::<F, S>::compress(alloc, parameters, &left, &right)?;
     }
-    Ok(left.value())
+    Ok(left)
 }

@@ -1,7 +1,8 @@
 //! Works on ElGamal encryption and Schnorr signatures over the residues modulo 2^61 - 1, with BLAKE2s.
 
+use crate::sums::sum_of_value;
 use ark_crypto_primitives::Error;
-use ark_crypto_primitives::ec::Residues;
+use ark_crypto_primitives::ec::{CurveGroup, Residues};
 use ark_crypto_primitives::encryption::AsymmetricEncryptionScheme;
 use ark_crypto_primitives::encryption::elgamal::{ElGamal, Randomness};
 use ark_crypto_primitives::ff::{M61, PrimeField};
@@ -12,64 +13,87 @@ use rand::SeedableRng;
 use rand_chacha::ChaCha20Rng;
 use std::alloc::Global;
 
-type Group = Residues<M61>;
-
-type Scheme = Schnorr<Group, Blake2s256>;
-
 const MESSAGE: &[u8] = &[0xa5; 32];
 
-/// Signatures of one message, `count` times.
-pub fn signatures(alloc: Global, count: u64) -> Result<u64, Error> {
+/// The work on signatures that a word names, `count` times.
+pub fn signing(alloc: Global, work: &str, count: u64) -> Result<Option<u64>, Error> {
     let mut rng = ChaCha20Rng::seed_from_u64(5);
-    let pp = Scheme::setup(alloc, &mut rng)?;
-    let (_, sk) = Scheme::keygen(alloc, &pp, &mut rng)?;
-    let mut sum = 0;
-    for _ in 0..count {
-        let signature = Scheme::sign(alloc, &pp, &sk, MESSAGE, &mut rng)?;
-        sum ^= signature.prover_response.value();
-    }
-    Ok(sum)
+    signing_with::<Schnorr<Residues<M61>, Blake2s256>>(alloc, &mut rng, work, count)
 }
 
-/// Verifications of one signature, `count` times.
-pub fn verifications(alloc: Global, count: u64) -> Result<u64, Error> {
-    let mut rng = ChaCha20Rng::seed_from_u64(5);
-    let pp = Scheme::setup(alloc, &mut rng)?;
-    let (pk, sk) = Scheme::keygen(alloc, &pp, &mut rng)?;
-    let signature = Scheme::sign(alloc, &pp, &sk, MESSAGE, &mut rng)?;
-    let mut sum = 0;
+/// The work on encryption that a word names, `count` times.
+pub fn encryption(alloc: Global, work: &str, count: u64) -> Result<Option<u64>, Error> {
+    let mut rng = ChaCha20Rng::seed_from_u64(6);
+    encryption_over::<Residues<M61>>(alloc, &mut rng, work, count)
+}
+
+// How many signatures of one message were made, or how often one was found valid.
+fn signing_with<S: SignatureScheme>(
+    alloc: Global,
+    rng: &mut ChaCha20Rng,
+    work: &str,
+    count: u64,
+) -> Result<Option<u64>, Error> {
+    let pp = S::setup(alloc, rng)?;
+    let (pk, sk) = S::keygen(alloc, &pp, rng)?;
+    match work {
+        "sign" => Ok(Some(signatures::<S>(alloc, &pp, &sk, rng, count)?)),
+        "verify" => Ok(Some(verifications::<S>(alloc, &pp, &pk, &sk, rng, count)?)),
+        _ => Ok(None),
+    }
+}
+
+fn signatures<S: SignatureScheme>(
+    alloc: Global,
+    pp: &S::Parameters,
+    sk: &S::SecretKey,
+    rng: &mut ChaCha20Rng,
+    count: u64,
+) -> Result<u64, Error> {
+    for _ in 0..count {
+        S::sign(alloc, pp, sk, MESSAGE, rng)?;
+    }
+    Ok(count)
+}
+
+fn verifications<S: SignatureScheme>(
+    alloc: Global,
+    pp: &S::Parameters,
+    pk: &S::PublicKey,
+    sk: &S::SecretKey,
+    rng: &mut ChaCha20Rng,
+    count: u64,
+) -> Result<u64, Error> {
+    let signature = S::sign(alloc, pp, sk, MESSAGE, rng)?;
+    let mut valid = 0u64;
+    for _ in 0..count {
+        if S::verify(alloc, pp, pk, MESSAGE, &signature)? {
+            valid = valid.wrapping_add(1);
+        }
+    }
+    Ok(valid)
+}
+
+// Ciphertexts of a message, each the message of the next; or decryptions, each message the first part of the next ciphertext.
+fn encryption_over<G: CurveGroup>(
+    alloc: Global,
+    rng: &mut ChaCha20Rng,
+    work: &str,
+    count: u64,
+) -> Result<Option<u64>, Error> {
+    let pp = ElGamal::<G>::setup(alloc, rng)?;
+    let (pk, sk) = ElGamal::<G>::keygen(alloc, &pp, rng)?;
+    let mut message = pp.generator;
     for i in 0..count {
-        sum ^= if Scheme::verify(alloc, &pp, &pk, MESSAGE, &signature)? {
-            i
-        } else {
-            0
+        message = match work {
+            "encrypt" => {
+                let r = Randomness(G::ScalarField::from_u64(i));
+                let (first, second) = ElGamal::<G>::encrypt(alloc, &pp, &pk, &message, &r)?;
+                first.add(second)
+            }
+            "decrypt" => ElGamal::<G>::decrypt(alloc, &pp, &sk, &(message, pp.generator))?,
+            _ => return Ok(None),
         };
     }
-    Ok(sum)
-}
-
-/// Ciphertexts of a message, `count` times, each the message of the next.
-pub fn ciphertexts(alloc: Global, count: u64) -> Result<u64, Error> {
-    let mut rng = ChaCha20Rng::seed_from_u64(6);
-    let pp = ElGamal::<Group>::setup(alloc, &mut rng)?;
-    let (pk, _) = ElGamal::<Group>::keygen(alloc, &pp, &mut rng)?;
-    let mut message = pp.generator;
-    for _ in 0..count {
-        let r = Randomness(message.0);
-        let (first, second) = ElGamal::<Group>::encrypt(alloc, &pp, &pk, &message, &r)?;
-        message = Residues::new(first.0.add(second.0));
-    }
-    Ok(message.0.value())
-}
-
-/// Decryptions, `count` times, each message the first part of the next ciphertext.
-pub fn messages(alloc: Global, count: u64) -> Result<u64, Error> {
-    let mut rng = ChaCha20Rng::seed_from_u64(6);
-    let pp = ElGamal::<Group>::setup(alloc, &mut rng)?;
-    let (_, sk) = ElGamal::<Group>::keygen(alloc, &pp, &mut rng)?;
-    let mut message = pp.generator;
-    for _ in 0..count {
-        message = ElGamal::<Group>::decrypt(alloc, &pp, &sk, &(message, pp.generator))?;
-    }
-    Ok(message.0.value())
+    Ok(Some(sum_of_value(alloc, &message)?))
 }

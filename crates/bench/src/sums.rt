@@ -1,5 +1,9 @@
 //! Checksums.
 
+use ark_crypto_primitives::Error;
+use ark_crypto_primitives::serialize::{CanonicalSerialize, canonical_bytes};
+use std::alloc::Global;
+
 /// The first eight bytes as a number.
 pub fn sum_of(bytes: &[u8]) -> u64 {
     let mut sum = 0;
@@ -7,4 +11,13 @@ pub fn sum_of(bytes: &[u8]) -> u64 {
         sum = sum << 8 | *byte as u64;
     }
     sum
+}
+
+/// The last eight canonical bytes of a value as a number.
+pub fn sum_of_value<D: CanonicalSerialize>(alloc: Global, value: &D) -> Result<u64, Error> {
+    let mut sum = 0;
+    for byte in canonical_bytes(alloc, value)?.iter().rev().take(8) {
+        sum = sum << 8 | *byte as u64;
+    }
+    Ok(sum)
 }

@@ -1,98 +1,110 @@
-//! Works on trees over SHA-256, whose leaves have eight bytes each.
+//! Works on trees over byte strings, whose leaves have eight bytes each.
 
+use crate::sums::sum_of_value;
 use ark_crypto_primitives::Error;
 use ark_crypto_primitives::merkle_tree::{
     Binding, Config, LeafParam, MerkleTree, Path, TwoToOneParam, is_tree_size,
 };
-use ark_crypto_primitives::serialize::{CanonicalSerialize, canonical_bytes};
 use std::alloc::Global;
 
-/// Builds a tree of `size` leaves, `count` times.
-pub fn builds<P: Config<Leaf = Vec<u8>>>(
+/// The work that a word names, in a tree of 2^16 or 2^20 leaves, `count` times.
+pub fn checksum<P: Config<Leaf = Vec<u8>>>(
     alloc: Global,
     leaf: &LeafParam<P>,
     pair: &TwoToOneParam<P>,
-    size: usize,
+    work: &str,
+    count: u64,
+) -> Result<Option<u64>, Error> {
+    let Some((work, height)) = work.split_once('-') else {
+        return Ok(None);
+    };
+    let size = match height {
+        "16" => 1 << 16,
+        "20" => 1 << 20,
+        _ => return Ok(None),
+    };
+    let leaves = leaves_of(alloc, size)?;
+    if work == "build" {
+        return Ok(Some(builds::<P>(alloc, leaf, pair, &leaves, count)?));
+    }
+    let mut tree = tree_over::<P>(alloc, leaf, pair, &leaves)?;
+    let path = proof_of(alloc, &tree, 1)?;
+    let item = leaf_of(alloc, 1)?;
+    Ok(Some(match work {
+        "update" => updates(alloc, &mut tree, count)?,
+        "proof" => proofs(alloc, &tree, count)?,
+        "verify" => verifications(alloc, leaf, pair, &path, tree.root(), &item, count)?,
+        "bind" => bindings(alloc, &tree, &path, &item, count)?,
+        _ => return Ok(None),
+    }))
+}
+
+fn builds<P: Config<Leaf = Vec<u8>>>(
+    alloc: Global,
+    leaf: &LeafParam<P>,
+    pair: &TwoToOneParam<P>,
+    leaves: &[Vec<u8>],
     count: u64,
 ) -> Result<u64, Error> {
-    let leaves = leaves_of(alloc, size)?;
     let mut sum = 0;
     for _ in 0..count {
-        sum ^= sum_of(alloc, tree_over::<P>(alloc, leaf, pair, &leaves)?.root())?;
+        sum ^= sum_of_value(alloc, tree_over::<P>(alloc, leaf, pair, leaves)?.root())?;
     }
     Ok(sum)
 }
 
-/// Sets `count` leaves of such a tree.
-pub fn updates<P: Config<Leaf = Vec<u8>>>(
+fn updates<P: Config<Leaf = Vec<u8>>>(
     alloc: Global,
-    leaf: &LeafParam<P>,
-    pair: &TwoToOneParam<P>,
-    size: usize,
+    tree: &mut MerkleTree<P>,
     count: u64,
 ) -> Result<u64, Error> {
-    let mut tree = tree_over::<P>(alloc, leaf, pair, &leaves_of(alloc, size)?)?;
     for step in 0..count {
         let item = leaf_of(alloc, step)?;
-        let index = place(step, size);
+        let index = place(step, tree.size());
         if index < tree.size() {
             tree.update(alloc, index, &item)?;
         }
     }
-    sum_of(alloc, tree.root())
+    sum_of_value(alloc, tree.root())
 }
 
-/// Makes `count` proofs in such a tree.
-pub fn proofs<P: Config<Leaf = Vec<u8>>>(
-    alloc: Global,
-    leaf: &LeafParam<P>,
-    pair: &TwoToOneParam<P>,
-    size: usize,
-    count: u64,
-) -> Result<u64, Error> {
-    let tree = tree_over::<P>(alloc, leaf, pair, &leaves_of(alloc, size)?)?;
+fn proofs<P: Config>(alloc: Global, tree: &MerkleTree<P>, count: u64) -> Result<u64, Error> {
     let mut sum = 0;
     for step in 0..count {
-        let path = proof_of::<P>(alloc, &tree, place(step, size))?;
+        let path = proof_of(alloc, tree, place(step, tree.size()))?;
         sum = path.auth_path.len() as u64 ^ sum;
     }
     Ok(sum)
 }
 
-/// Checks one proof of such a tree `count` times.
-pub fn verifications<P: Config<Leaf = Vec<u8>>>(
+fn verifications<P: Config>(
     alloc: Global,
     leaf: &LeafParam<P>,
     pair: &TwoToOneParam<P>,
-    size: usize,
+    path: &Path<P>,
+    root: &P::InnerDigest,
+    item: &P::Leaf,
     count: u64,
 ) -> Result<u64, Error> {
-    let tree = tree_over::<P>(alloc, leaf, pair, &leaves_of(alloc, size)?)?;
-    let path = proof_of::<P>(alloc, &tree, 1)?;
-    let item = leaf_of(alloc, 1)?;
     let mut accepted = 0u64;
     for _ in 0..count {
-        if path.verify(alloc, leaf, pair, tree.root(), &item)? {
+        if path.verify(alloc, leaf, pair, root, item)? {
             accepted = accepted.wrapping_add(1);
         }
     }
     Ok(accepted)
 }
 
-/// Binds one leaf of such a tree `count` times.
-pub fn bindings<P: Config<Leaf = Vec<u8>>>(
+fn bindings<P: Config>(
     alloc: Global,
-    leaf: &LeafParam<P>,
-    pair: &TwoToOneParam<P>,
-    size: usize,
+    tree: &MerkleTree<P>,
+    path: &Path<P>,
+    item: &P::Leaf,
     count: u64,
 ) -> Result<u64, Error> {
-    let tree = tree_over::<P>(alloc, leaf, pair, &leaves_of(alloc, size)?)?;
-    let path = proof_of::<P>(alloc, &tree, 1)?;
-    let item = leaf_of(alloc, 1)?;
     let mut stands = 0u64;
     for _ in 0..count {
-        if tree.bind(alloc, &path, &item)? == Binding::Stands {
+        if tree.bind(alloc, path, item)? == Binding::Stands {
             stands = stands.wrapping_add(1);
         }
     }
@@ -138,13 +150,4 @@ fn proof_of<P: Config>(
 fn place(step: u64, size: usize) -> usize {
     let far = step.wrapping_mul(0x9e37_79b9_7f4a_7c15) >> 32;
     (far as usize).checked_rem(size).unwrap_or(0)
-}
-
-// The last eight bytes of a digest as a number.
-fn sum_of<D: CanonicalSerialize>(alloc: Global, digest: &D) -> Result<u64, Error> {
-    let mut sum = 0;
-    for byte in canonical_bytes(alloc, digest)?.iter().rev().take(8) {
-        sum = sum << 8 | *byte as u64;
-    }
-    Ok(sum)
 }

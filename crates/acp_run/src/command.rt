@@ -3,13 +3,13 @@
 ghost use Rattle.std.specs.Prelude.{◌≡◌, ◌≢◌, map, string_bytes, None, IfSome, MatchResult};
 ghost use Rattle.std.specs.Io.Buffered.{reader_remaining};
 ghost use Rattle.std.specs.Io.KnownBytes.{Keeps};
-ghost use Rattle.acp_session.specs.Commands.{configuration_of, language_of, usage, stop_notice};
-ghost use Rattle.acp_session.specs.Sessions.{AppendsFront, LosesFront, Serves, Stops};
+ghost use Rattle.acp_run.specs.Commands.{configuration_of, language_of, usage, stop_notice};
+ghost use Rattle.acp_run.specs.Sessions.{AppendsFront, LosesFront, Serves, Stops};
 ghost use Rattle.acp_session.specs.Steps.{Step};
 
 use crate::run::{run, write_front};
-use crate::sha256::Sha;
-use crate::toy::Toy;
+use acp_session::sha256::Sha;
+use acp_session::toy::Toy;
 use std::alloc::Global;
 use std::io::{self, BufReader, Read, Write};
 

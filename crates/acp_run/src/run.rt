@@ -4,12 +4,12 @@ ghost use Rattle.std.specs.Prelude.{◌≡◌, ◌<◌, length, true, false, IfO
 ghost use Rattle.std.specs.Io.BufRead.{DropsThrough, strip_last, take_through};
 ghost use Rattle.std.specs.Io.Buffered.{reader_remaining};
 ghost use Rattle.std.specs.Io.KnownBytes.{Appends, IsAtEnd, Keeps};
-ghost use Rattle.acp_session.specs.Lines.{with_line_feed};
-ghost use Rattle.acp_session.specs.Sessions.{AppendsFront, LosesFront, Serves, Stops};
+ghost use Rattle.acp_run.specs.Lines.{with_line_feed};
+ghost use Rattle.acp_run.specs.Sessions.{AppendsFront, LosesFront, Serves, Stops};
 ghost use Rattle.acp_session.specs.Steps.{Step};
 
-use crate::answer::answer;
-use crate::shell::Shell;
+use acp_session::answer::answer;
+use acp_session::shell::Shell;
 use ark_merkle::{LeafParam, MerkleTree, TwoToOneParam};
 use memchr::memchr;
 use std::alloc::Global;

@@ -1,8 +1,8 @@
 -- The words behind the program's name.
 use Rattle.std.specs.Prelude.{ℕ, List, [], ◌∷◌, ◌++◌, if◌then◌else◌, Option, Some, None, codes}
 use Rattle.std.specs.Str.{bytes_eq}
-use Rattle.acp_session.specs.declared.command.Configuration.{Configuration}
-use Rattle.acp_session.specs.declared.command.Configuration.TheVariants.{Sha256, Toy}
+use Rattle.acp_run.specs.declared.command.Configuration.{Configuration}
+use Rattle.acp_run.specs.declared.command.Configuration.TheVariants.{Sha256, Toy}
 use Rattle.acp_session.specs.Language.{Language}
 use Rattle.acp_session.specs.Sha256.{sha_language}
 use Rattle.acp_session.specs.Toy.{toy_language}

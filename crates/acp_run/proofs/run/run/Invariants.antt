@@ -1,9 +1,9 @@
 use Rattle.std.specs.Io.Buffered.{reader_remaining}
 use Rattle.ark_merkle.specs.Pair.{pair_of}
-use Rattle.acp_session.specs.Sessions.{LosesFront}
+use Rattle.acp_run.specs.Sessions.{LosesFront}
 use Rattle.acp_session.specs.Steps.{Step, HasHashes, state_of}
-use Rattle.acp_session.proofs.Runs.{Going}
-use Rattle.acp_session.proofs.run.run.Given as goal
+use Rattle.acp_run.proofs.Runs.{Going}
+use Rattle.acp_run.proofs.run.run.Given as goal
 
 -- some lines are done, and the tree hashes as the session does
 abbrev pub invariant-loop : goal.invariant-loop

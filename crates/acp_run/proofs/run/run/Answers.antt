@@ -1,7 +1,7 @@
 use Rattle.std.proofs.Common.{◌<◌, length}
 use Rattle.acp_session.specs.Steps.{Step}
-use Rattle.acp_session.proofs.Runs.{going_from_start, going_on, going_to_end, stops_here, stops_within, kept_front, kept_then, keeps_self, loses_none, loses_both, on_err}
-use Rattle.acp_session.proofs.run.run.Goals as goal
+use Rattle.acp_run.proofs.Runs.{going_from_start, going_on, going_to_end, stops_here, stops_within, kept_front, kept_then, keeps_self, loses_none, loses_both, on_err}
+use Rattle.acp_run.proofs.run.run.Goals as goal
 
 pub loop-init : goal.loop-init
 loop-init g c = record { going = going_from_start (Step (g.C.Shell.language c.args.leaf_parameters.now c.args.pair_parameters.now)) _ _; read = loses_none _; hashes = tt }

@@ -2,7 +2,7 @@
 use Rattle.std.specs.Prelude.{ℕ, List, [], ◌∷◌, take, Option, None, IfSome}
 use Rattle.std.specs.List.{flat_map}
 use Rattle.std.specs.Io.KnownBytes.{Appends, Consumes}
-use Rattle.acp_session.specs.Lines.{lines_of, with_line_feed}
+use Rattle.acp_run.specs.Lines.{lines_of, with_line_feed}
 
 -- some lines, one after another, from a state on, and the reply to each
 abbrev pub Session : {T : Type 0} → (T → List ℕ → T → List ℕ → Type 0) → T → List (List ℕ) → List (List ℕ) → Type 0

@@ -6,9 +6,9 @@ use Rattle.std.specs.Io.KnownBytes.{Appends, Keeps, IsAtEnd, Consumes}
 use Rattle.std.specs.Io.BufRead.{take_through, drop_through, strip_last, DropsThrough}
 use Rattle.std.proofs.lemmas.List.{flat_map_more}
 use Rattle.std.proofs.Math.Seq.{take-add}
-use Rattle.acp_session.specs.Lines.{lines_of, with_line_feed}
-use Rattle.acp_session.specs.Sessions.{Session, Serves, Stops, AppendsFront, LosesFront}
-use Rattle.acp_session.proofs.Cutting.{lines_of-cons}
+use Rattle.acp_run.specs.Lines.{lines_of, with_line_feed}
+use Rattle.acp_run.specs.Sessions.{Session, Serves, Stops, AppendsFront, LosesFront}
+use Rattle.acp_run.proofs.FirstLine.{lines_of-cons}
 
 -- ---- what a writer holds
 

@@ -1,0 +1,5 @@
+//! Runs a session of the program `acp` over a reader and a writer, by the words behind the program's name.
+#![tactic(auto)]
+
+pub mod command;
+pub mod run;
