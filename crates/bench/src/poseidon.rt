@@ -6,9 +6,9 @@ use ark_crypto_primitives::Error;
 use ark_crypto_primitives::crh::TwoToOneCRHScheme;
 use ark_crypto_primitives::crh::poseidon::TwoToOneCRH;
 use ark_crypto_primitives::ff::PrimeField;
-use ark_crypto_primitives::sponge::Absorb;
+use ark_crypto_primitives::serialize::DigestItem;
 use ark_crypto_primitives::sponge::poseidon::{PoseidonConfig, PoseidonSponge, SBox};
-use ark_crypto_primitives::sponge::{CryptographicSponge, FieldBasedCryptographicSponge};
+use ark_crypto_primitives::sponge::{Absorb, CryptographicSponge, FieldBasedCryptographicSponge};
 use std::alloc::Global;
 
 /// Fifth powers.
@@ -38,7 +38,7 @@ impl<F: PrimeField> SBox<F> for Seventh {
 }
 
 /// The work that a word names, `count` times, over states of `width` elements with `partial_rounds`.
-pub fn checksum<F: PrimeField + Absorb, S: SBox<F>>(
+pub fn checksum<F: PrimeField + Absorb + DigestItem, S: SBox<F>>(
     alloc: Global,
     work: &str,
     width: usize,
@@ -142,7 +142,7 @@ fn squeezes<F: PrimeField + Absorb, S: SBox<F>>(
 }
 
 // Hashes of two elements, the left one being the hash before.
-fn pair_hashes<F: PrimeField + Absorb, S: SBox<F>>(
+fn pair_hashes<F: PrimeField + DigestItem, S: SBox<F>>(
     alloc: Global,
     parameters: &PoseidonConfig<F>,
     count: u64,

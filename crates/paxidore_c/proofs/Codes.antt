@@ -8,10 +8,10 @@ use Rattle.ark_merkle.specs.MultiPath.{MultiWay}
 use Rattle.ark_merkle.specs.Pair.{Digest, Hashes}
 use Rattle.ark_merkle.specs.Path.{Way}
 use Rattle.ark_merkle.specs.Received.{ShowsLeaf, ShowsLeaves, StandInTurn, received_multi_verdict}
-use Rattle.paxidore_c.specs.Answer.{Gives, all_shown, leaves_for, refusal_code, refused_of, refusing, results_of, verdict_code}
-use Rattle.paxidore_c.specs.Hashing.{Hashing, hashes_of, node_pair, read_path, read_multi_path}
-use Rattle.paxidore_c.specs.declared.refused.Refused.{Refused}
-use Rattle.paxidore_c.specs.declared.refused.Refused.TheVariants.{Memory, Truncated, Invalid, Height, Size, Lengths, Count, Index, Room, Other}
+use Rattle.paxidore_calls.specs.Answer.{Gives, all_shown, leaves_for, refusal_code, refused_of, refusing, results_of, verdict_code}
+use Rattle.paxidore_calls.specs.Hashing.{Hashing, hashes_of, node_pair, read_path, read_multi_path}
+use Rattle.paxidore_calls.specs.declared.refused.Refused.{Refused}
+use Rattle.paxidore_calls.specs.declared.refused.Refused.TheVariants.{Memory, Truncated, Invalid, Height, Size, Lengths, Count, Index, Room, Other}
 
 -- no refusal says yes
 pub refusal-no : (refused : Refused) → to_z w32 (of_z w32 (refusal_code refused)) ≡ pos 0 → ⊥

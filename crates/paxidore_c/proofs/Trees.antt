@@ -15,10 +15,10 @@ use Rattle.ark_base.specs.Outcome.{Outcome, ◌>>=◌}
 use Rattle.ark_merkle.specs.Pair.{Digest}
 use Rattle.ark_merkle.specs.Root.{Root, place, root, upper_levels}
 use Rattle.ark_merkle.specs.Tree.{tree_above}
-use Rattle.paxidore_c.specs.Answer.{GivesBy, are_indexes, multi_path_of_leaves, only_if, refused_of, results_of, tree_leaves_in}
-use Rattle.paxidore_c.specs.Hashing.{Hashing, node_pair, bytes_of_multi_path, tree_over}
-use Rattle.paxidore_c.specs.declared.refused.Refused.{Refused}
-use Rattle.paxidore_c.specs.declared.refused.Refused.TheVariants.{Index}
+use Rattle.paxidore_calls.specs.Answer.{GivesBy, are_indexes, multi_path_of_leaves, only_if, refused_of, results_of, tree_leaves_in}
+use Rattle.paxidore_calls.specs.Hashing.{Hashing, node_pair, bytes_of_multi_path, tree_over}
+use Rattle.paxidore_calls.specs.declared.refused.Refused.{Refused}
+use Rattle.paxidore_calls.specs.declared.refused.Refused.TheVariants.{Index}
 
 abbrev Outcomes : Outcome MultiWay → Outcome MultiWay → Type 0
 Outcomes a b = a ≡ b

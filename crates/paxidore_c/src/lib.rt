@@ -5,8 +5,5 @@
 #![tactic(auto)]
 
 pub mod blake2s;
-mod buffer;
-mod leaves;
-mod refused;
 pub mod rfc6962;
 pub mod sha256;

@@ -3,16 +3,16 @@
 ghost use Rattle.std.specs.Prelude.{◌≡◌, ◌≢◌, pos, length, IfOk, Ok};
 ghost use Rattle.ark_merkle.specs.Received.{ShowsLeaf, ShowsLeaves};
 ghost use Rattle.ark_merkle.specs.Tree.{root_in};
-ghost use Rattle.paxidore_c.specs.Answer.{Gives, GivesBy, Hands, all_shown, done_code, leaves_for, multi_path_of_leaves, path_of_leaves, results_of, shown, tree_leaves_in, verdict_code};
-ghost use Rattle.paxidore_c.specs.Hashing.{hashes_of, read_multi_path, read_path, sha256_hashing, tree_over};
+ghost use Rattle.paxidore_calls.specs.Answer.{Gives, GivesBy, Hands, all_shown, done_code, leaves_for, multi_path_of_leaves, path_of_leaves, results_of, shown, tree_leaves_in, verdict_code};
+ghost use Rattle.paxidore_calls.specs.Hashing.{hashes_of, read_multi_path, read_path, sha256_hashing, tree_over};
 ghost use Rattle.sha2.specs.Sha256.{sha256};
 
-use crate::buffer::hand_over;
-use crate::leaves::{PlainDigest, are_indexes, leaves_for, of_leaves};
-use crate::refused::{Refused, verdict_code};
 use ark_base::serialize::canonical_bytes;
 use ark_merkle::{MerkleTree, MultiPath, Path, is_tree_size};
 use ark_trees::Sha256Arrays;
+use paxidore_calls::buffer::hand_over;
+use paxidore_calls::leaves::{PlainDigest, are_indexes, leaves_for, of_leaves};
+use paxidore_calls::refused::{Refused, verdict_code};
 use std::alloc::Global;
 
 /// Whether the bytes of a path show a leaf at an index of a tree with this root and size.

@@ -1,5 +1,5 @@
 use Rattle.paxidore_c.proofs.Codes.{all-shown-gives, multi-shows-zero, none-shown-gives}
-use Rattle.paxidore_c.specs.Hashing.{rfc6962_hashing}
+use Rattle.paxidore_calls.specs.Hashing.{rfc6962_hashing}
 use Rattle.paxidore_c.proofs.rfc6962.paxidore_rfc6962_multi_verify.Goals as goal
 
 pub returns-in-Ok-clause-answer : goal.returns-in-Ok-clause-answer

@@ -2,8 +2,8 @@ use Rattle.std.proofs.Common.{◌≡◌, Ok}
 use Rattle.ark_trees.specs.Rfc6962.{entry_hash}
 use Rattle.ark_merkle.specs.Root.{root}
 use Rattle.paxidore_c.proofs.Trees.{over-leaves}
-use Rattle.paxidore_c.specs.Answer.{tree_leaves_in}
-use Rattle.paxidore_c.specs.Hashing.{rfc6962_hashing, node_pair}
+use Rattle.paxidore_calls.specs.Answer.{tree_leaves_in}
+use Rattle.paxidore_calls.specs.Hashing.{rfc6962_hashing, node_pair}
 use Rattle.paxidore_c.proofs.rfc6962.paxidore_rfc6962_root.Goals as goal
 
 pub returns-in-Ok-clause-root : goal.returns-in-Ok-clause-root

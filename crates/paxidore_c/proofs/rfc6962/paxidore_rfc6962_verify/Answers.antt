@@ -1,5 +1,5 @@
 use Rattle.paxidore_c.proofs.Codes.{shows-zero}
-use Rattle.paxidore_c.specs.Hashing.{rfc6962_hashing}
+use Rattle.paxidore_calls.specs.Hashing.{rfc6962_hashing}
 use Rattle.paxidore_c.proofs.rfc6962.paxidore_rfc6962_verify.Goals as goal
 
 pub returns-clause-shows : goal.returns-clause-shows

@@ -1,5 +1,5 @@
 use Rattle.paxidore_c.proofs.Trees.{tree-memory}
-use Rattle.paxidore_c.specs.Hashing.{rfc6962_hashing}
+use Rattle.paxidore_calls.specs.Hashing.{rfc6962_hashing}
 use Rattle.paxidore_c.proofs.rfc6962.tree_of.Goals as goal
 
 pub returns-in_err-new_with_leaf_digest : goal.returns-in_err-new_with_leaf_digest

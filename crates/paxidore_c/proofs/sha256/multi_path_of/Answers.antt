@@ -1,7 +1,7 @@
 use Rattle.std.proofs.Common.{◌≡◌, ◌∙◌, length, true, sym}
 use Rattle.paxidore_c.proofs.Trees.{multi-made, written-multi}
-use Rattle.paxidore_c.specs.Answer.{are_indexes}
-use Rattle.paxidore_c.specs.Hashing.{sha256_hashing}
+use Rattle.paxidore_calls.specs.Answer.{are_indexes}
+use Rattle.paxidore_calls.specs.Hashing.{sha256_hashing}
 use Rattle.paxidore_c.proofs.sha256.multi_path_of.Goals as goal
 
 pub returns : goal.returns

@@ -1,5 +1,5 @@
 use Rattle.paxidore_c.proofs.Codes.{all-shown-gives, multi-shows-zero, none-shown-gives}
-use Rattle.paxidore_c.specs.Hashing.{sha256_hashing}
+use Rattle.paxidore_calls.specs.Hashing.{sha256_hashing}
 use Rattle.paxidore_c.proofs.sha256.paxidore_sha256_multi_verify.Goals as goal
 
 pub returns-in-Ok-clause-answer : goal.returns-in-Ok-clause-answer

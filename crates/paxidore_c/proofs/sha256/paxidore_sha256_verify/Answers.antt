@@ -1,5 +1,5 @@
 use Rattle.paxidore_c.proofs.Codes.{shows-zero}
-use Rattle.paxidore_c.specs.Hashing.{sha256_hashing}
+use Rattle.paxidore_calls.specs.Hashing.{sha256_hashing}
 use Rattle.paxidore_c.proofs.sha256.paxidore_sha256_verify.Goals as goal
 
 pub returns-clause-shows : goal.returns-clause-shows

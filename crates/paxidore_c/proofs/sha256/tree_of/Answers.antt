@@ -1,5 +1,5 @@
 use Rattle.paxidore_c.proofs.Trees.{tree-memory}
-use Rattle.paxidore_c.specs.Hashing.{sha256_hashing}
+use Rattle.paxidore_calls.specs.Hashing.{sha256_hashing}
 use Rattle.paxidore_c.proofs.sha256.tree_of.Goals as goal
 
 pub returns-in_err-new_with_leaf_digest : goal.returns-in_err-new_with_leaf_digest

@@ -1,6 +1,6 @@
 use Rattle.std.proofs.Common.{◌≡◌, length, map}
-use Rattle.paxidore_c.proofs.Cutting.{IsSoFar}
-use Rattle.paxidore_c.proofs.leaves.of_leaves.Given as goal
+use Rattle.paxidore_calls.proofs.Cutting.{IsSoFar}
+use Rattle.paxidore_calls.proofs.leaves.of_leaves.Given as goal
 
 abbrev pub invariant-loop-len : goal.invariant-loop-len
 invariant-loop-len g l = record {

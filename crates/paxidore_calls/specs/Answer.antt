@@ -10,10 +10,10 @@ use Rattle.ark_merkle.specs.MultiProof.{multi_path_in}
 use Rattle.ark_merkle.specs.Pair.{Digest}
 use Rattle.ark_merkle.specs.Received.{received_verdict, received_multi_verdict}
 use Rattle.ark_merkle.specs.Tree.{path_in}
-use Rattle.paxidore_c.specs.declared.refused.Refused.{Refused}
-use Rattle.paxidore_c.specs.declared.refused.Refused.TheVariants.{Memory, Truncated, Invalid, Height, Size, Lengths, Count, Index, Room, Other}
-use Rattle.paxidore_c.specs.Cut.{parts_by}
-use Rattle.paxidore_c.specs.Hashing.{Hashing, hashes_of, tree_over, bytes_of_path, read_path, bytes_of_multi_path, read_multi_path}
+use Rattle.paxidore_calls.specs.declared.refused.Refused.{Refused}
+use Rattle.paxidore_calls.specs.declared.refused.Refused.TheVariants.{Memory, Truncated, Invalid, Height, Size, Lengths, Count, Index, Room, Other}
+use Rattle.paxidore_calls.specs.Cut.{parts_by}
+use Rattle.paxidore_calls.specs.Hashing.{Hashing, hashes_of, tree_over, bytes_of_path, read_path, bytes_of_multi_path, read_multi_path}
 
 -- ---- refusals and their codes
 

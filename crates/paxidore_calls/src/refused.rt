@@ -1,8 +1,8 @@
 //! Why a call is refused, and the codes of answers.
 
 ghost use Rattle.std.specs.Prelude.{◌≡◌};
-ghost use Rattle.paxidore_c.specs.declared.refused.Refused.TheVariants.{Memory};
-ghost use Rattle.paxidore_c.specs.Answer.{refusal_code, refused_of, refusing, verdict_code};
+ghost use Rattle.paxidore_calls.specs.declared.refused.Refused.TheVariants.{Memory};
+ghost use Rattle.paxidore_calls.specs.Answer.{refusal_code, refused_of, refusing, verdict_code};
 
 use ark_base::error::{Error, SerializationError};
 use std::alloc::{AllocError, AllocFailed};

@@ -4,10 +4,10 @@ use Rattle.std.proofs.Math.Seq.{drop-cons}
 use Rattle.std.proofs.lemmas.Bool.{le-ltb, lt-ltb}
 use Rattle.std.proofs.lemmas.List.{drop_all}
 use Rattle.std.specs.Option.{option_map}
-use Rattle.paxidore_c.specs.Answer.{leaves_in, results_of}
-use Rattle.paxidore_c.specs.Cut.{parts_by}
-use Rattle.paxidore_c.specs.declared.refused.Refused.{Refused}
-use Rattle.paxidore_c.specs.declared.refused.Refused.TheVariants.{Lengths}
+use Rattle.paxidore_calls.specs.Answer.{leaves_in, results_of}
+use Rattle.paxidore_calls.specs.Cut.{parts_by}
+use Rattle.paxidore_calls.specs.declared.refused.Refused.{Refused}
+use Rattle.paxidore_calls.specs.declared.refused.Refused.TheVariants.{Lengths}
 
 -- some results before others, where those are there
 abbrev pub behind : {B : Type 0} → List B → Result (List B) Refused → Result (List B) Refused

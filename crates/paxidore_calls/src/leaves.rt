@@ -4,8 +4,8 @@ ghost use Rattle.std.specs.Prelude.{◌≡◌, ◌<◌, ◌≤◌, ℕ, List, le
 ghost use Rattle.std.specs.List.{All, list_all};
 ghost use Rattle.ark_merkle.specs.Index.{IsTreeSize};
 ghost use Rattle.ark_trees.specs.Rfc6962.{entry_hash};
-ghost use Rattle.paxidore_c.specs.Answer.{GivesBy, are_indexes, leaves_for, leaves_in, results_of};
-ghost use Rattle.paxidore_c.specs.Cut.{parts_by};
+ghost use Rattle.paxidore_calls.specs.Answer.{GivesBy, are_indexes, leaves_for, leaves_in, results_of};
+ghost use Rattle.paxidore_calls.specs.Cut.{parts_by};
 ghost use Rattle.sha2.specs.Sha256.{sha256};
 
 use crate::refused::Refused;

@@ -1,8 +1,8 @@
 //! Bytes for a caller's buffer.
 
 ghost use Rattle.std.specs.Prelude.{◌≡◌, ℕ, List, Result};
-ghost use Rattle.paxidore_c.specs.Answer.{GivesBy, Hands};
-ghost use Rattle.paxidore_c.specs.declared.refused.Refused.{Refused};
+ghost use Rattle.paxidore_calls.specs.Answer.{GivesBy, Hands};
+ghost use Rattle.paxidore_calls.specs.declared.refused.Refused.{Refused};
 
 use crate::refused::Refused;
 
