@@ -1,6 +1,5 @@
 //! SHA-256 as a function of bytes.
 
-use ark_base::error::Error;
 use ark_groups::digest::ByteDigest;
 use sha2::Sha256;
 use std::alloc::Global;
@@ -11,15 +10,14 @@ const ABC: [u8; 32] = [
     0xb0, 0x03, 0x61, 0xa3, 0x96, 0x17, 0x7a, 0x9c, 0xb4, 0x10, 0xff, 0x61, 0xf2, 0x00, 0x15, 0xad,
 ];
 
-fn digest_of<D: ByteDigest>(alloc: Global, input: &[u8]) -> Result<Vec<u8>, Error> {
-    D::digest(alloc, input)
-}
-
-fn is_digest(alloc: Global, input: &[u8], bytes: &[u8]) -> Result<bool, Error> {
-    Ok(digest_of::<Sha256>(alloc, input)?.as_slice() == bytes)
+fn is_digest<D: ByteDigest>(alloc: Global, input: &[u8], bytes: &[u8]) -> bool {
+    match D::digest(alloc, input) {
+        Ok(digest) => digest.as_slice() == bytes,
+        Err(_) => false,
+    }
 }
 
 #[test]
 fn three_letters(rt: HostRuntime) {
-    assert_eq!(rt; is_digest(rt.alloc(), b"abc", &ABC), Ok(true));
+    assert!(rt; is_digest::<Sha256>(rt.alloc(), b"abc", &ABC));
 }

@@ -1,27 +1,52 @@
-//! Groups by worked examples.
+//! Groups by worked examples. What is asked of a group is asked of any, so that each group is named once.
 
 use crate::asked::{INVALID, TRUNCATED, fault, is_digest, is_spelled};
 use crate::plain;
+use ark_base::serialize::DigestItem;
 use ark_groups::ec::{
-    CurveGroup, Residues, SWCoordinates, SWPoint, Small, SmallModulus, TECoordinates, TEPoint,
+    Additive, CurveGroup, Residues, SWCoordinates, SWPoint, Small, SmallModulus, TECoordinates,
+    TEPoint, WithCoordinates, WithoutCoordinates,
 };
 use ark_groups::ff::{Fp, M7, M13, M61, M257, Modulus, PrimeField};
 use rand::rngs::SmallRng;
 use rand::{Rng, RngExt, SeedableRng};
+use std::alloc::Global;
+
+// A group whose elements are numbers.
+trait OfNumbers: CurveGroup + DigestItem {
+    fn of(number: u64) -> Self;
+}
+
+impl<M: Modulus, K> OfNumbers for Additive<M, K> {
+    fn of(number: u64) -> Additive<M, K> {
+        Additive::new(Fp::from_u64(number))
+    }
+}
+
+// A fact of a group's elements, each named by a number.
+#[derive(Clone, Copy)]
+enum Fact {
+    Times(u64, u64, u64),
+    Sum(u64, u64, u64),
+    Negative(u64, u64),
+    Double(u64, u64),
+    // Two elements' sum and product are those of the trait alone.
+    Group(u64, u64),
+    // An element's multiples are repeated sums, where the group has so many elements.
+    Multiples(u64, u64),
+    // As what a sponge takes.
+    EqualPoints(u64, u64),
+    UnequalPoints(u64, u64),
+    Spelled(u64, &'static [u8]),
+    Invalid(&'static [u8]),
+    Truncated(&'static [u8]),
+    Digest(u64),
+}
 
 fn times<C: CurveGroup>(x: C, count: u64) -> C {
     x.mul(C::ScalarField::from_u64(count))
 }
 
-fn residue<M: Modulus>(number: u64) -> Residues<M> {
-    Residues::new(Fp::from_u64(number))
-}
-
-fn small<M: SmallModulus>(number: u64) -> Small<M> {
-    Small::new(Fp::from_u64(number))
-}
-
-// A group whose sum and product are those of the trait alone.
 fn is_group<C: CurveGroup>(x: C, y: C) -> bool {
     x.add(y) == y.add(x)
         && x.add(x.neg()) == C::zero()
@@ -30,98 +55,151 @@ fn is_group<C: CurveGroup>(x: C, y: C) -> bool {
         && C::default() == C::zero()
 }
 
-#[test]
-fn residues_are_added(rt: HostRuntime) {
-    assert_eq!(rt; times(residue::<M13>(9), 5), residue(6));
-    assert_eq!(rt; residue::<M13>(9).add(residue(7)), residue(3));
-    assert_eq!(rt; residue::<M7>(3).neg(), residue(4));
-    assert_eq!(rt; residue::<M257>(200).double(), residue(143));
-    assert!(rt; is_group(residue::<M7>(3), residue(5)));
-    assert!(rt; is_group(residue::<M257>(200), residue(199)));
+fn are_sums<C: CurveGroup>(x: C, size: u64) -> bool {
+    for count in 0..30 {
+        if times(x, count) != plain::times(count % size.max(1), x) {
+            return false;
+        }
+    }
+    true
 }
 
-#[test]
-fn multiples_are_repeated_sums(rt: HostRuntime) {
-    for count in 0..30 {
-        let nine = small::<M13>(9);
-        assert_eq!(rt; times(nine, count), plain::times(count % 13, nine));
-        let five = residue::<M257>(5);
-        assert_eq!(rt; times(five, count), plain::times(count, five));
+fn holds<C: OfNumbers>(alloc: Global, fact: Fact) -> bool {
+    match fact {
+        Fact::Times(x, count, product) => times(C::of(x), count) == C::of(product),
+        Fact::Sum(x, y, sum) => C::of(x).add(C::of(y)) == C::of(sum),
+        Fact::Negative(x, negative) => C::of(x).neg() == C::of(negative),
+        Fact::Double(x, double) => C::of(x).double() == C::of(double),
+        Fact::Group(x, y) => is_group(C::of(x), C::of(y)),
+        Fact::Multiples(x, size) => are_sums(C::of(x), size),
+        Fact::EqualPoints(x, y) => TEPoint(C::of(x)) == TEPoint(C::of(y)),
+        Fact::UnequalPoints(x, y) => SWPoint(C::of(x)) != SWPoint(C::of(y)),
+        Fact::Spelled(x, bytes) => is_spelled(alloc, &C::of(x), bytes),
+        Fact::Invalid(bytes) => fault::<C>(alloc, bytes) == INVALID,
+        Fact::Truncated(bytes) => fault::<C>(alloc, bytes) == TRUNCATED,
+        Fact::Digest(x) => is_digest(alloc, &C::of(x), &C::of(0)),
     }
+}
+
+fn hold<C: OfNumbers>(alloc: Global, facts: &[Fact]) -> bool {
+    for fact in facts {
+        if !holds::<C>(alloc, *fact) {
+            return false;
+        }
+    }
+    true
+}
+
+// The same of the numbers below a modulus, of the two kinds.
+fn of_residues<M: Modulus>(alloc: Global, facts: &[Fact]) -> bool {
+    hold::<Residues<M>>(alloc, facts)
+}
+
+fn of_small<M: Modulus>(alloc: Global, facts: &[Fact]) -> bool {
+    hold::<Small<M>>(alloc, facts)
+}
+
+const RESIDUES_OF_7: [Fact; 3] = [Fact::Negative(3, 4), Fact::Group(3, 5), Fact::Digest(3)];
+
+const RESIDUES_OF_13: [Fact; 3] = [
+    Fact::Times(9, 5, 6),
+    Fact::Sum(9, 7, 3),
+    Fact::Spelled(5, &[5]),
+];
+
+const RESIDUES_OF_257: [Fact; 7] = [
+    Fact::Double(200, 143),
+    Fact::Group(200, 199),
+    Fact::Multiples(5, 257),
+    Fact::Spelled(256, &[0, 1]),
+    Fact::Invalid(&[1, 1]),
+    Fact::Truncated(&[1]),
+    Fact::Digest(256),
+];
+
+const SMALL_OF_7: [Fact; 5] = [
+    Fact::Group(3, 6),
+    Fact::UnequalPoints(3, 4),
+    Fact::Spelled(6, &[6]),
+    Fact::Invalid(&[7]),
+    Fact::Digest(6),
+];
+
+const SMALL_OF_13: [Fact; 7] = [
+    Fact::Times(3, 5, 2),
+    Fact::Group(9, 7),
+    Fact::Multiples(9, 13),
+    Fact::EqualPoints(3, 16),
+    Fact::Spelled(12, &[12]),
+    Fact::Truncated(&[]),
+    Fact::Digest(5),
+];
+
+#[test]
+fn numbers_are_added(rt: HostRuntime) {
+    let alloc = rt.alloc();
+    assert!(rt;
+        of_residues::<M7>(alloc, &RESIDUES_OF_7)
+            && of_residues::<M13>(alloc, &RESIDUES_OF_13)
+            && of_residues::<M257>(alloc, &RESIDUES_OF_257)
+    );
+    assert!(rt; of_small::<M7>(alloc, &SMALL_OF_7) && of_small::<M13>(alloc, &SMALL_OF_13));
+}
+
+fn has_coordinates<C: SWCoordinates + Copy>(element: C, x: u64, y: u64, infinity: bool) -> bool {
+    element.x().value() == x && element.y().value() == y && element.infinity() == infinity
+}
+
+// Whether an element, added so often, has these coordinates, and zero has its own.
+fn is_at<M: SmallModulus>(number: u64, count: u64, x: u64, y: u64) -> bool {
+    has_coordinates(times(Small::<M>::of(number), count), x, y, false)
+        && has_coordinates(<Small<M> as CurveGroup>::zero(), 0, 1, true)
 }
 
 #[test]
 fn small_elements_have_coordinates(rt: HostRuntime) {
-    let two = times(small::<M13>(3), 5);
-    assert_eq!(rt; two, small(2));
-    assert_eq!(rt; (two.x().value(), two.y().value()), (29, 19));
-    assert!(rt; !two.infinity());
-    let zero = <Small<M13> as CurveGroup>::zero();
-    assert_eq!(rt; (zero.x().value(), zero.y().value()), (0, 1));
-    assert!(rt; zero.infinity());
-    let twelve = small::<M13>(12);
-    assert_eq!(rt; (twelve.x().value(), twelve.y().value()), (251, 212));
-    let six = small::<M7>(13);
-    assert_eq!(rt; (six.x().value(), six.y().value()), (131, 127));
-    assert!(rt; is_group(small::<M13>(9), small(7)));
-    assert!(rt; is_group(small::<M7>(3), small(6)));
+    assert!(rt;
+        is_at::<M13>(3, 5, 29, 19) && is_at::<M13>(12, 1, 251, 212) && is_at::<M7>(13, 1, 131, 127)
+    );
 }
 
-#[test]
-fn points_are_what_they_wrap(rt: HostRuntime) {
-    assert_eq!(rt; TEPoint(small::<M13>(3)), TEPoint(small(16)));
-    assert!(rt; SWPoint(small::<M7>(3)) != SWPoint(small(4)));
-}
-
-#[test]
-fn elements_are_spelled_as_their_numbers(rt: HostRuntime) {
-    let alloc = rt.alloc();
-    assert!(rt; is_spelled(alloc, &residue::<M257>(256), &[0, 1]));
-    assert!(rt; is_spelled(alloc, &residue::<M13>(5), &[5]));
-    assert!(rt; is_spelled(alloc, &small::<M13>(12), &[12]));
-    assert!(rt; is_spelled(alloc, &small::<M7>(6), &[6]));
-}
-
-#[test]
-fn the_modulus_and_cut_bytes_are_refused(rt: HostRuntime) {
-    let alloc = rt.alloc();
-    assert_eq!(rt; fault::<Residues<M257>>(alloc, &[1, 1]), INVALID);
-    assert_eq!(rt; fault::<Small<M7>>(alloc, &[7]), INVALID);
-    assert_eq!(rt; fault::<Residues<M257>>(alloc, &[1]), TRUNCATED);
-    assert_eq!(rt; fault::<Small<M13>>(alloc, &[]), TRUNCATED);
-}
-
-#[test]
-fn elements_are_digests(rt: HostRuntime) {
-    let alloc = rt.alloc();
-    assert!(rt; is_digest(alloc, &residue::<M257>(256), &residue(0)));
-    assert!(rt; is_digest(alloc, &residue::<M7>(3), &residue(0)));
-    assert!(rt; is_digest(alloc, &small::<M13>(5), &small(0)));
-    assert!(rt; is_digest(alloc, &small::<M7>(6), &small(0)));
+// Whether each number below 13 is drawn.
+fn draws_each<M: Modulus, K, R: Rng>(rng: &mut R) -> bool {
+    let mut seen = [false; 13];
+    for _ in 0..1000 {
+        let number = <Additive<M, K> as CurveGroup>::rand(rng).0.value();
+        match seen.get_mut(number as usize) {
+            Some(place) => *place = true,
+            None => return false,
+        }
+    }
+    seen == [true; 13]
 }
 
 #[test]
 fn each_element_is_drawn(rt: HostRuntime) {
     let mut rng = SmallRng::seed_from_u64(1);
-    let mut seen = [false; 13];
-    let mut seen_small = [false; 13];
-    for _ in 0..1000 {
-        seen[<Residues<M13> as CurveGroup>::rand(&mut rng).0.value() as usize] = true;
-        seen_small[<Small<M13> as CurveGroup>::rand(&mut rng).0.value() as usize] = true;
-    }
-    assert_eq!(rt; seen, [true; 13]);
-    assert_eq!(rt; seen_small, [true; 13]);
+    assert!(rt;
+        draws_each::<M13, WithoutCoordinates, SmallRng>(&mut rng)
+            && draws_each::<M13, WithCoordinates, SmallRng>(&mut rng)
+    );
 }
 
-// One number below 2^61 - 1 for each element.
+// Whether elements are numbers below 2^61 - 1 as the generator itself draws them, one for each.
+fn draws_numbers<M: Modulus, R: Rng>(rng: &mut R, twin: &mut R) -> bool {
+    for _ in 0..200 {
+        let drawn = <Residues<M> as CurveGroup>::rand(rng);
+        let number: u64 = twin.random_range(0..2305843009213693951);
+        if drawn.0.value() != number {
+            return false;
+        }
+    }
+    rng.next_u64() == twin.next_u64()
+}
+
 #[test]
 fn wide_elements_are_drawn_as_their_numbers(rt: HostRuntime) {
     let mut rng = SmallRng::seed_from_u64(61);
     let mut twin = SmallRng::seed_from_u64(61);
-    for _ in 0..200 {
-        let drawn = <Residues<M61> as CurveGroup>::rand(&mut rng);
-        let number: u64 = twin.random_range(0..2305843009213693951);
-        assert_eq!(rt; drawn.0.value(), number);
-    }
-    assert_eq!(rt; rng.next_u64(), twin.next_u64());
+    assert!(rt; draws_numbers::<M61, SmallRng>(&mut rng, &mut twin));
 }

@@ -1,10 +1,10 @@
-//! Fields by worked examples.
+//! Fields by worked examples. What is asked of a field is asked of any, so that each field is named once.
 
 ghost use Rattle.std.proofs.Common.{lit<, lit≤};
 
 use crate::asked::{INVALID, TRUNCATED, fault, is_digest, is_spelled};
 use crate::plain;
-use ark_base::error::Error;
+use ark_base::serialize::DigestItem;
 use ark_groups::ff::{Fp, M7, M13, M61, M257, M65537, Modulus, PrimeField, UniformRand};
 use rand::rngs::SmallRng;
 use rand::{Rng, RngExt, SeedableRng};
@@ -49,121 +49,32 @@ impl Modulus for Two {
     } };
 }
 
-fn element<F: PrimeField>(number: u64) -> F {
-    F::from_u64(number)
-}
-
-#[test]
-fn operations_are_modulo_the_modulus(rt: HostRuntime) {
-    let seven = element::<Fp<M13>>(7);
-    let nine = element::<Fp<M13>>(9);
-    assert_eq!(rt; PrimeField::mul(seven, nine).value(), 11);
-    assert_eq!(rt; PrimeField::add(seven, nine).value(), 3);
-    assert_eq!(rt; PrimeField::sub(seven, nine).value(), 11);
-    assert_eq!(rt; PrimeField::neg(nine).value(), 4);
-    assert_eq!(rt; <Fp<M13> as PrimeField>::zero().neg().value(), 0);
-    assert_eq!(rt; nine.double().value(), 5);
-    assert_eq!(rt; <Fp<M13> as PrimeField>::one().value(), 1);
-    assert_eq!(rt; Fp::<M13>::default().value(), 0);
-    assert_eq!(rt; element::<Fp<M13>>(20), seven);
-    assert!(rt; seven != nine);
-}
-
-#[test]
-fn any_modulus_serves(rt: HostRuntime) {
-    let top = element::<Fp<Widest>>(18446744073709551614);
-    assert_eq!(rt; PrimeField::add(top, top).value(), 18446744073709551613);
-    assert_eq!(rt; PrimeField::mul(top, top).value(), 1);
-    let one = element::<Fp<Two>>(3);
-    assert_eq!(rt; PrimeField::add(one, one).value(), 0);
-    assert_eq!(rt; PrimeField::mul(one, one).value(), 1);
-    let top = element::<Fp<M61>>(2305843009213693950);
-    assert_eq!(rt; PrimeField::mul(top, top).value(), 1);
-    assert_eq!(rt;
-        PrimeField::mul(top, element::<Fp<M61>>(2)).value(),
-        2305843009213693949
-    );
-    let top = element::<Fp<M65537>>(65536);
-    assert_eq!(rt; PrimeField::mul(top, top).value(), 1);
-}
-
-#[test]
-fn random_bytes_are_cut_to_the_bits(rt: HostRuntime) {
-    let number = |bytes: &[u8]| Fp::<M257>::from_random_bytes(bytes).map(|x| x.value());
-    assert_eq!(rt; number(&[0, 1]), Some(256));
-    assert_eq!(rt; number(&[1, 1]), None);
-    assert_eq!(rt; number(&[255, 255]), None);
-    assert_eq!(rt; number(&[5, 2]), Some(5));
-    assert_eq!(rt; number(&[7]), Some(7));
-    assert_eq!(rt; number(&[]), Some(0));
-    assert_eq!(rt; number(&[9, 0, 77]), Some(9));
-}
-
-#[test]
-fn wide_numbers_are_reduced(rt: HostRuntime) {
-    assert_eq!(rt; Fp::<M257>::from_le_bytes_mod_order(&[1, 2]).value(), 256);
-    assert_eq!(rt;
-        Fp::<M257>::from_u128(340282366920938463463374607431768211455).value(),
-        0
-    );
-    // 256 is -1 modulo 257, so 1 0 0 .. at place n is (-1)^n.
-    assert_eq!(rt;
-        Fp::<M257>::from_le_bytes_mod_order(&[0, 0, 0, 0, 0, 0, 0, 0, 0, 1]).value(),
-        256
-    );
-    assert_eq!(rt;
-        Fp::<M257>::from_le_bytes_mod_order(&[0, 0, 0, 0, 0, 0, 0, 0, 1]).value(),
-        1
-    );
-    assert_eq!(rt; Fp::<M257>::from_le_bytes_mod_order(&[]).value(), 0);
-}
-
-#[test]
-fn bytes_are_digits_of_256(rt: HostRuntime) {
-    let bytes = [3, 255, 0, 17, 128, 64, 9, 1, 250, 33, 7, 12, 99];
-    for len in 0..14 {
-        let number = plain::number(&bytes[..len]);
-        assert_eq!(rt;
-            Fp::<M257>::from_le_bytes_mod_order(&bytes[..len]),
-            Fp::from_u128(number)
-        );
-        assert_eq!(rt;
-            Fp::<M61>::from_le_bytes_mod_order(&bytes[..len]),
-            Fp::from_u128(number)
-        );
-    }
-}
-
-#[test]
-fn elements_have_canonical_bytes(rt: HostRuntime) {
-    let alloc = rt.alloc();
-    assert!(rt; is_spelled(alloc, &element::<Fp<M257>>(256), &[0, 1]));
-    assert!(rt; is_spelled(alloc, &element::<Fp<M7>>(6), &[6]));
-    assert!(rt; is_spelled(alloc, &element::<Fp<M13>>(12), &[12]));
-    assert!(rt; is_spelled(alloc, &element::<Fp<M65537>>(65536), &[0, 0, 1]));
-    let top = [254, 255, 255, 255, 255, 255, 255, 31];
-    assert!(rt; is_spelled(alloc, &element::<Fp<M61>>(2305843009213693950), &top));
-}
-
-#[test]
-fn the_modulus_and_cut_bytes_are_refused(rt: HostRuntime) {
-    let alloc = rt.alloc();
-    assert_eq!(rt; fault::<Fp<M257>>(alloc, &[1, 1]), INVALID);
-    assert_eq!(rt; fault::<Fp<M13>>(alloc, &[13]), INVALID);
-    let modulus = [255, 255, 255, 255, 255, 255, 255, 31];
-    assert_eq!(rt; fault::<Fp<M61>>(alloc, &modulus), INVALID);
-    assert_eq!(rt; fault::<Fp<M257>>(alloc, &[1]), TRUNCATED);
-    assert_eq!(rt;
-        fault::<Vec<Fp<M257>>>(alloc, &[1, 0, 0, 0, 0, 0, 0, 0, 5]),
-        TRUNCATED
-    );
-}
-
-#[test]
-fn elements_are_digests(rt: HostRuntime) {
-    let alloc = rt.alloc();
-    assert!(rt; is_digest(alloc, &element::<Fp<M257>>(256), &element(0)));
-    assert!(rt; is_digest(alloc, &element::<Fp<M61>>(7), &element(0)));
+// A fact of a field's elements, each named by a number.
+#[derive(Clone, Copy)]
+enum Fact {
+    Sum(u64, u64, u64),
+    Difference(u64, u64, u64),
+    Product(u64, u64, u64),
+    Negative(u64, u64),
+    Double(u64, u64),
+    Equal(u64, u64),
+    Unequal(u64, u64),
+    // The number that more than a word is, and that some bytes are.
+    Wide(u128, u64),
+    Bytes(&'static [u8], u64),
+    // The number of some random bytes, or none.
+    Random(&'static [u8], Option<u64>),
+    Digest(u64),
+    // The canonical bytes of an element, and bytes that are refused.
+    Spelled(u64, &'static [u8]),
+    Invalid(&'static [u8]),
+    Truncated(&'static [u8]),
+    TruncatedList(&'static [u8]),
+    Text(u64, &'static str),
+    // What 0, its negative, 1 and the default are called is what they are.
+    Constants,
+    // The first bytes of a list, so many, are the number of their digits of 256.
+    Digits,
 }
 
 fn hash_of<T: Hash>(x: &T) -> u64 {
@@ -172,60 +83,219 @@ fn hash_of<T: Hash>(x: &T) -> u64 {
     state.finish()
 }
 
-fn has_text<F: PrimeField>(alloc: Global, element: F, text: &str) -> Result<bool, Error> {
-    Ok(format!(in alloc; "{element:?}")?.as_str() == text)
+fn has_text<F: PrimeField>(alloc: Global, element: F, text: &str) -> bool {
+    match format!(in alloc; "{element:?}") {
+        Ok(shown) => shown.as_str() == text,
+        Err(_) => false,
+    }
 }
 
+fn is_random<F: PrimeField>(bytes: &[u8], number: Option<u64>) -> bool {
+    match F::from_random_bytes(bytes) {
+        Some(x) => number == Some(x.value()),
+        None => number.is_none(),
+    }
+}
+
+fn are_equal<F: PrimeField>(x: F, y: F) -> bool {
+    x == y && hash_of(&x) == hash_of(&y)
+}
+
+fn has_constants<F: PrimeField>() -> bool {
+    F::zero().neg().value() == 0 && F::one().value() == 1 && F::default().value() == 0
+}
+
+const BYTES: [u8; 13] = [3, 255, 0, 17, 128, 64, 9, 1, 250, 33, 7, 12, 99];
+
+fn are_numbers<F: PrimeField>() -> bool {
+    for len in 0..14 {
+        let bytes = &BYTES[..len];
+        if F::from_le_bytes_mod_order(bytes) != F::from_u128(plain::number(bytes)) {
+            return false;
+        }
+    }
+    true
+}
+
+fn holds<F: PrimeField + DigestItem>(alloc: Global, fact: Fact) -> bool {
+    match fact {
+        Fact::Sum(x, y, sum) => F::from_u64(x).add(F::from_u64(y)).value() == sum,
+        Fact::Difference(x, y, rest) => F::from_u64(x).sub(F::from_u64(y)).value() == rest,
+        Fact::Product(x, y, product) => F::from_u64(x).mul(F::from_u64(y)).value() == product,
+        Fact::Negative(x, negative) => F::from_u64(x).neg().value() == negative,
+        Fact::Double(x, double) => F::from_u64(x).double().value() == double,
+        Fact::Equal(x, y) => are_equal::<F>(F::from_u64(x), F::from_u64(y)),
+        Fact::Unequal(x, y) => F::from_u64(x) != F::from_u64(y),
+        Fact::Wide(number, value) => F::from_u128(number).value() == value,
+        Fact::Bytes(bytes, value) => F::from_le_bytes_mod_order(bytes).value() == value,
+        Fact::Random(bytes, value) => is_random::<F>(bytes, value),
+        Fact::Digest(x) => is_digest(alloc, &F::from_u64(x), &F::from_u64(0)),
+        Fact::Spelled(x, bytes) => is_spelled(alloc, &F::from_u64(x), bytes),
+        Fact::Invalid(bytes) => fault::<F>(alloc, bytes) == INVALID,
+        Fact::Truncated(bytes) => fault::<F>(alloc, bytes) == TRUNCATED,
+        Fact::TruncatedList(bytes) => fault::<Vec<F>>(alloc, bytes) == TRUNCATED,
+        Fact::Text(x, text) => has_text::<F>(alloc, F::from_u64(x), text),
+        Fact::Constants => has_constants::<F>(),
+        Fact::Digits => are_numbers::<F>(),
+    }
+}
+
+fn hold<F: PrimeField + DigestItem>(alloc: Global, facts: &[Fact]) -> bool {
+    for fact in facts {
+        if !holds::<F>(alloc, *fact) {
+            return false;
+        }
+    }
+    true
+}
+
+// The same of the numbers below a modulus.
+fn below<M: Modulus>(alloc: Global, facts: &[Fact]) -> bool {
+    hold::<Fp<M>>(alloc, facts)
+}
+
+const BELOW_13: [Fact; 11] = [
+    Fact::Product(7, 9, 11),
+    Fact::Sum(7, 9, 3),
+    Fact::Difference(7, 9, 11),
+    Fact::Negative(9, 4),
+    Fact::Double(9, 5),
+    Fact::Equal(20, 7),
+    Fact::Unequal(7, 9),
+    Fact::Spelled(12, &[12]),
+    Fact::Invalid(&[13]),
+    Fact::Text(7, "7"),
+    Fact::Constants,
+];
+
+// 256 is -1 modulo 257, so 1 0 0 .. at place n is (-1)^n.
+const BELOW_257: [Fact; 18] = [
+    Fact::Random(&[0, 1], Some(256)),
+    Fact::Random(&[1, 1], None),
+    Fact::Random(&[255, 255], None),
+    Fact::Random(&[5, 2], Some(5)),
+    Fact::Random(&[7], Some(7)),
+    Fact::Random(&[], Some(0)),
+    Fact::Random(&[9, 0, 77], Some(9)),
+    Fact::Bytes(&[1, 2], 256),
+    Fact::Bytes(&[0, 0, 0, 0, 0, 0, 0, 0, 0, 1], 256),
+    Fact::Bytes(&[0, 0, 0, 0, 0, 0, 0, 0, 1], 1),
+    Fact::Bytes(&[], 0),
+    Fact::Wide(340282366920938463463374607431768211455, 0),
+    Fact::Spelled(256, &[0, 1]),
+    Fact::Invalid(&[1, 1]),
+    Fact::Truncated(&[1]),
+    Fact::TruncatedList(&[1, 0, 0, 0, 0, 0, 0, 0, 5]),
+    Fact::Digest(256),
+    Fact::Digits,
+];
+
+// The largest element of 2^61 - 1 and the modulus itself.
+const BELOW_M61: [Fact; 7] = [
+    Fact::Product(2305843009213693950, 2305843009213693950, 1),
+    Fact::Product(2305843009213693950, 2, 2305843009213693949),
+    Fact::Spelled(
+        2305843009213693950,
+        &[254, 255, 255, 255, 255, 255, 255, 31],
+    ),
+    Fact::Invalid(&[255, 255, 255, 255, 255, 255, 255, 31]),
+    Fact::Digest(7),
+    Fact::Equal(0, 2305843009213693951),
+    Fact::Digits,
+];
+
+const BELOW_WIDEST: [Fact; 2] = [
+    Fact::Sum(
+        18446744073709551614,
+        18446744073709551614,
+        18446744073709551613,
+    ),
+    Fact::Product(18446744073709551614, 18446744073709551614, 1),
+];
+
+const BELOW_TWO: [Fact; 2] = [Fact::Sum(3, 3, 0), Fact::Product(3, 3, 1)];
+
+const BELOW_65537: [Fact; 2] = [
+    Fact::Product(65536, 65536, 1),
+    Fact::Spelled(65536, &[0, 0, 1]),
+];
+
+const BELOW_7: [Fact; 1] = [Fact::Spelled(6, &[6])];
+
 #[test]
-fn elements_are_known_by_their_values(rt: HostRuntime) {
-    let seven = element::<Fp<M13>>(7);
-    assert_eq!(rt; hash_of(&seven), hash_of(&element::<Fp<M13>>(20)));
-    assert_eq!(rt; has_text(rt.alloc(), seven, "7"), Ok(true));
-    assert_eq!(rt;
-        Fp::<M61>::default(),
-        element::<Fp<M61>>(2305843009213693951)
+fn numbers_below_a_modulus(rt: HostRuntime) {
+    let alloc = rt.alloc();
+    assert!(rt;
+        below::<M7>(alloc, &BELOW_7)
+            && below::<M13>(alloc, &BELOW_13)
+            && below::<M257>(alloc, &BELOW_257)
+            && below::<M61>(alloc, &BELOW_M61)
     );
+    assert!(rt;
+        below::<Widest>(alloc, &BELOW_WIDEST)
+            && below::<Two>(alloc, &BELOW_TWO)
+            && below::<M65537>(alloc, &BELOW_65537)
+    );
+}
+
+// Whether each number below a count, and no other, is drawn.
+fn draws_each<M: Modulus, R: Rng>(rng: &mut R, count: u64) -> bool {
+    let mut seen = [false; 16];
+    for _ in 0..1000 {
+        let number = Fp::<M>::rand(rng).value();
+        match seen.get_mut(number as usize) {
+            Some(place) => *place = true,
+            None => return false,
+        }
+    }
+    for (number, is_seen) in seen.iter().enumerate() {
+        if *is_seen != ((number as u64) < count) {
+            return false;
+        }
+    }
+    true
 }
 
 #[test]
 fn each_value_is_drawn(rt: HostRuntime) {
     let mut rng = SmallRng::seed_from_u64(1);
-    let mut seen = [false; 13];
-    for _ in 0..1000 {
-        seen[Fp::<M13>::rand(&mut rng).value() as usize] = true;
-    }
-    assert_eq!(rt; seen, [true; 13]);
-    let mut seen = [false; 7];
-    for _ in 0..1000 {
-        seen[Fp::<M7>::rand(&mut rng).value() as usize] = true;
-    }
-    assert_eq!(rt; seen, [true; 7]);
+    assert!(rt; draws_each::<M13, SmallRng>(&mut rng, 13));
+    assert!(rt; draws_each::<M7, SmallRng>(&mut rng, 7));
 }
 
-// Numbers below 2^61 - 1 as the generator itself draws them, one for each element.
+// Whether elements are numbers below 2^61 - 1 as the generator itself draws them, one for each, some of 61 digits.
+fn draws_numbers<M: Modulus, R: Rng>(rng: &mut R, twin: &mut R) -> bool {
+    let mut has_wide = false;
+    let mut has_narrow = false;
+    for _ in 0..200 {
+        let value = Fp::<M>::rand(rng).value();
+        let number: u64 = twin.random_range(0..2305843009213693951);
+        if value != number {
+            return false;
+        }
+        has_wide = has_wide || value >= 1 << 60;
+        has_narrow = has_narrow || value < 1 << 60;
+    }
+    has_wide && has_narrow && rng.next_u64() == twin.next_u64()
+}
+
 #[test]
 fn wide_values_are_drawn_as_numbers_below_the_modulus(rt: HostRuntime) {
     let mut rng = SmallRng::seed_from_u64(61);
     let mut twin = SmallRng::seed_from_u64(61);
-    let mut has_wide = false;
-    let mut has_narrow = false;
-    for _ in 0..200 {
-        let value = Fp::<M61>::rand(&mut rng).value();
-        let number: u64 = twin.random_range(0..2305843009213693951);
-        assert_eq!(rt; value, number);
-        has_wide = has_wide || value >= 1 << 60;
-        has_narrow = has_narrow || value < 1 << 60;
-    }
-    assert!(rt; has_wide && has_narrow);
-    assert_eq!(rt; rng.next_u64(), twin.next_u64());
+    assert!(rt; draws_numbers::<M61, SmallRng>(&mut rng, &mut twin));
+}
+
+// Whether bytes are drawn as the generator fills them, and others next.
+fn draws_bytes<R: Rng>(rng: &mut R, twin: &mut R) -> bool {
+    let mut bytes = [0; 32];
+    twin.fill_bytes(&mut bytes);
+    <[u8; 32]>::rand(rng) == bytes && <[u8; 32]>::rand(rng) != bytes
 }
 
 #[test]
 fn bytes_are_drawn(rt: HostRuntime) {
     let mut rng = SmallRng::seed_from_u64(1);
     let mut twin = SmallRng::seed_from_u64(1);
-    let mut bytes = [0; 32];
-    twin.fill_bytes(&mut bytes);
-    assert_eq!(rt; <[u8; 32]>::rand(&mut rng), bytes);
-    assert!(rt; <[u8; 32]>::rand(&mut rng) != bytes);
+    assert!(rt; draws_bytes::<SmallRng>(&mut rng, &mut twin));
 }
