@@ -1,16 +1,17 @@
-//! A state of three elements of 257, one full round, and the cube as S-box.
+//! A state of three elements of 257, one full round, and the cube as S-box. What is asked of the hashes is asked over any field.
 
 mod tree;
 
 ghost use Rattle.std.specs.Prelude.{◌*◌, ◌%◌};
 
 use ark_base::error::{Error, Refusal};
+use ark_base::serialize::DigestItem;
 use ark_crh::{CRHScheme, TwoToOneCRHScheme};
 use ark_groups::ff::{Fp, M257, PrimeField};
 use ark_poseidon::{CRH, TwoToOneCRH};
 use ark_sponge::poseidon::{PoseidonConfig, SBox};
-use rand::SeedableRng;
 use rand::rngs::SmallRng;
+use rand::{Rng, SeedableRng};
 use std::alloc::Global;
 
 struct Cube;
@@ -25,63 +26,92 @@ impl<F: PrimeField> SBox<F> for Cube {
 
 type Element = Fp<M257>;
 
-type Hash = CRH<Element, Cube>;
-
-type PairHash = TwoToOneCRH<Element, Cube>;
-
-fn elements(alloc: Global, numbers: &[u64]) -> Result<Vec<Element>, Error> {
+fn elements<F: PrimeField>(alloc: Global, numbers: &[u64]) -> Result<Vec<F>, Error> {
     let mut made = Vec::with_capacity(alloc, numbers.len())?;
     for number in numbers {
-        made.push(Fp::from_u64(*number))?;
+        made.push(F::from_u64(*number))?;
     }
     Ok(made)
 }
 
-fn parameters(alloc: Global) -> Result<PoseidonConfig<Element>, Error> {
-    let mut mds = Vec::new(alloc);
-    mds.push(elements(alloc, &[0, 1, 0])?)?;
-    mds.push(elements(alloc, &[0, 0, 1])?)?;
-    mds.push(elements(alloc, &[1, 0, 0])?)?;
-    let mut ark = Vec::new(alloc);
-    ark.push(elements(alloc, &[1, 2, 3])?)?;
+fn rows<F: PrimeField>(alloc: Global, rows: &[[u64; 3]]) -> Result<Vec<Vec<F>>, Error> {
+    let mut made = Vec::with_capacity(alloc, rows.len())?;
+    for row in rows {
+        made.push(elements(alloc, row)?)?;
+    }
+    Ok(made)
+}
+
+fn parameters<F: PrimeField>(alloc: Global) -> Result<PoseidonConfig<F>, Error> {
+    let mds = rows(alloc, &[[0, 1, 0], [0, 0, 1], [1, 0, 0]])?;
+    let ark = rows(alloc, &[[1, 2, 3]])?;
     PoseidonConfig::new(1, 0, 3, mds, ark, 2, 1)
 }
 
-fn digest(alloc: Global, numbers: &[u64]) -> Result<u64, Error> {
-    let parameters = parameters(alloc)?;
+fn digest<F: PrimeField + DigestItem, S: SBox<F>>(
+    alloc: Global,
+    parameters: &PoseidonConfig<F>,
+    numbers: &[u64],
+) -> Result<u64, Error> {
     let input = elements(alloc, numbers)?;
-    Ok(Hash::evaluate(alloc, &parameters, &input)?.value())
+    Ok(CRH::<F, S>::evaluate(alloc, parameters, &input)?.value())
 }
 
-// By both calls of the pair hash.
-fn digests_of_two(alloc: Global, left: u64, right: u64) -> Result<(u64, u64), Error> {
-    let parameters = parameters(alloc)?;
-    let (left, right) = (Fp::from_u64(left), Fp::from_u64(right));
-    let compressed = PairHash::compress(alloc, &parameters, &left, &right)?;
-    let evaluated = PairHash::evaluate(alloc, &parameters, &left, &right)?;
-    Ok((compressed.value(), evaluated.value()))
+// Whether both calls of the pair hash give this digest.
+fn is_digest_of_two<F: PrimeField + DigestItem, S: SBox<F>>(
+    alloc: Global,
+    parameters: &PoseidonConfig<F>,
+    left: u64,
+    right: u64,
+    digest: u64,
+) -> Result<bool, Error> {
+    let (left, right) = (F::from_u64(left), F::from_u64(right));
+    let compressed = TwoToOneCRH::<F, S>::compress(alloc, parameters, &left, &right)?;
+    let evaluated = TwoToOneCRH::<F, S>::evaluate(alloc, parameters, &left, &right)?;
+    Ok(compressed.value() == digest && evaluated.value() == digest)
+}
+
+// Numbers, and their digest.
+type Row = (&'static [u64], u64);
+
+fn are_digests<F: PrimeField + DigestItem, S: SBox<F>>(
+    alloc: Global,
+    parameters: &PoseidonConfig<F>,
+    rows: &[Row],
+) -> Result<bool, Error> {
+    for (numbers, wanted) in rows {
+        if digest::<F, S>(alloc, parameters, numbers)? != *wanted {
+            return Ok(false);
+        }
+    }
+    is_digest_of_two::<F, S>(alloc, parameters, 5, 6, 215)
+}
+
+fn rows_are_digests<F: PrimeField + DigestItem, S: SBox<F>>(
+    alloc: Global,
+    rows: &[Row],
+) -> Result<bool, Error> {
+    are_digests::<F, S>(alloc, &parameters(alloc)?, rows)
 }
 
 #[test]
 fn digests_are_one_element(rt: HostRuntime) {
-    let alloc = rt.alloc();
-    assert_eq!(rt; digest(alloc, &[]), Ok(27));
-    assert_eq!(rt; digest(alloc, &[0]), Ok(27));
-    assert_eq!(rt; digest(alloc, &[5, 6]), Ok(215));
-    assert_eq!(rt; digests_of_two(alloc, 5, 6), Ok((215, 215)));
+    let rows: [Row; 3] = [(&[], 27), (&[0], 27), (&[5, 6], 215)];
+    assert!(rt; rows_are_digests::<Element, Cube>(rt.alloc(), &rows) == Ok(true));
 }
 
-fn setup_refusals(alloc: Global) -> (Option<Error>, Option<Error>) {
-    let mut rng = SmallRng::seed_from_u64(1);
-    (
-        Hash::setup(alloc, &mut rng).err(),
-        PairHash::setup(alloc, &mut rng).err(),
-    )
+// Whether neither hash sets parameters up.
+fn refuse_setup<F: PrimeField + DigestItem, S: SBox<F>, R: Rng>(
+    alloc: Global,
+    rng: &mut R,
+) -> bool {
+    let refusal = Some(Error::GenericError(Refusal::SetupNotAvailable));
+    CRH::<F, S>::setup(alloc, rng).err() == refusal
+        && TwoToOneCRH::<F, S>::setup(alloc, rng).err() == refusal
 }
 
 #[test]
 fn no_parameters_are_made(rt: HostRuntime) {
-    let refusal = Error::GenericError(Refusal::SetupNotAvailable);
-    let again = Error::GenericError(Refusal::SetupNotAvailable);
-    assert_eq!(rt; setup_refusals(rt.alloc()), (Some(refusal), Some(again)));
+    let mut rng = SmallRng::seed_from_u64(1);
+    assert!(rt; refuse_setup::<Element, Cube, SmallRng>(rt.alloc(), &mut rng));
 }

@@ -1,9 +1,12 @@
 //! A tree over the hashes.
 
-use crate::tests::{Element, Hash, PairHash, elements, parameters};
+use crate::tests::{Cube, Element, elements, parameters};
 use ark_base::error::Error;
 use ark_groups::ff::PrimeField;
-use ark_merkle::{Config, IdentityDigestConverter, MerkleTree, is_tree_size};
+use ark_merkle::{
+    Config, IdentityDigestConverter, LeafParam, MerkleTree, TwoToOneParam, is_tree_size,
+};
+use ark_poseidon::{CRH, TwoToOneCRH};
 use std::alloc::Global;
 
 struct PoseidonTree;
@@ -17,32 +20,77 @@ impl Config for PoseidonTree {
 
     type InnerDigest = Element;
 
-    type LeafHash = Hash;
+    type LeafHash = CRH<Element, Cube>;
 
-    type TwoToOneHash = PairHash;
+    type TwoToOneHash = TwoToOneCRH<Element, Cube>;
 }
 
-// The root over two leaves, the digest beside the first, and whether its own path is accepted.
-fn tree_of_two(alloc: Global) -> Result<Option<(u64, u64, bool)>, Error> {
-    let hash = parameters(alloc)?;
-    let pair_hash = parameters(alloc)?;
+// Whether a tree has this root, this digest beside its first leaf, and accepts the first leaf's path.
+fn is_tree<P: Config>(
+    tree: &MerkleTree<P>,
+    alloc: Global,
+    leaf_parameters: &LeafParam<P>,
+    pair_parameters: &TwoToOneParam<P>,
+    first: &P::Leaf,
+    root: &P::InnerDigest,
+    sibling: &P::LeafDigest,
+) -> Result<bool, Error> {
+    if tree.size() == 0 {
+        return Ok(false);
+    }
+    let path = tree.generate_proof(alloc, 0)?;
+    Ok(
+        tree.root() == root
+            && path.leaf_sibling_hash == *sibling
+            && path.verify(alloc, leaf_parameters, pair_parameters, root, first)?,
+    )
+}
+
+// The same of the tree of some leaves.
+fn has_root<P: Config>(
+    alloc: Global,
+    leaf_parameters: &LeafParam<P>,
+    pair_parameters: &TwoToOneParam<P>,
+    leaves: &[P::Leaf],
+    root: &P::InnerDigest,
+    sibling: &P::LeafDigest,
+) -> Result<bool, Error> {
+    if !is_tree_size(leaves.len()) {
+        return Ok(false);
+    }
+    let tree = MerkleTree::<P>::new(alloc, leaf_parameters, pair_parameters, leaves)?;
+    match leaves.first() {
+        Some(first) => {
+            is_tree(
+                &tree,
+                alloc,
+                leaf_parameters,
+                pair_parameters,
+                first,
+                root,
+                sibling,
+            )
+        }
+        None => Ok(false),
+    }
+}
+
+// Two leaves: 5 and 6, and nothing.
+fn leaves<F: PrimeField>(alloc: Global) -> Result<Vec<Vec<F>>, Error> {
     let mut leaves = Vec::new(alloc);
     leaves.push(elements(alloc, &[5, 6])?)?;
     leaves.push(Vec::new(alloc))?;
-    if !is_tree_size(leaves.len()) {
-        return Ok(None);
-    }
-    let tree = MerkleTree::<PoseidonTree>::new(alloc, &hash, &pair_hash, &leaves)?;
-    if tree.size() == 0 {
-        return Ok(None);
-    }
-    let path = tree.generate_proof(alloc, 0)?;
-    let root = tree.root();
-    let accepted = path.verify(alloc, &hash, &pair_hash, root, &leaves[0])?;
-    Ok(Some((root.value(), path.leaf_sibling_hash.value(), accepted)))
+    Ok(leaves)
+}
+
+fn tree_of_two(alloc: Global) -> Result<bool, Error> {
+    let hash = parameters(alloc)?;
+    let leaves = leaves::<Element>(alloc)?;
+    let (root, sibling) = (Element::from_u64(15), Element::from_u64(27));
+    has_root::<PoseidonTree>(alloc, &hash, &hash, &leaves, &root, &sibling)
 }
 
 #[test]
 fn a_tree_stands_over_the_hashes(rt: HostRuntime) {
-    assert_eq!(rt; tree_of_two(rt.alloc()), Ok(Some((15, 27, true))));
+    assert!(rt; tree_of_two(rt.alloc()) == Ok(true));
 }
