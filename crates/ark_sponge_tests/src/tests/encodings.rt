@@ -63,23 +63,37 @@ fn bytes_of_batches(rt: HostRuntime) {
     );
 }
 
+fn list_has_elements<F: PrimeField>(
+    alloc: Global,
+    list: &[u8],
+    numbers: &[u64],
+) -> Result<bool, Error>
+    requires { 9 ≤ F.MODULUS_BIT_SIZE }
+{
+    let elements = list
+        .to_vec(alloc)?
+        .to_sponge_field_elements_as_vec::<F>(alloc)?;
+    Ok(are(&elements, numbers))
+}
+
 // Whether the elements of a list of bytes, and of each of them, are these.
-fn lists_have_elements<M: Modulus>(
+fn lists_have_elements<F: PrimeField>(
     alloc: Global,
     list: &[u8],
     numbers: &[u64],
     each: &[u64],
 ) -> Result<bool, Error>
-    requires { 9 ≤ M.BITS }
+    requires { 9 ≤ F.MODULUS_BIT_SIZE }
 {
-    let elements = u8::batch_to_sponge_field_elements_as_vec::<Fp<M>>(alloc, list)?;
-    Ok(are(&elements, each) && has_elements::<M, Vec<u8>>(alloc, &list.to_vec(alloc)?, numbers))
+    let is_whole = list_has_elements::<F>(alloc, list, numbers)?;
+    let items = u8::batch_to_sponge_field_elements_as_vec::<F>(alloc, list)?;
+    Ok(is_whole && are(&items, each))
 }
 
 #[test]
 fn elements_of_values(rt: HostRuntime) {
     let alloc = rt.alloc();
-    let lists = lists_have_elements::<M65537>(alloc, &[1, 2], &[2, 0, 0, 0, 513], &[1, 2]);
+    let lists = lists_have_elements::<Fp<M65537>>(alloc, &[1, 2], &[2, 0, 0, 0, 513], &[1, 2]);
     assert!(rt; lists == Ok(true));
     let residue = Residues::<M257>::new(Fp::from_u64(256));
     assert!(rt;
@@ -90,21 +104,21 @@ fn elements_of_values(rt: HostRuntime) {
 }
 
 // Whether an element of a field and an empty batch of such elements have none below another modulus.
-fn are_foreign<F: PrimeField + Absorb, M: Modulus>(alloc: Global) -> bool
-    requires { 9 ≤ M.BITS }
+fn are_foreign<F: PrimeField + Absorb, G: PrimeField>(alloc: Global) -> bool
+    requires { 9 ≤ G.MODULUS_BIT_SIZE }
 {
     let foreign = Some(Error::GenericError(Refusal::ForeignField));
-    let mut dest = Vec::<Fp<M>>::new(alloc);
+    let mut dest = Vec::<G>::new(alloc);
     F::batch_to_sponge_field_elements(&[], &mut dest).err() == foreign
         && F::from_u64(5)
-            .to_sponge_field_elements_as_vec::<Fp<M>>(alloc)
+            .to_sponge_field_elements_as_vec::<G>(alloc)
             .err()
             == foreign
 }
 
 #[test]
 fn elements_of_another_field_are_refused(rt: HostRuntime) {
-    assert!(rt; are_foreign::<Fp<M257>, M65537>(rt.alloc()));
+    assert!(rt; are_foreign::<Fp<M257>, Fp<M65537>>(rt.alloc()));
 }
 
 #[test]
@@ -128,14 +142,14 @@ fn is_spelled_with_length(alloc: Global, list: &[u8], bytes: &[u8]) -> Result<bo
 }
 
 // The same of numbers below a modulus.
-fn has_elements_with_length<M: Modulus>(
+fn has_elements_with_length<F: PrimeField>(
     alloc: Global,
     list: &[u8],
     numbers: &[u64],
 ) -> Result<bool, Error>
-    requires { 9 ≤ M.BITS }
+    requires { 9 ≤ F.MODULUS_BIT_SIZE }
 {
-    let mut elements = Vec::<Fp<M>>::new(alloc);
+    let mut elements = Vec::<F>::new(alloc);
     list.to_sponge_field_elements_with_length(&mut elements)?;
     Ok(are(&elements, numbers))
 }
@@ -147,7 +161,7 @@ fn lists_behind_their_length(rt: HostRuntime) {
     let numbers = [2, 2, 0, 0, 0, 513];
     assert!(rt;
         is_spelled_with_length(alloc, &[1, 2], &bytes) == Ok(true)
-            && has_elements_with_length::<M65537>(alloc, &[1, 2], &numbers) == Ok(true)
+            && has_elements_with_length::<Fp<M65537>>(alloc, &[1, 2], &numbers) == Ok(true)
     );
 }
 
@@ -161,15 +175,15 @@ fn bytes_are_collected<A: Absorb + Copy, B: Absorb + Copy>(
     Ok(bytes.as_slice() == expected)
 }
 
-fn elements_are_collected<M: Modulus, A: Absorb + Copy, B: Absorb + Copy>(
+fn elements_are_collected<F: PrimeField, A: Absorb + Copy, B: Absorb + Copy>(
     alloc: Global,
     first: A,
     second: B,
     expected: &[u64],
 ) -> Result<bool, Error>
-    requires { 9 ≤ M.BITS }
+    requires { 9 ≤ F.MODULUS_BIT_SIZE }
 {
-    let elements: Vec<Fp<M>> = collect_sponge_field_elements!(in alloc; first, second);
+    let elements: Vec<F> = collect_sponge_field_elements!(in alloc; first, second);
     Ok(are(&elements, expected))
 }
 
@@ -178,7 +192,7 @@ fn several_arguments_are_collected(rt: HostRuntime) {
     let alloc = rt.alloc();
     assert!(rt;
         bytes_are_collected(alloc, 7u8, 258u16, &[7, 2, 1]) == Ok(true)
-            && elements_are_collected::<M257, u8, u16>(alloc, 7, 258, &[7, 1]) == Ok(true)
+            && elements_are_collected::<Fp<M257>, u8, u16>(alloc, 7, 258, &[7, 1]) == Ok(true)
     );
 }
 
@@ -190,10 +204,14 @@ fn push_texts(alloc: Global, dest: &mut Vec<String>, texts: &[&str]) -> Result<(
 }
 
 // Whether two batches have different bytes and different elements.
-fn are_apart<A: Absorb, M: Modulus>(alloc: Global, batch: &[A], other: &[A]) -> Result<bool, Error>
-    requires { 9 ≤ M.BITS }
+fn are_apart<A: Absorb, F: PrimeField>(
+    alloc: Global,
+    batch: &[A],
+    other: &[A],
+) -> Result<bool, Error>
+    requires { 9 ≤ F.MODULUS_BIT_SIZE }
 {
-    Ok(bytes_differ(alloc, batch, other)? && elements_differ::<A, Fp<M>>(alloc, batch, other)?)
+    Ok(bytes_differ(alloc, batch, other)? && elements_differ::<A, F>(alloc, batch, other)?)
 }
 
 fn bytes_differ<A: Absorb>(alloc: Global, batch: &[A], other: &[A]) -> Result<bool, Error> {
@@ -216,7 +234,7 @@ fn texts_are_apart(alloc: Global) -> Result<bool, Error> {
     let mut texts = Vec::new(alloc);
     push_texts(alloc, &mut texts, &["hello", "world", "helloworld"])?;
     let (parts, whole) = texts.split_at(2.min(texts.len()));
-    are_apart::<String, M61>(alloc, parts, whole)
+    are_apart::<String, Fp<M61>>(alloc, parts, whole)
 }
 
 #[test]
