@@ -23,13 +23,20 @@ impl<M: Modulus, K> OfNumbers for Additive<M, K> {
     }
 }
 
+// An operation on an element and a number: a count, or another element. The last two are of the element alone.
+#[derive(Clone, Copy)]
+enum Operation {
+    Times,
+    Sum,
+    Negative,
+    Double,
+}
+
 // A fact of a group's elements, each named by a number.
 #[derive(Clone, Copy)]
 enum Fact {
-    Times(u64, u64, u64),
-    Sum(u64, u64, u64),
-    Negative(u64, u64),
-    Double(u64, u64),
+    // An element and a number, and the element that the operation makes of them.
+    Of(Operation, u64, u64, u64),
     // Two elements' sum and product are those of the trait alone.
     Group(u64, u64),
     // An element's multiples are repeated sums, where the group has so many elements.
@@ -41,6 +48,8 @@ enum Fact {
     Invalid(&'static [u8]),
     Truncated(&'static [u8]),
     Digest(u64),
+    // The zero that the trait names.
+    Zero(u64),
 }
 
 fn times<C: CurveGroup>(x: C, count: u64) -> C {
@@ -64,12 +73,20 @@ fn are_sums<C: CurveGroup>(x: C, size: u64) -> bool {
     true
 }
 
+fn result_of<C: OfNumbers>(operation: Operation, x: C, number: u64) -> C {
+    match operation {
+        Operation::Times => times(x, number),
+        Operation::Sum => x.add(C::of(number)),
+        Operation::Negative => x.neg(),
+        Operation::Double => x.double(),
+    }
+}
+
 fn holds<C: OfNumbers>(alloc: Global, fact: Fact) -> bool {
     match fact {
-        Fact::Times(x, count, product) => times(C::of(x), count) == C::of(product),
-        Fact::Sum(x, y, sum) => C::of(x).add(C::of(y)) == C::of(sum),
-        Fact::Negative(x, negative) => C::of(x).neg() == C::of(negative),
-        Fact::Double(x, double) => C::of(x).double() == C::of(double),
+        Fact::Of(operation, x, number, result) => {
+            result_of(operation, C::of(x), number) == C::of(result)
+        }
         Fact::Group(x, y) => is_group(C::of(x), C::of(y)),
         Fact::Multiples(x, size) => are_sums(C::of(x), size),
         Fact::EqualPoints(x, y) => TEPoint(C::of(x)) == TEPoint(C::of(y)),
@@ -78,6 +95,7 @@ fn holds<C: OfNumbers>(alloc: Global, fact: Fact) -> bool {
         Fact::Invalid(bytes) => fault::<C>(alloc, bytes) == INVALID,
         Fact::Truncated(bytes) => fault::<C>(alloc, bytes) == TRUNCATED,
         Fact::Digest(x) => is_digest(alloc, &C::of(x), &C::of(0)),
+        Fact::Zero(x) => C::zero() == C::of(x),
     }
 }
 
@@ -90,25 +108,25 @@ fn hold<C: OfNumbers>(alloc: Global, facts: &[Fact]) -> bool {
     true
 }
 
-// The same of the numbers below a modulus, of the two kinds.
-fn of_residues<M: Modulus>(alloc: Global, facts: &[Fact]) -> bool {
-    hold::<Residues<M>>(alloc, facts)
+// The same of the numbers below a modulus, of either kind.
+fn below<M: Modulus, K>(alloc: Global, facts: &[Fact]) -> bool {
+    hold::<Additive<M, K>>(alloc, facts)
 }
 
-fn of_small<M: Modulus>(alloc: Global, facts: &[Fact]) -> bool {
-    hold::<Small<M>>(alloc, facts)
-}
-
-const RESIDUES_OF_7: [Fact; 3] = [Fact::Negative(3, 4), Fact::Group(3, 5), Fact::Digest(3)];
+const RESIDUES_OF_7: [Fact; 3] = [
+    Fact::Of(Operation::Negative, 3, 0, 4),
+    Fact::Group(3, 5),
+    Fact::Digest(3),
+];
 
 const RESIDUES_OF_13: [Fact; 3] = [
-    Fact::Times(9, 5, 6),
-    Fact::Sum(9, 7, 3),
+    Fact::Of(Operation::Times, 9, 5, 6),
+    Fact::Of(Operation::Sum, 9, 7, 3),
     Fact::Spelled(5, &[5]),
 ];
 
 const RESIDUES_OF_257: [Fact; 7] = [
-    Fact::Double(200, 143),
+    Fact::Of(Operation::Double, 200, 0, 143),
     Fact::Group(200, 199),
     Fact::Multiples(5, 257),
     Fact::Spelled(256, &[0, 1]),
@@ -125,41 +143,47 @@ const SMALL_OF_7: [Fact; 5] = [
     Fact::Digest(6),
 ];
 
-const SMALL_OF_13: [Fact; 7] = [
-    Fact::Times(3, 5, 2),
+const SMALL_OF_13: [Fact; 8] = [
+    Fact::Of(Operation::Times, 3, 5, 2),
     Fact::Group(9, 7),
     Fact::Multiples(9, 13),
     Fact::EqualPoints(3, 16),
     Fact::Spelled(12, &[12]),
     Fact::Truncated(&[]),
     Fact::Digest(5),
+    Fact::Zero(0),
 ];
 
 #[test]
 fn numbers_are_added(rt: HostRuntime) {
     let alloc = rt.alloc();
     assert!(rt;
-        of_residues::<M7>(alloc, &RESIDUES_OF_7)
-            && of_residues::<M13>(alloc, &RESIDUES_OF_13)
-            && of_residues::<M257>(alloc, &RESIDUES_OF_257)
+        below::<M7, WithoutCoordinates>(alloc, &RESIDUES_OF_7)
+            && below::<M13, WithoutCoordinates>(alloc, &RESIDUES_OF_13)
+            && below::<M257, WithoutCoordinates>(alloc, &RESIDUES_OF_257)
     );
-    assert!(rt; of_small::<M7>(alloc, &SMALL_OF_7) && of_small::<M13>(alloc, &SMALL_OF_13));
+    assert!(rt;
+        below::<M7, WithCoordinates>(alloc, &SMALL_OF_7)
+            && below::<M13, WithCoordinates>(alloc, &SMALL_OF_13)
+    );
 }
 
 fn has_coordinates<C: SWCoordinates + Copy>(element: C, x: u64, y: u64, infinity: bool) -> bool {
     element.x().value() == x && element.y().value() == y && element.infinity() == infinity
 }
 
-// Whether an element, added so often, has these coordinates, and zero has its own.
-fn is_at<M: SmallModulus>(number: u64, count: u64, x: u64, y: u64) -> bool {
-    has_coordinates(times(Small::<M>::of(number), count), x, y, false)
-        && has_coordinates(<Small<M> as CurveGroup>::zero(), 0, 1, true)
+// Whether an element, added so often, has these coordinates.
+fn is_at<M: SmallModulus>(number: u64, count: u64, x: u64, y: u64, infinity: bool) -> bool {
+    has_coordinates(times(Small::<M>::of(number), count), x, y, infinity)
 }
 
 #[test]
 fn small_elements_have_coordinates(rt: HostRuntime) {
     assert!(rt;
-        is_at::<M13>(3, 5, 29, 19) && is_at::<M13>(12, 1, 251, 212) && is_at::<M7>(13, 1, 131, 127)
+        is_at::<M13>(3, 5, 29, 19, false)
+            && is_at::<M13>(0, 1, 0, 1, true)
+            && is_at::<M13>(12, 1, 251, 212, false)
+            && is_at::<M7>(13, 1, 131, 127, false)
     );
 }
 

@@ -49,14 +49,21 @@ impl Modulus for Two {
     } };
 }
 
+// An operation on two elements. The last two are of the first element alone.
+#[derive(Clone, Copy)]
+enum Operation {
+    Sum,
+    Difference,
+    Product,
+    Negative,
+    Double,
+}
+
 // A fact of a field's elements, each named by a number.
 #[derive(Clone, Copy)]
 enum Fact {
-    Sum(u64, u64, u64),
-    Difference(u64, u64, u64),
-    Product(u64, u64, u64),
-    Negative(u64, u64),
-    Double(u64, u64),
+    // Two elements, and the number that the operation makes of them.
+    Of(Operation, u64, u64, u64),
     Equal(u64, u64),
     Unequal(u64, u64),
     // The number that more than a word is, and that some bytes are.
@@ -117,13 +124,21 @@ fn are_numbers<F: PrimeField>() -> bool {
     true
 }
 
+fn result_of<F: PrimeField>(operation: Operation, x: F, y: F) -> F {
+    match operation {
+        Operation::Sum => x.add(y),
+        Operation::Difference => x.sub(y),
+        Operation::Product => x.mul(y),
+        Operation::Negative => x.neg(),
+        Operation::Double => x.double(),
+    }
+}
+
 fn holds<F: PrimeField + DigestItem>(alloc: Global, fact: Fact) -> bool {
     match fact {
-        Fact::Sum(x, y, sum) => F::from_u64(x).add(F::from_u64(y)).value() == sum,
-        Fact::Difference(x, y, rest) => F::from_u64(x).sub(F::from_u64(y)).value() == rest,
-        Fact::Product(x, y, product) => F::from_u64(x).mul(F::from_u64(y)).value() == product,
-        Fact::Negative(x, negative) => F::from_u64(x).neg().value() == negative,
-        Fact::Double(x, double) => F::from_u64(x).double().value() == double,
+        Fact::Of(operation, x, y, value) => {
+            result_of(operation, F::from_u64(x), F::from_u64(y)).value() == value
+        }
         Fact::Equal(x, y) => are_equal::<F>(F::from_u64(x), F::from_u64(y)),
         Fact::Unequal(x, y) => F::from_u64(x) != F::from_u64(y),
         Fact::Wide(number, value) => F::from_u128(number).value() == value,
@@ -155,11 +170,11 @@ fn below<M: Modulus>(alloc: Global, facts: &[Fact]) -> bool {
 }
 
 const BELOW_13: [Fact; 11] = [
-    Fact::Product(7, 9, 11),
-    Fact::Sum(7, 9, 3),
-    Fact::Difference(7, 9, 11),
-    Fact::Negative(9, 4),
-    Fact::Double(9, 5),
+    Fact::Of(Operation::Product, 7, 9, 11),
+    Fact::Of(Operation::Sum, 7, 9, 3),
+    Fact::Of(Operation::Difference, 7, 9, 11),
+    Fact::Of(Operation::Negative, 9, 0, 4),
+    Fact::Of(Operation::Double, 9, 0, 5),
     Fact::Equal(20, 7),
     Fact::Unequal(7, 9),
     Fact::Spelled(12, &[12]),
@@ -192,8 +207,18 @@ const BELOW_257: [Fact; 18] = [
 
 // The largest element of 2^61 - 1 and the modulus itself.
 const BELOW_M61: [Fact; 7] = [
-    Fact::Product(2305843009213693950, 2305843009213693950, 1),
-    Fact::Product(2305843009213693950, 2, 2305843009213693949),
+    Fact::Of(
+        Operation::Product,
+        2305843009213693950,
+        2305843009213693950,
+        1,
+    ),
+    Fact::Of(
+        Operation::Product,
+        2305843009213693950,
+        2,
+        2305843009213693949,
+    ),
     Fact::Spelled(
         2305843009213693950,
         &[254, 255, 255, 255, 255, 255, 255, 31],
@@ -205,18 +230,27 @@ const BELOW_M61: [Fact; 7] = [
 ];
 
 const BELOW_WIDEST: [Fact; 2] = [
-    Fact::Sum(
+    Fact::Of(
+        Operation::Sum,
         18446744073709551614,
         18446744073709551614,
         18446744073709551613,
     ),
-    Fact::Product(18446744073709551614, 18446744073709551614, 1),
+    Fact::Of(
+        Operation::Product,
+        18446744073709551614,
+        18446744073709551614,
+        1,
+    ),
 ];
 
-const BELOW_TWO: [Fact; 2] = [Fact::Sum(3, 3, 0), Fact::Product(3, 3, 1)];
+const BELOW_TWO: [Fact; 2] = [
+    Fact::Of(Operation::Sum, 3, 3, 0),
+    Fact::Of(Operation::Product, 3, 3, 1),
+];
 
 const BELOW_65537: [Fact; 2] = [
-    Fact::Product(65536, 65536, 1),
+    Fact::Of(Operation::Product, 65536, 65536, 1),
     Fact::Spelled(65536, &[0, 0, 1]),
 ];
 
