@@ -206,7 +206,7 @@ const BELOW_257: [Fact; 18] = [
 ];
 
 // The largest element of 2^61 - 1 and the modulus itself.
-const BELOW_M61: [Fact; 7] = [
+const BELOW_M61: [Fact; 8] = [
     Fact::Of(
         Operation::Product,
         2305843009213693950,
@@ -225,6 +225,7 @@ const BELOW_M61: [Fact; 7] = [
     ),
     Fact::Invalid(&[255, 255, 255, 255, 255, 255, 255, 31]),
     Fact::Digest(7),
+    Fact::Constants,
     Fact::Equal(0, 2305843009213693951),
     Fact::Digits,
 ];
