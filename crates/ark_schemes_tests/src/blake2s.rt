@@ -74,18 +74,18 @@ fn parameters_give(
     )
 }
 
+// Whether the three letters, in pieces, at once and under zeros, give the digest that is shown so.
+fn letters_give(alloc: Global, text: &str) -> Result<bool, Error> {
+    Ok(
+        is_shown(alloc, &digest_of_pieces(&[b"a", b"b", b"c"]), text)?
+            && digest_is(alloc, b"abc", text)?
+            && parameters_give(alloc, [0; 8], [0; 8], b"abc", text)?,
+    )
+}
+
 #[test]
 fn three_letters(rt: HostRuntime) {
-    let alloc = rt.alloc();
-    assert_eq!(rt;
-        is_shown(alloc, &digest_of_pieces(&[b"a", b"b", b"c"]), ABC),
-        Ok(true)
-    );
-    assert_eq!(rt; digest_is(alloc, b"abc", ABC), Ok(true));
-    assert_eq!(rt;
-        parameters_give(alloc, [0; 8], [0; 8], b"abc", ABC),
-        Ok(true)
-    );
+    assert_eq!(rt; letters_give(rt.alloc(), ABC), Ok(true));
 }
 
 fn text_gives(
@@ -100,9 +100,9 @@ fn text_gives(
 
 #[test]
 fn salts_and_personalizations(rt: HostRuntime) {
-    for (len, salt, personalization, text) in WITH_PARAMETERS {
+    for (len, salt, personalization, text) in &WITH_PARAMETERS {
         assert_eq!(rt;
-            text_gives(rt.alloc(), salt, personalization, len, text),
+            text_gives(rt.alloc(), *salt, *personalization, *len, text),
             Ok(true),
             "{len}"
         );
@@ -123,8 +123,8 @@ fn each_cut_gives(alloc: Global, len: usize, shown: &str) -> Result<bool, Error>
 
 #[test]
 fn every_cut(rt: HostRuntime) {
-    for (len, shown) in PLAIN {
-        assert_eq!(rt; each_cut_gives(rt.alloc(), len, shown), Ok(true), "{len}");
+    for (len, shown) in &PLAIN {
+        assert_eq!(rt; each_cut_gives(rt.alloc(), *len, shown), Ok(true), "{len}");
     }
 }
 
@@ -211,21 +211,16 @@ fn rising(first: u8) -> [u8; 32] {
     bytes
 }
 
+// Whether the function gives the digest of seed and input, which is shown so.
+fn seed_gives(alloc: Global, text: &str) -> Result<bool, Error> {
+    let (seed, input) = (rising(0), rising(100));
+    let digest = digest_of_pieces(&[&seed, &input]);
+    Ok(output_of::<Blake2s>(&seed, &input)? == digest && is_shown(alloc, &digest, text)?)
+}
+
 #[test]
 fn seed_then_input(rt: HostRuntime) {
-    let (seed, input) = (rising(0), rising(100));
-    assert_eq!(rt;
-        output_of::<Blake2s>(&seed, &input),
-        Ok(digest_of_pieces(&[&seed, &input]))
-    );
-    assert_eq!(rt;
-        is_shown(
-            rt.alloc(),
-            &digest_of_pieces(&[&seed, &input]),
-            SEED_AND_INPUT
-        ),
-        Ok(true)
-    );
+    assert_eq!(rt; seed_gives(rt.alloc(), SEED_AND_INPUT), Ok(true));
 }
 
 const SALT: [u8; 8] = [1, 2, 3, 4, 5, 6, 7, 8];

@@ -1,68 +1,86 @@
 //! Compressed Pedersen commitments by worked examples.
 
-use crate::samples::{TWO, Two, list, lists};
+use crate::pedersen::commitment_parameters;
+use crate::samples::{Numeral, TWO, Two, value};
 use ark_base::error::{Error, Refusal};
-use ark_groups::ec::Small;
-use ark_groups::ff::{Fp, M13, M257, PrimeField};
+use ark_base::serialize::DigestItem;
+use ark_groups::ec::{CurveGroup, Small, TECoordinates};
+use ark_groups::ff::{M13, PrimeField};
 use ark_pedersen::injective_map::TECompressor;
 use ark_schemes::commitment::CommitmentScheme;
 use ark_schemes::commitment::injective_map::PedersenCommCompressor;
-use ark_schemes::commitment::pedersen::{Commitment, Parameters, Randomness};
-use rand::SeedableRng;
+use ark_schemes::commitment::pedersen::{Commitment, Randomness};
 use rand::rngs::SmallRng;
+use rand::{Rng, SeedableRng};
 use std::alloc::Global;
 
-type Compressed = PedersenCommCompressor<Small<M13>, TECompressor, Two>;
-
-fn coordinate(number: u64) -> Fp<M257> {
-    Fp::from_u64(number)
+// The commitment over two windows, with so many doublings of the randomness element.
+fn commitment<C: CurveGroup + TECoordinates + Numeral>(
+    alloc: Global,
+    doublings: usize,
+    input: &[u8],
+    randomness: u64,
+) -> Result<u64, Error>
+where
+    C::BaseField: DigestItem,
+{
+    let parameters = commitment_parameters::<C>(alloc, doublings, &TWO)?;
+    let randomness = Randomness(C::ScalarField::from_u64(randomness));
+    value(PedersenCommCompressor::<C, TECompressor, Two>::commit(
+        alloc,
+        &parameters,
+        input,
+        &randomness,
+    ))
 }
 
-// The commitment over two windows, with these doublings of the randomness element.
-fn over(alloc: Global, doubled: &[u64], input: &[u8], number: u64) -> Result<Fp<M257>, Error> {
-    let randomness_generator = list(alloc, doubled)?;
-    let parameters = Parameters {
-        generators: lists(alloc, &TWO)?,
-        randomness_generator,
-    };
-    Compressed::commit(alloc, &parameters, input, &Randomness(Fp::from_u64(number)))
-}
-
-fn under(alloc: Global, input: &[u8], number: u64) -> Result<Fp<M257>, Error> {
-    over(alloc, &[5, 10, 7, 1], input, number)
-}
+// Doublings, an input, the randomness, and the commitment.
+const COMMITMENTS: [(usize, &[u8], u64, Result<u64, Error>); 5] = [
+    (4, &[0x25], 3, Ok(239)),
+    (4, &[0x21], 3, Ok(163)),
+    (4, &[0x04], 7, Ok(0)),
+    (4, &[0x25, 0x25], 3, Err(Error::IncorrectInputLength(2))),
+    (
+        3,
+        &[0x25],
+        3,
+        Err(Error::GenericError(Refusal::ParameterShape)),
+    ),
+];
 
 #[test]
 fn the_first_coordinate_is_the_commitment(rt: HostRuntime) {
-    let alloc = rt.alloc();
-    for (input, randomness, first) in [(0x25, 3, 239), (0x21, 3, 163), (0x04, 7, 0)] {
+    for (doublings, input, randomness, first) in &COMMITMENTS {
         assert_eq!(rt;
-            under(alloc, &[input], randomness),
-            Ok(coordinate(first)),
-            "{first}"
+            commitment::<Small<M13>>(rt.alloc(), *doublings, input, *randomness),
+            *first
         );
     }
-    let long = Error::IncorrectInputLength(2);
-    assert_eq!(rt; under(alloc, &[0x25, 0x25], 3), Err(long));
-    let shape = Error::GenericError(Refusal::ParameterShape);
-    assert_eq!(rt; over(alloc, &[5, 10, 7], &[0x25], 3), Err(shape));
 }
 
-// Whether parameters are those that the Pedersen commitment draws of a seed.
-fn is_drawn(alloc: Global, parameters: &Parameters<Small<M13>>, seed: u64) -> Result<bool, Error> {
-    let made = Commitment::<Small<M13>, Two>::setup(alloc, &mut SmallRng::seed_from_u64(seed))?;
+// Whether parameters are those that the Pedersen commitment draws.
+fn is_drawn_alike<C: CurveGroup + TECoordinates, R: Rng>(
+    alloc: Global,
+    rng: &mut R,
+    twin: &mut R,
+) -> Result<bool, Error>
+where
+    C::BaseField: DigestItem,
+{
+    let parameters = PedersenCommCompressor::<C, TECompressor, Two>::setup(alloc, rng)?;
+    let made = Commitment::<C, Two>::setup(alloc, twin)?;
     Ok(
         parameters.randomness_generator == made.randomness_generator
             && parameters.generators == made.generators,
     )
 }
 
-fn setup_is_the_same(alloc: Global, seed: u64) -> Result<bool, Error> {
-    let parameters = Compressed::setup(alloc, &mut SmallRng::seed_from_u64(seed))?;
-    is_drawn(alloc, &parameters, seed)
-}
-
 #[test]
 fn setup_draws_as_the_commitment(rt: HostRuntime) {
-    assert_eq!(rt; setup_is_the_same(rt.alloc(), 3), Ok(true));
+    let mut rng = SmallRng::seed_from_u64(3);
+    let mut twin = SmallRng::seed_from_u64(3);
+    assert_eq!(rt;
+        is_drawn_alike::<Small<M13>, SmallRng>(rt.alloc(), &mut rng, &mut twin),
+        Ok(true)
+    );
 }

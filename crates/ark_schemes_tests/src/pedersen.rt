@@ -1,10 +1,10 @@
 //! Pedersen commitments by worked examples.
 
-use crate::samples::{TWO, Three, Two, are_drawn, element, is_doubled, list, lists};
+use crate::samples::{Numeral, THREE, TWO, Three, Two, are_drawn, is_doubled, list, lists, number};
 use ark_base::error::{Error, Refusal, SerializationError};
 use ark_base::serialize::{CanonicalDeserialize, Duplicate, canonical_bytes};
 use ark_groups::ec::{CurveGroup, Residues};
-use ark_groups::ff::{Fp, M13, M61, PrimeField, UniformRand};
+use ark_groups::ff::{M13, M61, PrimeField, UniformRand};
 use ark_schemes::commitment::CommitmentScheme;
 use ark_schemes::commitment::pedersen::{Commitment, Parameters, Randomness};
 use rand::rngs::SmallRng;
@@ -15,77 +15,81 @@ type G13 = Residues<M13>;
 
 type G61 = Residues<M61>;
 
-fn residue(number: u64) -> G13 {
-    element(number)
-}
-
-// The commitment over two windows, with these doublings of the randomness element.
-fn over(
+/// Parameters of so many doublings of the randomness element and of generators.
+pub fn commitment_parameters<C: CurveGroup + Numeral>(
     alloc: Global,
-    doubled: &[u64],
+    doublings: usize,
     rows: &[&[u64]],
+) -> Result<Parameters<C>, Error> {
+    let doubled = [5, 10, 7, 1, 2];
+    let generators = lists(alloc, rows)?;
+    Ok(Parameters {
+        randomness_generator: list(alloc, &doubled[..doublings.min(5)])?,
+        generators,
+    })
+}
+
+// The commitment over two windows.
+fn commitment<C: CurveGroup + Numeral>(
+    alloc: Global,
+    doublings: usize,
+    lists: u8,
     input: &[u8],
-    number: u64,
-) -> Result<G13, Error> {
-    let randomness_generator = list(alloc, doubled)?;
-    let parameters = Parameters {
-        generators: lists(alloc, rows)?,
-        randomness_generator,
-    };
-    Commitment::<G13, Two>::commit(alloc, &parameters, input, &Randomness(Fp::from_u64(number)))
+    randomness: u64,
+) -> Result<u64, Error> {
+    let rows: &[&[u64]] = if lists == 2 { &TWO } else { &THREE };
+    let parameters = commitment_parameters::<C>(alloc, doublings, rows)?;
+    let randomness = Randomness(C::ScalarField::from_u64(randomness));
+    number(Commitment::<C, Two>::commit(alloc, &parameters, input, &randomness))
 }
 
-fn under(alloc: Global, input: &[u8], number: u64) -> Result<G13, Error> {
-    over(alloc, &[5, 10, 7, 1], &TWO, input, number)
-}
+const LONG: Result<u64, Error> = Err(Error::IncorrectInputLength(2));
 
-// An input, the randomness, and the commitment. The third, fourth and fifth show that commitments are summed.
-const COMMITMENTS: [(&[u8], u64, u64); 6] = [
-    (&[0x25], 3, 11),
-    (&[0x25], 0, 9),
-    (&[0x21], 3, 7),
-    (&[0x04], 7, 0),
-    (&[0x25], 10, 7),
-    (&[], 3, 2),
+const SHAPE: Result<u64, Error> = Err(Error::GenericError(Refusal::ParameterShape));
+
+// Doublings, lists of generators, an input, the randomness, and the commitment. The third, fourth and fifth show that commitments
+// are summed.
+const COMMITMENTS: [(usize, u8, &[u8], u64, Result<u64, Error>); 11] = [
+    (4, 2, &[0x25], 3, Ok(11)),
+    (4, 2, &[0x25], 0, Ok(9)),
+    (4, 2, &[0x21], 3, Ok(7)),
+    (4, 2, &[0x04], 7, Ok(0)),
+    (4, 2, &[0x25], 10, Ok(7)),
+    (4, 2, &[], 3, Ok(2)),
+    (4, 2, &[0x25, 0x25], 3, LONG),
+    // Parameters of another shape.
+    (3, 2, &[0x25], 3, SHAPE),
+    (5, 2, &[0x25], 3, SHAPE),
+    (3, 2, &[0x25, 0x25], 3, LONG),
+    (4, 3, &[0x25], 3, SHAPE),
 ];
 
 #[test]
 fn randomness_is_added_to_the_hash(rt: HostRuntime) {
-    for (input, randomness, commitment) in COMMITMENTS {
+    for (doublings, lists, input, randomness, answer) in &COMMITMENTS {
         assert_eq!(rt;
-            under(rt.alloc(), input, randomness),
-            Ok(residue(commitment)),
-            "{commitment}"
+            commitment::<G13>(rt.alloc(), *doublings, *lists, input, *randomness),
+            *answer
         );
     }
-    let long = Error::IncorrectInputLength(2);
-    assert_eq!(rt; under(rt.alloc(), &[0x25, 0x25], 3), Err(long));
 }
 
-const SHAPE: Error = Error::GenericError(Refusal::ParameterShape);
-
-#[test]
-fn parameters_of_another_shape_are_refused(rt: HostRuntime) {
-    let alloc = rt.alloc();
-    for doubled in [[5, 10, 7].as_slice(), &[5, 10, 7, 1, 2]] {
-        assert_eq!(rt; over(alloc, doubled, &TWO, &[0x25], 3), Err(SHAPE));
-    }
-    let long = Error::IncorrectInputLength(2);
-    assert_eq!(rt; over(alloc, &[5, 10, 7], &TWO, &[0x25, 0x25], 3), Err(long));
-    let three: [&[u64]; 3] = [&[1, 2, 4, 8], &[2, 4, 8, 3], &[1, 2, 4, 8]];
-    assert_eq!(rt; over(alloc, &[5, 10, 7, 1], &three, &[0x25], 3), Err(SHAPE));
-}
-
-// Whether `setup` doubles what a twin draws, and what it makes is duplicated.
-fn setup_is_drawn<R: Rng>(alloc: Global, rng: &mut R, twin: &mut R) -> Result<bool, Error> {
-    let parameters = Commitment::<G61, Three>::setup(alloc, rng)?;
+// Whether `setup` doubles what a twin draws and draws nothing more, and what it makes is duplicated.
+fn setup_is_drawn<C: CurveGroup, R: Rng>(
+    alloc: Global,
+    rng: &mut R,
+    twin: &mut R,
+    bits: usize,
+) -> Result<bool, Error> {
+    let parameters = Commitment::<C, Three>::setup(alloc, rng)?;
     let again = parameters.duplicate(alloc)?;
-    let randomness_element = <G61 as CurveGroup>::rand(twin);
+    let element = C::rand(twin);
     Ok(
-        is_doubled(&parameters.randomness_generator, randomness_element, 61)
-            && are_drawn::<G61, Three, R>(&parameters.generators, twin)
+        is_doubled(&parameters.randomness_generator, element, bits)
+            && are_drawn::<C, Three, R>(&parameters.generators, twin)
             && again.randomness_generator == parameters.randomness_generator
-            && again.generators == parameters.generators,
+            && again.generators == parameters.generators
+            && rng.next_u64() == twin.next_u64(),
     )
 }
 
@@ -93,73 +97,82 @@ fn setup_is_drawn<R: Rng>(alloc: Global, rng: &mut R, twin: &mut R) -> Result<bo
 fn setup_doubles_what_is_drawn(rt: HostRuntime) {
     let mut rng = SmallRng::seed_from_u64(7);
     let mut twin = SmallRng::seed_from_u64(7);
-    assert_eq!(rt; setup_is_drawn(rt.alloc(), &mut rng, &mut twin), Ok(true));
-    assert_eq!(rt; rng.next_u64(), twin.next_u64());
+    assert_eq!(rt;
+        setup_is_drawn::<G61, SmallRng>(rt.alloc(), &mut rng, &mut twin, 61),
+        Ok(true)
+    );
 }
 
-fn randomness_of(number: u64) -> Randomness<G13> {
-    Randomness(Fp::from_u64(number))
+fn randomness_of<C: CurveGroup>(number: u64) -> Randomness<C> {
+    Randomness(C::ScalarField::from_u64(number))
 }
 
-fn has_text(alloc: Global, number: u64, text: &str) -> Result<bool, Error> {
-    Ok(format!(in alloc; "{:?}", randomness_of(number))?.as_str() == text)
+// Whether the randomness of a number is printed so, spelled by these bytes and cloned.
+fn is_shown<C: CurveGroup>(
+    alloc: Global,
+    number: u64,
+    text: &str,
+    bytes: &[u8],
+) -> Result<bool, Error> {
+    let randomness = randomness_of::<C>(number);
+    Ok(
+        format!(in alloc; "{randomness:?}")?.as_str() == text
+            && canonical_bytes(alloc, &randomness)?.as_slice() == bytes
+            && randomness.clone()? == randomness,
+    )
 }
 
-fn is_cloned(number: u64) -> Result<bool, Error> {
-    Ok(randomness_of(number).clone()? == randomness_of(number))
+// Whether the randomness of 0, and not that of 3, is the default.
+fn zero_is_default<C: CurveGroup>() -> bool {
+    Randomness::<C>::default() == randomness_of::<C>(0)
+        && Randomness::<C>::default() != randomness_of::<C>(3)
+}
+
+// The randomness that bytes spell, as its scalar, and how many bytes that took.
+fn read<C: CurveGroup>(alloc: Global, bytes: &[u8]) -> Result<(u64, usize), Error> {
+    let (randomness, used) = Randomness::<C>::deserialize(alloc, bytes)?;
+    Ok((randomness.0.value(), used))
+}
+
+// Whether bytes are read as a list of two, and written again.
+fn is_list<C: CurveGroup>(alloc: Global, bytes: &[u8]) -> Result<bool, Error> {
+    let list = Vec::<Randomness<C>>::deserialize(alloc, bytes)?.0;
+    Ok(list.len() == 2 && canonical_bytes(alloc, &list)?.as_slice() == bytes)
+}
+
+// Whether each of these bytes is read as it should be, below the modulus 13.
+fn is_read<C: CurveGroup>(alloc: Global) -> Result<bool, Error> {
+    let invalid = Error::SerializationError(SerializationError::InvalidData);
+    let cut = Error::SerializationError(SerializationError::Truncated);
+    Ok(
+        read::<C>(alloc, &[3]) == Ok((3, 1))
+            && read::<C>(alloc, &[13]) == Err(invalid)
+            && read::<C>(alloc, &[]) == Err(cut)
+            && is_list::<C>(alloc, &[2, 0, 0, 0, 0, 0, 0, 0, 3, 12])?,
+    )
+}
+
+fn is_its_scalar<C: CurveGroup>(alloc: Global) -> Result<bool, Error> {
+    Ok(
+        is_shown::<C>(alloc, 3, "Randomness(3)", &[3])?
+            && zero_is_default::<C>()
+            && is_read::<C>(alloc)?,
+    )
 }
 
 #[test]
 fn randomness_is_its_scalar(rt: HostRuntime) {
-    assert_eq!(rt; has_text(rt.alloc(), 3, "Randomness(3)"), Ok(true));
-    assert_eq!(rt; is_cloned(3), Ok(true));
-    for number in [0, 3] {
-        assert_eq!(rt;
-            Randomness::<G13>::default() == randomness_of(number),
-            number == 0
-        );
-    }
+    assert_eq!(rt; is_its_scalar::<G13>(rt.alloc()), Ok(true));
 }
 
-fn is_written(alloc: Global, number: u64, bytes: &[u8]) -> Result<bool, Error> {
-    Ok(canonical_bytes(alloc, &randomness_of(number))?.as_slice() == bytes)
-}
-
-// The randomness that bytes spell, as its scalar, and how many bytes that took.
-fn read(alloc: Global, bytes: &[u8]) -> Result<(u64, usize), Error> {
-    let (randomness, used) = Randomness::<G13>::deserialize(alloc, bytes)?;
-    Ok((randomness.0.value(), used))
-}
-
-#[test]
-fn randomness_is_written_and_read(rt: HostRuntime) {
-    assert_eq!(rt; is_written(rt.alloc(), 3, &[3]), Ok(true));
-    assert_eq!(rt; read(rt.alloc(), &[3]), Ok((3, 1)));
-    let invalid = Error::SerializationError(SerializationError::InvalidData);
-    assert_eq!(rt; read(rt.alloc(), &[13]), Err(invalid));
-    let cut = Error::SerializationError(SerializationError::Truncated);
-    assert_eq!(rt; read(rt.alloc(), &[]), Err(cut));
-}
-
-// Whether bytes are read as a list of randomness, and written again.
-fn is_list(alloc: Global, bytes: &[u8]) -> Result<bool, Error> {
-    let list = Vec::<Randomness<G13>>::deserialize(alloc, bytes)?.0;
-    Ok(list.len() == 2 && canonical_bytes(alloc, &list)?.as_slice() == bytes)
-}
-
-#[test]
-fn lists_of_randomness_are_read(rt: HostRuntime) {
-    let bytes = [2, 0, 0, 0, 0, 0, 0, 0, 3, 12];
-    assert_eq!(rt; is_list(rt.alloc(), &bytes), Ok(true));
+// Whether randomness is a scalar that is drawn, and nothing more is.
+fn is_drawn<C: CurveGroup, R: Rng>(rng: &mut R, twin: &mut R) -> bool {
+    Randomness::<C>::rand(rng).0 == C::ScalarField::rand(twin) && rng.next_u64() == twin.next_u64()
 }
 
 #[test]
 fn randomness_is_drawn_as_a_scalar(rt: HostRuntime) {
     let mut rng = SmallRng::seed_from_u64(7);
     let mut twin = SmallRng::seed_from_u64(7);
-    assert_eq!(rt;
-        Randomness::<G61>::rand(&mut rng).0,
-        Fp::<M61>::rand(&mut twin)
-    );
-    assert_eq!(rt; rng.next_u64(), twin.next_u64());
+    assert!(rt; is_drawn::<G61, SmallRng>(&mut rng, &mut twin));
 }
