@@ -126,26 +126,23 @@ where
     Ok(true)
 }
 
+// Whether both kinds have, over several windows.
+fn all_drawn_agree<G: CurveGroup + TECoordinates>(alloc: Global) -> Result<bool, Error>
+where
+    G::BaseField: DigestItem,
+{
+    Ok(
+        drawn_digits_agree::<G, One>(alloc, 1)?
+            && drawn_digits_agree::<G, Wide>(alloc, 2)?
+            && drawn_digits_agree::<G, Sixteen>(alloc, 3)?
+            && drawn_digits_agree::<G, Seven>(alloc, 4)?
+            && drawn_digits_agree::<G, Twelve>(alloc, 5)?
+            && drawn_segments_agree::<G, Wide>(alloc, 6)?
+            && drawn_segments_agree::<G, Sixteen>(alloc, 7)?,
+    )
+}
+
 #[test]
 fn drawn_inputs_have_the_defined_hashes(rt: HostRuntime) {
-    let alloc = rt.alloc();
-    assert_eq!(rt; drawn_digits_agree::<Small<M13>, One>(alloc, 1), Ok(true));
-    assert_eq!(rt; drawn_digits_agree::<Small<M13>, Wide>(alloc, 2), Ok(true));
-    assert_eq!(rt;
-        drawn_digits_agree::<Small<M13>, Sixteen>(alloc, 3),
-        Ok(true)
-    );
-    assert_eq!(rt; drawn_digits_agree::<Small<M13>, Seven>(alloc, 4), Ok(true));
-    assert_eq!(rt;
-        drawn_digits_agree::<Small<M13>, Twelve>(alloc, 5),
-        Ok(true)
-    );
-    assert_eq!(rt;
-        drawn_segments_agree::<Small<M13>, Wide>(alloc, 6),
-        Ok(true)
-    );
-    assert_eq!(rt;
-        drawn_segments_agree::<Small<M13>, Sixteen>(alloc, 7),
-        Ok(true)
-    );
+    assert_eq!(rt; all_drawn_agree::<Small<M13>>(rt.alloc()), Ok(true));
 }

@@ -4,8 +4,8 @@ ghost use Rattle.std.proofs.Common.{lit<, lit≤};
 
 use ark_base::error::Error;
 use ark_bowe_hopwood::Parameters;
-use ark_groups::ec::{Additive, Small, SmallModulus};
-use ark_groups::ff::{Fp, M13, Modulus, PrimeField};
+use ark_groups::ec::{Additive, CurveGroup, SmallModulus};
+use ark_groups::ff::{Fp, Modulus, PrimeField};
 use ark_pedersen::Window;
 use std::alloc::Global;
 
@@ -191,21 +191,30 @@ impl SmallModulus for M9 {
     ghost small = { lit≤ tt };
 }
 
-/// The element of this number.
-pub fn element(number: u64) -> Small<M13> {
-    Additive::new(Fp::from_u64(number))
+/// What a test makes of a number.
+pub trait Numeral {
+    fn of(number: u64) -> Self;
 }
 
-fn list(alloc: Global, numbers: &[u64]) -> Result<Vec<Small<M13>>, Error> {
+impl<M: Modulus, K> Numeral for Additive<M, K> {
+    fn of(number: u64) -> Additive<M, K> {
+        Additive::new(Fp::from_u64(number))
+    }
+}
+
+fn list<C: CurveGroup + Numeral>(alloc: Global, numbers: &[u64]) -> Result<Vec<C>, Error> {
     let mut list = Vec::new(alloc);
     for number in numbers {
-        list.push(element(*number))?;
+        list.push(C::of(*number))?;
     }
     Ok(list)
 }
 
 /// A list of elements for each of these lists of numbers.
-pub fn parameters(alloc: Global, rows: &[&[u64]]) -> Result<Parameters<Small<M13>>, Error> {
+pub fn parameters<C: CurveGroup + Numeral>(
+    alloc: Global,
+    rows: &[&[u64]],
+) -> Result<Parameters<C>, Error> {
     let mut generators = Vec::new(alloc);
     for numbers in rows {
         generators.push(list(alloc, numbers)?)?;

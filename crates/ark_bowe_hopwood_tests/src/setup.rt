@@ -2,21 +2,31 @@
 
 use crate::samples::{Huge, M8, M9, One, Pair, Sixteen, Three, Wide};
 use ark_base::error::{Error, Refusal};
-use ark_bowe_hopwood::{CRH, TwoToOneCRH};
+use ark_base::serialize::DigestItem;
+use ark_bowe_hopwood::{CRH, Parameters, TwoToOneCRH};
 use ark_crh::{CRHScheme, TwoToOneCRHScheme};
-use ark_groups::ec::{CurveGroup, Small, SmallModulus};
+use ark_groups::ec::{CurveGroup, Small, SmallModulus, TECoordinates};
 use ark_groups::ff::{M7, M13};
 use ark_pedersen::Window;
 use rand::rngs::SmallRng;
 use rand::{Rng, SeedableRng};
 use std::alloc::Global;
 
-// Why there are no parameters for a window, from the hash of one input and from the hash of two.
-fn refusals<M: SmallModulus, W: Window>(alloc: Global) -> (Option<Error>, Option<Error>) {
+// Why there are no parameters, from the hash of one input and from the hash of two.
+fn refusals<H, T, R>(alloc: Global, rng: &mut R) -> (Option<Error>, Option<Error>)
+where
+    H: CRHScheme,
+    T: TwoToOneCRHScheme,
+    R: Rng,
+{
+    let of_one = H::setup(alloc, rng).err();
+    (of_one, T::setup(alloc, rng).err())
+}
+
+// The same for a window over the numbers below a modulus.
+fn refusals_of<M: SmallModulus, W: Window>(alloc: Global) -> (Option<Error>, Option<Error>) {
     let mut rng = SmallRng::seed_from_u64(5);
-    let of_one = <CRH<Small<M>, W> as CRHScheme>::setup(alloc, &mut rng).err();
-    let of_two = <TwoToOneCRH<Small<M>, W> as TwoToOneCRHScheme>::setup(alloc, &mut rng).err();
-    (of_one, of_two)
+    refusals::<CRH<Small<M>, W>, TwoToOneCRH<Small<M>, W>, SmallRng>(alloc, &mut rng)
 }
 
 const LARGE: Option<Error> = Some(Error::GenericError(Refusal::WindowTooLarge));
@@ -24,16 +34,22 @@ const LARGE: Option<Error> = Some(Error::GenericError(Refusal::WindowTooLarge));
 #[test]
 fn windows_fit_the_order(rt: HostRuntime) {
     let alloc = rt.alloc();
-    assert_eq!(rt; refusals::<M13, One>(alloc), (None, None));
-    assert_eq!(rt; refusals::<M9, One>(alloc), (None, None));
-    assert_eq!(rt; refusals::<M8, One>(alloc), (LARGE, LARGE));
-    assert_eq!(rt; refusals::<M7, One>(alloc), (LARGE, LARGE));
-    assert_eq!(rt; refusals::<M13, Pair>(alloc), (LARGE, LARGE));
-    assert_eq!(rt; refusals::<M13, Huge>(alloc), (LARGE, LARGE));
+    let fitting = [
+        refusals_of::<M13, One>(alloc),
+        refusals_of::<M9, One>(alloc),
+    ];
+    assert_eq!(rt; fitting, [(None, None); 2]);
+    let large = [
+        refusals_of::<M8, One>(alloc),
+        refusals_of::<M7, One>(alloc),
+        refusals_of::<M13, Pair>(alloc),
+        refusals_of::<M13, Huge>(alloc),
+    ];
+    assert_eq!(rt; large, [(LARGE, LARGE); 4]);
 }
 
 // Whether the list is an element, three times it, nine times it .., as many in all: sixteen is three modulo thirteen.
-fn is_tripled(list: &[Small<M13>], element: Small<M13>, count: usize) -> bool {
+fn is_tripled<C: CurveGroup>(list: &[C], element: C, count: usize) -> bool {
     let mut power = element;
     for item in list {
         if *item != power {
@@ -45,51 +61,70 @@ fn is_tripled(list: &[Small<M13>], element: Small<M13>, count: usize) -> bool {
 }
 
 // Whether there is such a list for each window, of an element of the twin's.
-fn are_drawn<W: Window, R: Rng>(lists: &[Vec<Small<M13>>], twin: &mut R) -> bool {
+fn are_drawn<C: CurveGroup, W: Window, R: Rng>(lists: &[Vec<C>], twin: &mut R) -> bool {
     for list in lists {
-        if !is_tripled(list, CurveGroup::rand(twin), W::WINDOW_SIZE) {
+        if !is_tripled(list, C::rand(twin), W::WINDOW_SIZE) {
             return false;
         }
     }
     lists.len() == W::NUM_WINDOWS
 }
 
-fn setup_is_drawn<W: Window>(alloc: Global, seed: u64) -> Result<bool, Error> {
-    let mut rng = SmallRng::seed_from_u64(seed);
-    let mut twin = SmallRng::seed_from_u64(seed);
-    let parameters = <CRH<Small<M13>, W> as CRHScheme>::setup(alloc, &mut rng)?;
-    Ok(
-        are_drawn::<W, SmallRng>(&parameters.generators, &mut twin)
-            && rng.next_u64() == twin.next_u64(),
-    )
+fn setup_is_drawn<H, C, W, R>(alloc: Global, rng: &mut R, twin: &mut R) -> Result<bool, Error>
+where
+    C: CurveGroup,
+    W: Window,
+    H: CRHScheme<Parameters = Parameters<C>>,
+    R: Rng,
+{
+    let parameters = H::setup(alloc, rng)?;
+    Ok(are_drawn::<C, W, R>(&parameters.generators, twin))
 }
 
-fn setup_of_two_is_drawn<W: Window>(alloc: Global, seed: u64) -> Result<bool, Error> {
-    let mut rng = SmallRng::seed_from_u64(seed);
-    let mut twin = SmallRng::seed_from_u64(seed);
-    let parameters = <TwoToOneCRH<Small<M13>, W> as TwoToOneCRHScheme>::setup(alloc, &mut rng)?;
-    Ok(
-        are_drawn::<W, SmallRng>(&parameters.generators, &mut twin)
-            && rng.next_u64() == twin.next_u64(),
-    )
+fn setup_of_two_is_drawn<H, C, W, R>(
+    alloc: Global,
+    rng: &mut R,
+    twin: &mut R,
+) -> Result<bool, Error>
+where
+    C: CurveGroup,
+    W: Window,
+    H: TwoToOneCRHScheme<Parameters = Parameters<C>>,
+    R: Rng,
+{
+    let parameters = H::setup(alloc, rng)?;
+    Ok(are_drawn::<C, W, R>(&parameters.generators, twin))
 }
 
-fn generators_are_drawn<W: Window>(alloc: Global, seed: u64) -> Result<bool, Error> {
-    let mut rng = SmallRng::seed_from_u64(seed);
-    let mut twin = SmallRng::seed_from_u64(seed);
-    let of_one = CRH::<Small<M13>, W>::create_generators(alloc, &mut rng)?;
-    let of_two = TwoToOneCRH::<Small<M13>, W>::create_generators(alloc, &mut rng)?;
+// Whether all that is drawn is tripled, over other windows each, and nothing more is drawn.
+fn all_is_drawn<C: CurveGroup + TECoordinates, R: Rng>(
+    alloc: Global,
+    rng: &mut R,
+    twin: &mut R,
+) -> Result<bool, Error>
+where
+    C::BaseField: DigestItem,
+{
     Ok(
-        are_drawn::<W, SmallRng>(&of_one, &mut twin)
-            && are_drawn::<W, SmallRng>(&of_two, &mut twin)
+        setup_is_drawn::<CRH<C, Three>, C, Three, R>(alloc, rng, twin)?
+            && setup_of_two_is_drawn::<TwoToOneCRH<C, Sixteen>, C, Sixteen, R>(alloc, rng, twin)?
+            && are_drawn::<C, Wide, R>(&CRH::<C, Wide>::create_generators(alloc, rng)?, twin)
+            && are_drawn::<C, Wide, R>(
+                &TwoToOneCRH::<C, Wide>::create_generators(alloc, rng)?,
+                twin,
+            )
             && rng.next_u64() == twin.next_u64(),
     )
 }
 
 #[test]
 fn generators_are_drawn_one_after_another(rt: HostRuntime) {
-    let alloc = rt.alloc();
-    assert_eq!(rt; setup_is_drawn::<Three>(alloc, 7), Ok(true));
-    assert_eq!(rt; setup_of_two_is_drawn::<Sixteen>(alloc, 8), Ok(true));
-    assert_eq!(rt; generators_are_drawn::<Wide>(alloc, 9), Ok(true));
+    for seed in [7, 8, 9] {
+        let mut rng = SmallRng::seed_from_u64(seed);
+        let mut twin = SmallRng::seed_from_u64(seed);
+        assert_eq!(rt;
+            all_is_drawn::<Small<M13>, SmallRng>(rt.alloc(), &mut rng, &mut twin),
+            Ok(true)
+        );
+    }
 }
