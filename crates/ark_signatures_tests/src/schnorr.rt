@@ -3,18 +3,18 @@
 ghost use Rattle.std.specs.Prelude.{Ok, replicate};
 ghost use Rattle.ark_signatures_tests.specs.Refusing.{refused};
 
+use crate::elgamal::Numeral;
 use ark_base::error::{Error, Refusal};
 use ark_base::serialize::{CanonicalDeserialize, CanonicalSerialize, canonical_bytes};
 use ark_groups::digest::ByteDigest;
 use ark_groups::ec::{CurveGroup, Residues};
-use ark_groups::ff::{Fp, M61, PrimeField, UniformRand};
+use ark_groups::ff::{M61, PrimeField, UniformRand};
 use ark_schemes::prf::Blake2s256;
 use ark_signatures::signature::SignatureScheme;
 use ark_signatures::signature::schnorr::{Parameters, Schnorr, SecretKey, Signature};
 use rand::{Rng, SeedableRng};
 use rand_chacha::ChaCha20Rng;
 use std::alloc::Global;
-use std::test::Fail;
 
 type G61 = Residues<M61>;
 
@@ -68,119 +68,190 @@ where
     S::verify(alloc, &pp, &pk, told, &signature)
 }
 
-fn is_told(alloc: Global, told: &[u8], bytes: &[u8]) -> Result<bool, Error> {
-    let mut rng = ChaCha20Rng::seed_from_u64(22);
-    is_valid::<Schnorr<G61, Blake2s256>, ChaCha20Rng>(alloc, &mut rng, TEXT, told, bytes)
-}
-
-// The same, with key and signature made random by the canonical bytes of a drawn scalar.
-fn is_told_randomised(alloc: Global, told: &[u8]) -> Result<bool, Error> {
-    let scalar = Fp::<M61>::rand(&mut ChaCha20Rng::seed_from_u64(23));
-    let bytes = canonical_bytes(alloc, &scalar)?;
-    is_told(alloc, told, &bytes)
+// The same, and with key and signature made random by the canonical bytes of a drawn scalar.
+fn is_told<C: CurveGroup, D: ByteDigest, R: Rng>(
+    alloc: Global,
+    rng: &mut R,
+    drawn: &mut R,
+    told: &[u8],
+) -> Result<(bool, bool), Error> {
+    let plain = is_valid::<Schnorr<C, D>, R>(alloc, rng, TEXT, told, &[])?;
+    let bytes = canonical_bytes(alloc, &C::ScalarField::rand(drawn))?;
+    let randomized = is_valid::<Schnorr<C, D>, R>(alloc, rng, TEXT, told, &bytes)?;
+    Ok((plain, randomized))
 }
 
 #[test]
 fn what_is_signed_is_valid(rt: HostRuntime) {
-    assert_eq!(rt; is_told(rt.alloc(), TEXT, &[]), Ok(true));
-    assert_eq!(rt; is_told(rt.alloc(), b"Bad message", &[]), Ok(false));
-    assert_eq!(rt; is_told_randomised(rt.alloc(), TEXT), Ok(true));
-    assert_eq!(rt; is_told_randomised(rt.alloc(), b"Bad message"), Ok(false));
+    for (told, valid) in [(TEXT, true), (b"Bad message".as_slice(), false)] {
+        let mut rng = ChaCha20Rng::seed_from_u64(22);
+        let mut drawn = ChaCha20Rng::seed_from_u64(23);
+        assert_eq!(rt;
+            is_told::<G61, Blake2s256, ChaCha20Rng>(rt.alloc(), &mut rng, &mut drawn, told),
+            Ok((valid, valid))
+        );
+    }
 }
 
-fn parameters() -> Parameters<G61> {
+fn parameters<C: CurveGroup + Numeral>() -> Parameters<C> {
     Parameters {
-        generator: Residues::new(Fp::from_u64(3)),
+        generator: C::of(3),
         salt: [7; 32],
     }
 }
 
 // Whether salt, generator and secret key are what the generator's twin gives in turn.
-fn is_drawn(alloc: Global) -> Result<bool, Error> {
-    let mut rng = ChaCha20Rng::seed_from_u64(24);
-    let mut twin = ChaCha20Rng::seed_from_u64(24);
-    let pp = Schnorr::<G61, Blake2s256>::setup(alloc, &mut rng)?;
-    let (pk, sk) = Schnorr::<G61, Blake2s256>::keygen(alloc, &pp, &mut rng)?;
-    let salt = <[u8; 32]>::rand(&mut twin);
-    let generator = <G61 as CurveGroup>::rand(&mut twin);
-    let x = Fp::<M61>::rand(&mut twin);
+fn is_drawn<C: CurveGroup, D: ByteDigest, R: Rng>(
+    alloc: Global,
+    rng: &mut R,
+    twin: &mut R,
+) -> Result<bool, Error> {
+    let pp = Schnorr::<C, D>::setup(alloc, rng)?;
+    let (pk, sk) = Schnorr::<C, D>::keygen(alloc, &pp, rng)?;
+    let salt = <[u8; 32]>::rand(twin);
+    let generator = C::rand(twin);
+    let x = C::ScalarField::rand(twin);
     let same = pp.salt == salt && pp.generator == generator && sk.0 == x;
     Ok(same && pk == generator.mul(x) && rng.next_u64() == twin.next_u64())
 }
 
 // Whether the response is k - x e, for the scalar k that the generator's twin gives.
-fn is_response(alloc: Global, x: u64) -> Result<bool, Error> {
-    let mut rng = ChaCha20Rng::seed_from_u64(25);
-    let mut twin = ChaCha20Rng::seed_from_u64(25);
-    let sk = SecretKey(Fp::from_u64(x));
-    let signature = Schnorr::<G61, Blake2s256>::sign(alloc, &parameters(), &sk, TEXT, &mut rng)?;
-    let response = Fp::rand(&mut twin).sub(sk.0.mul(signature.verifier_challenge));
+fn is_response<C: CurveGroup + Numeral, D: ByteDigest, R: Rng>(
+    alloc: Global,
+    x: u64,
+    rng: &mut R,
+    twin: &mut R,
+) -> Result<bool, Error> {
+    let sk = SecretKey(C::ScalarField::from_u64(x));
+    let signature = Schnorr::<C, D>::sign(alloc, &parameters(), &sk, TEXT, rng)?;
+    let response = C::ScalarField::rand(twin).sub(sk.0.mul(signature.verifier_challenge));
     Ok(signature.prover_response == response && rng.next_u64() == twin.next_u64())
+}
+
+// Whether both hold, one after the other.
+fn all_is_drawn<C: CurveGroup + Numeral, D: ByteDigest, R: Rng>(
+    alloc: Global,
+    rng: &mut R,
+    twin: &mut R,
+) -> Result<bool, Error> {
+    Ok(is_drawn::<C, D, R>(alloc, rng, twin)? && is_response::<C, D, R>(alloc, 12345, rng, twin)?)
 }
 
 #[test]
 fn keys_and_nonces_are_drawn(rt: HostRuntime) {
-    assert_eq!(rt; is_drawn(rt.alloc()), Ok(true));
-    assert_eq!(rt; is_response(rt.alloc(), 12345), Ok(true));
+    let mut rng = ChaCha20Rng::seed_from_u64(24);
+    let mut twin = ChaCha20Rng::seed_from_u64(24);
+    assert_eq!(rt;
+        all_is_drawn::<G61, Blake2s256, ChaCha20Rng>(rt.alloc(), &mut rng, &mut twin),
+        Ok(true)
+    );
 }
 
 // Why a text is not signed under a digest, and whether this count of draws was taken.
-fn refusal<D: ByteDigest>(alloc: Global, draws: u32) -> (Option<Error>, bool) {
-    let mut rng = ChaCha20Rng::seed_from_u64(26);
-    let mut twin = ChaCha20Rng::seed_from_u64(26);
-    let sk = SecretKey(Fp::from_u64(5));
-    let refused = Schnorr::<G61, D>::sign(alloc, &parameters(), &sk, TEXT, &mut rng).err();
+fn refusal<C: CurveGroup + Numeral, D: ByteDigest, R: Rng>(
+    alloc: Global,
+    draws: u32,
+    rng: &mut R,
+    twin: &mut R,
+) -> (Option<Error>, bool) {
+    let sk = SecretKey(C::ScalarField::from_u64(5));
+    let refused = Schnorr::<C, D>::sign(alloc, &parameters(), &sk, TEXT, rng).err();
     for _ in 0..draws {
-        Fp::<M61>::rand(&mut twin);
+        C::ScalarField::rand(twin);
     }
     (refused, rng.next_u64() == twin.next_u64())
 }
 
-fn verified<D: ByteDigest>(alloc: Global) -> Result<bool, Error> {
-    let key = Residues::new(Fp::from_u64(8));
-    Schnorr::<G61, D>::verify(alloc, &parameters(), &key, TEXT, &Signature::default())
+fn verified<C: CurveGroup + Numeral, D: ByteDigest>(alloc: Global) -> Result<bool, Error> {
+    Schnorr::<C, D>::verify(alloc, &parameters(), &C::of(8), TEXT, &Signature::default())
+}
+
+// Whether a text is refused so after so many draws, and a signature judged so.
+fn judges<C: CurveGroup + Numeral, D: ByteDigest, R: Rng>(
+    alloc: Global,
+    draws: u32,
+    rng: &mut R,
+    twin: &mut R,
+    refused: Error,
+    verdict: Result<bool, Error>,
+) -> bool {
+    refusal::<C, D, R>(alloc, draws, rng, twin) == (Some(refused), true)
+        && verified::<C, D>(alloc) == verdict
 }
 
 #[test]
 fn a_digest_without_scalars_is_refused(rt: HostRuntime) {
-    let exhausted = Some(Error::GenericError(Refusal::DrawsExhausted));
-    assert_eq!(rt; refusal::<Ones>(rt.alloc(), 128), (exhausted, true));
-    assert_eq!(rt; verified::<Ones>(rt.alloc()), Ok(false));
+    let mut rng = ChaCha20Rng::seed_from_u64(26);
+    let mut twin = ChaCha20Rng::seed_from_u64(26);
+    let exhausted = Error::GenericError(Refusal::DrawsExhausted);
+    assert!(rt;
+        judges::<G61, Ones, ChaCha20Rng>(
+            rt.alloc(),
+            128,
+            &mut rng,
+            &mut twin,
+            exhausted,
+            Ok(false),
+        )
+    );
 }
 
 #[test]
 fn a_refusal_of_the_digest_is_told(rt: HostRuntime) {
+    let mut rng = ChaCha20Rng::seed_from_u64(26);
+    let mut twin = ChaCha20Rng::seed_from_u64(26);
     let custom = Error::GenericError(Refusal::Custom(7));
-    assert_eq!(rt; refusal::<Refuses>(rt.alloc(), 1), (Some(custom), true));
-    assert_eq!(rt; verified::<Refuses>(rt.alloc()), Err(custom));
+    assert!(rt;
+        judges::<G61, Refuses, ChaCha20Rng>(
+            rt.alloc(),
+            1,
+            &mut rng,
+            &mut twin,
+            custom,
+            Err(custom),
+        )
+    );
 }
 
-fn secret(bytes: &[u8], alloc: Global) -> Result<(u64, usize), Error> {
-    let (key, used) = SecretKey::<G61>::deserialize(alloc, bytes)?;
+fn secret<C: CurveGroup>(alloc: Global, bytes: &[u8]) -> Result<(u64, usize), Error> {
+    let (key, used) = SecretKey::<C>::deserialize(alloc, bytes)?;
     Ok((key.0.value(), used))
 }
 
+// Whether a secret key is printed so, and written as these bytes and read from them.
+fn is_shown<C: CurveGroup>(
+    alloc: Global,
+    number: u64,
+    text: &str,
+    bytes: &[u8],
+) -> Result<bool, Error> {
+    let key = SecretKey::<C>(C::ScalarField::from_u64(number));
+    let mut written = Vec::new(alloc);
+    key.serialize(&mut written)?;
+    Ok(
+        written.as_slice() == bytes
+            && secret::<C>(alloc, bytes) == Ok((number, bytes.len()))
+            && format!(in alloc; "{:?}", key.clone()?)?.as_str() == text,
+    )
+}
+
+// Whether the default key and signature are zeros, and cloned parameters have the salt.
+fn has_defaults<C: CurveGroup + Numeral>() -> Result<bool, Error> {
+    let signature = Signature::<C>::default();
+    Ok(
+        signature.prover_response.value() == 0
+            && signature.verifier_challenge.value() == 0
+            && SecretKey::<C>::default().0.value() == 0
+            && parameters::<C>().clone()?.salt == [7; 32],
+    )
+}
+
+fn are_shown<C: CurveGroup + Numeral>(alloc: Global) -> Result<bool, Error> {
+    let bytes = [1, 2, 0, 0, 0, 0, 0, 0];
+    Ok(is_shown::<C>(alloc, 513, "SecretKey(513)", &bytes)? && has_defaults::<C>()?)
+}
+
 #[test]
-fn keys_and_signatures_are_shown(rt: HostRuntime) -> Result<(), Fail> {
-    let alloc = rt.alloc();
-    let signature = Signature::<G61>::default();
-    let key = SecretKey::<G61>(Fp::from_u64(513));
-    assert_eq!(rt;
-        (
-            signature.prover_response.value(),
-            signature.verifier_challenge.value()
-        ),
-        (0, 0)
-    );
-    assert_eq!(rt;
-        format!(in alloc; "{:?}", key.clone()?)?.as_str(),
-        "SecretKey(513)"
-    );
-    assert_eq!(rt; SecretKey::<G61>::default().0.value(), 0);
-    assert_eq!(rt; parameters().clone()?.salt, [7; 32]);
-    let mut bytes = Vec::new(alloc);
-    key.serialize(&mut bytes)?;
-    assert_eq!(rt; bytes.as_slice(), [1u8, 2, 0, 0, 0, 0, 0, 0].as_slice());
-    assert_eq!(rt; secret(&bytes, alloc), Ok((513, 8)));
-    Ok(())
+fn keys_and_signatures_are_shown(rt: HostRuntime) {
+    assert_eq!(rt; are_shown::<G61>(rt.alloc()), Ok(true));
 }
