@@ -1,4 +1,5 @@
-//! Tests of the hashes and of the commitments, and the definition of BLAKE2s as a plain, slow function to compare it with.
+//! Tests of the hashes, of commitments, encryption and signatures, and the definitions of BLAKE2s and of the Bowe-Hopwood hash as plain,
+//! slow functions to compare them with.
 #![tactic(auto)]
 
 #[cfg(test)]
@@ -6,7 +7,11 @@ mod blake2s;
 #[cfg(test)]
 mod blake2s_commitment;
 #[cfg(test)]
+mod bowe_hopwood;
+#[cfg(test)]
 mod compressed_hash;
+#[cfg(test)]
+mod elgamal;
 #[cfg(test)]
 mod injective_map;
 #[cfg(test)]
@@ -16,6 +21,10 @@ mod pedersen_hash;
 #[cfg(test)]
 mod plain;
 #[cfg(test)]
+mod randomized;
+#[cfg(test)]
 mod samples;
+#[cfg(test)]
+mod schnorr;
 #[cfg(test)]
 mod sha256;
