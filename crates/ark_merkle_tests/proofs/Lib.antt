@@ -1,2 +1,1 @@
-pub mod PlainMulti
 pub mod PlainPlaces

@@ -1,68 +1,104 @@
 //! What a client answers who has a root alone and is sent the bytes of a multi-proof.
 
-use crate::samples::{Sha, grow, leaves_of, multi_proof_of};
+use crate::samples::{EIGHT, Question, Sha, asked, leaves_of};
 use ark_base::error::{Error, SerializationError};
 use ark_base::serialize::canonical_bytes;
-use ark_merkle::MultiPath;
+use ark_merkle::{Config, LeafParam, MerkleTree, MultiPath, TwoToOneParam};
 use std::alloc::Global;
 
-// The proof of some indexes of a tree of eight leaves, with zeros behind it.
-fn sent(alloc: Global, own: &[usize], zeros: u8) -> Result<Vec<u8>, Error> {
-    let mut bytes = canonical_bytes(alloc, &multi_proof_of(alloc, &grow(alloc, 8)?.tree, own)?)?;
+// A proof is sent with zeros behind it to a client who was told the size, the indexes 1 and this one, and leaves of one byte.
+#[derive(Clone, Copy)]
+struct Sent {
+    zeros: u8,
+    size: usize,
+    index: usize,
+    leaves: &'static [u8],
+}
+
+impl Question for Sent {
+    fn answer<P: Config<Leaf = Vec<u8>>>(
+        &self,
+        alloc: Global,
+        leaf_parameters: &LeafParam<P>,
+        pair_parameters: &TwoToOneParam<P>,
+        tree: &MerkleTree<P>,
+        _leaves: &[Vec<u8>],
+        proof: &mut MultiPath<P>,
+    ) -> Result<(bool, bool), Error> {
+        let bytes = bytes_sent(alloc, proof, self.zeros)?;
+        let accepted = judged::<P>(
+            alloc,
+            leaf_parameters,
+            pair_parameters,
+            tree.root(),
+            self.size,
+            &[1, self.index],
+            &bytes,
+            self.leaves,
+        )?;
+        Ok((accepted, true))
+    }
+}
+
+// A proof's canonical bytes, with zeros behind them.
+fn bytes_sent<P: Config>(alloc: Global, proof: &MultiPath<P>, zeros: u8) -> Result<Vec<u8>, Error> {
+    let mut bytes = canonical_bytes(alloc, proof)?;
     for _ in 0..zeros {
         bytes.push(0)?;
     }
     Ok(bytes)
 }
 
-// The answer to such a proof of a client who was told the size, the indexes and leaves of one byte.
-fn answer(
+fn judged<P: Config<Leaf = Vec<u8>>>(
     alloc: Global,
-    proof: &[u8],
+    leaf_parameters: &LeafParam<P>,
+    pair_parameters: &TwoToOneParam<P>,
+    root: &P::InnerDigest,
     size: usize,
     indexes: &[usize],
+    bytes: &[u8],
     leaves: &[u8],
 ) -> Result<bool, Error> {
-    let eight = grow(alloc, 8)?;
     let leaves = leaves_of(alloc, leaves)?;
-    let root = eight.tree.root();
-    MultiPath::<Sha>::verify_bytes(alloc, &(), &(), root, size, indexes, proof, &leaves)
-}
-
-// The answer to the tree's own proof of the leaves 1 and 6.
-fn answer_of_two(
-    alloc: Global,
-    zeros: u8,
-    size: usize,
-    indexes: &[usize],
-    leaves: &[u8],
-) -> Result<bool, Error> {
-    answer(alloc, &sent(alloc, &[1, 6], zeros)?, size, indexes, leaves)
+    MultiPath::<P>::verify_bytes(
+        alloc,
+        leaf_parameters,
+        pair_parameters,
+        root,
+        size,
+        indexes,
+        bytes,
+        &leaves,
+    )
 }
 
 const INVALID: Error = Error::SerializationError(SerializationError::InvalidData);
 
-// The zeros behind the proof of the leaves 1 and 6, the size that the client was told, an index and a leaf in the places of the
-// second ones, and his answer. Trees of 16 leaves have three digests above the sibling; no tree has six leaves.
-const ANSWERS: [(u8, usize, usize, u8, Result<bool, Error>); 6] = [
-    (0, 8, 6, 6, Ok(true)),
-    (0, 8, 6, 7, Ok(false)),
-    (0, 8, 5, 5, Err(INVALID)),
-    (1, 8, 6, 6, Err(INVALID)),
-    (0, 16, 6, 6, Err(Error::IncorrectInputLength(2))),
-    (0, 6, 6, 6, Err(Error::IncorrectInputLength(6))),
+// The zeros behind the proof of the leaves 1 and 6, the size that the client was told, an index in the place of the second one,
+// the leaves, and his answer. Trees of 16 leaves have three digests above the sibling; no tree has six leaves.
+const ANSWERS: [(u8, usize, usize, &[u8], Result<bool, Error>); 7] = [
+    (0, 8, 6, &[1, 6], Ok(true)),
+    (0, 8, 6, &[1, 7], Ok(false)),
+    (0, 8, 5, &[1, 5], Err(INVALID)),
+    (1, 8, 6, &[1, 6], Err(INVALID)),
+    (0, 16, 6, &[1, 6], Err(Error::IncorrectInputLength(2))),
+    (0, 6, 6, &[1, 6], Err(Error::IncorrectInputLength(6))),
+    (0, 8, 6, &[1], Err(Error::IncorrectInputLength(1))),
 ];
 
 #[test]
 fn a_client_answers(rt: HostRuntime) {
-    let alloc = rt.alloc();
-    for (zeros, size, index, leaf, wanted) in ANSWERS {
+    for (zeros, size, index, leaves, wanted) in ANSWERS {
+        let sent = Sent {
+            zeros,
+            size,
+            index,
+            leaves,
+        };
         assert_eq!(rt;
-            answer_of_two(alloc, zeros, size, &[1, index], &[1, leaf]),
-            wanted,
-            "{zeros} {size} {index} {leaf}"
+            asked::<Sha, Sent>(rt.alloc(), &(), &(), &EIGHT, &[1, 6], &sent),
+            wanted.map(|accepted| (accepted, true)),
+            "{zeros} {size} {index}"
         );
     }
-    let short = Err(Error::IncorrectInputLength(1));
-    assert_eq!(rt; answer_of_two(alloc, 0, 8, &[1, 6], &[1]), short);
 }

@@ -1,12 +1,17 @@
-//! Trees over SHA-256, for the tests.
+//! Trees for the tests, over any hashes, and the hashes that they are asked of.
 
 ghost use Rattle.std.specs.Prelude.{◌↔◌, ◌<◌, IsTrue};
 ghost use Rattle.std.specs.List.{All};
 
 use ark_base::error::Error;
+use ark_base::serialize::{DigestItem, canonical_bytes};
 use ark_crh::sha256::Sha256;
-use ark_merkle::{Config, IdentityDigestConverter, MerkleTree, MultiPath, Path, is_tree_size};
+use ark_merkle::{
+    Config, IdentityDigestConverter, LeafParam, MerkleTree, MultiPath, Path, TwoToOneParam,
+    is_tree_size,
+};
 use std::alloc::Global;
+use std::fmt::Debug;
 
 pub struct Sha;
 
@@ -24,14 +29,8 @@ impl Config for Sha {
     type TwoToOneHash = Sha256;
 }
 
-/// Leaves of one byte each: 0, 1, 2 and so on.
-pub fn leaves_of_bytes(alloc: Global, count: u8) -> Result<Vec<Vec<u8>>, Error> {
-    let mut leaves = Vec::new(alloc);
-    for byte in 0..count {
-        leaves.push(vec![in alloc; byte]?)?;
-    }
-    Ok(leaves)
-}
+/// The bytes of eight leaves.
+pub const EIGHT: [u8; 8] = [0, 1, 2, 3, 4, 5, 6, 7];
 
 /// Leaves of these bytes, one each.
 pub fn leaves_of(alloc: Global, bytes: &[u8]) -> Result<Vec<Vec<u8>>, Error> {
@@ -42,68 +41,127 @@ pub fn leaves_of(alloc: Global, bytes: &[u8]) -> Result<Vec<Vec<u8>>, Error> {
     Ok(leaves)
 }
 
-/// The tree of these leaves, if there is one.
-pub fn tree_of(alloc: Global, leaves: &[Vec<u8>]) -> Result<MerkleTree<Sha>, Error> {
+/// The digest with these canonical bytes, their count before them.
+pub fn digest_of<D: DigestItem>(alloc: Global, bytes: &[u8]) -> Result<D, Error> {
+    let spelled = canonical_bytes(alloc, &bytes)?;
+    Ok(D::deserialize(alloc, &spelled)?.0)
+}
+
+/// A list of that digest alone.
+pub fn lone<D: DigestItem>(alloc: Global, bytes: &[u8]) -> Result<Vec<D>, Error> {
+    let mut lone = Vec::new(alloc);
+    lone.push(digest_of(alloc, bytes)?)?;
+    Ok(lone)
+}
+
+/// Whether a value has this text.
+pub fn has_text<T: Debug>(alloc: Global, value: &T, text: &str) -> Result<bool, Error> {
+    Ok(format!(in alloc; "{value:?}")?.as_str() == text)
+}
+
+/// What is asked of a tree, its leaves and one of its multi-proofs. Each module asks through one type, and each answer is two
+/// truths: so a single function owns a tree, and what is asked is proved once for all hashes.
+pub trait Question {
+    fn answer<P: Config<Leaf = Vec<u8>>>(
+        &self,
+        alloc: Global,
+        leaf_parameters: &LeafParam<P>,
+        pair_parameters: &TwoToOneParam<P>,
+        tree: &MerkleTree<P>,
+        leaves: &[Vec<u8>],
+        proof: &mut MultiPath<P>,
+    ) -> Result<(bool, bool), Error>;
+}
+
+/// The answer of the tree of leaves of these bytes, and its multi-proof of these indexes.
+pub fn asked<P: Config<Leaf = Vec<u8>>, Q: Question>(
+    alloc: Global,
+    leaf_parameters: &LeafParam<P>,
+    pair_parameters: &TwoToOneParam<P>,
+    bytes: &[u8],
+    indexes: &[usize],
+    question: &Q,
+) -> Result<(bool, bool), Error> {
+    let leaves = leaves_of(alloc, bytes)?;
     if !is_tree_size(leaves.len()) {
         return Err(Error::IncorrectInputLength(leaves.len()));
     }
-    MerkleTree::new(alloc, &(), &(), leaves)
+    let tree = MerkleTree::<P>::new(alloc, leaf_parameters, pair_parameters, &leaves)?;
+    asked_of(
+        alloc,
+        leaf_parameters,
+        pair_parameters,
+        &tree,
+        &leaves,
+        indexes,
+        question,
+    )
+}
+
+fn asked_of<P: Config<Leaf = Vec<u8>>, Q: Question>(
+    alloc: Global,
+    leaf_parameters: &LeafParam<P>,
+    pair_parameters: &TwoToOneParam<P>,
+    tree: &MerkleTree<P>,
+    leaves: &[Vec<u8>],
+    indexes: &[usize],
+    question: &Q,
+) -> Result<(bool, bool), Error> {
+    let mut proof = multi_proof_of(alloc, tree, indexes)?;
+    question.answer(
+        alloc,
+        leaf_parameters,
+        pair_parameters,
+        tree,
+        leaves,
+        &mut proof,
+    )
 }
 
 /// The path of an index, if the tree has it.
-pub fn proof_of(alloc: Global, tree: &MerkleTree<Sha>, index: usize) -> Result<Path<Sha>, Error> {
+pub fn proof_of<P: Config>(
+    alloc: Global,
+    tree: &MerkleTree<P>,
+    index: usize,
+) -> Result<Path<P>, Error> {
     if index >= tree.size() {
         return Err(Error::IncorrectInputLength(index));
     }
     tree.generate_proof(alloc, index)
 }
 
-/// Whether each index is below the size.
-pub fn are_inside(indexes: &[usize], size: usize) -> bool
+// Whether each index is below the size.
+fn are_inside(indexes: &[usize], size: usize) -> bool
     ensures { IsTrue result ↔ All (λ i. i < size) indexes.now }
 {
     indexes.iter().all(|index| *index < size)
 }
 
 /// The multi-proof of these indexes, if the tree has them.
-pub fn multi_proof_of(
+pub fn multi_proof_of<P: Config>(
     alloc: Global,
-    tree: &MerkleTree<Sha>,
+    tree: &MerkleTree<P>,
     indexes: &[usize],
-) -> Result<MultiPath<Sha>, Error> {
+) -> Result<MultiPath<P>, Error> {
     if !are_inside(indexes, tree.size()) {
         return Err(Error::IncorrectInputLength(indexes.len()));
     }
     tree.generate_multi_proof(alloc, indexes)
 }
 
-/// A tree with its leaves.
-#[derive(Drop)]
-pub struct Grown {
-    pub leaves: Vec<Vec<u8>>,
-    pub tree: MerkleTree<Sha>,
-}
-
-/// The tree of `count` leaves of one byte.
-pub fn grow(alloc: Global, count: u8) -> Result<Grown, Error> {
-    let leaves = leaves_of_bytes(alloc, count)?;
-    let tree = tree_of(alloc, &leaves)?;
-    Ok(Grown { leaves, tree })
-}
-
-impl Grown {
-    /// Whether the tree's root comes of a path and a leaf.
-    pub fn accepts(&self, alloc: Global, path: &Path<Sha>, leaf: &Vec<u8>) -> Result<bool, Error> {
-        path.verify(alloc, &(), &(), self.tree.root(), leaf)
-    }
-
-    /// Whether the tree's root comes of a multi-proof and these leaves.
-    pub fn accepts_all(
-        &self,
-        alloc: Global,
-        proof: &MultiPath<Sha>,
-        leaves: &[Vec<u8>],
-    ) -> Result<bool, Error> {
-        proof.verify(alloc, &(), &(), self.tree.root(), leaves.iter())
-    }
+/// Another place, beside a blank digest.
+pub fn push_place<P: Config>(
+    alloc: Global,
+    proof: &mut MultiPath<P>,
+    prefix: usize,
+    suffix: Vec<P::InnerDigest>,
+    index: usize,
+) -> Result<(), Error> {
+    proof.auth_paths_suffixes.push(suffix)?;
+    proof.auth_paths_prefix_lenghts.push(prefix)?;
+    proof
+        .leaf_siblings_hashes
+        .push(P::LeafDigest::blank(alloc))?;
+    proof.leaf_indexes.push(index)?;
+    Ok(())
 }

@@ -2,12 +2,57 @@
 
 ghost use Rattle.std.specs.Prelude.{◌<◌};
 
-use crate::samples::{Sha, leaves_of_bytes, multi_proof_of, tree_of};
+use crate::samples::{EIGHT, Question, Sha, asked, digest_of, multi_proof_of, push_place};
 use ark_base::error::{Error, SerializationError};
-use ark_base::serialize::{CanonicalSerialize, Duplicate};
-use ark_merkle::{Config, MerkleTree, MultiPath};
+use ark_base::serialize::{CanonicalSerialize, DigestItem, Duplicate};
+use ark_merkle::{Config, LeafParam, MerkleTree, MultiPath, TwoToOneParam};
 use std::alloc::Global;
-use std::test::Fail;
+
+// What is asked of a multi-proof.
+#[derive(Clone, Copy)]
+enum Asked {
+    // Whether the tree's own ones of these sets of indexes below eight, bit by bit, are strict, and that of no index is not.
+    Sets(usize),
+    // Whether one of four places is strict, and none that is damaged.
+    Damaged,
+    // Whether one of all places up to this one, which takes nothing from the path before, is accepted and strict.
+    Shortened(usize),
+    // Whether one is strict of the index 0, whose path has so many digests, and then, each with so many digests from the path
+    // before, of the indexes from one to another.
+    Fives(usize, usize, usize, usize),
+}
+
+impl Question for Asked {
+    fn answer<P: Config<Leaf = Vec<u8>>>(
+        &self,
+        alloc: Global,
+        leaf_parameters: &LeafParam<P>,
+        pair_parameters: &TwoToOneParam<P>,
+        tree: &MerkleTree<P>,
+        leaves: &[Vec<u8>],
+        proof: &mut MultiPath<P>,
+    ) -> Result<(bool, bool), Error> {
+        match *self {
+            Asked::Sets(count) => Ok((
+                sets_are_strict(alloc, tree, count)?,
+                !set_is_strict(alloc, tree, 0)?,
+            )),
+            Asked::Damaged => Ok((is_read(alloc, proof)?, none_is_strict(alloc, proof)?)),
+            Asked::Shortened(place) => {
+                let root = tree.root();
+                shorten(alloc, tree, proof, place)?;
+                Ok((
+                    proof.verify(alloc, leaf_parameters, pair_parameters, root, leaves.iter())?,
+                    is_read(alloc, proof)?,
+                ))
+            }
+            Asked::Fives(len, prefix, first, last) => {
+                take_fives(alloc, proof, len, prefix, first, last)?;
+                Ok((is_read(alloc, proof)?, true))
+            }
+        }
+    }
+}
 
 /// Whether the canonical bytes of a multi-proof, with another byte behind them, are read strictly and to their end.
 pub fn is_read<P: Config>(alloc: Global, proof: &MultiPath<P>) -> Result<bool, Error> {
@@ -22,35 +67,47 @@ pub fn is_read<P: Config>(alloc: Global, proof: &MultiPath<P>) -> Result<bool, E
     }
 }
 
-// Whether the tree's own proof of a set of indexes, bit by bit, is strict.
-fn set_is_strict(alloc: Global, tree: &MerkleTree<Sha>, set: usize) -> Result<bool, Error> {
+// The indexes below eight of a set, bit by bit.
+fn indexes_of(alloc: Global, set: usize) -> Result<Vec<usize>, Error> {
     let mut indexes = Vec::new(alloc);
     for index in 0..8usize {
         if set >> index & 1 == 1 {
             indexes.push(index)?;
         }
     }
-    is_read(alloc, &multi_proof_of(alloc, tree, &indexes)?)
+    Ok(indexes)
 }
 
-#[test]
-fn own_proofs_are_strict(rt: HostRuntime) -> Result<(), Fail> {
-    let alloc = rt.alloc();
-    let tree = tree_of(alloc, &leaves_of_bytes(alloc, 8)?)?;
-    for set in 0..256usize {
-        assert_eq!(rt;
-            set_is_strict(alloc, &tree, set),
-            Ok(set > 0),
-            "the set {set}"
-        );
+// Whether the tree's own proof of a set of indexes is strict.
+fn set_is_strict<P: Config>(
+    alloc: Global,
+    tree: &MerkleTree<P>,
+    set: usize,
+) -> Result<bool, Error> {
+    let indexes = indexes_of(alloc, set)?;
+    let proof = multi_proof_of(alloc, tree, &indexes)?;
+    is_read(alloc, &proof)
+}
+
+fn sets_are_strict<P: Config>(
+    alloc: Global,
+    tree: &MerkleTree<P>,
+    count: usize,
+) -> Result<bool, Error> {
+    for set in 1..count {
+        if !set_is_strict(alloc, tree, set)? {
+            return Ok(false);
+        }
     }
-    Ok(())
+    Ok(true)
 }
 
 // Damages a proof of four leaves in one of sixteen ways.
-fn damage(alloc: Global, proof: &mut MultiPath<Sha>, way: usize) -> Result<(), Error> {
+fn damage<P: Config>(alloc: Global, proof: &mut MultiPath<P>, way: usize) -> Result<(), Error> {
     match way {
-        0 => proof.leaf_siblings_hashes.push(Vec::new(alloc))?,
+        0 => proof
+            .leaf_siblings_hashes
+            .push(P::LeafDigest::blank(alloc))?,
         1 => proof.auth_paths_prefix_lenghts.push(0)?,
         2 => proof.auth_paths_suffixes.push(Vec::new(alloc))?,
         3 => proof.leaf_indexes.push(7)?,
@@ -70,137 +127,107 @@ fn damage(alloc: Global, proof: &mut MultiPath<Sha>, way: usize) -> Result<(), E
     Ok(())
 }
 
-fn damaged_is_strict(alloc: Global, proof: &MultiPath<Sha>, way: usize) -> Result<bool, Error> {
+fn damaged_is_strict<P: Config>(
+    alloc: Global,
+    proof: &MultiPath<P>,
+    way: usize,
+) -> Result<bool, Error> {
     let mut copy = proof.duplicate(alloc)?;
     damage(alloc, &mut copy, way)?;
     is_read(alloc, &copy)
 }
 
-fn proof_of_four(alloc: Global) -> Result<MultiPath<Sha>, Error> {
-    let tree = tree_of(alloc, &leaves_of_bytes(alloc, 8)?)?;
-    multi_proof_of(alloc, &tree, &[0, 1, 3, 6])
+fn none_is_strict<P: Config>(alloc: Global, proof: &MultiPath<P>) -> Result<bool, Error> {
+    for way in 0..16usize {
+        if damaged_is_strict(alloc, proof, way)? {
+            return Ok(false);
+        }
+    }
+    Ok(true)
 }
 
-#[test]
-fn damaged_proofs_are_not_strict(rt: HostRuntime) -> Result<(), Fail> {
-    let alloc = rt.alloc();
-    let proof = proof_of_four(alloc)?;
-    assert_eq!(rt; is_read(alloc, &proof), Ok(true));
-    for way in 0..16usize {
-        assert_eq!(rt;
-            damaged_is_strict(alloc, &proof, way),
-            Ok(false),
-            "damage {way}"
-        );
+// Makes of the proof of all indexes that of the indexes up to a place, the last of which takes nothing from the path before.
+fn shorten<P: Config>(
+    alloc: Global,
+    tree: &MerkleTree<P>,
+    proof: &mut MultiPath<P>,
+    place: usize,
+) -> Result<(), Error> {
+    let mut alone = multi_proof_of(alloc, tree, &[place])?;
+    proof.auth_paths_suffixes.truncate(place);
+    proof
+        .auth_paths_suffixes
+        .append(&mut alone.auth_paths_suffixes)?;
+    proof.auth_paths_prefix_lenghts.truncate(place);
+    proof.auth_paths_prefix_lenghts.push(0)?;
+    proof.leaf_siblings_hashes.truncate(place.saturating_add(1));
+    proof.leaf_indexes.truncate(place.saturating_add(1));
+    Ok(())
+}
+
+fn fives<D: DigestItem>(alloc: Global, count: usize) -> Result<Vec<D>, Error> {
+    let mut fives = Vec::new(alloc);
+    for _ in 0..count {
+        fives.push(digest_of(alloc, &[5])?)?;
+    }
+    Ok(fives)
+}
+
+fn take_fives<P: Config>(
+    alloc: Global,
+    proof: &mut MultiPath<P>,
+    len: usize,
+    prefix: usize,
+    first: usize,
+    last: usize,
+) -> Result<(), Error> {
+    push_place(alloc, proof, 0, fives(alloc, len)?, 0)?;
+    for index in first..=last {
+        push_place(
+            alloc,
+            proof,
+            prefix,
+            fives(alloc, len.saturating_sub(prefix))?,
+            index,
+        )?;
     }
     Ok(())
 }
 
-// The proof of the indexes up to a place, the last of which takes nothing from the path before.
-fn shortened(alloc: Global, tree: &MerkleTree<Sha>, place: usize) -> Result<MultiPath<Sha>, Error>
-    requires { place < 8 }
-{
-    let mut proof = multi_proof_of(alloc, tree, &[0, 1, 2, 3, 4, 5, 6, 7])?;
-    proof.auth_paths_prefix_lenghts.truncate(place);
-    proof.auth_paths_prefix_lenghts.push(0)?;
-    proof.auth_paths_suffixes.truncate(place);
-    let alone = multi_proof_of(alloc, tree, &[place])?;
-    proof.auth_paths_suffixes.extend(alone.auth_paths_suffixes)?;
-    proof.leaf_siblings_hashes.truncate(place + 1);
-    proof.leaf_indexes.truncate(place + 1);
-    Ok(proof)
-}
+const MAX: usize = usize::MAX;
 
-// Whether that proof is accepted, and whether it is strict.
-fn shortened_is_strict(alloc: Global, place: usize) -> Result<(bool, bool), Error>
-    requires { place < 8 }
-{
-    let leaves = leaves_of_bytes(alloc, 8)?;
-    let tree = tree_of(alloc, &leaves)?;
-    let proof = shortened(alloc, &tree, place)?;
-    let accepted = proof.verify(alloc, &(), &(), tree.root(), leaves.iter())?;
-    Ok((accepted, is_read(alloc, &proof)?))
-}
+const ALL: [usize; 8] = [0, 1, 2, 3, 4, 5, 6, 7];
 
-// Each path once more with a shorter prefix and a longer suffix, which decodes to the same digests.
+// Indexes that are asked for, the question and the answer.
+const QUESTIONS: [(&[usize], Asked, (bool, bool)); 17] = [
+    (&[], Asked::Sets(256), (true, true)),
+    (&[0, 1, 3, 6], Asked::Damaged, (true, true)),
+    // Each path once more with a shorter prefix and a longer suffix, which decodes to the same digests.
+    (&ALL, Asked::Shortened(1), (true, false)),
+    (&ALL, Asked::Shortened(2), (true, false)),
+    (&ALL, Asked::Shortened(3), (true, false)),
+    (&ALL, Asked::Shortened(4), (true, true)),
+    (&ALL, Asked::Shortened(5), (true, false)),
+    (&ALL, Asked::Shortened(6), (true, false)),
+    (&ALL, Asked::Shortened(7), (true, false)),
+    // Many places, with the longest prefixes alone.
+    (&[], Asked::Fives(13, 13, 1, 9999), (true, true)),
+    (&[], Asked::Fives(13, 12, 1, 9999), (false, true)),
+    (&[], Asked::Fives(13, 14, 1, 9999), (false, true)),
+    (&[], Asked::Fives(12, 12, 1, 9999), (false, true)),
+    // The indexes of a path of 70 digests are below 2^71, which no machine word is.
+    (&[], Asked::Fives(62, 62, MAX, MAX), (false, true)),
+    (&[], Asked::Fives(63, 63, MAX, MAX), (true, true)),
+    (&[], Asked::Fives(64, 64, MAX, MAX), (true, true)),
+    (&[], Asked::Fives(70, 70, MAX, MAX), (true, true)),
+];
+
 #[test]
-fn shorter_prefixes_are_not_strict(rt: HostRuntime) {
-    let alloc = rt.alloc();
-    for place in 1..8usize {
+fn damaged_proofs_are_not_strict(rt: HostRuntime) {
+    for (indexes, question, answer) in QUESTIONS {
         assert_eq!(rt;
-            shortened_is_strict(alloc, place),
-            Ok((true, place == 4)),
-            "place {place}"
+            asked::<Sha, Asked>(rt.alloc(), &(), &(), &EIGHT, indexes, &question),
+            Ok(answer)
         );
-    }
-}
-
-// A multi-proof of many places of which all but the first take `prefix` digests from the path before.
-fn long_proof(alloc: Global, len: usize, prefix: usize) -> Result<MultiPath<Sha>, Error> {
-    let mut first = Vec::new(alloc);
-    for _ in 0..len {
-        first.push(vec![in alloc; 5u8]?)?;
-    }
-    let mut proof = MultiPath::<Sha> {
-        leaf_siblings_hashes: vec![in alloc; Vec::new(alloc)]?,
-        auth_paths_prefix_lenghts: vec![in alloc; 0]?,
-        auth_paths_suffixes: vec![in alloc; first]?,
-        leaf_indexes: vec![in alloc; 0]?,
-    };
-    for index in 1..10000usize {
-        let mut suffix = Vec::new(alloc);
-        for _ in prefix..len {
-            suffix.push(vec![in alloc; 5u8]?)?;
-        }
-        proof.leaf_siblings_hashes.push(Vec::new(alloc))?;
-        proof.auth_paths_prefix_lenghts.push(prefix)?;
-        proof.auth_paths_suffixes.push(suffix)?;
-        proof.leaf_indexes.push(index)?;
-    }
-    Ok(proof)
-}
-
-fn long_is_strict(alloc: Global, len: usize, prefix: usize) -> Result<bool, Error> {
-    is_read(alloc, &long_proof(alloc, len, prefix)?)
-}
-
-#[test]
-fn long_proofs_are_strict_with_the_longest_prefixes(rt: HostRuntime) {
-    let alloc = rt.alloc();
-    for (len, prefix) in [(13usize, 13usize), (13, 12), (13, 14), (12, 12)] {
-        assert_eq!(rt;
-            long_is_strict(alloc, len, prefix),
-            Ok(len == 13 && prefix == 13),
-            "{len} digests, {prefix} shared"
-        );
-    }
-}
-
-// The suffixes of two paths of digests, the second of which has all from the first.
-fn one_suffix(alloc: Global, len: usize) -> Result<Vec<Vec<Vec<u8>>>, Error> {
-    let mut digests = Vec::new(alloc);
-    for _ in 0..len {
-        digests.push(vec![in alloc; 5u8]?)?;
-    }
-    Ok(vec![in alloc; digests, Vec::new(alloc)]?)
-}
-
-// Whether the proof of the first and of the last index is strict where paths have this length.
-fn high_is_strict(alloc: Global, len: usize) -> Result<bool, Error> {
-    let proof = MultiPath::<Sha> {
-        auth_paths_suffixes: one_suffix(alloc, len)?,
-        leaf_siblings_hashes: vec![in alloc; Vec::new(alloc), Vec::new(alloc)]?,
-        auth_paths_prefix_lenghts: vec![in alloc; 0, len]?,
-        leaf_indexes: vec![in alloc; 0, usize::MAX]?,
-    };
-    is_read(alloc, &proof)
-}
-
-// The indexes of such a path are below 2^71, which no machine word is.
-#[test]
-fn paths_past_the_word_are_strict(rt: HostRuntime) {
-    let alloc = rt.alloc();
-    for len in [62, 63, 64, 70] {
-        assert_eq!(rt; high_is_strict(alloc, len), Ok(len > 62), "length {len}");
     }
 }

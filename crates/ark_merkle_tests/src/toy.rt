@@ -3,12 +3,16 @@
 ghost use Rattle.std.specs.Prelude.{Ok, refl};
 ghost use Rattle.ark_merkle_tests.specs.Toy.{leaf_modulo, sum_modulo};
 
-use crate::samples::are_inside;
+use crate::multi_paths::is_made_so;
+use crate::samples::{multi_proof_of, proof_of};
 use crate::strict::is_read;
 use ark_base::error::Error;
+use ark_base::serialize::DigestItem;
 use ark_crh::{CRHScheme, TwoToOneCRHScheme};
 use ark_groups::ff::{Fp, M257, PrimeField};
-use ark_merkle::{Config, IdentityDigestConverter, MerkleTree, MultiPath};
+use ark_merkle::{
+    Config, IdentityDigestConverter, LeafParam, MerkleTree, TwoToOneParam, is_tree_size,
+};
 use rand::Rng;
 use std::alloc::Global;
 
@@ -114,41 +118,58 @@ impl TwoToOneCRHScheme for ToyPairHash {
     ghost compressed_same = { λ p q same. refl };
 }
 
-// The tree of four zero digests.
-fn zeros(alloc: Global) -> Result<MerkleTree<Toy>, Error> {
-    let digests = Vec::from_array(alloc, [Fp::from_u64(0); 4])?;
-    MerkleTree::<Toy>::new_with_leaf_digest(alloc, &(), &(), digests)
-}
-
-fn root_of(tree: Result<MerkleTree<Toy>, Error>) -> Result<u64, Error> {
-    Ok(tree?.root().value())
-}
-
-// The digest beside a leaf, and the one beside the pair that holds it, in a tree of four.
-fn beside(
-    alloc: Global,
-    tree: Result<MerkleTree<Toy>, Error>,
-    index: usize,
-) -> Result<(u64, Option<u64>), Error> {
-    let tree = tree?;
-    if index >= tree.size() {
-        return Err(Error::IncorrectInputLength(index));
+fn copies_of_one<D: DigestItem>(alloc: Global, digest: &D, count: usize) -> Result<Vec<D>, Error> {
+    let mut copies = Vec::new(alloc);
+    for _ in 0..count {
+        copies.push(digest.duplicate(alloc)?)?;
     }
-    let path = tree.generate_proof(alloc, index)?;
+    Ok(copies)
+}
+
+// Whether the digest beside a leaf, and the one beside the pair that holds it, are these.
+fn is_beside<P: Config>(
+    alloc: Global,
+    tree: &MerkleTree<P>,
+    index: usize,
+    sibling: &P::LeafDigest,
+    above: &P::InnerDigest,
+) -> Result<bool, Error> {
+    let path = proof_of(alloc, tree, index)?;
+    Ok(path.leaf_sibling_hash == *sibling && path.auth_path.first() == Some(above))
+}
+
+// Whether the tree of four leaf digests that are the same has this root, and whether it and that leaf digest stand beside a leaf.
+fn four_are<P: Config>(
+    alloc: Global,
+    leaf_parameters: &LeafParam<P>,
+    pair_parameters: &TwoToOneParam<P>,
+    index: usize,
+    digest: &P::LeafDigest,
+    root: &P::InnerDigest,
+) -> Result<(bool, bool), Error> {
+    let digests = copies_of_one(alloc, digest, 4)?;
+    if !is_tree_size(digests.len()) {
+        return Err(Error::IncorrectInputLength(digests.len()));
+    }
+    let tree = MerkleTree::<P>::new_with_leaf_digest(
+        alloc,
+        leaf_parameters,
+        pair_parameters,
+        digests,
+    )?;
     Ok((
-        path.leaf_sibling_hash.value(),
-        path.auth_path.first().map(|digest| digest.value()),
+        *tree.root() == *root,
+        is_beside(alloc, &tree, index, digest, root)?,
     ))
 }
 
 #[test]
 fn pairs_of_four_zeros(rt: HostRuntime) {
-    let alloc = rt.alloc();
-    assert_eq!(rt; root_of(zeros(alloc)), Ok(0));
+    let zero = Fp::from_u64(0);
     for index in 0..4usize {
         assert_eq!(rt;
-            beside(alloc, zeros(alloc), index),
-            Ok((0, Some(0))),
+            four_are::<Toy>(rt.alloc(), &(), &(), index, &zero, &zero),
+            Ok((true, true)),
             "{index}"
         );
     }
@@ -156,39 +177,54 @@ fn pairs_of_four_zeros(rt: HostRuntime) {
 
 const ALL: [usize; 8] = [0, 1, 2, 3, 4, 5, 6, 7];
 
-fn blank(alloc: Global) -> Result<MerkleTree<Toy>, Error> {
-    MerkleTree::<Toy>::blank(alloc, &(), &(), 4)
+// Whether a tree's proof of all leaves shares so many digests and is strict, and whether it is accepted with these leaves.
+fn all_share<P: Config>(
+    alloc: Global,
+    leaf_parameters: &LeafParam<P>,
+    pair_parameters: &TwoToOneParam<P>,
+    tree: &MerkleTree<P>,
+    leaves: &[P::Leaf],
+    shared: &[usize],
+) -> Result<(bool, bool), Error> {
+    let proof = multi_proof_of(alloc, tree, &ALL)?;
+    let accepted = proof.verify(
+        alloc,
+        leaf_parameters,
+        pair_parameters,
+        tree.root(),
+        leaves.iter(),
+    )?;
+    let is_strict = is_read(alloc, &proof)?;
+    Ok((is_made_so(&proof, &ALL, shared) && is_strict, accepted))
 }
 
-fn size_and_height(tree: Result<MerkleTree<Toy>, Error>) -> Result<(usize, usize), Error> {
-    let tree = tree?;
-    Ok((tree.size(), tree.height()))
-}
-
-fn proof_of_all(alloc: Global, tree: &MerkleTree<Toy>) -> Result<MultiPath<Toy>, Error> {
-    if !are_inside(&ALL, tree.size()) {
-        return Err(Error::IncorrectInputLength(tree.size()));
-    }
-    tree.generate_multi_proof(alloc, &ALL)
-}
-
-// Whether the proof of all leaves of the blank tree of eight shares all it can, is strict, and is accepted.
-fn blank_shares(alloc: Global, shared: &[usize]) -> Result<bool, Error> {
-    let tree = blank(alloc)?;
-    let proof = proof_of_all(alloc, &tree)?;
-    Ok(
-        proof.leaf_indexes.as_slice() == ALL.as_slice()
-            && proof.auth_paths_prefix_lenghts.as_slice() == shared
-            && is_read(alloc, &proof)?
-            && proof.verify(alloc, &(), &(), tree.root(), [0u64; 8].iter())?,
-    )
+// The size and the height of the blank tree of eight, and what its proof of all leaves is.
+fn blank<P: Config>(
+    alloc: Global,
+    leaf_parameters: &LeafParam<P>,
+    pair_parameters: &TwoToOneParam<P>,
+    leaves: &[P::Leaf],
+    shared: &[usize],
+) -> Result<(usize, usize, (bool, bool)), Error> {
+    let tree = MerkleTree::<P>::blank(alloc, leaf_parameters, pair_parameters, 4)?;
+    Ok((
+        tree.size(),
+        tree.height(),
+        all_share(
+            alloc,
+            leaf_parameters,
+            pair_parameters,
+            &tree,
+            leaves,
+            shared,
+        )?,
+    ))
 }
 
 #[test]
 fn all_indexes_of_a_blank_tree(rt: HostRuntime) {
-    assert_eq!(rt; size_and_height(blank(rt.alloc())), Ok((8, 4)));
     assert_eq!(rt;
-        blank_shares(rt.alloc(), &[0, 2, 2, 2, 2, 2, 2, 2]),
-        Ok(true)
+        blank::<Toy>(rt.alloc(), &(), &(), &[0; 8], &[0, 2, 2, 2, 2, 2, 2, 2]),
+        Ok((8, 4, (true, true)))
     );
 }
