@@ -1,1 +1,2 @@
+pub mod PlainMulti
 pub mod PlainPlaces
