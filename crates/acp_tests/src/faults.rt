@@ -68,36 +68,42 @@ fn ended(alloc: Global, reads: usize, writes: usize) -> Result<Option<(u8, usize
     })
 }
 
+// What was read before a fault was answered. The last line stands where the reader ends.
 #[test]
 fn stops_at_each_failed_read(rt: HostRuntime) {
     // Reads of three bytes, and two at the end that have none.
     let reads = INPUT.len().div_ceil(3) + 2;
-    // What was read before the fault was answered. The last line stands where the reader ends.
-    for k in 0..reads - 2 {
+    for k in 0..reads - 1 {
         let lines = INPUT
             .iter()
             .take(3 * k)
             .filter(|byte| **byte == b'\n')
             .count();
+        let is_whole = k == reads - 2;
+        let (allowed, wanted) = if is_whole {
+            (reads, (0, 5))
+        } else {
+            (k, (1, lines))
+        };
         assert_eq!(rt;
-            ended(rt.alloc(), k, 1000),
-            Ok(Some((1, lines))),
+            ended(rt.alloc(), allowed, 1000),
+            Ok(Some(wanted)),
             "at read {k}"
         );
     }
-    assert_eq!(rt; ended(rt.alloc(), reads, 1000), Ok(Some((0, 5))));
 }
 
+// The replies have 74 bytes, and no reply is written together with the next one.
 #[test]
 fn stops_at_each_failed_write(rt: HostRuntime) {
-    // The replies have 74 bytes, and no reply is written together with the next one.
-    for k in 0..19usize {
+    for k in 0..20usize {
+        let (allowed, status) = if k == 19 { (40, 0) } else { (k, 1) };
         assert!(rt;
-            ended(rt.alloc(), 1000, k).is_ok_and(|said| said.is_some_and(|it| it.0 == 1)),
+            ended(rt.alloc(), 1000, allowed).is_ok_and(|said| said.is_some_and(|it| it.0 == status
+                && (status == 1 || it.1 == 5))),
             "at write {k}"
         );
     }
-    assert_eq!(rt; ended(rt.alloc(), 1000, 40), Ok(Some((0, 5))));
 }
 
 // The status of some words, where nothing is written and the faults are those of the status.
@@ -111,11 +117,18 @@ fn told_usage(alloc: Global, words: &[&str]) -> Result<Option<u8>, Error> {
     })
 }
 
+// Words that name no configuration.
+const WORDS: [&[&str]; 5] = [
+    &[],
+    &["sha"],
+    &["Toy"],
+    &["sha256", "toy"],
+    &["sha256", "sha256"],
+];
+
 #[test]
 fn tells_its_usage(rt: HostRuntime) {
-    assert_eq!(rt; told_usage(rt.alloc(), &[]), Ok(Some(2)));
-    assert_eq!(rt; told_usage(rt.alloc(), &["sha"]), Ok(Some(2)));
-    assert_eq!(rt; told_usage(rt.alloc(), &["Toy"]), Ok(Some(2)));
-    assert_eq!(rt; told_usage(rt.alloc(), &["sha256", "toy"]), Ok(Some(2)));
-    assert_eq!(rt; told_usage(rt.alloc(), &["sha256", "sha256"]), Ok(Some(2)));
+    for words in WORDS {
+        assert_eq!(rt; told_usage(rt.alloc(), words), Ok(Some(2)), "{words:?}");
+    }
 }

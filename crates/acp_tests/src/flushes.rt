@@ -85,15 +85,6 @@ fn ended<'a, R: Read + Drop>(
     })
 }
 
-// Where all lines are buffered at once, they are answered before anything is sent: at the start, before the last line, which
-// has no line feed, and at the end.
-#[test]
-fn buffered_lines_are_flushed_together(rt: HostRuntime) {
-    let lines_sent = Cell::new(0);
-    let all = Ok(Some((0, 3, REPLIES.len())));
-    assert_eq!(rt; ended(rt.alloc(), INPUT, 0, &lines_sent), all);
-}
-
 // The status where a reader waits for each reply, and whether all replies were sent off.
 fn asked(alloc: Global) -> Result<Option<(u8, bool)>, Error> {
     let lines_sent = Cell::new(0);
@@ -112,14 +103,19 @@ fn each_reply_is_sent_before_the_next_read(rt: HostRuntime) {
     assert_eq!(rt; asked(rt.alloc()), Ok(Some((0, true))));
 }
 
-// A flush that fails ends the session; what was sent before is a front of the replies.
+// Where all lines are buffered at once, they are answered before anything is sent: at the start, before the last line, which
+// has no line feed, and at the end. A flush that fails ends the session; what was sent before is a front of the replies.
 #[test]
 fn a_failed_flush_ends_the_session(rt: HostRuntime) {
-    for fails_at in 1..=3usize {
+    for fails_at in 0..=3usize {
         let lines_sent = Cell::new(0);
         assert!(rt;
             ended(rt.alloc(), INPUT, fails_at, &lines_sent).is_ok_and(|said| said.is_some_and(
-                |it| it.0 == 1 && it.1 == fails_at + 1
+                |it| if fails_at == 0 {
+                    it.0 == 0 && it.1 == 3 && it.2 == REPLIES.len()
+                } else {
+                    it.0 == 1 && it.1 == fails_at + 1
+                }
             )),
             "at flush {fails_at}"
         );

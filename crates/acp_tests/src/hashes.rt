@@ -4,26 +4,17 @@ ghost use Rattle.std.specs.Prelude.{◌≡◌, [], ◌∷◌, Ok, refl};
 ghost use Rattle.acp_tests.specs.TestHashes.{refusing_pair};
 ghost use Rattle.acp_tests.specs.Laws.{refusing_pair-decided};
 
+use crate::trees::{changed, digest_of, tree_of, zeros};
 use acp_session::toy::{ToyLeafHash, ToyPairHash};
 use ark_base::error::{Error, Refusal};
 use ark_crh::TwoToOneCRHScheme;
 use ark_groups::ff::{Fp, M257, PrimeField};
 use ark_merkle::{
-    Binding, Config, DigestConverter, IdentityDigestConverter, MerkleTree, Path, is_tree_size,
+    Binding, Config, DigestConverter, IdentityDigestConverter, LeafParam, MerkleTree, Path,
+    TwoToOneParam,
 };
 use rand::Rng;
 use std::alloc::Global;
-
-fn tree_of<P: Config<Leaf = u64, LeafHash = ToyLeafHash, LeafDigest = Fp<M257>>>(
-    alloc: Global,
-    pair_parameters: &<P::TwoToOneHash as TwoToOneCRHScheme>::Parameters,
-    leaves: &[u64],
-) -> Result<MerkleTree<P>, Error> {
-    if !is_tree_size(leaves.len()) {
-        return Err(Error::IncorrectInputLength(leaves.len()));
-    }
-    MerkleTree::new(alloc, &(), pair_parameters, leaves)
-}
 
 // As `toy`, but its pair hash refuses where the second number is 0.
 struct Refusing;
@@ -98,41 +89,31 @@ impl TwoToOneCRHScheme for RefusingPairHash {
     ghost compressed_same = { λ p q same. refl };
 }
 
-// The number that the refusal of a tree names.
-fn custom_of(alloc: Global, leaves: &[u64]) -> Option<u64> {
-    match tree_of::<Refusing>(alloc, &(), leaves) {
-        Err(Error::GenericError(Refusal::Custom(number))) => Some(number),
-        _ => None,
-    }
-}
+const SEVEN: Error = Error::GenericError(Refusal::Custom(7));
 
-// The lowest pair that refuses is named, and the leftmost of its row: a walk into the depth would meet (5, 0), the node over
-// 1 2 249 4, first.
+const FIVE: Error = Error::GenericError(Refusal::Custom(5));
+
+const THREE: Error = Error::GenericError(Refusal::Custom(3));
+
+// The leaves of a tree, and what it says of 249 at the index 2, and whether its root is 27 behind that. The lowest pair that refuses is named,
+// and the leftmost of its row: a walk into the depth would meet (5, 0), the node over 1 2 249 4, first. A refused pair leaves
+// the tree as it was.
+const REFUSED: [(&[u64], Result<(Result<bool, Error>, bool), Error>); 4] = [
+    (&[1, 2, 249, 4, 5, 6, 7, 0], Err(SEVEN)),
+    (&[1, 2, 249, 4, 5, 6, 7, 8], Err(FIVE)),
+    (&[1, 2, 3, 0, 5, 6, 7, 0], Err(THREE)),
+    (&[1, 2, 3, 4], Ok((Err(FIVE), true))),
+];
+
 #[test]
 fn the_lowest_refusal_decides(rt: HostRuntime) {
-    assert_eq!(rt; custom_of(rt.alloc(), &[1, 2, 249, 4, 5, 6, 7, 0]), Some(7));
-    assert_eq!(rt; custom_of(rt.alloc(), &[1, 2, 249, 4, 5, 6, 7, 8]), Some(5));
-    assert_eq!(rt; custom_of(rt.alloc(), &[1, 2, 3, 0, 5, 6, 7, 0]), Some(3));
-}
-
-// What an update of the tree of 1 2 3 4 answers, and the root behind it.
-fn updated(alloc: Global, index: usize, leaf: u64) -> Result<(Result<(), Error>, Fp<M257>), Error> {
-    let mut tree = tree_of::<Refusing>(alloc, &(), &[1, 2, 3, 4])?;
-    if index >= tree.size() {
-        return Err(Error::IncorrectInputLength(index));
+    for (leaves, wanted) in REFUSED {
+        assert_eq!(rt;
+            changed::<Refusing>(rt.alloc(), &(), &(), leaves, 2, &249, None, 27),
+            wanted,
+            "{leaves:?}"
+        );
     }
-    let answer = tree.update(alloc, index, &leaf);
-    Ok((answer, *tree.root()))
-}
-
-// A refused pair leaves the tree as it was.
-#[test]
-fn a_refused_pair_changes_nothing(rt: HostRuntime) {
-    let refused = Err(Error::GenericError(Refusal::Custom(5)));
-    assert_eq!(rt;
-        updated(rt.alloc(), 2, 249),
-        Ok((refused, Fp::from_u64(27)))
-    );
 }
 
 // As `toy`, but its converter gives 0 for every leaf digest.
@@ -165,40 +146,60 @@ impl DigestConverter<Fp<M257>, Fp<M257>> for Zero {
 }
 
 // A path of zeros beside a leaf digest of 5.
-fn path_of_zeros(alloc: Global, len: usize) -> Result<Path<Forgetting>, Error> {
-    Ok(Path::<Forgetting> {
-        leaf_sibling_hash: Fp::from_u64(5),
-        auth_path: vec![in alloc; Fp::from_u64(0); len]?,
+fn path_of_zeros<P: Config>(alloc: Global, len: usize) -> Result<Path<P>, Error> {
+    Ok(Path {
+        leaf_sibling_hash: digest_of(alloc, 5)?,
+        auth_path: zeros(alloc, len)?,
         leaf_index: 0,
     })
 }
 
-fn forgetful(alloc: Global) -> Result<MerkleTree<Forgetting>, Error> {
-    tree_of::<Forgetting>(alloc, &(), &[1, 2])
+// Whether such a path shows a leaf in a tree, and what it binds it to.
+fn bound_in<P: Config>(
+    alloc: Global,
+    leaf_parameters: &LeafParam<P>,
+    pair_parameters: &TwoToOneParam<P>,
+    tree: &MerkleTree<P>,
+    leaf: &P::Leaf,
+    len: usize,
+) -> Result<(bool, Result<Binding, Error>), Error> {
+    let path = path_of_zeros::<P>(alloc, len)?;
+    Ok((
+        path.verify(alloc, leaf_parameters, pair_parameters, tree.root(), leaf)?,
+        tree.bind(alloc, &path, leaf),
+    ))
 }
 
-fn is_accepted(alloc: Global) -> Result<bool, Error> {
-    path_of_zeros(alloc, 0)?.verify(alloc, &(), &(), forgetful(alloc)?.root(), &9)
+// The same in the tree of some leaves.
+fn bound<P: Config>(
+    alloc: Global,
+    leaf_parameters: &LeafParam<P>,
+    pair_parameters: &TwoToOneParam<P>,
+    leaves: &[P::Leaf],
+    leaf: &P::Leaf,
+    len: usize,
+) -> Result<(bool, Result<Binding, Error>), Error> {
+    let tree = tree_of::<P>(alloc, leaf_parameters, pair_parameters, leaves)?;
+    bound_in(alloc, leaf_parameters, pair_parameters, &tree, leaf, len)
 }
 
-fn bound(alloc: Global, len: usize) -> Result<Binding, Error> {
-    forgetful(alloc)?.bind(alloc, &path_of_zeros(alloc, len)?, &9)
-}
+// The length of a path of zeros, which gives the root of zeros whatever the leaf, and what `bind` says of it. At the last level
+// the pairs that differ are leaf digests before conversion. A path that has not one digest for each level between the leaf
+// digests and the root is refused, however long it is.
+const BOUND: [(usize, Result<Binding, Error>); 5] = [
+    (0, Ok(Binding::Differs { level: 0 })),
+    (1, Err(Error::IncorrectInputLength(1))),
+    (63, Err(Error::IncorrectInputLength(63))),
+    (64, Err(Error::IncorrectInputLength(64))),
+    (3000, Err(Error::IncorrectInputLength(3000))),
+];
 
-// At the last level the pairs that differ are leaf digests before conversion.
 #[test]
 fn digests_that_are_converted_alike_collide(rt: HostRuntime) {
-    assert_eq!(rt; is_accepted(rt.alloc()), Ok(true));
-    assert_eq!(rt; bound(rt.alloc(), 0), Ok(Binding::Differs { level: 0 }));
-}
-
-// A path that has not one digest for each level between the leaf digests and the root is refused, however long it is.
-#[test]
-fn bind_asks_for_a_path_of_the_height(rt: HostRuntime) {
-    for len in [1usize, 63, 64, 3000] {
+    for (len, wanted) in BOUND {
         assert_eq!(rt;
-            bound(rt.alloc(), len),
-            Err(Error::IncorrectInputLength(len)),
+            bound::<Forgetting>(rt.alloc(), &(), &(), &[1, 2], &9, len),
+            Ok((true, wanted)),
             "{len}"
         );
     }

@@ -11,7 +11,7 @@ use acp_session::toy::{Toy, ToyPairHash};
 use ark_base::error::Error;
 use ark_crh::CRHScheme;
 use ark_groups::ff::{Fp, M257, PrimeField};
-use ark_merkle::{Config, IdentityDigestConverter};
+use ark_merkle::{Config, IdentityDigestConverter, LeafParam, TwoToOneParam};
 use rand::Rng;
 use std::alloc::{AllocError, Global};
 use std::io::BufReader;
@@ -96,12 +96,23 @@ impl Shell for Keyed {
     ghost multi_path_reading_is = { λ p q. refl };
 }
 
-// Whether a session over this key is answered so.
-fn answers(alloc: Global, key: u64, input: &[u8], replies: &[u8]) -> Result<bool, Error> {
+// Whether a session over these parameters is answered so.
+fn answers<C: Shell>(
+    alloc: Global,
+    leaf_parameters: &LeafParam<C>,
+    pair_parameters: &TwoToOneParam<C>,
+    input: &[u8],
+    replies: &[u8],
+) -> Result<bool, Error> {
     let mut lines = BufReader::new(alloc, input).map_err(|_| Error::OutOfMemory)?;
     let mut written: Vec<u8> = Vec::new(alloc);
-    let key = Fp::from_u64(key);
-    let ended = run::<Keyed, &[u8], Vec<u8>>(alloc, &key, &(), &mut lines, &mut written);
+    let ended = run::<C, &[u8], Vec<u8>>(
+        alloc,
+        leaf_parameters,
+        pair_parameters,
+        &mut lines,
+        &mut written,
+    );
     Ok(ended.is_ok() && written.as_slice() == replies)
 }
 
@@ -112,5 +123,9 @@ fn serves_a_hash_with_a_key(rt: HostRuntime) {
         b"tree 01 02\nroot\nproof 0\ncheck 0c0000000000000000000000000000000000 01\nset 0 05\nroot\n";
     let wanted =
         b"tree 2 height 2\nroot 2300\npath 0c0000000000000000000000000000000000\ntrue\nok\nroot 2700\n";
-    assert_eq!(rt; answers(rt.alloc(), 10, input, wanted), Ok(true));
+    let key = Fp::from_u64(10);
+    assert_eq!(rt;
+        answers::<Keyed>(rt.alloc(), &key, &(), input, wanted),
+        Ok(true)
+    );
 }

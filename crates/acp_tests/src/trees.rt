@@ -1,55 +1,102 @@
-//! Trees of the program's configuration that can be reckoned by hand.
+//! Trees of numbers that can be reckoned by hand.
 
 use acp_session::toy::Toy;
 use ark_base::error::{Error, Refusal};
-use ark_base::serialize::{CanonicalDeserialize, canonical_bytes};
-use ark_groups::ff::{Fp, M257, PrimeField};
-use ark_merkle::{MerkleTree, MultiPath, Path, is_tree_size};
+use ark_base::serialize::{CanonicalDeserialize, DigestItem, canonical_bytes};
+use ark_merkle::{Config, LeafParam, MerkleTree, Path, TwoToOneParam, is_tree_size};
 use std::alloc::Global;
 
-fn tree_of(alloc: Global, leaves: &[u64]) -> Result<MerkleTree<Toy>, Error> {
+/// The tree of these leaves, if there is one.
+pub fn tree_of<P: Config>(
+    alloc: Global,
+    leaf_parameters: &LeafParam<P>,
+    pair_parameters: &TwoToOneParam<P>,
+    leaves: &[P::Leaf],
+) -> Result<MerkleTree<P>, Error> {
     if !is_tree_size(leaves.len()) {
         return Err(Error::IncorrectInputLength(leaves.len()));
     }
-    MerkleTree::new(alloc, &(), &(), leaves)
+    MerkleTree::new(alloc, leaf_parameters, pair_parameters, leaves)
 }
 
-fn digest(value: u64) -> Fp<M257> {
-    Fp::from_u64(value)
+/// The digest with this number.
+pub fn digest_of<D: DigestItem>(alloc: Global, number: u64) -> Result<D, Error> {
+    Ok(D::deserialize(alloc, &number.to_le_bytes())?.0)
 }
 
-// Whether the tree of 1 2 3 4 takes the leaf 5 in the place of its first one under this root, and the root behind it.
-fn checked(alloc: Global, root: u64) -> Result<(bool, Fp<M257>), Error> {
-    let mut tree = tree_of(alloc, &[1, 2, 3, 4])?;
-    if tree.size() == 0 {
-        return Err(Error::IncorrectInputLength(0));
-    }
-    let taken = tree.check_update(alloc, 0, &5, &digest(root))?;
-    Ok((taken, *tree.root()))
+// Whether a digest has this number.
+fn is_number<D: DigestItem>(alloc: Global, digest: &D, number: u64) -> Result<bool, Error> {
+    Ok(digest_of::<D>(alloc, number)? == *digest)
 }
 
-// What an update of the tree of 1 2 3 4 answers, and the root behind it.
-fn updated(alloc: Global, index: usize, leaf: u64) -> Result<(Result<(), Error>, Fp<M257>), Error> {
-    let mut tree = tree_of(alloc, &[1, 2, 3, 4])?;
+// Whether a tree takes a leaf, under the asserted root if there is one.
+fn takes<P: Config>(
+    alloc: Global,
+    tree: &mut MerkleTree<P>,
+    index: usize,
+    leaf: &P::Leaf,
+    asserted: Option<u64>,
+) -> Result<bool, Error> {
     if index >= tree.size() {
         return Err(Error::IncorrectInputLength(index));
     }
-    let answer = tree.update(alloc, index, &leaf);
-    Ok((answer, *tree.root()))
+    if let Some(root) = asserted {
+        return tree.check_update(alloc, index, leaf, &digest_of(alloc, root)?);
+    }
+    tree.update(alloc, index, leaf)?;
+    Ok(true)
 }
+
+/// Whether the tree of some leaves takes another one, under the asserted root if there is one, and whether this is the root behind
+/// that.
+pub fn changed<P: Config>(
+    alloc: Global,
+    leaf_parameters: &LeafParam<P>,
+    pair_parameters: &TwoToOneParam<P>,
+    leaves: &[P::Leaf],
+    index: usize,
+    leaf: &P::Leaf,
+    asserted: Option<u64>,
+    root: u64,
+) -> Result<(Result<bool, Error>, bool), Error> {
+    let mut tree = tree_of::<P>(alloc, leaf_parameters, pair_parameters, leaves)?;
+    let taken = takes(alloc, &mut tree, index, leaf, asserted);
+    Ok((taken, is_number(alloc, tree.root(), root)?))
+}
+
+const REFUSED: Result<bool, Error> = Err(Error::GenericError(Refusal::Custom(1)));
+
+// An index, the leaf for it, the root that is asserted, whether the tree of 1 2 3 4 takes the leaf, and the root behind that.
+const CHANGES: [(usize, u64, Option<u64>, Result<bool, Error>, u64); 4] = [
+    (0, 5, Some(30), Ok(false), 27),
+    (0, 5, Some(31), Ok(true), 31),
+    (1, 999, None, REFUSED, 27),
+    (0, 5, None, Ok(true), 31),
+];
 
 #[test]
 fn updates_where_the_new_root_is_the_asserted_one(rt: HostRuntime) {
-    assert_eq!(rt; checked(rt.alloc(), 30), Ok((false, digest(27))));
-    assert_eq!(rt; checked(rt.alloc(), 31), Ok((true, digest(31))));
-    let refused = Err(Error::GenericError(Refusal::Custom(1)));
-    assert_eq!(rt; updated(rt.alloc(), 1, 999), Ok((refused, digest(27))));
-    assert_eq!(rt; updated(rt.alloc(), 0, 5), Ok((Ok(()), digest(31))));
+    for (index, leaf, asserted, taken, root) in CHANGES {
+        assert_eq!(rt;
+            changed::<Toy>(
+                rt.alloc(),
+                &(),
+                &(),
+                &[1, 2, 3, 4],
+                index,
+                &leaf,
+                asserted,
+                root
+            ),
+            Ok((taken, true)),
+            "{leaf} at {index}"
+        );
+    }
 }
 
 // Where three bytes stand behind a path, how many are read, and the path's index.
-fn read_front(alloc: Global, bytes: &[u8]) -> Result<(usize, usize), Error> {
-    let (path, used) = Path::<Toy>::deserialize(alloc, bytes)?;
+fn read_front<P: Config>(alloc: Global, bytes: &[u8]) -> Result<(usize, usize), Error> {
+    let (path, used) = Path::<P>::deserialize(alloc, bytes)?;
     Ok((used, path.leaf_index))
 }
 
@@ -58,36 +105,51 @@ fn three_bytes_are_left_behind_a_path(rt: HostRuntime) {
     let bytes = [
         4, 0, 1, 0, 0, 0, 0, 0, 0, 0, 5, 0, 2, 0, 0, 0, 0, 0, 0, 0, 7, 8, 9,
     ];
-    assert_eq!(rt; read_front(rt.alloc(), &bytes), Ok((20, 2)));
+    assert_eq!(rt; read_front::<Toy>(rt.alloc(), &bytes), Ok((20, 2)));
 }
 
-fn blank(alloc: Global) -> Result<MerkleTree<Toy>, Error> {
-    MerkleTree::<Toy>::blank(alloc, &(), &(), 4)
+/// So many digests of the number 0.
+pub fn zeros<D: DigestItem>(alloc: Global, count: usize) -> Result<Vec<D>, Error> {
+    let mut zeros = Vec::new(alloc);
+    for _ in 0..count {
+        zeros.push(digest_of(alloc, 0)?)?;
+    }
+    Ok(zeros)
 }
 
-fn proof_of_all(alloc: Global, tree: &MerkleTree<Toy>) -> Result<MultiPath<Toy>, Error> {
+// Whether the multi-proof of all leaves of a tree of eight has these canonical bytes, in hexadecimal.
+fn proof_is<P: Config>(alloc: Global, tree: &MerkleTree<P>, text: &str) -> Result<bool, Error> {
     if tree.size() != 8 {
         return Err(Error::IncorrectInputLength(tree.size()));
     }
-    tree.generate_multi_proof(alloc, &[0, 1, 2, 3, 4, 5, 6, 7])
-}
-
-// Whether the multi-proof of all leaves of a blank tree has these canonical bytes, in hexadecimal.
-fn proof_is(alloc: Global, text: &str) -> Result<bool, Error> {
-    let bytes = canonical_bytes(alloc, &proof_of_all(alloc, &blank(alloc)?)?)?;
+    let proof = tree.generate_multi_proof(alloc, &[0, 1, 2, 3, 4, 5, 6, 7])?;
+    let bytes = canonical_bytes(alloc, &proof)?;
     Ok(hex::encode(alloc, &bytes)?.as_str() == text)
 }
 
-fn measures(alloc: Global) -> Result<(usize, usize, Fp<M257>), Error> {
-    let tree = blank(alloc)?;
-    Ok((tree.size(), tree.height(), *tree.root()))
+// The size and the height of the blank tree of eight, whether its root is 0, and whether its multi-proof has these bytes.
+fn blank<P: Config>(
+    alloc: Global,
+    leaf_parameters: &LeafParam<P>,
+    pair_parameters: &TwoToOneParam<P>,
+    text: &str,
+) -> Result<(usize, usize, bool, bool), Error> {
+    let tree = MerkleTree::<P>::blank(alloc, leaf_parameters, pair_parameters, 4)?;
+    Ok((
+        tree.size(),
+        tree.height(),
+        is_number(alloc, tree.root(), 0)?,
+        proof_is(alloc, &tree, text)?,
+    ))
 }
 
 // All digests are 0: no path has one of its own but the first.
 #[test]
 fn all_indexes_of_a_blank_tree(rt: HostRuntime) {
-    assert_eq!(rt; measures(rt.alloc()), Ok((8, 4, digest(0))));
     let text =
         "08000000000000000000000000000000000000000000000008000000000000000000000000000000020000000000000002000000000000000200000000000000020000000000000002000000000000000200000000000000020000000000000008000000000000000200000000000000000000000000000000000000000000000000000000000000000000000000000000000000000000000000000000000000000000000000000000000000080000000000000000000000000000000100000000000000020000000000000003000000000000000400000000000000050000000000000006000000000000000700000000000000";
-    assert_eq!(rt; proof_is(rt.alloc(), text), Ok(true));
+    assert_eq!(rt;
+        blank::<Toy>(rt.alloc(), &(), &(), text),
+        Ok((8, 4, true, true))
+    );
 }

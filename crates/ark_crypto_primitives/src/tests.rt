@@ -4,35 +4,31 @@ mod pedersen;
 mod trees;
 
 use crate::Error;
-use crate::crh::sha256::Sha256;
 use crate::crh::{CRHScheme, TwoToOneCRHScheme};
-use crate::merkle_tree::MerkleTree;
+use crate::merkle_tree::{Config, LeafParam, TwoToOneParam};
+use crate::serialize::DigestItem;
 use crate::trees::Sha256Strings;
 use std::alloc::Global;
+use trees::tree_of;
 
-fn tree_of_two_empty_leaves(alloc: Global) -> Result<MerkleTree<Sha256Strings>, Error> {
-    let mut leaves = Vec::new(alloc);
-    leaves.push(Vec::new(alloc))?;
-    leaves.push(Vec::new(alloc))?;
-    if leaves.len() != 2 {
-        return Err(Error::IncorrectInputLength(leaves.len()));
-    }
-    MerkleTree::new(alloc, &(), &(), &leaves)
-}
-
-// The hash of the digest of no bytes with itself.
-fn pair_of_nothings(alloc: Global) -> Result<Vec<u8>, Error> {
-    let digest = <Sha256 as CRHScheme>::evaluate(alloc, &(), &Vec::new(alloc))?;
-    Sha256::compress(alloc, &(), &digest, &digest)
-}
-
-fn root_is_the_pair(alloc: Global) -> Result<bool, Error> {
-    Ok(*tree_of_two_empty_leaves(alloc)?.root() == pair_of_nothings(alloc)?)
+// Whether the root of a tree of two empty leaves is the hash of the digest of no bytes with itself.
+fn root_is_the_pair<P: Config<Leaf = Vec<u8>, LeafDigest = D, InnerDigest = D>, D: DigestItem>(
+    alloc: Global,
+    leaf_parameters: &LeafParam<P>,
+    pair_parameters: &TwoToOneParam<P>,
+) -> Result<bool, Error> {
+    let digest = P::LeafHash::evaluate(alloc, leaf_parameters, &Vec::new(alloc))?;
+    let pair = P::TwoToOneHash::compress(alloc, pair_parameters, &digest, &digest)?;
+    let tree = tree_of::<P>(alloc, leaf_parameters, pair_parameters, &[&[], &[]])?;
+    Ok(*tree.root() == pair)
 }
 
 #[test]
 fn two_empty_leaves(rt: HostRuntime) {
-    assert_eq!(rt; root_is_the_pair(rt.alloc()), Ok(true));
+    assert_eq!(rt;
+        root_is_the_pair::<Sha256Strings, Vec<u8>>(rt.alloc(), &(), &()),
+        Ok(true)
+    );
 }
 
 fn has_text(alloc: Global, error: &Error, text: &str) -> Result<bool, Error> {

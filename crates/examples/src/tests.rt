@@ -1,14 +1,14 @@
 //! Each example, on its way and off it.
 
-use crate::log::{self, Head};
-use crate::reveal;
 use crate::store::Follower;
-use ark_crypto_primitives::merkle_tree::MerkleTree;
-use ark_crypto_primitives::serialize::canonical_bytes;
-use ark_crypto_primitives::trees::Sha256Arrays;
+use crate::{log, reveal};
+use ark_crypto_primitives::merkle_tree::{
+    Config, LeafParam, MerkleTree, TwoToOneParam, is_tree_size,
+};
+use ark_crypto_primitives::serialize::CanonicalSerialize;
+use ark_crypto_primitives::trees::{Sha256Arrays, Sha256Log};
 use ark_crypto_primitives::{Error, SerializationError};
 use std::alloc::Global;
-use std::test::Fail;
 
 // Four entries or values, of a byte each.
 fn entries(alloc: Global) -> Result<Vec<Vec<u8>>, Error> {
@@ -21,54 +21,90 @@ fn entries(alloc: Global) -> Result<Vec<Vec<u8>>, Error> {
 }
 
 // What a client says who asked for an entry at an index and was sent a receipt for another one.
+fn logged_in(
+    alloc: Global,
+    log: &MerkleTree<Sha256Log>,
+    entry: u8,
+    index: usize,
+    sent: usize,
+) -> Result<bool, Error> {
+    let entry = vec![in alloc; entry]?;
+    let receipt = log::receipt(alloc, log, sent)?;
+    log::is_logged(alloc, &log::head_of(log), index, &entry, &receipt)
+}
+
 fn logged(alloc: Global, entry: u8, index: usize, sent: usize) -> Result<bool, Error> {
     let log = log::open(alloc, &entries(alloc)?)?;
-    let head: Head = log::head_of(&log);
-    let receipt = log::receipt(alloc, &log, sent)?;
-    log::is_logged(alloc, &head, index, &vec![in alloc; entry]?, &receipt)
+    logged_in(alloc, &log, entry, index, sent)
 }
 
 const INVALID: Error = Error::SerializationError(SerializationError::InvalidData);
 
+// An entry, its index, the index of the receipt that was sent, and what the client says.
+const RECEIPTS: [(u8, usize, usize, Result<bool, Error>); 4] = [
+    (2, 2, 2, Ok(true)),
+    (3, 2, 2, Ok(false)),
+    (2, 2, 1, Err(INVALID)),
+    (2, 2, 4, Err(Error::IncorrectInputLength(4))),
+];
+
 #[test]
-fn receipts_are_checked(rt: HostRuntime) -> Result<(), Fail> {
-    let alloc = rt.alloc();
-    assert_eq!(rt; logged(alloc, 2, 2, 2), Ok(true));
-    assert_eq!(rt; logged(alloc, 3, 2, 2), Ok(false));
-    assert_eq!(rt; logged(alloc, 2, 2, 1), Err(INVALID));
-    assert_eq!(rt; logged(alloc, 2, 2, 4), Err(Error::IncorrectInputLength(4)));
-    Ok(())
+fn receipts_are_checked(rt: HostRuntime) {
+    for (entry, index, sent, wanted) in RECEIPTS {
+        assert_eq!(rt;
+            logged(rt.alloc(), entry, index, sent),
+            wanted,
+            "{entry} at {index}, {sent}"
+        );
+    }
+}
+
+// The root of a store, and that behind a new second value; `proof` takes the bytes of the path of that value.
+fn changed<P: Config<Leaf = Vec<u8>, InnerDigest = [u8; 32]>>(
+    alloc: Global,
+    leaf_parameters: &LeafParam<P>,
+    pair_parameters: &TwoToOneParam<P>,
+    values: &[Vec<u8>],
+    new: &Vec<u8>,
+    proof: &mut Vec<u8>,
+) -> Result<([u8; 32], [u8; 32]), Error> {
+    if !is_tree_size(values.len()) {
+        return Err(Error::IncorrectInputLength(values.len()));
+    }
+    let mut store = MerkleTree::<P>::new(alloc, leaf_parameters, pair_parameters, values)?;
+    let before = *store.root();
+    store.generate_proof(alloc, 1)?.serialize(proof)?;
+    store.update(alloc, 1, new)?;
+    Ok((before, *store.root()))
 }
 
 // Whether a client follows a store that changed the second value from 1 to 7 and tells it so, of the old value as told,
 // and then has the store's root.
 fn followed(alloc: Global, told: u8) -> Result<(bool, bool), Error> {
-    let values = entries(alloc)?;
-    if values.len() != 4 {
-        return Err(Error::IncorrectInputLength(values.len()));
-    }
-    let mut store = MerkleTree::<Sha256Arrays>::new(alloc, &(), &(), &values)?;
-    if store.size() <= 1 {
-        return Err(Error::IncorrectInputLength(store.size()));
-    }
-    let mut client = Follower {
-        root: *store.root(),
-        size: store.size(),
-    };
-    let proof = canonical_bytes(alloc, &store.generate_proof(alloc, 1)?)?;
     let old = vec![in alloc; told]?;
     let new = vec![in alloc; 7]?;
-    store.update(alloc, 1, &new)?;
-    let follows = client.follow(alloc, 1, &old, &new, &proof, store.root())?;
-    Ok((follows, client.root == *store.root()))
+    let mut proof = Vec::new(alloc);
+    let (before, after) = changed::<Sha256Arrays>(
+        alloc,
+        &(),
+        &(),
+        &entries(alloc)?,
+        &new,
+        &mut proof,
+    )?;
+    let mut client = Follower {
+        root: before,
+        size: 4,
+    };
+    let follows = client.follow(alloc, 1, &old, &new, &proof, &after)?;
+    Ok((follows, client.root == after))
 }
 
 #[test]
-fn updates_are_followed(rt: HostRuntime) -> Result<(), Fail> {
-    let alloc = rt.alloc();
-    assert_eq!(rt; followed(alloc, 1), Ok((true, true)));
-    assert_eq!(rt; followed(alloc, 2), Ok((false, false)));
-    Ok(())
+fn updates_are_followed(rt: HostRuntime) {
+    for told in [1, 2] {
+        assert_eq!(rt; followed(rt.alloc(), told), Ok((told == 1, told == 1)));
+    }
 }
 
 // Whether a bid and a nonce open the commitment to the bid 42 under a nonce of sevens.
@@ -78,10 +114,8 @@ fn opened(alloc: Global, bid: u8, nonce: u8) -> Result<bool, Error> {
 }
 
 #[test]
-fn bids_are_revealed(rt: HostRuntime) -> Result<(), Fail> {
-    let alloc = rt.alloc();
-    assert_eq!(rt; opened(alloc, 42, 7), Ok(true));
-    assert_eq!(rt; opened(alloc, 43, 7), Ok(false));
-    assert_eq!(rt; opened(alloc, 42, 8), Ok(false));
-    Ok(())
+fn bids_are_revealed(rt: HostRuntime) {
+    for (bid, nonce, wanted) in [(42u8, 7u8, true), (43, 7, false), (42, 8, false)] {
+        assert_eq!(rt; opened(rt.alloc(), bid, nonce), Ok(wanted), "{bid} {nonce}");
+    }
 }

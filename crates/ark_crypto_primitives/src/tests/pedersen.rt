@@ -8,8 +8,11 @@ use crate::crh::{CRHScheme, TwoToOneCRHScheme};
 use crate::ec::Residues;
 use crate::ff::{Fp, M13, M61, PrimeField, UniformRand};
 use crate::merkle_tree::{
-    ByteDigestConverter, Config, LeafParam, MerkleTree, MultiPath, TwoToOneParam, is_tree_size,
+    ByteDigestConverter, Config, LeafParam, MerkleTree, MultiPath, Path, TwoToOneParam,
+    is_tree_size,
 };
+use crate::serialize::DigestItem;
+use crate::tests::trees::tree_of as tree_of_entries;
 use crate::{Error, to_uncompressed_bytes};
 use rand::rngs::SmallRng;
 use rand::{Rng, SeedableRng};
@@ -117,14 +120,6 @@ fn parameters(alloc: Global, windows: &[[u64; 4]]) -> Result<Parameters<Residues
     Ok(Parameters { generators })
 }
 
-fn leaves_of(alloc: Global, texts: &[&[u8]]) -> Result<Vec<Vec<u8>>, Error> {
-    let mut leaves = Vec::new(alloc);
-    for text in texts {
-        leaves.push(text.to_vec(alloc)?)?;
-    }
-    Ok(leaves)
-}
-
 fn tree_of<P: Config>(
     alloc: Global,
     leaf_parameters: &LeafParam<P>,
@@ -137,70 +132,85 @@ fn tree_of<P: Config>(
     MerkleTree::new(alloc, leaf_parameters, pair_parameters, leaves)
 }
 
-// The tree of 25, 01, no bytes and 40.
-fn reckoned(alloc: Global) -> Result<MerkleTree<By13>, Error> {
-    let two = parameters(alloc, &[[1, 2, 4, 8], [2, 4, 8, 3]])?;
-    let four = parameters(alloc, &[[1, 2, 4, 8]; 4])?;
-    let leaves = leaves_of(alloc, &[&[0x25], &[0x01], &[], &[0x40]])?;
-    tree_of(alloc, &two, &four, &leaves)
+// Whether a digest has these canonical bytes, by reading them.
+fn is_spelled<D: DigestItem>(alloc: Global, digest: &D, bytes: &[u8]) -> Result<bool, Error> {
+    Ok(D::deserialize(alloc, bytes)?.0 == *digest)
 }
 
-fn reckoned_root(alloc: Global) -> Result<Residues<M13>, Error> {
-    Ok(*reckoned(alloc)?.root())
+// Whether the path of an index has these canonical bytes, or none are wanted.
+fn path_is_spelled<P: Config>(alloc: Global, path: &Path<P>, bytes: &[u8]) -> Result<bool, Error> {
+    let spelled = to_uncompressed_bytes!(in alloc; *path)?;
+    Ok(bytes.is_empty() || spelled.as_slice() == bytes)
 }
 
-// The digest beside a leaf.
-fn beside<P: Config>(tree: &MerkleTree<P>, index: usize) -> Result<&P::LeafDigest, Error> {
-    if index >= tree.size() {
-        return Err(Error::IncorrectInputLength(index));
-    }
-    Ok(tree.get_leaf_sibling_hash(index))
-}
-
-fn reckoned_beside(alloc: Global, index: usize) -> Result<Residues<M13>, Error> {
-    Ok(*beside(&reckoned(alloc)?, index)?)
-}
-
-// The canonical bytes of the path of a leaf.
-fn path_bytes<P: Config>(
+// Whether the root is 5 in a tree whose digests have a byte, the digest beside a leaf is this one, and the leaf's path has these
+// canonical bytes, if some are wanted.
+fn is_reckoned<P: Config>(
     alloc: Global,
     tree: &MerkleTree<P>,
     index: usize,
-) -> Result<Vec<u8>, Error> {
+    beside: u8,
+    bytes: &[u8],
+) -> Result<(bool, bool, bool), Error> {
     if index >= tree.size() {
         return Err(Error::IncorrectInputLength(index));
     }
-    to_uncompressed_bytes!(in alloc; tree.generate_proof(alloc, index)?)
+    let path = tree.generate_proof(alloc, index)?;
+    Ok((
+        is_spelled(alloc, tree.root(), &[5])?,
+        is_spelled(alloc, tree.get_leaf_sibling_hash(index), &[beside])?,
+        path_is_spelled(alloc, &path, bytes)?,
+    ))
 }
 
-fn reckoned_has_bytes(alloc: Global, index: usize, bytes: &[u8]) -> Result<bool, Error> {
-    Ok(path_bytes(alloc, &reckoned(alloc)?, index)?.as_slice() == bytes)
+// The same of the tree of 25, 01, no bytes and 40.
+fn reckoned<P: Config<Leaf = Vec<u8>>>(
+    alloc: Global,
+    leaf_parameters: &LeafParam<P>,
+    pair_parameters: &TwoToOneParam<P>,
+    index: usize,
+    beside: u8,
+    bytes: &[u8],
+) -> Result<(bool, bool, bool), Error> {
+    let entries: [&[u8]; 4] = [&[0x25], &[0x01], &[], &[0x40]];
+    let tree = tree_of_entries::<P>(alloc, leaf_parameters, pair_parameters, &entries)?;
+    is_reckoned(alloc, &tree, index, beside, bytes)
 }
 
-#[test]
-fn leaf_digests_reach_the_pair_hash_as_bytes(rt: HostRuntime) {
-    assert_eq!(rt; reckoned_root(rt.alloc()), Ok(residue(5)));
-    for (index, beside) in [(0usize, 1u64), (1, 9), (2, 8), (3, 0)] {
-        assert_eq!(rt;
-            reckoned_beside(rt.alloc(), index),
-            Ok(residue(beside)),
-            "{index}"
-        );
-    }
+// The same over generators that can be reckoned with.
+fn reckoned_by_13(
+    alloc: Global,
+    index: usize,
+    beside: u8,
+    bytes: &[u8],
+) -> Result<(bool, bool, bool), Error> {
+    let two = parameters(alloc, &[[1, 2, 4, 8], [2, 4, 8, 3]])?;
+    let four = parameters(alloc, &[[1, 2, 4, 8]; 4])?;
+    reckoned::<By13>(alloc, &two, &four, index, beside, bytes)
 }
 
-// The node of the first two leaves is 10.
-const PATHS: [(usize, [u8; 18]); 2] = [
-    (0, [1, 1, 0, 0, 0, 0, 0, 0, 0, 8, 0, 0, 0, 0, 0, 0, 0, 0]),
-    (2, [8, 1, 0, 0, 0, 0, 0, 0, 0, 10, 2, 0, 0, 0, 0, 0, 0, 0]),
+// A leaf's index, the digest beside it, and the canonical bytes of two paths. The node of the first two leaves is 10.
+const RECKONED: [(usize, u8, &[u8]); 4] = [
+    (
+        0,
+        1,
+        &[1, 1, 0, 0, 0, 0, 0, 0, 0, 8, 0, 0, 0, 0, 0, 0, 0, 0],
+    ),
+    (1, 9, &[]),
+    (
+        2,
+        8,
+        &[8, 1, 0, 0, 0, 0, 0, 0, 0, 10, 2, 0, 0, 0, 0, 0, 0, 0],
+    ),
+    (3, 0, &[]),
 ];
 
 #[test]
-fn a_proof_has_bytes(rt: HostRuntime) {
-    for (index, bytes) in PATHS {
+fn leaf_digests_reach_the_pair_hash_as_bytes(rt: HostRuntime) {
+    for (index, beside, bytes) in RECKONED {
         assert_eq!(rt;
-            reckoned_has_bytes(rt.alloc(), index, &bytes),
-            Ok(true),
+            reckoned_by_13(rt.alloc(), index, beside, bytes),
+            Ok((true, true, true)),
             "{index}"
         );
     }

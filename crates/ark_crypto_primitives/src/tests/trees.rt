@@ -28,42 +28,55 @@ const OF_ALL: &str = "5dc9da79a70659a9ad559cb701ded9a2ab9d823aad2f4960cfe370eff4
 // That of all with no byte before them, by Python's hashlib.
 const PLAIN: &str = "03b3e0e5b23746036c9c7185c1fc12bc6f8ff41cc2b97b24fb451f2cc291d2b4";
 
-fn tree_of<P: Config<Leaf = Vec<u8>>>(
+fn leaves_of(alloc: Global, entries: &[&[u8]]) -> Result<Vec<Vec<u8>>, Error> {
+    let mut leaves = Vec::new(alloc);
+    for entry in entries {
+        leaves.push(entry.to_vec(alloc)?)?;
+    }
+    Ok(leaves)
+}
+
+/// The tree of these entries, if there is one.
+pub fn tree_of<P: Config<Leaf = Vec<u8>>>(
     alloc: Global,
     leaf_parameters: &LeafParam<P>,
     pair_parameters: &TwoToOneParam<P>,
-    count: usize,
+    entries: &[&[u8]],
 ) -> Result<MerkleTree<P>, Error> {
-    let mut leaves = Vec::new(alloc);
-    for entry in ENTRIES.iter().take(count) {
-        let mut leaf = Vec::new(alloc);
-        leaf.extend_from_slice(*entry)?;
-        leaves.push(leaf)?;
-    }
+    let leaves = leaves_of(alloc, entries)?;
     if !is_tree_size(leaves.len()) {
         return Err(Error::IncorrectInputLength(leaves.len()));
     }
     MerkleTree::new(alloc, leaf_parameters, pair_parameters, &leaves)
 }
 
-// Whether the last 32 bytes of the root's are shown so in hexadecimal.
+// The last 32 bytes of the canonical bytes of the root, in hexadecimal.
+fn has_root_under<P: Config>(
+    alloc: Global,
+    tree: &MerkleTree<P>,
+    root: &str,
+) -> Result<bool, Error> {
+    let bytes = canonical_bytes(alloc, tree.root())?;
+    Ok(hex::encode(alloc, &bytes[bytes.len().saturating_sub(32)..])?.as_str() == root)
+}
+
+// Whether the last 32 bytes of the root of some first entries are shown so in hexadecimal.
 fn has_root<P: Config<Leaf = Vec<u8>>>(
     alloc: Global,
     leaf_parameters: &LeafParam<P>,
     pair_parameters: &TwoToOneParam<P>,
-    count: usize,
+    entries: &[&[u8]],
     root: &str,
 ) -> Result<bool, Error> {
-    let tree = tree_of::<P>(alloc, leaf_parameters, pair_parameters, count)?;
-    let bytes = canonical_bytes(alloc, tree.root())?;
-    Ok(hex::encode(alloc, &bytes[bytes.len().saturating_sub(32)..])?.as_str() == root)
+    let tree = tree_of::<P>(alloc, leaf_parameters, pair_parameters, entries)?;
+    has_root_under(alloc, &tree, root)
 }
 
 #[test]
 fn roots_of_logs(rt: HostRuntime) {
     for (count, root) in [(2usize, OF_TWO), (4, OF_FOUR), (8, OF_ALL)] {
         assert_eq!(rt;
-            has_root::<Sha256Log>(rt.alloc(), &(), &(), count, root),
+            has_root::<Sha256Log>(rt.alloc(), &(), &(), &ENTRIES[..count], root),
             Ok(true),
             "{count}"
         );
@@ -74,34 +87,79 @@ fn roots_of_logs(rt: HostRuntime) {
 fn arrays_and_strings_have_one_root(rt: HostRuntime) {
     let alloc = rt.alloc();
     assert_eq!(rt;
-        has_root::<Sha256Arrays>(alloc, &(), &(), 8, PLAIN),
+        has_root::<Sha256Arrays>(alloc, &(), &(), &ENTRIES, PLAIN),
         Ok(true)
     );
     assert_eq!(rt;
-        has_root::<Sha256Strings>(alloc, &(), &(), 8, PLAIN),
+        has_root::<Sha256Strings>(alloc, &(), &(), &ENTRIES, PLAIN),
         Ok(true)
     );
 }
 
-// What a client answers who was told the size, the index and the fourth entry, and was sent the path of an index in the log
-// of eight entries with some zeros behind it.
-fn answer(
+// The canonical bytes of the path of an index, with some zeros behind them.
+fn sent<P: Config>(
     alloc: Global,
+    tree: &MerkleTree<P>,
+    index: usize,
+    zeros: usize,
+) -> Result<Vec<u8>, Error> {
+    if index >= tree.size() {
+        return Err(Error::IncorrectInputLength(index));
+    }
+    let mut bytes = canonical_bytes(alloc, &tree.generate_proof(alloc, index)?)?;
+    for _ in 0..zeros {
+        bytes.push(0)?;
+    }
+    Ok(bytes)
+}
+
+// What a client answers who was told the size, the index and the fourth entry, and was sent the path of an index in a tree with
+// some zeros behind it.
+fn answer_under<P: Config<Leaf = Vec<u8>>>(
+    alloc: Global,
+    leaf_parameters: &LeafParam<P>,
+    pair_parameters: &TwoToOneParam<P>,
+    tree: &MerkleTree<P>,
     own: usize,
     zeros: usize,
     size: usize,
     index: usize,
 ) -> Result<bool, Error> {
-    let log = tree_of::<Sha256Log>(alloc, &(), &(), 8)?;
-    if own >= log.size() {
-        return Err(Error::IncorrectInputLength(own));
-    }
-    let mut bytes = canonical_bytes(alloc, &log.generate_proof(alloc, own)?)?;
-    for _ in 0..zeros {
-        bytes.push(0)?;
-    }
-    let entry = vec![in alloc; 0x20, 0x21]?;
-    Path::<Sha256Log>::verify_bytes(alloc, &(), &(), log.root(), size, index, &bytes, &entry)
+    let bytes = sent(alloc, tree, own, zeros)?;
+    let entry = ENTRIES[3].to_vec(alloc)?;
+    Path::<P>::verify_bytes(
+        alloc,
+        leaf_parameters,
+        pair_parameters,
+        tree.root(),
+        size,
+        index,
+        &bytes,
+        &entry,
+    )
+}
+
+// The same in the tree of all entries.
+fn answer<P: Config<Leaf = Vec<u8>>>(
+    alloc: Global,
+    leaf_parameters: &LeafParam<P>,
+    pair_parameters: &TwoToOneParam<P>,
+    own: usize,
+    zeros: usize,
+    size: usize,
+    index: usize,
+) -> Result<bool, Error> {
+    let tree = tree_of::<P>(alloc, leaf_parameters, pair_parameters, &ENTRIES)?;
+    answer_under(
+        alloc,
+        leaf_parameters,
+        pair_parameters,
+        &tree,
+        own,
+        zeros,
+        size,
+        index,
+    )
 }
 
 const INVALID: Error = Error::SerializationError(SerializationError::InvalidData);
@@ -124,7 +182,7 @@ const ANSWERS: [(usize, usize, usize, usize, Result<bool, Error>); 7] = [
 fn a_client_answers(rt: HostRuntime) {
     for (own, zeros, size, index, wanted) in ANSWERS {
         assert_eq!(rt;
-            answer(rt.alloc(), own, zeros, size, index),
+            answer::<Sha256Log>(rt.alloc(), &(), &(), own, zeros, size, index),
             wanted,
             "{own} {zeros} {size} {index}"
         );
