@@ -1,5 +1,5 @@
 -- The first line of some bytes.
-use Rattle.std.proofs.Common.{◌≡◌, ℕ, suc, zero, ◌<◌, ◌==◌, ltb, Bool, true, false, cond, List, [], ◌∷◌, length, take, drop, get_or, refl, sym, ◌∙◌, ap, arith, rules, tests, sub-one}
+use Rattle.std.proofs.Common.{◌≡◌, ℕ, suc, ◌==◌, ltb, Bool, true, false, cond, List, [], ◌∷◌, length, take, get_or, refl, sym, ◌∙◌, ap, rules, tests, sub-one}
 use Rattle.std.specs.Prelude.{◌&&◌}
 use Rattle.std.specs.Io.BufRead.{take_through, drop_through, strip_last}
 use Rattle.acp_session.specs.Lines.{onto_first}

@@ -29,7 +29,8 @@ pub struct Seventh;
 
 impl<F: PrimeField> SBox<F> for Seventh {
     ghost image = { λ alpha x.
-        (((x * x) % F.MODULUS * ((x * x) % F.MODULUS)) % F.MODULUS * ((x * x) % F.MODULUS * x % F.MODULUS)) % F.MODULUS };
+        (((x * x) % F.MODULUS * ((x * x) % F.MODULUS)) % F.MODULUS
+        * ((x * x) % F.MODULUS * x % F.MODULUS)) % F.MODULUS };
 
     fn apply(_alpha: u64, x: F) -> F {
         let square = x.mul(x);
