@@ -2,6 +2,7 @@
 
 mod vectors;
 
+use crate::asked::{are_shown, is_shown};
 use crate::blake2s::vectors::{LONG, LONG_STATE, PLAIN, WITH_PARAMETERS};
 use crate::plain;
 use ark_base::error::Error;
@@ -37,94 +38,85 @@ fn digest_of_pieces(pieces: &[&[u8]]) -> [u8; 32] {
     hasher.finalize()
 }
 
-fn digest_of<D: ByteDigest>(alloc: Global, input: &[u8]) -> Result<Vec<u8>, Error> {
-    D::digest(alloc, input)
+fn digest_is<D: ByteDigest>(alloc: Global, input: &[u8], text: &str) -> bool {
+    are_shown(alloc, D::digest(alloc, input), text)
 }
 
-fn output_of<P: PRF>(seed: &P::Seed, input: &P::Input) -> Result<P::Output, Error> {
-    P::evaluate(seed, input)
-}
-
-// Whether some bytes are shown so in hexadecimal.
-fn is_shown(alloc: Global, bytes: &[u8], text: &str) -> Result<bool, Error> {
-    Ok(hex::encode(alloc, bytes)?.as_str() == text)
-}
-
-fn digest_is(alloc: Global, input: &[u8], text: &str) -> Result<bool, Error> {
-    is_shown(alloc, &digest_of::<Blake2s256>(alloc, input)?, text)
-}
-
-// Whether the hash with a parameter block of this salt and personalization, and of sizes that count for nothing, is shown so.
-fn parameters_give(
-    alloc: Global,
-    salt: [u8; 8],
-    personalization: [u8; 8],
-    input: &[u8],
-    text: &str,
-) -> Result<bool, Error> {
-    let hash = Blake2sWithParameterBlock {
+// The hash with a parameter block of this salt and personalization, and of sizes that count for nothing.
+fn hash_of(salt: &[u8; 8], personalization: &[u8; 8]) -> Blake2sWithParameterBlock {
+    Blake2sWithParameterBlock {
         output_size: 7,
         key_size: 9,
-        salt,
-        personalization,
-    };
-    Ok(
-        is_shown(alloc, &hash.evaluate(alloc, input)?, text)?
-            && is_shown(alloc, &hash.clone()?.evaluate(alloc, input)?, text)?,
-    )
+        salt: *salt,
+        personalization: *personalization,
+    }
+}
+
+fn copy_gives(alloc: Global, hash: &Blake2sWithParameterBlock, input: &[u8], text: &str) -> bool {
+    match hash.clone() {
+        Ok(copy) => are_shown(alloc, copy.evaluate(alloc, input), text),
+        Err(_) => false,
+    }
+}
+
+// Whether the digest of the hash and that of its copy are shown so.
+fn gives(alloc: Global, hash: &Blake2sWithParameterBlock, input: &[u8], text: &str) -> bool {
+    are_shown(alloc, hash.evaluate(alloc, input), text) && copy_gives(alloc, hash, input, text)
 }
 
 // Whether the three letters, in pieces, at once and under zeros, give the digest that is shown so.
-fn letters_give(alloc: Global, text: &str) -> Result<bool, Error> {
-    Ok(
-        is_shown(alloc, &digest_of_pieces(&[b"a", b"b", b"c"]), text)?
-            && digest_is(alloc, b"abc", text)?
-            && parameters_give(alloc, [0; 8], [0; 8], b"abc", text)?,
-    )
+fn letters_give<D: ByteDigest>(alloc: Global, text: &str) -> bool {
+    is_shown(alloc, &digest_of_pieces(&[b"a", b"b", b"c"]), text)
+        && digest_is::<D>(alloc, b"abc", text)
+        && gives(alloc, &hash_of(&[0; 8], &[0; 8]), b"abc", text)
 }
 
 #[test]
 fn three_letters(rt: HostRuntime) {
-    assert_eq!(rt; letters_give(rt.alloc(), ABC), Ok(true));
+    assert!(rt; letters_give::<Blake2s256>(rt.alloc(), ABC));
 }
 
-fn text_gives(
-    alloc: Global,
-    salt: [u8; 8],
-    personalization: [u8; 8],
-    len: usize,
-    text: &str,
-) -> Result<bool, Error> {
-    parameters_give(alloc, salt, personalization, &text_of(alloc, len)?, text)
+// Whether a text of this length has this digest.
+fn text_gives(alloc: Global, hash: &Blake2sWithParameterBlock, len: usize, shown: &str) -> bool {
+    match text_of(alloc, len) {
+        Ok(text) => gives(alloc, hash, &text, shown),
+        Err(_) => false,
+    }
 }
 
 #[test]
 fn salts_and_personalizations(rt: HostRuntime) {
     for (len, salt, personalization, text) in &WITH_PARAMETERS {
-        assert_eq!(rt;
-            text_gives(rt.alloc(), *salt, *personalization, *len, text),
-            Ok(true),
+        assert!(rt;
+            text_gives(rt.alloc(), &hash_of(salt, personalization), *len, text),
             "{len}"
         );
     }
 }
 
-// Whether a text of this length has this digest in two pieces, wherever it is cut.
-fn each_cut_gives(alloc: Global, len: usize, shown: &str) -> Result<bool, Error> {
-    let text = text_of(alloc, len)?;
+// Whether a text has this digest in two pieces, wherever it is cut.
+fn each_cut_gives(alloc: Global, text: &[u8], shown: &str) -> bool {
     for cut in 0..text.len() + 1 {
         let (first, second) = text.split_at(cut);
-        if !is_shown(alloc, &digest_of_pieces(&[first, second]), shown)? {
-            return Ok(false);
+        if !is_shown(alloc, &digest_of_pieces(&[first, second]), shown) {
+            return false;
         }
     }
-    Ok(true)
+    true
+}
+
+// The same of a text of this length.
+fn cuts_give(alloc: Global, len: usize, shown: &str) -> bool {
+    match text_of(alloc, len) {
+        Ok(text) => each_cut_gives(alloc, &text, shown),
+        Err(_) => false,
+    }
 }
 
 #[test]
 fn every_cut(rt: HostRuntime) {
     for (len, shown) in &PLAIN {
-        assert_eq!(rt; each_cut_gives(rt.alloc(), *len, shown), Ok(true), "{len}");
+        assert!(rt; cuts_give(rt.alloc(), *len, shown), "{len}");
     }
 }
 
@@ -149,29 +141,38 @@ fn digest_of_drawn_pieces<R: Rng>(text: &[u8], rng: &mut R) -> [u8; 32] {
     hasher.finalize()
 }
 
-// The digest by the definition with all blocks of the whole text.
-fn defined(
+// Whether this is the digest by the definition with all blocks of the whole text.
+fn is_defined(
     alloc: Global,
     salt: &[u8; 8],
     personalization: &[u8; 8],
     text: &[u8],
-) -> Result<[u8; 32], Error> {
+    digest: &[u8],
+) -> bool {
     if text.len() > 1000 {
-        return Err(Error::IncorrectInputLength(text.len()));
+        return false;
     }
-    Ok(plain::digest(alloc, salt, personalization, text)?)
+    match plain::digest(alloc, salt, personalization, text) {
+        Ok(defined) => defined.as_slice() == digest,
+        Err(_) => false,
+    }
 }
 
-fn drawn_pieces_agree<R: Rng>(alloc: Global, rng: &mut R) -> Result<bool, Error> {
-    let text = drawn_text(alloc, rng)?;
-    Ok(digest_of_drawn_pieces(&text, rng) == defined(alloc, &[0; 8], &[0; 8], &text)?)
+fn drawn_pieces_agree<R: Rng>(alloc: Global, rng: &mut R) -> bool {
+    match drawn_text(alloc, rng) {
+        Ok(text) => {
+            let digest = digest_of_drawn_pieces(&text, rng);
+            is_defined(alloc, &[0; 8], &[0; 8], &text, &digest)
+        }
+        Err(_) => false,
+    }
 }
 
 #[test]
 fn drawn_pieces_of_drawn_texts(rt: HostRuntime) {
     let mut rng = SmallRng::seed_from_u64(2);
     for _ in 0..200u8 {
-        assert_eq!(rt; drawn_pieces_agree(rt.alloc(), &mut rng), Ok(true));
+        assert!(rt; drawn_pieces_agree(rt.alloc(), &mut rng));
     }
 }
 
@@ -197,7 +198,7 @@ fn past_two_blocks() -> [u8; 32] {
 // The high word of the counter, which no text here reaches.
 #[test]
 fn past_four_gibibytes(rt: HostRuntime) {
-    assert_eq!(rt; is_shown(rt.alloc(), &past_two_blocks(), LONG), Ok(true));
+    assert!(rt; is_shown(rt.alloc(), &past_two_blocks(), LONG));
 }
 
 // The bytes from one on.
@@ -212,41 +213,50 @@ fn rising(first: u8) -> [u8; 32] {
 }
 
 // Whether the function gives the digest of seed and input, which is shown so.
-fn seed_gives(alloc: Global, text: &str) -> Result<bool, Error> {
+fn seed_gives<P>(alloc: Global, text: &str) -> bool
+where
+    P: PRF<Seed = [u8; 32], Input = [u8; 32], Output = [u8; 32]>,
+{
     let (seed, input) = (rising(0), rising(100));
     let digest = digest_of_pieces(&[&seed, &input]);
-    Ok(output_of::<Blake2s>(&seed, &input)? == digest && is_shown(alloc, &digest, text)?)
+    P::evaluate(&seed, &input) == Ok(digest) && is_shown(alloc, &digest, text)
 }
 
 #[test]
 fn seed_then_input(rt: HostRuntime) {
-    assert_eq!(rt; seed_gives(rt.alloc(), SEED_AND_INPUT), Ok(true));
+    assert!(rt; seed_gives::<Blake2s>(rt.alloc(), SEED_AND_INPUT));
 }
 
 const SALT: [u8; 8] = [1, 2, 3, 4, 5, 6, 7, 8];
 
 const PERSONALIZATION: [u8; 8] = [9, 10, 11, 12, 13, 14, 15, 16];
 
+// Whether the hash of a text is that of the definition.
+fn evaluates_as_defined(alloc: Global, hash: &Blake2sWithParameterBlock, text: &[u8]) -> bool {
+    match hash.evaluate(alloc, text) {
+        Ok(digest) => is_defined(alloc, &hash.salt, &hash.personalization, text, &digest),
+        Err(_) => false,
+    }
+}
+
 // Whether a text of this length has the digest of the definition.
-fn is_defined(alloc: Global, len: usize) -> Result<bool, Error> {
-    let text = text_of(alloc, len)?;
+fn text_is_defined(alloc: Global, len: usize) -> bool {
     let hash = Blake2sWithParameterBlock {
         output_size: 32,
         key_size: 0,
         salt: SALT,
         personalization: PERSONALIZATION,
     };
-    let digest = hash.evaluate(alloc, &text)?;
-    Ok(
-        text.len() == len
-            && digest.as_slice() == defined(alloc, &SALT, &PERSONALIZATION, &text)?.as_slice(),
-    )
+    match text_of(alloc, len) {
+        Ok(text) => text.len() == len && evaluates_as_defined(alloc, &hash, &text),
+        Err(_) => false,
+    }
 }
 
 // Every length up to three blocks.
 #[test]
 fn as_the_definition(rt: HostRuntime) {
     for len in 0..193usize {
-        assert_eq!(rt; is_defined(rt.alloc(), len), Ok(true), "{len}");
+        assert!(rt; text_is_defined(rt.alloc(), len), "{len}");
     }
 }

@@ -1,5 +1,7 @@
-//! The BLAKE2s commitment by a digest that another implementation gives.
+//! The BLAKE2s commitment by a digest that another implementation gives. The functions are generic over the scheme, which a test
+//! names: so little is to be proved of them.
 
+use crate::asked::{are_shown, is_shown};
 use ark_base::error::Error;
 use ark_groups::digest::ByteDigest;
 use ark_groups::ff::UniformRand;
@@ -13,15 +15,6 @@ use std::alloc::Global;
 // The digest of "ab" followed by the bytes 0 to 31, from Python's hashlib.blake2s.
 const AB: &str = "0b4a1e067c518b8be38990ce7d276d6d3089e33f9b6d572a143d968b5bbb553b";
 
-fn commitment_of<C: CommitmentScheme>(
-    alloc: Global,
-    parameters: &C::Parameters,
-    input: &[u8],
-    randomness: &C::Randomness,
-) -> Result<C::Output, Error> {
-    C::commit(alloc, parameters, input, randomness)
-}
-
 // The bytes 0 to 31.
 fn rising() -> [u8; 32] {
     let mut bytes = [0; 32];
@@ -31,27 +24,57 @@ fn rising() -> [u8; 32] {
     bytes
 }
 
-// Whether the commitment under the bytes 0 to 31 is shown so, and is the digest of the input followed by them.
-fn is_shown(alloc: Global, input: &[u8], text: &str) -> Result<bool, Error> {
-    let commitment = commitment_of::<Commitment>(alloc, &(), input, &rising())?;
-    let mut both = input.to_vec(alloc)?;
-    both.extend_from_slice(&rising())?;
-    Ok(
-        hex::encode(alloc, &commitment)?.as_str() == text
-            && Blake2s256::digest(alloc, &both)?.as_slice() == commitment.as_slice(),
-    )
+// The digest of two inputs, one behind the other.
+fn digest_of_both<D: ByteDigest>(
+    alloc: Global,
+    first: &[u8],
+    second: &[u8],
+) -> Result<Vec<u8>, Error> {
+    let mut both = first.to_vec(alloc)?;
+    both.extend_from_slice(second)?;
+    D::digest(alloc, &both)
+}
+
+// Whether the commitment is shown so, and so is the digest of the input followed by the randomness.
+fn commits<S, D>(
+    alloc: Global,
+    parameters: &S::Parameters,
+    input: &[u8],
+    randomness: &[u8; 32],
+    text: &str,
+) -> bool
+where
+    S: CommitmentScheme<Randomness = [u8; 32], Output = [u8; 32]>,
+    D: ByteDigest,
+{
+    match S::commit(alloc, parameters, input, randomness) {
+        Ok(commitment) => {
+            is_shown(alloc, &commitment, text)
+                && are_shown(alloc, digest_of_both::<D>(alloc, input, randomness), text)
+        }
+        Err(_) => false,
+    }
 }
 
 #[test]
 fn input_then_randomness(rt: HostRuntime) {
-    assert_eq!(rt; is_shown(rt.alloc(), b"ab", AB), Ok(true));
+    assert!(rt; commits::<Commitment, Blake2s256>(rt.alloc(), &(), b"ab", &rising(), AB));
+}
+
+// Whether the setup draws nothing, so that a number and randomness are drawn as by a twin.
+fn draws_nothing<S, R>(alloc: Global, rng: &mut R, twin: &mut R) -> bool
+where
+    S: CommitmentScheme<Parameters = (), Randomness = [u8; 32]>,
+    R: Rng,
+{
+    S::setup(alloc, rng) == Ok(())
+        && rng.next_u64() == twin.next_u64()
+        && <[u8; 32]>::rand(rng) == <[u8; 32]>::rand(twin)
 }
 
 #[test]
 fn setup_draws_nothing(rt: HostRuntime) {
     let mut rng = SmallRng::seed_from_u64(1);
     let mut twin = SmallRng::seed_from_u64(1);
-    assert_eq!(rt; Commitment::setup(rt.alloc(), &mut rng), Ok(()));
-    assert_eq!(rt; rng.next_u64(), twin.next_u64());
-    assert_eq!(rt; <[u8; 32]>::rand(&mut rng), <[u8; 32]>::rand(&mut twin));
+    assert!(rt; draws_nothing::<Commitment, SmallRng>(rt.alloc(), &mut rng, &mut twin));
 }

@@ -1,7 +1,7 @@
 //! Compressed hashes by worked examples.
 
-use crate::pedersen_hash::parameters;
-use crate::samples::{Call, Eight, Numeral, Two, are_drawn, generators, value};
+use crate::hashes::{Asked, Row, RowOfTwo, are_digests, are_digests_of_two, compressed};
+use crate::samples::{EIGHT, Eight, Growth, Numeral, TWO, Two, are_drawn, number};
 use ark_base::error::Error;
 use ark_base::serialize::DigestItem;
 use ark_crh::{CRHScheme, TwoToOneCRHScheme};
@@ -15,116 +15,126 @@ use rand::rngs::SmallRng;
 use rand::{Rng, SeedableRng};
 use std::alloc::Global;
 
-// What a call answers, as a number.
-fn answer<C: CurveGroup + TECoordinates, W: Window>(
-    alloc: Global,
-    parameters: &Parameters<C>,
-    call: Call,
-) -> Result<u64, Error>
-where
-    C::BaseField: DigestItem,
-{
-    match call {
-        Call::Bytes(input) => {
-            let input = Vec::from_slice(alloc, input)?;
-            value(PedersenCRHCompressor::<C, TECompressor, W>::evaluate(alloc, parameters, &input))
-        }
-        Call::Halves(left, right) => {
-            let left = Vec::from_slice(alloc, left)?;
-            let right = Vec::from_slice(alloc, right)?;
-            value(PedersenTwoToOneCRHCompressor::<C, TECompressor, W>::evaluate(
-                alloc, parameters, &left, &right,
-            ))
-        }
-        Call::Digests(left, right) => {
-            let left = C::BaseField::from_u64(left);
-            let right = C::BaseField::from_u64(right);
-            value(PedersenTwoToOneCRHCompressor::<C, TECompressor, W>::compress(
-                alloc, parameters, &left, &right,
-            ))
-        }
-    }
-}
+const ROWS: [Row; 3] = [
+    (&[0x25], Ok(211)),
+    (&[], Ok(0)),
+    (&[0x25, 0], Err(Error::IncorrectInputLength(2))),
+];
 
-// The same over as many windows as there are lists of generators, two or eight.
-fn answer_of<C: CurveGroup + TECoordinates + Numeral>(
-    alloc: Global,
-    windows: u8,
-    call: Call,
-) -> Result<u64, Error>
-where
-    C::BaseField: DigestItem,
-{
-    let parameters = parameters::<C>(alloc, generators(windows))?;
-    match windows {
-        2 => answer::<C, Two>(alloc, &parameters, call),
-        _ => answer::<C, Eight>(alloc, &parameters, call),
-    }
-}
+// The bytes of the digests 211 and 11.
+const ROWS_OF_TWO: [RowOfTwo; 1] = [(&[211, 0], &[11, 0], Ok(11))];
 
 // The image of an element.
 fn image_of<C: CurveGroup + TECoordinates + Numeral>(
     alloc: Global,
-    number: u64,
+    element: u64,
 ) -> Result<u64, Error>
 where
-    C::BaseField: DigestItem,
+    C::BaseField: DigestItem + Numeral,
 {
-    value(<TECompressor as InjectiveMap<C>>::injective_map(alloc, &C::of(number)))
+    number(<TECompressor as InjectiveMap<C>>::injective_map(alloc, &C::of(element)))
 }
 
-// Windows, a call, and what it answers.
-const ANSWERS: [(u8, Call<'static>, Result<u64, Error>); 5] = [
-    (2, Call::Bytes(&[0x25]), Ok(211)),
-    (2, Call::Bytes(&[]), Ok(0)),
-    (
-        2,
-        Call::Bytes(&[0x25, 0]),
-        Err(Error::IncorrectInputLength(2)),
-    ),
-    // Digests are hashed by their bytes.
-    (8, Call::Digests(211, 11), Ok(11)),
-    (8, Call::Halves(&[211, 0], &[11, 0]), Ok(11)),
-];
+type Hash<C, W> = PedersenCRHCompressor<C, TECompressor, W>;
 
-#[test]
-fn the_first_coordinate_is_the_digest(rt: HostRuntime) {
-    let alloc = rt.alloc();
-    assert_eq!(rt; image_of::<Small<M13>>(alloc, 9), Ok(211));
-    for (windows, call, answer) in &ANSWERS {
-        assert_eq!(rt; answer_of::<Small<M13>>(alloc, *windows, *call), *answer);
+type HashOfTwo<C, W> = PedersenTwoToOneCRHCompressor<C, TECompressor, W>;
+
+impl<C: CurveGroup + TECoordinates + Numeral, W: Window> Asked for Hash<C, W>
+where
+    C::BaseField: DigestItem + Numeral,
+{
+    type Parameters = Parameters<C>;
+
+    fn digest(alloc: Global, parameters: &Parameters<C>, input: &Vec<u8>) -> Result<u64, Error> {
+        number(<Hash<C, W> as CRHScheme>::evaluate(alloc, parameters, input))
+    }
+
+    fn digest_of_two(
+        alloc: Global,
+        parameters: &Parameters<C>,
+        left: &Vec<u8>,
+        right: &Vec<u8>,
+    ) -> Result<u64, Error> {
+        number(HashOfTwo::<C, W>::evaluate(alloc, parameters, left, right))
+    }
+
+    fn digest_of_digests(
+        alloc: Global,
+        parameters: &Parameters<C>,
+        left: u64,
+        right: u64,
+    ) -> Result<u64, Error> {
+        let left = C::BaseField::from_u64(left);
+        let right = C::BaseField::from_u64(right);
+        number(HashOfTwo::<C, W>::compress(alloc, parameters, &left, &right))
     }
 }
 
-// Whether both setups double what is drawn, and nothing more is drawn.
+// Whether the hash over two windows and that of two inputs over eight give the first coordinates.
+fn are_coordinates<C: CurveGroup + TECoordinates + Numeral>(alloc: Global) -> bool
+where
+    C::BaseField: DigestItem + Numeral,
+{
+    are_digests::<Hash<C, Two>>(alloc, &TWO, &ROWS)
+        && are_digests_of_two::<Hash<C, Eight>>(alloc, &EIGHT, &ROWS_OF_TWO)
+        && compressed::<Hash<C, Eight>>(alloc, &EIGHT, 211, 11) == Ok(11)
+}
+
+#[test]
+fn the_first_coordinate_is_the_digest(rt: HostRuntime) {
+    assert!(rt;
+        image_of::<Small<M13>>(rt.alloc(), 9) == Ok(211)
+            && are_coordinates::<Small<M13>>(rt.alloc())
+    );
+}
+
+// Whether the setup doubles what a twin draws.
+fn is_drawn<C: CurveGroup + TECoordinates, W: Window, R: Rng>(
+    alloc: Global,
+    rng: &mut R,
+    twin: &mut R,
+) -> bool
+where
+    C::BaseField: DigestItem,
+{
+    match <Hash<C, W> as CRHScheme>::setup(alloc, rng) {
+        Ok(parameters) => are_drawn::<C, W, R>(Growth::Doubled, &parameters.generators, twin),
+        Err(_) => false,
+    }
+}
+
+// The same of the hash of two inputs.
+fn is_drawn_for_two<C: CurveGroup + TECoordinates, W: Window, R: Rng>(
+    alloc: Global,
+    rng: &mut R,
+    twin: &mut R,
+) -> bool
+where
+    C::BaseField: DigestItem,
+{
+    match <HashOfTwo<C, W> as TwoToOneCRHScheme>::setup(alloc, rng) {
+        Ok(parameters) => are_drawn::<C, W, R>(Growth::Doubled, &parameters.generators, twin),
+        Err(_) => false,
+    }
+}
+
+// Whether both do, and nothing more is drawn.
 fn all_is_drawn<C: CurveGroup + TECoordinates, R: Rng>(
     alloc: Global,
     rng: &mut R,
     twin: &mut R,
-) -> Result<bool, Error>
+) -> bool
 where
     C::BaseField: DigestItem,
 {
-    let parameters = <PedersenCRHCompressor<C, TECompressor, Two> as CRHScheme>::setup(alloc, rng)?;
-    let drawn = are_drawn::<C, Two, R>(&parameters.generators, twin);
-    let parameters = <PedersenTwoToOneCRHCompressor<
-        C,
-        TECompressor,
-        Eight,
-    > as TwoToOneCRHScheme>::setup(alloc, rng)?;
-    Ok(
-        drawn
-            && are_drawn::<C, Eight, R>(&parameters.generators, twin)
-            && rng.next_u64() == twin.next_u64(),
-    )
+    is_drawn::<C, Two, R>(alloc, rng, twin)
+        && is_drawn_for_two::<C, Eight, R>(alloc, rng, twin)
+        && rng.next_u64() == twin.next_u64()
 }
 
 #[test]
 fn setup_doubles_what_is_drawn(rt: HostRuntime) {
     let mut rng = SmallRng::seed_from_u64(3);
     let mut twin = SmallRng::seed_from_u64(3);
-    assert_eq!(rt;
-        all_is_drawn::<Small<M13>, SmallRng>(rt.alloc(), &mut rng, &mut twin),
-        Ok(true)
-    );
+    assert!(rt; all_is_drawn::<Small<M13>, SmallRng>(rt.alloc(), &mut rng, &mut twin));
 }

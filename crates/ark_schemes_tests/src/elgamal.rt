@@ -1,31 +1,15 @@
 //! ElGamal encryption by a worked example, and with keys that are drawn. The functions are generic over the group, of which a test
 //! names one: so little is to be proved of them.
 
+use crate::samples::Numeral;
 use ark_base::error::Error;
 use ark_groups::ec::{CurveGroup, Residues};
-use ark_groups::ff::{Fp, M13, M61, Modulus, PrimeField, UniformRand};
+use ark_groups::ff::{M13, M61, PrimeField, UniformRand};
 use ark_signatures::encryption::AsymmetricEncryptionScheme;
 use ark_signatures::encryption::elgamal::{ElGamal, Parameters, Randomness, SecretKey};
 use rand::{Rng, SeedableRng};
 use rand_chacha::ChaCha20Rng;
 use std::alloc::Global;
-
-/// An element that a test makes of a number and shows as one.
-pub trait Numeral: Copy {
-    fn of(number: u64) -> Self;
-
-    fn number(self) -> u64;
-}
-
-impl<M: Modulus> Numeral for Residues<M> {
-    fn of(number: u64) -> Residues<M> {
-        Residues::new(Fp::from_u64(number))
-    }
-
-    fn number(self) -> u64 {
-        self.0.value()
-    }
-}
 
 // The ciphertext for the generator 2, as two numbers.
 fn encrypted<C: CurveGroup + Numeral>(
@@ -88,43 +72,52 @@ where
     S::decrypt(alloc, &pp, &sk, &ciphertext)
 }
 
-fn is_read_back<C: CurveGroup, R: Rng>(alloc: Global, rng: &mut R) -> Result<bool, Error> {
+fn is_read_back<C: CurveGroup, R: Rng>(alloc: Global, rng: &mut R) -> bool {
     let message = C::rand(rng);
-    Ok(reads_back::<ElGamal<C>, R>(alloc, &message, rng)? == message)
+    reads_back::<ElGamal<C>, R>(alloc, &message, rng) == Ok(message)
 }
 
 #[test]
 fn drawn_messages_are_read_back(rt: HostRuntime) {
     for seed in 0..20u64 {
         let mut rng = ChaCha20Rng::seed_from_u64(seed);
-        assert_eq!(rt;
-            is_read_back::<Residues<M61>, ChaCha20Rng>(rt.alloc(), &mut rng),
-            Ok(true)
-        );
+        assert!(rt; is_read_back::<Residues<M61>, ChaCha20Rng>(rt.alloc(), &mut rng));
     }
 }
 
-// Whether generator, secret key and randomness are what the generator's twin gives in turn.
-fn is_drawn<C: CurveGroup, R: Rng>(
+// Whether a secret key and randomness are what the generator's twin gives in turn.
+fn key_is_drawn<C: CurveGroup, R: Rng>(
     alloc: Global,
+    pp: &Parameters<C>,
     rng: &mut R,
     twin: &mut R,
-) -> Result<bool, Error> {
-    let pp = ElGamal::<C>::setup(alloc, rng)?;
-    let (pk, sk) = ElGamal::<C>::keygen(alloc, &pp, rng)?;
-    let r = Randomness::<C>::rand(rng);
-    let generator = C::rand(twin);
+) -> bool {
     let x = C::ScalarField::rand(twin);
-    let same = pp.generator == generator && sk.0 == x && pk == generator.mul(x);
-    Ok(same && r.0 == C::ScalarField::rand(twin) && rng.next_u64() == twin.next_u64())
+    match ElGamal::<C>::keygen(alloc, pp, rng) {
+        Ok(keys) => {
+            keys.1.0 == x
+                && keys.0 == pp.generator.mul(x)
+                && Randomness::<C>::rand(rng).0 == C::ScalarField::rand(twin)
+        }
+        Err(_) => false,
+    }
+}
+
+// Whether the generator is, and then these are, and nothing more is drawn.
+fn is_drawn<C: CurveGroup, R: Rng>(alloc: Global, rng: &mut R, twin: &mut R) -> bool {
+    match ElGamal::<C>::setup(alloc, rng) {
+        Ok(pp) => {
+            pp.generator == C::rand(twin)
+                && key_is_drawn::<C, R>(alloc, &pp, rng, twin)
+                && rng.next_u64() == twin.next_u64()
+        }
+        Err(_) => false,
+    }
 }
 
 #[test]
 fn keys_are_drawn(rt: HostRuntime) {
     let mut rng = ChaCha20Rng::seed_from_u64(21);
     let mut twin = ChaCha20Rng::seed_from_u64(21);
-    assert_eq!(rt;
-        is_drawn::<Residues<M61>, ChaCha20Rng>(rt.alloc(), &mut rng, &mut twin),
-        Ok(true)
-    );
+    assert!(rt; is_drawn::<Residues<M61>, ChaCha20Rng>(rt.alloc(), &mut rng, &mut twin));
 }

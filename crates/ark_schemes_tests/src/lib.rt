@@ -3,6 +3,8 @@
 #![tactic(auto)]
 
 #[cfg(test)]
+mod asked;
+#[cfg(test)]
 mod blake2s;
 #[cfg(test)]
 mod blake2s_commitment;
@@ -13,7 +15,11 @@ mod compressed_hash;
 #[cfg(test)]
 mod elgamal;
 #[cfg(test)]
+mod hashes;
+#[cfg(test)]
 mod injective_map;
+#[cfg(test)]
+mod parameters;
 #[cfg(test)]
 mod pedersen;
 #[cfg(test)]

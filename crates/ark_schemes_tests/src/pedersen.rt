@@ -1,10 +1,16 @@
 //! Pedersen commitments by worked examples.
 
-use crate::samples::{Numeral, THREE, TWO, Three, Two, are_drawn, is_doubled, list, lists, number};
-use ark_base::error::{Error, Refusal, SerializationError};
-use ark_base::serialize::{CanonicalDeserialize, Duplicate, canonical_bytes};
+use crate::asked::{
+    Alike, INVALID, TRUNCATED, fault, is_duplicated, is_list_of_two, is_printed, is_read,
+    is_spelled,
+};
+use crate::samples::{
+    Growth, Numeral, THREE, TWO, Three, Two, are_drawn, is_grown, list, lists, number,
+};
+use ark_base::error::{Error, Refusal};
 use ark_groups::ec::{CurveGroup, Residues};
 use ark_groups::ff::{M13, M61, PrimeField, UniformRand};
+use ark_pedersen::Window;
 use ark_schemes::commitment::CommitmentScheme;
 use ark_schemes::commitment::pedersen::{Commitment, Parameters, Randomness};
 use rand::rngs::SmallRng;
@@ -15,154 +21,184 @@ type G13 = Residues<M13>;
 
 type G61 = Residues<M61>;
 
-/// Parameters of so many doublings of the randomness element and of generators.
-pub fn commitment_parameters<C: CurveGroup + Numeral>(
+impl<C: CurveGroup> Alike for Parameters<C> {
+    fn is_like(&self, other: &Parameters<C>) -> bool {
+        self.randomness_generator == other.randomness_generator
+            && self.generators == other.generators
+    }
+}
+
+impl<C: CurveGroup> Alike for Randomness<C> {
+    fn is_like(&self, other: &Randomness<C>) -> bool {
+        *self == *other
+    }
+}
+
+// Parameters of so many doublings of the randomness element and of generators.
+fn parameters<C: CurveGroup + Numeral>(
     alloc: Global,
     doublings: usize,
     rows: &[&[u64]],
 ) -> Result<Parameters<C>, Error> {
-    let doubled = [5, 10, 7, 1, 2];
     let generators = lists(alloc, rows)?;
+    let doubled: [u64; 5] = [5, 10, 7, 1, 2];
     Ok(Parameters {
         randomness_generator: list(alloc, &doubled[..doublings.min(5)])?,
         generators,
     })
 }
 
-// The commitment over two windows.
-fn commitment<C: CurveGroup + Numeral>(
+/// The doublings of the randomness element, the generators, an input, the randomness, and the commitment.
+pub type Row = (
+    usize,
+    &'static [&'static [u64]],
+    &'static [u8],
+    u64,
+    Result<u64, Error>,
+);
+
+fn commitment<S, C>(
     alloc: Global,
     doublings: usize,
-    lists: u8,
+    rows: &[&[u64]],
     input: &[u8],
     randomness: u64,
-) -> Result<u64, Error> {
-    let rows: &[&[u64]] = if lists == 2 { &TWO } else { &THREE };
-    let parameters = commitment_parameters::<C>(alloc, doublings, rows)?;
-    let randomness = Randomness(C::ScalarField::from_u64(randomness));
-    number(Commitment::<C, Two>::commit(alloc, &parameters, input, &randomness))
+) -> Result<u64, Error>
+where
+    C: CurveGroup + Numeral,
+    S: CommitmentScheme<Parameters = Parameters<C>, Randomness = Randomness<C>>,
+    S::Output: Numeral,
+{
+    let parameters = parameters::<C>(alloc, doublings, rows)?;
+    number(S::commit(alloc, &parameters, input, &randomness_of(randomness)))
+}
+
+/// Whether a scheme gives these commitments.
+pub fn are_commitments<S, C>(alloc: Global, rows: &[Row]) -> bool
+where
+    C: CurveGroup + Numeral,
+    S: CommitmentScheme<Parameters = Parameters<C>, Randomness = Randomness<C>>,
+    S::Output: Numeral,
+{
+    for (doublings, generators, input, randomness, wanted) in rows {
+        if commitment::<S, C>(alloc, *doublings, generators, input, *randomness) != *wanted {
+            return false;
+        }
+    }
+    true
 }
 
 const LONG: Result<u64, Error> = Err(Error::IncorrectInputLength(2));
 
 const SHAPE: Result<u64, Error> = Err(Error::GenericError(Refusal::ParameterShape));
 
-// Doublings, lists of generators, an input, the randomness, and the commitment. The third, fourth and fifth show that commitments
-// are summed.
-const COMMITMENTS: [(usize, u8, &[u8], u64, Result<u64, Error>); 11] = [
-    (4, 2, &[0x25], 3, Ok(11)),
-    (4, 2, &[0x25], 0, Ok(9)),
-    (4, 2, &[0x21], 3, Ok(7)),
-    (4, 2, &[0x04], 7, Ok(0)),
-    (4, 2, &[0x25], 10, Ok(7)),
-    (4, 2, &[], 3, Ok(2)),
-    (4, 2, &[0x25, 0x25], 3, LONG),
+// Over two windows. The third, fourth and fifth show that commitments are summed.
+const COMMITMENTS: [Row; 11] = [
+    (4, &TWO, &[0x25], 3, Ok(11)),
+    (4, &TWO, &[0x25], 0, Ok(9)),
+    (4, &TWO, &[0x21], 3, Ok(7)),
+    (4, &TWO, &[0x04], 7, Ok(0)),
+    (4, &TWO, &[0x25], 10, Ok(7)),
+    (4, &TWO, &[], 3, Ok(2)),
+    (4, &TWO, &[0x25, 0x25], 3, LONG),
     // Parameters of another shape.
-    (3, 2, &[0x25], 3, SHAPE),
-    (5, 2, &[0x25], 3, SHAPE),
-    (3, 2, &[0x25, 0x25], 3, LONG),
-    (4, 3, &[0x25], 3, SHAPE),
+    (3, &TWO, &[0x25], 3, SHAPE),
+    (5, &TWO, &[0x25], 3, SHAPE),
+    (3, &TWO, &[0x25, 0x25], 3, LONG),
+    (4, &THREE, &[0x25], 3, SHAPE),
 ];
+
+fn are_sums<C: CurveGroup + Numeral>(alloc: Global) -> bool {
+    are_commitments::<Commitment<C, Two>, C>(alloc, &COMMITMENTS)
+}
 
 #[test]
 fn randomness_is_added_to_the_hash(rt: HostRuntime) {
-    for (doublings, lists, input, randomness, answer) in &COMMITMENTS {
-        assert_eq!(rt;
-            commitment::<G13>(rt.alloc(), *doublings, *lists, input, *randomness),
-            *answer
-        );
-    }
+    assert!(rt; are_sums::<G13>(rt.alloc()));
 }
 
-// Whether `setup` doubles what a twin draws and draws nothing more, and what it makes is duplicated.
-fn setup_is_drawn<C: CurveGroup, R: Rng>(
+// Whether parameters are doublings of what a twin draws, and are duplicated.
+fn are_grown<C: CurveGroup, W: Window, R: Rng>(
+    alloc: Global,
+    parameters: &Parameters<C>,
+    twin: &mut R,
+    bits: usize,
+) -> bool {
+    let element = C::rand(twin);
+    is_grown(
+        Growth::Doubled,
+        &parameters.randomness_generator,
+        element,
+        bits,
+    ) && are_drawn::<C, W, R>(Growth::Doubled, &parameters.generators, twin)
+        && is_duplicated(alloc, parameters)
+}
+
+// Whether `setup` makes such parameters, and draws nothing more.
+fn setup_is_drawn<C: CurveGroup, W: Window, R: Rng>(
     alloc: Global,
     rng: &mut R,
     twin: &mut R,
     bits: usize,
-) -> Result<bool, Error> {
-    let parameters = Commitment::<C, Three>::setup(alloc, rng)?;
-    let again = parameters.duplicate(alloc)?;
-    let element = C::rand(twin);
-    Ok(
-        is_doubled(&parameters.randomness_generator, element, bits)
-            && are_drawn::<C, Three, R>(&parameters.generators, twin)
-            && again.randomness_generator == parameters.randomness_generator
-            && again.generators == parameters.generators
-            && rng.next_u64() == twin.next_u64(),
-    )
+) -> bool {
+    match Commitment::<C, W>::setup(alloc, rng) {
+        Ok(parameters) => {
+            are_grown::<C, W, R>(alloc, &parameters, twin, bits)
+                && rng.next_u64() == twin.next_u64()
+        }
+        Err(_) => false,
+    }
 }
 
 #[test]
 fn setup_doubles_what_is_drawn(rt: HostRuntime) {
     let mut rng = SmallRng::seed_from_u64(7);
     let mut twin = SmallRng::seed_from_u64(7);
-    assert_eq!(rt;
-        setup_is_drawn::<G61, SmallRng>(rt.alloc(), &mut rng, &mut twin, 61),
-        Ok(true)
-    );
+    assert!(rt; setup_is_drawn::<G61, Three, SmallRng>(rt.alloc(), &mut rng, &mut twin, 61));
 }
 
 fn randomness_of<C: CurveGroup>(number: u64) -> Randomness<C> {
     Randomness(C::ScalarField::from_u64(number))
 }
 
-// Whether the randomness of a number is printed so, spelled by these bytes and cloned.
-fn is_shown<C: CurveGroup>(
-    alloc: Global,
-    number: u64,
-    text: &str,
-    bytes: &[u8],
-) -> Result<bool, Error> {
-    let randomness = randomness_of::<C>(number);
-    Ok(
-        format!(in alloc; "{randomness:?}")?.as_str() == text
-            && canonical_bytes(alloc, &randomness)?.as_slice() == bytes
-            && randomness.clone()? == randomness,
-    )
+fn is_cloned<C: CurveGroup>(randomness: &Randomness<C>) -> bool {
+    match randomness.clone() {
+        Ok(copy) => copy == *randomness,
+        Err(_) => false,
+    }
 }
 
-// Whether the randomness of 0, and not that of 3, is the default.
-fn zero_is_default<C: CurveGroup>() -> bool {
-    Randomness::<C>::default() == randomness_of::<C>(0)
-        && Randomness::<C>::default() != randomness_of::<C>(3)
+// Whether the randomness of 3 is printed as its number, spelled by one byte, read from it and cloned, and is not the default.
+fn three_is_shown<C: CurveGroup>(alloc: Global) -> bool {
+    let three = randomness_of::<C>(3);
+    is_printed(alloc, &three, "Randomness(3)")
+        && is_spelled(alloc, &three, &[3])
+        && is_read(alloc, &[3], &three)
+        && three.0.value() == 3
+        && is_cloned(&three)
+        && Randomness::<C>::default() != three
 }
 
-// The randomness that bytes spell, as its scalar, and how many bytes that took.
-fn read<C: CurveGroup>(alloc: Global, bytes: &[u8]) -> Result<(u64, usize), Error> {
-    let (randomness, used) = Randomness::<C>::deserialize(alloc, bytes)?;
-    Ok((randomness.0.value(), used))
+// Whether bytes are refused, below the modulus 13, and a list of two ends with the randomness of 12.
+fn is_read_below_thirteen<C: CurveGroup>(alloc: Global) -> bool {
+    fault::<Randomness<C>>(alloc, &[13]) == INVALID
+        && fault::<Randomness<C>>(alloc, &[]) == TRUNCATED
+        && is_list_of_two(
+            alloc,
+            &[2, 0, 0, 0, 0, 0, 0, 0, 3, 12],
+            &randomness_of::<C>(12),
+        )
 }
 
-// Whether bytes are read as a list of two, and written again.
-fn is_list<C: CurveGroup>(alloc: Global, bytes: &[u8]) -> Result<bool, Error> {
-    let list = Vec::<Randomness<C>>::deserialize(alloc, bytes)?.0;
-    Ok(list.len() == 2 && canonical_bytes(alloc, &list)?.as_slice() == bytes)
-}
-
-// Whether each of these bytes is read as it should be, below the modulus 13.
-fn is_read<C: CurveGroup>(alloc: Global) -> Result<bool, Error> {
-    let invalid = Error::SerializationError(SerializationError::InvalidData);
-    let cut = Error::SerializationError(SerializationError::Truncated);
-    Ok(
-        read::<C>(alloc, &[3]) == Ok((3, 1))
-            && read::<C>(alloc, &[13]) == Err(invalid)
-            && read::<C>(alloc, &[]) == Err(cut)
-            && is_list::<C>(alloc, &[2, 0, 0, 0, 0, 0, 0, 0, 3, 12])?,
-    )
-}
-
-fn is_its_scalar<C: CurveGroup>(alloc: Global) -> Result<bool, Error> {
-    Ok(
-        is_shown::<C>(alloc, 3, "Randomness(3)", &[3])?
-            && zero_is_default::<C>()
-            && is_read::<C>(alloc)?,
-    )
+fn is_its_scalar<C: CurveGroup>(alloc: Global) -> bool {
+    three_is_shown::<C>(alloc)
+        && is_read_below_thirteen::<C>(alloc)
+        && Randomness::<C>::default() == randomness_of::<C>(0)
 }
 
 #[test]
 fn randomness_is_its_scalar(rt: HostRuntime) {
-    assert_eq!(rt; is_its_scalar::<G13>(rt.alloc()), Ok(true));
+    assert!(rt; is_its_scalar::<G13>(rt.alloc()));
 }
 
 // Whether randomness is a scalar that is drawn, and nothing more is.

@@ -1,11 +1,13 @@
 //! Pedersen hashes by worked examples. The functions are generic over the group, of which a test names one: so little is to be
 //! proved of them.
 
+use crate::hashes::{Asked, Row, RowOfTwo, are_digests, are_digests_of_two, compressed};
+use crate::parameters::{are_printed, have_bytes};
 use crate::samples::{
-    Call, Four, Numeral, TWO, Three, Two, UNEVEN, are_drawn, generators, is_doubled, lists, number,
+    FOUR, Four, Growth, Numeral, TWO, Three, Two, UNEVEN, are_drawn, is_grown, number,
 };
-use ark_base::error::{Error, Refusal, SerializationError};
-use ark_base::serialize::{CanonicalDeserialize, DigestItem, Duplicate, canonical_bytes};
+use ark_base::error::{Error, Refusal};
+use ark_base::serialize::DigestItem;
 use ark_crh::{CRHScheme, TwoToOneCRHScheme};
 use ark_groups::ec::{CurveGroup, Residues};
 use ark_groups::ff::{M13, M61};
@@ -16,95 +18,119 @@ use std::alloc::Global;
 
 type G13 = Residues<M13>;
 
-/// The parameters of generators.
-pub fn parameters<C: CurveGroup + Numeral>(
-    alloc: Global,
-    rows: &[&[u64]],
-) -> Result<Parameters<C>, Error> {
-    Ok(Parameters {
-        generators: lists(alloc, rows)?,
-    })
-}
-
-// What a call answers, as a number.
-fn answer<C: CurveGroup + DigestItem + Numeral, W: Window>(
-    alloc: Global,
-    parameters: &Parameters<C>,
-    call: Call,
-) -> Result<u64, Error> {
-    match call {
-        Call::Bytes(input) => {
-            let input = Vec::from_slice(alloc, input)?;
-            number(CRH::<C, W>::evaluate(alloc, parameters, &input))
-        }
-        Call::Halves(left, right) => {
-            let left = Vec::from_slice(alloc, left)?;
-            let right = Vec::from_slice(alloc, right)?;
-            number(TwoToOneCRH::<C, W>::evaluate(alloc, parameters, &left, &right))
-        }
-        Call::Digests(left, right) => {
-            let (left, right) = (C::of(left), C::of(right));
-            number(TwoToOneCRH::<C, W>::compress(alloc, parameters, &left, &right))
-        }
-    }
-}
-
-// The same over two, three or four windows.
-fn answer_of<C: CurveGroup + DigestItem + Numeral>(
-    alloc: Global,
-    windows: u8,
-    lists: u8,
-    call: Call,
-) -> Result<u64, Error> {
-    let parameters = parameters::<C>(alloc, generators(lists))?;
-    match windows {
-        2 => answer::<C, Two>(alloc, &parameters, call),
-        3 => answer::<C, Three>(alloc, &parameters, call),
-        _ => answer::<C, Four>(alloc, &parameters, call),
-    }
-}
-
 const SHAPE: Result<u64, Error> = Err(Error::GenericError(Refusal::ParameterShape));
 
 const LONG: Result<u64, Error> = Err(Error::IncorrectInputLength(2));
 
-// Windows, the count of lists of generators, a call, and what it answers.
-const ANSWERS: [(u8, u8, Call<'static>, Result<u64, Error>); 18] = [
-    // The leaves of a tree of four, by hand, and a full byte, each with the sum of its generators.
-    (2, 2, Call::Bytes(&[0x25]), Ok(9)),
-    (2, 2, Call::Bytes(&[0x01]), Ok(1)),
-    (2, 2, Call::Bytes(&[]), Ok(0)),
-    (2, 2, Call::Bytes(&[0x40]), Ok(8)),
-    (2, 2, Call::Bytes(&[0xff]), Ok(6)),
-    (2, 2, Call::Bytes(&[0x25, 0x25]), LONG),
-    // Generators of another shape.
-    (3, 2, Call::Bytes(&[0x25]), SHAPE),
-    (3, 3, Call::Bytes(&[0x25]), SHAPE),
-    (3, 2, Call::Bytes(&[0x25, 0x25]), LONG),
-    (2, 3, Call::Bytes(&[0x25]), SHAPE),
-    (3, 4, Call::Halves(&[], &[]), SHAPE),
-    // Two equal halves, and the three pairs above the leaves.
-    (4, 4, Call::Halves(&[5], &[5]), Ok(10)),
-    (4, 4, Call::Halves(&[9], &[1]), Ok(10)),
-    (4, 4, Call::Halves(&[0], &[8]), Ok(8)),
-    (4, 4, Call::Halves(&[10], &[8]), Ok(5)),
-    (
-        4,
-        4,
-        Call::Halves(&[], &[5]),
-        Err(Error::IncorrectInputLength(1)),
-    ),
-    (4, 4, Call::Halves(&[5, 5], &[5, 5]), LONG),
-    (4, 4, Call::Digests(5, 9), Ok(1)),
+// The leaves of a tree of four, by hand, and a full byte, each with the sum of its generators.
+const ROWS: [Row; 6] = [
+    (&[0x25], Ok(9)),
+    (&[0x01], Ok(1)),
+    (&[], Ok(0)),
+    (&[0x40], Ok(8)),
+    (&[0xff], Ok(6)),
+    (&[0x25, 0x25], LONG),
 ];
+
+// Under generators of another shape.
+const REFUSED: [Row; 2] = [(&[0x25], SHAPE), (&[0x25, 0x25], LONG)];
+
+// Two equal halves, and the three pairs above the leaves.
+const ROWS_OF_TWO: [RowOfTwo; 6] = [
+    (&[5], &[5], Ok(10)),
+    (&[9], &[1], Ok(10)),
+    (&[0], &[8], Ok(8)),
+    (&[10], &[8], Ok(5)),
+    (&[], &[5], Err(Error::IncorrectInputLength(1))),
+    (&[5, 5], &[5, 5], LONG),
+];
+
+impl<C: CurveGroup + DigestItem + Numeral, W: Window> Asked for CRH<C, W> {
+    type Parameters = Parameters<C>;
+
+    fn digest(alloc: Global, parameters: &Parameters<C>, input: &Vec<u8>) -> Result<u64, Error> {
+        number(CRH::<C, W>::evaluate(alloc, parameters, input))
+    }
+
+    fn digest_of_two(
+        alloc: Global,
+        parameters: &Parameters<C>,
+        left: &Vec<u8>,
+        right: &Vec<u8>,
+    ) -> Result<u64, Error> {
+        number(TwoToOneCRH::<C, W>::evaluate(alloc, parameters, left, right))
+    }
+
+    fn digest_of_digests(
+        alloc: Global,
+        parameters: &Parameters<C>,
+        left: u64,
+        right: u64,
+    ) -> Result<u64, Error> {
+        number(TwoToOneCRH::<C, W>::compress(alloc, parameters, &C::of(left), &C::of(right)))
+    }
+}
+
+// Whether windows and generators give the rows: of one input two or three windows, of two inputs three or four.
+fn are_sums<C: CurveGroup + DigestItem + Numeral>(alloc: Global) -> bool {
+    are_digests::<CRH<C, Two>>(alloc, &TWO, &ROWS)
+        && are_digests::<CRH<C, Three>>(alloc, &TWO, &REFUSED)
+        && are_digests::<CRH<C, Three>>(alloc, &UNEVEN, &REFUSED[..1])
+        && are_digests::<CRH<C, Two>>(alloc, &UNEVEN, &REFUSED[..1])
+        && are_digests_of_two::<CRH<C, Three>>(alloc, &FOUR, &[(&[], &[], SHAPE)])
+        && are_digests_of_two::<CRH<C, Four>>(alloc, &FOUR, &ROWS_OF_TWO)
+        && compressed::<CRH<C, Four>>(alloc, &FOUR, 5, 9) == Ok(1)
+}
 
 #[test]
 fn generators_are_added_at_set_bits(rt: HostRuntime) {
-    for (windows, lists, call, answer) in &ANSWERS {
-        assert_eq!(rt;
-            answer_of::<G13>(rt.alloc(), *windows, *lists, *call),
-            *answer
-        );
+    assert!(rt; are_sums::<G13>(rt.alloc()));
+}
+
+// Whether the setup doubles what a twin draws.
+fn is_drawn<C: CurveGroup + DigestItem, W: Window, R: Rng>(
+    alloc: Global,
+    rng: &mut R,
+    twin: &mut R,
+) -> bool {
+    match <CRH<C, W> as CRHScheme>::setup(alloc, rng) {
+        Ok(parameters) => are_drawn::<C, W, R>(Growth::Doubled, &parameters.generators, twin),
+        Err(_) => false,
+    }
+}
+
+// The same of the hash of two inputs.
+fn is_drawn_for_two<C: CurveGroup + DigestItem, W: Window, R: Rng>(
+    alloc: Global,
+    rng: &mut R,
+    twin: &mut R,
+) -> bool {
+    match <TwoToOneCRH<C, W> as TwoToOneCRHScheme>::setup(alloc, rng) {
+        Ok(parameters) => are_drawn::<C, W, R>(Growth::Doubled, &parameters.generators, twin),
+        Err(_) => false,
+    }
+}
+
+fn lists_are_drawn<C: CurveGroup + DigestItem, W: Window, R: Rng>(
+    alloc: Global,
+    rng: &mut R,
+    twin: &mut R,
+) -> bool {
+    match TwoToOneCRH::<C, W>::create_generators(alloc, rng) {
+        Ok(lists) => are_drawn::<C, W, R>(Growth::Doubled, &lists, twin),
+        Err(_) => false,
+    }
+}
+
+fn list_is_drawn<C: CurveGroup + DigestItem, W: Window, R: Rng>(
+    alloc: Global,
+    count: usize,
+    rng: &mut R,
+    twin: &mut R,
+) -> bool {
+    match CRH::<C, W>::generator_powers(alloc, count, rng) {
+        Ok(powers) => is_grown(Growth::Doubled, &powers, C::rand(twin), count),
+        Err(_) => false,
     }
 }
 
@@ -113,32 +139,27 @@ fn all_is_drawn<C: CurveGroup + DigestItem, W: Window, R: Rng>(
     alloc: Global,
     rng: &mut R,
     twin: &mut R,
-) -> Result<bool, Error> {
-    let parameters = <CRH<C, W> as CRHScheme>::setup(alloc, rng)?;
-    let mut drawn = are_drawn::<C, W, R>(&parameters.generators, twin);
-    let parameters = <TwoToOneCRH<C, W> as TwoToOneCRHScheme>::setup(alloc, rng)?;
-    drawn = drawn && are_drawn::<C, W, R>(&parameters.generators, twin);
-    let lists = TwoToOneCRH::<C, W>::create_generators(alloc, rng)?;
-    drawn = drawn && are_drawn::<C, W, R>(&lists, twin);
-    for count in [0usize, 6] {
-        let powers = CRH::<C, W>::generator_powers(alloc, count, rng)?;
-        drawn = drawn && is_doubled(&powers, C::rand(twin), count);
-    }
-    Ok(drawn && rng.next_u64() == twin.next_u64())
+) -> bool {
+    is_drawn::<C, W, R>(alloc, rng, twin)
+        && is_drawn_for_two::<C, W, R>(alloc, rng, twin)
+        && lists_are_drawn::<C, W, R>(alloc, rng, twin)
+        && list_is_drawn::<C, W, R>(alloc, 0, rng, twin)
+        && list_is_drawn::<C, W, R>(alloc, 6, rng, twin)
+        && rng.next_u64() == twin.next_u64()
 }
 
 #[test]
 fn setup_doubles_what_is_drawn(rt: HostRuntime) {
     let mut rng = SmallRng::seed_from_u64(7);
     let mut twin = SmallRng::seed_from_u64(7);
-    assert_eq!(rt;
-        all_is_drawn::<Residues<M61>, Three, SmallRng>(rt.alloc(), &mut rng, &mut twin),
-        Ok(true)
-    );
+    assert!(rt; all_is_drawn::<Residues<M61>, Three, SmallRng>(rt.alloc(), &mut rng, &mut twin));
 }
 
-fn has_bits(alloc: Global, bytes: &[u8], bits: &[bool]) -> Result<bool, Error> {
-    Ok(bytes_to_bits(alloc, bytes)?.as_slice() == bits)
+fn has_bits(alloc: Global, bytes: &[u8], bits: &[bool]) -> bool {
+    match bytes_to_bits(alloc, bytes) {
+        Ok(read) => read.as_slice() == bits,
+        Err(_) => false,
+    }
 }
 
 #[test]
@@ -147,7 +168,7 @@ fn bits_are_read_the_lowest_first(rt: HostRuntime) {
         true, false, true, false, false, true, false, false, false, false, false, false, false,
         false, false, true,
     ];
-    assert_eq!(rt; has_bits(rt.alloc(), &[0x25, 0x80], &bits), Ok(true));
+    assert!(rt; has_bits(rt.alloc(), &[0x25, 0x80], &bits));
 }
 
 // The bytes of two windows.
@@ -155,72 +176,25 @@ const SPELLED: [u8; 32] = [
     2, 0, 0, 0, 0, 0, 0, 0, 4, 0, 0, 0, 0, 0, 0, 0, 1, 2, 4, 8, 4, 0, 0, 0, 0, 0, 0, 0, 2, 4, 8, 3,
 ];
 
-fn is_spelled<C: CurveGroup + Numeral>(alloc: Global, bytes: &[u8]) -> Result<bool, Error> {
-    Ok(canonical_bytes(alloc, &parameters::<C>(alloc, &TWO)?)?.as_slice() == bytes)
-}
-
-fn is_read<C: CurveGroup + Numeral>(alloc: Global, bytes: &[u8]) -> Result<bool, Error> {
-    let wanted = parameters::<C>(alloc, &TWO)?;
-    let (again, used) = Parameters::<C>::deserialize(alloc, bytes)?;
-    Ok(used == bytes.len() && again.generators == wanted.generators)
-}
-
-fn is_duplicated<C: CurveGroup + Numeral>(alloc: Global) -> Result<bool, Error> {
-    let parameters = parameters::<C>(alloc, &TWO)?;
-    Ok(parameters.duplicate(alloc)?.generators == parameters.generators)
-}
-
-fn list_of_two<C: CurveGroup + Numeral>(alloc: Global) -> Result<Vec<u8>, Error> {
-    let mut several = Vec::new(alloc);
-    several.push(parameters::<C>(alloc, &UNEVEN)?)?;
-    several.push(parameters::<C>(alloc, &TWO)?)?;
-    canonical_bytes(alloc, &several)
-}
-
-// Whether bytes are read as a list of parameters, and written again.
-fn is_list<C: CurveGroup>(alloc: Global, bytes: &[u8]) -> Result<bool, Error> {
-    let list = Vec::<Parameters<C>>::deserialize(alloc, bytes)?.0;
-    Ok(list.len() == 2 && canonical_bytes(alloc, &list)?.as_slice() == bytes)
-}
-
-const TRUNCATED: Error = Error::SerializationError(SerializationError::Truncated);
-
-fn has_bytes<C: CurveGroup + Numeral>(alloc: Global) -> Result<bool, Error> {
-    Ok(
-        is_spelled::<C>(alloc, &SPELLED)?
-            && is_read::<C>(alloc, &SPELLED)?
-            && is_duplicated::<C>(alloc)?
-            && is_list::<C>(alloc, &list_of_two::<C>(alloc)?)?
-            && is_read::<C>(alloc, &SPELLED[..31]) == Err(TRUNCATED),
-    )
+// Whether two windows have these bytes and, also behind the uneven ones, are read.
+fn have_spelling<C: CurveGroup + Numeral>(alloc: Global, bytes: &[u8]) -> bool {
+    have_bytes::<Parameters<C>>(alloc, bytes, &TWO, &UNEVEN, &TWO)
 }
 
 #[test]
 fn parameters_have_canonical_bytes(rt: HostRuntime) {
-    assert_eq!(rt; has_bytes::<G13>(rt.alloc()), Ok(true));
+    assert!(rt; have_spelling::<G13>(rt.alloc(), &SPELLED));
 }
 
-fn has_text<C: CurveGroup + Numeral>(
-    alloc: Global,
-    rows: &[&[u64]],
-    text: &str,
-) -> Result<bool, Error> {
-    let parameters = parameters::<C>(alloc, rows)?;
-    Ok(format!(in alloc; "{parameters:?}")?.as_str() == text)
+fn have_text<C: CurveGroup + Numeral>(alloc: Global, rows: &[&[u64]], text: &str) -> bool {
+    are_printed::<Parameters<C>>(alloc, rows, text)
 }
-
-// Generators and what is printed of them.
-const TEXTS: [(&[&[u64]], &str); 2] = [
-    (&[], "Pedersen Hash Parameters {\n}\n"),
-    (
-        &[&[1, 2]],
-        "Pedersen Hash Parameters {\n\t  Generator 0: [1, 2]\n}\n",
-    ),
-];
 
 #[test]
 fn parameters_are_printed(rt: HostRuntime) {
-    for (rows, text) in &TEXTS {
-        assert_eq!(rt; has_text::<G13>(rt.alloc(), rows, text), Ok(true));
-    }
+    let none = "Pedersen Hash Parameters {\n}\n";
+    let one = "Pedersen Hash Parameters {\n\t  Generator 0: [1, 2]\n}\n";
+    assert!(rt;
+        have_text::<G13>(rt.alloc(), &[], none) && have_text::<G13>(rt.alloc(), &[&[1, 2]], one)
+    );
 }

@@ -1,6 +1,6 @@
 //! Keys and signatures made random by bytes.
 
-use crate::elgamal::Numeral;
+use crate::samples::Numeral;
 use ark_base::error::Error;
 use ark_groups::digest::ByteDigest;
 use ark_groups::ec::{CurveGroup, Residues};

@@ -1,5 +1,6 @@
 //! Windows and generators for the tests.
 
+use crate::asked::Alike;
 use ark_base::error::Error;
 use ark_groups::ec::{Additive, CurveGroup};
 use ark_groups::ff::{Fp, Modulus, PrimeField};
@@ -100,28 +101,22 @@ impl<M: Modulus, K> Numeral for Additive<M, K> {
     }
 }
 
+impl<M: Modulus> Numeral for Fp<M> {
+    fn of(number: u64) -> Fp<M> {
+        Fp::from_u64(number)
+    }
+
+    fn number(self) -> u64 {
+        self.value()
+    }
+}
+
 /// The number of an answer.
 pub fn number<T: Numeral>(answer: Result<T, Error>) -> Result<u64, Error> {
     match answer {
         Ok(value) => Ok(value.number()),
         Err(refusal) => Err(refusal),
     }
-}
-
-/// The same of a field's element.
-pub fn value<F: PrimeField>(answer: Result<F, Error>) -> Result<u64, Error> {
-    match answer {
-        Ok(element) => Ok(element.value()),
-        Err(refusal) => Err(refusal),
-    }
-}
-
-/// What is hashed: bytes, the bytes of two inputs, or two digests.
-#[derive(Clone, Copy)]
-pub enum Call<'a> {
-    Bytes(&'a [u8]),
-    Halves(&'a [u8], &'a [u8]),
-    Digests(u64, u64),
 }
 
 /// The elements of these numbers.
@@ -160,32 +155,71 @@ pub const FOUR: [&[u64]; 4] = [&[1, 2, 4, 8]; 4];
 /// Generators of eight windows.
 pub const EIGHT: [&[u64]; 8] = [&[1, 2, 4, 8]; 8];
 
-/// The generators of so many lists; of three, the uneven ones.
-pub fn generators(lists: u8) -> &'static [&'static [u64]] {
-    match lists {
-        2 => &TWO,
-        3 => &UNEVEN,
-        4 => &FOUR,
-        _ => &EIGHT,
+/// Parameters that are lists of elements.
+pub trait Listed: Drop + Sized {
+    fn listed(alloc: Global, rows: &[&[u64]]) -> Result<Self, Error>;
+}
+
+impl<C: CurveGroup + Numeral> Listed for ark_pedersen::Parameters<C> {
+    fn listed(alloc: Global, rows: &[&[u64]]) -> Result<ark_pedersen::Parameters<C>, Error> {
+        let generators = lists(alloc, rows)?;
+        Ok(ark_pedersen::Parameters { generators })
     }
 }
 
-/// Whether the list is an element with its doublings, as many in all.
-pub fn is_doubled<C: CurveGroup>(list: &[C], element: C, count: usize) -> bool {
+impl<C: CurveGroup + Numeral> Listed for ark_bowe_hopwood::Parameters<C> {
+    fn listed(alloc: Global, rows: &[&[u64]]) -> Result<ark_bowe_hopwood::Parameters<C>, Error> {
+        let generators = lists(alloc, rows)?;
+        Ok(ark_bowe_hopwood::Parameters { generators })
+    }
+}
+
+impl<C: CurveGroup> Alike for ark_pedersen::Parameters<C> {
+    fn is_like(&self, other: &ark_pedersen::Parameters<C>) -> bool {
+        self.generators == other.generators
+    }
+}
+
+impl<C: CurveGroup> Alike for ark_bowe_hopwood::Parameters<C> {
+    fn is_like(&self, other: &ark_bowe_hopwood::Parameters<C>) -> bool {
+        self.generators == other.generators
+    }
+}
+
+/// How each element of a list comes of the one before it: doubled, or, as sixteen times it modulo thirteen, tripled.
+#[derive(Clone, Copy)]
+pub enum Growth {
+    Doubled,
+    Tripled,
+}
+
+fn next<C: CurveGroup>(growth: Growth, power: C) -> C {
+    match growth {
+        Growth::Doubled => power.double(),
+        Growth::Tripled => power.add(power).add(power),
+    }
+}
+
+/// Whether the list is an element with what grows of it, as many in all.
+pub fn is_grown<C: CurveGroup>(growth: Growth, list: &[C], element: C, count: usize) -> bool {
     let mut power = element;
     for item in list {
         if *item != power {
             return false;
         }
-        power = power.double();
+        power = next(growth, power);
     }
     list.len() == count
 }
 
-/// Whether there is a list for each window: an element of the twin's with its doublings.
-pub fn are_drawn<C: CurveGroup, W: Window, R: Rng>(lists: &[Vec<C>], twin: &mut R) -> bool {
+/// Whether there is such a list for each window, of an element of the twin's.
+pub fn are_drawn<C: CurveGroup, W: Window, R: Rng>(
+    growth: Growth,
+    lists: &[Vec<C>],
+    twin: &mut R,
+) -> bool {
     for list in lists {
-        if !is_doubled(list, C::rand(twin), W::WINDOW_SIZE) {
+        if !is_grown(growth, list, C::rand(twin), W::WINDOW_SIZE) {
             return false;
         }
     }

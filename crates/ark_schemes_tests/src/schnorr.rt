@@ -3,9 +3,10 @@
 ghost use Rattle.std.specs.Prelude.{Ok, replicate};
 ghost use Rattle.ark_schemes_tests.specs.Refusing.{refused};
 
-use crate::elgamal::Numeral;
+use crate::asked::{Alike, is_printed, is_read, is_spelled};
+use crate::samples::Numeral;
 use ark_base::error::{Error, Refusal};
-use ark_base::serialize::{CanonicalDeserialize, CanonicalSerialize, canonical_bytes};
+use ark_base::serialize::canonical_bytes;
 use ark_groups::digest::ByteDigest;
 use ark_groups::ec::{CurveGroup, Residues};
 use ark_groups::ff::{M61, PrimeField, UniformRand};
@@ -68,17 +69,31 @@ where
     S::verify(alloc, &pp, &pk, told, &signature)
 }
 
-// The same, and with key and signature made random by the canonical bytes of a drawn scalar.
+// The same, and with key and signature made random by bytes.
+fn are_valid<S, R: Rng>(alloc: Global, rng: &mut R, told: &[u8], bytes: &[u8], valid: bool) -> bool
+where
+    S: SignatureScheme,
+    S::Parameters: Drop,
+    S::PublicKey: Drop,
+    S::SecretKey: Drop,
+    S::Signature: Drop,
+{
+    is_valid::<S, R>(alloc, rng, TEXT, told, &[]) == Ok(valid)
+        && is_valid::<S, R>(alloc, rng, TEXT, told, bytes) == Ok(valid)
+}
+
+// The same with the canonical bytes of a drawn scalar.
 fn is_told<C: CurveGroup, D: ByteDigest, R: Rng>(
     alloc: Global,
     rng: &mut R,
     drawn: &mut R,
     told: &[u8],
-) -> Result<(bool, bool), Error> {
-    let plain = is_valid::<Schnorr<C, D>, R>(alloc, rng, TEXT, told, &[])?;
-    let bytes = canonical_bytes(alloc, &C::ScalarField::rand(drawn))?;
-    let randomized = is_valid::<Schnorr<C, D>, R>(alloc, rng, TEXT, told, &bytes)?;
-    Ok((plain, randomized))
+    valid: bool,
+) -> bool {
+    match canonical_bytes(alloc, &C::ScalarField::rand(drawn)) {
+        Ok(bytes) => are_valid::<Schnorr<C, D>, R>(alloc, rng, told, &bytes, valid),
+        Err(_) => false,
+    }
 }
 
 #[test]
@@ -86,9 +101,8 @@ fn what_is_signed_is_valid(rt: HostRuntime) {
     for (told, valid) in [(TEXT, true), (b"Bad message".as_slice(), false)] {
         let mut rng = ChaCha20Rng::seed_from_u64(22);
         let mut drawn = ChaCha20Rng::seed_from_u64(23);
-        assert_eq!(rt;
-            is_told::<G61, Blake2s256, ChaCha20Rng>(rt.alloc(), &mut rng, &mut drawn, told),
-            Ok((valid, valid))
+        assert!(rt;
+            is_told::<G61, Blake2s256, ChaCha20Rng>(rt.alloc(), &mut rng, &mut drawn, told, valid)
         );
     }
 }
@@ -100,32 +114,56 @@ fn parameters<C: CurveGroup + Numeral>() -> Parameters<C> {
     }
 }
 
-// Whether salt, generator and secret key are what the generator's twin gives in turn.
+// Whether the secret key is what the generator's twin gives.
+fn key_is_drawn<C: CurveGroup, D: ByteDigest, R: Rng>(
+    alloc: Global,
+    pp: &Parameters<C>,
+    rng: &mut R,
+    twin: &mut R,
+) -> bool {
+    let x = C::ScalarField::rand(twin);
+    match Schnorr::<C, D>::keygen(alloc, pp, rng) {
+        Ok(keys) => keys.1.0 == x && keys.0 == pp.generator.mul(x),
+        Err(_) => false,
+    }
+}
+
+// Whether salt, generator and then the secret key are, and nothing more is drawn.
 fn is_drawn<C: CurveGroup, D: ByteDigest, R: Rng>(
     alloc: Global,
     rng: &mut R,
     twin: &mut R,
-) -> Result<bool, Error> {
-    let pp = Schnorr::<C, D>::setup(alloc, rng)?;
-    let (pk, sk) = Schnorr::<C, D>::keygen(alloc, &pp, rng)?;
-    let salt = <[u8; 32]>::rand(twin);
-    let generator = C::rand(twin);
-    let x = C::ScalarField::rand(twin);
-    let same = pp.salt == salt && pp.generator == generator && sk.0 == x;
-    Ok(same && pk == generator.mul(x) && rng.next_u64() == twin.next_u64())
+) -> bool {
+    match Schnorr::<C, D>::setup(alloc, rng) {
+        Ok(pp) => {
+            pp.salt == <[u8; 32]>::rand(twin)
+                && pp.generator == C::rand(twin)
+                && key_is_drawn::<C, D, R>(alloc, &pp, rng, twin)
+                && rng.next_u64() == twin.next_u64()
+        }
+        Err(_) => false,
+    }
 }
 
-// Whether the response is k - x e, for the scalar k that the generator's twin gives.
-fn is_response<C: CurveGroup + Numeral, D: ByteDigest, R: Rng>(
+// Whether the response is k - x e, for the scalar k that the generator's twin gives, and nothing more is drawn.
+fn is_response<C: CurveGroup, D: ByteDigest, R: Rng>(
     alloc: Global,
-    x: u64,
+    pp: &Parameters<C>,
+    sk: &SecretKey<C>,
     rng: &mut R,
     twin: &mut R,
-) -> Result<bool, Error> {
-    let sk = SecretKey(C::ScalarField::from_u64(x));
-    let signature = Schnorr::<C, D>::sign(alloc, &parameters(), &sk, TEXT, rng)?;
-    let response = C::ScalarField::rand(twin).sub(sk.0.mul(signature.verifier_challenge));
-    Ok(signature.prover_response == response && rng.next_u64() == twin.next_u64())
+) -> bool {
+    match Schnorr::<C, D>::sign(alloc, pp, sk, TEXT, rng) {
+        Ok(signature) => {
+            let response = C::ScalarField::rand(twin).sub(sk.0.mul(signature.verifier_challenge));
+            signature.prover_response == response && rng.next_u64() == twin.next_u64()
+        }
+        Err(_) => false,
+    }
+}
+
+fn secret<C: CurveGroup>(x: u64) -> SecretKey<C> {
+    SecretKey(C::ScalarField::from_u64(x))
 }
 
 // Whether both hold, one after the other.
@@ -133,18 +171,16 @@ fn all_is_drawn<C: CurveGroup + Numeral, D: ByteDigest, R: Rng>(
     alloc: Global,
     rng: &mut R,
     twin: &mut R,
-) -> Result<bool, Error> {
-    Ok(is_drawn::<C, D, R>(alloc, rng, twin)? && is_response::<C, D, R>(alloc, 12345, rng, twin)?)
+) -> bool {
+    is_drawn::<C, D, R>(alloc, rng, twin)
+        && is_response::<C, D, R>(alloc, &parameters(), &secret(12345), rng, twin)
 }
 
 #[test]
 fn keys_and_nonces_are_drawn(rt: HostRuntime) {
     let mut rng = ChaCha20Rng::seed_from_u64(24);
     let mut twin = ChaCha20Rng::seed_from_u64(24);
-    assert_eq!(rt;
-        all_is_drawn::<G61, Blake2s256, ChaCha20Rng>(rt.alloc(), &mut rng, &mut twin),
-        Ok(true)
-    );
+    assert!(rt; all_is_drawn::<G61, Blake2s256, ChaCha20Rng>(rt.alloc(), &mut rng, &mut twin));
 }
 
 // Why a text is not signed under a digest, and whether this count of draws was taken.
@@ -154,8 +190,7 @@ fn refusal<C: CurveGroup + Numeral, D: ByteDigest, R: Rng>(
     rng: &mut R,
     twin: &mut R,
 ) -> (Option<Error>, bool) {
-    let sk = SecretKey(C::ScalarField::from_u64(5));
-    let refused = Schnorr::<C, D>::sign(alloc, &parameters(), &sk, TEXT, rng).err();
+    let refused = Schnorr::<C, D>::sign(alloc, &parameters(), &secret(5), TEXT, rng).err();
     for _ in 0..draws {
         C::ScalarField::rand(twin);
     }
@@ -213,45 +248,49 @@ fn a_refusal_of_the_digest_is_told(rt: HostRuntime) {
     );
 }
 
-fn secret<C: CurveGroup>(alloc: Global, bytes: &[u8]) -> Result<(u64, usize), Error> {
-    let (key, used) = SecretKey::<C>::deserialize(alloc, bytes)?;
-    Ok((key.0.value(), used))
+impl<C: CurveGroup> Alike for SecretKey<C> {
+    fn is_like(&self, other: &SecretKey<C>) -> bool {
+        self.0 == other.0
+    }
+}
+
+// Whether a secret key's copy is printed so.
+fn copy_is_printed<C: CurveGroup>(alloc: Global, key: &SecretKey<C>, text: &str) -> bool {
+    match key.clone() {
+        Ok(copy) => is_printed(alloc, &copy, text),
+        Err(_) => false,
+    }
 }
 
 // Whether a secret key is printed so, and written as these bytes and read from them.
-fn is_shown<C: CurveGroup>(
-    alloc: Global,
-    number: u64,
-    text: &str,
-    bytes: &[u8],
-) -> Result<bool, Error> {
-    let key = SecretKey::<C>(C::ScalarField::from_u64(number));
-    let mut written = Vec::new(alloc);
-    key.serialize(&mut written)?;
-    Ok(
-        written.as_slice() == bytes
-            && secret::<C>(alloc, bytes) == Ok((number, bytes.len()))
-            && format!(in alloc; "{:?}", key.clone()?)?.as_str() == text,
-    )
+fn is_shown<C: CurveGroup>(alloc: Global, key: &SecretKey<C>, text: &str, bytes: &[u8]) -> bool {
+    is_spelled(alloc, key, bytes) && is_read(alloc, bytes, key) && copy_is_printed(alloc, key, text)
 }
 
-// Whether the default key and signature are zeros, and cloned parameters have the salt.
-fn has_defaults<C: CurveGroup + Numeral>() -> Result<bool, Error> {
+// Whether the default key and signature are zeros.
+fn has_defaults<C: CurveGroup>() -> bool {
     let signature = Signature::<C>::default();
-    Ok(
-        signature.prover_response.value() == 0
-            && signature.verifier_challenge.value() == 0
-            && SecretKey::<C>::default().0.value() == 0
-            && parameters::<C>().clone()?.salt == [7; 32],
-    )
+    signature.prover_response.value() == 0
+        && signature.verifier_challenge.value() == 0
+        && SecretKey::<C>::default().0.value() == 0
 }
 
-fn are_shown<C: CurveGroup + Numeral>(alloc: Global) -> Result<bool, Error> {
+// Whether cloned parameters have the salt.
+fn salt_is_cloned<C: CurveGroup>(pp: &Parameters<C>) -> bool {
+    match pp.clone() {
+        Ok(copy) => copy.salt == [7; 32],
+        Err(_) => false,
+    }
+}
+
+fn are_shown<C: CurveGroup + Numeral>(alloc: Global) -> bool {
     let bytes = [1, 2, 0, 0, 0, 0, 0, 0];
-    Ok(is_shown::<C>(alloc, 513, "SecretKey(513)", &bytes)? && has_defaults::<C>()?)
+    is_shown::<C>(alloc, &secret(513), "SecretKey(513)", &bytes)
+        && has_defaults::<C>()
+        && salt_is_cloned::<C>(&parameters())
 }
 
 #[test]
 fn keys_and_signatures_are_shown(rt: HostRuntime) {
-    assert_eq!(rt; are_shown::<G61>(rt.alloc()), Ok(true));
+    assert!(rt; are_shown::<G61>(rt.alloc()));
 }

@@ -43,7 +43,21 @@ fn drawn_bytes<R: Rng>(alloc: Global, len: usize, rng: &mut R) -> Result<Vec<u8>
     Ok(bytes)
 }
 
-// Whether drawn bytes have the hash that the definition gives.
+// Whether bytes have the hash that the definition gives.
+fn have_digits<G: CurveGroup + TECoordinates, W: Window>(
+    alloc: Global,
+    parameters: &Parameters<G>,
+    input: &Vec<u8>,
+) -> bool
+where
+    G::BaseField: DigestItem,
+{
+    match plain::coordinate(alloc, &parameters.generators, input) {
+        Ok(defined) => CRH::<G, W>::evaluate(alloc, parameters, input) == Ok(defined),
+        Err(_) => false,
+    }
+}
+
 fn digits_agree<G: CurveGroup + TECoordinates, W: Window, R: Rng>(
     alloc: Global,
     len: usize,
@@ -54,8 +68,7 @@ where
 {
     let parameters = drawn_parameters::<G, W, R>(alloc, rng)?;
     let input = drawn_bytes(alloc, len, rng)?;
-    let defined = plain::coordinate(alloc, &parameters.generators, &input)?;
-    Ok(CRH::<G, W>::evaluate(alloc, &parameters, &input)? == defined)
+    Ok(have_digits::<G, W>(alloc, &parameters, &input))
 }
 
 fn first_elements<G: CurveGroup>(alloc: Global, lists: &[Vec<G>]) -> Result<Vec<G>, Error> {
@@ -68,7 +81,35 @@ fn first_elements<G: CurveGroup>(alloc: Global, lists: &[Vec<G>]) -> Result<Vec<
     Ok(elements)
 }
 
-// Whether they have that of the sum over the segments, which are to be of few chunks.
+// The sum over the segments, which are to be of few chunks.
+fn defined<G: CurveGroup + TECoordinates>(
+    alloc: Global,
+    size: usize,
+    lists: &[Vec<G>],
+    input: &[u8],
+) -> Result<G::BaseField, Error> {
+    if size > 15 {
+        return Err(Error::IncorrectInputLength(size));
+    }
+    let elements = first_elements(alloc, lists)?;
+    Ok(plain::coordinate_of_segments(alloc, size, &elements, input)?)
+}
+
+// Whether bytes have the hash that it gives.
+fn have_segments<G: CurveGroup + TECoordinates, W: Window>(
+    alloc: Global,
+    parameters: &Parameters<G>,
+    input: &Vec<u8>,
+) -> bool
+where
+    G::BaseField: DigestItem,
+{
+    match defined(alloc, W::WINDOW_SIZE, &parameters.generators, input) {
+        Ok(defined) => CRH::<G, W>::evaluate(alloc, parameters, input) == Ok(defined),
+        Err(_) => false,
+    }
+}
+
 fn segments_agree<G: CurveGroup + TECoordinates, W: Window, R: Rng>(
     alloc: Global,
     len: usize,
@@ -77,72 +118,49 @@ fn segments_agree<G: CurveGroup + TECoordinates, W: Window, R: Rng>(
 where
     G::BaseField: DigestItem,
 {
-    let size = W::WINDOW_SIZE;
-    if size > 15 {
-        return Ok(false);
-    }
     let generators = CRH::<G, W>::create_generators(alloc, rng)?;
-    let elements = first_elements(alloc, &generators)?;
+    let parameters = Parameters { generators };
     let input = drawn_bytes(alloc, len, rng)?;
-    let defined = plain::coordinate_of_segments(alloc, size, &elements, &input)?;
-    Ok(CRH::<G, W>::evaluate(alloc, &Parameters { generators }, &input)? == defined)
+    Ok(have_segments::<G, W>(alloc, &parameters, &input))
 }
 
-// Whether each of twenty inputs of each length that the windows take has the first hash.
-fn drawn_digits_agree<G: CurveGroup + TECoordinates, W: Window>(
-    alloc: Global,
-    seed: u64,
-) -> Result<bool, Error>
+// Whether each of twenty drawn inputs of each length that the windows take has the hash that a definition gives: that with the
+// scalars of segments, or that with digits.
+fn agree<G: CurveGroup + TECoordinates, W: Window>(alloc: Global, segments: bool, seed: u64) -> bool
 where
     G::BaseField: DigestItem,
 {
     let mut rng = SmallRng::seed_from_u64(seed);
     for len in 0..=CHUNK_SIZE * (W::WINDOW_SIZE * W::NUM_WINDOWS) / 8 {
         for _ in 0..20u8 {
-            if !digits_agree::<G, W, SmallRng>(alloc, len, &mut rng)? {
-                return Ok(false);
+            let agrees = if segments {
+                segments_agree::<G, W, SmallRng>(alloc, len, &mut rng)
+            } else {
+                digits_agree::<G, W, SmallRng>(alloc, len, &mut rng)
+            };
+            if agrees != Ok(true) {
+                return false;
             }
         }
     }
-    Ok(true)
-}
-
-// Whether each of twenty has the second.
-fn drawn_segments_agree<G: CurveGroup + TECoordinates, W: Window>(
-    alloc: Global,
-    seed: u64,
-) -> Result<bool, Error>
-where
-    G::BaseField: DigestItem,
-{
-    let mut rng = SmallRng::seed_from_u64(seed);
-    for len in 0..=CHUNK_SIZE * (W::WINDOW_SIZE * W::NUM_WINDOWS) / 8 {
-        for _ in 0..20u8 {
-            if !segments_agree::<G, W, SmallRng>(alloc, len, &mut rng)? {
-                return Ok(false);
-            }
-        }
-    }
-    Ok(true)
+    true
 }
 
 // Whether both kinds have, over several windows.
-fn all_drawn_agree<G: CurveGroup + TECoordinates>(alloc: Global) -> Result<bool, Error>
+fn all_agree<G: CurveGroup + TECoordinates>(alloc: Global) -> bool
 where
     G::BaseField: DigestItem,
 {
-    Ok(
-        drawn_digits_agree::<G, One>(alloc, 1)?
-            && drawn_digits_agree::<G, Wide>(alloc, 2)?
-            && drawn_digits_agree::<G, Sixteen>(alloc, 3)?
-            && drawn_digits_agree::<G, Seven>(alloc, 4)?
-            && drawn_digits_agree::<G, Twelve>(alloc, 5)?
-            && drawn_segments_agree::<G, Wide>(alloc, 6)?
-            && drawn_segments_agree::<G, Sixteen>(alloc, 7)?,
-    )
+    agree::<G, One>(alloc, false, 1)
+        && agree::<G, Wide>(alloc, false, 2)
+        && agree::<G, Sixteen>(alloc, false, 3)
+        && agree::<G, Seven>(alloc, false, 4)
+        && agree::<G, Twelve>(alloc, false, 5)
+        && agree::<G, Wide>(alloc, true, 6)
+        && agree::<G, Sixteen>(alloc, true, 7)
 }
 
 #[test]
 fn drawn_inputs_have_the_defined_hashes(rt: HostRuntime) {
-    assert_eq!(rt; all_drawn_agree::<Small<M13>>(rt.alloc()), Ok(true));
+    assert!(rt; all_agree::<Small<M13>>(rt.alloc()));
 }

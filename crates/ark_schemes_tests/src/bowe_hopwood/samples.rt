@@ -2,12 +2,9 @@
 
 ghost use Rattle.std.proofs.Common.{lit<, lit≤};
 
-use ark_base::error::Error;
-use ark_bowe_hopwood::Parameters;
-use ark_groups::ec::{Additive, CurveGroup, SmallModulus};
-use ark_groups::ff::{Fp, Modulus, PrimeField};
+use ark_groups::ec::SmallModulus;
+use ark_groups::ff::Modulus;
 use ark_pedersen::Window;
-use std::alloc::Global;
 
 /// One window of one chunk.
 pub struct One;
@@ -191,36 +188,8 @@ impl SmallModulus for M9 {
     ghost small = { lit≤ tt };
 }
 
-/// What a test makes of a number.
-pub trait Numeral {
-    fn of(number: u64) -> Self;
-}
-
-impl<M: Modulus, K> Numeral for Additive<M, K> {
-    fn of(number: u64) -> Additive<M, K> {
-        Additive::new(Fp::from_u64(number))
-    }
-}
-
-fn list<C: CurveGroup + Numeral>(alloc: Global, numbers: &[u64]) -> Result<Vec<C>, Error> {
-    let mut list = Vec::new(alloc);
-    for number in numbers {
-        list.push(C::of(*number))?;
-    }
-    Ok(list)
-}
-
-/// A list of elements for each of these lists of numbers.
-pub fn parameters<C: CurveGroup + Numeral>(
-    alloc: Global,
-    rows: &[&[u64]],
-) -> Result<Parameters<C>, Error> {
-    let mut generators = Vec::new(alloc);
-    for numbers in rows {
-        generators.push(list(alloc, numbers)?)?;
-    }
-    Ok(Parameters { generators })
-}
+/// Generators of one window of one chunk.
+pub const ONE: [&[u64]; 1] = [&[1]];
 
 /// Generators of three windows of one chunk.
 pub const THREE: [&[u64]; 3] = [&[1], &[2], &[3]];
