@@ -186,15 +186,16 @@ fn parameters_have_canonical_bytes(rt: HostRuntime) {
     assert!(rt; have_spelling::<G13>(rt.alloc(), &SPELLED));
 }
 
-fn have_text<C: CurveGroup + Numeral>(alloc: Global, rows: &[&[u64]], text: &str) -> bool {
-    are_printed::<Parameters<C>>(alloc, rows, text)
+const NONE: &str = "Pedersen Hash Parameters {\n}\n";
+
+const ONE: &str = "Pedersen Hash Parameters {\n\t  Generator 0: [1, 2]\n}\n";
+
+fn have_texts<C: CurveGroup + Numeral>(alloc: Global) -> bool {
+    are_printed::<Parameters<C>>(alloc, &[], NONE)
+        && are_printed::<Parameters<C>>(alloc, &[&[1, 2]], ONE)
 }
 
 #[test]
 fn parameters_are_printed(rt: HostRuntime) {
-    let none = "Pedersen Hash Parameters {\n}\n";
-    let one = "Pedersen Hash Parameters {\n\t  Generator 0: [1, 2]\n}\n";
-    assert!(rt;
-        have_text::<G13>(rt.alloc(), &[], none) && have_text::<G13>(rt.alloc(), &[&[1, 2]], one)
-    );
+    assert!(rt; have_texts::<G13>(rt.alloc()));
 }

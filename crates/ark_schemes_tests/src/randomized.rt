@@ -72,9 +72,8 @@ const MULTIPLIERS: [(&[u8], u64); 4] = [
 #[test]
 fn multipliers_take_the_highest_bit_first(rt: HostRuntime) {
     for (bytes, multiplier) in &MULTIPLIERS {
-        assert_eq!(rt;
-            key_of::<Residues<M61>, Blake2s256>(rt.alloc(), 1, 0, bytes),
-            Ok(*multiplier)
+        assert!(rt;
+            key_of::<Residues<M61>, Blake2s256>(rt.alloc(), 1, 0, bytes) == Ok(*multiplier)
         );
     }
 }
@@ -94,6 +93,6 @@ const BITS: [(&[u8], u64); 3] = [(&[], 1), (&[0x4d], 0x14d), (&[0x80, 0x01], 0x1
 #[test]
 fn bits_are_the_highest_first(rt: HostRuntime) {
     for (bytes, number) in &BITS {
-        assert_eq!(rt; bits_of(rt.alloc(), bytes), Ok(*number));
+        assert!(rt; bits_of(rt.alloc(), bytes) == Ok(*number));
     }
 }

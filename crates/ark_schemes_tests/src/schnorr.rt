@@ -69,20 +69,7 @@ where
     S::verify(alloc, &pp, &pk, told, &signature)
 }
 
-// The same, and with key and signature made random by bytes.
-fn are_valid<S, R: Rng>(alloc: Global, rng: &mut R, told: &[u8], bytes: &[u8], valid: bool) -> bool
-where
-    S: SignatureScheme,
-    S::Parameters: Drop,
-    S::PublicKey: Drop,
-    S::SecretKey: Drop,
-    S::Signature: Drop,
-{
-    is_valid::<S, R>(alloc, rng, TEXT, told, &[]) == Ok(valid)
-        && is_valid::<S, R>(alloc, rng, TEXT, told, bytes) == Ok(valid)
-}
-
-// The same with the canonical bytes of a drawn scalar.
+// Whether this is told of a text, and with key and signature made random by the canonical bytes of a drawn scalar.
 fn is_told<C: CurveGroup, D: ByteDigest, R: Rng>(
     alloc: Global,
     rng: &mut R,
@@ -91,7 +78,10 @@ fn is_told<C: CurveGroup, D: ByteDigest, R: Rng>(
     valid: bool,
 ) -> bool {
     match canonical_bytes(alloc, &C::ScalarField::rand(drawn)) {
-        Ok(bytes) => are_valid::<Schnorr<C, D>, R>(alloc, rng, told, &bytes, valid),
+        Ok(bytes) => {
+            is_valid::<Schnorr<C, D>, R>(alloc, rng, TEXT, told, &[]) == Ok(valid)
+                && is_valid::<Schnorr<C, D>, R>(alloc, rng, TEXT, told, &bytes) == Ok(valid)
+        }
         Err(_) => false,
     }
 }

@@ -111,14 +111,16 @@ where
         && are_digests_of_two::<CRH<C, Sixteen>>(alloc, &THREE, &[(&[0], &[0], SHAPE)])
 }
 
+fn are_all<C: CurveGroup + TECoordinates + Numeral>(alloc: Global) -> bool
+where
+    C::BaseField: DigestItem + Numeral,
+{
+    are_sums::<C>(alloc) && are_sums_of_two::<C>(alloc) && are_refused::<C>(alloc)
+}
+
 #[test]
 fn digits_count_the_elements(rt: HostRuntime) {
-    let alloc = rt.alloc();
-    assert!(rt;
-        are_sums::<Small<M13>>(alloc)
-            && are_sums_of_two::<Small<M13>>(alloc)
-            && are_refused::<Small<M13>>(alloc)
-    );
+    assert!(rt; are_all::<Small<M13>>(rt.alloc()));
 }
 
 // Whether digests are hashed by their bytes: those of two that are too long, and two whose hash is that of their bytes.

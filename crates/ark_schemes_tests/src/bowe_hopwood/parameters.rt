@@ -24,18 +24,16 @@ fn parameters_have_canonical_bytes(rt: HostRuntime) {
     assert!(rt; have_spelling::<Small<M13>>(rt.alloc(), &SPELLED));
 }
 
-fn have_text<C: CurveGroup + Numeral>(alloc: Global, rows: &[&[u64]], text: &str) -> bool {
-    are_printed::<Parameters<C>>(alloc, rows, text)
+const NONE: &str = "Bowe-Hopwood-Pedersen Hash Parameters {\n}\n";
+
+const ONE: &str = "Bowe-Hopwood-Pedersen Hash Parameters {\n\t  Generator 0: [1, 2]\n}\n";
+
+fn have_texts<C: CurveGroup + Numeral>(alloc: Global) -> bool {
+    are_printed::<Parameters<C>>(alloc, &[], NONE)
+        && are_printed::<Parameters<C>>(alloc, &[&[1, 2]], ONE)
 }
 
 #[test]
 fn parameters_are_printed(rt: HostRuntime) {
-    let alloc = rt.alloc();
-    let none = "Bowe-Hopwood-Pedersen Hash Parameters {\n}\n";
-    let one = "Bowe-Hopwood-Pedersen Hash Parameters {\n\t  Generator 0: [1, 2]\n}\n";
-    assert!(rt;
-        have_text::<Small<M13>>(alloc, &[], none)
-            && have_text::<Small<M13>>(alloc, &[&[1, 2]], one)
-            && CHUNK_SIZE == 3
-    );
+    assert!(rt; have_texts::<Small<M13>>(rt.alloc()) && CHUNK_SIZE == 3);
 }

@@ -6,7 +6,7 @@ use ark_base::error::{Error, Refusal};
 use ark_base::serialize::DigestItem;
 use ark_bowe_hopwood::{CRH, TwoToOneCRH};
 use ark_crh::{CRHScheme, TwoToOneCRHScheme};
-use ark_groups::ec::{CurveGroup, Small, TECoordinates};
+use ark_groups::ec::{CurveGroup, Small, SmallModulus, TECoordinates};
 use ark_groups::ff::{M7, M13};
 use ark_pedersen::Window;
 use rand::rngs::SmallRng;
@@ -25,18 +25,23 @@ where
     (of_one, TwoToOneCRH::<C, W>::setup(alloc, &mut rng).err())
 }
 
+// The same over the numbers below a modulus.
+fn refusals_below<M: SmallModulus, W: Window>(alloc: Global) -> (Option<Error>, Option<Error>) {
+    refusals::<Small<M>, W>(alloc)
+}
+
 const LARGE: Option<Error> = Some(Error::GenericError(Refusal::WindowTooLarge));
 
 #[test]
 fn windows_fit_the_order(rt: HostRuntime) {
     let alloc = rt.alloc();
     assert!(rt;
-        refusals::<Small<M13>, One>(alloc) == (None, None)
-            && refusals::<Small<M9>, One>(alloc) == (None, None)
-            && refusals::<Small<M8>, One>(alloc) == (LARGE, LARGE)
-            && refusals::<Small<M7>, One>(alloc) == (LARGE, LARGE)
-            && refusals::<Small<M13>, Pair>(alloc) == (LARGE, LARGE)
-            && refusals::<Small<M13>, Huge>(alloc) == (LARGE, LARGE)
+        refusals_below::<M13, One>(alloc) == (None, None)
+            && refusals_below::<M9, One>(alloc) == (None, None)
+            && refusals_below::<M8, One>(alloc) == (LARGE, LARGE)
+            && refusals_below::<M7, One>(alloc) == (LARGE, LARGE)
+            && refusals_below::<M13, Pair>(alloc) == (LARGE, LARGE)
+            && refusals_below::<M13, Huge>(alloc) == (LARGE, LARGE)
     );
 }
 
