@@ -4,13 +4,13 @@ use crate::asked::Alike;
 use crate::pedersen::{Row, are_commitments};
 use crate::samples::{Numeral, TWO, Two};
 use ark_base::error::{Error, Refusal};
-use ark_base::serialize::{DigestItem, Duplicate};
+use ark_base::serialize::DigestItem;
 use ark_groups::ec::{CurveGroup, Small, TECoordinates};
 use ark_groups::ff::M13;
 use ark_pedersen::injective_map::TECompressor;
 use ark_schemes::commitment::CommitmentScheme;
 use ark_schemes::commitment::injective_map::PedersenCommCompressor;
-use ark_schemes::commitment::pedersen::Commitment;
+use ark_schemes::commitment::pedersen::{Commitment, Parameters};
 use rand::rngs::SmallRng;
 use rand::{Rng, SeedableRng};
 use std::alloc::Global;
@@ -48,21 +48,18 @@ fn the_first_coordinate_is_the_commitment(rt: HostRuntime) {
     assert!(rt; are_coordinates::<Small<M13>>(rt.alloc()));
 }
 
-// Whether two schemes draw the same parameters.
-fn draw_alike<S, T, P, R>(alloc: Global, rng: &mut R, twin: &mut R) -> bool
-where
-    S: CommitmentScheme<Parameters = P>,
-    T: CommitmentScheme<Parameters = P>,
-    P: Duplicate + Alike,
-    R: Rng,
-{
-    match (S::setup(alloc, rng), T::setup(alloc, twin)) {
-        (Ok(parameters), Ok(made)) => parameters.is_like(&made),
-        _ => false,
+// Whether these are the parameters that the Pedersen commitment draws.
+fn are_drawn<C: CurveGroup, R: Rng>(
+    alloc: Global,
+    parameters: &Parameters<C>,
+    twin: &mut R,
+) -> bool {
+    match Commitment::<C, Two>::setup(alloc, twin) {
+        Ok(made) => parameters.is_like(&made),
+        Err(_) => false,
     }
 }
 
-// Whether parameters are those that the Pedersen commitment draws.
 fn is_drawn_alike<C: CurveGroup + TECoordinates, R: Rng>(
     alloc: Global,
     rng: &mut R,
@@ -71,9 +68,10 @@ fn is_drawn_alike<C: CurveGroup + TECoordinates, R: Rng>(
 where
     C::BaseField: DigestItem,
 {
-    draw_alike::<PedersenCommCompressor<C, TECompressor, Two>, Commitment<C, Two>, _, R>(
-        alloc, rng, twin,
-    )
+    match PedersenCommCompressor::<C, TECompressor, Two>::setup(alloc, rng) {
+        Ok(parameters) => are_drawn::<C, R>(alloc, &parameters, twin),
+        Err(_) => false,
+    }
 }
 
 #[test]

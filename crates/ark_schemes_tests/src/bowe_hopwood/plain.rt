@@ -13,8 +13,16 @@ use std::alloc::{AllocError, Global};
 fn digit(a: bool, b: bool, c: bool) -> i64
     ensures { result ≡ digit (a, b, c) }
 {
-    let size = 1 + a as i64 + 2 * b as i64;
-    if c { -size } else { size }
+    match (a, b, c) {
+        (false, false, false) => 1,
+        (true, false, false) => 2,
+        (false, true, false) => 3,
+        (true, true, false) => 4,
+        (false, false, true) => -1,
+        (true, false, true) => -2,
+        (false, true, true) => -3,
+        (true, true, true) => -4,
+    }
 }
 
 // The element, added as often as a number says; where that is negative, the opposite of it.
