@@ -83,39 +83,54 @@ where
     }
 }
 
-fn are_sums<C: CurveGroup + TECoordinates + Numeral>(alloc: Global) -> bool
+fn sums<C: CurveGroup + TECoordinates + Numeral, W: Window>(
+    alloc: Global,
+    generators: &[&[u64]],
+    rows: &[Row],
+) -> bool
 where
     C::BaseField: DigestItem + Numeral,
 {
-    are_digests::<CRH<C, Three>>(alloc, &THREE, &THREES)
-        && are_digests::<CRH<C, One>>(alloc, &ONE, &LONG)
-        && are_digests::<CRH<C, Seven>>(alloc, &SEVEN, &SEVENS)
+    are_digests::<CRH<C, W>>(alloc, generators, rows)
 }
 
-fn are_sums_of_two<C: CurveGroup + TECoordinates + Numeral>(alloc: Global) -> bool
+fn sums_of_two<C: CurveGroup + TECoordinates + Numeral, W: Window>(
+    alloc: Global,
+    generators: &[&[u64]],
+    rows: &[RowOfTwo],
+) -> bool
 where
     C::BaseField: DigestItem + Numeral,
 {
-    are_digests_of_two::<CRH<C, Sixteen>>(alloc, &SIXTEEN, &SIXTEENS)
-        && are_digests_of_two::<CRH<C, Seven>>(alloc, &SEVEN, &SEVENS_OF_TWO)
-        && are_digests_of_two::<CRH<C, Twelve>>(alloc, &TWELVE, &TWELVES)
+    are_digests_of_two::<CRH<C, W>>(alloc, generators, rows)
 }
 
-// Generators of another shape are refused.
-fn are_refused<C: CurveGroup + TECoordinates + Numeral>(alloc: Global) -> bool
+fn compress<C: CurveGroup + TECoordinates + Numeral, W: Window>(
+    alloc: Global,
+    generators: &[&[u64]],
+    left: u64,
+    right: u64,
+) -> Result<u64, Error>
 where
     C::BaseField: DigestItem + Numeral,
 {
-    are_digests::<CRH<C, Three>>(alloc, &SIXTEEN, &[(&[5], SHAPE)])
-        && are_digests::<CRH<C, Seven>>(alloc, &THREE, &REFUSED)
-        && are_digests_of_two::<CRH<C, Sixteen>>(alloc, &THREE, &[(&[0], &[0], SHAPE)])
+    compressed::<CRH<C, W>>(alloc, generators, left, right)
 }
 
+// Whether all rows are so, the last three under generators of another shape.
 fn are_all<C: CurveGroup + TECoordinates + Numeral>(alloc: Global) -> bool
 where
     C::BaseField: DigestItem + Numeral,
 {
-    are_sums::<C>(alloc) && are_sums_of_two::<C>(alloc) && are_refused::<C>(alloc)
+    sums::<C, Three>(alloc, &THREE, &THREES)
+        && sums::<C, One>(alloc, &ONE, &LONG)
+        && sums::<C, Seven>(alloc, &SEVEN, &SEVENS)
+        && sums_of_two::<C, Sixteen>(alloc, &SIXTEEN, &SIXTEENS)
+        && sums_of_two::<C, Seven>(alloc, &SEVEN, &SEVENS_OF_TWO)
+        && sums_of_two::<C, Twelve>(alloc, &TWELVE, &TWELVES)
+        && sums::<C, Three>(alloc, &SIXTEEN, &[(&[5], SHAPE)])
+        && sums::<C, Seven>(alloc, &THREE, &REFUSED)
+        && sums_of_two::<C, Sixteen>(alloc, &THREE, &[(&[0], &[0], SHAPE)])
 }
 
 #[test]
@@ -128,9 +143,9 @@ fn digests_have_bytes<C: CurveGroup + TECoordinates + Numeral>(alloc: Global) ->
 where
     C::BaseField: DigestItem + Numeral,
 {
-    let hash = compressed::<CRH<C, Twelve>>(alloc, &TWELVE, 71, 256);
-    compressed::<CRH<C, Sixteen>>(alloc, &SIXTEEN, 5, 9) == Err(Error::IncorrectInputLength(2))
-        && are_digests_of_two::<CRH<C, Twelve>>(alloc, &TWELVE, &[(&[71, 0], &[0, 1], hash)])
+    let hash = compress::<C, Twelve>(alloc, &TWELVE, 71, 256);
+    compress::<C, Sixteen>(alloc, &SIXTEEN, 5, 9) == Err(Error::IncorrectInputLength(2))
+        && sums_of_two::<C, Twelve>(alloc, &TWELVE, &[(&[71, 0], &[0, 1], hash)])
 }
 
 #[test]

@@ -144,9 +144,7 @@ fn concatenation<G: CurveGroup>(alloc: Global, lists: &[Vec<G>]) -> Result<Vec<G
 {
     let mut all = Vec::new(alloc);
     for list in lists {
-        for x in list {
-            all.push(*x)?;
-        }
+        all.extend_from_slice(list)?;
     }
     Ok(all)
 }

@@ -1,9 +1,6 @@
-use Rattle.std.proofs.Common.{◌≡◌, ◌++◌, take}
+use Rattle.std.proofs.Common.{◌≡◌, take}
 use Rattle.ark_pedersen.specs.Pedersen.{lists_in, concatenation}
 use Rattle.ark_schemes_tests.proofs.bowe_hopwood.plain.concatenation.Given as goal
 
 abbrev pub invariant-loop-list : goal.invariant-loop-list
 invariant-loop-list g l = l.all.items ≡ concatenation (lists_in (take l.list-index l.lists))
-
-abbrev pub invariant-loop-x : goal.invariant-loop-x
-invariant-loop-x g l = l.all.items ≡ l.initial.all.items ++ take l.x-index l.x-items
