@@ -71,14 +71,30 @@ impl<C: CurveGroup + DigestItem + Numeral, W: Window> Asked for CRH<C, W> {
     }
 }
 
+fn sums<C: CurveGroup + DigestItem + Numeral, W: Window>(
+    alloc: Global,
+    generators: &[&[u64]],
+    rows: &[Row],
+) -> bool {
+    are_digests::<CRH<C, W>>(alloc, generators, rows)
+}
+
+fn sums_of_two<C: CurveGroup + DigestItem + Numeral, W: Window>(
+    alloc: Global,
+    generators: &[&[u64]],
+    rows: &[RowOfTwo],
+) -> bool {
+    are_digests_of_two::<CRH<C, W>>(alloc, generators, rows)
+}
+
 // Whether windows and generators give the rows: of one input two or three windows, of two inputs three or four.
 fn are_sums<C: CurveGroup + DigestItem + Numeral>(alloc: Global) -> bool {
-    are_digests::<CRH<C, Two>>(alloc, &TWO, &ROWS)
-        && are_digests::<CRH<C, Three>>(alloc, &TWO, &REFUSED)
-        && are_digests::<CRH<C, Three>>(alloc, &UNEVEN, &REFUSED[..1])
-        && are_digests::<CRH<C, Two>>(alloc, &UNEVEN, &REFUSED[..1])
-        && are_digests_of_two::<CRH<C, Three>>(alloc, &FOUR, &[(&[], &[], SHAPE)])
-        && are_digests_of_two::<CRH<C, Four>>(alloc, &FOUR, &ROWS_OF_TWO)
+    sums::<C, Two>(alloc, &TWO, &ROWS)
+        && sums::<C, Three>(alloc, &TWO, &REFUSED)
+        && sums::<C, Three>(alloc, &UNEVEN, &REFUSED[..1])
+        && sums::<C, Two>(alloc, &UNEVEN, &REFUSED[..1])
+        && sums_of_two::<C, Three>(alloc, &FOUR, &[(&[], &[], SHAPE)])
+        && sums_of_two::<C, Four>(alloc, &FOUR, &ROWS_OF_TWO)
         && compressed::<CRH<C, Four>>(alloc, &FOUR, 5, 9) == Ok(1)
 }
 

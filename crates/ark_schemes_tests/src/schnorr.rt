@@ -69,8 +69,18 @@ where
     S::verify(alloc, &pp, &pk, told, &signature)
 }
 
-// Whether this is told of a text, and with key and signature made random by the canonical bytes of a drawn scalar.
+// The same of a Schnorr signature of one text.
 fn is_told<C: CurveGroup, D: ByteDigest, R: Rng>(
+    alloc: Global,
+    rng: &mut R,
+    told: &[u8],
+    bytes: &[u8],
+) -> Result<bool, Error> {
+    is_valid::<Schnorr<C, D>, R>(alloc, rng, TEXT, told, bytes)
+}
+
+// Whether this is told of a text, and with key and signature made random by the canonical bytes of a drawn scalar.
+fn are_told<C: CurveGroup, D: ByteDigest, R: Rng>(
     alloc: Global,
     rng: &mut R,
     drawn: &mut R,
@@ -79,8 +89,8 @@ fn is_told<C: CurveGroup, D: ByteDigest, R: Rng>(
 ) -> bool {
     match canonical_bytes(alloc, &C::ScalarField::rand(drawn)) {
         Ok(bytes) => {
-            is_valid::<Schnorr<C, D>, R>(alloc, rng, TEXT, told, &[]) == Ok(valid)
-                && is_valid::<Schnorr<C, D>, R>(alloc, rng, TEXT, told, &bytes) == Ok(valid)
+            is_told::<C, D, R>(alloc, rng, told, &[]) == Ok(valid)
+                && is_told::<C, D, R>(alloc, rng, told, &bytes) == Ok(valid)
         }
         Err(_) => false,
     }
@@ -92,7 +102,7 @@ fn what_is_signed_is_valid(rt: HostRuntime) {
         let mut rng = ChaCha20Rng::seed_from_u64(22);
         let mut drawn = ChaCha20Rng::seed_from_u64(23);
         assert!(rt;
-            is_told::<G61, Blake2s256, ChaCha20Rng>(rt.alloc(), &mut rng, &mut drawn, told, valid)
+            are_told::<G61, Blake2s256, ChaCha20Rng>(rt.alloc(), &mut rng, &mut drawn, told, valid)
         );
     }
 }
