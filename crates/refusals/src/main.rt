@@ -7,12 +7,11 @@ mod sponges;
 mod trees;
 
 use ark_crypto_primitives::Error;
-use ark_crypto_primitives::commitment::{blake2s, pedersen};
+use ark_crypto_primitives::commitment::blake2s;
 use ark_crypto_primitives::crh::pedersen::Window;
 use ark_crypto_primitives::ec::Residues;
 use ark_crypto_primitives::ff::{Fp, M61};
 use ark_crypto_primitives::prf::Blake2s256;
-use ark_crypto_primitives::signature::schnorr::Schnorr;
 use ark_crypto_primitives::trees::Sha256Strings;
 use std::alloc::Global;
 use std::process::ExitCode;
@@ -49,6 +48,12 @@ pub enum Ended {
     Wrong,
 }
 
+/// How a call ended, without what it answered.
+pub fn without_value<T: Drop>(answer: Result<T, Error>) -> Result<(), Error> {
+    answer?;
+    Ok(())
+}
+
 /// How a call ended that left what was lent to it as it was, or not.
 pub fn ending(answer: Result<(), Error>, is_kept: bool) -> Ended {
     match answer {
@@ -65,9 +70,9 @@ fn ended_of(alloc: Global, word: &str) -> Result<Option<Ended>, Error> {
     };
     match family {
         "sponge" => sponges::ended_of::<Fp<M61>>(alloc, call),
-        "pedersen" => schemes::committed::<pedersen::Commitment<Group, Two>>(alloc, call),
+        "pedersen" => schemes::pedersen_committed::<Group, Two>(alloc, call),
         "blake2s" => schemes::committed::<blake2s::Commitment>(alloc, call),
-        "schnorr" => schemes::signed::<Schnorr<Group, Blake2s256>>(alloc, call),
+        "schnorr" => schemes::schnorr_signed::<Group, Blake2s256>(alloc, call),
         "tree" => trees::ended_of::<Sha256Strings>(alloc, &(), &(), call),
         _ => Ok(None),
     }

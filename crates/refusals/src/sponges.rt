@@ -1,9 +1,8 @@
 //! Calls of a sponge.
 
-use crate::{Ended, ending};
+use crate::{Ended, ending, without_value};
 use ark_crypto_primitives::Error;
 use ark_crypto_primitives::ff::PrimeField;
-use ark_crypto_primitives::serialize::Duplicate;
 use ark_crypto_primitives::sponge::poseidon::{PoseidonConfig, PoseidonSponge, SBox};
 use ark_crypto_primitives::sponge::{
     Absorb, CryptographicSponge, FieldBasedCryptographicSponge, FieldElementSize,
@@ -20,57 +19,47 @@ impl<F: PrimeField> SBox<F> for Same {
     }
 }
 
-type Sponge<F> = PoseidonSponge<F, Same>;
+// A sponge that can be held against its copy.
+trait Compared: CryptographicSponge {
+    fn is_as(&self, copy: &Self) -> bool;
+}
+
+impl<F: PrimeField, S: SBox<F>> Compared for PoseidonSponge<F, S> {
+    fn is_as(&self, copy: &Self) -> bool {
+        self.state() == copy.state() && self.mode() == copy.mode()
+    }
+}
 
 /// How a call of a sponge that has absorbed some elements ended.
 pub fn ended_of<F: PrimeField + Absorb>(alloc: Global, call: &str) -> Result<Option<Ended>, Error> {
+    let parameters = PoseidonConfig::new(2, 1, 1, rows(alloc)?, rows(alloc)?, 2, 1)?;
+    ended_over::<F, PoseidonSponge<F, Same>>(alloc, &parameters, call)
+}
+
+// Over any sponge, since each exit of a function drops the parts of what it owns, and this one's are not known.
+fn ended_over<F: PrimeField + Absorb, S: FieldBasedCryptographicSponge<F> + Compared>(
+    alloc: Global,
+    parameters: &S::Config,
+    call: &str,
+) -> Result<Option<Ended>, Error> {
     let input = elements::<F>(alloc, 9)?;
-    let mut sponge = Sponge::<F>::new(alloc, &parameters(alloc)?)?;
+    let mut sponge = S::new(alloc, parameters)?;
     sponge.absorb(&input)?;
     let before = sponge.duplicate(alloc)?;
     let answer = match call {
         "absorb" => sponge.absorb(&input),
-        "native" => native(&mut sponge),
-        "elements" => elements_of(&mut sponge),
-        "sizes" => sized(&mut sponge),
-        "bytes" => bytes(&mut sponge),
-        "bits" => bits(&mut sponge),
-        "fork" => fork(&sponge),
+        "native" => without_value(sponge.squeeze_native_field_elements(5)),
+        "elements" => without_value(sponge.squeeze_field_elements::<F>(5)),
+        "sizes" => {
+            let sizes = [FieldElementSize::Truncated(9), FieldElementSize::Full];
+            without_value(sponge.squeeze_field_elements_with_sizes::<F>(&sizes))
+        }
+        "bytes" => without_value(sponge.squeeze_bytes(40)),
+        "bits" => without_value(sponge.squeeze_bits(200)),
+        "fork" => without_value(sponge.fork(b"domain")),
         _ => return Ok(None),
     };
-    let is_kept = sponge.state() == before.state() && sponge.mode() == before.mode();
-    Ok(Some(ending(answer, is_kept)))
-}
-
-fn native<F: PrimeField + Absorb>(sponge: &mut Sponge<F>) -> Result<(), Error> {
-    sponge.squeeze_native_field_elements(5)?;
-    Ok(())
-}
-
-fn elements_of<F: PrimeField + Absorb>(sponge: &mut Sponge<F>) -> Result<(), Error> {
-    sponge.squeeze_field_elements::<F>(5)?;
-    Ok(())
-}
-
-fn sized<F: PrimeField + Absorb>(sponge: &mut Sponge<F>) -> Result<(), Error> {
-    let sizes = [FieldElementSize::Truncated(9), FieldElementSize::Full];
-    sponge.squeeze_field_elements_with_sizes::<F>(&sizes)?;
-    Ok(())
-}
-
-fn bytes<F: PrimeField + Absorb>(sponge: &mut Sponge<F>) -> Result<(), Error> {
-    sponge.squeeze_bytes(40)?;
-    Ok(())
-}
-
-fn bits<F: PrimeField + Absorb>(sponge: &mut Sponge<F>) -> Result<(), Error> {
-    sponge.squeeze_bits(200)?;
-    Ok(())
-}
-
-fn fork<F: PrimeField + Absorb>(sponge: &Sponge<F>) -> Result<(), Error> {
-    sponge.fork(b"domain")?;
-    Ok(())
+    Ok(Some(ending(answer, sponge.is_as(&before))))
 }
 
 fn elements<F: PrimeField>(alloc: Global, count: u64) -> Result<Vec<F>, Error> {
@@ -87,8 +76,4 @@ fn rows<F: PrimeField>(alloc: Global) -> Result<Vec<Vec<F>>, Error> {
         made.push(elements(alloc, 3)?)?;
     }
     Ok(made)
-}
-
-fn parameters<F: PrimeField>(alloc: Global) -> Result<PoseidonConfig<F>, Error> {
-    PoseidonConfig::new(2, 1, 1, rows(alloc)?, rows(alloc)?, 2, 1)
 }
