@@ -38,7 +38,7 @@ impl Window for Two {
 type Group = Residues<M61>;
 
 /// How a call ended.
-#[derive(Clone, Copy, PartialEq, Eq)]
+#[derive(Clone, Copy)]
 pub enum Ended {
     /// It answered a value.
     Well,
@@ -80,11 +80,7 @@ fn ended_of(alloc: Global, word: &str) -> Result<Option<Ended>, Error> {
 
 // The status: 0 where the call was made, 1 where memory was refused before or behind it, 2 for words that name none.
 fn start(rt: &HostRuntime) -> io::Result<u8> {
-    let mut words = Vec::new(rt.alloc());
-    for word in env::args(rt)?.skip(1) {
-        words.push(word)?;
-    }
-    let Some(word) = words.first() else {
+    let Some(word) = env::args(rt)?.nth(1) else {
         return Ok(2);
     };
     let text = match ended_of(rt.alloc(), word.as_str()) {

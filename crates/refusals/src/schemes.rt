@@ -47,14 +47,19 @@ pub fn schnorr_signed<C: CurveGroup, D: ByteDigest>(
 
 // How a call of a signature scheme ended.
 fn signed<S: SignatureScheme>(alloc: Global, call: &str) -> Result<Option<Ended>, Error> {
+    let signs = match call {
+        "sign" => true,
+        "verify" => false,
+        _ => return Ok(None),
+    };
     let mut rng = SmallRng::seed_from_u64(1);
     let pp = S::setup(alloc, &mut rng)?;
     let (pk, sk) = S::keygen(alloc, &pp, &mut rng)?;
     let signature = S::sign(alloc, &pp, &sk, MESSAGE, &mut rng);
-    let answer = match call {
-        "sign" => without_value(signature),
-        "verify" => without_value(S::verify(alloc, &pp, &pk, MESSAGE, &signature?)),
-        _ => return Ok(None),
+    let answer = if signs {
+        without_value(signature)
+    } else {
+        without_value(S::verify(alloc, &pp, &pk, MESSAGE, &signature?))
     };
     Ok(Some(ending(answer, true)))
 }

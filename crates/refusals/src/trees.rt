@@ -19,10 +19,20 @@ pub fn ended_of<P: Config<Leaf = Vec<u8>>>(
         return Ok(None);
     }
     let mut tree = tree_of_four::<P>(alloc, leaf, pair)?;
-    let before = shown(alloc, &tree)?;
-    let answer = check_update(alloc, &mut tree);
-    let is_kept = shown(alloc, &tree)? == before;
-    Ok(Some(ending(answer, is_kept)))
+    updated(alloc, &mut tree)
+}
+
+// How `check_update` ended. The lists are lent to `show`, so that it owns a path alone: each exit drops the parts of what is owned.
+fn updated<P: Config<Leaf = Vec<u8>>>(
+    alloc: Global,
+    tree: &mut MerkleTree<P>,
+) -> Result<Option<Ended>, Error> {
+    let mut before = Vec::new(alloc);
+    show(alloc, tree, &mut before)?;
+    let answer = check_update(alloc, tree);
+    let mut after = Vec::new(alloc);
+    show(alloc, tree, &mut after)?;
+    Ok(Some(ending(answer, before == after)))
 }
 
 fn four_leaves(alloc: Global) -> Result<Vec<Vec<u8>>, Error> {
@@ -59,12 +69,11 @@ fn check_update<P: Config<Leaf = Vec<u8>>>(
     without_value(tree.check_update(alloc, 2, &leaf, &root))
 }
 
-// The canonical bytes of the root and of all paths, which hold all digests of the tree.
-fn shown<P: Config>(alloc: Global, tree: &MerkleTree<P>) -> Result<Vec<u8>, Error> {
-    let mut bytes = Vec::new(alloc);
-    tree.root().serialize(&mut bytes)?;
+// Writes the canonical bytes of the root and of all paths, which hold all digests of the tree.
+fn show<P: Config>(alloc: Global, tree: &MerkleTree<P>, bytes: &mut Vec<u8>) -> Result<(), Error> {
+    tree.root().serialize(bytes)?;
     for index in 0..tree.size() {
-        tree.generate_proof(alloc, index)?.serialize(&mut bytes)?;
+        tree.generate_proof(alloc, index)?.serialize(bytes)?;
     }
-    Ok(bytes)
+    Ok(())
 }
