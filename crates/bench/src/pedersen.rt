@@ -5,8 +5,9 @@ use ark_crypto_primitives::commitment::CommitmentScheme;
 use ark_crypto_primitives::commitment::pedersen::{Commitment, Randomness};
 use ark_crypto_primitives::crh::CRHScheme;
 use ark_crypto_primitives::crh::pedersen::{CRH, Window};
-use ark_crypto_primitives::ec::Residues;
-use ark_crypto_primitives::ff::{M61, PrimeField};
+use ark_crypto_primitives::ec::{CurveGroup, Residues};
+use ark_crypto_primitives::ff::{Fp, M61, Modulus, PrimeField};
+use ark_crypto_primitives::serialize::DigestItem;
 use rand::SeedableRng;
 use rand::rngs::SmallRng;
 use std::alloc::Global;
@@ -29,31 +30,49 @@ impl Window for Wide {
     ghost fits = { lit< tt };
 }
 
-type Group = Residues<M61>;
-
 // The bytes of the first input, of which each work changes the first.
 const INPUT: [u8; 32] = [0xa5; 32];
+
+/// A hash that is a number.
+pub trait Number {
+    fn number(&self) -> u64;
+}
+
+impl<M: Modulus> Number for Fp<M> {
+    fn number(&self) -> u64 {
+        self.value()
+    }
+}
+
+impl<M: Modulus> Number for Residues<M> {
+    fn number(&self) -> u64 {
+        self.0.value()
+    }
+}
 
 /// The work that a word names, `count` times.
 pub fn checksum(alloc: Global, work: &str, count: u64) -> Result<Option<u64>, Error> {
     let sum = match work {
-        "hash" => hashes(alloc, count)?,
-        "commitment" => commitments(alloc, count)?,
+        "hash" => pedersen_hashes::<Residues<M61>, Wide>(alloc, count),
+        "commitment" => commitments::<M61, Wide>(alloc, count),
         _ => return Ok(None),
     };
-    Ok(Some(sum))
+    Ok(Some(sum?))
 }
 
-// Hashes of 32 bytes, `count` times, the first byte being that of the hash before.
-fn hashes(alloc: Global, count: u64) -> Result<u64, Error> {
-    let mut rng = SmallRng::seed_from_u64(4);
-    let parameters = CRH::<Group, Wide>::setup(alloc, &mut rng)?;
+/// Hashes of 32 bytes, `count` times, the first byte being that of the hash before.
+pub fn hashes<H: CRHScheme<Input = Vec<u8>>>(
+    alloc: Global,
+    parameters: &H::Parameters,
+    count: u64,
+) -> Result<u64, Error>
+where
+    H::Output: Number,
+{
     let mut input = Vec::from_array(alloc, INPUT)?;
     let mut value = 0;
     for _ in 0..count {
-        value = CRH::<Group, Wide>::evaluate(alloc, &parameters, &input)?
-            .0
-            .value();
+        value = H::evaluate(alloc, parameters, &input)?.number();
         if let Some(first) = input.first_mut() {
             *first = (value % 256) as u8;
         }
@@ -61,13 +80,22 @@ fn hashes(alloc: Global, count: u64) -> Result<u64, Error> {
     Ok(value)
 }
 
-// Commitments to 32 bytes, `count` times, each under the one before.
-fn commitments(alloc: Global, count: u64) -> Result<u64, Error> {
+fn pedersen_hashes<C: CurveGroup + DigestItem + Number, W: Window>(
+    alloc: Global,
+    count: u64,
+) -> Result<u64, Error> {
     let mut rng = SmallRng::seed_from_u64(4);
-    let parameters = Commitment::<Group, Wide>::setup(alloc, &mut rng)?;
-    let mut randomness = Randomness::<Group>::default();
+    let parameters = CRH::<C, W>::setup(alloc, &mut rng)?;
+    hashes::<CRH<C, W>>(alloc, &parameters, count)
+}
+
+// Commitments to 32 bytes, `count` times, each under the one before.
+fn commitments<M: Modulus, W: Window>(alloc: Global, count: u64) -> Result<u64, Error> {
+    let mut rng = SmallRng::seed_from_u64(4);
+    let parameters = Commitment::<Residues<M>, W>::setup(alloc, &mut rng)?;
+    let mut randomness = Randomness::<Residues<M>>::default();
     for _ in 0..count {
-        let commitment = Commitment::<Group, Wide>::commit(
+        let commitment = Commitment::<Residues<M>, W>::commit(
             alloc,
             &parameters,
             &INPUT,

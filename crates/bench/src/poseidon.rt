@@ -8,7 +8,7 @@ use ark_crypto_primitives::crh::poseidon::TwoToOneCRH;
 use ark_crypto_primitives::ff::PrimeField;
 use ark_crypto_primitives::serialize::DigestItem;
 use ark_crypto_primitives::sponge::poseidon::{PoseidonConfig, PoseidonSponge, SBox};
-use ark_crypto_primitives::sponge::{Absorb, CryptographicSponge, FieldBasedCryptographicSponge};
+use ark_crypto_primitives::sponge::{Absorb, FieldBasedCryptographicSponge};
 use std::alloc::Global;
 
 /// Fifth powers.
@@ -49,23 +49,26 @@ pub fn checksum<F: PrimeField + Absorb + DigestItem, S: SBox<F>>(
     let Some(rate) = width.checked_sub(1) else {
         return Ok(None);
     };
-    let parameters = PoseidonConfig::new(
-        8,
-        partial_rounds,
-        5,
-        rows(alloc, 1 << 20, width, width)?,
-        rows(alloc, 1 << 30, partial_rounds.saturating_add(8), width)?,
-        rate,
-        1,
-    )?;
-    let element: F = match work {
-        "permutation" => permutations::<F, S>(alloc, &parameters, count)?,
-        "absorb" => absorptions::<F, S>(alloc, &parameters, count)?,
-        "squeeze" => squeezes::<F, S>(alloc, &parameters, count)?,
-        "hash" => pair_hashes::<F, S>(alloc, &parameters, count)?,
+    let mds = rows(alloc, 1 << 20, width, width)?;
+    let ark = rows(alloc, 1 << 30, partial_rounds.saturating_add(8), width)?;
+    let parameters = PoseidonConfig::new(8, partial_rounds, 5, mds, ark, rate, 1)?;
+    with_parameters::<F, S>(alloc, &parameters, work, count)
+}
+
+fn with_parameters<F: PrimeField + Absorb + DigestItem, S: SBox<F>>(
+    alloc: Global,
+    parameters: &PoseidonConfig<F>,
+    work: &str,
+    count: u64,
+) -> Result<Option<u64>, Error> {
+    let element: Result<F, Error> = match work {
+        "permutation" => permutations::<F, S>(alloc, parameters, count),
+        "absorb" => absorptions::<F, PoseidonSponge<F, S>>(alloc, parameters, count),
+        "squeeze" => squeezes::<F, PoseidonSponge<F, S>>(alloc, parameters, count),
+        "hash" => pair_hashes::<F, S>(alloc, parameters, count),
         _ => return Ok(None),
     };
-    Ok(Some(element.value()))
+    Ok(Some(element?.value()))
 }
 
 // Elements that have no pattern.
@@ -114,27 +117,38 @@ fn first_of<F: PrimeField>(elements: &[F]) -> F {
     }
 }
 
+// A sponge whose state is seen.
+trait WithState<F: PrimeField>: FieldBasedCryptographicSponge<F> {
+    fn first_of_state(&self) -> F;
+}
+
+impl<F: PrimeField, S: SBox<F>> WithState<F> for PoseidonSponge<F, S> {
+    fn first_of_state(&self) -> F {
+        first_of(self.state())
+    }
+}
+
 // Absorbing 1,000 elements into one sponge.
-fn absorptions<F: PrimeField + Absorb, S: SBox<F>>(
+fn absorptions<F: PrimeField + Absorb, S: WithState<F>>(
     alloc: Global,
-    parameters: &PoseidonConfig<F>,
+    parameters: &S::Config,
     count: u64,
 ) -> Result<F, Error> {
-    let mut sponge = PoseidonSponge::<F, S>::new(alloc, parameters)?;
+    let mut sponge = S::new(alloc, parameters)?;
     let input = elements::<F>(alloc, 1 << 40, 1000)?;
     for _ in 0..count {
         sponge.absorb(&input)?;
     }
-    Ok(first_of(sponge.state()))
+    Ok(sponge.first_of_state())
 }
 
 // Squeezing 1,000 elements out of one sponge.
-fn squeezes<F: PrimeField + Absorb, S: SBox<F>>(
+fn squeezes<F: PrimeField, S: FieldBasedCryptographicSponge<F>>(
     alloc: Global,
-    parameters: &PoseidonConfig<F>,
+    parameters: &S::Config,
     count: u64,
 ) -> Result<F, Error> {
-    let mut sponge = PoseidonSponge::<F, S>::new(alloc, parameters)?;
+    let mut sponge = S::new(alloc, parameters)?;
     let mut element = F::zero();
     for _ in 0..count {
         element = first_of(&sponge.squeeze_native_field_elements(1000)?);

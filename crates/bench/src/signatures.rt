@@ -1,12 +1,12 @@
-//! Works on ElGamal encryption and Schnorr signatures over the residues modulo 2^61 - 1, with BLAKE2s.
+//! Works on ElGamal encryption and Schnorr signatures over any group, with any digest.
 
 use crate::sums::sum_of_value;
 use ark_crypto_primitives::Error;
-use ark_crypto_primitives::ec::{CurveGroup, Residues};
+use ark_crypto_primitives::digest::ByteDigest;
+use ark_crypto_primitives::ec::CurveGroup;
 use ark_crypto_primitives::encryption::AsymmetricEncryptionScheme;
 use ark_crypto_primitives::encryption::elgamal::{ElGamal, Randomness};
-use ark_crypto_primitives::ff::{M61, PrimeField};
-use ark_crypto_primitives::prf::Blake2s256;
+use ark_crypto_primitives::ff::PrimeField;
 use ark_crypto_primitives::signature::SignatureScheme;
 use ark_crypto_primitives::signature::schnorr::Schnorr;
 use rand::SeedableRng;
@@ -16,15 +16,23 @@ use std::alloc::Global;
 const MESSAGE: &[u8] = &[0xa5; 32];
 
 /// The work on signatures that a word names, `count` times.
-pub fn signing(alloc: Global, work: &str, count: u64) -> Result<Option<u64>, Error> {
+pub fn signing<G: CurveGroup, D: ByteDigest>(
+    alloc: Global,
+    work: &str,
+    count: u64,
+) -> Result<Option<u64>, Error> {
     let mut rng = ChaCha20Rng::seed_from_u64(5);
-    signing_with::<Schnorr<Residues<M61>, Blake2s256>>(alloc, &mut rng, work, count)
+    signing_with::<Schnorr<G, D>>(alloc, &mut rng, work, count)
 }
 
 /// The work on encryption that a word names, `count` times.
-pub fn encryption(alloc: Global, work: &str, count: u64) -> Result<Option<u64>, Error> {
+pub fn encryption<G: CurveGroup>(
+    alloc: Global,
+    work: &str,
+    count: u64,
+) -> Result<Option<u64>, Error> {
     let mut rng = ChaCha20Rng::seed_from_u64(6);
-    encryption_over::<Residues<M61>>(alloc, &mut rng, work, count)
+    encryption_with::<G>(alloc, &mut rng, work, count)
 }
 
 // How many signatures of one message were made, or how often one was found valid.
@@ -75,7 +83,7 @@ fn verifications<S: SignatureScheme>(
 }
 
 // Ciphertexts of a message, each the message of the next; or decryptions, each message the first part of the next ciphertext.
-fn encryption_over<G: CurveGroup>(
+fn encryption_with<G: CurveGroup>(
     alloc: Global,
     rng: &mut ChaCha20Rng,
     work: &str,

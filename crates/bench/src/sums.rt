@@ -13,11 +13,9 @@ pub fn sum_of(bytes: &[u8]) -> u64 {
     sum
 }
 
-/// The last eight canonical bytes of a value as a number.
+/// The last eight canonical bytes of a value as a number, the last one first.
 pub fn sum_of_value<D: CanonicalSerialize>(alloc: Global, value: &D) -> Result<u64, Error> {
-    let mut sum = 0;
-    for byte in canonical_bytes(alloc, value)?.iter().rev().take(8) {
-        sum = sum << 8 | *byte as u64;
-    }
-    Ok(sum)
+    let mut bytes = canonical_bytes(alloc, value)?;
+    bytes.reverse();
+    Ok(sum_of(&bytes))
 }

@@ -24,19 +24,40 @@ pub fn checksum<P: Config<Leaf = Vec<u8>>>(
         _ => return Ok(None),
     };
     let leaves = leaves_of(alloc, size)?;
+    over_leaves::<P>(alloc, leaf, pair, &leaves, work, count)
+}
+
+fn over_leaves<P: Config<Leaf = Vec<u8>>>(
+    alloc: Global,
+    leaf: &LeafParam<P>,
+    pair: &TwoToOneParam<P>,
+    leaves: &[Vec<u8>],
+    work: &str,
+    count: u64,
+) -> Result<Option<u64>, Error> {
     if work == "build" {
-        return Ok(Some(builds::<P>(alloc, leaf, pair, &leaves, count)?));
+        return Ok(Some(builds::<P>(alloc, leaf, pair, leaves, count)?));
     }
-    let mut tree = tree_over::<P>(alloc, leaf, pair, &leaves)?;
-    let path = proof_of(alloc, &tree, 1)?;
-    let item = leaf_of(alloc, 1)?;
-    Ok(Some(match work {
-        "update" => updates(alloc, &mut tree, count)?,
-        "proof" => proofs(alloc, &tree, count)?,
-        "verify" => verifications(alloc, leaf, pair, &path, tree.root(), &item, count)?,
-        "bind" => bindings(alloc, &tree, &path, &item, count)?,
+    let mut tree = tree_over::<P>(alloc, leaf, pair, leaves)?;
+    in_tree(alloc, leaf, pair, &mut tree, work, count)
+}
+
+fn in_tree<P: Config<Leaf = Vec<u8>>>(
+    alloc: Global,
+    leaf: &LeafParam<P>,
+    pair: &TwoToOneParam<P>,
+    tree: &mut MerkleTree<P>,
+    work: &str,
+    count: u64,
+) -> Result<Option<u64>, Error> {
+    let sum = match work {
+        "update" => updates(alloc, tree, count),
+        "proof" => proofs(alloc, tree, count),
+        "verify" => verifications(alloc, leaf, pair, tree, count),
+        "bind" => bindings(alloc, tree, count),
         _ => return Ok(None),
-    }))
+    };
+    Ok(Some(sum?))
 }
 
 fn builds<P: Config<Leaf = Vec<u8>>>(
@@ -48,9 +69,19 @@ fn builds<P: Config<Leaf = Vec<u8>>>(
 ) -> Result<u64, Error> {
     let mut sum = 0;
     for _ in 0..count {
-        sum ^= sum_of_value(alloc, tree_over::<P>(alloc, leaf, pair, leaves)?.root())?;
+        sum ^= root_sum::<P>(alloc, leaf, pair, leaves)?;
     }
     Ok(sum)
+}
+
+fn root_sum<P: Config<Leaf = Vec<u8>>>(
+    alloc: Global,
+    leaf: &LeafParam<P>,
+    pair: &TwoToOneParam<P>,
+    leaves: &[Vec<u8>],
+) -> Result<u64, Error> {
+    let tree = tree_over::<P>(alloc, leaf, pair, leaves)?;
+    sum_of_value(alloc, tree.root())
 }
 
 fn updates<P: Config<Leaf = Vec<u8>>>(
@@ -59,10 +90,9 @@ fn updates<P: Config<Leaf = Vec<u8>>>(
     count: u64,
 ) -> Result<u64, Error> {
     for step in 0..count {
-        let item = leaf_of(alloc, step)?;
         let index = place(step, tree.size());
         if index < tree.size() {
-            tree.update(alloc, index, &item)?;
+            tree.update(alloc, index, &leaf_of(alloc, step)?)?;
         }
     }
     sum_of_value(alloc, tree.root())
@@ -77,34 +107,35 @@ fn proofs<P: Config>(alloc: Global, tree: &MerkleTree<P>, count: u64) -> Result<
     Ok(sum)
 }
 
-fn verifications<P: Config>(
+fn verifications<P: Config<Leaf = Vec<u8>>>(
     alloc: Global,
     leaf: &LeafParam<P>,
     pair: &TwoToOneParam<P>,
-    path: &Path<P>,
-    root: &P::InnerDigest,
-    item: &P::Leaf,
+    tree: &MerkleTree<P>,
     count: u64,
 ) -> Result<u64, Error> {
+    let item = leaf_of(alloc, 1)?;
+    let path = proof_of(alloc, tree, 1)?;
+    let root = tree.root();
     let mut accepted = 0u64;
     for _ in 0..count {
-        if path.verify(alloc, leaf, pair, root, item)? {
+        if path.verify(alloc, leaf, pair, root, &item)? {
             accepted = accepted.wrapping_add(1);
         }
     }
     Ok(accepted)
 }
 
-fn bindings<P: Config>(
+fn bindings<P: Config<Leaf = Vec<u8>>>(
     alloc: Global,
     tree: &MerkleTree<P>,
-    path: &Path<P>,
-    item: &P::Leaf,
     count: u64,
 ) -> Result<u64, Error> {
+    let item = leaf_of(alloc, 1)?;
+    let path = proof_of(alloc, tree, 1)?;
     let mut stands = 0u64;
     for _ in 0..count {
-        if tree.bind(alloc, path, item)? == Binding::Stands {
+        if tree.bind(alloc, &path, &item)? == Binding::Stands {
             stands = stands.wrapping_add(1);
         }
     }

@@ -3,9 +3,13 @@
 use crate::poseidon::{Fifth, Seventh};
 use crate::{blake2s, bowe_hopwood, fields, pedersen, poseidon, signatures, trees};
 use ark_crypto_primitives::Error;
+use ark_crypto_primitives::ec::Residues;
 use ark_crypto_primitives::ff::{BabyBear, Fp, Goldilocks, M61};
+use ark_crypto_primitives::prf::Blake2s256;
 use ark_crypto_primitives::trees::{Sha256Arrays, Sha256Strings};
 use std::alloc::Global;
+
+type Group = Residues<M61>;
 
 /// The checksum of the work that two words name, its name and how often it is done, if they name one.
 pub fn checksum(alloc: Global, words: &[String]) -> Result<Option<u64>, Error> {
@@ -26,8 +30,8 @@ pub fn checksum(alloc: Global, words: &[String]) -> Result<Option<u64>, Error> {
         "pedersen" => pedersen::checksum(alloc, work, count),
         "bowe" => bowe_hopwood::checksum(alloc, work, count),
         "poseidon" => poseidon_checksum(alloc, work, count),
-        "schnorr" => signatures::signing(alloc, work, count),
-        "elgamal" => signatures::encryption(alloc, work, count),
+        "schnorr" => signatures::signing::<Group, Blake2s256>(alloc, work, count),
+        "elgamal" => signatures::encryption::<Group>(alloc, work, count),
         "array" => trees::checksum::<Sha256Arrays>(alloc, &(), &(), work, count),
         _ => trees::checksum::<Sha256Strings>(alloc, &(), &(), name.as_str(), count),
     }
