@@ -42,13 +42,19 @@ fn signing_with<S: SignatureScheme>(
     work: &str,
     count: u64,
 ) -> Result<Option<u64>, Error> {
+    let signs = match work {
+        "sign" => true,
+        "verify" => false,
+        _ => return Ok(None),
+    };
     let pp = S::setup(alloc, rng)?;
     let (pk, sk) = S::keygen(alloc, &pp, rng)?;
-    match work {
-        "sign" => Ok(Some(signatures::<S>(alloc, &pp, &sk, rng, count)?)),
-        "verify" => Ok(Some(verifications::<S>(alloc, &pp, &pk, &sk, rng, count)?)),
-        _ => Ok(None),
-    }
+    let sum = if signs {
+        signatures::<S>(alloc, &pp, &sk, rng, count)
+    } else {
+        verifications::<S>(alloc, &pp, &pk, &sk, rng, count)
+    };
+    Ok(Some(sum?))
 }
 
 fn signatures<S: SignatureScheme>(
@@ -89,18 +95,21 @@ fn encryption_with<G: CurveGroup>(
     work: &str,
     count: u64,
 ) -> Result<Option<u64>, Error> {
+    let encrypts = match work {
+        "encrypt" => true,
+        "decrypt" => false,
+        _ => return Ok(None),
+    };
     let pp = ElGamal::<G>::setup(alloc, rng)?;
     let (pk, sk) = ElGamal::<G>::keygen(alloc, &pp, rng)?;
     let mut message = pp.generator;
     for i in 0..count {
-        message = match work {
-            "encrypt" => {
-                let r = Randomness(G::ScalarField::from_u64(i));
-                let (first, second) = ElGamal::<G>::encrypt(alloc, &pp, &pk, &message, &r)?;
-                first.add(second)
-            }
-            "decrypt" => ElGamal::<G>::decrypt(alloc, &pp, &sk, &(message, pp.generator))?,
-            _ => return Ok(None),
+        message = if encrypts {
+            let r = Randomness(G::ScalarField::from_u64(i));
+            let (first, second) = ElGamal::<G>::encrypt(alloc, &pp, &pk, &message, &r)?;
+            first.add(second)
+        } else {
+            ElGamal::<G>::decrypt(alloc, &pp, &sk, &(message, pp.generator))?
         };
     }
     Ok(Some(sum_of_value(alloc, &message)?))
