@@ -120,6 +120,24 @@ module _ {A Z : Type 0} (numbers : A → Digest) (digests : Vec A Z) (count : �
           ap (rows_in_order count) (map-set numbers digests.items at digest) ∙ ap (λ (n : ℕ). rows_in_order count (set (digests_of numbers digests) n (numbers digest))) at_is
           ∙ rows_in_order-set count row place (digests_of numbers digests) (numbers digest) row-below place-below ∙ ap (λ (rs : List (List Digest)). set rs row (set (get_or rs row []) place (numbers digest))) seen
 
+  module _ (row : ℕ) (row_in : row < length rows) (first : ℕ) (first_is : first ≡ 2 ^ (count - 1 - row) - 1 + 0) where
+    pub row-below_count : row < count
+    row-below_count = omega (arith, length-seen)
+
+    some_first : first + 1 ≡ 2 ^ (count - 1 - row)
+    some_first = omega (arith, first_is, pow_pos (count - 1 - row))
+
+    pub row-ends : first + (first + 1) ≤ length digests.items
+    row-ends =
+        let inside = position-inside count row (digests_of numbers digests) long_seen row-below_count first (omega (arith, some_first)) in
+        omega (arith, inside, some_first, length-map digests.items numbers)
+
+    pub row-read : (given part : List A) → given ≡ digests.items → part ≡ take (first + 1) (drop first given) → map numbers part ≡ get_or rows row []
+    row-read given part same is =
+        let at : first ≡ 2 ^ (count - 1 - row) - 1 = omega (arith, first_is) in
+        ap (map numbers) (is ∙ ap (λ (ds : List A). take (first + 1) (drop first ds)) same) ∙ sym (take-map numbers (first + 1) (drop first digests.items)) ∙ ap (take (first + 1)) (sym (drop-map numbers first digests.items))
+        ∙ rw (some_first, at) (sym (row-in_order count row (digests_of numbers digests) row-below_count)) ∙ ap (λ (rs : List (List Digest)). get_or rs row []) seen
+
 -- ---- rows that stand in turn, put into level order
 
 pub map-highest_row_first : {A : Type 0} (numbers : A → Digest) (n : ℕ) (digests : List A) → map numbers (highest_row_first n digests) ≡ highest_row_first n (map numbers digests)

@@ -1,5 +1,10 @@
 pub mod BitLemmas
 pub mod Binds
+pub mod Reached
+pub mod ChangedRows
+pub mod LastLeaves
+pub mod ChangedTrees
+pub mod Batches
 pub mod Bounds
 pub mod Changes
 pub mod Clients

@@ -80,17 +80,17 @@ IsStrictlyIncreasing-rise (x ∷ y ∷ xs) r (suc k) below = let next : suc k + 
 
 -- ---- a number at its place
 
-trichotomy : (n x : ℕ) → (n < x) ⊎ ((n ≡ x) ⊎ (x < n))
+pub trichotomy : (n x : ℕ) → (n < x) ⊎ ((n ≡ x) ⊎ (x < n))
 trichotomy n x = elim (cases_lt n x) [ inl lt ↦ inl lt | inr ge ↦ elim (cases_lt x n) [ inl gt ↦ inr (inr gt) | inr le ↦ inr (inl (omega arith)) ] ]
 
 module _ (n x : ℕ) (xs : List ℕ) where
-  placed-below : n < x → with_number n (x ∷ xs) ≡ n ∷ x ∷ xs
+  pub placed-below : n < x → with_number n (x ∷ xs) ≡ n ∷ x ∷ xs
   placed-below lt = let e : ltb n x ≡ true = lt-ltb _ _ lt in rw e refl
 
-  placed-same : n ≡ x → with_number n (x ∷ xs) ≡ x ∷ xs
+  pub placed-same : n ≡ x → with_number n (x ∷ xs) ≡ x ∷ xs
   placed-same same = let no : ltb n x ≡ false = le-ltb _ _ (omega arith) in let e : eqb n x ≡ true = eq-eqb n x same in rw (no, e) refl
 
-  placed-past : x < n → with_number n (x ∷ xs) ≡ x ∷ with_number n xs
+  pub placed-past : x < n → with_number n (x ∷ xs) ≡ x ∷ with_number n xs
   placed-past gt = let no : ltb n x ≡ false = le-ltb _ _ (omega arith) in let other : eqb n x ≡ false = ne_eqb n x (λ same. omega arith) in rw (no, other) refl
 
 module _ (n : ℕ) where

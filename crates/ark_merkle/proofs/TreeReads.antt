@@ -1,9 +1,9 @@
 -- What the calls of a tree read from its rows.
-use Rattle.std.proofs.Common.{◌≡◌, ℕ, ◌-◌, ◌<◌, ◌^◌, suc, List, [], length, get_or, Ok, arith, ap, sym, subst, ◌∙◌}
+use Rattle.std.proofs.Common.{◌≡◌, ℕ, ◌-◌, ◌<◌, ◌^◌, suc, List, [], length, get_or, Ok, arith, refl, ap, sym, subst, ◌∙◌}
 use Rattle.ark_base.specs.Outcome.{Outcome}
 use Rattle.ark_merkle.specs.Index.{log2, neighbour}
 use Rattle.ark_merkle.specs.Pair.{Digest, HashPair}
-use Rattle.ark_merkle.specs.Root.{root, upper_levels}
+use Rattle.ark_merkle.specs.Root.{root, leaves_with_root, upper_levels}
 use Rattle.ark_merkle.specs.Rows.{IsTree, HoldsIndex, beside_in}
 use Rattle.ark_merkle.specs.Tree.{Tree, HashedTree, own_path}
 use Rattle.ark_merkle.proofs.Logs.{log2-pow}
@@ -45,3 +45,7 @@ module _ (h : HashPair) (leaves : List Digest) (rows : List (List Digest)) (tree
   own_path-read index n sibling above inside beside count is =
       let last : n - 1 ≡ upper_levels leaves = omega (arith, count, tree.count) in
       own_path-rows h leaves rows tree index inside above (rw last at is) ∙ ap (λ (d : Digest). record { sibling = d; above = above; index = index }) beside
+
+  -- the leaf digests have a root
+  pub rooted-leaves : leaves_with_root h leaves ≡ Ok leaves
+  rooted-leaves = rw (root-top h leaves rows tree) refl

@@ -15,4 +15,7 @@ pub mod MultiPathBytes
 pub mod MultiPathStrict
 pub mod Leaves
 pub mod MultiProof
+pub mod Above
+pub mod Batch
+pub mod Changed
 pub mod Laws

@@ -7,8 +7,10 @@ ghost use Rattle.ark_merkle.specs.Pair.{pair_of};
 ghost use Rattle.ark_merkle.specs.Rows.{IsTree, digests_of};
 ghost use Rattle.ark_merkle.specs.Tree.{Tree, HashedTree, tree_of, tree_above, root_in, path_in, IsAccepted};
 
+mod batch;
 mod bind;
 mod build;
+mod changes;
 mod levels;
 mod multi_proof;
 mod rows;

@@ -1,6 +1,6 @@
 //! The digests above the leaf digests, in one list.
 
-ghost use Rattle.std.specs.Prelude.{◌≡◌, ◌<◌, ◌≤◌, ◌+◌, ◌-◌, ◌^◌, ◌++◌, List, [], length, take, drop, reverse, get_or, set};
+ghost use Rattle.std.specs.Prelude.{◌≡◌, ◌<◌, ◌≤◌, ◌+◌, ◌-◌, ◌^◌, ◌++◌, List, [], length, map, take, drop, reverse, get_or, set};
 ghost use Rattle.ark_merkle.specs.LevelOrder.{rows_in_order, rows_in_turn, highest_row_first};
 ghost use Rattle.ark_merkle.specs.Pair.{Digest};
 ghost use Rattle.ark_merkle.specs.Rows.{digests_of};
@@ -38,6 +38,14 @@ fn position(count: usize, row: usize, place: usize) -> usize
     ensures { result ≡ 2 ^ (count - 1 - row) - 1 + place }
 {
     (1usize << (count - 1 - row)) - 1 + place
+}
+
+// The digests from one on, of which there are so many.
+fn part_of<D: DigestItem>(digests: &[D], first: usize, count: usize) -> &[D]
+    requires { first + count ≤ length digests.now }
+    ensures { result.now ≡ take count (drop first digests.now) }
+{
+    &digests[first..first + count]
 }
 
 // Reverses the digests from one on, of which there are so many.
@@ -87,6 +95,15 @@ impl<D: DigestItem> Levels<D> {
         ensures { D.numbers result.now ≡ get_or (get_or self.now row []) place [] }
     {
         &self.digests[position(self.count, row, place)]
+    }
+
+    /// The digests of a row.
+    pub fn row(&self, row: usize) -> &[D]
+        requires { row < length self.now }
+        ensures { map D.numbers result.now ≡ get_or self.now row [] }
+    {
+        let first = position(self.count, row, 0);
+        part_of(&self.digests, first, first + 1)
     }
 
     /// Exchanges the digest at a place of a row with another one.

@@ -1,0 +1,13 @@
+use Rattle.std.proofs.Common.{Bor}
+use Rattle.std.proofs.lemmas.List.{map_push}
+use Rattle.ark_merkle.specs.Batch.{last_changes}
+use Rattle.ark_merkle.specs.Changed.{seen_changes}
+use Rattle.ark_merkle.proofs.Batches.{hashed_so_far-more}
+use Rattle.ark_merkle.proofs.tree.batch.hash_last.Goals as goal
+
+pub loop-index-preserved : goal.loop-index-preserved
+loop-index-preserved g c =
+    let numbers = g.H.Output.Numbered.numbers in
+    rw (c.in_ok-push.ensures.items, map_push)
+    (hashed_so_far-more (g.H.CRHScheme.meaning c.args.parameters.now) (last_changes c.args.changes.now) (seen_changes numbers c.loop-index.digests.items) (c.in-Some.index.now, c.in-Some.leaf.now.now) (seen_changes (λ (leaf : Bor _). leaf.now) c.next.new.self) _
+    (rw c.in-Some.ensures.steps at c.loop-index.invariant) c.in_ok-evaluate.ensures)

@@ -1,0 +1,10 @@
+use Rattle.std.proofs.Common.{Bor}
+use Rattle.ark_merkle.specs.Batch.{last_changes}
+use Rattle.ark_merkle.specs.Changed.{seen_changes}
+use Rattle.ark_merkle.proofs.Batches.{AreHashedSoFar}
+use Rattle.ark_merkle.proofs.tree.batch.hash_last.Given as goal
+
+-- the leaves before those that are left are hashed
+abbrev pub invariant-loop-index : goal.invariant-loop-index
+invariant-loop-index g l =
+    AreHashedSoFar (g.H.CRHScheme.meaning l.parameters) (last_changes l.changes) (seen_changes g.H.Output.Numbered.numbers l.digests.items) (seen_changes (λ (leaf : Bor _). leaf.now) l.index-iterator)

@@ -1,0 +1,153 @@
+//! Changes of several leaves at once.
+
+ghost use Rattle.std.specs.Prelude.{◌≡◌, ◌<◌, ℕ, [], ◌∷◌, map, length, IfOk, OnErr, Ok};
+ghost use Rattle.std.specs.List.{All};
+ghost use Rattle.ark_base.specs.Outcome.{AnswersBy};
+ghost use Rattle.ark_merkle.specs.Above.{count_above};
+ghost use Rattle.ark_merkle.specs.Batch.{with_change, last_changes, hashed_changes, puts, with_leaves, with_each_leaf};
+ghost use Rattle.ark_merkle.specs.Changed.{seen_changes, entered, AreChanges, Rise, count_over};
+ghost use Rattle.ark_merkle.specs.Index.{log2};
+ghost use Rattle.ark_merkle.specs.Root.{leaves_with_root};
+ghost use Rattle.ark_merkle.specs.Rows.{IsTree};
+ghost use Rattle.ark_merkle.specs.Update.{with_leaf};
+
+use crate::config::{Config, TwoToOneParam};
+use crate::tree::MerkleTree;
+use crate::tree::changes::{change_rows, hash_reached_leaves, put_changes};
+use crate::tree::levels::Levels;
+use crate::views::Views;
+use ark_base::error::Error;
+use ark_crh::CRHScheme;
+use std::alloc::Global;
+use std::collections::BTreeMap;
+
+impl<P: Views> MerkleTree<P> {
+    /// Puts leaves in the places of those at indexes below the size. Where an index is changed twice, the last leaf counts,
+    /// and the others are not hashed.
+    ///
+    /// Refusals, which leave the tree as it was: that of the first leaf by rising index whose hash refuses; else that of
+    /// the new leaf digests' halving; `OutOfMemory`.
+    pub fn update_many(&mut self, alloc: Global, changes: &[(usize, P::Leaf)]) -> Result<(), Error>
+        requires { All (λ change. change.0 < length self.old.leaves) changes.now }
+        ensures tree { let new = with_leaves (P.tree self.old) changes.now in
+            AnswersBy (λ _. P.tree self.new) new result }
+        ensures refused { OnErr result (self.new ≡ self.old) }
+
+        // With one change it is `update`.
+        ensures one_change { let old = P.tree self.old in (index : ℕ) (leaf : _) →
+            with_leaves old ((index, leaf) ∷ []) ≡ with_leaf old index leaf }
+
+        // Where the same changes one after the other all succeed, they give this tree.
+        ensures one_by_one { (tree : _) → with_each_leaf (P.tree self.old) changes.now ≡ Ok tree
+            → with_leaves (P.tree self.old) changes.now ≡ Ok tree }
+    {
+        self.update_many_counting(alloc, changes)?;
+        Ok(())
+    }
+
+    /// As `update_many`, and answers how many pairs were hashed: each place above a changed leaf is hashed once.
+    pub fn update_many_counting(
+        &mut self,
+        alloc: Global,
+        changes: &[(usize, P::Leaf)],
+    ) -> Result<usize, Error>
+        requires { All (λ change. change.0 < length self.old.leaves) changes.now }
+        ensures tree { let new = with_leaves (P.tree self.old) changes.now in
+            AnswersBy (λ _. P.tree self.new) new result }
+        ensures count { let indexes = map (λ change. change.0) changes.now in
+            let levels = log2 (length self.old.leaves) in
+            IfOk result (λ count. count ≡ count_above levels indexes) }
+        ensures refused { OnErr result (self.new ≡ self.old) }
+        ensures one_by_one { (tree : _) → with_each_leaf (P.tree self.old) changes.now ≡ Ok tree
+            → with_leaves (P.tree self.old) changes.now ≡ Ok tree }
+    {
+        let digests = hash_last::<P::LeafHash>(alloc, &self.leaf_parameters, changes)?;
+        change_leaves::<P>(
+            alloc,
+            &self.pair_parameters,
+            &mut self.leaves,
+            &mut self.rows,
+            digests,
+        )
+    }
+}
+
+// Puts changed leaf digests in their places, and in the rows above them what these then hash to; answers how many pairs were
+// hashed.
+fn change_leaves<P: Config>(
+    alloc: Global,
+    pair_parameters: &TwoToOneParam<P>,
+    leaves: &mut [P::LeafDigest],
+    rows: &mut Levels<P::InnerDigest>,
+    changes: Vec<(usize, P::LeafDigest)>,
+) -> Result<usize, Error>
+    requires tree { let h = ⟦<P as Views>⟧.pair pair_parameters.now in
+        IsTree h (map P.LeafDigest.numbers leaves.old) rows.old }
+    requires changes { AreChanges 0 (length leaves.old) changes.items }
+    ensures leaves { let h = ⟦<P as Views>⟧.pair pair_parameters.now in
+        let numbers = P.LeafDigest.numbers in
+        let new = puts (map numbers leaves.old) (seen_changes numbers changes.items) in
+        AnswersBy (λ _. map numbers leaves.new) (leaves_with_root h new) result }
+    ensures tree { let h = ⟦<P as Views>⟧.pair pair_parameters.now in
+        IsTree h (map P.LeafDigest.numbers leaves.new) rows.new }
+    ensures count { IfOk result (λ count.
+        count ≡ count_over (length rows.old) (map (λ c. c.0) changes.items)) }
+    ensures refused { OnErr result (leaves.new ≡ leaves.old) }
+    ensures refused_rows { OnErr result (rows.new ≡ rows.old) }
+{
+    let above = hash_reached_leaves::<P>(alloc, pair_parameters, leaves, &changes)?;
+    let hashed = above.len();
+    let more = change_rows::<P::TwoToOneHash>(alloc, pair_parameters, rows, 0, above)?;
+    put_changes(leaves, changes);
+    Ok(hashed + more)
+}
+
+// Enters a change, unless there is one of its index.
+fn enter<'a, L>(
+    last: &mut BTreeMap<usize, &'a L, Global>,
+    index: usize,
+    leaf: &'a L,
+) -> Result<(), Error>
+    requires { Rise 0 (entered last.old) }
+    ensures { let changes = with_change (index, leaf.now) (entered last.old) in
+        AnswersBy (λ _. entered last.new) (Ok changes) result }
+{
+    if last.contains_key(&index) {
+        return Ok(());
+    }
+    last.insert(index, leaf)?;
+    Ok(())
+}
+
+// The last leaf of each changed index: the changes are entered from the last one on.
+fn last_leaves<'a, L>(
+    alloc: Global,
+    changes: &'a [(usize, L)],
+) -> Result<BTreeMap<usize, &'a L, Global>, Error>
+    ensures { AnswersBy entered (Ok (last_changes changes.now)) result }
+{
+    let mut last = BTreeMap::new(alloc);
+    for n in 0..changes.len() {
+        let (index, leaf) = &changes[changes.len() - 1 - n];
+        enter(&mut last, *index, leaf)?;
+    }
+    Ok(last)
+}
+
+// The digest of the last leaf of each changed index.
+fn hash_last<H: CRHScheme>(
+    alloc: Global,
+    parameters: &H::Parameters,
+    changes: &[(usize, H::Input)],
+) -> Result<Vec<(usize, H::Output)>, Error>
+    ensures { let hashed = hashed_changes (H.meaning parameters.now) in
+        AnswersBy (λ digests. seen_changes H.Output.numbers digests.items)
+        (hashed (last_changes changes.now)) result }
+{
+    let last = last_leaves(alloc, changes)?;
+    let mut digests = Vec::with_capacity(alloc, last.len())?;
+    for (index, leaf) in &last {
+        digests.push((*index, H::evaluate(alloc, parameters, leaf)?))?;
+    }
+    Ok(digests)
+}

@@ -1,0 +1,200 @@
+//! Changed digests of a row, and what they change above it.
+
+ghost use Rattle.std.specs.Prelude.{◌≡◌, ◌<◌, ◌≤◌, ◌-◌, ◌/◌, ◌%◌, ◌^◌, ℕ, [], ◌∷◌, map, length, take, drop, get_or, set, slice_index, IfOk, OnErr};
+ghost use Rattle.ark_base.specs.Outcome.{AnswersBy};
+ghost use Rattle.ark_merkle.specs.Batch.{hashed_changes, puts};
+ghost use Rattle.ark_merkle.specs.Changed.{seen_changes, AreChanges, AreHashed, couples_reached, count_over};
+ghost use Rattle.ark_merkle.specs.Rows.{rows_from};
+
+use crate::config::{Config, TwoToOneParam};
+use crate::index::is_bit_set;
+use crate::pair::hash_bottom;
+use crate::tree::levels::Levels;
+use crate::views::Views;
+use ark_base::error::Error;
+use ark_base::serialize::DigestItem;
+use ark_crh::TwoToOneCRHScheme;
+use std::alloc::Global;
+use std::mem::swap;
+
+// A couple of a row that changes reach, as it becomes.
+struct Reached<'a, D: DigestItem> {
+    // The couple's place in the row above.
+    place: usize,
+    left: &'a D,
+    right: &'a D,
+    // The first change behind it.
+    behind: usize,
+}
+
+// The couple of a row that a change reaches.
+fn reached_by<'a, D: DigestItem>(
+    row: &'a [D],
+    changes: &'a [(usize, D)],
+    next: usize,
+) -> Reached<'a, D>
+    requires even { length row.now % 2 ≡ 0 }
+    requires changes { AreChanges 0 (length row.now) changes.now }
+    requires next { next < length changes.now }
+    ensures reached { let row = map D.numbers row.now in
+        let from = λ (n : ℕ). couples_reached row (seen_changes D.numbers (drop n changes.now)) in
+        from next ≡ (result.place, (D.numbers result.left.now, D.numbers result.right.now))
+        ∷ from result.behind }
+    ensures more { next < result.behind }
+    ensures inside { result.behind ≤ length changes.now }
+{
+    let (index, digest) = &changes[next];
+    let place = *index / 2;
+    if next + 1 < changes.len() && changes[next + 1].0 / 2 == place {
+        Reached {
+            place,
+            left: digest,
+            right: &changes[next + 1].1,
+            behind: next + 2,
+        }
+    } else if is_bit_set(*index, 0) {
+        Reached {
+            place,
+            left: &row[2 * place],
+            right: digest,
+            behind: next + 1,
+        }
+    } else {
+        Reached {
+            place,
+            left: digest,
+            right: &row[2 * place + 1],
+            behind: next + 1,
+        }
+    }
+}
+
+// The hashes of the couples of a row that changes reach.
+fn hash_reached<H: TwoToOneCRHScheme>(
+    alloc: Global,
+    pair_parameters: &H::Parameters,
+    row: &[H::Output],
+    changes: &[(usize, H::Output)],
+) -> Result<Vec<(usize, H::Output)>, Error>
+    requires even { length row.now % 2 ≡ 0 }
+    requires changes { AreChanges 0 (length row.now) changes.now }
+    ensures { let numbers = H.Output.numbers in
+        let couples = couples_reached (map numbers row.now) (seen_changes numbers changes.now) in
+        let hash = H.compressed pair_parameters.now in
+        AnswersBy (λ above. seen_changes numbers above.items)
+        (hashed_changes (λ couple. hash couple.0 couple.1) couples) result }
+{
+    let mut above = Vec::with_capacity(alloc, changes.len())?;
+    let mut next = 0;
+    while next < changes.len() {
+        let Reached {
+            place,
+            left,
+            right,
+            behind,
+        } = reached_by(row, changes, next);
+        let up = H::compress(alloc, pair_parameters, left, right)?;
+        above.push((place, up))?;
+        next = behind;
+    }
+    Ok(above)
+}
+
+/// The hashes of the couples of leaf digests that changes reach.
+pub fn hash_reached_leaves<P: Config>(
+    alloc: Global,
+    pair_parameters: &TwoToOneParam<P>,
+    leaves: &[P::LeafDigest],
+    changes: &[(usize, P::LeafDigest)],
+) -> Result<Vec<(usize, P::InnerDigest)>, Error>
+    requires even { length leaves.now % 2 ≡ 0 }
+    requires changes { AreChanges 0 (length leaves.now) changes.now }
+    ensures { let numbers = P.LeafDigest.numbers in
+        let couples = couples_reached (map numbers leaves.now) (seen_changes numbers changes.now) in
+        let hash = (⟦<P as Views>⟧.pair pair_parameters.now).bottom in
+        AnswersBy (λ above. seen_changes P.InnerDigest.numbers above.items)
+        (hashed_changes (λ couple. hash couple.0 couple.1) couples) result }
+{
+    let mut above = Vec::with_capacity(alloc, changes.len())?;
+    let mut next = 0;
+    while next < changes.len() {
+        let Reached {
+            place,
+            left,
+            right,
+            behind,
+        } = reached_by(leaves, changes, next);
+        let up = hash_bottom::<P>(alloc, pair_parameters, left, right)?;
+        above.push((place, up))?;
+        next = behind;
+    }
+    Ok(above)
+}
+
+// Exchanges the digest at a place of a list with another one.
+fn exchange<D: DigestItem>(digests: &mut [D], place: usize, digest: &mut D)
+    requires { place < length digests.old }
+    ensures { digests.new ≡ set digests.old place digest.old }
+{
+    swap(&mut digests[place], digest);
+}
+
+/// Puts changed digests into a list.
+pub fn put_changes<D: DigestItem>(digests: &mut [D], mut changes: Vec<(usize, D)>)
+    requires { AreChanges 0 (length digests.old) changes.items }
+    ensures { map D.numbers digests.new
+        ≡ puts (map D.numbers digests.old) (seen_changes D.numbers changes.items) }
+{
+    for n in 0..changes.len() {
+        let (place, digest) = &mut changes[n];
+        exchange(digests, *place, digest);
+    }
+}
+
+// Puts changed digests into a row.
+fn put_in_row<D: DigestItem>(rows: &mut Levels<D>, row: usize, mut changes: Vec<(usize, D)>)
+    requires row { row < length rows.old }
+    requires changes { AreChanges 0 (length (get_or rows.old row [])) changes.items }
+    ensures { let new = puts (get_or rows.old row []) (seen_changes D.numbers changes.items) in
+        rows.new ≡ set rows.old row new }
+{
+    for n in 0..changes.len() {
+        let (place, digest) = &mut changes[n];
+        rows.exchange(row, *place, digest);
+    }
+}
+
+/// Puts changed digests into a row, and into the rows above it what these then hash to. All is hashed before anything is
+/// written, each place once; answers how many.
+pub fn change_rows<H: TwoToOneCRHScheme>(
+    alloc: Global,
+    pair_parameters: &H::Parameters,
+    rows: &mut Levels<H::Output>,
+    row: usize,
+    changes: Vec<(usize, H::Output)>,
+) -> Result<usize, Error>
+    requires row { row < length rows.old }
+    requires size { length (get_or rows.old row []) ≡ 2 ^ (length rows.old - 1 - row) }
+    requires hashed { AreHashed (H.compressed pair_parameters.now) rows.old }
+    requires changes { AreChanges 0 (length (get_or rows.old row [])) changes.items }
+    ensures rows { let changed = seen_changes H.Output.numbers changes.items in
+        let new = puts (get_or rows.old row []) changed in
+        let left = length rows.old - 1 - row in
+        AnswersBy (λ _. drop row rows.new) (rows_from (H.compressed pair_parameters.now) left new)
+        result }
+    ensures length { length rows.new ≡ length rows.old }
+    ensures below { take row rows.new ≡ take row rows.old }
+    ensures count { IfOk result (λ count.
+        count ≡ count_over (length rows.old - 1 - row) (map (λ c. c.0) changes.items)) }
+    ensures refused { OnErr result (rows.new ≡ rows.old) }
+{
+    if rows.len() == row + 1 {
+        put_in_row(rows, row, changes);
+        return Ok(0);
+    }
+    let above = hash_reached::<H>(alloc, pair_parameters, rows.row(row), &changes)?;
+    let hashed = above.len();
+    let more = change_rows::<H>(alloc, pair_parameters, rows, row + 1, above)?;
+    put_in_row(rows, row, changes);
+    Ok(hashed + more)
+}
