@@ -1,3 +1,4 @@
+pub mod Changes
 pub mod Cutting
 pub mod Findings
 pub mod StrictFindings

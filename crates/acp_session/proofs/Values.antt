@@ -1,7 +1,7 @@
 -- What tokens say, one after the other.
 use Rattle.std.proofs.Common.{◌≡◌, Bor, true, ℕ, ◌+◌, List, [], ◌∷◌, ◌++◌, length, Option, Some, None, refl, sym, ap, ◌∙◌, append_assoc, append-nil}
 use Rattle.std.specs.Option.{option_map, option_copied, is_some}
-use Rattle.acp_session.specs.Arguments.{onto_all, values, some_values}
+use Rattle.acp_session.specs.Arguments.{onto_all}
 use Rattle.acp_session.specs.declared.keyword.Keyword.TheVariants.{Root}
 use Rattle.acp_session.specs.Language.{Language}
 use Rattle.acp_session.specs.Lines.{tokens_of, tokens_left}
@@ -17,28 +17,32 @@ abbrev pub left_size : Option (List ℕ) → ℕ
 left_size None = 0
 left_size (Some bytes) = 1 + length bytes
 
-module _ {A : Type 0} (said : List ℕ → Option A) where
+module _ {A : Type 0} where
+  pub behind-start : (front : List A) (rest : Option (List A)) → front ≡ [] → rest ≡ behind front rest
+  behind-start front None none = refl
+  behind-start front (Some more) none = rw none refl
+
   behind-onto : (front : List A) (x : A) (rest : Option (List A)) → behind front (onto_all (Some x) rest) ≡ behind (front ++ x ∷ []) rest
   behind-onto front x None = refl
   behind-onto front x (Some more) = ap (λ (xs : List A). Some xs) (sym (append_assoc front (x ∷ []) more))
 
-  pub behind-more : (whole : Option (List A)) (front : List A) (token : List ℕ) (tokens : List (List ℕ)) (x : A) → whole ≡ behind front (values said (token ∷ tokens)) → said token ≡ Some x → whole ≡ behind (front ++ x ∷ []) (values said tokens)
-  behind-more whole front token tokens x so is = so ∙ rw is (behind-onto front x (values said tokens))
+  pub behind-more : (whole : Option (List A)) (front : List A) (said : Option A) (rest : Option (List A)) (x : A) → whole ≡ behind front (onto_all said rest) → said ≡ Some x → whole ≡ behind (front ++ x ∷ []) rest
+  behind-more whole front said rest x so is = so ∙ rw is (behind-onto front x rest)
 
-  pub behind-nothing : (whole : Option (List A)) (front : List A) (token : List ℕ) (tokens : List (List ℕ)) → whole ≡ behind front (values said (token ∷ tokens)) → said token ≡ None → whole ≡ None
-  behind-nothing whole front token tokens so is = so ∙ rw is refl
+  pub behind-nothing : (whole : Option (List A)) (front : List A) (said : Option A) (rest : Option (List A)) → whole ≡ behind front (onto_all said rest) → said ≡ None → whole ≡ None
+  behind-nothing whole front said rest so is = so ∙ rw is refl
 
-  pub behind-all : (whole : Option (List A)) (front : List A) → whole ≡ behind front (values said []) → whole ≡ Some front
+  pub behind-all : (whole : Option (List A)) (front : List A) → whole ≡ behind front (Some []) → whole ≡ Some front
   behind-all whole front so = so ∙ ap (λ (xs : List A). Some xs) (append-nil front)
 
 -- what is left of a line has a token
-pub some_values-left : {A : Type 0} (value : List ℕ → Option A) (left : Option (Bor (List ℕ))) → is_some left ≡ true → values value (tokens_left (option_copied left)) ≡ some_values value (tokens_left (option_copied left))
-some_values-left value None some = absurd cc
-some_values-left value (Some line) some = by_tokens (tokens_of line.now) (tokens_of-some line.now)
+pub all_left : {A : Type 0} (said told : List (List ℕ) → A) → ((token : List ℕ) (tokens : List (List ℕ)) → said (token ∷ tokens) ≡ told (token ∷ tokens)) → (left : Option (Bor (List ℕ))) → is_some left ≡ true → said (tokens_left (option_copied left)) ≡ told (tokens_left (option_copied left))
+all_left said told same None some = absurd cc
+all_left said told same (Some line) some = by_tokens (tokens_of line.now) (tokens_of-some line.now)
   where
-    by_tokens : (tokens : List (List ℕ)) → (tokens ≡ [] → ⊥) → values value tokens ≡ some_values value tokens
+    by_tokens : (tokens : List (List ℕ)) → (tokens ≡ [] → ⊥) → said tokens ≡ told tokens
     by_tokens [] none = absurd (none refl)
-    by_tokens (token ∷ tokens) none = refl
+    by_tokens (token ∷ tokens) none = same token tokens
 
 -- what is seen of what is seen
 pub option_map-seen : {A B C : Type 0} (seen : A → B) (more : B → C) (x : Option A) → option_map (λ a. more (seen a)) x ≡ option_map more (option_map seen x)

@@ -36,6 +36,19 @@ two_values value other (first ∷ []) = None
 two_values value other (first ∷ second ∷ []) = both_values (value first) (other second)
 two_values value other (first ∷ second ∷ more ∷ tokens) = None
 
+-- the values of tokens two by two, where their number is even
+abbrev pub pairs : {A B : Type 0} → (List ℕ → Option A) → (List ℕ → Option B) → List (List ℕ) → Option (List (A × B))
+pairs value other [] = Some []
+pairs value other (first ∷ []) = None
+pairs value other (first ∷ second ∷ tokens) =
+    onto_all (both_values (value first) (other second)) (pairs value other tokens)
+
+-- the values of two tokens or more
+abbrev pub some_pairs : {A B : Type 0} → (List ℕ → Option A) → (List ℕ → Option B) → List (List ℕ)
+    → Option (List (A × B))
+some_pairs value other [] = None
+some_pairs value other (token ∷ tokens) = pairs value other (token ∷ tokens)
+
 -- the value of a first token, and those of the others
 abbrev pub value_and_others : {A B : Type 0} → (List ℕ → Option A) → (List ℕ → Option B) → List (List ℕ)
     → Option (A × List B)

@@ -5,10 +5,10 @@ use Rattle.std.specs.Str.{bytes_eq}
 use Rattle.ark_base.specs.Outcome.{Outcome}
 use Rattle.ark_merkle.specs.Pair.{Digest}
 use Rattle.acp_session.specs.declared.line.Line.{Line}
-use Rattle.acp_session.specs.declared.line.Line.TheVariants.{Tree, Digests, Set, Root, Proof, Check, Bind, Multi, MultiCheck, Strict}
+use Rattle.acp_session.specs.declared.line.Line.TheVariants.{Tree, Digests, Set, SetMany, Root, Proof, Check, Bind, Multi, MultiCheck, Strict}
 use Rattle.acp_session.specs.declared.keyword.Keyword.{Keyword}
-use Rattle.acp_session.specs.declared.keyword.Keyword.TheVariants.{Tree as TreeWord, Digests as DigestsWord, Set as SetWord, Root as RootWord, Proof as ProofWord, Check as CheckWord, Bind as BindWord, Multi as MultiWord, MultiCheck as MultiCheckWord, Strict as StrictWord}
-use Rattle.acp_session.specs.Arguments.{values, some_values, only_value, two_values, value_and_others}
+use Rattle.acp_session.specs.declared.keyword.Keyword.TheVariants.{Tree as TreeWord, Digests as DigestsWord, Set as SetWord, SetMany as SetManyWord, Root as RootWord, Proof as ProofWord, Check as CheckWord, Bind as BindWord, Multi as MultiWord, MultiCheck as MultiCheckWord, Strict as StrictWord}
+use Rattle.acp_session.specs.Arguments.{values, some_values, only_value, two_values, some_pairs, value_and_others}
 use Rattle.acp_session.specs.Language.{Language}
 use Rattle.acp_session.specs.Tokens.{index_of}
 
@@ -17,6 +17,7 @@ pub data Request : Type 0 where
   NewTree : (leaves : List (Outcome Digest)) → Request
   NewTreeOfDigests : (digests : List Digest) → Request
   NewLeaf : (index : ℕ) (leaf : Outcome Digest) → Request
+  NewLeaves : (changes : List (ℕ × Outcome Digest)) → Request
   ShowRoot : Request
   ShowProof : (index : ℕ) → Request
   CheckPath : (path : List ℕ) (leaf : Outcome Digest) → Request
@@ -31,6 +32,7 @@ keyword_of token =
     if bytes_eq token (codes "tree") then Some TreeWord
     else if bytes_eq token (codes "digests") then Some DigestsWord
     else if bytes_eq token (codes "set") then Some SetWord
+    else if bytes_eq token (codes "setmany") then Some SetManyWord
     else if bytes_eq token (codes "root") then Some RootWord
     else if bytes_eq token (codes "proof") then Some ProofWord
     else if bytes_eq token (codes "check") then Some CheckWord
@@ -46,6 +48,7 @@ request_by l None tokens = None
 request_by l (Some TreeWord) tokens = option_map NewTree (some_values l.leaf_outcome tokens)
 request_by l (Some DigestsWord) tokens = option_map NewTreeOfDigests (some_values l.digest tokens)
 request_by l (Some SetWord) tokens = option_map (λ two. NewLeaf two.0 two.1) (two_values index_of l.leaf_outcome tokens)
+request_by l (Some SetManyWord) tokens = option_map NewLeaves (some_pairs index_of l.leaf_outcome tokens)
 request_by l (Some RootWord) [] = Some ShowRoot
 request_by l (Some RootWord) (token ∷ tokens) = None
 request_by l (Some ProofWord) tokens = option_map ShowProof (only_value index_of tokens)
@@ -66,6 +69,7 @@ abbrev pub asked : {L D : Type 0} → (L → Outcome Digest) → (D → Digest) 
 asked hash numbers (Tree leaves) = NewTree (map hash leaves.items)
 asked hash numbers (Digests digests) = NewTreeOfDigests (map numbers digests.items)
 asked hash numbers (Set index leaf) = NewLeaf index (hash leaf)
+asked hash numbers (SetMany changes) = NewLeaves (map (λ change. (change.0, hash change.1)) changes.items)
 asked hash numbers Root = ShowRoot
 asked hash numbers (Proof index) = ShowProof index
 asked hash numbers (Check path leaf) = CheckPath path.items (hash leaf)

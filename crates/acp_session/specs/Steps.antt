@@ -1,9 +1,10 @@
 -- What a line does to the tree, and the reply to it.
-use Rattle.std.specs.Prelude.{◌≡◌, ◌⊎◌, ℕ, nat_lt, length, List, [], ◌∷◌, Bool, true, ◌&&◌, if◌then◌else◌, Option, Some, None, Ok, Err}
+use Rattle.std.specs.Prelude.{◌≡◌, ◌⊎◌, ℕ, nat_lt, length, map, List, [], ◌∷◌, Bool, true, ◌&&◌, if◌then◌else◌, Option, Some, None, Ok, Err}
 use Rattle.std.specs.Option.{option_map}
 use Rattle.ark_base.specs.declared.error.Error.TheVariants.{OutOfMemory}
 use Rattle.ark_base.specs.Outcome.{Outcome, ◌>>=◌}
 use Rattle.ark_base.specs.Reading.{Reading, reading_outcome}
+use Rattle.ark_merkle.specs.Batch.{new_digests}
 use Rattle.ark_merkle.specs.Bind.{path_binding}
 use Rattle.ark_merkle.specs.Index.{is_tree_size}
 use Rattle.ark_merkle.specs.MultiPath.{MultiWay, multi_verdict}
@@ -17,7 +18,7 @@ use Rattle.ark_merkle.specs.Update.{changed_leaves}
 use Rattle.acp_session.specs.Language.{Language}
 use Rattle.acp_session.specs.Lines.{tokens_of}
 use Rattle.acp_session.specs.Replies.{Reply, BadLine, NoTree, NotLeaves, NoIndex, Trailing, Refused, Built, Root, Proof, Verdict, Changed, Bound, MultiProof, Strict, MayLackMemory, text}
-use Rattle.acp_session.specs.Requests.{Request, NewTree, NewTreeOfDigests, NewLeaf, ShowRoot, ShowProof, CheckPath, BindPath, ShowMultiProof, CheckMultiProof, ReadStrictly, request_of}
+use Rattle.acp_session.specs.Requests.{Request, NewTree, NewTreeOfDigests, NewLeaf, NewLeaves, ShowRoot, ShowProof, CheckPath, BindPath, ShowMultiProof, CheckMultiProof, ReadStrictly, request_of}
 
 -- the tree's leaf digests, or no tree yet
 abbrev pub State : Type 0
@@ -62,7 +63,7 @@ abbrev pub Settles : {L T : Type 0} → Option (Tree L T) → Outcome (Tree L T)
 Settles before (Ok new) after bytes = (after ≡ Some new) × (bytes ≡ text (Built (length new.leaves)))
 Settles before (Err error) after bytes = (after ≡ before) × (bytes ≡ text (Refused error))
 
--- ---- a new leaf
+-- ---- new leaves
 
 abbrev pub new_leaf_turn : State → Outcome (List Digest) → Turn
 new_leaf_turn before (Ok digests) = (Changed, Some digests)
@@ -73,6 +74,24 @@ set_turn l None index leaf = (NoTree, None)
 set_turn l (Some digests) index leaf =
     if nat_lt index (length digests)
     then new_leaf_turn (Some digests) (changed_leaves l.pair_hashes leaf index digests)
+    else ((NoIndex, Some digests))
+
+-- whether each index is below a size
+abbrev pub all_below : ℕ → List ℕ → Bool
+all_below size [] = true
+all_below size (index ∷ indexes) = nat_lt index size && all_below size indexes
+
+-- the leaf digests with those of some leaves, of each index the last, where they have a root
+abbrev pub many_changed_leaves : HashPair → List (ℕ × Outcome Digest) → List Digest → Outcome (List Digest)
+many_changed_leaves h changes digests = do
+  new ← new_digests (λ digest. digest) changes digests
+  leaves_with_root h new
+
+abbrev pub set_many_turn : Language → State → List (ℕ × Outcome Digest) → Turn
+set_many_turn l None changes = (NoTree, None)
+set_many_turn l (Some digests) changes =
+    if all_below (length digests) (map (λ change. change.0) changes)
+    then new_leaf_turn (Some digests) (many_changed_leaves l.pair_hashes changes digests)
     else ((NoIndex, Some digests))
 
 -- ---- what a tree shows
@@ -89,11 +108,6 @@ abbrev pub proof_reply : Language → State → ℕ → Reply
 proof_reply l None index = NoTree
 proof_reply l (Some digests) index =
     if nat_lt index (length digests) then Proof (l.path_bytes (own_path l.pair_hashes index digests)) else NoIndex
-
--- whether each index is below a size
-abbrev pub all_below : ℕ → List ℕ → Bool
-all_below size [] = true
-all_below size (index ∷ indexes) = nat_lt index size && all_below size indexes
 
 abbrev pub multi_reply : Language → State → List ℕ → Reply
 multi_reply l None indexes = NoTree
@@ -176,6 +190,7 @@ abbrev pub turn_of : Language → State → Request → Turn
 turn_of l before (NewTree leaves) = tree_turn l before leaves
 turn_of l before (NewTreeOfDigests digests) = digests_turn l before digests
 turn_of l before (NewLeaf index leaf) = set_turn l before index leaf
+turn_of l before (NewLeaves changes) = set_many_turn l before changes
 turn_of l before ShowRoot = (root_reply l before, before)
 turn_of l before (ShowProof index) = (proof_reply l before index, before)
 turn_of l before (CheckPath path leaf) = (check_reply l before path leaf, before)

@@ -9,15 +9,15 @@ use crate::replies::plain;
 use crate::shell::{Hashing, Shell};
 use crate::words::{
     bind_reply, check_reply, digests_reply, mcheck_reply, multi_reply, proof_reply, root_reply,
-    set_reply, strict_reply, tree_reply,
+    set_many_reply, set_reply, strict_reply, tree_reply,
 };
 use ark_base::serialize::Numbered;
 use ark_crh::CRHScheme;
 use ark_merkle::{LeafParam, MerkleTree, TwoToOneParam};
 use std::alloc::{AllocError, Global};
 
-/// The reply to one line, without a line feed, in a session over hashes with these parameters. Only `tree`, `digests` and `set`
-/// change the tree.
+/// The reply to one line, without a line feed, in a session over hashes with these parameters. Only `tree`, `digests`, `set`
+/// and `setmany` change the tree.
 pub fn answer<C: Shell>(
     alloc: Global,
     leaf_parameters: &LeafParam<C>,
@@ -65,6 +65,7 @@ fn reply_to<C: Shell>(
             digests,
         ),
         Line::Set { index, leaf } => set_reply(alloc, tree, index, &leaf),
+        Line::SetMany(changes) => set_many_reply(alloc, tree, &changes),
         Line::Root => root_reply(alloc, tree),
         Line::Proof(index) => proof_reply(alloc, tree, index),
         Line::Check { path, leaf } => {

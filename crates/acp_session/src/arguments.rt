@@ -2,10 +2,10 @@
 
 ghost use Rattle.std.specs.Prelude.{◌≡◌, ℕ, List, Option, map, IfOk};
 ghost use Rattle.std.specs.Option.{option_map, option_copied};
-ghost use Rattle.acp_session.specs.Arguments.{values, some_values, only_value, two_values, value_and_others};
+ghost use Rattle.acp_session.specs.Arguments.{values, some_values, only_value, both_values, two_values, pairs, some_pairs, value_and_others};
 ghost use Rattle.acp_session.specs.Lines.{tokens_left};
 
-use crate::tokens::{first_token, only_token, two_tokens};
+use crate::tokens::{first_token, first_two_tokens, only_token, two_tokens};
 use std::alloc::{AllocError, Global};
 
 /// A kind of token: what tokens of it say.
@@ -87,9 +87,22 @@ pub fn two_values<A: Argument, B: Argument>(
         → option_map (λ x. (A.seen p x.0, B.seen q x.1)) x
         ≡ two_values (A.value_of p) (B.value_of q) (tokens_left (option_copied left.entry))) }
 {
-    let Some((first, second)) = two_tokens(left) else {
-        return Ok(None);
-    };
+    match two_tokens(left) {
+        Some((first, second)) => both_values::<A, B>(alloc, first, second),
+        None => Ok(None),
+    }
+}
+
+// The values of two tokens, where each says one.
+fn both_values<A: Argument, B: Argument>(
+    alloc: Global,
+    first: &[u8],
+    second: &[u8],
+) -> Result<Option<(A::Value, B::Value)>, AllocError>
+    ensures { IfOk result (λ x. (p : A.Parameters) (q : B.Parameters)
+        → option_map (λ x. (A.seen p x.0, B.seen q x.1)) x
+        ≡ both_values (A.value_of p first.now) (B.value_of q second.now)) }
+{
     let Some(first) = A::read(alloc, first)? else {
         return Ok(None);
     };
@@ -97,6 +110,45 @@ pub fn two_values<A: Argument, B: Argument>(
         return Ok(None);
     };
     Ok(Some((first, second)))
+}
+
+// The values of all tokens two by two, where their number is even and each says one.
+fn pairs<A: Argument, B: Argument>(
+    alloc: Global,
+    left: Option<&[u8]>,
+) -> Result<Option<Vec<(A::Value, B::Value)>>, AllocError>
+    ensures { IfOk result (λ xs. (p : A.Parameters) (q : B.Parameters)
+        → option_map (λ xs. map (λ x. (A.seen p x.0, B.seen q x.1)) xs.items) xs
+        ≡ pairs (A.value_of p) (B.value_of q) (tokens_left (option_copied left.entry))) }
+{
+    let mut pairs = Vec::new(alloc);
+    let mut left = left;
+    while let Some(line) = left {
+        let Some((first, second, rest)) = first_two_tokens(line) else {
+            return Ok(None);
+        };
+        match both_values::<A, B>(alloc, first, second)? {
+            Some(pair) => pairs.push(pair)?,
+            None => return Ok(None),
+        }
+        left = rest;
+    }
+    Ok(Some(pairs))
+}
+
+/// The values of two tokens or more, two by two, where their number is even and each says one.
+pub fn some_pairs<A: Argument, B: Argument>(
+    alloc: Global,
+    left: Option<&[u8]>,
+) -> Result<Option<Vec<(A::Value, B::Value)>>, AllocError>
+    ensures { IfOk result (λ xs. (p : A.Parameters) (q : B.Parameters)
+        → option_map (λ xs. map (λ x. (A.seen p x.0, B.seen q x.1)) xs.items) xs
+        ≡ some_pairs (A.value_of p) (B.value_of q) (tokens_left (option_copied left.entry))) }
+{
+    if left.is_none() {
+        return Ok(None);
+    }
+    pairs::<A, B>(alloc, left)
 }
 
 /// The value of a first token and those of the others, where each says one.

@@ -9,6 +9,7 @@ pub enum Keyword {
     Tree,
     Digests,
     Set,
+    SetMany,
     Root,
     Proof,
     Check,
@@ -28,6 +29,8 @@ pub fn keyword_of(token: &[u8]) -> Option<Keyword>
         Some(Keyword::Digests)
     } else if token == b"set".as_slice() {
         Some(Keyword::Set)
+    } else if token == b"setmany".as_slice() {
+        Some(Keyword::SetMany)
     } else if token == b"root".as_slice() {
         Some(Keyword::Root)
     } else if token == b"proof".as_slice() {

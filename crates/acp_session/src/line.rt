@@ -5,7 +5,9 @@ ghost use Rattle.std.specs.Option.{option_map, option_copied};
 ghost use Rattle.acp_session.specs.Lines.{tokens_of, tokens_left};
 ghost use Rattle.acp_session.specs.Requests.{asked, request_by, request_of};
 
-use crate::arguments::{Argument, only_value, some_values, two_values, value_and_others, values};
+use crate::arguments::{
+    Argument, only_value, some_pairs, some_values, two_values, value_and_others, values,
+};
 use crate::keyword::{Keyword, keyword_of};
 use crate::shell::Shell;
 use crate::tokens::{first_token, index_of};
@@ -20,6 +22,7 @@ pub enum Line<L, D> {
     Tree(Vec<L>),
     Digests(Vec<D>),
     Set { index: usize, leaf: L },
+    SetMany(Vec<(usize, L)>),
     Root,
     Proof(usize),
     Check { path: Vec<u8>, leaf: L },
@@ -155,6 +158,10 @@ fn behind_word<C: Shell>(
         },
         Keyword::Set => match two_values::<Index, Leaf<C>>(alloc, left)? {
             Some((index, leaf)) => Ok(Some(Line::Set { index, leaf })),
+            None => Ok(None),
+        },
+        Keyword::SetMany => match some_pairs::<Index, Leaf<C>>(alloc, left)? {
+            Some(changes) => Ok(Some(Line::SetMany(changes))),
             None => Ok(None),
         },
         Keyword::Root => match left {

@@ -21,6 +21,19 @@ pub fn first_token(line: &[u8]) -> (&[u8], Option<&[u8]>)
     }
 }
 
+/// The first two tokens of a line, and what stands behind the space after them; nothing where it is one token.
+pub fn first_two_tokens(line: &[u8]) -> Option<(&[u8], &[u8], Option<&[u8]>)>
+    ensures some { IfSome result (λ two. tokens_of line.now
+        ≡ two.0.now ∷ two.1.now ∷ tokens_left (option_copied two.2)) }
+    ensures shorter { IfSome result (λ two.
+        IfSome two.2 (λ more. length more.now < length line.now)) }
+    ensures none { IfNone result ((token : List ℕ) × (tokens_of line.now ≡ token ∷ [])) }
+{
+    let (first, rest) = first_token(line);
+    let (second, rest) = first_token(rest?);
+    Some((first, second, rest))
+}
+
 /// The number that a token spells in decimal without leading zeros, below 2^64.
 pub fn index_of(token: &[u8]) -> Option<usize>
     ensures { result ≡ index_of token.now }
