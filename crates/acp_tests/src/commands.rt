@@ -1,7 +1,10 @@
-//! Commands over readers and writers of the tests' own.
+//! Commands over readers and writers of the tests' own, and sessions over bytes.
 
 use acp_run::command::command;
+use acp_run::run::run;
+use acp_session::shell::Shell;
 use ark_base::error::Error;
+use ark_merkle::{LeafParam, TwoToOneParam};
 use std::alloc::Global;
 use std::io::{BufReader, Read, Write};
 
@@ -46,4 +49,24 @@ pub fn status_of<R: Read + Drop, W: Write>(
 /// How many line feeds some bytes have.
 pub fn count_lines(bytes: &[u8]) -> usize {
     bytes.iter().filter(|byte| **byte == b'\n').count()
+}
+
+/// Whether a session over these parameters is answered so.
+pub fn answers<C: Shell>(
+    alloc: Global,
+    leaf_parameters: &LeafParam<C>,
+    pair_parameters: &TwoToOneParam<C>,
+    input: &[u8],
+    replies: &[u8],
+) -> Result<bool, Error> {
+    let mut lines = BufReader::new(alloc, input).map_err(|_| Error::OutOfMemory)?;
+    let mut written: Vec<u8> = Vec::new(alloc);
+    let ended = run::<C, &[u8], Vec<u8>>(
+        alloc,
+        leaf_parameters,
+        pair_parameters,
+        &mut lines,
+        &mut written,
+    );
+    Ok(ended.is_ok() && written.as_slice() == replies)
 }

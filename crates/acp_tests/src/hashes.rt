@@ -16,8 +16,8 @@ use ark_merkle::{
 use rand::Rng;
 use std::alloc::Global;
 
-// As `toy`, but its pair hash refuses where the second number is 0.
-struct Refusing;
+/// As `toy`, but its pair hash refuses where the second number is 0.
+pub struct Refusing;
 
 impl Config for Refusing {
     type Leaf = u64;
@@ -33,7 +33,7 @@ impl Config for Refusing {
     type TwoToOneHash = RefusingPairHash;
 }
 
-struct RefusingPairHash;
+pub struct RefusingPairHash;
 
 impl TwoToOneCRHScheme for RefusingPairHash {
     type Input = Fp<M257>;

@@ -4,17 +4,16 @@ ghost use Rattle.std.specs.Prelude.{◌≡◌, Ok, refl};
 ghost use Rattle.std.proofs.Common.{ap, sym, ◌∙◌};
 ghost use Rattle.acp_tests.specs.Keyed.{keyed_leaf, keyed_language};
 
-use acp_run::run::run;
+use crate::commands::answers;
 use acp_session::shell::Shell;
 use acp_session::tokens::number_of_token;
 use acp_session::toy::{Toy, ToyPairHash};
 use ark_base::error::Error;
 use ark_crh::CRHScheme;
 use ark_groups::ff::{Fp, M257, PrimeField};
-use ark_merkle::{Config, IdentityDigestConverter, LeafParam, TwoToOneParam};
+use ark_merkle::{Config, IdentityDigestConverter};
 use rand::Rng;
 use std::alloc::{AllocError, Global};
-use std::io::BufReader;
 
 // As `toy`, but each leaf is hashed with a key.
 struct Keyed;
@@ -94,26 +93,6 @@ impl Shell for Keyed {
     ghost multi_path_bytes_are = { λ p q. refl };
 
     ghost multi_path_reading_is = { λ p q. refl };
-}
-
-// Whether a session over these parameters is answered so.
-fn answers<C: Shell>(
-    alloc: Global,
-    leaf_parameters: &LeafParam<C>,
-    pair_parameters: &TwoToOneParam<C>,
-    input: &[u8],
-    replies: &[u8],
-) -> Result<bool, Error> {
-    let mut lines = BufReader::new(alloc, input).map_err(|_| Error::OutOfMemory)?;
-    let mut written: Vec<u8> = Vec::new(alloc);
-    let ended = run::<C, &[u8], Vec<u8>>(
-        alloc,
-        leaf_parameters,
-        pair_parameters,
-        &mut lines,
-        &mut written,
-    );
-    Ok(ended.is_ok() && written.as_slice() == replies)
 }
 
 // Under the key 10 the leaves 1 and 2 have the digests 11 and 12, and 11 + 2 * 12 is 35.

@@ -1,4 +1,5 @@
-//! Tests of the program's parts: readers and writers that fail, when replies are sent off, trees of its configurations.
+//! Tests of the program's parts: readers and writers that fail, when replies are sent off, trees of its configurations, lines that set
+//! several leaves.
 #![tactic(auto)]
 
 #[cfg(test)]
@@ -11,5 +12,7 @@ mod flushes;
 mod hashes;
 #[cfg(test)]
 mod keyed;
+#[cfg(test)]
+mod set_many;
 #[cfg(test)]
 mod trees;
