@@ -42,12 +42,12 @@ with_hashes-ok hashes (Ok digests) tree is =
     (ap (λ (t : HashedTree _). Ok t.leaves) same, ap (λ (t : HashedTree _). t.hashes) same)
 with_hashes-ok hashes (Err e) tree is = absurd cc
 
-with_hashes-err : {X : Type 0} (hashes : Hashes X) (o : Outcome (List Digest)) (e : Error) → with_hashes hashes o ≡ Err e → o ≡ Err e
+pub with_hashes-err : {X : Type 0} (hashes : Hashes X) (o : Outcome (List Digest)) (e : Error) → with_hashes hashes o ≡ Err e → o ≡ Err e
 with_hashes-err hashes (Ok digests) e is = absurd cc
 with_hashes-err hashes (Err d) e is = let same : d ≡ e = cc in ap Err same
 
 module _ {L T X : Type 0} (meaning : L → X → Outcome Digest) (pair : T → HashPair) where
-  abbrev view_of : Tree L T → HashedTree X
+  abbrev pub view_of : Tree L T → HashedTree X
   view_of t = record { hashes = record { leaf = meaning t.leaf_parameters; pair = pair t.pair_parameters }; leaves = t.leaves }
 
   module _ (p : L) (q : T) (o : Outcome (List Digest)) where
