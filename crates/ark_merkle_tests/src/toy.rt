@@ -16,7 +16,8 @@ use ark_merkle::{
 use rand::Rng;
 use std::alloc::Global;
 
-struct Toy;
+/// Trees of numbers below 257.
+pub struct Toy;
 
 impl Config for Toy {
     type Leaf = u64;
@@ -32,8 +33,8 @@ impl Config for Toy {
     type TwoToOneHash = ToyPairHash;
 }
 
-// A number modulo 257.
-struct ToyLeafHash;
+/// A number modulo 257.
+pub struct ToyLeafHash;
 
 impl CRHScheme for ToyLeafHash {
     type Input = u64;
@@ -65,8 +66,8 @@ impl CRHScheme for ToyLeafHash {
     ghost same_parameters = { λ p q same. refl };
 }
 
-// The first number and twice the second, modulo 257.
-struct ToyPairHash;
+/// The first number and twice the second, modulo 257.
+pub struct ToyPairHash;
 
 impl TwoToOneCRHScheme for ToyPairHash {
     type Input = Fp<M257>;
