@@ -3,10 +3,10 @@ use Rattle.std.proofs.Common.{◌≡◌, ◌⊎◌, ℕ, List, [], ◌∷◌, le
 use Rattle.ark_base.specs.declared.error.Error.{Error}
 use Rattle.ark_base.specs.declared.error.Error.TheVariants.{OutOfMemory}
 use Rattle.ark_base.specs.Outcome.{Outcome, ◌>>=◌}
+use Rattle.ark_paths.specs.Pair.{Digest, HashPair}
+use Rattle.ark_paths.specs.Root.{leaves_with_root}
+use Rattle.ark_paths.specs.Tree.{Tree}
 use Rattle.ark_merkle.specs.Batch.{with_change, last_changes, hashed_changes, new_digests, with_leaves}
-use Rattle.ark_merkle.specs.Pair.{Digest, HashPair}
-use Rattle.ark_merkle.specs.Root.{leaves_with_root}
-use Rattle.ark_merkle.specs.Tree.{Tree}
 use Rattle.acp_session.specs.Language.{Language}
 use Rattle.acp_session.specs.Replies.{Changed, Refused, NoIndex, MayLackMemory, text}
 use Rattle.acp_session.specs.Steps.{State, Turn, Takes, all_below, new_leaf_turn, set_many_turn}

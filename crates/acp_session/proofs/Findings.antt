@@ -5,11 +5,11 @@ use Rattle.ark_base.specs.declared.error.Error.{Error}
 use Rattle.ark_base.specs.declared.error.Error.TheVariants.{OutOfMemory}
 use Rattle.ark_base.specs.Outcome.{Outcome, Answers}
 use Rattle.ark_base.specs.Reading.{Reading, reading_outcome}
-use Rattle.ark_merkle.specs.Bind.{path_binding}
-use Rattle.ark_merkle.specs.MultiPath.{MultiWay, multi_verdict}
-use Rattle.ark_merkle.specs.Pair.{Digest, HashPair}
-use Rattle.ark_merkle.specs.Path.{Way}
-use Rattle.ark_merkle.specs.Root.{root}
+use Rattle.ark_paths.specs.MultiPath.{MultiWay, multi_verdict}
+use Rattle.ark_paths.specs.Pair.{Digest, HashPair}
+use Rattle.ark_paths.specs.Path.{Way}
+use Rattle.ark_paths.specs.Root.{root}
+use Rattle.ark_merkle.specs.Binding.{path_binding}
 use Rattle.acp_session.specs.Language.{Language}
 use Rattle.acp_session.specs.Replies.{Reply, Refused, Verdict, Bound, MayLackMemory, Tells, text}
 use Rattle.acp_session.specs.Steps.{State, alone, alone_of, finding, finding_reply, path_holds, multi_path_holds, check_reply, bind_reply, mcheck_reply}

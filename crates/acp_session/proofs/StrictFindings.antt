@@ -3,9 +3,9 @@ use Rattle.std.proofs.Common.{◌≡◌, ℕ, ◌<◌, List, [], ◌∷◌, leng
 use Rattle.ark_base.specs.declared.error.Error.{Error}
 use Rattle.ark_base.specs.Outcome.{Outcome}
 use Rattle.ark_base.specs.Reading.{Reading, reading_outcome}
-use Rattle.ark_merkle.specs.MultiPath.{MultiWay}
-use Rattle.ark_merkle.specs.MultiPathStrict.{strict_reading}
-use Rattle.ark_merkle.proofs.StrictReadings.{read_of}
+use Rattle.ark_paths.specs.MultiPath.{MultiWay}
+use Rattle.ark_paths.specs.MultiPathStrict.{strict_reading}
+use Rattle.ark_paths.proofs.StrictReadings.{read_of}
 use Rattle.acp_session.specs.Language.{Language}
 use Rattle.acp_session.specs.Replies.{Strict}
 use Rattle.acp_session.specs.Steps.{finding, finding_reply, count_of, strict_reply}

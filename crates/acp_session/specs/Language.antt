@@ -2,9 +2,9 @@
 use Rattle.std.specs.Prelude.{ℕ, List, Option}
 use Rattle.ark_base.specs.Outcome.{Outcome}
 use Rattle.ark_base.specs.Reading.{Reading}
-use Rattle.ark_merkle.specs.MultiPath.{MultiWay}
-use Rattle.ark_merkle.specs.Pair.{Digest, HashPair}
-use Rattle.ark_merkle.specs.Path.{Way}
+use Rattle.ark_paths.specs.MultiPath.{MultiWay}
+use Rattle.ark_paths.specs.Pair.{Digest, HashPair}
+use Rattle.ark_paths.specs.Path.{Way}
 
 pub record Language : Type 0 where
   -- what the leaf hash answers for the leaf that a token says, if it says one

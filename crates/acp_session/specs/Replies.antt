@@ -5,9 +5,9 @@ use Rattle.hex.specs.Hex.{encode_lower}
 use Rattle.ark_base.specs.declared.error.Error.{Error}
 use Rattle.ark_base.specs.declared.error.Error.TheVariants.{IncorrectInputLength, NotPrimeOrder, GenericError, SerializationError as OfBytes, OutOfMemory}
 use Rattle.ark_base.specs.Texts.{fault_text, refusal_text}
+use Rattle.ark_paths.specs.Index.{log2}
 use Rattle.ark_merkle.specs.declared.tree.bind.Binding.{Binding}
 use Rattle.ark_merkle.specs.declared.tree.bind.Binding.TheVariants.{Rejected, Stands, Differs}
-use Rattle.ark_merkle.specs.Index.{log2}
 
 pub data Reply : Type 0 where
   BadLine : Reply

@@ -3,7 +3,7 @@ use Rattle.std.specs.Prelude.{ℕ, List, [], ◌∷◌, map, if◌then◌else◌
 use Rattle.std.specs.Option.{option_map}
 use Rattle.std.specs.Str.{bytes_eq}
 use Rattle.ark_base.specs.Outcome.{Outcome}
-use Rattle.ark_merkle.specs.Pair.{Digest}
+use Rattle.ark_paths.specs.Pair.{Digest}
 use Rattle.acp_session.specs.declared.line.Line.{Line}
 use Rattle.acp_session.specs.declared.line.Line.TheVariants.{Tree, Digests, Set, SetMany, Root, Proof, Check, Bind, Multi, MultiCheck, Strict}
 use Rattle.acp_session.specs.declared.keyword.Keyword.{Keyword}

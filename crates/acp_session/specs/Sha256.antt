@@ -4,8 +4,8 @@ use Rattle.std.specs.Prelude.{◌++◌, Ok}
 use Rattle.std.specs.Option.{option_map}
 use Rattle.sha2.specs.Sha256.{sha256}
 use Rattle.ark_base.specs.Spelling.{byte, byte_at, counted_list, counted_list_at}
-use Rattle.ark_merkle.specs.MultiPathBytes.{multi_bytes, multi_way_at}
-use Rattle.ark_merkle.specs.PathBytes.{way_bytes, way_at}
+use Rattle.ark_paths.specs.MultiPathBytes.{multi_bytes, multi_way_at}
+use Rattle.ark_paths.specs.PathBytes.{way_bytes, way_at}
 use Rattle.acp_session.specs.Language.{Language}
 use Rattle.acp_session.specs.Tokens.{bytes_of}
 

@@ -4,16 +4,16 @@ use Rattle.std.specs.Option.{option_map}
 use Rattle.ark_base.specs.declared.error.Error.TheVariants.{OutOfMemory}
 use Rattle.ark_base.specs.Outcome.{Outcome, ◌>>=◌}
 use Rattle.ark_base.specs.Reading.{Reading, reading_outcome}
+use Rattle.ark_paths.specs.Index.{is_tree_size}
+use Rattle.ark_paths.specs.MultiPath.{MultiWay, multi_verdict}
+use Rattle.ark_paths.specs.MultiPathStrict.{strict_reading}
+use Rattle.ark_paths.specs.Pair.{Digest, HashPair}
+use Rattle.ark_paths.specs.Path.{Way, verdict}
+use Rattle.ark_paths.specs.Root.{root, leaves_with_root, tree_leaves}
+use Rattle.ark_paths.specs.Tree.{Tree, own_path}
 use Rattle.ark_merkle.specs.Batch.{new_digests}
-use Rattle.ark_merkle.specs.Bind.{path_binding}
-use Rattle.ark_merkle.specs.Index.{is_tree_size}
-use Rattle.ark_merkle.specs.MultiPath.{MultiWay, multi_verdict}
-use Rattle.ark_merkle.specs.MultiPathStrict.{strict_reading}
+use Rattle.ark_merkle.specs.Binding.{path_binding}
 use Rattle.ark_merkle.specs.MultiProof.{own_multi_path}
-use Rattle.ark_merkle.specs.Pair.{Digest, HashPair}
-use Rattle.ark_merkle.specs.Path.{Way, verdict}
-use Rattle.ark_merkle.specs.Root.{root, leaves_with_root, tree_leaves}
-use Rattle.ark_merkle.specs.Tree.{Tree, own_path}
 use Rattle.ark_merkle.specs.Update.{changed_leaves}
 use Rattle.acp_session.specs.Language.{Language}
 use Rattle.acp_session.specs.Lines.{tokens_of}

@@ -6,9 +6,9 @@ use Rattle.ark_base.specs.declared.error.Refusal.TheVariants.{Custom}
 use Rattle.ark_base.specs.Digits.{number_of_bytes, bytes_of_number, below_at}
 use Rattle.ark_base.specs.Outcome.{Outcome}
 use Rattle.ark_base.specs.Reading.{Reading}
-use Rattle.ark_merkle.specs.MultiPathBytes.{multi_bytes, multi_way_at}
-use Rattle.ark_merkle.specs.Pair.{Digest}
-use Rattle.ark_merkle.specs.PathBytes.{way_bytes, way_at}
+use Rattle.ark_paths.specs.MultiPathBytes.{multi_bytes, multi_way_at}
+use Rattle.ark_paths.specs.Pair.{Digest}
+use Rattle.ark_paths.specs.PathBytes.{way_bytes, way_at}
 use Rattle.acp_session.specs.Language.{Language}
 use Rattle.acp_session.specs.Tokens.{number_of_token, some_bytes_of}
 

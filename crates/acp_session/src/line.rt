@@ -86,7 +86,7 @@ impl<C: Shell> Argument for Bytes<C> {
 
 impl<C: Shell> Argument for Leaf<C> {
     ghost use Rattle.ark_base.specs.Outcome.{Outcome};
-    ghost use Rattle.ark_merkle.specs.Pair.{Digest};
+    ghost use Rattle.ark_paths.specs.Pair.{Digest};
 
     type Value = C::Leaf;
 
@@ -104,7 +104,7 @@ impl<C: Shell> Argument for Leaf<C> {
 }
 
 impl<C: Shell> Argument for LeafDigest<C> {
-    ghost use Rattle.ark_merkle.specs.Pair.{Digest};
+    ghost use Rattle.ark_paths.specs.Pair.{Digest};
 
     type Value = C::LeafDigest;
 

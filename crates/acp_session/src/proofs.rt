@@ -33,8 +33,8 @@ pub trait Proof: CanonicalSerialize + CanonicalDeserialize + Drop {
 }
 
 impl<P: Config> Proof for Path<P> {
-    ghost use Rattle.ark_merkle.specs.Path.{Way};
-    ghost use Rattle.ark_merkle.specs.Laws.ByNumbers.{path_spelling-way, way_at-ok, way_at-err};
+    ghost use Rattle.ark_paths.specs.Path.{Way};
+    ghost use Rattle.ark_paths.specs.Laws.ByNumbers.{path_spelling-way, way_at-ok, way_at-err};
 
     ghost Numbers = { Way };
 
@@ -65,8 +65,8 @@ impl<P: Config> Proof for Path<P> {
 }
 
 impl<P: Config> Proof for MultiPath<P> {
-    ghost use Rattle.ark_merkle.specs.MultiPath.{MultiWay};
-    ghost use Rattle.ark_merkle.specs.Laws.ByNumbers.{multi_spelling-way, multi_way_at-ok, multi_way_at-err};
+    ghost use Rattle.ark_paths.specs.MultiPath.{MultiWay};
+    ghost use Rattle.ark_paths.specs.Laws.ByNumbers.{multi_spelling-way, multi_way_at-ok, multi_way_at-err};
 
     ghost Numbers = { MultiWay };
 

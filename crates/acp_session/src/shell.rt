@@ -3,7 +3,7 @@
 ghost use Rattle.std.specs.Prelude.{◌≡◌, ◌++◌, Option, IfOk, OnOk};
 ghost use Rattle.std.specs.Option.{option_map};
 ghost use Rattle.hex.specs.Hex.{encode_lower};
-ghost use Rattle.ark_merkle.specs.Tree.{Tree};
+ghost use Rattle.ark_paths.specs.Tree.{Tree};
 ghost use Rattle.acp_session.specs.Language.{Language};
 ghost use Rattle.acp_session.specs.Steps.{HasHashes};
 

@@ -2,7 +2,7 @@
 use Rattle.std.specs.Prelude.{ℕ, ◌+◌, ◌%◌, [], ◌∷◌, Ok}
 use Rattle.std.specs.Option.{option_map}
 use Rattle.ark_base.specs.Outcome.{Outcome}
-use Rattle.ark_merkle.specs.Pair.{Digest}
+use Rattle.ark_paths.specs.Pair.{Digest}
 use Rattle.acp_session.specs.Language.{Language}
 use Rattle.acp_session.specs.Tokens.{number_of_token}
 use Rattle.acp_session.specs.Toy.{toy_language}

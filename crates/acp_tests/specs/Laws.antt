@@ -2,7 +2,7 @@
 use Rattle.std.specs.Prelude.{◌==◌}
 use Rattle.ark_base.specs.Outcome.{IsDecided}
 use Rattle.ark_base.specs.Laws.Outcomes.{tested-decided}
-use Rattle.ark_merkle.specs.Pair.{Digest}
+use Rattle.ark_paths.specs.Pair.{Digest}
 use Rattle.acp_session.specs.Toy.{toy_number}
 use Rattle.acp_tests.specs.TestHashes.{refusing_pair}
 

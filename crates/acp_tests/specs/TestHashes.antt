@@ -3,7 +3,7 @@ use Rattle.std.specs.Prelude.{◌==◌, if◌then◌else◌, Err}
 use Rattle.ark_base.specs.declared.error.Error.TheVariants.{GenericError}
 use Rattle.ark_base.specs.declared.error.Refusal.TheVariants.{Custom}
 use Rattle.ark_base.specs.Outcome.{Outcome}
-use Rattle.ark_merkle.specs.Pair.{Digest}
+use Rattle.ark_paths.specs.Pair.{Digest}
 use Rattle.acp_session.specs.Language.{Language}
 use Rattle.acp_session.specs.Toy.{toy_language, toy_number, toy_pair}
 

@@ -4,13 +4,13 @@ use Rattle.std.proofs.lemmas.Bool.{lt-ltb, le-ltb, eq-eqb, ne_eqb}
 use Rattle.std.proofs.lemmas.List.{set-set, length-set, drop_more, drop_all, drop-drop, drop-set-lt, get_or-drop}
 use Rattle.ark_base.specs.Outcome.{Outcome, ◌>>=◌}
 use Rattle.ark_base.specs.Laws.Steps.{bind_ok, done_injective}
+use Rattle.ark_paths.specs.Pair.{Digest, HashPair}
+use Rattle.ark_paths.specs.Root.{root, leaves_with_root}
+use Rattle.ark_paths.specs.Tree.{HashedTree}
+use Rattle.ark_paths.proofs.Eaches.{begun, begun-more}
 use Rattle.ark_merkle.specs.Batch.{with_change, last_changes, hashed_changes, puts, with_leaves, with_each_leaf}
 use Rattle.ark_merkle.specs.Changed.{seen_changes, AreChanges}
-use Rattle.ark_merkle.specs.Pair.{Digest, HashPair}
-use Rattle.ark_merkle.specs.Root.{root, leaves_with_root}
-use Rattle.ark_merkle.specs.Tree.{HashedTree}
 use Rattle.ark_merkle.specs.Update.{with_leaf}
-use Rattle.ark_merkle.proofs.Eaches.{begun, begun-more}
 use Rattle.ark_merkle.proofs.MultiIndexes.{trichotomy}
 
 -- ---- a change at its place

@@ -4,19 +4,19 @@ use Rattle.std.proofs.lemmas.List.{length-map}
 use Rattle.std.proofs.Math.Nat.{pow-succ'}
 use Rattle.ark_base.specs.declared.error.Error.{Error}
 use Rattle.ark_base.specs.Outcome.{Outcome, ◌>>=◌}
+use Rattle.ark_paths.specs.Index.{IsTreeSize}
+use Rattle.ark_paths.specs.Pair.{Digest, HashPair}
+use Rattle.ark_paths.specs.Root.{leaves_with_root, upper_levels}
+use Rattle.ark_paths.specs.Rows.{IsTree, row_above, rows_from, rows_of}
+use Rattle.ark_paths.proofs.Logs.{upper_levels-is}
+use Rattle.ark_paths.proofs.OwnPaths.{bottom-row, upper-row}
+use Rattle.ark_paths.proofs.PlaceLemmas.{row-twice}
+use Rattle.ark_paths.proofs.TreeLemmas.{is_tree, rooted-ok, rooted-refused}
 use Rattle.ark_merkle.specs.Batch.{hashed_changes, puts}
 use Rattle.ark_merkle.specs.Changed.{AreChanges, AreHashed, couples_reached, count_over}
-use Rattle.ark_merkle.specs.Index.{IsTreeSize}
-use Rattle.ark_merkle.specs.Pair.{Digest, HashPair}
-use Rattle.ark_merkle.specs.Root.{leaves_with_root, upper_levels}
-use Rattle.ark_merkle.specs.Rows.{IsTree, row_above, rows_from, rows_of}
 use Rattle.ark_merkle.proofs.Batches.{length-puts}
 use Rattle.ark_merkle.proofs.ChangedRows.{places, halves-hashed, hashed-inside, count_over-fits}
-use Rattle.ark_merkle.proofs.Logs.{upper_levels-is}
-use Rattle.ark_merkle.proofs.OwnPaths.{bottom-row, upper-row}
-use Rattle.ark_merkle.proofs.PlaceLemmas.{row-twice}
 use Rattle.ark_merkle.proofs.Reached.{of_couple, row_above-puts}
-use Rattle.ark_merkle.proofs.TreeLemmas.{is_tree, rooted-ok, rooted-refused}
 
 same_hash : (hash : Digest → Digest → Outcome Digest) {x y z w : Digest} {o : Outcome Digest} → x ≡ y → z ≡ w → hash x z ≡ o → hash y w ≡ o
 same_hash hash first second e = rw (← first, ← second) e

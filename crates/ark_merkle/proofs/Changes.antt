@@ -5,14 +5,14 @@ use Rattle.std.proofs.lemmas.List.{length-set, length-append, get_or_append_left
 use Rattle.std.proofs.Math.Seq.{get_or-append_seam}
 use Rattle.std.proofs.Math.Nat.{div-eq_of_lt-le}
 use Rattle.ark_base.specs.declared.error.Error.{Error}
-use Rattle.ark_merkle.specs.Index.{bit_at, neighbour}
-use Rattle.ark_merkle.specs.Pair.{Digest, HashPair, hash_in_order}
-use Rattle.ark_merkle.specs.Root.{Place, Root, Refused, place_at, place_of_halves, place, outcome_of, root, upper_levels}
-use Rattle.ark_merkle.specs.Rows.{IsTree, part}
+use Rattle.ark_paths.specs.Index.{bit_at, neighbour}
+use Rattle.ark_paths.specs.Pair.{Digest, HashPair, hash_in_order}
+use Rattle.ark_paths.specs.Root.{Place, Root, Refused, place_at, place_of_halves, place, outcome_of, root, upper_levels}
+use Rattle.ark_paths.specs.Rows.{IsTree, part}
+use Rattle.ark_paths.proofs.OwnPaths.{IsCouple, is_couple, ordered-neighbour, bit_at-level, place-above, first_place}
+use Rattle.ark_paths.proofs.Parts.{part-left, part-right, get_or-part, part-whole}
+use Rattle.ark_paths.proofs.PlaceLemmas.{row-twice, place-inside, neighbour-inside}
 use Rattle.ark_merkle.specs.Update.{AreOnWay}
-use Rattle.ark_merkle.proofs.OwnPaths.{IsCouple, is_couple, ordered-neighbour, bit_at-level, place-above, first_place}
-use Rattle.ark_merkle.proofs.Parts.{part-left, part-right, get_or-part, part-whole}
-use Rattle.ark_merkle.proofs.PlaceLemmas.{row-twice, place-inside, neighbour-inside}
 
 -- a part that does not hold the index is as before
 pub part-set_other : (k q index : ℕ) (digests : List Digest) (digest : Digest) → q ≢ index / 2 ^ suc k → part k q (set digests index digest) ≡ part k q digests

@@ -2,15 +2,15 @@
 use Rattle.std.proofs.Common.{◌≡◌, ◌<◌, ◌≤◌, ◌+◌, ◌-◌, ◌/◌, ◌%◌, ◌^◌, ◌∙◌, ◌&&◌, if◌then◌else◌, ℕ, suc, Bool, Option, None, Some, List, [], length, map, get_or, Ok, Err, arith, refl, ap, sym, pow_pos, mod-lt}
 use Rattle.std.proofs.lemmas.List.{length-map, get_or-map}
 use Rattle.ark_base.specs.declared.error.Error.{Error}
-use Rattle.ark_merkle.specs.Bind.{path_pair, tree_pair, is_other, first_level, difference}
-use Rattle.ark_merkle.specs.Index.{bit_at, neighbour}
-use Rattle.ark_merkle.specs.Pair.{Digest, HashPair, digest_eq, hash_in_order}
-use Rattle.ark_merkle.specs.Path.{Way, path_root}
-use Rattle.ark_merkle.specs.Root.{upper_levels}
-use Rattle.ark_merkle.specs.Rows.{IsTree}
-use Rattle.ark_merkle.proofs.Binds.{own-inside, first_level-up, top_from, top_from-refused, top_from-last, differs, differs-last, differs-row, top_from-row}
-use Rattle.ark_merkle.proofs.OwnPaths.{leaf-neighbour}
-use Rattle.ark_merkle.proofs.PlaceLemmas.{level-fits, place-inside, way-neighbour}
+use Rattle.ark_paths.specs.Bind.{path_pair, tree_pair, is_other, first_level, difference}
+use Rattle.ark_paths.specs.Index.{bit_at, neighbour}
+use Rattle.ark_paths.specs.Pair.{Digest, HashPair, digest_eq, hash_in_order}
+use Rattle.ark_paths.specs.Path.{Way, path_root}
+use Rattle.ark_paths.specs.Root.{upper_levels}
+use Rattle.ark_paths.specs.Rows.{IsTree}
+use Rattle.ark_paths.proofs.Binds.{own-inside, first_level-up, top_from, top_from-refused, top_from-last, differs, differs-last, differs-row, top_from-row}
+use Rattle.ark_paths.proofs.OwnPaths.{leaf-neighbour}
+use Rattle.ark_paths.proofs.PlaceLemmas.{level-fits, place-inside, way-neighbour}
 
 -- the first level, from one on, at which a path and a tree differ
 abbrev pub difference_from : HashPair → List Digest → Way → Digest → ℕ → ℕ → Option ℕ

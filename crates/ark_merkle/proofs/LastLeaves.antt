@@ -11,10 +11,11 @@ use Rattle.std.specs.Prelude.{IfOk, OnErr}
 use Rattle.std.proofs.Math.Logic.{⊎_map}
 use Rattle.ark_base.specs.declared.error.Error.{Error}
 use Rattle.ark_base.specs.Outcome.{Outcome, AnswersBy}
+use Rattle.ark_paths.specs.Pair.{Digest, HashPair}
+use Rattle.ark_paths.specs.Root.{leaves_with_root}
+use Rattle.ark_paths.specs.Tree.{Tree, HashedTree, with_hashes}
+use Rattle.ark_paths.proofs.OwnPaths.{place-above}
 use Rattle.ark_merkle.specs.Batch.{with_change, last_changes, hashed_changes, puts, with_leaves}
-use Rattle.ark_merkle.specs.Pair.{Digest, HashPair}
-use Rattle.ark_merkle.specs.Root.{leaves_with_root}
-use Rattle.ark_merkle.specs.Tree.{Tree, HashedTree, with_hashes}
 use Rattle.ark_merkle.specs.Above.{count_above}
 use Rattle.ark_merkle.specs.Changed.{seen_changes, AreChanges, Rise, count_over}
 use Rattle.ark_merkle.specs.MultiProof.{with_number, rising_set}
@@ -22,7 +23,6 @@ use Rattle.ark_merkle.proofs.Batches.{placed_change-below, placed_change-same, p
 use Rattle.ark_merkle.proofs.ChangedRows.{places, places-seen}
 use Rattle.ark_merkle.proofs.Reached.{hashed-places}
 use Rattle.ark_merkle.proofs.MultiIndexes.{trichotomy, placed-below, placed-same, placed-past, rising-unique, rising-increases, rising-elements}
-use Rattle.ark_merkle.proofs.OwnPaths.{place-above}
 
 no_both : {b : Bool} → b ≡ true → b ≡ false → ⊥
 no_both is not = absurd cc

@@ -7,9 +7,9 @@ use Rattle.std.proofs.Math.Nat.{pow-succ', pow-le-pow_right}
 use Rattle.ark_merkle.specs.LevelOrder.{rows_in_order, rows_in_turn, highest_row_first}
 use Rattle.std.specs.declared.vec.Vec.{Vec}
 use Rattle.std.specs.Vec.{with_item, with_items}
-use Rattle.ark_merkle.specs.Pair.{Digest}
-use Rattle.ark_merkle.specs.Rows.{digests_of}
-use Rattle.ark_merkle.proofs.Readings.{digest_read}
+use Rattle.ark_paths.specs.Pair.{Digest}
+use Rattle.ark_paths.specs.Rows.{digests_of}
+use Rattle.ark_paths.proofs.Readings.{digest_read}
 
 pub length-rows_in_order : (n : ℕ) (digests : List Digest) → length (rows_in_order n digests) ≡ n
 length-rows_in_order zero digests = refl

@@ -3,13 +3,13 @@ use Rattle.std.proofs.Common.{◌≡◌, ℕ, zero, suc, ◌+◌, ◌-◌, ◌/�
 use Rattle.std.specs.Bool.{Decides}
 use Rattle.std.proofs.lemmas.List.{map-append, take_more}
 use Rattle.std.proofs.lemmas.Slice.Eq.{bytes_eq-Decides}
-use Rattle.ark_merkle.specs.Index.{neighbour}
-use Rattle.ark_merkle.specs.MultiProof.{shared_count, prefixes_of, suffixes_of}
-use Rattle.ark_merkle.specs.Pair.{Digest, digest_eq}
-use Rattle.ark_merkle.specs.Rows.{HoldsIndex, beside_in}
-use Rattle.ark_merkle.proofs.MultiShared.{shared-same, shared-other, shared-le, last_of, last_of-push, prefixes_of-push, suffixes_of-push}
-use Rattle.ark_merkle.proofs.OwnPaths.{length-beside_in}
-use Rattle.ark_merkle.proofs.PlaceLemmas.{level-fits, beside-inside}
+use Rattle.ark_paths.specs.Index.{neighbour}
+use Rattle.ark_paths.specs.Sharing.{shared_count, prefixes_of, suffixes_of}
+use Rattle.ark_paths.specs.Pair.{Digest, digest_eq}
+use Rattle.ark_paths.specs.Rows.{HoldsIndex, beside_in}
+use Rattle.ark_paths.proofs.MultiShared.{shared-same, shared-other, shared-le, last_of, last_of-push, prefixes_of-push, suffixes_of-push}
+use Rattle.ark_paths.proofs.OwnPaths.{length-beside_in}
+use Rattle.ark_paths.proofs.PlaceLemmas.{level-fits, beside-inside}
 
 -- the digest beside the way of an index in row k
 abbrev pub beside_at : List (List Digest) → ℕ → ℕ → Digest

@@ -5,17 +5,18 @@ use Rattle.std.specs.declared.vec.Vec.{Vec}
 use Rattle.std.proofs.lemmas.Bool.{ne_eqb}
 use Rattle.std.proofs.lemmas.List.{length-map}
 use Rattle.ark_base.specs.Outcome.{Outcome}
-use Rattle.ark_merkle.specs.Index.{neighbour}
-use Rattle.ark_merkle.specs.MultiPath.{MultiWay, decoded_paths, multi_verdict_from, multi_verdict}
-use Rattle.ark_merkle.specs.MultiProof.{rising_set, prefixes_of, suffixes_of, own_multi_path}
-use Rattle.ark_merkle.specs.Pair.{Digest, HashPair}
-use Rattle.ark_merkle.specs.Path.{Way}
-use Rattle.ark_merkle.specs.Root.{root, upper_levels}
-use Rattle.ark_merkle.specs.Rows.{IsTree, HoldsIndex, beside_in, digests_of}
-use Rattle.ark_merkle.specs.Tree.{own_path}
+use Rattle.ark_paths.specs.Index.{neighbour}
+use Rattle.ark_paths.specs.MultiPath.{MultiWay, decoded_paths, multi_verdict_from, multi_verdict}
+use Rattle.ark_paths.specs.Sharing.{prefixes_of, suffixes_of}
+use Rattle.ark_paths.specs.Pair.{Digest, HashPair}
+use Rattle.ark_paths.specs.Path.{Way}
+use Rattle.ark_paths.specs.Root.{root, upper_levels}
+use Rattle.ark_paths.specs.Rows.{IsTree, HoldsIndex, beside_in, digests_of}
+use Rattle.ark_paths.specs.Tree.{own_path}
+use Rattle.ark_paths.proofs.MultiShared.{decoded-merged}
+use Rattle.ark_paths.proofs.OwnPaths.{length-beside_in, own_path-rows, own_path-accepted, leaf-neighbour}
+use Rattle.ark_merkle.specs.MultiProof.{rising_set, own_multi_path}
 use Rattle.ark_merkle.proofs.MultiIndexes.{All-rising, rising-some}
-use Rattle.ark_merkle.proofs.MultiShared.{decoded-merged}
-use Rattle.ark_merkle.proofs.OwnPaths.{length-beside_in, own_path-rows, own_path-accepted, leaf-neighbour}
 use Rattle.ark_merkle.proofs.TreeReads.{holds-index}
 
 rest_of : {X : Type 0} (P : X → Type 0) (x : X) (xs : List X) → All P (x ∷ xs) → All P xs

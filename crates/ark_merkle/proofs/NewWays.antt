@@ -3,15 +3,15 @@ use Rattle.std.proofs.Common.{◌≡◌, ◌<◌, ◌≤◌, ◌-◌, ◌/◌, �
 use Rattle.std.proofs.lemmas.List.{length-map, get_or-map}
 use Rattle.std.specs.declared.vec.Vec.{Vec}
 use Rattle.ark_base.specs.declared.error.Error.{Error}
-use Rattle.ark_merkle.specs.Index.{bit_at, neighbour}
-use Rattle.ark_merkle.specs.Pair.{Digest, HashPair, hash_in_order}
-use Rattle.ark_merkle.specs.Root.{root, upper_levels}
-use Rattle.ark_merkle.specs.Rows.{IsTree, digests_of}
+use Rattle.ark_paths.specs.Index.{bit_at, neighbour}
+use Rattle.ark_paths.specs.Pair.{Digest, HashPair, hash_in_order}
+use Rattle.ark_paths.specs.Root.{root, upper_levels}
+use Rattle.ark_paths.specs.Rows.{IsTree, digests_of}
+use Rattle.ark_paths.proofs.OwnPaths.{leaf-neighbour}
+use Rattle.ark_paths.proofs.PlaceLemmas.{level-fits, way-neighbour}
+use Rattle.ark_paths.proofs.Readings.{digest_read}
 use Rattle.ark_merkle.specs.Update.{AreOnWay, ChangesWay}
 use Rattle.ark_merkle.proofs.Changes.{lowest-on_way, lowest-refused, next-on_way, next-refused, root-way}
-use Rattle.ark_merkle.proofs.OwnPaths.{leaf-neighbour}
-use Rattle.ark_merkle.proofs.PlaceLemmas.{level-fits, way-neighbour}
-use Rattle.ark_merkle.proofs.Readings.{digest_read}
 
 module _ {A B : Type 0} (leaf_numbers : A → Digest) (numbers : B → Digest) (h : HashPair) (leaves_in : List A) (rows : List (List Digest))
     (tree : IsTree h (map leaf_numbers leaves_in) rows) (index : ℕ) (within : index < length leaves_in) (digest : Digest) where

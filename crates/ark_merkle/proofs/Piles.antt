@@ -5,15 +5,15 @@ use Rattle.std.proofs.Math.Nat.{pow-succ'}
 use Rattle.std.specs.declared.vec.Vec.{Vec}
 use Rattle.ark_base.specs.declared.error.Error.{Error}
 use Rattle.ark_base.specs.Outcome.{Outcome, ◌>>=◌}
+use Rattle.ark_paths.specs.Pair.{Digest, HashPair}
+use Rattle.ark_paths.specs.Index.{log2}
+use Rattle.ark_paths.specs.Root.{upper_levels}
+use Rattle.ark_paths.specs.Rows.{row_above, rows_from, rows_of, digests_of}
+use Rattle.ark_paths.proofs.CoupleLemmas.{length-paired}
+use Rattle.ark_paths.proofs.Eaches.{begun, begun-nil, begun-more}
+use Rattle.ark_paths.proofs.Logs.{log2-between, log2-pow, upper_levels-is}
+use Rattle.ark_paths.proofs.Readings.{digest_read}
 use Rattle.ark_merkle.specs.LevelOrder.{rows_in_turn}
-use Rattle.ark_merkle.specs.Pair.{Digest, HashPair}
-use Rattle.ark_merkle.specs.Index.{log2}
-use Rattle.ark_merkle.specs.Root.{upper_levels}
-use Rattle.ark_merkle.specs.Rows.{row_above, rows_from, rows_of, digests_of}
-use Rattle.ark_merkle.proofs.CoupleLemmas.{length-paired}
-use Rattle.ark_merkle.proofs.Eaches.{begun, begun-nil, begun-more}
-use Rattle.ark_merkle.proofs.Logs.{log2-between, log2-pow, upper_levels-is}
-use Rattle.ark_merkle.proofs.Readings.{digest_read}
 
 module _ (hash : Digest → Digest → Outcome Digest) where
   -- so many hashes of neighbours in a list, from a couple on, each put behind the list

@@ -2,9 +2,9 @@
 use Rattle.std.proofs.Common.{suc, ◌≡◌, ◌≢◌, ℕ, ◌+◌, ◌/◌, ◌<◌, ◌≤◌, ◌^◌, List, [], length, get_or, set, arith, ◌∙◌, inl, inr}
 use Rattle.std.proofs.lemmas.List.{length-set, get_or-set_same, get_or-set_other}
 use Rattle.std.proofs.lemmas.Bool.{cases_lt}
-use Rattle.ark_merkle.specs.Pair.{Digest}
-use Rattle.ark_merkle.specs.Rows.{HoldsIndex}
-use Rattle.ark_merkle.proofs.PlaceLemmas.{place-inside}
+use Rattle.ark_paths.specs.Pair.{Digest}
+use Rattle.ark_paths.specs.Rows.{HoldsIndex}
+use Rattle.ark_paths.proofs.PlaceLemmas.{place-inside}
 
 -- The digests of a way stand in the first rows; the other rows, and what is left of the way, are as before.
 pub record ArePut (before : List (List Digest)) (index : ℕ) (way : List Digest) (level : ℕ) (rows : List (List Digest)) (left : List Digest) : Type 0 where

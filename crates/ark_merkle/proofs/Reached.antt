@@ -4,13 +4,13 @@ use Rattle.std.proofs.lemmas.Bool.{cases_lt, eq-eqb, ne_eqb}
 use Rattle.std.proofs.lemmas.List.{get_or-map, drop_more, drop_all}
 use Rattle.ark_base.specs.Outcome.{Outcome, ◌>>=◌}
 use Rattle.ark_base.specs.Laws.Steps.{done_injective}
+use Rattle.ark_paths.specs.Index.{bit_at}
+use Rattle.ark_paths.specs.Pair.{Digest}
+use Rattle.ark_paths.specs.Rows.{couples, row_above}
+use Rattle.ark_paths.proofs.Eaches.{each-cons}
 use Rattle.ark_merkle.specs.Batch.{hashed_changes, puts}
 use Rattle.ark_merkle.specs.Changed.{seen_changes, AreChanges, couple_of, couples_reached}
-use Rattle.ark_merkle.specs.Index.{bit_at}
-use Rattle.ark_merkle.specs.Pair.{Digest}
-use Rattle.ark_merkle.specs.Rows.{couples, row_above}
 use Rattle.ark_merkle.proofs.Batches.{hashed-cons, AreChanges-later, AreChanges-at}
-use Rattle.ark_merkle.proofs.Eaches.{each-cons}
 
 -- ---- a row with changed digests, cell by cell
 

@@ -3,15 +3,15 @@ use Rattle.std.proofs.Common.{◌≡◌, ℕ, zero, suc, ◌+◌, ◌<◌, ◌^�
 use Rattle.std.specs.List.{All, AllByRecursion}
 use Rattle.std.specs.List.Sorted.{IsStrictlyIncreasing}
 use Rattle.std.proofs.lemmas.List.{length-map}
-use Rattle.ark_merkle.specs.MultiPath.{MultiWay}
-use Rattle.ark_merkle.specs.MultiPathStrict.{is_strict}
+use Rattle.ark_paths.specs.MultiPath.{MultiWay}
+use Rattle.ark_paths.specs.MultiPathStrict.{is_strict}
+use Rattle.ark_paths.specs.Pair.{Digest, HashPair}
+use Rattle.ark_paths.specs.Root.{upper_levels}
+use Rattle.ark_paths.specs.Rows.{IsTree}
+use Rattle.ark_paths.proofs.StrictLaws.{strict-in_order}
 use Rattle.ark_merkle.specs.MultiProof.{rising_set, own_multi_path}
-use Rattle.ark_merkle.specs.Pair.{Digest, HashPair}
-use Rattle.ark_merkle.specs.Root.{upper_levels}
-use Rattle.ark_merkle.specs.Rows.{IsTree}
 use Rattle.ark_merkle.proofs.MultiIndexes.{rising-increases, rising-some}
 use Rattle.ark_merkle.proofs.MultiOwn.{own, own-indexes, own-long, within}
-use Rattle.ark_merkle.proofs.StrictLaws.{strict-in_order}
 
 from_recursion : {X : Type 0} (P : X → Type 0) (xs : List X) → AllByRecursion P xs → All P xs
 from_recursion P [] all k d below = absurd (omega arith)

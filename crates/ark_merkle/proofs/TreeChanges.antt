@@ -4,10 +4,10 @@ use Rattle.std.proofs.lemmas.List.{length-map, map-set}
 use Rattle.std.specs.declared.vec.Vec.{Vec}
 use Rattle.std.specs.Vec.{with_item}
 use Rattle.ark_base.specs.Outcome.{Outcome}
-use Rattle.ark_merkle.specs.Pair.{Digest, HashPair}
-use Rattle.ark_merkle.specs.Root.{root, upper_levels}
-use Rattle.ark_merkle.specs.Rows.{IsTree, digests_of}
-use Rattle.ark_merkle.specs.Tree.{Tree}
+use Rattle.ark_paths.specs.Pair.{Digest, HashPair}
+use Rattle.ark_paths.specs.Root.{root, upper_levels}
+use Rattle.ark_paths.specs.Rows.{IsTree, digests_of}
+use Rattle.ark_paths.specs.Tree.{Tree}
 use Rattle.ark_merkle.specs.Update.{new_root, AreOnWay, ChangesWay}
 use Rattle.ark_merkle.proofs.Changes.{is_tree-changed}
 

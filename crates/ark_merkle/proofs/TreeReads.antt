@@ -1,13 +1,13 @@
 -- What the calls of a tree read from its rows.
 use Rattle.std.proofs.Common.{◌≡◌, ℕ, ◌-◌, ◌<◌, ◌^◌, suc, List, [], length, get_or, Ok, arith, refl, ap, sym, subst, ◌∙◌}
 use Rattle.ark_base.specs.Outcome.{Outcome}
-use Rattle.ark_merkle.specs.Index.{log2, neighbour}
-use Rattle.ark_merkle.specs.Pair.{Digest, HashPair}
-use Rattle.ark_merkle.specs.Root.{root, leaves_with_root, upper_levels}
-use Rattle.ark_merkle.specs.Rows.{IsTree, HoldsIndex, beside_in}
-use Rattle.ark_merkle.specs.Tree.{Tree, HashedTree, own_path}
-use Rattle.ark_merkle.proofs.Logs.{log2-pow}
-use Rattle.ark_merkle.proofs.OwnPaths.{root-top, top-row-some, own_path-rows}
+use Rattle.ark_paths.specs.Index.{log2, neighbour}
+use Rattle.ark_paths.specs.Pair.{Digest, HashPair}
+use Rattle.ark_paths.specs.Root.{root, leaves_with_root, upper_levels}
+use Rattle.ark_paths.specs.Rows.{IsTree, HoldsIndex, beside_in}
+use Rattle.ark_paths.specs.Tree.{Tree, HashedTree, own_path}
+use Rattle.ark_paths.proofs.Logs.{log2-pow}
+use Rattle.ark_paths.proofs.OwnPaths.{root-top, top-row-some, own_path-rows}
 
 -- the rows are those of the tree that contracts see
 pub seen_tree : {L T : Type 0} (pair : T → HashPair) (rows : List (List Digest)) (view now : Tree L T) → view ≡ now → IsTree (pair view.pair_parameters) view.leaves rows → IsTree (pair now.pair_parameters) now.leaves rows

@@ -1,9 +1,9 @@
 -- Several changed leaves at once. A change is an index, and the leaf that is to stand there.
 use Rattle.std.specs.Prelude.{ℕ, ◌==◌, nat_lt, List, [], ◌∷◌, set, if◌then◌else◌, Ok}
 use Rattle.ark_base.specs.Outcome.{Outcome, ◌>>=◌}
-use Rattle.ark_merkle.specs.Pair.{Digest}
-use Rattle.ark_merkle.specs.Root.{leaves_with_root}
-use Rattle.ark_merkle.specs.Tree.{HashedTree, with_hashes}
+use Rattle.ark_paths.specs.Pair.{Digest}
+use Rattle.ark_paths.specs.Root.{leaves_with_root}
+use Rattle.ark_paths.specs.Tree.{HashedTree, with_hashes}
 use Rattle.ark_merkle.specs.Update.{with_leaf}
 
 -- a change at its place among those by rising index, unless there is one of its index

@@ -3,10 +3,10 @@ use Rattle.std.specs.Prelude.{◌≡◌, ℕ, zero, suc, ◌+◌, ◌*◌, ◌/�
 use Rattle.std.specs.Borrow.{Bor}
 use Rattle.std.specs.BTreeMap.{BTreeMap}
 use Rattle.ark_base.specs.Outcome.{Outcome}
-use Rattle.ark_merkle.specs.Index.{bit_at}
+use Rattle.ark_paths.specs.Index.{bit_at}
+use Rattle.ark_paths.specs.Pair.{Digest}
+use Rattle.ark_paths.specs.Rows.{row_above}
 use Rattle.ark_merkle.specs.MultiProof.{rising_set}
-use Rattle.ark_merkle.specs.Pair.{Digest}
-use Rattle.ark_merkle.specs.Rows.{row_above}
 
 -- changes with what is seen of them
 abbrev pub seen_changes : {A B : Type 0} → (A → B) → List (ℕ × A) → List (ℕ × B)

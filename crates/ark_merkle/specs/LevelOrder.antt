@@ -1,6 +1,6 @@
 -- Rows of digests in one list.
 use Rattle.std.specs.Prelude.{ℕ, zero, suc, ◌-◌, ◌^◌, List, [], ◌∷◌, ◌++◌, take, drop}
-use Rattle.ark_merkle.specs.Pair.{Digest}
+use Rattle.ark_paths.specs.Pair.{Digest}
 
 -- the rows of n levels in level order, the lowest row first: the root stands at 0, and below what stands at place k that
 -- at 2 k + 1 and 2 k + 2, so a row of 2 ^ n digests begins at 2 ^ n - 1

@@ -1,9 +1,10 @@
 -- A tree's own multi-proofs.
-use Rattle.std.specs.Prelude.{◌≡◌, get_or, Option, Some, Ok, true, ℕ, zero, suc, ◌==◌, nat_lt, List, [], ◌∷◌, map, drop, if◌then◌else◌}
-use Rattle.ark_merkle.specs.MultiPath.{MultiWay, multi_verdict}
-use Rattle.ark_merkle.specs.Pair.{Digest, HashPair, digest_eq}
-use Rattle.ark_merkle.specs.Path.{Way}
-use Rattle.ark_merkle.specs.Tree.{HashedTree, root_in, own_path, path_in}
+use Rattle.std.specs.Prelude.{◌≡◌, get_or, Option, Some, Ok, true, ℕ, ◌==◌, nat_lt, List, [], ◌∷◌, map, if◌then◌else◌}
+use Rattle.ark_paths.specs.MultiPath.{MultiWay, multi_verdict}
+use Rattle.ark_paths.specs.Pair.{Digest, HashPair}
+use Rattle.ark_paths.specs.Path.{Way}
+use Rattle.ark_paths.specs.Sharing.{multi_path_of}
+use Rattle.ark_paths.specs.Tree.{HashedTree, root_in, own_path, path_in}
 
 -- a number at its place among rising ones, unless it is one of them
 abbrev pub with_number : ℕ → List ℕ → List ℕ
@@ -14,31 +15,6 @@ with_number n (x ∷ xs) = if nat_lt n x then n ∷ x ∷ xs else (if n == x the
 abbrev pub rising_set : List ℕ → List ℕ
 rising_set [] = []
 rising_set (n ∷ numbers) = with_number n (rising_set numbers)
-
--- how many first digests two lists have in common
-abbrev pub shared_count : List Digest → List Digest → ℕ
-shared_count [] ys = zero
-shared_count (x ∷ xs) [] = zero
-shared_count (x ∷ xs) (y ∷ ys) = if digest_eq x y then suc (shared_count xs ys) else zero
-
--- how many first digests each list has in common with the one before it, and what each adds to those
-abbrev pub prefixes_of : List Digest → List (List Digest) → List ℕ
-prefixes_of before [] = []
-prefixes_of before (list ∷ lists) = shared_count before list ∷ prefixes_of list lists
-
-abbrev pub suffixes_of : List Digest → List (List Digest) → List (List Digest)
-suffixes_of before [] = []
-suffixes_of before (list ∷ lists) = drop (shared_count before list) list ∷ suffixes_of list lists
-
--- the multi-proof of some paths, in which each takes as much from the one before as it can; no digests stand before the
--- first
-abbrev pub multi_path_of : List Way → MultiWay
-multi_path_of ways = record {
-  siblings = map (λ way. way.sibling) ways;
-  prefixes = prefixes_of [] (map (λ way. way.above) ways);
-  suffixes = suffixes_of [] (map (λ way. way.above) ways);
-  indexes = map (λ way. way.index) ways;
-}
 
 -- the multi-proof of some indexes: that of their own paths, each once, rising
 abbrev pub own_multi_path : HashPair → List ℕ → List Digest → MultiWay

@@ -1,10 +1,10 @@
 -- Changed leaves.
 use Rattle.std.specs.Prelude.{◌≡◌, ◌<◌, ℕ, suc, ◌/◌, ◌^◌, Bool, List, [], length, get_or, set, Ok}
 use Rattle.ark_base.specs.Outcome.{Outcome, ◌>>=◌}
-use Rattle.ark_merkle.specs.Pair.{Digest, HashPair, digest_eq}
-use Rattle.ark_merkle.specs.Root.{Root, place, root, leaves_with_root, upper_levels}
-use Rattle.ark_merkle.specs.Tree.{HashedTree, with_hashes}
-use Rattle.ark_merkle.specs.Rows.{part}
+use Rattle.ark_paths.specs.Pair.{Digest, HashPair, digest_eq}
+use Rattle.ark_paths.specs.Root.{Root, place, root, leaves_with_root, upper_levels}
+use Rattle.ark_paths.specs.Tree.{HashedTree, with_hashes}
+use Rattle.ark_paths.specs.Rows.{part}
 
 -- the leaf digests with that of a leaf at an index, where they have a root
 abbrev pub changed_leaves : HashPair → Outcome Digest → ℕ → List Digest → Outcome (List Digest)

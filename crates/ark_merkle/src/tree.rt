@@ -2,10 +2,10 @@
 
 ghost use Rattle.std.specs.Prelude.{◌≡◌, ◌<◌, ◌≤◌, ◌+◌, ◌-◌, ◌^◌, [], replicate, length, get_or, IfOk, Ok};
 ghost use Rattle.ark_base.specs.Outcome.{AnswersBy};
-ghost use Rattle.ark_merkle.specs.Index.{IsTreeSize, log2, neighbour};
-ghost use Rattle.ark_merkle.specs.Pair.{pair_of};
-ghost use Rattle.ark_merkle.specs.Rows.{IsTree, digests_of};
-ghost use Rattle.ark_merkle.specs.Tree.{Tree, HashedTree, tree_of, tree_above, root_in, path_in, IsAccepted};
+ghost use Rattle.ark_paths.specs.Index.{IsTreeSize, log2, neighbour};
+ghost use Rattle.ark_paths.specs.Pair.{pair_of};
+ghost use Rattle.ark_paths.specs.Rows.{IsTree, digests_of};
+ghost use Rattle.ark_paths.specs.Tree.{Tree, HashedTree, tree_of, tree_above, root_in, path_in, IsAccepted};
 
 mod batch;
 mod bind;
@@ -16,13 +16,13 @@ mod multi_proof;
 mod rows;
 mod update;
 
-use crate::config::{Config, LeafParam, TwoToOneParam};
-use crate::digests::{blank_row, copies_of};
-use crate::index::neighbour_of;
-use crate::path::Path;
-use crate::views::Views;
 use ark_base::error::Error;
 use ark_base::serialize::Duplicate;
+use ark_paths::config::{Config, LeafParam, TwoToOneParam};
+use ark_paths::digests::{blank_row, copies_of};
+use ark_paths::index::neighbour_of;
+use ark_paths::path::Path;
+use ark_paths::views::Views;
 pub use bind::Binding;
 use build::{hash_all, rows_above};
 use levels::Levels;

@@ -2,9 +2,9 @@
 use Rattle.std.proofs.Common.{◌≡◌, ◌∙◌, ℕ, ◌+◌, List, ◌∷◌, true, Some, Ok, Err, refl, add-one}
 use Rattle.ark_base.specs.declared.error.Error.{Error}
 use Rattle.ark_base.specs.Outcome.{Outcome}
-use Rattle.ark_merkle.specs.MultiPath.{MultiWay, decoded_path, decoded_paths_from, multi_verdict_from}
-use Rattle.ark_merkle.specs.Pair.{Digest, HashPair}
-use Rattle.ark_merkle.specs.Path.{Way, verdict}
+use Rattle.ark_paths.specs.MultiPath.{MultiWay, decoded_path, decoded_paths_from, multi_verdict_from}
+use Rattle.ark_paths.specs.Pair.{Digest, HashPair}
+use Rattle.ark_paths.specs.Path.{Way, verdict}
 
 module _ (h : HashPair) (root : Digest) (m : MultiWay) (i : ℕ) (before : List Digest) (index : ℕ) (way : Way) (decodes : decoded_path m i before index ≡ Some way) (leaf : Outcome Digest) (indexes : List ℕ) (leaves : List (Outcome Digest)) where
   pub place-refused : (error : Error) → verdict h leaf way root ≡ Err error → multi_verdict_from h root i (decoded_paths_from m i before (index ∷ indexes)) (leaf ∷ leaves) ≡ Err error

@@ -2,8 +2,8 @@
 use Rattle.std.proofs.Common.{zero, suc, ◌≡◌, ℕ, ◌-◌, ◌*◌, ◌/◌, ◌^◌, List, length, map, take, drop, refl, arith}
 use Rattle.std.proofs.lemmas.List.{take-map, drop-map}
 use Rattle.std.proofs.Math.Nat.{pow-succ'}
-use Rattle.ark_merkle.specs.Pair.{Digest, HashPair}
-use Rattle.ark_merkle.specs.Root.{Place, place, place_of_halves}
+use Rattle.ark_paths.specs.Pair.{Digest, HashPair}
+use Rattle.ark_paths.specs.Root.{Place, place, place_of_halves}
 
 pub place-halves : {A : Type 0} (numbers : A → Digest) (h : HashPair) (m : ℕ) (digests left right : List A) {p q : Place} → (m ≡ 0 → ⊥) → length digests ≡ 2 ^ suc m
     → left ≡ take (length digests / 2) digests → right ≡ drop (length digests / 2) digests

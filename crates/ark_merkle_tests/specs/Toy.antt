@@ -1,7 +1,7 @@
 -- Hashes that can be reckoned by hand.
 use Rattle.std.specs.Prelude.{ℕ, ◌+◌, ◌*◌, ◌%◌, [], ◌∷◌, get_or, Ok}
 use Rattle.ark_base.specs.Outcome.{Outcome}
-use Rattle.ark_merkle.specs.Pair.{Digest}
+use Rattle.ark_paths.specs.Pair.{Digest}
 
 -- a leaf modulo 257
 abbrev pub leaf_modulo : ℕ → Outcome Digest

@@ -3,9 +3,9 @@
 ghost use Rattle.std.specs.Prelude.{◌≡◌, ℕ, suc, ◌^◌, map, length, Ok, Err, MatchResult};
 ghost use Rattle.ark_base.specs.Outcome.{Outcome, AnswersBy};
 ghost use Rattle.ark_base.specs.declared.error.Error.TheVariants.{OutOfMemory};
-ghost use Rattle.ark_merkle.specs.Pair.{Digest, HashPair};
-ghost use Rattle.ark_merkle.specs.Path.{climb};
-ghost use Rattle.ark_merkle.specs.Root.{Place, Root, Refused, place_at, place_of_halves, place};
+ghost use Rattle.ark_paths.specs.Pair.{Digest, HashPair};
+ghost use Rattle.ark_paths.specs.Path.{climb};
+ghost use Rattle.ark_paths.specs.Root.{Place, Root, Refused, place_at, place_of_halves, place};
 
 mod multi;
 

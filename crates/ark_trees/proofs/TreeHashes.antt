@@ -4,10 +4,10 @@ use Rattle.std.proofs.Math.Nat.{pow-succ'}
 use Rattle.std.proofs.lemmas.List.{take-map, drop-map, length-take, length-drop, length-map}
 use Rattle.ark_base.specs.Outcome.{◌>>=◌}
 use Rattle.ark_base.specs.Laws.Steps.{bind_ok, done_injective}
-use Rattle.ark_merkle.specs.Index.{log2}
-use Rattle.ark_merkle.specs.Pair.{Digest, HashPair, Hashes}
-use Rattle.ark_merkle.specs.Root.{Root, place, root, all_hashes, leaves_with_root}
-use Rattle.ark_merkle.specs.Tree.{HashedTree, root_in, tree_of, with_hashes}
+use Rattle.ark_paths.specs.Index.{log2}
+use Rattle.ark_paths.specs.Pair.{Digest, HashPair, Hashes}
+use Rattle.ark_paths.specs.Root.{Root, place, root, all_hashes, leaves_with_root}
+use Rattle.ark_paths.specs.Tree.{HashedTree, root_in, tree_of, with_hashes}
 use Rattle.ark_trees.specs.Rfc6962.{entry_hash, node_hash, merkle_tree_hash}
 
 -- the hashes of a log

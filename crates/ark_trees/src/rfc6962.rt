@@ -2,8 +2,8 @@
 
 ghost use Rattle.std.specs.Prelude.{◌≡◌, Ok, IfOk, refl, length, map};
 ghost use Rattle.ark_base.specs.Outcome.{AnswersBy};
-ghost use Rattle.ark_merkle.specs.Index.{IsTreeSize, log2};
-ghost use Rattle.ark_merkle.specs.Tree.{root_in, tree_of};
+ghost use Rattle.ark_paths.specs.Index.{IsTreeSize, log2};
+ghost use Rattle.ark_paths.specs.Tree.{root_in, tree_of};
 ghost use Rattle.ark_trees.specs.Rfc6962.{entry_hash, node_hash, merkle_tree_hash};
 
 use ark_base::error::Error;

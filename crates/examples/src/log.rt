@@ -1,8 +1,8 @@
 //! A log publishes a root and hands out receipts, which a client checks without the log.
 
 ghost use Rattle.std.specs.Prelude.{◌≡◌, true, length, IfOk, Ok};
-ghost use Rattle.ark_merkle.specs.Received.{ShowsLeaf};
-ghost use Rattle.ark_merkle.specs.Tree.{root_in};
+ghost use Rattle.ark_paths.specs.Received.{ShowsLeaf};
+ghost use Rattle.ark_paths.specs.Tree.{root_in};
 
 use ark_crypto_primitives::Error;
 use ark_crypto_primitives::merkle_tree::{MerkleTree, Path, Views, is_tree_size};

@@ -1,7 +1,7 @@
 //! A client of an authenticated store, who keeps the root alone and follows each update by a proof.
 
 ghost use Rattle.std.specs.Prelude.{◌≡◌, ◌≢◌, true, IfOk, Ok};
-ghost use Rattle.ark_merkle.specs.Received.{ShowsLeaf};
+ghost use Rattle.ark_paths.specs.Received.{ShowsLeaf};
 
 use ark_crypto_primitives::Error;
 use ark_crypto_primitives::merkle_tree::{Path, Views};

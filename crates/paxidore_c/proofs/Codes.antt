@@ -4,10 +4,10 @@ use Rattle.std.proofs.lemmas.List.{map-id}
 use Rattle.std.proofs.lemmas.Simd.{map-map}
 use Rattle.ark_base.specs.Outcome.{Outcome, Answers}
 use Rattle.ark_base.specs.Reading.{Reading}
-use Rattle.ark_merkle.specs.MultiPath.{MultiWay}
-use Rattle.ark_merkle.specs.Pair.{Digest, Hashes}
-use Rattle.ark_merkle.specs.Path.{Way}
-use Rattle.ark_merkle.specs.Received.{ShowsLeaf, ShowsLeaves, StandInTurn, received_multi_verdict}
+use Rattle.ark_paths.specs.MultiPath.{MultiWay}
+use Rattle.ark_paths.specs.Pair.{Digest, Hashes}
+use Rattle.ark_paths.specs.Path.{Way}
+use Rattle.ark_paths.specs.Received.{ShowsLeaf, ShowsLeaves, StandInTurn, received_multi_verdict}
 use Rattle.paxidore_calls.specs.Answer.{Gives, all_shown, leaves_for, refusal_code, refused_of, refusing, results_of, verdict_code}
 use Rattle.paxidore_calls.specs.Hashing.{Hashing, hashes_of, node_pair, read_path, read_multi_path}
 use Rattle.paxidore_calls.specs.declared.refused.Refused.{Refused}

@@ -3,18 +3,18 @@ use Rattle.std.proofs.Common.{◌≡◌, ◌⊎◌, ℕ, zero, suc, ◌^◌, Lis
 use Rattle.std.proofs.lemmas.List.{length-map}
 use Rattle.std.specs.declared.vec.Vec.{Vec}
 use Rattle.ark_base.specs.Digits.{itself}
-use Rattle.ark_merkle.specs.Laws.ByNumbers.{multi_spelling-way}
-use Rattle.ark_merkle.specs.MultiPath.{MultiWay}
-use Rattle.ark_merkle.specs.MultiPathBytes.{multi_path_spelling}
+use Rattle.ark_paths.specs.Laws.ByNumbers.{multi_spelling-way}
+use Rattle.ark_paths.specs.MultiPath.{MultiWay}
+use Rattle.ark_paths.specs.MultiPathBytes.{multi_path_spelling}
 use Rattle.ark_merkle.specs.MultiProof.{multi_path_in, own_multi_path}
 use Rattle.std.proofs.lemmas.Result.{err_from_is_err_and}
 use Rattle.std.specs.Result.{IsErrAnd}
 use Rattle.ark_base.specs.declared.error.Error.{Error}
 use Rattle.ark_base.specs.declared.error.Error.TheVariants.{OutOfMemory}
 use Rattle.ark_base.specs.Outcome.{Outcome, ◌>>=◌}
-use Rattle.ark_merkle.specs.Pair.{Digest}
-use Rattle.ark_merkle.specs.Root.{Root, place, root, upper_levels}
-use Rattle.ark_merkle.specs.Tree.{tree_above}
+use Rattle.ark_paths.specs.Pair.{Digest}
+use Rattle.ark_paths.specs.Root.{Root, place, root, upper_levels}
+use Rattle.ark_paths.specs.Tree.{tree_above}
 use Rattle.paxidore_calls.specs.Answer.{GivesBy, are_indexes, multi_path_of_leaves, only_if, refused_of, results_of, tree_leaves_in}
 use Rattle.paxidore_calls.specs.Hashing.{Hashing, node_pair, bytes_of_multi_path, tree_over}
 use Rattle.paxidore_calls.specs.declared.refused.Refused.{Refused}

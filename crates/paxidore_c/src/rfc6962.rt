@@ -1,8 +1,8 @@
 //! Trees as transparency logs hash them (RFC 6962, section 2.1): a zero byte stands before a leaf, a one byte before a pair.
 
 ghost use Rattle.std.specs.Prelude.{◌≡◌, ◌≢◌, pos, length, IfOk, Ok};
-ghost use Rattle.ark_merkle.specs.Received.{ShowsLeaf, ShowsLeaves};
-ghost use Rattle.ark_merkle.specs.Tree.{root_in};
+ghost use Rattle.ark_paths.specs.Received.{ShowsLeaf, ShowsLeaves};
+ghost use Rattle.ark_paths.specs.Tree.{root_in};
 ghost use Rattle.paxidore_calls.specs.Answer.{Gives, GivesBy, Hands, all_shown, done_code, leaves_for, multi_path_of_leaves, path_of_leaves, results_of, shown, tree_leaves_in, verdict_code};
 ghost use Rattle.paxidore_calls.specs.Hashing.{hashes_of, read_multi_path, read_path, rfc6962_hashing, tree_over};
 ghost use Rattle.ark_trees.specs.Rfc6962.{entry_hash};

@@ -1,8 +1,8 @@
 //! Trees whose hashes are SHA-256 of the leaf, and of left followed by right.
 
 ghost use Rattle.std.specs.Prelude.{◌≡◌, ◌≢◌, pos, length, IfOk, Ok};
-ghost use Rattle.ark_merkle.specs.Received.{ShowsLeaf, ShowsLeaves};
-ghost use Rattle.ark_merkle.specs.Tree.{root_in};
+ghost use Rattle.ark_paths.specs.Received.{ShowsLeaf, ShowsLeaves};
+ghost use Rattle.ark_paths.specs.Tree.{root_in};
 ghost use Rattle.paxidore_calls.specs.Answer.{Gives, GivesBy, Hands, all_shown, done_code, leaves_for, multi_path_of_leaves, path_of_leaves, results_of, shown, tree_leaves_in, verdict_code};
 ghost use Rattle.paxidore_calls.specs.Hashing.{hashes_of, read_multi_path, read_path, sha256_hashing, tree_over};
 ghost use Rattle.sha2.specs.Sha256.{sha256};

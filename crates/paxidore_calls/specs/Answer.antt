@@ -5,11 +5,11 @@ use Rattle.ark_base.specs.declared.error.Error.{Error}
 use Rattle.ark_base.specs.declared.error.Error.TheVariants.{OutOfMemory, IncorrectInputLength, NotPrimeOrder, GenericError, SerializationError as OfBytes}
 use Rattle.ark_base.specs.declared.error.SerializationError.TheVariants.{Truncated as CutShort, InvalidData}
 use Rattle.ark_base.specs.Outcome.{Outcome, ◌>>=◌}
-use Rattle.ark_merkle.specs.Index.{is_tree_size}
+use Rattle.ark_paths.specs.Index.{is_tree_size}
+use Rattle.ark_paths.specs.Pair.{Digest}
+use Rattle.ark_paths.specs.Received.{received_verdict, received_multi_verdict}
+use Rattle.ark_paths.specs.Tree.{path_in}
 use Rattle.ark_merkle.specs.MultiProof.{multi_path_in}
-use Rattle.ark_merkle.specs.Pair.{Digest}
-use Rattle.ark_merkle.specs.Received.{received_verdict, received_multi_verdict}
-use Rattle.ark_merkle.specs.Tree.{path_in}
 use Rattle.paxidore_calls.specs.declared.refused.Refused.{Refused}
 use Rattle.paxidore_calls.specs.declared.refused.Refused.TheVariants.{Memory, Truncated, Invalid, Height, Size, Lengths, Count, Index, Room, Other}
 use Rattle.paxidore_calls.specs.Cut.{parts_by}

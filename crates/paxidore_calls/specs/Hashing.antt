@@ -3,12 +3,12 @@ use Rattle.std.specs.Prelude.{ℕ, List, ◌++◌, map, Ok}
 use Rattle.sha2.specs.Sha256.{sha256}
 use Rattle.ark_base.specs.Digits.{itself, bytes_at}
 use Rattle.ark_base.specs.Reading.{Reading}
-use Rattle.ark_merkle.specs.MultiPath.{MultiWay}
-use Rattle.ark_merkle.specs.MultiPathBytes.{multi_bytes, multi_way_at}
-use Rattle.ark_merkle.specs.Pair.{Digest, HashPair, Hashes}
-use Rattle.ark_merkle.specs.Path.{Way}
-use Rattle.ark_merkle.specs.PathBytes.{way_bytes, way_at}
-use Rattle.ark_merkle.specs.Tree.{HashedTree}
+use Rattle.ark_paths.specs.MultiPath.{MultiWay}
+use Rattle.ark_paths.specs.MultiPathBytes.{multi_bytes, multi_way_at}
+use Rattle.ark_paths.specs.Pair.{Digest, HashPair, Hashes}
+use Rattle.ark_paths.specs.Path.{Way}
+use Rattle.ark_paths.specs.PathBytes.{way_bytes, way_at}
+use Rattle.ark_paths.specs.Tree.{HashedTree}
 use Rattle.ark_trees.specs.Rfc6962.{entry_hash, node_hash}
 
 -- how a tree is hashed: the digest of a leaf, and that of two digests, left first

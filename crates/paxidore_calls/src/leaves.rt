@@ -2,7 +2,7 @@
 
 ghost use Rattle.std.specs.Prelude.{◌≡◌, ◌<◌, ◌≤◌, ℕ, List, length, take, map, nat_lt, true, IfOk};
 ghost use Rattle.std.specs.List.{All, list_all};
-ghost use Rattle.ark_merkle.specs.Index.{IsTreeSize};
+ghost use Rattle.ark_paths.specs.Index.{IsTreeSize};
 ghost use Rattle.ark_trees.specs.Rfc6962.{entry_hash};
 ghost use Rattle.paxidore_calls.specs.Answer.{GivesBy, are_indexes, leaves_for, leaves_in, results_of};
 ghost use Rattle.paxidore_calls.specs.Cut.{parts_by};

@@ -2,8 +2,8 @@
 use Rattle.std.specs.Prelude.{◌≡◌, ℕ, List, drop}
 use Rattle.ark_base.specs.Spelling.{byte, byte_at, counted_list, counted_list_at}
 use Rattle.ark_base.specs.Laws.Lists.{drop-counted_list}
-use Rattle.ark_merkle.specs.MultiPathBytes.{multi_way_at}
-use Rattle.ark_merkle.specs.PathBytes.{way_at}
+use Rattle.ark_paths.specs.MultiPathBytes.{multi_way_at}
+use Rattle.ark_paths.specs.PathBytes.{way_at}
 use Rattle.acp_session.specs.Sha256.{sha_language}
 
 -- the bytes of a digest, as they stand behind their count

@@ -2,7 +2,7 @@
 
 ghost use Rattle.std.specs.Prelude.{◌≡◌, map, IfOk};
 ghost use Rattle.ark_base.specs.Outcome.{Answers};
-ghost use Rattle.ark_merkle.specs.Bind.{path_binding};
+ghost use Rattle.ark_merkle.specs.Binding.{path_binding};
 ghost use Rattle.acp_session.specs.Replies.{Verdict, Bound, Tells, text};
 ghost use Rattle.acp_session.specs.Steps.{bind_reply, check_reply, finding, finding_reply, mcheck_reply, multi_path_holds, path_holds, state_of};
 

@@ -3,8 +3,8 @@
 ghost use Rattle.std.specs.Prelude.{◌≡◌, ◌<◌, length, IfOk, Ok, true};
 ghost use Rattle.std.specs.List.{All};
 ghost use Rattle.ark_base.specs.Outcome.{AnswersBy};
+ghost use Rattle.ark_paths.specs.Tree.{path_in};
 ghost use Rattle.ark_merkle.specs.MultiProof.{multi_path_in};
-ghost use Rattle.ark_merkle.specs.Tree.{path_in};
 ghost use Rattle.acp_session.specs.Replies.{Tells};
 ghost use Rattle.acp_session.specs.Steps.{all_below, multi_reply, proof_reply, root_reply, state_of};
 

@@ -2,7 +2,7 @@
 
 ghost use Rattle.std.specs.Prelude.{◌≡◌, IfOk};
 ghost use Rattle.ark_base.specs.Outcome.{Answers};
-ghost use Rattle.ark_merkle.specs.MultiPathStrict.{strict_reading};
+ghost use Rattle.ark_paths.specs.MultiPathStrict.{strict_reading};
 ghost use Rattle.acp_session.specs.Replies.{Strict, Tells, text};
 ghost use Rattle.acp_session.specs.Steps.{count_of, finding, finding_reply, strict_reply};
 

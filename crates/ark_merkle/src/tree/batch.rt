@@ -3,21 +3,21 @@
 ghost use Rattle.std.specs.Prelude.{◌≡◌, ◌<◌, ℕ, [], ◌∷◌, map, length, IfOk, OnErr, Ok};
 ghost use Rattle.std.specs.List.{All};
 ghost use Rattle.ark_base.specs.Outcome.{AnswersBy};
+ghost use Rattle.ark_paths.specs.Index.{log2};
+ghost use Rattle.ark_paths.specs.Root.{leaves_with_root};
+ghost use Rattle.ark_paths.specs.Rows.{IsTree};
 ghost use Rattle.ark_merkle.specs.Above.{count_above};
 ghost use Rattle.ark_merkle.specs.Batch.{with_change, last_changes, hashed_changes, puts, with_leaves, with_each_leaf};
 ghost use Rattle.ark_merkle.specs.Changed.{seen_changes, entered, AreChanges, Rise, count_over};
-ghost use Rattle.ark_merkle.specs.Index.{log2};
-ghost use Rattle.ark_merkle.specs.Root.{leaves_with_root};
-ghost use Rattle.ark_merkle.specs.Rows.{IsTree};
 ghost use Rattle.ark_merkle.specs.Update.{with_leaf};
 
-use crate::config::{Config, TwoToOneParam};
 use crate::tree::MerkleTree;
 use crate::tree::changes::{change_rows, hash_reached_leaves, put_changes};
 use crate::tree::levels::Levels;
-use crate::views::Views;
 use ark_base::error::Error;
 use ark_crh::CRHScheme;
+use ark_paths::config::{Config, TwoToOneParam};
+use ark_paths::views::Views;
 use std::alloc::Global;
 use std::collections::BTreeMap;
 

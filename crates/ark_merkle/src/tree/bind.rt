@@ -2,25 +2,26 @@
 
 ghost use Rattle.std.specs.Prelude.{◌≡◌, ◌<◌, ◌%◌, ◌^◌, ◌&&◌, ℕ, suc, Some, [], map, length, get_or, IfOk, if◌then◌else◌};
 ghost use Rattle.ark_base.specs.Outcome.{Answers, AnswersBy};
+ghost use Rattle.ark_paths.specs.Bind.{difference, CollidesAt};
+ghost use Rattle.ark_paths.specs.Index.{neighbour};
+ghost use Rattle.ark_paths.specs.Pair.{digest_eq};
+ghost use Rattle.ark_paths.specs.Path.{path_root};
+ghost use Rattle.ark_paths.specs.Rows.{IsTree, digests_of};
+ghost use Rattle.ark_paths.specs.Tree.{HoldsLeaf};
 ghost use Rattle.ark_merkle.specs.declared.tree.bind.Binding.TheVariants.{Rejected, Stands, Differs};
-ghost use Rattle.ark_merkle.specs.Bind.{binding_in, binding_of, difference, MatchesVerdict, CollidesAt};
-ghost use Rattle.ark_merkle.specs.Index.{neighbour};
-ghost use Rattle.ark_merkle.specs.Pair.{digest_eq};
-ghost use Rattle.ark_merkle.specs.Path.{path_root};
-ghost use Rattle.ark_merkle.specs.Rows.{IsTree, digests_of};
-ghost use Rattle.ark_merkle.specs.Tree.{HoldsLeaf};
+ghost use Rattle.ark_merkle.specs.Binding.{binding_in, binding_of, MatchesVerdict};
 
-use crate::config::{Config, TwoToOneParam};
-use crate::digests::are_same;
-use crate::index::{is_bit_set, neighbour_of};
-use crate::pair::{hash_leaves, hash_upper};
-use crate::path::Path;
 use crate::tree::MerkleTree;
 use crate::tree::levels::Levels;
-use crate::views::Views;
 use ark_base::error::Error;
 use ark_base::serialize::DigestItem;
 use ark_crh::CRHScheme;
+use ark_paths::config::{Config, TwoToOneParam};
+use ark_paths::digests::are_same;
+use ark_paths::index::{is_bit_set, neighbour_of};
+use ark_paths::pair::{hash_leaves, hash_upper};
+use ark_paths::path::Path;
+use ark_paths::views::Views;
 use std::alloc::Global;
 
 /// What a path with a leaf says of a tree's leaf digests.

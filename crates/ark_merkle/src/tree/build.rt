@@ -2,17 +2,17 @@
 
 ghost use Rattle.std.specs.Prelude.{◌≡◌, ◌+◌, ◌-◌, ◌^◌, ℕ, suc, map, length, IfOk};
 ghost use Rattle.ark_base.specs.Outcome.{Answers, AnswersBy};
-ghost use Rattle.ark_merkle.specs.Index.{IsTreeSize};
+ghost use Rattle.ark_paths.specs.Index.{IsTreeSize};
+ghost use Rattle.ark_paths.specs.Root.{all_hashes, upper_levels};
+ghost use Rattle.ark_paths.specs.Rows.{row_above, rows_from, rows_of, digests_of};
 ghost use Rattle.ark_merkle.specs.LevelOrder.{rows_in_turn};
-ghost use Rattle.ark_merkle.specs.Root.{all_hashes, upper_levels};
-ghost use Rattle.ark_merkle.specs.Rows.{row_above, rows_from, rows_of, digests_of};
 
-use crate::config::{Config, TwoToOneParam};
-use crate::pair::hash_bottom;
 use crate::tree::levels::Levels;
-use crate::views::Views;
 use ark_base::error::Error;
 use ark_crh::{CRHScheme, TwoToOneCRHScheme};
+use ark_paths::config::{Config, TwoToOneParam};
+use ark_paths::pair::hash_bottom;
+use ark_paths::views::Views;
 use std::alloc::Global;
 
 /// The digests of leaves.

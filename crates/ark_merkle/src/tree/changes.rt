@@ -2,18 +2,18 @@
 
 ghost use Rattle.std.specs.Prelude.{◌≡◌, ◌<◌, ◌≤◌, ◌-◌, ◌/◌, ◌%◌, ◌^◌, ℕ, [], ◌∷◌, map, length, take, drop, get_or, set, slice_index, IfOk, OnErr};
 ghost use Rattle.ark_base.specs.Outcome.{AnswersBy};
+ghost use Rattle.ark_paths.specs.Rows.{rows_from};
 ghost use Rattle.ark_merkle.specs.Batch.{hashed_changes, puts};
 ghost use Rattle.ark_merkle.specs.Changed.{seen_changes, AreChanges, AreHashed, couples_reached, count_over};
-ghost use Rattle.ark_merkle.specs.Rows.{rows_from};
 
-use crate::config::{Config, TwoToOneParam};
-use crate::index::is_bit_set;
-use crate::pair::hash_bottom;
 use crate::tree::levels::Levels;
-use crate::views::Views;
 use ark_base::error::Error;
 use ark_base::serialize::DigestItem;
 use ark_crh::TwoToOneCRHScheme;
+use ark_paths::config::{Config, TwoToOneParam};
+use ark_paths::index::is_bit_set;
+use ark_paths::pair::hash_bottom;
+use ark_paths::views::Views;
 use std::alloc::Global;
 use std::mem::swap;
 

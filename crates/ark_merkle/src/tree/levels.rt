@@ -1,13 +1,13 @@
 //! The digests above the leaf digests, in one list.
 
 ghost use Rattle.std.specs.Prelude.{◌≡◌, ◌<◌, ◌≤◌, ◌+◌, ◌-◌, ◌^◌, ◌++◌, List, [], length, map, take, drop, reverse, get_or, set};
+ghost use Rattle.ark_paths.specs.Pair.{Digest};
+ghost use Rattle.ark_paths.specs.Rows.{digests_of};
 ghost use Rattle.ark_merkle.specs.LevelOrder.{rows_in_order, rows_in_turn, highest_row_first};
-ghost use Rattle.ark_merkle.specs.Pair.{Digest};
-ghost use Rattle.ark_merkle.specs.Rows.{digests_of};
 
-use crate::digests::copies_of;
 use ark_base::error::Error;
 use ark_base::serialize::{DigestItem, Duplicate};
+use ark_paths::digests::copies_of;
 use std::alloc::Global;
 use std::marker::Model;
 use std::mem::swap;

@@ -4,20 +4,21 @@ ghost use Rattle.std.specs.Prelude.{◌≡◌, ◌↔◌, ◌<◌, ◌≤◌, �
 ghost use Rattle.std.specs.List.{All, Contains};
 ghost use Rattle.std.specs.List.Sorted.{IsStrictlyIncreasing};
 ghost use Rattle.ark_base.specs.Outcome.{AnswersBy};
-ghost use Rattle.ark_merkle.specs.Index.{neighbour};
-ghost use Rattle.ark_merkle.specs.MultiPath.{decoded_paths};
-ghost use Rattle.ark_merkle.specs.MultiPathStrict.{is_strict};
-ghost use Rattle.ark_merkle.specs.MultiProof.{rising_set, shared_count, prefixes_of, suffixes_of, multi_path_in, paths_in, IsMultiAccepted};
-ghost use Rattle.ark_merkle.specs.Rows.{HoldsIndex, beside_in, digests_of, rows_seen};
+ghost use Rattle.ark_paths.specs.Index.{neighbour};
+ghost use Rattle.ark_paths.specs.MultiPath.{decoded_paths};
+ghost use Rattle.ark_paths.specs.MultiPathStrict.{is_strict};
+ghost use Rattle.ark_paths.specs.Sharing.{shared_count, prefixes_of, suffixes_of};
+ghost use Rattle.ark_paths.specs.Rows.{HoldsIndex, beside_in, digests_of, rows_seen};
+ghost use Rattle.ark_merkle.specs.MultiProof.{rising_set, multi_path_in, paths_in, IsMultiAccepted};
 
-use crate::index::neighbour_of;
-use crate::multi_path::MultiPath;
 use crate::tree::MerkleTree;
 use crate::tree::levels::Levels;
 use crate::tree::rows::digests_beside;
-use crate::views::Views;
 use ark_base::error::Error;
 use ark_base::serialize::{DigestItem, Duplicate};
+use ark_paths::index::neighbour_of;
+use ark_paths::multi_path::MultiPath;
+use ark_paths::views::Views;
 use std::alloc::Global;
 
 impl<P: Views> MerkleTree<P> {

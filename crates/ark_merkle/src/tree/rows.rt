@@ -2,12 +2,12 @@
 
 ghost use Rattle.std.specs.Prelude.{◌≡◌, ◌≤◌, ◌-◌, length, Ok};
 ghost use Rattle.ark_base.specs.Outcome.{AnswersBy};
-ghost use Rattle.ark_merkle.specs.Rows.{HoldsIndex, beside_in, digests_of};
+ghost use Rattle.ark_paths.specs.Rows.{HoldsIndex, beside_in, digests_of};
 
-use crate::index::neighbour_of;
 use crate::tree::levels::Levels;
 use ark_base::error::Error;
 use ark_base::serialize::{DigestItem, Duplicate};
+use ark_paths::index::neighbour_of;
 use std::alloc::Global;
 
 /// The digests beside the way of an index in the first rows but the last of these, from above down.

@@ -2,20 +2,20 @@
 
 ghost use Rattle.std.specs.Prelude.{◌≡◌, ◌<◌, ◌/◌, ◌^◌, ℕ, suc, [], true, false, map, length, get_or, set, IfOk, OnErr, Ok};
 ghost use Rattle.ark_base.specs.Outcome.{Answers, AnswersBy};
-ghost use Rattle.ark_merkle.specs.Root.{root, upper_levels};
-ghost use Rattle.ark_merkle.specs.Rows.{IsTree, HoldsIndex, digests_of};
+ghost use Rattle.ark_paths.specs.Root.{root, upper_levels};
+ghost use Rattle.ark_paths.specs.Rows.{IsTree, HoldsIndex, digests_of};
 ghost use Rattle.ark_merkle.specs.Update.{with_leaf, new_root, change_agrees, ChangesWay};
 
-use crate::config::{Config, TwoToOneParam};
-use crate::digests::are_same;
-use crate::index::{is_bit_set, neighbour_of};
-use crate::pair::{hash_leaves, hash_upper};
 use crate::tree::MerkleTree;
 use crate::tree::levels::Levels;
-use crate::views::Views;
 use ark_base::error::Error;
 use ark_base::serialize::DigestItem;
 use ark_crh::CRHScheme;
+use ark_paths::config::{Config, TwoToOneParam};
+use ark_paths::digests::are_same;
+use ark_paths::index::{is_bit_set, neighbour_of};
+use ark_paths::pair::{hash_leaves, hash_upper};
+use ark_paths::views::Views;
 use std::alloc::Global;
 
 impl<P: Views> MerkleTree<P> {

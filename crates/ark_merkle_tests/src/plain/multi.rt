@@ -2,8 +2,8 @@
 
 ghost use Rattle.std.specs.Prelude.{ℕ, List, MatchOption, Some, None, ◌≡◌, ◌+◌, ◌++◌, ◌<◌, ◌^◌, map, take, length, Ok};
 ghost use Rattle.ark_base.specs.Outcome.{Answers, AnswersBy};
-ghost use Rattle.ark_merkle.specs.Pair.{Digest};
-ghost use Rattle.ark_merkle.specs.MultiPath.{decoded_path, decoded_paths_from, multi_verdict_from, multi_verdict};
+ghost use Rattle.ark_paths.specs.Pair.{Digest};
+ghost use Rattle.ark_paths.specs.MultiPath.{decoded_path, decoded_paths_from, multi_verdict_from, multi_verdict};
 
 use ark_base::error::{Error, Refusal};
 use ark_base::serialize::{DigestItem, Duplicate};

@@ -1,5 +1,5 @@
 use Rattle.std.specs.Io.Buffered.{reader_remaining}
-use Rattle.ark_merkle.specs.Pair.{pair_of}
+use Rattle.ark_paths.specs.Pair.{pair_of}
 use Rattle.acp_run.specs.Sessions.{LosesFront}
 use Rattle.acp_session.specs.Steps.{Step, HasHashes, state_of}
 use Rattle.acp_run.proofs.Runs.{Going}

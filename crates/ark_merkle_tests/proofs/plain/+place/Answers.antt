@@ -1,5 +1,5 @@
 use Rattle.std.proofs.Common.{refl}
-use Rattle.ark_merkle.specs.Pair.{pair_of}
+use Rattle.ark_paths.specs.Pair.{pair_of}
 use Rattle.ark_merkle_tests.proofs.PlainPlaces.{place-halves}
 use Rattle.ark_merkle_tests.proofs.plain.+place.Goals as goal
 

@@ -1,6 +1,6 @@
 use Rattle.std.proofs.Common.{◌≡◌, Ok}
 use Rattle.sha2.specs.Sha256.{sha256}
-use Rattle.ark_merkle.specs.Root.{root}
+use Rattle.ark_paths.specs.Root.{root}
 use Rattle.paxidore_c.proofs.Trees.{over-leaves}
 use Rattle.paxidore_calls.specs.Answer.{tree_leaves_in}
 use Rattle.paxidore_calls.specs.Hashing.{sha256_hashing, node_pair}

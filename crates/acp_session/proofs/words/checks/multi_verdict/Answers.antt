@@ -1,7 +1,7 @@
 use Rattle.std.proofs.Common.{map}
 use Rattle.std.proofs.lemmas.Fn.{slice_gives}
 use Rattle.ark_base.proofs.Refusals.{passed_on}
-use Rattle.ark_merkle.proofs.MultiLists.{answers_over_list}
+use Rattle.ark_paths.proofs.MultiLists.{answers_over_list}
 use Rattle.acp_session.proofs.Findings.{multi_finding-refused, multi_finding-said}
 use Rattle.acp_session.proofs.words.checks.multi_verdict.Goals as goal
 

@@ -1,6 +1,6 @@
 use Rattle.std.proofs.Common.{◌∙◌, sym, refl, inl}
 use Rattle.std.proofs.lemmas.Result.{IfOk-weaker}
-use Rattle.ark_merkle.specs.Pair.{pair_of}
+use Rattle.ark_paths.specs.Pair.{pair_of}
 use Rattle.acp_session.proofs.Changes.{set_many_turn-outside, takes_changed, takes_refused}
 use Rattle.acp_session.proofs.words.set_many.set_leaves.Goals as goal
 

@@ -1,7 +1,7 @@
 use Rattle.std.proofs.Common.{◌≡◌, ◌∙◌, length, true, sym}
 use Rattle.std.proofs.lemmas.Result.{IfOk-weaker}
-use Rattle.ark_merkle.specs.Index.{is_tree_size}
-use Rattle.ark_merkle.specs.Pair.{pair_of}
+use Rattle.ark_paths.specs.Index.{is_tree_size}
+use Rattle.ark_paths.specs.Pair.{pair_of}
 use Rattle.acp_session.specs.Steps.{state_of}
 use Rattle.acp_session.proofs.Trees.{tree_turn-built, takes_settled, made-leaves, made-hashes, hashes_settled}
 use Rattle.acp_session.proofs.words.trees.tree_reply.Goals as goal

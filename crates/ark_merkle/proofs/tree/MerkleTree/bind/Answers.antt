@@ -1,13 +1,13 @@
 use Rattle.ark_base.proofs.Refusals.{passed_on}
 use Rattle.std.proofs.Common.{◌≡◌, ◌%◌, ◌∙◌, List, length, map, Ok, arith, refl, ap, sym, subst}
 use Rattle.std.proofs.lemmas.List.{length-map}
-use Rattle.ark_merkle.specs.Bind.{difference}
-use Rattle.ark_merkle.specs.Pair.{pair_of}
-use Rattle.ark_merkle.specs.Path.{Way}
-use Rattle.ark_merkle.specs.Root.{upper_levels}
-use Rattle.ark_merkle.specs.Rows.{IsTree, digests_of}
+use Rattle.ark_paths.specs.Bind.{difference}
+use Rattle.ark_paths.specs.Pair.{pair_of}
+use Rattle.ark_paths.specs.Path.{Way}
+use Rattle.ark_paths.specs.Root.{upper_levels}
+use Rattle.ark_paths.specs.Rows.{IsTree, digests_of}
+use Rattle.ark_paths.proofs.OwnPaths.{root-top}
 use Rattle.ark_merkle.proofs.Bounds.{bound-accepted, bound-stands, bound-differs, bound-refused, bound-ok}
-use Rattle.ark_merkle.proofs.OwnPaths.{root-top}
 use Rattle.ark_merkle.proofs.TreeReads.{seen-tree}
 use Rattle.ark_merkle.proofs.tree.MerkleTree.bind.Goals as goal
 

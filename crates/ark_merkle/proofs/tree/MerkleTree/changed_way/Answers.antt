@@ -1,5 +1,5 @@
-use Rattle.ark_merkle.specs.Pair.{pair_of}
-use Rattle.ark_merkle.specs.Rows.{digests_of}
+use Rattle.ark_paths.specs.Pair.{pair_of}
+use Rattle.ark_paths.specs.Rows.{digests_of}
 use Rattle.ark_merkle.proofs.TreeChanges.{new_root-ok, changes_way-seen}
 use Rattle.ark_merkle.proofs.tree.MerkleTree.changed_way.Goals as goal
 

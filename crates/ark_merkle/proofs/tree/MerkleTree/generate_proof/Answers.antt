@@ -1,9 +1,9 @@
 use Rattle.std.proofs.Common.{◌≡◌, ◌∙◌, length, Ok, ap, sym, arith}
 use Rattle.std.proofs.lemmas.List.{length-map}
 use Rattle.ark_base.specs.Laws.Steps.{done_injective}
-use Rattle.ark_merkle.specs.Pair.{pair_of}
-use Rattle.ark_merkle.specs.Rows.{IsTree}
-use Rattle.ark_merkle.proofs.OwnPaths.{own_path-accepted}
+use Rattle.ark_paths.specs.Pair.{pair_of}
+use Rattle.ark_paths.specs.Rows.{IsTree}
+use Rattle.ark_paths.proofs.OwnPaths.{own_path-accepted}
 use Rattle.ark_merkle.proofs.TreeReads.{seen_tree, holds-index, own_path-read}
 use Rattle.ark_merkle.proofs.tree.MerkleTree.generate_proof.Goals as goal
 

@@ -1,5 +1,5 @@
 use Rattle.std.proofs.Common.{arith}
-use Rattle.ark_merkle.specs.Pair.{pair_of}
+use Rattle.ark_paths.specs.Pair.{pair_of}
 use Rattle.ark_merkle.proofs.TreeReads.{seen_tree, log2-leaves, power-leaves}
 use Rattle.ark_merkle.proofs.tree.MerkleTree.height.Goals as goal
 

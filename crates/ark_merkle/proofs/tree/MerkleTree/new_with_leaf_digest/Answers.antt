@@ -2,11 +2,11 @@ use Rattle.std.proofs.Common.{◌≡◌, ◌∙◌, length, ap}
 use Rattle.std.proofs.lemmas.List.{length-map}
 use Rattle.ark_base.specs.Laws.Steps.{done_injective}
 use Rattle.ark_base.proofs.Refusals.{passed_on}
-use Rattle.ark_merkle.specs.Index.{IsTreeSize}
-use Rattle.ark_merkle.specs.Pair.{pair_of}
-use Rattle.ark_merkle.specs.Rows.{digests_of}
-use Rattle.ark_merkle.specs.Tree.{with_hashes}
-use Rattle.ark_merkle.proofs.TreeLemmas.{is_tree, tree_above-copied, rooted-ok, rooted-refused, pair_of-same}
+use Rattle.ark_paths.specs.Index.{IsTreeSize}
+use Rattle.ark_paths.specs.Pair.{pair_of}
+use Rattle.ark_paths.specs.Rows.{digests_of}
+use Rattle.ark_paths.specs.Tree.{with_hashes}
+use Rattle.ark_paths.proofs.TreeLemmas.{is_tree, tree_above-copied, rooted-ok, rooted-refused, pair_of-same}
 use Rattle.ark_merkle.proofs.tree.MerkleTree.new_with_leaf_digest.Goals as goal
 
 pub returns-in_err-rows : goal.returns-in_err-rows

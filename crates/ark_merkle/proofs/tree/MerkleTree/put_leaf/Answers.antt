@@ -1,8 +1,8 @@
 use Rattle.std.proofs.Common.{◌≡◌, ◌<◌, length, set, arith, ap, sym}
 use Rattle.std.proofs.lemmas.List.{length-map, map-set}
-use Rattle.ark_merkle.specs.Pair.{pair_of}
-use Rattle.ark_merkle.specs.Rows.{digests_of}
-use Rattle.ark_merkle.specs.Tree.{Tree}
+use Rattle.ark_paths.specs.Pair.{pair_of}
+use Rattle.ark_paths.specs.Rows.{digests_of}
+use Rattle.ark_paths.specs.Tree.{Tree}
 use Rattle.ark_merkle.proofs.TreeChanges.{is_tree-put, changes_way-seen}
 use Rattle.ark_merkle.proofs.tree.MerkleTree.put_leaf.Goals as goal
 

@@ -1,5 +1,5 @@
 use Rattle.std.proofs.Common.{arith}
-use Rattle.ark_merkle.specs.Pair.{pair_of}
+use Rattle.ark_paths.specs.Pair.{pair_of}
 use Rattle.ark_merkle.proofs.TreeReads.{seen_tree, top-inside, root-read}
 use Rattle.ark_merkle.proofs.tree.MerkleTree.root.Goals as goal
 

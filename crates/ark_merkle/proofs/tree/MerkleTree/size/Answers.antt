@@ -1,7 +1,7 @@
 use Rattle.std.proofs.Common.{◌∙◌, sym}
 use Rattle.std.proofs.lemmas.List.{length-map}
-use Rattle.ark_merkle.specs.Root.{upper_levels}
-use Rattle.ark_merkle.specs.Rows.{digests_of}
+use Rattle.ark_paths.specs.Root.{upper_levels}
+use Rattle.ark_paths.specs.Rows.{digests_of}
 use Rattle.ark_merkle.proofs.tree.MerkleTree.size.Goals as goal
 
 pub returns-clause-power : goal.returns-clause-power

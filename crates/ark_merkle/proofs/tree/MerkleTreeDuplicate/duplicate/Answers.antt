@@ -1,6 +1,6 @@
 use Rattle.ark_base.specs.Laws.Steps.{done_injective}
-use Rattle.ark_merkle.specs.Rows.{digests_of}
-use Rattle.ark_merkle.proofs.TreeLemmas.{pair_of-same, is_tree-copied}
+use Rattle.ark_paths.specs.Rows.{digests_of}
+use Rattle.ark_paths.proofs.TreeLemmas.{pair_of-same, is_tree-copied}
 use Rattle.ark_merkle.proofs.tree.MerkleTreeDuplicate.duplicate.Goals as goal
 
 pub invariant_of-result : goal.invariant_of-result

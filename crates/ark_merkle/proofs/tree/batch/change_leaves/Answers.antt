@@ -1,9 +1,9 @@
 use Rattle.std.proofs.Common.{◌≡◌, ◌-◌, [], length, map, get_or, Ok, ap, arith}
 use Rattle.std.proofs.lemmas.List.{length-map}
 use Rattle.ark_base.proofs.Refusals.{passed_on}
+use Rattle.ark_paths.specs.Pair.{pair_of}
 use Rattle.ark_merkle.specs.Batch.{hashed_changes}
 use Rattle.ark_merkle.specs.Changed.{AreChanges, seen_changes, count_over, couples_reached}
-use Rattle.ark_merkle.specs.Pair.{pair_of}
 use Rattle.ark_merkle.proofs.Batches.{AreChanges-seen, AreChanges-unseen, length-seen}
 use Rattle.ark_merkle.proofs.ChangedRows.{places-seen}
 use Rattle.ark_merkle.proofs.ChangedTrees.{lowest-size, rows-hashed, leaves-refused, leaves-refused_above, leaves-changed, tree-changed, lowest-changes, count_over-leaves, count_over-below}

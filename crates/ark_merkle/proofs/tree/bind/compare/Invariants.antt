@@ -1,7 +1,7 @@
 use Rattle.std.proofs.Common.{◌≡◌, ◌-◌, suc, length, map, Ok}
-use Rattle.ark_merkle.specs.Pair.{pair_of}
-use Rattle.ark_merkle.specs.Path.{Way}
-use Rattle.ark_merkle.proofs.Binds.{top_from}
+use Rattle.ark_paths.specs.Pair.{pair_of}
+use Rattle.ark_paths.specs.Path.{Way}
+use Rattle.ark_paths.proofs.Binds.{top_from}
 use Rattle.ark_merkle.proofs.Compares.{difference_from}
 use Rattle.ark_merkle.proofs.tree.bind.compare.Given as goal
 

@@ -1,7 +1,7 @@
 use Rattle.std.proofs.lemmas.List.{map_push}
 use Rattle.ark_base.proofs.Refusals.{passed_on}
-use Rattle.ark_merkle.specs.Pair.{bottom_pair}
-use Rattle.ark_merkle.proofs.CoupleLemmas.{ArePaired-none, ArePaired-more, ArePaired-refused, ArePaired-all}
+use Rattle.ark_paths.specs.Pair.{bottom_pair}
+use Rattle.ark_paths.proofs.CoupleLemmas.{ArePaired-none, ArePaired-more, ArePaired-refused, ArePaired-all}
 use Rattle.ark_merkle.proofs.tree.build.pair_leaves.Goals as goal
 
 pub loop-place-init : goal.loop-place-init

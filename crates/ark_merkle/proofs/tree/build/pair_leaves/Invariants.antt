@@ -1,6 +1,6 @@
 use Rattle.std.proofs.Common.{map}
-use Rattle.ark_merkle.specs.Pair.{bottom_pair}
-use Rattle.ark_merkle.proofs.CoupleLemmas.{ArePaired}
+use Rattle.ark_paths.specs.Pair.{bottom_pair}
+use Rattle.ark_paths.proofs.CoupleLemmas.{ArePaired}
 use Rattle.ark_merkle.proofs.tree.build.pair_leaves.Given as goal
 
 abbrev pub invariant-loop-place : goal.invariant-loop-place

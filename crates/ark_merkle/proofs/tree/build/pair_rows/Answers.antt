@@ -1,7 +1,7 @@
 use Rattle.std.proofs.Common.{◌≡◌, ◌+◌, ◌-◌, ◌*◌, ◌<◌, ◌∙◌, length, arith}
 use Rattle.std.proofs.lemmas.List.{length-map, map_push}
 use Rattle.ark_base.proofs.Refusals.{passed_on}
-use Rattle.ark_merkle.specs.Rows.{digests_of}
+use Rattle.ark_paths.specs.Rows.{digests_of}
 use Rattle.ark_merkle.proofs.Piles.{is_piled-none, is_piled-refused, is_piled-more, length-piled, rows-refused, rows-all, couple_read}
 use Rattle.ark_merkle.proofs.tree.build.pair_rows.Goals as goal
 

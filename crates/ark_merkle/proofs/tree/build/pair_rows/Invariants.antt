@@ -1,4 +1,4 @@
-use Rattle.ark_merkle.specs.Rows.{digests_of}
+use Rattle.ark_paths.specs.Rows.{digests_of}
 use Rattle.ark_merkle.proofs.Piles.{IsPiled}
 use Rattle.ark_merkle.proofs.tree.build.pair_rows.Given as goal
 

@@ -2,9 +2,9 @@ use Rattle.std.proofs.Common.{◌≡◌, ◌^◌, ◌∙◌, suc, ℕ, length, m
 use Rattle.std.proofs.lemmas.List.{length-map}
 use Rattle.std.proofs.Math.Nat.{pow-succ'}
 use Rattle.ark_base.proofs.Refusals.{passed_on}
+use Rattle.ark_paths.specs.Pair.{pair_of}
+use Rattle.ark_paths.specs.Rows.{digests_of}
 use Rattle.ark_merkle.specs.LevelOrder.{rows_in_turn}
-use Rattle.ark_merkle.specs.Pair.{pair_of}
-use Rattle.ark_merkle.specs.Rows.{digests_of}
 use Rattle.ark_merkle.proofs.Piles.{lowest-half, above-lowest, log-size}
 use Rattle.ark_merkle.proofs.tree.build.rows_above.Goals as goal
 

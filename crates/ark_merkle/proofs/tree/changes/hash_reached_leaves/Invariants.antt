@@ -1,6 +1,6 @@
 use Rattle.std.proofs.Common.{◌-◌, ◌≤◌, length, map, drop}
+use Rattle.ark_paths.specs.Pair.{bottom_pair}
 use Rattle.ark_merkle.specs.Changed.{seen_changes, couples_reached}
-use Rattle.ark_merkle.specs.Pair.{bottom_pair}
 use Rattle.ark_merkle.proofs.Batches.{AreHashedSoFar}
 use Rattle.ark_merkle.proofs.Reached.{of_couple}
 use Rattle.ark_merkle.proofs.tree.changes.hash_reached_leaves.Given as goal

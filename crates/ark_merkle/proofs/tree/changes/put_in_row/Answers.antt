@@ -1,6 +1,6 @@
 use Rattle.std.proofs.Common.{◌≡◌, ◌<◌, ◌∙◌, List, [], length, get_or, set, ap, arith}
 use Rattle.std.proofs.lemmas.List.{length-set, set-set, get_or-set_same}
-use Rattle.ark_merkle.specs.Pair.{Digest}
+use Rattle.ark_paths.specs.Pair.{Digest}
 use Rattle.ark_merkle.proofs.Batches.{put_so_far-more, put_so_far-inside}
 use Rattle.ark_merkle.proofs.tree.changes.put_in_row.Goals as goal
 

@@ -1,6 +1,6 @@
 use Rattle.std.proofs.Common.{◌/◌, ◌+◌, ◌∙◌, ◌∷◌, length, map, drop, refl, ap, sym, arith}
+use Rattle.ark_paths.specs.Pair.{Digest}
 use Rattle.ark_merkle.specs.Changed.{seen_changes, couples_reached}
-use Rattle.ark_merkle.specs.Pair.{Digest}
 use Rattle.ark_merkle.proofs.Reached.{IsAlone, reached-last, reached-apart, couple-inside, couple-right, couple-left}
 use Rattle.ark_merkle.proofs.tree.changes.reached_by.Goals.{else-next-changes-via-then-next-changes+else-changes-next, else-next-changes-via-else-next-changes}
 use Rattle.ark_merkle.proofs.tree.changes.reached_by.Goals as goal

@@ -1,5 +1,5 @@
 use Rattle.std.proofs.Common.{◌≡◌, [], map, take, get_or}
-use Rattle.ark_merkle.specs.Index.{neighbour}
+use Rattle.ark_paths.specs.Index.{neighbour}
 use Rattle.ark_merkle.proofs.tree.multi_proof.digests_at_neighbours.Given as goal
 
 abbrev pub invariant-loop-index : goal.invariant-loop-index

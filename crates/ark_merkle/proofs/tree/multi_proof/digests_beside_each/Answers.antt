@@ -1,8 +1,8 @@
 use Rattle.std.proofs.Common.{◌≡◌, ◌∙◌, ◌-◌, ◌++◌, ℕ, List, [], ◌∷◌, length, drop, get_or, ap, sym, arith}
 use Rattle.std.proofs.lemmas.List.{map_push}
 use Rattle.ark_base.specs.Laws.Steps.{done_injective}
-use Rattle.ark_merkle.specs.Pair.{Digest}
-use Rattle.ark_merkle.specs.Rows.{beside_in, digests_of}
+use Rattle.ark_paths.specs.Pair.{Digest}
+use Rattle.ark_paths.specs.Rows.{beside_in, digests_of}
 use Rattle.ark_merkle.proofs.MultiCommon.{drop-beside_in}
 use Rattle.ark_merkle.proofs.tree.multi_proof.digests_beside_each.Goals as goal
 

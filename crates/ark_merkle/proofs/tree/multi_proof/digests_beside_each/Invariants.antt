@@ -1,6 +1,6 @@
 use Rattle.std.proofs.Common.{◌≡◌, ◌-◌, [], map, take, length}
-use Rattle.ark_merkle.specs.MultiProof.{prefixes_of, suffixes_of}
-use Rattle.ark_merkle.specs.Rows.{beside_in, rows_seen}
+use Rattle.ark_paths.specs.Sharing.{prefixes_of, suffixes_of}
+use Rattle.ark_paths.specs.Rows.{beside_in, rows_seen}
 use Rattle.ark_merkle.proofs.tree.multi_proof.digests_beside_each.Given as goal
 
 abbrev pub invariant-loop-place : goal.invariant-loop-place

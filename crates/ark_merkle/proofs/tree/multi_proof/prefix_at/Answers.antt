@@ -1,5 +1,5 @@
 use Rattle.std.proofs.Common.{◌-◌, length, get_or, arith}
-use Rattle.ark_merkle.specs.Rows.{beside_in}
+use Rattle.ark_paths.specs.Rows.{beside_in}
 use Rattle.ark_merkle.proofs.MultiCommon.{common-le, NextParts-first, NextParts-next}
 use Rattle.ark_merkle.proofs.tree.multi_proof.prefix_at.Goals as goal
 

@@ -1,9 +1,9 @@
 use Rattle.std.proofs.Common.{◌≡◌, ◌+◌, ◌-◌, ◌/◌, ◌^◌, suc, [], map, get_or, sym, ◌∙◌, arith}
 use Rattle.std.proofs.lemmas.List.{map_push}
 use Rattle.ark_base.specs.Laws.Steps.{done_injective}
-use Rattle.ark_merkle.specs.Index.{neighbour}
-use Rattle.ark_merkle.specs.Rows.{beside_in}
-use Rattle.ark_merkle.proofs.PlaceLemmas.{level-fits, beside-inside, beside_in-more}
+use Rattle.ark_paths.specs.Index.{neighbour}
+use Rattle.ark_paths.specs.Rows.{beside_in}
+use Rattle.ark_paths.proofs.PlaceLemmas.{level-fits, beside-inside, beside_in-more}
 use Rattle.ark_merkle.proofs.tree.rows.digests_beside.Goals as goal
 
 pub overflow_shr-index : goal.overflow_shr-index

@@ -1,5 +1,5 @@
 use Rattle.std.proofs.Common.{◌≡◌, ◌-◌, ◌++◌, map}
-use Rattle.ark_merkle.specs.Rows.{beside_in}
+use Rattle.ark_paths.specs.Rows.{beside_in}
 use Rattle.ark_merkle.proofs.tree.rows.digests_beside.Given as goal
 
 -- the digests so far, and those further down, are the whole

@@ -1,6 +1,6 @@
 use Rattle.std.proofs.Common.{◌≡◌, length, map, set}
-use Rattle.ark_merkle.specs.Pair.{pair_of}
-use Rattle.ark_merkle.specs.Rows.{digests_of}
+use Rattle.ark_paths.specs.Pair.{pair_of}
+use Rattle.ark_paths.specs.Rows.{digests_of}
 use Rattle.ark_merkle.specs.Update.{AreOnWay}
 use Rattle.ark_merkle.proofs.tree.update.new_way.Given as goal
 

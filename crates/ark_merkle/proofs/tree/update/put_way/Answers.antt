@@ -1,10 +1,10 @@
 use Rattle.std.proofs.Common.{◌≡◌, ◌<◌, ◌/◌, ◌^◌, ◌+◌, [], length, get_or, set, arith, ap, sym}
 use Rattle.std.proofs.lemmas.List.{length-map, map-set}
-use Rattle.ark_merkle.specs.Pair.{Digest}
-use Rattle.ark_merkle.specs.Rows.{digests_of}
-use Rattle.ark_merkle.proofs.PlaceLemmas.{level-fits}
+use Rattle.ark_paths.specs.Pair.{Digest}
+use Rattle.ark_paths.specs.Rows.{digests_of}
+use Rattle.ark_paths.proofs.PlaceLemmas.{level-fits}
+use Rattle.ark_paths.proofs.Readings.{digest_read}
 use Rattle.ark_merkle.proofs.Puts.{are_put-more, place-to_put}
-use Rattle.ark_merkle.proofs.Readings.{digest_read}
 use Rattle.ark_merkle.proofs.tree.update.put_way.Goals as goal
 
 pub overflow_shr-index : goal.overflow_shr-index

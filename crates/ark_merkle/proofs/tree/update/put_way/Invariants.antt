@@ -1,4 +1,4 @@
-use Rattle.ark_merkle.specs.Rows.{digests_of}
+use Rattle.ark_paths.specs.Rows.{digests_of}
 use Rattle.ark_merkle.proofs.Puts.{ArePut}
 use Rattle.ark_merkle.proofs.tree.update.put_way.Given as goal
 

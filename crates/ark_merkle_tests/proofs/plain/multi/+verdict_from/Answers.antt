@@ -1,10 +1,10 @@
 use Rattle.std.proofs.Common.{◌≡◌, List, map, Some, true, rules}
 use Rattle.ark_base.proofs.Refusals.{passed_on}
 use Rattle.ark_base.specs.Laws.Steps.{done_injective}
-use Rattle.ark_merkle.specs.MultiPath.{MultiWay, decoded_path}
-use Rattle.ark_merkle.specs.Pair.{Digest, pair_of}
-use Rattle.ark_merkle.specs.Path.{Way}
-use Rattle.ark_merkle.specs.Rows.{digests_of, rows_seen}
+use Rattle.ark_paths.specs.MultiPath.{MultiWay, decoded_path}
+use Rattle.ark_paths.specs.Pair.{Digest, pair_of}
+use Rattle.ark_paths.specs.Path.{Way}
+use Rattle.ark_paths.specs.Rows.{digests_of, rows_seen}
 use Rattle.ark_merkle_tests.proofs.PlainMulti.{decoded_path-alike, place-refused, place-accepted}
 use Rattle.ark_merkle_tests.proofs.plain.multi.+verdict_from.Goals as goal
 

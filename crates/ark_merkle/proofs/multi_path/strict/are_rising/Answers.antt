@@ -1,6 +1,0 @@
-use Rattle.std.proofs.Common.{◌∙◌, ◌-◌, sym, arith}
-use Rattle.ark_merkle.proofs.StrictIndexes.{rising-end}
-use Rattle.ark_merkle.proofs.multi_path.strict.are_rising.Goals as goal
-
-pub returns : goal.returns
-returns c = sym (c.loop-place.invariant ∙ rising-end c.args.numbers.now (c.loop-place.place - 1) (omega (arith, c.loop-place.auto.place)))

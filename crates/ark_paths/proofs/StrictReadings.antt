@@ -1,0 +1,44 @@
+-- What is read strictly.
+use Rattle.std.proofs.Common.{◌≡◌, ℕ, true, false, List, Ok, Err, inl, inr, refl, ap, sym, ◌∙◌, ◌⊎◌}
+use Rattle.ark_base.specs.declared.error.Error.{Error}
+use Rattle.std.specs.Result.{IsErrAnd, MatchResult}
+use Rattle.std.proofs.lemmas.Result.{err_from_is_err_and}
+use Rattle.ark_base.specs.declared.error.Error.TheVariants.{SerializationError as OfBytes, OutOfMemory}
+use Rattle.ark_base.specs.declared.error.SerializationError.{SerializationError}
+use Rattle.ark_base.specs.declared.error.SerializationError.TheVariants.{InvalidData}
+use Rattle.ark_base.specs.Outcome.{Outcome, AnswersBy}
+use Rattle.ark_base.proofs.Refusals.{passed_on}
+use Rattle.ark_base.specs.Reading.{Reading, reading_outcome}
+use Rattle.ark_paths.specs.MultiPath.{MultiWay}
+use Rattle.ark_paths.specs.MultiPathStrict.{is_strict, strict_reading}
+
+pub read_of : {A : Type 0} (reading : Reading A) (read : A × List ℕ) → reading_outcome reading ≡ Ok read → reading ≡ Ok read
+read_of (Ok value) read e = cc
+read_of (Err fault) read e = absurd cc
+
+pub fault_of : {A : Type 0} (reading : Reading A) (error : Error) → reading_outcome reading ≡ Err error → (fault : SerializationError) × (reading ≡ Err fault) × (error ≡ OfBytes fault)
+fault_of (Ok value) error e = absurd cc
+fault_of (Err fault) error e = (fault, refl, cc)
+
+module _ (reading : Reading MultiWay) (m : MultiWay) (rest : List ℕ) (read : reading ≡ Ok (m, rest)) where
+  pub strict-read : is_strict m ≡ true → reading_outcome (strict_reading reading) ≡ Ok (m, rest)
+  strict-read holds = rw (read, holds) refl
+
+  pub strict-unfit : is_strict m ≡ false → reading_outcome (strict_reading reading) ≡ Err (OfBytes InvalidData)
+  strict-unfit fails = rw (read, fails) refl
+
+pub strict-fault : (reading : Reading MultiWay) (fault : SerializationError) → reading ≡ Err fault → reading_outcome (strict_reading reading) ≡ Err (OfBytes fault)
+strict-fault reading fault e = rw e refl
+
+-- a refusal of the plain reader, as it is passed on
+pub refused_alike : {A B : Type 0} (plain : Reading A) (reading : Reading MultiWay) → ((fault : SerializationError) → plain ≡ Err fault → reading ≡ Err fault)
+    → (view : B → MultiWay × List ℕ) (result : Outcome B) (e : Error) → IsErrAnd result (λ d. d ≡ e) → (e ≡ OutOfMemory) ⊎ (reading_outcome plain ≡ Err e) → AnswersBy view (reading_outcome (strict_reading reading)) result
+refused_alike plain reading alike view result e is_err refused = passed_on view _ result e is_err refused (λ plainly. let f = fault_of plain e plainly in strict-fault reading f.0 (alike f.0 f.1) ∙ ap Err (sym f.2))
+
+-- `OutOfMemory`, as it is passed on
+pub memory_passed : {B : Type 0} (P : B → Type 0) (Q : Error → Type 0) (result : Outcome B) (e : Error) → IsErrAnd result (λ d. d ≡ e) → Q e → MatchResult result P Q
+memory_passed P Q result e is_err memory = let p = err_from_is_err_and result is_err in rw (p.1, p.2) memory
+
+pub lacks_memory : {A : Type 0} (value : A) (e : Error) → (e ≡ OutOfMemory) ⊎ (◌≡◌ {A = Outcome A} (Ok value) (Err e)) → e ≡ OutOfMemory
+lacks_memory value e (inl memory) = memory
+lacks_memory value e (inr other) = absurd cc

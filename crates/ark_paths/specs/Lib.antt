@@ -1,0 +1,16 @@
+pub use Rattle.ark_base.specs.Outcome
+pub mod Index
+pub mod Pair
+pub mod Path
+pub mod PathBytes
+pub mod Root
+pub mod Rows
+pub mod Tree
+pub mod Bind
+pub mod Received
+pub mod MultiPath
+pub mod MultiPathBytes
+pub mod Sharing
+pub mod MultiPathStrict
+pub mod Leaves
+pub mod Laws

@@ -1,0 +1,217 @@
+//! Paths from a leaf to the root.
+
+ghost use Rattle.std.specs.Prelude.{◌≡◌, true, map, IfOk};
+ghost use Rattle.std.proofs.Common.{lit<};
+ghost use Rattle.ark_base.specs.Outcome.{Answers, AnswersBy};
+ghost use Rattle.ark_paths.specs.Bind.{BindsLeaf};
+ghost use Rattle.ark_paths.specs.PathBytes.{PathParts, PathFits, path_spelling, path_at};
+ghost use Rattle.ark_paths.specs.Laws.Path.{path_laws, path_is_long};
+ghost use Rattle.ark_paths.specs.Path.{Way, climb, verdict};
+
+use crate::config::{Config, LeafParam, TwoToOneParam};
+use crate::digests::copies_of;
+use crate::index::is_bit_set;
+use crate::pair::{hash_leaves, hash_upper};
+use crate::views::Views;
+use ark_base::error::Error;
+use ark_base::serialize::{
+    Canonical, CanonicalDeserialize, CanonicalItem, CanonicalSerialize, Duplicate,
+};
+use ark_crh::{CRHScheme, TwoToOneCRHScheme};
+use std::alloc::Global;
+
+/// The digests beside the way from a leaf to the root.
+#[derive(Drop)]
+#[derive_where(Debug, PartialEq)]
+pub struct Path<P: Config> {
+    /// The digest beside the leaf's.
+    pub leaf_sibling_hash: P::LeafDigest,
+    /// The digests beside the way above it, from below the root down: height - 2 of them.
+    pub auth_path: Vec<P::InnerDigest>,
+    /// The leaf's index: bit 0 for the leaf digests, and a bit more for each level above.
+    pub leaf_index: usize,
+}
+
+impl<P: Config> Duplicate for Path<P> {
+    ghost Data = { Way };
+
+    ghost seen = { λ path. record {
+      sibling = P.LeafDigest.numbers path.leaf_sibling_hash;
+      above = map P.InnerDigest.numbers path.auth_path.items;
+      index = path.leaf_index;
+    } };
+
+    fn duplicate(&self, alloc: Global) -> Result<Path<P>, Error> {
+        Ok(Path {
+            leaf_sibling_hash: self.leaf_sibling_hash.duplicate(alloc)?,
+            auth_path: copies_of(alloc, &self.auth_path)?,
+            leaf_index: self.leaf_index,
+        })
+    }
+}
+
+impl<P: Config> Canonical for Path<P> {
+    ghost Value = { PathParts P.LeafDigest.Value P.InnerDigest.Value };
+
+    ghost view = { λ path. (
+      P.LeafDigest.view path.leaf_sibling_hash,
+      (map P.InnerDigest.view path.auth_path.items, path.leaf_index),
+    ) };
+
+    ghost has_spelling = { PathFits P.LeafDigest.has_spelling P.InnerDigest.has_spelling };
+
+    ghost spelling = { path_spelling P.LeafDigest.spelling P.InnerDigest.spelling };
+
+    ghost reads = { path_at P.LeafDigest.reads P.InnerDigest.reads };
+
+    ghost laws = { path_laws P.LeafDigest.has_spelling P.LeafDigest.spelling P.LeafDigest.reads
+        P.InnerDigest.has_spelling P.InnerDigest.spelling P.InnerDigest.reads
+        P.LeafDigest.Canonical.laws P.InnerDigest.Canonical.laws };
+}
+
+impl<P: Config> CanonicalSerialize for Path<P> {
+    fn serialize(&self, dest: &mut Vec<u8>) -> Result<(), Error> {
+        (&self.leaf_sibling_hash, (&self.auth_path, &self.leaf_index)).serialize(dest)
+    }
+}
+
+// A path's fields, in the order of its canonical bytes.
+type Parts<P> = (
+    <P as Config>::LeafDigest,
+    (Vec<<P as Config>::InnerDigest>, usize),
+);
+
+impl<P: Config> CanonicalDeserialize for Path<P> {
+    fn read(alloc: Global, bytes: &[u8]) -> Result<(Path<P>, usize), Error> {
+        let ((leaf_sibling_hash, (auth_path, leaf_index)), used) = Parts::<P>::read(alloc, bytes)?;
+        Ok((
+            Path {
+                leaf_sibling_hash,
+                auth_path,
+                leaf_index,
+            },
+            used,
+        ))
+    }
+}
+
+impl<P: Config> CanonicalItem for Path<P> {
+    ghost LEAST = { 17 };
+
+    const LEAST: usize = 17;
+
+    ghost some = { lit< tt };
+
+    ghost at_least = { λ path fits. path_is_long P.LeafDigest.spelling P.InnerDigest.spelling path
+        (P.LeafDigest.CanonicalItem.at_least path.0 fits.0) P.LeafDigest.CanonicalItem.some };
+}
+
+impl<P: Views> Path<P> {
+    /// Whether the leaf's digest gives the root along this path.
+    ///
+    /// The path may have any length, and the index any bits: those past its length do not count. Refusals: that of the
+    /// leaf's hash, then that of the lowest pair, and so upward; `OutOfMemory`.
+    pub fn verify(
+        &self,
+        alloc: Global,
+        leaf_parameters: &LeafParam<P>,
+        pair_parameters: &TwoToOneParam<P>,
+        root: &P::InnerDigest,
+        leaf: &P::Leaf,
+    ) -> Result<bool, Error>
+        ensures answer { let hashes = P.hashes leaf_parameters.now pair_parameters.now in
+            let given = P.InnerDigest.numbers root.now in
+            Answers (verdict hashes.pair (hashes.leaf leaf.now) (P.way self.now) given) result }
+
+        // In every tree with this root whose height the path has, the leaf's digest stands at the index modulo the size, or
+        // at some level the path's pair and the tree's differ and hash alike.
+        ensures bound { let hashes = P.hashes leaf_parameters.now pair_parameters.now in
+            let given = P.InnerDigest.numbers root.now in
+            IfOk result (λ accepted. accepted ≡ true
+            → BindsLeaf hashes given leaf.now (P.way self.now)) }
+    {
+        verify_leaf::<P, P::InnerDigest>(
+            alloc,
+            leaf_parameters,
+            pair_parameters,
+            root,
+            leaf,
+            &self.leaf_sibling_hash,
+            &self.auth_path,
+            self.leaf_index,
+        )
+    }
+}
+
+/// A digest, or a reference to one.
+pub trait Lends<D> {
+    // The digest.
+    ghost lent: { Self → D };
+
+    /// The digest.
+    fn lend(&self) -> &D
+        ensures { result.now ≡ lent self.now };
+}
+
+impl<D> Lends<D> for D {
+    ghost lent = { λ digest. digest };
+
+    fn lend(&self) -> &D {
+        self
+    }
+}
+
+impl<'a, D> Lends<D> for &'a D {
+    ghost lent = { λ digest. digest.now };
+
+    fn lend(&self) -> &D {
+        *self
+    }
+}
+
+/// Whether a leaf's digest gives the root along the path of these parts.
+pub fn verify_leaf<P: Views, L: Lends<P::InnerDigest>>(
+    alloc: Global,
+    leaf_parameters: &LeafParam<P>,
+    pair_parameters: &TwoToOneParam<P>,
+    root: &P::InnerDigest,
+    leaf: &P::Leaf,
+    sibling: &P::LeafDigest,
+    above: &[L],
+    index: usize,
+) -> Result<bool, Error>
+    ensures { let hashes = P.hashes leaf_parameters.now pair_parameters.now in
+        let way : Way = record {
+          sibling = P.LeafDigest.numbers sibling.now;
+          above = map (λ x. P.InnerDigest.numbers (L.lent x)) above.now;
+          index = index;
+        } in
+        let given = P.InnerDigest.numbers root.now in
+        Answers (verdict hashes.pair (hashes.leaf leaf.now) way given) result }
+{
+    let digest = P::LeafHash::evaluate(alloc, leaf_parameters, leaf)?;
+    let is_right = is_bit_set(index, 0);
+    let lowest = hash_leaves::<P>(alloc, pair_parameters, is_right, &digest, sibling)?;
+    let top = climb::<P::TwoToOneHash, L>(alloc, pair_parameters, index, above, lowest)?;
+    Ok(top == *root)
+}
+
+// What the digests beside a way make of the lowest one on it.
+fn climb<H: TwoToOneCRHScheme, L: Lends<H::Output>>(
+    alloc: Global,
+    pair_parameters: &H::Parameters,
+    index: usize,
+    beside: &[L],
+    mut current: H::Output,
+) -> Result<H::Output, Error>
+    ensures { let above = map (λ x. H.Output.numbers (L.lent x)) beside.now in
+        let outcome = climb (H.compressed pair_parameters.now) index above in
+        AnswersBy H.Output.numbers (outcome (H.Output.numbers current)) result }
+{
+    for level in 0..beside.len() {
+        let sibling = beside[beside.len() - 1 - level].lend();
+        let is_right = is_bit_set(index, level + 1);
+        current = hash_upper::<H>(alloc, pair_parameters, is_right, &current, sibling)?;
+    }
+    Ok(current)
+}

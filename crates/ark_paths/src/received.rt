@@ -1,0 +1,161 @@
+//! Proofs that come as bytes, in the hands of whoever has a root and the count of leaves alone.
+
+ghost use Rattle.std.specs.Prelude.{◌≡◌, ◌==◌, ◌&&◌, nat_lt, true, Bool, ℕ, [], length, map, get_or, IfOk};
+ghost use Rattle.std.specs.Str.{bytes_eq};
+ghost use Rattle.ark_base.specs.Outcome.{Answers, AnswersBy};
+ghost use Rattle.ark_paths.specs.Index.{IsTreeSize};
+ghost use Rattle.ark_paths.specs.Received.{is_fit, received_multi_path, received_multi_verdict, received_path, received_verdict, ShowsLeaf, ShowsLeaves};
+
+use crate::config::{LeafParam, TwoToOneParam};
+use crate::index::{is_tree_size, levels_between};
+use crate::multi_path::MultiPath;
+use crate::path::Path;
+use crate::views::Values;
+use ark_base::error::{Error, SerializationError};
+use ark_base::serialize::{CanonicalDeserialize, rest_of};
+use std::alloc::Global;
+
+// The refusals of a proof that was read, for a tree of this size.
+fn is_fit(size: usize, behind: &[u8], above: usize, is_asked: bool) -> Result<(), Error>
+    requires { IsTreeSize size }
+    ensures { result ≡ is_fit size behind.now above is_asked }
+{
+    if !behind.is_empty() {
+        return Err(Error::SerializationError(SerializationError::InvalidData));
+    }
+    if above != levels_between(size) {
+        return Err(Error::IncorrectInputLength(above));
+    }
+    if !is_asked {
+        return Err(Error::SerializationError(SerializationError::InvalidData));
+    }
+    Ok(())
+}
+
+// Whether an index is the one that was asked for, and below the size.
+fn is_asked(own: usize, index: usize, size: usize) -> bool
+    ensures { result ≡ ((own == index) && nat_lt index size) }
+{
+    own == index && index < size
+}
+
+impl<P: Values> Path<P> {
+    /// The path of an index in a tree of `size` leaves, which the bytes spell, all of them: for a client, who was sent the
+    /// bytes and knows size and index.
+    ///
+    /// Refusals, the first that applies: `IncorrectInputLength(size)` where the size is no power of two above one; the first
+    /// fault of the bytes from the left, as `deserialize`; `InvalidData` where bytes are left; `IncorrectInputLength` with the
+    /// length of `auth_path` where it is not the logarithm of the size less one; `InvalidData` where the path's own index is
+    /// another one or not below the size; `OutOfMemory`.
+    pub fn read_at(alloc: Global, bytes: &[u8], size: usize, index: usize) -> Result<Path<P>, Error>
+        ensures { let reading = P.path_reading bytes.now in
+            AnswersBy P.way (received_path size index reading) result }
+    {
+        if !is_tree_size(size) {
+            return Err(Error::IncorrectInputLength(size));
+        }
+        let (path, used) = Path::<P>::deserialize(alloc, bytes)?;
+        let is_asked = is_asked(path.leaf_index, index, size);
+        is_fit(size, rest_of(bytes, used), path.auth_path.len(), is_asked)?;
+        Ok(path)
+    }
+
+    /// Whether the bytes of a path show a leaf at an index to whoever has the root of a tree of `size` leaves alone.
+    ///
+    /// Refusals: those of `read_at`, then those of `verify`. Whoever keeps a root and is sent proofs takes this call:
+    /// `verify` alone takes a path of any length and any index.
+    pub fn verify_bytes(
+        alloc: Global,
+        leaf_parameters: &LeafParam<P>,
+        pair_parameters: &TwoToOneParam<P>,
+        root: &P::InnerDigest,
+        size: usize,
+        index: usize,
+        bytes: &[u8],
+        leaf: &P::Leaf,
+    ) -> Result<bool, Error>
+        ensures answer { let hashes = P.hashes leaf_parameters.now pair_parameters.now in
+            let given = P.InnerDigest.numbers root.now in
+            let reading = P.path_reading bytes.now in
+            Answers (received_verdict hashes given size index leaf.now reading) result }
+
+        // In every tree with this root and size the leaf's digest stands at the index, or at some level the path's pair and
+        // the tree's differ and hash alike.
+        ensures bound { let hashes = P.hashes leaf_parameters.now pair_parameters.now in
+            let given = P.InnerDigest.numbers root.now in
+            let reading = P.path_reading bytes.now in
+            IfOk result (λ accepted. accepted ≡ true
+            → ShowsLeaf hashes given size index leaf.now reading) }
+    {
+        let path = Path::<P>::read_at(alloc, bytes, size, index)?;
+        path.verify(alloc, leaf_parameters, pair_parameters, root, leaf)
+    }
+}
+
+// How many items the first of some lists has; none where there is no list.
+fn first_length<D>(lists: &[Vec<D>]) -> usize
+    ensures { result ≡ length (get_or (map (λ list. list.items) lists.now) 0 []) }
+{
+    match lists.first() {
+        Some(list) => list.len(),
+        None => 0,
+    }
+}
+
+impl<P: Values> MultiPath<P> {
+    /// The strict multi-proof of some indexes in a tree of `size` leaves, which the bytes spell, all of them: as
+    /// `Path::read_at`, of many indexes at once, which rise.
+    ///
+    /// Refusals, the first that applies: `IncorrectInputLength(size)` where the size is no power of two above one; those of
+    /// `read_strict`; `InvalidData` where bytes are left; `IncorrectInputLength` with the length of the first suffix where it is
+    /// not the logarithm of the size less one; `InvalidData` where the proof's own indexes are others; `OutOfMemory`.
+    pub fn read_strict_at(
+        alloc: Global,
+        bytes: &[u8],
+        size: usize,
+        indexes: &[usize],
+    ) -> Result<MultiPath<P>, Error>
+        ensures { let reading = P.multi_path_reading bytes.now in
+            AnswersBy P.multi_way (received_multi_path size indexes.now reading) result }
+    {
+        if !is_tree_size(size) {
+            return Err(Error::IncorrectInputLength(size));
+        }
+        let (proof, used) = MultiPath::<P>::read_strict(alloc, bytes)?;
+        let above = first_length(&proof.auth_paths_suffixes);
+        let is_asked = proof.leaf_indexes.as_slice() == indexes;
+        is_fit(size, rest_of(bytes, used), above, is_asked)?;
+        Ok(proof)
+    }
+
+    /// Whether the bytes of a strict multi-proof show leaves at these indexes, in their order, to whoever has the root of a
+    /// tree of `size` leaves alone.
+    ///
+    /// Refusals: those of `read_strict_at`, then those of `verify`. Leaves past the last index are ignored.
+    pub fn verify_bytes(
+        alloc: Global,
+        leaf_parameters: &LeafParam<P>,
+        pair_parameters: &TwoToOneParam<P>,
+        root: &P::InnerDigest,
+        size: usize,
+        indexes: &[usize],
+        bytes: &[u8],
+        leaves: &[P::Leaf],
+    ) -> Result<bool, Error>
+        ensures answer { let hashes = P.hashes leaf_parameters.now pair_parameters.now in
+            let given = P.InnerDigest.numbers root.now in
+            let reading = P.multi_path_reading bytes.now in
+            let verdict = received_multi_verdict hashes given size in
+            Answers (verdict indexes.now leaves.now reading) result }
+
+        // Each leaf's digest stands at its index, as in `Path::verify_bytes`.
+        ensures bound { let hashes = P.hashes leaf_parameters.now pair_parameters.now in
+            let given = P.InnerDigest.numbers root.now in
+            let reading = P.multi_path_reading bytes.now in
+            IfOk result (λ accepted. accepted ≡ true
+            → ShowsLeaves hashes given size indexes.now leaves.now reading) }
+    {
+        let proof = MultiPath::<P>::read_strict_at(alloc, bytes, size, indexes)?;
+        proof.verify(alloc, leaf_parameters, pair_parameters, root, leaves.iter())
+    }
+}
