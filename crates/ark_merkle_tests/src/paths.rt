@@ -69,7 +69,8 @@ fn is_defined<P: Config>(
     }
 }
 
-fn digests_of<H: CRHScheme>(
+/// The leaves' digests.
+pub fn digests_of<H: CRHScheme>(
     alloc: Global,
     parameters: &H::Parameters,
     leaves: &[H::Input],
