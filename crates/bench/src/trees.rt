@@ -1,10 +1,15 @@
 //! Works on trees over byte strings, whose leaves have eight bytes each.
 
+ghost use Rattle.std.specs.Prelude.{◌↔◌, ◌<◌, IsTrue};
+ghost use Rattle.std.specs.List.{All};
+
 use crate::sums::sum_of_value;
 use ark_crypto_primitives::Error;
 use ark_crypto_primitives::merkle_tree::{
     Binding, Config, LeafParam, MerkleTree, Path, TwoToOneParam, is_tree_size,
 };
+use rand::rngs::SmallRng;
+use rand::{Rng, SeedableRng};
 use std::alloc::Global;
 
 /// The work that a word names, in a tree of 2^16 or 2^20 leaves, `count` times.
@@ -15,7 +20,7 @@ pub fn checksum<P: Config<Leaf = Vec<u8>>>(
     work: &str,
     count: u64,
 ) -> Result<Option<u64>, Error> {
-    let Some((work, height)) = work.split_once('-') else {
+    let Some((work, height)) = work.rsplit_once('-') else {
         return Ok(None);
     };
     let size = match height {
@@ -52,6 +57,7 @@ fn in_tree<P: Config<Leaf = Vec<u8>>>(
 ) -> Result<Option<u64>, Error> {
     let sum = match work {
         "update" => updates(alloc, tree, count),
+        "update-many" => batches(alloc, tree, count),
         "proof" => proofs(alloc, tree, count),
         "verify" => verifications(alloc, leaf, pair, tree, count),
         "bind" => bindings(alloc, tree, count),
@@ -96,6 +102,48 @@ fn updates<P: Config<Leaf = Vec<u8>>>(
         }
     }
     sum_of_value(alloc, tree.root())
+}
+
+fn batches<P: Config<Leaf = Vec<u8>>>(
+    alloc: Global,
+    tree: &mut MerkleTree<P>,
+    count: u64,
+) -> Result<u64, Error> {
+    let changes = drawn_changes(alloc, tree.size())?;
+    for _ in 0..count {
+        change(alloc, tree, &changes)?;
+    }
+    sum_of_value(alloc, tree.root())
+}
+
+// New leaves in a thousand drawn places.
+fn drawn_changes(alloc: Global, size: usize) -> Result<Vec<(usize, Vec<u8>)>, Error> {
+    let mut rng = SmallRng::seed_from_u64(4);
+    let mut changes = Vec::with_capacity(alloc, 1000)?;
+    for _ in 0..1000usize {
+        let number = rng.next_u64();
+        let index = (number as usize).checked_rem(size).unwrap_or(0);
+        changes.push((index, leaf_of(alloc, number)?))?;
+    }
+    Ok(changes)
+}
+
+// Whether each change is of an index below the size.
+fn are_inside<L>(changes: &[(usize, L)], size: usize) -> bool
+    ensures { IsTrue result ↔ All (λ change. change.0 < size) changes.now }
+{
+    changes.iter().all(|change| change.0 < size)
+}
+
+fn change<P: Config>(
+    alloc: Global,
+    tree: &mut MerkleTree<P>,
+    changes: &[(usize, P::Leaf)],
+) -> Result<(), Error> {
+    if !are_inside(changes, tree.size()) {
+        return Err(Error::IncorrectInputLength(tree.size()));
+    }
+    tree.update_many(alloc, changes)
 }
 
 fn proofs<P: Config>(alloc: Global, tree: &MerkleTree<P>, count: u64) -> Result<u64, Error> {
