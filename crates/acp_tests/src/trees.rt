@@ -3,7 +3,10 @@
 use acp_session::toy::Toy;
 use ark_base::error::{Error, Refusal};
 use ark_base::serialize::{CanonicalDeserialize, DigestItem, canonical_bytes};
+use ark_crh::{CRHScheme, TwoToOneCRHScheme};
 use ark_merkle::{Config, LeafParam, MerkleTree, Path, TwoToOneParam, is_tree_size};
+use rand::rngs::SmallRng;
+use rand::{Rng, SeedableRng};
 use std::alloc::Global;
 
 /// The tree of these leaves, if there is one.
@@ -152,4 +155,18 @@ fn all_indexes_of_a_blank_tree(rt: HostRuntime) {
         blank::<Toy>(rt.alloc(), &(), &(), text),
         Ok((8, 4, true, true))
     );
+}
+
+// Whether the setups of both hashes give parameters and draw nothing.
+fn sets_up<P: Config, R: Rng>(alloc: Global, rng: &mut R, twin: &mut R) -> bool {
+    P::LeafHash::setup(alloc, rng).is_ok()
+        && P::TwoToOneHash::setup(alloc, rng).is_ok()
+        && rng.next_u64() == twin.next_u64()
+}
+
+#[test]
+fn setups_draw_nothing(rt: HostRuntime) {
+    let mut rng = SmallRng::seed_from_u64(8);
+    let mut twin = SmallRng::seed_from_u64(8);
+    assert!(rt; sets_up::<Toy, SmallRng>(rt.alloc(), &mut rng, &mut twin));
 }

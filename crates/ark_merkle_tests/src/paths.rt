@@ -1,9 +1,11 @@
 //! Trees and their paths.
 
 use crate::plain;
-use crate::samples::{EIGHT, Question, Sha, asked, digest_of, has_text, lone, proof_of};
-use ark_base::error::Error;
-use ark_base::serialize::Duplicate;
+use crate::samples::{
+    EIGHT, Question, Sha, asked, digest_of, has_text, lone, multi_proof_of, proof_of,
+};
+use ark_base::error::{Error, SerializationError};
+use ark_base::serialize::{CanonicalDeserialize, CanonicalItem, Duplicate, canonical_bytes};
 use ark_crh::CRHScheme;
 use ark_merkle::index::is_bit_set;
 use ark_merkle::pair::hash_bottom;
@@ -23,6 +25,8 @@ enum Asked {
     Long(usize, usize),
     // Whether a path of one digest has this text.
     Text(&'static str),
+    // Whether lists of these indexes' paths, and of the multi-proofs of each of them, are read as they are written.
+    Listed(&'static [usize]),
 }
 
 impl Question for Asked {
@@ -48,6 +52,10 @@ impl Question for Asked {
                 path_is_accepted(alloc, leaf_parameters, pair_parameters, &path)
             }
             Asked::Text(text) => Ok((path_has_text::<P>(alloc, text)?, true)),
+            Asked::Listed(indexes) => Ok((
+                paths_are_listed(alloc, tree, indexes)?,
+                multi_proofs_are_listed(alloc, tree, indexes)?,
+            )),
         }
     }
 }
@@ -298,10 +306,44 @@ fn path_has_text<P: Config>(alloc: Global, text: &str) -> Result<bool, Error> {
     has_text(alloc, &path, text)
 }
 
+// Whether the canonical bytes of a list are read to their end, as what is written so; and not where they end early.
+fn are_listed<T: CanonicalItem + Drop>(alloc: Global, items: &[T]) -> Result<bool, Error> {
+    let bytes = canonical_bytes(alloc, &items)?;
+    let (list, used) = Vec::<T>::deserialize(alloc, &bytes)?;
+    let again = canonical_bytes(alloc, &list)?;
+    let early = Vec::<T>::deserialize(alloc, &bytes[..bytes.len().saturating_sub(1)]).err();
+    let truncated = Error::SerializationError(SerializationError::Truncated);
+    Ok(used == bytes.len() && again == bytes && early == Some(truncated))
+}
+
+fn paths_are_listed<P: Config>(
+    alloc: Global,
+    tree: &MerkleTree<P>,
+    indexes: &[usize],
+) -> Result<bool, Error> {
+    let mut paths = Vec::new(alloc);
+    for index in indexes {
+        paths.push(proof_of(alloc, tree, *index)?)?;
+    }
+    are_listed(alloc, &paths)
+}
+
+fn multi_proofs_are_listed<P: Config>(
+    alloc: Global,
+    tree: &MerkleTree<P>,
+    indexes: &[usize],
+) -> Result<bool, Error> {
+    let mut proofs = Vec::new(alloc);
+    for index in indexes {
+        proofs.push(multi_proof_of(alloc, tree, &[*index])?)?;
+    }
+    are_listed(alloc, &proofs)
+}
+
 const TEXT: &str = "Path { leaf_sibling_hash: [7], auth_path: [[8, 9]], leaf_index: 1 }";
 
 // The count of leaves, the question and the answer. Bits of an index past the path do not count.
-const QUESTIONS: [(usize, Asked, (bool, bool)); 12] = [
+const QUESTIONS: [(usize, Asked, (bool, bool)); 13] = [
     (8, Asked::Defined(0), (true, true)),
     (8, Asked::Defined(1), (true, true)),
     (8, Asked::Defined(2), (true, true)),
@@ -314,6 +356,7 @@ const QUESTIONS: [(usize, Asked, (bool, bool)); 12] = [
     (4, Asked::At(7), (false, true)),
     (4, Asked::Copies(1, 2), (true, false)),
     (2, Asked::Text(TEXT), (true, true)),
+    (8, Asked::Listed(&[6, 1]), (true, true)),
 ];
 
 #[test]

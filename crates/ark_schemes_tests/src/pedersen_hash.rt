@@ -150,6 +150,19 @@ fn list_is_drawn<C: CurveGroup + DigestItem, W: Window, R: Rng>(
     }
 }
 
+// The same by the hash of two inputs.
+fn list_is_drawn_for_two<C: CurveGroup + DigestItem, W: Window, R: Rng>(
+    alloc: Global,
+    count: usize,
+    rng: &mut R,
+    twin: &mut R,
+) -> bool {
+    match TwoToOneCRH::<C, W>::generator_powers(alloc, count, rng) {
+        Ok(powers) => is_grown(Growth::Doubled, &powers, C::rand(twin), count),
+        Err(_) => false,
+    }
+}
+
 // Whether all that is drawn is doubled, and nothing more is drawn: parameters, their generators, and one list, also of no element.
 fn all_is_drawn<C: CurveGroup + DigestItem, W: Window, R: Rng>(
     alloc: Global,
@@ -161,6 +174,7 @@ fn all_is_drawn<C: CurveGroup + DigestItem, W: Window, R: Rng>(
         && lists_are_drawn::<C, W, R>(alloc, rng, twin)
         && list_is_drawn::<C, W, R>(alloc, 0, rng, twin)
         && list_is_drawn::<C, W, R>(alloc, 6, rng, twin)
+        && list_is_drawn_for_two::<C, W, R>(alloc, 6, rng, twin)
         && rng.next_u64() == twin.next_u64()
 }
 

@@ -3,7 +3,9 @@
 ghost use Rattle.std.specs.Prelude.{Ok, replicate};
 ghost use Rattle.ark_schemes_tests.specs.Refusing.{refused};
 
-use crate::asked::{Alike, is_printed, is_read, is_spelled};
+use crate::asked::{
+    Alike, INVALID, TRUNCATED, fault, is_list_of_two, is_printed, is_read, is_spelled,
+};
 use crate::samples::Numeral;
 use ark_base::error::{Error, Refusal};
 use ark_base::serialize::canonical_bytes;
@@ -283,9 +285,23 @@ fn salt_is_cloned<C: CurveGroup>(pp: &Parameters<C>) -> bool {
     }
 }
 
+// Whether the bytes of two keys are read as a list with this second one; not where they end early, nor where, behind a good key,
+// the second one's are all ones.
+fn are_listed<C: CurveGroup>(alloc: Global, second: &SecretKey<C>, bytes: &[u8; 24]) -> bool {
+    let mut beyond = *bytes;
+    beyond[16..].fill(255);
+    is_list_of_two(alloc, bytes, second)
+        && fault::<Vec<SecretKey<C>>>(alloc, &bytes[..23]) == TRUNCATED
+        && fault::<Vec<SecretKey<C>>>(alloc, &beyond) == INVALID
+}
+
 fn are_shown<C: CurveGroup + Numeral>(alloc: Global) -> bool {
     let bytes = [1, 2, 0, 0, 0, 0, 0, 0];
+    let list = [
+        2, 0, 0, 0, 0, 0, 0, 0, 7, 0, 0, 0, 0, 0, 0, 0, 1, 2, 0, 0, 0, 0, 0, 0,
+    ];
     is_shown::<C>(alloc, &secret(513), "SecretKey(513)", &bytes)
+        && are_listed::<C>(alloc, &secret(513), &list)
         && has_defaults::<C>()
         && salt_is_cloned::<C>(&parameters())
 }

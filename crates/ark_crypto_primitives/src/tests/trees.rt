@@ -1,9 +1,12 @@
 //! Roots that other implementations give, and what a client answers.
 
+use crate::crh::{CRHScheme, TwoToOneCRHScheme};
 use crate::merkle_tree::{Config, LeafParam, MerkleTree, Path, TwoToOneParam, is_tree_size};
 use crate::serialize::canonical_bytes;
 use crate::trees::{Sha256Arrays, Sha256Log, Sha256Strings};
 use crate::{Error, SerializationError};
+use rand::rngs::SmallRng;
+use rand::{Rng, SeedableRng};
 use std::alloc::Global;
 
 // The entries that implementations of RFC 6962 are tested with.
@@ -187,4 +190,22 @@ fn a_client_answers(rt: HostRuntime) {
             "{own} {zeros} {size} {index}"
         );
     }
+}
+
+// Whether the setups of both hashes give parameters and draw nothing.
+fn sets_up<P: Config, R: Rng>(alloc: Global, rng: &mut R, twin: &mut R) -> bool {
+    P::LeafHash::setup(alloc, rng).is_ok()
+        && P::TwoToOneHash::setup(alloc, rng).is_ok()
+        && rng.next_u64() == twin.next_u64()
+}
+
+#[test]
+fn setups_draw_nothing(rt: HostRuntime) {
+    let alloc = rt.alloc();
+    let mut rng = SmallRng::seed_from_u64(8);
+    let mut twin = SmallRng::seed_from_u64(8);
+    assert!(rt;
+        sets_up::<Sha256Arrays, SmallRng>(alloc, &mut rng, &mut twin)
+            && sets_up::<Sha256Log, SmallRng>(alloc, &mut rng, &mut twin)
+    );
 }

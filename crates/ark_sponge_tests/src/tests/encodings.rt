@@ -103,13 +103,45 @@ fn elements_of_values(rt: HostRuntime) {
     );
 }
 
-// Whether an element of a field and an empty batch of such elements have none below another modulus.
+// Whether these are the numbers of a batch's elements below a modulus.
+fn batch_has_elements<M: Modulus, A: Absorb>(
+    alloc: Global,
+    batch: &[A],
+    numbers: &[u64],
+) -> Result<bool, Error>
+    requires { 9 ≤ M.BITS }
+{
+    let elements = A::batch_to_sponge_field_elements_as_vec::<Fp<M>>(alloc, batch)?;
+    Ok(are(&elements, numbers))
+}
+
+#[test]
+fn elements_of_batches(rt: HostRuntime) {
+    let alloc = rt.alloc();
+    assert!(rt;
+        batch_has_elements::<M257, u16>(alloc, &[258, 2], &[1, 2]) == Ok(true)
+            && batch_has_elements::<M257, bool>(alloc, &[true, false], &[1, 0]) == Ok(true)
+            && batch_has_elements::<M257, Option<u8>>(alloc, &[None, Some(7)], &[0, 1, 7])
+                == Ok(true)
+            && batch_has_elements::<M257, u16>(alloc, &[], &[]) == Ok(true)
+    );
+}
+
+// Whether an element of a field and an empty batch of such elements have none below another modulus; nor the element behind
+// another item of a batch, where an empty batch of such items has nothing to refuse.
 fn are_foreign<F: PrimeField + Absorb, G: PrimeField>(alloc: Global) -> bool
     requires { 9 ≤ G.MODULUS_BIT_SIZE }
 {
     let foreign = Some(Error::GenericError(Refusal::ForeignField));
     let mut dest = Vec::<G>::new(alloc);
     F::batch_to_sponge_field_elements(&[], &mut dest).err() == foreign
+        && Option::<F>::batch_to_sponge_field_elements(&[], &mut dest).is_ok()
+        && Option::<F>::batch_to_sponge_field_elements(
+            &[None, Some(F::from_u64(5))],
+            &mut dest,
+        ).err()
+            == foreign
+        && dest.is_empty()
         && F::from_u64(5)
             .to_sponge_field_elements_as_vec::<G>(alloc)
             .err()
