@@ -179,10 +179,12 @@ fn three_is_shown<C: CurveGroup>(alloc: Global) -> bool {
         && Randomness::<C>::default() != three
 }
 
-// Whether bytes are refused, below the modulus 13, and a list of two ends with the randomness of 12.
+// Whether bytes are refused, below the modulus 13, also as the last of a list, and a list of two ends with the randomness of 12.
 fn is_read_below_thirteen<C: CurveGroup>(alloc: Global) -> bool {
     fault::<Randomness<C>>(alloc, &[13]) == INVALID
         && fault::<Randomness<C>>(alloc, &[]) == TRUNCATED
+        && fault::<Vec<Randomness<C>>>(alloc, &[2, 0, 0, 0, 0, 0, 0, 0, 3, 13]) == INVALID
+        && fault::<Vec<Randomness<C>>>(alloc, &[2, 0, 0, 0, 0, 0, 0, 0, 3]) == TRUNCATED
         && is_list_of_two(
             alloc,
             &[2, 0, 0, 0, 0, 0, 0, 0, 3, 12],

@@ -8,7 +8,7 @@ use crate::asked::{
 };
 use crate::samples::Numeral;
 use ark_base::error::{Error, Refusal};
-use ark_base::serialize::canonical_bytes;
+use ark_base::serialize::{CanonicalDeserialize, canonical_bytes};
 use ark_groups::digest::ByteDigest;
 use ark_groups::ec::{CurveGroup, Residues};
 use ark_groups::ff::{M61, PrimeField, UniformRand};
@@ -285,23 +285,33 @@ fn salt_is_cloned<C: CurveGroup>(pp: &Parameters<C>) -> bool {
     }
 }
 
-// Whether the bytes of two keys are read as a list with this second one; not where they end early, nor where, behind a good key,
-// the second one's are all ones.
-fn are_listed<C: CurveGroup>(alloc: Global, second: &SecretKey<C>, bytes: &[u8; 24]) -> bool {
-    let mut beyond = *bytes;
-    beyond[16..].fill(255);
-    is_list_of_two(alloc, bytes, second)
-        && fault::<Vec<SecretKey<C>>>(alloc, &bytes[..23]) == TRUNCATED
-        && fault::<Vec<SecretKey<C>>>(alloc, &beyond) == INVALID
+// Two keys, the second of 513; the first alone, where the list tells of two; and with all ones behind it.
+const KEYS: [u8; 24] = [
+    2, 0, 0, 0, 0, 0, 0, 0, 7, 0, 0, 0, 0, 0, 0, 0, 1, 2, 0, 0, 0, 0, 0, 0,
+];
+
+const EARLY: [u8; 16] = [2, 0, 0, 0, 0, 0, 0, 0, 7, 0, 0, 0, 0, 0, 0, 0];
+
+const BEYOND: [u8; 24] = [
+    2, 0, 0, 0, 0, 0, 0, 0, 7, 0, 0, 0, 0, 0, 0, 0, 255, 255, 255, 255, 255, 255, 255, 255,
+];
+
+// Whether some bytes are refused since they end early, and others since they say nothing.
+fn are_refused<T: CanonicalDeserialize + Drop>(alloc: Global, early: &[u8], beyond: &[u8]) -> bool {
+    fault::<T>(alloc, early) == TRUNCATED && fault::<T>(alloc, beyond) == INVALID
+}
+
+// Whether keys are read as a list and refused, alone and in a list.
+fn are_listed<C: CurveGroup>(alloc: Global, second: &SecretKey<C>) -> bool {
+    is_list_of_two(alloc, &KEYS, second)
+        && are_refused::<Vec<SecretKey<C>>>(alloc, &EARLY, &BEYOND)
+        && are_refused::<SecretKey<C>>(alloc, &[1; 7], &[255; 8])
 }
 
 fn are_shown<C: CurveGroup + Numeral>(alloc: Global) -> bool {
     let bytes = [1, 2, 0, 0, 0, 0, 0, 0];
-    let list = [
-        2, 0, 0, 0, 0, 0, 0, 0, 7, 0, 0, 0, 0, 0, 0, 0, 1, 2, 0, 0, 0, 0, 0, 0,
-    ];
     is_shown::<C>(alloc, &secret(513), "SecretKey(513)", &bytes)
-        && are_listed::<C>(alloc, &secret(513), &list)
+        && are_listed::<C>(alloc, &secret(513))
         && has_defaults::<C>()
         && salt_is_cloned::<C>(&parameters())
 }
