@@ -140,7 +140,7 @@ pub mod sponge {
 pub mod merkle_tree {
     pub use ark_merkle::{
         Binding, ByteDigestConverter, Config, DigestConverter, IdentityDigestConverter, LeafParam,
-        MerkleTree, MultiPath, Path, TwoToOneParam, Views, is_tree_size,
+        MerkleTree, MultiPath, PairCount, PairHasher, Path, TwoToOneParam, Views, is_tree_size,
     };
 }
 

@@ -11,7 +11,7 @@ use Rattle.ark_paths.proofs.Eaches.{begun, begun-more}
 use Rattle.ark_merkle.specs.Batch.{with_change, last_changes, hashed_changes, puts, with_leaves, with_each_leaf}
 use Rattle.ark_merkle.specs.Changed.{seen_changes, AreChanges}
 use Rattle.ark_merkle.specs.Update.{with_leaf}
-use Rattle.ark_merkle.proofs.MultiIndexes.{trichotomy}
+use Rattle.ark_paths.proofs.MultiIndexes.{trichotomy}
 
 -- ---- a change at its place
 

@@ -9,9 +9,9 @@ use Rattle.ark_paths.specs.Rows.{row_above, rows_from}
 use Rattle.ark_paths.proofs.CoupleLemmas.{length-paired}
 use Rattle.ark_merkle.specs.Batch.{hashed_changes, puts}
 use Rattle.ark_merkle.specs.Changed.{seen_changes, AreChanges, AreHashed, couples_reached, count_over}
-use Rattle.ark_merkle.specs.MultiProof.{with_number, rising_set}
+use Rattle.ark_paths.specs.Rising.{with_number, rising_set}
 use Rattle.ark_merkle.proofs.Batches.{AreChanges-later, AreChanges-seen}
-use Rattle.ark_merkle.proofs.MultiIndexes.{placed-below, placed-same}
+use Rattle.ark_paths.proofs.MultiIndexes.{placed-below, placed-same}
 use Rattle.ark_merkle.proofs.Reached.{of_couple, cases_eq, apart_halves, couples-both, couples-apart, couples-rise, hashed-rise, hashed-places, row_above-puts}
 
 -- ---- places

@@ -16,13 +16,13 @@ use Rattle.ark_paths.specs.Root.{leaves_with_root}
 use Rattle.ark_paths.specs.Tree.{Tree, HashedTree, with_hashes}
 use Rattle.ark_paths.proofs.OwnPaths.{place-above}
 use Rattle.ark_merkle.specs.Batch.{with_change, last_changes, hashed_changes, puts, with_leaves}
-use Rattle.ark_merkle.specs.Above.{count_above}
+use Rattle.ark_paths.specs.Above.{count_above}
 use Rattle.ark_merkle.specs.Changed.{seen_changes, AreChanges, Rise, count_over}
-use Rattle.ark_merkle.specs.MultiProof.{with_number, rising_set}
+use Rattle.ark_paths.specs.Rising.{with_number, rising_set}
 use Rattle.ark_merkle.proofs.Batches.{placed_change-below, placed_change-same, placed_change-past}
 use Rattle.ark_merkle.proofs.ChangedRows.{places, places-seen}
 use Rattle.ark_merkle.proofs.Reached.{hashed-places}
-use Rattle.ark_merkle.proofs.MultiIndexes.{trichotomy, placed-below, placed-same, placed-past, rising-unique, rising-increases, rising-elements}
+use Rattle.ark_paths.proofs.MultiIndexes.{trichotomy, placed-below, placed-same, placed-past, rising-unique, rising-increases, rising-elements}
 
 no_both : {b : Bool} → b ≡ true → b ≡ false → ⊥
 no_both is not = absurd cc

@@ -10,7 +10,6 @@ pub mod Piles
 pub mod TreeChanges
 pub mod Puts
 pub mod TreeReads
-pub mod MultiIndexes
 pub mod StrictOwn
 pub mod MultiCommon
 pub mod MultiOwn

@@ -47,13 +47,6 @@ module _ (rows : List (List Digest)) (before index k n above : ℕ) (level : k +
 pub common-le : (rows : List (List Digest)) (k before index : ℕ) → common rows k before index ≤ k
 common-le rows k before index = omega (arith, shared-le (beside_in rows k before) (beside_in rows k index), length-beside_in rows k index)
 
--- ---- the rows below
-
-pub drop-beside_in : (rows : List (List Digest)) (p k index : ℕ) → p ≤ k → drop p (beside_in rows k index) ≡ beside_in rows (k - p) index
-drop-beside_in rows zero k index le = let e : k - 0 ≡ k = omega arith in rw e refl
-drop-beside_in rows (suc p) zero index le = absurd (omega arith)
-drop-beside_in rows (suc p) (suc k) index le = let e : suc k - suc p ≡ k - p = omega arith in rw e (drop-beside_in rows p k index (omega arith))
-
 -- ---- one index more
 
 module _ (lists : ℕ → List Digest) (indexes : List ℕ) where

@@ -15,8 +15,9 @@ use Rattle.ark_paths.specs.Rows.{IsTree, HoldsIndex, beside_in, digests_of}
 use Rattle.ark_paths.specs.Tree.{own_path}
 use Rattle.ark_paths.proofs.MultiShared.{decoded-merged}
 use Rattle.ark_paths.proofs.OwnPaths.{length-beside_in, own_path-rows, own_path-accepted, leaf-neighbour}
-use Rattle.ark_merkle.specs.MultiProof.{rising_set, own_multi_path}
-use Rattle.ark_merkle.proofs.MultiIndexes.{All-rising, rising-some}
+use Rattle.ark_paths.specs.Rising.{rising_set}
+use Rattle.ark_merkle.specs.MultiProof.{own_multi_path}
+use Rattle.ark_paths.proofs.MultiIndexes.{All-rising, rising-some}
 use Rattle.ark_merkle.proofs.TreeReads.{holds-index}
 
 rest_of : {X : Type 0} (P : X → Type 0) (x : X) (xs : List X) → All P (x ∷ xs) → All P xs

@@ -9,8 +9,9 @@ use Rattle.ark_paths.specs.Pair.{Digest, HashPair}
 use Rattle.ark_paths.specs.Root.{upper_levels}
 use Rattle.ark_paths.specs.Rows.{IsTree}
 use Rattle.ark_paths.proofs.StrictLaws.{strict-in_order}
-use Rattle.ark_merkle.specs.MultiProof.{rising_set, own_multi_path}
-use Rattle.ark_merkle.proofs.MultiIndexes.{rising-increases, rising-some}
+use Rattle.ark_paths.specs.Rising.{rising_set}
+use Rattle.ark_merkle.specs.MultiProof.{own_multi_path}
+use Rattle.ark_paths.proofs.MultiIndexes.{rising-increases, rising-some}
 use Rattle.ark_merkle.proofs.MultiOwn.{own, own-indexes, own-long, within}
 
 from_recursion : {X : Type 0} (P : X → Type 0) (xs : List X) → AllByRecursion P xs → All P xs

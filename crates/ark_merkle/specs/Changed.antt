@@ -6,7 +6,7 @@ use Rattle.ark_base.specs.Outcome.{Outcome}
 use Rattle.ark_paths.specs.Index.{bit_at}
 use Rattle.ark_paths.specs.Pair.{Digest}
 use Rattle.ark_paths.specs.Rows.{row_above}
-use Rattle.ark_merkle.specs.MultiProof.{rising_set}
+use Rattle.ark_paths.specs.Rising.{rising_set}
 
 -- changes with what is seen of them
 abbrev pub seen_changes : {A B : Type 0} → (A → B) → List (ℕ × A) → List (ℕ × B)

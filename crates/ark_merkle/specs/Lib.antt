@@ -3,6 +3,5 @@ pub mod LevelOrder
 pub mod Binding
 pub mod Update
 pub mod MultiProof
-pub mod Above
 pub mod Batch
 pub mod Changed

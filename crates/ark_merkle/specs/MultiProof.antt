@@ -1,20 +1,11 @@
 -- A tree's own multi-proofs.
-use Rattle.std.specs.Prelude.{◌≡◌, get_or, Option, Some, Ok, true, ℕ, ◌==◌, nat_lt, List, [], ◌∷◌, map, if◌then◌else◌}
+use Rattle.std.specs.Prelude.{◌≡◌, get_or, Option, Some, Ok, true, ℕ, List, [], map}
+use Rattle.ark_paths.specs.Rising.{rising_set}
 use Rattle.ark_paths.specs.MultiPath.{MultiWay, multi_verdict}
 use Rattle.ark_paths.specs.Pair.{Digest, HashPair}
 use Rattle.ark_paths.specs.Path.{Way}
 use Rattle.ark_paths.specs.Sharing.{multi_path_of}
 use Rattle.ark_paths.specs.Tree.{HashedTree, root_in, own_path, path_in}
-
--- a number at its place among rising ones, unless it is one of them
-abbrev pub with_number : ℕ → List ℕ → List ℕ
-with_number n [] = n ∷ []
-with_number n (x ∷ xs) = if nat_lt n x then n ∷ x ∷ xs else (if n == x then x ∷ xs else (x ∷ with_number n xs))
-
--- numbers, each of them once, rising
-abbrev pub rising_set : List ℕ → List ℕ
-rising_set [] = []
-rising_set (n ∷ numbers) = with_number n (rising_set numbers)
 
 -- the multi-proof of some indexes: that of their own paths, each once, rising
 abbrev pub own_multi_path : HashPair → List ℕ → List Digest → MultiWay

@@ -6,6 +6,8 @@ mod batches;
 #[cfg(test)]
 mod clients;
 #[cfg(test)]
+mod multi_counts;
+#[cfg(test)]
 mod multi_paths;
 #[cfg(test)]
 mod paths;

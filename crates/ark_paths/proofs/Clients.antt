@@ -20,7 +20,7 @@ use Rattle.ark_paths.proofs.Levels.{root_of-rows, top_digest}
 use Rattle.ark_paths.proofs.TreeLemmas.{is_tree, upper_levels-size}
 
 -- leaf digests that have a root have rows
-rooted-tree : (h : HashPair) (digests : List Digest) (r : Digest) → IsTreeSize (length digests) → root h digests ≡ Ok r → (rows : List (List Digest)) × IsTree h digests rows
+pub rooted-tree : (h : HashPair) (digests : List Digest) (r : Digest) → IsTreeSize (length digests) → root h digests ≡ Ok r → (rows : List (List Digest)) × IsTree h digests rows
 rooted-tree h digests r size rooted =
     let m = upper_levels digests in
     let made = bind_ok (rows_of h m digests) (λ rows. Ok (top_digest rows)) r (sym (root_of-rows h m digests (upper_levels-size digests size)) ∙ rooted) in

@@ -16,6 +16,12 @@ pub mod Receiveds
 pub mod OwnPaths
 pub mod SizeLemmas
 pub mod MultiWalks
+pub mod MultiIndexes
+pub mod CountsAbove
+pub mod OwnPairs
+pub mod Tables
+pub mod TableWalks
+pub mod Tallies
 pub mod MultiShared
 pub mod MultiStrict
 pub mod StrictIndexes

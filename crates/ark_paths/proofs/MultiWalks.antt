@@ -15,7 +15,7 @@ use Rattle.ark_paths.specs.MultiPath.{MultiWay, decoded_path, decoded_paths_from
 use Rattle.ark_paths.specs.Pair.{Digest, HashPair}
 use Rattle.ark_paths.specs.Path.{Way, verdict}
 
-Yields-more : {S A : Type 0} (steps : S → Option A → S → Type 0) (s t u : S) (xs : List A) (x : A) → Yields steps s xs t → steps t (Some x) u → Yields steps s (xs ++ x ∷ []) u
+pub Yields-more : {S A : Type 0} (steps : S → Option A → S → Type 0) (s t u : S) (xs : List A) (x : A) → Yields steps s xs t → steps t (Some x) u → Yields steps s (xs ++ x ∷ []) u
 Yields-more {S = S} steps s t u [] x y n = (u, subst (λ (q : S). steps q (Some x) u) (sym y) n, refl)
 Yields-more steps s t u (z ∷ xs) x y n = (y.0, y.1, Yields-more steps y.0 t u xs x y.2 n)
 

@@ -1,5 +1,5 @@
 -- A tree's own paths.
-use Rattle.std.proofs.Common.{zero, suc, ◌≡◌, ℕ, ◌+◌, ◌-◌, ◌*◌, ◌/◌, ◌%◌, ◌<◌, ◌^◌, Bool, true, false, if◌then◌else◌, List, [], ◌∷◌, length, get_or, Ok, Err, arith, refl, ap, sym, ◌∙◌, pow_pos}
+use Rattle.std.proofs.Common.{zero, suc, ◌≡◌, ℕ, ◌+◌, ◌-◌, ◌*◌, ◌/◌, ◌%◌, ◌<◌, ◌≤◌, ◌^◌, drop, Bool, true, false, if◌then◌else◌, List, [], ◌∷◌, length, get_or, Ok, Err, arith, refl, ap, sym, ◌∙◌, pow_pos}
 use Rattle.std.proofs.lemmas.Slice.Eq.{bytes_eq-Decides}
 use Rattle.std.proofs.lemmas.Bool.{eqb-true, eqb-false}
 use Rattle.std.proofs.Math.Nat.{pow-suc, pow-succ', div-div-eq-div-mul, div-eq_of_lt}
@@ -50,6 +50,11 @@ ordered-neighbour hash row i = ordered_by hash row i (bit_at i 0) (is_couple i (
 pub length-beside_in : (rows : List (List Digest)) (k index : ℕ) → length (beside_in rows k index) ≡ k
 length-beside_in rows zero index = refl
 length-beside_in rows (suc k) index = ap suc (length-beside_in rows k index)
+
+pub drop-beside_in : (rows : List (List Digest)) (p k index : ℕ) → p ≤ k → drop p (beside_in rows k index) ≡ beside_in rows (k - p) index
+drop-beside_in rows zero k index le = let e : k - 0 ≡ k = omega arith in rw e refl
+drop-beside_in rows (suc p) zero index le = absurd (omega arith)
+drop-beside_in rows (suc p) (suc k) index le = let e : suc k - suc p ≡ k - p = omega arith in rw e (drop-beside_in rows p k index (omega arith))
 
 -- ---- the halves beside a way
 
@@ -117,7 +122,7 @@ module _ (h : HashPair) (leaves : List Digest) (rows : List (List Digest)) (tree
         let same : halves_beside h m index leaves ≡ above = ap (halves_beside h m index) (sym whole) ∙ sym (beside_in-halves m (omega (arith, tree.count))) ∙ sym is in
         ap (λ (ds : List Digest). record { sibling = get_or leaves (neighbour index) []; above = ds; index = index }) same
 
-    climbed-own : (k : ℕ) → k < length rows → (lowest : Digest) → lowest ≡ get_or (get_or rows 0 []) (index / 2 ^ 1) [] → climb h.upper index (beside_in rows k index) lowest ≡ Ok (get_or (get_or rows k []) (index / 2 ^ suc k) [])
+    pub climbed-own : (k : ℕ) → k < length rows → (lowest : Digest) → lowest ≡ get_or (get_or rows 0 []) (index / 2 ^ 1) [] → climb h.upper index (beside_in rows k index) lowest ≡ Ok (get_or (get_or rows k []) (index / 2 ^ suc k) [])
     climbed-own zero below lowest is = ap Ok is
     climbed-own (suc k) below lowest is =
         let p = index / 2 ^ suc k in

@@ -13,4 +13,8 @@ pub mod MultiPathBytes
 pub mod Sharing
 pub mod MultiPathStrict
 pub mod Leaves
+pub mod Rising
+pub mod Above
+pub mod Asked
+pub mod Table
 pub mod Laws

@@ -15,5 +15,6 @@ pub use config::{
 };
 pub use index::is_tree_size;
 pub use multi_path::MultiPath;
+pub use multi_path::hasher::{PairCount, PairHasher};
 pub use path::Path;
 pub use views::Views;

@@ -130,7 +130,7 @@ impl<P: Views> Path<P> {
             IfOk result (λ accepted. accepted ≡ true
             → BindsLeaf hashes given leaf.now (P.way self.now)) }
     {
-        verify_leaf::<P, P::InnerDigest>(
+        verify_leaf::<P>(
             alloc,
             leaf_parameters,
             pair_parameters,
@@ -143,47 +143,21 @@ impl<P: Views> Path<P> {
     }
 }
 
-/// A digest, or a reference to one.
-pub trait Lends<D> {
-    // The digest.
-    ghost lent: { Self → D };
-
-    /// The digest.
-    fn lend(&self) -> &D
-        ensures { result.now ≡ lent self.now };
-}
-
-impl<D> Lends<D> for D {
-    ghost lent = { λ digest. digest };
-
-    fn lend(&self) -> &D {
-        self
-    }
-}
-
-impl<'a, D> Lends<D> for &'a D {
-    ghost lent = { λ digest. digest.now };
-
-    fn lend(&self) -> &D {
-        *self
-    }
-}
-
 /// Whether a leaf's digest gives the root along the path of these parts.
-pub fn verify_leaf<P: Views, L: Lends<P::InnerDigest>>(
+pub fn verify_leaf<P: Views>(
     alloc: Global,
     leaf_parameters: &LeafParam<P>,
     pair_parameters: &TwoToOneParam<P>,
     root: &P::InnerDigest,
     leaf: &P::Leaf,
     sibling: &P::LeafDigest,
-    above: &[L],
+    above: &[P::InnerDigest],
     index: usize,
 ) -> Result<bool, Error>
     ensures { let hashes = P.hashes leaf_parameters.now pair_parameters.now in
         let way : Way = record {
           sibling = P.LeafDigest.numbers sibling.now;
-          above = map (λ x. P.InnerDigest.numbers (L.lent x)) above.now;
+          above = map P.InnerDigest.numbers above.now;
           index = index;
         } in
         let given = P.InnerDigest.numbers root.now in
@@ -192,24 +166,24 @@ pub fn verify_leaf<P: Views, L: Lends<P::InnerDigest>>(
     let digest = P::LeafHash::evaluate(alloc, leaf_parameters, leaf)?;
     let is_right = is_bit_set(index, 0);
     let lowest = hash_leaves::<P>(alloc, pair_parameters, is_right, &digest, sibling)?;
-    let top = climb::<P::TwoToOneHash, L>(alloc, pair_parameters, index, above, lowest)?;
+    let top = climb::<P::TwoToOneHash>(alloc, pair_parameters, index, above, lowest)?;
     Ok(top == *root)
 }
 
 // What the digests beside a way make of the lowest one on it.
-fn climb<H: TwoToOneCRHScheme, L: Lends<H::Output>>(
+fn climb<H: TwoToOneCRHScheme>(
     alloc: Global,
     pair_parameters: &H::Parameters,
     index: usize,
-    beside: &[L],
+    beside: &[H::Output],
     mut current: H::Output,
 ) -> Result<H::Output, Error>
-    ensures { let above = map (λ x. H.Output.numbers (L.lent x)) beside.now in
+    ensures { let above = map H.Output.numbers beside.now in
         let outcome = climb (H.compressed pair_parameters.now) index above in
         AnswersBy H.Output.numbers (outcome (H.Output.numbers current)) result }
 {
     for level in 0..beside.len() {
-        let sibling = beside[beside.len() - 1 - level].lend();
+        let sibling = &beside[beside.len() - 1 - level];
         let is_right = is_bit_set(index, level + 1);
         current = hash_upper::<H>(alloc, pair_parameters, is_right, &current, sibling)?;
     }

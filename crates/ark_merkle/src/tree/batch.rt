@@ -6,7 +6,7 @@ ghost use Rattle.ark_base.specs.Outcome.{AnswersBy};
 ghost use Rattle.ark_paths.specs.Index.{log2};
 ghost use Rattle.ark_paths.specs.Root.{leaves_with_root};
 ghost use Rattle.ark_paths.specs.Rows.{IsTree};
-ghost use Rattle.ark_merkle.specs.Above.{count_above};
+ghost use Rattle.ark_paths.specs.Above.{count_above};
 ghost use Rattle.ark_merkle.specs.Batch.{with_change, last_changes, hashed_changes, puts, with_leaves, with_each_leaf};
 ghost use Rattle.ark_merkle.specs.Changed.{seen_changes, entered, AreChanges, Rise, count_over};
 ghost use Rattle.ark_merkle.specs.Update.{with_leaf};

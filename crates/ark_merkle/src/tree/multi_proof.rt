@@ -9,7 +9,8 @@ ghost use Rattle.ark_paths.specs.MultiPath.{decoded_paths};
 ghost use Rattle.ark_paths.specs.MultiPathStrict.{is_strict};
 ghost use Rattle.ark_paths.specs.Sharing.{shared_count, prefixes_of, suffixes_of};
 ghost use Rattle.ark_paths.specs.Rows.{HoldsIndex, beside_in, digests_of, rows_seen};
-ghost use Rattle.ark_merkle.specs.MultiProof.{rising_set, multi_path_in, paths_in, IsMultiAccepted};
+ghost use Rattle.ark_paths.specs.Rising.{rising_set};
+ghost use Rattle.ark_merkle.specs.MultiProof.{multi_path_in, paths_in, IsMultiAccepted};
 
 use crate::tree::MerkleTree;
 use crate::tree::levels::Levels;

@@ -1,4 +1,4 @@
-use Rattle.std.proofs.Common.{◌+◌, ◌-◌, length, ap, ◌∙◌}
+use Rattle.std.proofs.Common.{◌+◌, ◌-◌, length, ap, ◌∙◌, refl}
 use Rattle.ark_base.proofs.Refusals.{passed_on}
 use Rattle.ark_paths.proofs.Climbs.{so_far-up, so_far-refused}
 use Rattle.ark_paths.proofs.path.climb.Goals as goal
@@ -9,14 +9,14 @@ returns-in_err-current g c =
     let numbers = g.H.Output.Numbered.numbers in
     let xs = c.args.beside.now in
     let level = c.loop-level.level in
-    let up = so_far-up hash c.args.index (λ x. numbers (g.L.Lends.lent x)) xs (numbers c.args.current) level c.index-beside-beside.result (numbers c.loop-level.current) (numbers c.lend-sibling.result.now) c.is_bit_set-is_right.result
-    c.loop-level-test.true c.index-beside-beside.is c.loop-level.invariant (ap numbers c.lend-sibling.ensures) c.is_bit_set-is_right.ensures in
+    let up = so_far-up hash c.args.index numbers xs (numbers c.args.current) level c.index-beside-beside.result (numbers c.loop-level.current) (numbers c.index-beside-beside.result) c.is_bit_set-is_right.result
+    c.loop-level-test.true c.index-beside-beside.is c.loop-level.invariant refl c.is_bit_set-is_right.ensures in
     passed_on _ _ c.from_residual.result c.in_err-current.field-0.0 c.from_residual.ensures.1 c.in_err-current.ensures
-    (λ refused. so_far-refused hash c.args.index (λ x. numbers (g.L.Lends.lent x)) xs (numbers c.args.current) (length xs - (level + 1)) c.in_err-current.field-0.0 (up ∙ refused))
+    (λ refused. so_far-refused hash c.args.index numbers xs (numbers c.args.current) (length xs - (level + 1)) c.in_err-current.field-0.0 (up ∙ refused))
 
 pub loop-level-preserved : goal.loop-level-preserved
 loop-level-preserved g c =
     let numbers = g.H.Output.Numbered.numbers in
-    so_far-up (g.H.TwoToOneCRHScheme.compressed c.args.pair_parameters.now) c.args.index (λ x. numbers (g.L.Lends.lent x)) c.args.beside.now (numbers c.args.current) c.loop-level.level c.index-beside-beside.result
-    (numbers c.loop-level.current) (numbers c.lend-sibling.result.now) c.is_bit_set-is_right.result c.loop-level-test.true c.index-beside-beside.is c.loop-level.invariant (ap numbers c.lend-sibling.ensures) c.is_bit_set-is_right.ensures
+    so_far-up (g.H.TwoToOneCRHScheme.compressed c.args.pair_parameters.now) c.args.index numbers c.args.beside.now (numbers c.args.current) c.loop-level.level c.index-beside-beside.result
+    (numbers c.loop-level.current) (numbers c.index-beside-beside.result) c.is_bit_set-is_right.result c.loop-level-test.true c.index-beside-beside.is c.loop-level.invariant refl c.is_bit_set-is_right.ensures
     ∙ c.in_ok-current.ensures

@@ -3,8 +3,8 @@ use Rattle.std.proofs.lemmas.List.{length-map}
 use Rattle.ark_base.specs.Laws.Steps.{done_injective}
 use Rattle.ark_paths.specs.Pair.{pair_of}
 use Rattle.ark_paths.specs.Rows.{IsTree}
-use Rattle.ark_merkle.specs.MultiProof.{rising_set}
-use Rattle.ark_merkle.proofs.MultiIndexes.{rising-increases, rising-elements}
+use Rattle.ark_paths.specs.Rising.{rising_set}
+use Rattle.ark_paths.proofs.MultiIndexes.{rising-increases, rising-elements}
 use Rattle.ark_merkle.proofs.MultiOwn.{neighbours-inside, hold-indexes, own_multi_path-read, own_multi_path-decoded, own_multi_path-accepted}
 use Rattle.ark_merkle.proofs.StrictOwn.{own_multi_path-strict}
 use Rattle.ark_merkle.proofs.TreeReads.{seen_tree}

@@ -3,7 +3,7 @@ use Rattle.std.proofs.lemmas.List.{length-map, with_items_is}
 use Rattle.std.specs.List.{All}
 use Rattle.ark_paths.specs.Pair.{pair_of}
 use Rattle.ark_merkle.specs.Batch.{last_changes}
-use Rattle.ark_merkle.specs.Above.{count_above}
+use Rattle.ark_paths.specs.Above.{count_above}
 use Rattle.ark_merkle.specs.Changed.{seen_changes}
 use Rattle.ark_merkle.proofs.Batches.{AreChanges-unseen, with_leaves-each}
 use Rattle.ark_merkle.proofs.Reached.{hashed-rise}

@@ -3,7 +3,7 @@ use Rattle.std.proofs.lemmas.List.{map_push}
 use Rattle.ark_base.specs.Laws.Steps.{done_injective}
 use Rattle.ark_paths.specs.Pair.{Digest}
 use Rattle.ark_paths.specs.Rows.{beside_in, digests_of}
-use Rattle.ark_merkle.proofs.MultiCommon.{drop-beside_in}
+use Rattle.ark_paths.proofs.OwnPaths.{drop-beside_in}
 use Rattle.ark_merkle.proofs.tree.multi_proof.digests_beside_each.Goals as goal
 
 pub digests_beside-requires : goal.digests_beside-requires

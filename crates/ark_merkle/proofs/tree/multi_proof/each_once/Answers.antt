@@ -4,8 +4,8 @@ use Rattle.std.proofs.lemmas.List.Filters.{dedup_is}
 use Rattle.std.proofs.lemmas.List.Kept.{Contains-dedup_nat, Contains-from_dedup}
 use Rattle.std.proofs.lemmas.List.Sorted.{Contains-permutation, IsPermutation-sym}
 use Rattle.std.proofs.lemmas.Map.Keys.{IsStrictlyIncreasing-dedup}
-use Rattle.ark_merkle.specs.MultiProof.{rising_set}
-use Rattle.ark_merkle.proofs.MultiIndexes.{rising-unique}
+use Rattle.ark_paths.specs.Rising.{rising_set}
+use Rattle.ark_paths.proofs.MultiIndexes.{rising-unique}
 use Rattle.ark_merkle.proofs.tree.multi_proof.each_once.Goals as goal
 
 pub returns : goal.returns

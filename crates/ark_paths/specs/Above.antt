@@ -1,6 +1,6 @@
 -- Places above leaves.
 use Rattle.std.specs.Prelude.{ℕ, zero, suc, ◌+◌, ◌/◌, ◌^◌, List, length, map}
-use Rattle.ark_merkle.specs.MultiProof.{rising_set}
+use Rattle.ark_paths.specs.Rising.{rising_set}
 
 -- the places of a row above leaves with these indexes, each once: an index divided by the size of the row's parts
 abbrev pub places_on : ℕ → List ℕ → List ℕ

@@ -1,0 +1,17 @@
+use Rattle.std.proofs.Common.{◌≡◌, [], map, get_or, ap, sym, ◌∙◌, rules, Bor}
+use Rattle.std.proofs.lemmas.List.{get_or-map}
+use Rattle.ark_paths.specs.Pair.{digest_eq}
+use Rattle.ark_paths.specs.Path.{Way}
+use Rattle.ark_paths.proofs.TableWalks.{verdict-by}
+use Rattle.ark_paths.proofs.multi_path.walk.judge.Goals as goal
+
+pub returns-clause-answer : goal.returns-clause-answer
+returns-clause-answer g c =
+    let inner = g.P.InnerDigest.Numbered.numbers in
+    let made = c.top_of.new.table.made.items in
+    let top = c.index.result.now in
+    let root = c.args.root.now in
+    let way : Way = record { sibling = g.P.LeafDigest.Numbered.numbers c.args.sibling.now; above = map (λ (x : Bor _). inner x.now) c.args.above.now; index = c.args.index } in
+    let at : get_or (map inner made) c.in_ok-top.top [] ≡ inner top = get_or-map inner made c.in_ok-top.top top [] c.in_ok-top.ensures.number ∙ ap inner (sym c.index.ensures) in
+    let same : digest_eq (inner top) (inner root) ≡ c.eq.result = search rules in
+    verdict-by (g.T.PairHasher.pair c.args.hasher.now) _ way (inner root) (g.P.LeafDigest.Numbered.numbers c.in_ok-digest.digest) (inner top) c.eq.result c.in_ok-digest.ensures (rw at at c.in_ok-top.ensures.answer) same

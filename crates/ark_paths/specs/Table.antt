@@ -1,0 +1,92 @@
+-- The pairs that the check of a multi-proof has hashed. A place is a level, counted from the lowest pairs, and a number
+-- on it; above the leaf of index i stands number i / 2 ^ (level + 1).
+use Rattle.std.specs.Prelude.{◌≡◌, ◌==◌, ◌&&◌, ◌||◌, ℕ, suc, ◌/◌, ◌^◌, ◌≤◌, ◌<◌, ◌-◌, nat_lt, Bool, if◌then◌else◌, List, [], ◌∷◌, ◌++◌, length, map, get_or, Some, Ok}
+use Rattle.std.specs.BTreeMap.{BTreeMap, get}
+use Rattle.std.specs.List.{list_any}
+use Rattle.std.specs.Option.{is_some}
+use Rattle.std.specs.Ordering.{nat_cmp, ordering_then}
+use Rattle.std.specs.declared.cmp.Ordering.{Ordering}
+use Rattle.ark_base.specs.Outcome.{Outcome}
+use Rattle.ark_paths.specs.Bind.{couple, halves, path_pair}
+use Rattle.ark_paths.specs.Pair.{Digest, HashPair}
+use Rattle.ark_paths.specs.Path.{Way}
+use Rattle.ark_paths.specs.Rows.{part}
+use Rattle.ark_paths.specs.declared.multi_path.table.Entry.{Entry}
+use Rattle.ark_paths.specs.declared.multi_path.table.Pair.{Pair}
+use Rattle.ark_paths.specs.declared.multi_path.table.Table.{Table}
+
+-- places in the order of level and number
+abbrev pub place_cmp : ℕ × ℕ → ℕ × ℕ → Ordering
+place_cmp a b = ordering_then (nat_cmp a.0 b.0) (nat_cmp a.1 b.1)
+
+abbrev pub same_place : ℕ × ℕ → ℕ × ℕ → Bool
+same_place a b = (a.0 == b.0) && (a.1 == b.1)
+
+-- ---- entries
+
+-- a pair, left first: its own digest is one of these
+abbrev pub pair_seen : {X : Type 0} → (X → Digest) → List Digest → Pair X → Digest × Digest
+pair_seen numbers digests pair = couple pair.is_right (get_or digests pair.own []) (numbers pair.sibling.now)
+
+-- An entry's digest, one of those that were made, is the hash of its pair.
+pub record IsMade {X : Type 0} (numbers : X → Digest) (hash : Digest → Digest → Outcome Digest)
+    (digests made : List Digest) (entry : Entry X) : Type 0 where
+  pub own : entry.pair.own < length digests
+  pub hashed : entry.digest < length made
+  pub is : hash (pair_seen numbers digests entry.pair).0 (pair_seen numbers digests entry.pair).1
+      ≡ Ok (get_or made entry.digest [])
+
+abbrev pub AllMade : {X : Type 0} → (X → Digest) → (Digest → Digest → Outcome Digest) → List Digest → List Digest
+    → BTreeMap (ℕ × ℕ) (Entry X) → Type 0
+AllMade {X} numbers hash digests made entries = (place : ℕ × ℕ) (entry : Entry X)
+    → get place_cmp entries place ≡ Some entry → IsMade numbers hash digests made entry
+
+-- the second list begins with the first
+abbrev pub Extends : List Digest → List Digest → Type 0
+Extends first second = (more : List Digest) × (second ≡ first ++ more)
+
+-- all entries of a table are made
+pub record IsTable {L D : Type 0} (leaf : L → Digest) (inner : D → Digest) (h : HashPair) (table : Table L D)
+    : Type 0 where
+  pub lowest : AllMade leaf h.bottom (map leaf table.leaves.items) (map inner table.made.items) table.lowest
+  pub upper : AllMade inner h.upper (map inner table.made.items) (map inner table.made.items) table.upper
+
+-- ---- entries of a tree
+
+-- The entries are those of the places that were asked, each with the pair that stands there.
+pub record HoldsPlaces {X : Type 0} (numbers : X → Digest) (digests : List Digest) (pairs : ℕ × ℕ → Digest × Digest)
+    (asked : ℕ × ℕ → Bool) (entries : BTreeMap (ℕ × ℕ) (Entry X)) : Type 0 where
+  pub at : (place : ℕ × ℕ) → is_some (get place_cmp entries place) ≡ asked place
+  pub pair : (place : ℕ × ℕ) (entry : Entry X) → get place_cmp entries place ≡ Some entry
+      → pair_seen numbers digests entry.pair ≡ pairs place
+
+-- one more place
+abbrev pub with_place : ℕ × ℕ → (ℕ × ℕ → Bool) → ℕ × ℕ → Bool
+with_place place asked other = same_place place other || asked other
+
+-- whether a number is among those that leaves with these indexes have on a level
+abbrev pub is_above : ℕ → List ℕ → ℕ → Bool
+is_above level indexes number = list_any (λ i. i / 2 ^ suc level == number) indexes
+
+-- the places above some leaves on levels that a test picks; on those below `level`, above one more leaf
+abbrev pub places_above : (ℕ → Bool) → ℕ → ℕ → List ℕ → ℕ × ℕ → Bool
+places_above picks level index seen place =
+    picks place.0 && is_above place.0 (if nat_lt place.0 level then index ∷ seen else seen) place.1
+
+-- The table's entries are those of the places above some leaves, on the levels up to the last of a path of this length;
+-- on levels below `level`, above one more leaf.
+pub record HoldsTree {L D : Type 0} (leaf : L → Digest) (inner : D → Digest) (pairs : ℕ × ℕ → Digest × Digest)
+    (above level index : ℕ) (seen : List ℕ) (table : Table L D) : Type 0 where
+  pub lowest : HoldsPlaces leaf (map leaf table.leaves.items) pairs
+      (places_above (λ l. l == 0) level index seen) table.lowest
+  pub upper : HoldsPlaces inner (map inner table.made.items) pairs
+      (places_above (λ l. nat_lt 0 l && nat_lt l (suc above)) level index seen) table.upper
+
+-- the tree's pair at a place
+abbrev pub pair_at : HashPair → List Digest → ℕ × ℕ → Digest × Digest
+pair_at h digests place = halves h place.0 (part place.0 place.1 digests)
+
+-- the pairs on a way are those that stand at its places
+abbrev pub HasPairs : HashPair → Way → Digest → (ℕ × ℕ → Digest × Digest) → Type 0
+HasPairs h way digest pairs = (level : ℕ) → level ≤ length way.above
+    → path_pair h way digest (length way.above - level) ≡ Ok (pairs (level, way.index / 2 ^ suc level))
