@@ -1,4 +1,5 @@
 pub mod Changes
+pub mod Counts
 pub mod Cutting
 pub mod Findings
 pub mod StrictFindings

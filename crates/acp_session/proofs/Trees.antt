@@ -1,16 +1,15 @@
 -- New trees.
-use Rattle.std.proofs.Common.{◌≡◌, ℕ, List, [], ◌∷◌, length, map, Bool, true, Option, Some, None, Result, Ok, Err, refl, sym, ap, ◌∙◌, inl, inr}
+use Rattle.std.proofs.Common.{◌≡◌, ℕ, List, [], ◌∷◌, length, map, true, Option, Result, Ok, Err, refl, sym, ap, ◌∙◌, inl, inr}
 use Rattle.std.specs.Prelude.{IfOk, OnErr}
 use Rattle.std.proofs.lemmas.List.{length-map}
 use Rattle.ark_base.specs.declared.error.Error.{Error}
-use Rattle.ark_base.specs.declared.error.Error.TheVariants.{OutOfMemory}
-use Rattle.ark_base.specs.Outcome.{Outcome, AnswersBy, ◌>>=◌}
+use Rattle.ark_base.specs.Outcome.{Outcome, AnswersBy}
 use Rattle.ark_paths.specs.Index.{is_tree_size}
 use Rattle.ark_paths.specs.Pair.{Digest, HashPair, Hashes}
 use Rattle.ark_paths.specs.Root.{all_hashes, leaves_with_root, tree_leaves}
 use Rattle.ark_paths.specs.Tree.{Tree, HashedTree, with_hashes}
 use Rattle.acp_session.specs.Language.{Language}
-use Rattle.acp_session.specs.Replies.{Refused, Built, MayLackMemory, text}
+use Rattle.acp_session.specs.Replies.{Refused, MayLackMemory, text}
 use Rattle.acp_session.specs.Steps.{State, state_of, Turn, Takes, Settles, HasHashes, new_tree_turn, tree_turn, digests_turn}
 
 all_hashes-map : {A : Type 0} (hash : A → Outcome Digest) (xs : List A) → all_hashes (λ digest. digest) (map hash xs) ≡ all_hashes hash xs

@@ -20,6 +20,7 @@ pub data Reply : Type 0 where
   Root : (bytes : List ℕ) → Reply
   Proof : (bytes : List ℕ) → Reply
   Verdict : (holds : Bool) → Reply
+  Counted : (holds : Bool) (pairs : ℕ) → Reply
   Changed : Reply
   Bound : (binding : Binding) → Reply
   MultiProof : (bytes : List ℕ) → Reply
@@ -54,6 +55,7 @@ text (Built size) = codes "tree " ++ (decimal size ++ (codes " height " ++ decim
 text (Root bytes) = codes "root " ++ encode_lower bytes
 text (Proof bytes) = codes "path " ++ encode_lower bytes
 text (Verdict holds) = truth holds
+text (Counted holds pairs) = truth holds ++ (codes " " ++ decimal pairs)
 text Changed = codes "ok"
 text (Bound binding) = binding_text binding
 text (MultiProof bytes) = codes "multi " ++ encode_lower bytes
@@ -72,6 +74,7 @@ MayLackMemory (Refused error) = Unit {0}
 MayLackMemory (Built size) = Unit {0}
 MayLackMemory (Proof bytes) = Unit {0}
 MayLackMemory (Verdict holds) = Unit {0}
+MayLackMemory (Counted holds pairs) = Unit {0}
 MayLackMemory Changed = Unit {0}
 MayLackMemory (Bound binding) = Unit {0}
 MayLackMemory (MultiProof bytes) = Unit {0}

@@ -5,9 +5,9 @@ use Rattle.std.specs.Str.{bytes_eq}
 use Rattle.ark_base.specs.Outcome.{Outcome}
 use Rattle.ark_paths.specs.Pair.{Digest}
 use Rattle.acp_session.specs.declared.line.Line.{Line}
-use Rattle.acp_session.specs.declared.line.Line.TheVariants.{Tree, Digests, Set, SetMany, Root, Proof, Check, Bind, Multi, MultiCheck, Strict}
+use Rattle.acp_session.specs.declared.line.Line.TheVariants.{Tree, Digests, Set, SetMany, Root, Proof, Check, Bind, Multi, MultiCheck, MultiCount, Strict}
 use Rattle.acp_session.specs.declared.keyword.Keyword.{Keyword}
-use Rattle.acp_session.specs.declared.keyword.Keyword.TheVariants.{Tree as TreeWord, Digests as DigestsWord, Set as SetWord, SetMany as SetManyWord, Root as RootWord, Proof as ProofWord, Check as CheckWord, Bind as BindWord, Multi as MultiWord, MultiCheck as MultiCheckWord, Strict as StrictWord}
+use Rattle.acp_session.specs.declared.keyword.Keyword.TheVariants.{Tree as TreeWord, Digests as DigestsWord, Set as SetWord, SetMany as SetManyWord, Root as RootWord, Proof as ProofWord, Check as CheckWord, Bind as BindWord, Multi as MultiWord, MultiCheck as MultiCheckWord, MultiCount as MultiCountWord, Strict as StrictWord}
 use Rattle.acp_session.specs.Arguments.{values, some_values, only_value, two_values, some_pairs, value_and_others}
 use Rattle.acp_session.specs.Language.{Language}
 use Rattle.acp_session.specs.Tokens.{index_of}
@@ -24,6 +24,7 @@ pub data Request : Type 0 where
   BindPath : (path : List ℕ) (leaf : Outcome Digest) → Request
   ShowMultiProof : (indexes : List ℕ) → Request
   CheckMultiProof : (proof : List ℕ) (leaves : List (Outcome Digest)) → Request
+  CountMultiProof : (proof : List ℕ) (leaves : List (Outcome Digest)) → Request
   ReadStrictly : (proof : List ℕ) → Request
 
 -- the word that a token spells
@@ -39,6 +40,7 @@ keyword_of token =
     else if bytes_eq token (codes "bind") then Some BindWord
     else if bytes_eq token (codes "multi") then Some MultiWord
     else if bytes_eq token (codes "mcheck") then Some MultiCheckWord
+    else if bytes_eq token (codes "mcount") then Some MultiCountWord
     else if bytes_eq token (codes "strict") then Some StrictWord
     else None
 
@@ -57,6 +59,8 @@ request_by l (Some BindWord) tokens = option_map (λ two. BindPath two.0 two.1) 
 request_by l (Some MultiWord) tokens = option_map ShowMultiProof (values index_of tokens)
 request_by l (Some MultiCheckWord) tokens =
     option_map (λ two. CheckMultiProof two.0 two.1) (value_and_others l.bytes l.leaf_outcome tokens)
+request_by l (Some MultiCountWord) tokens =
+    option_map (λ two. CountMultiProof two.0 two.1) (value_and_others l.bytes l.leaf_outcome tokens)
 request_by l (Some StrictWord) tokens = option_map ReadStrictly (only_value l.bytes tokens)
 
 -- what a line asks, if it is no bad one
@@ -76,4 +80,5 @@ asked hash numbers (Check path leaf) = CheckPath path.items (hash leaf)
 asked hash numbers (Bind path leaf) = BindPath path.items (hash leaf)
 asked hash numbers (Multi indexes) = ShowMultiProof indexes.items
 asked hash numbers (MultiCheck proof leaves) = CheckMultiProof proof.items (map hash leaves.items)
+asked hash numbers (MultiCount proof leaves) = CountMultiProof proof.items (map hash leaves.items)
 asked hash numbers (Strict proof) = ReadStrictly proof.items

@@ -1,24 +1,26 @@
 -- What a line does to the tree, and the reply to it.
-use Rattle.std.specs.Prelude.{◌≡◌, ◌⊎◌, ℕ, nat_lt, length, map, List, [], ◌∷◌, Bool, true, ◌&&◌, if◌then◌else◌, Option, Some, None, Ok, Err}
+use Rattle.std.specs.Prelude.{◌≡◌, ◌≤◌, ◌⊎◌, ℕ, nat_lt, min, length, map, take, List, [], ◌∷◌, Bool, true, ◌&&◌, if◌then◌else◌, Option, Some, None, Ok, Err}
 use Rattle.std.specs.Option.{option_map}
 use Rattle.ark_base.specs.declared.error.Error.TheVariants.{OutOfMemory}
 use Rattle.ark_base.specs.Outcome.{Outcome, ◌>>=◌}
 use Rattle.ark_base.specs.Reading.{Reading, reading_outcome}
-use Rattle.ark_paths.specs.Index.{is_tree_size}
+use Rattle.ark_paths.specs.Index.{is_tree_size, log2}
 use Rattle.ark_paths.specs.MultiPath.{MultiWay, multi_verdict}
 use Rattle.ark_paths.specs.MultiPathStrict.{strict_reading}
 use Rattle.ark_paths.specs.Pair.{Digest, HashPair}
 use Rattle.ark_paths.specs.Path.{Way, verdict}
 use Rattle.ark_paths.specs.Root.{root, leaves_with_root, tree_leaves}
 use Rattle.ark_paths.specs.Tree.{Tree, own_path}
+use Rattle.ark_paths.specs.Above.{count_above}
+use Rattle.ark_paths.specs.Asked.{IsOwn, most_asked}
 use Rattle.ark_merkle.specs.Batch.{new_digests}
 use Rattle.ark_merkle.specs.Binding.{path_binding}
 use Rattle.ark_merkle.specs.MultiProof.{own_multi_path}
 use Rattle.ark_merkle.specs.Update.{changed_leaves}
 use Rattle.acp_session.specs.Language.{Language}
 use Rattle.acp_session.specs.Lines.{tokens_of}
-use Rattle.acp_session.specs.Replies.{Reply, BadLine, NoTree, NotLeaves, NoIndex, Trailing, Refused, Built, Root, Proof, Verdict, Changed, Bound, MultiProof, Strict, MayLackMemory, text}
-use Rattle.acp_session.specs.Requests.{Request, NewTree, NewTreeOfDigests, NewLeaf, NewLeaves, ShowRoot, ShowProof, CheckPath, BindPath, ShowMultiProof, CheckMultiProof, ReadStrictly, request_of}
+use Rattle.acp_session.specs.Replies.{Reply, BadLine, NoTree, NotLeaves, NoIndex, Trailing, Refused, Built, Root, Proof, Verdict, Counted, Changed, Bound, MultiProof, Strict, MayLackMemory, text}
+use Rattle.acp_session.specs.Requests.{Request, NewTree, NewTreeOfDigests, NewLeaf, NewLeaves, ShowRoot, ShowProof, CheckPath, BindPath, ShowMultiProof, CheckMultiProof, CountMultiProof, ReadStrictly, request_of}
 
 -- the tree's leaf digests, or no tree yet
 abbrev pub State : Type 0
@@ -175,6 +177,36 @@ mcheck_reply l None bytes leaves = NoTree
 mcheck_reply l (Some digests) bytes leaves =
     finding_reply Verdict (finding (multi_path_holds l.pair_hashes digests leaves) (l.multi_path_reading bytes))
 
+-- ---- how many pairs a check hashes
+
+-- A check of a multi-proof with some leaves under a root may hash this many pairs: no more than those of each index, and
+-- of a tree's own with its leaves each place above these once. Past the largest `usize` none is counted, and leaves past
+-- the last index are ignored.
+pub record MayHash (h : HashPair) (root_given : Digest) (leaves : List (Outcome Digest)) (m : MultiWay) (pairs : ℕ)
+    : Type 0 where
+  pub most : pairs ≤ most_asked m
+  pub exact : multi_verdict h leaves m root_given ≡ Ok true
+      → (digests : List Digest) → IsOwn h digests root_given (take (length m.indexes) leaves) m
+      → pairs ≡ min (count_above (log2 (length digests)) m.indexes) 18446744073709551615
+
+-- A check of the multi-proof that was read alone may hash this many pairs under the tree's root, where both are there.
+abbrev pub MayCount : HashPair → List Digest → List (Outcome Digest) → Reading MultiWay → ℕ → Type 0
+MayCount h digests leaves reading pairs = (r : Digest) → root h digests ≡ Ok r
+    → (m : MultiWay) → alone_of reading ≡ Ok (Some m) → MayHash h r leaves m pairs
+
+-- the reply to `mcheck`, with a number of pairs behind the verdict
+abbrev pub mcount_reply : Language → List Digest → List ℕ → List (Outcome Digest) → ℕ → Reply
+mcount_reply l digests bytes leaves pairs = finding_reply (λ holds. Counted holds pairs)
+    (finding (multi_path_holds l.pair_hashes digests leaves) (l.multi_path_reading bytes))
+
+-- The bytes are those of that reply with a number of pairs that the check may hash, or say in its place that memory lacks.
+abbrev pub TellsCount : Language → State → List ℕ → List (Outcome Digest) → List ℕ → Type 0
+TellsCount l None proof leaves bytes = bytes ≡ text NoTree
+TellsCount l (Some digests) proof leaves bytes =
+    ((pairs : ℕ) × MayCount l.pair_hashes digests leaves (l.multi_path_reading proof) pairs
+    × (bytes ≡ text (mcount_reply l digests proof leaves pairs)))
+    ⊎ (bytes ≡ text (Refused OutOfMemory))
+
 -- ---- what bytes say by themselves
 
 -- how many indexes a multi-proof has
@@ -186,27 +218,6 @@ strict_reply l bytes = finding_reply Strict (finding count_of (strict_reading (l
 
 -- ---- lines
 
-abbrev pub turn_of : Language → State → Request → Turn
-turn_of l before (NewTree leaves) = tree_turn l before leaves
-turn_of l before (NewTreeOfDigests digests) = digests_turn l before digests
-turn_of l before (NewLeaf index leaf) = set_turn l before index leaf
-turn_of l before (NewLeaves changes) = set_many_turn l before changes
-turn_of l before ShowRoot = (root_reply l before, before)
-turn_of l before (ShowProof index) = (proof_reply l before index, before)
-turn_of l before (CheckPath path leaf) = (check_reply l before path leaf, before)
-turn_of l before (BindPath path leaf) = (bind_reply l before path leaf, before)
-turn_of l before (ShowMultiProof indexes) = (multi_reply l before indexes, before)
-turn_of l before (CheckMultiProof proof leaves) = (mcheck_reply l before proof leaves, before)
-turn_of l before (ReadStrictly proof) = (strict_reply l proof, before)
-
-abbrev pub turn_by : Language → State → Option Request → Turn
-turn_by l before None = (BadLine, before)
-turn_by l before (Some request) = turn_of l before request
-
--- the exact reply to a line, and the tree after it
-abbrev pub turn : Language → State → List ℕ → Turn
-turn l before line = turn_by l before (request_of l (tokens_of line))
-
 -- The tree before a line, its turn, the tree after it and the bytes of the reply: as the turn has them, or want of
 -- memory stands in the reply's place and the tree is as before.
 abbrev pub Takes : State → Turn → State → List ℕ → Type 0
@@ -214,6 +225,28 @@ Takes before exact after bytes =
     ((bytes ≡ text exact.0) × (after ≡ exact.1))
     ⊎ ((bytes ≡ text (Refused OutOfMemory)) × (after ≡ before) × MayLackMemory exact.0)
 
+-- The tree before, what is asked, the tree after it and the bytes of the reply: as its one turn has them, but for a count
+-- of pairs, which leaves the tree and has no one reply.
+abbrev pub TakesTurn : Language → State → Request → State → List ℕ → Type 0
+TakesTurn l before (NewTree leaves) = Takes before (tree_turn l before leaves)
+TakesTurn l before (NewTreeOfDigests digests) = Takes before (digests_turn l before digests)
+TakesTurn l before (NewLeaf index leaf) = Takes before (set_turn l before index leaf)
+TakesTurn l before (NewLeaves changes) = Takes before (set_many_turn l before changes)
+TakesTurn l before ShowRoot = Takes before (root_reply l before, before)
+TakesTurn l before (ShowProof index) = Takes before (proof_reply l before index, before)
+TakesTurn l before (CheckPath path leaf) = Takes before (check_reply l before path leaf, before)
+TakesTurn l before (BindPath path leaf) = Takes before (bind_reply l before path leaf, before)
+TakesTurn l before (ShowMultiProof indexes) = Takes before (multi_reply l before indexes, before)
+TakesTurn l before (CheckMultiProof proof leaves) = Takes before (mcheck_reply l before proof leaves, before)
+TakesTurn l before (CountMultiProof proof leaves) = λ after bytes.
+    TellsCount l before proof leaves bytes × (after ≡ before)
+TakesTurn l before (ReadStrictly proof) = Takes before (strict_reply l proof, before)
+
+-- the same where perhaps nothing is asked
+abbrev pub TakesAny : Language → State → Option Request → State → List ℕ → Type 0
+TakesAny l before None = Takes before (BadLine, before)
+TakesAny l before (Some request) = TakesTurn l before request
+
 -- The tree before a line, the line, the tree after it and the bytes of the reply.
 abbrev pub Step : Language → State → List ℕ → State → List ℕ → Type 0
-Step l before line after bytes = Takes before (turn l before line) after bytes
+Step l before line after bytes = TakesAny l before (request_of l (tokens_of line)) after bytes

@@ -2,14 +2,14 @@
 
 ghost use Rattle.std.specs.Prelude.{◌≡◌, IfOk, OnErr};
 ghost use Rattle.acp_session.specs.Requests.{asked};
-ghost use Rattle.acp_session.specs.Steps.{Step, Takes, state_of, turn_of};
+ghost use Rattle.acp_session.specs.Steps.{Step, TakesTurn, state_of};
 
 use crate::line::{Line, line_of};
 use crate::replies::plain;
 use crate::shell::{Hashing, Shell};
 use crate::words::{
-    bind_reply, check_reply, digests_reply, mcheck_reply, multi_reply, proof_reply, root_reply,
-    set_many_reply, set_reply, strict_reply, tree_reply,
+    bind_reply, check_reply, digests_reply, mcheck_reply, mcount_reply, multi_reply, proof_reply,
+    root_reply, set_many_reply, set_reply, strict_reply, tree_reply,
 };
 use ark_base::serialize::Numbered;
 use ark_crh::CRHScheme;
@@ -50,8 +50,7 @@ fn reply_to<C: Shell>(
     ensures turn { IfOk result (λ reply.
         let l = C.language leaf_parameters.now pair_parameters.now in
         let request = asked (C.LeafHash.meaning leaf_parameters.now) C.LeafDigest.numbers line in
-        let exact = turn_of l (state_of tree.old) request in
-        Takes (state_of tree.old) exact (state_of tree.new) reply.items) }
+        TakesTurn l (state_of tree.old) request (state_of tree.new) reply.items) }
     ensures hashes { ⟦<C as Hashing>⟧.has_hashes leaf_parameters.now pair_parameters.now tree.new }
     ensures refused { OnErr result (tree.new ≡ tree.old) }
 {
@@ -75,6 +74,16 @@ fn reply_to<C: Shell>(
         Line::Multi(indexes) => multi_reply(alloc, tree, &indexes),
         Line::MultiCheck { proof, leaves } => {
             mcheck_reply(
+                alloc,
+                leaf_parameters,
+                pair_parameters,
+                tree,
+                &proof,
+                &leaves,
+            )
+        }
+        Line::MultiCount { proof, leaves } => {
+            mcount_reply(
                 alloc,
                 leaf_parameters,
                 pair_parameters,

@@ -16,6 +16,7 @@ pub enum Keyword {
     Bind,
     Multi,
     MultiCheck,
+    MultiCount,
     Strict,
 }
 
@@ -43,6 +44,8 @@ pub fn keyword_of(token: &[u8]) -> Option<Keyword>
         Some(Keyword::Multi)
     } else if token == b"mcheck".as_slice() {
         Some(Keyword::MultiCheck)
+    } else if token == b"mcount".as_slice() {
+        Some(Keyword::MultiCount)
     } else if token == b"strict".as_slice() {
         Some(Keyword::Strict)
     } else {

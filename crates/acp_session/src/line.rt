@@ -29,6 +29,7 @@ pub enum Line<L, D> {
     Bind { path: Vec<u8>, leaf: L },
     Multi(Vec<usize>),
     MultiCheck { proof: Vec<u8>, leaves: Vec<L> },
+    MultiCount { proof: Vec<u8>, leaves: Vec<L> },
     Strict(Vec<u8>),
 }
 
@@ -186,6 +187,10 @@ fn behind_word<C: Shell>(
         },
         Keyword::MultiCheck => match value_and_others::<Bytes<C>, Leaf<C>>(alloc, left)? {
             Some((proof, leaves)) => Ok(Some(Line::MultiCheck { proof, leaves })),
+            None => Ok(None),
+        },
+        Keyword::MultiCount => match value_and_others::<Bytes<C>, Leaf<C>>(alloc, left)? {
+            Some((proof, leaves)) => Ok(Some(Line::MultiCount { proof, leaves })),
             None => Ok(None),
         },
         Keyword::Strict => match only_value::<Bytes<C>>(alloc, left)? {

@@ -7,7 +7,7 @@ mod shows;
 mod strict;
 mod trees;
 
-pub use checks::{bind_reply, check_reply, mcheck_reply};
+pub use checks::{bind_reply, check_reply, mcheck_reply, mcount_reply};
 pub use set::set_reply;
 pub use set_many::set_many_reply;
 pub use shows::{multi_reply, proof_reply, root_reply};

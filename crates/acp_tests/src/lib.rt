@@ -1,9 +1,11 @@
 //! Tests of the program's parts: readers and writers that fail, when replies are sent off, trees of its configurations, lines that set
-//! several leaves.
+//! several leaves, lines that count pairs.
 #![tactic(auto)]
 
 #[cfg(test)]
 mod commands;
+#[cfg(test)]
+mod counts;
 #[cfg(test)]
 mod faults;
 #[cfg(test)]

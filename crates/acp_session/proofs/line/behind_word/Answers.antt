@@ -2,7 +2,7 @@ use Rattle.std.proofs.Common.{◌∙◌, Some, ap, sym}
 use Rattle.std.specs.Option.{option_copied}
 use Rattle.std.proofs.lemmas.List.{map-id}
 use Rattle.acp_session.specs.Lines.{tokens_left}
-use Rattle.acp_session.specs.Requests.{NewTree, NewTreeOfDigests, NewLeaf, NewLeaves, ShowProof, CheckPath, BindPath, ShowMultiProof, CheckMultiProof, ReadStrictly}
+use Rattle.acp_session.specs.Requests.{NewTree, NewTreeOfDigests, NewLeaf, NewLeaves, ShowProof, CheckPath, BindPath, ShowMultiProof, CheckMultiProof, CountMultiProof, ReadStrictly}
 use Rattle.acp_session.proofs.Cutting.{tokens_of-some}
 use Rattle.acp_session.proofs.Values.{made-some, made-none, root-more}
 use Rattle.acp_session.proofs.line.behind_word.Goals as goal
@@ -62,10 +62,16 @@ pub returns-in-None-9 : goal.returns-in-None-9
 returns-in-None-9 g c = λ p q. rw c.in-MultiCheck.is (made-none _ (λ two. CheckMultiProof two.0 two.1) _ _ c.in-None-9.is (c.in_ok-proof-in-MultiCheck.ensures (p, q) (p, q)))
 
 pub returns-in-Some-10 : goal.returns-in-Some-10
-returns-in-Some-10 g c = λ p q. rw c.in-Strict.is (made-some _ ReadStrictly _ _ _ c.in-Some-10.is (c.in_ok-proof-in-Strict.ensures (p, q)))
+returns-in-Some-10 g c = λ p q. rw c.in-MultiCount.is (made-some _ (λ two. CountMultiProof two.0 two.1) _ _ _ c.in-Some-10.is (c.in_ok-proof-in-MultiCount.ensures (p, q) (p, q)))
 
 pub returns-in-None-10 : goal.returns-in-None-10
-returns-in-None-10 g c = λ p q. rw c.in-Strict.is (made-none _ ReadStrictly _ _ c.in-None-10.is (c.in_ok-proof-in-Strict.ensures (p, q)))
+returns-in-None-10 g c = λ p q. rw c.in-MultiCount.is (made-none _ (λ two. CountMultiProof two.0 two.1) _ _ c.in-None-10.is (c.in_ok-proof-in-MultiCount.ensures (p, q) (p, q)))
+
+pub returns-in-Some-11 : goal.returns-in-Some-11
+returns-in-Some-11 g c = λ p q. rw c.in-Strict.is (made-some _ ReadStrictly _ _ _ c.in-Some-11.is (c.in_ok-proof-in-Strict.ensures (p, q)))
+
+pub returns-in-None-11 : goal.returns-in-None-11
+returns-in-None-11 g c = λ p q. rw c.in-Strict.is (made-none _ ReadStrictly _ _ c.in-None-11.is (c.in_ok-proof-in-Strict.ensures (p, q)))
 
 pub returns-in-Some-left : goal.returns-in-Some-left
 returns-in-Some-left g c = λ p q. rw c.in-Root.is (root-more (g.C.Shell.language p q) (tokens_left (option_copied c.args.left))

@@ -1,4 +1,4 @@
-use Rattle.std.proofs.Common.{◌≡◌, ◌∙◌, map, length, true, sym, ap}
+use Rattle.std.proofs.Common.{◌≡◌, ◌∙◌, length, true, sym, ap}
 use Rattle.std.proofs.lemmas.Result.{IfOk-weaker}
 use Rattle.ark_paths.specs.Index.{is_tree_size}
 use Rattle.ark_paths.specs.Pair.{pair_of}
