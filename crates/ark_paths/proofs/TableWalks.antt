@@ -147,21 +147,21 @@ module _ {L D : Type 0} (leaf : L → Digest) (inner : D → Digest) (h : HashPa
   -- the lowest pair is asked
   pub HoldsTree-lowest : (old after : Table L D) (number : ℕ) (given : Digest × Digest) → after.upper ≡ old.upper → IsTable leaf inner h old → Extends (map leaf old.leaves.items) (map leaf after.leaves.items) → Extends (map inner old.made.items) (map inner after.made.items)
       → number ≡ index / 2 ^ 1 → given ≡ pairs (0, index / 2 ^ 1)
-      → ((asked : ℕ × ℕ → Bool) → HoldsPlaces leaf (map leaf after.leaves.items) pairs asked old.lowest → given ≡ pairs (0, number) → HoldsPlaces leaf (map leaf after.leaves.items) pairs (with_place (0, number) asked) after.lowest × (length after.made.items ≡ length old.made.items + cond (asked (0, number)) 0 1))
+      → ((asked : ℕ × ℕ → Bool) → HoldsPlaces leaf (map leaf after.leaves.items) pairs asked old.lowest.all → given ≡ pairs (0, number) → HoldsPlaces leaf (map leaf after.leaves.items) pairs (with_place (0, number) asked) after.lowest.all × (length after.made.items ≡ length old.made.items + cond (asked (0, number)) 0 1))
       → HoldsTree leaf inner pairs above 0 index seen old
       → HoldsTree leaf inner pairs above 1 index seen after × (length after.made.items + count_above 1 seen ≡ length old.made.items + count_above 1 (index ∷ seen))
   HoldsTree-lowest old after number given same table leaves made at is ask holds =
       let here = ask (places_above (λ l. nat_eq l 0) 0 index seen) (HoldsPlaces-more leaf h.bottom _ _ _ pairs _ old.lowest leaves table.lowest holds.lowest) (is ∙ ap (λ (n : ℕ). pairs (0, n)) (sym at)) in (
         record {
-          lowest = HoldsPlaces-same leaf _ pairs _ _ after.lowest (λ q. ap (λ (n : ℕ). with_place (0, n) (places_above (λ l. nat_eq l 0) 0 index seen) q) at ∙ placed-here (λ l. nat_eq l 0) 0 index seen refl q) here.0;
-          upper = HoldsPlaces-same inner _ pairs _ _ after.upper (placed-nowhere (λ l. nat_lt 0 l && nat_lt l (suc above)) 0 index seen refl) (rw same (HoldsPlaces-more inner h.upper _ _ _ pairs _ old.upper made table.upper holds.upper));
+          lowest = HoldsPlaces-same leaf _ pairs _ _ after.lowest.all (λ q. ap (λ (n : ℕ). with_place (0, n) (places_above (λ l. nat_eq l 0) 0 index seen) q) at ∙ placed-here (λ l. nat_eq l 0) 0 index seen refl q) here.0;
+          upper = HoldsPlaces-same inner _ pairs _ _ after.upper.all (placed-nowhere (λ l. nat_lt 0 l && nat_lt l (suc above)) 0 index seen refl) (rw same (HoldsPlaces-more inner h.upper _ _ _ pairs _ old.upper made table.upper holds.upper));
         },
         count-level 0 index seen (length old.made.items) (length old.made.items) (length after.made.items) (here.1 ∙ ap (λ (b : Bool). length old.made.items + cond b 0 1) (ap (λ (n : ℕ). places_above (λ l. nat_eq l 0) 0 index seen (0, n)) at ∙ asked-here (λ l. nat_eq l 0) 0 index seen refl)) refl,
       )
 
   -- a pair above it is asked
   pub HoldsTree-upper : (start level number : ℕ) (before after : Table L D) (given : Digest × Digest) → after.leaves ≡ before.leaves → after.lowest ≡ before.lowest → level < above → number ≡ index / 2 ^ suc (suc level) → given ≡ pairs (suc level, index / 2 ^ suc (suc level))
-      → ((asked : ℕ × ℕ → Bool) → HoldsPlaces inner (map inner before.made.items) pairs asked before.upper → given ≡ pairs (suc level, number) → HoldsPlaces inner (map inner after.made.items) pairs (with_place (suc level, number) asked) after.upper × (length after.made.items ≡ length before.made.items + cond (asked (suc level, number)) 0 1))
+      → ((asked : ℕ × ℕ → Bool) → HoldsPlaces inner (map inner before.made.items) pairs asked before.upper.all → given ≡ pairs (suc level, number) → HoldsPlaces inner (map inner after.made.items) pairs (with_place (suc level, number) asked) after.upper.all × (length after.made.items ≡ length before.made.items + cond (asked (suc level, number)) 0 1))
       → HoldsTree leaf inner pairs above (suc level) index seen before × (length before.made.items + count_above (suc level) seen ≡ start + count_above (suc level) (index ∷ seen))
       → HoldsTree leaf inner pairs above (suc (suc level)) index seen after × (length after.made.items + count_above (suc (suc level)) seen ≡ start + count_above (suc (suc level)) (index ∷ seen))
   HoldsTree-upper start level number before after given same_leaves same below at is ask (holds, count) =
@@ -171,8 +171,8 @@ module _ {L D : Type 0} (leaf : L → Digest) (inner : D → Digest) (h : HashPa
       let picked : picks (suc level) ≡ true = rw (some, few) refl in
       let here = ask (places_above picks (suc level) index seen) holds.upper (is ∙ ap (λ (n : ℕ). pairs (suc level, n)) (sym at)) in (
         record {
-          lowest = rw (same_leaves, same) (HoldsPlaces-same leaf _ pairs _ _ before.lowest (placed-nowhere (λ l. nat_eq l 0) (suc level) index seen (ne_eqb (suc level) 0 (λ none. omega arith))) holds.lowest);
-          upper = HoldsPlaces-same inner _ pairs _ _ after.upper (λ q. ap (λ (n : ℕ). with_place (suc level, n) (places_above picks (suc level) index seen) q) at ∙ placed-here picks (suc level) index seen picked q) here.0;
+          lowest = rw (same_leaves, same) (HoldsPlaces-same leaf _ pairs _ _ before.lowest.all (placed-nowhere (λ l. nat_eq l 0) (suc level) index seen (ne_eqb (suc level) 0 (λ none. omega arith))) holds.lowest);
+          upper = HoldsPlaces-same inner _ pairs _ _ after.upper.all (λ q. ap (λ (n : ℕ). with_place (suc level, n) (places_above picks (suc level) index seen) q) at ∙ placed-here picks (suc level) index seen picked q) here.0;
         },
         count-level (suc level) index seen start (length before.made.items) (length after.made.items) (here.1 ∙ ap (λ (b : Bool). length before.made.items + cond b 0 1) (ap (λ (n : ℕ). places_above picks (suc level) index seen (suc level, n)) at ∙ asked-here picks (suc level) index seen picked)) count,
       )
@@ -192,8 +192,8 @@ module _ {L D : Type 0} (leaf : L → Digest) (inner : D → Digest) (h : HashPa
       let at_most : (l : ℕ) → picks l ≡ true → l < suc level = λ l pick. (let both = and_parts (nat_lt 0 l) (nat_lt l (suc above)) pick in let lt = ltb-true l (suc above) both.1 in omega arith) in
       let lowest : (l : ℕ) → nat_eq l 0 ≡ true → l < suc level = λ l pick. (let none = eqb-true l 0 pick in omega arith) in (
         record {
-          lowest = HoldsPlaces-same leaf _ pairs _ _ table.lowest (placed-all (λ l. nat_eq l 0) (suc level) index seen lowest) holds.lowest;
-          upper = HoldsPlaces-same inner _ pairs _ _ table.upper (placed-all picks (suc level) index seen at_most) holds.upper;
+          lowest = HoldsPlaces-same leaf _ pairs _ _ table.lowest.all (placed-all (λ l. nat_eq l 0) (suc level) index seen lowest) holds.lowest;
+          upper = HoldsPlaces-same inner _ pairs _ _ table.upper.all (placed-all picks (suc level) index seen at_most) holds.upper;
         },
         subst (λ (n : ℕ). made + count_above (suc n) seen ≡ start + count_above (suc n) (index ∷ seen)) top count,
       )

@@ -1,7 +1,8 @@
 -- Tables of hashed pairs.
-use Rattle.std.proofs.Common.{zero, suc, ◌≡◌, ◌≢◌, ◌⊎◌, ℕ, ◌+◌, ◌/◌, ◌^◌, ◌<◌, ◌≤◌, ◌++◌, ◌||◌, Bool, true, false, cond, nat_eq, Option, List, [], ◌∷◌, length, map, get_or, Ok, Some, None, arith, refl, ap, sym, ◌∙◌, subst, append-nil, length-append, inl, inr}
+use Rattle.std.proofs.Common.{zero, suc, ◌≡◌, ◌≢◌, ◌⊎◌, ℕ, ◌+◌, ◌-◌, ◌/◌, ◌^◌, ◌<◌, ◌≤◌, ◌++◌, ◌||◌, Bool, true, false, cond, nat_eq, Option, List, [], ◌∷◌, length, map, get_or, Ok, Some, None, arith, refl, ap, sym, ◌∙◌, subst, append-nil, length-append, slice_set, inl, inr}
 use Rattle.std.proofs.Math.Nat.{div-eq_of_lt, pow-le-pow_right}
 use Rattle.std.specs.BTreeMap.{BTreeMap, get, Updates, is_at}
+use Rattle.std.specs.List.{slice_get}
 use Rattle.std.specs.Option.{is_some}
 use Rattle.std.proofs.lemmas.List.{length-map}
 use Rattle.std.proofs.lemmas.Bool.{and_parts, eqb-true}
@@ -9,9 +10,12 @@ use Rattle.std.proofs.lemmas.Bool.Decides.{eqb_tells, nat_tests}
 use Rattle.ark_base.specs.Outcome.{Outcome}
 use Rattle.ark_paths.specs.Bind.{couple}
 use Rattle.ark_paths.specs.Pair.{Digest}
-use Rattle.ark_paths.specs.Table.{place_cmp, same_place, pair_seen, IsMade, AllMade, Extends, HoldsPlaces, with_place}
+use Rattle.ark_paths.specs.Kept.{place_cmp, same_place, put_at, AreKept}
+use Rattle.ark_paths.specs.Table.{pair_seen, IsMade, AllMade, Extends, HoldsPlaces, with_place}
+use Rattle.ark_paths.specs.declared.multi_path.table.Entries.{Entries}
 use Rattle.ark_paths.specs.declared.multi_path.table.Entry.{Entry}
 use Rattle.ark_paths.specs.declared.multi_path.table.Pair.{Pair}
+use Rattle.ark_paths.specs.declared.multi_path.table.Slot.{Slot}
 
 -- past the last bit of an index there is one number
 pub number_above-none : (index level : ℕ) → index < 2 ^ 64 → 63 ≤ level → 0 ≡ index / 2 ^ suc level
@@ -69,6 +73,66 @@ cond_cases : {A : Type 0} (b : Bool) (x e : A) (o : Option A) → cond b (Some x
 cond_cases true x e o is = inr cc
 cond_cases false x e o is = inl is
 
+-- ---- entries at hand
+
+cond_none : {A : Type 0} (b : Bool) (x : A) (o : Option A) → b ≡ false → cond b (Some x) o ≡ o
+cond_none b x o is = rw is refl
+
+pub put_at-within : {A : Type 0} (xs : List A) (i : ℕ) (x : A) → i < length xs → slice_set xs i x ≡ put_at xs i x
+put_at-within [] i x below = absurd (omega arith)
+put_at-within (y ∷ xs) zero x below = refl
+put_at-within (y ∷ xs) (suc i) x below = ap (λ l. y ∷ l) (put_at-within xs i x (omega arith))
+
+pub put_at-end : {A : Type 0} (xs : List A) (i : ℕ) (x : A) → i ≡ length xs → xs ++ x ∷ [] ≡ put_at xs i x
+put_at-end [] zero x is = refl
+put_at-end [] (suc i) x is = absurd (omega arith)
+put_at-end (y ∷ xs) zero x is = absurd (omega arith)
+put_at-end (y ∷ xs) (suc i) x is = ap (λ l. y ∷ l) (put_at-end xs i x (omega arith))
+
+pub put_at-past : {A : Type 0} (xs : List A) (i : ℕ) (x : A) → length xs < i → xs ≡ put_at xs i x
+put_at-past [] zero x past = absurd (omega arith)
+put_at-past [] (suc i) x past = refl
+put_at-past (y ∷ xs) zero x past = absurd (omega arith)
+put_at-past (y ∷ xs) (suc i) x past = ap (λ l. y ∷ l) (put_at-past xs i x (omega arith))
+
+slice_get-put_at : {A : Type 0} (xs : List A) (i j : ℕ) (x y : A) → slice_get (put_at xs i x) j ≡ Some y → ((i ≡ j) × (x ≡ y)) ⊎ ((i ≢ j) × (slice_get xs j ≡ Some y))
+slice_get-put_at [] zero zero x y at = inl (refl, cc)
+slice_get-put_at [] zero (suc j) x y at = absurd cc
+slice_get-put_at [] (suc i) j x y at = absurd cc
+slice_get-put_at (z ∷ xs) zero zero x y at = inl (refl, cc)
+slice_get-put_at (z ∷ xs) zero (suc j) x y at = inr ((λ is. absurd cc), at)
+slice_get-put_at (z ∷ xs) (suc i) zero x y at = inr ((λ is. absurd cc), at)
+slice_get-put_at (z ∷ xs) (suc i) (suc j) x y at = elim (slice_get-put_at xs i j x y at) [
+  | inl (is, same) ↦ inl (ap suc is, same)
+  | inr (other, old) ↦ inr ((λ is. other (omega (arith, is))), old)
+]
+
+-- on another level stands another place
+is_at-other : (a b : ℕ × ℕ) → a.0 - 1 ≢ b.0 - 1 → is_at (place_cmp a) b ≡ false
+is_at-other a b other = is_at-place a b ∙ by_parts (eqb_tells a.0 b.0)
+  where
+    by_parts : ((nat_eq a.0 b.0 ≡ true) × (a.0 ≡ b.0)) ⊎ ((nat_eq a.0 b.0 ≡ false) × (a.0 ≢ b.0)) → same_place a b ≡ false
+    by_parts (inl (is, same)) = absurd (other (ap (λ (n : ℕ). n - 1) same))
+    by_parts (inr (is, differ)) = rw is refl
+
+is_at-itself : (a : ℕ × ℕ) → is_at (place_cmp a) a ≡ true
+is_at-itself a = is_at-place a a ∙ by_parts (eqb_tells a.0 a.0) (eqb_tells a.1 a.1)
+  where
+    by_parts : ((nat_eq a.0 a.0 ≡ true) × (a.0 ≡ a.0)) ⊎ ((nat_eq a.0 a.0 ≡ false) × (a.0 ≢ a.0)) → ((nat_eq a.1 a.1 ≡ true) × (a.1 ≡ a.1)) ⊎ ((nat_eq a.1 a.1 ≡ false) × (a.1 ≢ a.1)) → same_place a a ≡ true
+    by_parts (inl (one, _)) (inl (two, _)) = rw (one, two) refl
+    by_parts (inr (_, other)) y = absurd (other refl)
+    by_parts x (inr (_, other)) = absurd (other refl)
+
+pub AreKept-put : {X : Type 0} (all after : BTreeMap (ℕ × ℕ) (Entry X)) (last next : List (Slot X)) (slot : Slot X) → AreKept all last → Updates place_cmp all after slot.place (Some slot.entry) → next ≡ put_at last (slot.place.0 - 1) slot → AreKept after next
+AreKept-put all after last next slot kept updates is level other at =
+    elim (slice_get-put_at last (slot.place.0 - 1) level slot other (sym (ap (λ l. slice_get l level) is) ∙ at)) [
+      | inl (here, same) ↦ subst (λ (s : Slot _). (s.place.0 - 1 ≡ level) × (get place_cmp after s.place ≡ Some s.entry)) same
+          (here, updates.0 slot.place ∙ ap (λ (b : Bool). cond b (Some slot.entry) (get place_cmp all slot.place)) (is_at-itself slot.place))
+      | inr (differ, old) ↦
+          let before = kept level other old in
+          (before.0, updates.0 other.place ∙ cond_none _ slot.entry _ (is_at-other slot.place other.place (λ is. differ (is ∙ before.0))) ∙ before.1)
+    ]
+
 -- ---- entries
 
 pub count-kept : (here : Bool) (n : ℕ) → here ≡ true → n ≡ n + cond here 0 1
@@ -83,27 +147,32 @@ module _ {X : Type 0} (numbers : X → Digest) where
   pair_seen-more xs ys pair more below = ap (λ (d : Digest). couple pair.is_right d (numbers pair.sibling.now)) (get_or-Extends xs ys pair.own more below)
 
   module _ (hash : Digest → Digest → Outcome Digest) where
-    pub AllMade-more : (xs ys us vs : List Digest) (entries : BTreeMap (ℕ × ℕ) (Entry X)) → Extends xs us → Extends ys vs → AllMade numbers hash xs ys entries → AllMade numbers hash us vs entries
-    AllMade-more xs ys us vs entries digests made all place entry at =
-        let m = all place entry at in
-        record {
-          own = Extends-below xs us entry.pair.own digests m.own;
-          hashed = Extends-below ys vs entry.digest made m.hashed;
-          is = rw (pair_seen-more xs us entry.pair digests m.own, get_or-Extends ys vs entry.digest made m.hashed) m.is;
-        }
+    IsMade-more : (xs ys us vs : List Digest) (entry : Entry X) → Extends xs us → Extends ys vs → IsMade numbers hash xs ys entry → IsMade numbers hash us vs entry
+    IsMade-more xs ys us vs entry digests made m = record {
+      own = Extends-below xs us entry.pair.own digests m.own;
+      hashed = Extends-below ys vs entry.digest made m.hashed;
+      is = rw (pair_seen-more xs us entry.pair digests m.own, get_or-Extends ys vs entry.digest made m.hashed) m.is;
+    }
+
+    pub AllMade-more : (xs ys us vs : List Digest) (entries : Entries X) → Extends xs us → Extends ys vs → AllMade numbers hash xs ys entries → AllMade numbers hash us vs entries
+    AllMade-more xs ys us vs entries digests made before =
+        record { kept = before.kept; all = λ place entry at. IsMade-more xs ys us vs entry digests made (before.all place entry at) }
 
     -- a digest that was made last, of a pair that was hashed
     pub made-answer : (ys vs : List Digest) (given : Digest × Digest) (y : Digest) (number : ℕ) → hash given.0 given.1 ≡ Ok y → vs ≡ ys ++ y ∷ [] → number ≡ length ys → hash given.0 given.1 ≡ Ok (get_or vs number [])
     made-answer ys vs given y number hashed is last = hashed ∙ ap Ok (sym (ap (λ (n : ℕ). get_or vs n []) last ∙ get_or-last ys vs y is))
 
     -- a made pair is kept
-    pub AllMade-kept : (xs us ys vs : List Digest) (entries after : BTreeMap (ℕ × ℕ) (Entry X)) (place : ℕ × ℕ) (pair : Pair X) (y : Digest) (number : ℕ) → AllMade numbers hash xs ys entries → Extends xs us → pair.own < length xs
-        → hash (pair_seen numbers xs pair).0 (pair_seen numbers xs pair).1 ≡ Ok y → vs ≡ ys ++ y ∷ [] → number ≡ length ys → Updates place_cmp entries after place (Some (record { pair = pair; digest = number })) → AllMade numbers hash us vs after
-    AllMade-kept xs us ys vs entries after place pair y number all digests own hashed is last updates q entry at =
-        elim (cond_cases (is_at (place_cmp place) q) new entry (get place_cmp entries q) (sym (updates.0 q) ∙ at)) [
-          | inl old ↦ AllMade-more xs ys us vs entries digests (y ∷ [], is) all q entry old
-          | inr same ↦ subst (IsMade numbers hash us vs) same fresh
-        ]
+    pub AllMade-kept : (xs us ys vs : List Digest) (entries after : Entries X) (place : ℕ × ℕ) (pair : Pair X) (y : Digest) (number : ℕ) → AllMade numbers hash xs ys entries → Extends xs us → pair.own < length xs
+        → hash (pair_seen numbers xs pair).0 (pair_seen numbers xs pair).1 ≡ Ok y → vs ≡ ys ++ y ∷ [] → number ≡ length ys → AreKept after.all after.last.items → Updates place_cmp entries.all after.all place (Some (record { pair = pair; digest = number })) → AllMade numbers hash us vs after
+    AllMade-kept xs us ys vs entries after place pair y number before digests own hashed is last kept updates = record {
+      kept = kept;
+      all = λ q entry at.
+          elim (cond_cases (is_at (place_cmp place) q) new entry (get place_cmp entries.all q) (sym (updates.0 q) ∙ at)) [
+            | inl old ↦ IsMade-more xs ys us vs entry digests (y ∷ [], is) (before.all q entry old)
+            | inr same ↦ subst (IsMade numbers hash us vs) same fresh
+          ];
+    }
       where
         new : Entry X
         new = record { pair = pair; digest = number }
@@ -163,9 +232,9 @@ module _ {X : Type 0} (numbers : X → Digest) where
 
   -- ---- the same, of other digests or another test
 
-  pub HoldsPlaces-more : (hash : Digest → Digest → Outcome Digest) (xs us ys : List Digest) (pairs : ℕ × ℕ → Digest × Digest) (asked : ℕ × ℕ → Bool) (entries : BTreeMap (ℕ × ℕ) (Entry X)) → Extends xs us → AllMade numbers hash xs ys entries → HoldsPlaces numbers xs pairs asked entries → HoldsPlaces numbers us pairs asked entries
-  HoldsPlaces-more hash xs us ys pairs asked entries digests all holds =
-      record { at = holds.at; pair = λ place entry at. pair_seen-more xs us entry.pair digests (all place entry at).own ∙ holds.pair place entry at }
+  pub HoldsPlaces-more : (hash : Digest → Digest → Outcome Digest) (xs us ys : List Digest) (pairs : ℕ × ℕ → Digest × Digest) (asked : ℕ × ℕ → Bool) (entries : Entries X) → Extends xs us → AllMade numbers hash xs ys entries → HoldsPlaces numbers xs pairs asked entries.all → HoldsPlaces numbers us pairs asked entries.all
+  HoldsPlaces-more hash xs us ys pairs asked entries digests made holds =
+      record { at = holds.at; pair = λ place entry at. pair_seen-more xs us entry.pair digests (made.all place entry at).own ∙ holds.pair place entry at }
 
   pub HoldsPlaces-same : (xs : List Digest) (pairs : ℕ × ℕ → Digest × Digest) (asked others : ℕ × ℕ → Bool) (entries : BTreeMap (ℕ × ℕ) (Entry X)) → ((place : ℕ × ℕ) → asked place ≡ others place) → HoldsPlaces numbers xs pairs asked entries → HoldsPlaces numbers xs pairs others entries
   HoldsPlaces-same xs pairs asked others entries same holds = record { at = λ place. holds.at place ∙ same place; pair = holds.pair }

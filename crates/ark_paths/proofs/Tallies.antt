@@ -136,8 +136,8 @@ module _ {L D : Type 0} (leaf : L → Digest) (inner : D → Digest) where
   HoldsTree-any : (pairs : ℕ × ℕ → Digest × Digest) (above i j : ℕ) (seen : List ℕ) (table : Table L D) → HoldsTree leaf inner pairs above 0 i seen table → HoldsTree leaf inner pairs above 0 j seen table
   HoldsTree-any pairs above i j seen table holds =
       record {
-        lowest = HoldsPlaces-same leaf _ pairs _ _ table.lowest (same (λ l. nat_eq l 0)) holds.lowest;
-        upper = HoldsPlaces-same inner _ pairs _ _ table.upper (same (λ l. nat_lt 0 l && nat_lt l (suc above))) holds.upper;
+        lowest = HoldsPlaces-same leaf _ pairs _ _ table.lowest.all (same (λ l. nat_eq l 0)) holds.lowest;
+        upper = HoldsPlaces-same inner _ pairs _ _ table.upper.all (same (λ l. nat_lt 0 l && nat_lt l (suc above))) holds.upper;
       }
     where
       same : (picks : ℕ → Bool) (place : ℕ × ℕ) → places_above picks 0 i seen place ≡ places_above picks 0 j seen place

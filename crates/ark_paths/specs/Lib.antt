@@ -16,5 +16,6 @@ pub mod Leaves
 pub mod Rising
 pub mod Above
 pub mod Asked
+pub mod Kept
 pub mod Table
 pub mod Laws

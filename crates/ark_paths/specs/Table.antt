@@ -4,23 +4,16 @@ use Rattle.std.specs.Prelude.{◌≡◌, ◌==◌, ◌&&◌, ◌||◌, ℕ, suc,
 use Rattle.std.specs.BTreeMap.{BTreeMap, get}
 use Rattle.std.specs.List.{list_any}
 use Rattle.std.specs.Option.{is_some}
-use Rattle.std.specs.Ordering.{nat_cmp, ordering_then}
-use Rattle.std.specs.declared.cmp.Ordering.{Ordering}
 use Rattle.ark_base.specs.Outcome.{Outcome}
 use Rattle.ark_paths.specs.Bind.{couple, halves, path_pair}
+use Rattle.ark_paths.specs.Kept.{place_cmp, same_place, AreKept}
 use Rattle.ark_paths.specs.Pair.{Digest, HashPair}
 use Rattle.ark_paths.specs.Path.{Way}
 use Rattle.ark_paths.specs.Rows.{part}
+use Rattle.ark_paths.specs.declared.multi_path.table.Entries.{Entries}
 use Rattle.ark_paths.specs.declared.multi_path.table.Entry.{Entry}
 use Rattle.ark_paths.specs.declared.multi_path.table.Pair.{Pair}
 use Rattle.ark_paths.specs.declared.multi_path.table.Table.{Table}
-
--- places in the order of level and number
-abbrev pub place_cmp : ℕ × ℕ → ℕ × ℕ → Ordering
-place_cmp a b = ordering_then (nat_cmp a.0 b.0) (nat_cmp a.1 b.1)
-
-abbrev pub same_place : ℕ × ℕ → ℕ × ℕ → Bool
-same_place a b = (a.0 == b.0) && (a.1 == b.1)
 
 -- ---- entries
 
@@ -36,10 +29,12 @@ pub record IsMade {X : Type 0} (numbers : X → Digest) (hash : Digest → Diges
   pub is : hash (pair_seen numbers digests entry.pair).0 (pair_seen numbers digests entry.pair).1
       ≡ Ok (get_or made entry.digest [])
 
-abbrev pub AllMade : {X : Type 0} → (X → Digest) → (Digest → Digest → Outcome Digest) → List Digest → List Digest
-    → BTreeMap (ℕ × ℕ) (Entry X) → Type 0
-AllMade {X} numbers hash digests made entries = (place : ℕ × ℕ) (entry : Entry X)
-    → get place_cmp entries place ≡ Some entry → IsMade numbers hash digests made entry
+-- all entries are made, and those at hand are kept
+pub record AllMade {X : Type 0} (numbers : X → Digest) (hash : Digest → Digest → Outcome Digest)
+    (digests made : List Digest) (entries : Entries X) : Type 0 where
+  pub kept : AreKept entries.all entries.last.items
+  pub all : (place : ℕ × ℕ) (entry : Entry X) → get place_cmp entries.all place ≡ Some entry
+      → IsMade numbers hash digests made entry
 
 -- the second list begins with the first
 abbrev pub Extends : List Digest → List Digest → Type 0
@@ -78,9 +73,9 @@ places_above picks level index seen place =
 pub record HoldsTree {L D : Type 0} (leaf : L → Digest) (inner : D → Digest) (pairs : ℕ × ℕ → Digest × Digest)
     (above level index : ℕ) (seen : List ℕ) (table : Table L D) : Type 0 where
   pub lowest : HoldsPlaces leaf (map leaf table.leaves.items) pairs
-      (places_above (λ l. l == 0) level index seen) table.lowest
+      (places_above (λ l. l == 0) level index seen) table.lowest.all
   pub upper : HoldsPlaces inner (map inner table.made.items) pairs
-      (places_above (λ l. nat_lt 0 l && nat_lt l (suc above)) level index seen) table.upper
+      (places_above (λ l. nat_lt 0 l && nat_lt l (suc above)) level index seen) table.upper.all
 
 -- the tree's pair at a place
 abbrev pub pair_at : HashPair → List Digest → ℕ × ℕ → Digest × Digest

@@ -2,14 +2,15 @@
 
 ghost use Rattle.std.specs.Bool.{Decides};
 ghost use Rattle.std.specs.BTreeMap.{get, Updates};
-ghost use Rattle.std.specs.Prelude.{◌≡◌, ◌≢◌, ◌+◌, ◌-◌, ◌<◌, ◌≤◌, ◌++◌, ◌∷◌, ℕ, Bool, List, [], length, map, get_or, cond, IfOk, IsOkUnless, MatchOption, OnOk, Some};
+ghost use Rattle.std.specs.Prelude.{◌≡◌, ◌≢◌, ◌+◌, ◌-◌, ◌<◌, ◌≤◌, ◌++◌, ◌∷◌, ℕ, Bool, List, [], length, map, get_or, cond, IfOk, IsOkUnless, MatchOption, None, OnOk, Some};
 ghost use Rattle.ark_base.specs.declared.error.Error.TheVariants.{OutOfMemory};
 ghost use Rattle.ark_base.specs.Outcome.{AnswersBy};
 ghost use Rattle.ark_paths.specs.Asked.{RisesBy};
 ghost use Rattle.ark_paths.specs.Bind.{couple};
+ghost use Rattle.ark_paths.specs.Kept.{place_cmp, put_at, AreKept};
 ghost use Rattle.ark_paths.specs.declared.multi_path.table.Entry.{Entry as OfEntry};
 ghost use Rattle.ark_paths.specs.Pair.{Digest, HashPair};
-ghost use Rattle.ark_paths.specs.Table.{place_cmp, pair_seen, AllMade, Extends, HoldsPlaces, HoldsTree, IsTable, with_place};
+ghost use Rattle.ark_paths.specs.Table.{pair_seen, AllMade, Extends, HoldsPlaces, HoldsTree, IsTable, with_place};
 
 use crate::config::Config;
 use crate::multi_path::hasher::PairHasher;
@@ -36,10 +37,21 @@ pub struct Entry<'a, X> {
     pub digest: usize,
 }
 
-/// Places by their level, counted from the lowest pairs, and their number on it, with a pair that was hashed there.
-///
-/// The keys are ordered and not scattered by a hash, so that no proof can be made whose places take long to find.
-pub type Entries<'a, X> = BTreeMap<(usize, usize), Entry<'a, X>, Global>;
+/// An entry with its place: a level, counted from the lowest pairs, and a number on it.
+#[derive(Drop)]
+pub struct Slot<'a, X> {
+    pub place: (usize, usize),
+    pub entry: Entry<'a, X>,
+}
+
+/// The places where pairs were hashed, each with the last pair there.
+#[derive(Drop)]
+pub struct Entries<'a, X> {
+    /// The keys are ordered and not scattered by a hash, so that no proof can be made whose places take long to find.
+    pub all: BTreeMap<(usize, usize), Entry<'a, X>, Global>,
+    /// For each level the entry that came last: that of the path before, which shares most of its places with the next one.
+    pub last: Vec<Slot<'a, X>>,
+}
 
 /// The digests that were computed, each once, and the pairs that gave them.
 #[derive(Drop)]
@@ -61,8 +73,21 @@ impl<'a, L: DigestItem, D: DigestItem> Table<'a, L, D> {
         Table {
             leaves: Vec::new(alloc),
             made: Vec::new(alloc),
-            lowest: BTreeMap::new(alloc),
-            upper: BTreeMap::new(alloc),
+            lowest: Entries::new(alloc),
+            upper: Entries::new(alloc),
+        }
+    }
+}
+
+impl<'a, X> Entries<'a, X> {
+    /// No entries. It takes no memory.
+    pub fn new(alloc: Global) -> Entries<'a, X>
+        ensures all { (place : ℕ × ℕ) → get place_cmp result.all place ≡ None }
+        ensures last { result.last.items ≡ [] }
+    {
+        Entries {
+            all: BTreeMap::new(alloc),
+            last: Vec::new(alloc),
         }
     }
 }
@@ -94,6 +119,20 @@ fn is_same<X: DigestItem>(digests: &[X], one: &Pair<X>, other: &Pair<X>) -> bool
     }
 }
 
+// The entry at a place.
+fn found<'b, X>(entries: &'b Entries<X>, place: (usize, usize)) -> Option<&'b Entry<'b, X>>
+    requires { AreKept entries.now.all entries.now.last.items }
+    ensures { let kept = get place_cmp entries.now.all place in
+        MatchOption result (kept ≡ None) (λ entry. kept ≡ Some entry.now) }
+{
+    if let Some(slot) = entries.last.get(place.0.saturating_sub(1)) {
+        if slot.place == place {
+            return Some(&slot.entry);
+        }
+    }
+    entries.all.get(&place)
+}
+
 // The number of the digest that this pair gave at this place, if it is the one that is kept there.
 fn find<X: DigestItem>(
     digests: &[X],
@@ -101,22 +140,36 @@ fn find<X: DigestItem>(
     place: (usize, usize),
     pair: &Pair<X>,
 ) -> Option<usize>
-    requires kept { (place : ℕ × ℕ) (entry : OfEntry X)
-        → get place_cmp entries.now place ≡ Some entry → entry.pair.own < length digests.now }
+    requires kept { AreKept entries.now.all entries.now.last.items }
+    requires entries { (place : ℕ × ℕ) (entry : OfEntry X)
+        → get place_cmp entries.now.all place ≡ Some entry → entry.pair.own < length digests.now }
     requires own { pair.now.own < length digests.now }
     ensures { let seen = pair_seen X.numbers (map X.numbers digests.now) in
-        let kept = get place_cmp entries.now place in
+        let kept = get place_cmp entries.now.all place in
         MatchOption result
         ((entry : OfEntry X) → kept ≡ Some entry → seen entry.pair ≢ seen pair.now)
         (λ number. (entry : OfEntry X) × (kept ≡ Some entry) × (number ≡ entry.digest)
         × (seen entry.pair ≡ seen pair.now)) }
 {
-    let entry = entries.get(&place)?;
+    let entry = found(entries, place)?;
     if is_same(digests, &entry.pair, pair) {
         Some(entry.digest)
     } else {
         None
     }
+}
+
+// Puts an item at a place inside a list or just past its end. A list that ends before is left as it is.
+fn put<X: Drop>(items: &mut Vec<X>, place: usize, item: X) -> Result<(), Error>
+    ensures items { OnOk result (items.new.items ≡ put_at items.old.items place item) }
+    ensures memory { IsOkUnless result OutOfMemory }
+{
+    if place < items.len() {
+        items[place] = item;
+    } else if place == items.len() {
+        items.push(item)?;
+    }
+    Ok(())
 }
 
 // Keeps a digest, and at its place the pair that gave it.
@@ -127,22 +180,38 @@ fn keep<'a, X, D: DigestItem>(
     pair: Pair<'a, X>,
     digest: D,
 ) -> Result<usize, Error>
+    requires { AreKept entries.old.all entries.old.last.items }
     ensures made { let numbers = map D.numbers in
         OnOk result (numbers made.new.items ≡ numbers made.old.items ++ D.numbers digest ∷ []) }
     ensures number { IfOk result (λ number. number ≡ length made.old.items) }
     ensures entries { IfOk result (λ number.
         let entry : OfEntry X = record { pair = pair.entry; digest = number } in
-        Updates place_cmp entries.old entries.new place (Some entry)) }
+        Updates place_cmp entries.old.all entries.new.all place (Some entry)) }
+    ensures kept { OnOk result (AreKept entries.new.all entries.new.last.items) }
     ensures memory { IsOkUnless result OutOfMemory }
 {
     let number = made.len();
     made.push(digest)?;
-    entries.insert(
+    let again = Pair {
+        is_right: pair.is_right,
+        own: pair.own,
+        sibling: pair.sibling,
+    };
+    entries.all.insert(
         place,
         Entry {
-            pair,
+            pair: again,
             digest: number,
         },
+    )?;
+    let entry = Entry {
+        pair,
+        digest: number,
+    };
+    put(
+        &mut entries.last,
+        place.0.saturating_sub(1),
+        Slot { place, entry },
     )?;
     Ok(number)
 }
@@ -174,9 +243,9 @@ pub fn ask_lowest<'a, P: Config, T: PairHasher<P>>(
         OnOk result (AllMade P.LeafDigest.numbers hash digests all entries.new) }
     ensures holds { let digests = map P.LeafDigest.numbers leaves.now in
         OnOk result ((pairs : ℕ × ℕ → Digest × Digest) (asked : ℕ × ℕ → Bool)
-        → HoldsPlaces P.LeafDigest.numbers digests pairs asked entries.old
+        → HoldsPlaces P.LeafDigest.numbers digests pairs asked entries.old.all
         → pair_seen P.LeafDigest.numbers digests pair.entry ≡ pairs place
-        → HoldsPlaces P.LeafDigest.numbers digests pairs (with_place place asked) entries.new
+        → HoldsPlaces P.LeafDigest.numbers digests pairs (with_place place asked) entries.new.all
         × (length made.new.items ≡ length made.old.items + cond (asked place) 0 1)) }
     ensures same { T.pair hasher.new ≡ T.pair hasher.old }
     ensures rises { let more = length made.new.items - length made.old.items in
@@ -218,9 +287,9 @@ pub fn ask_upper<'a, P: Config, T: PairHasher<P>>(
     ensures holds { let old = map P.InnerDigest.numbers made.old.items in
         let new = map P.InnerDigest.numbers made.new.items in
         OnOk result ((pairs : ℕ × ℕ → Digest × Digest) (asked : ℕ × ℕ → Bool)
-        → HoldsPlaces P.InnerDigest.numbers old pairs asked entries.old
+        → HoldsPlaces P.InnerDigest.numbers old pairs asked entries.old.all
         → pair_seen P.InnerDigest.numbers old pair.entry ≡ pairs place
-        → HoldsPlaces P.InnerDigest.numbers new pairs (with_place place asked) entries.new
+        → HoldsPlaces P.InnerDigest.numbers new pairs (with_place place asked) entries.new.all
         × (length made.new.items ≡ length made.old.items + cond (asked place) 0 1)) }
     ensures same { T.pair hasher.new ≡ T.pair hasher.old }
     ensures rises { let more = length made.new.items - length made.old.items in
