@@ -113,7 +113,7 @@ fn is_same<X: DigestItem>(digests: &[X], one: &Pair<X>, other: &Pair<X>) -> bool
 {
     let (left, right) = (&digests[one.own], &digests[other.own]);
     if one.is_right == other.is_right {
-        *left == *right && *one.sibling == *other.sibling
+        (one.own == other.own || *left == *right) && *one.sibling == *other.sibling
     } else {
         *left == *other.sibling && *one.sibling == *right
     }
