@@ -1,4 +1,4 @@
-use Rattle.std.proofs.Common.{◌+◌, ◌-◌, length, ap, ◌∙◌, refl}
+use Rattle.std.proofs.Common.{◌+◌, ◌-◌, length, ◌∙◌, refl}
 use Rattle.ark_base.proofs.Refusals.{passed_on}
 use Rattle.ark_paths.proofs.Climbs.{so_far-up, so_far-refused}
 use Rattle.ark_paths.proofs.path.climb.Goals as goal
