@@ -3,13 +3,11 @@
 ghost use Rattle.std.specs.Prelude.{◌↔◌, ◌<◌, IsTrue};
 ghost use Rattle.std.specs.List.{All};
 
-use crate::paths::digests_of;
-use crate::samples::proof_of;
+use crate::samples::{proof_of, tree_over};
 use crate::toy::Toy;
 use ark_base::error::Error;
-use ark_base::serialize::Duplicate;
 use ark_groups::ff::{Fp, PrimeField};
-use ark_merkle::{Config, LeafParam, MerkleTree, TwoToOneParam, is_tree_size};
+use ark_merkle::{Config, LeafParam, MerkleTree, TwoToOneParam};
 use std::alloc::Global;
 use std::collections::BTreeSet;
 
@@ -32,7 +30,18 @@ fn counted_in<P: Config>(
     tree.update_many_counting(alloc, changes)
 }
 
-// How many pairs changes of the tree of these leaves have hashed, and whether the root is then this one.
+// How many pairs the changes of a tree have hashed, and whether the root is then this one.
+fn counted_to<P: Config>(
+    alloc: Global,
+    tree: &mut MerkleTree<P>,
+    changes: &[(usize, P::Leaf)],
+    root: &P::InnerDigest,
+) -> Result<(usize, bool), Error> {
+    let count = counted_in(alloc, tree, changes)?;
+    Ok((count, *tree.root() == *root))
+}
+
+// The same of the tree of these leaves.
 fn counted<P: Config>(
     alloc: Global,
     leaf_parameters: &LeafParam<P>,
@@ -41,12 +50,8 @@ fn counted<P: Config>(
     changes: &[(usize, P::Leaf)],
     root: &P::InnerDigest,
 ) -> Result<(usize, bool), Error> {
-    if !is_tree_size(leaves.len()) {
-        return Err(Error::IncorrectInputLength(leaves.len()));
-    }
-    let mut tree = MerkleTree::<P>::new(alloc, leaf_parameters, pair_parameters, leaves)?;
-    let count = counted_in(alloc, &mut tree, changes)?;
-    Ok((count, *tree.root() == *root))
+    let mut tree = tree_over::<P>(alloc, leaf_parameters, pair_parameters, leaves)?;
+    counted_to(alloc, &mut tree, changes, root)
 }
 
 // Leaves, changes of them, how many pairs these have hashed, and the root. Of repeated changes the last counts, and a place above
@@ -84,7 +89,31 @@ fn each_place_above_the_changes_is_hashed_once(rt: HostRuntime) {
     }
 }
 
-// Whether a tree has the root and the paths of a new tree of these leaves' digests.
+// Whether two trees have the same path at an index.
+fn have_same_path<P: Config>(
+    alloc: Global,
+    one: &MerkleTree<P>,
+    other: &MerkleTree<P>,
+    index: usize,
+) -> Result<bool, Error> {
+    Ok(proof_of(alloc, one, index)? == proof_of(alloc, other, index)?)
+}
+
+// Whether two trees have the same root and the same paths.
+fn are_same<P: Config>(
+    alloc: Global,
+    one: &MerkleTree<P>,
+    other: &MerkleTree<P>,
+) -> Result<bool, Error> {
+    for index in 0..one.size() {
+        if !have_same_path(alloc, one, other, index)? {
+            return Ok(false);
+        }
+    }
+    Ok(*one.root() == *other.root())
+}
+
+// Whether a tree is a new tree of these leaves.
 fn is_of_leaves<P: Config>(
     alloc: Global,
     leaf_parameters: &LeafParam<P>,
@@ -92,77 +121,118 @@ fn is_of_leaves<P: Config>(
     tree: &MerkleTree<P>,
     leaves: &[P::Leaf],
 ) -> Result<bool, Error> {
-    let digests = digests_of::<P::LeafHash>(alloc, leaf_parameters, leaves)?;
-    if !is_tree_size(digests.len()) {
-        return Err(Error::IncorrectInputLength(digests.len()));
+    let new = tree_over::<P>(alloc, leaf_parameters, pair_parameters, leaves)?;
+    are_same(alloc, tree, &new)
+}
+
+// The leaves 1, 2 and so on.
+fn numbers(alloc: Global, size: u64) -> Result<Vec<u64>, Error> {
+    let mut leaves = Vec::new(alloc);
+    for leaf in 0..size {
+        leaves.push(leaf + 1)?;
     }
-    let new = MerkleTree::<P>::new_with_leaf_digest(
+    Ok(leaves)
+}
+
+fn put(leaves: &mut [u64], index: usize, leaf: u64) {
+    if let Some(place) = leaves.get_mut(index) {
+        *place = leaf;
+    }
+}
+
+// Changes a tree and the list of its leaves one by one. Tells whether each step is the tree of the leaves then.
+fn change_in_turn<P: Config<Leaf = u64>>(
+    alloc: Global,
+    leaf_parameters: &LeafParam<P>,
+    pair_parameters: &TwoToOneParam<P>,
+    tree: &mut MerkleTree<P>,
+    leaves: &mut [u64],
+    changes: &[(usize, u64)],
+) -> Result<bool, Error> {
+    let mut alike = true;
+    for (index, leaf) in changes {
+        if *index < tree.size() {
+            tree.update(alloc, *index, leaf)?;
+        }
+        put(leaves, *index, *leaf);
+        alike &= is_of_leaves(alloc, leaf_parameters, pair_parameters, tree, leaves)?;
+    }
+    Ok(alike)
+}
+
+// The same of the tree of the leaves 1, 2 and so on.
+fn one_by_one<P: Config<Leaf = u64>>(
+    alloc: Global,
+    leaf_parameters: &LeafParam<P>,
+    pair_parameters: &TwoToOneParam<P>,
+    size: u64,
+    changes: &[(usize, u64)],
+) -> Result<bool, Error> {
+    let mut leaves = numbers(alloc, size)?;
+    let mut tree = tree_over::<P>(alloc, leaf_parameters, pair_parameters, &leaves)?;
+    change_in_turn(
         alloc,
         leaf_parameters,
         pair_parameters,
-        digests,
-    )?;
-    for index in 0..leaves.len() {
-        if proof_of(alloc, tree, index)? != proof_of(alloc, &new, index)? {
-            return Ok(false);
-        }
-    }
-    Ok(tree.root() == new.root())
+        &mut tree,
+        &mut leaves,
+        changes,
+    )
 }
 
-// Makes changes of the tree of the leaves 1, 2 and so on: one by one in a tree, and at once in its copy. Tells whether each step
-// and the copy are the trees of the leaves then, and how many pairs the copy has hashed.
-fn go_alike<P: Config<Leaf = u64>>(
+// Changes a tree at once. Tells whether it is then the tree of these leaves, and how many pairs it has hashed.
+fn change_at_once<P: Config<Leaf = u64>>(
+    alloc: Global,
+    leaf_parameters: &LeafParam<P>,
+    pair_parameters: &TwoToOneParam<P>,
+    tree: &mut MerkleTree<P>,
+    leaves: &[u64],
+    changes: &[(usize, u64)],
+) -> Result<(bool, usize), Error> {
+    let count = counted_in(alloc, tree, changes)?;
+    let alike = is_of_leaves(alloc, leaf_parameters, pair_parameters, tree, leaves)?;
+    Ok((alike, count))
+}
+
+// The same of the tree of the leaves 1, 2 and so on.
+fn at_once<P: Config<Leaf = u64>>(
     alloc: Global,
     leaf_parameters: &LeafParam<P>,
     pair_parameters: &TwoToOneParam<P>,
     size: u64,
     changes: &[(usize, u64)],
 ) -> Result<(bool, usize), Error> {
-    let mut leaves = Vec::new(alloc);
-    for leaf in 0..size {
-        leaves.push(leaf + 1)?;
-    }
-    if !is_tree_size(leaves.len()) {
-        return Err(Error::IncorrectInputLength(leaves.len()));
-    }
-    let mut tree = MerkleTree::<P>::new(alloc, leaf_parameters, pair_parameters, &leaves)?;
-    let mut copy = tree.duplicate(alloc)?;
-    let mut alike = true;
+    let mut leaves = numbers(alloc, size)?;
+    let mut tree = tree_over::<P>(alloc, leaf_parameters, pair_parameters, &leaves)?;
     for (index, leaf) in changes {
-        if *index < tree.size() {
-            tree.update(alloc, *index, leaf)?;
-        }
-        if let Some(place) = leaves.get_mut(*index) {
-            *place = *leaf;
-        }
-        alike &= is_of_leaves(alloc, leaf_parameters, pair_parameters, &tree, &leaves)?;
+        put(&mut leaves, *index, *leaf);
     }
-    let count = counted_in(alloc, &mut copy, changes)?;
-    alike &= is_of_leaves(alloc, leaf_parameters, pair_parameters, &copy, &leaves)?;
-    Ok((alike, count))
+    change_at_once(
+        alloc,
+        leaf_parameters,
+        pair_parameters,
+        &mut tree,
+        &leaves,
+        changes,
+    )
 }
 
 #[test]
 fn changes_go_alike_one_by_one_and_at_once(rt: HostRuntime) {
     let changes = [(2, 200), (3, 200), (5, 200), (111, 200), (127, 200)];
     assert_eq!(rt;
-        go_alike::<Toy>(rt.alloc(), &(), &(), 128, &changes),
+        one_by_one::<Toy>(rt.alloc(), &(), &(), 128, &changes),
+        Ok(true)
+    );
+    assert_eq!(rt;
+        at_once::<Toy>(rt.alloc(), &(), &(), 128, &changes),
         Ok((true, 19))
     );
 }
 
-// Whether so many changes, which a linear generator draws, go alike, and have hashed a pair for each place above them: a place is
-// a level and the index divided.
-fn drawn_go_alike<P: Config<Leaf = u64>>(
-    alloc: Global,
-    leaf_parameters: &LeafParam<P>,
-    pair_parameters: &TwoToOneParam<P>,
-    size: u64,
-    count: u64,
-) -> Result<(bool, bool), Error> {
+// As many changes as a linear generator draws.
+fn drawn(alloc: Global, size: u64, count: u64) -> Result<Vec<(usize, u64)>, Error> {
     let mut changes = Vec::new(alloc);
-    let mut places = BTreeSet::new(alloc);
     let mut state: u64 = count;
     for _ in 0..count {
         state = state
@@ -170,14 +240,37 @@ fn drawn_go_alike<P: Config<Leaf = u64>>(
             .wrapping_add(1_442_695_040_888_963_407);
         let index = (state >> 33).checked_rem(size).unwrap_or(0);
         changes.push((index as usize, state >> 48))?;
+    }
+    Ok(changes)
+}
+
+// How many places stand above the changes in a tree of so many leaves, at most 64, by keeping each once: a place is a level and the
+// index divided.
+fn places_above(alloc: Global, size: u64, changes: &[(usize, u64)]) -> Result<usize, Error> {
+    let mut places = BTreeSet::new(alloc);
+    for (index, _) in changes {
         for level in 1..7u32 {
             if size >> level != 0 {
-                places.insert((level, index >> level))?;
+                places.insert((level, *index >> level))?;
             }
         }
     }
-    let (alike, hashed) = go_alike::<P>(alloc, leaf_parameters, pair_parameters, size, &changes)?;
-    Ok((alike, hashed == places.len()))
+    Ok(places.len())
+}
+
+// Whether drawn changes go alike one by one and at once, and hash a pair for each place above them.
+fn drawn_go_alike<P: Config<Leaf = u64>>(
+    alloc: Global,
+    leaf_parameters: &LeafParam<P>,
+    pair_parameters: &TwoToOneParam<P>,
+    size: u64,
+    count: u64,
+) -> Result<bool, Error> {
+    let changes = drawn(alloc, size, count)?;
+    let places = places_above(alloc, size, &changes)?;
+    let alike = one_by_one::<P>(alloc, leaf_parameters, pair_parameters, size, &changes)?;
+    let answer = at_once::<P>(alloc, leaf_parameters, pair_parameters, size, &changes)?;
+    Ok(alike && answer == (true, places))
 }
 
 #[test]
@@ -186,7 +279,7 @@ fn drawn_changes_go_alike(rt: HostRuntime) {
         let size = 2 << count % 6;
         assert_eq!(rt;
             drawn_go_alike::<Toy>(rt.alloc(), &(), &(), size, count),
-            Ok((true, true)),
+            Ok(true),
             "{count} of {size}"
         );
     }

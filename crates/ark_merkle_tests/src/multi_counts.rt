@@ -3,12 +3,12 @@
 ghost use Rattle.std.specs.Prelude.{◌≡◌};
 ghost use Rattle.ark_merkle_tests.specs.Toy.{weighted, weighted_sum};
 
-use crate::samples::{Sha, leaves_of, multi_proof_of};
+use crate::samples::{Sha, leaves_of, multi_proof_of, tree_over};
 use crate::toy::Toy;
 use ark_base::error::Error;
 use ark_groups::ff::{Fp, M257, PrimeField};
 use ark_merkle::multi_path::hasher::PairHasher;
-use ark_merkle::{Config, LeafParam, MerkleTree, MultiPath, TwoToOneParam, is_tree_size};
+use ark_merkle::{Config, LeafParam, MerkleTree, MultiPath, TwoToOneParam};
 use rand::rngs::SmallRng;
 use rand::{Rng, RngExt, SeedableRng};
 use std::alloc::Global;
@@ -92,7 +92,46 @@ fn leaves_at<'a, L>(
     Ok(found)
 }
 
-// What the check of a tree's own multi-proof of these indexes answers.
+// What the check of a multi-proof with its leaves answers.
+fn counted<P: Config>(
+    alloc: Global,
+    leaf_parameters: &LeafParam<P>,
+    pair_parameters: &TwoToOneParam<P>,
+    root: &P::InnerDigest,
+    proof: &MultiPath<P>,
+    leaves: &[P::Leaf],
+) -> Result<(bool, usize), Error> {
+    let asked = leaves_at(alloc, leaves, &proof.leaf_indexes)?;
+    proof.verify_counting(
+        alloc,
+        leaf_parameters,
+        pair_parameters,
+        root,
+        asked.iter().copied(),
+    )
+}
+
+// What it answers of a tree's own multi-proof of these indexes.
+fn counted_in<P: Config>(
+    alloc: Global,
+    leaf_parameters: &LeafParam<P>,
+    pair_parameters: &TwoToOneParam<P>,
+    tree: &MerkleTree<P>,
+    leaves: &[P::Leaf],
+    indexes: &[usize],
+) -> Result<(bool, usize), Error> {
+    let proof = multi_proof_of(alloc, tree, indexes)?;
+    counted(
+        alloc,
+        leaf_parameters,
+        pair_parameters,
+        tree.root(),
+        &proof,
+        leaves,
+    )
+}
+
+// The same of the tree of these leaves.
 fn own<P: Config>(
     alloc: Global,
     leaf_parameters: &LeafParam<P>,
@@ -100,18 +139,14 @@ fn own<P: Config>(
     leaves: &[P::Leaf],
     indexes: &[usize],
 ) -> Result<(bool, usize), Error> {
-    if !is_tree_size(leaves.len()) {
-        return Err(Error::IncorrectInputLength(leaves.len()));
-    }
-    let tree = MerkleTree::<P>::new(alloc, leaf_parameters, pair_parameters, leaves)?;
-    let proof = multi_proof_of(alloc, &tree, indexes)?;
-    let asked = leaves_at(alloc, leaves, &proof.leaf_indexes)?;
-    proof.verify_counting(
+    let tree = tree_over::<P>(alloc, leaf_parameters, pair_parameters, leaves)?;
+    counted_in(
         alloc,
         leaf_parameters,
         pair_parameters,
-        tree.root(),
-        asked.iter().copied(),
+        &tree,
+        leaves,
+        indexes,
     )
 }
 

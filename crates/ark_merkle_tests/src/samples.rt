@@ -41,6 +41,19 @@ pub fn leaves_of(alloc: Global, bytes: &[u8]) -> Result<Vec<Vec<u8>>, Error> {
     Ok(leaves)
 }
 
+/// The tree of these leaves.
+pub fn tree_over<P: Config>(
+    alloc: Global,
+    leaf_parameters: &LeafParam<P>,
+    pair_parameters: &TwoToOneParam<P>,
+    leaves: &[P::Leaf],
+) -> Result<MerkleTree<P>, Error> {
+    if !is_tree_size(leaves.len()) {
+        return Err(Error::IncorrectInputLength(leaves.len()));
+    }
+    MerkleTree::<P>::new(alloc, leaf_parameters, pair_parameters, leaves)
+}
+
 /// The digest with these canonical bytes, their count before them.
 pub fn digest_of<D: DigestItem>(alloc: Global, bytes: &[u8]) -> Result<D, Error> {
     let spelled = canonical_bytes(alloc, &bytes)?;
@@ -83,10 +96,7 @@ pub fn asked<P: Config<Leaf = Vec<u8>>, Q: Question>(
     question: &Q,
 ) -> Result<(bool, bool), Error> {
     let leaves = leaves_of(alloc, bytes)?;
-    if !is_tree_size(leaves.len()) {
-        return Err(Error::IncorrectInputLength(leaves.len()));
-    }
-    let tree = MerkleTree::<P>::new(alloc, leaf_parameters, pair_parameters, &leaves)?;
+    let tree = tree_over::<P>(alloc, leaf_parameters, pair_parameters, &leaves)?;
     asked_of(
         alloc,
         leaf_parameters,
