@@ -1,7 +1,7 @@
 -- Several changes of leaves, as lists.
-use Rattle.std.proofs.Common.{zero, suc, ◌≡◌, ◌≢◌, ℕ, ◌+◌, ◌<◌, ◌≤◌, true, false, ltb, eqb, List, [], ◌∷◌, ◌++◌, length, drop, get_or, set, Ok, inl, inr, refl, ap, sym, ◌∙◌, arith}
+use Rattle.std.proofs.Common.{zero, suc, ◌≡◌, ◌≢◌, ℕ, ◌+◌, ◌<◌, ◌≤◌, true, false, ltb, eqb, List, [], ◌∷◌, ◌++◌, length, drop, map, get_or, set, Ok, inl, inr, refl, ap, sym, ◌∙◌, arith}
 use Rattle.std.proofs.lemmas.Bool.{lt-ltb, le-ltb, eq-eqb, ne_eqb}
-use Rattle.std.proofs.lemmas.List.{set-set, length-set, drop_more, drop_all, drop-drop, drop-set-lt, get_or-drop}
+use Rattle.std.proofs.lemmas.List.{length-map, set-set, length-set, drop_more, drop_all, drop-drop, drop-set-lt, get_or-drop}
 use Rattle.ark_base.specs.Outcome.{Outcome, ◌>>=◌}
 use Rattle.ark_base.specs.Laws.Steps.{bind_ok, done_injective}
 use Rattle.ark_paths.specs.Pair.{Digest, HashPair}
@@ -40,6 +40,10 @@ AreChanges-at first end (c ∷ cs) (suc n) d so below = AreChanges-at (suc c.0) 
 pub AreChanges-seen : {A B : Type 0} (view : A → B) (first end : ℕ) (cs : List (ℕ × A)) → AreChanges first end cs → AreChanges first end (seen_changes view cs)
 AreChanges-seen view first end [] so = tt
 AreChanges-seen view first end (c ∷ cs) so = (so.0, so.1, AreChanges-seen view (suc c.0) end cs so.2)
+
+-- changes of a list, as its view sees them
+pub AreChanges-of : {A B : Type 0} (view : A → B) (xs : List A) (cs : List (ℕ × A)) → AreChanges 0 (length xs) cs → AreChanges 0 (length (map view xs)) (seen_changes view cs)
+AreChanges-of view xs cs so = rw (length-map xs view) (AreChanges-seen view 0 (length xs) cs so)
 
 pub AreChanges-unseen : {A B : Type 0} (view : A → B) (first end : ℕ) (cs : List (ℕ × A)) → AreChanges first end (seen_changes view cs) → AreChanges first end cs
 AreChanges-unseen view first end [] so = tt

@@ -1,11 +1,9 @@
-use Rattle.std.proofs.Common.{◌≡◌, ◌<◌, ◌≤◌, ◌+◌, ◌-◌, ◌^◌, [], length, get_or, Ok, ap, arith}
+use Rattle.std.proofs.Common.{◌<◌, ◌≤◌, ◌+◌, ◌-◌, ◌^◌, [], length, get_or, ap, arith}
 use Rattle.std.proofs.lemmas.List.{length-map}
 use Rattle.std.proofs.Math.Nat.{pow-le-pow_right}
 use Rattle.ark_base.proofs.Refusals.{passed_on}
-use Rattle.ark_merkle.specs.Batch.{hashed_changes}
-use Rattle.ark_merkle.specs.Changed.{AreChanges, seen_changes, count_over, couples_reached}
+use Rattle.ark_merkle.specs.Changed.{seen_changes, count_over}
 use Rattle.ark_merkle.proofs.Batches.{AreChanges-seen, AreChanges-unseen, length-seen}
-use Rattle.ark_merkle.proofs.Reached.{of_couple}
 use Rattle.ark_merkle.proofs.ChangedRows.{places-seen, row-even, size-above, rows-refused, rows-refused_above, rows-changed, changes-above, count_over-hashed, count_over-fits}
 use Rattle.ark_merkle.proofs.tree.changes.+change_rows.Goals as goal
 
@@ -16,80 +14,53 @@ hash_reached-requires-clause-even g t c =
 
 pub returns-in_err-above-clause-rows : goal.returns-in_err-above-clause-rows
 returns-in_err-above-clause-rows g t c =
-    let numbers = g.H.Output.Numbered.numbers in
+    let hash = g.H.TwoToOneCRHScheme.compressed c.args.pair_parameters.now in
     let below : c.args.row + 1 < length c.args.rows.now = omega (arith, c.requires.row, c.len.ensures.count, c.if-len-row.false) in
-    let rise = AreChanges-seen numbers 0 (length (get_or c.args.rows.now c.args.row [])) c.args.changes.items c.requires.changes in
+    let inside = AreChanges-seen g.H.Output.Numbered.numbers 0 (length (get_or c.args.rows.now c.args.row [])) c.args.changes.items c.requires.changes in
     passed_on _ _ c.from_residual.result c.in_err-above.field-0.0 c.from_residual.ensures.1 c.in_err-above.ensures
-    (λ refused. rows-refused (g.H.TwoToOneCRHScheme.compressed c.args.pair_parameters.now) c.args.rows.now c.args.row c.requires.size c.requires.hashed below (seen_changes numbers c.args.changes.items) rise c.in_err-above.field-0.0
-    (rw (c.row.ensures, c.deref.ensures.value) at refused))
+    (λ refused. rows-refused hash c.args.rows.now c.args.row c.requires.size c.requires.hashed below _ inside c.in_err-above.field-0.0 (rw (c.row.ensures, c.deref.ensures.value) at refused))
 
 pub change_rows-requires : goal.change_rows-requires
 change_rows-requires g t c =
-    let numbers = g.H.Output.Numbered.numbers in
     let hash = g.H.TwoToOneCRHScheme.compressed c.args.pair_parameters.now in
     let below : c.args.row + 1 < length c.args.rows.now = omega (arith, c.requires.row, c.len.ensures.count, c.if-len-row.false) in
-    let rise = AreChanges-seen numbers 0 (length (get_or c.args.rows.now c.args.row [])) c.args.changes.items c.requires.changes in
-    let above = seen_changes numbers c.in_ok-above.above.items in
-    let made : hashed_changes (of_couple hash) (couples_reached (get_or c.args.rows.now c.args.row []) (seen_changes numbers c.args.changes.items)) ≡ Ok above = rw (c.row.ensures, c.deref.ensures.value) at c.in_ok-above.ensures in
-    λ κs within. (
-      omega (arith, c.decreases, below),
-      (within.0, (within.1.0, (within.1.1.0, (within.1.1.1, (below, (size-above hash c.args.rows.now c.args.row c.requires.size c.requires.hashed below, (c.requires.hashed, AreChanges-unseen numbers 0 (length (get_or c.args.rows.now (c.args.row + 1) [])) c.in_ok-above.above.items (changes-above hash c.args.rows.now c.args.row c.requires.size c.requires.hashed below (seen_changes numbers c.args.changes.items) rise above made)))))))),
-    )
+    let inside = AreChanges-seen g.H.Output.Numbered.numbers 0 (length (get_or c.args.rows.now c.args.row [])) c.args.changes.items c.requires.changes in
+    let rise = AreChanges-unseen g.H.Output.Numbered.numbers 0 (length (get_or c.args.rows.now (c.args.row + 1) [])) c.in_ok-above.above.items (changes-above hash c.args.rows.now c.args.row c.requires.size c.requires.hashed below _ inside _ (rw (c.row.ensures, c.deref.ensures.value) at c.in_ok-above.ensures)) in
+    λ κs within. (omega (arith, c.decreases, below), (within.0, (within.1.0, (within.1.1.0, (within.1.1.1, (below, (size-above hash c.args.rows.now c.args.row c.requires.size c.requires.hashed below, (c.requires.hashed, rise))))))))
 
 pub returns-in_err-more-clause-rows : goal.returns-in_err-more-clause-rows
 returns-in_err-more-clause-rows g t c =
-    let numbers = g.H.Output.Numbered.numbers in
     let hash = g.H.TwoToOneCRHScheme.compressed c.args.pair_parameters.now in
     let below : c.args.row + 1 < length c.args.rows.now = omega (arith, c.requires.row, c.len.ensures.count, c.if-len-row.false) in
-    let rise = AreChanges-seen numbers 0 (length (get_or c.args.rows.now c.args.row [])) c.args.changes.items c.requires.changes in
-    let above = seen_changes numbers c.in_ok-above.above.items in
-    let made : hashed_changes (of_couple hash) (couples_reached (get_or c.args.rows.now c.args.row []) (seen_changes numbers c.args.changes.items)) ≡ Ok above = rw (c.row.ensures, c.deref.ensures.value) at c.in_ok-above.ensures in
+    let inside = AreChanges-seen g.H.Output.Numbered.numbers 0 (length (get_or c.args.rows.now c.args.row [])) c.args.changes.items c.requires.changes in
     passed_on _ _ c.from_residual-in_err-more.result c.in_err-more.field-0.0 c.from_residual-in_err-more.ensures.1 c.in_err-more.ensures.rows
-    (rows-refused_above hash c.args.rows.now c.args.row c.requires.size c.requires.hashed below (seen_changes numbers c.args.changes.items) rise above made c.in_err-more.field-0.0)
+    (rows-refused_above hash c.args.rows.now c.args.row c.requires.size c.requires.hashed below _ inside _ (rw (c.row.ensures, c.deref.ensures.value) at c.in_ok-above.ensures) c.in_err-more.field-0.0)
 
 pub overflow_add-result : goal.overflow_add-result
 overflow_add-result g t c =
-    let numbers = g.H.Output.Numbered.numbers in
     let hash = g.H.TwoToOneCRHScheme.compressed c.args.pair_parameters.now in
-    let rows = c.args.rows.now in
-    let row = c.args.row in
-    let changes = seen_changes numbers c.args.changes.items in
-    let below : row + 1 < length rows = omega (arith, c.requires.row, c.len.ensures.count, c.if-len-row.false) in
-    let rise = AreChanges-seen numbers 0 (length (get_or rows row [])) c.args.changes.items c.requires.changes in
-    let above = seen_changes numbers c.in_ok-above.above.items in
-    let made : hashed_changes (of_couple hash) (couples_reached (get_or rows row []) changes) ≡ Ok above = rw (c.row.ensures, c.deref.ensures.value) at c.in_ok-above.ensures in
-    let total = count_over-hashed hash rows row c.requires.size c.requires.hashed below changes rise above made in
-    let whole : AreChanges 0 (2 ^ (length rows - 1 - row)) changes = rw c.requires.size at rise in
-    let fits = count_over-fits (length rows - 1 - row) changes whole in
+    let below : c.args.row + 1 < length c.args.rows.now = omega (arith, c.requires.row, c.len.ensures.count, c.if-len-row.false) in
+    let inside = AreChanges-seen g.H.Output.Numbered.numbers 0 (length (get_or c.args.rows.now c.args.row [])) c.args.changes.items c.requires.changes in
+    let left = length c.args.rows.now - 1 - c.args.row in
+    let total = count_over-hashed hash c.args.rows.now c.args.row c.requires.size c.requires.hashed below _ inside _ (rw (c.row.ensures, c.deref.ensures.value) at c.in_ok-above.ensures) in
+    let fits = count_over-fits left (seen_changes g.H.Output.Numbered.numbers c.args.changes.items) (rw c.requires.size at inside) in
     let two : 0 < 2 = omega arith in
-    let most : length rows - 1 - row ≤ 63 = omega (arith, c.len.ensures.most, c.len.ensures.count) in
-    let few : 2 ^ (length rows - 1 - row) ≤ 2 ^ 63 = pow-le-pow_right two most in
-    omega (arith, total, fits, few, c.len-hashed.ensures, c.in_ok-above.above.ok.0, length-seen numbers c.in_ok-above.above.items, c.in_ok-more.ensures.count, ap (count_over (length rows - 1 - (row + 1))) (places-seen numbers c.in_ok-above.above.items))
+    let most : left ≤ 63 = omega (arith, c.len.ensures.most, c.len.ensures.count) in
+    let few : 2 ^ left ≤ 2 ^ 63 = pow-le-pow_right two most in
+    omega (arith, total, fits, few, c.len-hashed.ensures, c.in_ok-above.above.ok.0, length-seen g.H.Output.Numbered.numbers c.in_ok-above.above.items, c.in_ok-more.ensures.count, ap (count_over (length c.args.rows.now - 1 - (c.args.row + 1))) (places-seen g.H.Output.Numbered.numbers c.in_ok-above.above.items))
 
 pub returns-clause-rows : goal.returns-clause-rows
 returns-clause-rows g t c =
-    let numbers = g.H.Output.Numbered.numbers in
     let hash = g.H.TwoToOneCRHScheme.compressed c.args.pair_parameters.now in
-    let rows = c.args.rows.now in
-    let row = c.args.row in
-    let changes = seen_changes numbers c.args.changes.items in
-    let below : row + 1 < length rows = omega (arith, c.requires.row, c.len.ensures.count, c.if-len-row.false) in
-    let rise = AreChanges-seen numbers 0 (length (get_or rows row [])) c.args.changes.items c.requires.changes in
-    let above = seen_changes numbers c.in_ok-above.above.items in
-    let made : hashed_changes (of_couple hash) (couples_reached (get_or rows row []) changes) ≡ Ok above = rw (c.row.ensures, c.deref.ensures.value) at c.in_ok-above.ensures in
+    let below : c.args.row + 1 < length c.args.rows.now = omega (arith, c.requires.row, c.len.ensures.count, c.if-len-row.false) in
+    let inside = AreChanges-seen g.H.Output.Numbered.numbers 0 (length (get_or c.args.rows.now c.args.row [])) c.args.changes.items c.requires.changes in
     rw c.put_in_row-2.ensures
-    (rows-changed hash rows row c.requires.size c.requires.hashed below changes rise above made c.change_rows.new.rows c.in_ok-more.ensures.length c.in_ok-more.ensures.below c.in_ok-more.ensures.rows)
+    (rows-changed hash c.args.rows.now c.args.row c.requires.size c.requires.hashed below _ inside _ (rw (c.row.ensures, c.deref.ensures.value) at c.in_ok-above.ensures) c.change_rows.new.rows c.in_ok-more.ensures.length c.in_ok-more.ensures.below c.in_ok-more.ensures.rows)
 
 pub returns-clause-count : goal.returns-clause-count
 returns-clause-count g t c =
-    let numbers = g.H.Output.Numbered.numbers in
     let hash = g.H.TwoToOneCRHScheme.compressed c.args.pair_parameters.now in
-    let rows = c.args.rows.now in
-    let row = c.args.row in
-    let changes = seen_changes numbers c.args.changes.items in
-    let below : row + 1 < length rows = omega (arith, c.requires.row, c.len.ensures.count, c.if-len-row.false) in
-    let rise = AreChanges-seen numbers 0 (length (get_or rows row [])) c.args.changes.items c.requires.changes in
-    let above = seen_changes numbers c.in_ok-above.above.items in
-    let made : hashed_changes (of_couple hash) (couples_reached (get_or rows row []) changes) ≡ Ok above = rw (c.row.ensures, c.deref.ensures.value) at c.in_ok-above.ensures in
-    let total = count_over-hashed hash rows row c.requires.size c.requires.hashed below changes rise above made in
-    omega (arith, total, c.len-hashed.ensures, c.in_ok-above.above.ok.0, length-seen numbers c.in_ok-above.above.items, c.in_ok-more.ensures.count, ap (count_over (length rows - 1 - (row + 1))) (places-seen numbers c.in_ok-above.above.items), ap (count_over (length rows - 1 - row)) (places-seen numbers c.args.changes.items))
+    let below : c.args.row + 1 < length c.args.rows.now = omega (arith, c.requires.row, c.len.ensures.count, c.if-len-row.false) in
+    let inside = AreChanges-seen g.H.Output.Numbered.numbers 0 (length (get_or c.args.rows.now c.args.row [])) c.args.changes.items c.requires.changes in
+    let total = count_over-hashed hash c.args.rows.now c.args.row c.requires.size c.requires.hashed below _ inside _ (rw (c.row.ensures, c.deref.ensures.value) at c.in_ok-above.ensures) in
+    omega (arith, total, c.len-hashed.ensures, c.in_ok-above.above.ok.0, length-seen g.H.Output.Numbered.numbers c.in_ok-above.above.items, c.in_ok-more.ensures.count, ap (count_over (length c.args.rows.now - 1 - (c.args.row + 1))) (places-seen g.H.Output.Numbered.numbers c.in_ok-above.above.items), ap (count_over (length c.args.rows.now - 1 - c.args.row)) (places-seen g.H.Output.Numbered.numbers c.args.changes.items))
