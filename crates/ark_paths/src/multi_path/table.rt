@@ -49,7 +49,8 @@ pub struct Slot<'a, X> {
 pub struct Entries<'a, X> {
     /// The keys are ordered and not scattered by a hash, so that no proof can be made whose places take long to find.
     pub all: BTreeMap<(usize, usize), Entry<'a, X>, Global>,
-    /// For each level the entry that came last: that of the path before, which shares most of its places with the next one.
+    /// For each level the entry that came last, which for most is that of the path before: a path shares most of its places
+    /// with the next one. It stands at its level less one, since entries are of the lowest level alone or begin above it.
     pub last: Vec<Slot<'a, X>>,
 }
 
@@ -119,7 +120,7 @@ fn is_same<X: DigestItem>(digests: &[X], one: &Pair<X>, other: &Pair<X>) -> bool
     }
 }
 
-// The entry at a place.
+// The entry at a place, without a search where it came last on its level.
 fn found<'b, X>(entries: &'b Entries<X>, place: (usize, usize)) -> Option<&'b Entry<'b, X>>
     requires { AreKept entries.now.all entries.now.last.items }
     ensures { let kept = get place_cmp entries.now.all place in

@@ -20,8 +20,8 @@ use std::alloc::Global;
 impl<P: Views> MultiPath<P> {
     /// Whether each leaf's digest gives the root along its path, the leaves in the order of `leaf_indexes`.
     ///
-    /// A pair that was hashed last at its place is not hashed again. Refusals: `NoIndex` of a proof without an index; else, place by
-    /// place, `IncorrectInputLength` with the place where it has no leaf or its parts make no path, then those of
+    /// A pair that was hashed last at its place is not hashed again. Refusals: `NoIndex` of a proof without an index; else,
+    /// place by place, `IncorrectInputLength` with the place where it has no leaf or its parts make no path, then those of
     /// `Path::verify`; `OutOfMemory`. The first place that is refused or is not accepted decides, and no leaf behind it is
     /// taken. Parts and leaves past the last index are ignored.
     pub fn verify<'a, I: Iterator<Item = &'a P::Leaf>>(
