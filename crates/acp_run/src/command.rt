@@ -9,7 +9,7 @@ ghost use Rattle.acp_session.specs.Steps.{Step};
 
 use crate::run::{run, write_front};
 use acp_session::sha256::Sha;
-use acp_session::toy::Toy;
+use ark_toy::Toy;
 use std::alloc::Global;
 use std::io::{self, BufReader, Read, Write};
 

@@ -1,32 +1,18 @@
--- The configuration `toy`: leaves are numbers, digests numbers below 257.
-use Rattle.std.specs.Prelude.{ℕ, ◌+◌, ◌*◌, ◌%◌, ◌==◌, if◌then◌else◌, List, [], ◌∷◌, get_or, Option, Some, None, Ok, Err}
+-- The lines of `toy`: leaves are numbers, digests numbers below 257.
+use Rattle.std.specs.Prelude.{ℕ, List, [], ◌∷◌, Option, Some, None, Ok, Err}
 use Rattle.std.specs.Option.{option_map}
-use Rattle.ark_base.specs.declared.error.Error.TheVariants.{GenericError}
-use Rattle.ark_base.specs.declared.error.Refusal.TheVariants.{Custom}
 use Rattle.ark_base.specs.Digits.{number_of_bytes, bytes_of_number, below_at}
-use Rattle.ark_base.specs.Outcome.{Outcome}
 use Rattle.ark_base.specs.Reading.{Reading}
 use Rattle.ark_paths.specs.MultiPathBytes.{multi_bytes, multi_way_at}
 use Rattle.ark_paths.specs.Pair.{Digest}
 use Rattle.ark_paths.specs.PathBytes.{way_bytes, way_at}
+use Rattle.ark_toy.specs.Toy.{toy_number, toy_leaf, toy_pair}
 use Rattle.acp_session.specs.Language.{Language}
 use Rattle.acp_session.specs.Tokens.{number_of_token, some_bytes_of}
-
--- the number of a digest
-abbrev pub toy_number : Digest → ℕ
-toy_number digest = get_or digest 0 0
 
 -- the two canonical bytes of a digest
 abbrev pub toy_bytes : Digest → List ℕ
 toy_bytes digest = bytes_of_number 2 (toy_number digest)
-
--- a leaf modulo 257; 999 is refused
-abbrev pub toy_leaf : ℕ → Outcome Digest
-toy_leaf leaf = if leaf == 999 then Err (GenericError (Custom 1)) else Ok (leaf % 257 ∷ [])
-
--- the first, and twice the second, modulo 257
-abbrev pub toy_pair : Digest → Digest → Outcome Digest
-toy_pair a b = Ok ((toy_number a + 2 * toy_number b) % 257 ∷ [])
 
 -- a digest that was read, where no bytes are left behind it
 abbrev pub whole_digest : Reading ℕ → Option Digest

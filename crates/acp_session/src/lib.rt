@@ -10,5 +10,5 @@ mod replies;
 pub mod sha256;
 pub mod shell;
 pub mod tokens;
-pub mod toy;
+mod toy;
 mod words;

@@ -1,3 +1,2 @@
 pub mod Keyed
-pub mod Laws
-pub mod TestHashes
+pub mod Refusing

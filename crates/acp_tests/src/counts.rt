@@ -1,8 +1,8 @@
 //! Lines that count the pairs of a multi-proof's check.
 
 use crate::commands::answers;
-use acp_session::toy::Toy;
 use ark_base::error::Error;
+use ark_toy::Toy;
 use std::alloc::Global;
 
 // Trees' own multi-proofs with their leaves: the places above the leaves, each once. Behind the first stands a leaf that nothing asks for.

@@ -7,11 +7,11 @@ ghost use Rattle.acp_tests.specs.Keyed.{keyed_leaf, keyed_language};
 use crate::commands::answers;
 use acp_session::shell::Shell;
 use acp_session::tokens::number_of_token;
-use acp_session::toy::{Toy, ToyPairHash};
 use ark_base::error::Error;
 use ark_crh::CRHScheme;
 use ark_groups::ff::{Fp, M257, PrimeField};
 use ark_merkle::{Config, IdentityDigestConverter};
+use ark_toy::{Toy, ToyPairHash};
 use rand::Rng;
 use std::alloc::{AllocError, Global};
 

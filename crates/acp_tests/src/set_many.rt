@@ -1,14 +1,14 @@
 //! Lines that set several leaves.
 
 ghost use Rattle.std.specs.Prelude.{◌≡◌, refl};
-ghost use Rattle.acp_tests.specs.TestHashes.{refusing_language};
+ghost use Rattle.acp_tests.specs.Refusing.{refusing_language};
 
 use crate::commands::answers;
-use crate::hashes::Refusing;
 use acp_session::shell::Shell;
 use acp_session::tokens::number_of_token;
-use acp_session::toy::Toy;
 use ark_groups::ff::{Fp, M257};
+use ark_merkle::{Config, IdentityDigestConverter};
+use ark_toy::{RefusingPairHash, Toy, ToyLeafHash};
 use std::alloc::{AllocError, Global};
 
 // Sessions and their replies. Over 1 2 3 4 the root is 27; the tree behind a refused line is as before. Of the leaves for one index
@@ -41,6 +41,23 @@ fn sets_several_leaves_at_once(rt: HostRuntime) {
             "{lines:?}"
         );
     }
+}
+
+// As `toy`, but its pair hash refuses where the second number is 0.
+struct Refusing;
+
+impl Config for Refusing {
+    type Leaf = u64;
+
+    type LeafDigest = Fp<M257>;
+
+    type LeafInnerDigestConverter = IdentityDigestConverter<Fp<M257>>;
+
+    type InnerDigest = Fp<M257>;
+
+    type LeafHash = ToyLeafHash;
+
+    type TwoToOneHash = RefusingPairHash;
 }
 
 impl Shell for Refusing {

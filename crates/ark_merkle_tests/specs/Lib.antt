@@ -1,1 +1,1 @@
-pub mod Toy
+pub mod Weights

@@ -3,13 +3,14 @@
 ghost use Rattle.std.specs.Prelude.{◌↔◌, ◌<◌, IsTrue};
 ghost use Rattle.std.specs.List.{All};
 
-use crate::samples::{proof_of, tree_over};
-use crate::toy::Toy;
-use ark_base::error::Error;
+use crate::samples::{drawn, places_above, proof_of, tree_over};
+use ark_base::error::{Error, Refusal};
 use ark_groups::ff::{Fp, PrimeField};
 use ark_merkle::{Config, LeafParam, MerkleTree, TwoToOneParam};
+use ark_toy::{Refusing, Toy};
+use rand::SeedableRng;
+use rand::rngs::SmallRng;
 use std::alloc::Global;
-use std::collections::BTreeSet;
 
 // Whether each change is of an index below the size.
 fn are_inside<L>(changes: &[(usize, L)], size: usize) -> bool
@@ -30,18 +31,7 @@ fn counted_in<P: Config>(
     tree.update_many_counting(alloc, changes)
 }
 
-// How many pairs the changes of a tree have hashed, and whether the root is then this one.
-fn counted_to<P: Config>(
-    alloc: Global,
-    tree: &mut MerkleTree<P>,
-    changes: &[(usize, P::Leaf)],
-    root: &P::InnerDigest,
-) -> Result<(usize, bool), Error> {
-    let count = counted_in(alloc, tree, changes)?;
-    Ok((count, *tree.root() == *root))
-}
-
-// The same of the tree of these leaves.
+// How many pairs the changes of the tree of some leaves have hashed, and whether the root is then this one.
 fn counted<P: Config>(
     alloc: Global,
     leaf_parameters: &LeafParam<P>,
@@ -49,18 +39,22 @@ fn counted<P: Config>(
     leaves: &[P::Leaf],
     changes: &[(usize, P::Leaf)],
     root: &P::InnerDigest,
-) -> Result<(usize, bool), Error> {
+) -> Result<(Result<usize, Error>, bool), Error> {
     let mut tree = tree_over::<P>(alloc, leaf_parameters, pair_parameters, leaves)?;
-    counted_to(alloc, &mut tree, changes, root)
+    let count = counted_in(alloc, &mut tree, changes);
+    Ok((count, *tree.root() == *root))
 }
 
-// Leaves, changes of them, how many pairs these have hashed, and the root. Of repeated changes the last counts, and a place above
-// several is hashed once.
-const BATCHES: [(&[u64], &[(usize, u64)], usize, u64); 5] = [
-    (&[1, 2, 3, 4], &[(0, 5), (2, 6), (0, 7)], 3, 39),
-    (&[1, 2, 3, 4], &[(0, 999), (0, 7)], 2, 33),
-    (&[1, 2, 3, 4], &[], 0, 27),
-    (&[1, 2, 3, 4], &[(3, 4)], 2, 27),
+const ONE: Error = Error::GenericError(Refusal::Custom(1));
+
+// Leaves, changes of them, how many pairs these have hashed, and the root. Of repeated changes the last counts: 999 is refused, but no
+// leaf is hashed that a later one replaces. A place above several is hashed once.
+const BATCHES: [(&[u64], &[(usize, u64)], Result<usize, Error>, u64); 6] = [
+    (&[1, 2, 3, 4], &[(0, 5), (2, 6), (0, 7)], Ok(3), 39),
+    (&[1, 2, 3, 4], &[(0, 999), (0, 7)], Ok(2), 33),
+    (&[1, 2, 3, 4], &[(1, 999), (0, 5)], Err(ONE), 27),
+    (&[1, 2, 3, 4], &[], Ok(0), 27),
+    (&[1, 2, 3, 4], &[(3, 4)], Ok(2), 27),
     (
         &[0, 0, 0, 0, 0, 0, 0, 0],
         &[
@@ -73,7 +67,7 @@ const BATCHES: [(&[u64], &[(usize, u64)], usize, u64); 5] = [
             (1, 2),
             (0, 1),
         ],
-        7,
+        Ok(7),
         153,
     ),
 ];
@@ -89,31 +83,61 @@ fn each_place_above_the_changes_is_hashed_once(rt: HostRuntime) {
     }
 }
 
-// Whether two trees have the same path at an index.
-fn have_same_path<P: Config>(
-    alloc: Global,
-    one: &MerkleTree<P>,
-    other: &MerkleTree<P>,
-    index: usize,
-) -> Result<bool, Error> {
-    Ok(proof_of(alloc, one, index)? == proof_of(alloc, other, index)?)
+// Over 249 and 4 stands 0, which refuses: the first change alone is refused.
+#[test]
+fn pairs_of_the_final_digests_alone_are_hashed(rt: HostRuntime) {
+    assert_eq!(rt;
+        counted::<Refusing>(
+            rt.alloc(),
+            &(),
+            &(),
+            &[1, 2, 3, 4],
+            &[(2, 249), (3, 5)],
+            &Fp::from_u64(9)
+        ),
+        Ok((Ok(2), true))
+    );
 }
 
-// Whether two trees have the same root and the same paths.
-fn are_same<P: Config>(
+// Whether a tree's path of an index shows a leaf under a root.
+fn shows_leaf<P: Config>(
     alloc: Global,
-    one: &MerkleTree<P>,
-    other: &MerkleTree<P>,
+    leaf_parameters: &LeafParam<P>,
+    pair_parameters: &TwoToOneParam<P>,
+    tree: &MerkleTree<P>,
+    root: &P::InnerDigest,
+    index: usize,
+    leaf: &P::Leaf,
 ) -> Result<bool, Error> {
-    for index in 0..one.size() {
-        if !have_same_path(alloc, one, other, index)? {
+    proof_of(alloc, tree, index)?.verify(alloc, leaf_parameters, pair_parameters, root, leaf)
+}
+
+// Whether a tree has a root, and its paths show these leaves under it.
+fn shows<P: Config>(
+    alloc: Global,
+    leaf_parameters: &LeafParam<P>,
+    pair_parameters: &TwoToOneParam<P>,
+    tree: &MerkleTree<P>,
+    root: &P::InnerDigest,
+    leaves: &[P::Leaf],
+) -> Result<bool, Error> {
+    for (index, leaf) in leaves.iter().enumerate() {
+        if !shows_leaf(
+            alloc,
+            leaf_parameters,
+            pair_parameters,
+            tree,
+            root,
+            index,
+            leaf,
+        )? {
             return Ok(false);
         }
     }
-    Ok(*one.root() == *other.root())
+    Ok(*tree.root() == *root)
 }
 
-// Whether a tree is a new tree of these leaves.
+// Whether a tree has the root of a new tree of these leaves, and its paths show them.
 fn is_of_leaves<P: Config>(
     alloc: Global,
     leaf_parameters: &LeafParam<P>,
@@ -122,7 +146,14 @@ fn is_of_leaves<P: Config>(
     leaves: &[P::Leaf],
 ) -> Result<bool, Error> {
     let new = tree_over::<P>(alloc, leaf_parameters, pair_parameters, leaves)?;
-    are_same(alloc, tree, &new)
+    shows(
+        alloc,
+        leaf_parameters,
+        pair_parameters,
+        tree,
+        new.root(),
+        leaves,
+    )
 }
 
 // The leaves 1, 2 and so on.
@@ -230,32 +261,13 @@ fn changes_go_alike_one_by_one_and_at_once(rt: HostRuntime) {
     );
 }
 
-// As many changes as a linear generator draws.
-fn drawn(alloc: Global, size: u64, count: u64) -> Result<Vec<(usize, u64)>, Error> {
+// Changes at these indexes, at most a thousand, each to a leaf of its own.
+fn changes_at(alloc: Global, indexes: &[usize]) -> Result<Vec<(usize, u64)>, Error> {
     let mut changes = Vec::new(alloc);
-    let mut state: u64 = count;
-    for _ in 0..count {
-        state = state
-            .wrapping_mul(6_364_136_223_846_793_005)
-            .wrapping_add(1_442_695_040_888_963_407);
-        let index = (state >> 33).checked_rem(size).unwrap_or(0);
-        changes.push((index as usize, state >> 48))?;
+    for (index, leaf) in indexes.iter().zip(1000..2000u64) {
+        changes.push((*index, leaf))?;
     }
     Ok(changes)
-}
-
-// How many places stand above the changes in a tree of so many leaves, at most 64, by keeping each once: a place is a level and the
-// index divided.
-fn places_above(alloc: Global, size: u64, changes: &[(usize, u64)]) -> Result<usize, Error> {
-    let mut places = BTreeSet::new(alloc);
-    for (index, _) in changes {
-        for level in 1..7u32 {
-            if size >> level != 0 {
-                places.insert((level, *index >> level))?;
-            }
-        }
-    }
-    Ok(places.len())
 }
 
 // Whether drawn changes go alike one by one and at once, and hash a pair for each place above them.
@@ -264,10 +276,13 @@ fn drawn_go_alike<P: Config<Leaf = u64>>(
     leaf_parameters: &LeafParam<P>,
     pair_parameters: &TwoToOneParam<P>,
     size: u64,
-    count: u64,
+    levels: usize,
+    count: usize,
 ) -> Result<bool, Error> {
-    let changes = drawn(alloc, size, count)?;
-    let places = places_above(alloc, size, &changes)?;
+    let mut rng = SmallRng::seed_from_u64(count as u64);
+    let indexes = drawn(alloc, &mut rng, count, levels)?;
+    let changes = changes_at(alloc, &indexes)?;
+    let places = places_above(alloc, &indexes, levels)?;
     let alike = one_by_one::<P>(alloc, leaf_parameters, pair_parameters, size, &changes)?;
     let answer = at_once::<P>(alloc, leaf_parameters, pair_parameters, size, &changes)?;
     Ok(alike && answer == (true, places))
@@ -275,10 +290,11 @@ fn drawn_go_alike<P: Config<Leaf = u64>>(
 
 #[test]
 fn drawn_changes_go_alike(rt: HostRuntime) {
-    for count in 0..40u64 {
+    for count in 0..40usize {
+        let levels = 1 + count % 6;
         let size = 2 << count % 6;
         assert_eq!(rt;
-            drawn_go_alike::<Toy>(rt.alloc(), &(), &(), size, count),
+            drawn_go_alike::<Toy>(rt.alloc(), &(), &(), size, levels, count),
             Ok(true),
             "{count} of {size}"
         );

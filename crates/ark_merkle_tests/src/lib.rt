@@ -6,6 +6,8 @@ mod batches;
 #[cfg(test)]
 mod clients;
 #[cfg(test)]
+mod converted;
+#[cfg(test)]
 mod multi_counts;
 #[cfg(test)]
 mod multi_paths;
@@ -13,6 +15,8 @@ mod multi_paths;
 mod paths;
 #[cfg(test)]
 mod plain;
+#[cfg(test)]
+mod refusals;
 #[cfg(test)]
 mod samples;
 #[cfg(test)]

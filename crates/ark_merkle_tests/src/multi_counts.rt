@@ -1,18 +1,17 @@
 //! How many pairs the check of a multi-proof hashes.
 
 ghost use Rattle.std.specs.Prelude.{◌≡◌};
-ghost use Rattle.ark_merkle_tests.specs.Toy.{weighted, weighted_sum};
+ghost use Rattle.ark_merkle_tests.specs.Weights.{weighted, weighted_sum};
 
-use crate::samples::{Sha, leaves_of, multi_proof_of, tree_over};
-use crate::toy::Toy;
+use crate::samples::{Sha, drawn, leaves_of, multi_proof_of, places_above, tree_over};
 use ark_base::error::Error;
 use ark_groups::ff::{Fp, M257, PrimeField};
 use ark_merkle::multi_path::hasher::PairHasher;
 use ark_merkle::{Config, LeafParam, MerkleTree, MultiPath, TwoToOneParam};
+use ark_toy::Toy;
+use rand::SeedableRng;
 use rand::rngs::SmallRng;
-use rand::{Rng, RngExt, SeedableRng};
 use std::alloc::Global;
-use std::collections::BTreeSet;
 
 // Gives the sum of two digests, each times its weight, modulo 257.
 #[derive(Drop)]
@@ -62,19 +61,6 @@ impl PairHasher<Toy> for Weights {
     fn calls(&self) -> usize {
         self.calls
     }
-}
-
-// How many places stand above these indexes on so many levels, by keeping each once.
-fn places_above(alloc: Global, indexes: &[usize], levels: usize) -> Result<usize, Error> {
-    let mut places = BTreeSet::new(alloc);
-    for index in indexes {
-        let mut number = *index;
-        for level in 0..levels {
-            number /= 2;
-            places.insert((level, number))?;
-        }
-    }
-    Ok(places.len())
 }
 
 // The leaves at these indexes.
@@ -148,25 +134,6 @@ fn own<P: Config>(
         leaves,
         indexes,
     )
-}
-
-// Indexes below a bound.
-fn drawn<R: Rng>(
-    alloc: Global,
-    rng: &mut R,
-    count: usize,
-    levels: usize,
-) -> Result<Vec<usize>, Error> {
-    let mut indexes = Vec::new(alloc);
-    for _ in 0..count {
-        let number: u32 = rng.random();
-        let mut index = number as usize;
-        for _ in levels..32 {
-            index /= 2;
-        }
-        indexes.push(index)?;
-    }
-    Ok(indexes)
 }
 
 // Whether trees of these leaves, of which there are 64, hash each place above drawn indexes once.

@@ -166,6 +166,30 @@ fn path_is_right<P: Config>(
     )
 }
 
+// Whether a tree of eight has the place of the definition over these digests, and the path of an index.
+fn is_right_over<P: Config>(
+    alloc: Global,
+    leaf_parameters: &LeafParam<P>,
+    pair_parameters: &TwoToOneParam<P>,
+    tree: &MerkleTree<P>,
+    leaves: &[P::Leaf],
+    digests: &[P::LeafDigest],
+    index: usize,
+) -> Result<(bool, bool), Error> {
+    Ok((
+        is_defined::<P>(alloc, pair_parameters, 2, digests, Some(tree.root()))?,
+        path_is_right(
+            alloc,
+            leaf_parameters,
+            pair_parameters,
+            tree,
+            leaves,
+            digests,
+            index,
+        )?,
+    ))
+}
+
 fn eight_are_right<P: Config>(
     alloc: Global,
     leaf_parameters: &LeafParam<P>,
@@ -175,18 +199,15 @@ fn eight_are_right<P: Config>(
     index: usize,
 ) -> Result<(bool, bool), Error> {
     let digests = digests_of::<P::LeafHash>(alloc, leaf_parameters, leaves)?;
-    Ok((
-        is_defined::<P>(alloc, pair_parameters, 2, &digests, Some(tree.root()))?,
-        path_is_right(
-            alloc,
-            leaf_parameters,
-            pair_parameters,
-            tree,
-            leaves,
-            &digests,
-            index,
-        )?,
-    ))
+    is_right_over(
+        alloc,
+        leaf_parameters,
+        pair_parameters,
+        tree,
+        leaves,
+        &digests,
+        index,
+    )
 }
 
 fn is_accepted_at<P: Config>(
@@ -306,14 +327,22 @@ fn path_has_text<P: Config>(alloc: Global, text: &str) -> Result<bool, Error> {
     has_text(alloc, &path, text)
 }
 
-// Whether the canonical bytes of a list are read to their end, as what is written so; and not where they end early.
+// Whether the canonical bytes of a list are read to their end, as what is written so.
+fn are_read<T: CanonicalItem + Drop>(alloc: Global, bytes: &[u8]) -> Result<bool, Error> {
+    let (list, used) = Vec::<T>::deserialize(alloc, bytes)?;
+    Ok(used == bytes.len() && canonical_bytes(alloc, &list)?.as_slice() == bytes)
+}
+
+fn are_truncated<T: CanonicalItem + Drop>(alloc: Global, bytes: &[u8]) -> bool {
+    let truncated = Error::SerializationError(SerializationError::Truncated);
+    Vec::<T>::deserialize(alloc, bytes).err() == Some(truncated)
+}
+
+// Whether the canonical bytes of a list are read, and not where they end early.
 fn are_listed<T: CanonicalItem + Drop>(alloc: Global, items: &[T]) -> Result<bool, Error> {
     let bytes = canonical_bytes(alloc, &items)?;
-    let (list, used) = Vec::<T>::deserialize(alloc, &bytes)?;
-    let again = canonical_bytes(alloc, &list)?;
-    let early = Vec::<T>::deserialize(alloc, &bytes[..bytes.len().saturating_sub(1)]).err();
-    let truncated = Error::SerializationError(SerializationError::Truncated);
-    Ok(used == bytes.len() && again == bytes && early == Some(truncated))
+    let early = bytes.len().saturating_sub(1);
+    Ok(are_truncated::<T>(alloc, &bytes[..early]) && are_read::<T>(alloc, &bytes)?)
 }
 
 fn paths_are_listed<P: Config>(

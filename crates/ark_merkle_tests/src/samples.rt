@@ -10,7 +10,9 @@ use ark_merkle::{
     Config, IdentityDigestConverter, LeafParam, MerkleTree, MultiPath, Path, TwoToOneParam,
     is_tree_size,
 };
+use rand::{Rng, RngExt};
 use std::alloc::Global;
+use std::collections::BTreeSet;
 use std::fmt::Debug;
 
 pub struct Sha;
@@ -157,6 +159,38 @@ pub fn multi_proof_of<P: Config>(
         return Err(Error::IncorrectInputLength(indexes.len()));
     }
     tree.generate_multi_proof(alloc, indexes)
+}
+
+/// So many indexes in a tree with so many levels above its leaves.
+pub fn drawn<R: Rng>(
+    alloc: Global,
+    rng: &mut R,
+    count: usize,
+    levels: usize,
+) -> Result<Vec<usize>, Error> {
+    let mut indexes = Vec::new(alloc);
+    for _ in 0..count {
+        let number: u32 = rng.random();
+        let mut index = number as usize;
+        for _ in levels..32 {
+            index /= 2;
+        }
+        indexes.push(index)?;
+    }
+    Ok(indexes)
+}
+
+/// How many places stand above these indexes on so many levels, by keeping each once.
+pub fn places_above(alloc: Global, indexes: &[usize], levels: usize) -> Result<usize, Error> {
+    let mut places = BTreeSet::new(alloc);
+    for index in indexes {
+        let mut number = *index;
+        for level in 0..levels {
+            number /= 2;
+            places.insert((level, number))?;
+        }
+    }
+    Ok(places.len())
 }
 
 /// Another place, beside a blank digest.

@@ -1,125 +1,24 @@
-//! Trees of numbers below 257, whose digests can be reckoned by hand.
-
-ghost use Rattle.std.specs.Prelude.{Ok, refl};
-ghost use Rattle.ark_merkle_tests.specs.Toy.{leaf_modulo, sum_modulo};
+//! Trees of numbers whose digests can be reckoned by hand.
 
 use crate::multi_paths::is_made_so;
 use crate::samples::{multi_proof_of, proof_of};
 use crate::strict::is_read;
 use ark_base::error::Error;
-use ark_base::serialize::DigestItem;
+use ark_base::serialize::{CanonicalDeserialize, DigestItem};
 use ark_crh::{CRHScheme, TwoToOneCRHScheme};
-use ark_groups::ff::{Fp, M257, PrimeField};
-use ark_merkle::{
-    Config, IdentityDigestConverter, LeafParam, MerkleTree, TwoToOneParam, is_tree_size,
-};
-use rand::Rng;
+use ark_groups::ff::{Fp, PrimeField};
+use ark_merkle::{Config, LeafParam, MerkleTree, Path, TwoToOneParam, is_tree_size};
+use ark_toy::{Refusing, Toy};
+use rand::rngs::SmallRng;
+use rand::{Rng, SeedableRng};
 use std::alloc::Global;
 
-/// Trees of numbers below 257.
-pub struct Toy;
-
-impl Config for Toy {
-    type Leaf = u64;
-
-    type LeafDigest = Fp<M257>;
-
-    type LeafInnerDigestConverter = IdentityDigestConverter<Fp<M257>>;
-
-    type InnerDigest = Fp<M257>;
-
-    type LeafHash = ToyLeafHash;
-
-    type TwoToOneHash = ToyPairHash;
-}
-
-/// A number modulo 257.
-pub struct ToyLeafHash;
-
-impl CRHScheme for ToyLeafHash {
-    type Input = u64;
-
-    type Output = Fp<M257>;
-
-    type Parameters = ();
-
-    ghost meaning = { λ _ leaf. leaf_modulo leaf };
-
-    ghost setup_outcome = { Ok };
-
-    ghost is_made = { λ _ _. Unit {0} };
-
-    fn setup<R: Rng>(_alloc: Global, _rng: &mut R) -> Result<(), Error> {
-        Ok(())
-    }
-
-    fn evaluate(_alloc: Global, _parameters: &(), input: &u64) -> Result<Fp<M257>, Error> {
-        Ok(Fp::from_u64(*input))
-    }
-
-    ghost meaning_decided = { λ _ leaf. tt };
-
-    ghost setup_decided = { λ _. tt };
-
-    ghost made_alike = { λ _ p q _ _. refl };
-
-    ghost same_parameters = { λ p q same. refl };
-}
-
-/// The first number and twice the second, modulo 257.
-pub struct ToyPairHash;
-
-impl TwoToOneCRHScheme for ToyPairHash {
-    type Input = Fp<M257>;
-
-    type Output = Fp<M257>;
-
-    type Parameters = ();
-
-    ghost evaluated = { λ _ left right. sum_modulo left right };
-
-    ghost compressed = { λ _ left right. sum_modulo left right };
-
-    ghost setup_outcome = { Ok };
-
-    ghost is_made = { λ _ _. Unit {0} };
-
-    fn setup<R: Rng>(_alloc: Global, _rng: &mut R) -> Result<(), Error> {
-        Ok(())
-    }
-
-    fn evaluate(
-        _alloc: Global,
-        _parameters: &(),
-        left: &Fp<M257>,
-        right: &Fp<M257>,
-    ) -> Result<Fp<M257>, Error> {
-        Ok(PrimeField::add(*left, PrimeField::double(*right)))
-    }
-
-    fn compress(
-        alloc: Global,
-        parameters: &(),
-        left: &Fp<M257>,
-        right: &Fp<M257>,
-    ) -> Result<Fp<M257>, Error> {
-        <ToyPairHash as TwoToOneCRHScheme>::evaluate(alloc, parameters, left, right)
-    }
-
-    ghost evaluated_decided = { λ _ _ _. tt };
-
-    ghost compressed_decided = { λ _ _ _. tt };
-
-    ghost setup_decided = { λ _. tt };
-
-    ghost made_alike = { λ _ p q _ _. refl };
-
-    ghost evaluated_same = { λ p q same. refl };
-
-    ghost compressed_same = { λ p q same. refl };
-}
-
-fn copies_of_one<D: DigestItem>(alloc: Global, digest: &D, count: usize) -> Result<Vec<D>, Error> {
+/// A digest, so many times.
+pub fn copies_of_one<D: DigestItem>(
+    alloc: Global,
+    digest: &D,
+    count: usize,
+) -> Result<Vec<D>, Error> {
     let mut copies = Vec::new(alloc);
     for _ in 0..count {
         copies.push(digest.duplicate(alloc)?)?;
@@ -199,18 +98,20 @@ fn all_share<P: Config>(
     Ok((is_made_so(&proof, &ALL, shared) && is_strict, accepted))
 }
 
-// The size and the height of the blank tree of eight, and what its proof of all leaves is.
+// The size and the height of the blank tree of eight, whether this is its root, and what its proof of all leaves is.
 fn blank<P: Config>(
     alloc: Global,
     leaf_parameters: &LeafParam<P>,
     pair_parameters: &TwoToOneParam<P>,
     leaves: &[P::Leaf],
+    root: &P::InnerDigest,
     shared: &[usize],
-) -> Result<(usize, usize, (bool, bool)), Error> {
+) -> Result<(usize, usize, bool, (bool, bool)), Error> {
     let tree = MerkleTree::<P>::blank(alloc, leaf_parameters, pair_parameters, 4)?;
     Ok((
         tree.size(),
         tree.height(),
+        *tree.root() == *root,
         all_share(
             alloc,
             leaf_parameters,
@@ -222,10 +123,48 @@ fn blank<P: Config>(
     ))
 }
 
+// All digests are 0: no path has one of its own but the first.
 #[test]
 fn all_indexes_of_a_blank_tree(rt: HostRuntime) {
+    let zero = Fp::from_u64(0);
     assert_eq!(rt;
-        blank::<Toy>(rt.alloc(), &(), &(), &[0; 8], &[0, 2, 2, 2, 2, 2, 2, 2]),
-        Ok((8, 4, (true, true)))
+        blank::<Toy>(
+            rt.alloc(),
+            &(),
+            &(),
+            &[0; 8],
+            &zero,
+            &[0, 2, 2, 2, 2, 2, 2, 2]
+        ),
+        Ok((8, 4, true, (true, true)))
     );
+}
+
+// Where three bytes stand behind a path, how many are read, and the path's index.
+fn read_front<P: Config>(alloc: Global, bytes: &[u8]) -> Result<(usize, usize), Error> {
+    let (path, used) = Path::<P>::deserialize(alloc, bytes)?;
+    Ok((used, path.leaf_index))
+}
+
+#[test]
+fn three_bytes_are_left_behind_a_path(rt: HostRuntime) {
+    let bytes = [
+        4, 0, 1, 0, 0, 0, 0, 0, 0, 0, 5, 0, 2, 0, 0, 0, 0, 0, 0, 0, 7, 8, 9,
+    ];
+    assert_eq!(rt; read_front::<Toy>(rt.alloc(), &bytes), Ok((20, 2)));
+}
+
+// Whether the setups of both hashes give parameters and draw nothing.
+fn sets_up<P: Config, R: Rng>(alloc: Global, rng: &mut R, twin: &mut R) -> bool {
+    P::LeafHash::setup(alloc, rng).is_ok()
+        && P::TwoToOneHash::setup(alloc, rng).is_ok()
+        && rng.next_u64() == twin.next_u64()
+}
+
+#[test]
+fn setups_draw_nothing(rt: HostRuntime) {
+    let mut rng = SmallRng::seed_from_u64(8);
+    let mut twin = SmallRng::seed_from_u64(8);
+    assert!(rt; sets_up::<Toy, SmallRng>(rt.alloc(), &mut rng, &mut twin));
+    assert!(rt; sets_up::<Refusing, SmallRng>(rt.alloc(), &mut rng, &mut twin));
 }
