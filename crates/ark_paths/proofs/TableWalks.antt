@@ -201,3 +201,7 @@ module _ {L D : Type 0} (leaf : L → Digest) (inner : D → Digest) (h : HashPa
 -- what a path says, from what it gives
 pub verdict-by : (h : HashPair) (leaf : Outcome Digest) (way : Way) (root digest given : Digest) (same : Bool) → leaf ≡ Ok digest → path_root h way digest ≡ Ok given → digest_eq given root ≡ same → verdict h leaf way root ≡ Ok same
 verdict-by h leaf way root digest given same hashed climbed is = rw (hashed, climbed, is) refl
+
+-- a path's refusal is that of the verdict
+pub verdict-refused : (h : HashPair) (leaf : Outcome Digest) (way : Way) (root digest : Digest) (e : Error) → leaf ≡ Ok digest → path_root h way digest ≡ Err e → verdict h leaf way root ≡ Err e
+verdict-refused h leaf way root digest e hashed refused = rw (hashed, refused) refl

@@ -1,4 +1,4 @@
-use Rattle.std.proofs.Common.{◌≡◌, ◌<◌, ◌+◌, ◌++◌, ◌∙◌, Bor, rules, take, length, vec_len, map, get_or, Some, true, false, sym, refl, arith}
+use Rattle.std.proofs.Common.{◌≡◌, ◌<◌, ◌≤◌, ◌+◌, ◌++◌, ◌∙◌, Bor, rules, take, length, vec_len, map, get_or, Some, true, false, sym, refl, arith}
 use Rattle.std.proofs.lemmas.Bool.{eqb-true, eqb-false}
 use Rattle.std.proofs.lemmas.List.{length-map}
 use Rattle.ark_paths.specs.MultiPath.{decoded_path, path_length}
@@ -36,12 +36,26 @@ returns-in_default-clause-answer g c =
     let within : place < length m.indexes = rw g.met.P.Views.multi_way_is (omega (arith, c.loop-place-test.true, c.len-place-end.ensures, c.args.self.now.leaf_indexes.ok.0)) in
     AtPlace-unfit c.loop-place.invariant.at within (λ index. rw (g.met.P.Views.multi_way_is, ← c.deref.ensures.value, ← c.deref-in-loop-place.ensures.value, ← c.deref-in-loop-place-2.ensures.value) (c.in_default.ensures _ index))
 
+pub returns-in_default-clause-most : goal.returns-in_default-clause-most
+returns-in_default-clause-most g c =
+    let m = g.P.Views.multi_way c.args.self.now in
+    let place = c.loop-place.place in
+    let within : place < length m.indexes = rw g.met.P.Views.multi_way_is (omega (arith, c.loop-place-test.true, c.len-place-end.ensures, c.args.self.now.leaf_indexes.ok.0)) in
+    most-all (g.T.PairHasher.counted c.args.hasher.now) (g.T.PairHasher.counted c.loop-place.hasher) place (length m.indexes) (path_length m) (omega (arith, within)) c.loop-place.invariant.most
+
 pub returns-in_default-next-clause-answer : goal.returns-in_default-next-clause-answer
 returns-in_default-next-clause-answer g c =
     let m = g.P.Views.multi_way c.args.self.now in
     let place = c.loop-place.place in
     let within : place < length m.indexes = rw g.met.P.Views.multi_way_is (omega (arith, c.loop-place-test.true, c.len-place-end.ensures, c.args.self.now.leaf_indexes.ok.0)) in
     AtPlace-no_leaf c.loop-place.invariant.at within c.next.new.self (rw c.in_default-next.is at c.next.ensures.steps)
+
+pub returns-in_default-next-clause-most : goal.returns-in_default-next-clause-most
+returns-in_default-next-clause-most g c =
+    let m = g.P.Views.multi_way c.args.self.now in
+    let place = c.loop-place.place in
+    let within : place < length m.indexes = rw g.met.P.Views.multi_way_is (omega (arith, c.loop-place-test.true, c.len-place-end.ensures, c.args.self.now.leaf_indexes.ok.0)) in
+    most-all (g.T.PairHasher.counted c.args.hasher.now) (g.T.PairHasher.counted c.loop-place.hasher) place (length m.indexes) (path_length m) (omega (arith, within)) c.loop-place.invariant.most
 
 pub returns-in_err-extend-clause-answer : goal.returns-in_err-extend-clause-answer
 returns-in_err-extend-clause-answer g c =
@@ -51,6 +65,13 @@ returns-in_err-extend-clause-answer g c =
     AtPlace-memory c.loop-place.invariant.at within c.next.new.self c.in-Some-next.leaf (rw c.in-Some-next.is at c.next.ensures.steps)
     c.from_residual.result c.in_err-extend.field-0.0 c.from_residual.ensures.1 c.in_err-extend.ensures.memory
 
+pub returns-in_err-extend-clause-most : goal.returns-in_err-extend-clause-most
+returns-in_err-extend-clause-most g c =
+    let m = g.P.Views.multi_way c.args.self.now in
+    let place = c.loop-place.place in
+    let within : place < length m.indexes = rw g.met.P.Views.multi_way_is (omega (arith, c.loop-place-test.true, c.len-place-end.ensures, c.args.self.now.leaf_indexes.ok.0)) in
+    most-all (g.T.PairHasher.counted c.args.hasher.now) (g.T.PairHasher.counted c.loop-place.hasher) place (length m.indexes) (path_length m) (omega (arith, within)) c.loop-place.invariant.most
+
 pub returns-in_err-accepted-clause-answer : goal.returns-in_err-accepted-clause-answer
 returns-in_err-accepted-clause-answer g c =
     let m = g.P.Views.multi_way c.args.self.now in
@@ -59,7 +80,7 @@ returns-in_err-accepted-clause-answer g c =
     let leaf = g.P.LeafDigest.Numbered.numbers in
     let inner = g.P.InnerDigest.Numbered.numbers in
     let index = c.index-index.result.now in
-    let is : index ≡ get_or m.indexes place index = rw g.met.P.Views.multi_way_is (search rules) in
+    let is : index ≡ get_or m.indexes place index = rw g.met.P.Views.multi_way_is c.index-index.ensures in
     let step = rw c.in-Some-next.is at c.next.ensures.steps in
     let before = map (λ (x : Bor _). inner x.now) c.loop-place.above.items in
     let parts : decoded_path m place before index ≡ Some (record { sibling = leaf c.in-Some.part.sibling.now; above = take c.in-Some.part.prefix before ++ map inner c.in-Some.part.suffix.now; index = index }) =
@@ -75,7 +96,7 @@ returns-in_err-accepted-clause-most g c =
     let leaf = g.P.LeafDigest.Numbered.numbers in
     let inner = g.P.InnerDigest.Numbered.numbers in
     let index = c.index-index.result.now in
-    let is : index ≡ get_or m.indexes place index = rw g.met.P.Views.multi_way_is (search rules) in
+    let is : index ≡ get_or m.indexes place index = rw g.met.P.Views.multi_way_is c.index-index.ensures in
     let step = rw c.in-Some-next.is at c.next.ensures.steps in
     let before = map (λ (x : Bor _). inner x.now) c.loop-place.above.items in
     let parts : decoded_path m place before index ≡ Some (record { sibling = leaf c.in-Some.part.sibling.now; above = take c.in-Some.part.prefix before ++ map inner c.in-Some.part.suffix.now; index = index }) =
@@ -92,7 +113,7 @@ returns-then-not-accepted-clause-answer g c =
     let leaf = g.P.LeafDigest.Numbered.numbers in
     let inner = g.P.InnerDigest.Numbered.numbers in
     let index = c.index-index.result.now in
-    let is : index ≡ get_or m.indexes place index = rw g.met.P.Views.multi_way_is (search rules) in
+    let is : index ≡ get_or m.indexes place index = rw g.met.P.Views.multi_way_is c.index-index.ensures in
     let step = rw c.in-Some-next.is at c.next.ensures.steps in
     let before = map (λ (x : Bor _). inner x.now) c.loop-place.above.items in
     let parts : decoded_path m place before index ≡ Some (record { sibling = leaf c.in-Some.part.sibling.now; above = take c.in-Some.part.prefix before ++ map inner c.in-Some.part.suffix.now; index = index }) =
@@ -108,7 +129,7 @@ returns-then-not-accepted-clause-most g c =
     let leaf = g.P.LeafDigest.Numbered.numbers in
     let inner = g.P.InnerDigest.Numbered.numbers in
     let index = c.index-index.result.now in
-    let is : index ≡ get_or m.indexes place index = rw g.met.P.Views.multi_way_is (search rules) in
+    let is : index ≡ get_or m.indexes place index = rw g.met.P.Views.multi_way_is c.index-index.ensures in
     let step = rw c.in-Some-next.is at c.next.ensures.steps in
     let before = map (λ (x : Bor _). inner x.now) c.loop-place.above.items in
     let parts : decoded_path m place before index ≡ Some (record { sibling = leaf c.in-Some.part.sibling.now; above = take c.in-Some.part.prefix before ++ map inner c.in-Some.part.suffix.now; index = index }) =
@@ -125,7 +146,7 @@ loop-place-preserved g c =
     let leaf = g.P.LeafDigest.Numbered.numbers in
     let inner = g.P.InnerDigest.Numbered.numbers in
     let index = c.index-index.result.now in
-    let is : index ≡ get_or m.indexes place index = rw g.met.P.Views.multi_way_is (search rules) in
+    let is : index ≡ get_or m.indexes place index = rw g.met.P.Views.multi_way_is c.index-index.ensures in
     let step = rw c.in-Some-next.is at c.next.ensures.steps in
     let before = map (λ (x : Bor _). inner x.now) c.loop-place.above.items in
     let parts : decoded_path m place before index ≡ Some (record { sibling = leaf c.in-Some.part.sibling.now; above = take c.in-Some.part.prefix before ++ map inner c.in-Some.part.suffix.now; index = index }) =
@@ -161,3 +182,9 @@ returns-clause-exact g c = λ yes.
     let h = g.T.PairHasher.pair c.args.hasher.now in
     let past : length m.indexes ≡ c.loop-place.place = rw g.met.P.Views.multi_way_is (omega (arith, c.loop-place-test.false, c.len-place-end.ensures, c.args.self.now.leaf_indexes.ok.0)) in
     Counted-all leaf inner h (inner c.args.root.now) m (λ (l : Bor _). g.P.LeafHash.CRHScheme.meaning c.args.leaf_parameters.now l.now) c.loop-place.leaves c.loop-place.place c.loop-place.table (g.T.PairHasher.counted c.args.hasher.now) (g.T.PairHasher.counted c.loop-place.hasher) c.loop-place.invariant.counted past c.loop-place.invariant.rises
+
+pub returns-clause-most : goal.returns-clause-most
+returns-clause-most g c =
+    let m = g.P.Views.multi_way c.args.self.now in
+    let past : c.loop-place.place ≤ length m.indexes = rw g.met.P.Views.multi_way_is (omega (arith, c.loop-place-test.false, c.len-place-end.ensures, c.args.self.now.leaf_indexes.ok.0)) in
+    most-all (g.T.PairHasher.counted c.args.hasher.now) (g.T.PairHasher.counted c.loop-place.hasher) c.loop-place.place (length m.indexes) (path_length m) past c.loop-place.invariant.most

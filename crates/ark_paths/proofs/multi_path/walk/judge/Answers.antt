@@ -1,9 +1,18 @@
 use Rattle.std.proofs.Common.{◌≡◌, [], map, get_or, ap, sym, ◌∙◌, rules, Bor}
 use Rattle.std.proofs.lemmas.List.{get_or-map}
+use Rattle.ark_base.proofs.Refusals.{passed_on}
 use Rattle.ark_paths.specs.Pair.{digest_eq}
 use Rattle.ark_paths.specs.Path.{Way}
-use Rattle.ark_paths.proofs.TableWalks.{verdict-by}
+use Rattle.ark_paths.proofs.TableWalks.{verdict-by, verdict-refused}
 use Rattle.ark_paths.proofs.multi_path.walk.judge.Goals as goal
+
+pub returns-in_err-top-clause-answer : goal.returns-in_err-top-clause-answer
+returns-in_err-top-clause-answer g c =
+    let inner = g.P.InnerDigest.Numbered.numbers in
+    let way : Way = record { sibling = g.P.LeafDigest.Numbered.numbers c.args.sibling.now; above = map (λ (x : Bor _). inner x.now) c.args.above.now; index = c.args.index } in
+    let refusal = c.in_err-top.field-0.0 in
+    passed_on (λ accepted. accepted) _ c.from_residual-in_err-top.result refusal c.from_residual-in_err-top.ensures.1 c.in_err-top.ensures.answer
+    (verdict-refused (g.T.PairHasher.pair c.args.hasher.now) _ way (inner c.args.root.now) (g.P.LeafDigest.Numbered.numbers c.in_ok-digest.digest) refusal c.in_ok-digest.ensures)
 
 pub returns-clause-answer : goal.returns-clause-answer
 returns-clause-answer g c =

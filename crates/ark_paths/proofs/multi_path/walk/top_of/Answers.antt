@@ -109,3 +109,35 @@ returns-clause-holds g c = λ pairs seen holds has.
     let levels = length c.args.above.now in
     let end : c.loop-below.below ≡ levels = omega arith in
     HoldsTree-top g.P.LeafDigest.Numbered.numbers g.P.InnerDigest.Numbered.numbers (g.T.PairHasher.pair c.args.hasher.now) pairs levels c.args.index seen (length c.args.table.now.made.items) c.loop-below.below (length c.loop-below.table.made.items) c.loop-below.table end (c.loop-below.invariant.holds pairs seen holds has)
+
+pub returns-clause-answer : goal.returns-clause-answer
+returns-clause-answer g c =
+    let none : length c.args.above.now - c.loop-below.below ≡ 0 = omega (arith, c.loop-below-test.false) in
+    rw none at c.loop-below.invariant.so_far
+
+pub returns-clause-most : goal.returns-clause-most
+returns-clause-most g c = omega (arith, c.loop-below-test.false, c.loop-below.invariant.most)
+
+pub returns-in_err-own-2-clause-most : goal.returns-in_err-own-2-clause-most
+returns-in_err-own-2-clause-most g c = omega (arith, c.loop-below-test.true, c.loop-below.invariant.most, c.ask_upper.ensures.most)
+
+pub returns-in_err-own-clause-most : goal.returns-in_err-own-clause-most
+returns-in_err-own-clause-most g c = omega (arith, c.ask_lowest.ensures.most)
+
+pub returns-in_err-own-clause-answer : goal.returns-in_err-own-clause-answer
+returns-in_err-own-clause-answer g c =
+    let leaf = g.P.LeafDigest.Numbered.numbers in
+    let inner = g.P.InnerDigest.Numbered.numbers in
+    let h = g.T.PairHasher.pair c.args.hasher.now in
+    let t = c.args.table.now in
+    let xs = c.args.above.now in
+    let sibling = leaf c.args.sibling.now in
+    let digest = leaf c.args.digest in
+    let ls = map leaf t.leaves.items in
+    let ms = map leaf c.push.new.self.items in
+    let pushed : ms ≡ ls ++ digest ∷ [] = rw c.in_ok-push.ensures.items (map-append leaf t.leaves.items (c.args.digest ∷ [])) in
+    let number : c.len-own.result ≡ length ls = omega (arith, length-map t.leaves.items leaf) in
+    let at : get_or (map leaf c.deref.result.now) c.len-own.result [] ≡ digest = rw (c.deref.ensures.value, number) (get_or-last ls ms digest pushed) in
+    let refusal = c.in_err-own.field-0.0 in
+    passed_on _ _ c.from_residual-in_err-own.result refusal c.from_residual-in_err-own.ensures.1 (rw (at, c.is_bit_set.ensures) at c.in_err-own.ensures.answer)
+    (λ refused. path_root-refused h (λ (x : Bor _). inner x.now) xs sibling c.args.index digest 0 refusal (path_root-lowest h (λ (x : Bor _). inner x.now) xs sibling c.args.index digest ∙ refused))

@@ -1,5 +1,5 @@
 use Rattle.std.proofs.Common.{◌≡◌, ◌<◌, ◌≤◌, ◌+◌, ◌-◌, ◌∙◌, map, take, drop, ap, sym, length, arith, refl, length-drop}
-use Rattle.std.proofs.lemmas.List.{take_all, length-take-le}
+use Rattle.std.proofs.lemmas.List.{take_all, length-take, length-take-le}
 use Rattle.ark_sponge.specs.Permutation.{permutation}
 use Rattle.ark_sponge.specs.Duplex.{numbers_from_place}
 use Rattle.ark_sponge.proofs.Squeezes.{at_turn, at_end, given_block}
@@ -67,3 +67,28 @@ returns-clause-index g c =
     let whole : c.args.start + c.loop-given.given ≡ (c.args.start + (length c.args.out.now - 1)) + 1 = omega (arith, c.loop-given-test.false, kept.within, kept.out, c.requires.some) in
     (at_end q.rate (permutation f.MODULUS g.S.SBox.image q) (map f.value c.args.state.now) (c.args.start + (length c.args.out.now - 1)) (c.args.start + c.loop-given.given)
     c.loop-given.index (map f.value c.loop-given.state) whole kept.at (kept.begun some)).1
+
+pub returns-clause-state : goal.returns-clause-state
+returns-clause-state g c =
+    let f = g.F.PrimeField in
+    let q = c.args.parameters.now in
+    let kept = c.loop-given.invariant in
+    let some : 0 < c.loop-given.given = omega (arith, c.loop-given-test.false, kept.out, c.requires.some) in
+    let whole : c.args.start + c.loop-given.given ≡ (c.args.start + (length c.args.out.now - 1)) + 1 = omega (arith, c.loop-given-test.false, kept.within, kept.out, c.requires.some) in
+    (at_end q.rate (permutation f.MODULUS g.S.SBox.image q) (map f.value c.args.state.now) (c.args.start + (length c.args.out.now - 1)) (c.args.start + c.loop-given.given)
+    c.loop-given.index (map f.value c.loop-given.state) whole kept.at (kept.begun some)).0
+
+pub split_at-requires : goal.split_at-requires
+split_at-requires g c =
+    omega (arith, c.capacity-capacity.ensures, c.turn-place.ensures.within, c.turn-place.auto.state, c.loop-given.invariant.state)
+
+pub write_at-requires : goal.write_at-requires
+write_at-requires g c =
+    omega (arith, length-take c.min-count.result c.split_at.result.1.now, c.min-count.ensures, c.loop-given-test.true)
+
+pub turn-place-requires : goal.turn-place-requires
+turn-place-requires g c =
+    record { width = c.loop-given.invariant.state; scratch = c.loop-given.invariant.scratch ∙ sym c.loop-given.invariant.state; index = c.loop-given.invariant.at.within }
+
+pub returns-clause-within : goal.returns-clause-within
+returns-clause-within g c = c.loop-given.invariant.at.within

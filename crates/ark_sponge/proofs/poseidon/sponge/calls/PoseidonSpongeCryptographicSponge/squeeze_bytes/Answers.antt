@@ -1,4 +1,5 @@
-use Rattle.std.proofs.Common.{◌≡◌, ℕ, ◌-◌, ◌*◌, ◌/◌, ◌<◌, ◌≤◌, length, ap, arith}
+use Rattle.std.proofs.Common.{◌≡◌, ◌∙◌, refl, ℕ, ◌-◌, ◌*◌, ◌/◌, ◌<◌, ◌≤◌, length, ap, arith}
+use Rattle.std.proofs.lemmas.List.{with_items_is}
 use Rattle.std.specs.Int.{div_ceil}
 use Rattle.ark_groups.specs.Laws.Field.{at_most_64_bits}
 use Rattle.std.proofs.lemmas.Grind.{div_ceil_times}
@@ -17,3 +18,14 @@ spread_bytes-requires-clause-enough g c =
     let product : length c.deref.result.now * size ≡ div_ceil c.args.count size * size = ap (λ (k : ℕ). k * size) long in
     let room : length c.deref_mut-2.result.now ≤ length c.deref.result.now * size = omega (arith, product, (div_ceil_times c.args.count size some).0, c.deref_mut-2.ensures.len, c.in_ok-bytes.ensures.len) in
     room
+
+pub returns-clause-given : goal.returns-clause-given
+returns-clause-given g c =
+    let bytes = c.in_ok-bytes.bytes in
+    let new = c.spread_bytes.new.out in
+    let wanted : length c.deref_mut-2.result.now ≡ c.args.count = omega (arith, c.deref_mut-2.ensures.len, c.in_ok-bytes.ensures.len) in
+    let count : length c.deref_mut.result.now ≡ c.div_ceil.result = omega (arith, c.deref_mut.ensures.len, c.in_ok-elements.ensures.len) in
+    let elements = with_items_is c.in_ok-elements.elements c.squeeze_into.new.out (c.squeeze_into.ensures.length ∙ c.deref_mut.ensures.len) in
+    let items = with_items_is bytes new (c.spread_bytes.auto.out ∙ c.deref_mut-2.ensures.len) in
+    rw (items, c.spread_bytes.ensures, wanted, c.deref.ensures.value, elements)
+    (rw (c.squeeze_into.ensures.numbers, c.squeeze_into.ensures.sponge, count, c.div_ceil.ensures, c.MODULUS_BIT_SIZE.ensures) refl)
