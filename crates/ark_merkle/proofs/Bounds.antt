@@ -90,6 +90,10 @@ module _ (h : HashPair) (leaves : List Digest) (rows : List (List Digest)) (tree
 
 -- ---- the answer, from what the call knows
 
+pub bound-unhashed : {A : Type 0} (inside now : HashedTree A) → inside ≡ now → (seen way : Way) → seen ≡ way → length seen.above ≡ upper_levels inside.leaves → (leaf : A) (e : Error) → inside.hashes.leaf leaf ≡ Err e → binding_in now leaf way ≡ Err e
+bound-unhashed {A} inside now same seen way alike long leaf e refused =
+    ap (λ (t : HashedTree A). binding_in t leaf way) (sym same) ∙ ap (binding_in inside leaf) (sym alike) ∙ rw (eq-eqb (length seen.above) (upper_levels inside.leaves) long, refused) refl
+
 module _ {A : Type 0} (inside now : HashedTree A) (same : inside ≡ now) (seen way : Way) (alike : seen ≡ way) (long : length seen.above ≡ upper_levels inside.leaves) (leaf : A) (digest : Digest) (hashed : inside.hashes.leaf leaf ≡ Ok digest) where
   long_enough : (length seen.above == upper_levels inside.leaves) ≡ true
   long_enough = eq-eqb (length seen.above) (upper_levels inside.leaves) long

@@ -1,6 +1,6 @@
 -- Rows above changed digests: what they become, and how many places are hashed.
 use Rattle.std.proofs.Common.{zero, suc, ◌≡◌, ◌≢◌, ◌⊎◌, inl, inr, ℕ, ◌+◌, ◌-◌, ◌*◌, ◌/◌, ◌%◌, ◌<◌, ◌≤◌, ◌^◌, List, [], ◌∷◌, length, map, take, drop, get_or, set, Ok, Err, refl, ap, sym, ◌∙◌, arith}
-use Rattle.std.proofs.lemmas.List.{length-map, drop-set, get_or-take}
+use Rattle.std.proofs.lemmas.List.{length-map, drop-set, drop_all, take-set, take-take, get_or-take}
 use Rattle.std.proofs.Math.Nat.{pow-succ'}
 use Rattle.ark_base.specs.declared.error.Error.{Error}
 use Rattle.ark_base.specs.Outcome.{Outcome, ◌>>=◌}
@@ -78,6 +78,17 @@ count_over-fits (suc rows) cs so =
 
 -- ---- a row that changes, and the rows above it
 
+pub row-kept : (rows now : List (List Digest)) (row : ℕ) → take (row + 1) now ≡ take (row + 1) rows → get_or now row [] ≡ get_or rows row []
+row-kept rows now row same = sym (get_or-take (row + 1) now row [] (omega arith)) ∙ ap (λ (rs : List (List Digest)). get_or rs row []) same ∙ get_or-take (row + 1) rows row [] (omega arith)
+
+pub below-kept : (rows now : List (List Digest)) (row : ℕ) (new : List Digest) → take (row + 1) now ≡ take (row + 1) rows → take row (set now row new) ≡ take row rows
+below-kept rows now row new same = take-set now row new ∙ sym (take-take row (row + 1) now (omega arith)) ∙ ap (take row) same ∙ take-take row (row + 1) rows (omega arith)
+
+pub last-changed : (hash : Digest → Digest → Outcome Digest) (rows : List (List Digest)) (row : ℕ) (new : List Digest) → length rows ≡ row + 1 → rows_from hash (length rows - 1 - row) new ≡ Ok (drop row (set rows row new))
+last-changed hash rows row new last =
+    let none : length rows - 1 - row ≡ 0 = omega arith in
+    rw (none, drop-set rows row new (omega arith), drop_all (row + 1) rows (omega arith)) refl
+
 module _ (hash : Digest → Digest → Outcome Digest) (rows : List (List Digest)) (row : ℕ) (size : length (get_or rows row []) ≡ 2 ^ (length rows - 1 - row)) (hashed : AreHashed hash rows) (below : row + 1 < length rows) where
   abbrev above : ℕ
   above = length rows - 1 - (row + 1)
@@ -124,7 +135,7 @@ module _ (hash : Digest → Digest → Outcome Digest) (rows : List (List Digest
           → rows_from hash (length rows - 1 - row) new ≡ Ok (drop row (set now row (puts (get_or now row []) cs)))
       rows-changed now long same is =
           let inside : row < length now = omega (arith, long, below) in
-          let old : get_or now row [] ≡ get_or rows row [] = sym (get_or-take (row + 1) now row [] (omega arith)) ∙ ap (λ (rs : List (List Digest)). get_or rs row []) same ∙ get_or-take (row + 1) rows row [] (omega arith) in
+          let old = row-kept rows now row same in
           from_here ∙ rw (made, is, old) (ap Ok (sym (drop-set now row new inside)))
 
       pub count_over-hashed : count_over (length rows - 1 - row) (places cs) ≡ length ups + count_over above (places ups)

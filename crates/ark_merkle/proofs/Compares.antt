@@ -51,6 +51,9 @@ module _ {A B : Type 0} (leaf_numbers : A → Digest) (numbers : B → Digest) (
     pub climb-first : (current : Digest) (is_right : Bool) → is_right ≡ bit_at index 0 → hash_in_order h.bottom is_right digest sibling ≡ Ok current → top_from h way digest (length above_in - 0) ≡ Ok current
     climb-first current is_right side hashed = top_from-last h way digest (length above_in - 0) (omega (arith, levels, high)) ∙ rw side at hashed
 
+    pub climb-first-refused : (e : Error) (is_right : Bool) → is_right ≡ bit_at index 0 → hash_in_order h.bottom is_right digest sibling ≡ Err e → path_root h way digest ≡ Err e
+    climb-first-refused e is_right side refused = let first = rw side at refused in rw first refl
+
     pub differs-first : (is_own : Bool) (n place : ℕ) (own_in beside_in : A) (o : Option ℕ) → is_own ≡ (digest_eq digest (leaf_numbers own_in) && digest_eq sibling (leaf_numbers beside_in))
         → own_in ≡ get_or leaves_in (index % length leaves_in) own_in → place ≡ neighbour (index % length leaves_in) → beside_in ≡ get_or leaves_in place beside_in → n ≡ length above_in → o ≡ (if is_own then None else Some n) → o ≡ difference_from h leaves way digest (length above_in - 0) 1
     differs-first is_own n place own_in beside_in o is own_is at beside_is n_is answer =

@@ -27,13 +27,14 @@ module _ {A B : Type 0} (leaf_numbers : A → Digest) (numbers : B → Digest) (
   pub rows-some : 0 < length rows
   rows-some = omega (arith, tree.count)
 
+  pub beside-here : neighbour index < length leaves_in
+  beside-here = rw (length-map leaves_in leaf_numbers) at (leaf-neighbour h leaves rows tree index inside)
+
   -- ---- the leaf digests
 
   module _ (place : ℕ) (place_is : place ≡ neighbour index) (sibling : A) (read : sibling ≡ get_or leaves_in place sibling) (is_right : Bool) (side : is_right ≡ bit_at index 0) where
     beside : get_or leaves (neighbour index) [] ≡ leaf_numbers sibling
-    beside =
-        let there : neighbour index < length leaves_in = rw (length-map leaves_in leaf_numbers) at (leaf-neighbour h leaves rows tree index inside) in
-        get_or-map leaf_numbers leaves_in (neighbour index) sibling [] there ∙ ap leaf_numbers (sym (rw place_is at read))
+    beside = get_or-map leaf_numbers leaves_in (neighbour index) sibling [] beside-here ∙ ap leaf_numbers (sym (rw place_is at read))
 
     pub way-first : (d : Digest) → hash_in_order h.bottom is_right digest (leaf_numbers sibling) ≡ Ok d → AreOnWay h new index (d ∷ [])
     way-first d hashed = lowest-on_way h leaves rows tree index inside digest (leaf_numbers sibling) beside d (rw side at hashed)

@@ -1,6 +1,6 @@
 -- Rows that are hashed one behind the other into one list.
 use Rattle.std.proofs.Common.{zero, suc, ◌≡◌, ℕ, ◌+◌, ◌-◌, ◌*◌, ◌<◌, ◌≤◌, ◌^◌, List, [], ◌∷◌, ◌++◌, length, take, drop, get_or, Ok, Err, refl, ap, sym, ◌∙◌, arith, pow_pos, append_assoc, append-nil, zero-add, add-zero}
-use Rattle.std.proofs.lemmas.List.{length-append, get_or-append-add, take_at, drop_at}
+use Rattle.std.proofs.lemmas.List.{length-append, length-map, get_or-append-add, take_at, drop_at}
 use Rattle.std.proofs.Math.Nat.{pow-succ'}
 use Rattle.std.specs.declared.vec.Vec.{Vec}
 use Rattle.ark_base.specs.declared.error.Error.{Error}
@@ -135,6 +135,12 @@ module _ (hash : Digest → Digest → Outcome Digest) where
           let own : take (2 ^ k) now ≡ row = rw so.now_is (take_at row so.done (2 ^ k) size) in
           let above : drop (2 ^ k) now ≡ so.done = rw so.now_is (drop_at row so.done (2 ^ k) size) in
           piled-rows k 0 [] row refl size ∙ rw (own, above, ← size, made) refl
+
+-- a couple that is still to be hashed stands in the list
+pub couple_inside : {A Y Z : Type 0} (hash : Digest → Digest → Outcome Digest) (numbers : A → Digest) (first : Vec A Y) (now : Vec A Z) (couple : ℕ) → IsPiled hash (digests_of numbers first) couple (digests_of numbers now)
+    → couple < length first.items - 1 → 2 * couple + 1 < length now.items
+couple_inside hash numbers first now couple so below =
+    omega (arith, length-piled hash (digests_of numbers first) couple (digests_of numbers now) so, length-map now.items numbers, length-map first.items numbers)
 
 -- what two reads of the list give
 pub couple_read : {A Z : Type 0} (hash : Digest → Digest → Outcome Digest) (numbers : A → Digest) (digests : Vec A Z) (couple : ℕ) (left right : A) → 2 * couple + 1 < length digests.items

@@ -7,9 +7,26 @@ use Rattle.ark_paths.specs.Path.{Way}
 use Rattle.ark_paths.specs.Root.{upper_levels}
 use Rattle.ark_paths.specs.Rows.{IsTree, digests_of}
 use Rattle.ark_paths.proofs.OwnPaths.{root-top}
-use Rattle.ark_merkle.proofs.Bounds.{bound-accepted, bound-stands, bound-differs, bound-refused, bound-ok}
+use Rattle.ark_merkle.proofs.Bounds.{bound-accepted, bound-stands, bound-differs, bound-unhashed, bound-refused, bound-ok}
 use Rattle.ark_merkle.proofs.TreeReads.{seen-tree}
 use Rattle.ark_merkle.proofs.tree.MerkleTree.bind.Goals as goal
+
+pub compare-requires-clause-tree : goal.compare-requires-clause-tree
+compare-requires-clause-tree g c = rw c.deref.ensures.value c.self.invariant
+
+pub returns-in_err-digest-clause-answer : goal.returns-in_err-digest-clause-answer
+returns-in_err-digest-clause-answer g c =
+    let two = g.P.TwoToOneHash.TwoToOneCRHScheme in
+    let pair = pair_of g.P.LeafInnerDigestConverter.DigestConverter.conversion two.evaluated two.compressed in
+    let numbers = g.P.InnerDigest.Numbered.numbers in
+    let leaf_numbers = g.P.LeafDigest.Numbered.numbers in
+    let path = c.args.path.now in
+    let seen : Way = record { sibling = leaf_numbers path.leaf_sibling_hash; above = map numbers path.auth_path.items; index = path.leaf_index } in
+    let same = seen-tree _ _ c.self.view_is g.P.LeafHash.CRHScheme.meaning pair g.P.Views.tree g.met.P.Views.tree_is in
+    let high : length seen.above ≡ upper_levels (digests_of leaf_numbers c.self.inside.leaves) = omega (arith, length-map path.auth_path.items numbers, path.auth_path.ok.0, c.if-len-above.false, c.len.ensures, c.len-above.ensures.count, c.self.invariant.count) in
+    let refusal = c.in_err-digest.field-0.0 in
+    passed_on _ _ c.from_residual.result refusal c.from_residual.ensures.1 c.in_err-digest.ensures
+    (bound-unhashed _ _ same seen (g.P.Views.way path) (sym (ap (λ (f : _ → Way). f path) g.met.P.Views.way_is)) high c.args.leaf.now refusal)
 
 pub returns-in_err-top-clause-answer : goal.returns-in_err-top-clause-answer
 returns-in_err-top-clause-answer g c =

@@ -1,3 +1,4 @@
+use Rattle.ark_base.proofs.Refusals.{passed_on}
 use Rattle.std.proofs.Common.{◌≡◌, ◌∙◌, length, Ok, ap, sym, arith}
 use Rattle.std.proofs.lemmas.List.{length-map}
 use Rattle.ark_base.specs.Laws.Steps.{done_injective}
@@ -85,3 +86,12 @@ returns-clause-accepted g c =
     let tree : IsTree now.hashes.pair now.leaves rows = rw g.met.P.Views.tree_is (seen_tree pair rows _ _ c.self.view_is c.self.invariant) in
     let once : rising_set c.args.indexes.now ≡ c.in_ok-leaf_indexes.leaf_indexes.items = done_injective _ _ c.in_ok-leaf_indexes.ensures in
     λ some leaves r hashed rooted. own_multi_path-accepted now.hashes.pair now.leaves rows tree c.args.indexes.now (rw g.met.P.Views.tree_is c.requires) _ c.in_ok-leaf_indexes.leaf_indexes.items (done_injective _ _ (returns-clause-proof g c)) once _ r some hashed rooted
+
+pub returns-in_err-leaf_indexes-clause-proof : goal.returns-in_err-leaf_indexes-clause-proof
+returns-in_err-leaf_indexes-clause-proof g c = passed_on _ _ c.from_residual.result c.in_err-leaf_indexes.field-0.0 c.from_residual.ensures.1 c.in_err-leaf_indexes.ensures (λ refused. absurd cc)
+
+pub returns-in_err-leaf_siblings_hashes-clause-proof : goal.returns-in_err-leaf_siblings_hashes-clause-proof
+returns-in_err-leaf_siblings_hashes-clause-proof g c = passed_on _ _ c.from_residual-in_err-leaf_siblings_hashes.result c.in_err-leaf_siblings_hashes.field-0.0 c.from_residual-in_err-leaf_siblings_hashes.ensures.1 c.in_err-leaf_siblings_hashes.ensures (λ refused. absurd cc)
+
+pub returns-in_err-auth_paths_prefix_lenghts-clause-proof : goal.returns-in_err-auth_paths_prefix_lenghts-clause-proof
+returns-in_err-auth_paths_prefix_lenghts-clause-proof g c = passed_on _ _ c.from_residual-in_err-auth_paths_prefix_lenghts.result c.in_err-auth_paths_prefix_lenghts.field-0.0 c.from_residual-in_err-auth_paths_prefix_lenghts.ensures.1 c.in_err-auth_paths_prefix_lenghts.ensures.prefixes (λ refused. absurd cc)

@@ -55,3 +55,12 @@ returns-clause-count g c =
     let inside = AreChanges-of leaf c.args.leaves.now c.args.changes.items c.requires.changes in
     let total = count_over-leaves _ _ _ c.requires.tree _ inside _ (rw c.deref.ensures.value at c.in_ok-above.ensures) in
     omega (arith, total, c.len-hashed.ensures, c.in_ok-above.above.ok.0, length-seen inner c.in_ok-above.above.items, c.in_ok-more.ensures.count, ap (count_over (length c.args.rows.now - 1 - 0)) (places-seen inner c.in_ok-above.above.items), ap (count_over (length c.args.rows.now)) (places-seen leaf c.args.changes.items))
+
+pub hash_reached_leaves-requires-clause-changes : goal.hash_reached_leaves-requires-clause-changes
+hash_reached_leaves-requires-clause-changes g c = rw c.deref.ensures.value c.requires.changes
+
+pub returns-in_err-above-clause-tree : goal.returns-in_err-above-clause-tree
+returns-in_err-above-clause-tree g c = c.requires.tree
+
+pub returns-in_err-more-clause-tree : goal.returns-in_err-more-clause-tree
+returns-in_err-more-clause-tree g c = rw c.in_err-more.ensures.refused c.requires.tree

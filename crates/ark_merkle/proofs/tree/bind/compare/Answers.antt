@@ -1,6 +1,6 @@
-use Rattle.std.proofs.Common.{◌∙◌, arith}
+use Rattle.std.proofs.Common.{◌≡◌, ◌-◌, ◌∙◌, length, arith}
 use Rattle.ark_base.proofs.Refusals.{passed_on}
-use Rattle.ark_merkle.proofs.Compares.{leaves-some, own-here, beside-here, climb-first, differs-first, differs-end, step-fits, own-in_row, beside-in_row, climb-refused, climb-more, differs-more}
+use Rattle.ark_merkle.proofs.Compares.{leaves-some, own-here, beside-here, climb-first, climb-first-refused, differs-first, differs-end, step-fits, own-in_row, beside-in_row, climb-refused, climb-more, differs-more}
 use Rattle.ark_merkle.proofs.tree.bind.compare.Goals as goal
 
 pub nonzero_rem-index : goal.nonzero_rem-index
@@ -43,6 +43,12 @@ overflow_shr-place g c =
           c.loop-step.step (omega arith) c.requires.fits,
     )
 
+pub returns-in_err-current-clause-top : goal.returns-in_err-current-clause-top
+returns-in_err-current-clause-top g c =
+    passed_on _ _ c.from_residual.result c.in_err-current.field-0.0 c.from_residual.ensures.1 c.in_err-current.ensures
+    (climb-first-refused g.P.LeafDigest.Numbered.numbers g.P.InnerDigest.Numbered.numbers _ c.args.leaves.now c.args.rows.now c.requires.tree (g.P.LeafDigest.Numbered.numbers c.args.path.now.leaf_sibling_hash) c.args.path.now.auth_path.items c.args.path.now.leaf_index c.requires.count (g.P.LeafDigest.Numbered.numbers c.args.digest.now)
+    c.in_err-current.field-0.0 c.is_bit_set.result c.is_bit_set.ensures)
+
 pub returns-in_err-current-2-clause-top : goal.returns-in_err-current-2-clause-top
 returns-in_err-current-2-clause-top g c =
     passed_on _ _ c.from_residual-in_err-current-2.result c.in_err-current-2.field-0.0 c.from_residual-in_err-current-2.ensures.1 c.in_err-current-2.ensures
@@ -69,3 +75,8 @@ pub returns-clause-difference : goal.returns-clause-difference
 returns-clause-difference g c =
     differs-end g.P.LeafDigest.Numbered.numbers g.P.InnerDigest.Numbered.numbers _ c.args.leaves.now c.args.rows.now c.requires.tree (g.P.LeafDigest.Numbered.numbers c.args.path.now.leaf_sibling_hash) c.args.path.now.auth_path.items c.args.path.now.leaf_index c.requires.count (g.P.LeafDigest.Numbered.numbers c.args.digest.now)
     c.loop-step.step c.loop-step.difference (omega arith) (omega arith) c.loop-step.invariant.1
+
+pub returns-clause-top : goal.returns-clause-top
+returns-clause-top g c =
+    let none : length c.args.path.now.auth_path.items - c.loop-step.step ≡ 0 = omega (arith, c.loop-step-test.false, c.len-step-end.ensures, c.args.path.now.auth_path.ok.0) in
+    rw none at c.loop-step.invariant.0

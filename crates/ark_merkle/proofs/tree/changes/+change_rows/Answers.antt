@@ -1,10 +1,10 @@
-use Rattle.std.proofs.Common.{◌<◌, ◌≤◌, ◌+◌, ◌-◌, ◌^◌, [], length, get_or, ap, arith}
+use Rattle.std.proofs.Common.{◌≡◌, ◌∙◌, ◌<◌, ◌≤◌, ◌+◌, ◌-◌, ◌^◌, [], length, get_or, ap, sym, arith}
 use Rattle.std.proofs.lemmas.List.{length-map}
 use Rattle.std.proofs.Math.Nat.{pow-le-pow_right}
 use Rattle.ark_base.proofs.Refusals.{passed_on}
 use Rattle.ark_merkle.specs.Changed.{seen_changes, count_over}
 use Rattle.ark_merkle.proofs.Batches.{AreChanges-seen, AreChanges-unseen, length-seen}
-use Rattle.ark_merkle.proofs.ChangedRows.{places-seen, row-even, size-above, rows-refused, rows-refused_above, rows-changed, changes-above, count_over-hashed, count_over-fits}
+use Rattle.ark_merkle.proofs.ChangedRows.{places-seen, row-even, size-above, rows-refused, rows-refused_above, rows-changed, changes-above, row-kept, below-kept, last-changed, count_over-hashed, count_over-fits}
 use Rattle.ark_merkle.proofs.tree.changes.+change_rows.Goals as goal
 
 pub hash_reached-requires-clause-even : goal.hash_reached-requires-clause-even
@@ -64,3 +64,19 @@ returns-clause-count g t c =
     let inside = AreChanges-seen g.H.Output.Numbered.numbers 0 (length (get_or c.args.rows.now c.args.row [])) c.args.changes.items c.requires.changes in
     let total = count_over-hashed hash c.args.rows.now c.args.row c.requires.size c.requires.hashed below _ inside _ (rw (c.row.ensures, c.deref.ensures.value) at c.in_ok-above.ensures) in
     omega (arith, total, c.len-hashed.ensures, c.in_ok-above.above.ok.0, length-seen g.H.Output.Numbered.numbers c.in_ok-above.above.items, c.in_ok-more.ensures.count, ap (count_over (length c.args.rows.now - 1 - (c.args.row + 1))) (places-seen g.H.Output.Numbered.numbers c.in_ok-above.above.items), ap (count_over (length c.args.rows.now - 1 - c.args.row)) (places-seen g.H.Output.Numbered.numbers c.args.changes.items))
+
+pub hash_reached-requires-clause-changes : goal.hash_reached-requires-clause-changes
+hash_reached-requires-clause-changes g t c =
+    let long : length c.row.result.now ≡ length (get_or c.args.rows.now c.args.row []) = sym (length-map c.row.result.now g.H.Output.Numbered.numbers) ∙ ap length c.row.ensures in
+    rw (long, c.deref.ensures.value) c.requires.changes
+
+pub returns-clause-below : goal.returns-clause-below
+returns-clause-below g t c = rw c.put_in_row-2.ensures (below-kept c.args.rows.now c.change_rows.new.rows c.args.row _ c.in_ok-more.ensures.below)
+
+pub returns-then-len-row-clause-rows : goal.returns-then-len-row-clause-rows
+returns-then-len-row-clause-rows g t c =
+    let hash = g.H.TwoToOneCRHScheme.compressed c.args.pair_parameters.now in
+    rw c.put_in_row.ensures (last-changed hash c.args.rows.now c.args.row _ (omega (arith, c.len.ensures.count, c.if-len-row.true)))
+
+pub put_in_row-requires-2-clause-changes : goal.put_in_row-requires-2-clause-changes
+put_in_row-requires-2-clause-changes g t c = rw (row-kept c.args.rows.now c.change_rows.new.rows c.args.row c.in_ok-more.ensures.below) c.requires.changes

@@ -1,8 +1,15 @@
 use Rattle.std.proofs.Common.{◌∷◌, [], refl, arith}
 use Rattle.std.proofs.lemmas.List.{length-append, map_push}
 use Rattle.ark_base.proofs.Refusals.{passed_on}
-use Rattle.ark_merkle.proofs.NewWays.{rows-some, way-first, way-first-refused, shift-fits, beside-inside_row, way-more, way-more-refused, way-whole, way-root}
+use Rattle.ark_merkle.proofs.NewWays.{rows-some, beside-here, way-first, way-first-refused, shift-fits, beside-inside_row, way-more, way-more-refused, way-whole, way-root}
 use Rattle.ark_merkle.proofs.tree.update.new_way.Goals as goal
+
+pub bounds-leaves-neighbour_of : goal.bounds-leaves-neighbour_of
+bounds-leaves-neighbour_of g c =
+    rw c.neighbour_of.ensures (beside-here g.P.LeafDigest.Numbered.numbers g.P.InnerDigest.Numbered.numbers _ c.args.leaves.now c.args.rows.now c.requires.tree c.args.index c.requires.index (g.P.LeafDigest.Numbered.numbers c.args.digest.now))
+
+pub offset_bounds-leaves-neighbour_of : goal.offset_bounds-leaves-neighbour_of
+offset_bounds-leaves-neighbour_of g c = omega (arith, bounds-leaves-neighbour_of g c)
 
 pub returns-in_err-hash_leaves-clause-root : goal.returns-in_err-hash_leaves-clause-root
 returns-in_err-hash_leaves-clause-root g c =
