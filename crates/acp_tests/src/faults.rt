@@ -5,40 +5,47 @@ use ark_base::error::Error;
 use std::alloc::Global;
 use std::io::{self, Read, Write};
 
-// A reader that gives three bytes at a time, and fails when its calls are used up.
+// How many bytes a call hands over at most, and how many calls succeed.
+#[derive(Clone, Copy, Drop)]
+struct Calls {
+    size: usize,
+    left: usize,
+}
+
+// A reader that gives a few bytes at a time, and fails when its calls are used up.
 #[derive(Drop)]
 struct Trickle<'a> {
-    left: &'a [u8],
-    calls_left: usize,
+    bytes: &'a [u8],
+    calls: Calls,
 }
 
 impl<'a> Read for Trickle<'a> {
     fn read(&mut self, buf: &mut [u8]) -> io::Result<usize> {
-        if self.calls_left == 0 {
+        if self.calls.left == 0 {
             return Err(io::Error::from(io::ErrorKind::Other));
         }
-        self.calls_left -= 1;
-        let n = self.left.len().min(buf.len()).min(3);
-        buf[..n].copy_from_slice(&self.left[..n]);
-        self.left = &self.left[n..];
+        self.calls.left -= 1;
+        let n = self.bytes.len().min(buf.len()).min(self.calls.size);
+        buf[..n].copy_from_slice(&self.bytes[..n]);
+        self.bytes = &self.bytes[n..];
         Ok(n)
     }
 }
 
-// A writer that takes four bytes at a time, and fails when its calls are used up.
+// A writer that takes a few bytes at a time, and fails when its calls are used up.
 #[derive(Drop)]
 struct Sink {
     bytes: Vec<u8>,
-    calls_left: usize,
+    calls: Calls,
 }
 
 impl Write for Sink {
     fn write(&mut self, buf: &[u8]) -> io::Result<usize> {
-        if self.calls_left == 0 {
+        if self.calls.left == 0 {
             return Err(io::Error::from(io::ErrorKind::Other));
         }
-        self.calls_left -= 1;
-        let n = buf.len().min(4);
+        self.calls.left -= 1;
+        let n = buf.len().min(self.calls.size);
         self.bytes.extend_from_slice(&buf[..n])?;
         Ok(n)
     }
@@ -50,14 +57,14 @@ impl Write for Sink {
 
 // The status, and how many lines were answered, where what was written is a front of the replies and the faults are those of the
 // status.
-fn ended(alloc: Global, reads: usize, writes: usize) -> Result<Option<(u8, usize)>, Error> {
+fn ended(alloc: Global, reads: Calls, writes: Calls) -> Result<Option<(u8, usize)>, Error> {
     let mut sink = Sink {
         bytes: Vec::new(alloc),
-        calls_left: writes,
+        calls: writes,
     };
     let reader = Trickle {
-        left: INPUT,
-        calls_left: reads,
+        bytes: INPUT,
+        calls: reads,
     };
     let (status, told) = status_of(alloc, &["sha256"], reader, &mut sink)?;
     let is_front = REPLIES.starts_with(&sink.bytes);
@@ -68,41 +75,58 @@ fn ended(alloc: Global, reads: usize, writes: usize) -> Result<Option<(u8, usize
     })
 }
 
+// More calls than a session of the input takes.
+const ENOUGH: Calls = Calls {
+    size: 4,
+    left: 1000,
+};
+
 // What was read before a fault was answered. The last line stands where the reader ends.
 #[test]
 fn stops_at_each_failed_read(rt: HostRuntime) {
-    // Reads of three bytes, and two at the end that have none.
-    let reads = INPUT.len().div_ceil(3) + 2;
-    for k in 0..reads - 1 {
-        let lines = INPUT
-            .iter()
-            .take(3 * k)
-            .filter(|byte| **byte == b'\n')
-            .count();
-        let is_whole = k == reads - 2;
-        let (allowed, wanted) = if is_whole {
-            (reads, (0, 5))
-        } else {
-            (k, (1, lines))
-        };
-        assert_eq!(rt;
-            ended(rt.alloc(), allowed, 1000),
-            Ok(Some(wanted)),
-            "at read {k}"
-        );
+    // The input has 29 bytes, by one or three a read. Two reads at its end have none: with the first the last line stands.
+    for (size, reads) in [(1usize, 29usize), (3, 10)] {
+        for k in 0..=reads {
+            let lines = INPUT
+                .iter()
+                .take(size * k)
+                .filter(|byte| **byte == b'\n')
+                .count();
+            let calls = Calls { size, left: k };
+            assert_eq!(rt;
+                ended(rt.alloc(), calls, ENOUGH),
+                Ok(Some((1, lines))),
+                "at read {k} of {size}"
+            );
+        }
+        for (more, wanted) in [(1usize, (1, 5)), (2, (0, 5))] {
+            let calls = Calls {
+                size,
+                left: reads + more,
+            };
+            assert_eq!(rt;
+                ended(rt.alloc(), calls, ENOUGH),
+                Ok(Some(wanted)),
+                "at {more} reads past the end of {size}"
+            );
+        }
     }
 }
 
-// The replies have 74 bytes, and no reply is written together with the next one.
+// The replies have 67 bytes, and no reply is written together with the next one.
 #[test]
 fn stops_at_each_failed_write(rt: HostRuntime) {
-    for k in 0..20usize {
-        let (allowed, status) = if k == 19 { (40, 0) } else { (k, 1) };
-        assert!(rt;
-            ended(rt.alloc(), 1000, allowed).is_ok_and(|said| said.is_some_and(|it| it.0 == status
-                && (status == 1 || it.1 == 5))),
-            "at write {k}"
-        );
+    for (size, writes) in [(1usize, 67usize), (4, 19)] {
+        for k in 0..=writes {
+            let calls = Calls { size, left: k };
+            let status = if k == writes { 0 } else { 1 };
+            assert!(rt;
+                ended(rt.alloc(), ENOUGH, calls).is_ok_and(|said| said.is_some_and(|it| it.0
+                    == status
+                    && (status == 1 || it.1 == 5))),
+                "at write {k} of {size}"
+            );
+        }
     }
 }
 
