@@ -54,8 +54,8 @@ impl Question for Asked {
     }
 }
 
-/// Whether the canonical bytes of a multi-proof, with another byte behind them, are read strictly and to their end.
-pub fn is_read<P: Config>(alloc: Global, proof: &MultiPath<P>) -> Result<bool, Error> {
+// Whether the canonical bytes of a multi-proof, with another byte behind them, are read strictly and to their end.
+fn is_read<P: Config>(alloc: Global, proof: &MultiPath<P>) -> Result<bool, Error> {
     let mut bytes = Vec::new(alloc);
     proof.serialize(&mut bytes)?;
     let len = bytes.len();

@@ -1,8 +1,6 @@
 //! Trees of numbers whose digests can be reckoned by hand.
 
-use crate::multi_paths::is_made_so;
-use crate::samples::{multi_proof_of, proof_of};
-use crate::strict::is_read;
+use crate::samples::proof_of;
 use ark_base::error::Error;
 use ark_base::serialize::{CanonicalDeserialize, DigestItem};
 use ark_crh::{CRHScheme, TwoToOneCRHScheme};
@@ -75,69 +73,22 @@ fn pairs_of_four_zeros(rt: HostRuntime) {
     }
 }
 
-const ALL: [usize; 8] = [0, 1, 2, 3, 4, 5, 6, 7];
-
-// Whether a tree's proof of all leaves shares so many digests and is strict, and whether it is accepted with these leaves.
-fn all_share<P: Config>(
-    alloc: Global,
-    leaf_parameters: &LeafParam<P>,
-    pair_parameters: &TwoToOneParam<P>,
-    tree: &MerkleTree<P>,
-    leaves: &[P::Leaf],
-    shared: &[usize],
-) -> Result<(bool, bool), Error> {
-    let proof = multi_proof_of(alloc, tree, &ALL)?;
-    let accepted = proof.verify(
-        alloc,
-        leaf_parameters,
-        pair_parameters,
-        tree.root(),
-        leaves.iter(),
-    )?;
-    let is_strict = is_read(alloc, &proof)?;
-    Ok((is_made_so(&proof, &ALL, shared) && is_strict, accepted))
-}
-
-// The size and the height of the blank tree of eight, whether this is its root, and what its proof of all leaves is.
+// The size and the height of the blank tree of eight, and whether this is its root.
 fn blank<P: Config>(
     alloc: Global,
     leaf_parameters: &LeafParam<P>,
     pair_parameters: &TwoToOneParam<P>,
-    leaves: &[P::Leaf],
     root: &P::InnerDigest,
-    shared: &[usize],
-) -> Result<(usize, usize, bool, (bool, bool)), Error> {
+) -> Result<(usize, usize, bool), Error> {
     let tree = MerkleTree::<P>::blank(alloc, leaf_parameters, pair_parameters, 4)?;
-    Ok((
-        tree.size(),
-        tree.height(),
-        *tree.root() == *root,
-        all_share(
-            alloc,
-            leaf_parameters,
-            pair_parameters,
-            &tree,
-            leaves,
-            shared,
-        )?,
-    ))
+    Ok((tree.size(), tree.height(), *tree.root() == *root))
 }
 
-// All digests are 0: no path has one of its own but the first.
+// All digests are 0.
 #[test]
-fn all_indexes_of_a_blank_tree(rt: HostRuntime) {
+fn a_blank_tree(rt: HostRuntime) {
     let zero = Fp::from_u64(0);
-    assert_eq!(rt;
-        blank::<Toy>(
-            rt.alloc(),
-            &(),
-            &(),
-            &[0; 8],
-            &zero,
-            &[0, 2, 2, 2, 2, 2, 2, 2]
-        ),
-        Ok((8, 4, true, (true, true)))
-    );
+    assert_eq!(rt; blank::<Toy>(rt.alloc(), &(), &(), &zero), Ok((8, 4, true)));
 }
 
 // Where three bytes stand behind a path, how many are read, and the path's index.

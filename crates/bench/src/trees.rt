@@ -96,12 +96,26 @@ fn updates<P: Config<Leaf = Vec<u8>>>(
     count: u64,
 ) -> Result<u64, Error> {
     for step in 0..count {
-        let index = place(step, tree.size());
-        if index < tree.size() {
-            tree.update(alloc, index, &leaf_of(alloc, step)?)?;
-        }
+        update_at(
+            alloc,
+            tree,
+            place(step, tree.size()),
+            &leaf_of(alloc, step)?,
+        )?;
     }
     sum_of_value(alloc, tree.root())
+}
+
+fn update_at<P: Config>(
+    alloc: Global,
+    tree: &mut MerkleTree<P>,
+    index: usize,
+    leaf: &P::Leaf,
+) -> Result<(), Error> {
+    if index >= tree.size() {
+        return Err(Error::IncorrectInputLength(index));
+    }
+    tree.update(alloc, index, leaf)
 }
 
 fn batches<P: Config<Leaf = Vec<u8>>>(
@@ -164,10 +178,21 @@ fn verifications<P: Config<Leaf = Vec<u8>>>(
 ) -> Result<u64, Error> {
     let item = leaf_of(alloc, 1)?;
     let path = proof_of(alloc, tree, 1)?;
-    let root = tree.root();
+    accepted(alloc, leaf, pair, tree.root(), &path, &item, count)
+}
+
+fn accepted<P: Config>(
+    alloc: Global,
+    leaf: &LeafParam<P>,
+    pair: &TwoToOneParam<P>,
+    root: &P::InnerDigest,
+    path: &Path<P>,
+    item: &P::Leaf,
+    count: u64,
+) -> Result<u64, Error> {
     let mut accepted = 0u64;
     for _ in 0..count {
-        if path.verify(alloc, leaf, pair, root, &item)? {
+        if path.verify(alloc, leaf, pair, root, item)? {
             accepted = accepted.wrapping_add(1);
         }
     }
@@ -181,9 +206,19 @@ fn bindings<P: Config<Leaf = Vec<u8>>>(
 ) -> Result<u64, Error> {
     let item = leaf_of(alloc, 1)?;
     let path = proof_of(alloc, tree, 1)?;
+    stands(alloc, tree, &path, &item, count)
+}
+
+fn stands<P: Config>(
+    alloc: Global,
+    tree: &MerkleTree<P>,
+    path: &Path<P>,
+    item: &P::Leaf,
+    count: u64,
+) -> Result<u64, Error> {
     let mut stands = 0u64;
     for _ in 0..count {
-        if tree.bind(alloc, &path, &item)? == Binding::Stands {
+        if tree.bind(alloc, path, item)? == Binding::Stands {
             stands = stands.wrapping_add(1);
         }
     }

@@ -59,7 +59,22 @@ fn receipts_are_checked(rt: HostRuntime) {
     }
 }
 
-// The root of a store, and that behind a new second value; `proof` takes the bytes of the path of that value.
+// The roots of a store before and behind a new second value; `proof` takes the bytes of the path of that value.
+fn changed_in<P: Config<InnerDigest = [u8; 32]>>(
+    alloc: Global,
+    store: &mut MerkleTree<P>,
+    new: &P::Leaf,
+    proof: &mut Vec<u8>,
+) -> Result<([u8; 32], [u8; 32]), Error> {
+    if store.size() <= 1 {
+        return Err(Error::IncorrectInputLength(store.size()));
+    }
+    let before = *store.root();
+    store.generate_proof(alloc, 1)?.serialize(proof)?;
+    store.update(alloc, 1, new)?;
+    Ok((before, *store.root()))
+}
+
 fn changed<P: Config<Leaf = Vec<u8>, InnerDigest = [u8; 32]>>(
     alloc: Global,
     leaf_parameters: &LeafParam<P>,
@@ -72,10 +87,7 @@ fn changed<P: Config<Leaf = Vec<u8>, InnerDigest = [u8; 32]>>(
         return Err(Error::IncorrectInputLength(values.len()));
     }
     let mut store = MerkleTree::<P>::new(alloc, leaf_parameters, pair_parameters, values)?;
-    let before = *store.root();
-    store.generate_proof(alloc, 1)?.serialize(proof)?;
-    store.update(alloc, 1, new)?;
-    Ok((before, *store.root()))
+    changed_in(alloc, &mut store, new, proof)
 }
 
 // Whether a client follows a store that changed the second value from 1 to 7 and tells it so, of the old value as told,
