@@ -12,12 +12,3 @@ returns-in_err-digest-clause-tree g c =
     let refusal = c.in_err-digest.field-0.0 in
     passed_on _ _ c.from_residual.result refusal c.from_residual.ensures.1 c.in_err-digest.ensures.root
     (λ refused. rw (g.met.P.Views.tree_is, changed_leaves-refused h hashed c.args.index c.args.self.now.leaves refusal refused) refl)
-
-pub returns-clause-tree : goal.returns-clause-tree
-returns-clause-tree g c =
-    let hashed = c.in_ok-digest.ensures.digest in
-    let rooted = rw hashed at c.in_ok-digest.ensures.root in
-    rw (g.met.P.Views.tree_is, hashed, rooted, c.put_leaf.ensures) refl
-
-pub put_leaf-requires-clause-way : goal.put_leaf-requires-clause-way
-put_leaf-requires-clause-way g c = c.in_ok-digest.ensures.way

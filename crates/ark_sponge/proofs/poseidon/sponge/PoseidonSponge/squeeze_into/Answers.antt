@@ -14,27 +14,12 @@ begin_squeezing-start-requires g c =
       index = c.self.invariant.2;
     }
 
-pub turn-index-requires : goal.turn-index-requires
-turn-index-requires g c =
-    record {
-      width = omega (arith, c.deref_mut-then-is_empty.ensures.len, c.self.invariant.0);
-      scratch = omega (arith, c.deref_mut-then-is_empty.ensures.len, c.deref_mut-then-is_empty-2.ensures.len, c.self.invariant.1);
-      index = c.begin_squeezing-start.ensures.within;
-    }
-
 pub squeeze_blocks-index-requires-clause-width : goal.squeeze_blocks-index-requires-clause-width
 squeeze_blocks-index-requires-clause-width g c = omega (arith, c.deref_mut-else-is_empty.ensures.len, c.self.invariant.0)
 
 pub squeeze_blocks-index-requires-clause-scratch : goal.squeeze_blocks-index-requires-clause-scratch
 squeeze_blocks-index-requires-clause-scratch g c =
     omega (arith, c.deref_mut-else-is_empty.ensures.len, c.deref_mut-else-is_empty-2.ensures.len, c.self.invariant.1)
-
-pub invariant_of-self : goal.invariant_of-self
-invariant_of-self g c =
-    elim c.if-is_empty.branch [
-      | then-is_empty w ↦ rw (w.self-inside-is, w.index-is) (c.self.invariant.0, c.self.invariant.1, omega (arith, w.turn-index.ensures.within))
-      | else-is_empty w ↦ rw (w.self-inside-is, w.index-is) (c.self.invariant.0, c.self.invariant.1, w.squeeze_blocks-index.ensures.within)
-    ]
 
 pub returns-clause-numbers : goal.returns-clause-numbers
 returns-clause-numbers g c =
