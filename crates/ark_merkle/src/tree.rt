@@ -160,9 +160,10 @@ impl<P: Views> MerkleTree<P> {
         // `verify` accepts it under the tree's parameters and root, for any leaf with that digest.
         ensures accepted { IfOk result (λ path. IsAccepted (P.tree self.now) index (P.way path)) }
     {
+        // The digest beside the leaf's comes last: memory is asked for the lowest rows' digests before it is waited for.
         Ok(Path {
-            leaf_sibling_hash: self.get_leaf_sibling_hash(index).duplicate(alloc)?,
             auth_path: digests_beside(alloc, &self.rows, self.rows.len(), index)?,
+            leaf_sibling_hash: self.get_leaf_sibling_hash(index).duplicate(alloc)?,
             leaf_index: index,
         })
     }

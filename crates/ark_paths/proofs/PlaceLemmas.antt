@@ -1,11 +1,11 @@
 -- Places on the way of an index.
-use Rattle.std.proofs.Common.{suc, ◌≡◌, ℕ, ◌+◌, ◌-◌, ◌*◌, ◌/◌, ◌%◌, ◌<◌, ◌≤◌, ◌^◌, Bool, true, false, if◌then◌else◌, List, [], ◌∷◌, ◌++◌, length, get_or, arith, refl, ap, sym, subst, ◌∙◌, pow_pos, append_assoc, inl, inr}
+use Rattle.std.proofs.Common.{suc, ◌≡◌, ℕ, ◌+◌, ◌-◌, ◌*◌, ◌/◌, ◌%◌, ◌<◌, ◌≤◌, ◌^◌, Bool, true, false, if◌then◌else◌, List, [], length, get_or, arith, refl, ap, sym, subst, ◌∙◌, pow_pos, inl, inr}
 use Rattle.std.proofs.lemmas.Bool.{cases_lt, eqb-true, eqb-false}
 use Rattle.std.proofs.lemmas.Nat.{div_below, div-mul-add}
 use Rattle.std.proofs.Math.Nat.{pow-succ', pow-le-pow_right, le-mul_of_pos_right}
 use Rattle.ark_paths.specs.Index.{bit_at, neighbour}
 use Rattle.ark_paths.specs.Pair.{Digest}
-use Rattle.ark_paths.specs.Rows.{AreLevels, HoldsIndex, beside_in}
+use Rattle.ark_paths.specs.Rows.{AreLevels, HoldsIndex}
 
 same_factor : (a b w : ℕ) → 0 < w → a * w ≡ b * w → a ≡ b
 same_factor a b w some e = sym (div-mul-add a w 0 some) ∙ ap (λ (n : ℕ). (n + 0) / w) e ∙ div-mul-add b w 0 some
@@ -61,10 +61,3 @@ module _ (rows : List (List Digest)) (index : ℕ) (holds : HoldsIndex rows inde
       let twice = row-twice rows holds.size holds.levels k below in
       let place = place-inside rows holds.size holds.levels k index (omega arith) holds.inside in
       rw twice (neighbour-inside (index / 2 ^ suc k) (length (get_or rows (suc k) [])) (omega arith))
-
--- one digest more on the way down
-pub beside_in-more : (rows : List (List Digest)) (index k n above : ℕ) (whole done : List Digest) (digest : Digest) → k + above + 1 ≡ n → whole ≡ done ++ beside_in rows (n - above) index → digest ≡ get_or (get_or rows k []) (neighbour (index / 2 ^ suc k)) [] → whole ≡ (done ++ digest ∷ []) ++ beside_in rows (n - (above + 1)) index
-beside_in-more rows index k n above whole done digest level so is =
-    let here : n - above ≡ suc k = omega arith in
-    let next : n - (above + 1) ≡ k = omega arith in
-    so ∙ rw (here, next, ← is) (sym (append_assoc done (digest ∷ []) (beside_in rows k index)))

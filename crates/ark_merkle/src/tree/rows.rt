@@ -23,10 +23,11 @@ pub fn digests_beside<D: DigestItem>(
         AnswersBy (digests_of D.numbers) (Ok digests) result }
 {
     let mut digests = Vec::with_capacity(alloc, count.saturating_sub(1))?;
-    for above in 1..count {
-        let level = count - 1 - above;
+    // From the lowest row up, whose digests take longest to come from memory.
+    for level in 0..count.saturating_sub(1) {
         let place = neighbour_of(index >> (level + 1));
         digests.push(rows.at(level, place).duplicate(alloc)?)?;
     }
+    digests.reverse();
     Ok(digests)
 }

@@ -1,7 +1,7 @@
-use Rattle.std.proofs.Common.{◌≡◌, ◌-◌, ◌++◌, map}
+use Rattle.std.proofs.Common.{◌≡◌, map, reverse}
 use Rattle.ark_paths.specs.Rows.{beside_in}
 use Rattle.ark_merkle.proofs.tree.rows.digests_beside.Given as goal
 
--- the digests so far, and those further down, are the whole
-abbrev pub invariant-loop-above : goal.invariant-loop-above
-invariant-loop-above g l = beside_in l.rows (l.count - 1) l.index ≡ map g.D.Numbered.numbers l.digests.items ++ beside_in l.rows (l.count - l.above) l.index
+-- the digests so far are the last ones, in the other order
+abbrev pub invariant-loop-level : goal.invariant-loop-level
+invariant-loop-level g l = beside_in l.rows l.level l.index ≡ map g.D.Numbered.numbers (reverse l.digests.items)
