@@ -32,6 +32,9 @@ pub trait AbsorbItem {
             dest.old.items dest.new.items result };
 }
 
+/// A type whose batches are absorbed item by item. To say so is all that it takes to have `Absorb`.
+pub trait ByItem: AbsorbItem {}
+
 /// A type whose values a sponge absorbs. A target field has at least nine bits, by condition.
 pub trait Absorb: AbsorbItem {
     // The elements of a batch, by a target field's modulus and its count of bits.
@@ -134,5 +137,16 @@ pub trait Absorb: AbsorbItem {
         let mut elements = Vec::new(alloc);
         push_elements_by_item(batch, &mut elements)?;
         Ok(elements)
+    }
+}
+
+impl<A: ByItem> Absorb for A {
+    ghost batch_elements = { batch_by_item A.sponge_elements };
+
+    fn batch_to_sponge_field_elements<F: PrimeField>(
+        batch: &[A],
+        dest: &mut Vec<F>,
+    ) -> Result<(), Error> {
+        push_elements_by_item(batch, dest)
     }
 }

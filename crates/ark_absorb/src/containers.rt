@@ -1,10 +1,10 @@
 //! Values that hold others.
 
 ghost use Rattle.std.specs.List.{flat_map};
-ghost use Rattle.ark_absorb.specs.Elements.{batch_by_item, optional_bytes, optional_elements};
+ghost use Rattle.ark_absorb.specs.Elements.{optional_bytes, optional_elements};
 
-use crate::absorb::{Absorb, AbsorbItem};
-use crate::batch::{push_bytes_by_item, push_elements_by_item};
+use crate::absorb::{Absorb, AbsorbItem, ByItem};
+use crate::batch::push_bytes_by_item;
 use ark_base::error::Error;
 use ark_groups::ff::PrimeField;
 
@@ -40,16 +40,7 @@ impl<A: Absorb> AbsorbItem for Option<A> {
     }
 }
 
-impl<A: Absorb> Absorb for Option<A> {
-    ghost batch_elements = { batch_by_item (optional_elements A.sponge_elements) };
-
-    fn batch_to_sponge_field_elements<F: PrimeField>(
-        batch: &[Option<A>],
-        dest: &mut Vec<F>,
-    ) -> Result<(), Error> {
-        push_elements_by_item(batch, dest)
-    }
-}
+impl<A: Absorb> ByItem for Option<A> {}
 
 // ---- lists: the items, one behind the other
 
@@ -67,16 +58,7 @@ impl<A: Absorb> AbsorbItem for Vec<A> {
     }
 }
 
-impl<A: Absorb> Absorb for Vec<A> {
-    ghost batch_elements = { batch_by_item (λ xs. A.batch_elements xs.items) };
-
-    fn batch_to_sponge_field_elements<F: PrimeField>(
-        batch: &[Vec<A>],
-        dest: &mut Vec<F>,
-    ) -> Result<(), Error> {
-        push_elements_by_item(batch, dest)
-    }
-}
+impl<A: Absorb> ByItem for Vec<A> {}
 
 impl<A: Absorb> AbsorbItem for &[A] {
     ghost sponge_bytes = { λ xs. flat_map A.sponge_bytes xs.now };
@@ -92,16 +74,7 @@ impl<A: Absorb> AbsorbItem for &[A] {
     }
 }
 
-impl<A: Absorb> Absorb for &[A] {
-    ghost batch_elements = { batch_by_item (λ xs. A.batch_elements xs.now) };
-
-    fn batch_to_sponge_field_elements<F: PrimeField>(
-        batch: &[&[A]],
-        dest: &mut Vec<F>,
-    ) -> Result<(), Error> {
-        push_elements_by_item(batch, dest)
-    }
-}
+impl<A: Absorb> ByItem for &[A] {}
 
 // ---- references: as what they refer to
 
@@ -119,13 +92,4 @@ impl<A: Absorb> AbsorbItem for &A {
     }
 }
 
-impl<A: Absorb> Absorb for &A {
-    ghost batch_elements = { batch_by_item (λ x. A.sponge_elements x.now) };
-
-    fn batch_to_sponge_field_elements<F: PrimeField>(
-        batch: &[&A],
-        dest: &mut Vec<F>,
-    ) -> Result<(), Error> {
-        push_elements_by_item(batch, dest)
-    }
-}
+impl<A: Absorb> ByItem for &A {}

@@ -2,10 +2,9 @@
 
 ghost use Rattle.std.specs.Int.{w8, w16, w32, w64, w128, to_le_bytes};
 ghost use Rattle.std.proofs.Common.{of_z};
-ghost use Rattle.ark_absorb.specs.Elements.{integer_element, batch_by_item};
+ghost use Rattle.ark_absorb.specs.Elements.{integer_element};
 
-use crate::absorb::{Absorb, AbsorbItem};
-use crate::batch::push_elements_by_item;
+use crate::absorb::{AbsorbItem, ByItem};
 use crate::push::{push_integer, push_slice};
 use ark_base::error::Error;
 use ark_groups::ff::PrimeField;
@@ -24,16 +23,7 @@ impl AbsorbItem for i8 {
     }
 }
 
-impl Absorb for i8 {
-    ghost batch_elements = { batch_by_item integer_element };
-
-    fn batch_to_sponge_field_elements<F: PrimeField>(
-        batch: &[i8],
-        dest: &mut Vec<F>,
-    ) -> Result<(), Error> {
-        push_elements_by_item(batch, dest)
-    }
-}
+impl ByItem for i8 {}
 
 impl AbsorbItem for i16 {
     ghost sponge_bytes = { λ n. to_le_bytes w16 (of_z w16 n) };
@@ -49,16 +39,7 @@ impl AbsorbItem for i16 {
     }
 }
 
-impl Absorb for i16 {
-    ghost batch_elements = { batch_by_item integer_element };
-
-    fn batch_to_sponge_field_elements<F: PrimeField>(
-        batch: &[i16],
-        dest: &mut Vec<F>,
-    ) -> Result<(), Error> {
-        push_elements_by_item(batch, dest)
-    }
-}
+impl ByItem for i16 {}
 
 impl AbsorbItem for i32 {
     ghost sponge_bytes = { λ n. to_le_bytes w32 (of_z w32 n) };
@@ -74,16 +55,7 @@ impl AbsorbItem for i32 {
     }
 }
 
-impl Absorb for i32 {
-    ghost batch_elements = { batch_by_item integer_element };
-
-    fn batch_to_sponge_field_elements<F: PrimeField>(
-        batch: &[i32],
-        dest: &mut Vec<F>,
-    ) -> Result<(), Error> {
-        push_elements_by_item(batch, dest)
-    }
-}
+impl ByItem for i32 {}
 
 impl AbsorbItem for i64 {
     ghost sponge_bytes = { λ n. to_le_bytes w64 (of_z w64 n) };
@@ -99,16 +71,7 @@ impl AbsorbItem for i64 {
     }
 }
 
-impl Absorb for i64 {
-    ghost batch_elements = { batch_by_item integer_element };
-
-    fn batch_to_sponge_field_elements<F: PrimeField>(
-        batch: &[i64],
-        dest: &mut Vec<F>,
-    ) -> Result<(), Error> {
-        push_elements_by_item(batch, dest)
-    }
-}
+impl ByItem for i64 {}
 
 impl AbsorbItem for isize {
     ghost sponge_bytes = { λ n. to_le_bytes w64 (of_z w64 n) };
@@ -124,16 +87,7 @@ impl AbsorbItem for isize {
     }
 }
 
-impl Absorb for isize {
-    ghost batch_elements = { batch_by_item integer_element };
-
-    fn batch_to_sponge_field_elements<F: PrimeField>(
-        batch: &[isize],
-        dest: &mut Vec<F>,
-    ) -> Result<(), Error> {
-        push_elements_by_item(batch, dest)
-    }
-}
+impl ByItem for isize {}
 
 impl AbsorbItem for i128 {
     ghost sponge_bytes = { λ n. to_le_bytes w128 (of_z w128 n) };
@@ -157,13 +111,4 @@ impl AbsorbItem for i128 {
     }
 }
 
-impl Absorb for i128 {
-    ghost batch_elements = { batch_by_item integer_element };
-
-    fn batch_to_sponge_field_elements<F: PrimeField>(
-        batch: &[i128],
-        dest: &mut Vec<F>,
-    ) -> Result<(), Error> {
-        push_elements_by_item(batch, dest)
-    }
-}
+impl ByItem for i128 {}

@@ -14,5 +14,5 @@ mod push;
 mod texts;
 mod with_length;
 
-pub use absorb::{Absorb, AbsorbItem};
+pub use absorb::{Absorb, AbsorbItem, ByItem};
 pub use with_length::AbsorbWithLength;

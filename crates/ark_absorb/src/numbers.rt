@@ -2,10 +2,9 @@
 
 ghost use Rattle.std.specs.Int.{w16, w32, w64, w128, to_le_bytes};
 ghost use Rattle.ark_base.specs.Digits.{flag};
-ghost use Rattle.ark_absorb.specs.Elements.{number_element, truth_element, batch_by_item};
+ghost use Rattle.ark_absorb.specs.Elements.{number_element, truth_element};
 
-use crate::absorb::{Absorb, AbsorbItem};
-use crate::batch::push_elements_by_item;
+use crate::absorb::{AbsorbItem, ByItem};
 use crate::push::{push_number, push_slice};
 use ark_base::error::Error;
 use ark_groups::ff::PrimeField;
@@ -28,16 +27,7 @@ impl AbsorbItem for bool {
     }
 }
 
-impl Absorb for bool {
-    ghost batch_elements = { batch_by_item truth_element };
-
-    fn batch_to_sponge_field_elements<F: PrimeField>(
-        batch: &[bool],
-        dest: &mut Vec<F>,
-    ) -> Result<(), Error> {
-        push_elements_by_item(batch, dest)
-    }
-}
+impl ByItem for bool {}
 
 // ---- unsigned numbers: least byte first
 
@@ -55,16 +45,7 @@ impl AbsorbItem for u16 {
     }
 }
 
-impl Absorb for u16 {
-    ghost batch_elements = { batch_by_item number_element };
-
-    fn batch_to_sponge_field_elements<F: PrimeField>(
-        batch: &[u16],
-        dest: &mut Vec<F>,
-    ) -> Result<(), Error> {
-        push_elements_by_item(batch, dest)
-    }
-}
+impl ByItem for u16 {}
 
 impl AbsorbItem for u32 {
     ghost sponge_bytes = { to_le_bytes w32 };
@@ -80,16 +61,7 @@ impl AbsorbItem for u32 {
     }
 }
 
-impl Absorb for u32 {
-    ghost batch_elements = { batch_by_item number_element };
-
-    fn batch_to_sponge_field_elements<F: PrimeField>(
-        batch: &[u32],
-        dest: &mut Vec<F>,
-    ) -> Result<(), Error> {
-        push_elements_by_item(batch, dest)
-    }
-}
+impl ByItem for u32 {}
 
 impl AbsorbItem for u64 {
     ghost sponge_bytes = { to_le_bytes w64 };
@@ -105,16 +77,7 @@ impl AbsorbItem for u64 {
     }
 }
 
-impl Absorb for u64 {
-    ghost batch_elements = { batch_by_item number_element };
-
-    fn batch_to_sponge_field_elements<F: PrimeField>(
-        batch: &[u64],
-        dest: &mut Vec<F>,
-    ) -> Result<(), Error> {
-        push_elements_by_item(batch, dest)
-    }
-}
+impl ByItem for u64 {}
 
 impl AbsorbItem for usize {
     ghost sponge_bytes = { to_le_bytes w64 };
@@ -130,16 +93,7 @@ impl AbsorbItem for usize {
     }
 }
 
-impl Absorb for usize {
-    ghost batch_elements = { batch_by_item number_element };
-
-    fn batch_to_sponge_field_elements<F: PrimeField>(
-        batch: &[usize],
-        dest: &mut Vec<F>,
-    ) -> Result<(), Error> {
-        push_elements_by_item(batch, dest)
-    }
-}
+impl ByItem for usize {}
 
 impl AbsorbItem for u128 {
     ghost sponge_bytes = { to_le_bytes w128 };
@@ -156,13 +110,4 @@ impl AbsorbItem for u128 {
     }
 }
 
-impl Absorb for u128 {
-    ghost batch_elements = { batch_by_item number_element };
-
-    fn batch_to_sponge_field_elements<F: PrimeField>(
-        batch: &[u128],
-        dest: &mut Vec<F>,
-    ) -> Result<(), Error> {
-        push_elements_by_item(batch, dest)
-    }
-}
+impl ByItem for u128 {}

@@ -2,11 +2,10 @@
 
 ghost use Rattle.std.specs.Prelude.{◌++◌};
 ghost use Rattle.ark_base.specs.Digits.{flag};
-ghost use Rattle.ark_absorb.specs.Elements.{batch_by_item, point_bytes, point_elements, flagged_elements};
+ghost use Rattle.ark_absorb.specs.Elements.{point_bytes, point_elements, flagged_elements};
 ghost use Rattle.ark_groups.specs.Coordinates.{x_of, y_of};
 
-use crate::absorb::{Absorb, AbsorbItem};
-use crate::batch::push_elements_by_item;
+use crate::absorb::{AbsorbItem, ByItem};
 use ark_base::error::{Error, Refusal};
 use ark_groups::ec::{SWCoordinates, SWPoint, Small, SmallModulus, TECoordinates, TEPoint};
 use ark_groups::ff::{PrimeField, is_same_field, push_low_bytes, same_element};
@@ -44,17 +43,7 @@ impl<G: TECoordinates + Copy> AbsorbItem for TEPoint<G> {
     }
 }
 
-impl<G: TECoordinates + Copy> Absorb for TEPoint<G> {
-    ghost batch_elements = { batch_by_item
-        (λ p. point_elements G.BaseField.MODULUS (G.x p.0) (G.y p.0)) };
-
-    fn batch_to_sponge_field_elements<F: PrimeField>(
-        batch: &[TEPoint<G>],
-        dest: &mut Vec<F>,
-    ) -> Result<(), Error> {
-        push_elements_by_item(batch, dest)
-    }
-}
+impl<G: TECoordinates + Copy> ByItem for TEPoint<G> {}
 
 /// As `TEPoint`, and behind it whether it is the point at infinity: a byte, and an element.
 impl<G: SWCoordinates + Copy> AbsorbItem for SWPoint<G> {
@@ -84,17 +73,7 @@ impl<G: SWCoordinates + Copy> AbsorbItem for SWPoint<G> {
     }
 }
 
-impl<G: SWCoordinates + Copy> Absorb for SWPoint<G> {
-    ghost batch_elements = { batch_by_item
-        (λ p. flagged_elements G.BaseField.MODULUS (G.x p.0) (G.y p.0) (G.infinity p.0)) };
-
-    fn batch_to_sponge_field_elements<F: PrimeField>(
-        batch: &[SWPoint<G>],
-        dest: &mut Vec<F>,
-    ) -> Result<(), Error> {
-        push_elements_by_item(batch, dest)
-    }
-}
+impl<G: SWCoordinates + Copy> ByItem for SWPoint<G> {}
 
 /// As its `TEPoint`.
 impl<M: SmallModulus> AbsorbItem for Small<M> {
@@ -111,14 +90,4 @@ impl<M: SmallModulus> AbsorbItem for Small<M> {
     }
 }
 
-impl<M: SmallModulus> Absorb for Small<M> {
-    ghost batch_elements = { batch_by_item
-        (λ p. point_elements 257 (x_of p.0.value) (y_of p.0.value)) };
-
-    fn batch_to_sponge_field_elements<F: PrimeField>(
-        batch: &[Small<M>],
-        dest: &mut Vec<F>,
-    ) -> Result<(), Error> {
-        push_elements_by_item(batch, dest)
-    }
-}
+impl<M: SmallModulus> ByItem for Small<M> {}

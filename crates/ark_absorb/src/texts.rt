@@ -6,7 +6,7 @@ ghost use Rattle.ark_base.specs.Spelling.{byte};
 ghost use Rattle.ark_absorb.specs.Appending.{AppendsBytes};
 ghost use Rattle.ark_absorb.specs.Elements.{number_element, AreShort, batch_by_item, text_bytes, packed_elements};
 
-use crate::absorb::{Absorb, AbsorbItem};
+use crate::absorb::{Absorb, AbsorbItem, ByItem};
 use crate::batch::{push_bytes_by_item, push_elements_by_item};
 use crate::packing::push_packed;
 use crate::push::{push_number, push_slice};
@@ -55,16 +55,7 @@ impl AbsorbItem for [u8; 32] {
     }
 }
 
-impl Absorb for [u8; 32] {
-    ghost batch_elements = { batch_by_item packed_elements };
-
-    fn batch_to_sponge_field_elements<F: PrimeField>(
-        batch: &[[u8; 32]],
-        dest: &mut Vec<F>,
-    ) -> Result<(), Error> {
-        push_elements_by_item(batch, dest)
-    }
-}
+impl ByItem for [u8; 32] {}
 
 /// The bytes of the text, behind their count in eight bytes.
 impl AbsorbItem for String {

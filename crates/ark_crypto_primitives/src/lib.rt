@@ -124,7 +124,7 @@ pub mod crh {
 
 /// Sponges, and what they absorb.
 pub mod sponge {
-    pub use ark_absorb::{Absorb, AbsorbItem, AbsorbWithLength};
+    pub use ark_absorb::{Absorb, AbsorbItem, AbsorbWithLength, ByItem};
     pub use ark_sponge::{
         CryptographicSponge, DuplexSpongeMode, FieldBasedCryptographicSponge, FieldElementSize,
         SpongeExt,

@@ -1,5 +1,5 @@
 use Rattle.std.proofs.Common.{arith}
-use Rattle.ark_absorb.proofs.ByItem.{Put-zero, Put-suc, Put-undone, Put-refused, Put-all}
+use Rattle.ark_absorb.proofs.Appended.{Put-zero, Put-suc, Put-undone, Put-refused, Put-all}
 use Rattle.ark_absorb.proofs.batch.push_elements_by_item.Goals as goal
 
 pub loop-item-init : goal.loop-item-init

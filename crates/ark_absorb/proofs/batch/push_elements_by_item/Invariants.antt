@@ -1,4 +1,4 @@
-use Rattle.ark_absorb.proofs.ByItem.{Put}
+use Rattle.ark_absorb.proofs.Appended.{Put}
 use Rattle.ark_absorb.proofs.batch.push_elements_by_item.Given as goal
 
 abbrev pub invariant-loop-item : goal.invariant-loop-item

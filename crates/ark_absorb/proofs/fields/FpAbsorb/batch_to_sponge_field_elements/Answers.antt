@@ -1,7 +1,7 @@
 use Rattle.std.proofs.Common.{subst}
 use Rattle.ark_groups.specs.declared.ff.fp.Fp.{Fp}
 use Rattle.ark_absorb.specs.Appending.{AppendsElements}
-use Rattle.ark_absorb.proofs.ByItem.{batch_by_item-own}
+use Rattle.ark_absorb.proofs.Appended.{batch_by_item-own}
 use Rattle.ark_absorb.proofs.fields.FpAbsorb.batch_to_sponge_field_elements.Goals as goal
 
 pub returns : goal.returns
