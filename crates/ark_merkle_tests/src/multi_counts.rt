@@ -3,7 +3,10 @@
 ghost use Rattle.std.specs.Prelude.{◌≡◌};
 ghost use Rattle.ark_merkle_tests.specs.Weights.{weighted, weighted_sum};
 
-use crate::samples::{Sha, drawn, leaves_of, multi_proof_of, places_above, tree_over};
+use crate::batches::numbers;
+use crate::samples::{
+    Sha, blanks, drawn, leaves_of, multi_proof_of, no_places, places_above, push_place, tree_over,
+};
 use ark_base::error::Error;
 use ark_groups::ff::{Fp, M257, PrimeField};
 use ark_merkle::multi_path::hasher::PairHasher;
@@ -154,19 +157,21 @@ fn drawn_are_counted<P: Config>(
     Ok(true)
 }
 
-fn toy_and_sha_are_counted(alloc: Global) -> Result<(bool, bool), Error> {
-    let mut numbers: Vec<u64> = Vec::new(alloc);
-    let mut bytes: Vec<u8> = Vec::new(alloc);
-    for number in 0..64u8 {
-        numbers.push(u64::from(number))?;
-        bytes.push(number)?;
-    }
-    let leaves = leaves_of(alloc, &bytes)?;
-    Ok((
-        drawn_are_counted::<Toy>(alloc, &(), &(), &numbers)?,
-        drawn_are_counted::<Sha>(alloc, &(), &(), &leaves)?,
-    ))
+fn toys_are_counted(alloc: Global) -> Result<bool, Error> {
+    let leaves = numbers(alloc, 64)?;
+    drawn_are_counted::<Toy>(alloc, &(), &(), &leaves)
 }
+
+fn byte_strings_are_counted(alloc: Global) -> Result<bool, Error> {
+    let leaves = leaves_of(alloc, &BYTES)?;
+    drawn_are_counted::<Sha>(alloc, &(), &(), &leaves)
+}
+
+const BYTES: [u8; 64] = [
+    0, 1, 2, 3, 4, 5, 6, 7, 8, 9, 10, 11, 12, 13, 14, 15, 16, 17, 18, 19, 20, 21, 22, 23, 24, 25,
+    26, 27, 28, 29, 30, 31, 32, 33, 34, 35, 36, 37, 38, 39, 40, 41, 42, 43, 44, 45, 46, 47, 48, 49,
+    50, 51, 52, 53, 54, 55, 56, 57, 58, 59, 60, 61, 62, 63,
+];
 
 // Leaves, indexes that are asked for, and how many places stand above them.
 const OWN: [(&[u64], &[usize], usize); 5] = [
@@ -186,36 +191,33 @@ fn own_proofs_hash_each_place_once(rt: HostRuntime) {
             "{indexes:?}"
         );
     }
-    assert_eq!(rt; toy_and_sha_are_counted(rt.alloc()), Ok((true, true)));
+    assert_eq!(rt; toys_are_counted(rt.alloc()), Ok(true));
+    assert_eq!(rt; byte_strings_are_counted(rt.alloc()), Ok(true));
 }
 
-fn elements(alloc: Global, numbers: &[u64]) -> Result<Vec<Fp<M257>>, Error> {
+// An index, the sibling of its leaf, and the digest above.
+type Place = (usize, u64, u64);
+
+// Another place, whose path has one digest.
+fn push_made(alloc: Global, proof: &mut MultiPath<Toy>, place: Place) -> Result<(), Error> {
+    let (index, sibling, above) = place;
+    push_place(alloc, proof, 0, lone_element(alloc, above)?, index)?;
+    proof.leaf_siblings_hashes.pop();
+    proof.leaf_siblings_hashes.push(Fp::from_u64(sibling))?;
+    Ok(())
+}
+
+fn lone_element(alloc: Global, number: u64) -> Result<Vec<Fp<M257>>, Error> {
     let mut elements = Vec::new(alloc);
-    for number in numbers {
-        elements.push(Fp::from_u64(*number))?;
-    }
+    elements.push(Fp::from_u64(number))?;
     Ok(elements)
 }
 
-// A multi-proof of these indexes whose paths have one digest each.
-fn made(
-    alloc: Global,
-    indexes: &[usize],
-    siblings: &[u64],
-    above: &[u64],
-) -> Result<MultiPath<Toy>, Error> {
-    let mut prefixes = Vec::new(alloc);
-    let mut suffixes = Vec::new(alloc);
-    for digest in above {
-        prefixes.push(0)?;
-        suffixes.push(elements(alloc, &[*digest])?)?;
+fn made(alloc: Global, proof: &mut MultiPath<Toy>, places: &[Place]) -> Result<(), Error> {
+    for place in places {
+        push_made(alloc, proof, *place)?;
     }
-    Ok(MultiPath {
-        leaf_siblings_hashes: elements(alloc, siblings)?,
-        auth_paths_prefix_lenghts: prefixes,
-        auth_paths_suffixes: suffixes,
-        leaf_indexes: Vec::from_slice(alloc, indexes)?,
-    })
+    Ok(())
 }
 
 // What a multi-proof says of leaves with these weights, and how many pairs they were asked for.
@@ -236,13 +238,11 @@ fn weighed(
     Ok((accepted, hasher.calls()))
 }
 
-// Weights, the indexes, siblings and digests above of a multi-proof, the root, the leaves, whether they are accepted, and how many
-// pairs are asked for at least and at most.
+// Weights, the places of a multi-proof, the root, the leaves, whether they are accepted, and how many pairs are asked for at least
+// and at most.
 type Made = (
     (u64, u64),
-    &'static [usize],
-    &'static [u64],
-    &'static [u64],
+    &'static [Place],
     u64,
     &'static [u64],
     (bool, usize, usize),
@@ -250,39 +250,22 @@ type Made = (
 
 // The toy's own weights, of a proof that no tree makes; and others.
 const MADE: [Made; 3] = [
+    ((1, 2), &[(0, 2, 11), (0, 1, 11)], 27, &[1, 3], (true, 0, 4)),
     (
         (1, 2),
-        &[0, 0],
-        &[2, 1],
-        &[11, 11],
-        27,
-        &[1, 3],
-        (true, 0, 4),
-    ),
-    (
-        (1, 2),
-        &[0, 0],
-        &[2, 1],
-        &[11, 11],
+        &[(0, 2, 11), (0, 1, 11)],
         27,
         &[1, 4],
         (false, 0, 4),
     ),
-    (
-        (1, 3),
-        &[0, 2],
-        &[2, 4],
-        &[15, 7],
-        52,
-        &[1, 3],
-        (true, 3, 3),
-    ),
+    ((1, 3), &[(0, 2, 15), (2, 4, 7)], 52, &[1, 3], (true, 3, 3)),
 ];
 
 // Whether a row is as it says.
 fn is_weighed(alloc: Global, row: Made) -> Result<bool, Error> {
-    let (weights, indexes, siblings, above, root, leaves, (accepted, least, most)) = row;
-    let proof = made(alloc, indexes, siblings, above)?;
+    let (weights, places, root, leaves, (accepted, least, most)) = row;
+    let mut proof = no_places(alloc);
+    made(alloc, &mut proof, places)?;
     let (said, asked) = weighed(alloc, weights, &proof, root, leaves)?;
     Ok(said == accepted && least <= asked && asked <= most)
 }
@@ -290,47 +273,49 @@ fn is_weighed(alloc: Global, row: Made) -> Result<bool, Error> {
 #[test]
 fn made_proofs_ask_a_hasher(rt: HostRuntime) {
     for row in MADE {
-        assert_eq!(rt; is_weighed(rt.alloc(), row), Ok(true), "{:?}", row.5);
+        assert_eq!(rt; is_weighed(rt.alloc(), row), Ok(true), "{:?}", row.3);
     }
 }
 
-// Whether 10,000 places at these indexes, all their digests 0, are accepted where each pair gives 0, and each place is asked for once.
-fn many(alloc: Global, indexes: Vec<usize>, levels: usize) -> Result<bool, Error> {
-    let count = places_above(alloc, &indexes, levels)?;
-    let zero = Fp::from_u64(0);
-    let mut proof = MultiPath::<Toy> {
-        leaf_siblings_hashes: Vec::new(alloc),
-        auth_paths_prefix_lenghts: Vec::new(alloc),
-        auth_paths_suffixes: Vec::new(alloc),
-        leaf_indexes: indexes,
-    };
-    let mut leaves: Vec<u64> = Vec::new(alloc);
+// Takes places at these indexes, all of whose paths have the same blank digests.
+fn take_blanks<P: Config>(
+    alloc: Global,
+    proof: &mut MultiPath<P>,
+    indexes: &[usize],
+    len: usize,
+) -> Result<(), Error> {
     let mut prefix = 0;
-    let mut suffix = Vec::new(alloc);
-    for _ in 1..levels {
-        suffix.push(zero)?;
+    for index in indexes {
+        let suffix = blanks(alloc, len.saturating_sub(prefix))?;
+        push_place(alloc, proof, prefix, suffix, *index)?;
+        prefix = len;
     }
-    for _ in 0..proof.leaf_indexes.len() {
-        proof.leaf_siblings_hashes.push(zero)?;
-        proof.auth_paths_prefix_lenghts.push(prefix)?;
-        proof.auth_paths_suffixes.push(suffix)?;
-        prefix = levels.saturating_sub(1);
-        suffix = Vec::new(alloc);
-        leaves.push(0)?;
-    }
-    Ok(weighed(alloc, (0, 0), &proof, 0, &leaves)? == (true, count))
+    Ok(())
 }
 
-fn many_are_counted(alloc: Global) -> Result<(bool, bool), Error> {
+// Whether a multi-proof of zeros is accepted where each pair gives 0, and each place is asked for once.
+fn zeros_are_counted(alloc: Global, proof: &MultiPath<Toy>, levels: usize) -> Result<bool, Error> {
+    let count = places_above(alloc, &proof.leaf_indexes, levels)?;
+    let leaves = vec![in alloc; 0; proof.leaf_indexes.len()]?;
+    Ok(weighed(alloc, (0, 0), proof, 0, &leaves)? == (true, count))
+}
+
+// The same of places at these indexes.
+fn many(alloc: Global, indexes: &[usize], levels: usize) -> Result<bool, Error> {
+    let mut proof = no_places(alloc);
+    take_blanks(alloc, &mut proof, indexes, levels.saturating_sub(1))?;
+    zeros_are_counted(alloc, &proof, levels)
+}
+
+fn scattered_are_counted(alloc: Global) -> Result<bool, Error> {
     let mut rng = SmallRng::seed_from_u64(257);
     let scattered = drawn(alloc, &mut rng, 10000, 20)?;
-    Ok((
-        many(alloc, vec![in alloc; 0, 10000]?, 20)?,
-        many(alloc, scattered, 20)?,
-    ))
+    many(alloc, &scattered, 20)
 }
 
 #[test]
 fn many_places_of_one_digest(rt: HostRuntime) {
-    assert_eq!(rt; many_are_counted(rt.alloc()), Ok((true, true)));
+    assert_eq!(rt; many(rt.alloc(), &[0, 10000], 20), Ok(true));
+    assert_eq!(rt; many(rt.alloc(), &[0; 10000], 20), Ok(true));
+    assert_eq!(rt; scattered_are_counted(rt.alloc()), Ok(true));
 }

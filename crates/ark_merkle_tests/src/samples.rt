@@ -193,6 +193,16 @@ pub fn places_above(alloc: Global, indexes: &[usize], levels: usize) -> Result<u
     Ok(places.len())
 }
 
+/// A multi-proof without places.
+pub fn no_places<P: Config>(alloc: Global) -> MultiPath<P> {
+    MultiPath {
+        leaf_siblings_hashes: Vec::new(alloc),
+        auth_paths_prefix_lenghts: Vec::new(alloc),
+        auth_paths_suffixes: Vec::new(alloc),
+        leaf_indexes: Vec::new(alloc),
+    }
+}
+
 /// Another place, beside a blank digest.
 pub fn push_place<P: Config>(
     alloc: Global,
@@ -208,4 +218,13 @@ pub fn push_place<P: Config>(
         .push(P::LeafDigest::blank(alloc))?;
     proof.leaf_indexes.push(index)?;
     Ok(())
+}
+
+/// Blank digests.
+pub fn blanks<D: DigestItem>(alloc: Global, count: usize) -> Result<Vec<D>, Error> {
+    let mut blanks = Vec::new(alloc);
+    for _ in 0..count {
+        blanks.push(D::blank(alloc))?;
+    }
+    Ok(blanks)
 }
