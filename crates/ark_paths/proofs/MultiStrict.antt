@@ -1,14 +1,17 @@
 -- Strict multi-proofs, place by place.
-use Rattle.std.proofs.Common.{◌≡◌, ℕ, suc, ◌+◌, ◌<◌, ◌≤◌, ◌^◌, Bool, true, false, not, ◌&&◌, nat_eq, nat_lt, List, [], ◌∷◌, ◌++◌, length, map, take, drop, get_or, inl, inr, refl, ap, sym, subst, ◌∙◌, arith, add-one}
+use Rattle.std.proofs.Common.{◌≡◌, ℕ, suc, ◌+◌, ◌<◌, ◌≤◌, ◌^◌, Bool, true, false, not, ◌&&◌, ◌==◌, nat_eq, nat_lt, List, [], ◌∷◌, ◌++◌, length, map, take, drop, get_or, inl, inr, refl, ap, sym, subst, ◌∙◌, arith, add-one}
 use Rattle.std.specs.Bool.{Decides, one_answer}
 use Rattle.std.specs.List.{list_all}
-use Rattle.std.proofs.lemmas.Bool.{cases_lt, lt-ltb, eq-eqb, ne_eqb}
+use Rattle.std.specs.declared.vec.Vec.{Vec}
+use Rattle.std.proofs.lemmas.Bool.{and_parts, cases_lt, eq-eqb, eqb-true, ne_eqb}
 use Rattle.std.proofs.lemmas.List.{take-append-drop, length-take-le, drop_more, drop_all, length-map, get_or-map}
 use Rattle.std.proofs.lemmas.Slice.Eq.{bytes_eq-Decides}
-use Rattle.ark_paths.specs.MultiPath.{MultiWay, path_length, decoded_paths_from}
+use Rattle.ark_paths.specs.MultiPath.{MultiWay, listed_way, path_length, decoded_paths, decoded_paths_from}
 use Rattle.ark_paths.specs.MultiPathStrict.{are_rising, are_longest, is_strict}
 use Rattle.ark_paths.specs.Sharing.{shared_count}
 use Rattle.ark_paths.specs.Pair.{Digest, digest_eq}
+use Rattle.ark_paths.specs.Rows.{digests_of}
+use Rattle.ark_paths.proofs.Readings.{first-seen}
 use Rattle.ark_paths.proofs.MultiShared.{shared-same, shared-other, slice_get-drop}
 
 -- ---- digests in common
@@ -145,12 +148,37 @@ module _ (prefixes : List ℕ) (suffixes : List (List Digest)) where
 
 -- ---- all tests
 
--- as the calls read the lists
-pub is_strict-by : (m : MultiWay) → (length m.indexes ≡ 0 → ⊥) → length m.siblings ≡ length m.indexes → length m.prefixes ≡ length m.indexes → length m.suffixes ≡ length m.indexes
-    → (risen inside : List ℕ) (len : ℕ) → risen ≡ m.indexes → inside ≡ m.indexes → len ≡ path_length m
-    → are_rising risen ≡ true → list_all (λ index. nat_lt index (2 ^ (len + 1))) inside ≡ true → is_strict m ≡ longest_left m 0 []
-is_strict-by m some siblings prefixes suffixes risen inside len risen_is inside_is len_is rises all =
-    let count = lt-ltb 0 (length m.indexes) (omega (arith, some)) in
-    let rising : are_rising m.indexes ≡ true = rw risen_is at rises in
-    let below : list_all (λ index. nat_lt index (2 ^ (path_length m + 1))) m.indexes ≡ true = rw (inside_is, len_is) at all in
-    rw (count, eq-eqb _ _ siblings, eq-eqb _ _ prefixes, eq-eqb _ _ suffixes, rising, below) refl
+-- the lists of a multi-proof
+module _ {S D Z : Type 0} (leaf : S → Digest) (inner : D → Digest) (siblings : List S) (prefixes : List ℕ) (suffixes : List (Vec D Z)) (indexes : List ℕ) where
+  abbrev as_many : Bool
+  as_many = nat_lt 0 (length indexes) && (length siblings == length indexes) && (length prefixes == length indexes) && (length suffixes == length indexes)
+
+  abbrev inside : ℕ → Bool
+  inside len = list_all (λ index. nat_lt index (2 ^ (len + 1))) indexes
+
+  abbrev proof : MultiWay
+  proof = listed_way leaf inner siblings prefixes suffixes indexes
+
+  first_long : (len : ℕ) → len ≡ length (get_or (map (λ (row : Vec D Z). row.items) suffixes) 0 []) → len ≡ path_length proof
+  first_long len is = is ∙ sym (first-seen inner suffixes)
+
+  pub as_long : as_many ≡ true → (length siblings ≡ length suffixes) × (length prefixes ≡ length suffixes) × (length indexes ≡ length suffixes)
+  as_long is =
+      let rows = and_parts (nat_lt 0 (length indexes) && (length siblings == length indexes) && (length prefixes == length indexes)) (length suffixes == length indexes) is in
+      let numbers = and_parts (nat_lt 0 (length indexes) && (length siblings == length indexes)) (length prefixes == length indexes) rows.0 in
+      let beside = and_parts (nat_lt 0 (length indexes)) (length siblings == length indexes) numbers.0 in
+      let last = sym (eqb-true (length suffixes) (length indexes) rows.1) in
+      (eqb-true (length siblings) (length indexes) beside.1 ∙ last, eqb-true (length prefixes) (length indexes) numbers.1 ∙ last, last)
+
+  pub is_strict-uneven : as_many ≡ false → is_strict proof ≡ false
+  is_strict-uneven is = rw (length-map siblings leaf, length-map suffixes (digests_of inner), is) refl
+
+  is_strict-even : as_many ≡ true → is_strict proof ≡ (are_rising indexes && inside (path_length proof) && are_longest [] prefixes (decoded_paths proof))
+  is_strict-even is = rw (length-map siblings leaf, length-map suffixes (digests_of inner), is) refl
+
+  module _ (is : as_many ≡ true) (len : ℕ) (first : len ≡ length (get_or (map (λ (row : Vec D Z). row.items) suffixes) 0 [])) where
+    pub is_strict-misplaced : (are_rising indexes && inside len) ≡ false → is_strict proof ≡ false
+    is_strict-misplaced fails = is_strict-even is ∙ rw (← first_long len first, fails) refl
+
+    pub is_strict-placed : (are_rising indexes && inside len) ≡ true → is_strict proof ≡ are_longest [] prefixes (decoded_paths proof)
+    is_strict-placed holds = is_strict-even is ∙ rw (← first_long len first, holds) refl

@@ -10,7 +10,7 @@ use Rattle.ark_base.specs.declared.error.Error.TheVariants.{IncorrectInputLength
 use Rattle.ark_base.specs.declared.error.Refusal.TheVariants.{NoIndex}
 use Rattle.ark_base.specs.Outcome.{Outcome, Answers, ◌>>=◌}
 use Rattle.ark_base.proofs.Refusals.{passed_on}
-use Rattle.ark_paths.specs.Leaves.{AnswersOver}
+use Rattle.ark_paths.specs.Leaves.{AnswersOver, TakesNone}
 use Rattle.ark_paths.specs.MultiPath.{MultiWay, decoded_path, decoded_paths_from, multi_verdict_from, multi_verdict}
 use Rattle.ark_paths.specs.Pair.{Digest, HashPair}
 use Rattle.ark_paths.specs.Path.{Way, verdict}
@@ -163,19 +163,24 @@ module _ {S A : Type 0} {steps : S → Option A → S → Type 0} {view : A → 
       AtPlace-decided result decided =
           Walked-decided steps view start (λ leaves. multi_verdict h leaves m root) next (i + 1) (λ more. left_from h root m i before (view item ∷ more)) result (with_leaf (λ more. left_from h root m i before (view item ∷ more)) (λ more. refl)) decided
 
-      pub AtPlace-memory : (result : Outcome Bool) (e : Error) → IsErrAnd result (λ d. d ≡ e) → e ≡ OutOfMemory → IsAnswer steps view h root m start next result
-      AtPlace-memory result e is_err memory = let p = err_from_is_err_and result is_err in AtPlace-decided result (λ more. rw (p.1, p.2) (inl memory))
-
-      module _ (index : ℕ) (is : index ≡ get_or m.indexes i index) (sibling : Digest) (above digests : List Digest) (same : above ≡ digests) (fit : decoded_path m i before index ≡ Some (record { sibling = sibling; above = digests; index = index })) where
-        fits : decoded_path m i before index ≡ Some (record { sibling = sibling; above = above; index = index })
-        fits = fit ∙ ap (λ (ds : List Digest). Some (record { sibling = sibling; above = ds; index = index })) (sym same)
-
-        pub AtPlace-refused : (result : Outcome Bool) (e : Error) → IsErrAnd result (λ d. d ≡ e) → (e ≡ OutOfMemory) ⊎ (verdict h (view item) (record { sibling = sibling; above = above; index = index }) root ≡ Err e) → IsAnswer steps view h root m start next result
+      module _ (sibling : Digest) (above : List Digest) (fit : (index : ℕ) → decoded_path m i before index ≡ Some (record { sibling = sibling; above = above; index = index })) where
+        pub AtPlace-refused : (result : Outcome Bool) (e : Error) → IsErrAnd result (λ d. d ≡ e) → (e ≡ OutOfMemory) ⊎ (verdict h (view item) (record { sibling = sibling; above = above; index = there }) root ≡ Err e) → IsAnswer steps view h root m start next result
         AtPlace-refused result e is_err refused =
-            AtPlace-decided result (λ more. passed_on (λ holds. holds) (left_from h root m i before (view item ∷ more)) result e is_err refused (left_from-refused h root m i before index below is (record { sibling = sibling; above = above; index = index }) fits (view item) more e))
+            AtPlace-decided result (λ more. passed_on (λ holds. holds) (left_from h root m i before (view item ∷ more)) result e is_err refused (left_from-refused h root m i before there below is_there (record { sibling = sibling; above = above; index = there }) (fit there) (view item) more e))
 
-        pub AtPlace-rejected : verdict h (view item) (record { sibling = sibling; above = above; index = index }) root ≡ Ok false → IsAnswer steps view h root m start next (Ok false)
-        AtPlace-rejected rejected = AtPlace-decided (Ok false) (λ more. left_from-rejected h root m i before index below is (record { sibling = sibling; above = above; index = index }) fits (view item) more rejected)
+        pub AtPlace-rejected : verdict h (view item) (record { sibling = sibling; above = above; index = there }) root ≡ Ok false → IsAnswer steps view h root m start next (Ok false)
+        AtPlace-rejected rejected = AtPlace-decided (Ok false) (λ more. left_from-rejected h root m i before there below is_there (record { sibling = sibling; above = above; index = there }) (fit there) (view item) more rejected)
 
-        pub AtPlace-accepted : verdict h (view item) (record { sibling = sibling; above = above; index = index }) root ≡ Ok true → AtPlace steps view start next h root m (i + 1) above
-        AtPlace-accepted accepted = record { so_far = with_leaf (left_from h root m (i + 1) above) (λ more. left_from-accepted h root m i before index below is (record { sibling = sibling; above = above; index = index }) fits (view item) more accepted) }
+        pub AtPlace-accepted : verdict h (view item) (record { sibling = sibling; above = above; index = there }) root ≡ Ok true → AtPlace steps view start next h root m (i + 1) above
+        AtPlace-accepted accepted = record { so_far = with_leaf (left_from h root m (i + 1) above) (λ more. left_from-accepted h root m i before there below is_there (record { sibling = sibling; above = above; index = there }) (fit there) (view item) more accepted) }
+
+    -- a place for which no leaf is taken
+    pub AtPlace-untaken : (end : S) (result : Outcome Bool) (e : Error) → IsErrAnd result (λ d. d ≡ e) → TakesNone steps here end (decoded_path m i before) i e → IsAnswer steps view h root m start end result
+    AtPlace-untaken end result e is_err why =
+        let p = err_from_is_err_and result is_err in
+        rw (p.1, p.2) (by_why why)
+      where
+        by_why : TakesNone steps here end (decoded_path m i before) i e → IsAnswer steps view h root m start end (Err e)
+        by_why (inl (unfit, same, is)) = rw (same, is) (AtPlace-unfit unfit)
+        by_why (inr (inl (none, is))) = rw is (AtPlace-no_leaf end none)
+        by_why (inr (inr (item, step, memory))) = AtPlace-decided end item step (Err e) (λ more. inl memory)

@@ -1,12 +1,10 @@
 -- What bytes that were read whole show of a tree.
-use Rattle.std.proofs.Common.{◌≡◌, ℕ, suc, ◌+◌, ◌-◌, ◌<◌, ◌%◌, ◌^◌, nat_lt, ◌==◌, ◌&&◌, Bool, true, false, if◌then◌else◌, Some, List, [], ◌∷◌, length, map, get_or, Ok, Err, refl, ap, sym, subst, ◌∙◌, arith}
+use Rattle.std.proofs.Common.{◌≡◌, ℕ, suc, ◌+◌, ◌-◌, ◌<◌, ◌%◌, ◌^◌, nat_lt, ◌==◌, ◌&&◌, Bool, true, false, if◌then◌else◌, Some, List, [], ◌∷◌, length, map, Ok, Err, refl, ap, sym, subst, ◌∙◌, arith}
 use Rattle.std.specs.List.{AllByRecursion, list_all}
 use Rattle.std.specs.Str.{bytes_eq}
 use Rattle.std.proofs.lemmas.Bool.{eqb-true, ltb-true}
 use Rattle.std.proofs.lemmas.Slice.Eq.{bytes_eq-Decides}
-use Rattle.std.proofs.lemmas.List.{length-map}
 use Rattle.std.proofs.Math.Nat.{mod-eq_of_lt}
-use Rattle.std.specs.declared.vec.Vec.{Vec}
 use Rattle.ark_base.specs.declared.error.Error.{Error}
 use Rattle.ark_base.specs.declared.error.Error.TheVariants.{IncorrectInputLength, SerializationError as OfBytes}
 use Rattle.ark_base.specs.declared.error.SerializationError.{SerializationError}
@@ -20,7 +18,6 @@ use Rattle.ark_paths.specs.MultiPath.{MultiWay, path_length, decoded_paths}
 use Rattle.ark_paths.specs.MultiPathStrict.{is_strict, strict_reading}
 use Rattle.ark_paths.specs.Pair.{Digest, Hashes}
 use Rattle.ark_paths.specs.Path.{Way}
-use Rattle.ark_paths.specs.Rows.{digests_of}
 use Rattle.ark_paths.specs.Received.{provided, is_fit, fit_path, received_path, fit_multi_path, received_multi_path, StandsAt, StandInTurn, ShowsLeaf, ShowsLeaves}
 use Rattle.ark_paths.proofs.Logs.{log2-pow}
 use Rattle.ark_paths.proofs.SizeLemmas.{power_decided}
@@ -45,7 +42,7 @@ module _ (size index : ℕ) (reading : Reading Way) (sized : is_tree_size size �
 
 -- ---- what is shown
 
-provided-true : (holds : Bool) (error : Error) → provided holds error ≡ Ok tt → holds ≡ true
+pub provided-true : (holds : Bool) (error : Error) → provided holds error ≡ Ok tt → holds ≡ true
 provided-true true error is = refl
 provided-true false error is = absurd cc
 
@@ -115,11 +112,6 @@ module _ (size : ℕ) (indexes : List ℕ) (reading : Reading MultiWay) (sized :
 
     pub received-multi-fit : is_fit size rest above asked ≡ Ok tt → received_multi_path size indexes reading ≡ Ok m
     received-multi-fit fits = rw (sized, read, long, at, ← is, fits) refl
-
--- the first of some rows is as long as it is seen
-pub first-seen : {A Z : Type 0} (numbers : A → Digest) (rows : List (Vec A Z)) → length (get_or (map (digests_of numbers) rows) 0 []) ≡ length (get_or (map (λ (row : Vec A Z). row.items) rows) 0 [])
-first-seen numbers [] = refl
-first-seen numbers (row ∷ rows) = length-map row.items numbers
 
 -- what is read strictly is strict
 strict-of : (reading : Reading MultiWay) (m : MultiWay) (rest : List ℕ) → strict_reading reading ≡ Ok (m, rest) → is_strict m ≡ true

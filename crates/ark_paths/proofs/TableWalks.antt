@@ -12,7 +12,7 @@ use Rattle.ark_paths.specs.Bind.{couple}
 use Rattle.ark_paths.specs.Index.{bit_at}
 use Rattle.ark_paths.specs.Pair.{Digest, HashPair, digest_eq, hash_in_order}
 use Rattle.ark_paths.specs.Path.{Way, climb, path_root, verdict}
-use Rattle.ark_paths.specs.Table.{Extends, HasPairs, HoldsPlaces, HoldsTree, IsTable, is_above, places_above, with_place}
+use Rattle.ark_paths.specs.Table.{Extends, HasPairs, HoldsPlaces, HoldsTree, IsTable, IsWalked, is_above, places_above, with_place}
 use Rattle.ark_paths.specs.declared.multi_path.table.Table.{Table}
 use Rattle.ark_paths.proofs.Binds.{hashed-couple}
 use Rattle.ark_paths.proofs.Climbs.{so_far-refused}
@@ -184,7 +184,7 @@ module _ {L D : Type 0} (leaf : L → Digest) (inner : D → Digest) (h : HashPa
   HoldsTree-next start level next made table is = subst (λ (n : ℕ). HoldsTree leaf inner pairs above (suc n) index seen table × (made + count_above (suc n) seen ≡ start + count_above (suc n) (index ∷ seen))) (sym is)
 
   -- at the top
-  pub HoldsTree-top : (start level made : ℕ) (table : Table L D) → level ≡ above
+  HoldsTree-top : (start level made : ℕ) (table : Table L D) → level ≡ above
       → HoldsTree leaf inner pairs above (suc level) index seen table × (made + count_above (suc level) seen ≡ start + count_above (suc level) (index ∷ seen))
       → HoldsTree leaf inner pairs above 0 index (index ∷ seen) table × (made + count_above (suc above) seen ≡ start + count_above (suc above) (index ∷ seen))
   HoldsTree-top start level made table top (holds, count) =
@@ -197,6 +197,19 @@ module _ {L D : Type 0} (leaf : L → Digest) (inner : D → Digest) (h : HashPa
         },
         subst (λ (n : ℕ). made + count_above (suc n) seen ≡ start + count_above (suc n) (index ∷ seen)) top count,
       )
+
+-- the whole way up
+pub IsWalked-top : {L D : Type 0} (leaf : L → Digest) (inner : D → Digest) (h : HashPair) (way : Way) (levels : ℕ) (digest : Digest) (old new : Table L D) (start end level : ℕ) → level ≡ levels → IsTable leaf inner h new
+    → ((pairs : ℕ × ℕ → Digest × Digest) (seen : List ℕ) → HoldsTree leaf inner pairs levels 0 way.index seen old → HasPairs h way digest pairs
+    → HoldsTree leaf inner pairs levels (suc level) way.index seen new × (length new.made.items + count_above (suc level) seen ≡ length old.made.items + count_above (suc level) (way.index ∷ seen)))
+    → RisesBy (length new.made.items - length old.made.items) start end → length old.made.items ≤ length new.made.items → IsWalked leaf inner h way levels (Ok digest) old new start end
+IsWalked-top leaf inner h way levels digest old new start end level top table holds rises grows = record {
+  table = table;
+  holds = λ pairs seen other before is has.
+      HoldsTree-top leaf inner h pairs levels way.index seen (length old.made.items) level (length new.made.items) new top (holds pairs seen before (subst (λ (d : Digest). HasPairs h way d pairs) (sym (done_injective _ _ is)) has));
+  rises = rises;
+  grows = grows;
+}
 
 -- what a path says, from what it gives
 pub verdict-by : (h : HashPair) (leaf : Outcome Digest) (way : Way) (root digest given : Digest) (same : Bool) → leaf ≡ Ok digest → path_root h way digest ≡ Ok given → digest_eq given root ≡ same → verdict h leaf way root ≡ Ok same

@@ -1,5 +1,5 @@
 -- Tables of hashed pairs.
-use Rattle.std.proofs.Common.{zero, suc, ◌≡◌, ◌≢◌, ◌⊎◌, ℕ, ◌+◌, ◌-◌, ◌/◌, ◌^◌, ◌<◌, ◌≤◌, ◌++◌, ◌||◌, Bool, true, false, cond, nat_eq, Option, List, [], ◌∷◌, length, map, get_or, Ok, Some, None, arith, refl, ap, sym, ◌∙◌, subst, append-nil, length-append, slice_set, inl, inr}
+use Rattle.std.proofs.Common.{zero, suc, ◌≡◌, ◌≢◌, ◌⊎◌, ℕ, ◌+◌, ◌-◌, ◌/◌, ◌^◌, ◌<◌, ◌≤◌, ◌++◌, ◌||◌, Bool, true, false, cond, min, nat_eq, Option, List, [], ◌∷◌, length, map, get_or, Ok, Some, None, arith, refl, ap, sym, ◌∙◌, subst, append-nil, length-append, slice_set, inl, inr}
 use Rattle.std.proofs.Math.Nat.{div-eq_of_lt, pow-le-pow_right}
 use Rattle.std.specs.BTreeMap.{BTreeMap, get, Updates, is_at}
 use Rattle.std.specs.List.{slice_get}
@@ -11,7 +11,7 @@ use Rattle.ark_base.specs.Outcome.{Outcome}
 use Rattle.ark_paths.specs.Bind.{couple}
 use Rattle.ark_paths.specs.Pair.{Digest}
 use Rattle.ark_paths.specs.Kept.{place_cmp, same_place, put_at, AreKept}
-use Rattle.ark_paths.specs.Table.{pair_seen, IsMade, AllMade, Extends, HoldsPlaces, with_place}
+use Rattle.ark_paths.specs.Table.{pair_seen, IsMade, AllMade, Extends, HoldsPlaces, IsServed, with_place}
 use Rattle.ark_paths.specs.declared.multi_path.table.Entries.{Entries}
 use Rattle.ark_paths.specs.declared.multi_path.table.Entry.{Entry}
 use Rattle.ark_paths.specs.declared.multi_path.table.Pair.{Pair}
@@ -31,13 +31,13 @@ number_above-none index level small far =
 pub Extends-itself : (xs : List Digest) → Extends xs xs
 Extends-itself xs = ([], sym (append-nil xs))
 
-pub Extends-below : (xs ys : List Digest) (k : ℕ) → Extends xs ys → k < length xs → k < length ys
+Extends-below : (xs ys : List Digest) (k : ℕ) → Extends xs ys → k < length xs → k < length ys
 Extends-below xs ys k (more, is) below = rw (is, length-append xs more) (omega (arith, below))
 
 pub length-Extends : {A : Type 0} (view : A → Digest) (before after : List A) → Extends (map view before) (map view after) → length before ≤ length after
 length-Extends view before after (more, is) = omega (arith, length-map before view, length-map after view, ap length is, length-append (map view before) more)
 
-pub get_or-Extends : (xs ys : List Digest) (k : ℕ) → Extends xs ys → k < length xs → get_or ys k [] ≡ get_or xs k []
+get_or-Extends : (xs ys : List Digest) (k : ℕ) → Extends xs ys → k < length xs → get_or ys k [] ≡ get_or xs k []
 get_or-Extends xs ys k (more, is) below = rw is (at xs more k below)
   where
     at : (xs more : List Digest) (k : ℕ) → k < length xs → get_or (xs ++ more) k [] ≡ get_or xs k []
@@ -135,15 +135,15 @@ AreKept-put all after last next slot kept updates is level other at =
 
 -- ---- entries
 
-pub count-kept : (here : Bool) (n : ℕ) → here ≡ true → n ≡ n + cond here 0 1
+count-kept : (here : Bool) (n : ℕ) → here ≡ true → n ≡ n + cond here 0 1
 count-kept here n is = rw is (omega arith)
 
-pub count-anew : {A : Type 0} (here : Bool) (view : A → Digest) (before after : List A) (y : Digest) → here ≡ false → map view after ≡ map view before ++ y ∷ [] → length after ≡ length before + cond here 0 1
+count-anew : {A : Type 0} (here : Bool) (view : A → Digest) (before after : List A) (y : Digest) → here ≡ false → map view after ≡ map view before ++ y ∷ [] → length after ≡ length before + cond here 0 1
 count-anew here view before after y is more = rw is (omega (arith, length-map after view, length-map before view, ap length more, length-append (map view before) (y ∷ [])))
 
 module _ {X : Type 0} (numbers : X → Digest) where
   -- a pair is the same when more digests stand behind
-  pub pair_seen-more : (xs ys : List Digest) (pair : Pair X) → Extends xs ys → pair.own < length xs → pair_seen numbers ys pair ≡ pair_seen numbers xs pair
+  pair_seen-more : (xs ys : List Digest) (pair : Pair X) → Extends xs ys → pair.own < length xs → pair_seen numbers ys pair ≡ pair_seen numbers xs pair
   pair_seen-more xs ys pair more below = ap (λ (d : Digest). couple pair.is_right d (numbers pair.sibling.now)) (get_or-Extends xs ys pair.own more below)
 
   module _ (hash : Digest → Digest → Outcome Digest) where
@@ -159,11 +159,11 @@ module _ {X : Type 0} (numbers : X → Digest) where
         record { kept = before.kept; all = λ place entry at. IsMade-more xs ys us vs entry digests made (before.all place entry at) }
 
     -- a digest that was made last, of a pair that was hashed
-    pub made-answer : (ys vs : List Digest) (given : Digest × Digest) (y : Digest) (number : ℕ) → hash given.0 given.1 ≡ Ok y → vs ≡ ys ++ y ∷ [] → number ≡ length ys → hash given.0 given.1 ≡ Ok (get_or vs number [])
+    made-answer : (ys vs : List Digest) (given : Digest × Digest) (y : Digest) (number : ℕ) → hash given.0 given.1 ≡ Ok y → vs ≡ ys ++ y ∷ [] → number ≡ length ys → hash given.0 given.1 ≡ Ok (get_or vs number [])
     made-answer ys vs given y number hashed is last = hashed ∙ ap Ok (sym (ap (λ (n : ℕ). get_or vs n []) last ∙ get_or-last ys vs y is))
 
     -- a made pair is kept
-    pub AllMade-kept : (xs us ys vs : List Digest) (entries after : Entries X) (place : ℕ × ℕ) (pair : Pair X) (y : Digest) (number : ℕ) → AllMade numbers hash xs ys entries → Extends xs us → pair.own < length xs
+    AllMade-kept : (xs us ys vs : List Digest) (entries after : Entries X) (place : ℕ × ℕ) (pair : Pair X) (y : Digest) (number : ℕ) → AllMade numbers hash xs ys entries → Extends xs us → pair.own < length xs
         → hash (pair_seen numbers xs pair).0 (pair_seen numbers xs pair).1 ≡ Ok y → vs ≡ ys ++ y ∷ [] → number ≡ length ys → AreKept after.all after.last.items → Updates place_cmp entries.all after.all place (Some (record { pair = pair; digest = number })) → AllMade numbers hash us vs after
     AllMade-kept xs us ys vs entries after place pair y number before digests own hashed is last kept updates = record {
       kept = kept;
@@ -188,10 +188,10 @@ module _ {X : Type 0} (numbers : X → Digest) where
 
   module _ (xs : List Digest) (pairs : ℕ × ℕ → Digest × Digest) (asked : ℕ × ℕ → Bool) (entries : BTreeMap (ℕ × ℕ) (Entry X)) (holds : HoldsPlaces numbers xs pairs asked entries) (place : ℕ × ℕ) where
     -- a place that is kept was asked before
-    pub asked-kept : (entry : Entry X) → get place_cmp entries place ≡ Some entry → asked place ≡ true
+    asked-kept : (entry : Entry X) → get place_cmp entries place ≡ Some entry → asked place ≡ true
     asked-kept entry at = sym (holds.at place) ∙ ap is_some at
 
-    pub HoldsPlaces-kept : (entry : Entry X) → get place_cmp entries place ≡ Some entry → HoldsPlaces numbers xs pairs (with_place place asked) entries
+    HoldsPlaces-kept : (entry : Entry X) → get place_cmp entries place ≡ Some entry → HoldsPlaces numbers xs pairs (with_place place asked) entries
     HoldsPlaces-kept entry at = record { at = λ q. holds.at q ∙ by_place q (same_place place q) refl; pair = holds.pair }
       where
         by_place : (q : ℕ × ℕ) (here : Bool) → same_place place q ≡ here → asked q ≡ (here || asked q)
@@ -200,14 +200,14 @@ module _ {X : Type 0} (numbers : X → Digest) where
 
     module _ (given : Digest × Digest) (is : given ≡ pairs place) (other : (entry : Entry X) → get place_cmp entries place ≡ Some entry → pair_seen numbers xs entry.pair ≢ given) where
       -- a place with no such pair was not asked before
-      pub asked-anew : asked place ≡ false
+      asked-anew : asked place ≡ false
       asked-anew = by_entry (get place_cmp entries place) refl
         where
           by_entry : (o : Option (Entry X)) → get place_cmp entries place ≡ o → asked place ≡ false
           by_entry None at = sym (holds.at place) ∙ ap is_some at
           by_entry (Some entry) at = absurd (other entry at (holds.pair place entry at ∙ sym is))
 
-    pub HoldsPlaces-anew : (us : List Digest) (after : BTreeMap (ℕ × ℕ) (Entry X)) (pair : Pair X) (number : ℕ) → ((q : ℕ × ℕ) (entry : Entry X) → get place_cmp entries q ≡ Some entry → entry.pair.own < length xs) → Extends xs us → pair.own < length xs
+    HoldsPlaces-anew : (us : List Digest) (after : BTreeMap (ℕ × ℕ) (Entry X)) (pair : Pair X) (number : ℕ) → ((q : ℕ × ℕ) (entry : Entry X) → get place_cmp entries q ≡ Some entry → entry.pair.own < length xs) → Extends xs us → pair.own < length xs
         → pair_seen numbers xs pair ≡ pairs place → Updates place_cmp entries after place (Some (record { pair = pair; digest = number })) → HoldsPlaces numbers us pairs (with_place place asked) after
     HoldsPlaces-anew us after pair number below digests own is updates = record { at = at; pair = seen }
       where
@@ -238,3 +238,45 @@ module _ {X : Type 0} (numbers : X → Digest) where
 
   pub HoldsPlaces-same : (xs : List Digest) (pairs : ℕ × ℕ → Digest × Digest) (asked others : ℕ × ℕ → Bool) (entries : BTreeMap (ℕ × ℕ) (Entry X)) → ((place : ℕ × ℕ) → asked place ≡ others place) → HoldsPlaces numbers xs pairs asked entries → HoldsPlaces numbers xs pairs others entries
   HoldsPlaces-same xs pairs asked others entries same holds = record { at = λ place. holds.at place ∙ same place; pair = holds.pair }
+
+  -- ---- a pair that is asked
+
+  module _ {D : Type 0} (inner : D → Digest) (hash : Digest → Digest → Outcome Digest) (xs : List Digest) (place : ℕ × ℕ) (pair : Pair X) (before : List D) (entries : Entries X) (made : AllMade numbers hash xs (map inner before) entries) (number : ℕ) where
+    -- it is kept
+    module _ (kept : (entry : Entry X) × (get place_cmp entries.all place ≡ Some entry) × (number ≡ entry.digest) × (pair_seen numbers xs entry.pair ≡ pair_seen numbers xs pair)) where
+      pub answer-kept : hash (pair_seen numbers xs pair).0 (pair_seen numbers xs pair).1 ≡ Ok (get_or (map inner before) number [])
+      answer-kept = rw (kept.2, ← kept.3) (made.all place kept.0 kept.1).is
+
+      pub IsServed-kept : (start : ℕ) → IsServed numbers inner hash xs xs place pair before before entries entries start start number
+      IsServed-kept start = record {
+        below = rw (kept.2, ← length-map before inner) (made.all place kept.0 kept.1).hashed;
+        grows = Extends-itself (map inner before);
+        made = made;
+        holds = λ pairs asked holds is. (HoldsPlaces-kept xs pairs asked entries.all holds place kept.0 kept.1, count-kept (asked place) (length before) (asked-kept xs pairs asked entries.all holds place kept.0 kept.1));
+        rises = omega arith;
+      }
+
+    -- it is hashed
+    module _ (after : List D) (y : Digest) (hashed : hash (pair_seen numbers xs pair).0 (pair_seen numbers xs pair).1 ≡ Ok y) (more : map inner after ≡ map inner before ++ y ∷ []) (last : number ≡ length before) where
+      pub answer-anew : hash (pair_seen numbers xs pair).0 (pair_seen numbers xs pair).1 ≡ Ok (get_or (map inner after) number [])
+      answer-anew = made-answer hash (map inner before) (map inner after) (pair_seen numbers xs pair) y number hashed more (last ∙ sym (length-map before inner))
+
+      pub IsServed-anew : (us : List Digest) (next : Entries X) (start end : ℕ) → Extends xs us → pair.own < length xs → AreKept next.all next.last.items → Updates place_cmp entries.all next.all place (Some (record { pair = pair; digest = number }))
+          → ((entry : Entry X) → get place_cmp entries.all place ≡ Some entry → pair_seen numbers xs entry.pair ≢ pair_seen numbers xs pair) → end ≡ min (start + 1) 18446744073709551615
+          → IsServed numbers inner hash xs us place pair before after entries next start end number
+      IsServed-anew us next start end digests own kept updates other counted =
+          let one : length after ≡ length before + 1 = count-anew false inner before after y refl more in
+          record {
+            below = omega (arith, last, one);
+            grows = (y ∷ [], more);
+            made = AllMade-kept hash xs us (map inner before) (map inner after) entries next place pair y number made digests own hashed more (last ∙ sym (length-map before inner)) kept updates;
+            holds = λ pairs asked holds is. (
+              HoldsPlaces-anew xs pairs asked entries.all holds place us next.all pair number (λ q entry at. (made.all q entry at).own) digests own is updates,
+              count-anew (asked place) inner before after y (asked-anew xs pairs asked entries.all holds place (pair_seen numbers xs pair) is other) more,
+            );
+            rises = omega (arith, counted, one);
+          }
+
+-- one more was counted at most
+pub counted-most : (start end : ℕ) → end ≡ min (start + 1) 18446744073709551615 → end ≤ start + 1
+counted-most start end counted = omega (arith, counted)

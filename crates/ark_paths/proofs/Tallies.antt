@@ -2,7 +2,7 @@
 use Rattle.std.proofs.Common.{suc, ◌≡◌, ℕ, ◌+◌, ◌-◌, ◌*◌, ◌<◌, ◌≤◌, Bool, true, false, nat_eq, nat_lt, if◌then◌else◌, ◌&&◌, Option, Some, None, List, [], ◌∷◌, ◌++◌, length, map, take, drop, get_or, slice_get, reverse, Ok, arith, refl, ap, sym, ◌∙◌, subst, length-append, length-take, append_assoc, add-one}
 use Rattle.std.proofs.Math.Nat.{mul-le-mul_right}
 use Rattle.std.proofs.lemmas.Bool.{eqb-true, le-ltb}
-use Rattle.std.proofs.lemmas.List.{drop_more, get_or-map, length-map, map-append, reverse-append, take_all, take_more}
+use Rattle.std.proofs.lemmas.List.{drop_more, get_or_default, get_or-map, length-map, map-append, reverse-append, take_all, take_more}
 use Rattle.std.specs.Iterator.{Yields}
 use Rattle.ark_base.specs.Outcome.{Outcome}
 use Rattle.ark_paths.specs.Above.{count_above}
@@ -37,17 +37,13 @@ get_or-behind (y ∷ first) x d rest = get_or-behind first x d rest
 some_same : {A : Type 0} (a b : A) → ◌≡◌ {A = Option A} (Some a) (Some b) → a ≡ b
 some_same a b is = cc
 
--- a decoded path, with its digests as they were put together
-pub with_above : {o : Option Way} (sibling : Digest) (above digests : List Digest) (index : ℕ) → above ≡ digests → o ≡ Some (record { sibling = sibling; above = digests; index = index }) → o ≡ Some (record { sibling = sibling; above = above; index = index })
-with_above sibling above digests index same is = is ∙ ap (λ (ds : List Digest). Some (record { sibling = sibling; above = ds; index = index })) (sym same)
-
 module _ (m : MultiWay) (place : ℕ) (before : List Digest) (decoded : Decoded m place before) (index : ℕ) (below : place < length m.indexes) (is : index ≡ get_or m.indexes place index) (way : Way) (fit : decoded_path m place before index ≡ Some way) where
   from_here : decoded_paths m ≡ decoded.0 ++ Some way ∷ decoded_paths_from m (suc place) way.above (drop (place + 1) m.indexes)
   from_here =
       let here : drop place m.indexes ≡ index ∷ drop (place + 1) m.indexes = drop_more m.indexes place index below ∙ ap (λ (n : ℕ). n ∷ drop (place + 1) m.indexes) (sym is) in
       decoded.2 ∙ rw (here, fit) refl
 
-  pub Decoded-more : Decoded m (place + 1) way.above
+  Decoded-more : Decoded m (place + 1) way.above
   Decoded-more =
       let first = decoded.0 ++ Some way ∷ [] in (
         first,
@@ -64,7 +60,7 @@ module _ (m : MultiWay) (place : ℕ) (before : List Digest) (decoded : Decoded 
       some_same way (own_path h index digests) (sym one ∙ other)
 
   -- no path is longer than the first
-  pub decoded-short : length way.above ≤ path_length m
+  decoded-short : length way.above ≤ path_length m
   decoded-short = by_parts (slice_get m.siblings place) (slice_get m.prefixes place) (slice_get m.suffixes place) fit
     where
       by_count : (sibling : Digest) (prefix : ℕ) (suffix : List Digest) (fits : Bool) → nat_eq (prefix + length suffix) (path_length m) ≡ fits
@@ -84,13 +80,30 @@ module _ (m : MultiWay) (place : ℕ) (before : List Digest) (decoded : Decoded 
 
 -- ---- at most
 
-pub most-more : (start now later place long most : ℕ) → long ≤ most → now ≤ start + place * suc most → later ≤ now + suc long → later ≤ start + (place + 1) * suc most
+most-more : (start now later place long most : ℕ) → long ≤ most → now ≤ start + place * suc most → later ≤ now + suc long → later ≤ start + (place + 1) * suc most
 most-more start now later place long most short before after =
     let one : (place + 1) * suc most ≡ place * suc most + suc most = grind arith in
     omega (arith, one, short, before, after)
 
 pub most-all : (start now place count most : ℕ) → place ≤ count → now ≤ start + place * suc most → now ≤ start + count * suc most
 most-all start now place count most below before = omega (arith, before, mul-le-mul_right (suc most) below)
+
+-- at a place that decodes
+module _ (m : MultiWay) (place : ℕ) (before : List Digest) (sibling : Digest) (above : List Digest) (decoded : Decoded m place before) (below : place < length m.indexes) (fit : (index : ℕ) → decoded_path m place before index ≡ Some (record { sibling = sibling; above = above; index = index })) where
+  abbrev there : ℕ
+  there = get_or m.indexes place 0
+
+  is_there : there ≡ get_or m.indexes place there
+  is_there = get_or_default m.indexes place 0 there below
+
+  pub Decoded-next : Decoded m (place + 1) above
+  Decoded-next = Decoded-more m place before decoded there below is_there (record { sibling = sibling; above = above; index = there }) (fit there)
+
+  pub most-there : (start now later : ℕ) → now ≤ start + place * suc (path_length m) → later ≤ now + suc (length above) → later ≤ start + (place + 1) * suc (path_length m)
+  most-there start now later so more = most-more start now later place (length above) (path_length m) (decoded-short m place before decoded there below is_there (record { sibling = sibling; above = above; index = there }) (fit there)) so more
+
+  pub most-next : (start now later : ℕ) → now ≤ start + place * suc (path_length m) → later ≤ now + suc (length above) → later ≤ start + length m.indexes * suc (path_length m)
+  most-next start now later so more = most-all start later (place + 1) (length m.indexes) (path_length m) (omega (arith, below)) (most-there start now later so more)
 
 pub RisesBy-more : (before after start mid end : ℕ) → before ≤ after → RisesBy before start mid → RisesBy (after - before) mid end → RisesBy after start end
 RisesBy-more before after start mid end grows one two = omega (arith, grows, one, two)
@@ -183,7 +196,7 @@ module _ {L D : Type 0} (leaf : L → Digest) (inner : D → Digest) where
     pub Counted-first : (table : Table L D) → table.made.items ≡ [] → ((pairs : ℕ × ℕ → Digest × Digest) (above : ℕ) → HoldsTree leaf inner pairs above 0 0 [] table) → Counted steps start start leaf inner h root m view 0 table
     Counted-first table none holds = record { taken = []; gave = refl; each = refl; tallied = λ digests own same. (holds (pair_at h digests) (upper_levels digests), ap length none ∙ sym (count_above-none (suc (upper_levels digests)))) }
 
-    pub Counted-more : (here next : S) (place : ℕ) (item : A) (before after : Table L D) (digests_before : List Digest) (index : ℕ) (way : Way) (levels : ℕ) → Counted steps start here leaf inner h root m view place before → steps here (Some item) next
+    Counted-more : (here next : S) (place : ℕ) (item : A) (before after : Table L D) (digests_before : List Digest) (index : ℕ) (way : Way) (levels : ℕ) → Counted steps start here leaf inner h root m view place before → steps here (Some item) next
         → Decoded m place digests_before → place < length m.indexes → index ≡ get_or m.indexes place index → decoded_path m place digests_before index ≡ Some way → levels ≡ length way.above
         → ((pairs : ℕ × ℕ → Digest × Digest) (seen : List ℕ) (digest : Digest) → HoldsTree leaf inner pairs levels 0 index seen before → view item ≡ Ok digest → HasPairs h way digest pairs
         → HoldsTree leaf inner pairs levels 0 index (index ∷ seen) after × (length after.made.items + count_above (suc levels) seen ≡ length before.made.items + count_above (suc levels) (index ∷ seen)))
@@ -194,6 +207,16 @@ module _ {L D : Type 0} (leaf : L → Digest) (inner : D → Digest) where
       each = length-append counted.taken (item ∷ []) ∙ ap (λ (n : ℕ). n + 1) counted.each;
       tallied = Tallied-more h root m view place counted.taken item before after digests_before index way levels counted.tallied decoded below is fit long asked;
     }
+
+    -- at a place that decodes
+    pub Counted-next : (here next : S) (place : ℕ) (item : A) (before after : Table L D) (digests_before : List Digest) (sibling : Digest) (above : List Digest) (levels : ℕ) → Counted steps start here leaf inner h root m view place before → steps here (Some item) next
+        → Decoded m place digests_before → place < length m.indexes → ((index : ℕ) → decoded_path m place digests_before index ≡ Some (record { sibling = sibling; above = above; index = index })) → levels ≡ length above
+        → ((pairs : ℕ × ℕ → Digest × Digest) (seen : List ℕ) (digest : Digest) → HoldsTree leaf inner pairs levels 0 (get_or m.indexes place 0) seen before → view item ≡ Ok digest → HasPairs h (record { sibling = sibling; above = above; index = get_or m.indexes place 0 }) digest pairs
+        → HoldsTree leaf inner pairs levels 0 (get_or m.indexes place 0) (get_or m.indexes place 0 ∷ seen) after × (length after.made.items + count_above (suc levels) seen ≡ length before.made.items + count_above (suc levels) (get_or m.indexes place 0 ∷ seen)))
+        → Counted steps start next leaf inner h root m view (place + 1) after
+    Counted-next here next place item before after digests_before sibling above levels counted step decoded below fit =
+        let index = get_or m.indexes place 0 in
+        Counted-more here next place item before after digests_before index (record { sibling = sibling; above = above; index = index }) levels counted step decoded below (get_or_default m.indexes place 0 index below) (fit index)
 
     -- at the end
     pub Counted-all : (here : S) (place : ℕ) (table : Table L D) (before after : ℕ) → Counted steps start here leaf inner h root m view place table → length m.indexes ≡ place → RisesBy (length table.made.items) before after → CountsOwn steps view start h root m before after

@@ -1,10 +1,12 @@
 -- The paths of several leaves at once: each as what it takes from the path before and what it adds.
-use Rattle.std.specs.Prelude.{◌==◌, ℕ, suc, ◌+◌, List, [], ◌∷◌, ◌++◌, length, take, get_or, slice_get, Bool, true, false, if◌then◌else◌, Option, Some, None, Ok, Err}
+use Rattle.std.specs.Prelude.{◌==◌, ℕ, suc, ◌+◌, List, [], ◌∷◌, ◌++◌, length, map, take, get_or, slice_get, Bool, true, false, if◌then◌else◌, Option, Some, None, Ok, Err}
 use Rattle.ark_base.specs.declared.error.Error.TheVariants.{IncorrectInputLength, GenericError}
 use Rattle.ark_base.specs.declared.error.Refusal.TheVariants.{NoIndex}
+use Rattle.std.specs.declared.vec.Vec.{Vec}
 use Rattle.ark_base.specs.Outcome.{Outcome, ◌>>=◌}
 use Rattle.ark_paths.specs.Pair.{Digest, HashPair}
 use Rattle.ark_paths.specs.Path.{Way, verdict}
+use Rattle.ark_paths.specs.Rows.{digests_of}
 
 -- a multi-proof by its numbers: for each place the digest beside the leaf's, how many first digests its path takes from
 -- the path before, the digests that follow, and the leaf's index
@@ -13,6 +15,16 @@ pub record MultiWay : Type 0 where
   pub prefixes : List ℕ
   pub suffixes : List (List Digest)
   pub indexes : List ℕ
+
+-- a multi-proof by its lists
+abbrev pub listed_way : {S D Z : Type 0} → (S → Digest) → (D → Digest) → List S → List ℕ → List (Vec D Z) → List ℕ
+    → MultiWay
+listed_way leaf inner siblings prefixes suffixes indexes = record {
+  siblings = map leaf siblings;
+  prefixes = prefixes;
+  suffixes = map (digests_of inner) suffixes;
+  indexes = indexes;
+}
 
 -- how many digests each path has: as many as the first suffix
 abbrev pub path_length : MultiWay → ℕ

@@ -1,10 +1,12 @@
 -- The pairs that the check of a multi-proof has hashed. A place is a level, counted from the lowest pairs, and a number
 -- on it; above the leaf of index i stands number i / 2 ^ (level + 1).
-use Rattle.std.specs.Prelude.{◌≡◌, ◌==◌, ◌&&◌, ◌||◌, ℕ, suc, ◌/◌, ◌^◌, ◌≤◌, ◌<◌, ◌-◌, nat_lt, Bool, if◌then◌else◌, List, [], ◌∷◌, ◌++◌, length, map, get_or, Some, Ok}
+use Rattle.std.specs.Prelude.{◌≡◌, ◌==◌, ◌&&◌, ◌||◌, ℕ, suc, ◌+◌, ◌/◌, ◌^◌, ◌≤◌, ◌<◌, ◌-◌, nat_lt, Bool, cond, if◌then◌else◌, List, [], ◌∷◌, ◌++◌, length, map, get_or, Some, Ok}
 use Rattle.std.specs.BTreeMap.{BTreeMap, get}
 use Rattle.std.specs.List.{list_any}
 use Rattle.std.specs.Option.{is_some}
 use Rattle.ark_base.specs.Outcome.{Outcome}
+use Rattle.ark_paths.specs.Above.{count_above}
+use Rattle.ark_paths.specs.Asked.{RisesBy}
 use Rattle.ark_paths.specs.Bind.{couple, halves, path_pair}
 use Rattle.ark_paths.specs.Kept.{place_cmp, same_place, AreKept}
 use Rattle.ark_paths.specs.Pair.{Digest, HashPair}
@@ -85,3 +87,32 @@ pair_at h digests place = halves h place.0 (part place.0 place.1 digests)
 abbrev pub HasPairs : HashPair → Way → Digest → (ℕ × ℕ → Digest × Digest) → Type 0
 HasPairs h way digest pairs = (level : ℕ) → level ≤ length way.above
     → path_pair h way digest (length way.above - level) ≡ Ok (pairs (level, way.index / 2 ^ suc level))
+
+-- ---- what asking leaves
+
+-- What a pair that was asked at a place leaves: the number of a digest; those that were made before, and at most one more;
+-- their entries, of a tree where they were such; and a count that rose by as many.
+pub record IsServed {X D : Type 0} (numbers : X → Digest) (inner : D → Digest) (hash : Digest → Digest → Outcome Digest)
+    (digests later : List Digest) (place : ℕ × ℕ) (pair : Pair X) (before after : List D) (entries next : Entries X)
+    (start end number : ℕ) : Type 0 where
+  pub below : number < length after
+  pub grows : Extends (map inner before) (map inner after)
+  pub made : AllMade numbers hash later (map inner after) next
+  pub holds : (pairs : ℕ × ℕ → Digest × Digest) (asked : ℕ × ℕ → Bool)
+      → HoldsPlaces numbers digests pairs asked entries.all → pair_seen numbers digests pair ≡ pairs place
+      → HoldsPlaces numbers later pairs (with_place place asked) next.all
+      × (length after ≡ length before + cond (asked place) 0 1)
+  pub rises : RisesBy (length after - length before) start end
+
+-- What a way up from a leaf with this digest leaves: a table, of a tree where it was such, with as many digests more as
+-- places are new; and a count that rose by as many.
+pub record IsWalked {L D : Type 0} (leaf : L → Digest) (inner : D → Digest) (h : HashPair) (way : Way) (levels : ℕ)
+    (hashed : Outcome Digest) (before after : Table L D) (start end : ℕ) : Type 0 where
+  pub table : IsTable leaf inner h after
+  pub holds : (pairs : ℕ × ℕ → Digest × Digest) (seen : List ℕ) (digest : Digest)
+      → HoldsTree leaf inner pairs levels 0 way.index seen before → hashed ≡ Ok digest → HasPairs h way digest pairs
+      → HoldsTree leaf inner pairs levels 0 way.index (way.index ∷ seen) after
+      × (length after.made.items + count_above (suc levels) seen
+      ≡ length before.made.items + count_above (suc levels) (way.index ∷ seen))
+  pub rises : RisesBy (length after.made.items - length before.made.items) start end
+  pub grows : length before.made.items ≤ length after.made.items

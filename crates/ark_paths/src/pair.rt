@@ -7,11 +7,21 @@ ghost use Rattle.ark_paths.specs.Pair.{hash_in_order};
 use crate::config::{Config, DigestConverter, TwoToOneParam};
 use crate::views::Views;
 use ark_base::error::Error;
-use ark_base::serialize::Duplicate;
+use ark_base::serialize::{DigestItem, Numbered};
 use ark_crh::TwoToOneCRHScheme;
 use std::alloc::Global;
 
-/// The hash of two leaf digests. Each is copied, since the converter takes its item by value.
+// What a converter makes of a digest. It is copied, since the converter takes its item by value.
+fn converted<L: DigestItem, I: Numbered, C: DigestConverter<L, I>>(
+    alloc: Global,
+    digest: &L,
+) -> Result<I, Error>
+    ensures { AnswersBy I.numbers (C.conversion (L.numbers digest.now)) result }
+{
+    C::convert(alloc, digest.duplicate(alloc)?)
+}
+
+/// The hash of two leaf digests.
 pub fn hash_bottom<P: Config>(
     alloc: Global,
     pair_parameters: &TwoToOneParam<P>,
@@ -22,8 +32,8 @@ pub fn hash_bottom<P: Config>(
         let numbers = P.LeafDigest.numbers in
         AnswersBy P.InnerDigest.numbers (hash (numbers left.now) (numbers right.now)) result }
 {
-    let left = P::LeafInnerDigestConverter::convert(alloc, left.duplicate(alloc)?)?;
-    let right = P::LeafInnerDigestConverter::convert(alloc, right.duplicate(alloc)?)?;
+    let left = converted::<_, _, P::LeafInnerDigestConverter>(alloc, left)?;
+    let right = converted::<_, _, P::LeafInnerDigestConverter>(alloc, right)?;
     P::TwoToOneHash::evaluate(alloc, pair_parameters, &left, &right)
 }
 

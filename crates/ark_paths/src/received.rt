@@ -9,6 +9,7 @@ ghost use Rattle.ark_paths.specs.Received.{is_fit, received_multi_path, received
 use crate::config::{LeafParam, TwoToOneParam};
 use crate::index::{is_tree_size, levels_between};
 use crate::multi_path::MultiPath;
+use crate::multi_path::places::first_length;
 use crate::path::Path;
 use crate::views::Values;
 use ark_base::error::{Error, SerializationError};
@@ -92,14 +93,19 @@ impl<P: Values> Path<P> {
     }
 }
 
-// How many items the first of some lists has; none where there is no list.
-fn first_length<D>(lists: &[Vec<D>]) -> usize
-    ensures { result ≡ length (get_or (map (λ list. list.items) lists.now) 0 []) }
+// The refusals of a multi-proof that was read, of these suffixes and own indexes, where some indexes are asked for.
+fn is_fit_for<D>(
+    size: usize,
+    behind: &[u8],
+    suffixes: &[Vec<D>],
+    own: &[usize],
+    indexes: &[usize],
+) -> Result<(), Error>
+    requires { IsTreeSize size }
+    ensures { let above = length (get_or (map (λ list. list.items) suffixes.now) 0 []) in
+        result ≡ is_fit size behind.now above (bytes_eq own.now indexes.now) }
 {
-    match lists.first() {
-        Some(list) => list.len(),
-        None => 0,
-    }
+    is_fit(size, behind, first_length(suffixes), own == indexes)
 }
 
 impl<P: Values> MultiPath<P> {
@@ -122,9 +128,13 @@ impl<P: Values> MultiPath<P> {
             return Err(Error::IncorrectInputLength(size));
         }
         let (proof, used) = MultiPath::<P>::read_strict(alloc, bytes)?;
-        let above = first_length(&proof.auth_paths_suffixes);
-        let is_asked = proof.leaf_indexes.as_slice() == indexes;
-        is_fit(size, rest_of(bytes, used), above, is_asked)?;
+        is_fit_for(
+            size,
+            rest_of(bytes, used),
+            &proof.auth_paths_suffixes,
+            &proof.leaf_indexes,
+            indexes,
+        )?;
         Ok(proof)
     }
 

@@ -1,8 +1,9 @@
 //! The paths of a multi-proof, place by place.
 
-ghost use Rattle.std.specs.Prelude.{◌≡◌, ◌++◌, ℕ, List, [], length, get_or, slice_get, map, take, IfOk, IsOkUnless, MatchOption, Some, None};
+ghost use Rattle.std.specs.Prelude.{◌≡◌, ◌==◌, ◌+◌, ◌++◌, ℕ, List, [], length, get_or, slice_get, map, take, IfOk, IsOkUnless, MatchOption, MatchResult, OnOk, Some, None};
 ghost use Rattle.ark_base.specs.declared.error.Error.TheVariants.{OutOfMemory};
 ghost use Rattle.ark_paths.specs.MultiPath.{path_of_parts};
+ghost use Rattle.ark_paths.specs.Leaves.{TakesNone};
 ghost use Rattle.ark_paths.specs.Pair.{Digest};
 ghost use Rattle.ark_paths.specs.Rows.{digests_of};
 
@@ -18,6 +19,13 @@ pub struct Part<'a, S, D> {
     pub prefix: usize,
     /// The digests that follow.
     pub suffix: &'a [D],
+}
+
+/// Whether a number is the sum of two.
+pub fn is_sum(number: usize, first: usize, second: usize) -> bool
+    ensures { result ≡ (first + second == number) }
+{
+    first <= number && number - first == second
 }
 
 /// The parts of a place in the lists of a multi-proof, where it decodes.
@@ -43,7 +51,7 @@ pub fn part_at<'a, S: Numbered, D: Numbered>(
     let prefix = *prefixes.get(place)?;
     let suffix = suffixes.get(place)?.as_slice();
     let len = suffixes[0].len();
-    if prefix <= len && len - prefix == suffix.len() {
+    if is_sum(len, prefix, suffix.len()) {
         Some(Part {
             sibling,
             prefix,
@@ -51,6 +59,16 @@ pub fn part_at<'a, S: Numbered, D: Numbered>(
         })
     } else {
         None
+    }
+}
+
+/// How many items the first of some lists has; none where there is no list.
+pub fn first_length<D>(lists: &[Vec<D>]) -> usize
+    ensures { result ≡ length (get_or (map (λ list. list.items) lists.now) 0 []) }
+{
+    match lists.first() {
+        Some(list) => list.len(),
+        None => 0,
     }
 }
 
@@ -70,4 +88,45 @@ pub fn extend<'a, D: DigestItem>(
         above.push(digest)?;
     }
     Ok(())
+}
+
+/// Takes the leaf of a place, and makes the path there of the path before. It answers the digest beside the leaf's, and the
+/// leaf.
+///
+/// Refusals: `IncorrectInputLength` of a place that does not decode, before a leaf is taken, or for which there is none;
+/// `OutOfMemory`.
+pub fn next_place<'a, 'b, S: Numbered, D: DigestItem, L, I: Iterator<Item = &'b L>>(
+    siblings: &'a [S],
+    prefixes: &[usize],
+    suffixes: &'a [Vec<D>],
+    place: usize,
+    leaves: &mut I,
+    above: &mut Vec<&'a D>,
+) -> Result<(&'a S, &'b L), Error>
+where
+    L: 'b,
+    requires { I.can_next leaves.old }
+    ensures can { OnOk result (I.can_next leaves.new) }
+    ensures next { let seen = map (digests_of D.numbers) suffixes.now in
+        let before = map (λ x. D.numbers x.now) above.old.items in
+        let path = λ (index : ℕ).
+        path_of_parts (length (get_or seen 0 [])) before index
+        (slice_get (map S.numbers siblings.now) place) (slice_get prefixes.now place)
+        (slice_get seen place) in
+        MatchResult result (λ next. I.next_gives leaves.old (Some next.1) leaves.new
+        × ((index : ℕ) → path index ≡ Some (record {
+          sibling = S.numbers next.0.now;
+          above = map (λ x. D.numbers x.now) above.new.items;
+          index = index;
+        })))
+        (TakesNone I.next_gives leaves.old leaves.new path place) }
+{
+    let Some(part) = part_at(siblings, prefixes, suffixes, place) else {
+        return Err(Error::IncorrectInputLength(place));
+    };
+    let Some(leaf) = leaves.next() else {
+        return Err(Error::IncorrectInputLength(place));
+    };
+    extend(above, part.prefix, part.suffix)?;
+    Ok((part.sibling, leaf))
 }

@@ -2,20 +2,23 @@
 
 ghost use Rattle.std.specs.Prelude.{◌≡◌, ◌==◌, true, ◌+◌, ◌^◌, ◌++◌, ◌&&◌, ◌≤◌, ℕ, List, [], length, map, drop, take, nat_lt, IfOk, MatchResult, Ok, Some};
 ghost use Rattle.std.specs.List.{list_all};
+ghost use Rattle.ark_base.specs.declared.error.Error.TheVariants.{SerializationError as OfBytes};
+ghost use Rattle.ark_base.specs.declared.error.SerializationError.TheVariants.{InvalidData};
 ghost use Rattle.ark_base.specs.Outcome.{Answers, AnswersBy, IsMemory};
 ghost use Rattle.ark_base.specs.Reading.{Spells, reading_outcome};
-ghost use Rattle.ark_paths.specs.MultiPath.{MultiWay, decoded_paths};
+ghost use Rattle.ark_paths.specs.MultiPath.{MultiWay, decoded_paths, listed_way};
 ghost use Rattle.ark_paths.specs.MultiPathStrict.{AreInOrder, are_rising, are_longest, is_strict, strict_reading};
+ghost use Rattle.ark_paths.specs.Received.{provided};
 ghost use Rattle.ark_paths.specs.Sharing.{shared_count};
 ghost use Rattle.ark_paths.specs.Pair.{Digest};
 ghost use Rattle.ark_paths.specs.Path.{Way};
 ghost use Rattle.ark_paths.specs.Rows.{digests_of};
 
 use crate::multi_path::MultiPath;
-use crate::multi_path::places::extend;
+use crate::multi_path::places::{extend, first_length, is_sum};
 use crate::views::Values;
 use ark_base::error::{Error, SerializationError};
-use ark_base::serialize::{Canonical, CanonicalDeserialize, DigestItem};
+use ark_base::serialize::{Canonical, CanonicalDeserialize, DigestItem, Numbered};
 use std::alloc::Global;
 
 impl<P: Values> MultiPath<P> {
@@ -58,34 +61,64 @@ impl<P: Values> MultiPath<P> {
             × (decoded_paths proof ≡ map Some ways) }
     {
         let (proof, used) = MultiPath::<P>::deserialize(alloc, bytes)?;
-        if !proof.is_strict(alloc)? {
-            return Err(Error::SerializationError(SerializationError::InvalidData));
-        }
+        proof.check_strict(alloc)?;
         Ok((proof, used))
     }
 
-    // Whether the multi-proof is strict. The only refusal is `OutOfMemory`.
-    fn is_strict(&self, alloc: Global) -> Result<bool, Error>
-        ensures { Answers (Ok (is_strict (P.multi_way self.now))) result }
+    // The refusal of a multi-proof that is not strict: `InvalidData`. `OutOfMemory`.
+    fn check_strict(&self, alloc: Global) -> Result<(), Error>
+        ensures { let is_strict = is_strict (P.multi_way self.now) in
+            Answers (provided is_strict (OfBytes InvalidData)) result }
     {
-        let count = self.leaf_indexes.len();
-        if count == 0
-            || self.leaf_siblings_hashes.len() != count
-            || self.auth_paths_prefix_lenghts.len() != count
-            || self.auth_paths_suffixes.len() != count
-        {
-            return Ok(false);
-        }
-        let len = self.auth_paths_suffixes[0].len();
-        if !are_rising(&self.leaf_indexes) || !are_inside(&self.leaf_indexes, len) {
-            return Ok(false);
-        }
-        are_longest(
+        let is_strict = is_strict(
             alloc,
+            &self.leaf_siblings_hashes,
             &self.auth_paths_prefix_lenghts,
             &self.auth_paths_suffixes,
-        )
+            &self.leaf_indexes,
+        )?;
+        if is_strict {
+            Ok(())
+        } else {
+            Err(Error::SerializationError(SerializationError::InvalidData))
+        }
     }
+}
+
+// Whether the multi-proof of these lists is strict. The only refusal is `OutOfMemory`.
+fn is_strict<S: Numbered, D: DigestItem>(
+    alloc: Global,
+    siblings: &[S],
+    prefixes: &[usize],
+    suffixes: &[Vec<D>],
+    indexes: &[usize],
+) -> Result<bool, Error>
+    ensures { let proof = listed_way S.numbers D.numbers siblings.now prefixes.now suffixes.now
+        indexes.now in
+        Answers (Ok (is_strict proof)) result }
+{
+    if !are_as_many(siblings, prefixes, suffixes, indexes) {
+        return Ok(false);
+    }
+    if !are_placed(indexes, first_length(suffixes)) {
+        return Ok(false);
+    }
+    are_longest(alloc, prefixes, suffixes)
+}
+
+// Whether there is an index, and the lists are as long as that of the indexes.
+fn are_as_many<S, D>(
+    siblings: &[S],
+    prefixes: &[usize],
+    suffixes: &[Vec<D>],
+    indexes: &[usize],
+) -> bool
+    ensures { let count = length indexes.now in
+        result ≡ (nat_lt 0 count && (length siblings.now == count)
+        && (length prefixes.now == count) && (length suffixes.now == count)) }
+{
+    let count = indexes.len();
+    count > 0 && siblings.len() == count && prefixes.len() == count && suffixes.len() == count
 }
 
 // Whether numbers rise.
@@ -98,6 +131,14 @@ fn are_rising(numbers: &[usize]) -> bool
         }
     }
     true
+}
+
+// Whether indexes rise, and are those of leaves in a tree whose paths have `len` digests.
+fn are_placed(indexes: &[usize], len: usize) -> bool
+    ensures { let inside = list_all (λ index. nat_lt index (2 ^ (len + 1))) in
+        result ≡ (are_rising indexes.now && inside indexes.now) }
+{
+    are_rising(indexes) && are_inside(indexes, len)
 }
 
 // Whether all indexes are those of leaves in a tree whose paths have `len` digests.
@@ -165,11 +206,4 @@ fn is_longest<D: DigestItem>(before: &[&D], prefix: usize, suffix: &[D], len: us
         return prefix == before.len();
     }
     suffix.is_empty() || *before[prefix] != suffix[0]
-}
-
-// Whether a number is the sum of two.
-fn is_sum(number: usize, first: usize, second: usize) -> bool
-    ensures { result ≡ (first + second == number) }
-{
-    first <= number && number - first == second
 }

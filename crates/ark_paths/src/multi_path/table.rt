@@ -2,15 +2,14 @@
 
 ghost use Rattle.std.specs.Bool.{Decides};
 ghost use Rattle.std.specs.BTreeMap.{get, Updates};
-ghost use Rattle.std.specs.Prelude.{◌≡◌, ◌≢◌, ◌+◌, ◌-◌, ◌<◌, ◌≤◌, ◌++◌, ◌∷◌, ℕ, Bool, List, [], length, map, get_or, cond, IfOk, IsOkUnless, MatchOption, None, OnOk, Some};
+ghost use Rattle.std.specs.Prelude.{◌≡◌, ◌≢◌, ◌+◌, ◌-◌, ◌<◌, ◌≤◌, ◌++◌, ◌∷◌, ℕ, [], length, map, get_or, IfOk, IsOkUnless, MatchOption, None, OnOk, Some};
 ghost use Rattle.ark_base.specs.declared.error.Error.TheVariants.{OutOfMemory};
 ghost use Rattle.ark_base.specs.Outcome.{AnswersBy};
-ghost use Rattle.ark_paths.specs.Asked.{RisesBy};
 ghost use Rattle.ark_paths.specs.Bind.{couple};
 ghost use Rattle.ark_paths.specs.Kept.{place_cmp, put_at, AreKept};
 ghost use Rattle.ark_paths.specs.declared.multi_path.table.Entry.{Entry as OfEntry};
 ghost use Rattle.ark_paths.specs.Pair.{Digest, HashPair};
-ghost use Rattle.ark_paths.specs.Table.{pair_seen, AllMade, Extends, HoldsPlaces, HoldsTree, IsTable, with_place};
+ghost use Rattle.ark_paths.specs.Table.{pair_seen, AllMade, HoldsTree, IsServed, IsTable};
 
 use crate::config::Config;
 use crate::multi_path::hasher::PairHasher;
@@ -235,22 +234,11 @@ pub fn ask_lowest<'a, P: Config, T: PairHasher<P>>(
         (map P.LeafDigest.numbers leaves.now) pair.entry in
         AnswersBy (λ number. get_or (map P.InnerDigest.numbers made.new.items) number [])
         ((T.pair hasher.old).bottom asked.0 asked.1) result }
-    ensures number { IfOk result (λ number. number < length made.new.items) }
-    ensures grows { let numbers = map P.InnerDigest.numbers in
-        OnOk result (Extends (numbers made.old.items) (numbers made.new.items)) }
-    ensures made { let digests = map P.LeafDigest.numbers leaves.now in
-        let all = map P.InnerDigest.numbers made.new.items in
-        let hash = (T.pair hasher.old).bottom in
-        OnOk result (AllMade P.LeafDigest.numbers hash digests all entries.new) }
-    ensures holds { let digests = map P.LeafDigest.numbers leaves.now in
-        OnOk result ((pairs : ℕ × ℕ → Digest × Digest) (asked : ℕ × ℕ → Bool)
-        → HoldsPlaces P.LeafDigest.numbers digests pairs asked entries.old.all
-        → pair_seen P.LeafDigest.numbers digests pair.entry ≡ pairs place
-        → HoldsPlaces P.LeafDigest.numbers digests pairs (with_place place asked) entries.new.all
-        × (length made.new.items ≡ length made.old.items + cond (asked place) 0 1)) }
+    ensures served { let digests = map P.LeafDigest.numbers leaves.now in
+        IfOk result (IsServed P.LeafDigest.numbers P.InnerDigest.numbers
+        (T.pair hasher.old).bottom digests digests place pair.entry made.old.items made.new.items
+        entries.old entries.new (T.counted hasher.old) (T.counted hasher.new)) }
     ensures same { T.pair hasher.new ≡ T.pair hasher.old }
-    ensures rises { let more = length made.new.items - length made.old.items in
-        OnOk result (RisesBy more (T.counted hasher.old) (T.counted hasher.new)) }
     ensures most { T.counted hasher.new ≤ T.counted hasher.old + 1 }
 {
     if let Some(number) = find(leaves, entries, place, &pair) {
@@ -279,22 +267,12 @@ pub fn ask_upper<'a, P: Config, T: PairHasher<P>>(
         (map P.InnerDigest.numbers made.old.items) pair.entry in
         AnswersBy (λ number. get_or (map P.InnerDigest.numbers made.new.items) number [])
         ((T.pair hasher.old).upper asked.0 asked.1) result }
-    ensures number { IfOk result (λ number. number < length made.new.items) }
-    ensures grows { let numbers = map P.InnerDigest.numbers in
-        OnOk result (Extends (numbers made.old.items) (numbers made.new.items)) }
-    ensures made { let all = map P.InnerDigest.numbers made.new.items in
-        let hash = (T.pair hasher.old).upper in
-        OnOk result (AllMade P.InnerDigest.numbers hash all all entries.new) }
-    ensures holds { let old = map P.InnerDigest.numbers made.old.items in
+    ensures served { let old = map P.InnerDigest.numbers made.old.items in
         let new = map P.InnerDigest.numbers made.new.items in
-        OnOk result ((pairs : ℕ × ℕ → Digest × Digest) (asked : ℕ × ℕ → Bool)
-        → HoldsPlaces P.InnerDigest.numbers old pairs asked entries.old.all
-        → pair_seen P.InnerDigest.numbers old pair.entry ≡ pairs place
-        → HoldsPlaces P.InnerDigest.numbers new pairs (with_place place asked) entries.new.all
-        × (length made.new.items ≡ length made.old.items + cond (asked place) 0 1)) }
+        IfOk result (IsServed P.InnerDigest.numbers P.InnerDigest.numbers
+        (T.pair hasher.old).upper old new place pair.entry made.old.items made.new.items
+        entries.old entries.new (T.counted hasher.old) (T.counted hasher.new)) }
     ensures same { T.pair hasher.new ≡ T.pair hasher.old }
-    ensures rises { let more = length made.new.items - length made.old.items in
-        OnOk result (RisesBy more (T.counted hasher.old) (T.counted hasher.new)) }
     ensures most { T.counted hasher.new ≤ T.counted hasher.old + 1 }
 {
     if let Some(number) = find(made, entries, place, &pair) {

@@ -10,11 +10,10 @@ ghost use Rattle.ark_paths.specs.MultiPath.{decoded_paths, multi_verdict};
 use crate::config::{LeafParam, TwoToOneParam};
 use crate::multi_path::MultiPath;
 use crate::multi_path::hasher::{PairCount, PairHasher};
-use crate::multi_path::places::{extend, part_at};
 use crate::multi_path::table::Table;
-use crate::multi_path::walk::judge;
+use crate::multi_path::walk::judge_all;
 use crate::views::Views;
-use ark_base::error::{Error, Refusal};
+use ark_base::error::Error;
 use std::alloc::Global;
 
 impl<P: Views> MultiPath<P> {
@@ -171,37 +170,20 @@ impl<P: Views> MultiPath<P> {
             T.counted hasher.new ≤ T.counted hasher.old + most }
         ensures same { T.pair hasher.new ≡ T.pair hasher.old }
     {
-        if self.leaf_indexes.is_empty() {
-            return Err(Error::GenericError(Refusal::NoIndex));
-        }
-        let mut above: Vec<&P::InnerDigest> = Vec::new(alloc);
+        let mut above = Vec::new(alloc);
         let mut table = Table::new(alloc);
-        for place in 0..self.leaf_indexes.len() {
-            let siblings = &self.leaf_siblings_hashes;
-            let prefixes = &self.auth_paths_prefix_lenghts;
-            let Some(part) = part_at(siblings, prefixes, &self.auth_paths_suffixes, place) else {
-                return Err(Error::IncorrectInputLength(place));
-            };
-            let Some(leaf) = leaves.next() else {
-                return Err(Error::IncorrectInputLength(place));
-            };
-            extend(&mut above, part.prefix, part.suffix)?;
-            let index = self.leaf_indexes[place];
-            let accepted = judge::<P, T>(
-                alloc,
-                leaf_parameters,
-                hasher,
-                &mut table,
-                root,
-                leaf,
-                part.sibling,
-                &above,
-                index,
-            )?;
-            if !accepted {
-                return Ok(false);
-            }
-        }
-        Ok(true)
+        judge_all::<P, T, I>(
+            alloc,
+            leaf_parameters,
+            hasher,
+            root,
+            leaves,
+            &self.leaf_siblings_hashes,
+            &self.auth_paths_prefix_lenghts,
+            &self.auth_paths_suffixes,
+            &self.leaf_indexes,
+            &mut above,
+            &mut table,
+        )
     }
 }

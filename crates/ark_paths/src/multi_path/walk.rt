@@ -1,21 +1,30 @@
 //! The way up from a leaf, over a table of hashed pairs.
 
-ghost use Rattle.std.specs.Prelude.{◌≡◌, ◌+◌, ◌-◌, ◌/◌, ◌^◌, ◌<◌, ◌≤◌, ◌∷◌, suc, ℕ, List, [], length, map, get_or, IfOk, OnOk, Ok};
+ghost use Rattle.std.specs.Prelude.{◌≡◌, true, ◌+◌, ◌-◌, ◌/◌, ◌^◌, ◌<◌, ◌≤◌, ◌∷◌, suc, ℕ, List, [], length, map, get_or, IfOk, OnOk, Ok};
 ghost use Rattle.ark_base.specs.Outcome.{Answers, AnswersBy};
-ghost use Rattle.ark_paths.specs.Above.{count_above};
-ghost use Rattle.ark_paths.specs.Asked.{RisesBy};
-ghost use Rattle.ark_paths.specs.Pair.{Digest};
+ghost use Rattle.ark_paths.specs.Asked.{CountsOwn, most_asked};
+ghost use Rattle.ark_paths.specs.Leaves.{AnswersOver};
+ghost use Rattle.ark_paths.specs.MultiPath.{listed_way, multi_verdict};
+ghost use Rattle.ark_paths.specs.Pair.{Digest, HashPair};
 ghost use Rattle.ark_paths.specs.Path.{Way, path_root, verdict};
-ghost use Rattle.ark_paths.specs.Table.{HasPairs, HoldsTree, IsTable};
+ghost use Rattle.ark_paths.specs.Table.{HoldsTree, IsTable, IsWalked};
 
 use crate::config::{Config, LeafParam};
 use crate::index::is_bit_set;
 use crate::multi_path::hasher::PairHasher;
+use crate::multi_path::places::next_place;
 use crate::multi_path::table::{Pair, Table, ask_lowest, ask_upper};
-use ark_base::error::Error;
+use ark_base::error::{Error, Refusal};
 use ark_base::serialize::DigestItem;
 use ark_crh::CRHScheme;
 use std::alloc::Global;
+
+// The place above a leaf, so many levels above the lowest pairs.
+fn place_above(index: usize, level: usize) -> (usize, usize)
+    ensures { result ≡ (level, index / 2 ^ suc level) }
+{
+    (level, number_above(index, level))
+}
 
 // The number of the place above a leaf, so many levels above the lowest pairs.
 fn number_above(index: usize, level: usize) -> usize
@@ -42,27 +51,16 @@ fn top_of<'a, P: Config, T: PairHasher<P>>(
     } in
         AnswersBy (λ number. get_or (map P.InnerDigest.numbers table.new.made.items) number [])
         (path_root (T.pair hasher.old) way (P.LeafDigest.numbers digest)) result }
-    ensures number { IfOk result (λ number. number < length table.new.made.items) }
-    ensures table { let leaf = P.LeafDigest.numbers in
-        OnOk result (IsTable leaf P.InnerDigest.numbers (T.pair hasher.old) table.new) }
-    ensures holds { let way : Way = record {
+    ensures walked { let way : Way = record {
       sibling = P.LeafDigest.numbers sibling.now;
       above = map (λ x. P.InnerDigest.numbers x.now) above.now;
       index = index;
     } in
-        let leaf = P.LeafDigest.numbers in
-        let inner = P.InnerDigest.numbers in
-        let levels = length above.now in
-        OnOk result ((pairs : ℕ × ℕ → Digest × Digest) (seen : List ℕ)
-        → HoldsTree leaf inner pairs levels 0 index seen table.old
-        → HasPairs (T.pair hasher.old) way (leaf digest) pairs
-        → HoldsTree leaf inner pairs levels 0 index (index ∷ seen) table.new
-        × (length table.new.made.items + count_above (suc levels) seen
-        ≡ length table.old.made.items + count_above (suc levels) (index ∷ seen))) }
+        IfOk result (λ number. (number < length table.new.made.items)
+        × IsWalked P.LeafDigest.numbers P.InnerDigest.numbers (T.pair hasher.old) way
+        (length above.now) (Ok (P.LeafDigest.numbers digest)) table.old table.new
+        (T.counted hasher.old) (T.counted hasher.new)) }
     ensures same { T.pair hasher.new ≡ T.pair hasher.old }
-    ensures rises { let more = length table.new.made.items - length table.old.made.items in
-        OnOk result (RisesBy more (T.counted hasher.old) (T.counted hasher.new)) }
-    ensures grows { OnOk result (length table.old.made.items ≤ length table.new.made.items) }
     ensures most { T.counted hasher.new ≤ T.counted hasher.old + suc (length above.now) }
 {
     let own = table.leaves.len();
@@ -72,7 +70,7 @@ fn top_of<'a, P: Config, T: PairHasher<P>>(
         own,
         sibling,
     };
-    let place = (0, number_above(index, 0));
+    let place = place_above(index, 0);
     let mut own = ask_lowest::<P, T>(
         alloc,
         hasher,
@@ -89,7 +87,7 @@ fn top_of<'a, P: Config, T: PairHasher<P>>(
             own,
             sibling: above[above.len() - level],
         };
-        let place = (level, number_above(index, level));
+        let place = place_above(index, level);
         own = ask_upper::<P, T>(
             alloc,
             hasher,
@@ -123,29 +121,84 @@ pub fn judge<'a, P: Config, T: PairHasher<P>>(
         let given = P.InnerDigest.numbers root.now in
         let hashed = P.LeafHash.meaning leaf_parameters.now leaf.now in
         Answers (verdict (T.pair hasher.old) hashed way given) result }
-    ensures table { let leaf = P.LeafDigest.numbers in
-        OnOk result (IsTable leaf P.InnerDigest.numbers (T.pair hasher.old) table.new) }
-    ensures holds { let way : Way = record {
+    ensures walked { let way : Way = record {
       sibling = P.LeafDigest.numbers sibling.now;
       above = map (λ x. P.InnerDigest.numbers x.now) above.now;
       index = index;
     } in
         let hashed = P.LeafHash.meaning leaf_parameters.now leaf.now in
-        let inner = P.InnerDigest.numbers in
-        let levels = length above.now in
-        OnOk result ((pairs : ℕ × ℕ → Digest × Digest) (seen : List ℕ) (digest : Digest)
-        → HoldsTree P.LeafDigest.numbers inner pairs levels 0 index seen table.old
-        → hashed ≡ Ok digest → HasPairs (T.pair hasher.old) way digest pairs
-        → HoldsTree P.LeafDigest.numbers inner pairs levels 0 index (index ∷ seen) table.new
-        × (length table.new.made.items + count_above (suc levels) seen
-        ≡ length table.old.made.items + count_above (suc levels) (index ∷ seen))) }
+        OnOk result (IsWalked P.LeafDigest.numbers P.InnerDigest.numbers (T.pair hasher.old) way
+        (length above.now) hashed table.old table.new (T.counted hasher.old)
+        (T.counted hasher.new)) }
     ensures same { T.pair hasher.new ≡ T.pair hasher.old }
-    ensures rises { let more = length table.new.made.items - length table.old.made.items in
-        OnOk result (RisesBy more (T.counted hasher.old) (T.counted hasher.new)) }
-    ensures grows { OnOk result (length table.old.made.items ≤ length table.new.made.items) }
     ensures most { T.counted hasher.new ≤ T.counted hasher.old + suc (length above.now) }
 {
     let digest = P::LeafHash::evaluate(alloc, leaf_parameters, leaf)?;
     let top = top_of::<P, T>(alloc, hasher, table, digest, sibling, above, index)?;
     Ok(table.made[top] == *root)
+}
+
+/// Whether each leaf's digest gives the root along the path of its place, with an empty path before the first and a table
+/// without entries.
+pub fn judge_all<'a, 'b, P: Config, T: PairHasher<P>, I: Iterator<Item = &'b P::Leaf>>(
+    alloc: Global,
+    leaf_parameters: &LeafParam<P>,
+    hasher: &mut T,
+    root: &P::InnerDigest,
+    leaves: &mut I,
+    siblings: &'a [P::LeafDigest],
+    prefixes: &[usize],
+    suffixes: &'a [Vec<P::InnerDigest>],
+    indexes: &[usize],
+    above: &mut Vec<&'a P::InnerDigest>,
+    table: &mut Table<'a, P::LeafDigest, P::InnerDigest>,
+) -> Result<bool, Error>
+where
+    P::Leaf: 'b,
+    requires leaves { I.can_next leaves.old }
+    requires above { above.old.items ≡ [] }
+    requires made { (h : HashPair)
+        → IsTable P.LeafDigest.numbers P.InnerDigest.numbers h table.old }
+    requires none { table.old.made.items ≡ [] }
+    requires holds { (pairs : ℕ × ℕ → Digest × Digest) (levels : ℕ)
+        → HoldsTree P.LeafDigest.numbers P.InnerDigest.numbers pairs levels 0 0 [] table.old }
+    ensures answer { let hash = P.LeafHash.meaning leaf_parameters.now in
+        let given = P.InnerDigest.numbers root.now in
+        let proof = listed_way P.LeafDigest.numbers P.InnerDigest.numbers siblings.now
+        prefixes.now suffixes.now indexes.now in
+        AnswersOver I.next_gives (λ leaf. hash leaf.now) leaves.old leaves.new
+        (λ digests. multi_verdict (T.pair hasher.old) digests proof given) result }
+    ensures exact { let hash = P.LeafHash.meaning leaf_parameters.now in
+        let given = P.InnerDigest.numbers root.now in
+        let proof = listed_way P.LeafDigest.numbers P.InnerDigest.numbers siblings.now
+        prefixes.now suffixes.now indexes.now in
+        IfOk result (λ accepted. accepted ≡ true
+        → CountsOwn I.next_gives (λ leaf. hash leaf.now) leaves.old (T.pair hasher.old)
+        given proof (T.counted hasher.old) (T.counted hasher.new)) }
+    ensures most { let proof = listed_way P.LeafDigest.numbers P.InnerDigest.numbers siblings.now
+        prefixes.now suffixes.now indexes.now in
+        T.counted hasher.new ≤ T.counted hasher.old + most_asked proof }
+    ensures same { T.pair hasher.new ≡ T.pair hasher.old }
+{
+    if indexes.is_empty() {
+        return Err(Error::GenericError(Refusal::NoIndex));
+    }
+    for place in 0..indexes.len() {
+        let next = next_place(siblings, prefixes, suffixes, place, leaves, above)?;
+        let accepted = judge::<P, T>(
+            alloc,
+            leaf_parameters,
+            hasher,
+            table,
+            root,
+            next.1,
+            next.0,
+            above,
+            indexes[place],
+        )?;
+        if !accepted {
+            return Ok(false);
+        }
+    }
+    Ok(true)
 }

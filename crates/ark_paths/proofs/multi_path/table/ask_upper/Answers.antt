@@ -1,7 +1,8 @@
-use Rattle.std.proofs.Common.{◌≡◌, ◌++◌, ◌∷◌, [], length, map, get_or, false, Ok, ap, sym, ◌∙◌, refl, arith}
+use Rattle.std.proofs.Common.{◌≡◌, ◌∷◌, [], map, get_or, Ok, ap, sym, ◌∙◌}
 use Rattle.std.proofs.lemmas.List.{length-map, get_or-map}
+use Rattle.ark_base.proofs.Refusals.{passed_on}
 use Rattle.ark_paths.specs.Table.{pair_seen}
-use Rattle.ark_paths.proofs.Tables.{Extends-itself, AllMade-kept, HoldsPlaces-kept, HoldsPlaces-anew, asked-kept, asked-anew, count-kept, count-anew, get_or-last}
+use Rattle.ark_paths.proofs.Tables.{IsServed-kept, IsServed-anew, answer-kept, answer-anew, counted-most}
 use Rattle.ark_paths.proofs.multi_path.table.ask_upper.Goals as goal
 
 pub find-requires-clause-entries : goal.find-requires-clause-entries
@@ -9,72 +10,58 @@ find-requires-clause-entries g c = λ place entry at. rw (c.deref.ensures.value,
 
 pub returns-in-Some-clause-answer : goal.returns-in-Some-clause-answer
 returns-in-Some-clause-answer g c =
-    let kept = rw c.deref.ensures.value at c.in-Some.ensures in
-    rw (kept.2, ← kept.3) (c.requires.made.all c.args.place kept.0 kept.1).is
-
-pub returns-in-Some-clause-grows : goal.returns-in-Some-clause-grows
-returns-in-Some-clause-grows g c = Extends-itself (map g.P.InnerDigest.Numbered.numbers c.args.made.now.items)
-
-pub returns-in-Some-clause-rises : goal.returns-in-Some-clause-rises
-returns-in-Some-clause-rises g c = omega arith
-
-pub returns-in-Some-clause-number : goal.returns-in-Some-clause-number
-returns-in-Some-clause-number g c =
-    let kept = c.in-Some.ensures in
-    rw (kept.2, ← length-map c.args.made.now.items g.P.InnerDigest.Numbered.numbers) (c.requires.made.all c.args.place kept.0 kept.1).hashed
-
-pub returns-in-Some-clause-holds : goal.returns-in-Some-clause-holds
-returns-in-Some-clause-holds g c = λ pairs asked holds is.
     let numbers = g.P.InnerDigest.Numbered.numbers in
+    let inner = g.P.InnerDigest.Numbered.numbers in
+    let hash = (g.T.PairHasher.pair c.args.hasher.now).upper in
     let xs = map numbers c.args.made.now.items in
-    let kept = c.in-Some.ensures in
-    let before = asked-kept numbers xs pairs asked c.args.entries.now.all holds c.args.place kept.0 kept.1 in
-    (HoldsPlaces-kept numbers xs pairs asked c.args.entries.now.all holds c.args.place kept.0 kept.1, count-kept (asked c.args.place) (length c.args.made.now.items) before)
+    answer-kept numbers inner hash xs c.args.place c.args.pair c.args.made.now.items c.args.entries.now c.requires.made c.in-Some.number (rw c.deref.ensures.value at c.in-Some.ensures)
+
+pub returns-in-Some-clause-served : goal.returns-in-Some-clause-served
+returns-in-Some-clause-served g c =
+    let numbers = g.P.InnerDigest.Numbered.numbers in
+    let inner = g.P.InnerDigest.Numbered.numbers in
+    let hash = (g.T.PairHasher.pair c.args.hasher.now).upper in
+    let xs = map numbers c.args.made.now.items in
+    IsServed-kept numbers inner hash xs c.args.place c.args.pair c.args.made.now.items c.args.entries.now c.requires.made c.in-Some.number (rw c.deref.ensures.value at c.in-Some.ensures) (g.T.PairHasher.counted c.args.hasher.now)
+
+pub returns-in_err-digest-clause-answer : goal.returns-in_err-digest-clause-answer
+returns-in_err-digest-clause-answer g c =
+    let numbers = g.P.InnerDigest.Numbered.numbers in
+    let inner = g.P.InnerDigest.Numbered.numbers in
+    let hash = (g.T.PairHasher.pair c.args.hasher.now).upper in
+    let xs = map numbers c.args.made.now.items in
+    let own : get_or xs c.args.pair.own [] ≡ numbers c.index.result.now = get_or-map numbers c.args.made.now.items c.args.pair.own c.index.result.now [] c.requires.own ∙ ap numbers (sym c.index.ensures) in
+    let asked = pair_seen numbers xs c.args.pair in
+    passed_on _ (hash asked.0 asked.1) c.from_residual.result c.in_err-digest.field-0.0 c.from_residual.ensures.1 c.in_err-digest.ensures.answer (λ refused. rw (own, ← c.in_order.ensures) refused)
+
+pub returns-in_err-digest-clause-most : goal.returns-in_err-digest-clause-most
+returns-in_err-digest-clause-most g c = counted-most _ _ c.upper.ensures.counts
+
+pub returns-in_err-number-clause-most : goal.returns-in_err-number-clause-most
+returns-in_err-number-clause-most g c = counted-most _ _ c.upper.ensures.counts
+
+pub returns-clause-most : goal.returns-clause-most
+returns-clause-most g c = counted-most _ _ c.upper.ensures.counts
 
 pub returns-clause-answer : goal.returns-clause-answer
 returns-clause-answer g c =
     let numbers = g.P.InnerDigest.Numbered.numbers in
+    let inner = g.P.InnerDigest.Numbered.numbers in
+    let hash = (g.T.PairHasher.pair c.args.hasher.now).upper in
     let xs = map numbers c.args.made.now.items in
-    let vs = map numbers c.keep.new.made.items in
-    let y = numbers c.in_ok-digest.digest in
     let own : get_or xs c.args.pair.own [] ≡ numbers c.index.result.now = get_or-map numbers c.args.made.now.items c.args.pair.own c.index.result.now [] c.requires.own ∙ ap numbers (sym c.index.ensures) in
     let asked = pair_seen numbers xs c.args.pair in
-    let hashed : (g.T.PairHasher.pair c.args.hasher.now).upper asked.0 asked.1 ≡ Ok y = rw (own, ← c.in_order.ensures) c.in_ok-digest.ensures.answer in
-    let number : c.in_ok-number.number ≡ length xs = c.in_ok-number.ensures.number ∙ sym (length-map c.args.made.now.items numbers) in
-    hashed ∙ ap Ok (sym (rw number (get_or-last xs vs y c.in_ok-number.ensures.made)))
+    let hashed : hash asked.0 asked.1 ≡ Ok (inner c.in_ok-digest.digest) = rw (own, ← c.in_order.ensures) c.in_ok-digest.ensures.answer in
+    answer-anew numbers inner hash xs c.args.place c.args.pair c.args.made.now.items c.args.entries.now c.requires.made c.in_ok-number.number c.keep.new.made.items (inner c.in_ok-digest.digest) hashed c.in_ok-number.ensures.made c.in_ok-number.ensures.number
 
-pub returns-clause-number : goal.returns-clause-number
-returns-clause-number g c = omega (arith, c.in_ok-number.ensures.number, count-anew false g.P.InnerDigest.Numbered.numbers c.args.made.now.items c.keep.new.made.items _ refl c.in_ok-number.ensures.made)
-
-pub returns-clause-grows : goal.returns-clause-grows
-returns-clause-grows g c = (_, c.in_ok-number.ensures.made)
-
-pub returns-clause-rises : goal.returns-clause-rises
-returns-clause-rises g c = omega (arith, c.upper.ensures.counts, count-anew false g.P.InnerDigest.Numbered.numbers c.args.made.now.items c.keep.new.made.items _ refl c.in_ok-number.ensures.made)
-
-pub returns-clause-made : goal.returns-clause-made
-returns-clause-made g c =
+pub returns-clause-served : goal.returns-clause-served
+returns-clause-served g c =
     let numbers = g.P.InnerDigest.Numbered.numbers in
     let inner = g.P.InnerDigest.Numbered.numbers in
+    let hash = (g.T.PairHasher.pair c.args.hasher.now).upper in
     let xs = map numbers c.args.made.now.items in
-    let ys = map inner c.args.made.now.items in
-    let vs = map inner c.keep.new.made.items in
-    let y = inner c.in_ok-digest.digest in
-    let more : vs ≡ ys ++ y ∷ [] = c.in_ok-number.ensures.made in
     let own : get_or xs c.args.pair.own [] ≡ numbers c.index.result.now = get_or-map numbers c.args.made.now.items c.args.pair.own c.index.result.now [] c.requires.own ∙ ap numbers (sym c.index.ensures) in
-    AllMade-kept numbers (g.T.PairHasher.pair c.args.hasher.now).upper xs vs ys vs c.args.entries.now c.keep.new.entries c.args.place c.args.pair y c.in_ok-number.number c.requires.made (y ∷ [], more)
-    (rw length-map c.requires.own) (rw (own, ← c.in_order.ensures) c.in_ok-digest.ensures.answer) more (rw length-map c.in_ok-number.ensures.number) c.in_ok-number.ensures.kept c.in_ok-number.ensures.entries
-
-pub returns-clause-holds : goal.returns-clause-holds
-returns-clause-holds g c = λ pairs asked holds is.
-    let numbers = g.P.InnerDigest.Numbered.numbers in
-    let inner = g.P.InnerDigest.Numbered.numbers in
-    let xs = map numbers c.args.made.now.items in
-    let vs = map inner c.keep.new.made.items in
-    let y = inner c.in_ok-digest.digest in
-    let more : vs ≡ map inner c.args.made.now.items ++ y ∷ [] = c.in_ok-number.ensures.made in
-    let before = asked-anew numbers xs pairs asked c.args.entries.now.all holds c.args.place (pairs c.args.place) refl (rw (c.deref.ensures.value, is) at c.in_default.ensures) in (
-      HoldsPlaces-anew numbers xs pairs asked c.args.entries.now.all holds c.args.place vs c.keep.new.entries.all c.args.pair c.in_ok-number.number (λ place entry at. (c.requires.made.all place entry at).own) (y ∷ [], more)
-          (rw length-map c.requires.own) is c.in_ok-number.ensures.entries,
-      count-anew (asked c.args.place) inner c.args.made.now.items c.keep.new.made.items y before more,
-    )
+    let asked = pair_seen numbers xs c.args.pair in
+    let hashed : hash asked.0 asked.1 ≡ Ok (inner c.in_ok-digest.digest) = rw (own, ← c.in_order.ensures) c.in_ok-digest.ensures.answer in
+    IsServed-anew numbers inner hash xs c.args.place c.args.pair c.args.made.now.items c.args.entries.now c.requires.made c.in_ok-number.number c.keep.new.made.items (inner c.in_ok-digest.digest) hashed c.in_ok-number.ensures.made c.in_ok-number.ensures.number
+    (map inner c.keep.new.made.items) c.keep.new.entries (g.T.PairHasher.counted c.args.hasher.now) (g.T.PairHasher.counted c.upper.new.self) (inner c.in_ok-digest.digest ∷ [], c.in_ok-number.ensures.made) (rw length-map c.requires.own) c.in_ok-number.ensures.kept c.in_ok-number.ensures.entries (rw c.deref.ensures.value at c.in_default.ensures) c.upper.ensures.counts

@@ -1,8 +1,10 @@
-use Rattle.std.proofs.Common.{◌≡◌, [], map, get_or, ap, sym, ◌∙◌, rules, Bor}
+use Rattle.std.proofs.Common.{◌≡◌, [], length, map, get_or, ap, sym, subst, ◌∙◌, rules, Bor}
 use Rattle.std.proofs.lemmas.List.{get_or-map}
 use Rattle.ark_base.proofs.Refusals.{passed_on}
-use Rattle.ark_paths.specs.Pair.{digest_eq}
+use Rattle.ark_base.specs.Outcome.{Outcome}
+use Rattle.ark_paths.specs.Pair.{Digest, digest_eq}
 use Rattle.ark_paths.specs.Path.{Way}
+use Rattle.ark_paths.specs.Table.{IsWalked}
 use Rattle.ark_paths.proofs.TableWalks.{verdict-by, verdict-refused}
 use Rattle.ark_paths.proofs.multi_path.walk.judge.Goals as goal
 
@@ -21,6 +23,13 @@ returns-clause-answer g c =
     let top = c.index.result.now in
     let root = c.args.root.now in
     let way : Way = record { sibling = g.P.LeafDigest.Numbered.numbers c.args.sibling.now; above = map (λ (x : Bor _). inner x.now) c.args.above.now; index = c.args.index } in
-    let at : get_or (map inner made) c.in_ok-top.top [] ≡ inner top = get_or-map inner made c.in_ok-top.top top [] c.in_ok-top.ensures.number ∙ ap inner (sym c.index.ensures) in
+    let at : get_or (map inner made) c.in_ok-top.top [] ≡ inner top = get_or-map inner made c.in_ok-top.top top [] c.in_ok-top.ensures.walked.0 ∙ ap inner (sym c.index.ensures) in
     let same : digest_eq (inner top) (inner root) ≡ c.eq.result = search rules in
     verdict-by (g.T.PairHasher.pair c.args.hasher.now) _ way (inner root) (g.P.LeafDigest.Numbered.numbers c.in_ok-digest.digest) (inner top) c.eq.result c.in_ok-digest.ensures (rw at at c.in_ok-top.ensures.answer) same
+
+pub returns-clause-walked : goal.returns-clause-walked
+returns-clause-walked g c =
+    let leaf = g.P.LeafDigest.Numbered.numbers in
+    let inner = g.P.InnerDigest.Numbered.numbers in
+    let way : Way = record { sibling = leaf c.args.sibling.now; above = map (λ (x : Bor _). inner x.now) c.args.above.now; index = c.args.index } in
+    subst (λ (hashed : Outcome Digest). IsWalked leaf inner (g.T.PairHasher.pair c.args.hasher.now) way (length c.args.above.now) hashed c.args.table.now c.top_of.new.table (g.T.PairHasher.counted c.args.hasher.now) (g.T.PairHasher.counted c.top_of.new.hasher)) (sym c.in_ok-digest.ensures) c.in_ok-top.ensures.walked.1

@@ -1,4 +1,4 @@
-use Rattle.std.proofs.Common.{◌≡◌, suc, ◌+◌, ◌-◌, ◌<◌, ◌++◌, ◌∷◌, [], ◌≤◌, length, map, get_or, ◌∙◌, refl, arith, Bor, add-one}
+use Rattle.std.proofs.Common.{◌≡◌, suc, ◌+◌, ◌-◌, ◌/◌, ◌^◌, ◌<◌, ◌++◌, ◌∷◌, [], ◌≤◌, length, map, get_or, ◌∙◌, refl, arith, Bor, add-one}
 use Rattle.std.proofs.lemmas.List.{length-map, map-append}
 use Rattle.ark_base.proofs.Refusals.{passed_on}
 use Rattle.ark_paths.specs.Bind.{couple}
@@ -6,7 +6,7 @@ use Rattle.ark_paths.specs.Index.{bit_at}
 use Rattle.ark_paths.specs.Table.{Extends}
 use Rattle.ark_paths.specs.declared.multi_path.table.Table.{Table}
 use Rattle.ark_paths.proofs.Tables.{AllMade-more, Extends-itself, length-Extends, get_or-last}
-use Rattle.ark_paths.proofs.TableWalks.{path_root-lowest, path_pair-lowest, path_root-up, path_pair-up, path_root-refused, HoldsTree-lowest, HoldsTree-upper, HoldsTree-next, HoldsTree-top, RisesBy-chain}
+use Rattle.ark_paths.proofs.TableWalks.{path_root-lowest, path_pair-lowest, path_root-up, path_pair-up, path_root-refused, HoldsTree-lowest, HoldsTree-upper, HoldsTree-next, IsWalked-top, RisesBy-chain, whole}
 use Rattle.ark_paths.proofs.multi_path.walk.top_of.Goals as goal
 
 pub ask_lowest-requires-clause-made : goal.ask_lowest-requires-clause-made
@@ -35,21 +35,22 @@ loop-below-init g c =
     let vs = map inner c.ask_lowest.new.made.items in
     let pushed : ms ≡ ls ++ digest ∷ [] = rw c.in_ok-push.ensures.items (map-append leaf t.leaves.items (c.args.digest ∷ [])) in
     let longer : Extends ls ms = (digest ∷ [], pushed) in
-    let grown : Extends ys vs = c.in_ok-own.ensures.grows in
+    let served = c.in_ok-own.ensures.served in
+    let grown : Extends ys vs = served.grows in
     let number : c.len-own.result ≡ length ls = omega (arith, length-map t.leaves.items leaf) in
     let at : get_or (map leaf c.deref.result.now) c.len-own.result [] ≡ digest = rw (c.deref.ensures.value, number) (get_or-last ls ms digest pushed) in
     record {
       table = record {
-        lowest = rw c.deref.ensures.value at c.in_ok-own.ensures.made;
+        lowest = rw c.deref.ensures.value at served.made;
         upper = AllMade-more inner h.upper ys ys vs vs t.upper grown grown c.requires.upper;
       };
-      number = c.in_ok-own.ensures.number;
+      number = served.below;
       so_far = path_root-lowest h (λ (x : Bor _). inner x.now) xs sibling c.args.index digest ∙ (rw (at, c.is_bit_set.ensures) at c.in_ok-own.ensures.answer);
       holds = λ pairs seen holds has.
-          HoldsTree-lowest leaf inner h pairs (length xs) c.args.index seen t (record { leaves = c.push.new.self; made = c.ask_lowest.new.made; lowest = c.ask_lowest.new.entries; upper = t.upper }) c.number_above.result (couple (bit_at c.args.index 0) digest sibling) refl c.requires longer grown c.number_above.ensures
-          (path_pair-lowest h (λ (x : Bor _). inner x.now) xs sibling c.args.index digest pairs has) (rw (at, c.is_bit_set.ensures, c.deref.ensures.value) at (c.in_ok-own.ensures.holds pairs)) holds;
+          HoldsTree-lowest leaf inner h pairs (length xs) c.args.index seen t (record { leaves = c.push.new.self; made = c.ask_lowest.new.made; lowest = c.ask_lowest.new.entries; upper = t.upper }) (c.args.index / 2 ^ 1) (couple (bit_at c.args.index 0) digest sibling) refl c.requires longer grown refl
+          (path_pair-lowest h (λ (x : Bor _). inner x.now) xs sibling c.args.index digest pairs has) (rw (at, c.is_bit_set.ensures, c.deref.ensures.value, c.place_above-place.ensures) at (served.holds pairs)) holds;
       same = c.ask_lowest.ensures.same;
-      rises = c.in_ok-own.ensures.rises;
+      rises = served.rises;
       grows = length-Extends inner t.made.items c.ask_lowest.new.made.items grown;
       most = c.ask_lowest.ensures.most;
     }
@@ -75,7 +76,8 @@ loop-below-preserved g c =
     let t = c.loop-below.table in
     let ys = map inner t.made.items in
     let vs = map inner c.ask_upper.new.made.items in
-    let grown : Extends ys vs = c.in_ok-own-2.ensures.grows in
+    let served = c.in_ok-own-2.ensures.served in
+    let grown : Extends ys vs = served.grows in
     let xs = c.args.above.now in
     let sibling = leaf c.args.sibling.now in
     let digest = leaf c.args.digest in
@@ -89,26 +91,30 @@ loop-below-preserved g c =
     record {
       table = record {
         lowest = AllMade-more leaf h.bottom (map leaf t.leaves.items) ys (map leaf t.leaves.items) vs t.lowest (Extends-itself (map leaf t.leaves.items)) grown c.loop-below.invariant.table.lowest;
-        upper = rw c.loop-below.invariant.same at c.in_ok-own-2.ensures.made;
+        upper = rw c.loop-below.invariant.same at served.made;
       };
-      number = c.in_ok-own-2.ensures.number;
+      number = served.below;
       so_far = rw (add-one below) (path_root-up h (λ (x : Bor _). inner x.now) xs sibling c.args.index digest below x within is current so ∙ (rw (c.loop-below.invariant.same, c.is_bit_set-in-loop-below.ensures, add-one below) at c.in_ok-own-2.ensures.answer));
       holds = λ pairs seen holds has.
           let after : Table _ _ = record { leaves = t.leaves; made = c.ask_upper.new.made; lowest = t.lowest; upper = c.ask_upper.new.entries } in
-          HoldsTree-next leaf inner h pairs (length xs) c.args.index seen (length c.args.table.now.made.items) below (below + 1) (length c.ask_upper.new.made.items) after (add-one below) (HoldsTree-upper leaf inner h pairs (length xs) c.args.index seen (length c.args.table.now.made.items) below c.number_above-in-loop-below.result t after (couple (bit_at c.args.index (suc below)) current (inner x.now)) refl refl within
-          (rw (add-one below) at c.number_above-in-loop-below.ensures) (path_pair-up h (λ (x : Bor _). inner x.now) xs sibling c.args.index digest below x within is current pairs has so)
-          (rw (c.is_bit_set-in-loop-below.ensures, add-one below) at (c.in_ok-own-2.ensures.holds pairs)) (c.loop-below.invariant.holds pairs seen holds has));
+          HoldsTree-next leaf inner h pairs (length xs) c.args.index seen (length c.args.table.now.made.items) below (below + 1) (length c.ask_upper.new.made.items) after (add-one below) (HoldsTree-upper leaf inner h pairs (length xs) c.args.index seen (length c.args.table.now.made.items) below (c.args.index / 2 ^ suc (suc below)) t after (couple (bit_at c.args.index (suc below)) current (inner x.now)) refl refl within
+          refl (path_pair-up h (λ (x : Bor _). inner x.now) xs sibling c.args.index digest below x within is current pairs has so)
+          (rw (c.is_bit_set-in-loop-below.ensures, c.place_above-place-in-loop-below.ensures, add-one below) at (served.holds pairs)) (c.loop-below.invariant.holds pairs seen holds has));
       same = c.ask_upper.ensures.same ∙ c.loop-below.invariant.same;
-      rises = RisesBy-chain _ _ _ _ _ _ c.loop-below.invariant.grows longer c.loop-below.invariant.rises c.in_ok-own-2.ensures.rises;
+      rises = RisesBy-chain _ _ _ _ _ _ c.loop-below.invariant.grows longer c.loop-below.invariant.rises served.rises;
       grows = omega (arith, c.loop-below.invariant.grows, longer);
       most = omega (arith, c.ask_upper.ensures.most, c.loop-below.invariant.most);
     }
 
-pub returns-clause-holds : goal.returns-clause-holds
-returns-clause-holds g c = λ pairs seen holds has.
+pub returns-clause-walked : goal.returns-clause-walked
+returns-clause-walked g c =
+    let leaf = g.P.LeafDigest.Numbered.numbers in
+    let inner = g.P.InnerDigest.Numbered.numbers in
+    let h = g.T.PairHasher.pair c.args.hasher.now in
     let levels = length c.args.above.now in
+    let so = c.loop-below.invariant in
     let end : c.loop-below.below ≡ levels = omega arith in
-    HoldsTree-top g.P.LeafDigest.Numbered.numbers g.P.InnerDigest.Numbered.numbers (g.T.PairHasher.pair c.args.hasher.now) pairs levels c.args.index seen (length c.args.table.now.made.items) c.loop-below.below (length c.loop-below.table.made.items) c.loop-below.table end (c.loop-below.invariant.holds pairs seen holds has)
+    (so.number, IsWalked-top leaf inner h (whole h (λ (x : Bor _). inner x.now) c.args.above.now (leaf c.args.sibling.now) c.args.index (leaf c.args.digest)) levels (leaf c.args.digest) c.args.table.now c.loop-below.table (g.T.PairHasher.counted c.args.hasher.now) (g.T.PairHasher.counted c.loop-below.hasher) c.loop-below.below end so.table so.holds so.rises so.grows)
 
 pub returns-clause-answer : goal.returns-clause-answer
 returns-clause-answer g c =

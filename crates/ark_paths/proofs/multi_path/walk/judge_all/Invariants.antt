@@ -1,10 +1,10 @@
 use Rattle.std.proofs.Common.{◌≡◌, ◌≤◌, ◌+◌, ◌*◌, suc, length, map}
 use Rattle.ark_paths.specs.Asked.{RisesBy}
-use Rattle.ark_paths.specs.MultiPath.{path_length}
+use Rattle.ark_paths.specs.MultiPath.{listed_way, path_length}
 use Rattle.ark_paths.specs.Table.{IsTable}
 use Rattle.ark_paths.proofs.MultiWalks.{AtPlace}
 use Rattle.ark_paths.proofs.Tallies.{Counted, Decoded}
-use Rattle.ark_paths.proofs.multi_path.MultiPath.verify_next_with.Given as goal
+use Rattle.ark_paths.proofs.multi_path.walk.judge_all.Given as goal
 
 -- the places before are accepted with the leaves that were taken
 abbrev pub invariant-loop-place : goal.invariant-loop-place
@@ -13,7 +13,7 @@ invariant-loop-place g l =
     let inner = g.P.InnerDigest.Numbered.numbers in
     let hash = g.P.LeafHash.CRHScheme.meaning l.leaf_parameters in
     let h = g.T.PairHasher.pair l.fn.hasher in
-    let m = g.P.Views.multi_way l.self in
+    let m = listed_way leaf inner l.siblings l.prefixes l.suffixes l.indexes in
     let above = map (λ x. inner x.now) l.above.items in
     record {
       can : g.I.Iterator.can_next l.leaves;
