@@ -8,3 +8,4 @@ pub mod Numerals
 pub mod ToyLemmas
 pub mod Trees
 pub mod Values
+pub mod Told

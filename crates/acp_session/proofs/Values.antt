@@ -2,10 +2,10 @@
 use Rattle.std.proofs.Common.{◌≡◌, Bor, true, ℕ, ◌+◌, List, [], ◌∷◌, ◌++◌, length, Option, Some, None, refl, sym, ap, ◌∙◌, append_assoc, append-nil}
 use Rattle.std.specs.Option.{option_map, option_copied, is_some}
 use Rattle.acp_session.specs.Arguments.{onto_all}
-use Rattle.acp_session.specs.declared.keyword.Keyword.TheVariants.{Root}
+use Rattle.acp_session.specs.declared.keyword.ShowWord.TheVariants.{Root}
 use Rattle.acp_session.specs.Language.{Language}
 use Rattle.acp_session.specs.Lines.{tokens_of, tokens_left}
-use Rattle.acp_session.specs.Requests.{request_by}
+use Rattle.acp_session.specs.Requests.{show_by}
 use Rattle.acp_session.proofs.Cutting.{tokens_of-some}
 
 -- some values before others, where those are there
@@ -58,6 +58,6 @@ module _ {X Y Z : Type 0} (view : X → Y) (make : Y → Z) (o : Option X) where
   made-none seen is same = ap (option_map make) (sym (ap (option_map view) is) ∙ same)
 
 -- nothing stands behind `root`
-pub root-more : (l : Language) (tokens : List (List ℕ)) → (tokens ≡ [] → ⊥) → None ≡ request_by l (Some Root) tokens
+pub root-more : (l : Language) (tokens : List (List ℕ)) → (tokens ≡ [] → ⊥) → None ≡ show_by l Root tokens
 root-more l [] some = absurd (some refl)
 root-more l (token ∷ tokens) some = refl

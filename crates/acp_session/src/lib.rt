@@ -4,6 +4,7 @@
 pub mod answer;
 mod arguments;
 mod keyword;
+mod kinds;
 pub mod line;
 mod proofs;
 mod replies;

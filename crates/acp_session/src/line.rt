@@ -3,123 +3,50 @@
 ghost use Rattle.std.specs.Prelude.{◌≡◌, IfOk};
 ghost use Rattle.std.specs.Option.{option_map, option_copied};
 ghost use Rattle.acp_session.specs.Lines.{tokens_of, tokens_left};
-ghost use Rattle.acp_session.specs.Requests.{asked, request_by, request_of};
+ghost use Rattle.acp_session.specs.Requests.{asked, change_by, judge_by, request_of, show_by};
 
-use crate::arguments::{
-    Argument, only_value, some_pairs, some_values, two_values, value_and_others, values,
-};
-use crate::keyword::{Keyword, keyword_of};
+use crate::arguments::{only_value, some_pairs, some_values, two_values, value_and_others, values};
+use crate::keyword::{ChangeWord, JudgeWord, Keyword, ShowWord, keyword_of};
+use crate::kinds::{Bytes, Digest, Index, KindsOf, Leaf, TokenKinds};
 use crate::shell::Shell;
-use crate::tokens::{first_token, index_of};
+use crate::tokens::first_token;
 use ark_base::serialize::Numbered;
 use ark_crh::CRHScheme;
 use std::alloc::{AllocError, Global};
-use std::marker::PhantomData;
 
 /// A line: what it asks, with the leaves and the digests that its tokens say.
 #[derive(Drop)]
 pub enum Line<L, D> {
+    Change(Change<L, D>),
+    Show(Show),
+    Judge(Judge<L>),
+}
+
+/// What makes or changes a tree.
+#[derive(Drop)]
+pub enum Change<L, D> {
     Tree(Vec<L>),
     Digests(Vec<D>),
     Set { index: usize, leaf: L },
     SetMany(Vec<(usize, L)>),
+}
+
+/// What shows something of the tree.
+#[derive(Drop)]
+pub enum Show {
     Root,
     Proof(usize),
+    Multi(Vec<usize>),
+}
+
+/// What judges a proof.
+#[derive(Drop)]
+pub enum Judge<L> {
     Check { path: Vec<u8>, leaf: L },
     Bind { path: Vec<u8>, leaf: L },
-    Multi(Vec<usize>),
     MultiCheck { proof: Vec<u8>, leaves: Vec<L> },
     MultiCount { proof: Vec<u8>, leaves: Vec<L> },
     Strict(Vec<u8>),
-}
-
-// The kinds of tokens.
-struct Index;
-
-struct Bytes<C> {
-    configuration: PhantomData<C>,
-}
-
-struct Leaf<C> {
-    configuration: PhantomData<C>,
-}
-
-struct LeafDigest<C> {
-    configuration: PhantomData<C>,
-}
-
-impl Argument for Index {
-    ghost use Rattle.std.specs.Prelude.{ℕ};
-    ghost use Rattle.acp_session.specs.Tokens.{index_of};
-
-    type Value = usize;
-
-    ghost Seen = { ℕ };
-
-    ghost Parameters = { Unit {0} };
-
-    ghost seen = { λ _ index. index };
-
-    ghost value_of = { λ _. index_of };
-
-    fn read(_alloc: Global, token: &[u8]) -> Result<Option<usize>, AllocError> {
-        Ok(index_of(token))
-    }
-}
-
-impl<C: Shell> Argument for Bytes<C> {
-    ghost use Rattle.std.specs.Prelude.{ℕ, List};
-
-    type Value = Vec<u8>;
-
-    ghost Seen = { List ℕ };
-
-    ghost Parameters = { C.LeafHash.Parameters × C.TwoToOneHash.Parameters };
-
-    ghost seen = { λ _ bytes. bytes.items };
-
-    ghost value_of = { λ p. (C.language p.0 p.1).bytes };
-
-    fn read(alloc: Global, token: &[u8]) -> Result<Option<Vec<u8>>, AllocError> {
-        C::read_bytes(alloc, token)
-    }
-}
-
-impl<C: Shell> Argument for Leaf<C> {
-    ghost use Rattle.ark_base.specs.Outcome.{Outcome};
-    ghost use Rattle.ark_paths.specs.Pair.{Digest};
-
-    type Value = C::Leaf;
-
-    ghost Seen = { Outcome Digest };
-
-    ghost Parameters = { C.LeafHash.Parameters × C.TwoToOneHash.Parameters };
-
-    ghost seen = { λ p. C.LeafHash.meaning p.0 };
-
-    ghost value_of = { λ p. (C.language p.0 p.1).leaf_outcome };
-
-    fn read(alloc: Global, token: &[u8]) -> Result<Option<C::Leaf>, AllocError> {
-        C::read_leaf(alloc, token)
-    }
-}
-
-impl<C: Shell> Argument for LeafDigest<C> {
-    ghost use Rattle.ark_paths.specs.Pair.{Digest};
-
-    type Value = C::LeafDigest;
-
-    ghost Seen = { Digest };
-
-    ghost Parameters = { C.LeafHash.Parameters × C.TwoToOneHash.Parameters };
-
-    ghost seen = { λ _. C.LeafDigest.numbers };
-
-    ghost value_of = { λ p. (C.language p.0 p.1).digest };
-
-    fn read(alloc: Global, token: &[u8]) -> Result<Option<C::LeafDigest>, AllocError> {
-        C::read_digest(alloc, token)
-    }
 }
 
 /// The line that some bytes spell, if they spell one.
@@ -131,70 +58,109 @@ pub fn line_of<C: Shell>(
         → option_map (asked (C.LeafHash.meaning p) C.LeafDigest.numbers) line'
         ≡ request_of (C.language p q) (tokens_of line.now)) }
 {
+    line_by::<KindsOf<C>>(alloc, line)
+}
+
+// The line that some bytes spell, by what tokens say.
+fn line_by<T: TokenKinds>(
+    alloc: Global,
+    line: &[u8],
+) -> Result<Option<Line<T::Leaf, T::Digest>>, AllocError>
+    ensures { IfOk result (λ line'. (p : T.Parameters)
+        → option_map (asked (T.hash p) T.numbers) line'
+        ≡ request_of (T.language p) (tokens_of line.now)) }
+{
     let (word, left) = first_token(line);
     match keyword_of(word) {
-        Some(word) => behind_word::<C>(alloc, word, left),
+        Some(Keyword::Change(word)) => change_by::<T>(alloc, word, left),
+        Some(Keyword::Show(word)) => show_by::<T>(alloc, word, left),
+        Some(Keyword::Judge(word)) => judge_by::<T>(alloc, word, left),
         None => Ok(None),
     }
 }
 
-// The line of a word and of the tokens behind it, where they say what it takes.
-fn behind_word<C: Shell>(
+// The line of a word that changes the tree and of the tokens behind it, where they say what it takes.
+fn change_by<T: TokenKinds>(
     alloc: Global,
-    word: Keyword,
+    word: ChangeWord,
     left: Option<&[u8]>,
-) -> Result<Option<Line<C::Leaf, C::LeafDigest>>, AllocError>
-    ensures { IfOk result (λ line'. (p : C.LeafHash.Parameters) (q : C.TwoToOneHash.Parameters)
-        → option_map (asked (C.LeafHash.meaning p) C.LeafDigest.numbers) line'
-        ≡ request_by (C.language p q) (Some word) (tokens_left (option_copied left.entry))) }
+) -> Result<Option<Line<T::Leaf, T::Digest>>, AllocError>
+    ensures { IfOk result (λ line. (p : T.Parameters) → option_map (asked (T.hash p) T.numbers) line
+        ≡ change_by (T.language p) word (tokens_left (option_copied left.entry))) }
 {
     match word {
-        Keyword::Tree => match some_values::<Leaf<C>>(alloc, left)? {
-            Some(leaves) => Ok(Some(Line::Tree(leaves))),
+        ChangeWord::Tree => match some_values::<Leaf<T>>(alloc, left)? {
+            Some(leaves) => Ok(Some(Line::Change(Change::Tree(leaves)))),
             None => Ok(None),
         },
-        Keyword::Digests => match some_values::<LeafDigest<C>>(alloc, left)? {
-            Some(digests) => Ok(Some(Line::Digests(digests))),
+        ChangeWord::Digests => match some_values::<Digest<T>>(alloc, left)? {
+            Some(digests) => Ok(Some(Line::Change(Change::Digests(digests)))),
             None => Ok(None),
         },
-        Keyword::Set => match two_values::<Index, Leaf<C>>(alloc, left)? {
-            Some((index, leaf)) => Ok(Some(Line::Set { index, leaf })),
+        ChangeWord::Set => match two_values::<Index, Leaf<T>>(alloc, left)? {
+            Some((index, leaf)) => Ok(Some(Line::Change(Change::Set { index, leaf }))),
             None => Ok(None),
         },
-        Keyword::SetMany => match some_pairs::<Index, Leaf<C>>(alloc, left)? {
-            Some(changes) => Ok(Some(Line::SetMany(changes))),
+        ChangeWord::SetMany => match some_pairs::<Index, Leaf<T>>(alloc, left)? {
+            Some(changes) => Ok(Some(Line::Change(Change::SetMany(changes)))),
             None => Ok(None),
         },
-        Keyword::Root => match left {
+    }
+}
+
+// The line of a word that shows something of the tree and of the tokens behind it, where they say what it takes.
+fn show_by<T: TokenKinds>(
+    alloc: Global,
+    word: ShowWord,
+    left: Option<&[u8]>,
+) -> Result<Option<Line<T::Leaf, T::Digest>>, AllocError>
+    ensures { IfOk result (λ line. (p : T.Parameters) → option_map (asked (T.hash p) T.numbers) line
+        ≡ show_by (T.language p) word (tokens_left (option_copied left.entry))) }
+{
+    match word {
+        ShowWord::Root => match left {
             Some(_) => Ok(None),
-            None => Ok(Some(Line::Root)),
+            None => Ok(Some(Line::Show(Show::Root))),
         },
-        Keyword::Proof => match only_value::<Index>(alloc, left)? {
-            Some(index) => Ok(Some(Line::Proof(index))),
+        ShowWord::Proof => match only_value::<Index>(alloc, left)? {
+            Some(index) => Ok(Some(Line::Show(Show::Proof(index)))),
             None => Ok(None),
         },
-        Keyword::Check => match two_values::<Bytes<C>, Leaf<C>>(alloc, left)? {
-            Some((path, leaf)) => Ok(Some(Line::Check { path, leaf })),
+        ShowWord::Multi => match values::<Index>(alloc, left)? {
+            Some(indexes) => Ok(Some(Line::Show(Show::Multi(indexes)))),
             None => Ok(None),
         },
-        Keyword::Bind => match two_values::<Bytes<C>, Leaf<C>>(alloc, left)? {
-            Some((path, leaf)) => Ok(Some(Line::Bind { path, leaf })),
+    }
+}
+
+// The line of a word that judges a proof and of the tokens behind it, where they say what it takes.
+fn judge_by<T: TokenKinds>(
+    alloc: Global,
+    word: JudgeWord,
+    left: Option<&[u8]>,
+) -> Result<Option<Line<T::Leaf, T::Digest>>, AllocError>
+    ensures { IfOk result (λ line. (p : T.Parameters) → option_map (asked (T.hash p) T.numbers) line
+        ≡ judge_by (T.language p) word (tokens_left (option_copied left.entry))) }
+{
+    match word {
+        JudgeWord::Check => match two_values::<Bytes<T>, Leaf<T>>(alloc, left)? {
+            Some((path, leaf)) => Ok(Some(Line::Judge(Judge::Check { path, leaf }))),
             None => Ok(None),
         },
-        Keyword::Multi => match values::<Index>(alloc, left)? {
-            Some(indexes) => Ok(Some(Line::Multi(indexes))),
+        JudgeWord::Bind => match two_values::<Bytes<T>, Leaf<T>>(alloc, left)? {
+            Some((path, leaf)) => Ok(Some(Line::Judge(Judge::Bind { path, leaf }))),
             None => Ok(None),
         },
-        Keyword::MultiCheck => match value_and_others::<Bytes<C>, Leaf<C>>(alloc, left)? {
-            Some((proof, leaves)) => Ok(Some(Line::MultiCheck { proof, leaves })),
+        JudgeWord::MultiCheck => match value_and_others::<Bytes<T>, Leaf<T>>(alloc, left)? {
+            Some((proof, leaves)) => Ok(Some(Line::Judge(Judge::MultiCheck { proof, leaves }))),
             None => Ok(None),
         },
-        Keyword::MultiCount => match value_and_others::<Bytes<C>, Leaf<C>>(alloc, left)? {
-            Some((proof, leaves)) => Ok(Some(Line::MultiCount { proof, leaves })),
+        JudgeWord::MultiCount => match value_and_others::<Bytes<T>, Leaf<T>>(alloc, left)? {
+            Some((proof, leaves)) => Ok(Some(Line::Judge(Judge::MultiCount { proof, leaves }))),
             None => Ok(None),
         },
-        Keyword::Strict => match only_value::<Bytes<C>>(alloc, left)? {
-            Some(proof) => Ok(Some(Line::Strict(proof))),
+        JudgeWord::Strict => match only_value::<Bytes<T>>(alloc, left)? {
+            Some(proof) => Ok(Some(Line::Judge(Judge::Strict(proof)))),
             None => Ok(None),
         },
     }

@@ -1,5 +1,5 @@
 use Rattle.std.proofs.lemmas.Result.{IfOk-weaker}
-use Rattle.acp_session.proofs.answer.reply_to.Goals as goal
+use Rattle.acp_session.proofs.answer.change_reply.Goals as goal
 
 pub returns-in-Set-clause-turn : goal.returns-in-Set-clause-turn
 returns-in-Set-clause-turn g c = rw c.in-Set.is (IfOk-weaker c.set_reply.result _ _ (λ reply turn. turn c.args.leaf_parameters.now c.args.pair_parameters.now c.requires) c.set_reply.ensures.turn)
