@@ -13,7 +13,7 @@ use ark_merkle::{Config, MultiPath, Path, Views};
 use std::alloc::Global;
 
 /// A path or a multi-proof, as contracts see it: by the numbers of its digests.
-pub trait Proof: CanonicalSerialize + CanonicalDeserialize + Drop {
+pub trait Proof: Canonical {
     ghost Numbers: { Type 0 };
 
     ghost numbers: { Self → Numbers };
@@ -99,7 +99,10 @@ impl<P: Config> Proof for MultiPath<P> {
 }
 
 /// The canonical bytes of a proof. The only refusal is `OutOfMemory`.
-pub fn proof_bytes<T: Proof>(alloc: Global, proof: &T) -> Result<Vec<u8>, Error>
+pub fn proof_bytes<T: Proof + CanonicalSerialize>(
+    alloc: Global,
+    proof: &T,
+) -> Result<Vec<u8>, Error>
     ensures { AnswersBy (λ bytes. bytes.items) (Ok (T.bytes_of (T.numbers proof.now))) result }
 {
     let mut bytes = Vec::new(alloc);
@@ -110,7 +113,10 @@ pub fn proof_bytes<T: Proof>(alloc: Global, proof: &T) -> Result<Vec<u8>, Error>
 /// The proof that some bytes spell; nothing where bytes are left behind it.
 ///
 /// Refusals: `SerializationError` with the first fault from the left, `OutOfMemory`.
-pub fn whole_proof<T: Proof>(alloc: Global, bytes: &[u8]) -> Result<Option<T>, Error>
+pub fn whole_proof<T: Proof + CanonicalDeserialize + Drop>(
+    alloc: Global,
+    bytes: &[u8],
+) -> Result<Option<T>, Error>
     ensures { AnswersBy (option_map T.numbers) (alone_of (T.numbers_at bytes.now)) result }
 {
     let (proof, used) = T::deserialize(alloc, bytes)?;

@@ -36,7 +36,7 @@ impl Weights {
     }
 }
 
-impl PairHasher<Toy> for Weights {
+impl PairHasher<Fp<M257>, Fp<M257>> for Weights {
     ghost pair = { λ hasher. weighted hasher.left.value hasher.right.value };
 
     ghost counted = { λ hasher. hasher.calls };

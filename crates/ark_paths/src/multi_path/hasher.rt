@@ -8,13 +8,14 @@ use crate::config::{Config, TwoToOneParam};
 use crate::pair::hash_bottom;
 use crate::views::Views;
 use ark_base::error::Error;
+use ark_base::serialize::Numbered;
 use ark_crh::TwoToOneCRHScheme;
 use std::alloc::Global;
 
 /// Hashes pairs of digests by two functions of its own, and counts how often it is asked.
 ///
 /// It serves whoever checks multi-proofs with more than the hash of a tree: a log of what is hashed, a cache, a circuit.
-pub trait PairHasher<P: Config> {
+pub trait PairHasher<L: Numbered, D: Numbered> {
     // What it answers for pairs. No call changes it.
     ghost pair: { Self → HashPair };
 
@@ -22,28 +23,16 @@ pub trait PairHasher<P: Config> {
     ghost counted: { Self → ℕ };
 
     /// The hash of two leaf digests, left first. Refusals: those of its function; `OutOfMemory`.
-    fn bottom(
-        &mut self,
-        alloc: Global,
-        left: &P::LeafDigest,
-        right: &P::LeafDigest,
-    ) -> Result<P::InnerDigest, Error>
+    fn bottom(&mut self, alloc: Global, left: &L, right: &L) -> Result<D, Error>
         ensures answer { let hash = (pair self.old).bottom in
-            let numbers = P.LeafDigest.numbers in
-            AnswersBy P.InnerDigest.numbers (hash (numbers left.now) (numbers right.now)) result }
+            AnswersBy D.numbers (hash (L.numbers left.now) (L.numbers right.now)) result }
         ensures same { pair self.new ≡ pair self.old }
         ensures counts { counted self.new ≡ min (counted self.old + 1) 18446744073709551615 };
 
     /// The hash of two digests above the leaves, left first. Refusals: those of its function; `OutOfMemory`.
-    fn upper(
-        &mut self,
-        alloc: Global,
-        left: &P::InnerDigest,
-        right: &P::InnerDigest,
-    ) -> Result<P::InnerDigest, Error>
+    fn upper(&mut self, alloc: Global, left: &D, right: &D) -> Result<D, Error>
         ensures answer { let hash = (pair self.old).upper in
-            let numbers = P.InnerDigest.numbers in
-            AnswersBy numbers (hash (numbers left.now) (numbers right.now)) result }
+            AnswersBy D.numbers (hash (D.numbers left.now) (D.numbers right.now)) result }
         ensures same { pair self.new ≡ pair self.old }
         ensures counts { counted self.new ≡ min (counted self.old + 1) 18446744073709551615 };
 
@@ -62,9 +51,9 @@ pub struct PairCount<'a, P: Config> {
 impl<'a, P: Config> PairCount<'a, P> {
     /// A hasher that was not asked yet. It takes no memory.
     pub fn new(pair_parameters: &'a TwoToOneParam<P>) -> PairCount<'a, P>
-        ensures pair { let own = ⟦<PairCount<'a, P> as PairHasher<P>>⟧.pair result in
-            own ≡ ⟦<P as Views>⟧.pair pair_parameters.now }
-        ensures none { ⟦<PairCount<'a, P> as PairHasher<P>>⟧.counted result ≡ 0 }
+        ensures pair { let own = ⟦<Self as PairHasher<P::LeafDigest, P::InnerDigest>>⟧.pair in
+            own result ≡ ⟦<P as Views>⟧.pair pair_parameters.now }
+        ensures none { ⟦<Self as PairHasher<P::LeafDigest, P::InnerDigest>>⟧.counted result ≡ 0 }
     {
         PairCount {
             pair_parameters,
@@ -73,7 +62,7 @@ impl<'a, P: Config> PairCount<'a, P> {
     }
 }
 
-impl<'a, P: Config> PairHasher<P> for PairCount<'a, P> {
+impl<'a, P: Config> PairHasher<P::LeafDigest, P::InnerDigest> for PairCount<'a, P> {
     ghost pair = { λ hasher. ⟦<P as Views>⟧.pair hasher.pair_parameters.now };
 
     ghost counted = { λ hasher. hasher.calls };

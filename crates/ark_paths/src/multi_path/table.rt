@@ -11,7 +11,6 @@ ghost use Rattle.ark_paths.specs.declared.multi_path.table.Entry.{Entry as OfEnt
 ghost use Rattle.ark_paths.specs.Pair.{Digest, HashPair};
 ghost use Rattle.ark_paths.specs.Table.{pair_seen, AllMade, HoldsTree, IsServed, IsTable};
 
-use crate::config::Config;
 use crate::multi_path::hasher::PairHasher;
 use ark_base::error::Error;
 use ark_base::serialize::{DigestItem, Numbered};
@@ -217,25 +216,25 @@ fn keep<'a, X, D: DigestItem>(
 }
 
 /// The number of the digest of a pair of leaf digests: the table's, where it has this pair at this place, else it is hashed.
-pub fn ask_lowest<'a, P: Config, T: PairHasher<P>>(
+pub fn ask_lowest<'a, L: DigestItem, D: DigestItem, T: PairHasher<L, D>>(
     alloc: Global,
     hasher: &mut T,
-    leaves: &[P::LeafDigest],
-    made: &mut Vec<P::InnerDigest>,
-    entries: &mut Entries<'a, P::LeafDigest>,
+    leaves: &[L],
+    made: &mut Vec<D>,
+    entries: &mut Entries<'a, L>,
     place: (usize, usize),
-    pair: Pair<'a, P::LeafDigest>,
+    pair: Pair<'a, L>,
 ) -> Result<usize, Error>
     requires own { pair.own < length leaves.now }
-    requires made { let digests = map P.LeafDigest.numbers leaves.now in
-        let all = map P.InnerDigest.numbers made.old.items in
-        AllMade P.LeafDigest.numbers (T.pair hasher.old).bottom digests all entries.old }
-    ensures answer { let asked = pair_seen P.LeafDigest.numbers
-        (map P.LeafDigest.numbers leaves.now) pair.entry in
-        AnswersBy (λ number. get_or (map P.InnerDigest.numbers made.new.items) number [])
+    requires made { let digests = map L.numbers leaves.now in
+        let all = map D.numbers made.old.items in
+        AllMade L.numbers (T.pair hasher.old).bottom digests all entries.old }
+    ensures answer { let asked = pair_seen L.numbers
+        (map L.numbers leaves.now) pair.entry in
+        AnswersBy (λ number. get_or (map D.numbers made.new.items) number [])
         ((T.pair hasher.old).bottom asked.0 asked.1) result }
-    ensures served { let digests = map P.LeafDigest.numbers leaves.now in
-        IfOk result (IsServed P.LeafDigest.numbers P.InnerDigest.numbers
+    ensures served { let digests = map L.numbers leaves.now in
+        IfOk result (IsServed L.numbers D.numbers
         (T.pair hasher.old).bottom digests digests place pair.entry made.old.items made.new.items
         entries.old entries.new (T.counted hasher.old) (T.counted hasher.new)) }
     ensures same { T.pair hasher.new ≡ T.pair hasher.old }
@@ -252,24 +251,24 @@ pub fn ask_lowest<'a, P: Config, T: PairHasher<P>>(
 
 /// The number of the digest of a pair above the leaves: the table's, where it has this pair at this place, else it is
 /// hashed.
-pub fn ask_upper<'a, P: Config, T: PairHasher<P>>(
+pub fn ask_upper<'a, L: DigestItem, D: DigestItem, T: PairHasher<L, D>>(
     alloc: Global,
     hasher: &mut T,
-    made: &mut Vec<P::InnerDigest>,
-    entries: &mut Entries<'a, P::InnerDigest>,
+    made: &mut Vec<D>,
+    entries: &mut Entries<'a, D>,
     place: (usize, usize),
-    pair: Pair<'a, P::InnerDigest>,
+    pair: Pair<'a, D>,
 ) -> Result<usize, Error>
     requires own { pair.own < length made.old.items }
-    requires made { let all = map P.InnerDigest.numbers made.old.items in
-        AllMade P.InnerDigest.numbers (T.pair hasher.old).upper all all entries.old }
-    ensures answer { let asked = pair_seen P.InnerDigest.numbers
-        (map P.InnerDigest.numbers made.old.items) pair.entry in
-        AnswersBy (λ number. get_or (map P.InnerDigest.numbers made.new.items) number [])
+    requires made { let all = map D.numbers made.old.items in
+        AllMade D.numbers (T.pair hasher.old).upper all all entries.old }
+    ensures answer { let asked = pair_seen D.numbers
+        (map D.numbers made.old.items) pair.entry in
+        AnswersBy (λ number. get_or (map D.numbers made.new.items) number [])
         ((T.pair hasher.old).upper asked.0 asked.1) result }
-    ensures served { let old = map P.InnerDigest.numbers made.old.items in
-        let new = map P.InnerDigest.numbers made.new.items in
-        IfOk result (IsServed P.InnerDigest.numbers P.InnerDigest.numbers
+    ensures served { let old = map D.numbers made.old.items in
+        let new = map D.numbers made.new.items in
+        IfOk result (IsServed D.numbers D.numbers
         (T.pair hasher.old).upper old new place pair.entry made.old.items made.new.items
         entries.old entries.new (T.counted hasher.old) (T.counted hasher.new)) }
     ensures same { T.pair hasher.new ≡ T.pair hasher.old }

@@ -112,7 +112,11 @@ impl<P: Views> MultiPath<P> {
     /// As `verify`, where a hasher of the caller's hashes the pairs, by its own two functions.
     ///
     /// What it was asked counts where the answer is a refusal, too.
-    pub fn verify_with<'a, T: PairHasher<P>, I: Iterator<Item = &'a P::Leaf>>(
+    pub fn verify_with<
+        'a,
+        T: PairHasher<P::LeafDigest, P::InnerDigest>,
+        I: Iterator<Item = &'a P::Leaf>,
+    >(
         &self,
         alloc: Global,
         leaf_parameters: &LeafParam<P>,
@@ -145,7 +149,11 @@ impl<P: Views> MultiPath<P> {
     }
 
     /// As `verify_with`, of the leaves that a lent iterator gives next.
-    pub fn verify_next_with<'a, T: PairHasher<P>, I: Iterator<Item = &'a P::Leaf>>(
+    pub fn verify_next_with<
+        'a,
+        T: PairHasher<P::LeafDigest, P::InnerDigest>,
+        I: Iterator<Item = &'a P::Leaf>,
+    >(
         &self,
         alloc: Global,
         leaf_parameters: &LeafParam<P>,

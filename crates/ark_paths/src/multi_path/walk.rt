@@ -34,31 +34,31 @@ fn number_above(index: usize, level: usize) -> usize
 }
 
 // What a path gives for a leaf's digest and the one beside it: the number of that digest among those that were made.
-fn top_of<'a, P: Config, T: PairHasher<P>>(
+fn top_of<'a, L: DigestItem, D: DigestItem, T: PairHasher<L, D>>(
     alloc: Global,
     hasher: &mut T,
-    table: &mut Table<'a, P::LeafDigest, P::InnerDigest>,
-    digest: P::LeafDigest,
-    sibling: &'a P::LeafDigest,
-    above: &[&'a P::InnerDigest],
+    table: &mut Table<'a, L, D>,
+    digest: L,
+    sibling: &'a L,
+    above: &[&'a D],
     index: usize,
 ) -> Result<usize, Error>
-    requires { IsTable P.LeafDigest.numbers P.InnerDigest.numbers (T.pair hasher.old) table.old }
+    requires { IsTable L.numbers D.numbers (T.pair hasher.old) table.old }
     ensures answer { let way : Way = record {
-      sibling = P.LeafDigest.numbers sibling.now;
-      above = map (λ x. P.InnerDigest.numbers x.now) above.now;
+      sibling = L.numbers sibling.now;
+      above = map (λ x. D.numbers x.now) above.now;
       index = index;
     } in
-        AnswersBy (λ number. get_or (map P.InnerDigest.numbers table.new.made.items) number [])
-        (path_root (T.pair hasher.old) way (P.LeafDigest.numbers digest)) result }
+        AnswersBy (λ number. get_or (map D.numbers table.new.made.items) number [])
+        (path_root (T.pair hasher.old) way (L.numbers digest)) result }
     ensures walked { let way : Way = record {
-      sibling = P.LeafDigest.numbers sibling.now;
-      above = map (λ x. P.InnerDigest.numbers x.now) above.now;
+      sibling = L.numbers sibling.now;
+      above = map (λ x. D.numbers x.now) above.now;
       index = index;
     } in
         IfOk result (λ number. (number < length table.new.made.items)
-        × IsWalked P.LeafDigest.numbers P.InnerDigest.numbers (T.pair hasher.old) way
-        (length above.now) (Ok (P.LeafDigest.numbers digest)) table.old table.new
+        × IsWalked L.numbers D.numbers (T.pair hasher.old) way
+        (length above.now) (Ok (L.numbers digest)) table.old table.new
         (T.counted hasher.old) (T.counted hasher.new)) }
     ensures same { T.pair hasher.new ≡ T.pair hasher.old }
     ensures most { T.counted hasher.new ≤ T.counted hasher.old + suc (length above.now) }
@@ -71,7 +71,7 @@ fn top_of<'a, P: Config, T: PairHasher<P>>(
         sibling,
     };
     let place = place_above(index, 0);
-    let mut own = ask_lowest::<P, T>(
+    let mut own = ask_lowest::<L, D, T>(
         alloc,
         hasher,
         &table.leaves,
@@ -88,7 +88,7 @@ fn top_of<'a, P: Config, T: PairHasher<P>>(
             sibling: above[above.len() - level],
         };
         let place = place_above(index, level);
-        own = ask_upper::<P, T>(
+        own = ask_upper::<L, D, T>(
             alloc,
             hasher,
             &mut table.made,
@@ -101,7 +101,7 @@ fn top_of<'a, P: Config, T: PairHasher<P>>(
 }
 
 /// Whether a leaf's digest gives the root along the path of these parts.
-pub fn judge<'a, P: Config, T: PairHasher<P>>(
+pub fn judge<'a, P: Config, T: PairHasher<P::LeafDigest, P::InnerDigest>>(
     alloc: Global,
     leaf_parameters: &LeafParam<P>,
     hasher: &mut T,
@@ -134,13 +134,21 @@ pub fn judge<'a, P: Config, T: PairHasher<P>>(
     ensures most { T.counted hasher.new ≤ T.counted hasher.old + suc (length above.now) }
 {
     let digest = P::LeafHash::evaluate(alloc, leaf_parameters, leaf)?;
-    let top = top_of::<P, T>(alloc, hasher, table, digest, sibling, above, index)?;
+    let top = top_of::<P::LeafDigest, P::InnerDigest, T>(
+        alloc, hasher, table, digest, sibling, above, index,
+    )?;
     Ok(table.made[top] == *root)
 }
 
 /// Whether each leaf's digest gives the root along the path of its place, with an empty path before the first and a table
 /// without entries.
-pub fn judge_all<'a, 'b, P: Config, T: PairHasher<P>, I: Iterator<Item = &'b P::Leaf>>(
+pub fn judge_all<
+    'a,
+    'b,
+    P: Config,
+    T: PairHasher<P::LeafDigest, P::InnerDigest>,
+    I: Iterator<Item = &'b P::Leaf>,
+>(
     alloc: Global,
     leaf_parameters: &LeafParam<P>,
     hasher: &mut T,

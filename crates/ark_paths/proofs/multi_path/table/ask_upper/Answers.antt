@@ -6,28 +6,28 @@ use Rattle.ark_paths.proofs.Tables.{IsServed-kept, IsServed-anew, answer-kept, a
 use Rattle.ark_paths.proofs.multi_path.table.ask_upper.Goals as goal
 
 pub find-requires-clause-entries : goal.find-requires-clause-entries
-find-requires-clause-entries g c = λ place entry at. rw (c.deref.ensures.value, ← length-map c.args.made.now.items g.P.InnerDigest.Numbered.numbers) (c.requires.made.all place entry at).own
+find-requires-clause-entries g c = λ place entry at. rw (c.deref.ensures.value, ← length-map c.args.made.now.items g.D.Numbered.numbers) (c.requires.made.all place entry at).own
 
 pub returns-in-Some-clause-answer : goal.returns-in-Some-clause-answer
 returns-in-Some-clause-answer g c =
-    let numbers = g.P.InnerDigest.Numbered.numbers in
-    let inner = g.P.InnerDigest.Numbered.numbers in
+    let numbers = g.D.Numbered.numbers in
+    let inner = g.D.Numbered.numbers in
     let hash = (g.T.PairHasher.pair c.args.hasher.now).upper in
     let xs = map numbers c.args.made.now.items in
     answer-kept numbers inner hash xs c.args.place c.args.pair c.args.made.now.items c.args.entries.now c.requires.made c.in-Some.number (rw c.deref.ensures.value at c.in-Some.ensures)
 
 pub returns-in-Some-clause-served : goal.returns-in-Some-clause-served
 returns-in-Some-clause-served g c =
-    let numbers = g.P.InnerDigest.Numbered.numbers in
-    let inner = g.P.InnerDigest.Numbered.numbers in
+    let numbers = g.D.Numbered.numbers in
+    let inner = g.D.Numbered.numbers in
     let hash = (g.T.PairHasher.pair c.args.hasher.now).upper in
     let xs = map numbers c.args.made.now.items in
     IsServed-kept numbers inner hash xs c.args.place c.args.pair c.args.made.now.items c.args.entries.now c.requires.made c.in-Some.number (rw c.deref.ensures.value at c.in-Some.ensures) (g.T.PairHasher.counted c.args.hasher.now)
 
 pub returns-in_err-digest-clause-answer : goal.returns-in_err-digest-clause-answer
 returns-in_err-digest-clause-answer g c =
-    let numbers = g.P.InnerDigest.Numbered.numbers in
-    let inner = g.P.InnerDigest.Numbered.numbers in
+    let numbers = g.D.Numbered.numbers in
+    let inner = g.D.Numbered.numbers in
     let hash = (g.T.PairHasher.pair c.args.hasher.now).upper in
     let xs = map numbers c.args.made.now.items in
     let own : get_or xs c.args.pair.own [] ≡ numbers c.index.result.now = get_or-map numbers c.args.made.now.items c.args.pair.own c.index.result.now [] c.requires.own ∙ ap numbers (sym c.index.ensures) in
@@ -45,8 +45,8 @@ returns-clause-most g c = counted-most _ _ c.upper.ensures.counts
 
 pub returns-clause-answer : goal.returns-clause-answer
 returns-clause-answer g c =
-    let numbers = g.P.InnerDigest.Numbered.numbers in
-    let inner = g.P.InnerDigest.Numbered.numbers in
+    let numbers = g.D.Numbered.numbers in
+    let inner = g.D.Numbered.numbers in
     let hash = (g.T.PairHasher.pair c.args.hasher.now).upper in
     let xs = map numbers c.args.made.now.items in
     let own : get_or xs c.args.pair.own [] ≡ numbers c.index.result.now = get_or-map numbers c.args.made.now.items c.args.pair.own c.index.result.now [] c.requires.own ∙ ap numbers (sym c.index.ensures) in
@@ -56,8 +56,8 @@ returns-clause-answer g c =
 
 pub returns-clause-served : goal.returns-clause-served
 returns-clause-served g c =
-    let numbers = g.P.InnerDigest.Numbered.numbers in
-    let inner = g.P.InnerDigest.Numbered.numbers in
+    let numbers = g.D.Numbered.numbers in
+    let inner = g.D.Numbered.numbers in
     let hash = (g.T.PairHasher.pair c.args.hasher.now).upper in
     let xs = map numbers c.args.made.now.items in
     let own : get_or xs c.args.pair.own [] ≡ numbers c.index.result.now = get_or-map numbers c.args.made.now.items c.args.pair.own c.index.result.now [] c.requires.own ∙ ap numbers (sym c.index.ensures) in

@@ -11,8 +11,8 @@ use Rattle.ark_paths.proofs.multi_path.walk.top_of.Goals as goal
 
 pub ask_lowest-requires-clause-made : goal.ask_lowest-requires-clause-made
 ask_lowest-requires-clause-made g c =
-    let leaf = g.P.LeafDigest.Numbered.numbers in
-    let inner = g.P.InnerDigest.Numbered.numbers in
+    let leaf = g.L.Numbered.numbers in
+    let inner = g.D.Numbered.numbers in
     let t = c.args.table.now in
     let ls = map leaf t.leaves.items in
     let ms = map leaf c.push.new.self.items in
@@ -22,8 +22,8 @@ ask_lowest-requires-clause-made g c =
 
 pub loop-below-init : goal.loop-below-init
 loop-below-init g c =
-    let leaf = g.P.LeafDigest.Numbered.numbers in
-    let inner = g.P.InnerDigest.Numbered.numbers in
+    let leaf = g.L.Numbered.numbers in
+    let inner = g.D.Numbered.numbers in
     let h = g.T.PairHasher.pair c.args.hasher.now in
     let t = c.args.table.now in
     let xs = c.args.above.now in
@@ -60,8 +60,8 @@ ask_upper-requires-clause-made g c = rw c.loop-below.invariant.same c.loop-below
 
 pub returns-in_err-own-2-clause-answer : goal.returns-in_err-own-2-clause-answer
 returns-in_err-own-2-clause-answer g c =
-    let leaf = g.P.LeafDigest.Numbered.numbers in
-    let inner = g.P.InnerDigest.Numbered.numbers in
+    let leaf = g.L.Numbered.numbers in
+    let inner = g.D.Numbered.numbers in
     let h = g.T.PairHasher.pair c.args.hasher.now in
     let below = c.loop-below.below in
     let up = path_root-up h (λ (x : Bor _). inner x.now) c.args.above.now (leaf c.args.sibling.now) c.args.index (leaf c.args.digest) below c.index-above-above.result c.loop-below-test.true (rw (add-one below) at c.index-above-above.is) (get_or (map inner c.loop-below.table.made.items) c.loop-below.own []) c.loop-below.invariant.so_far in
@@ -70,8 +70,8 @@ returns-in_err-own-2-clause-answer g c =
 
 pub loop-below-preserved : goal.loop-below-preserved
 loop-below-preserved g c =
-    let leaf = g.P.LeafDigest.Numbered.numbers in
-    let inner = g.P.InnerDigest.Numbered.numbers in
+    let leaf = g.L.Numbered.numbers in
+    let inner = g.D.Numbered.numbers in
     let h = g.T.PairHasher.pair c.args.hasher.now in
     let t = c.loop-below.table in
     let ys = map inner t.made.items in
@@ -108,8 +108,8 @@ loop-below-preserved g c =
 
 pub returns-clause-walked : goal.returns-clause-walked
 returns-clause-walked g c =
-    let leaf = g.P.LeafDigest.Numbered.numbers in
-    let inner = g.P.InnerDigest.Numbered.numbers in
+    let leaf = g.L.Numbered.numbers in
+    let inner = g.D.Numbered.numbers in
     let h = g.T.PairHasher.pair c.args.hasher.now in
     let levels = length c.args.above.now in
     let so = c.loop-below.invariant in
@@ -132,8 +132,8 @@ returns-in_err-own-clause-most g c = omega (arith, c.ask_lowest.ensures.most)
 
 pub returns-in_err-own-clause-answer : goal.returns-in_err-own-clause-answer
 returns-in_err-own-clause-answer g c =
-    let leaf = g.P.LeafDigest.Numbered.numbers in
-    let inner = g.P.InnerDigest.Numbered.numbers in
+    let leaf = g.L.Numbered.numbers in
+    let inner = g.D.Numbered.numbers in
     let h = g.T.PairHasher.pair c.args.hasher.now in
     let t = c.args.table.now in
     let xs = c.args.above.now in

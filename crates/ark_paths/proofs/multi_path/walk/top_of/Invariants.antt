@@ -10,8 +10,8 @@ use Rattle.ark_paths.proofs.multi_path.walk.top_of.Given as goal
 -- what the path from the leaf up to this level gives is the digest of this number
 abbrev pub invariant-loop-below : goal.invariant-loop-below
 invariant-loop-below g l =
-    let leaf = g.P.LeafDigest.Numbered.numbers in
-    let inner = g.P.InnerDigest.Numbered.numbers in
+    let leaf = g.L.Numbered.numbers in
+    let inner = g.D.Numbered.numbers in
     let h = g.T.PairHasher.pair l.fn.hasher in
     let made = length l.table.made.items in
     let old = length l.fn.table.made.items in
