@@ -7,7 +7,7 @@ use Rattle.std.specs.Io.BufRead.{take_through, drop_through, strip_last, DropsTh
 use Rattle.std.proofs.lemmas.List.{flat_map_more}
 use Rattle.std.proofs.Math.Seq.{take-add}
 use Rattle.acp_run.specs.Lines.{lines_of, with_line_feed}
-use Rattle.acp_run.specs.Sessions.{Session, Serves, Stops, AppendsFront, LosesFront}
+use Rattle.acp_run.specs.Sessions.{Session, ServesFrom, StopsFrom, AppendsFront, LosesFront}
 use Rattle.acp_run.proofs.FirstLine.{lines_of-cons}
 
 -- ---- what a writer holds
@@ -111,19 +111,19 @@ next_line (b ∷ bs) line some took = lines_of-cons b bs ∙ ap (λ s. strip_las
 one_more : (input done rest : List (List ℕ)) (line : List ℕ) (others : List (List ℕ)) → input ≡ done ++ rest → rest ≡ line ∷ others → input ≡ (done ++ line ∷ []) ++ others
 one_more input done rest line others is next = is ∙ ap (λ s. done ++ s) next ∙ sym (append_assoc done (line ∷ []) others)
 
-module _ {T : Type 0} (step : Option T → List ℕ → Option T → List ℕ → Type 0) where
+module _ {T : Type 0} (step : T → List ℕ → T → List ℕ → Type 0) (start : T) where
   -- A session that began with r0 to read and w0 written has come to this state, with r to read and w written: some lines are
   -- done and the replies to them told, and the rest of the bytes is to come.
-  abbrev pub Going : (r0 w0 : Option (List ℕ)) → Option T → (r w : Option (List ℕ)) → Type 0
+  abbrev pub Going : (r0 w0 : Option (List ℕ)) → T → (r w : Option (List ℕ)) → Type 0
   Going r0 w0 state r w = IfSome r0 (λ input. (told : List (List ℕ)) × (done : List (List ℕ)) × (rest : List ℕ) × (r ≡ Some rest)
-      × (lines_of input ≡ done ++ lines_of rest) × Through step None done told state
+      × (lines_of input ≡ done ++ lines_of rest) × Through step start done told state
       × Appends w0 w (flat_map with_line_feed told))
 
-  pub going_from_start : (r0 w0 : Option (List ℕ)) → Going r0 w0 None r0 w0
+  pub going_from_start : (r0 w0 : Option (List ℕ)) → Going r0 w0 start r0 w0
   going_from_start None w0 = tt
   going_from_start (Some input) w0 = ([], [], input, refl, refl, refl, appends_none w0)
 
-  pub going_on : (r0 w0 : Option (List ℕ)) (before after : Option T) (r r' w w' : Option (List ℕ)) (line reply : List ℕ) → Going r0 w0 before r w → 0 < length line → IfSome r (λ xs. line ≡ take_through 10 xs) → DropsThrough r r' 10 → step before (strip_last 10 line) after reply → Appends w w' (with_line_feed reply) → Going r0 w0 after r' w'
+  pub going_on : (r0 w0 : Option (List ℕ)) (before after : T) (r r' w w' : Option (List ℕ)) (line reply : List ℕ) → Going r0 w0 before r w → 0 < length line → IfSome r (λ xs. line ≡ take_through 10 xs) → DropsThrough r r' 10 → step before (strip_last 10 line) after reply → Appends w w' (with_line_feed reply) → Going r0 w0 after r' w'
   going_on None w0 before after r r' w w' line reply so_far some taken left does told = tt
   going_on (Some input) w0 before after r r' w w' line reply so_far some taken left does told =
       let rest = so_far.2 in
@@ -135,26 +135,26 @@ module _ {T : Type 0} (step : Option T → List ℕ → Option T → List ℕ �
         drop_through 10 rest,
         leaves,
         one_more (lines_of input) so_far.1 (lines_of rest) (strip_last 10 line) (lines_of (drop_through 10 rest)) so_far.4 (next_line rest line some took),
-        through-more step None before after so_far.1 so_far.0 (strip_last 10 line) reply so_far.5 does,
+        through-more step start before after so_far.1 so_far.0 (strip_last 10 line) reply so_far.5 does,
         rw (← flat_map_more with_line_feed [] so_far.0 reply) all,
       )
 
-  pub going_to_end : (r0 w0 : Option (List ℕ)) (state : Option T) (r w w' : Option (List ℕ)) → Going r0 w0 state r w → IsAtEnd r → Keeps w w' → Serves step r0 w0 w'
+  pub going_to_end : (r0 w0 : Option (List ℕ)) (state : T) (r w w' : Option (List ℕ)) → Going r0 w0 state r w → IsAtEnd r → Keeps w w' → ServesFrom step start r0 w0 w'
   going_to_end None w0 state r w w' so_far end kept = tt
   going_to_end (Some input) w0 state r w w' so_far end kept =
       let none_left : so_far.2 ≡ [] = rw so_far.3 at end in
       let all : lines_of input ≡ so_far.1 = so_far.4 ∙ ap (λ s. so_far.1 ++ lines_of s) none_left ∙ append-nil so_far.1 in
-      (so_far.0, rw all (through-session step None state so_far.1 so_far.0 so_far.5), appends_kept w0 w w' _ so_far.6 kept)
+      (so_far.0, rw all (through-session step start state so_far.1 so_far.0 so_far.5), appends_kept w0 w w' _ so_far.6 kept)
 
   -- it is cut short between two lines
-  pub stops_here : (r0 w0 : Option (List ℕ)) (state : Option T) (r w w' : Option (List ℕ)) → Going r0 w0 state r w → Keeps w w' → Stops step r0 w0 w'
+  pub stops_here : (r0 w0 : Option (List ℕ)) (state : T) (r w w' : Option (List ℕ)) → Going r0 w0 state r w → Keeps w w' → StopsFrom step start r0 w0 w'
   stops_here None w0 state r w w' so_far kept = tt
   stops_here (Some input) w0 state r w w' so_far kept =
       let first : take (length so_far.1) (lines_of input) ≡ so_far.1 = ap (take (length so_far.1)) so_far.4 ∙ take-all so_far.1 (lines_of so_far.2) in
-      (length so_far.1, so_far.0, rw first (through-session step None state so_far.1 so_far.0 so_far.5), appends-front w0 w' _ (appends_kept w0 w w' _ so_far.6 kept))
+      (length so_far.1, so_far.0, rw first (through-session step start state so_far.1 so_far.0 so_far.5), appends-front w0 w' _ (appends_kept w0 w w' _ so_far.6 kept))
 
   -- it is cut short in a reply
-  pub stops_within : (r0 w0 : Option (List ℕ)) (before after : Option T) (r w w' : Option (List ℕ)) (line reply : List ℕ) → Going r0 w0 before r w → 0 < length line → IfSome r (λ xs. line ≡ take_through 10 xs) → step before (strip_last 10 line) after reply → AppendsFront w w' (reply ++ 10 ∷ []) → Stops step r0 w0 w'
+  pub stops_within : (r0 w0 : Option (List ℕ)) (before after : T) (r w w' : Option (List ℕ)) (line reply : List ℕ) → Going r0 w0 before r w → 0 < length line → IfSome r (λ xs. line ≡ take_through 10 xs) → step before (strip_last 10 line) after reply → AppendsFront w w' (reply ++ 10 ∷ []) → StopsFrom step start r0 w0 w'
   stops_within None w0 before after r w w' line reply so_far some taken does front = tt
   stops_within (Some input) w0 before after r w w' line reply so_far some taken does front =
       let rest = so_far.2 in
@@ -162,6 +162,6 @@ module _ {T : Type 0} (step : Option T → List ℕ → Option T → List ℕ �
       let done = so_far.1 ++ strip_last 10 line ∷ [] in
       let all = one_more (lines_of input) so_far.1 (lines_of rest) (strip_last 10 line) (lines_of (drop_through 10 rest)) so_far.4 (next_line rest line some took) in
       let first : take (length done) (lines_of input) ≡ done = ap (take (length done)) all ∙ take-all done (lines_of (drop_through 10 rest)) in
-      let through = through-more step None before after so_far.1 so_far.0 (strip_last 10 line) reply so_far.5 does in
+      let through = through-more step start before after so_far.1 so_far.0 (strip_last 10 line) reply so_far.5 does in
       let written = front_behind w0 w w' (flat_map with_line_feed so_far.0) (reply ++ 10 ∷ []) so_far.6 front in
-      (length done, so_far.0 ++ reply ∷ [], rw first (through-session step None after done (so_far.0 ++ reply ∷ []) through), rw (← flat_map_more with_line_feed [] so_far.0 reply) written)
+      (length done, so_far.0 ++ reply ∷ [], rw first (through-session step start after done (so_far.0 ++ reply ∷ []) through), rw (← flat_map_more with_line_feed [] so_far.0 reply) written)

@@ -20,18 +20,28 @@ AppendsFront before after bytes = (n : ℕ) × Appends before after (take n byte
 abbrev pub LosesFront : Option (List ℕ) → Option (List ℕ) → Type 0
 LosesFront before after = (front : List ℕ) × Consumes before after front
 
--- What the writer holds when all that a reader had is answered, from no tree on: what it held, then each reply with a
--- line feed. A reader or a writer that does not tell its bytes is not spoken of.
+-- What the writer holds when all that a reader had is answered, from a state on: what it held, then each reply with
+-- a line feed. A reader or a writer that does not tell its bytes is not spoken of.
+abbrev pub ServesFrom : {T : Type 0} → (T → List ℕ → T → List ℕ → Type 0) → T
+    → Option (List ℕ) → Option (List ℕ) → Option (List ℕ) → Type 0
+ServesFrom step start input before after =
+    IfSome input (λ bytes. (replies : List (List ℕ)) × Session step start (lines_of bytes) replies
+    × Appends before after (flat_map with_line_feed replies))
+
+-- the same from no tree on
 abbrev pub Serves : {T : Type 0} → (Option T → List ℕ → Option T → List ℕ → Type 0)
     → Option (List ℕ) → Option (List ℕ) → Option (List ℕ) → Type 0
-Serves step input before after =
-    IfSome input (λ bytes. (replies : List (List ℕ)) × Session step None (lines_of bytes) replies
-    × Appends before after (flat_map with_line_feed replies))
+Serves step = ServesFrom step None
 
 -- What the writer holds when a session is cut short: what it held, then a front of the replies to some first lines of
 -- what the reader had, each with a line feed.
+abbrev pub StopsFrom : {T : Type 0} → (T → List ℕ → T → List ℕ → Type 0) → T
+    → Option (List ℕ) → Option (List ℕ) → Option (List ℕ) → Type 0
+StopsFrom step start input before after =
+    IfSome input (λ bytes. (n : ℕ) × (replies : List (List ℕ)) × Session step start (take n (lines_of bytes)) replies
+    × AppendsFront before after (flat_map with_line_feed replies))
+
+-- the same from no tree on
 abbrev pub Stops : {T : Type 0} → (Option T → List ℕ → Option T → List ℕ → Type 0)
     → Option (List ℕ) → Option (List ℕ) → Option (List ℕ) → Type 0
-Stops step input before after =
-    IfSome input (λ bytes. (n : ℕ) × (replies : List (List ℕ)) × Session step None (take n (lines_of bytes)) replies
-    × AppendsFront before after (flat_map with_line_feed replies))
+Stops step = StopsFrom step None

@@ -1,5 +1,6 @@
 //! Runs a session of the program `acp` over a reader and a writer, by the words behind the program's name.
 #![tactic(auto)]
 
+pub mod answering;
 pub mod command;
 pub mod run;

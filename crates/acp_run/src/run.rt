@@ -5,18 +5,22 @@ ghost use Rattle.std.specs.Io.BufRead.{DropsThrough, strip_last, take_through};
 ghost use Rattle.std.specs.Io.Buffered.{reader_remaining};
 ghost use Rattle.std.specs.Io.KnownBytes.{Appends, IsAtEnd, Keeps};
 ghost use Rattle.acp_run.specs.Lines.{with_line_feed};
-ghost use Rattle.acp_run.specs.Sessions.{AppendsFront, LosesFront, Serves, Stops};
+ghost use Rattle.acp_run.specs.Sessions.{AppendsFront, LosesFront, Serves, ServesFrom, Stops, StopsFrom};
 ghost use Rattle.acp_session.specs.Steps.{Step};
 
-use acp_session::answer::answer;
+use crate::answering::{Answering, Session};
 use acp_session::shell::Shell;
-use ark_merkle::{LeafParam, MerkleTree, TwoToOneParam};
+use ark_merkle::{LeafParam, TwoToOneParam};
 use memchr::memchr;
 use std::alloc::Global;
 use std::io::{self, BufRead, BufReader, ErrorKind, Read, Write};
 
 /// Reads the next line whole, with its line feed if it has one; answers whether there is one.
-fn read_line<R: Read>(lines: &mut BufReader<R>, line: &mut Vec<u8>) -> io::Result<bool>
+fn read_line<R: Read, W: Write>(
+    lines: &mut BufReader<R>,
+    replies: &mut W,
+    line: &mut Vec<u8>,
+) -> io::Result<bool>
     ensures line { let left = reader_remaining R.remaining in
         OnOk result (IfSome (left lines.old) (λ bytes. line.new.items ≡ take_through 10 bytes)) }
     ensures rest { let left = reader_remaining R.remaining in
@@ -26,7 +30,9 @@ fn read_line<R: Read>(lines: &mut BufReader<R>, line: &mut Vec<u8>) -> io::Resul
         IfOk result (λ is_there. is_there ≡ false → IsAtEnd (left lines.old)) }
     ensures read { let left = reader_remaining R.remaining in
         LosesFront (left lines.old) (left lines.new) }
+    ensures kept { Keeps (W.contents replies.old) (W.contents replies.new) }
 {
+    flush_before_waiting(lines, replies)?;
     line.clear();
     Ok(lines.read_until(b'\n', line)? > 0)
 }
@@ -106,15 +112,36 @@ pub fn run<C: Shell, R: Read, W: Write>(
     ensures read { let left = reader_remaining R.remaining in
         LosesFront (left lines.old) (left lines.new) }
 {
-    let mut tree: Option<MerkleTree<C>> = None;
+    let mut session = Session::<C>::new(leaf_parameters, pair_parameters);
     let mut line = Vec::new(alloc);
+    answer_all(alloc, &mut session, lines, replies, &mut line)
+}
+
+// Answers each line that comes until the input ends. The first fault ends it before.
+fn answer_all<S: Answering, R: Read, W: Write>(
+    alloc: Global,
+    session: &mut S,
+    lines: &mut BufReader<R>,
+    replies: &mut W,
+    line: &mut Vec<u8>,
+) -> io::Result<()>
+    requires { S.is_sound session.old }
+    ensures served { OnOk result
+        (let serves = ServesFrom (S.step (S.language session.old)) (S.state session.old) in
+        let input = reader_remaining R.remaining lines.old in
+        serves input (W.contents replies.old) (W.contents replies.new)) }
+    ensures stopped { OnErr result
+        (let stops = StopsFrom (S.step (S.language session.old)) (S.state session.old) in
+        let input = reader_remaining R.remaining lines.old in
+        stops input (W.contents replies.old) (W.contents replies.new)) }
+    ensures read { let left = reader_remaining R.remaining in
+        LosesFront (left lines.old) (left lines.new) }
+{
     for _ in 0..u64::MAX {
-        flush_before_waiting(lines, replies)?;
-        if !read_line(lines, &mut line)? {
+        if !read_line(lines, replies, line)? {
             return Ok(());
         }
-        let asked = without_line_feed(&line);
-        let reply = answer(alloc, leaf_parameters, pair_parameters, &mut tree, asked)?;
+        let reply = session.answer(alloc, without_line_feed(line))?;
         write_reply(replies, reply)?;
     }
     Err(io::Error::from(ErrorKind::Other))
