@@ -1,9 +1,10 @@
 //! What a client answers who has a root alone and is sent the bytes of a multi-proof.
 
-use crate::samples::{EIGHT, Question, Sha, asked, leaves_of};
+use crate::samples::{EIGHT, Question, asked, leaves_of};
 use ark_base::error::{Error, SerializationError};
 use ark_base::serialize::canonical_bytes;
-use ark_merkle::{Config, LeafParam, MerkleTree, MultiPath, TwoToOneParam};
+use ark_merkle::{MerkleTree, MultiPath};
+use ark_trees::Sha256Arrays;
 use std::alloc::Global;
 
 // A proof is sent with zeros behind it to a client who was told the size, the indexes 1 and this one, and leaves of one byte.
@@ -16,20 +17,16 @@ struct Sent {
 }
 
 impl Question for Sent {
-    fn answer<P: Config<Leaf = Vec<u8>>>(
+    fn answer(
         &self,
         alloc: Global,
-        leaf_parameters: &LeafParam<P>,
-        pair_parameters: &TwoToOneParam<P>,
-        tree: &MerkleTree<P>,
+        tree: &MerkleTree<Sha256Arrays>,
         _leaves: &[Vec<u8>],
-        proof: &mut MultiPath<P>,
+        proof: &mut MultiPath<Sha256Arrays>,
     ) -> Result<(bool, bool), Error> {
         let bytes = bytes_sent(alloc, proof, self.zeros)?;
-        let accepted = judged::<P>(
+        let accepted = judged(
             alloc,
-            leaf_parameters,
-            pair_parameters,
             tree.root(),
             self.size,
             &[1, self.index],
@@ -41,7 +38,7 @@ impl Question for Sent {
 }
 
 // A proof's canonical bytes, with zeros behind them.
-fn bytes_sent<P: Config>(alloc: Global, proof: &MultiPath<P>, zeros: u8) -> Result<Vec<u8>, Error> {
+fn bytes_sent(alloc: Global, proof: &MultiPath<Sha256Arrays>, zeros: u8) -> Result<Vec<u8>, Error> {
     let mut bytes = canonical_bytes(alloc, proof)?;
     for _ in 0..zeros {
         bytes.push(0)?;
@@ -49,27 +46,16 @@ fn bytes_sent<P: Config>(alloc: Global, proof: &MultiPath<P>, zeros: u8) -> Resu
     Ok(bytes)
 }
 
-fn judged<P: Config<Leaf = Vec<u8>>>(
+fn judged(
     alloc: Global,
-    leaf_parameters: &LeafParam<P>,
-    pair_parameters: &TwoToOneParam<P>,
-    root: &P::InnerDigest,
+    root: &[u8; 32],
     size: usize,
     indexes: &[usize],
     bytes: &[u8],
     leaves: &[u8],
 ) -> Result<bool, Error> {
     let leaves = leaves_of(alloc, leaves)?;
-    MultiPath::<P>::verify_bytes(
-        alloc,
-        leaf_parameters,
-        pair_parameters,
-        root,
-        size,
-        indexes,
-        bytes,
-        &leaves,
-    )
+    MultiPath::<Sha256Arrays>::verify_bytes(alloc, &(), &(), root, size, indexes, bytes, &leaves)
 }
 
 const INVALID: Error = Error::SerializationError(SerializationError::InvalidData);
@@ -96,7 +82,7 @@ fn a_client_answers(rt: HostRuntime) {
             leaves,
         };
         assert_eq!(rt;
-            asked::<Sha, Sent>(rt.alloc(), &(), &(), &EIGHT, &[1, 6], &sent),
+            asked(rt.alloc(), &EIGHT, &[1, 6], &sent),
             wanted.map(|accepted| (accepted, true)),
             "{zeros} {size} {index}"
         );

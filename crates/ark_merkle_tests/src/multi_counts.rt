@@ -5,13 +5,14 @@ ghost use Rattle.ark_merkle_tests.specs.Weights.{weighted, weighted_sum};
 
 use crate::batches::numbers;
 use crate::samples::{
-    Sha, blanks, drawn, leaves_of, multi_proof_of, no_places, places_above, push_place, tree_over,
+    blanks, drawn, leaves_of, multi_proof_of, no_places, places_above, push_place, tree_over,
 };
 use ark_base::error::Error;
 use ark_groups::ff::{Fp, M257, PrimeField};
 use ark_merkle::multi_path::hasher::PairHasher;
 use ark_merkle::{Config, LeafParam, MerkleTree, MultiPath, TwoToOneParam};
 use ark_toy::Toy;
+use ark_trees::Sha256Strings;
 use rand::SeedableRng;
 use rand::rngs::SmallRng;
 use std::alloc::Global;
@@ -164,7 +165,7 @@ fn toys_are_counted(alloc: Global) -> Result<bool, Error> {
 
 fn byte_strings_are_counted(alloc: Global) -> Result<bool, Error> {
     let leaves = leaves_of(alloc, &BYTES)?;
-    drawn_are_counted::<Sha>(alloc, &(), &(), &leaves)
+    drawn_are_counted::<Sha256Strings>(alloc, &(), &(), &leaves)
 }
 
 const BYTES: [u8; 64] = [
@@ -201,10 +202,8 @@ type Place = (usize, u64, u64);
 // Another place, whose path has one digest.
 fn push_made(alloc: Global, proof: &mut MultiPath<Toy>, place: Place) -> Result<(), Error> {
     let (index, sibling, above) = place;
-    push_place(alloc, proof, 0, lone_element(alloc, above)?, index)?;
-    proof.leaf_siblings_hashes.pop();
-    proof.leaf_siblings_hashes.push(Fp::from_u64(sibling))?;
-    Ok(())
+    let sibling = Fp::from_u64(sibling);
+    push_place(proof, sibling, 0, lone_element(alloc, above)?, index)
 }
 
 fn lone_element(alloc: Global, number: u64) -> Result<Vec<Fp<M257>>, Error> {
@@ -278,16 +277,16 @@ fn made_proofs_ask_a_hasher(rt: HostRuntime) {
 }
 
 // Takes places at these indexes, all of whose paths have the same blank digests.
-fn take_blanks<P: Config>(
+fn take_blanks(
     alloc: Global,
-    proof: &mut MultiPath<P>,
+    proof: &mut MultiPath<Toy>,
     indexes: &[usize],
     len: usize,
 ) -> Result<(), Error> {
     let mut prefix = 0;
     for index in indexes {
         let suffix = blanks(alloc, len.saturating_sub(prefix))?;
-        push_place(alloc, proof, prefix, suffix, *index)?;
+        push_place(proof, Fp::from_u64(0), prefix, suffix, *index)?;
         prefix = len;
     }
     Ok(())

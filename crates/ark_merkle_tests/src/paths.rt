@@ -1,15 +1,14 @@
 //! Trees and their paths.
 
 use crate::plain;
-use crate::samples::{
-    EIGHT, Question, Sha, asked, digest_of, has_text, lone, multi_proof_of, proof_of,
-};
+use crate::samples::{EIGHT, Question, asked, has_text, multi_proof_of, proof_of};
 use ark_base::error::{Error, SerializationError};
 use ark_base::serialize::{CanonicalDeserialize, CanonicalItem, Duplicate, canonical_bytes};
 use ark_crh::CRHScheme;
 use ark_merkle::index::is_bit_set;
 use ark_merkle::pair::hash_bottom;
-use ark_merkle::{Config, LeafParam, MerkleTree, MultiPath, Path, TwoToOneParam};
+use ark_merkle::{IdentityDigestConverter, MerkleTree, MultiPath, Path};
+use ark_trees::{ArraySha256, Sha256Arrays, Sha256Strings};
 use std::alloc::Global;
 
 // What is asked of a tree and of paths.
@@ -23,35 +22,26 @@ enum Asked {
     Copies(usize, usize),
     // Whether a path of so many digests at this index is accepted with its top, and with 32 zeros.
     Long(usize, usize),
-    // Whether a path of one digest has this text.
-    Text(&'static str),
     // Whether lists of these indexes' paths, and of the multi-proofs of each of them, are read as they are written.
     Listed(&'static [usize]),
 }
 
 impl Question for Asked {
-    fn answer<P: Config<Leaf = Vec<u8>>>(
+    fn answer(
         &self,
         alloc: Global,
-        leaf_parameters: &LeafParam<P>,
-        pair_parameters: &TwoToOneParam<P>,
-        tree: &MerkleTree<P>,
+        tree: &MerkleTree<Sha256Arrays>,
         leaves: &[Vec<u8>],
-        _proof: &mut MultiPath<P>,
+        _proof: &mut MultiPath<Sha256Arrays>,
     ) -> Result<(bool, bool), Error> {
         match *self {
-            Asked::Defined(index) => {
-                eight_are_right(alloc, leaf_parameters, pair_parameters, tree, leaves, index)
-            }
-            Asked::At(index) => {
-                is_accepted_at(alloc, leaf_parameters, pair_parameters, tree, index, leaves)
-            }
+            Asked::Defined(index) => { eight_are_right(alloc, tree, leaves, index) }
+            Asked::At(index) => { is_accepted_at(alloc, tree, index, leaves) }
             Asked::Copies(index, other) => copies_in(alloc, tree, index, other),
             Asked::Long(digests, index) => {
-                let path = long_path::<P>(alloc, digests, index)?;
-                path_is_accepted(alloc, leaf_parameters, pair_parameters, &path)
+                let path = long_path(alloc, digests, index)?;
+                path_is_accepted(alloc, &path)
             }
-            Asked::Text(text) => Ok((path_has_text::<P>(alloc, text)?, true)),
             Asked::Listed(indexes) => Ok((
                 paths_are_listed(alloc, tree, indexes)?,
                 multi_proofs_are_listed(alloc, tree, indexes)?,
@@ -61,17 +51,16 @@ impl Question for Asked {
 }
 
 // Whether a digest is what the definition says of 2^(m + 1) leaf digests.
-fn is_defined<P: Config>(
+fn is_defined(
     alloc: Global,
-    pair_parameters: &TwoToOneParam<P>,
     m: usize,
-    digests: &[P::LeafDigest],
-    root: Option<&P::InnerDigest>,
+    digests: &[[u8; 32]],
+    root: Option<&[u8; 32]>,
 ) -> Result<bool, Error> {
     if m > 5 || digests.len() != 2 << m {
         return Err(Error::IncorrectInputLength(digests.len()));
     }
-    match plain::place::<P>(alloc, pair_parameters, m, digests)? {
+    match plain::place::<Sha256Arrays>(alloc, &(), m, digests)? {
         Ok(defined) => Ok(root.is_some_and(|root| *root == defined)),
         Err(refused) => Err(refused.1),
     }
@@ -91,11 +80,10 @@ pub fn digests_of<H: CRHScheme>(
 }
 
 // Whether a path in a tree of eight has the digests that the definition gives.
-fn is_beside<P: Config>(
+fn is_beside(
     alloc: Global,
-    pair_parameters: &TwoToOneParam<P>,
-    path: &Path<P>,
-    digests: &[P::LeafDigest],
+    path: &Path<Sha256Arrays>,
+    digests: &[[u8; 32]],
 ) -> Result<bool, Error> {
     let index = path.leaf_index;
     let half = digests.chunks(4).nth(index / 4 ^ 1).unwrap_or(&[]);
@@ -104,22 +92,20 @@ fn is_beside<P: Config>(
     Ok(
         digests.get(index ^ 1) == Some(&path.leaf_sibling_hash)
             && path.auth_path.len() == 2
-            && is_defined::<P>(alloc, pair_parameters, 1, half, first)?
-            && is_defined::<P>(alloc, pair_parameters, 0, quarter, last)?,
+            && is_defined(alloc, 1, half, first)?
+            && is_defined(alloc, 0, quarter, last)?,
     )
 }
 
 // Whether a path is accepted with the leaf of its index and with no other one.
-fn is_of_one_leaf<P: Config>(
+fn is_of_one_leaf(
     alloc: Global,
-    leaf_parameters: &LeafParam<P>,
-    pair_parameters: &TwoToOneParam<P>,
-    root: &P::InnerDigest,
-    path: &Path<P>,
-    leaves: &[P::Leaf],
+    root: &[u8; 32],
+    path: &Path<Sha256Arrays>,
+    leaves: &[Vec<u8>],
 ) -> Result<bool, Error> {
     for (other, leaf) in leaves.iter().enumerate() {
-        let accepted = path.verify(alloc, leaf_parameters, pair_parameters, root, leaf)?;
+        let accepted = path.verify(alloc, &(), &(), root, leaf)?;
         if accepted != (other == path.leaf_index) {
             return Ok(false);
         }
@@ -127,165 +113,124 @@ fn is_of_one_leaf<P: Config>(
     Ok(true)
 }
 
-fn is_right<P: Config>(
+fn is_right(
     alloc: Global,
-    leaf_parameters: &LeafParam<P>,
-    pair_parameters: &TwoToOneParam<P>,
-    root: &P::InnerDigest,
-    path: &Path<P>,
-    leaves: &[P::Leaf],
-    digests: &[P::LeafDigest],
+    root: &[u8; 32],
+    path: &Path<Sha256Arrays>,
+    leaves: &[Vec<u8>],
+    digests: &[[u8; 32]],
     index: usize,
 ) -> Result<bool, Error> {
     Ok(
         path.leaf_index == index
-            && is_beside(alloc, pair_parameters, path, digests)?
-            && is_of_one_leaf(alloc, leaf_parameters, pair_parameters, root, path, leaves)?,
+            && is_beside(alloc, path, digests)?
+            && is_of_one_leaf(alloc, root, path, leaves)?,
     )
 }
 
-fn path_is_right<P: Config>(
+fn path_is_right(
     alloc: Global,
-    leaf_parameters: &LeafParam<P>,
-    pair_parameters: &TwoToOneParam<P>,
-    tree: &MerkleTree<P>,
-    leaves: &[P::Leaf],
-    digests: &[P::LeafDigest],
+    tree: &MerkleTree<Sha256Arrays>,
+    leaves: &[Vec<u8>],
+    digests: &[[u8; 32]],
     index: usize,
 ) -> Result<bool, Error> {
     let path = proof_of(alloc, tree, index)?;
-    is_right(
-        alloc,
-        leaf_parameters,
-        pair_parameters,
-        tree.root(),
-        &path,
-        leaves,
-        digests,
-        index,
-    )
+    is_right(alloc, tree.root(), &path, leaves, digests, index)
 }
 
 // Whether a tree of eight has the place of the definition over these digests, and the path of an index.
-fn is_right_over<P: Config>(
+fn is_right_over(
     alloc: Global,
-    leaf_parameters: &LeafParam<P>,
-    pair_parameters: &TwoToOneParam<P>,
-    tree: &MerkleTree<P>,
-    leaves: &[P::Leaf],
-    digests: &[P::LeafDigest],
+    tree: &MerkleTree<Sha256Arrays>,
+    leaves: &[Vec<u8>],
+    digests: &[[u8; 32]],
     index: usize,
 ) -> Result<(bool, bool), Error> {
     Ok((
-        is_defined::<P>(alloc, pair_parameters, 2, digests, Some(tree.root()))?,
-        path_is_right(
-            alloc,
-            leaf_parameters,
-            pair_parameters,
-            tree,
-            leaves,
-            digests,
-            index,
-        )?,
+        is_defined(alloc, 2, digests, Some(tree.root()))?,
+        path_is_right(alloc, tree, leaves, digests, index)?,
     ))
 }
 
-fn eight_are_right<P: Config>(
+fn eight_are_right(
     alloc: Global,
-    leaf_parameters: &LeafParam<P>,
-    pair_parameters: &TwoToOneParam<P>,
-    tree: &MerkleTree<P>,
-    leaves: &[P::Leaf],
+    tree: &MerkleTree<Sha256Arrays>,
+    leaves: &[Vec<u8>],
     index: usize,
 ) -> Result<(bool, bool), Error> {
-    let digests = digests_of::<P::LeafHash>(alloc, leaf_parameters, leaves)?;
-    is_right_over(
-        alloc,
-        leaf_parameters,
-        pair_parameters,
-        tree,
-        leaves,
-        &digests,
-        index,
-    )
+    let digests = digests_of::<ArraySha256>(alloc, &(), leaves)?;
+    is_right_over(alloc, tree, leaves, &digests, index)
 }
 
-fn is_accepted_at<P: Config>(
+fn is_accepted_at(
     alloc: Global,
-    leaf_parameters: &LeafParam<P>,
-    pair_parameters: &TwoToOneParam<P>,
-    tree: &MerkleTree<P>,
+    tree: &MerkleTree<Sha256Arrays>,
     index: usize,
-    leaves: &[P::Leaf],
+    leaves: &[Vec<u8>],
 ) -> Result<(bool, bool), Error> {
     let Some(leaf) = leaves.get(2) else {
         return Err(Error::IncorrectInputLength(2));
     };
     let mut path = proof_of(alloc, tree, 2)?;
     path.leaf_index = index;
-    let accepted = path.verify(alloc, leaf_parameters, pair_parameters, tree.root(), leaf)?;
+    let accepted = path.verify(alloc, &(), &(), tree.root(), leaf)?;
     Ok((accepted, true))
 }
 
+// The digest of a number's lowest two bytes and zeros.
+fn numbered(number: usize) -> [u8; 32] {
+    let mut digest = [0; 32];
+    digest[0] = (number % 256) as u8;
+    digest[1] = (number / 256 % 256) as u8;
+    digest
+}
+
 // A path of distinct digests.
-fn long_path<P: Config>(alloc: Global, digests: usize, index: usize) -> Result<Path<P>, Error> {
+fn long_path(alloc: Global, digests: usize, index: usize) -> Result<Path<Sha256Arrays>, Error> {
     let mut auth_path = Vec::new(alloc);
     for level in 0..digests {
-        let bytes = [(level % 256) as u8, (level / 256 % 256) as u8];
-        auth_path.push(digest_of(alloc, &bytes)?)?;
+        auth_path.push(numbered(level))?;
     }
     Ok(Path {
-        leaf_sibling_hash: digest_of(alloc, &[7])?,
+        leaf_sibling_hash: [7; 32],
         auth_path,
         leaf_index: index,
     })
 }
 
 // The top that the definition gives a path for a leaf.
-fn top_of<P: Config>(
-    alloc: Global,
-    leaf_parameters: &LeafParam<P>,
-    pair_parameters: &TwoToOneParam<P>,
-    path: &Path<P>,
-    leaf: &P::Leaf,
-) -> Result<P::InnerDigest, Error> {
-    let leaf = P::LeafHash::evaluate(alloc, leaf_parameters, leaf)?;
+fn top_of(alloc: Global, path: &Path<Sha256Arrays>, leaf: &Vec<u8>) -> Result<[u8; 32], Error> {
+    let leaf = ArraySha256::evaluate(alloc, &(), leaf)?;
     let (left, right) = if is_bit_set(path.leaf_index, 0) {
         (&path.leaf_sibling_hash, &leaf)
     } else {
         (&leaf, &path.leaf_sibling_hash)
     };
-    let lowest = hash_bottom::<P>(alloc, pair_parameters, left, right)?;
-    plain::climb::<P::TwoToOneHash>(
+    let lowest = hash_bottom::<_, IdentityDigestConverter<[u8; 32]>, ArraySha256>(
         alloc,
-        pair_parameters,
-        path.leaf_index,
-        &path.auth_path,
-        &lowest,
-    )
+        &(),
+        left,
+        right,
+    )?;
+    plain::climb::<ArraySha256>(alloc, &(), path.leaf_index, &path.auth_path, &lowest)
 }
 
 // Whether a path is accepted with its top, and with 32 zeros.
-fn path_is_accepted<P: Config<Leaf = Vec<u8>>>(
-    alloc: Global,
-    leaf_parameters: &LeafParam<P>,
-    pair_parameters: &TwoToOneParam<P>,
-    path: &Path<P>,
-) -> Result<(bool, bool), Error> {
+fn path_is_accepted(alloc: Global, path: &Path<Sha256Arrays>) -> Result<(bool, bool), Error> {
     let leaf = Vec::new(alloc);
-    let zeros = digest_of::<P::InnerDigest>(alloc, &[0; 32])?;
-    let top = top_of(alloc, leaf_parameters, pair_parameters, path, &leaf)?;
+    let top = top_of(alloc, path, &leaf)?;
     Ok((
-        path.verify(alloc, leaf_parameters, pair_parameters, &top, &leaf)?,
-        path.verify(alloc, leaf_parameters, pair_parameters, &zeros, &leaf)?,
+        path.verify(alloc, &(), &(), &top, &leaf)?,
+        path.verify(alloc, &(), &(), &[0; 32], &leaf)?,
     ))
 }
 
 // Whether a tree and its copy have one root and the same path at an index, which is its own copy.
-fn copy_is_the_same<P: Config>(
+fn copy_is_the_same(
     alloc: Global,
-    tree: &MerkleTree<P>,
-    path: &Path<P>,
+    tree: &MerkleTree<Sha256Arrays>,
+    path: &Path<Sha256Arrays>,
     index: usize,
 ) -> Result<bool, Error> {
     let copy = tree.duplicate(alloc)?;
@@ -296,9 +241,9 @@ fn copy_is_the_same<P: Config>(
     )
 }
 
-fn copies_in<P: Config>(
+fn copies_in(
     alloc: Global,
-    tree: &MerkleTree<P>,
+    tree: &MerkleTree<Sha256Arrays>,
     index: usize,
     other: usize,
 ) -> Result<(bool, bool), Error> {
@@ -309,19 +254,21 @@ fn copies_in<P: Config>(
     ))
 }
 
-fn is_path_of<P: Config>(
+fn is_path_of(
     alloc: Global,
-    tree: &MerkleTree<P>,
-    path: &Path<P>,
+    tree: &MerkleTree<Sha256Arrays>,
+    path: &Path<Sha256Arrays>,
     index: usize,
 ) -> Result<bool, Error> {
     Ok(proof_of(alloc, tree, index)? == *path)
 }
 
-fn path_has_text<P: Config>(alloc: Global, text: &str) -> Result<bool, Error> {
-    let path = Path::<P> {
-        auth_path: lone(alloc, &[8, 9])?,
-        leaf_sibling_hash: digest_of(alloc, &[7])?,
+fn path_has_text(alloc: Global, text: &str) -> Result<bool, Error> {
+    let mut auth_path = Vec::new(alloc);
+    auth_path.push(vec![in alloc; 8, 9]?)?;
+    let path = Path::<Sha256Strings> {
+        auth_path,
+        leaf_sibling_hash: vec![in alloc; 7]?,
         leaf_index: 1,
     };
     has_text(alloc, &path, text)
@@ -345,9 +292,9 @@ fn are_listed<T: CanonicalItem + Drop>(alloc: Global, items: &[T]) -> Result<boo
     Ok(are_truncated::<T>(alloc, &bytes[..early]) && are_read::<T>(alloc, &bytes)?)
 }
 
-fn paths_are_listed<P: Config>(
+fn paths_are_listed(
     alloc: Global,
-    tree: &MerkleTree<P>,
+    tree: &MerkleTree<Sha256Arrays>,
     indexes: &[usize],
 ) -> Result<bool, Error> {
     let mut paths = Vec::new(alloc);
@@ -357,9 +304,9 @@ fn paths_are_listed<P: Config>(
     are_listed(alloc, &paths)
 }
 
-fn multi_proofs_are_listed<P: Config>(
+fn multi_proofs_are_listed(
     alloc: Global,
-    tree: &MerkleTree<P>,
+    tree: &MerkleTree<Sha256Arrays>,
     indexes: &[usize],
 ) -> Result<bool, Error> {
     let mut proofs = Vec::new(alloc);
@@ -372,7 +319,7 @@ fn multi_proofs_are_listed<P: Config>(
 const TEXT: &str = "Path { leaf_sibling_hash: [7], auth_path: [[8, 9]], leaf_index: 1 }";
 
 // The count of leaves, the question and the answer. Bits of an index past the path do not count.
-const QUESTIONS: [(usize, Asked, (bool, bool)); 13] = [
+const QUESTIONS: [(usize, Asked, (bool, bool)); 12] = [
     (8, Asked::Defined(0), (true, true)),
     (8, Asked::Defined(1), (true, true)),
     (8, Asked::Defined(2), (true, true)),
@@ -384,7 +331,6 @@ const QUESTIONS: [(usize, Asked, (bool, bool)); 13] = [
     (4, Asked::At(6), (true, true)),
     (4, Asked::At(7), (false, true)),
     (4, Asked::Copies(1, 2), (true, false)),
-    (2, Asked::Text(TEXT), (true, true)),
     (8, Asked::Listed(&[6, 1]), (true, true)),
 ];
 
@@ -392,7 +338,7 @@ const QUESTIONS: [(usize, Asked, (bool, bool)); 13] = [
 fn trees_against_the_definitions(rt: HostRuntime) {
     for (count, question, answer) in QUESTIONS {
         assert_eq!(rt;
-            asked::<Sha, Asked>(rt.alloc(), &(), &(), &EIGHT[..count], &[], &question),
+            asked(rt.alloc(), &EIGHT[..count], &[], &question),
             Ok(answer)
         );
     }
@@ -404,10 +350,15 @@ fn paths_of_any_length(rt: HostRuntime) {
         for index in [0usize, 1, 0x5555_5555_5555_5555, usize::MAX] {
             let question = Asked::Long(digests, index);
             assert_eq!(rt;
-                asked::<Sha, Asked>(rt.alloc(), &(), &(), &[0, 1], &[], &question),
+                asked(rt.alloc(), &[0, 1], &[], &question),
                 Ok((true, false)),
                 "{digests} digests, {index}"
             );
         }
     }
+}
+
+#[test]
+fn a_path_is_shown(rt: HostRuntime) {
+    assert_eq!(rt; path_has_text(rt.alloc(), TEXT), Ok(true));
 }

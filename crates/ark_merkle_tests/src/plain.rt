@@ -83,7 +83,12 @@ pub fn place<P: Config>(
     if m == 0 {
         return place_at(
             0,
-            hash_bottom::<P>(alloc, pair_parameters, &digests[0], &digests[1]),
+            hash_bottom::<_, P::LeafInnerDigestConverter, P::TwoToOneHash>(
+                alloc,
+                pair_parameters,
+                &digests[0],
+                &digests[1],
+            ),
         );
     }
     let (left, right) = digests.split_at(digests.len() / 2);

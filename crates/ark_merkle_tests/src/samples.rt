@@ -4,32 +4,13 @@ ghost use Rattle.std.specs.Prelude.{◌↔◌, ◌<◌, IsTrue};
 ghost use Rattle.std.specs.List.{All};
 
 use ark_base::error::Error;
-use ark_base::serialize::{DigestItem, canonical_bytes};
-use ark_crh::sha256::Sha256;
-use ark_merkle::{
-    Config, IdentityDigestConverter, LeafParam, MerkleTree, MultiPath, Path, TwoToOneParam,
-    is_tree_size,
-};
+use ark_base::serialize::DigestItem;
+use ark_merkle::{Config, LeafParam, MerkleTree, MultiPath, Path, TwoToOneParam, is_tree_size};
+use ark_trees::Sha256Arrays;
 use rand::{Rng, RngExt};
 use std::alloc::Global;
 use std::collections::BTreeSet;
 use std::fmt::Debug;
-
-pub struct Sha;
-
-impl Config for Sha {
-    type Leaf = Vec<u8>;
-
-    type LeafDigest = Vec<u8>;
-
-    type LeafInnerDigestConverter = IdentityDigestConverter<Vec<u8>>;
-
-    type InnerDigest = Vec<u8>;
-
-    type LeafHash = Sha256;
-
-    type TwoToOneHash = Sha256;
-}
 
 /// The bytes of eight leaves.
 pub const EIGHT: [u8; 8] = [0, 1, 2, 3, 4, 5, 6, 7];
@@ -56,78 +37,44 @@ pub fn tree_over<P: Config>(
     MerkleTree::<P>::new(alloc, leaf_parameters, pair_parameters, leaves)
 }
 
-/// The digest with these canonical bytes, their count before them.
-pub fn digest_of<D: DigestItem>(alloc: Global, bytes: &[u8]) -> Result<D, Error> {
-    let spelled = canonical_bytes(alloc, &bytes)?;
-    Ok(D::deserialize(alloc, &spelled)?.0)
-}
-
-/// A list of that digest alone.
-pub fn lone<D: DigestItem>(alloc: Global, bytes: &[u8]) -> Result<Vec<D>, Error> {
-    let mut lone = Vec::new(alloc);
-    lone.push(digest_of(alloc, bytes)?)?;
-    Ok(lone)
-}
-
 /// Whether a value has this text.
 pub fn has_text<T: Debug>(alloc: Global, value: &T, text: &str) -> Result<bool, Error> {
     Ok(format!(in alloc; "{value:?}")?.as_str() == text)
 }
 
 /// What is asked of a tree, its leaves and one of its multi-proofs. Each module asks through one type, and each answer is two
-/// truths: so a single function owns a tree, and what is asked is proved once for all hashes.
+/// truths: so a single function owns a tree.
 pub trait Question {
-    fn answer<P: Config<Leaf = Vec<u8>>>(
+    fn answer(
         &self,
         alloc: Global,
-        leaf_parameters: &LeafParam<P>,
-        pair_parameters: &TwoToOneParam<P>,
-        tree: &MerkleTree<P>,
+        tree: &MerkleTree<Sha256Arrays>,
         leaves: &[Vec<u8>],
-        proof: &mut MultiPath<P>,
+        proof: &mut MultiPath<Sha256Arrays>,
     ) -> Result<(bool, bool), Error>;
 }
 
 /// The answer of the tree of leaves of these bytes, and its multi-proof of these indexes.
-pub fn asked<P: Config<Leaf = Vec<u8>>, Q: Question>(
+pub fn asked<Q: Question>(
     alloc: Global,
-    leaf_parameters: &LeafParam<P>,
-    pair_parameters: &TwoToOneParam<P>,
     bytes: &[u8],
     indexes: &[usize],
     question: &Q,
 ) -> Result<(bool, bool), Error> {
     let leaves = leaves_of(alloc, bytes)?;
-    let tree = tree_over::<P>(alloc, leaf_parameters, pair_parameters, &leaves)?;
-    asked_of(
-        alloc,
-        leaf_parameters,
-        pair_parameters,
-        &tree,
-        &leaves,
-        indexes,
-        question,
-    )
+    let tree = tree_over::<Sha256Arrays>(alloc, &(), &(), &leaves)?;
+    asked_of(alloc, &tree, &leaves, indexes, question)
 }
 
-fn asked_of<P: Config<Leaf = Vec<u8>>, Q: Question>(
+fn asked_of<Q: Question>(
     alloc: Global,
-    leaf_parameters: &LeafParam<P>,
-    pair_parameters: &TwoToOneParam<P>,
-    tree: &MerkleTree<P>,
+    tree: &MerkleTree<Sha256Arrays>,
     leaves: &[Vec<u8>],
     indexes: &[usize],
     question: &Q,
 ) -> Result<(bool, bool), Error> {
     let mut proof = multi_proof_of(alloc, tree, indexes)?;
-    question.answer(
-        alloc,
-        leaf_parameters,
-        pair_parameters,
-        tree,
-        leaves,
-        &mut proof,
-    )
+    question.answer(alloc, tree, leaves, &mut proof)
 }
 
 /// The path of an index, if the tree has it.
@@ -203,19 +150,17 @@ pub fn no_places<P: Config>(alloc: Global) -> MultiPath<P> {
     }
 }
 
-/// Another place, beside a blank digest.
+/// Another place, with this digest beside its leaf.
 pub fn push_place<P: Config>(
-    alloc: Global,
     proof: &mut MultiPath<P>,
+    sibling: P::LeafDigest,
     prefix: usize,
     suffix: Vec<P::InnerDigest>,
     index: usize,
 ) -> Result<(), Error> {
     proof.auth_paths_suffixes.push(suffix)?;
     proof.auth_paths_prefix_lenghts.push(prefix)?;
-    proof
-        .leaf_siblings_hashes
-        .push(P::LeafDigest::blank(alloc))?;
+    proof.leaf_siblings_hashes.push(sibling)?;
     proof.leaf_indexes.push(index)?;
     Ok(())
 }

@@ -2,10 +2,11 @@
 
 ghost use Rattle.std.specs.Prelude.{◌<◌};
 
-use crate::samples::{EIGHT, Question, Sha, asked, digest_of, multi_proof_of, push_place};
+use crate::samples::{EIGHT, Question, asked, multi_proof_of, push_place};
 use ark_base::error::{Error, SerializationError};
-use ark_base::serialize::{CanonicalSerialize, DigestItem, Duplicate};
-use ark_merkle::{Config, LeafParam, MerkleTree, MultiPath, TwoToOneParam};
+use ark_base::serialize::{CanonicalSerialize, Duplicate};
+use ark_merkle::{MerkleTree, MultiPath};
+use ark_trees::Sha256Arrays;
 use std::alloc::Global;
 
 // What is asked of a multi-proof.
@@ -23,14 +24,12 @@ enum Asked {
 }
 
 impl Question for Asked {
-    fn answer<P: Config<Leaf = Vec<u8>>>(
+    fn answer(
         &self,
         alloc: Global,
-        leaf_parameters: &LeafParam<P>,
-        pair_parameters: &TwoToOneParam<P>,
-        tree: &MerkleTree<P>,
+        tree: &MerkleTree<Sha256Arrays>,
         leaves: &[Vec<u8>],
-        proof: &mut MultiPath<P>,
+        proof: &mut MultiPath<Sha256Arrays>,
     ) -> Result<(bool, bool), Error> {
         match *self {
             Asked::Sets(count) => Ok((
@@ -42,7 +41,7 @@ impl Question for Asked {
                 let root = tree.root();
                 shorten(alloc, tree, proof, place)?;
                 Ok((
-                    proof.verify(alloc, leaf_parameters, pair_parameters, root, leaves.iter())?,
+                    proof.verify(alloc, &(), &(), root, leaves.iter())?,
                     is_read(alloc, proof)?,
                 ))
             }
@@ -55,12 +54,12 @@ impl Question for Asked {
 }
 
 // Whether the canonical bytes of a multi-proof, with another byte behind them, are read strictly and to their end.
-fn is_read<P: Config>(alloc: Global, proof: &MultiPath<P>) -> Result<bool, Error> {
+fn is_read(alloc: Global, proof: &MultiPath<Sha256Arrays>) -> Result<bool, Error> {
     let mut bytes = Vec::new(alloc);
     proof.serialize(&mut bytes)?;
     let len = bytes.len();
     bytes.push(0)?;
-    match MultiPath::<P>::read_strict(alloc, &bytes) {
+    match MultiPath::<Sha256Arrays>::read_strict(alloc, &bytes) {
         Ok((_, used)) => Ok(used == len),
         Err(Error::SerializationError(SerializationError::InvalidData)) => Ok(false),
         Err(error) => Err(error),
@@ -79,9 +78,9 @@ fn indexes_of(alloc: Global, set: usize) -> Result<Vec<usize>, Error> {
 }
 
 // Whether the tree's own proof of a set of indexes is strict.
-fn set_is_strict<P: Config>(
+fn set_is_strict(
     alloc: Global,
-    tree: &MerkleTree<P>,
+    tree: &MerkleTree<Sha256Arrays>,
     set: usize,
 ) -> Result<bool, Error> {
     let indexes = indexes_of(alloc, set)?;
@@ -89,9 +88,9 @@ fn set_is_strict<P: Config>(
     is_read(alloc, &proof)
 }
 
-fn sets_are_strict<P: Config>(
+fn sets_are_strict(
     alloc: Global,
-    tree: &MerkleTree<P>,
+    tree: &MerkleTree<Sha256Arrays>,
     count: usize,
 ) -> Result<bool, Error> {
     for set in 1..count {
@@ -103,11 +102,9 @@ fn sets_are_strict<P: Config>(
 }
 
 // Damages a proof of four leaves in one of sixteen ways.
-fn damage<P: Config>(alloc: Global, proof: &mut MultiPath<P>, way: usize) -> Result<(), Error> {
+fn damage(alloc: Global, proof: &mut MultiPath<Sha256Arrays>, way: usize) -> Result<(), Error> {
     match way {
-        0 => proof
-            .leaf_siblings_hashes
-            .push(P::LeafDigest::blank(alloc))?,
+        0 => proof.leaf_siblings_hashes.push([0; 32])?,
         1 => proof.auth_paths_prefix_lenghts.push(0)?,
         2 => proof.auth_paths_suffixes.push(Vec::new(alloc))?,
         3 => proof.leaf_indexes.push(7)?,
@@ -127,9 +124,9 @@ fn damage<P: Config>(alloc: Global, proof: &mut MultiPath<P>, way: usize) -> Res
     Ok(())
 }
 
-fn damaged_is_strict<P: Config>(
+fn damaged_is_strict(
     alloc: Global,
-    proof: &MultiPath<P>,
+    proof: &MultiPath<Sha256Arrays>,
     way: usize,
 ) -> Result<bool, Error> {
     let mut copy = proof.duplicate(alloc)?;
@@ -137,7 +134,7 @@ fn damaged_is_strict<P: Config>(
     is_read(alloc, &copy)
 }
 
-fn none_is_strict<P: Config>(alloc: Global, proof: &MultiPath<P>) -> Result<bool, Error> {
+fn none_is_strict(alloc: Global, proof: &MultiPath<Sha256Arrays>) -> Result<bool, Error> {
     for way in 0..16usize {
         if damaged_is_strict(alloc, proof, way)? {
             return Ok(false);
@@ -147,10 +144,10 @@ fn none_is_strict<P: Config>(alloc: Global, proof: &MultiPath<P>) -> Result<bool
 }
 
 // Makes of the proof of all indexes that of the indexes up to a place, the last of which takes nothing from the path before.
-fn shorten<P: Config>(
+fn shorten(
     alloc: Global,
-    tree: &MerkleTree<P>,
-    proof: &mut MultiPath<P>,
+    tree: &MerkleTree<Sha256Arrays>,
+    proof: &mut MultiPath<Sha256Arrays>,
     place: usize,
 ) -> Result<(), Error> {
     let mut alone = multi_proof_of(alloc, tree, &[place])?;
@@ -165,27 +162,27 @@ fn shorten<P: Config>(
     Ok(())
 }
 
-fn fives<D: DigestItem>(alloc: Global, count: usize) -> Result<Vec<D>, Error> {
+fn fives(alloc: Global, count: usize) -> Result<Vec<[u8; 32]>, Error> {
     let mut fives = Vec::new(alloc);
     for _ in 0..count {
-        fives.push(digest_of(alloc, &[5])?)?;
+        fives.push([5; 32])?;
     }
     Ok(fives)
 }
 
-fn take_fives<P: Config>(
+fn take_fives(
     alloc: Global,
-    proof: &mut MultiPath<P>,
+    proof: &mut MultiPath<Sha256Arrays>,
     len: usize,
     prefix: usize,
     first: usize,
     last: usize,
 ) -> Result<(), Error> {
-    push_place(alloc, proof, 0, fives(alloc, len)?, 0)?;
+    push_place(proof, [0; 32], 0, fives(alloc, len)?, 0)?;
     for index in first..=last {
         push_place(
-            alloc,
             proof,
+            [0; 32],
             prefix,
             fives(alloc, len.saturating_sub(prefix))?,
             index,
@@ -225,9 +222,6 @@ const QUESTIONS: [(&[usize], Asked, (bool, bool)); 17] = [
 #[test]
 fn damaged_proofs_are_not_strict(rt: HostRuntime) {
     for (indexes, question, answer) in QUESTIONS {
-        assert_eq!(rt;
-            asked::<Sha, Asked>(rt.alloc(), &(), &(), &EIGHT, indexes, &question),
-            Ok(answer)
-        );
+        assert_eq!(rt; asked(rt.alloc(), &EIGHT, indexes, &question), Ok(answer));
     }
 }
