@@ -88,7 +88,11 @@ impl<P: Views> MerkleTree<P> {
         ensures { let hashes = P.hashes leaf_parameters.now pair_parameters.now in
             AnswersBy P.tree (tree_above hashes (digests_of P.LeafDigest.numbers leaves)) result }
     {
-        let rows = rows_above::<P>(alloc, pair_parameters, &leaves)?;
+        let rows = rows_above::<_, P::LeafInnerDigestConverter, P::TwoToOneHash>(
+            alloc,
+            pair_parameters,
+            &leaves,
+        )?;
         let leaf_parameters = leaf_parameters.duplicate(alloc)?;
         let pair_parameters = pair_parameters.duplicate(alloc)?;
         Ok(MerkleTree {

@@ -1,5 +1,6 @@
 -- The canonical bytes of multi-proofs: their four lists, one behind the other.
 use Rattle.std.specs.Prelude.{ℕ, List, map}
+use Rattle.std.specs.declared.vec.Vec.{Vec}
 use Rattle.ark_base.specs.Reading.{Reading}
 use Rattle.ark_base.specs.Spelling.{IsWord, word, word_at, IsCounted, counted_list, counted_list_at, BothFit, both, both_at, made_at}
 use Rattle.ark_paths.specs.Pair.{Digest}
@@ -8,6 +9,14 @@ use Rattle.ark_paths.specs.MultiPath.{MultiWay}
 -- a multi-proof by the canonical values of its digests
 abbrev pub MultiParts : Type 0 → Type 0 → Type 0
 MultiParts L U = List L × (List ℕ × (List (List U) × List ℕ))
+
+-- the four lists of a multi-proof, by those values
+abbrev pub parts_of : {A B L U Z : Type 0} → (A → L) → (B → U)
+    → List A → List ℕ → List (Vec B Z) → List ℕ → MultiParts L U
+parts_of leaf inner siblings prefixes suffixes indexes = (
+  map leaf siblings,
+  (map (λ n. n) prefixes, (map (λ suffix. map inner suffix.items) suffixes, map (λ n. n) indexes)),
+)
 
 abbrev pub MultiFits : {L U : Type 0} → (L → Type 0) → (U → Type 0) → MultiParts L U → Type 0
 MultiFits fits_leaf fits_inner =

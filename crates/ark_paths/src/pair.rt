@@ -2,10 +2,9 @@
 
 ghost use Rattle.std.specs.Prelude.{◌≡◌};
 ghost use Rattle.ark_base.specs.Outcome.{AnswersBy};
-ghost use Rattle.ark_paths.specs.Pair.{hash_in_order};
+ghost use Rattle.ark_paths.specs.Pair.{hash_in_order, pair_of};
 
-use crate::config::{Config, DigestConverter, TwoToOneParam};
-use crate::views::Views;
+use crate::config::DigestConverter;
 use ark_base::error::Error;
 use ark_base::serialize::{DigestItem, Numbered};
 use ark_crh::TwoToOneCRHScheme;
@@ -22,38 +21,37 @@ fn converted<L: DigestItem, I: Numbered, C: DigestConverter<L, I>>(
 }
 
 /// The hash of two leaf digests.
-pub fn hash_bottom<P: Config>(
+pub fn hash_bottom<L: DigestItem, C: DigestConverter<L, H::Input>, H: TwoToOneCRHScheme>(
     alloc: Global,
-    pair_parameters: &TwoToOneParam<P>,
-    left: &P::LeafDigest,
-    right: &P::LeafDigest,
-) -> Result<P::InnerDigest, Error>
-    ensures { let hash = (⟦<P as Views>⟧.pair pair_parameters.now).bottom in
-        let numbers = P.LeafDigest.numbers in
-        AnswersBy P.InnerDigest.numbers (hash (numbers left.now) (numbers right.now)) result }
+    pair_parameters: &H::Parameters,
+    left: &L,
+    right: &L,
+) -> Result<H::Output, Error>
+    ensures { let pair = pair_of C.conversion H.evaluated H.compressed pair_parameters.now in
+        AnswersBy H.Output.numbers (pair.bottom (L.numbers left.now) (L.numbers right.now)) result }
 {
-    let left = converted::<_, _, P::LeafInnerDigestConverter>(alloc, left)?;
-    let right = converted::<_, _, P::LeafInnerDigestConverter>(alloc, right)?;
-    P::TwoToOneHash::evaluate(alloc, pair_parameters, &left, &right)
+    let left = converted::<_, _, C>(alloc, left)?;
+    let right = converted::<_, _, C>(alloc, right)?;
+    H::evaluate(alloc, pair_parameters, &left, &right)
 }
 
 /// The hash of a leaf digest and the one beside it.
-pub fn hash_leaves<P: Config>(
+pub fn hash_leaves<L: DigestItem, C: DigestConverter<L, H::Input>, H: TwoToOneCRHScheme>(
     alloc: Global,
-    pair_parameters: &TwoToOneParam<P>,
+    pair_parameters: &H::Parameters,
     is_right: bool,
-    digest: &P::LeafDigest,
-    sibling: &P::LeafDigest,
-) -> Result<P::InnerDigest, Error>
-    ensures { let hash = (⟦<P as Views>⟧.pair pair_parameters.now).bottom in
-        let own = P.LeafDigest.numbers digest.now in
-        let beside = P.LeafDigest.numbers sibling.now in
-        AnswersBy P.InnerDigest.numbers (hash_in_order hash is_right own beside) result }
+    digest: &L,
+    sibling: &L,
+) -> Result<H::Output, Error>
+    ensures { let pair = pair_of C.conversion H.evaluated H.compressed pair_parameters.now in
+        let own = L.numbers digest.now in
+        let beside = L.numbers sibling.now in
+        AnswersBy H.Output.numbers (hash_in_order pair.bottom is_right own beside) result }
 {
     if is_right {
-        hash_bottom::<P>(alloc, pair_parameters, sibling, digest)
+        hash_bottom::<L, C, H>(alloc, pair_parameters, sibling, digest)
     } else {
-        hash_bottom::<P>(alloc, pair_parameters, digest, sibling)
+        hash_bottom::<L, C, H>(alloc, pair_parameters, digest, sibling)
     }
 }
 

@@ -6,16 +6,17 @@ ghost use Rattle.ark_base.specs.Outcome.{Answers, AnswersBy};
 ghost use Rattle.ark_paths.specs.Bind.{BindsLeaf};
 ghost use Rattle.ark_paths.specs.PathBytes.{PathParts, PathFits, path_spelling, path_at};
 ghost use Rattle.ark_paths.specs.Laws.Path.{path_laws, path_is_long};
-ghost use Rattle.ark_paths.specs.Path.{Way, climb, verdict};
+ghost use Rattle.ark_paths.specs.Pair.{pair_of};
+ghost use Rattle.ark_paths.specs.Path.{Way, climb, path_root, verdict};
 
-use crate::config::{Config, LeafParam, TwoToOneParam};
+use crate::config::{Config, DigestConverter, LeafParam, TwoToOneParam};
 use crate::digests::copies_of;
 use crate::index::is_bit_set;
 use crate::pair::{hash_leaves, hash_upper};
 use crate::views::Views;
 use ark_base::error::Error;
 use ark_base::serialize::{
-    Canonical, CanonicalDeserialize, CanonicalItem, CanonicalSerialize, Duplicate,
+    Canonical, CanonicalDeserialize, CanonicalItem, CanonicalSerialize, DigestItem, Duplicate,
 };
 use ark_crh::{CRHScheme, TwoToOneCRHScheme};
 use std::alloc::Global;
@@ -164,10 +165,37 @@ pub fn verify_leaf<P: Views>(
         Answers (verdict hashes.pair (hashes.leaf leaf.now) way given) result }
 {
     let digest = P::LeafHash::evaluate(alloc, leaf_parameters, leaf)?;
-    let is_right = is_bit_set(index, 0);
-    let lowest = hash_leaves::<P>(alloc, pair_parameters, is_right, &digest, sibling)?;
-    let top = climb::<P::TwoToOneHash>(alloc, pair_parameters, index, above, lowest)?;
+    let top = top_of::<_, P::LeafInnerDigestConverter, P::TwoToOneHash>(
+        alloc,
+        pair_parameters,
+        &digest,
+        sibling,
+        above,
+        index,
+    )?;
     Ok(top == *root)
+}
+
+// What a path gives for a leaf's digest.
+fn top_of<L: DigestItem, C: DigestConverter<L, H::Input>, H: TwoToOneCRHScheme>(
+    alloc: Global,
+    pair_parameters: &H::Parameters,
+    digest: &L,
+    sibling: &L,
+    above: &[H::Output],
+    index: usize,
+) -> Result<H::Output, Error>
+    ensures { let pair = pair_of C.conversion H.evaluated H.compressed pair_parameters.now in
+        let way : Way = record {
+          sibling = L.numbers sibling.now;
+          above = map H.Output.numbers above.now;
+          index = index;
+        } in
+        AnswersBy H.Output.numbers (path_root pair way (L.numbers digest.now)) result }
+{
+    let is_right = is_bit_set(index, 0);
+    let lowest = hash_leaves::<L, C, H>(alloc, pair_parameters, is_right, digest, sibling)?;
+    climb::<H>(alloc, pair_parameters, index, above, lowest)
 }
 
 // What the digests beside a way make of the lowest one on it.

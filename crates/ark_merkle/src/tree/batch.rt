@@ -4,6 +4,7 @@ ghost use Rattle.std.specs.Prelude.{◌≡◌, ◌<◌, ℕ, [], ◌∷◌, map,
 ghost use Rattle.std.specs.List.{All};
 ghost use Rattle.ark_base.specs.Outcome.{AnswersBy};
 ghost use Rattle.ark_paths.specs.Index.{log2};
+ghost use Rattle.ark_paths.specs.Pair.{pair_of};
 ghost use Rattle.ark_paths.specs.Root.{leaves_with_root};
 ghost use Rattle.ark_paths.specs.Rows.{IsTree};
 ghost use Rattle.ark_paths.specs.Above.{count_above};
@@ -15,8 +16,9 @@ use crate::tree::MerkleTree;
 use crate::tree::changes::{change_rows, hash_reached_leaves, put_changes};
 use crate::tree::levels::Levels;
 use ark_base::error::Error;
-use ark_crh::CRHScheme;
-use ark_paths::config::{Config, TwoToOneParam};
+use ark_base::serialize::DigestItem;
+use ark_crh::{CRHScheme, TwoToOneCRHScheme};
+use ark_paths::config::DigestConverter;
 use ark_paths::views::Views;
 use std::alloc::Global;
 use std::collections::BTreeMap;
@@ -62,7 +64,7 @@ impl<P: Views> MerkleTree<P> {
             → with_leaves (P.tree self.old) changes.now ≡ Ok tree }
     {
         let digests = hash_last::<P::LeafHash>(alloc, &self.leaf_parameters, changes)?;
-        change_leaves::<P>(
+        change_leaves::<_, P::LeafInnerDigestConverter, P::TwoToOneHash>(
             alloc,
             &self.pair_parameters,
             &mut self.leaves,
@@ -74,30 +76,30 @@ impl<P: Views> MerkleTree<P> {
 
 // Puts changed leaf digests in their places, and in the rows above them what these then hash to; answers how many pairs were
 // hashed.
-fn change_leaves<P: Config>(
+fn change_leaves<L: DigestItem, C: DigestConverter<L, H::Input>, H: TwoToOneCRHScheme>(
     alloc: Global,
-    pair_parameters: &TwoToOneParam<P>,
-    leaves: &mut [P::LeafDigest],
-    rows: &mut Levels<P::InnerDigest>,
-    changes: Vec<(usize, P::LeafDigest)>,
+    pair_parameters: &H::Parameters,
+    leaves: &mut [L],
+    rows: &mut Levels<H::Output>,
+    changes: Vec<(usize, L)>,
 ) -> Result<usize, Error>
-    requires tree { let h = ⟦<P as Views>⟧.pair pair_parameters.now in
-        IsTree h (map P.LeafDigest.numbers leaves.old) rows.old }
+    requires tree { let h = pair_of C.conversion H.evaluated H.compressed pair_parameters.now in
+        IsTree h (map L.numbers leaves.old) rows.old }
     requires changes { AreChanges 0 (length leaves.old) changes.items }
-    ensures leaves { let h = ⟦<P as Views>⟧.pair pair_parameters.now in
-        let numbers = P.LeafDigest.numbers in
+    ensures leaves { let h = pair_of C.conversion H.evaluated H.compressed pair_parameters.now in
+        let numbers = L.numbers in
         let new = puts (map numbers leaves.old) (seen_changes numbers changes.items) in
         AnswersBy (λ _. map numbers leaves.new) (leaves_with_root h new) result }
-    ensures tree { let h = ⟦<P as Views>⟧.pair pair_parameters.now in
-        IsTree h (map P.LeafDigest.numbers leaves.new) rows.new }
+    ensures tree { let h = pair_of C.conversion H.evaluated H.compressed pair_parameters.now in
+        IsTree h (map L.numbers leaves.new) rows.new }
     ensures count { IfOk result (λ count.
         count ≡ count_over (length rows.old) (map (λ c. c.0) changes.items)) }
     ensures refused { OnErr result (leaves.new ≡ leaves.old) }
     ensures refused_rows { OnErr result (rows.new ≡ rows.old) }
 {
-    let above = hash_reached_leaves::<P>(alloc, pair_parameters, leaves, &changes)?;
+    let above = hash_reached_leaves::<L, C, H>(alloc, pair_parameters, leaves, &changes)?;
     let hashed = above.len();
-    let more = change_rows::<P::TwoToOneHash>(alloc, pair_parameters, rows, 0, above)?;
+    let more = change_rows::<H>(alloc, pair_parameters, rows, 0, above)?;
     put_changes(leaves, changes);
     Ok(hashed + more)
 }

@@ -4,8 +4,8 @@ ghost use Rattle.std.specs.Prelude.{◌≡◌, ◌<◌, ◌%◌, ◌^◌, ◌&&�
 ghost use Rattle.ark_base.specs.Outcome.{Answers, AnswersBy};
 ghost use Rattle.ark_paths.specs.Bind.{difference, CollidesAt};
 ghost use Rattle.ark_paths.specs.Index.{neighbour};
-ghost use Rattle.ark_paths.specs.Pair.{digest_eq};
-ghost use Rattle.ark_paths.specs.Path.{path_root};
+ghost use Rattle.ark_paths.specs.Pair.{digest_eq, pair_of};
+ghost use Rattle.ark_paths.specs.Path.{Way, path_root};
 ghost use Rattle.ark_paths.specs.Rows.{IsTree, digests_of};
 ghost use Rattle.ark_paths.specs.Tree.{HoldsLeaf};
 ghost use Rattle.ark_merkle.specs.declared.tree.bind.Binding.TheVariants.{Rejected, Stands, Differs};
@@ -15,8 +15,8 @@ use crate::tree::MerkleTree;
 use crate::tree::levels::Levels;
 use ark_base::error::Error;
 use ark_base::serialize::DigestItem;
-use ark_crh::CRHScheme;
-use ark_paths::config::{Config, TwoToOneParam};
+use ark_crh::{CRHScheme, TwoToOneCRHScheme};
+use ark_paths::config::DigestConverter;
 use ark_paths::digests::are_same;
 use ark_paths::index::{is_bit_set, neighbour_of};
 use ark_paths::pair::{hash_leaves, hash_upper};
@@ -62,13 +62,15 @@ impl<P: Views> MerkleTree<P> {
             return Err(Error::IncorrectInputLength(path.auth_path.len()));
         }
         let digest = P::LeafHash::evaluate(alloc, &self.leaf_parameters, leaf)?;
-        let (top, difference) = compare::<P>(
+        let (top, difference) = compare::<_, P::LeafInnerDigestConverter, P::TwoToOneHash>(
             alloc,
             &self.pair_parameters,
             &self.leaves,
             &self.rows,
-            path,
             &digest,
+            &path.leaf_sibling_hash,
+            &path.auth_path,
+            path.leaf_index,
         )?;
         Ok(binding_of(are_same(&top, self.root()), difference))
     }
@@ -88,53 +90,62 @@ fn binding_of(is_root: bool, difference: Option<usize>) -> Binding
 }
 
 // What a path gives for a leaf digest, and the first level from the root down at which it differs from the tree.
-fn compare<P: Config>(
+fn compare<L: DigestItem, C: DigestConverter<L, H::Input>, H: TwoToOneCRHScheme>(
     alloc: Global,
-    pair_parameters: &TwoToOneParam<P>,
-    leaves: &[P::LeafDigest],
-    rows: &Levels<P::InnerDigest>,
-    path: &Path<P>,
-    digest: &P::LeafDigest,
-) -> Result<(P::InnerDigest, Option<usize>), Error>
-    requires tree { let h = ⟦<P as Views>⟧.pair pair_parameters.now in
-        IsTree h (map P.LeafDigest.numbers leaves.now) rows.now }
+    pair_parameters: &H::Parameters,
+    leaves: &[L],
+    rows: &Levels<H::Output>,
+    digest: &L,
+    sibling: &L,
+    above: &[H::Output],
+    path_index: usize,
+) -> Result<(H::Output, Option<usize>), Error>
+    requires tree { let h = pair_of C.conversion H.evaluated H.compressed pair_parameters.now in
+        IsTree h (map L.numbers leaves.now) rows.now }
     requires fits { length leaves.now < 2 ^ 64 }
-    requires count { length rows.now ≡ suc (length path.now.auth_path.items) }
-    ensures top { let h = ⟦<P as Views>⟧.pair pair_parameters.now in
-        let top = path_root h (⟦<P as Views>⟧.way path.now) (P.LeafDigest.numbers digest.now) in
-        AnswersBy (λ r. P.InnerDigest.numbers r.0) top result }
-    ensures difference { let h = ⟦<P as Views>⟧.pair pair_parameters.now in
-        let way = ⟦<P as Views>⟧.way path.now in
-        let tree = map P.LeafDigest.numbers leaves.now in
-        IfOk result (λ r. r.1 ≡ difference h tree way (P.LeafDigest.numbers digest.now)) }
+    requires count { length rows.now ≡ suc (length above.now) }
+    ensures top { let h = pair_of C.conversion H.evaluated H.compressed pair_parameters.now in
+        let way : Way = record {
+          sibling = L.numbers sibling.now;
+          above = map H.Output.numbers above.now;
+          index = path_index;
+        } in
+        AnswersBy (λ r. H.Output.numbers r.0) (path_root h way (L.numbers digest.now)) result }
+    ensures differs { let h = pair_of C.conversion H.evaluated H.compressed pair_parameters.now in
+        let way : Way = record {
+          sibling = L.numbers sibling.now;
+          above = map H.Output.numbers above.now;
+          index = path_index;
+        } in
+        let tree = map L.numbers leaves.now in
+        IfOk result (λ r. r.1 ≡ difference h tree way (L.numbers digest.now)) }
 {
-    let index = path.leaf_index % leaves.len();
-    let sibling = &path.leaf_sibling_hash;
+    let index = path_index % leaves.len();
     let is_own = are_both(
         digest,
         &leaves[index],
         sibling,
         &leaves[neighbour_of(index)],
     );
-    let mut difference = other_at(is_own, path.auth_path.len(), None);
-    let mut current = hash_leaves::<P>(
+    let mut difference = other_at(is_own, above.len(), None);
+    let mut current = hash_leaves::<L, C, H>(
         alloc,
         pair_parameters,
-        is_bit_set(path.leaf_index, 0),
+        is_bit_set(path_index, 0),
         digest,
         sibling,
     )?;
-    for step in 0..path.auth_path.len() {
-        let level = path.auth_path.len() - 1 - step;
-        let sibling = &path.auth_path[level];
+    for step in 0..above.len() {
+        let level = above.len() - 1 - step;
+        let sibling = &above[level];
         let place = index >> (step + 1);
         let own = rows.at(step, place);
         let is_own = are_both(&current, own, sibling, rows.at(step, neighbour_of(place)));
         difference = other_at(is_own, level, difference);
-        current = hash_upper::<P::TwoToOneHash>(
+        current = hash_upper::<H>(
             alloc,
             pair_parameters,
-            is_bit_set(path.leaf_index, step + 1),
+            is_bit_set(path_index, step + 1),
             &current,
             sibling,
         )?;

@@ -3,16 +3,17 @@
 ghost use Rattle.std.specs.Prelude.{◌≡◌, ◌+◌, ◌-◌, ◌^◌, ℕ, suc, map, length, IfOk};
 ghost use Rattle.ark_base.specs.Outcome.{Answers, AnswersBy};
 ghost use Rattle.ark_paths.specs.Index.{IsTreeSize};
+ghost use Rattle.ark_paths.specs.Pair.{pair_of};
 ghost use Rattle.ark_paths.specs.Root.{all_hashes, upper_levels};
 ghost use Rattle.ark_paths.specs.Rows.{row_above, rows_from, rows_of, digests_of};
 ghost use Rattle.ark_merkle.specs.LevelOrder.{rows_in_turn};
 
 use crate::tree::levels::Levels;
 use ark_base::error::Error;
+use ark_base::serialize::DigestItem;
 use ark_crh::{CRHScheme, TwoToOneCRHScheme};
-use ark_paths::config::{Config, TwoToOneParam};
+use ark_paths::config::DigestConverter;
 use ark_paths::pair::hash_bottom;
-use ark_paths::views::Views;
 use std::alloc::Global;
 
 /// The digests of leaves.
@@ -34,18 +35,18 @@ pub fn hash_all<H: CRHScheme>(
 }
 
 // The hashes of the neighbours among leaf digests, in a list with room for all digests above them.
-fn pair_leaves<P: Config>(
+fn pair_leaves<L: DigestItem, C: DigestConverter<L, H::Input>, H: TwoToOneCRHScheme>(
     alloc: Global,
-    pair_parameters: &TwoToOneParam<P>,
-    digests: &[P::LeafDigest],
-) -> Result<Vec<P::InnerDigest>, Error>
-    ensures { let hash = (⟦<P as Views>⟧.pair pair_parameters.now).bottom in
-        let row = map P.LeafDigest.numbers digests.now in
-        AnswersBy (digests_of P.InnerDigest.numbers) (row_above hash row) result }
+    pair_parameters: &H::Parameters,
+    digests: &[L],
+) -> Result<Vec<H::Output>, Error>
+    ensures { let pair = pair_of C.conversion H.evaluated H.compressed pair_parameters.now in
+        let row = map L.numbers digests.now in
+        AnswersBy (digests_of H.Output.numbers) (row_above pair.bottom row) result }
 {
     let mut row = Vec::with_capacity(alloc, digests.len().saturating_sub(1))?;
     for place in 0..digests.len() / 2 {
-        row.push(hash_bottom::<P>(
+        row.push(hash_bottom::<L, C, H>(
             alloc,
             pair_parameters,
             &digests[2 * place],
@@ -79,17 +80,17 @@ fn pair_rows<H: TwoToOneCRHScheme>(
 }
 
 /// The rows above leaf digests.
-pub fn rows_above<P: Config>(
+pub fn rows_above<L: DigestItem, C: DigestConverter<L, H::Input>, H: TwoToOneCRHScheme>(
     alloc: Global,
-    pair_parameters: &TwoToOneParam<P>,
-    digests: &[P::LeafDigest],
-) -> Result<Levels<P::InnerDigest>, Error>
+    pair_parameters: &H::Parameters,
+    digests: &[L],
+) -> Result<Levels<H::Output>, Error>
     requires { IsTreeSize (length digests.now) }
-    ensures { let leaves = map P.LeafDigest.numbers digests.now in
-        let rows = rows_of (⟦<P as Views>⟧.pair pair_parameters.now) (upper_levels leaves) leaves in
-        Answers rows result }
+    ensures { let pair = pair_of C.conversion H.evaluated H.compressed pair_parameters.now in
+        let leaves = map L.numbers digests.now in
+        Answers (rows_of pair (upper_levels leaves) leaves) result }
 {
-    let row = pair_leaves::<P>(alloc, pair_parameters, digests)?;
-    let rows = pair_rows::<P::TwoToOneHash>(alloc, pair_parameters, row)?;
+    let row = pair_leaves::<L, C, H>(alloc, pair_parameters, digests)?;
+    let rows = pair_rows::<H>(alloc, pair_parameters, row)?;
     Ok(Levels::of_rows(rows, digests.len().ilog2() as usize))
 }

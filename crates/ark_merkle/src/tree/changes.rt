@@ -2,6 +2,7 @@
 
 ghost use Rattle.std.specs.Prelude.{◌≡◌, ◌<◌, ◌≤◌, ◌-◌, ◌/◌, ◌%◌, ◌^◌, ℕ, [], ◌∷◌, map, length, take, drop, get_or, set, slice_index, IfOk, OnErr};
 ghost use Rattle.ark_base.specs.Outcome.{AnswersBy};
+ghost use Rattle.ark_paths.specs.Pair.{pair_of};
 ghost use Rattle.ark_paths.specs.Rows.{rows_from};
 ghost use Rattle.ark_merkle.specs.Batch.{hashed_changes, puts};
 ghost use Rattle.ark_merkle.specs.Changed.{seen_changes, AreChanges, AreHashed, couples_reached, count_over};
@@ -10,10 +11,9 @@ use crate::tree::levels::Levels;
 use ark_base::error::Error;
 use ark_base::serialize::DigestItem;
 use ark_crh::TwoToOneCRHScheme;
-use ark_paths::config::{Config, TwoToOneParam};
+use ark_paths::config::DigestConverter;
 use ark_paths::index::is_bit_set;
 use ark_paths::pair::hash_bottom;
-use ark_paths::views::Views;
 use std::alloc::Global;
 use std::mem::swap;
 
@@ -101,19 +101,19 @@ fn hash_reached<H: TwoToOneCRHScheme>(
 }
 
 /// The hashes of the couples of leaf digests that changes reach.
-pub fn hash_reached_leaves<P: Config>(
+pub fn hash_reached_leaves<L: DigestItem, C: DigestConverter<L, H::Input>, H: TwoToOneCRHScheme>(
     alloc: Global,
-    pair_parameters: &TwoToOneParam<P>,
-    leaves: &[P::LeafDigest],
-    changes: &[(usize, P::LeafDigest)],
-) -> Result<Vec<(usize, P::InnerDigest)>, Error>
+    pair_parameters: &H::Parameters,
+    leaves: &[L],
+    changes: &[(usize, L)],
+) -> Result<Vec<(usize, H::Output)>, Error>
     requires even { length leaves.now % 2 ≡ 0 }
     requires changes { AreChanges 0 (length leaves.now) changes.now }
-    ensures { let numbers = P.LeafDigest.numbers in
+    ensures { let numbers = L.numbers in
         let couples = couples_reached (map numbers leaves.now) (seen_changes numbers changes.now) in
-        let hash = (⟦<P as Views>⟧.pair pair_parameters.now).bottom in
-        AnswersBy (λ above. seen_changes P.InnerDigest.numbers above.items)
-        (hashed_changes (λ couple. hash couple.0 couple.1) couples) result }
+        let pair = pair_of C.conversion H.evaluated H.compressed pair_parameters.now in
+        AnswersBy (λ above. seen_changes H.Output.numbers above.items)
+        (hashed_changes (λ couple. pair.bottom couple.0 couple.1) couples) result }
 {
     let mut above = Vec::with_capacity(alloc, changes.len())?;
     let mut next = 0;
@@ -124,7 +124,7 @@ pub fn hash_reached_leaves<P: Config>(
             right,
             behind,
         } = reached_by(leaves, changes, next);
-        let up = hash_bottom::<P>(alloc, pair_parameters, left, right)?;
+        let up = hash_bottom::<L, C, H>(alloc, pair_parameters, left, right)?;
         above.push((place, up))?;
         next = behind;
     }

@@ -2,6 +2,7 @@
 
 ghost use Rattle.std.specs.Prelude.{◌≡◌, ◌<◌, ◌/◌, ◌^◌, ℕ, suc, [], true, false, map, length, get_or, set, IfOk, OnErr, Ok};
 ghost use Rattle.ark_base.specs.Outcome.{Answers, AnswersBy};
+ghost use Rattle.ark_paths.specs.Pair.{pair_of};
 ghost use Rattle.ark_paths.specs.Root.{root, upper_levels};
 ghost use Rattle.ark_paths.specs.Rows.{IsTree, HoldsIndex, digests_of};
 ghost use Rattle.ark_merkle.specs.Update.{with_leaf, new_root, change_agrees, ChangesWay};
@@ -10,8 +11,8 @@ use crate::tree::MerkleTree;
 use crate::tree::levels::Levels;
 use ark_base::error::Error;
 use ark_base::serialize::DigestItem;
-use ark_crh::CRHScheme;
-use ark_paths::config::{Config, TwoToOneParam};
+use ark_crh::{CRHScheme, TwoToOneCRHScheme};
+use ark_paths::config::{Config, DigestConverter};
 use ark_paths::digests::are_same;
 use ark_paths::index::{is_bit_set, neighbour_of};
 use ark_paths::pair::{hash_leaves, hash_upper};
@@ -82,7 +83,7 @@ impl<P: Config> MerkleTree<P> {
             (new_root h hashed index self.now.leaves) result }
     {
         let digest = P::LeafHash::evaluate(alloc, &self.leaf_parameters, leaf)?;
-        let way = new_way::<P>(
+        let way = new_way::<_, P::LeafInnerDigestConverter, P::TwoToOneHash>(
             alloc,
             &self.pair_parameters,
             &self.leaves,
@@ -108,34 +109,34 @@ impl<P: Config> MerkleTree<P> {
 }
 
 // The digests on the way of an index, the lowest first, where this digest stands there.
-fn new_way<P: Config>(
+fn new_way<L: DigestItem, C: DigestConverter<L, H::Input>, H: TwoToOneCRHScheme>(
     alloc: Global,
-    pair_parameters: &TwoToOneParam<P>,
-    leaves: &[P::LeafDigest],
-    rows: &Levels<P::InnerDigest>,
+    pair_parameters: &H::Parameters,
+    leaves: &[L],
+    rows: &Levels<H::Output>,
     index: usize,
-    digest: &P::LeafDigest,
-) -> Result<Vec<P::InnerDigest>, Error>
-    requires tree { let h = ⟦<P as Views>⟧.pair pair_parameters.now in
-        IsTree h (map P.LeafDigest.numbers leaves.now) rows.now }
+    digest: &L,
+) -> Result<Vec<H::Output>, Error>
+    requires tree { let h = pair_of C.conversion H.evaluated H.compressed pair_parameters.now in
+        IsTree h (map L.numbers leaves.now) rows.now }
     requires index { index < length leaves.now }
     requires fits { length leaves.now < 2 ^ 64 }
-    ensures way { let h = ⟦<P as Views>⟧.pair pair_parameters.now in
-        let old = map P.LeafDigest.numbers leaves.now in
-        IfOk result (λ way. ChangesWay h old index (P.LeafDigest.numbers digest.now)
-        (digests_of P.InnerDigest.numbers way)) }
-    ensures root { let h = ⟦<P as Views>⟧.pair pair_parameters.now in
-        let old = map P.LeafDigest.numbers leaves.now in
-        AnswersBy (λ way. get_or (digests_of P.InnerDigest.numbers way) (upper_levels old) [])
-        (root h (set old index (P.LeafDigest.numbers digest.now))) result }
+    ensures way { let h = pair_of C.conversion H.evaluated H.compressed pair_parameters.now in
+        let old = map L.numbers leaves.now in
+        IfOk result (λ way. ChangesWay h old index (L.numbers digest.now)
+        (digests_of H.Output.numbers way)) }
+    ensures root { let h = pair_of C.conversion H.evaluated H.compressed pair_parameters.now in
+        let old = map L.numbers leaves.now in
+        AnswersBy (λ way. get_or (digests_of H.Output.numbers way) (upper_levels old) [])
+        (root h (set old index (L.numbers digest.now))) result }
 {
     let mut way = Vec::with_capacity(alloc, rows.len())?;
     let sibling = &leaves[neighbour_of(index)];
     let is_right = is_bit_set(index, 0);
-    way.push(hash_leaves::<P>(alloc, pair_parameters, is_right, digest, sibling)?)?;
+    way.push(hash_leaves::<L, C, H>(alloc, pair_parameters, is_right, digest, sibling)?)?;
     for level in 1..rows.len() {
         let sibling = rows.at(level - 1, neighbour_of(index >> level));
-        let up = hash_upper::<P::TwoToOneHash>(
+        let up = hash_upper::<H>(
             alloc,
             pair_parameters,
             is_bit_set(index, level),

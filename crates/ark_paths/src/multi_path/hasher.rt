@@ -74,7 +74,12 @@ impl<'a, P: Config> PairHasher<P::LeafDigest, P::InnerDigest> for PairCount<'a, 
         right: &P::LeafDigest,
     ) -> Result<P::InnerDigest, Error> {
         self.calls = self.calls.saturating_add(1);
-        hash_bottom::<P>(alloc, self.pair_parameters, left, right)
+        hash_bottom::<_, P::LeafInnerDigestConverter, P::TwoToOneHash>(
+            alloc,
+            self.pair_parameters,
+            left,
+            right,
+        )
     }
 
     fn upper(

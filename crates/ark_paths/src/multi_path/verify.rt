@@ -180,7 +180,7 @@ impl<P: Views> MultiPath<P> {
     {
         let mut above = Vec::new(alloc);
         let mut table = Table::new(alloc);
-        judge_all::<P, T, I>(
+        judge_all::<P::LeafHash, P::InnerDigest, T, I>(
             alloc,
             leaf_parameters,
             hasher,

@@ -9,7 +9,6 @@ ghost use Rattle.ark_paths.specs.Pair.{Digest, HashPair};
 ghost use Rattle.ark_paths.specs.Path.{Way, path_root, verdict};
 ghost use Rattle.ark_paths.specs.Table.{HoldsTree, IsTable, IsWalked};
 
-use crate::config::{Config, LeafParam};
 use crate::index::is_bit_set;
 use crate::multi_path::hasher::PairHasher;
 use crate::multi_path::places::next_place;
@@ -101,42 +100,40 @@ fn top_of<'a, L: DigestItem, D: DigestItem, T: PairHasher<L, D>>(
 }
 
 /// Whether a leaf's digest gives the root along the path of these parts.
-pub fn judge<'a, P: Config, T: PairHasher<P::LeafDigest, P::InnerDigest>>(
+pub fn judge<'a, H: CRHScheme, D: DigestItem, T: PairHasher<H::Output, D>>(
     alloc: Global,
-    leaf_parameters: &LeafParam<P>,
+    leaf_parameters: &H::Parameters,
     hasher: &mut T,
-    table: &mut Table<'a, P::LeafDigest, P::InnerDigest>,
-    root: &P::InnerDigest,
-    leaf: &P::Leaf,
-    sibling: &'a P::LeafDigest,
-    above: &[&'a P::InnerDigest],
+    table: &mut Table<'a, H::Output, D>,
+    root: &D,
+    leaf: &H::Input,
+    sibling: &'a H::Output,
+    above: &[&'a D],
     index: usize,
 ) -> Result<bool, Error>
-    requires { IsTable P.LeafDigest.numbers P.InnerDigest.numbers (T.pair hasher.old) table.old }
+    requires { IsTable H.Output.numbers D.numbers (T.pair hasher.old) table.old }
     ensures answer { let way : Way = record {
-      sibling = P.LeafDigest.numbers sibling.now;
-      above = map (λ x. P.InnerDigest.numbers x.now) above.now;
+      sibling = H.Output.numbers sibling.now;
+      above = map (λ x. D.numbers x.now) above.now;
       index = index;
     } in
-        let given = P.InnerDigest.numbers root.now in
-        let hashed = P.LeafHash.meaning leaf_parameters.now leaf.now in
+        let given = D.numbers root.now in
+        let hashed = H.meaning leaf_parameters.now leaf.now in
         Answers (verdict (T.pair hasher.old) hashed way given) result }
     ensures walked { let way : Way = record {
-      sibling = P.LeafDigest.numbers sibling.now;
-      above = map (λ x. P.InnerDigest.numbers x.now) above.now;
+      sibling = H.Output.numbers sibling.now;
+      above = map (λ x. D.numbers x.now) above.now;
       index = index;
     } in
-        let hashed = P.LeafHash.meaning leaf_parameters.now leaf.now in
-        OnOk result (IsWalked P.LeafDigest.numbers P.InnerDigest.numbers (T.pair hasher.old) way
+        let hashed = H.meaning leaf_parameters.now leaf.now in
+        OnOk result (IsWalked H.Output.numbers D.numbers (T.pair hasher.old) way
         (length above.now) hashed table.old table.new (T.counted hasher.old)
         (T.counted hasher.new)) }
     ensures same { T.pair hasher.new ≡ T.pair hasher.old }
     ensures most { T.counted hasher.new ≤ T.counted hasher.old + suc (length above.now) }
 {
-    let digest = P::LeafHash::evaluate(alloc, leaf_parameters, leaf)?;
-    let top = top_of::<P::LeafDigest, P::InnerDigest, T>(
-        alloc, hasher, table, digest, sibling, above, index,
-    )?;
+    let digest = H::evaluate(alloc, leaf_parameters, leaf)?;
+    let top = top_of::<H::Output, D, T>(alloc, hasher, table, digest, sibling, above, index)?;
     Ok(table.made[top] == *root)
 }
 
@@ -145,45 +142,46 @@ pub fn judge<'a, P: Config, T: PairHasher<P::LeafDigest, P::InnerDigest>>(
 pub fn judge_all<
     'a,
     'b,
-    P: Config,
-    T: PairHasher<P::LeafDigest, P::InnerDigest>,
-    I: Iterator<Item = &'b P::Leaf>,
+    H: CRHScheme,
+    D: DigestItem,
+    T: PairHasher<H::Output, D>,
+    I: Iterator<Item = &'b H::Input>,
 >(
     alloc: Global,
-    leaf_parameters: &LeafParam<P>,
+    leaf_parameters: &H::Parameters,
     hasher: &mut T,
-    root: &P::InnerDigest,
+    root: &D,
     leaves: &mut I,
-    siblings: &'a [P::LeafDigest],
+    siblings: &'a [H::Output],
     prefixes: &[usize],
-    suffixes: &'a [Vec<P::InnerDigest>],
+    suffixes: &'a [Vec<D>],
     indexes: &[usize],
-    above: &mut Vec<&'a P::InnerDigest>,
-    table: &mut Table<'a, P::LeafDigest, P::InnerDigest>,
+    above: &mut Vec<&'a D>,
+    table: &mut Table<'a, H::Output, D>,
 ) -> Result<bool, Error>
 where
-    P::Leaf: 'b,
+    H::Input: 'b,
     requires leaves { I.can_next leaves.old }
     requires above { above.old.items ≡ [] }
     requires made { (h : HashPair)
-        → IsTable P.LeafDigest.numbers P.InnerDigest.numbers h table.old }
+        → IsTable H.Output.numbers D.numbers h table.old }
     requires none { table.old.made.items ≡ [] }
     requires holds { (pairs : ℕ × ℕ → Digest × Digest) (levels : ℕ)
-        → HoldsTree P.LeafDigest.numbers P.InnerDigest.numbers pairs levels 0 0 [] table.old }
-    ensures answer { let hash = P.LeafHash.meaning leaf_parameters.now in
-        let given = P.InnerDigest.numbers root.now in
-        let proof = listed_way P.LeafDigest.numbers P.InnerDigest.numbers siblings.now
+        → HoldsTree H.Output.numbers D.numbers pairs levels 0 0 [] table.old }
+    ensures answer { let hash = H.meaning leaf_parameters.now in
+        let given = D.numbers root.now in
+        let proof = listed_way H.Output.numbers D.numbers siblings.now
         prefixes.now suffixes.now indexes.now in
         AnswersOver I.next_gives (λ leaf. hash leaf.now) leaves.old leaves.new
         (λ digests. multi_verdict (T.pair hasher.old) digests proof given) result }
-    ensures exact { let hash = P.LeafHash.meaning leaf_parameters.now in
-        let given = P.InnerDigest.numbers root.now in
-        let proof = listed_way P.LeafDigest.numbers P.InnerDigest.numbers siblings.now
+    ensures exact { let hash = H.meaning leaf_parameters.now in
+        let given = D.numbers root.now in
+        let proof = listed_way H.Output.numbers D.numbers siblings.now
         prefixes.now suffixes.now indexes.now in
         IfOk result (λ accepted. accepted ≡ true
         → CountsOwn I.next_gives (λ leaf. hash leaf.now) leaves.old (T.pair hasher.old)
         given proof (T.counted hasher.old) (T.counted hasher.new)) }
-    ensures most { let proof = listed_way P.LeafDigest.numbers P.InnerDigest.numbers siblings.now
+    ensures most { let proof = listed_way H.Output.numbers D.numbers siblings.now
         prefixes.now suffixes.now indexes.now in
         T.counted hasher.new ≤ T.counted hasher.old + most_asked proof }
     ensures same { T.pair hasher.new ≡ T.pair hasher.old }
@@ -193,7 +191,7 @@ where
     }
     for place in 0..indexes.len() {
         let next = next_place(siblings, prefixes, suffixes, place, leaves, above)?;
-        let accepted = judge::<P, T>(
+        let accepted = judge::<H, D, T>(
             alloc,
             leaf_parameters,
             hasher,

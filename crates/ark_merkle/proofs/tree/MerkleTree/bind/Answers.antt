@@ -40,7 +40,7 @@ returns-in_err-top-clause-answer g c =
     let seen : Way = record { sibling = leaf_numbers path.leaf_sibling_hash; above = map numbers path.auth_path.items; index = path.leaf_index } in
     let same = seen-tree _ _ c.self.view_is g.P.LeafHash.CRHScheme.meaning pair g.P.Views.tree g.met.P.Views.tree_is in
     let high : length seen.above ≡ upper_levels (digests_of leaf_numbers inside.leaves) = omega (arith, length-map path.auth_path.items numbers, path.auth_path.ok.0, c.if-len-above.false, c.len.ensures, c.len-above.ensures.count, c.self.invariant.count) in
-    passed_on _ _ c.from_residual-in_err-top.result c.in_err-top.field-0.0 c.from_residual-in_err-top.ensures.1 c.in_err-top.ensures.top
+    passed_on _ _ c.from_residual-in_err-top.result c.in_err-top.field-0.0 c.from_residual-in_err-top.ensures.1 (rw c.deref-2.ensures.value at c.in_err-top.ensures.top)
     (bound-refused _ _ same seen (g.P.Views.way path) (sym (ap (λ (f : _ → Way). f path) g.met.P.Views.way_is)) high c.args.leaf.now (leaf_numbers c.in_ok-digest.digest) c.in_ok-digest.ensures
     _ (root-top (pair inside.pair_parameters) (digests_of leaf_numbers inside.leaves) rows c.self.invariant) c.in_err-top.field-0.0)
 
@@ -55,10 +55,11 @@ returns-clause-answer g c =
     let seen : Way = record { sibling = leaf_numbers path.leaf_sibling_hash; above = map numbers path.auth_path.items; index = path.leaf_index } in
     let same = seen-tree _ _ c.self.view_is g.P.LeafHash.CRHScheme.meaning pair g.P.Views.tree g.met.P.Views.tree_is in
     let high : length seen.above ≡ upper_levels (digests_of leaf_numbers inside.leaves) = omega (arith, length-map path.auth_path.items numbers, path.auth_path.ok.0, c.if-len-above.false, c.len.ensures, c.len-above.ensures.count, c.self.invariant.count) in
-    let found : c.in_ok-top.difference ≡ difference (pair inside.pair_parameters) (digests_of leaf_numbers inside.leaves) seen (leaf_numbers c.in_ok-digest.digest)
-    = subst (λ (ls : List _). c.in_ok-top.difference ≡ difference (pair inside.pair_parameters) (map leaf_numbers ls) seen (leaf_numbers c.in_ok-digest.digest)) c.deref.ensures.value c.in_ok-top.ensures.difference in
+    let of_parts = λ (ls : List _) (above : List _). c.in_ok-top.difference ≡ difference (pair inside.pair_parameters) (map leaf_numbers ls) (record { sibling = seen.sibling; above = map numbers above; index = seen.index }) (leaf_numbers c.in_ok-digest.digest) in
+    let lent : of_parts c.deref.result.now path.auth_path.items = subst (of_parts c.deref.result.now) c.deref-2.ensures.value c.in_ok-top.ensures.differs in
+    let found : c.in_ok-top.difference ≡ difference (pair inside.pair_parameters) (digests_of leaf_numbers inside.leaves) seen (leaf_numbers c.in_ok-digest.digest) = subst (λ (ls : List _). of_parts ls path.auth_path.items) c.deref.ensures.value lent in
     bound-ok _ _ same seen (g.P.Views.way path) (sym (ap (λ (f : _ → Way). f path) g.met.P.Views.way_is)) high c.args.leaf.now (leaf_numbers c.in_ok-digest.digest) c.in_ok-digest.ensures
-    (numbers c.root.result.now) c.root.ensures (numbers c.in_ok-top.top) c.in_ok-top.ensures.top c.are_same.result c.are_same.ensures c.in_ok-top.difference found c.binding_of.result c.binding_of.ensures
+    (numbers c.root.result.now) c.root.ensures (numbers c.in_ok-top.top) (rw c.deref-2.ensures.value at c.in_ok-top.ensures.top) c.are_same.result c.are_same.ensures c.in_ok-top.difference found c.binding_of.result c.binding_of.ensures
 
 pub returns-clause-accepted : goal.returns-clause-accepted
 returns-clause-accepted g c =

@@ -8,10 +8,10 @@ use Rattle.ark_merkle.proofs.tree.bind.compare.Given as goal
 -- what the path gives so far, and the first level at which it differs so far
 abbrev pub invariant-loop-step : goal.invariant-loop-step
 invariant-loop-step g l =
-    let two = g.P.TwoToOneHash.TwoToOneCRHScheme in
-    let h = pair_of g.P.LeafInnerDigestConverter.DigestConverter.conversion two.evaluated two.compressed l.pair_parameters in
-    let numbers = g.P.InnerDigest.Numbered.numbers in
-    let leaf_numbers = g.P.LeafDigest.Numbered.numbers in
-    let way : Way = record { sibling = leaf_numbers l.path.leaf_sibling_hash; above = map numbers l.path.auth_path.items; index = l.path.leaf_index } in
-    let m = length l.path.auth_path.items in
+    let two = g.H.TwoToOneCRHScheme in
+    let h = pair_of g.C.DigestConverter.conversion two.evaluated two.compressed l.pair_parameters in
+    let numbers = g.H.Output.Numbered.numbers in
+    let leaf_numbers = g.L.Numbered.numbers in
+    let way : Way = record { sibling = leaf_numbers l.sibling; above = map numbers l.above; index = l.path_index } in
+    let m = length l.above in
     (top_from h way (leaf_numbers l.digest) (m - l.step) ≡ Ok (numbers l.current)) × (l.difference ≡ difference_from h (map leaf_numbers l.leaves) way (leaf_numbers l.digest) (m - l.step) (suc l.step))

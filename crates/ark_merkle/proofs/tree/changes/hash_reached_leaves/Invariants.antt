@@ -8,10 +8,10 @@ use Rattle.ark_merkle.proofs.tree.changes.hash_reached_leaves.Given as goal
 -- the couples before the next change are hashed
 abbrev pub invariant-loop-next : goal.invariant-loop-next
 invariant-loop-next g l =
-    let numbers = g.P.LeafDigest.Numbered.numbers in
-    let hash = bottom_pair g.P.LeafInnerDigestConverter.DigestConverter.conversion (g.P.TwoToOneHash.TwoToOneCRHScheme.evaluated l.pair_parameters) in
+    let numbers = g.L.Numbered.numbers in
+    let hash = bottom_pair g.C.DigestConverter.conversion (g.H.TwoToOneCRHScheme.evaluated l.pair_parameters) in
     let from = λ (n : _). couples_reached (map numbers l.leaves) (seen_changes numbers (drop n l.changes)) in
-    (l.next ≤ length l.changes) × AreHashedSoFar (of_couple hash) (from 0) (seen_changes g.P.InnerDigest.Numbered.numbers l.above.items) (from l.next)
+    (l.next ≤ length l.changes) × AreHashedSoFar (of_couple hash) (from 0) (seen_changes g.H.Output.Numbered.numbers l.above.items) (from l.next)
 
 abbrev pub decreases-loop-next : goal.decreases-loop-next
 decreases-loop-next g l = length l.changes - l.next

@@ -9,9 +9,9 @@ use Rattle.ark_paths.proofs.multi_path.walk.judge_all.Given as goal
 -- the places before are accepted with the leaves that were taken
 abbrev pub invariant-loop-place : goal.invariant-loop-place
 invariant-loop-place g l =
-    let leaf = g.P.LeafDigest.Numbered.numbers in
-    let inner = g.P.InnerDigest.Numbered.numbers in
-    let hash = g.P.LeafHash.CRHScheme.meaning l.leaf_parameters in
+    let leaf = g.H.Output.Numbered.numbers in
+    let inner = g.D.Numbered.numbers in
+    let hash = g.H.CRHScheme.meaning l.leaf_parameters in
     let h = g.T.PairHasher.pair l.fn.hasher in
     let m = listed_way leaf inner l.siblings l.prefixes l.suffixes l.indexes in
     let above = map (λ x. inner x.now) l.above.items in
