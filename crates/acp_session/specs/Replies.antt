@@ -61,8 +61,8 @@ text (Bound binding) = binding_text binding
 text (MultiProof bytes) = codes "multi " ++ encode_lower bytes
 text (Strict indexes) = codes "strict " ++ decimal indexes
 
--- A lack of memory may be told in place of this reply. It never does where the reply is decided before anything is asked
--- for.
+-- A lack of memory may be told in place of this reply. It never does where the reply is decided before anything is
+-- asked for.
 abbrev pub MayLackMemory : Reply → Type 0
 MayLackMemory BadLine = ⊥
 MayLackMemory NoTree = ⊥

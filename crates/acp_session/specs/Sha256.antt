@@ -22,5 +22,6 @@ sha_language = record {
   path_bytes = way_bytes (counted_list byte) (counted_list byte);
   path_reading = way_at (λ bytes. bytes) (λ bytes. bytes) (counted_list_at byte_at) (counted_list_at byte_at);
   multi_path_bytes = multi_bytes (counted_list byte) (counted_list byte);
-  multi_path_reading = multi_way_at (λ bytes. bytes) (λ bytes. bytes) (counted_list_at byte_at) (counted_list_at byte_at);
+  multi_path_reading =
+      multi_way_at (λ bytes. bytes) (λ bytes. bytes) (counted_list_at byte_at) (counted_list_at byte_at);
 }

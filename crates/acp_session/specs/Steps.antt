@@ -179,9 +179,9 @@ mcheck_reply l (Some digests) bytes leaves =
 
 -- ---- how many pairs a check hashes
 
--- A check of a multi-proof with some leaves under a root may hash this many pairs: no more than those of each index, and
--- of a tree's own with its leaves each place above these once. Past the largest `usize` none is counted, and leaves past
--- the last index are ignored.
+-- A check of a multi-proof with some leaves under a root may hash this many pairs: no more than those of each
+-- index, and of a tree's own with its leaves each place above these once. Past the largest `usize` none is counted,
+-- and leaves past the last index are ignored.
 pub record MayHash (h : HashPair) (root_given : Digest) (leaves : List (Outcome Digest)) (m : MultiWay) (pairs : ℕ)
     : Type 0 where
   pub most : pairs ≤ most_asked m
@@ -199,7 +199,8 @@ abbrev pub mcount_reply : Language → List Digest → List ℕ → List (Outcom
 mcount_reply l digests bytes leaves pairs = finding_reply (λ holds. Counted holds pairs)
     (finding (multi_path_holds l.pair_hashes digests leaves) (l.multi_path_reading bytes))
 
--- The bytes are those of that reply with a number of pairs that the check may hash, or say in its place that memory lacks.
+-- The bytes are those of that reply with a number of pairs that the check may hash, or say in its place that memory
+-- lacks.
 abbrev pub TellsCount : Language → State → List ℕ → List (Outcome Digest) → List ℕ → Type 0
 TellsCount l None proof leaves bytes = bytes ≡ text NoTree
 TellsCount l (Some digests) proof leaves bytes =
@@ -225,8 +226,8 @@ Takes before exact after bytes =
     ((bytes ≡ text exact.0) × (after ≡ exact.1))
     ⊎ ((bytes ≡ text (Refused OutOfMemory)) × (after ≡ before) × MayLackMemory exact.0)
 
--- The tree before, what is asked, the tree after it and the bytes of the reply: as its one turn has them, but for a count
--- of pairs, which leaves the tree and has no one reply.
+-- The tree before, what is asked, the tree after it and the bytes of the reply: as its one turn has them, but for a
+-- count of pairs, which leaves the tree and has no one reply.
 abbrev pub TakesTurn : Language → State → Request → State → List ℕ → Type 0
 TakesTurn l before (NewTree leaves) = Takes before (tree_turn l before leaves)
 TakesTurn l before (NewTreeOfDigests digests) = Takes before (digests_turn l before digests)

@@ -32,7 +32,8 @@ dot_product (m ∷ row) [] = 0
 dot_product (m ∷ row) (x ∷ xs) = m * x + dot_product row xs
 
 -- Canonical values tell the numbers of elements, and bytes are read as those of a number below p.
-pub record ReadsNumbers {F V : Type 0} (p bits : ℕ) (view : F → V) (reads : List ℕ → Reading V) (value : F → ℕ) : Type 0 where
+pub record ReadsNumbers {F V : Type 0} (p bits : ℕ) (view : F → V) (reads : List ℕ → Reading V)
+    (value : F → ℕ) : Type 0 where
   pub number : V → ℕ
   pub of_view : (x : F) → number (view x) ≡ value x
   pub reading : (bytes : List ℕ) → made_at number reads bytes ≡ below_at p (bytes_for bits) bytes

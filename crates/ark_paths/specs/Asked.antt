@@ -18,8 +18,8 @@ RisesBy more before after = min after 18446744073709551615 ≡ min (before + mor
 abbrev pub most_asked : MultiWay → ℕ
 most_asked m = length m.indexes * suc (path_length m)
 
--- A multi-proof with some leaves is a tree's own: the root is that of these leaf digests, the paths are theirs, and each
--- leaf's digest is the one at its index.
+-- A multi-proof with some leaves is a tree's own: the root is that of these leaf digests, the paths are theirs, and
+-- each leaf's digest is the one at its index.
 pub record IsOwn (h : HashPair) (digests : List Digest) (root_given : Digest) (leaves : List (Outcome Digest))
     (m : MultiWay) : Type 0 where
   pub size : IsTreeSize (length digests)

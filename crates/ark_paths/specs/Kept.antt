@@ -1,5 +1,5 @@
--- Entries by their places, and those among them that are at hand. A place is a level, counted from the lowest pairs, and a
--- number on it.
+-- Entries by their places, and those among them that are at hand. A place is a level, counted from the lowest
+-- pairs, and a number on it.
 use Rattle.std.specs.Prelude.{◌≡◌, ◌==◌, ◌&&◌, ◌-◌, ℕ, zero, suc, Bool, List, [], ◌∷◌, Some}
 use Rattle.std.specs.BTreeMap.{BTreeMap, get}
 use Rattle.std.specs.List.{slice_get}

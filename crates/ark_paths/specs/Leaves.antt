@@ -19,8 +19,8 @@ pub record AnswersOver {S A B C : Type 0} (steps : S → Option A → S → Type
       ((last : S) × Yields steps start taken last × steps last None behind × Answers (outcome (map view taken)) result)
       ⊎ (Yields steps start taken behind × ((more : List B) → Answers (outcome (map view taken ++ more)) result))
 
--- Why no item is taken for a place: the place has no path, whatever the index; or the iterator has no more; or memory ran
--- out behind the next item.
+-- Why no item is taken for a place: the place has no path, whatever the index; or the iterator has no more; or
+-- memory ran out behind the next item.
 abbrev pub TakesNone : {S A : Type 0} → (S → Option A → S → Type 0) → S → S → (ℕ → Option Way) → ℕ → Error → Type 0
 TakesNone {A = A} steps start behind path place error =
     (((index : ℕ) → path index ≡ None) × (behind ≡ start) × (error ≡ IncorrectInputLength place))

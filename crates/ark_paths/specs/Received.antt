@@ -18,8 +18,8 @@ use Rattle.ark_paths.specs.Root.{root}
 abbrev pub provided : Bool → Error → Outcome (Unit {0})
 provided holds error = if holds then Ok tt else Err error
 
--- The refusals of a proof that was read, in their order: that of bytes behind it, that of paths with another length than
--- those of a tree of this size, that of an index that was not asked for.
+-- The refusals of a proof that was read, in their order: that of bytes behind it, that of paths with another length
+-- than those of a tree of this size, that of an index that was not asked for.
 abbrev pub is_fit : ℕ → List ℕ → ℕ → Bool → Outcome (Unit {0})
 is_fit size behind above is_asked = do
   _ ← provided (length behind == 0) (OfBytes InvalidData)
@@ -39,15 +39,15 @@ received_path size index reading = do
   read ← reading_outcome reading
   fit_path size index read
 
--- what such a path says of a leaf: the refusal of the path, of the leaf's hash and of the path's pairs, else whether the
--- path gives the root
+-- what such a path says of a leaf: the refusal of the path, of the leaf's hash and of the path's pairs, else
+-- whether the path gives the root
 abbrev pub received_verdict : {A : Type 0} → Hashes A → Digest → ℕ → ℕ → A → Reading Way → Outcome Bool
 received_verdict hashes root_given size index leaf reading = do
   way ← received_path size index reading
   verdict hashes.pair (hashes.leaf leaf) way root_given
 
--- The index is below the size, and in every tree of these hashes with this root and size the leaf stands at it, or pairs
--- of a path for it and of the tree collide.
+-- The index is below the size, and in every tree of these hashes with this root and size the leaf stands at it, or
+-- pairs of a path for it and of the tree collide.
 abbrev pub StandsAt : {A : Type 0} → Hashes A → Digest → ℕ → ℕ → A → Way → Type 0
 StandsAt hashes root_given size index leaf way =
     (index < size) × ((digests : List Digest) → length digests ≡ size → root hashes.pair digests ≡ Ok root_given
@@ -66,8 +66,8 @@ fit_multi_path size indexes read = do
   _ ← is_fit size read.1 (path_length read.0) (bytes_eq read.0.indexes indexes)
   Ok read.0
 
--- such a multi-proof from a reading: the refusal of the size comes first, then the first fault of the bytes, then that it
--- is not strict
+-- such a multi-proof from a reading: the refusal of the size comes first, then the first fault of the bytes, then
+-- that it is not strict
 abbrev pub received_multi_path : ℕ → List ℕ → Reading MultiWay → Outcome MultiWay
 received_multi_path size indexes reading = do
   _ ← provided (is_tree_size size) (IncorrectInputLength size)

@@ -90,8 +90,8 @@ HasPairs h way digest pairs = (level : ℕ) → level ≤ length way.above
 
 -- ---- what asking leaves
 
--- What a pair that was asked at a place leaves: the number of a digest; those that were made before, and at most one more;
--- their entries, of a tree where they were such; and a count that rose by as many.
+-- What a pair that was asked at a place leaves: the number of a digest; those that were made before, and at most
+-- one more; their entries, of a tree where they were such; and a count that rose by as many.
 pub record IsServed {X D : Type 0} (numbers : X → Digest) (inner : D → Digest) (hash : Digest → Digest → Outcome Digest)
     (digests later : List Digest) (place : ℕ × ℕ) (pair : Pair X) (before after : List D) (entries next : Entries X)
     (start end number : ℕ) : Type 0 where

@@ -42,7 +42,8 @@ drawn_elements draw windows stream =
     (((draw stream).0, others.0), others.1)
 
 -- they are those of the elements that are drawn
-abbrev pub AreAllDrawn : {G W : Type 0} → Group G → (Stream → G × Stream) → ℕ → Windows W → Stream → Generators G → Type 0
+abbrev pub AreAllDrawn : {G W : Type 0} → Group G → (Stream → G × Stream) → ℕ → Windows W → Stream → Generators G
+    → Type 0
 AreAllDrawn g draw bits windows stream lists =
     let elements = (drawn_elements draw windows stream).0 in
     AreOf g bits windows elements.0 elements.1 lists

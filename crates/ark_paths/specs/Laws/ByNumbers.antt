@@ -28,7 +28,8 @@ made_at-err make reads bytes fault read = rw read refl
 
 module _ {L U : Type 0} (leaf_of : L → Digest) (inner_of : U → Digest)
     (leaf_at : List ℕ → Reading L) (inner_at : List ℕ → Reading U) (bytes : List ℕ) (fault : SerializationError) where
-  pub way_at-err : path_at leaf_at inner_at bytes ≡ Err fault → way_at leaf_of inner_of leaf_at inner_at bytes ≡ Err fault
+  pub way_at-err : path_at leaf_at inner_at bytes ≡ Err fault
+      → way_at leaf_of inner_of leaf_at inner_at bytes ≡ Err fault
   way_at-err = made_at-err (way_of leaf_of inner_of) (path_at leaf_at inner_at) bytes fault
 
   pub multi_way_at-err : multi_path_at leaf_at inner_at bytes ≡ Err fault

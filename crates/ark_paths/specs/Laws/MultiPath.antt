@@ -22,7 +22,8 @@ module _ {L U : Type 0} (fits_leaf : L → Type 0) (leaf : L → List ℕ) (leaf
       let suffix = counted_list_laws fits_inner inner inner_at inner_laws in
       let suffixes = counted_list_laws (IsCounted fits_inner) (counted_list inner) (counted_list_at inner_at) suffix in
       let behind = both_laws (IsCounted (IsCounted fits_inner)) (counted_list (counted_list inner))
-      (counted_list_at (counted_list_at inner_at)) (IsCounted IsWord) (counted_list word) (counted_list_at word_at) suffixes words in
+      (counted_list_at (counted_list_at inner_at)) (IsCounted IsWord) (counted_list word) (counted_list_at word_at)
+      suffixes words in
       let lists = both_laws (IsCounted IsWord) (counted_list word) (counted_list_at word_at)
       (BothFit (IsCounted (IsCounted fits_inner)) (IsCounted IsWord))
       (both (counted_list (counted_list inner)) (counted_list word))
@@ -30,7 +31,8 @@ module _ {L U : Type 0} (fits_leaf : L → Type 0) (leaf : L → List ℕ) (leaf
       both_laws (IsCounted fits_leaf) (counted_list leaf) (counted_list_at leaf_at)
       (BothFit (IsCounted IsWord) (BothFit (IsCounted (IsCounted fits_inner)) (IsCounted IsWord)))
       (both (counted_list word) (both (counted_list (counted_list inner)) (counted_list word)))
-      (both_at (counted_list_at word_at) (both_at (counted_list_at (counted_list_at inner_at)) (counted_list_at word_at)))
+      (both_at (counted_list_at word_at)
+      (both_at (counted_list_at (counted_list_at inner_at)) (counted_list_at word_at)))
       (counted_list_laws fits_leaf leaf leaf_at leaf_laws) lists
 
 pub multi_is_long : {L U : Type 0} (leaf : L → List ℕ) (inner : U → List ℕ) (parts : MultiParts L U)
@@ -41,7 +43,8 @@ multi_is_long leaf inner parts =
       arith,
       length-append (counted_list leaf parts.0)
           (both (counted_list word) (both (counted_list (counted_list inner)) (counted_list word)) parts.1),
-      length-append (counted_list word parts.1.0) (both (counted_list (counted_list inner)) (counted_list word) suffixes),
+      length-append (counted_list word parts.1.0)
+          (both (counted_list (counted_list inner)) (counted_list word) suffixes),
       length-append (counted_list (counted_list inner) suffixes.0) (counted_list word suffixes.1),
       counted_list_is_long leaf parts.0,
       counted_list_is_long word parts.1.0,

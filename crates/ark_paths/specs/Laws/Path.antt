@@ -16,8 +16,8 @@ module _ {L U : Type 0} (fits_leaf : L → Type 0) (leaf : L → List ℕ) (leaf
       → IsCanonical (PathFits fits_leaf fits_inner) (path_spelling leaf inner) (path_at leaf_at inner_at)
   path_laws leaf_laws inner_laws =
       let lists = counted_list_laws fits_inner inner inner_at inner_laws in
-      let behind = both_laws (IsCounted fits_inner) (counted_list inner) (counted_list_at inner_at) IsWord word word_at lists
-      word_laws in
+      let behind = both_laws (IsCounted fits_inner) (counted_list inner) (counted_list_at inner_at) IsWord word word_at
+      lists word_laws in
       both_laws fits_leaf leaf leaf_at (BothFit (IsCounted fits_inner) IsWord) (both (counted_list inner) word)
       (both_at (counted_list_at inner_at) word_at) leaf_laws behind
 

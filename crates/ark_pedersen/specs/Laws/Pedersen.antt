@@ -25,11 +25,13 @@ seen_image-decided view mapped outcome after first =
     seen-decided view (image_of mapped outcome) (image-decided mapped outcome after first)
 
 pub of_halves-decided : {G W : Type 0} (windows : Windows W) (hash : List ℕ → Outcome G)
-    → ((input : List ℕ) → IsDecided (hash input)) → (left right : List ℕ) → IsDecided (of_halves windows hash left right)
+    → ((input : List ℕ) → IsDecided (hash input)) → (left right : List ℕ)
+    → IsDecided (of_halves windows hash left right)
 of_halves-decided windows hash decided left right =
     let half = window_bits windows / 2 in
     tested-decided (length left == length right) _ _
-    (tested-decided (nat_lt half (8 * length left)) _ _ (λ same. cc) (decided (full_halves half left right))) (λ same. cc)
+    (tested-decided (nat_lt half (8 * length left)) _ _ (λ same. cc) (decided (full_halves half left right)))
+    (λ same. cc)
 
 module _ {G W : Type 0} (g : Group G) (windows : Windows W) (lists : List (List G)) where
   pub pedersen-decided : (input : List ℕ) → IsDecided (pedersen_hash g windows lists input)
