@@ -28,7 +28,7 @@ pub trait Answering {
     // What each call keeps.
     ghost is_sound: { Self → Type 0 };
 
-    /// The reply to a line, without a line feed.
+    /// The reply to a line, without a line feed. The only refusal is `AllocError`, where memory lacks.
     fn answer(&mut self, alloc: Global, line: &[u8]) -> Result<Vec<u8>, AllocError>
         requires { is_sound self.old }
         ensures step { IfOk result (λ reply.
