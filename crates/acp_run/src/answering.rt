@@ -1,6 +1,6 @@
 //! What answers lines, one after another.
 
-ghost use Rattle.std.specs.Prelude.{◌≡◌, ℕ, List, None, IfOk};
+ghost use Rattle.std.specs.Prelude.{◌≡◌, ℕ, List, None, IfOk, OnErr};
 ghost use Rattle.acp_session.specs.Language.{Language as OfTokens};
 ghost use Rattle.acp_session.specs.Steps.{State as OfTree, Step, state_of};
 
@@ -28,12 +28,13 @@ pub trait Answering {
     // What each call keeps.
     ghost is_sound: { Self → Type 0 };
 
-    /// The reply to a line, without a line feed. The only refusal is `AllocError`, where memory lacks.
+    /// The reply to a line, without a line feed. The only refusal is `AllocError`, where memory lacks, and it leaves the state.
     fn answer(&mut self, alloc: Global, line: &[u8]) -> Result<Vec<u8>, AllocError>
         requires { is_sound self.old }
         ensures step { IfOk result (λ reply.
             step (language self.old) (state self.old) line.now (state self.new) reply.items) }
         ensures same { language self.new ≡ language self.old }
+        ensures refused { OnErr result (state self.new ≡ state self.old) }
         ensures sound { is_sound self.new };
 }
 
