@@ -17,6 +17,10 @@ pub record HashedTree (A : Type 0) : Type 0 where
   pub hashes : Hashes A
   pub leaves : List Digest
 
+-- the tree of some hashes above leaf digests
+abbrev pub tree_with : {A : Type 0} → Hashes A → List Digest → HashedTree A
+tree_with hashes leaves = record { hashes = hashes; leaves = leaves }
+
 -- ---- trees that are made
 
 -- the tree with these hashes and leaf digests, or the refusal in their place

@@ -3,6 +3,7 @@
 
 pub mod config;
 pub mod digests;
+pub mod hasher;
 pub mod index;
 pub mod multi_path;
 pub mod pair;

@@ -5,6 +5,7 @@ ghost use Rattle.ark_base.specs.Outcome.{AnswersBy};
 ghost use Rattle.ark_paths.specs.Pair.{hash_in_order, pair_of};
 
 use crate::config::DigestConverter;
+use crate::hasher::TreeHasher;
 use ark_base::error::Error;
 use ark_base::serialize::{DigestItem, Numbered};
 use ark_crh::TwoToOneCRHScheme;
@@ -20,7 +21,7 @@ fn converted<L: DigestItem, I: Numbered, C: DigestConverter<L, I>>(
     C::convert(alloc, digest.duplicate(alloc)?)
 }
 
-/// The hash of two leaf digests.
+/// Converts two leaf digests, left first, and hashes them.
 pub fn hash_bottom<L: DigestItem, C: DigestConverter<L, H::Input>, H: TwoToOneCRHScheme>(
     alloc: Global,
     pair_parameters: &H::Parameters,
@@ -35,42 +36,42 @@ pub fn hash_bottom<L: DigestItem, C: DigestConverter<L, H::Input>, H: TwoToOneCR
     H::evaluate(alloc, pair_parameters, &left, &right)
 }
 
-/// The hash of a leaf digest and the one beside it.
-pub fn hash_leaves<L: DigestItem, C: DigestConverter<L, H::Input>, H: TwoToOneCRHScheme>(
+/// Hashes a leaf digest with the one beside it.
+pub fn hash_leaves<L: DigestItem, D: DigestItem, T: TreeHasher<L, D>>(
     alloc: Global,
-    pair_parameters: &H::Parameters,
+    hasher: &T,
     is_right: bool,
     digest: &L,
     sibling: &L,
-) -> Result<H::Output, Error>
-    ensures { let pair = pair_of C.conversion H.evaluated H.compressed pair_parameters.now in
+) -> Result<D, Error>
+    ensures { let hash = (T.hashes hasher.now).pair.bottom in
         let own = L.numbers digest.now in
         let beside = L.numbers sibling.now in
-        AnswersBy H.Output.numbers (hash_in_order pair.bottom is_right own beside) result }
+        AnswersBy D.numbers (hash_in_order hash is_right own beside) result }
 {
     if is_right {
-        hash_bottom::<L, C, H>(alloc, pair_parameters, sibling, digest)
+        hasher.bottom(alloc, sibling, digest)
     } else {
-        hash_bottom::<L, C, H>(alloc, pair_parameters, digest, sibling)
+        hasher.bottom(alloc, digest, sibling)
     }
 }
 
-/// The hash of a digest above the leaves and the one beside it.
-pub fn hash_upper<H: TwoToOneCRHScheme>(
+/// Hashes a digest above the leaves with the one beside it.
+pub fn hash_upper<L: DigestItem, D: DigestItem, T: TreeHasher<L, D>>(
     alloc: Global,
-    pair_parameters: &H::Parameters,
+    hasher: &T,
     is_right: bool,
-    digest: &H::Output,
-    sibling: &H::Output,
-) -> Result<H::Output, Error>
-    ensures { let own = H.Output.numbers digest.now in
-        let beside = H.Output.numbers sibling.now in
-        let hash = H.compressed pair_parameters.now in
-        AnswersBy H.Output.numbers (hash_in_order hash is_right own beside) result }
+    digest: &D,
+    sibling: &D,
+) -> Result<D, Error>
+    ensures { let hash = (T.hashes hasher.now).pair.upper in
+        let own = D.numbers digest.now in
+        let beside = D.numbers sibling.now in
+        AnswersBy D.numbers (hash_in_order hash is_right own beside) result }
 {
     if is_right {
-        H::compress(alloc, pair_parameters, sibling, digest)
+        hasher.upper(alloc, sibling, digest)
     } else {
-        H::compress(alloc, pair_parameters, digest, sibling)
+        hasher.upper(alloc, digest, sibling)
     }
 }

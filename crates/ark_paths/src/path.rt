@@ -6,11 +6,11 @@ ghost use Rattle.ark_base.specs.Outcome.{Answers, AnswersBy};
 ghost use Rattle.ark_paths.specs.Bind.{BindsLeaf};
 ghost use Rattle.ark_paths.specs.PathBytes.{PathParts, PathFits, path_spelling, path_at};
 ghost use Rattle.ark_paths.specs.Laws.Path.{path_laws, path_is_long};
-ghost use Rattle.ark_paths.specs.Pair.{pair_of};
 ghost use Rattle.ark_paths.specs.Path.{Way, climb, path_root, verdict};
 
-use crate::config::{Config, DigestConverter, LeafParam, TwoToOneParam};
+use crate::config::{Config, LeafParam, TwoToOneParam};
 use crate::digests::copies_of;
+use crate::hasher::{ConfigHasher, TreeHasher};
 use crate::index::is_bit_set;
 use crate::pair::{hash_leaves, hash_upper};
 use crate::views::Views;
@@ -18,7 +18,6 @@ use ark_base::error::Error;
 use ark_base::serialize::{
     Canonical, CanonicalDeserialize, CanonicalItem, CanonicalSerialize, DigestItem, Duplicate,
 };
-use ark_crh::{CRHScheme, TwoToOneCRHScheme};
 use std::alloc::Global;
 
 /// The digests beside the way from a leaf to the root.
@@ -131,10 +130,10 @@ impl<P: Views> Path<P> {
             IfOk result (λ accepted. accepted ≡ true
             → BindsLeaf hashes given leaf.now (P.way self.now)) }
     {
-        verify_leaf::<P>(
+        let hasher = ConfigHasher::<P>::new(leaf_parameters, pair_parameters);
+        verify_leaf(
             alloc,
-            leaf_parameters,
-            pair_parameters,
+            &hasher,
             root,
             leaf,
             &self.leaf_sibling_hash,
@@ -144,76 +143,66 @@ impl<P: Views> Path<P> {
     }
 }
 
-/// Whether a leaf's digest gives the root along the path of these parts.
-pub fn verify_leaf<P: Views>(
+// Whether a leaf's digest gives the root along the path of these parts.
+fn verify_leaf<L: DigestItem, D: DigestItem, T: TreeHasher<L, D>>(
     alloc: Global,
-    leaf_parameters: &LeafParam<P>,
-    pair_parameters: &TwoToOneParam<P>,
-    root: &P::InnerDigest,
-    leaf: &P::Leaf,
-    sibling: &P::LeafDigest,
-    above: &[P::InnerDigest],
+    hasher: &T,
+    root: &D,
+    leaf: &T::Leaf,
+    sibling: &L,
+    above: &[D],
     index: usize,
 ) -> Result<bool, Error>
-    ensures { let hashes = P.hashes leaf_parameters.now pair_parameters.now in
+    ensures { let hashes = T.hashes hasher.now in
         let way : Way = record {
-          sibling = P.LeafDigest.numbers sibling.now;
-          above = map P.InnerDigest.numbers above.now;
+          sibling = L.numbers sibling.now;
+          above = map D.numbers above.now;
           index = index;
         } in
-        let given = P.InnerDigest.numbers root.now in
-        Answers (verdict hashes.pair (hashes.leaf leaf.now) way given) result }
+        Answers (verdict hashes.pair (hashes.leaf leaf.now) way (D.numbers root.now)) result }
 {
-    let digest = P::LeafHash::evaluate(alloc, leaf_parameters, leaf)?;
-    let top = top_of::<_, P::LeafInnerDigestConverter, P::TwoToOneHash>(
-        alloc,
-        pair_parameters,
-        &digest,
-        sibling,
-        above,
-        index,
-    )?;
+    let digest = hasher.leaf(alloc, leaf)?;
+    let top = top_of(alloc, hasher, &digest, sibling, above, index)?;
     Ok(top == *root)
 }
 
 // What a path gives for a leaf's digest.
-fn top_of<L: DigestItem, C: DigestConverter<L, H::Input>, H: TwoToOneCRHScheme>(
+fn top_of<L: DigestItem, D: DigestItem, T: TreeHasher<L, D>>(
     alloc: Global,
-    pair_parameters: &H::Parameters,
+    hasher: &T,
     digest: &L,
     sibling: &L,
-    above: &[H::Output],
+    above: &[D],
     index: usize,
-) -> Result<H::Output, Error>
-    ensures { let pair = pair_of C.conversion H.evaluated H.compressed pair_parameters.now in
-        let way : Way = record {
-          sibling = L.numbers sibling.now;
-          above = map H.Output.numbers above.now;
-          index = index;
-        } in
-        AnswersBy H.Output.numbers (path_root pair way (L.numbers digest.now)) result }
+) -> Result<D, Error>
+    ensures { let way : Way = record {
+      sibling = L.numbers sibling.now;
+      above = map D.numbers above.now;
+      index = index;
+    } in
+        let root = path_root (T.hashes hasher.now).pair way (L.numbers digest.now) in
+        AnswersBy D.numbers root result }
 {
     let is_right = is_bit_set(index, 0);
-    let lowest = hash_leaves::<L, C, H>(alloc, pair_parameters, is_right, digest, sibling)?;
-    climb::<H>(alloc, pair_parameters, index, above, lowest)
+    let lowest = hash_leaves(alloc, hasher, is_right, digest, sibling)?;
+    climb(alloc, hasher, index, above, lowest)
 }
 
 // What the digests beside a way make of the lowest one on it.
-fn climb<H: TwoToOneCRHScheme>(
+fn climb<L: DigestItem, D: DigestItem, T: TreeHasher<L, D>>(
     alloc: Global,
-    pair_parameters: &H::Parameters,
+    hasher: &T,
     index: usize,
-    beside: &[H::Output],
-    mut current: H::Output,
-) -> Result<H::Output, Error>
-    ensures { let above = map H.Output.numbers beside.now in
-        let outcome = climb (H.compressed pair_parameters.now) index above in
-        AnswersBy H.Output.numbers (outcome (H.Output.numbers current)) result }
+    beside: &[D],
+    mut current: D,
+) -> Result<D, Error>
+    ensures { let outcome = climb (T.hashes hasher.now).pair.upper index in
+        AnswersBy D.numbers (outcome (map D.numbers beside.now) (D.numbers current)) result }
 {
     for level in 0..beside.len() {
         let sibling = &beside[beside.len() - 1 - level];
         let is_right = is_bit_set(index, level + 1);
-        current = hash_upper::<H>(alloc, pair_parameters, is_right, &current, sibling)?;
+        current = hash_upper(alloc, hasher, is_right, &current, sibling)?;
     }
     Ok(current)
 }

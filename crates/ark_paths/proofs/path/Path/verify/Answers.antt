@@ -2,7 +2,9 @@ use Rattle.ark_paths.proofs.Clients.{answered-bound}
 use Rattle.ark_paths.proofs.path.Path.verify.Goals as goal
 
 pub returns-clause-answer : goal.returns-clause-answer
-returns-clause-answer g c = rw g.met.P.Views.way_is (rw c.deref.ensures.value at c.verify_leaf.ensures)
+returns-clause-answer g c =
+    rw (g.met.P.Views.way_is, ← c.new-hasher.ensures)
+    (rw c.deref.ensures.value at c.verify_leaf.ensures)
 
 pub returns-clause-bound : goal.returns-clause-bound
 returns-clause-bound g c =
