@@ -1,9 +1,10 @@
 -- What the answer of `bind` means.
 use Rattle.std.proofs.Common.{◌≡◌, ℕ, ◌%◌, Bool, true, false, ◌==◌, if◌then◌else◌, Option, Some, None, List, [], length, get_or, Ok, Err, refl, ap, sym, ◌∙◌}
-use Rattle.std.proofs.lemmas.Bool.{eqb-true, eq-eqb}
+use Rattle.std.proofs.lemmas.Bool.{eqb-true, eq-eqb, ne_eqb}
 use Rattle.ark_base.specs.declared.error.Error.{Error}
 use Rattle.ark_base.specs.declared.error.Error.TheVariants.{IncorrectInputLength}
-use Rattle.ark_base.specs.Outcome.{Outcome, ◌>>=◌}
+use Rattle.std.specs.Result.{IfOk}
+use Rattle.ark_base.specs.Outcome.{Outcome, Answers, ◌>>=◌}
 use Rattle.ark_base.specs.Laws.Steps.{bind_ok, done_injective}
 use Rattle.ark_paths.specs.Bind.{difference, Collides}
 use Rattle.ark_paths.specs.Pair.{Digest, HashPair, digest_eq}
@@ -88,24 +89,34 @@ module _ (h : HashPair) (leaves : List Digest) (rows : List (List Digest)) (tree
       let known = differs-by (digest_eq a.given a.top_digest) (difference h leaves way a.digest) level a.answer in
       (a.digest, a.leaf_is, differing-collides h leaves rows tree way a.digest a.long level known.1 (whole (Differs level) a known.0))
 
+-- what each answer has, where it is no refusal
+pub answered-each : {B : Type 0} (o : Outcome B) (Q : B → Type 0) (result : Outcome B) → Answers o result
+    → ((b : B) → o ≡ Ok b → Q b) → IfOk result Q
+answered-each o Q (Ok b) answer has = has b answer
+answered-each o Q (Err e) answer has = tt
+
 -- ---- the answer, from what the call knows
 
-pub bound-unhashed : {A : Type 0} (inside now : HashedTree A) → inside ≡ now → (seen way : Way) → seen ≡ way → length seen.above ≡ upper_levels inside.leaves → (leaf : A) (e : Error) → inside.hashes.leaf leaf ≡ Err e → binding_in now leaf way ≡ Err e
-bound-unhashed {A} inside now same seen way alike long leaf e refused =
-    ap (λ (t : HashedTree A). binding_in t leaf way) (sym same) ∙ ap (binding_in inside leaf) (sym alike) ∙ rw (eq-eqb (length seen.above) (upper_levels inside.leaves) long, refused) refl
+module _ {A : Type 0} (tree : HashedTree A) (leaf : A) (way : Way) where
+  -- a path of another length is refused
+  pub bound-long : (length way.above ≡ upper_levels tree.leaves → ⊥)
+      → binding_in tree leaf way ≡ Err (IncorrectInputLength (length way.above))
+  bound-long other = rw (ne_eqb (length way.above) (upper_levels tree.leaves) other) refl
 
-module _ {A : Type 0} (inside now : HashedTree A) (same : inside ≡ now) (seen way : Way) (alike : seen ≡ way) (long : length seen.above ≡ upper_levels inside.leaves) (leaf : A) (digest : Digest) (hashed : inside.hashes.leaf leaf ≡ Ok digest) where
-  long_enough : (length seen.above == upper_levels inside.leaves) ≡ true
-  long_enough = eq-eqb (length seen.above) (upper_levels inside.leaves) long
+  module _ (long : length way.above ≡ upper_levels tree.leaves) where
+    long_enough : (length way.above == upper_levels tree.leaves) ≡ true
+    long_enough = eq-eqb (length way.above) (upper_levels tree.leaves) long
 
-  moved : (o : Outcome Binding) → binding_in inside leaf seen ≡ o → binding_in now leaf way ≡ o
-  moved o e = ap (λ (t : HashedTree A). binding_in t leaf way) (sym same) ∙ ap (binding_in inside leaf) (sym alike) ∙ e
+    pub bound-unhashed : (e : Error) → tree.hashes.leaf leaf ≡ Err e → binding_in tree leaf way ≡ Err e
+    bound-unhashed e refused = rw (long_enough, refused) refl
 
-  pub bound-refused : (r : Digest) → root_in inside ≡ Ok r → (e : Error) → path_root inside.hashes.pair seen digest ≡ Err e → binding_in now leaf way ≡ Err e
-  bound-refused r rooted e refused = moved (Err e) (rw (long_enough, hashed, rooted, refused) refl)
+    module _ (digest : Digest) (hashed : tree.hashes.leaf leaf ≡ Ok digest) (r : Digest) (rooted : root_in tree ≡ Ok r)
+      where
+        pub bound-refused : (e : Error) → path_root tree.hashes.pair way digest ≡ Err e → binding_in tree leaf way ≡ Err e
+        bound-refused e refused = rw (long_enough, hashed, rooted, refused) refl
 
-  pub bound-ok : (r : Digest) → root_in now ≡ Ok r → (given : Digest) → path_root inside.hashes.pair seen digest ≡ Ok given → (is_root : Bool) → is_root ≡ digest_eq given r → (o : Option ℕ) → o ≡ difference inside.hashes.pair inside.leaves seen digest → (b : Binding)
-      → b ≡ (if is_root then binding_of o else Rejected) → binding_in now leaf way ≡ Ok b
-  bound-ok r rooted given climbed is_root is o found b answer =
-      let rooted_here : root_in inside ≡ Ok r = ap root_in same ∙ rooted in
-      moved (Ok b) (rw (long_enough, hashed, rooted_here, climbed, ← is, ← found, ← answer) refl)
+        pub bound-ok : (given : Digest) → path_root tree.hashes.pair way digest ≡ Ok given → (is_root : Bool)
+            → is_root ≡ digest_eq given r → (o : Option ℕ) → o ≡ difference tree.hashes.pair tree.leaves way digest
+            → (b : Binding) → b ≡ (if is_root then binding_of o else Rejected) → binding_in tree leaf way ≡ Ok b
+        bound-ok given climbed is_root is o found b answer =
+            rw (long_enough, hashed, rooted, climbed, ← is, ← found, ← answer) refl

@@ -11,10 +11,11 @@ use Rattle.std.specs.Prelude.{IfOk, OnErr}
 use Rattle.std.proofs.Math.Logic.{⊎_map}
 use Rattle.ark_base.specs.declared.error.Error.{Error}
 use Rattle.ark_base.specs.Outcome.{Outcome, AnswersBy}
-use Rattle.ark_paths.specs.Pair.{Digest, HashPair}
+use Rattle.ark_paths.specs.Pair.{Digest, HashPair, Hashes}
 use Rattle.ark_paths.specs.Root.{leaves_with_root}
-use Rattle.ark_paths.specs.Tree.{Tree, HashedTree, with_hashes}
+use Rattle.ark_paths.specs.Tree.{Tree, HashedTree, tree_with, with_hashes}
 use Rattle.ark_paths.proofs.OwnPaths.{place-above}
+use Rattle.ark_merkle.proofs.TreeReads.{seen_by}
 use Rattle.ark_merkle.specs.Batch.{with_change, last_changes, hashed_changes, puts, with_leaves}
 use Rattle.ark_paths.specs.Above.{count_above}
 use Rattle.ark_merkle.specs.Changed.{seen_changes, AreChanges, Rise, count_over}
@@ -177,18 +178,31 @@ pub on_err-again : {A : Type 0} (P Q : Type 0) (result : Outcome A) → OnErr re
 on_err-again P Q (Ok a) h more = tt
 on_err-again P Q (Err e) h more = more h
 
--- A tree whose leaf digests change answers the batch, as contracts see trees.
-pub batch-answered : {L T A B : Type 0} (meaning : L → A → Outcome Digest) (pair : T → HashPair) (view now : Tree L T) → view ≡ now → (cs : List (ℕ × A)) (hs : List (ℕ × Digest)) → hashed_changes (meaning view.leaf_parameters) (last_changes cs) ≡ Ok hs
-    → (made new : List Digest) (result : Outcome B) → AnswersBy (λ _. made) (leaves_with_root (pair view.pair_parameters) (puts view.leaves hs)) result → made ≡ new
-    → AnswersBy (λ _. record { hashes = record { leaf = meaning view.leaf_parameters; pair = pair view.pair_parameters }; leaves = new }) (with_leaves (record { hashes = record { leaf = meaning now.leaf_parameters; pair = pair now.pair_parameters }; leaves = now.leaves }) cs) result
-batch-answered {A = A} {B = B} meaning pair view now same cs hs hashed made new result answers is =
-    let tree : HashedTree A = record { hashes = record { leaf = meaning view.leaf_parameters; pair = pair view.pair_parameters }; leaves = view.leaves } in
-    let see : List Digest → HashedTree A = λ leaves. record { hashes = record { leaf = meaning view.leaf_parameters; pair = pair view.pair_parameters }; leaves = leaves } in
-    let batch = with_leaves-hashed tree cs hs hashed in
-    subst (λ t. AnswersBy {A = B} (λ _. see new) (with_leaves (record { hashes = record { leaf = meaning t.leaf_parameters; pair = pair t.pair_parameters }; leaves = t.leaves }) cs) result) same
-    (answered-again (λ (_ : B). made) (λ (_ : B). see new) (leaves_with_root (pair view.pair_parameters) (puts view.leaves hs)) (with_leaves tree cs) result answers
-    (λ a ok. batch ∙ ap (with_hashes tree.hashes) ok ∙ ap (λ (ds : List Digest). Ok (see ds)) is)
-    (λ e bad. batch ∙ ap (with_hashes tree.hashes) bad))
+-- Leaf digests that change answer the batch of their tree.
+pub batch-answered : {A B : Type 0} (hashes : Hashes A) (leaves : List Digest) (cs : List (ℕ × A))
+    (hs : List (ℕ × Digest)) → hashed_changes hashes.leaf (last_changes cs) ≡ Ok hs
+    → (made : List Digest) (result : Outcome B)
+    → AnswersBy (λ _. made) (leaves_with_root hashes.pair (puts leaves hs)) result
+    → AnswersBy (λ _. tree_with hashes made) (with_leaves (tree_with hashes leaves) cs) result
+batch-answered {A = A} {B = B} hashes leaves cs hs hashed made result answers =
+    let batch = with_leaves-hashed (tree_with hashes leaves) cs hs hashed in
+    answered-again (λ (_ : B). made) (λ (_ : B). tree_with hashes made)
+    (leaves_with_root hashes.pair (puts leaves hs)) (with_leaves (tree_with hashes leaves) cs) result answers
+    (λ a ok. batch ∙ ap (with_hashes hashes) ok) (λ e bad. batch ∙ ap (with_hashes hashes) bad)
+
+-- The batch of a tree, as contracts see it, is that of its fields.
+pub batch-seen : {L T A B : Type 0} (meaning : L → A → Outcome Digest) (pair : T → HashPair) (view now : Tree L T)
+    → view ≡ now → (own : Hashes A) → own ≡ (seen_by meaning pair view).hashes → (cs : List (ℕ × A))
+    (made new : List Digest) (result : Outcome B)
+    → AnswersBy (λ _. tree_with own made) (with_leaves (tree_with own view.leaves) cs) result → made ≡ new
+    → AnswersBy (λ _. tree_with (seen_by meaning pair view).hashes new) (with_leaves (seen_by meaning pair now) cs) result
+batch-seen {A = A} {B = B} meaning pair view now same own is cs made new result answers items =
+    let seen = (seen_by meaning pair view).hashes in
+    subst (λ t. AnswersBy {A = B} (λ _. tree_with seen new) (with_leaves (seen_by meaning pair t) cs) result) same
+    (subst (λ (ds : List Digest). AnswersBy {A = B} (λ _. tree_with seen ds) (with_leaves (seen_by meaning pair view) cs)
+    result) items
+    (subst (λ (h : Hashes A). AnswersBy {A = B} (λ _. tree_with h made) (with_leaves (tree_with h view.leaves) cs) result)
+    is answers))
 
 -- The count of a batch is that of the places above the changed indexes.
 pub batch-counted : {A B : Type 0} (hash : A → Outcome Digest) (view : B → Digest) (rows : ℕ) (cs : List (ℕ × A)) (hs : List (ℕ × B)) → hashed_changes hash (last_changes cs) ≡ Ok (seen_changes view hs) → count_over rows (places hs) ≡ count_above rows (places cs)

@@ -1,7 +1,6 @@
 -- A tree's own multi-proofs.
 use Rattle.std.proofs.Common.{◌≡◌, ℕ, suc, ◌-◌, ◌<◌, ◌^◌, true, false, nat_eq, List, [], ◌∷◌, length, map, get_or, Option, Some, Ok, refl, ap, sym, ◌∙◌, arith}
 use Rattle.std.specs.List.{All, AllByRecursion}
-use Rattle.std.specs.declared.vec.Vec.{Vec}
 use Rattle.std.proofs.lemmas.Bool.{ne_eqb}
 use Rattle.std.proofs.lemmas.List.{length-map}
 use Rattle.ark_base.specs.Outcome.{Outcome}
@@ -11,7 +10,7 @@ use Rattle.ark_paths.specs.Sharing.{prefixes_of, suffixes_of}
 use Rattle.ark_paths.specs.Pair.{Digest, HashPair}
 use Rattle.ark_paths.specs.Path.{Way}
 use Rattle.ark_paths.specs.Root.{root, upper_levels}
-use Rattle.ark_paths.specs.Rows.{IsTree, HoldsIndex, beside_in, digests_of}
+use Rattle.ark_paths.specs.Rows.{IsTree, HoldsIndex, beside_in}
 use Rattle.ark_paths.specs.Tree.{own_path}
 use Rattle.ark_paths.proofs.MultiShared.{decoded-merged}
 use Rattle.ark_paths.proofs.OwnPaths.{length-beside_in, own_path-rows, own_path-accepted, leaf-neighbour}
@@ -101,25 +100,38 @@ module _ (h : HashPair) (leaves : List Digest) (rows : List (List Digest)) (tree
 
 -- ---- as the calls of a tree read them
 
-module _ {L W : Type 0} (leaf : L → Digest) (h : HashPair) (leaves : List Digest) (kept : Vec L W) (rows : List (List Digest)) (tree : IsTree h leaves rows) (are : digests_of leaf kept ≡ leaves) (asked indexes : List ℕ) (inside : All (λ i. i < length leaves) asked) (once : rising_set asked ≡ indexes) where
-  inside_once : All (λ i. i < length leaves) indexes
-  inside_once = rw once at (All-rising (λ i. i < length leaves) asked inside)
+module _ {L : Type 0} (leaf : L → Digest) (h : HashPair) (xs : List L) (rows : List (List Digest))
+    (tree : IsTree h (map leaf xs) rows) (asked indexes : List ℕ) (inside : All (λ i. i < length (map leaf xs)) asked)
+    (once : rising_set asked ≡ indexes) (given : List ℕ) (same : given ≡ indexes) where
+  inside_once : All (λ i. i < length (map leaf xs)) indexes
+  inside_once = rw once at (All-rising (λ i. i < length (map leaf xs)) asked inside)
 
-  pub neighbours-inside : (leaves_in : List L) (indexes_in : List ℕ) → leaves_in ≡ kept.items → indexes_in ≡ indexes → All (λ i. neighbour i < length leaves_in) indexes_in
-  neighbours-inside leaves_in indexes_in same_leaves same =
-      let long : length leaves_in ≡ length leaves = ap length same_leaves ∙ sym (length-map kept.items leaf) ∙ ap length are in
-      rw (same, long) (λ k d below. leaf-neighbour h leaves rows tree (get_or indexes k d) (inside_once k d below))
+  pub neighbours-inside : All (λ i. neighbour i < length xs) given
+  neighbours-inside =
+      rw (same, ← length-map xs leaf)
+      (λ k d below. leaf-neighbour h (map leaf xs) rows tree (get_or indexes k d) (inside_once k d below))
 
-  pub hold-indexes : (indexes_in : List ℕ) → indexes_in ≡ indexes → length leaves < 2 ^ 64 → All (HoldsIndex rows) indexes_in
-  hold-indexes indexes_in same fits = rw same (λ k d below. holds-index h leaves rows tree (get_or indexes k d) fits (inside_once k d below))
+  pub hold-indexes : length xs < 2 ^ 64 → All (HoldsIndex rows) given
+  hold-indexes fits =
+      let small : length (map leaf xs) < 2 ^ 64 = omega (arith, length-map xs leaf, fits) in
+      rw same (λ k d below. holds-index h (map leaf xs) rows tree (get_or indexes k d) small (inside_once k d below))
 
-  pub own_multi_path-read : (leaves_in : List L) (indexes_in more_in : List ℕ) (siblings : List Digest) (prefixes : List ℕ) (suffixes : List (List Digest)) → leaves_in ≡ kept.items → indexes_in ≡ indexes → more_in ≡ indexes
-      → map (λ i. get_or (map leaf leaves_in) (neighbour i) []) indexes_in ≡ siblings → prefixes_of [] (map (beside_in rows (length rows - 1)) more_in) ≡ prefixes → suffixes_of [] (map (beside_in rows (length rows - 1)) more_in) ≡ suffixes
-      → own_multi_path h asked leaves ≡ record { siblings = siblings; prefixes = prefixes; suffixes = suffixes; indexes = indexes }
-  own_multi_path-read leaves_in indexes_in more_in siblings prefixes suffixes same_leaves same same_more siblings_are prefixes_are suffixes_are =
+  pub own_multi_path-read : (more : List ℕ) (siblings : List Digest) (prefixes : List ℕ)
+      (suffixes : List (List Digest)) → more ≡ indexes
+      → map (λ i. get_or (map leaf xs) (neighbour i) []) given ≡ siblings
+      → prefixes_of [] (map (beside_in rows (length rows - 1)) more) ≡ prefixes
+      → suffixes_of [] (map (beside_in rows (length rows - 1)) more) ≡ suffixes
+      → own_multi_path h asked (map leaf xs)
+      ≡ record { siblings = siblings; prefixes = prefixes; suffixes = suffixes; indexes = indexes }
+  own_multi_path-read more siblings prefixes suffixes same_more siblings_are prefixes_are suffixes_are =
+      let leaves = map leaf xs in
       let m = upper_levels leaves in
       let last : length rows - 1 ≡ m = omega (arith, tree.count) in
-      let beside : map (λ i. get_or leaves (neighbour i) []) (rising_set asked) ≡ siblings = rw (once, ← are) (rw (same_leaves, same) at siblings_are) in
-      let shared : prefixes_of [] (map (beside_in rows m) (rising_set asked)) ≡ prefixes = rw once (rw (last, same_more) at prefixes_are) in
-      let others : suffixes_of [] (map (beside_in rows m) (rising_set asked)) ≡ suffixes = rw once (rw (last, same_more) at suffixes_are) in
-      own_multi_path-rows h leaves rows tree asked inside ∙ (λ j. record { siblings = beside j; prefixes = shared j; suffixes = others j; indexes = once j })
+      let beside : map (λ i. get_or leaves (neighbour i) []) (rising_set asked) ≡ siblings =
+      rw once (rw same at siblings_are) in
+      let shared : prefixes_of [] (map (beside_in rows m) (rising_set asked)) ≡ prefixes =
+      rw once (rw (last, same_more) at prefixes_are) in
+      let others : suffixes_of [] (map (beside_in rows m) (rising_set asked)) ≡ suffixes =
+      rw once (rw (last, same_more) at suffixes_are) in
+      own_multi_path-rows h leaves rows tree asked inside
+      ∙ (λ j. record { siblings = beside j; prefixes = shared j; suffixes = others j; indexes = once j })

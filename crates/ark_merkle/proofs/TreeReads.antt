@@ -1,24 +1,42 @@
 -- What the calls of a tree read from its rows.
-use Rattle.std.proofs.Common.{◌≡◌, ℕ, ◌-◌, ◌<◌, ◌^◌, suc, List, [], length, get_or, Ok, arith, refl, ap, sym, subst, ◌∙◌}
+use Rattle.std.proofs.Common.{◌≡◌, ℕ, ◌-◌, ◌<◌, ◌^◌, suc, List, [], length, get_or, Ok, Err, arith, refl, ap, sym, ◌∙◌}
+use Rattle.ark_base.specs.declared.error.Error.{Error}
 use Rattle.ark_base.specs.Outcome.{Outcome}
-use Rattle.ark_paths.specs.Index.{log2, neighbour}
-use Rattle.ark_paths.specs.Pair.{Digest, HashPair}
+use Rattle.ark_paths.specs.Index.{IsTreeSize, log2, neighbour}
+use Rattle.ark_paths.specs.Pair.{Digest, HashPair, Hashes}
 use Rattle.ark_paths.specs.Root.{root, leaves_with_root, upper_levels}
-use Rattle.ark_paths.specs.Rows.{IsTree, HoldsIndex, beside_in}
-use Rattle.ark_paths.specs.Tree.{Tree, HashedTree, own_path}
+use Rattle.ark_paths.specs.Rows.{IsTree, HoldsIndex, beside_in, rows_of}
+use Rattle.ark_paths.specs.Tree.{Tree, HashedTree, tree_above, tree_with, with_hashes, own_path}
 use Rattle.ark_paths.proofs.Logs.{log2-pow}
+use Rattle.ark_paths.proofs.TreeLemmas.{rooted-ok, rooted-refused}
 use Rattle.ark_paths.proofs.OwnPaths.{root-top, top-row-some, own_path-rows}
 
--- the rows are those of the tree that contracts see
-pub seen_tree : {L T : Type 0} (pair : T → HashPair) (rows : List (List Digest)) (view now : Tree L T) → view ≡ now → IsTree (pair view.pair_parameters) view.leaves rows → IsTree (pair now.pair_parameters) now.leaves rows
-seen_tree pair rows view now same tree = subst (λ v. IsTree (pair v.pair_parameters) v.leaves rows) same tree
+-- what an equation has on its left
+abbrev pub left_of : {A : Type 0} {a b : A} → a ≡ b → A
+left_of {a = a} e = a
+
+-- what contracts see of a tree, by what its hashes answer at its parameters
+abbrev pub seen_by : {L T A : Type 0} → (L → A → Outcome Digest) → (T → HashPair) → Tree L T → HashedTree A
+seen_by meaning pair t =
+    record { hashes = record { leaf = meaning t.leaf_parameters; pair = pair t.pair_parameters }; leaves = t.leaves }
 
 -- what contracts see of a tree is what its fields make
-pub seen-tree : {L T A : Type 0} (view now : Tree L T) → view ≡ now → (meaning : L → A → Outcome Digest) (pair : T → HashPair) (tree : Tree L T → HashedTree A)
-    → tree ≡ (λ t. record { hashes = record { leaf = meaning t.leaf_parameters; pair = pair t.pair_parameters }; leaves = t.leaves })
-    → record { hashes = record { leaf = meaning view.leaf_parameters; pair = pair view.pair_parameters }; leaves = view.leaves } ≡ tree now
+pub seen-tree : {L T A : Type 0} (view now : Tree L T) → view ≡ now → (meaning : L → A → Outcome Digest)
+    (pair : T → HashPair) (tree : Tree L T → HashedTree A) → tree ≡ seen_by meaning pair
+    → seen_by meaning pair view ≡ tree now
 seen-tree {A = A} view now same meaning pair tree is =
-    ap (λ t. record { hashes = record { leaf = meaning t.leaf_parameters; pair = pair t.pair_parameters }; leaves = t.leaves }) same ∙ ap (λ (f : Tree _ _ → HashedTree A). f now) (sym is)
+    ap (seen_by meaning pair) same ∙ ap (λ (f : Tree _ _ → HashedTree A). f now) (sym is)
+
+-- the tree above leaf digests, or the refusal in its place, from the rows that are made of them
+module _ {A : Type 0} (hashes : Hashes A) (leaves : List Digest) where
+  pub made-refused : (e : Error) → IsTreeSize (length leaves)
+      → rows_of hashes.pair (upper_levels leaves) leaves ≡ Err e → tree_above hashes leaves ≡ Err e
+  made-refused e size refused = ap (with_hashes hashes) (rooted-refused hashes.pair leaves e size refused)
+
+  pub made-ok : (rows : List (List Digest)) → IsTreeSize (length leaves)
+      → rows_of hashes.pair (upper_levels leaves) leaves ≡ Ok rows
+      → tree_above hashes leaves ≡ Ok (tree_with hashes leaves)
+  made-ok rows size is = ap (with_hashes hashes) (rooted-ok hashes.pair leaves rows size is)
 
 -- a tree has as many levels as its rows say
 pub log2-leaves : (h : HashPair) (leaves : List Digest) (rows : List (List Digest)) → IsTree h leaves rows → log2 (length leaves) ≡ length rows

@@ -1,11 +1,11 @@
 //! Merkle trees.
 
-ghost use Rattle.std.specs.Prelude.{◌≡◌, ◌<◌, ◌≤◌, ◌+◌, ◌-◌, ◌^◌, [], replicate, length, get_or, IfOk, Ok};
+ghost use Rattle.std.specs.Prelude.{◌≡◌, ◌<◌, ◌≤◌, ◌+◌, ◌-◌, ◌^◌, [], replicate, length, map, get_or, IfOk, Ok};
 ghost use Rattle.ark_base.specs.Outcome.{AnswersBy};
 ghost use Rattle.ark_paths.specs.Index.{IsTreeSize, log2, neighbour};
 ghost use Rattle.ark_paths.specs.Pair.{pair_of};
 ghost use Rattle.ark_paths.specs.Rows.{IsTree, digests_of};
-ghost use Rattle.ark_paths.specs.Tree.{Tree, HashedTree, tree_of, tree_above, root_in, path_in, IsAccepted};
+ghost use Rattle.ark_paths.specs.Tree.{Tree, HashedTree, tree_with, tree_of, tree_above, root_in, path_in, IsAccepted};
 
 mod batch;
 mod bind;
@@ -20,6 +20,7 @@ use ark_base::error::Error;
 use ark_base::serialize::Duplicate;
 use ark_paths::config::{Config, LeafParam, TwoToOneParam};
 use ark_paths::digests::{blank_row, copies_of};
+use ark_paths::hasher::{ConfigHasher, TreeHasher};
 use ark_paths::index::neighbour_of;
 use ark_paths::path::Path;
 use ark_paths::views::Views;
@@ -71,7 +72,8 @@ impl<P: Views> MerkleTree<P> {
         ensures { let hashes = P.hashes leaf_parameters.now pair_parameters.now in
             AnswersBy P.tree (tree_of hashes leaves.now) result }
     {
-        let digests = hash_all::<P::LeafHash>(alloc, leaf_parameters, leaves)?;
+        let hasher = ConfigHasher::<P>::new(leaf_parameters, pair_parameters);
+        let digests = hash_all(alloc, &hasher, leaves)?;
         MerkleTree::new_with_leaf_digest(alloc, leaf_parameters, pair_parameters, digests)
     }
 
@@ -88,11 +90,8 @@ impl<P: Views> MerkleTree<P> {
         ensures { let hashes = P.hashes leaf_parameters.now pair_parameters.now in
             AnswersBy P.tree (tree_above hashes (digests_of P.LeafDigest.numbers leaves)) result }
     {
-        let rows = rows_above::<_, P::LeafInnerDigestConverter, P::TwoToOneHash>(
-            alloc,
-            pair_parameters,
-            &leaves,
-        )?;
+        let hasher = ConfigHasher::<P>::new(leaf_parameters, pair_parameters);
+        let rows = rows_above(alloc, &hasher, &leaves)?;
         let leaf_parameters = leaf_parameters.duplicate(alloc)?;
         let pair_parameters = pair_parameters.duplicate(alloc)?;
         Ok(MerkleTree {
@@ -134,7 +133,8 @@ impl<P: Views> MerkleTree<P> {
     pub fn root(&self) -> &P::InnerDigest
         ensures { root_in (P.tree self.now) ≡ Ok (P.InnerDigest.numbers result.now) }
     {
-        self.rows.at(self.rows.len() - 1, 0)
+        let (_, _, rows) = self.parts();
+        rows.at(rows.len() - 1, 0)
     }
 
     /// The count of levels, that of the leaf digests and that of the root included: the logarithm of the size to base
@@ -143,7 +143,8 @@ impl<P: Views> MerkleTree<P> {
         ensures levels { result ≡ log2 (length self.now.leaves) + 1 }
         ensures power { length self.now.leaves ≡ 2 ^ log2 (length self.now.leaves) }
     {
-        self.rows.len() + 1
+        let (_, _, rows) = self.parts();
+        rows.len() + 1
     }
 
     /// The count of leaf digests.
@@ -165,11 +166,35 @@ impl<P: Views> MerkleTree<P> {
         ensures accepted { IfOk result (λ path. IsAccepted (P.tree self.now) index (P.way path)) }
     {
         // The digest beside the leaf's comes last: memory is asked for the lowest rows' digests before it is waited for.
+        let (_, _, rows) = self.parts();
         Ok(Path {
-            auth_path: digests_beside(alloc, &self.rows, self.rows.len(), index)?,
+            auth_path: digests_beside(alloc, rows, rows.len(), index)?,
             leaf_sibling_hash: self.get_leaf_sibling_hash(index).duplicate(alloc)?,
             leaf_index: index,
         })
+    }
+}
+
+impl<P: Views> MerkleTree<P> {
+    // The tree's hashes, its leaf digests and the digests above them.
+    fn parts<'a>(
+        &'a self,
+    ) -> (
+        ConfigHasher<'a, P>,
+        &'a [P::LeafDigest],
+        &'a Levels<P::InnerDigest>,
+    )
+        ensures seen { let own = ⟦<ConfigHasher<'a, P> as TreeHasher<P::LeafDigest, P::InnerDigest>>⟧ in
+            tree_with (own.hashes result.0) (map P.LeafDigest.numbers result.1.now)
+            ≡ P.tree self.now }
+        ensures leaves { map P.LeafDigest.numbers result.1.now ≡ self.now.leaves }
+        ensures tree { let own = ⟦<ConfigHasher<'a, P> as TreeHasher<P::LeafDigest, P::InnerDigest>>⟧ in
+            let h = (own.hashes result.0).pair in
+            IsTree h (map P.LeafDigest.numbers result.1.now) result.2.now }
+        ensures fits { length result.1.now < 2 ^ 64 }
+    {
+        let hasher = ConfigHasher::<P>::new(&self.leaf_parameters, &self.pair_parameters);
+        (hasher, &self.leaves, &self.rows)
     }
 }
 

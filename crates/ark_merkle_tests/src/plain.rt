@@ -13,7 +13,7 @@ use ark_base::error::Error;
 use ark_base::serialize::{DigestItem, Duplicate};
 use ark_crh::TwoToOneCRHScheme;
 use ark_merkle::index::is_bit_set;
-use ark_merkle::pair::{hash_bottom, hash_upper};
+use ark_merkle::pair::hash_bottom;
 use ark_merkle::{Config, TwoToOneParam, Views};
 pub use multi::multi_verdict;
 use std::alloc::Global;
@@ -113,13 +113,11 @@ pub fn climb<H: TwoToOneCRHScheme>(
         None => lowest.duplicate(alloc),
         Some((first, rest)) => {
             let below = climb::<H>(alloc, pair_parameters, index, rest, lowest)?;
-            hash_upper::<H>(
-                alloc,
-                pair_parameters,
-                is_bit_set(index, beside.len()),
-                &below,
-                first,
-            )
+            if is_bit_set(index, beside.len()) {
+                H::compress(alloc, pair_parameters, first, &below)
+            } else {
+                H::compress(alloc, pair_parameters, &below, first)
+            }
         }
     }
 }

@@ -4,9 +4,9 @@ ghost use Rattle.std.specs.Prelude.{◌≡◌, ◌<◌, ℕ, [], ◌∷◌, map,
 ghost use Rattle.std.specs.List.{All};
 ghost use Rattle.ark_base.specs.Outcome.{AnswersBy};
 ghost use Rattle.ark_paths.specs.Index.{log2};
-ghost use Rattle.ark_paths.specs.Pair.{pair_of};
 ghost use Rattle.ark_paths.specs.Root.{leaves_with_root};
 ghost use Rattle.ark_paths.specs.Rows.{IsTree};
+ghost use Rattle.ark_paths.specs.Tree.{tree_with};
 ghost use Rattle.ark_paths.specs.Above.{count_above};
 ghost use Rattle.ark_merkle.specs.Batch.{with_change, last_changes, hashed_changes, puts, with_leaves, with_each_leaf};
 ghost use Rattle.ark_merkle.specs.Changed.{seen_changes, entered, AreChanges, Rise, count_over};
@@ -17,8 +17,7 @@ use crate::tree::changes::{change_rows, hash_reached_leaves, put_changes};
 use crate::tree::levels::Levels;
 use ark_base::error::Error;
 use ark_base::serialize::DigestItem;
-use ark_crh::{CRHScheme, TwoToOneCRHScheme};
-use ark_paths::config::DigestConverter;
+use ark_paths::hasher::{ConfigHasher, TreeHasher};
 use ark_paths::views::Views;
 use std::alloc::Global;
 use std::collections::BTreeMap;
@@ -63,43 +62,65 @@ impl<P: Views> MerkleTree<P> {
         ensures one_by_one { (tree : _) → with_each_leaf (P.tree self.old) changes.now ≡ Ok tree
             → with_leaves (P.tree self.old) changes.now ≡ Ok tree }
     {
-        let digests = hash_last::<P::LeafHash>(alloc, &self.leaf_parameters, changes)?;
-        change_leaves::<_, P::LeafInnerDigestConverter, P::TwoToOneHash>(
-            alloc,
-            &self.pair_parameters,
-            &mut self.leaves,
-            &mut self.rows,
-            digests,
-        )
+        let hasher = ConfigHasher::<P>::new(&self.leaf_parameters, &self.pair_parameters);
+        update_leaves(alloc, &hasher, &mut self.leaves, &mut self.rows, changes)
     }
+}
+
+// Puts leaves in their places, and in the rows above them what these then hash to; answers how many pairs were hashed.
+fn update_leaves<L: DigestItem, D: DigestItem, T: TreeHasher<L, D>>(
+    alloc: Global,
+    hasher: &T,
+    leaves: &mut [L],
+    rows: &mut Levels<D>,
+    changes: &[(usize, T::Leaf)],
+) -> Result<usize, Error>
+    requires tree { let h = (T.hashes hasher.now).pair in
+        IsTree h (map L.numbers leaves.old) rows.old }
+    requires changes { All (λ change. change.0 < length leaves.old) changes.now }
+    ensures leaves { let seen = tree_with (T.hashes hasher.now) in
+        let new = with_leaves (seen (map L.numbers leaves.old)) changes.now in
+        AnswersBy (λ _. seen (map L.numbers leaves.new)) new result }
+    ensures tree { let h = (T.hashes hasher.now).pair in
+        IsTree h (map L.numbers leaves.new) rows.new }
+    ensures count { let indexes = map (λ change. change.0) changes.now in
+        IfOk result (λ count. count ≡ count_above (log2 (length leaves.old)) indexes) }
+    ensures refused { OnErr result (leaves.new ≡ leaves.old) }
+    ensures refused_rows { OnErr result (rows.new ≡ rows.old) }
+    ensures one_by_one { let old = tree_with (T.hashes hasher.now) (map L.numbers leaves.old) in
+        (tree : _) → with_each_leaf old changes.now ≡ Ok tree
+        → with_leaves old changes.now ≡ Ok tree }
+{
+    let digests = hash_last(alloc, hasher, changes)?;
+    change_leaves(alloc, hasher, leaves, rows, digests)
 }
 
 // Puts changed leaf digests in their places, and in the rows above them what these then hash to; answers how many pairs were
 // hashed.
-fn change_leaves<L: DigestItem, C: DigestConverter<L, H::Input>, H: TwoToOneCRHScheme>(
+fn change_leaves<L: DigestItem, D: DigestItem, T: TreeHasher<L, D>>(
     alloc: Global,
-    pair_parameters: &H::Parameters,
+    hasher: &T,
     leaves: &mut [L],
-    rows: &mut Levels<H::Output>,
+    rows: &mut Levels<D>,
     changes: Vec<(usize, L)>,
 ) -> Result<usize, Error>
-    requires tree { let h = pair_of C.conversion H.evaluated H.compressed pair_parameters.now in
+    requires tree { let h = (T.hashes hasher.now).pair in
         IsTree h (map L.numbers leaves.old) rows.old }
     requires changes { AreChanges 0 (length leaves.old) changes.items }
-    ensures leaves { let h = pair_of C.conversion H.evaluated H.compressed pair_parameters.now in
+    ensures leaves { let h = (T.hashes hasher.now).pair in
         let numbers = L.numbers in
         let new = puts (map numbers leaves.old) (seen_changes numbers changes.items) in
         AnswersBy (λ _. map numbers leaves.new) (leaves_with_root h new) result }
-    ensures tree { let h = pair_of C.conversion H.evaluated H.compressed pair_parameters.now in
+    ensures tree { let h = (T.hashes hasher.now).pair in
         IsTree h (map L.numbers leaves.new) rows.new }
     ensures count { IfOk result (λ count.
         count ≡ count_over (length rows.old) (map (λ c. c.0) changes.items)) }
     ensures refused { OnErr result (leaves.new ≡ leaves.old) }
     ensures refused_rows { OnErr result (rows.new ≡ rows.old) }
 {
-    let above = hash_reached_leaves::<L, C, H>(alloc, pair_parameters, leaves, &changes)?;
+    let above = hash_reached_leaves(alloc, hasher, leaves, &changes)?;
     let hashed = above.len();
-    let more = change_rows::<H>(alloc, pair_parameters, rows, 0, above)?;
+    let more = change_rows(alloc, hasher, rows, 0, above)?;
     put_changes(leaves, changes);
     Ok(hashed + more)
 }
@@ -137,19 +158,19 @@ fn last_leaves<'a, L>(
 }
 
 // The digest of the last leaf of each changed index.
-fn hash_last<H: CRHScheme>(
+fn hash_last<L: DigestItem, D: DigestItem, T: TreeHasher<L, D>>(
     alloc: Global,
-    parameters: &H::Parameters,
-    changes: &[(usize, H::Input)],
-) -> Result<Vec<(usize, H::Output)>, Error>
-    ensures { let hashed = hashed_changes (H.meaning parameters.now) in
-        AnswersBy (λ digests. seen_changes H.Output.numbers digests.items)
+    hasher: &T,
+    changes: &[(usize, T::Leaf)],
+) -> Result<Vec<(usize, L)>, Error>
+    ensures { let hashed = hashed_changes (T.hashes hasher.now).leaf in
+        AnswersBy (λ digests. seen_changes L.numbers digests.items)
         (hashed (last_changes changes.now)) result }
 {
     let last = last_leaves(alloc, changes)?;
     let mut digests = Vec::with_capacity(alloc, last.len())?;
     for (index, leaf) in &last {
-        digests.push((*index, H::evaluate(alloc, parameters, leaf)?))?;
+        digests.push((*index, hasher.leaf(alloc, leaf)?))?;
     }
     Ok(digests)
 }

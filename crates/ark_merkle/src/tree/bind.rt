@@ -4,10 +4,10 @@ ghost use Rattle.std.specs.Prelude.{◌≡◌, ◌<◌, ◌%◌, ◌^◌, ◌&&�
 ghost use Rattle.ark_base.specs.Outcome.{Answers, AnswersBy};
 ghost use Rattle.ark_paths.specs.Bind.{difference, CollidesAt};
 ghost use Rattle.ark_paths.specs.Index.{neighbour};
-ghost use Rattle.ark_paths.specs.Pair.{digest_eq, pair_of};
+ghost use Rattle.ark_paths.specs.Pair.{digest_eq};
 ghost use Rattle.ark_paths.specs.Path.{Way, path_root};
 ghost use Rattle.ark_paths.specs.Rows.{IsTree, digests_of};
-ghost use Rattle.ark_paths.specs.Tree.{HoldsLeaf};
+ghost use Rattle.ark_paths.specs.Tree.{HoldsLeaf, tree_with};
 ghost use Rattle.ark_merkle.specs.declared.tree.bind.Binding.TheVariants.{Rejected, Stands, Differs};
 ghost use Rattle.ark_merkle.specs.Binding.{binding_in, binding_of, MatchesVerdict};
 
@@ -15,9 +15,8 @@ use crate::tree::MerkleTree;
 use crate::tree::levels::Levels;
 use ark_base::error::Error;
 use ark_base::serialize::DigestItem;
-use ark_crh::{CRHScheme, TwoToOneCRHScheme};
-use ark_paths::config::DigestConverter;
 use ark_paths::digests::are_same;
+use ark_paths::hasher::TreeHasher;
 use ark_paths::index::{is_bit_set, neighbour_of};
 use ark_paths::pair::{hash_leaves, hash_upper};
 use ark_paths::path::Path;
@@ -57,23 +56,49 @@ impl<P: Views> MerkleTree<P> {
             IfOk result (λ binding. (level : ℕ) → binding ≡ Differs level
             → CollidesAt tree leaf.now (P.way path.now) level) }
     {
-        let above = self.rows.len() - 1;
-        if path.auth_path.len() != above {
-            return Err(Error::IncorrectInputLength(path.auth_path.len()));
-        }
-        let digest = P::LeafHash::evaluate(alloc, &self.leaf_parameters, leaf)?;
-        let (top, difference) = compare::<_, P::LeafInnerDigestConverter, P::TwoToOneHash>(
+        let (hasher, leaves, rows) = self.parts();
+        binding_in(
             alloc,
-            &self.pair_parameters,
-            &self.leaves,
-            &self.rows,
-            &digest,
+            &hasher,
+            leaves,
+            rows,
+            leaf,
             &path.leaf_sibling_hash,
             &path.auth_path,
             path.leaf_index,
-        )?;
-        Ok(binding_of(are_same(&top, self.root()), difference))
+        )
     }
+}
+
+// What a path of these parts says of a leaf.
+fn binding_in<L: DigestItem, D: DigestItem, T: TreeHasher<L, D>>(
+    alloc: Global,
+    hasher: &T,
+    leaves: &[L],
+    rows: &Levels<D>,
+    leaf: &T::Leaf,
+    sibling: &L,
+    above: &[D],
+    index: usize,
+) -> Result<Binding, Error>
+    requires tree { let h = (T.hashes hasher.now).pair in
+        IsTree h (map L.numbers leaves.now) rows.now }
+    requires fits { length leaves.now < 2 ^ 64 }
+    ensures { let tree = tree_with (T.hashes hasher.now) (map L.numbers leaves.now) in
+        let way : Way = record {
+          sibling = L.numbers sibling.now;
+          above = map D.numbers above.now;
+          index = index;
+        } in
+        Answers (binding_in tree leaf.now way) result }
+{
+    let levels = rows.len() - 1;
+    if above.len() != levels {
+        return Err(Error::IncorrectInputLength(above.len()));
+    }
+    let digest = hasher.leaf(alloc, leaf)?;
+    let (top, difference) = compare(alloc, hasher, leaves, rows, &digest, sibling, above, index)?;
+    Ok(binding_of(are_same(&top, rows.at(levels, 0)), difference))
 }
 
 // What a path says that gives the root or not, and that differs from the tree at this level or nowhere.
@@ -90,31 +115,31 @@ fn binding_of(is_root: bool, difference: Option<usize>) -> Binding
 }
 
 // What a path gives for a leaf digest, and the first level from the root down at which it differs from the tree.
-fn compare<L: DigestItem, C: DigestConverter<L, H::Input>, H: TwoToOneCRHScheme>(
+fn compare<L: DigestItem, D: DigestItem, T: TreeHasher<L, D>>(
     alloc: Global,
-    pair_parameters: &H::Parameters,
+    hasher: &T,
     leaves: &[L],
-    rows: &Levels<H::Output>,
+    rows: &Levels<D>,
     digest: &L,
     sibling: &L,
-    above: &[H::Output],
+    above: &[D],
     path_index: usize,
-) -> Result<(H::Output, Option<usize>), Error>
-    requires tree { let h = pair_of C.conversion H.evaluated H.compressed pair_parameters.now in
+) -> Result<(D, Option<usize>), Error>
+    requires tree { let h = (T.hashes hasher.now).pair in
         IsTree h (map L.numbers leaves.now) rows.now }
     requires fits { length leaves.now < 2 ^ 64 }
     requires count { length rows.now ≡ suc (length above.now) }
-    ensures top { let h = pair_of C.conversion H.evaluated H.compressed pair_parameters.now in
+    ensures top { let h = (T.hashes hasher.now).pair in
         let way : Way = record {
           sibling = L.numbers sibling.now;
-          above = map H.Output.numbers above.now;
+          above = map D.numbers above.now;
           index = path_index;
         } in
-        AnswersBy (λ r. H.Output.numbers r.0) (path_root h way (L.numbers digest.now)) result }
-    ensures differs { let h = pair_of C.conversion H.evaluated H.compressed pair_parameters.now in
+        AnswersBy (λ r. D.numbers r.0) (path_root h way (L.numbers digest.now)) result }
+    ensures differs { let h = (T.hashes hasher.now).pair in
         let way : Way = record {
           sibling = L.numbers sibling.now;
-          above = map H.Output.numbers above.now;
+          above = map D.numbers above.now;
           index = path_index;
         } in
         let tree = map L.numbers leaves.now in
@@ -128,13 +153,7 @@ fn compare<L: DigestItem, C: DigestConverter<L, H::Input>, H: TwoToOneCRHScheme>
         &leaves[neighbour_of(index)],
     );
     let mut difference = other_at(is_own, above.len(), None);
-    let mut current = hash_leaves::<L, C, H>(
-        alloc,
-        pair_parameters,
-        is_bit_set(path_index, 0),
-        digest,
-        sibling,
-    )?;
+    let mut current = hash_leaves(alloc, hasher, is_bit_set(path_index, 0), digest, sibling)?;
     for step in 0..above.len() {
         let level = above.len() - 1 - step;
         let sibling = &above[level];
@@ -142,9 +161,9 @@ fn compare<L: DigestItem, C: DigestConverter<L, H::Input>, H: TwoToOneCRHScheme>
         let own = rows.at(step, place);
         let is_own = are_both(&current, own, sibling, rows.at(step, neighbour_of(place)));
         difference = other_at(is_own, level, difference);
-        current = hash_upper::<H>(
+        current = hash_upper(
             alloc,
-            pair_parameters,
+            hasher,
             is_bit_set(path_index, step + 1),
             &current,
             sibling,

@@ -2,7 +2,6 @@
 
 ghost use Rattle.std.specs.Prelude.{◌≡◌, ◌<◌, ◌≤◌, ◌-◌, ◌/◌, ◌%◌, ◌^◌, ℕ, [], ◌∷◌, map, length, take, drop, get_or, set, slice_index, IfOk, OnErr};
 ghost use Rattle.ark_base.specs.Outcome.{AnswersBy};
-ghost use Rattle.ark_paths.specs.Pair.{pair_of};
 ghost use Rattle.ark_paths.specs.Rows.{rows_from};
 ghost use Rattle.ark_merkle.specs.Batch.{hashed_changes, puts};
 ghost use Rattle.ark_merkle.specs.Changed.{seen_changes, AreChanges, AreHashed, couples_reached, count_over};
@@ -10,10 +9,8 @@ ghost use Rattle.ark_merkle.specs.Changed.{seen_changes, AreChanges, AreHashed, 
 use crate::tree::levels::Levels;
 use ark_base::error::Error;
 use ark_base::serialize::DigestItem;
-use ark_crh::TwoToOneCRHScheme;
-use ark_paths::config::DigestConverter;
+use ark_paths::hasher::TreeHasher;
 use ark_paths::index::is_bit_set;
-use ark_paths::pair::hash_bottom;
 use std::alloc::Global;
 use std::mem::swap;
 
@@ -70,17 +67,17 @@ fn reached_by<'a, D: DigestItem>(
 }
 
 // The hashes of the couples of a row that changes reach.
-fn hash_reached<H: TwoToOneCRHScheme>(
+fn hash_reached<L: DigestItem, D: DigestItem, T: TreeHasher<L, D>>(
     alloc: Global,
-    pair_parameters: &H::Parameters,
-    row: &[H::Output],
-    changes: &[(usize, H::Output)],
-) -> Result<Vec<(usize, H::Output)>, Error>
+    hasher: &T,
+    row: &[D],
+    changes: &[(usize, D)],
+) -> Result<Vec<(usize, D)>, Error>
     requires even { length row.now % 2 ≡ 0 }
     requires changes { AreChanges 0 (length row.now) changes.now }
-    ensures { let numbers = H.Output.numbers in
+    ensures { let numbers = D.numbers in
         let couples = couples_reached (map numbers row.now) (seen_changes numbers changes.now) in
-        let hash = H.compressed pair_parameters.now in
+        let hash = (T.hashes hasher.now).pair.upper in
         AnswersBy (λ above. seen_changes numbers above.items)
         (hashed_changes (λ couple. hash couple.0 couple.1) couples) result }
 {
@@ -93,7 +90,7 @@ fn hash_reached<H: TwoToOneCRHScheme>(
             right,
             behind,
         } = reached_by(row, changes, next);
-        let up = H::compress(alloc, pair_parameters, left, right)?;
+        let up = hasher.upper(alloc, left, right)?;
         above.push((place, up))?;
         next = behind;
     }
@@ -101,18 +98,18 @@ fn hash_reached<H: TwoToOneCRHScheme>(
 }
 
 /// The hashes of the couples of leaf digests that changes reach.
-pub fn hash_reached_leaves<L: DigestItem, C: DigestConverter<L, H::Input>, H: TwoToOneCRHScheme>(
+pub fn hash_reached_leaves<L: DigestItem, D: DigestItem, T: TreeHasher<L, D>>(
     alloc: Global,
-    pair_parameters: &H::Parameters,
+    hasher: &T,
     leaves: &[L],
     changes: &[(usize, L)],
-) -> Result<Vec<(usize, H::Output)>, Error>
+) -> Result<Vec<(usize, D)>, Error>
     requires even { length leaves.now % 2 ≡ 0 }
     requires changes { AreChanges 0 (length leaves.now) changes.now }
     ensures { let numbers = L.numbers in
         let couples = couples_reached (map numbers leaves.now) (seen_changes numbers changes.now) in
-        let pair = pair_of C.conversion H.evaluated H.compressed pair_parameters.now in
-        AnswersBy (λ above. seen_changes H.Output.numbers above.items)
+        let pair = (T.hashes hasher.now).pair in
+        AnswersBy (λ above. seen_changes D.numbers above.items)
         (hashed_changes (λ couple. pair.bottom couple.0 couple.1) couples) result }
 {
     let mut above = Vec::with_capacity(alloc, changes.len())?;
@@ -124,7 +121,7 @@ pub fn hash_reached_leaves<L: DigestItem, C: DigestConverter<L, H::Input>, H: Tw
             right,
             behind,
         } = reached_by(leaves, changes, next);
-        let up = hash_bottom::<L, C, H>(alloc, pair_parameters, left, right)?;
+        let up = hasher.bottom(alloc, left, right)?;
         above.push((place, up))?;
         next = behind;
     }
@@ -166,21 +163,21 @@ fn put_in_row<D: DigestItem>(rows: &mut Levels<D>, row: usize, mut changes: Vec<
 
 /// Puts changed digests into a row, and into the rows above it what these then hash to. All is hashed before anything is
 /// written, each place once; answers how many.
-pub fn change_rows<H: TwoToOneCRHScheme>(
+pub fn change_rows<L: DigestItem, D: DigestItem, T: TreeHasher<L, D>>(
     alloc: Global,
-    pair_parameters: &H::Parameters,
-    rows: &mut Levels<H::Output>,
+    hasher: &T,
+    rows: &mut Levels<D>,
     row: usize,
-    changes: Vec<(usize, H::Output)>,
+    changes: Vec<(usize, D)>,
 ) -> Result<usize, Error>
     requires row { row < length rows.old }
     requires size { length (get_or rows.old row []) ≡ 2 ^ (length rows.old - 1 - row) }
-    requires hashed { AreHashed (H.compressed pair_parameters.now) rows.old }
+    requires hashed { AreHashed (T.hashes hasher.now).pair.upper rows.old }
     requires changes { AreChanges 0 (length (get_or rows.old row [])) changes.items }
-    ensures rows { let changed = seen_changes H.Output.numbers changes.items in
+    ensures rows { let changed = seen_changes D.numbers changes.items in
         let new = puts (get_or rows.old row []) changed in
         let left = length rows.old - 1 - row in
-        AnswersBy (λ _. drop row rows.new) (rows_from (H.compressed pair_parameters.now) left new)
+        AnswersBy (λ _. drop row rows.new) (rows_from (T.hashes hasher.now).pair.upper left new)
         result }
     ensures length { length rows.new ≡ length rows.old }
     ensures below { take row rows.new ≡ take row rows.old }
@@ -192,9 +189,9 @@ pub fn change_rows<H: TwoToOneCRHScheme>(
         put_in_row(rows, row, changes);
         return Ok(0);
     }
-    let above = hash_reached::<H>(alloc, pair_parameters, rows.row(row), &changes)?;
+    let above = hash_reached(alloc, hasher, rows.row(row), &changes)?;
     let hashed = above.len();
-    let more = change_rows::<H>(alloc, pair_parameters, rows, row + 1, above)?;
+    let more = change_rows(alloc, hasher, rows, row + 1, above)?;
     put_in_row(rows, row, changes);
     Ok(hashed + more)
 }

@@ -53,11 +53,12 @@ impl<P: Views> MerkleTree<P> {
         ensures accepted { IfOk result (λ proof. 0 < length indexes.now →
             IsMultiAccepted (P.tree self.now) proof.leaf_indexes.items (P.multi_way proof)) }
     {
+        let (_, leaves, rows) = self.parts();
         let leaf_indexes = each_once(alloc, indexes)?;
-        let leaf_siblings_hashes = digests_at_neighbours(alloc, &self.leaves, &leaf_indexes)?;
+        let leaf_siblings_hashes = digests_at_neighbours(alloc, leaves, &leaf_indexes)?;
         let (auth_paths_prefix_lenghts, auth_paths_suffixes) = digests_beside_each(
             alloc,
-            &self.rows,
+            rows,
             &leaf_indexes,
         )?;
         Ok(MultiPath {

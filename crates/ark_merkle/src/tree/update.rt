@@ -2,7 +2,6 @@
 
 ghost use Rattle.std.specs.Prelude.{◌≡◌, ◌<◌, ◌/◌, ◌^◌, ℕ, suc, [], true, false, map, length, get_or, set, IfOk, OnErr, Ok};
 ghost use Rattle.ark_base.specs.Outcome.{Answers, AnswersBy};
-ghost use Rattle.ark_paths.specs.Pair.{pair_of};
 ghost use Rattle.ark_paths.specs.Root.{root, upper_levels};
 ghost use Rattle.ark_paths.specs.Rows.{IsTree, HoldsIndex, digests_of};
 ghost use Rattle.ark_merkle.specs.Update.{with_leaf, new_root, change_agrees, ChangesWay};
@@ -11,9 +10,8 @@ use crate::tree::MerkleTree;
 use crate::tree::levels::Levels;
 use ark_base::error::Error;
 use ark_base::serialize::DigestItem;
-use ark_crh::{CRHScheme, TwoToOneCRHScheme};
-use ark_paths::config::{Config, DigestConverter};
 use ark_paths::digests::are_same;
+use ark_paths::hasher::TreeHasher;
 use ark_paths::index::{is_bit_set, neighbour_of};
 use ark_paths::pair::{hash_leaves, hash_upper};
 use ark_paths::views::Views;
@@ -30,7 +28,8 @@ impl<P: Views> MerkleTree<P> {
             AnswersBy (λ _. P.tree self.new) new result }
         ensures refused { OnErr result (self.new ≡ self.old) }
     {
-        let (digest, way) = self.changed_way(alloc, index, new_leaf)?;
+        let (hasher, leaves, rows) = self.parts();
+        let (digest, way) = changed_way(alloc, &hasher, leaves, rows, index, new_leaf)?;
         self.put_leaf(index, digest, way);
         Ok(())
     }
@@ -53,7 +52,8 @@ impl<P: Views> MerkleTree<P> {
         ensures kept { IfOk result (λ agrees. agrees ≡ false → self.new ≡ self.old) }
         ensures refused { OnErr result (self.new ≡ self.old) }
     {
-        let (digest, on_way) = self.changed_way(alloc, index, new_leaf)?;
+        let (hasher, leaves, rows) = self.parts();
+        let (digest, on_way) = changed_way(alloc, &hasher, leaves, rows, index, new_leaf)?;
         let agrees = are_same(&on_way[on_way.len() - 1], asserted_new_root);
         if agrees {
             self.put_leaf(index, digest, on_way);
@@ -62,83 +62,81 @@ impl<P: Views> MerkleTree<P> {
     }
 }
 
-impl<P: Config> MerkleTree<P> {
-    // The digest of a leaf, and those on the way of an index where it stands there.
-    fn changed_way(
-        &self,
-        alloc: Global,
-        index: usize,
-        leaf: &P::Leaf,
-    ) -> Result<(P::LeafDigest, Vec<P::InnerDigest>), Error>
-        requires { index < length self.now.leaves }
-        ensures digest { let hashed = P.LeafHash.meaning self.now.leaf_parameters leaf.now in
-            IfOk result (λ r. hashed ≡ Ok (P.LeafDigest.numbers r.0)) }
-        ensures way { let h = ⟦<P as Views>⟧.pair self.now.pair_parameters in
-            IfOk result (λ r. ChangesWay h self.now.leaves index (P.LeafDigest.numbers r.0)
-            (digests_of P.InnerDigest.numbers r.1)) }
-        ensures root { let h = ⟦<P as Views>⟧.pair self.now.pair_parameters in
-            let hashed = P.LeafHash.meaning self.now.leaf_parameters leaf.now in
-            let top = upper_levels self.now.leaves in
-            AnswersBy (λ r. get_or (digests_of P.InnerDigest.numbers r.1) top [])
-            (new_root h hashed index self.now.leaves) result }
-    {
-        let digest = P::LeafHash::evaluate(alloc, &self.leaf_parameters, leaf)?;
-        let way = new_way::<_, P::LeafInnerDigestConverter, P::TwoToOneHash>(
-            alloc,
-            &self.pair_parameters,
-            &self.leaves,
-            &self.rows,
-            index,
-            &digest,
-        )?;
-        Ok((digest, way))
-    }
-
+impl<P: Views> MerkleTree<P> {
     // Puts a leaf digest in its place, and those on its way in theirs.
     fn put_leaf(&mut self, index: usize, digest: P::LeafDigest, way: Vec<P::InnerDigest>)
         requires index { index < length self.old.leaves }
-        requires way { let h = ⟦<P as Views>⟧.pair self.old.pair_parameters in
-            ChangesWay h self.old.leaves index (P.LeafDigest.numbers digest)
+        requires way { let old = P.tree self.old in
+            ChangesWay old.hashes.pair old.leaves index (P.LeafDigest.numbers digest)
             (digests_of P.InnerDigest.numbers way) }
-        ensures { let leaves = set self.old.leaves index (P.LeafDigest.numbers digest) in
-            self.new ≡ record self.old { leaves = leaves } }
+        ensures { let old = P.tree self.old in
+            let leaves = set old.leaves index (P.LeafDigest.numbers digest) in
+            P.tree self.new ≡ record { hashes = old.hashes; leaves = leaves } }
     {
         self.leaves[index] = digest;
         put_way(&mut self.rows, index, way);
     }
 }
 
-// The digests on the way of an index, the lowest first, where this digest stands there.
-fn new_way<L: DigestItem, C: DigestConverter<L, H::Input>, H: TwoToOneCRHScheme>(
+// The digest of a leaf, and those on the way of an index where it stands there.
+fn changed_way<L: DigestItem, D: DigestItem, T: TreeHasher<L, D>>(
     alloc: Global,
-    pair_parameters: &H::Parameters,
+    hasher: &T,
     leaves: &[L],
-    rows: &Levels<H::Output>,
+    rows: &Levels<D>,
     index: usize,
-    digest: &L,
-) -> Result<Vec<H::Output>, Error>
-    requires tree { let h = pair_of C.conversion H.evaluated H.compressed pair_parameters.now in
+    leaf: &T::Leaf,
+) -> Result<(L, Vec<D>), Error>
+    requires tree { let h = (T.hashes hasher.now).pair in
         IsTree h (map L.numbers leaves.now) rows.now }
     requires index { index < length leaves.now }
     requires fits { length leaves.now < 2 ^ 64 }
-    ensures way { let h = pair_of C.conversion H.evaluated H.compressed pair_parameters.now in
+    ensures digest { let hashed = (T.hashes hasher.now).leaf leaf.now in
+        IfOk result (λ r. hashed ≡ Ok (L.numbers r.0)) }
+    ensures way { let h = (T.hashes hasher.now).pair in
+        IfOk result (λ r. ChangesWay h (map L.numbers leaves.now) index (L.numbers r.0)
+        (digests_of D.numbers r.1)) }
+    ensures root { let hashes = T.hashes hasher.now in
+        let old = map L.numbers leaves.now in
+        AnswersBy (λ r. get_or (digests_of D.numbers r.1) (upper_levels old) [])
+        (new_root hashes.pair (hashes.leaf leaf.now) index old) result }
+{
+    let digest = hasher.leaf(alloc, leaf)?;
+    let way = new_way(alloc, hasher, leaves, rows, index, &digest)?;
+    Ok((digest, way))
+}
+
+// The digests on the way of an index, the lowest first, where this digest stands there.
+fn new_way<L: DigestItem, D: DigestItem, T: TreeHasher<L, D>>(
+    alloc: Global,
+    hasher: &T,
+    leaves: &[L],
+    rows: &Levels<D>,
+    index: usize,
+    digest: &L,
+) -> Result<Vec<D>, Error>
+    requires tree { let h = (T.hashes hasher.now).pair in
+        IsTree h (map L.numbers leaves.now) rows.now }
+    requires index { index < length leaves.now }
+    requires fits { length leaves.now < 2 ^ 64 }
+    ensures way { let h = (T.hashes hasher.now).pair in
         let old = map L.numbers leaves.now in
         IfOk result (λ way. ChangesWay h old index (L.numbers digest.now)
-        (digests_of H.Output.numbers way)) }
-    ensures root { let h = pair_of C.conversion H.evaluated H.compressed pair_parameters.now in
+        (digests_of D.numbers way)) }
+    ensures root { let h = (T.hashes hasher.now).pair in
         let old = map L.numbers leaves.now in
-        AnswersBy (λ way. get_or (digests_of H.Output.numbers way) (upper_levels old) [])
+        AnswersBy (λ way. get_or (digests_of D.numbers way) (upper_levels old) [])
         (root h (set old index (L.numbers digest.now))) result }
 {
     let mut way = Vec::with_capacity(alloc, rows.len())?;
     let sibling = &leaves[neighbour_of(index)];
     let is_right = is_bit_set(index, 0);
-    way.push(hash_leaves::<L, C, H>(alloc, pair_parameters, is_right, digest, sibling)?)?;
+    way.push(hash_leaves(alloc, hasher, is_right, digest, sibling)?)?;
     for level in 1..rows.len() {
         let sibling = rows.at(level - 1, neighbour_of(index >> level));
-        let up = hash_upper::<H>(
+        let up = hash_upper(
             alloc,
-            pair_parameters,
+            hasher,
             is_bit_set(index, level),
             &way[level - 1],
             sibling,

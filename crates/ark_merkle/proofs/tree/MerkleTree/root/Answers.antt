@@ -1,20 +1,16 @@
-use Rattle.std.proofs.Common.{arith}
-use Rattle.ark_paths.specs.Pair.{pair_of}
-use Rattle.ark_merkle.proofs.TreeReads.{seen_tree, top-inside, root-read}
+use Rattle.std.proofs.Common.{◌≡◌, Ok, arith, subst}
+use Rattle.ark_paths.specs.Tree.{HashedTree, root_in}
+use Rattle.ark_merkle.proofs.TreeReads.{top-inside, root-read}
 use Rattle.ark_merkle.proofs.tree.MerkleTree.root.Goals as goal
 
 pub at-requires : goal.at-requires
-at-requires g c =
-    let two = g.P.TwoToOneHash.TwoToOneCRHScheme in
-    let pair = pair_of g.P.LeafInnerDigestConverter.DigestConverter.conversion two.evaluated two.compressed in
-    let tree = seen_tree pair c.self.inside.rows _ _ c.self.view_is c.self.invariant in
-    let now = c.args.self.now in
-    let some = top-inside (pair now.pair_parameters) now.leaves c.self.inside.rows tree c.len.result c.len.ensures.count in
-    record { row = omega (arith, c.len.ensures.count, c.self.invariant.count); place = some }
+at-requires g c = record {
+  row = omega (arith, c.len.ensures.count, c.parts.ensures.tree.count);
+  place = top-inside _ _ _ c.parts.ensures.tree c.len.result c.len.ensures.count;
+}
 
 pub returns : goal.returns
 returns g c =
-    let two = g.P.TwoToOneHash.TwoToOneCRHScheme in
-    let pair = pair_of g.P.LeafInnerDigestConverter.DigestConverter.conversion two.evaluated two.compressed in
-    let tree = seen_tree pair c.self.inside.rows _ _ c.self.view_is c.self.invariant in
-    rw g.met.P.Views.tree_is (root-read (pair c.args.self.now.pair_parameters) c.args.self.now.leaves c.self.inside.rows tree c.len.result _ c.len.ensures.count c.at.ensures)
+    let digest = g.P.InnerDigest.Numbered.numbers c.at.result.now in
+    subst (λ (t : HashedTree _). root_in t ≡ Ok digest) c.parts.ensures.seen
+    (root-read _ _ _ c.parts.ensures.tree c.len.result digest c.len.ensures.count c.at.ensures)

@@ -1,71 +1,67 @@
-use Rattle.std.proofs.Common.{◌≡◌, ◌<◌, ◌∙◌, ℕ, length, map, ap, sym}
+use Rattle.std.proofs.Common.{◌≡◌, ◌∙◌, List, length, map, Ok, ap, subst, sym}
+use Rattle.std.specs.Vec.{with_items}
 use Rattle.std.proofs.lemmas.List.{length-map, with_items_is}
-use Rattle.std.specs.List.{All}
-use Rattle.ark_paths.specs.Pair.{pair_of}
-use Rattle.ark_merkle.specs.Batch.{last_changes}
-use Rattle.ark_paths.specs.Above.{count_above}
-use Rattle.ark_merkle.specs.Changed.{seen_changes}
-use Rattle.ark_merkle.proofs.Batches.{AreChanges-unseen, with_leaves-each}
-use Rattle.ark_merkle.proofs.Reached.{hashed-rise}
-use Rattle.ark_merkle.proofs.LastLeaves.{last-changes, batch-answered, batch-counted, if_ok-again, on_err-again}
-use Rattle.ark_merkle.proofs.TreeReads.{seen_tree, log2-leaves, rooted-leaves}
+use Rattle.ark_paths.specs.Pair.{HashPair, Hashes, pair_of}
+use Rattle.ark_paths.specs.Rows.{IsTree, digests_of}
+use Rattle.ark_paths.specs.Tree.{HashedTree}
+use Rattle.ark_merkle.specs.Batch.{with_leaves, with_each_leaf}
+use Rattle.ark_merkle.proofs.LastLeaves.{batch-seen, on_err-again}
+use Rattle.ark_merkle.proofs.TreeReads.{left_of, seen-tree}
 use Rattle.ark_merkle.proofs.tree.MerkleTree.update_many_counting.Goals as goal
 
-pub change_leaves-requires-clause-changes : goal.change_leaves-requires-clause-changes
-change_leaves-requires-clause-changes g c =
-    let numbers = g.P.LeafDigest.Numbered.numbers in
+pub update_leaves-requires-clause-changes : goal.update_leaves-requires-clause-changes
+update_leaves-requires-clause-changes g c =
     let leaves = c.self.inside.leaves in
-    let long : length c.args.self.now.leaves ≡ length leaves.items = sym (ap (λ t. length t.leaves) c.self.view_is) ∙ length-map leaves.items numbers in
-    let inside : All (λ change. change.0 < length leaves.items) c.args.changes.now = rw (← long) c.requires in
-    let hash = g.P.LeafHash.CRHScheme.meaning c.self.inside.leaf_parameters in
-    rw c.deref_mut.ensures.value (AreChanges-unseen numbers 0 (length leaves.items) c.in_ok-digests.digests.items (hashed-rise hash 0 (length leaves.items) (last_changes c.args.changes.now) _ (last-changes (length leaves.items) c.args.changes.now inside) c.in_ok-digests.ensures))
+    let long : length c.args.self.now.leaves ≡ length leaves.items =
+    sym (ap (λ t. length t.leaves) c.self.view_is) ∙ length-map leaves.items g.P.LeafDigest.Numbered.numbers in
+    rw (c.deref_mut.ensures.value, ← long) c.requires
 
-pub returns-clause-tree : goal.returns-clause-tree
-returns-clause-tree g c =
+pub update_leaves-requires-clause-tree : goal.update_leaves-requires-clause-tree
+update_leaves-requires-clause-tree g c =
+    let inside = c.self.inside in
+    let hashes = c.new-hasher.ensures
+    ∙ ap (λ (f : _ → _ → Hashes _). f inside.leaf_parameters inside.pair_parameters) g.met.P.Views.hashes_are in
+    rw (c.deref_mut.ensures.value, ap (λ (h : Hashes _). h.pair) hashes) c.self.invariant
+
+pub invariant_of-self : goal.invariant_of-self
+invariant_of-self g c =
+    let inside = c.self.inside in
+    let numbers = g.P.LeafDigest.Numbered.numbers in
+    let new = c.update_leaves.new in
+    let hashes = c.new-hasher.ensures
+    ∙ ap (λ (f : _ → _ → Hashes _). f inside.leaf_parameters inside.pair_parameters) g.met.P.Views.hashes_are in
+    let items = with_items_is inside.leaves new.leaves (c.update_leaves.auto.leaves ∙ c.deref_mut.ensures.len) in
+    subst (λ (h : HashPair). IsTree h (digests_of numbers (with_items inside.leaves new.leaves)) new.rows)
+    (ap (λ (h : Hashes _). h.pair) hashes)
+    (subst (λ (xs : List _). IsTree (left_of hashes).pair (map numbers xs) new.rows) (sym items)
+    c.update_leaves.ensures.tree)
+
+pub returns : goal.returns
+returns g c =
     let two = g.P.TwoToOneHash.TwoToOneCRHScheme in
     let pair = pair_of g.P.LeafInnerDigestConverter.DigestConverter.conversion two.evaluated two.compressed in
     let numbers = g.P.LeafDigest.Numbered.numbers in
-    let new = c.change_leaves.new.leaves in
-    let items = with_items_is c.self.inside.leaves new (c.change_leaves.auto.leaves ∙ c.deref_mut.ensures.len) in
-    rw g.met.P.Views.tree_is
-    (batch-answered g.P.LeafHash.CRHScheme.meaning pair _ c.args.self.now c.self.view_is c.args.changes.now (seen_changes numbers c.in_ok-digests.digests.items) c.in_ok-digests.ensures (map numbers new) _ c.change_leaves.result
-    (rw c.deref_mut.ensures.value at c.change_leaves.ensures.leaves) (ap (map numbers) (sym items)))
-
-pub returns-clause-count : goal.returns-clause-count
-returns-clause-count g c =
-    let two = g.P.TwoToOneHash.TwoToOneCRHScheme in
-    let pair = pair_of g.P.LeafInnerDigestConverter.DigestConverter.conversion two.evaluated two.compressed in
-    let now = c.args.self.now in
-    let rows = c.self.inside.rows in
-    let tree = seen_tree pair rows _ now c.self.view_is c.self.invariant in
-    let levels = log2-leaves (pair now.pair_parameters) now.leaves rows tree in
-    let places = map (λ change. change.0) c.args.changes.now in
-    let counted = batch-counted (g.P.LeafHash.CRHScheme.meaning c.self.inside.leaf_parameters) g.P.LeafDigest.Numbered.numbers (length rows) c.args.changes.now c.in_ok-digests.digests.items c.in_ok-digests.ensures in
-    if_ok-again _ _ c.change_leaves.result c.change_leaves.ensures.count (λ count is. is ∙ counted ∙ ap (λ (n : ℕ). count_above n places) (sym levels))
-
-pub returns-clause-refused : goal.returns-clause-refused
-returns-clause-refused g c =
-    let numbers = g.P.LeafDigest.Numbered.numbers in
-    let leaves = c.self.inside.leaves in
-    let new = c.change_leaves.new.leaves in
-    let items = with_items_is leaves new (c.change_leaves.auto.leaves ∙ c.deref_mut.ensures.len) in
-    on_err-again _ _ c.change_leaves.result c.change_leaves.ensures.refused
-    (λ same. ap (λ ds. record { leaf_parameters = c.self.inside.leaf_parameters; pair_parameters = c.self.inside.pair_parameters; leaves = map numbers ds }) (items ∙ same ∙ c.deref_mut.ensures.value) ∙ c.self.view_is)
-
-pub returns-in_err-digests-clause-one_by_one : goal.returns-in_err-digests-clause-one_by_one
-returns-in_err-digests-clause-one_by_one g c =
-    let two = g.P.TwoToOneHash.TwoToOneCRHScheme in
-    let pair = pair_of g.P.LeafInnerDigestConverter.DigestConverter.conversion two.evaluated two.compressed in
-    let now = c.args.self.now in
-    let tree = seen_tree pair c.self.inside.rows _ now c.self.view_is c.self.invariant in
-    let rooted = rooted-leaves (pair now.pair_parameters) now.leaves c.self.inside.rows tree in
-    rw g.met.P.Views.tree_is (λ made. with_leaves-each _ c.args.changes.now made rooted)
-
-pub returns-clause-one_by_one : goal.returns-clause-one_by_one
-returns-clause-one_by_one g c =
-    let two = g.P.TwoToOneHash.TwoToOneCRHScheme in
-    let pair = pair_of g.P.LeafInnerDigestConverter.DigestConverter.conversion two.evaluated two.compressed in
-    let now = c.args.self.now in
-    let tree = seen_tree pair c.self.inside.rows _ now c.self.view_is c.self.invariant in
-    let rooted = rooted-leaves (pair now.pair_parameters) now.leaves c.self.inside.rows tree in
-    rw g.met.P.Views.tree_is (λ made. with_leaves-each _ c.args.changes.now made rooted)
+    let inside = c.self.inside in
+    let changes = c.args.changes.now in
+    let result = c.update_leaves.result in
+    let new = c.update_leaves.new.leaves in
+    let hashes = c.new-hasher.ensures
+    ∙ ap (λ (f : _ → _ → Hashes _). f inside.leaf_parameters inside.pair_parameters) g.met.P.Views.hashes_are in
+    let items = with_items_is inside.leaves new (c.update_leaves.auto.leaves ∙ c.deref_mut.ensures.len) in
+    let long : length c.deref_mut.result.now ≡ length c.args.self.now.leaves = ap length c.deref_mut.ensures.value
+    ∙ sym (length-map inside.leaves.items numbers) ∙ ap (λ t. length t.leaves) c.self.view_is in
+    let same = seen-tree _ _ c.self.view_is g.P.LeafHash.CRHScheme.meaning pair g.P.Views.tree g.met.P.Views.tree_is in
+    record {
+      tree = rw g.met.P.Views.tree_is
+          (batch-seen g.P.LeafHash.CRHScheme.meaning pair _ c.args.self.now c.self.view_is _ hashes changes
+          (map numbers new) _ result (rw c.deref_mut.ensures.value at c.update_leaves.ensures.leaves)
+          (ap (map numbers) (sym items)));
+      count = rw (← long) c.update_leaves.ensures.count;
+      refused = on_err-again _ _ result c.update_leaves.ensures.refused
+          (λ alike. ap (λ ds. record { leaf_parameters = inside.leaf_parameters; pair_parameters = inside.pair_parameters; leaves = map numbers ds })
+          (items ∙ alike ∙ c.deref_mut.ensures.value) ∙ c.self.view_is);
+      one_by_one =
+          subst (λ (t : HashedTree _). (made : HashedTree _) → with_each_leaf t changes ≡ Ok made
+          → with_leaves t changes ≡ Ok made) (rw (c.deref_mut.ensures.value, hashes) same)
+          c.update_leaves.ensures.one_by_one;
+    }

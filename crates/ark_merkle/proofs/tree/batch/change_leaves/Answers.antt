@@ -22,7 +22,7 @@ change_rows-requires-clause-hashed g c = rows-hashed _ _ _ c.requires.tree
 pub change_rows-requires-clause-changes : goal.change_rows-requires-clause-changes
 change_rows-requires-clause-changes g c =
     let inside = AreChanges-of g.L.Numbered.numbers c.args.leaves.now c.args.changes.items c.requires.changes in
-    AreChanges-unseen g.H.Output.Numbered.numbers 0 _ c.in_ok-above.above.items (lowest-changes _ _ _ c.requires.tree _ inside _ (rw c.deref.ensures.value at c.in_ok-above.ensures))
+    AreChanges-unseen g.D.Numbered.numbers 0 _ c.in_ok-above.above.items (lowest-changes _ _ _ c.requires.tree _ inside _ (rw c.deref.ensures.value at c.in_ok-above.ensures))
 
 pub returns-in_err-more-clause-leaves : goal.returns-in_err-more-clause-leaves
 returns-in_err-more-clause-leaves g c =
@@ -32,7 +32,7 @@ returns-in_err-more-clause-leaves g c =
 
 pub overflow_add-result : goal.overflow_add-result
 overflow_add-result g c =
-    let inner = g.H.Output.Numbered.numbers in
+    let inner = g.D.Numbered.numbers in
     let inside = AreChanges-of g.L.Numbered.numbers c.args.leaves.now c.args.changes.items c.requires.changes in
     let total = count_over-leaves _ _ _ c.requires.tree _ inside _ (rw c.deref.ensures.value at c.in_ok-above.ensures) in
     let below = count_over-below _ _ _ c.requires.tree _ inside in
@@ -51,7 +51,7 @@ returns-clause-tree g c =
 pub returns-clause-count : goal.returns-clause-count
 returns-clause-count g c =
     let leaf = g.L.Numbered.numbers in
-    let inner = g.H.Output.Numbered.numbers in
+    let inner = g.D.Numbered.numbers in
     let inside = AreChanges-of leaf c.args.leaves.now c.args.changes.items c.requires.changes in
     let total = count_over-leaves _ _ _ c.requires.tree _ inside _ (rw c.deref.ensures.value at c.in_ok-above.ensures) in
     omega (arith, total, c.len-hashed.ensures, c.in_ok-above.above.ok.0, length-seen inner c.in_ok-above.above.items, c.in_ok-more.ensures.count, ap (count_over (length c.args.rows.now - 1 - 0)) (places-seen inner c.in_ok-above.above.items), ap (count_over (length c.args.rows.now)) (places-seen leaf c.args.changes.items))

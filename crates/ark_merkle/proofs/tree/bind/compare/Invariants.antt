@@ -1,5 +1,4 @@
 use Rattle.std.proofs.Common.{◌≡◌, ◌-◌, suc, length, map, Ok}
-use Rattle.ark_paths.specs.Pair.{pair_of}
 use Rattle.ark_paths.specs.Path.{Way}
 use Rattle.ark_paths.proofs.Binds.{top_from}
 use Rattle.ark_merkle.proofs.Compares.{difference_from}
@@ -8,9 +7,8 @@ use Rattle.ark_merkle.proofs.tree.bind.compare.Given as goal
 -- what the path gives so far, and the first level at which it differs so far
 abbrev pub invariant-loop-step : goal.invariant-loop-step
 invariant-loop-step g l =
-    let two = g.H.TwoToOneCRHScheme in
-    let h = pair_of g.C.DigestConverter.conversion two.evaluated two.compressed l.pair_parameters in
-    let numbers = g.H.Output.Numbered.numbers in
+    let h = (g.T.TreeHasher.hashes l.hasher).pair in
+    let numbers = g.D.Numbered.numbers in
     let leaf_numbers = g.L.Numbered.numbers in
     let way : Way = record { sibling = leaf_numbers l.sibling; above = map numbers l.above; index = l.path_index } in
     let m = length l.above in

@@ -6,12 +6,12 @@ use Rattle.ark_merkle.proofs.Piles.{is_piled-none, is_piled-refused, is_piled-mo
 use Rattle.ark_merkle.proofs.tree.build.pair_rows.Goals as goal
 
 pub loop-couple-init : goal.loop-couple-init
-loop-couple-init g c = is_piled-none (g.H.TwoToOneCRHScheme.compressed c.args.pair_parameters.now) (digests_of g.H.Output.Numbered.numbers c.args.digests)
+loop-couple-init g c = is_piled-none (g.T.TreeHasher.hashes c.args.hasher.now).pair.upper (digests_of g.D.Numbered.numbers c.args.digests)
 
 pub returns-in_err-up-clause-rows : goal.returns-in_err-up-clause-rows
 returns-in_err-up-clause-rows g c =
-    let numbers = g.H.Output.Numbered.numbers in
-    let hash = g.H.TwoToOneCRHScheme.compressed c.args.pair_parameters.now in
+    let numbers = g.D.Numbered.numbers in
+    let hash = (g.T.TreeHasher.hashes c.args.hasher.now).pair.upper in
     let row = digests_of numbers c.args.digests in
     let couple = c.loop-couple.couple in
     let now = c.loop-couple.digests in
@@ -25,8 +25,8 @@ returns-in_err-up-clause-rows g c =
 
 pub loop-couple-preserved : goal.loop-couple-preserved
 loop-couple-preserved g c =
-    let numbers = g.H.Output.Numbered.numbers in
-    let hash = g.H.TwoToOneCRHScheme.compressed c.args.pair_parameters.now in
+    let numbers = g.D.Numbered.numbers in
+    let hash = (g.T.TreeHasher.hashes c.args.hasher.now).pair.upper in
     let row = digests_of numbers c.args.digests in
     let couple = c.loop-couple.couple in
     let now = c.loop-couple.digests in
@@ -39,24 +39,24 @@ loop-couple-preserved g c =
 
 pub returns-clause-rows : goal.returns-clause-rows
 returns-clause-rows g c =
-    let numbers = g.H.Output.Numbered.numbers in
+    let numbers = g.D.Numbered.numbers in
     let row = digests_of numbers c.args.digests in
     let long : length row ≡ length c.args.digests.items = length-map c.args.digests.items numbers in
-    λ k size. rows-all (g.H.TwoToOneCRHScheme.compressed c.args.pair_parameters.now) row k size c.loop-couple.couple (digests_of numbers c.loop-couple.digests) (omega arith) c.loop-couple.invariant
+    λ k size. rows-all (g.T.TreeHasher.hashes c.args.hasher.now).pair.upper row k size c.loop-couple.couple (digests_of numbers c.loop-couple.digests) (omega arith) c.loop-couple.invariant
 
 pub returns-clause-whole : goal.returns-clause-whole
 returns-clause-whole g c =
-    let numbers = g.H.Output.Numbered.numbers in
+    let numbers = g.D.Numbered.numbers in
     let now = c.loop-couple.digests in
     omega (
       arith,
-      length-piled (g.H.TwoToOneCRHScheme.compressed c.args.pair_parameters.now) (digests_of numbers c.args.digests) c.loop-couple.couple (digests_of numbers now) c.loop-couple.invariant,
+      length-piled (g.T.TreeHasher.hashes c.args.hasher.now).pair.upper (digests_of numbers c.args.digests) c.loop-couple.couple (digests_of numbers now) c.loop-couple.invariant,
       length-map now.items numbers,
       length-map c.args.digests.items numbers,
     )
 
 pub index-left-requires : goal.index-left-requires
-index-left-requires g c = omega (arith, couple_inside (g.H.TwoToOneCRHScheme.compressed c.args.pair_parameters.now) g.H.Output.Numbered.numbers c.args.digests c.loop-couple.digests c.loop-couple.couple c.loop-couple.invariant (omega arith))
+index-left-requires g c = omega (arith, couple_inside (g.T.TreeHasher.hashes c.args.hasher.now).pair.upper g.D.Numbered.numbers c.args.digests c.loop-couple.digests c.loop-couple.couple c.loop-couple.invariant (omega arith))
 
 pub index-right-requires : goal.index-right-requires
-index-right-requires g c = omega (arith, couple_inside (g.H.TwoToOneCRHScheme.compressed c.args.pair_parameters.now) g.H.Output.Numbered.numbers c.args.digests c.loop-couple.digests c.loop-couple.couple c.loop-couple.invariant (omega arith))
+index-right-requires g c = omega (arith, couple_inside (g.T.TreeHasher.hashes c.args.hasher.now).pair.upper g.D.Numbered.numbers c.args.digests c.loop-couple.digests c.loop-couple.couple c.loop-couple.invariant (omega arith))

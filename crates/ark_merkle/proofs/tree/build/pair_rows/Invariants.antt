@@ -4,5 +4,5 @@ use Rattle.ark_merkle.proofs.tree.build.pair_rows.Given as goal
 
 abbrev pub invariant-loop-couple : goal.invariant-loop-couple
 invariant-loop-couple g l =
-    let numbers = g.H.Output.Numbered.numbers in
-    IsPiled (g.H.TwoToOneCRHScheme.compressed l.pair_parameters) (digests_of numbers l.initial.digests) l.couple (digests_of numbers l.digests)
+    let numbers = g.D.Numbered.numbers in
+    IsPiled (g.T.TreeHasher.hashes l.hasher).pair.upper (digests_of numbers l.initial.digests) l.couple (digests_of numbers l.digests)

@@ -2,7 +2,6 @@ use Rattle.std.proofs.Common.{◌≡◌, ◌^◌, ◌∙◌, suc, ℕ, length, m
 use Rattle.std.proofs.lemmas.List.{length-map}
 use Rattle.std.proofs.Math.Nat.{pow-succ'}
 use Rattle.ark_base.proofs.Refusals.{passed_on}
-use Rattle.ark_paths.specs.Pair.{pair_of}
 use Rattle.ark_paths.specs.Rows.{digests_of}
 use Rattle.ark_merkle.specs.LevelOrder.{rows_in_turn}
 use Rattle.ark_merkle.proofs.Piles.{lowest-half, above-lowest, log-size}
@@ -10,10 +9,9 @@ use Rattle.ark_merkle.proofs.tree.build.rows_above.Goals as goal
 
 pub returns-in_err-rows : goal.returns-in_err-rows
 returns-in_err-rows g c =
-    let two = g.H.TwoToOneCRHScheme in
-    let h = pair_of g.C.DigestConverter.conversion two.evaluated two.compressed c.args.pair_parameters.now in
+    let h = (g.T.TreeHasher.hashes c.args.hasher.now).pair in
     let leaves = map g.L.Numbered.numbers c.args.digests.now in
-    let row = digests_of g.H.Output.Numbered.numbers c.in_ok-row.row in
+    let row = digests_of g.D.Numbered.numbers c.in_ok-row.row in
     let m = c.requires.0 in
     let long : length leaves ≡ 2 ^ suc m = length-map c.args.digests.now g.L.Numbered.numbers ∙ c.requires.1 in
     passed_on _ _ c.from_residual-in_err-rows.result c.in_err-rows.field-0.0 c.from_residual-in_err-rows.ensures.1 (c.in_err-rows.ensures.rows m (lowest-half h leaves row m long c.in_ok-row.ensures))
@@ -21,9 +19,8 @@ returns-in_err-rows g c =
 
 pub of_rows-requires : goal.of_rows-requires
 of_rows-requires g c =
-    let two = g.H.TwoToOneCRHScheme in
-    let h = pair_of g.C.DigestConverter.conversion two.evaluated two.compressed c.args.pair_parameters.now in
-    let numbers = g.H.Output.Numbered.numbers in
+    let h = (g.T.TreeHasher.hashes c.args.hasher.now).pair in
+    let numbers = g.D.Numbered.numbers in
     let leaves = map g.L.Numbered.numbers c.args.digests.now in
     let m = c.requires.0 in
     let long : length leaves ≡ 2 ^ suc m = length-map c.args.digests.now g.L.Numbered.numbers ∙ c.requires.1 in
@@ -33,9 +30,8 @@ of_rows-requires g c =
 
 pub returns : goal.returns
 returns g c =
-    let two = g.H.TwoToOneCRHScheme in
-    let h = pair_of g.C.DigestConverter.conversion two.evaluated two.compressed c.args.pair_parameters.now in
-    let numbers = g.H.Output.Numbered.numbers in
+    let h = (g.T.TreeHasher.hashes c.args.hasher.now).pair in
+    let numbers = g.D.Numbered.numbers in
     let leaves = map g.L.Numbered.numbers c.args.digests.now in
     let row = digests_of numbers c.in_ok-row.row in
     let m = c.requires.0 in

@@ -7,19 +7,19 @@ use Rattle.ark_merkle.proofs.tree.changes.hash_reached.Goals as goal
 
 pub returns-in_err-up : goal.returns-in_err-up
 returns-in_err-up g c =
-    let hash = of_couple (g.H.TwoToOneCRHScheme.compressed c.args.pair_parameters.now) in
+    let hash = of_couple (g.T.TreeHasher.hashes c.args.hasher.now).pair.upper in
     let refusal = c.in_err-up.field-0.0 in
     passed_on _ _ c.from_residual-in_err-up.result refusal c.from_residual-in_err-up.ensures.1 c.in_err-up.ensures
     (hashed_so_far-refused hash _ _ _ _ refusal (rw c.reached_by-place.ensures.reached at c.loop-next.invariant.1))
 
 pub loop-next-preserved : goal.loop-next-preserved
 loop-next-preserved g c =
-    let hash = of_couple (g.H.TwoToOneCRHScheme.compressed c.args.pair_parameters.now) in
+    let hash = of_couple (g.T.TreeHasher.hashes c.args.hasher.now).pair.upper in
     let so = rw c.reached_by-place.ensures.reached at c.loop-next.invariant.1 in
-    (c.reached_by-place.ensures.inside, rw (c.in_ok-push.ensures.items, map_push) (hashed_so_far-more hash _ _ _ _ (g.H.Output.Numbered.numbers c.in_ok-up.up) so c.in_ok-up.ensures))
+    (c.reached_by-place.ensures.inside, rw (c.in_ok-push.ensures.items, map_push) (hashed_so_far-more hash _ _ _ _ (g.D.Numbered.numbers c.in_ok-up.up) so c.in_ok-up.ensures))
 
 pub returns : goal.returns
 returns g c =
-    let hash = of_couple (g.H.TwoToOneCRHScheme.compressed c.args.pair_parameters.now) in
+    let hash = of_couple (g.T.TreeHasher.hashes c.args.hasher.now).pair.upper in
     let none : drop c.loop-next.next c.args.changes.now ≡ [] = drop_all c.loop-next.next c.args.changes.now c.loop-next-test.false in
     hashed_so_far-all hash _ _ (rw none at c.loop-next.invariant.1)

@@ -1,5 +1,4 @@
 use Rattle.std.proofs.Common.{◌-◌, ◌≤◌, length, map, drop}
-use Rattle.ark_paths.specs.Pair.{bottom_pair}
 use Rattle.ark_merkle.specs.Changed.{seen_changes, couples_reached}
 use Rattle.ark_merkle.proofs.Batches.{AreHashedSoFar}
 use Rattle.ark_merkle.proofs.Reached.{of_couple}
@@ -9,9 +8,9 @@ use Rattle.ark_merkle.proofs.tree.changes.hash_reached_leaves.Given as goal
 abbrev pub invariant-loop-next : goal.invariant-loop-next
 invariant-loop-next g l =
     let numbers = g.L.Numbered.numbers in
-    let hash = bottom_pair g.C.DigestConverter.conversion (g.H.TwoToOneCRHScheme.evaluated l.pair_parameters) in
+    let hash = (g.T.TreeHasher.hashes l.hasher).pair.bottom in
     let from = λ (n : _). couples_reached (map numbers l.leaves) (seen_changes numbers (drop n l.changes)) in
-    (l.next ≤ length l.changes) × AreHashedSoFar (of_couple hash) (from 0) (seen_changes g.H.Output.Numbered.numbers l.above.items) (from l.next)
+    (l.next ≤ length l.changes) × AreHashedSoFar (of_couple hash) (from 0) (seen_changes g.D.Numbered.numbers l.above.items) (from l.next)
 
 abbrev pub decreases-loop-next : goal.decreases-loop-next
 decreases-loop-next g l = length l.changes - l.next
