@@ -1,0 +1,5 @@
+mod ChMaj
+pub mod LaneLemmas
+pub mod LongTextLemmas
+pub mod PairLemmas
+pub mod TextLemmas

@@ -1,0 +1,14 @@
+//! SHA-256 (FIPS 180-4) of four messages at once, a lane of a vector for each.
+//!
+//! Each result is the digest that the kit's `sha2` gives: no caller can tell the two apart but by the time.
+#![tactic(auto)]
+
+mod constants;
+mod lanes;
+mod long_texts;
+mod pairs;
+mod texts;
+
+pub use long_texts::four_long_texts;
+pub use pairs::four_pairs;
+pub use texts::four_texts;
