@@ -7,6 +7,7 @@ pub mod Bounds
 pub mod Changes
 pub mod LevelOrder
 pub mod Piles
+pub mod PilesOfFour
 pub mod TreeChanges
 pub mod Puts
 pub mod TreeReads

@@ -4,6 +4,7 @@ pub mod Collisions
 pub mod Clients
 pub mod Climbs
 pub mod Eaches
+pub mod Fours
 pub mod CoupleLemmas
 pub mod Logs
 pub mod Levels

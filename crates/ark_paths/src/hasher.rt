@@ -2,11 +2,12 @@
 
 ghost use Rattle.std.specs.Prelude.{◌≡◌};
 ghost use Rattle.ark_base.specs.Outcome.{AnswersBy};
+ghost use Rattle.ark_crh.specs.Four.{four_in_turn, four_seen};
 ghost use Rattle.ark_paths.specs.Pair.{Hashes, pair_of};
 
 use crate::config::{Config, LeafParam, TwoToOneParam};
 use crate::multi_path::hasher::PairHasher;
-use crate::pair::hash_bottom;
+use crate::pair::{hash_bottom, hash_bottom_four};
 use crate::views::Views;
 use ark_base::error::Error;
 use ark_base::serialize::DigestItem;
@@ -35,6 +36,84 @@ pub trait TreeHasher<L: DigestItem, D: DigestItem> {
     fn upper(&self, alloc: Global, left: &D, right: &D) -> Result<D, Error>
         ensures { let hash = (hashes self.now).pair.upper in
             AnswersBy D.numbers (hash (D.numbers left.now) (D.numbers right.now)) result };
+
+    /// Hashes four leaves, each as `leaf` does. A hasher may hash them together.
+    ///
+    /// Errors: the first of `leaf`, from the left.
+    fn leaf_four(
+        &self,
+        alloc: Global,
+        a: &Self::Leaf,
+        b: &Self::Leaf,
+        c: &Self::Leaf,
+        d: &Self::Leaf,
+    ) -> Result<(L, L, L, L), Error>
+        ensures { let hash = (hashes self.now).leaf in
+            AnswersBy (four_seen L.numbers)
+            (four_in_turn (hash a.now) (hash b.now) (hash c.now) (hash d.now)) result }
+    {
+        let first = self.leaf(alloc, a)?;
+        let second = self.leaf(alloc, b)?;
+        let third = self.leaf(alloc, c)?;
+        let fourth = self.leaf(alloc, d)?;
+        Ok((first, second, third, fourth))
+    }
+
+    /// Hashes four couples, each as `bottom` does. A hasher may hash them together.
+    ///
+    /// Errors: the first of `bottom`, from the left.
+    fn bottom_four(
+        &self,
+        alloc: Global,
+        a: &L,
+        a_right: &L,
+        b: &L,
+        b_right: &L,
+        c: &L,
+        c_right: &L,
+        d: &L,
+        d_right: &L,
+    ) -> Result<(D, D, D, D), Error>
+        ensures { let x = L.numbers in
+            let hash = (hashes self.now).pair.bottom in
+            AnswersBy (four_seen D.numbers) (four_in_turn
+            (hash (x a.now) (x a_right.now)) (hash (x b.now) (x b_right.now))
+            (hash (x c.now) (x c_right.now)) (hash (x d.now) (x d_right.now))) result }
+    {
+        let first = self.bottom(alloc, a, a_right)?;
+        let second = self.bottom(alloc, b, b_right)?;
+        let third = self.bottom(alloc, c, c_right)?;
+        let fourth = self.bottom(alloc, d, d_right)?;
+        Ok((first, second, third, fourth))
+    }
+
+    /// Hashes four couples, each as `upper` does. A hasher may hash them together.
+    ///
+    /// Errors: the first of `upper`, from the left.
+    fn upper_four(
+        &self,
+        alloc: Global,
+        a: &D,
+        a_right: &D,
+        b: &D,
+        b_right: &D,
+        c: &D,
+        c_right: &D,
+        d: &D,
+        d_right: &D,
+    ) -> Result<(D, D, D, D), Error>
+        ensures { let x = D.numbers in
+            let hash = (hashes self.now).pair.upper in
+            AnswersBy (four_seen D.numbers) (four_in_turn
+            (hash (x a.now) (x a_right.now)) (hash (x b.now) (x b_right.now))
+            (hash (x c.now) (x c_right.now)) (hash (x d.now) (x d_right.now))) result }
+    {
+        let first = self.upper(alloc, a, a_right)?;
+        let second = self.upper(alloc, b, b_right)?;
+        let third = self.upper(alloc, c, c_right)?;
+        let fourth = self.upper(alloc, d, d_right)?;
+        Ok((first, second, third, fourth))
+    }
 }
 
 /// The hashes of a configuration at two parameters.
@@ -94,6 +173,85 @@ impl<'a, P: Config> TreeHasher<P::LeafDigest, P::InnerDigest> for ConfigHasher<'
         right: &P::InnerDigest,
     ) -> Result<P::InnerDigest, Error> {
         P::TwoToOneHash::compress(alloc, self.pair_parameters, left, right)
+    }
+
+    fn leaf_four(
+        &self,
+        alloc: Global,
+        a: &P::Leaf,
+        b: &P::Leaf,
+        c: &P::Leaf,
+        d: &P::Leaf,
+    ) -> Result<(P::LeafDigest, P::LeafDigest, P::LeafDigest, P::LeafDigest), Error> {
+        P::LeafHash::evaluate_four(alloc, self.leaf_parameters, a, b, c, d)
+    }
+
+    fn bottom_four(
+        &self,
+        alloc: Global,
+        a: &P::LeafDigest,
+        a_right: &P::LeafDigest,
+        b: &P::LeafDigest,
+        b_right: &P::LeafDigest,
+        c: &P::LeafDigest,
+        c_right: &P::LeafDigest,
+        d: &P::LeafDigest,
+        d_right: &P::LeafDigest,
+    ) -> Result<
+        (
+            P::InnerDigest,
+            P::InnerDigest,
+            P::InnerDigest,
+            P::InnerDigest,
+        ),
+        Error,
+    > {
+        hash_bottom_four::<_, P::LeafInnerDigestConverter, P::TwoToOneHash>(
+            alloc,
+            self.pair_parameters,
+            a,
+            a_right,
+            b,
+            b_right,
+            c,
+            c_right,
+            d,
+            d_right,
+        )
+    }
+
+    fn upper_four(
+        &self,
+        alloc: Global,
+        a: &P::InnerDigest,
+        a_right: &P::InnerDigest,
+        b: &P::InnerDigest,
+        b_right: &P::InnerDigest,
+        c: &P::InnerDigest,
+        c_right: &P::InnerDigest,
+        d: &P::InnerDigest,
+        d_right: &P::InnerDigest,
+    ) -> Result<
+        (
+            P::InnerDigest,
+            P::InnerDigest,
+            P::InnerDigest,
+            P::InnerDigest,
+        ),
+        Error,
+    > {
+        P::TwoToOneHash::compress_four(
+            alloc,
+            self.pair_parameters,
+            a,
+            a_right,
+            b,
+            b_right,
+            c,
+            c_right,
+            d,
+            d_right,
+        )
     }
 }
 

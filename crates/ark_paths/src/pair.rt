@@ -1,7 +1,8 @@
 //! The hashes of pairs.
 
-ghost use Rattle.std.specs.Prelude.{◌≡◌};
+ghost use Rattle.std.specs.Prelude.{◌≡◌, IfOk, Ok};
 ghost use Rattle.ark_base.specs.Outcome.{AnswersBy};
+ghost use Rattle.ark_crh.specs.Four.{four_in_turn, four_seen};
 ghost use Rattle.ark_paths.specs.Pair.{hash_in_order, pair_of};
 
 use crate::config::DigestConverter;
@@ -34,6 +35,101 @@ pub fn hash_bottom<L: DigestItem, C: DigestConverter<L, H::Input>, H: TwoToOneCR
     let left = converted::<_, _, C>(alloc, left)?;
     let right = converted::<_, _, C>(alloc, right)?;
     H::evaluate(alloc, pair_parameters, &left, &right)
+}
+
+// What a converter makes of two digests, left first.
+fn converted_couple<L: DigestItem, I: Numbered + Drop, C: DigestConverter<L, I>>(
+    alloc: Global,
+    left: &L,
+    right: &L,
+) -> Result<(I, I), Error>
+    ensures left { let x = C.conversion (L.numbers left.now) in
+        IfOk result (λ couple. x ≡ Ok (I.numbers couple.0)) }
+    ensures right { let x = C.conversion (L.numbers right.now) in
+        IfOk result (λ couple. x ≡ Ok (I.numbers couple.1)) }
+{
+    let left = converted::<_, _, C>(alloc, left)?;
+    let right = converted::<_, _, C>(alloc, right)?;
+    Ok((left, right))
+}
+
+// As `hash_bottom_four`, one couple after the other.
+fn hash_bottom_in_turn<L: DigestItem, C: DigestConverter<L, H::Input>, H: TwoToOneCRHScheme>(
+    alloc: Global,
+    pair_parameters: &H::Parameters,
+    a: &L,
+    a_right: &L,
+    b: &L,
+    b_right: &L,
+    c: &L,
+    c_right: &L,
+    d: &L,
+    d_right: &L,
+) -> Result<(H::Output, H::Output, H::Output, H::Output), Error>
+    ensures { let x = L.numbers in
+        let hash = (pair_of C.conversion H.evaluated H.compressed pair_parameters.now).bottom in
+        AnswersBy (four_seen H.Output.numbers) (four_in_turn
+        (hash (x a.now) (x a_right.now)) (hash (x b.now) (x b_right.now))
+        (hash (x c.now) (x c_right.now)) (hash (x d.now) (x d_right.now))) result }
+{
+    let first = hash_bottom::<L, C, H>(alloc, pair_parameters, a, a_right)?;
+    let second = hash_bottom::<L, C, H>(alloc, pair_parameters, b, b_right)?;
+    let third = hash_bottom::<L, C, H>(alloc, pair_parameters, c, c_right)?;
+    let fourth = hash_bottom::<L, C, H>(alloc, pair_parameters, d, d_right)?;
+    Ok((first, second, third, fourth))
+}
+
+/// Converts four couples of leaf digests and hashes them, each as `hash_bottom` does.
+///
+/// Where one does not convert, the couples are hashed one after the other, so that the first error from the left is returned.
+pub fn hash_bottom_four<L: DigestItem, C: DigestConverter<L, H::Input>, H: TwoToOneCRHScheme>(
+    alloc: Global,
+    pair_parameters: &H::Parameters,
+    a: &L,
+    a_right: &L,
+    b: &L,
+    b_right: &L,
+    c: &L,
+    c_right: &L,
+    d: &L,
+    d_right: &L,
+) -> Result<(H::Output, H::Output, H::Output, H::Output), Error>
+    ensures { let x = L.numbers in
+        let hash = (pair_of C.conversion H.evaluated H.compressed pair_parameters.now).bottom in
+        AnswersBy (four_seen H.Output.numbers) (four_in_turn
+        (hash (x a.now) (x a_right.now)) (hash (x b.now) (x b_right.now))
+        (hash (x c.now) (x c_right.now)) (hash (x d.now) (x d_right.now))) result }
+{
+    let first = converted_couple::<L, H::Input, C>(alloc, a, a_right);
+    let second = converted_couple::<L, H::Input, C>(alloc, b, b_right);
+    let third = converted_couple::<L, H::Input, C>(alloc, c, c_right);
+    let fourth = converted_couple::<L, H::Input, C>(alloc, d, d_right);
+    match (first, second, third, fourth) {
+        (Ok(p), Ok(q), Ok(r), Ok(s)) => H::evaluate_four(
+            alloc,
+            pair_parameters,
+            &p.0,
+            &p.1,
+            &q.0,
+            &q.1,
+            &r.0,
+            &r.1,
+            &s.0,
+            &s.1,
+        ),
+        _ => hash_bottom_in_turn::<L, C, H>(
+            alloc,
+            pair_parameters,
+            a,
+            a_right,
+            b,
+            b_right,
+            c,
+            c_right,
+            d,
+            d_right,
+        ),
+    }
 }
 
 /// Hashes a leaf digest with the one beside it.

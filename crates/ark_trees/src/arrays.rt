@@ -8,6 +8,7 @@ use ark_crh::{CRHScheme, TwoToOneCRHScheme};
 use ark_merkle::{Config, IdentityDigestConverter};
 use rand::Rng;
 use sha2::{Digest, Sha256};
+use sha256_lanes::{four_messages, four_pairs};
 use std::alloc::Global;
 
 /// Trees of byte strings whose digests are arrays: the digest of a leaf is its SHA-256, that of a pair the SHA-256 of left
@@ -53,6 +54,18 @@ impl CRHScheme for ArraySha256 {
         ensures exact { result ≡ Ok (sha256 input.now.items) }
     {
         Ok(Sha256::digest(input.as_slice()))
+    }
+
+    /// Hashes four inputs, together where their lengths allow it. It allocates nothing.
+    fn evaluate_four(
+        _alloc: Global,
+        _parameters: &(),
+        a: &Vec<u8>,
+        b: &Vec<u8>,
+        c: &Vec<u8>,
+        d: &Vec<u8>,
+    ) -> Result<([u8; 32], [u8; 32], [u8; 32], [u8; 32]), Error> {
+        Ok(four_messages(a, b, c, d))
     }
 
     ghost meaning_decided = { λ _ _. tt };
@@ -105,6 +118,38 @@ impl TwoToOneCRHScheme for ArraySha256 {
         ensures exact { result ≡ Ok (sha256 (left.now ++ right.now)) }
     {
         Ok(digest_of_pair(left, right))
+    }
+
+    /// Hashes four pairs together. It allocates nothing.
+    fn evaluate_four(
+        _alloc: Global,
+        _parameters: &(),
+        a: &[u8; 32],
+        a_right: &[u8; 32],
+        b: &[u8; 32],
+        b_right: &[u8; 32],
+        c: &[u8; 32],
+        c_right: &[u8; 32],
+        d: &[u8; 32],
+        d_right: &[u8; 32],
+    ) -> Result<([u8; 32], [u8; 32], [u8; 32], [u8; 32]), Error> {
+        Ok(four_pairs(a, a_right, b, b_right, c, c_right, d, d_right))
+    }
+
+    /// Hashes four pairs together. It allocates nothing.
+    fn compress_four(
+        _alloc: Global,
+        _parameters: &(),
+        a: &[u8; 32],
+        a_right: &[u8; 32],
+        b: &[u8; 32],
+        b_right: &[u8; 32],
+        c: &[u8; 32],
+        c_right: &[u8; 32],
+        d: &[u8; 32],
+        d_right: &[u8; 32],
+    ) -> Result<([u8; 32], [u8; 32], [u8; 32], [u8; 32]), Error> {
+        Ok(four_pairs(a, a_right, b, b_right, c, c_right, d, d_right))
     }
 
     ghost evaluated_decided = { λ _ _ _. tt };

@@ -1,6 +1,6 @@
 //! Trees as transparency logs hash them (RFC 6962, section 2.1).
 
-ghost use Rattle.std.specs.Prelude.{◌≡◌, Ok, IfOk, refl, length, map};
+ghost use Rattle.std.specs.Prelude.{◌≡◌, ◌≤◌, ◌+◌, ◌∷◌, ◌++◌, Ok, IfOk, refl, length, map, take};
 ghost use Rattle.ark_base.specs.Outcome.{AnswersBy};
 ghost use Rattle.ark_paths.specs.Index.{IsTreeSize, log2};
 ghost use Rattle.ark_paths.specs.Tree.{root_in, tree_of};
@@ -11,6 +11,7 @@ use ark_crh::{CRHScheme, TwoToOneCRHScheme};
 use ark_merkle::{Config, IdentityDigestConverter, MerkleTree, Views};
 use rand::Rng;
 use sha2::{Digest, Sha256};
+use sha256_lanes::four_messages;
 use std::alloc::Global;
 
 /// Trees with the hashing of RFC 6962: a zero byte stands before a leaf, a one byte before a pair, so that no pair is taken
@@ -75,10 +76,19 @@ impl CRHScheme for LogSha256 {
     fn evaluate(_alloc: Global, _parameters: &(), input: &Vec<u8>) -> Result<[u8; 32], Error>
         ensures exact { result ≡ Ok (entry_hash input.now.items) }
     {
-        let mut hasher = Sha256::new();
-        hasher.update([0].as_slice());
-        hasher.update(input.as_slice());
-        Ok(hasher.finalize())
+        Ok(digest_of_entry(input))
+    }
+
+    /// Hashes four entries, together where none has more than 118 bytes. It allocates nothing.
+    fn evaluate_four(
+        _alloc: Global,
+        _parameters: &(),
+        a: &Vec<u8>,
+        b: &Vec<u8>,
+        c: &Vec<u8>,
+        d: &Vec<u8>,
+    ) -> Result<([u8; 32], [u8; 32], [u8; 32], [u8; 32]), Error> {
+        Ok(digests_of_entries(a, b, c, d))
     }
 
     ghost meaning_decided = { λ _ _. tt };
@@ -133,6 +143,38 @@ impl TwoToOneCRHScheme for LogSha256 {
         Ok(digest_of_node(left, right))
     }
 
+    /// Hashes four nodes together. It allocates nothing.
+    fn evaluate_four(
+        _alloc: Global,
+        _parameters: &(),
+        a: &[u8; 32],
+        a_right: &[u8; 32],
+        b: &[u8; 32],
+        b_right: &[u8; 32],
+        c: &[u8; 32],
+        c_right: &[u8; 32],
+        d: &[u8; 32],
+        d_right: &[u8; 32],
+    ) -> Result<([u8; 32], [u8; 32], [u8; 32], [u8; 32]), Error> {
+        Ok(digests_of_nodes(a, a_right, b, b_right, c, c_right, d, d_right))
+    }
+
+    /// Hashes four nodes together. It allocates nothing.
+    fn compress_four(
+        _alloc: Global,
+        _parameters: &(),
+        a: &[u8; 32],
+        a_right: &[u8; 32],
+        b: &[u8; 32],
+        b_right: &[u8; 32],
+        c: &[u8; 32],
+        c_right: &[u8; 32],
+        d: &[u8; 32],
+        d_right: &[u8; 32],
+    ) -> Result<([u8; 32], [u8; 32], [u8; 32], [u8; 32]), Error> {
+        Ok(digests_of_nodes(a, a_right, b, b_right, c, c_right, d, d_right))
+    }
+
     ghost evaluated_decided = { λ _ _ _. tt };
 
     ghost compressed_decided = { λ _ _ _. tt };
@@ -155,4 +197,88 @@ fn digest_of_node(left: &[u8; 32], right: &[u8; 32]) -> [u8; 32]
     hasher.update(left.as_slice());
     hasher.update(right.as_slice());
     hasher.finalize()
+}
+
+// The digest of a zero byte and an entry.
+fn digest_of_entry(entry: &[u8]) -> [u8; 32]
+    ensures { result ≡ entry_hash entry.now }
+{
+    let mut hasher = Sha256::new();
+    hasher.update([0].as_slice());
+    hasher.update(entry);
+    hasher.finalize()
+}
+
+// A zero byte and an entry, in a buffer.
+fn entry_message(entry: &[u8]) -> [u8; 119]
+    requires { length entry.now ≤ 118 }
+    ensures { take (length entry.now + 1) result ≡ 0 ∷ entry.now }
+{
+    let mut message = [0; 119];
+    message[1..entry.len() + 1].copy_from_slice(entry);
+    message
+}
+
+// The digests of four entries.
+fn digests_of_entries(
+    a: &[u8],
+    b: &[u8],
+    c: &[u8],
+    d: &[u8],
+) -> ([u8; 32], [u8; 32], [u8; 32], [u8; 32])
+    ensures a { result.0 ≡ entry_hash a.now }
+    ensures b { result.1 ≡ entry_hash b.now }
+    ensures c { result.2 ≡ entry_hash c.now }
+    ensures d { result.3 ≡ entry_hash d.now }
+{
+    if a.len() <= 118 && b.len() <= 118 && c.len() <= 118 && d.len() <= 118 {
+        four_messages(
+            &entry_message(a)[..a.len() + 1],
+            &entry_message(b)[..b.len() + 1],
+            &entry_message(c)[..c.len() + 1],
+            &entry_message(d)[..d.len() + 1],
+        )
+    } else {
+        (
+            digest_of_entry(a),
+            digest_of_entry(b),
+            digest_of_entry(c),
+            digest_of_entry(d),
+        )
+    }
+}
+
+// A one byte, left and right.
+fn node_message(left: &[u8; 32], right: &[u8; 32]) -> [u8; 65]
+    ensures { result ≡ 1 ∷ left.now ++ right.now }
+{
+    let mut message = [0; 65];
+    message[0] = 1;
+    message[1..33].copy_from_slice(left);
+    message[33..].copy_from_slice(right);
+    message
+}
+
+// The digests of four nodes.
+fn digests_of_nodes(
+    a: &[u8; 32],
+    a_right: &[u8; 32],
+    b: &[u8; 32],
+    b_right: &[u8; 32],
+    c: &[u8; 32],
+    c_right: &[u8; 32],
+    d: &[u8; 32],
+    d_right: &[u8; 32],
+) -> ([u8; 32], [u8; 32], [u8; 32], [u8; 32])
+    ensures a { result.0 ≡ node_hash a.now a_right.now }
+    ensures b { result.1 ≡ node_hash b.now b_right.now }
+    ensures c { result.2 ≡ node_hash c.now c_right.now }
+    ensures d { result.3 ≡ node_hash d.now d_right.now }
+{
+    four_messages(
+        &node_message(a, a_right),
+        &node_message(b, b_right),
+        &node_message(c, c_right),
+        &node_message(d, d_right),
+    )
 }

@@ -6,9 +6,9 @@
 mod constants;
 mod lanes;
 mod long_texts;
+mod messages;
 mod pairs;
 mod texts;
 
-pub use long_texts::four_long_texts;
+pub use messages::four_messages;
 pub use pairs::four_pairs;
-pub use texts::four_texts;

@@ -1,7 +1,9 @@
 //! The digests above the leaves, row by row.
 
-ghost use Rattle.std.specs.Prelude.{◌≡◌, ◌+◌, ◌-◌, ◌^◌, ℕ, suc, map, length, IfOk};
+ghost use Rattle.std.specs.Prelude.{◌≡◌, ◌+◌, ◌-◌, ◌^◌, ◌++◌, ℕ, suc, map, length, IfOk, IsOkUnless, OnOk};
+ghost use Rattle.ark_base.specs.declared.error.Error.TheVariants.{OutOfMemory};
 ghost use Rattle.ark_base.specs.Outcome.{Answers, AnswersBy};
+ghost use Rattle.ark_crh.specs.Four.{four_seen};
 ghost use Rattle.ark_paths.specs.Index.{IsTreeSize};
 ghost use Rattle.ark_paths.specs.Root.{all_hashes, upper_levels};
 ghost use Rattle.ark_paths.specs.Rows.{row_above, rows_from, rows_of, digests_of};
@@ -25,10 +27,36 @@ pub fn hash_all<L: DigestItem, D: DigestItem, T: TreeHasher<L, D>>(
         IsTreeSize (length leaves.now) → IsTreeSize (length digests.items)) }
 {
     let mut digests = Vec::with_capacity(alloc, leaves.len())?;
-    for leaf in leaves {
-        digests.push(hasher.leaf(alloc, leaf)?)?;
+    let fours = leaves.len() / 4;
+    'fours: for four in 0..fours {
+        let made = hasher.leaf_four(
+            alloc,
+            &leaves[4 * four],
+            &leaves[4 * four + 1],
+            &leaves[4 * four + 2],
+            &leaves[4 * four + 3],
+        )?;
+        push_four(&mut digests, made)?;
+    }
+    'rest: for place in 4 * fours..leaves.len() {
+        let next = hasher.leaf(alloc, &leaves[place])?;
+        digests.push(next)?;
     }
     Ok(digests)
+}
+
+// Puts four digests behind others, the first one first.
+fn push_four<D: DigestItem>(digests: &mut Vec<D>, four: (D, D, D, D)) -> Result<(), Error>
+    ensures digests { let old = map D.numbers digests.old.items in
+        OnOk result (map D.numbers digests.new.items ≡ old ++ four_seen D.numbers four) }
+    ensures memory { IsOkUnless result OutOfMemory }
+{
+    let (first, second, third, fourth) = four;
+    digests.push(first)?;
+    digests.push(second)?;
+    digests.push(third)?;
+    digests.push(fourth)?;
+    Ok(())
 }
 
 // The hashes of the neighbours among leaf digests, in a list with room for all digests above them.
@@ -42,8 +70,24 @@ fn pair_leaves<L: DigestItem, D: DigestItem, T: TreeHasher<L, D>>(
         AnswersBy (digests_of D.numbers) (row_above pair.bottom row) result }
 {
     let mut row = Vec::with_capacity(alloc, digests.len().saturating_sub(1))?;
-    for place in 0..digests.len() / 2 {
-        row.push(hasher.bottom(alloc, &digests[2 * place], &digests[2 * place + 1])?)?;
+    let fours = digests.len() / 8;
+    'fours: for four in 0..fours {
+        let made = hasher.bottom_four(
+            alloc,
+            &digests[8 * four],
+            &digests[8 * four + 1],
+            &digests[8 * four + 2],
+            &digests[8 * four + 3],
+            &digests[8 * four + 4],
+            &digests[8 * four + 5],
+            &digests[8 * four + 6],
+            &digests[8 * four + 7],
+        )?;
+        push_four(&mut row, made)?;
+    }
+    'rest: for couple in 4 * fours..digests.len() / 2 {
+        let next = hasher.bottom(alloc, &digests[2 * couple], &digests[2 * couple + 1])?;
+        row.push(next)?;
     }
     Ok(row)
 }
@@ -62,11 +106,26 @@ fn pair_rows<L: DigestItem, D: DigestItem, T: TreeHasher<L, D>>(
     ensures whole { let count = length digests.items in
         IfOk result (λ all. length all.items ≡ count + (count - 1)) }
 {
-    for couple in 0..digests.len().saturating_sub(1) {
-        let left = &digests[2 * couple];
-        let right = &digests[2 * couple + 1];
-        let up = hasher.upper(alloc, left, right)?;
-        digests.push(up)?;
+    let count = digests.len().saturating_sub(1);
+    // Four couples at a time, as long as both digests of each are there.
+    let fours = (digests.len() / 4).saturating_sub(1);
+    'fours: for four in 0..fours {
+        let made = hasher.upper_four(
+            alloc,
+            &digests[8 * four],
+            &digests[8 * four + 1],
+            &digests[8 * four + 2],
+            &digests[8 * four + 3],
+            &digests[8 * four + 4],
+            &digests[8 * four + 5],
+            &digests[8 * four + 6],
+            &digests[8 * four + 7],
+        )?;
+        push_four(&mut digests, made)?;
+    }
+    'rest: for couple in 4 * fours..count {
+        let next = hasher.upper(alloc, &digests[2 * couple], &digests[2 * couple + 1])?;
+        digests.push(next)?;
     }
     Ok(digests)
 }

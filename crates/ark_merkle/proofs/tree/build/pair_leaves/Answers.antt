@@ -1,21 +1,56 @@
+use Rattle.std.proofs.Common.{◌≡◌, ℕ, ◌+◌, ◌*◌, ◌/◌, ◌<◌, length, map, arith, subst}
 use Rattle.std.proofs.lemmas.List.{map_push}
 use Rattle.ark_base.proofs.Refusals.{passed_on}
-use Rattle.ark_paths.proofs.CoupleLemmas.{ArePaired-none, ArePaired-more, ArePaired-refused, ArePaired-all}
+use Rattle.ark_paths.proofs.CoupleLemmas.{ArePaired, ArePaired-none, ArePaired-more, ArePaired-refused, ArePaired-all, ArePaired-four, ArePaired-four_refused}
 use Rattle.ark_merkle.proofs.tree.build.pair_leaves.Goals as goal
 
-pub loop-place-init : goal.loop-place-init
-loop-place-init g c = rw c.in_ok-row.ensures.items (ArePaired-none (g.T.TreeHasher.hashes c.args.hasher.now).pair.bottom g.L.Numbered.numbers c.args.digests.now)
+pub fours-init : goal.fours-init
+fours-init g c =
+    rw c.in_ok-row.ensures.items
+    (ArePaired-none (g.T.TreeHasher.hashes c.args.hasher.now).pair.bottom g.L.Numbered.numbers c.args.digests.now)
 
-pub returns-in_err-bottom : goal.returns-in_err-bottom
-returns-in_err-bottom g c =
-    let e = c.in_err-bottom.field-0.0 in
-    passed_on _ _ c.from_residual-in_err-bottom.result e c.from_residual-in_err-bottom.ensures.1 c.in_err-bottom.ensures
-    (ArePaired-refused (g.T.TreeHasher.hashes c.args.hasher.now).pair.bottom g.L.Numbered.numbers c.args.digests.now c.loop-place.place c.index-digests-place.result c.index-digests-place-in-loop-place.result _ e c.loop-place-test.true c.index-digests-place.is c.index-digests-place-in-loop-place.is c.loop-place.invariant)
+pub returns-in_err-made : goal.returns-in_err-made
+returns-in_err-made g c =
+    let e = c.in_err-made.field-0.0 in
+    let digests = c.args.digests.now in
+    let inside : 4 * c.fours.four + 3 < length digests / 2 = omega arith in
+    passed_on _ _ c.from_residual-in_err-made.result e c.from_residual-in_err-made.ensures.1 c.in_err-made.ensures
+    (ArePaired-four_refused (g.T.TreeHasher.hashes c.args.hasher.now).pair.bottom g.L.Numbered.numbers digests c.fours.four
+    _ _ _ _ _ _ _ _ inside c.index-digests-four.is c.index-digests-four-in-fours.is c.index-digests-four-in-fours-2.is
+    c.index-digests-four-in-fours-3.is c.index-digests-four-in-fours-4.is c.index-digests-four-in-fours-5.is
+    c.index-digests-four-in-fours-6.is c.index-digests-four-in-fours-7.is (map g.D.Numbered.numbers c.fours.row.items)
+    c.fours.invariant e)
 
-pub loop-place-preserved : goal.loop-place-preserved
-loop-place-preserved g c =
+pub fours-preserved : goal.fours-preserved
+fours-preserved g c =
+    let hash = (g.T.TreeHasher.hashes c.args.hasher.now).pair.bottom in
+    let inner = g.D.Numbered.numbers in
+    let digests = c.args.digests.now in
+    let inside : 4 * c.fours.four + 3 < length digests / 2 = omega arith in
+    let next : 4 * c.fours.four + 4 ≡ 4 * (c.fours.four + 1) = omega arith in
+    subst (λ (n : ℕ). ArePaired hash g.L.Numbered.numbers digests n (map inner c.push_four.new.digests.items)) next
+    (rw c.in_ok-push_four.ensures.digests
+    (ArePaired-four hash g.L.Numbered.numbers digests c.fours.four _ _ _ _ _ _ _ _ inside c.index-digests-four.is
+    c.index-digests-four-in-fours.is c.index-digests-four-in-fours-2.is c.index-digests-four-in-fours-3.is
+    c.index-digests-four-in-fours-4.is c.index-digests-four-in-fours-5.is c.index-digests-four-in-fours-6.is
+    c.index-digests-four-in-fours-7.is (map inner c.fours.row.items) c.fours.invariant (inner c.in_ok-made.made.0)
+    (inner c.in_ok-made.made.1) (inner c.in_ok-made.made.2) (inner c.in_ok-made.made.3) c.in_ok-made.ensures))
+
+pub returns-in_err-next : goal.returns-in_err-next
+returns-in_err-next g c =
+    let e = c.in_err-next.field-0.0 in
+    passed_on _ _ c.from_residual-in_err-next.result e c.from_residual-in_err-next.ensures.1 c.in_err-next.ensures
+    (ArePaired-refused (g.T.TreeHasher.hashes c.args.hasher.now).pair.bottom g.L.Numbered.numbers c.args.digests.now
+    c.rest.couple _ _ _ e c.rest-test.true c.index-digests-couple.is c.index-digests-couple-in-rest.is c.rest.invariant)
+
+pub rest-preserved : goal.rest-preserved
+rest-preserved g c =
     rw (c.in_ok-push.ensures.items, map_push)
-    (ArePaired-more (g.T.TreeHasher.hashes c.args.hasher.now).pair.bottom g.L.Numbered.numbers c.args.digests.now c.loop-place.place c.index-digests-place.result c.index-digests-place-in-loop-place.result _ _ c.loop-place-test.true c.index-digests-place.is c.index-digests-place-in-loop-place.is c.loop-place.invariant c.in_ok-bottom.ensures)
+    (ArePaired-more (g.T.TreeHasher.hashes c.args.hasher.now).pair.bottom g.L.Numbered.numbers c.args.digests.now
+    c.rest.couple _ _ _ _ c.rest-test.true c.index-digests-couple.is c.index-digests-couple-in-rest.is c.rest.invariant
+    c.in_ok-next.ensures)
 
 pub returns : goal.returns
-returns g c = ArePaired-all (g.T.TreeHasher.hashes c.args.hasher.now).pair.bottom g.L.Numbered.numbers c.args.digests.now c.loop-place.place _ c.loop-place-test.false c.loop-place.invariant
+returns g c =
+    ArePaired-all (g.T.TreeHasher.hashes c.args.hasher.now).pair.bottom g.L.Numbered.numbers c.args.digests.now
+        c.rest.couple _ c.rest-test.false c.rest.invariant

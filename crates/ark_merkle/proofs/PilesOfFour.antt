@@ -1,0 +1,99 @@
+-- Four couples of a pile, hashed together.
+use Rattle.std.proofs.Common.{◌≡◌, ℕ, suc, ◌+◌, ◌-◌, ◌*◌, ◌<◌, ◌≤◌, List, [], ◌∷◌, ◌++◌, length, get_or, Ok, Err, refl, ap, subst, sym, ◌∙◌, arith}
+use Rattle.std.proofs.lemmas.List.{length-append, get_or_append_left}
+use Rattle.std.specs.declared.vec.Vec.{Vec}
+use Rattle.ark_base.specs.declared.error.Error.{Error}
+use Rattle.ark_base.specs.Outcome.{Outcome}
+use Rattle.ark_crh.specs.Four.{four_in_turn}
+use Rattle.ark_paths.specs.Pair.{Digest}
+use Rattle.ark_paths.specs.Rows.{digests_of}
+use Rattle.ark_paths.proofs.Fours.{four-more, four-refused}
+use Rattle.ark_paths.proofs.Readings.{digest_read}
+use Rattle.ark_merkle.proofs.Piles.{IsPiled, piled, is_piled-more, is_piled-refused}
+
+module _ (hash : Digest → Digest → Outcome Digest) where
+  -- the hash of a couple in a list
+  abbrev pub couple_hash : List Digest → ℕ → Outcome Digest
+  couple_hash digests couple = hash (get_or digests (2 * couple) []) (get_or digests (2 * couple + 1) [])
+
+  module _ (row : List Digest) (couple : ℕ) (now : List Digest) (so : IsPiled hash row couple now)
+      (below : couple + 3 < length row - 1) (inside : 2 * couple + 7 < length now) where
+    -- a pile that begins with the list as it stands
+    pub record Grows (n : ℕ) (made : List Digest) : Type 0 where
+      pub piled_so : IsPiled hash row n made
+      pub long : length now ≤ length made
+      pub front : (i : ℕ) → i < length now → get_or made i [] ≡ get_or now i []
+
+    abbrev hashed : ℕ → Outcome Digest
+    hashed k = couple_hash now (couple + k)
+
+    same_hash : (k : ℕ) (made : List Digest) → k < 4 → Grows (couple + k) made
+        → couple_hash made (couple + k) ≡ couple_hash now (couple + k)
+    same_hash k made small held =
+        rw (held.front (2 * (couple + k)) (omega arith), held.front (2 * (couple + k) + 1) (omega arith)) refl
+
+    more : (k : ℕ) (made : List Digest) (d : Digest) → k < 4 → Grows (couple + k) made → hashed k ≡ Ok d
+        → Grows (couple + suc k) (made ++ d ∷ [])
+    more k made d small held is =
+        let next : couple + k + 1 ≡ couple + suc k = omega arith in
+        record {
+          piled_so = subst (λ (n : ℕ). IsPiled hash row n (made ++ d ∷ [])) next
+              (is_piled-more hash row (couple + k) made held.piled_so (omega arith) d
+              (same_hash k made small held ∙ is));
+          long = omega (arith, length-append made (d ∷ []), held.long);
+          front = λ i lt. get_or_append_left made (d ∷ []) [] i (omega (arith, held.long, lt)) ∙ held.front i lt;
+        }
+
+    begins : Grows couple now
+    begins = record { piled_so = so; long = omega arith; front = λ i lt. refl }
+
+    none : couple + 0 ≡ couple
+    none = omega arith
+
+    -- the four outcomes, as they are named
+    abbrev pub four_hashes : Outcome (List Digest)
+    four_hashes =
+        four_in_turn (couple_hash now couple) (couple_hash now (couple + 1)) (couple_hash now (couple + 2))
+        (couple_hash now (couple + 3))
+
+    pub is_piled-four : (a b c d : Digest) → four_hashes ≡ Ok (a ∷ b ∷ c ∷ d ∷ [])
+        → IsPiled hash row (couple + 4) (now ++ a ∷ b ∷ c ∷ d ∷ [])
+    is_piled-four a b c d is =
+        (four-more Grows hashed couple more now begins a b c d (rw none is)).piled_so
+
+    pub is_piled-four_refused : (e : Error) → four_hashes ≡ Err e → piled hash (length row - 1) 0 row ≡ Err e
+    is_piled-four_refused e is =
+        four-refused Grows hashed couple more now begins (λ e. piled hash (length row - 1) 0 row ≡ Err e)
+        (λ k made e small held refused. is_piled-refused hash row (couple + k) made held.piled_so (omega arith) e
+        (same_hash k made small held ∙ refused)) e (rw none is)
+
+  -- what the eight reads of a list give
+  module _ {A Z : Type 0} (numbers : A → Digest) (digests : Vec A Z) where
+    read : (i : ℕ) (p q : ℕ) (x y : A) → p ≡ 2 * i → q ≡ 2 * i + 1 → q < length digests.items
+        → x ≡ get_or digests.items p x → y ≡ get_or digests.items q y
+        → couple_hash (digests_of numbers digests) i ≡ hash (numbers x) (numbers y)
+    read i p q x y left right inside x_is y_is =
+        let seen = digests_of numbers digests in
+        let first : get_or seen (2 * i) [] ≡ numbers x =
+            ap (λ (n : ℕ). get_or seen n []) (sym left) ∙ digest_read numbers digests p x (omega arith) x_is in
+        let second : get_or seen (2 * i + 1) [] ≡ numbers y =
+            ap (λ (n : ℕ). get_or seen n []) (sym right) ∙ digest_read numbers digests q y inside y_is in
+        rw (first, second) refl
+
+    pub four_read : (f : ℕ) (a ar b br c cr d dr : A) → 8 * f + 7 < length digests.items
+        → a ≡ get_or digests.items (8 * f) a → ar ≡ get_or digests.items (8 * f + 1) ar
+        → b ≡ get_or digests.items (8 * f + 2) b → br ≡ get_or digests.items (8 * f + 3) br
+        → c ≡ get_or digests.items (8 * f + 4) c → cr ≡ get_or digests.items (8 * f + 5) cr
+        → d ≡ get_or digests.items (8 * f + 6) d → dr ≡ get_or digests.items (8 * f + 7) dr
+        → four_in_turn (couple_hash (digests_of numbers digests) (4 * f))
+        (couple_hash (digests_of numbers digests) (4 * f + 1)) (couple_hash (digests_of numbers digests) (4 * f + 2))
+        (couple_hash (digests_of numbers digests) (4 * f + 3))
+        ≡ four_in_turn (hash (numbers a) (numbers ar)) (hash (numbers b) (numbers br)) (hash (numbers c) (numbers cr))
+        (hash (numbers d) (numbers dr))
+    four_read f a ar b br c cr d dr inside h0 h1 h2 h3 h4 h5 h6 h7 =
+        rw (
+          read (4 * f) (8 * f) (8 * f + 1) a ar (omega arith) (omega arith) (omega arith) h0 h1,
+          read (4 * f + 1) (8 * f + 2) (8 * f + 3) b br (omega arith) (omega arith) (omega arith) h2 h3,
+          read (4 * f + 2) (8 * f + 4) (8 * f + 5) c cr (omega arith) (omega arith) (omega arith) h4 h5,
+          read (4 * f + 3) (8 * f + 6) (8 * f + 7) d dr (omega arith) (omega arith) (omega arith) h6 h7,
+        ) refl
