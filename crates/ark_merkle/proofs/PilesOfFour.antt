@@ -75,9 +75,9 @@ module _ (hash : Digest → Digest → Outcome Digest) where
     read i p q x y left right inside x_is y_is =
         let seen = digests_of numbers digests in
         let first : get_or seen (2 * i) [] ≡ numbers x =
-            ap (λ (n : ℕ). get_or seen n []) (sym left) ∙ digest_read numbers digests p x (omega arith) x_is in
+        ap (λ (n : ℕ). get_or seen n []) (sym left) ∙ digest_read numbers digests p x (omega arith) x_is in
         let second : get_or seen (2 * i + 1) [] ≡ numbers y =
-            ap (λ (n : ℕ). get_or seen n []) (sym right) ∙ digest_read numbers digests q y inside y_is in
+        ap (λ (n : ℕ). get_or seen n []) (sym right) ∙ digest_read numbers digests q y inside y_is in
         rw (first, second) refl
 
     pub four_read : (f : ℕ) (a ar b br c cr d dr : A) → 8 * f + 7 < length digests.items

@@ -8,6 +8,8 @@ mod lanes;
 mod long_texts;
 mod messages;
 mod pairs;
+#[cfg(test)]
+mod tests;
 mod texts;
 
 pub use messages::four_messages;

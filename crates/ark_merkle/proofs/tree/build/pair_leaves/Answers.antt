@@ -53,4 +53,4 @@ rest-preserved g c =
 pub returns : goal.returns
 returns g c =
     ArePaired-all (g.T.TreeHasher.hashes c.args.hasher.now).pair.bottom g.L.Numbered.numbers c.args.digests.now
-        c.rest.couple _ c.rest-test.false c.rest.invariant
+    c.rest.couple _ c.rest-test.false c.rest.invariant

@@ -26,8 +26,8 @@ returns-in_err-made-clause-rows g c =
     let inside : 8 * four + 7 < length now.items = omega arith in
     let inside_seen : 2 * (4 * four) + 7 < length (digests_of numbers now) = omega arith in
     let read = four_read hash numbers now four _ _ _ _ _ _ _ _ inside c.index.ensures c.index-in-fours.ensures
-        c.index-in-fours-2.ensures c.index-in-fours-3.ensures c.index-in-fours-4.ensures c.index-in-fours-5.ensures
-        c.index-in-fours-6.ensures c.index-in-fours-7.ensures in
+    c.index-in-fours-2.ensures c.index-in-fours-3.ensures c.index-in-fours-4.ensures c.index-in-fours-5.ensures
+    c.index-in-fours-6.ensures c.index-in-fours-7.ensures in
     let e = c.in_err-made.field-0.0 in
     λ k size. passed_on _ _ c.from_residual.result e c.from_residual.ensures.1 c.in_err-made.ensures
     (λ refused. rows-refused hash row k size e
@@ -47,8 +47,8 @@ fours-preserved g c =
     let inside : 8 * four + 7 < length now.items = omega arith in
     let inside_seen : 2 * (4 * four) + 7 < length (digests_of numbers now) = omega arith in
     let read = four_read hash numbers now four _ _ _ _ _ _ _ _ inside c.index.ensures c.index-in-fours.ensures
-        c.index-in-fours-2.ensures c.index-in-fours-3.ensures c.index-in-fours-4.ensures c.index-in-fours-5.ensures
-        c.index-in-fours-6.ensures c.index-in-fours-7.ensures in
+    c.index-in-fours-2.ensures c.index-in-fours-3.ensures c.index-in-fours-4.ensures c.index-in-fours-5.ensures
+    c.index-in-fours-6.ensures c.index-in-fours-7.ensures in
     let a = numbers c.in_ok-made.made.0 in
     let b = numbers c.in_ok-made.made.1 in
     let d = numbers c.in_ok-made.made.2 in
@@ -80,7 +80,7 @@ returns-in_err-next-clause-rows g c =
     let inside : 2 * couple + 1 < length now.items = omega arith in
     let e = c.in_err-next.field-0.0 in
     λ k size. passed_on _ _ c.from_residual-in_err-next.result e c.from_residual-in_err-next.ensures.1
-        c.in_err-next.ensures
+    c.in_err-next.ensures
     (λ refused. rows-refused hash row k size e
     (is_piled-refused hash row couple (digests_of numbers now) c.rest.invariant.1 below e
     (couple_read hash numbers now couple _ _ inside c.index-in-rest.ensures c.index-in-rest-2.ensures ∙ refused)))
@@ -108,4 +108,4 @@ returns-clause-rows g c =
     let row = digests_of numbers c.args.digests in
     let long : length row ≡ length c.args.digests.items = length-map c.args.digests.items numbers in
     λ k size. rows-all (g.T.TreeHasher.hashes c.args.hasher.now).pair.upper row k size c.rest.couple
-        (digests_of numbers c.rest.digests) (omega arith) c.rest.invariant.1
+    (digests_of numbers c.rest.digests) (omega arith) c.rest.invariant.1

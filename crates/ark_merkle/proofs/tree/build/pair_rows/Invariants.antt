@@ -8,11 +8,11 @@ invariant-fours g l =
     let numbers = g.D.Numbered.numbers in
     (length l.digests.items ≡ length l.fn.digests.items + 4 * l.four)
     × IsPiled (g.T.TreeHasher.hashes l.hasher).pair.upper (digests_of numbers l.fn.digests) (4 * l.four)
-        (digests_of numbers l.digests)
+    (digests_of numbers l.digests)
 
 abbrev pub invariant-rest : goal.invariant-rest
 invariant-rest g l =
     let numbers = g.D.Numbered.numbers in
     (length l.digests.items ≡ length l.fn.digests.items + l.couple)
     × IsPiled (g.T.TreeHasher.hashes l.hasher).pair.upper (digests_of numbers l.fn.digests) l.couple
-        (digests_of numbers l.digests)
+    (digests_of numbers l.digests)
