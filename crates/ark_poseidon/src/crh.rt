@@ -9,7 +9,7 @@ ghost use Rattle.ark_poseidon.specs.Laws.{no_setup};
 use ark_base::error::{Error, Refusal};
 use ark_base::serialize::DigestItem;
 use ark_crh::CRHScheme;
-use ark_groups::ff::PrimeField;
+use ark_groups::ff::Field;
 use ark_sponge::poseidon::digest::digest;
 use ark_sponge::poseidon::{PoseidonConfig, SBox};
 use rand::Rng;
@@ -17,12 +17,12 @@ use std::alloc::Global;
 use std::marker::PhantomData;
 
 /// The hash of a list of elements.
-pub struct CRH<F: PrimeField, S: SBox<F>> {
+pub struct CRH<F, S> {
     field: PhantomData<F>,
     sbox: PhantomData<S>,
 }
 
-impl<F: PrimeField + DigestItem, S: SBox<F>> CRHScheme for CRH<F, S> {
+impl<F: Field + DigestItem, S: SBox<F>> CRHScheme for CRH<F, S> {
     ghost use Rattle.std.proofs.Common.{ap};
     ghost use Rattle.ark_poseidon.specs.Laws.{no_setup-decided};
 

@@ -10,7 +10,7 @@ ghost use Rattle.ark_poseidon.specs.Laws.{no_setup};
 use ark_base::error::{Error, Refusal};
 use ark_base::serialize::DigestItem;
 use ark_crh::TwoToOneCRHScheme;
-use ark_groups::ff::PrimeField;
+use ark_groups::ff::Field;
 use ark_sponge::poseidon::digest::digest;
 use ark_sponge::poseidon::{PoseidonConfig, SBox};
 use rand::Rng;
@@ -18,13 +18,13 @@ use std::alloc::Global;
 use std::marker::PhantomData;
 
 /// The hash of two elements.
-pub struct TwoToOneCRH<F: PrimeField, S: SBox<F>> {
+pub struct TwoToOneCRH<F, S> {
     field: PhantomData<F>,
     sbox: PhantomData<S>,
 }
 
 // The list of both.
-fn list_of_two<F: PrimeField>(alloc: Global, left: F, right: F) -> Result<Vec<F>, Error>
+fn list_of_two<F: Field>(alloc: Global, left: F, right: F) -> Result<Vec<F>, Error>
     ensures items { IfOk result (λ list. list.items ≡ left ∷ right ∷ []) }
     ensures refused { IfErr result (λ error. error ≡ Error.OutOfMemory) }
 {
@@ -35,7 +35,7 @@ fn list_of_two<F: PrimeField>(alloc: Global, left: F, right: F) -> Result<Vec<F>
 }
 
 // As `compress`.
-fn hash_of_two<F: PrimeField, S: SBox<F>>(
+fn hash_of_two<F: Field, S: SBox<F>>(
     alloc: Global,
     parameters: &PoseidonConfig<F>,
     left: F,
@@ -53,7 +53,7 @@ fn hash_of_two<F: PrimeField, S: SBox<F>>(
     digest::<F, S>(alloc, parameters, &both)
 }
 
-impl<F: PrimeField + DigestItem, S: SBox<F>> TwoToOneCRHScheme for TwoToOneCRH<F, S> {
+impl<F: Field + DigestItem, S: SBox<F>> TwoToOneCRHScheme for TwoToOneCRH<F, S> {
     ghost use Rattle.std.proofs.Common.{ap};
     ghost use Rattle.ark_poseidon.specs.Laws.{no_setup-decided};
 

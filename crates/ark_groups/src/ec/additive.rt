@@ -7,7 +7,7 @@ use crate::ff::{Fp, Modulus, PrimeField, UniformRand};
 use ark_base::error::Error;
 use ark_base::serialize::{
     Canonical, CanonicalDeserialize, CanonicalItem, CanonicalSerialize, DigestItem, Duplicate,
-    Numbered,
+    Numbered, ReadBack,
 };
 use rand::Rng;
 use std::alloc::Global;
@@ -116,13 +116,14 @@ impl<M: Modulus, K> CanonicalDeserialize for Additive<M, K> {
 }
 
 impl<M: Modulus, K> CanonicalItem for Additive<M, K> {
+    ghost use Rattle.ark_groups.specs.Laws.Field.{field_modulus};
     ghost use Rattle.ark_groups.specs.Laws.Fp.{some_bytes, as_long};
 
     ghost LEAST = { ⟦<Fp<M> as CanonicalItem>⟧.LEAST };
 
     const LEAST: usize = <Fp<M> as CanonicalItem>::LEAST;
 
-    ghost some = { some_bytes M.P M.BITS M.laws };
+    ghost some = { some_bytes M.P M.BITS (field_modulus M.P M.BITS M.laws) };
 
     ghost at_least = { λ n fits. as_long M.BITS n };
 }
@@ -139,6 +140,10 @@ impl<M: Modulus, K> Duplicate for Additive<M, K> {
     fn duplicate(&self, _alloc: Global) -> Result<Additive<M, K>, Error> {
         Ok(*self)
     }
+}
+
+impl<M: Modulus, K> ReadBack for Additive<M, K> {
+    ghost same_seen = { λ x y same. same };
 }
 
 impl<M: Modulus, K> DigestItem for Additive<M, K> {
@@ -161,5 +166,5 @@ impl<M: Modulus, K> DigestItem for Additive<M, K> {
 
     ghost bytes_are = { λ x. refl };
 
-    ghost numbers_are = { λ x. number_again M.P M.BITS M.laws x.0.value x.0.reduced };
+    ghost numbers_are = { λ x. number_again M.P M.BITS M.laws.digits x.0.value x.0.reduced };
 }

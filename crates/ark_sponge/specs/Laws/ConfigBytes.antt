@@ -1,5 +1,6 @@
 -- The laws of the canonical bytes of what a sponge is set up with.
-use Rattle.std.proofs.Common.{◌≡◌, ℕ, ◌<◌, Bool, true, false, cond, ltb, eqb, List, ◌++◌, length, take, Ok, Err, refl, ap, subst, ◌∙◌}
+use Rattle.std.proofs.Common.{◌≡◌, ℕ, ◌+◌, ◌<◌, ◌≤◌, Bool, true, false, cond, ltb, eqb, List, ◌++◌, length, take, Ok, Err, refl, ap, subst, ◌∙◌, arith}
+use Rattle.std.proofs.lemmas.List.{length-append}
 use Rattle.ark_base.specs.declared.error.Error.{Error}
 use Rattle.ark_base.specs.declared.error.Error.TheVariants.{GenericError}
 use Rattle.ark_base.specs.declared.error.Refusal.TheVariants.{FieldTooSmall, ZeroRate, ParameterShape}
@@ -11,9 +12,9 @@ use Rattle.ark_base.specs.Spelling.{IsWord, word, word_at, IsCounted, counted_li
 use Rattle.ark_base.specs.Digits.{bytes_of_number, IsBelow, below_at, bytes_for}
 use Rattle.ark_base.specs.Laws.Steps.{bind_ok, done_injective}
 use Rattle.ark_base.specs.Laws.Parts.{both_laws, made_laws}
-use Rattle.ark_base.specs.Laws.Lists.{counted_list_laws}
-use Rattle.ark_base.specs.Laws.Numbers.{word_laws}
-use Rattle.ark_groups.specs.Field.{IsModulus}
+use Rattle.ark_base.specs.Laws.Lists.{counted_list_laws, counted_list_is_long}
+use Rattle.ark_base.specs.Laws.Numbers.{word_laws, word_is_long}
+use Rattle.ark_groups.specs.Field.{IsFieldModulus}
 use Rattle.ark_groups.specs.Laws.Fp.{below_modulus_laws}
 use Rattle.ark_sponge.specs.Permutation.{Parameters, has_poseidon_shape, lawful_parameters}
 use Rattle.ark_sponge.specs.ConfigBytes.{fields_of, of_fields, HaveSpelling, fields_spelling, fields_at}
@@ -104,7 +105,7 @@ lawful_parameters-same bits c d e =
     let begun = guarded-Ok (eqb c.rate 0) (GenericError ZeroRate) _ d wide in
     kept-Ok (has_poseidon_shape c) (GenericError ParameterShape) c d begun
 
-pub parameters_laws : (p bits : ℕ) → IsModulus p bits
+pub parameters_laws : (p bits : ℕ) → IsFieldModulus p bits
     → IsCanonical (IsSpelled p bits) (parameters_spelling bits) (parameters_at p bits)
 parameters_laws p bits modulus =
     let fits = IsBelow p in
@@ -113,4 +114,24 @@ parameters_laws p bits modulus =
     tested_laws (lawful_parameters bits) (lawful_parameters-same bits) (λ c. HaveSpelling fits (fields_of c))
     (λ c. fields_spelling spell (fields_of c)) (made_at of_fields (fields_at reads))
     (made_laws of_fields fields_of (λ c. refl) (λ f. refl) (HaveSpelling fits) (fields_spelling spell) (fields_at reads)
-    (fields_laws fits spell reads (below_modulus_laws p bits modulus)))
+    (fields_laws fits spell reads (below_modulus_laws p bits modulus.digits)))
+
+both_are_long : {A B : Type 0} (first : A → List ℕ) (second : B → List ℕ) (m n : ℕ) (x : A × B)
+    → m ≤ length (first x.0) → n ≤ length (second x.1) → m + n ≤ length (both first second x)
+both_are_long first second m n x first_long second_long =
+    omega (arith, first_long, second_long, length-append (first x.0) (second x.1))
+
+-- five numbers and the counts of two lists, each in eight bytes
+pub parameters_are_long : (bits : ℕ) (c : Parameters) → 56 ≤ length (parameters_spelling bits c)
+parameters_are_long bits c =
+    let rows = counted_list (counted_list (bytes_of_number (bytes_for bits))) in
+    let long = counted_list_is_long (counted_list (bytes_of_number (bytes_for bits))) in
+    let f = fields_of c in
+    let shape = both_are_long word word 8 8 f.1.1.1.1.1 (word_is_long c.rate) (word_is_long c.capacity) in
+    let matrix = both_are_long rows (both word word) 8 16 f.1.1.1.1 (long c.mds) shape in
+    let constants = both_are_long rows (both rows (both word word)) 8 24 f.1.1.1 (long c.ark) matrix in
+    let exponent = both_are_long word (both rows (both rows (both word word))) 8 32 f.1.1 (word_is_long c.alpha) constants in
+    let partial = both_are_long word (both word (both rows (both rows (both word word)))) 8 40 f.1
+    (word_is_long c.partial_rounds) exponent in
+    both_are_long word (both word (both word (both rows (both rows (both word word))))) 8 48 f
+    (word_is_long c.full_rounds) partial

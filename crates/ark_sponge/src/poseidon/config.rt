@@ -9,13 +9,13 @@ mod bytes;
 use crate::poseidon::permutation::{SBox, apply_rounds};
 use ark_base::error::{Error, Refusal};
 use ark_base::serialize::Duplicate;
-use ark_groups::ff::PrimeField;
+use ark_groups::ff::{Field, Valued};
 use std::alloc::Global;
 use std::marker::Model;
 
 /// The constants of a permutation, and how its state is parted into rate and capacity.
-#[derive(Drop)]
-pub struct PoseidonConfig<F: PrimeField> {
+#[derive(Debug, Drop)]
+pub struct PoseidonConfig<F: Valued> {
     full_rounds: usize,
     partial_rounds: usize,
     alpha: u64,
@@ -25,7 +25,7 @@ pub struct PoseidonConfig<F: PrimeField> {
     capacity: usize,
 }
 
-impl<F: PrimeField> Model for PoseidonConfig<F> {
+impl<F: Valued> Model for PoseidonConfig<F> {
     ghost use Rattle.std.specs.Prelude.{◌≡◌, ◌+◌, ◌<◌, ◌≤◌, ◌^◌, map, All, vec_len};
     ghost use Rattle.ark_sponge.specs.Permutation.{Parameters};
 
@@ -48,11 +48,11 @@ impl<F: PrimeField> Model for PoseidonConfig<F> {
         × All (λ row. vec_len row ≡ c.rate + c.capacity) c.mds.items
         × (vec_len c.ark ≡ c.full_rounds + c.partial_rounds)
         × All (λ row. vec_len row ≡ c.rate + c.capacity) c.ark.items
-        × (9 ≤ F.MODULUS_BIT_SIZE) };
+        × (9 ≤ F.bits) };
 }
 
 // Whether there are `count` rows of `len` elements.
-fn is_matrix<F: PrimeField>(rows: &[Vec<F>], count: usize, len: usize) -> bool
+fn is_matrix<F: Field>(rows: &[Vec<F>], count: usize, len: usize) -> bool
     ensures test { result ≡ is_matrix count len (map (λ row. map F.value row.items) rows.now) }
     ensures count { result ≡ true → length rows.now ≡ count }
     ensures rows { result ≡ true → All (λ row. vec_len row ≡ len) rows.now }
@@ -60,7 +60,7 @@ fn is_matrix<F: PrimeField>(rows: &[Vec<F>], count: usize, len: usize) -> bool
     rows.len() == count && rows.iter().all(|row| row.len() == len)
 }
 
-impl<F: PrimeField> PoseidonConfig<F> {
+impl<F: Field> PoseidonConfig<F> {
     /// These parameters: `full_rounds` and `partial_rounds` rounds under the exponent `alpha` of the S-box, the matrix `mds`
     /// and the constants `ark` by rows, and a state of `rate` and `capacity` elements. It takes no memory.
     ///
@@ -187,14 +187,14 @@ impl<F: PrimeField> PoseidonConfig<F> {
 }
 
 // The rows once more.
-fn copy_of_rows<F: PrimeField>(rows: &Vec<Vec<F>>) -> Result<Vec<Vec<F>>, Error>
+fn copy_of_rows<F: Field>(rows: &Vec<Vec<F>>) -> Result<Vec<Vec<F>>, Error>
     ensures { let numbers = map (λ row. map F.value row.items) in
         AnswersBy (λ copy. numbers copy.items) (Ok (numbers rows.now.items)) result }
 {
     Ok(rows.clone()?)
 }
 
-impl<F: PrimeField> Duplicate for PoseidonConfig<F> {
+impl<F: Field> Duplicate for PoseidonConfig<F> {
     ghost Data = { Parameters };
 
     ghost seen = { λ parameters. parameters };

@@ -12,14 +12,14 @@ use crate::poseidon::config::PoseidonConfig;
 use crate::poseidon::duplex::{absorb_blocks, begin_squeezing, squeeze_blocks, turn};
 use crate::poseidon::permutation::SBox;
 use ark_base::error::Error;
-use ark_groups::ff::PrimeField;
+use ark_groups::ff::{Field, Valued};
 pub use state::PoseidonSpongeState;
 use std::alloc::Global;
 use std::marker::{Model, PhantomData};
 
 /// A duplex sponge over Poseidon's permutation with an S-box.
 #[derive(Drop)]
-pub struct PoseidonSponge<F: PrimeField, S: SBox<F>> {
+pub struct PoseidonSponge<F: Valued, S> {
     parameters: PoseidonConfig<F>,
     state: Vec<F>,
     scratch: Vec<F>,
@@ -27,7 +27,7 @@ pub struct PoseidonSponge<F: PrimeField, S: SBox<F>> {
     sbox: PhantomData<S>,
 }
 
-impl<F: PrimeField, S: SBox<F>> Model for PoseidonSponge<F, S> {
+impl<F: Valued, S> Model for PoseidonSponge<F, S> {
     ghost use Rattle.std.specs.Prelude.{◌≡◌, ◌+◌, map, vec_len};
     ghost use Rattle.ark_sponge.specs.Sponge.{Sponge};
     ghost use Rattle.ark_sponge.specs.Mode.{IsWithin};
@@ -45,7 +45,7 @@ impl<F: PrimeField, S: SBox<F>> Model for PoseidonSponge<F, S> {
         × IsWithin s.parameters.rate s.mode };
 }
 
-impl<F: PrimeField, S: SBox<F>> PoseidonSponge<F, S> {
+impl<F: Field, S: SBox<F>> PoseidonSponge<F, S> {
     /// A sponge that has absorbed nothing. The only refusal is `OutOfMemory`.
     pub fn over(alloc: Global, parameters: PoseidonConfig<F>) -> Result<Self, Error>
         ensures { AnswersBy (λ sponge. sponge) (Ok (new_sponge parameters)) result }

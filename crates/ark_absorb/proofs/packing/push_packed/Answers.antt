@@ -1,7 +1,7 @@
 use Rattle.std.proofs.Common.{◌≡◌, ℕ, ◌+◌, ◌<◌, ◌≤◌, ◌++◌, ◌*◌, ◌-◌, ◌/◌, ◌∙◌, List, ap, sym, min, subst, refl, arith, length, take, Ok}
 use Rattle.std.proofs.lemmas.Grind.{div_ceil_times}
 use Rattle.std.specs.Int.{w64, to_le_bytes, div_ceil}
-use Rattle.ark_groups.specs.Laws.Field.{at_most_64_bits}
+use Rattle.ark_groups.specs.Laws.Field.{at_most_256_bits}
 use Rattle.ark_absorb.specs.Appending.{StandBehind}
 use Rattle.ark_absorb.specs.Elements.{piece_numbers, text_bytes}
 use Rattle.ark_absorb.proofs.Pieces.{StandBehind-packed}
@@ -9,10 +9,10 @@ use Rattle.ark_absorb.proofs.packing.push_packed.Goals as goal
 
 pub write_at-requires-2 : goal.write_at-requires-2
 write_at-requires-2 g c =
-    let f = g.F.PrimeField in
+    let f = g.F.Field in
     let size = (c.MODULUS_BIT_SIZE.result - 1) / 8 in
     let some : 0 < size = omega (arith, c.requires, c.MODULUS_BIT_SIZE.ensures) in
-    let most : c.MODULUS_BIT_SIZE.result ≤ 64 = omega (arith, c.MODULUS_BIT_SIZE.ensures, at_most_64_bits f.MODULUS f.MODULUS_BIT_SIZE f.modulus_laws) in
+    let most : c.MODULUS_BIT_SIZE.result ≤ 256 = omega (arith, c.MODULUS_BIT_SIZE.ensures, at_most_256_bits f.MODULUS f.MODULUS_BIT_SIZE f.modulus_laws) in
     let reach : c.div_ceil.result * size < 8 + size = subst (λ (k : ℕ). k * size < 8 + size) (sym c.div_ceil.ensures) (div_ceil_times 8 size some).1 in
     omega (arith, most, reach, c.min.ensures, c.split_at.ensures.front_len, c.write_at.ensures.length)
 
@@ -23,8 +23,8 @@ returns g c =
     let some : 0 < size = omega (arith, c.requires, c.MODULUS_BIT_SIZE.ensures) in
     let text = c.args.text.now in
     let front = c.split_at.result.0.now in
-    let value = g.F.PrimeField.value in
-    let modulus = g.F.PrimeField.MODULUS in
+    let value = g.F.Valued.value in
+    let modulus = g.F.Field.MODULUS in
     let old = c.args.dest.now.items in
     let new = c.push_pieces-2.new.dest.items in
     let head = take (8 + length front) c.write_at-2.new.list in

@@ -5,8 +5,10 @@ ghost use Rattle.ark_sponge.specs.ConfigBytes.{IsSpelled, parameters_spelling, p
 
 use crate::poseidon::config::PoseidonConfig;
 use ark_base::error::{Error, SerializationError};
-use ark_base::serialize::{Canonical, CanonicalDeserialize, CanonicalSerialize, ReadBack};
-use ark_groups::ff::PrimeField;
+use ark_base::serialize::{
+    Canonical, CanonicalDeserialize, CanonicalItem, CanonicalSerialize, ReadBack,
+};
+use ark_groups::ff::Field;
 use std::alloc::Global;
 
 // Full rounds, partial rounds, exponent, constants, matrix, rate and capacity.
@@ -15,7 +17,7 @@ type Fields<F> = (
     (usize, (u64, (Vec<Vec<F>>, (Vec<Vec<F>>, (usize, usize))))),
 );
 
-impl<F: PrimeField> Canonical for PoseidonConfig<F> {
+impl<F: Field> Canonical for PoseidonConfig<F> {
     ghost use Rattle.ark_sponge.specs.Laws.ConfigBytes.{parameters_laws};
 
     ghost Value = { Parameters };
@@ -31,7 +33,7 @@ impl<F: PrimeField> Canonical for PoseidonConfig<F> {
     ghost laws = { parameters_laws F.MODULUS F.MODULUS_BIT_SIZE F.modulus_laws };
 }
 
-impl<F: PrimeField> CanonicalSerialize for PoseidonConfig<F> {
+impl<F: Field> CanonicalSerialize for PoseidonConfig<F> {
     fn serialize(&self, dest: &mut Vec<u8>) -> Result<(), Error> {
         // The call tells the proof that `new` took these parameters.
         let _known = self.rate();
@@ -45,7 +47,7 @@ impl<F: PrimeField> CanonicalSerialize for PoseidonConfig<F> {
     }
 }
 
-impl<F: PrimeField> CanonicalDeserialize for PoseidonConfig<F> {
+impl<F: Field> CanonicalDeserialize for PoseidonConfig<F> {
     fn read(alloc: Global, bytes: &[u8]) -> Result<(PoseidonConfig<F>, usize), Error> {
         let (fields, used) = Fields::<F>::read(alloc, bytes)?;
         let (full_rounds, (partial_rounds, (alpha, (ark, (mds, (rate, capacity)))))) = fields;
@@ -56,6 +58,19 @@ impl<F: PrimeField> CanonicalDeserialize for PoseidonConfig<F> {
     }
 }
 
-impl<F: PrimeField> ReadBack for PoseidonConfig<F> {
+impl<F: Field> CanonicalItem for PoseidonConfig<F> {
+    ghost use Rattle.std.proofs.Common.{lit<};
+    ghost use Rattle.ark_sponge.specs.Laws.ConfigBytes.{parameters_are_long};
+
+    ghost LEAST = { 56 };
+
+    const LEAST: usize = 56;
+
+    ghost some = { lit< tt };
+
+    ghost at_least = { λ parameters fits. parameters_are_long F.MODULUS_BIT_SIZE parameters };
+}
+
+impl<F: Field> ReadBack for PoseidonConfig<F> {
     ghost same_seen = { λ p q same. same };
 }

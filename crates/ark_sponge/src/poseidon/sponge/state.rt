@@ -12,18 +12,18 @@ use crate::poseidon::permutation::SBox;
 use crate::poseidon::sponge::PoseidonSponge;
 use ark_base::error::{Error, Refusal};
 use ark_base::serialize::Duplicate;
-use ark_groups::ff::PrimeField;
+use ark_groups::ff::{Field, Valued};
 use std::alloc::Global;
 use std::marker::{Model, PhantomData};
 
 /// What a sponge holds besides its parameters. Any list and mode make one: `from_state` is the test.
 #[derive(Drop)]
-pub struct PoseidonSpongeState<F: PrimeField> {
+pub struct PoseidonSpongeState<F: Valued> {
     state: Vec<F>,
     mode: DuplexSpongeMode,
 }
 
-impl<F: PrimeField> Model for PoseidonSpongeState<F> {
+impl<F: Valued> Model for PoseidonSpongeState<F> {
     ghost use Rattle.std.specs.Prelude.{map};
     ghost use Rattle.ark_sponge.specs.Sponge.{SpongeState};
 
@@ -32,7 +32,7 @@ impl<F: PrimeField> Model for PoseidonSpongeState<F> {
     ghost view = { λ s. record { state = map F.value s.state.items; mode = s.mode } };
 }
 
-impl<F: PrimeField> PoseidonSpongeState<F> {
+impl<F: Field> PoseidonSpongeState<F> {
     /// The state of these elements, the capacity first, that goes on so.
     pub fn new(state: Vec<F>, mode: DuplexSpongeMode) -> PoseidonSpongeState<F>
         ensures { result ≡ record { state = map F.value state.items; mode = mode } }
@@ -55,7 +55,7 @@ impl<F: PrimeField> PoseidonSpongeState<F> {
     }
 }
 
-impl<F: PrimeField> Duplicate for PoseidonSpongeState<F> {
+impl<F: Field> Duplicate for PoseidonSpongeState<F> {
     ghost Data = { SpongeState };
 
     ghost seen = { λ state. state };
@@ -69,7 +69,7 @@ impl<F: PrimeField> Duplicate for PoseidonSpongeState<F> {
     }
 }
 
-impl<F: PrimeField, S: SBox<F>> SpongeExt for PoseidonSponge<F, S> {
+impl<F: Field, S: SBox<F>> SpongeExt for PoseidonSponge<F, S> {
     ghost use Rattle.std.specs.Prelude.{◌≡◌};
     ghost use Rattle.std.proofs.Common.{ap};
     ghost use Rattle.ark_sponge.specs.Sponge.{Sponge, restored_sponge};

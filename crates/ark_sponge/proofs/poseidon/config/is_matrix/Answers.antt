@@ -10,9 +10,9 @@ each g c = all_from_yields_List (λ row. eqb (length row.items) c.args.len) _ _ 
 
 pub returns-then-rows-count-clause-test : goal.returns-then-rows-count-clause-test
 returns-then-rows-count-clause-test g c =
-    is_matrix-count g.F.PrimeField.value (λ row. row.items) c.args.count c.args.len c.args.rows.now c.all.result c.if-rows-count.true (each g c)
+    is_matrix-count g.F.Valued.value (λ row. row.items) c.args.count c.args.len c.args.rows.now c.all.result c.if-rows-count.true (each g c)
 
 pub returns-then-rows-count-clause-rows : goal.returns-then-rows-count-clause-rows
 returns-then-rows-count-clause-rows g c holds k d within =
     let row = get_or c.args.rows.now k d in
-    omega (arith, row.ok.0, list_all-All g.F.PrimeField.value (λ row. row.items) c.args.count c.args.len c.args.rows.now (sym (each g c) ∙ holds) k d within)
+    omega (arith, row.ok.0, list_all-All g.F.Valued.value (λ row. row.items) c.args.count c.args.len c.args.rows.now (sym (each g c) ∙ holds) k d within)

@@ -16,10 +16,10 @@ write_digest-requires-clause-scratch g c =
 
 pub write_digest-requires-clause-zeros : goal.write_digest-requires-clause-zeros
 write_digest-requires-clause-zeros g c =
-    let zeros = done_injective (replicate (c.rate.result + c.capacity.result) 0) (map g.F.PrimeField.value c.in_ok-state.state.items) c.in_ok-state.ensures.numbers in
+    let zeros = done_injective (replicate (c.rate.result + c.capacity.result) 0) (map g.F.Valued.value c.in_ok-state.state.items) c.in_ok-state.ensures.numbers in
     rw (c.deref_mut.ensures.value, ← zeros, c.rate.ensures.value, c.capacity.ensures) refl
 
 pub returns : goal.returns
 returns g c =
     let given : List ℕ → Outcome (List ℕ) = λ xs. Ok xs in
-    ap given (one_read g.F.PrimeField.value c.write_digest.new.out _ c.index-given-0.result c.write_digest.ensures)
+    ap given (one_read g.F.Valued.value c.write_digest.new.out _ c.index-given-0.result c.write_digest.ensures)

@@ -7,12 +7,12 @@ use Rattle.ark_sponge.proofs.poseidon.duplex.absorb_blocks.Goals as goal
 
 pub loop-index-init : goal.loop-index-init
 loop-index-init g c =
-    let f = g.F.PrimeField in
+    let f = g.F.Field in
     let q = c.args.parameters.now in
     let pos : 0 < q.rate = omega (arith, c.rate-rate.ensures.positive, c.rate-rate.ensures.value) in
     record {
-      so_far = elements_left-first f.value f.MODULUS q.rate q.capacity (permutation f.MODULUS g.S.SBox.image q) pos c.args.state.now c.args.elements.now c.add_row_at.new.state
-          c.split_at.result.0.now c.split_at.result.1.now c.args.start c.min.result (c.capacity-capacity.result + c.args.start) g.met.F.PrimeField.laws.below
+      so_far = elements_left-first g.F.Valued.value f.MODULUS q.rate q.capacity (permutation f.MODULUS g.S.SBox.image q) pos c.args.state.now c.args.elements.now c.add_row_at.new.state
+          c.split_at.result.0.now c.split_at.result.1.now c.args.start c.min.result (c.capacity-capacity.result + c.args.start) g.met.F.Field.laws.below
           c.requires.width c.requires.start c.requires.some (c.min.ensures ∙ ap (λ r. min (r - c.args.start) (length c.args.elements.now)) c.rate-rate.ensures.value) c.split_at.ensures.front c.split_at.ensures.back (omega (arith, c.capacity-capacity.ensures)) c.add_row_at.ensures.sums;
       within = omega (arith, c.split_at.ensures.front_len, c.min.ensures, c.rate-rate.ensures.value, c.requires.start);
       state = c.add_row_at.ensures.length ∙ c.requires.width;
@@ -21,11 +21,11 @@ loop-index-init g c =
 
 pub loop-index-preserved : goal.loop-index-preserved
 loop-index-preserved g c =
-    let f = g.F.PrimeField in
+    let f = g.F.Field in
     let q = c.args.parameters.now in
     let pos : 0 < q.rate = omega (arith, c.rate-rate.ensures.positive, c.rate-rate.ensures.value) in
     record {
-      so_far = elements_left-next f.value f.MODULUS q.rate q.capacity (permutation f.MODULUS g.S.SBox.image q) pos c.loop-index.state c.permute.new.state
+      so_far = elements_left-next g.F.Valued.value f.MODULUS q.rate q.capacity (permutation f.MODULUS g.S.SBox.image q) pos c.loop-index.state c.permute.new.state
           c.add_row_at-in-loop-index.new.state c.loop-index.rest.now c.split_at-in-loop-index.result.0.now c.split_at-in-loop-index.result.1.now c.loop-index.index
           c.min-in-loop-index.result (search (rules, common_steps)) (c.min-in-loop-index.ensures ∙ ap (λ r. min r (length c.loop-index.rest.now)) c.rate-rate.ensures.value) c.split_at-in-loop-index.ensures.front c.split_at-in-loop-index.ensures.back c.permute.ensures (search (rules, c.add_row_at-in-loop-index.ensures.sums, c.capacity-capacity.ensures))
           ∙ c.loop-index.invariant.so_far;
@@ -36,9 +36,9 @@ loop-index-preserved g c =
 
 pub returns-clause-state : goal.returns-clause-state
 returns-clause-state g c =
-    let f = g.F.PrimeField in
+    let f = g.F.Field in
     let q = c.args.parameters.now in
     let permute = permutation f.MODULUS g.S.SBox.image q in
-    let none : length (map f.value c.loop-index.rest.now) ≡ 0 = length-map c.loop-index.rest.now f.value ∙ search (rules, common_steps) in
-    sym (blocks_left-nil f.MODULUS q.rate q.capacity permute (map f.value c.loop-index.state) c.loop-index.index (map f.value c.loop-index.rest.now) none)
+    let none : length (map g.F.Valued.value c.loop-index.rest.now) ≡ 0 = length-map c.loop-index.rest.now g.F.Valued.value ∙ search (rules, common_steps) in
+    sym (blocks_left-nil f.MODULUS q.rate q.capacity permute (map g.F.Valued.value c.loop-index.state) c.loop-index.index (map g.F.Valued.value c.loop-index.rest.now) none)
     ∙ c.loop-index.invariant.so_far

@@ -5,8 +5,8 @@ use Rattle.ark_sponge.proofs.poseidon.permutation.write_images.Goals.{then-i-cou
 
 pub loop-i-preserved : goal.loop-i-preserved
 loop-i-preserved g c =
-    let f = g.F.PrimeField in
-    let step = image_written f.value f.MODULUS (g.S.SBox.image c.args.alpha) c.args.count c.args.state.now c.args.row.now c.loop-i.out c.loop-i.i
+    let f = g.F.Field in
+    let step = image_written g.F.Valued.value f.MODULUS (g.S.SBox.image c.args.alpha) c.args.count c.args.state.now c.args.row.now c.loop-i.out c.loop-i.i
     c.index-state-i.result c.index-row-i.result c.add-sum.result in
     elim c.if-i-count.branch [
       | then-i-count w ↦ rw w.out-is (step w.apply.result (omega arith) (omega arith) (omega arith) c.loop-i.invariant c.index-state-i.is c.index-row-i.is c.add-sum.ensures
@@ -17,5 +17,5 @@ loop-i-preserved g c =
 
 pub returns : goal.returns
 returns g c =
-    let f = g.F.PrimeField in
-    images_all f.value f.MODULUS (g.S.SBox.image c.args.alpha) c.args.count c.args.state.now c.args.row.now c.loop-i.out c.loop-i.i (omega arith) (omega arith) c.loop-i.invariant
+    let f = g.F.Field in
+    images_all g.F.Valued.value f.MODULUS (g.S.SBox.image c.args.alpha) c.args.count c.args.state.now c.args.row.now c.loop-i.out c.loop-i.i (omega arith) (omega arith) c.loop-i.invariant

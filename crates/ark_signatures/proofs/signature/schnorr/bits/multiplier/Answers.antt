@@ -11,7 +11,7 @@ loop-rest-init g c =
 pub loop-rest-preserved : goal.loop-rest-preserved
 loop-rest-preserved g c =
     let p = g.F.PrimeField.MODULUS in
-    let value = g.F.PrimeField.value in
+    let value = g.F.Valued.value in
     let bytes = c.args.bytes.now in
     let i = c.loop-rest.rest in
     let byte = get_or bytes (i - 1) 0 in

@@ -9,7 +9,7 @@ loop-preserved g c =
     let field = g.C.ScalarField in
     let pp = c.args.pp.now in
     let message = c.args.message.now in
-    let value = field.PrimeField.value in
+    let value = field.Valued.value in
     let same = ap (challenge_at g pp.salt message) (sym c.mul-point.ensures) in
     let none = same ∙ c.in_ok-e.ensures ∙ ap (λ o. Ok (option_map value o)) c.in_default.is in
     sym (first_nonce-none field.UniformRand.draw value (challenge_times g pp.salt message pp.generator) 128 c.loop.counter (g.R.Rng.stream c.loop.rng)
@@ -21,7 +21,7 @@ returns-in_err-e g c =
     let field = g.C.ScalarField in
     let pp = c.args.pp.now in
     let message = c.args.message.now in
-    let value = field.PrimeField.value in
+    let value = field.Valued.value in
     let same = ap (challenge_at g pp.salt message) (sym c.mul-point.ensures) in
     let told = or_else (λ refused. sym c.loop.invariant
     ∙ first_nonce-refused field.UniformRand.draw value (challenge_times g pp.salt message pp.generator) 128 c.loop.counter (g.R.Rng.stream c.loop.rng)
@@ -34,7 +34,7 @@ returns-in-Some g c =
     let field = g.C.ScalarField in
     let pp = c.args.pp.now in
     let message = c.args.message.now in
-    let value = field.PrimeField.value in
+    let value = field.Valued.value in
     let same = ap (challenge_at g pp.salt message) (sym c.mul-point.ensures) in
     let some = same ∙ c.in_ok-e.ensures ∙ ap (λ o. Ok (option_map value o)) c.in-Some.is in
     sym c.loop.invariant
@@ -46,4 +46,4 @@ returns g c =
     let field = g.C.ScalarField in
     let pp = c.args.pp.now in
     inr (sym c.loop.invariant
-    ∙ first_nonce-exhausted field.UniformRand.draw field.PrimeField.value (challenge_times g pp.salt c.args.message.now pp.generator) 128 c.loop.counter (g.R.Rng.stream c.loop.rng) (omega arith))
+    ∙ first_nonce-exhausted field.UniformRand.draw field.Valued.value (challenge_times g pp.salt c.args.message.now pp.generator) 128 c.loop.counter (g.R.Rng.stream c.loop.rng) (omega arith))

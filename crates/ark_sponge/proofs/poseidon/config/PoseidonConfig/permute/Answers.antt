@@ -17,9 +17,9 @@ module _ {R : Type 0} (len : R → ℕ) (xs ys : List R) (n w : ℕ) (same : xs 
 
 pub returns : goal.returns
 returns g c =
-    let f = g.F.PrimeField in
+    let f = g.F.Field in
     let i = c.self.inside in
-    rw (← c.self.view_is) (permutation-parts (λ row. map f.value row.items) f.MODULUS g.S.SBox.image i.full_rounds i.partial_rounds i.alpha i.mds.items i.ark.items _ _ i.rate i.capacity _ _ _ _
+    rw (← c.self.view_is) (permutation-parts (λ row. map g.F.Valued.value row.items) f.MODULUS g.S.SBox.image i.full_rounds i.partial_rounds i.alpha i.mds.items i.ark.items _ _ i.rate i.capacity _ _ _ _
     c.as_slice-mds.ensures.value c.as_slice-ark.ensures.value c.apply_rounds.ensures c.apply_rounds-2.ensures c.apply_rounds-3.ensures)
 
 pub apply_rounds-requires : goal.apply_rounds-requires

@@ -1,23 +1,17 @@
 use Rattle.std.proofs.Common.{◌≡◌, ◌∙◌, refl, ℕ, ◌-◌, ◌*◌, ◌/◌, ◌<◌, ◌≤◌, length, ap, arith}
 use Rattle.std.proofs.lemmas.List.{with_items_is}
 use Rattle.std.specs.Int.{div_ceil}
-use Rattle.ark_groups.specs.Laws.Field.{at_most_64_bits}
 use Rattle.std.proofs.lemmas.Grind.{div_ceil_times}
 use Rattle.ark_sponge.proofs.poseidon.sponge.calls.PoseidonSpongeCryptographicSponge.squeeze_bytes.Goals as goal
 
-pub spread_bytes-requires-clause-size : goal.spread_bytes-requires-clause-size
-spread_bytes-requires-clause-size g c =
-    let most : c.MODULUS_BIT_SIZE.result ≤ 64 = omega (arith, c.MODULUS_BIT_SIZE.ensures, at_most_64_bits g.F.PrimeField.MODULUS g.F.PrimeField.MODULUS_BIT_SIZE g.F.PrimeField.modulus_laws) in
-    omega (arith, most)
-
-pub spread_bytes-requires-clause-enough : goal.spread_bytes-requires-clause-enough
-spread_bytes-requires-clause-enough g c =
+pub spread_bytes-requires : goal.spread_bytes-requires
+spread_bytes-requires g c =
     let size = (c.MODULUS_BIT_SIZE.result - 1) / 8 in
     let some : 0 < size = omega (arith, c.rate-known.ensures.wide, c.MODULUS_BIT_SIZE.ensures) in
     let long : length c.deref.result.now ≡ div_ceil c.args.count size = omega (arith, c.deref.ensures.len, c.in_ok-elements.ensures.len, c.div_ceil.ensures) in
     let product : length c.deref.result.now * size ≡ div_ceil c.args.count size * size = ap (λ (k : ℕ). k * size) long in
     let room : length c.deref_mut-2.result.now ≤ length c.deref.result.now * size = omega (arith, product, (div_ceil_times c.args.count size some).0, c.deref_mut-2.ensures.len, c.in_ok-bytes.ensures.len) in
-    room
+    record { enough = room }
 
 pub returns-clause-given : goal.returns-clause-given
 returns-clause-given g c =

@@ -31,7 +31,7 @@ invariant_of-result g c =
 
 pub returns : goal.returns
 returns g c =
-    let f = g.F.PrimeField.value in
+    let f = g.F.Valued.value in
     let i = c.state.inside in
     let q = c.args.parameters.now in
     let count : length (map f i.state.items) ≡ q.rate + q.capacity = omega (arith, length-map i.state.items f, i.state.ok.0, long g c) in
@@ -40,7 +40,7 @@ returns g c =
 
 pub returns-then-len-width : goal.returns-then-len-width
 returns-then-len-width g c =
-    let f = g.F.PrimeField.value in
+    let f = g.F.Valued.value in
     let i = c.state.inside in
     let q = c.args.parameters.now in
     let len : length (map f i.state.items) ≡ c.len.result = omega (arith, length-map i.state.items f, i.state.ok.0, c.len.ensures) in

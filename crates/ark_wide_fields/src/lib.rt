@@ -1,0 +1,19 @@
+//! Fields of four words: the numbers below a modulus of 193 to 255 bits, kept for Montgomery's reduction.
+//!
+//! That a modulus is prime is used nowhere. A modulus of 256 bits, as secp256k1's, is not served: sums of two numbers below it
+//! take a fifth word.
+#![tactic(auto)]
+
+mod absorb;
+mod fp256;
+mod moduli;
+mod modulus;
+mod montgomery;
+mod words;
+
+pub use fp256::Fp256;
+pub use moduli::{
+    Bls12_381Fr, Bls12_381FrModulus, Bn254Fr, Bn254FrModulus, PallasFp, PallasFpModulus, VestaFp,
+    VestaFpModulus,
+};
+pub use modulus::WideModulus;
