@@ -1,9 +1,12 @@
 /* Paxidore: Merkle trees over byte strings, and BLAKE2s. The code behind these calls is proved.
  *
- * No call keeps memory or a pointer, and each may run in any thread at any time, but not in a signal handler. A refused
- * request for memory (malloc) is an answer like others. size_t has 64 bits. Only inputs may overlap. A pointer to a first byte
- * or number is not NULL and may be read, or written where it is not const, for its length; with length 0 it is not looked at
- * and may be NULL. */
+ * No call keeps memory or a pointer, and each may run in any thread at any time. The calls of trees allocate: they stand on the
+ * process's malloc and free, so do not call them in a signal handler, nor in the child of a process with threads between fork
+ * and exec. Where malloc returns NULL the answer is PAXIDORE_E_MEMORY; no clause says that enough memory is not answered so.
+ * The calls of BLAKE2s allocate nothing.
+ *
+ * size_t has 64 bits. Only inputs may overlap. A pointer to a first byte or number is not NULL and may be read, or written where
+ * it is not const, for its length; with length 0 it is not looked at and may be NULL. */
 #ifndef PAXIDORE_H
 #define PAXIDORE_H
 
@@ -117,12 +120,14 @@ int32_t paxidore_rfc6962_multi_path(uint8_t *proof, size_t proof_room, size_t *p
                                     const size_t *lengths, size_t count,
                                     const size_t *indexes, size_t indexes_count);
 
-/* ---- BLAKE2s with 32 bytes out and no key (RFC 7693). Nothing is refused. */
+/* ---- BLAKE2s with 32 bytes out and no key (RFC 7693). Nothing is refused. The standard defines it for inputs below 2^64 bytes:
+ * of a longer text, which `update` can take in pieces, the count is kept modulo 2^64. */
 
 void paxidore_blake2s(uint8_t digest[PAXIDORE_DIGESTBYTES], const uint8_t *input, size_t input_len);
 
 /* A text that comes piece by piece, in memory of the caller's: `init`, any number of `update`, `final`, which makes it ready
- * for another text. It may be copied at any time. Its members are the library's own. */
+ * for another text. It may be copied at any time. Its members are the library's own: of a state that did not come from `init`,
+ * `final` writes some digest. */
 typedef struct paxidore_blake2s_state {
     uint32_t state[8];
     uint8_t block[64];

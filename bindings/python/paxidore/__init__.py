@@ -125,9 +125,16 @@ def _refusal(answer: int) -> Refused:
     return _KINDS.get(answer, Refused)(_library.paxidore_strerror(answer).decode("ascii"))
 
 
+def _exact(name: str, value: bytes) -> bytes:
+    # a subclass may say another length than that of its bytes, which the library would then read past
+    if type(value) is not bytes:
+        raise TypeError("%s is bytes, not %s" % (name, type(value).__name__))
+    return value
+
+
 def _digest(root: bytes) -> bytes:
-    if len(root) != DIGEST_BYTES:
-        raise ValueError("a root has 32 bytes, not %d" % len(root))
+    if len(_exact("root", root)) != DIGEST_BYTES:
+        raise ValueError("root has 32 bytes, not %d" % len(root))
     return root
 
 
@@ -138,13 +145,15 @@ def _word(number: int) -> int:
     return number
 
 
-def _words(numbers: Sequence[int]) -> "ctypes.Array[ctypes.c_size_t]":
-    return (_size * len(numbers))(*map(_word, numbers))
+def _words(numbers: Sequence[int]) -> Tuple["ctypes.Array[ctypes.c_size_t]", int]:
+    # as a tuple, whose length cannot change between two looks at it
+    words = tuple(map(_word, numbers))
+    return (_size * len(words))(*words), len(words)
 
 
-def _flat(leaves: Sequence[bytes]) -> Tuple[bytes, int, "ctypes.Array[ctypes.c_size_t]", int]:
-    if not all(type(leaf) is bytes for leaf in leaves):
-        raise TypeError("a leaf is bytes")
+def _flat(leaves: Tuple[bytes, ...]) -> Tuple[bytes, int, "ctypes.Array[ctypes.c_size_t]", int]:
+    for leaf in leaves:
+        _exact("a leaf", leaf)
     joined = b"".join(leaves)
     return joined, len(joined), (_size * len(leaves))(*map(len, leaves)), len(leaves)
 
@@ -180,11 +189,10 @@ class Trees:
         """Whether the path shows that the leaf stands at the index of the tree of ``size`` leaves with this root.
 
         ``False`` says that the path was read and leads elsewhere. Raises ``SizeError``, ``TruncatedProof``, ``InvalidProof``,
-        ``HeightError``, ``OutOfMemory``; ``ValueError`` where the root has not 32 bytes, ``OverflowError`` where a number has not
-        64 bits (as all calls do).
+        ``HeightError``, ``OutOfMemory``. As all calls do: ``TypeError`` where an argument is not ``bytes`` itself, ``ValueError``
+        where the root has not 32 bytes, ``OverflowError`` where a number has not 64 bits.
         """
-        if len(root) != DIGEST_BYTES or not 0 <= size < 1 << 64 or not 0 <= index < 1 << 64:
-            _digest(root), _word(size), _word(index)
+        _digest(root), _word(size), _word(index), _exact("leaf", leaf), _exact("path", path)
         answer: int = self._verify(root, size, index, leaf, len(leaf), path, len(path))
         if answer < 0:
             raise _refusal(answer)
@@ -198,7 +206,12 @@ class Trees:
         Raises as ``verify`` does, and ``CountError``.
         """
         answer: int = self._multi_verify(
-            _digest(root), _word(size), _words(indexes), len(indexes), *_flat(leaves), proof, len(proof)
+            _digest(root),
+            _word(size),
+            *_words(indexes),
+            *_flat(tuple(leaves)),
+            _exact("proof", proof),
+            len(proof),
         )
         if answer < 0:
             raise _refusal(answer)
@@ -207,18 +220,18 @@ class Trees:
     def root(self, leaves: Sequence[bytes]) -> bytes:
         """The root of the tree above the leaves. Raises ``SizeError``, ``OutOfMemory``."""
         root = ctypes.create_string_buffer(DIGEST_BYTES)
-        answer: int = self._root(root, *_flat(leaves))
+        answer: int = self._root(root, *_flat(tuple(leaves)))
         if answer != 0:
             raise _refusal(answer)
         return root.raw
 
     def path(self, leaves: Sequence[bytes], index: int) -> bytes:
         """The bytes of the path of an index. Raises ``SizeError``, ``IndexBeyondSize``, ``OutOfMemory``."""
+        flat, count = _flat(tuple(leaves)), _size()
         # as many as the path has
-        room = 16 + _path_digests(len(leaves))
-        count = _size()
+        room = 16 + _path_digests(flat[3])
         path = ctypes.create_string_buffer(room)
-        answer: int = self._path(path, room, ctypes.byref(count), *_flat(leaves), _word(index))
+        answer: int = self._path(path, room, ctypes.byref(count), *flat, _word(index))
         if answer != 0:
             raise _refusal(answer)
         return ctypes.string_at(path, count.value)
@@ -228,11 +241,11 @@ class Trees:
 
         Raises as ``path`` does.
         """
-        flat, given, count = _flat(leaves), _words(indexes), _size()
+        flat, given, count = _flat(tuple(leaves)), _words(indexes), _size()
         # no proof has more: four counts, and for each index, which is shown once, 24 bytes and a path
-        room = 32 + min(len(indexes), len(leaves)) * (24 + _path_digests(len(leaves)))
+        room = 32 + min(given[1], flat[3]) * (24 + _path_digests(flat[3]))
         proof = ctypes.create_string_buffer(room)
-        answer: int = self._multi_path(proof, room, ctypes.byref(count), *flat, given, len(indexes))
+        answer: int = self._multi_path(proof, room, ctypes.byref(count), *flat, *given)
         if answer != 0:
             raise _refusal(answer)
         return ctypes.string_at(proof, count.value)
@@ -245,7 +258,7 @@ rfc6962 = Trees("rfc6962")
 def blake2s(data: bytes) -> bytes:
     """The BLAKE2s of some bytes: 32 of them, with no key (RFC 7693)."""
     digest = ctypes.create_string_buffer(DIGEST_BYTES)
-    _library.paxidore_blake2s(digest, data, len(data))
+    _library.paxidore_blake2s(digest, _exact("data", data), len(data))
     return digest.raw
 
 

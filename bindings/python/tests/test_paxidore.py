@@ -146,6 +146,42 @@ class Calls(unittest.TestCase):
         self.assertEqual(repr(trees), "paxidore.sha256")
         self.assertEqual(str(self.refusal(lambda: trees.root([]))), "no tree has this count of leaves")
 
+    def test_only_bytes_themselves_are_taken(self):
+        class Longer(bytes):
+            def __len__(self):
+                return 1 << 32
+
+        class Changing(list):
+            # a list that is longer at each look
+            looks = 0
+
+            def __len__(self):
+                self.looks += 1
+                return super().__len__() + (self.looks << 20)
+
+        for trees, _, _ in HASHINGS:
+            leaves = [b"", b"a", b"bb", b"ccc"]
+            root, path, proof = trees.root(leaves), trees.path(leaves, 2), trees.multi_path(leaves, [0, 3])
+            for wrap in (Longer, bytearray, memoryview):
+                for name, call in (
+                    ("root", lambda: trees.verify(wrap(root), 4, 2, b"bb", path)),
+                    ("leaf", lambda: trees.verify(root, 4, 2, wrap(b"bb"), path)),
+                    ("path", lambda: trees.verify(root, 4, 2, b"bb", wrap(path))),
+                    ("root", lambda: trees.multi_verify(wrap(root), 4, [0, 3], [b"", b"ccc"], proof)),
+                    ("a leaf", lambda: trees.multi_verify(root, 4, [0, 3], [b"", wrap(b"ccc")], proof)),
+                    ("proof", lambda: trees.multi_verify(root, 4, [0, 3], [b"", b"ccc"], wrap(proof))),
+                    ("a leaf", lambda: trees.root([b"", wrap(b"a")])),
+                    ("a leaf", lambda: trees.path([b"", wrap(b"a")], 0)),
+                    ("a leaf", lambda: trees.multi_path([b"", wrap(b"a")], [0])),
+                    ("data", lambda: paxidore.blake2s(wrap(b"abc"))),
+                ):
+                    with self.assertRaisesRegex(TypeError, "^%s is bytes, not %s$" % (name, wrap.__name__)):
+                        call()
+            self.assertEqual(trees.root(Changing(leaves)), root)
+            self.assertEqual(trees.path(Changing(leaves), 2), path)
+            self.assertEqual(trees.multi_path(Changing(leaves), Changing([3, 0])), proof)
+            self.assertTrue(trees.multi_verify(root, 4, Changing([0, 3]), Changing([b"", b"ccc"]), proof))
+
     def refusal(self, call):
         try:
             call()
