@@ -7,12 +7,12 @@ use Rattle.ark_base.specs.Outcome.{Outcome, Answers}
 use Rattle.ark_paths.specs.Path.{Way}
 
 -- The call answers what `outcome` says of the items that an iterator gives from one state on, each as view sees it, and
--- leaves the iterator in another state. It takes none that the answer does not need.
+-- leaves the iterator in another state. Without an item that it took, the place of that item would be refused.
 pub record AnswersOver {S A B C : Type 0} (steps : S → Option A → S → Type 0) (view : A → B) (start behind : S)
     (outcome : List B → Outcome C) (result : Outcome C) : Type 0 where
   -- the items that were taken
   pub taken : List A
-  -- each was needed: with those before it alone, the answer would be that its place has none
+  -- with those before one alone, its place would be refused: it has no item then, or its parts make no path
   pub needed : (n : ℕ) → n < length taken → outcome (take n (map view taken)) ≡ Err (IncorrectInputLength n)
   -- the answer is that of all items, where the iterator had no more; else that of these, whatever would follow
   pub answered :
