@@ -3,10 +3,12 @@
 
 use ark_base::error::{Error, SerializationError};
 use ark_base::serialize::{
-    CanonicalDeserialize, CanonicalItem, CanonicalSerialize, DigestItem, Duplicate,
+    CanonicalDeserialize, CanonicalItem, CanonicalSerialize, DigestItem, Duplicate, ReadBack,
     canonical_bytes, number_of, read_below, serialize_number,
 };
 use ark_base::to_uncompressed_bytes;
+use ark_groups::ec::{Residues, Small};
+use ark_groups::ff::{Fp, M13, M257, PrimeField};
 use std::alloc::Global;
 
 const TRUNCATED: Error = Error::SerializationError(SerializationError::Truncated);
@@ -60,6 +62,35 @@ fn numbers_are_spelled_the_least_byte_first(rt: HostRuntime) {
             && is_spelled(alloc, &1usize, &[1, 0, 0, 0, 0, 0, 0, 0], 8)
             && is_spelled(alloc, &(), &[7], 0)
     );
+}
+
+// Whether a value that was written and read again is the value, and a copy too.
+fn comes_back<T: ReadBack + CanonicalSerialize + CanonicalDeserialize + PartialEq>(
+    alloc: Global,
+    value: &T,
+) -> Result<bool, Error> {
+    let bytes = canonical_bytes(alloc, value)?;
+    let (read, used) = T::deserialize(alloc, &bytes)?;
+    let copy = value.duplicate(alloc)?;
+    Ok(used == bytes.len() && read == *value && copy == *value)
+}
+
+fn list_comes_back(alloc: Global, bytes: &[u8]) -> Result<bool, Error> {
+    comes_back(alloc, &Vec::from_slice(alloc, bytes)?)
+}
+
+#[test]
+fn plain_values_come_back(rt: HostRuntime) {
+    let alloc = rt.alloc();
+    assert!(rt; comes_back(alloc, &true) == Ok(true));
+    assert!(rt; comes_back(alloc, &258u64) == Ok(true));
+    assert!(rt; comes_back(alloc, &[7u8; 8]) == Ok(true));
+    assert!(rt; comes_back(alloc, &[7u8; 32]) == Ok(true));
+    assert!(rt; list_comes_back(alloc, &[1, 2, 3]) == Ok(true));
+    let residue = Residues::<M257>::new(Fp::from_u64(256));
+    assert!(rt; comes_back(alloc, &residue) == Ok(true));
+    let small = Small::<M13>::new(Fp::from_u64(12));
+    assert!(rt; comes_back(alloc, &small) == Ok(true));
 }
 
 // Whether each proper beginning of some bytes is cut short.
