@@ -1,0 +1,12 @@
+pub mod RowsUp
+pub mod PathRows
+pub mod SubproofRows
+pub mod Above
+pub mod TreePairs
+pub mod Sound
+pub mod Agree
+pub mod Own
+pub mod Verdicts
+pub mod Along
+pub mod Raised
+pub mod Answered
