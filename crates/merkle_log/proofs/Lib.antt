@@ -10,3 +10,6 @@ pub mod Verdicts
 pub mod Along
 pub mod Raised
 pub mod Answered
+pub mod Carried
+pub mod Positions
+pub mod Completing

@@ -5,3 +5,5 @@ pub mod Collision
 pub mod Log
 pub mod Verdict
 pub mod Bind
+pub mod Stored
+pub mod Append

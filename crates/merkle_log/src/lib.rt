@@ -5,6 +5,7 @@
 pub mod consistency;
 mod digests;
 pub mod inclusion;
+mod stored;
 mod way;
 
 pub use consistency::verify_consistency;
