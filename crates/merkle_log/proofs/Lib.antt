@@ -13,3 +13,8 @@ pub mod Answered
 pub mod Carried
 pub mod Positions
 pub mod Completing
+pub mod Lasts
+pub mod Going
+pub mod Seeding
+pub mod Accepted
+pub mod Edges

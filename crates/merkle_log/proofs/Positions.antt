@@ -233,3 +233,7 @@ count-more (suc last) n odd even =
     let e : (n + 1) / 2 ≡ n / 2 + 1 = omega arith in
     let ih = count-more last (n / 2) (λ l below. odd (suc l) (omega arith)) even in
     omega (arith, count-half n, count-half (n + 1), ap stored_count e)
+
+-- a place of a row
+pub row-inside : (own seen : StoredValue) (level place : ℕ) → own ≡ seen → place < length (row_of seen level) → place < index_up level own.size
+row-inside own seen level place is below = let e = ap (λ s. length (row_of s level)) is in omega (arith, length-row_of own level)

@@ -7,3 +7,4 @@ pub mod Verdict
 pub mod Bind
 pub mod Stored
 pub mod Append
+pub mod Edge

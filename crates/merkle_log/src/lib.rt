@@ -5,6 +5,7 @@
 pub mod consistency;
 mod digests;
 pub mod inclusion;
+mod rows;
 mod stored;
 mod way;
 

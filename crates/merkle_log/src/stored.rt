@@ -6,7 +6,6 @@ ghost use Rattle.ark_paths.specs.Pair.{Digest};
 ghost use Rattle.ark_paths.specs.Rows.{digests_of};
 ghost use Rattle.merkle_log.specs.Append.{Completes, Refuses};
 ghost use Rattle.merkle_log.specs.Stored.{position, stored_count, StoredValue, row_of};
-ghost use Rattle.merkle_log.specs.Walk.{index_up};
 
 use ark_base::error::Error;
 use ark_base::serialize::DigestItem;
@@ -104,7 +103,7 @@ impl<D: DigestItem> Stored<D> {
 
     /// Returns the digest of a complete place.
     pub fn at(&self, level: usize, place: usize) -> &D
-        requires { place < index_up level self.now.size }
+        requires { place < length (row_of self.now level) }
         ensures { D.numbers result.now ≡ get_or (row_of self.now level) place [] }
     {
         digest_at(&self.digests, level, place)
