@@ -110,3 +110,7 @@ stored-pushed hash rows new digest made stored carried same = record {
 
 pub pushed-first : (hash : NodeHash) (rows new : ℕ → List Digest) (digest : Digest) (made : List Digest) → IsCarried hash rows digest made → ((level : ℕ) → new level ≡ pushed_row rows made level) → new 0 ≡ rows 0 ++ (digest ∷ [])
 pushed-first hash rows new digest made carried same = same 0 ∙ pushed-in rows made 0 carried.some ∙ ap (λ d. rows 0 ++ (d ∷ [])) carried.first
+
+-- the rows of no leaves
+pub stored-none : (hash : NodeHash) (rows : ℕ → List Digest) → ((level : ℕ) → rows level ≡ []) → IsStored hash rows
+stored-none hash rows none = record { pairs = λ level. ap (row_pairs hash) (none level) ∙ ap Ok (sym (none (suc level))) }

@@ -5,7 +5,7 @@ use Rattle.ark_paths.specs.Pair.{Digest}
 use Rattle.merkle_log.specs.Log.{NodeHash}
 use Rattle.merkle_log.specs.Walk.{index_up}
 use Rattle.merkle_log.specs.Stored.{stored_count, position, StoredValue, row_of}
-use Rattle.merkle_log.specs.Append.{Completes, pushed_row}
+use Rattle.merkle_log.specs.Append.{Appends, Completes, pushed_row}
 use Rattle.merkle_log.proofs.Carried.{CarriesTo, carries-first, carries-more, carries-end}
 use Rattle.merkle_log.proofs.Positions.{Neighbour, left_neighbour, length-row_of, row_of-at, position-within, up-more, count-more, rows-more}
 
@@ -99,12 +99,6 @@ module _ {A : Type 0} {numbers : A → Digest} {hash : NodeHash} {size : ℕ} {b
         is = ap (map numbers) at.items_are ∙ map-append numbers before at.made;
       }
 
--- a digest that was read
-pub digest-read : {A : Type 0} (numbers : A → Digest) (items : List A) (i : ℕ) (x : A) → i < length items → x ≡ get_or items i x → numbers x ≡ get_or (map numbers items) i []
-digest-read numbers [] i x below is = absurd (omega arith)
-digest-read numbers (m ∷ items) zero x below is = ap numbers is
-digest-read numbers (m ∷ items) (suc i) x below is = digest-read numbers items i x (omega arith) is
-
 -- ---- the list with one leaf more
 
 module _ {hash : NodeHash} {size : ℕ} {before after : List Digest} {digest : Digest} (done : Completes hash size before digest after) where
@@ -123,3 +117,21 @@ module _ {hash : NodeHash} {size : ℕ} {before after : List Digest} {digest : D
   pub completes-rows : length before ≡ stored_count size → (level : ℕ) → row_of (record { size = size + 1; digests = after }) level ≡ pushed_row (row_of (record { size = size; digests = before })) done.made level
   completes-rows count level = ap (λ l. row_of (record { size = size + 1; digests = l }) level) done.is
       ∙ rows-more (record { size = size; digests = before }) done.made count done.carried.some odds evens level
+
+  pub completes-appends : length before ≡ stored_count size → Appends hash (record { size = size; digests = before }) digest (record { size = size + 1; digests = after })
+  completes-appends count = record {
+    made = done.made;
+    carried = done.carried;
+    rows = completes-rows count;
+    whole = completes-count count;
+    extends = record {
+      size = omega arith;
+      front = ap (λ l. take (stored_count size) l) done.is ∙ take-append-le (stored_count size) before done.made (omega arith) ∙ take_all (stored_count size) before (omega arith);
+    };
+  }
+
+-- a digest that was read
+pub digest-read : {A : Type 0} (numbers : A → Digest) (items : List A) (i : ℕ) (x : A) → i < length items → x ≡ get_or items i x → numbers x ≡ get_or (map numbers items) i []
+digest-read numbers [] i x below is = absurd (omega arith)
+digest-read numbers (m ∷ items) zero x below is = ap numbers is
+digest-read numbers (m ∷ items) (suc i) x below is = digest-read numbers items i x (omega arith) is

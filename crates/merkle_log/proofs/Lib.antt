@@ -18,3 +18,4 @@ pub mod Going
 pub mod Seeding
 pub mod Accepted
 pub mod Edges
+pub mod Growing

@@ -237,3 +237,14 @@ count-more (suc last) n odd even =
 -- a place of a row
 pub row-inside : (own seen : StoredValue) (level place : ℕ) → own ≡ seen → place < length (row_of seen level) → place < index_up level own.size
 row-inside own seen level place is below = let e = ap (λ s. length (row_of s level)) is in omega (arith, length-row_of own level)
+
+-- no leaves
+pub no-rows : (level : ℕ) → row_of (record { size = 0; digests = [] }) level ≡ []
+no-rows level = ap (λ n. map (λ place. get_or [] (position level place) []) (range_with_len 0 n)) (none level)
+  where
+    none : (level : ℕ) → index_up level 0 ≡ 0
+    none zero = refl
+    none (suc level) = none level
+
+pub no-count : 0 ≡ stored_count 0
+no-count = omega (arith, ones_le_self 0)

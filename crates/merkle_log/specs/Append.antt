@@ -1,9 +1,9 @@
 -- A digest is appended to a log.
-use Rattle.std.specs.Prelude.{◌≡◌, ◌<◌, ◌-◌, ◌%◌, nat_lt, ◌++◌, ℕ, suc, if◌then◌else◌, List, [], ◌∷◌, length, get_or, Ok, Err}
+use Rattle.std.specs.Prelude.{◌≡◌, ◌<◌, ◌≤◌, ◌-◌, ◌%◌, nat_lt, ◌++◌, ℕ, suc, if◌then◌else◌, List, [], ◌∷◌, length, take, get_or, Ok, Err}
 use Rattle.ark_base.specs.declared.error.Error.{Error}
-use Rattle.ark_paths.specs.Pair.{Digest}
-use Rattle.merkle_log.specs.Log.{NodeHash}
-use Rattle.merkle_log.specs.Stored.{row_of}
+use Rattle.ark_paths.specs.Pair.{Digest, Hashes}
+use Rattle.merkle_log.specs.Log.{NodeHash, LogValue, with_more}
+use Rattle.merkle_log.specs.Stored.{StoredValue, stored_count, row_of}
 
 -- The digests that an appended one makes: itself, and as long as the row has an odd number, the hash of the row's last
 -- digest and the one made there, for the row above.
@@ -26,8 +26,31 @@ pub record Completes (hash : NodeHash) (size : ℕ) (before : List Digest) (dige
   pub carried : IsCarried hash (row_of (record { size = size; digests = before })) digest made
   pub is : after ≡ before ++ made
 
+-- The list has as many digests as its size asks for.
+abbrev pub IsWhole : StoredValue → Type 0
+IsWhole stored = length stored.digests ≡ stored_count stored.size
+
+-- A list is followed by more leaves.
+pub record Extends (old new : StoredValue) : Type 0 where
+  pub size : old.size ≤ new.size
+  pub front : take (stored_count old.size) new.digests ≡ old.digests
+
+-- A list is followed by one more leaf's digest and those that it makes.
+pub record Appends (hash : NodeHash) (old : StoredValue) (digest : Digest) (new : StoredValue) : Type 0 where
+  pub made : List Digest
+  pub carried : IsCarried hash (row_of old) digest made
+  pub rows : (level : ℕ) → row_of new level ≡ pushed_row (row_of old) made level
+  pub whole : IsWhole new
+  pub extends : Extends old new
+
 -- The hash of pairs has this error for some pair.
 pub record Refuses (hash : NodeHash) (error : Error) : Type 0 where
   pub left : Digest
   pub right : Digest
   pub is : hash left right ≡ Err error
+
+-- A log has one more leaf, which has a hash.
+pub record HasLeaf {T A : Type 0} (hashes : Hashes A) (old : LogValue T) (leaf : A) (new : LogValue T) : Type 0 where
+  pub digest : Digest
+  pub hashed : hashes.leaf leaf ≡ Ok digest
+  pub is : new ≡ with_more old (digest ∷ [])

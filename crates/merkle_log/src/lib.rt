@@ -5,9 +5,12 @@
 pub mod consistency;
 mod digests;
 pub mod inclusion;
+pub mod log;
+mod paths;
 mod rows;
 mod stored;
 mod way;
 
 pub use consistency::verify_consistency;
 pub use inclusion::{verify_inclusion, verify_inclusion_digest};
+pub use log::Log;

@@ -1,10 +1,10 @@
 //! The list of a log: the digests of all complete places, in the order in which they were completed.
 
-ghost use Rattle.std.specs.Prelude.{◌≡◌, ◌⊎◌, ◌<◌, ◌+◌, ◌*◌, ◌^◌, ◌++◌, ℕ, List, [], length, map, take, get_or, IfErr, OnOk, OnErr, Ok};
+ghost use Rattle.std.specs.Prelude.{◌≡◌, ◌⊎◌, ◌<◌, ◌≤◌, ◌+◌, ◌*◌, ◌^◌, ◌++◌, ℕ, List, [], length, map, take, get_or, IfErr, OnOk, OnErr, Ok};
 ghost use Rattle.ark_base.specs.declared.error.Error.TheVariants.{OutOfMemory};
 ghost use Rattle.ark_paths.specs.Pair.{Digest};
 ghost use Rattle.ark_paths.specs.Rows.{digests_of};
-ghost use Rattle.merkle_log.specs.Append.{Completes, Refuses};
+ghost use Rattle.merkle_log.specs.Append.{Appends, Completes, Refuses};
 ghost use Rattle.merkle_log.specs.Stored.{position, stored_count, StoredValue, row_of};
 
 use ark_base::error::Error;
@@ -116,10 +116,8 @@ impl<D: DigestItem> Stored<D> {
         hasher: &mut W,
         digest: D,
     ) -> Result<(), Error>
-        ensures completed { let hash = (W.pair hasher.old).upper in
-            let own = self.old in
-            OnOk result (Completes hash own.size own.digests (D.numbers digest) self.new.digests) }
-        ensures size { OnOk result (self.new.size ≡ self.old.size + 1) }
+        ensures appended { let hash = (W.pair hasher.old).upper in
+            OnOk result (Appends hash self.old (D.numbers digest) self.new) }
         ensures kept { OnErr result (self.new ≡ self.old) }
         ensures refused { IfErr result (λ error. (error ≡ OutOfMemory)
             ⊎ Refuses (W.pair hasher.old).upper error) }
@@ -136,5 +134,27 @@ impl<D: DigestItem> Stored<D> {
                 Err(error)
             }
         }
+    }
+
+    /// Allocates for more leaves at once.
+    pub fn reserve(&mut self, leaves: usize) -> Result<(), Error>
+        ensures same { self.new ≡ self.old }
+        ensures refused { IfErr result (λ error. error ≡ OutOfMemory) }
+    {
+        let size = self.size.saturating_add(leaves);
+        let count = (size - size.count_ones() as usize).saturating_add(size);
+        self.digests.reserve(count.saturating_sub(self.digests.len()))?;
+        Ok(())
+    }
+
+    /// Cuts the list back to fewer leaves.
+    pub fn cut(&mut self, size: usize)
+        requires { size ≤ self.old.size }
+        ensures { let front = take (stored_count size) self.old.digests in
+            self.new ≡ record { size = size; digests = front } }
+    {
+        self.size = size;
+        let count = size - size.count_ones() as usize + size;
+        self.digests.truncate(count);
     }
 }
