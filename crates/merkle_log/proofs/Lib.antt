@@ -19,3 +19,5 @@ pub mod Seeding
 pub mod Accepted
 pub mod Edges
 pub mod Growing
+pub mod Peaks
+pub mod Merging

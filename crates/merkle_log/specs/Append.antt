@@ -2,8 +2,9 @@
 use Rattle.std.specs.Prelude.{◌≡◌, ◌<◌, ◌≤◌, ◌-◌, ◌%◌, nat_lt, ◌++◌, ℕ, suc, if◌then◌else◌, List, [], ◌∷◌, length, take, get_or, Ok, Err}
 use Rattle.ark_base.specs.declared.error.Error.{Error}
 use Rattle.ark_paths.specs.Pair.{Digest, Hashes}
+use Rattle.ark_paths.specs.Root.{all_hashes}
 use Rattle.merkle_log.specs.Log.{NodeHash, LogValue, with_more}
-use Rattle.merkle_log.specs.Stored.{StoredValue, stored_count, row_of}
+use Rattle.merkle_log.specs.Stored.{StoredValue, stored_count, row_of, IsStored}
 
 -- The digests that an appended one makes: itself, and as long as the row has an odd number, the hash of the row's last
 -- digest and the one made there, for the row above.
@@ -54,3 +55,17 @@ pub record HasLeaf {T A : Type 0} (hashes : Hashes A) (old : LogValue T) (leaf :
   pub digest : Digest
   pub hashed : hashes.leaf leaf ≡ Ok digest
   pub is : new ≡ with_more old (digest ∷ [])
+
+-- A log has more leaves, which all have hashes.
+pub record HasLeaves {T A : Type 0} (hashes : Hashes A) (old : LogValue T) (leaves : List A) (new : LogValue T) : Type 0 where
+  pub digests : List Digest
+  pub hashed : all_hashes hashes.leaf leaves ≡ Ok digests
+  pub is : new ≡ with_more old digests
+
+-- A log's list is followed by the digests of more leaves and those that they make.
+pub record AppendsLeaves {A : Type 0} (hashes : Hashes A) (old : StoredValue) (leaves : List A) (new : StoredValue) : Type 0 where
+  pub digests : List Digest
+  pub hashed : all_hashes hashes.leaf leaves ≡ Ok digests
+  pub first_row : row_of new 0 ≡ row_of old 0 ++ digests
+  pub whole : IsWhole new
+  pub stored : IsStored hashes.pair.upper (row_of new)

@@ -8,3 +8,4 @@ pub mod Bind
 pub mod Stored
 pub mod Append
 pub mod Edge
+pub mod Frontier

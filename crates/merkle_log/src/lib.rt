@@ -4,6 +4,7 @@
 
 pub mod consistency;
 mod digests;
+pub mod frontier;
 pub mod inclusion;
 pub mod log;
 mod paths;
@@ -12,5 +13,6 @@ mod stored;
 mod way;
 
 pub use consistency::verify_consistency;
+pub use frontier::Frontier;
 pub use inclusion::{verify_inclusion, verify_inclusion_digest};
 pub use log::Log;

@@ -4,9 +4,8 @@ ghost use Rattle.std.specs.Prelude.{◌≡◌, ◌⊎◌, ◌<◌, ◌≤◌, �
 ghost use Rattle.ark_base.specs.declared.error.Error.TheVariants.{OutOfMemory};
 ghost use Rattle.ark_base.specs.Outcome.{AnswersBy};
 ghost use Rattle.ark_paths.specs.Pair.{Digest};
-ghost use Rattle.ark_paths.specs.Root.{all_hashes};
 ghost use Rattle.ark_paths.specs.Rows.{digests_of};
-ghost use Rattle.merkle_log.specs.Append.{HasLeaf, IsWhole, Refuses};
+ghost use Rattle.merkle_log.specs.Append.{AppendsLeaves, Extends, HasLeaf, HasLeaves, IsWhole, Refuses};
 ghost use Rattle.merkle_log.specs.Edge.{all_of};
 ghost use Rattle.merkle_log.specs.Log.{LogValue, inclusion_path, consistency_path, root_at, with_more};
 ghost use Rattle.merkle_log.specs.Stored.{row_of, IsStored};
@@ -46,6 +45,27 @@ impl<D: DigestItem, T: TreeHasher<D, D>> Model for Log<D, T> {
       whole : IsWhole log.stored;
       stored : IsStored (T.hashes log.hasher).pair.upper (row_of log.stored);
     } };
+}
+
+// Puts the digests of leaves behind a list. An error may leave some of them.
+fn append_each<D: DigestItem, T: TreeHasher<D, D>>(
+    alloc: Global,
+    hasher: &T,
+    stored: &mut Stored<D>,
+    leaves: &[T::Leaf],
+) -> Result<(), Error>
+    requires whole { IsWhole stored.old }
+    requires stored { IsStored (T.hashes hasher.now).pair.upper (row_of stored.old) }
+    ensures appended { let hashes = T.hashes hasher.now in
+        OnOk result (AppendsLeaves hashes stored.old leaves.now stored.new) }
+    ensures extends { Extends stored.old stored.new }
+{
+    for place in 0..leaves.len() {
+        let digest = hasher.leaf(alloc, &leaves[place])?;
+        let mut pairs = Counting::new(hasher);
+        stored.append(alloc, &mut pairs, digest)?;
+    }
+    Ok(())
 }
 
 impl<D: DigestItem, T: TreeHasher<D, D>> Log<D, T> {
@@ -95,6 +115,25 @@ impl<D: DigestItem, T: TreeHasher<D, D>> Log<D, T> {
     {
         let mut hasher = Counting::new(&self.hasher);
         self.stored.append(alloc, &mut hasher, digest)
+    }
+
+    /// Appends leaves: as `append` of each in turn, whole or not at all. It allocates once.
+    ///
+    /// Errors, which leave the log unchanged: the first of `append`.
+    pub fn append_many(&mut self, alloc: Global, leaves: &[T::Leaf]) -> Result<(), Error>
+        ensures appended { let hashes = T.hashes self.old.hasher in
+            OnOk result (HasLeaves hashes self.old leaves.now self.new) }
+        ensures kept { OnErr result (self.new ≡ self.old) }
+    {
+        let size = self.stored.size();
+        self.stored.reserve(leaves.len())?;
+        match append_each(alloc, &self.hasher, &mut self.stored, leaves) {
+            Ok(()) => Ok(()),
+            Err(error) => {
+                self.stored.cut(size);
+                Err(error)
+            }
+        }
     }
 
     /// Returns the root of the first leaves: MTH(D[0:size]). Errors: those of the hash, which none of a log's own pairs but
