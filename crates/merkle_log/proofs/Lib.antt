@@ -21,3 +21,5 @@ pub mod Edges
 pub mod Growing
 pub mod Peaks
 pub mod Merging
+pub mod Lengths
+pub mod Receiving

@@ -9,3 +9,4 @@ pub mod Stored
 pub mod Append
 pub mod Edge
 pub mod Frontier
+pub mod Received

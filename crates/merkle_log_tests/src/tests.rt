@@ -3,7 +3,10 @@
 
 use crate::hasher::Rfc6962;
 use ark_base::error::Error;
-use merkle_log::{Frontier, Log, verify_consistency, verify_inclusion, verify_inclusion_digest};
+use merkle_log::{
+    Frontier, Log, verify_consistency, verify_consistency_bytes, verify_inclusion,
+    verify_inclusion_bytes, verify_inclusion_digest,
+};
 use sha2::{Digest, Sha256};
 use std::alloc::Global;
 use std::test::Fail;
@@ -332,5 +335,41 @@ fn proofs(rt: HostRuntime) -> Result<(), Fail> {
     let head = root(alloc, &log, 8)?;
     assert!(rt; verify_consistency(alloc, &Rfc6962, 8, &head, 8, &head, &[])?);
     assert!(rt; !verify_inclusion_digest(alloc, &Rfc6962, &head, 8, 5, &head, &[])?);
+    Ok(())
+}
+
+// The bytes of digests.
+fn bytes_of(alloc: Global, digests: &[[u8; 32]]) -> Result<Vec<u8>, Error> {
+    let mut bytes = Vec::new(alloc);
+    for digest in digests {
+        bytes.extend_from_slice(digest.as_slice())?;
+    }
+    Ok(bytes)
+}
+
+// Proofs come as their digests alone; a byte more or less, and sizes that have no proof, are errors.
+#[test]
+fn bytes(rt: HostRuntime) -> Result<(), Fail> {
+    let alloc = rt.alloc();
+    let log = eight(alloc)?;
+    let old = root(alloc, &log, 3)?;
+    let head = root(alloc, &log, 7)?;
+    let leaf = entry(alloc, 6)?;
+    let mut path = bytes_of(alloc, &inclusion(alloc, &log, 7, 6)?)?;
+    assert!(rt; path.len() == 64);
+    assert!(rt; verify_inclusion_bytes(alloc, &Rfc6962, &head, 7, 6, &leaf, &path)?);
+    assert!(rt; verify_inclusion_bytes(alloc, &Rfc6962, &head, 7, 7, &leaf, &path).is_err());
+    assert!(rt; verify_inclusion_bytes(alloc, &Rfc6962, &head, 7, 5, &leaf, &path).is_err());
+    path.push(0)?;
+    assert!(rt; verify_inclusion_bytes(alloc, &Rfc6962, &head, 7, 6, &leaf, &path).is_err());
+    let _last = path.pop();
+    let _byte = path.pop();
+    assert!(rt; verify_inclusion_bytes(alloc, &Rfc6962, &head, 7, 6, &leaf, &path).is_err());
+    let proof = bytes_of(alloc, &consistency(alloc, &log, 3, 7)?)?;
+    assert!(rt; verify_consistency_bytes(alloc, &Rfc6962, 3, &old, 7, &head, &proof)?);
+    assert!(rt; verify_consistency_bytes(alloc, &Rfc6962, 0, &old, 7, &head, &proof).is_err());
+    assert!(rt; verify_consistency_bytes(alloc, &Rfc6962, 8, &old, 7, &head, &proof).is_err());
+    assert!(rt; verify_consistency_bytes(alloc, &Rfc6962, 3, &old, 7, &head, &[]).is_err());
+    assert!(rt; verify_consistency_bytes(alloc, &Rfc6962, 7, &head, 7, &head, &[])?);
     Ok(())
 }
