@@ -6,7 +6,7 @@ use Rattle.std.proofs.lemmas.List.{take_more, take_all, take-take, get_or-take}
 use Rattle.ark_base.specs.Outcome.{◌>>=◌}
 use Rattle.ark_base.specs.Laws.Steps.{bind_ok, done_injective}
 use Rattle.merkle_log.specs.Trees.{tree_hash}
-use Rattle.merkle_log.specs.Collision.{Collide, IsTreePair, IsSeed, OldCollidesAt, NewCollidesAt, TreesCollideAt, HistoriesCollide, InOld, InNew, InTrees}
+use Rattle.merkle_log.specs.Collision.{Collide, IsTreePair, OldCollidesAt, NewCollidesAt, TreesCollideAt, HistoriesCollide, InOld, InNew, InTrees}
 use Rattle.merkle_log.specs.Walk.{joined, walk, both_left, new_right, from_shared, from_seed, both_roots, index_up, in_order, Meets}
 use Rattle.merkle_log.proofs.Above.{there, IsAbove, higher, above-pair, above-last}
 use Rattle.merkle_log.proofs.PathRows.{Right, Left, Alone, side}

@@ -1,13 +1,13 @@
 -- A log's list while a leaf completes places.
 use Rattle.std.proofs.Common.{zero, suc, ◌≡◌, ℕ, ◌+◌, ◌-◌, ◌*◌, ◌/◌, ◌%◌, ◌<◌, ◌≤◌, ◌^◌, List, [], ◌∷◌, ◌++◌, length, map, take, get_or, Ok, arith, refl, ap, sym, ◌∙◌}
-use Rattle.std.proofs.lemmas.List.{length-map, length-append, map-append, append_assoc, get_or_append_left, get_or-append_right, get_or-map, take-append-le, take_all}
+use Rattle.std.proofs.lemmas.List.{length-map, length-append, map-append, append_assoc, get_or_append_left, get_or-append_right, take-append-le, take_all}
 use Rattle.ark_paths.specs.Pair.{Digest}
 use Rattle.merkle_log.specs.Log.{NodeHash}
 use Rattle.merkle_log.specs.Walk.{index_up}
 use Rattle.merkle_log.specs.Stored.{stored_count, position, StoredValue, row_of}
 use Rattle.merkle_log.specs.Append.{Appends, Completes, pushed_row}
 use Rattle.merkle_log.proofs.Carried.{CarriesTo, carries-first, carries-more, carries-end}
-use Rattle.merkle_log.proofs.Positions.{Neighbour, left_neighbour, length-row_of, row_of-at, position-within, up-more, count-more, rows-more}
+use Rattle.merkle_log.proofs.Positions.{left_neighbour, length-row_of, row_of-at, position-within, up-more, count-more, rows-more}
 
 -- a list of a size by its numbers
 abbrev pub stored_as : {A : Type 0} → (A → Digest) → ℕ → List A → StoredValue

@@ -1,7 +1,6 @@
 -- A log's list with one leaf more.
 use Rattle.std.proofs.Common.{◌≡◌, ◌+◌, ◌<◌, ◌≤◌, ℕ, ◌++◌, List, [], ◌∷◌, length, take, get_or, Ok, Err, OnOk, OnErr, refl, ap, sym, ◌∙◌, arith}
 use Rattle.std.proofs.lemmas.List.{take_all, take-take, take_more, append-nil, append_assoc}
-use Rattle.ark_base.specs.declared.error.Error.{Error}
 use Rattle.ark_base.specs.Outcome.{Outcome, ◌>>=◌}
 use Rattle.ark_paths.specs.Pair.{Digest, Hashes}
 use Rattle.ark_paths.specs.Root.{all_hashes}

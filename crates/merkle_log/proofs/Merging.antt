@@ -1,19 +1,15 @@
 -- How a digest is put behind a frontier.
-use Rattle.std.proofs.Common.{zero, suc, ◌≡◌, ℕ, ◌+◌, ◌-◌, ◌*◌, ◌/◌, ◌%◌, ◌<◌, ◌≤◌, ◌^◌, List, [], ◌∷◌, ◌++◌, length, map, take, get_or, Result, Ok, Err, arith, refl, ap, sym, ◌∙◌, inl, inr}
-use Rattle.std.proofs.lemmas.Bool.{cases_lt}
-use Rattle.std.proofs.lemmas.List.{length-append, length-map, length-take-le, map-append, take_more, take_all, same_from_push}
+use Rattle.std.proofs.Common.{zero, suc, ◌≡◌, ℕ, ◌+◌, ◌-◌, ◌/◌, ◌%◌, ◌<◌, ◌≤◌, ◌^◌, List, [], ◌∷◌, ◌++◌, length, map, take, get_or, Ok, Err, arith, refl, ap, sym, ◌∙◌}
+use Rattle.std.proofs.lemmas.List.{length-append, length-map, map-append, take_more, take_all, same_from_push}
 use Rattle.std.proofs.lemmas.Nat.{zero_from_ones}
 use Rattle.std.specs.Prelude.{count_ones}
 use Rattle.ark_base.specs.declared.error.Error.{Error}
-use Rattle.ark_base.specs.Outcome.{Outcome, ◌>>=◌}
-use Rattle.ark_base.specs.Laws.Steps.{done_injective}
-use Rattle.merkle_log.specs.Trees.{tree_hash}
+use Rattle.ark_base.specs.Outcome.{Outcome}
 use Rattle.merkle_log.specs.Walk.{joined}
 use Rattle.ark_paths.specs.Pair.{Digest}
 use Rattle.merkle_log.specs.Log.{NodeHash}
 use Rattle.merkle_log.specs.Log.{merkle_tree_hash}
 use Rattle.merkle_log.specs.Frontier.{complete_pairs, frontier, IsFrontier}
-use Rattle.merkle_log.proofs.Positions.{half_ones}
 use Rattle.merkle_log.proofs.RowsUp.{twice}
 use Rattle.merkle_log.proofs.Verdicts.{pow_above}
 use Rattle.merkle_log.proofs.Lasts.{Node, node_rows}

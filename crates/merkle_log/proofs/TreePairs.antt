@@ -1,6 +1,6 @@
 -- Pairs of a list's own tree.
-use Rattle.std.proofs.Common.{zero, suc, ◌≡◌, ◌≢◌, ℕ, ◌+◌, ◌*◌, ◌/◌, ◌<◌, ◌≤◌, ◌^◌, ◌⊎◌, List, [], ◌∷◌, length, map, take, drop, get_or, Result, Ok, arith, refl, ap, sym, ◌∙◌, inl, inr}
-use Rattle.std.proofs.lemmas.List.{length-take-le, length-take, length-drop, length-map, get_or-take, get_or-drop, get_or-map}
+use Rattle.std.proofs.Common.{suc, ◌≡◌, ◌≢◌, ℕ, ◌+◌, ◌*◌, ◌/◌, ◌<◌, ◌^◌, ◌⊎◌, List, length, take, drop, get_or, Result, Ok, arith, ap, sym, ◌∙◌, inl, inr}
+use Rattle.std.proofs.lemmas.List.{length-take, get_or-take, get_or-drop, get_or-map}
 use Rattle.std.proofs.Math.Nat.{mul-add}
 use Rattle.merkle_log.specs.Trees.{tree_hash, node}
 use Rattle.merkle_log.specs.Walk.{joined}

@@ -1,10 +1,9 @@
 -- What a log keeps: the digests of all complete places, in the order in which they were completed.
-use Rattle.std.specs.Prelude.{◌≡◌, ◌+◌, ◌-◌, ◌*◌, ◌/◌, ◌%◌, ◌^◌, ◌==◌, nat_lt, ◌++◌, ℕ, suc, if◌then◌else◌, List, [], ◌∷◌, length, map, take, get_or, count_ones, Ok}
+use Rattle.std.specs.Prelude.{◌≡◌, ◌+◌, ◌-◌, ◌*◌, ◌^◌, ℕ, suc, List, [], ◌∷◌, map, get_or, count_ones, Ok}
 use Rattle.std.specs.List.{range_with_len}
 use Rattle.ark_base.specs.Outcome.{Outcome, ◌>>=◌}
 use Rattle.ark_paths.specs.Pair.{Digest}
-use Rattle.merkle_log.specs.Trees.{path}
-use Rattle.merkle_log.specs.Walk.{joined, has_beside, index_up}
+use Rattle.merkle_log.specs.Walk.{index_up}
 use Rattle.merkle_log.specs.Log.{NodeHash}
 
 -- how many places are complete above a number of leaves, these among them

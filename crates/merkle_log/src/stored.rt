@@ -143,7 +143,8 @@ impl<D: DigestItem> Stored<D> {
     {
         let size = self.size.saturating_add(leaves);
         let count = (size - size.count_ones() as usize).saturating_add(size);
-        self.digests.reserve(count.saturating_sub(self.digests.len()))?;
+        self.digests
+            .reserve(count.saturating_sub(self.digests.len()))?;
         Ok(())
     }
 

@@ -1,10 +1,10 @@
-use Rattle.std.proofs.Common.{◌≡◌, ◌-◌, ◌+◌, ◌<◌, ◌≤◌, [], length, map, get_or, Ok, refl, sym, ap, ◌∙◌, arith}
+use Rattle.std.proofs.Common.{◌≡◌, ◌-◌, ◌+◌, [], length, map, get_or, sym, ap, ◌∙◌, arith}
 use Rattle.std.proofs.lemmas.List.{length-map}
 use Rattle.ark_base.specs.declared.error.Error.{Error}
 use Rattle.ark_base.specs.Laws.Steps.{done_injective}
 use Rattle.ark_base.proofs.Refusals.{passed_on}
 use Rattle.merkle_log.proofs.Completing.{digest-read}
-use Rattle.merkle_log.proofs.Merging.{Folding, folding-first, folding-next, folding-refused, folding-last, folding-with}
+use Rattle.merkle_log.proofs.Merging.{folding-first, folding-next, folding-refused, folding-last, folding-with}
 use Rattle.merkle_log.proofs.frontier.fold.Goals as goal
 
 pub left-init : goal.left-init

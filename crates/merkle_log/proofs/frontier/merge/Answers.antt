@@ -1,9 +1,9 @@
-use Rattle.std.proofs.Common.{◌≡◌, ◌-◌, ◌+◌, ◌/◌, ◌%◌, ◌<◌, ◌≤◌, [], length, map, get_or, Ok, refl, sym, ap, ◌∙◌, arith}
+use Rattle.std.proofs.Common.{◌≡◌, ◌-◌, ◌+◌, ◌/◌, ◌%◌, [], length, map, get_or, refl, sym, ap, ◌∙◌, arith}
 use Rattle.std.proofs.lemmas.List.{length-map}
 use Rattle.std.specs.Prelude.{count_ones}
 use Rattle.merkle_log.proofs.Completing.{digest-read}
 use Rattle.merkle_log.proofs.Positions.{half_ones}
-use Rattle.merkle_log.proofs.Merging.{Merging, merging-first, merging-with, merging-next, merging-end, frontier-more}
+use Rattle.merkle_log.proofs.Merging.{merging-first, merging-with, merging-next, merging-end, frontier-more}
 use Rattle.merkle_log.proofs.frontier.merge.Goals as goal
 
 pub odd-init : goal.odd-init

@@ -1,5 +1,5 @@
-use Rattle.std.proofs.Common.{◌+◌, refl, arith}
-use Rattle.merkle_log.proofs.Growing.{appends-none, appends-next, appends-all}
+use Rattle.std.proofs.Common.{◌+◌, refl}
+use Rattle.merkle_log.proofs.Growing.{appends-none, appends-next}
 use Rattle.merkle_log.proofs.log.append_each.Goals as goal
 
 pub loop-place-init : goal.loop-place-init

@@ -1,4 +1,4 @@
-use Rattle.std.proofs.Common.{◌-◌, ◌<◌, [], get_or, map, ap, refl, arith}
+use Rattle.std.proofs.Common.{◌-◌, [], get_or, map, ap, refl, arith}
 use Rattle.ark_paths.specs.Rows.{digests_of}
 use Rattle.merkle_log.specs.Stored.{row_of}
 use Rattle.merkle_log.proofs.Verdicts.{pow_above}

@@ -1,4 +1,4 @@
-use Rattle.std.proofs.Common.{◌+◌, ◌<◌, ◌≤◌, refl, sym, ◌∙◌, arith}
+use Rattle.std.proofs.Common.{sym, ◌∙◌, arith}
 use Rattle.merkle_log.proofs.Lengths.{counts-right, counts-alone, counts-end}
 use Rattle.merkle_log.proofs.received.count_beside.Goals as goal
 use Rattle.merkle_log.proofs.received.count_beside.Goals.{then-has_beside, else-has_beside}

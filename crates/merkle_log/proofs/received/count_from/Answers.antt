@@ -1,4 +1,4 @@
-use Rattle.std.proofs.Common.{◌<◌, ◌≤◌, ◌/◌, refl, arith}
+use Rattle.std.proofs.Common.{refl, arith}
 use Rattle.merkle_log.proofs.Lengths.{leads-odd, leads-first, leads-later}
 use Rattle.merkle_log.proofs.received.count_from.Goals as goal
 

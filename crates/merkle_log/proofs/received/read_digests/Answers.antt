@@ -1,4 +1,4 @@
-use Rattle.std.proofs.Common.{◌≡◌, map, Ok, ap, sym, ◌∙◌, inr}
+use Rattle.std.proofs.Common.{Ok, ap, ◌∙◌, inr}
 use Rattle.merkle_log.proofs.Receiving.{whole-more, whole-all, numbers-read}
 use Rattle.merkle_log.proofs.received.read_digests.Goals as goal
 

@@ -1,4 +1,4 @@
-use Rattle.std.proofs.Common.{ℕ, ◌<◌, ◌-◌, ◌^◌, ap, sym, ◌∙◌, arith}
+use Rattle.std.proofs.Common.{ℕ, ap, sym, ◌∙◌, arith}
 use Rattle.ark_base.specs.Outcome.{◌>>=◌}
 use Rattle.ark_base.proofs.Refusals.{passed_on}
 use Rattle.merkle_log.specs.Received.{digests_in}

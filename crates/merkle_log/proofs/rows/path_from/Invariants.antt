@@ -1,4 +1,4 @@
-use Rattle.std.proofs.Common.{◌≡◌, ◌+◌, ◌≤◌, ◌<◌, ◌^◌, ℕ}
+use Rattle.std.proofs.Common.{◌+◌, ◌≤◌, ◌<◌, ◌^◌, ℕ}
 use Rattle.ark_paths.specs.Pair.{Digest}
 use Rattle.ark_paths.specs.Rows.{digests_of}
 use Rattle.merkle_log.specs.Edge.{last_seen, HasLast, path_with}

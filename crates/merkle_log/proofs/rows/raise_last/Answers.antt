@@ -1,4 +1,3 @@
-use Rattle.std.proofs.Common.{arith}
 use Rattle.merkle_log.proofs.Edges.{has-front, edge-up, whole-up, whole-raised}
 use Rattle.merkle_log.proofs.rows.raise_last.Goals as goal
 

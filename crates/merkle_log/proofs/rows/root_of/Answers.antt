@@ -1,4 +1,4 @@
-use Rattle.std.proofs.Common.{◌+◌, ◌-◌, ◌<◌, [], get_or, refl, sym, ap, ◌∙◌, arith, Ok}
+use Rattle.std.proofs.Common.{◌+◌, ◌-◌, ◌<◌, [], get_or, refl, arith}
 use Rattle.ark_base.proofs.Refusals.{passed_on}
 use Rattle.merkle_log.specs.Stored.{row_of}
 use Rattle.merkle_log.proofs.Lasts.{last-first, last-next, last-refused, last-end}

@@ -1,7 +1,5 @@
-use Rattle.std.proofs.Common.{◌≡◌, ◌+◌, ◌++◌, ◌∷◌, List, [], map, take, ap, sym, subst, ◌∙◌}
+use Rattle.std.proofs.Common.{◌≡◌, ◌++◌, ◌∷◌, [], map, take, ap, sym, ◌∙◌}
 use Rattle.std.proofs.lemmas.List.{map-append, take-map}
-use Rattle.merkle_log.specs.Frontier.{IsFrontier}
-use Rattle.ark_paths.specs.Pair.{Digest}
 use Rattle.ark_paths.specs.Rows.{digests_of}
 use Rattle.merkle_log.proofs.frontier.Frontier.append.Goals as goal
 

@@ -1,4 +1,4 @@
-use Rattle.std.proofs.Common.{◌≡◌, ap, sym, ◌∙◌, arith}
+use Rattle.std.proofs.Common.{sym, ◌∙◌}
 use Rattle.std.proofs.lemmas.List.{length-map}
 use Rattle.merkle_log.proofs.Completing.{completes-count, completes-appends}
 use Rattle.merkle_log.proofs.stored.Stored.append.Goals as goal
