@@ -1,0 +1,15 @@
+use Rattle.std.proofs.Common.{◌<◌, arith}
+use Rattle.merkle_log.proofs.Verdicts.{leaf_inside, leaf-bound, leaf-own}
+use Rattle.merkle_log.proofs.Answered.{answered-bound, answered-own}
+use Rattle.merkle_log.proofs.inclusion.verify_inclusion.Goals as goal
+
+pub returns-clause-answer : goal.returns-clause-answer
+returns-clause-answer g c =
+    let inside : c.args.index < c.args.size = omega arith in
+    rw (leaf_inside _ _ _ _ _ _ inside, c.in_ok-digest.ensures) c.verify_inclusion_digest.ensures.answer
+
+pub returns-clause-bound : goal.returns-clause-bound
+returns-clause-bound g c = answered-bound _ _ (leaf-bound (g.T.TreeHasher.hashes c.args.hasher.now) _ _ _ _ _) (returns-clause-answer g c)
+
+pub returns-clause-own : goal.returns-clause-own
+returns-clause-own g c own = answered-own _ _ (leaf-own (g.T.TreeHasher.hashes c.args.hasher.now) _ _ _ _ _ own) (returns-clause-answer g c)

@@ -1,0 +1,71 @@
+-- A digest is appended to a log.
+use Rattle.std.specs.Prelude.{◌≡◌, ◌<◌, ◌≤◌, ◌-◌, ◌%◌, nat_lt, ◌++◌, ℕ, suc, if◌then◌else◌, List, [], ◌∷◌, length, take, get_or, Ok, Err}
+use Rattle.ark_base.specs.declared.error.Error.{Error}
+use Rattle.ark_paths.specs.Pair.{Digest, Hashes}
+use Rattle.ark_paths.specs.Root.{all_hashes}
+use Rattle.merkle_log.specs.Log.{NodeHash, LogValue, with_more}
+use Rattle.merkle_log.specs.Stored.{StoredValue, stored_count, row_of, IsStored}
+
+-- The digests that an appended one makes: itself, and as long as the row has an odd number, the hash of the row's last
+-- digest and the one made there, for the row above.
+pub record IsCarried (hash : NodeHash) (rows : ℕ → List Digest) (digest : Digest) (made : List Digest) : Type 0 where
+  pub some : 0 < length made
+  pub first : get_or made 0 [] ≡ digest
+  pub odd : (level : ℕ) → suc level < length made → length (rows level) % 2 ≡ 1
+  pub hashed : (level : ℕ) → suc level < length made
+      → hash (get_or (rows level) (length (rows level) - 1) []) (get_or made level []) ≡ Ok (get_or made (suc level) [])
+  pub even : length (rows (length made - 1)) % 2 ≡ 0
+
+-- a row with its digest among those
+abbrev pub pushed_row : (ℕ → List Digest) → List Digest → ℕ → List Digest
+pushed_row rows made level =
+    if nat_lt level (length made) then (rows level ++ (get_or made level [] ∷ [])) else (rows level)
+
+-- A log's list of this size is followed by the digests that an appended one makes.
+pub record Completes (hash : NodeHash) (size : ℕ) (before : List Digest) (digest : Digest) (after : List Digest) : Type 0 where
+  pub made : List Digest
+  pub carried : IsCarried hash (row_of (record { size = size; digests = before })) digest made
+  pub is : after ≡ before ++ made
+
+-- The list has as many digests as its size asks for.
+abbrev pub IsWhole : StoredValue → Type 0
+IsWhole stored = length stored.digests ≡ stored_count stored.size
+
+-- A list is followed by more leaves.
+pub record Extends (old new : StoredValue) : Type 0 where
+  pub size : old.size ≤ new.size
+  pub front : take (stored_count old.size) new.digests ≡ old.digests
+
+-- A list is followed by one more leaf's digest and those that it makes.
+pub record Appends (hash : NodeHash) (old : StoredValue) (digest : Digest) (new : StoredValue) : Type 0 where
+  pub made : List Digest
+  pub carried : IsCarried hash (row_of old) digest made
+  pub rows : (level : ℕ) → row_of new level ≡ pushed_row (row_of old) made level
+  pub whole : IsWhole new
+  pub extends : Extends old new
+
+-- The hash of pairs has this error for some pair.
+pub record Refuses (hash : NodeHash) (error : Error) : Type 0 where
+  pub left : Digest
+  pub right : Digest
+  pub is : hash left right ≡ Err error
+
+-- A log has one more leaf, which has a hash.
+pub record HasLeaf {T A : Type 0} (hashes : Hashes A) (old : LogValue T) (leaf : A) (new : LogValue T) : Type 0 where
+  pub digest : Digest
+  pub hashed : hashes.leaf leaf ≡ Ok digest
+  pub is : new ≡ with_more old (digest ∷ [])
+
+-- A log has more leaves, which all have hashes.
+pub record HasLeaves {T A : Type 0} (hashes : Hashes A) (old : LogValue T) (leaves : List A) (new : LogValue T) : Type 0 where
+  pub digests : List Digest
+  pub hashed : all_hashes hashes.leaf leaves ≡ Ok digests
+  pub is : new ≡ with_more old digests
+
+-- A log's list is followed by the digests of more leaves and those that they make.
+pub record AppendsLeaves {A : Type 0} (hashes : Hashes A) (old : StoredValue) (leaves : List A) (new : StoredValue) : Type 0 where
+  pub digests : List Digest
+  pub hashed : all_hashes hashes.leaf leaves ≡ Ok digests
+  pub first_row : row_of new 0 ≡ row_of old 0 ++ digests
+  pub whole : IsWhole new
+  pub stored : IsStored hashes.pair.upper (row_of new)

@@ -1,0 +1,61 @@
+-- What is read of a log's rows for a size that it had: the rows' first digests, and a last one at the right edge.
+use Rattle.std.specs.Prelude.{◌+◌, ◌-◌, ◌/◌, ◌%◌, ◌<◌, ◌≤◌, ◌≡◌, ◌⊎◌, ◌==◌, nat_lt, ◌++◌, ℕ, if◌then◌else◌, List, [], ◌∷◌, length, map, take, get_or, Ok, Err, MatchResult, Option, Some, None}
+use Rattle.ark_base.specs.declared.error.Error.TheVariants.{OutOfMemory}
+use Rattle.ark_base.specs.Outcome.{Outcome, ◌>>=◌}
+use Rattle.ark_paths.specs.Pair.{Digest}
+use Rattle.merkle_log.specs.Trees.{path}
+use Rattle.merkle_log.specs.Walk.{joined, has_beside}
+use Rattle.merkle_log.specs.Log.{NodeHash}
+
+-- the last digest behind the first s of a row: one that was hashed, or the row's own where its place is complete
+abbrev pub last_seen : {A : Type 0} → (A → Digest) → List Digest → ℕ → Option A → Digest
+last_seen numbers row s None = get_or row s []
+last_seen numbers row s (Some last) = numbers last
+
+-- The row has these digests.
+abbrev pub HasLast : {A : Type 0} → List Digest → ℕ → Option A → Type 0
+HasLast row s None = s < length row
+HasLast row s (Some last) = s ≤ length row
+
+-- the last digest of a row of a log that has more digests of its own, one level up
+abbrev pub last_raised : NodeHash → List Digest → ℕ → Digest → Outcome Digest
+last_raised hash row s last = if s % 2 == 1 then (hash (get_or row (s - 1) []) last) else (Ok last)
+
+-- all of these, or the first error
+abbrev pub all_of : List (Outcome Digest) → Outcome (List Digest)
+all_of [] = Ok []
+all_of (first ∷ rest) = do
+  digest ← first
+  digests ← all_of rest
+  Ok (digest ∷ digests)
+
+-- the digest beside an index of a row, if one stands there, where `last` stands behind the first s digests
+abbrev pub digest_beside : List Digest → ℕ → ℕ → Digest → Digest
+digest_beside row i s last =
+    if i % 2 == 1 then (get_or row (i - 1) []) else (if nat_lt (i + 1) s then (get_or row (i + 1) []) else last)
+
+abbrev pub digests_beside : List Digest → ℕ → ℕ → Digest → List Digest
+digests_beside row i s last = if has_beside i s then (digest_beside row i s last ∷ []) else []
+
+-- The last digest is raised one level, where a path from index i still needs it.
+abbrev pub RaisesNeeded : {A : Type 0} → NodeHash → List Digest → ℕ → ℕ → Digest → (A → Digest) → Outcome A → Type 0
+RaisesNeeded hash row i s last seen result =
+    MatchResult result (λ up. i / 2 < s / 2 → last_raised hash row s last ≡ Ok (seen up))
+    (λ error. (error ≡ OutOfMemory) ⊎ (i / 2 < s / 2) × (last_raised hash row s last ≡ Err error))
+
+-- the digests of a path, behind others
+abbrev pub behind : List Digest → List Digest → Outcome (List Digest)
+behind sofar rest = Ok (sofar ++ rest)
+
+-- the first s digests of a row and a last one
+abbrev pub row_with : List Digest → ℕ → Outcome Digest → List (Outcome Digest)
+row_with row s last = map Ok (take s row) ++ (last ∷ [])
+
+-- the path of an index of such a row, k levels up, behind other digests
+abbrev pub path_with : NodeHash → Digest → ℕ → List Digest → ℕ → ℕ → Digest → List Digest → Outcome (List Digest)
+path_with hash empty k row i s last sofar =
+    all_of (path (joined hash) (Ok empty) k i (row_with row s (Ok last))) >>= behind sofar
+
+-- the digest of an index of a row, unless it is the row's first
+abbrev pub seed_digests : List Digest → ℕ → List Digest
+seed_digests row i = if i == 0 then [] else (get_or row i [] ∷ [])

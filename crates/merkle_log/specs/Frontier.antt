@@ -1,0 +1,30 @@
+-- The roots of the complete trees of a list, which are all that its root and its growth need.
+use Rattle.std.specs.Prelude.{◌≡◌, ℕ, zero, suc, ◌-◌, ◌%◌, ◌==◌, if◌then◌else◌, List, [], ◌∷◌, ◌++◌, length, map, get_or, Ok}
+use Rattle.merkle_log.specs.Walk.{joined}
+use Rattle.ark_paths.specs.Pair.{Digest}
+use Rattle.merkle_log.specs.Log.{NodeHash}
+
+-- the joined pairs of a row, where the last of an odd number has none
+abbrev pub complete_pairs : {A : Type 0} → (A → A → A) → List A → List A
+complete_pairs join [] = []
+complete_pairs join (a ∷ []) = []
+complete_pairs join (a ∷ b ∷ rest) = join a b ∷ complete_pairs join rest
+
+-- The hashes of the complete trees into which fewer than 2 ^ k values fall, the largest first: those of the joined pairs,
+-- and behind them the last of an odd number of values.
+abbrev pub frontier : {A : Type 0} → (A → A → A) → A → ℕ → List A → List A
+frontier join none zero xs = []
+frontier join none (suc k) xs =
+    frontier join none k (complete_pairs join xs) ++ (if length xs % 2 == 1 then (get_or xs (length xs - 1) none ∷ []) else [])
+
+-- a frontier: its hasher, the root of no digests, how many digests there are, and its roots
+pub record FrontierValue (T : Type 0) : Type 0 where
+  pub hasher : T
+  pub empty : Digest
+  pub size : ℕ
+  pub peaks : List Digest
+
+-- These are the roots of the complete trees of the digests.
+pub record IsFrontier (hash : NodeHash) (digests : List Digest) (size : ℕ) (peaks : List Digest) : Type 0 where
+  pub size_is : length digests ≡ size
+  pub peaks_are : (empty : Digest) → frontier (joined hash) (Ok empty) (length digests) (map Ok digests) ≡ map Ok peaks

@@ -1,0 +1,12 @@
+pub use Rattle.ark_base.specs.Outcome
+pub mod Trees
+pub mod Walk
+pub mod Collision
+pub mod Log
+pub mod Verdict
+pub mod Bind
+pub mod Stored
+pub mod Append
+pub mod Edge
+pub mod Frontier
+pub mod Received

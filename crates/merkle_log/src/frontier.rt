@@ -1,0 +1,155 @@
+//! Frontiers: the roots of the complete trees of a list, which are all that its root and its growth need.
+
+ghost use Rattle.std.specs.Prelude.{◌≡◌, ◌⊎◌, ◌<◌, ◌≤◌, ◌+◌, ◌^◌, ◌++◌, ◌∷◌, ℕ, List, [], length, map, take, count_ones, IfOk, IfErr, OnOk, OnErr, Ok};
+ghost use Rattle.ark_base.specs.declared.error.Error.TheVariants.{OutOfMemory};
+ghost use Rattle.ark_base.specs.Outcome.{AnswersBy};
+ghost use Rattle.merkle_log.specs.Append.{Refuses};
+ghost use Rattle.merkle_log.specs.Frontier.{FrontierValue, IsFrontier};
+ghost use Rattle.ark_paths.specs.Pair.{Digest};
+ghost use Rattle.ark_paths.specs.Rows.{digests_of};
+ghost use Rattle.merkle_log.specs.Log.{merkle_tree_hash};
+
+use crate::digests::copy_of;
+use ark_base::error::Error;
+use ark_base::serialize::DigestItem;
+use ark_paths::hasher::TreeHasher;
+use std::alloc::Global;
+use std::marker::Model;
+
+/// The roots of the complete trees into which a list of digests falls, the largest first: at most 64 digests, whatever the
+/// list's length.
+#[derive(Drop)]
+pub struct Frontier<D: DigestItem, T: TreeHasher<D, D>> {
+    hasher: T,
+    empty: D,
+    size: u64,
+    peaks: Vec<D>,
+}
+
+impl<D: DigestItem, T: TreeHasher<D, D>> Model for Frontier<D, T> {
+    ghost Value = { FrontierValue T };
+
+    ghost view = { λ frontier. record {
+      hasher = frontier.hasher;
+      empty = D.numbers frontier.empty;
+      size = frontier.size;
+      peaks = digests_of D.numbers frontier.peaks;
+    } };
+
+    ghost invariant = { λ frontier. length frontier.peaks.items ≡ count_ones frontier.size };
+}
+
+// What a digest behind a list of this size makes of the last peaks, and how many peaks are left before it.
+fn merge<D: DigestItem, T: TreeHasher<D, D>>(
+    alloc: Global,
+    hasher: &T,
+    peaks: &[D],
+    size: u64,
+    digest: D,
+) -> Result<(usize, D), Error>
+    requires count { length peaks.now ≡ count_ones size }
+    requires fits { size + 1 < 2 ^ 64 }
+    ensures merged { let numbers = D.numbers in
+        let hash = (T.hashes hasher.now).pair.upper in
+        let own = map numbers peaks.now in
+        IfOk result (λ merged. (digests : List Digest) → IsFrontier hash digests size own
+        → IsFrontier hash (digests ++ (numbers digest ∷ [])) (size + 1)
+        (take merged.0 own ++ (numbers merged.1 ∷ []))) }
+    ensures count { IfOk result (λ merged. merged.0 + 1 ≡ count_ones (size + 1)) }
+    ensures within { IfOk result (λ merged. merged.0 ≤ length peaks.now) }
+    ensures refused { IfErr result (λ error. (error ≡ OutOfMemory)
+        ⊎ Refuses (T.hashes hasher.now).pair.upper error) }
+{
+    let mut last = digest;
+    let mut left = peaks.len();
+    let mut count = size;
+    'odd: while count % 2 == 1 {
+        left -= 1;
+        last = hasher.upper(alloc, &peaks[left], &last)?;
+        count /= 2;
+    }
+    Ok((left, last))
+}
+
+impl<D: DigestItem, T: TreeHasher<D, D>> Frontier<D, T> {
+    /// The frontier of no digests, whose root is given.
+    pub fn new(alloc: Global, hasher: T, empty: D) -> Frontier<D, T>
+        ensures { result ≡ record {
+          hasher = hasher;
+          empty = D.numbers empty;
+          size = 0;
+          peaks = [];
+        } }
+    {
+        Frontier {
+            hasher,
+            empty,
+            size: 0,
+            peaks: Vec::new(alloc),
+        }
+    }
+
+    /// How many digests there are.
+    pub fn size(&self) -> u64
+        ensures { result ≡ self.now.size }
+    {
+        self.size
+    }
+
+    /// Puts a digest behind the others.
+    ///
+    /// Refusals, which leave the frontier as it was: that of a pair; `OutOfMemory`.
+    pub fn append(&mut self, alloc: Global, digest: D) -> Result<(), Error>
+        requires { self.old.size + 1 < 2 ^ 64 }
+
+        // The frontier of a list of digests becomes that of the list with one more.
+        ensures appended { let hash = (T.hashes self.old.hasher).pair.upper in
+            OnOk result ((digests : List Digest) → IsFrontier hash digests self.old.size self.old.peaks
+            → IsFrontier hash (digests ++ (D.numbers digest ∷ [])) self.new.size self.new.peaks) }
+        ensures hasher { self.new.hasher ≡ self.old.hasher }
+        ensures empty { self.new.empty ≡ self.old.empty }
+        ensures kept { OnErr result (self.new ≡ self.old) }
+        ensures refused { IfErr result (λ error. (error ≡ OutOfMemory)
+            ⊎ Refuses ((T.hashes self.old.hasher).pair.upper) error) }
+    {
+        let (left, last) = merge(alloc, &self.hasher, &self.peaks, self.size, digest)?;
+        self.peaks.reserve(1)?;
+        self.peaks.truncate(left);
+        self.peaks.push_reserved(last);
+        self.size += 1;
+        Ok(())
+    }
+
+    /// The root of the digests: MTH(D). Refusals: that of the hash; `OutOfMemory`.
+    pub fn root(&self, alloc: Global) -> Result<D, Error>
+        ensures { let hash = (T.hashes self.now.hasher).pair.upper in
+            (digests : List Digest) → IsFrontier hash digests self.now.size self.now.peaks
+            → AnswersBy D.numbers (merkle_tree_hash hash self.now.empty digests) result }
+    {
+        if self.peaks.is_empty() {
+            return copy_of(alloc, &self.empty);
+        }
+        fold(alloc, &self.hasher, &self.peaks)
+    }
+}
+
+// The root of peaks, of which there is one at least.
+fn fold<D: DigestItem, T: TreeHasher<D, D>>(
+    alloc: Global,
+    hasher: &T,
+    peaks: &[D],
+) -> Result<D, Error>
+    requires { 0 < length peaks.now }
+    ensures { let hash = (T.hashes hasher.now).pair.upper in
+        (empty : Digest) (digests : List Digest) (size : ℕ)
+        → IsFrontier hash digests size (map D.numbers peaks.now)
+        → AnswersBy D.numbers (merkle_tree_hash hash empty digests) result }
+{
+    let mut left = peaks.len() - 1;
+    let mut last = copy_of(alloc, &peaks[left])?;
+    'left: while left > 0 {
+        left -= 1;
+        last = hasher.upper(alloc, &peaks[left], &last)?;
+    }
+    Ok(last)
+}

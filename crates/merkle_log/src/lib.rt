@@ -1,0 +1,20 @@
+//! Merkle logs of any size: lists of leaves that only grow, with short proofs that a leaf stands in one and that one is the
+//! front of another (RFC 6962 and RFC 9162, section 2.1).
+#![tactic(auto)]
+
+pub mod consistency;
+mod digests;
+pub mod frontier;
+pub mod inclusion;
+pub mod log;
+mod paths;
+pub mod received;
+mod rows;
+mod stored;
+mod way;
+
+pub use consistency::verify_consistency;
+pub use frontier::Frontier;
+pub use inclusion::{verify_inclusion, verify_inclusion_digest};
+pub use log::Log;
+pub use received::{verify_consistency_bytes, verify_inclusion_bytes};

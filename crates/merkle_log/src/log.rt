@@ -1,0 +1,193 @@
+//! Logs that keep the digests of their complete subtrees.
+
+ghost use Rattle.std.specs.Prelude.{◌≡◌, ◌⊎◌, ◌<◌, ◌≤◌, ◌∷◌, ℕ, List, [], true, length, map, get_or, take, IfOk, IfErr, OnOk, OnErr, Ok, Err};
+ghost use Rattle.ark_base.specs.declared.error.Error.TheVariants.{OutOfMemory};
+ghost use Rattle.ark_base.specs.Outcome.{AnswersBy};
+ghost use Rattle.ark_paths.specs.Pair.{Digest};
+ghost use Rattle.ark_paths.specs.Rows.{digests_of};
+ghost use Rattle.merkle_log.specs.Append.{AppendsLeaves, Extends, HasLeaf, HasLeaves, IsWhole, Refuses};
+ghost use Rattle.merkle_log.specs.Edge.{all_of};
+ghost use Rattle.merkle_log.specs.Log.{LogValue, inclusion_path, consistency_path, root_at, with_more};
+ghost use Rattle.merkle_log.specs.Stored.{row_of, IsStored};
+ghost use Rattle.merkle_log.specs.Verdict.{inclusion_verdict, consistency_verdict};
+
+use crate::digests::copy_of;
+use crate::paths::{consistency_path_of, inclusion_path_of};
+use crate::rows::root_of;
+use crate::stored::Stored;
+use ark_base::error::Error;
+use ark_base::serialize::DigestItem;
+use ark_paths::hasher::{Counting, TreeHasher};
+use std::alloc::Global;
+use std::marker::Model;
+
+/// A log: a list of leaves' digests to which more are appended.
+///
+/// It keeps the digests of all complete subtrees in one list that only grows, in the order in which they are completed, fewer
+/// than two a leaf. Contracts see its hasher, the root of no leaves, and the leaves' digests.
+#[derive(Drop)]
+pub struct Log<D: DigestItem, T: TreeHasher<D, D>> {
+    hasher: T,
+    empty: D,
+    stored: Stored<D>,
+}
+
+impl<D: DigestItem, T: TreeHasher<D, D>> Model for Log<D, T> {
+    ghost Value = { LogValue T };
+
+    ghost view = { λ log. record {
+      hasher = log.hasher;
+      empty = D.numbers log.empty;
+      digests = row_of log.stored 0;
+    } };
+
+    ghost invariant = { λ log. record {
+      whole : IsWhole log.stored;
+      stored : IsStored (T.hashes log.hasher).pair.upper (row_of log.stored);
+    } };
+}
+
+// Puts the digests of leaves behind a list. An error may leave some of them.
+fn append_each<D: DigestItem, T: TreeHasher<D, D>>(
+    alloc: Global,
+    hasher: &T,
+    stored: &mut Stored<D>,
+    leaves: &[T::Leaf],
+) -> Result<(), Error>
+    requires whole { IsWhole stored.old }
+    requires stored { IsStored (T.hashes hasher.now).pair.upper (row_of stored.old) }
+    ensures appended { let hashes = T.hashes hasher.now in
+        OnOk result (AppendsLeaves hashes stored.old leaves.now stored.new) }
+    ensures extends { Extends stored.old stored.new }
+{
+    for place in 0..leaves.len() {
+        let digest = hasher.leaf(alloc, &leaves[place])?;
+        let mut pairs = Counting::new(hasher);
+        stored.append(alloc, &mut pairs, digest)?;
+    }
+    Ok(())
+}
+
+impl<D: DigestItem, T: TreeHasher<D, D>> Log<D, T> {
+    /// Returns the log of no leaves, whose root is given: for RFC 6962, the hash of no bytes.
+    pub fn new(alloc: Global, hasher: T, empty: D) -> Log<D, T>
+        ensures { result ≡ record {
+          hasher = hasher;
+          empty = D.numbers empty;
+          digests = [];
+        } }
+    {
+        Log {
+            hasher,
+            empty,
+            stored: Stored::new(alloc),
+        }
+    }
+
+    /// Returns the count of leaves.
+    pub fn size(&self) -> usize
+        ensures { result ≡ length self.now.digests }
+    {
+        self.stored.size()
+    }
+
+    /// Appends a leaf. Errors, which leave the log unchanged: that of the leaf's hash; that of a pair; `OutOfMemory`.
+    pub fn append(&mut self, alloc: Global, leaf: &T::Leaf) -> Result<(), Error>
+        ensures appended { OnOk result (HasLeaf (T.hashes self.old.hasher) self.old leaf.now self.new) }
+        ensures kept { OnErr result (self.new ≡ self.old) }
+        ensures refused { IfErr result (λ error. (error ≡ OutOfMemory)
+            ⊎ ((T.hashes self.old.hasher).leaf leaf.now ≡ Err error)
+            ⊎ Refuses (T.hashes self.old.hasher).pair.upper error) }
+    {
+        let digest = self.hasher.leaf(alloc, leaf)?;
+        self.append_digest(alloc, digest)
+    }
+
+    /// Appends a leaf's digest. Errors, which leave the log unchanged: that of a pair; `OutOfMemory`.
+    ///
+    /// It hashes as many pairs as the size has ones at its low end: over n appends n less the count of ones of n.
+    pub fn append_digest(&mut self, alloc: Global, digest: D) -> Result<(), Error>
+        ensures appended { let more = D.numbers digest ∷ [] in
+            OnOk result (self.new ≡ with_more self.old more) }
+        ensures kept { OnErr result (self.new ≡ self.old) }
+        ensures refused { IfErr result (λ error. (error ≡ OutOfMemory)
+            ⊎ Refuses (T.hashes self.old.hasher).pair.upper error) }
+    {
+        let mut hasher = Counting::new(&self.hasher);
+        self.stored.append(alloc, &mut hasher, digest)
+    }
+
+    /// Appends leaves: as `append` of each in turn, whole or not at all. It allocates once.
+    ///
+    /// Errors, which leave the log unchanged: the first of `append`.
+    pub fn append_many(&mut self, alloc: Global, leaves: &[T::Leaf]) -> Result<(), Error>
+        ensures appended { let hashes = T.hashes self.old.hasher in
+            OnOk result (HasLeaves hashes self.old leaves.now self.new) }
+        ensures kept { OnErr result (self.new ≡ self.old) }
+    {
+        let size = self.stored.size();
+        self.stored.reserve(leaves.len())?;
+        match append_each(alloc, &self.hasher, &mut self.stored, leaves) {
+            Ok(()) => Ok(()),
+            Err(error) => {
+                self.stored.cut(size);
+                Err(error)
+            }
+        }
+    }
+
+    /// Returns the root of the first leaves: MTH(D[0:size]). Errors: those of the hash, which none of a log's own pairs but
+    /// those of the right edge can have; `OutOfMemory`.
+    pub fn root(&self, alloc: Global, size: usize) -> Result<D, Error>
+        requires { size ≤ length self.now.digests }
+        ensures { let hash = (T.hashes self.now.hasher).pair.upper in
+            AnswersBy D.numbers (root_at hash self.now size) result }
+    {
+        if size == 0 {
+            return copy_of(alloc, &self.empty);
+        }
+        root_of(alloc, &self.hasher, &self.stored, size)
+    }
+
+    /// Returns the path of an index of the first leaves: PATH(index, D[0:size]). Errors: those of `root`.
+    pub fn inclusion_proof(&self, alloc: Global, size: usize, index: usize) -> Result<Vec<D>, Error>
+        requires inside { index < size }
+        requires within { size ≤ length self.now.digests }
+        ensures proof { let digests = take size self.now.digests in
+            let hash = (T.hashes self.now.hasher).pair.upper in
+            let path = inclusion_path hash self.now.empty index digests in
+            AnswersBy (digests_of D.numbers) (all_of path) result }
+
+        // `verify_inclusion_digest` accepts it under the root of the size, for the digest at the index.
+        ensures accepted { let hash = (T.hashes self.now.hasher).pair.upper in
+            let own = get_or (take size self.now.digests) index [] in
+            IfOk result (λ path. (root : Digest) → root_at hash self.now size ≡ Ok root
+            → inclusion_verdict hash root size index own (digests_of D.numbers path) ≡ Ok true) }
+    {
+        inclusion_path_of(alloc, &self.hasher, &self.stored, size, index)
+    }
+
+    /// Returns the consistency proof of fewer of the first leaves: PROOF(old_size, D[0:size]). Errors: those of `root`.
+    pub fn consistency_proof(
+        &self,
+        alloc: Global,
+        old_size: usize,
+        size: usize,
+    ) -> Result<Vec<D>, Error>
+        requires some { 0 < old_size }
+        requires inside { old_size < size }
+        requires within { size ≤ length self.now.digests }
+        ensures proof { let digests = take size self.now.digests in
+            let hash = (T.hashes self.now.hasher).pair.upper in
+            let path = consistency_path hash self.now.empty old_size digests in
+            AnswersBy (digests_of D.numbers) (all_of path) result }
+
+        // `verify_consistency` accepts it under the roots of both sizes.
+        ensures accepted { let hash = (T.hashes self.now.hasher).pair.upper in
+            IfOk result (λ path. (old new : Digest) → root_at hash self.now old_size ≡ Ok old
+            → root_at hash self.now size ≡ Ok new
+            → consistency_verdict hash old_size old size new (digests_of D.numbers path) ≡ Ok true) }
+    {
+        consistency_path_of(alloc, &self.hasher, &self.stored, old_size, size)
+    }
+}

@@ -1,0 +1,140 @@
+//! Client-side checks of proofs that come as bytes: their digests alone, from the leaf up, as the structures of RFC 9162 have
+//! them.
+
+ghost use Rattle.std.specs.Prelude.{◌≡◌, ◌<◌, ◌≤◌, ◌+◌, ◌-◌, ◌^◌, ℕ, true, List, map, IfOk};
+ghost use Rattle.ark_base.specs.Outcome.{Answers, AnswersBy};
+ghost use Rattle.ark_paths.specs.Rows.{digests_of};
+ghost use Rattle.merkle_log.specs.Received.{digests_in, inclusion_length, consistency_length, length_from, received_inclusion, received_consistency, ShowsLeaf, ShowsFront};
+ghost use Rattle.merkle_log.specs.Walk.{used_below};
+
+use crate::consistency::verify_consistency;
+use crate::inclusion::verify_inclusion;
+use crate::way::has_beside;
+use ark_base::error::{Error, SerializationError};
+use ark_base::serialize::DigestItem;
+use ark_paths::hasher::TreeHasher;
+use std::alloc::Global;
+
+// Returns how many digests stand beside the way from an index of a row with this last index.
+fn count_beside(mut index: u64, mut last: u64) -> u64
+    requires { index ≤ last }
+    ensures count { (k : ℕ) → last < 2 ^ k → result ≡ used_below k index last }
+    ensures most { result ≤ last }
+{
+    let mut used = 0;
+    'levels: while last > 0 {
+        if has_beside(index, last) {
+            used += 1;
+        }
+        index /= 2;
+        last /= 2;
+    }
+    used
+}
+
+// Returns how many digests a consistency proof has.
+fn count_from(mut index: u64, mut last: u64) -> u64
+    requires inside { index < last }
+    requires fits { last + 1 < 2 ^ 64 }
+    ensures { (k : ℕ) → last < 2 ^ k → result ≡ length_from k index last }
+{
+    'complete: while index % 2 == 1 {
+        index /= 2;
+        last /= 2;
+    }
+    let beside = count_beside(index, last);
+    if index == 0 {
+        return beside;
+    }
+    1 + beside
+}
+
+// Returns how many digests the consistency proof of an old size has.
+fn count_of(old_size: u64, new_size: u64) -> u64
+    requires some { 0 < old_size }
+    requires inside { old_size ≤ new_size }
+    ensures { result ≡ consistency_length old_size new_size }
+{
+    if old_size == new_size {
+        return 0;
+    }
+    count_from(old_size - 1, new_size - 1)
+}
+
+// Reads so many digests and nothing else.
+fn read_digests<D: DigestItem>(alloc: Global, bytes: &[u8], count: u64) -> Result<Vec<D>, Error>
+    ensures { let digests = digests_in D.reads (λ value. D.numbers_of (D.spelling value)) in
+        AnswersBy (digests_of D.numbers) (digests count bytes.now) result }
+{
+    let (digests, used) = D::read_items(alloc, count, bytes)?;
+    if used < bytes.len() {
+        return Err(Error::SerializationError(SerializationError::InvalidData));
+    }
+    Ok(digests)
+}
+
+/// Checks the bytes of a path, as `verify_inclusion` checks a path.
+///
+/// The bytes are the path's digests, from the leaf up, and no other byte. Errors, the first that applies: `InvalidData` for an
+/// index not below the size; `Truncated` for bytes of fewer digests than the one count for index and size, `InvalidData`
+/// for more bytes; those of `verify_inclusion`.
+pub fn verify_inclusion_bytes<D: DigestItem, T: TreeHasher<D, D>>(
+    alloc: Global,
+    hasher: &T,
+    root: &D,
+    size: u64,
+    index: u64,
+    leaf: &T::Leaf,
+    bytes: &[u8],
+) -> Result<bool, Error>
+    ensures answer { let digests = digests_in D.reads (λ value. D.numbers_of (D.spelling value)) in
+        let path = digests (inclusion_length size index) bytes.now in
+        let verdict = received_inclusion (T.hashes hasher.now) (D.numbers root.now) size index in
+        Answers (verdict leaf.now path) result }
+
+    // What the bytes spell binds the leaf, as in `verify_inclusion`.
+    ensures bound { let digests = digests_in D.reads (λ value. D.numbers_of (D.spelling value)) in
+        let path = digests (inclusion_length size index) bytes.now in
+        let shows = ShowsLeaf (T.hashes hasher.now) (D.numbers root.now) size index in
+        IfOk result (λ accepted. accepted ≡ true → shows leaf.now path) }
+{
+    if index >= size {
+        return Err(Error::SerializationError(SerializationError::InvalidData));
+    }
+    let path = read_digests(alloc, bytes, count_beside(index, size - 1))?;
+    verify_inclusion(alloc, hasher, root, size, index, leaf, &path)
+}
+
+/// Checks the bytes of a consistency proof, as `verify_consistency` checks a proof.
+///
+/// The bytes are the proof's digests, in its order, and no other byte. Errors, the first that applies: `InvalidData` for the old
+/// size 0 and for one above the new size; `Truncated` and `InvalidData` for bytes of another length, as in
+/// `verify_inclusion_bytes`; those of `verify_consistency`.
+pub fn verify_consistency_bytes<D: DigestItem, T: TreeHasher<D, D>>(
+    alloc: Global,
+    hasher: &T,
+    old_size: u64,
+    old_root: &D,
+    new_size: u64,
+    new_root: &D,
+    bytes: &[u8],
+) -> Result<bool, Error>
+    ensures answer { let digests = digests_in D.reads (λ value. D.numbers_of (D.spelling value)) in
+        let path = digests (consistency_length old_size new_size) bytes.now in
+        let hash = (T.hashes hasher.now).pair.upper in
+        let verdict = received_consistency hash old_size (D.numbers old_root.now) new_size in
+        Answers (verdict (D.numbers new_root.now) path) result }
+
+    // What the bytes spell binds the old root, as in `verify_consistency`.
+    ensures bound { let digests = digests_in D.reads (λ value. D.numbers_of (D.spelling value)) in
+        let path = digests (consistency_length old_size new_size) bytes.now in
+        let hash = (T.hashes hasher.now).pair.upper in
+        let shows = ShowsFront hash old_size (D.numbers old_root.now) new_size in
+        IfOk result (λ accepted. accepted ≡ true → shows (D.numbers new_root.now) path) }
+{
+    if old_size == 0 || new_size < old_size {
+        return Err(Error::SerializationError(SerializationError::InvalidData));
+    }
+    let path = read_digests(alloc, bytes, count_of(old_size, new_size))?;
+    verify_consistency(alloc, hasher, old_size, old_root, new_size, new_root, &path)
+}

@@ -1,0 +1,161 @@
+//! The list of a log: the digests of all complete places, in the order in which they were completed.
+
+ghost use Rattle.std.specs.Prelude.{◌≡◌, ◌⊎◌, ◌<◌, ◌≤◌, ◌+◌, ◌*◌, ◌^◌, ◌++◌, ℕ, List, [], length, map, take, get_or, IfErr, OnOk, OnErr, Ok};
+ghost use Rattle.ark_base.specs.declared.error.Error.TheVariants.{OutOfMemory};
+ghost use Rattle.ark_paths.specs.Pair.{Digest};
+ghost use Rattle.ark_paths.specs.Rows.{digests_of};
+ghost use Rattle.merkle_log.specs.Append.{Appends, Completes, Refuses};
+ghost use Rattle.merkle_log.specs.Stored.{position, stored_count, StoredValue, row_of};
+
+use ark_base::error::Error;
+use ark_base::serialize::DigestItem;
+use ark_paths::PairHasher;
+use std::alloc::Global;
+use std::marker::Model;
+
+/// The digests of a log's complete places, and the count of its leaves.
+#[derive(Drop)]
+pub struct Stored<D: DigestItem> {
+    size: usize,
+    digests: Vec<D>,
+}
+
+impl<D: DigestItem> Model for Stored<D> {
+    ghost Value = { StoredValue };
+
+    ghost view = { λ stored. record {
+      size = stored.size;
+      digests = digests_of D.numbers stored.digests;
+    } };
+
+    ghost invariant = { λ stored. length stored.digests.items ≡ stored_count stored.size };
+}
+
+// Returns where the digest of a place stands.
+fn position_of(level: usize, place: usize) -> usize
+    requires level { level < 64 }
+    requires below { (place + 1) * 2 ^ level < 2 ^ 64 }
+    requires fits { position level place < 2 ^ 64 }
+    ensures { result ≡ position level place }
+{
+    let last = ((place + 1) << level) - 1;
+    last - last.count_ones() as usize + last + level
+}
+
+// Returns the digest of a place.
+fn digest_at<D: DigestItem>(digests: &[D], level: usize, place: usize) -> &D
+    requires level { level < 64 }
+    requires below { (place + 1) * 2 ^ level < 2 ^ 64 }
+    requires inside { position level place < length digests.now }
+    ensures { D.numbers result.now ≡ get_or (map D.numbers digests.now) (position level place) [] }
+{
+    &digests[position_of(level, place)]
+}
+
+// Puts a digest behind the others, and behind it those of the places that it completes. An error may leave some of them.
+fn complete<D: DigestItem, W: PairHasher<D, D>>(
+    alloc: Global,
+    hasher: &mut W,
+    digests: &mut Vec<D>,
+    size: usize,
+    digest: D,
+) -> Result<(), Error>
+    requires { length digests.old.items ≡ stored_count size }
+    ensures completed { let hash = (W.pair hasher.old).upper in
+        let before = digests_of D.numbers digests.old in
+        let after = digests_of D.numbers digests.new in
+        OnOk result (Completes hash size before (D.numbers digest) after) }
+    ensures front { take (length digests.old.items) digests.new.items ≡ digests.old.items }
+    ensures refused { IfErr result (λ error. (error ≡ OutOfMemory)
+        ⊎ Refuses (W.pair hasher.old).upper error) }
+    ensures same { W.pair hasher.new ≡ W.pair hasher.old }
+{
+    digests.push(digest)?;
+    let mut level = 0;
+    let mut left = size;
+    'odd: while left % 2 == 1 {
+        let last = digests.len() - 1;
+        let up = hasher.upper(alloc, digest_at(digests, level, left - 1), &digests[last])?;
+        digests.push(up)?;
+        left /= 2;
+        level += 1;
+    }
+    Ok(())
+}
+
+impl<D: DigestItem> Stored<D> {
+    /// Returns the list of no leaves.
+    pub fn new(alloc: Global) -> Stored<D>
+        ensures { result ≡ record { size = 0; digests = [] } }
+    {
+        Stored {
+            size: 0,
+            digests: Vec::new(alloc),
+        }
+    }
+
+    /// Returns the count of leaves.
+    pub fn size(&self) -> usize
+        ensures { result ≡ self.now.size }
+    {
+        self.size
+    }
+
+    /// Returns the digest of a complete place.
+    pub fn at(&self, level: usize, place: usize) -> &D
+        requires { place < length (row_of self.now level) }
+        ensures { D.numbers result.now ≡ get_or (row_of self.now level) place [] }
+    {
+        digest_at(&self.digests, level, place)
+    }
+
+    /// Puts a digest behind the others, and behind it those of the places that it completes. An error leaves the list.
+    pub fn append<W: PairHasher<D, D>>(
+        &mut self,
+        alloc: Global,
+        hasher: &mut W,
+        digest: D,
+    ) -> Result<(), Error>
+        ensures appended { let hash = (W.pair hasher.old).upper in
+            OnOk result (Appends hash self.old (D.numbers digest) self.new) }
+        ensures kept { OnErr result (self.new ≡ self.old) }
+        ensures refused { IfErr result (λ error. (error ≡ OutOfMemory)
+            ⊎ Refuses (W.pair hasher.old).upper error) }
+        ensures same { W.pair hasher.new ≡ W.pair hasher.old }
+    {
+        let count = self.digests.len();
+        match complete(alloc, hasher, &mut self.digests, self.size, digest) {
+            Ok(()) => {
+                self.size += 1;
+                Ok(())
+            }
+            Err(error) => {
+                self.digests.truncate(count);
+                Err(error)
+            }
+        }
+    }
+
+    /// Allocates for more leaves at once.
+    pub fn reserve(&mut self, leaves: usize) -> Result<(), Error>
+        ensures same { self.new ≡ self.old }
+        ensures refused { IfErr result (λ error. error ≡ OutOfMemory) }
+    {
+        let size = self.size.saturating_add(leaves);
+        let count = (size - size.count_ones() as usize).saturating_add(size);
+        self.digests
+            .reserve(count.saturating_sub(self.digests.len()))?;
+        Ok(())
+    }
+
+    /// Cuts the list back to fewer leaves.
+    pub fn cut(&mut self, size: usize)
+        requires { size ≤ self.old.size }
+        ensures { let front = take (stored_count size) self.old.digests in
+            self.new ≡ record { size = size; digests = front } }
+    {
+        self.size = size;
+        let count = size - size.count_ones() as usize + size;
+        self.digests.truncate(count);
+    }
+}

@@ -1,0 +1,5 @@
+//! Tests of `merkle_log` at SHA-256 as RFC 6962 takes it.
+#![tactic(auto)]
+
+mod hasher;
+mod tests;
