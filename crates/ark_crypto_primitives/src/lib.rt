@@ -17,9 +17,10 @@ pub mod serialize {
 /// Fields.
 pub mod ff {
     pub use ark_groups::ff::{
-        BabyBear, Fp, Goldilocks, KoalaBear, M7, M13, M61, M257, M65537, Mersenne31, Modulus,
-        PrimeField, UniformRand,
+        BabyBear, Field, Fp, Goldilocks, KoalaBear, M7, M13, M61, M257, M65537, Mersenne31,
+        Modulus, PrimeField, UniformRand,
     };
+    pub use ark_wide_fields::{Bls12_381Fr, Bn254Fr, Fp256, PallasFp, VestaFp, WideModulus};
 }
 
 /// Groups.
@@ -133,14 +134,29 @@ pub mod sponge {
     /// The duplex sponge over Poseidon's permutation.
     pub mod poseidon {
         pub use ark_sponge::poseidon::{PoseidonConfig, PoseidonSponge, PoseidonSpongeState, SBox};
+
+        /// Ready parameters over fields of four words, and their S-box.
+        pub mod parameters {
+            pub use ark_poseidon_parameters::{Power, bls12_381_fr, bn254_fr};
+        }
     }
 }
 
 /// Merkle trees.
 pub mod merkle_tree {
+    pub use ark_merkle::hasher::{ConfigHasher, Counting, TreeHasher};
     pub use ark_merkle::{
         Binding, ByteDigestConverter, Config, DigestConverter, IdentityDigestConverter, LeafParam,
         MerkleTree, MultiPath, PairCount, PairHasher, Path, TwoToOneParam, Views, is_tree_size,
+    };
+}
+
+/// Merkle logs of any size (RFC 6962 and RFC 9162).
+pub mod log {
+    pub use ark_trees::LogHasher;
+    pub use merkle_log::{
+        Frontier, Log, verify_consistency, verify_consistency_bytes, verify_inclusion,
+        verify_inclusion_bytes, verify_inclusion_digest,
     };
 }
 

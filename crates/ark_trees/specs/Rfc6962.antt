@@ -1,6 +1,7 @@
 -- The hashes of transparency logs (RFC 6962, section 2.1).
-use Rattle.std.specs.Prelude.{ℕ, zero, suc, ◌^◌, List, [], ◌∷◌, ◌++◌, take, drop, get_or}
+use Rattle.std.specs.Prelude.{ℕ, zero, suc, ◌^◌, List, [], ◌∷◌, ◌++◌, take, drop, get_or, Ok}
 use Rattle.sha2.specs.Sha256.{sha256}
+use Rattle.ark_base.specs.Outcome.{Outcome}
 
 -- the hash of an entry: of a zero byte and its bytes
 abbrev pub entry_hash : List ℕ → List ℕ
@@ -9,6 +10,10 @@ entry_hash entry = sha256 (0 ∷ entry)
 -- the hash of a node: of a one byte and the hashes below it, left first
 abbrev pub node_hash : List ℕ → List ℕ → List ℕ
 node_hash left right = sha256 (1 ∷ left ++ right)
+
+-- the same as a hash that refuses nothing
+abbrev pub node_of : List ℕ → List ℕ → Outcome (List ℕ)
+node_of left right = Ok (node_hash left right)
 
 -- the Merkle tree hash of 2 ^ m entries: of one entry its hash; else the hash of the node over those of the halves
 abbrev pub merkle_tree_hash : ℕ → List (List ℕ) → List ℕ

@@ -4,10 +4,11 @@ ghost use Rattle.std.specs.Prelude.{◌≡◌, ◌≤◌, ◌+◌, ◌∷◌, �
 ghost use Rattle.ark_base.specs.Outcome.{AnswersBy};
 ghost use Rattle.ark_paths.specs.Index.{IsTreeSize, log2};
 ghost use Rattle.ark_paths.specs.Tree.{root_in, tree_of};
-ghost use Rattle.ark_trees.specs.Rfc6962.{entry_hash, node_hash, merkle_tree_hash};
+ghost use Rattle.ark_trees.specs.Rfc6962.{entry_hash, node_hash, node_of, merkle_tree_hash};
 
 use ark_base::error::Error;
 use ark_crh::{CRHScheme, TwoToOneCRHScheme};
+use ark_merkle::hasher::TreeHasher;
 use ark_merkle::{Config, IdentityDigestConverter, MerkleTree, Views};
 use rand::Rng;
 use sha2::{Digest, Sha256};
@@ -197,6 +198,34 @@ fn digest_of_node(left: &[u8; 32], right: &[u8; 32]) -> [u8; 32]
     hasher.update(left.as_slice());
     hasher.update(right.as_slice());
     hasher.finalize()
+}
+
+/// The hashes of a log as a hasher of leaves and pairs, for logs of any size.
+#[derive(Debug, Clone, Copy)]
+pub struct LogHasher;
+
+impl TreeHasher<[u8; 32], [u8; 32]> for LogHasher {
+    type Leaf = Vec<u8>;
+
+    ghost hashes = { λ _. record {
+      leaf = λ entry. Ok (entry_hash entry.items);
+      pair = record { bottom = node_of; upper = node_of };
+    } };
+
+    /// Hashes an entry. It allocates nothing.
+    fn leaf(&self, _alloc: Global, leaf: &Vec<u8>) -> Result<[u8; 32], Error> {
+        Ok(digest_of_entry(leaf))
+    }
+
+    /// Hashes the node over two entries' hashes. It allocates nothing.
+    fn bottom(&self, _alloc: Global, left: &[u8; 32], right: &[u8; 32]) -> Result<[u8; 32], Error> {
+        Ok(digest_of_node(left, right))
+    }
+
+    /// Hashes the node over two others. It allocates nothing.
+    fn upper(&self, _alloc: Global, left: &[u8; 32], right: &[u8; 32]) -> Result<[u8; 32], Error> {
+        Ok(digest_of_node(left, right))
+    }
 }
 
 // The digest of a zero byte and an entry.

@@ -1,6 +1,7 @@
 //! Examples of library use: each a few proved functions to copy.
 #![tactic(auto)]
 
+pub mod growing_log;
 pub mod log;
 pub mod reveal;
 pub mod store;

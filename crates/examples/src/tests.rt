@@ -1,7 +1,9 @@
 //! Each example, on its way and off it.
 
+use crate::growing_log::{Client, head_of};
 use crate::store::Follower;
 use crate::{log, reveal};
+use ark_crypto_primitives::log::{Log, LogHasher};
 use ark_crypto_primitives::merkle_tree::{
     Config, LeafParam, MerkleTree, TwoToOneParam, is_tree_size,
 };
@@ -130,4 +132,37 @@ fn bids_are_revealed(rt: HostRuntime) {
     for (bid, nonce, wanted) in [(42u8, 7u8, true), (43, 7, false), (42, 8, false)] {
         assert_eq!(rt; opened(rt.alloc(), bid, nonce), Ok(wanted), "{bid} {nonce}");
     }
+}
+
+// SHA-256 of no bytes: the root of no entries (RFC 6962, section 2.1).
+const NO_ENTRIES: [u8; 32] = [
+    0xe3, 0xb0, 0xc4, 0x42, 0x98, 0xfc, 0x1c, 0x14, 0x9a, 0xfb, 0xf4, 0xc8, 0x99, 0x6f, 0xb9, 0x24,
+    0x27, 0xae, 0x41, 0xe4, 0x64, 0x9b, 0x93, 0x4c, 0xa4, 0x95, 0x99, 0x1b, 0x78, 0x52, 0xb8, 0x55,
+];
+
+// Whether a client of a log of four entries follows it to five by the proof that the log sends, and by no bytes.
+fn followed(alloc: Global, is_sent: bool) -> Result<bool, Error> {
+    let mut log = Log::new(alloc, LogHasher, NO_ENTRIES);
+    log.append_many(alloc, &entries(alloc)?)?;
+    let mut client = Client {
+        head: head_of(alloc, &log)?,
+    };
+    log.append(alloc, &vec![in alloc; 9]?)?;
+    let mut proof = Vec::new(alloc);
+    let size = log.size();
+    if is_sent && size > 4 {
+        for digest in &log.consistency_proof(alloc, 4, size)? {
+            proof.extend_from_slice(digest)?;
+        }
+    }
+    client.follow(alloc, &head_of(alloc, &log)?, &proof)
+}
+
+#[test]
+fn a_client_follows_a_log_that_grows(rt: HostRuntime) {
+    assert_eq!(rt; followed(rt.alloc(), true), Ok(true));
+    assert_eq!(rt;
+        followed(rt.alloc(), false),
+        Err(Error::SerializationError(SerializationError::Truncated))
+    );
 }
