@@ -41,12 +41,7 @@ impl TreeHasher<[u8; 32], [u8; 32]> for Rfc6962 {
         Ok(hasher.finalize())
     }
 
-    fn bottom(
-        &self,
-        _alloc: Global,
-        left: &[u8; 32],
-        right: &[u8; 32],
-    ) -> Result<[u8; 32], Error> {
+    fn bottom(&self, _alloc: Global, left: &[u8; 32], right: &[u8; 32]) -> Result<[u8; 32], Error> {
         Ok(node_digest(left, right))
     }
 

@@ -34,96 +34,34 @@ const ROOTS: [&str; 9] = [
     "5dc9da79a70659a9ad559cb701ded9a2ab9d823aad2f4960cfe370eff4604328",
 ];
 
-// The digests of all proofs.
-const NODES: [&str; 15] = [
-    "96a296d224f285c67bee93c30f8a309157f0daa35dc5b87e410b78630a09cfc7",
-    "6e340b9cffb37a989ca544e6bb780a2c78901d3fb33738768511a30617afa01d",
-    "0298d122906dcfc10892cb53a73992fc5b9f493ea4c9badb27b791b4127a7fe7",
-    "fac54203e7cc696cf0dfcb42c92a1d9dbaf70ad9e621f4bd8d98662f00e3c125",
-    "5f083f0a1a33ca076a95279832580db3e0ef4584bdff1f54c8a360f50de3031e",
-    "07506a85fd9dd2f120eb694f86011e5bb4662e5c415a62917033d4a9624487e7",
-    "bc1a0643b12e4d2d7c77918f44e0f4f79a838b6cf9ec5b5c283e1f4d88599e6b",
-    "d37ee418976dd95753c1c73862b9398fa2a2cf9b4ff0fdfe8b30cd95209614b7",
-    "0ebc5d3437fbe2db158b9f126a1d118e308181031d0a949f8dededebc558ef6a",
-    "4271a26be0d8a84f0bd54c8c302e7cb3a3b5d1fa6780a40bcce2873477dab658",
-    "837dbb152e9b079010717e84e865da4ebc0fa198a806d59d31bf15accef22d0e",
-    "b08693ec2e721597130641e8211e7eedccb4c26413963eee6c1e2ed16ffb1a5f",
-    "6b47aaf29ee3c2af9af889bc1fb9254dabd31177f16232dd6aab035ca39bf6e4",
-    "ca854ea128ed050b41b35ffc1b87b8eb2bde461e9e3b5596ece6b9d5975a0ae0",
-    "46f6ffadd3d06a09ff3c5860d2755c8b9819db7df44251788c7d8e3180de8eb1",
-];
+// The digest of an entry, or of the subtree of the first to the last of several.
+const ENTRY_0: &str = "6e340b9cffb37a989ca544e6bb780a2c78901d3fb33738768511a30617afa01d";
 
-// The path of each index of each size, by places in `NODES`.
-const PATHS: [(usize, usize, &[usize]); 36] = [
-    (1, 0, &[]),
-    (2, 0, &[0]),
-    (2, 1, &[1]),
-    (3, 0, &[0, 2]),
-    (3, 1, &[1, 2]),
-    (3, 2, &[3]),
-    (4, 0, &[0, 4]),
-    (4, 1, &[1, 4]),
-    (4, 2, &[5, 3]),
-    (4, 3, &[2, 3]),
-    (5, 0, &[0, 4, 6]),
-    (5, 1, &[1, 4, 6]),
-    (5, 2, &[5, 3, 6]),
-    (5, 3, &[2, 3, 6]),
-    (5, 4, &[7]),
-    (6, 0, &[0, 4, 8]),
-    (6, 1, &[1, 4, 8]),
-    (6, 2, &[5, 3, 8]),
-    (6, 3, &[2, 3, 8]),
-    (6, 4, &[9, 7]),
-    (6, 5, &[6, 7]),
-    (7, 0, &[0, 4, 10]),
-    (7, 1, &[1, 4, 10]),
-    (7, 2, &[5, 3, 10]),
-    (7, 3, &[2, 3, 10]),
-    (7, 4, &[9, 11, 7]),
-    (7, 5, &[6, 11, 7]),
-    (7, 6, &[8, 7]),
-    (8, 0, &[0, 4, 12]),
-    (8, 1, &[1, 4, 12]),
-    (8, 2, &[5, 3, 12]),
-    (8, 3, &[2, 3, 12]),
-    (8, 4, &[9, 13, 7]),
-    (8, 5, &[6, 13, 7]),
-    (8, 6, &[14, 8, 7]),
-    (8, 7, &[11, 8, 7]),
-];
+const ENTRY_1: &str = "96a296d224f285c67bee93c30f8a309157f0daa35dc5b87e410b78630a09cfc7";
 
-// The proof of each old size in each new one.
-const PROOFS: [(usize, usize, &[usize]); 28] = [
-    (2, 1, &[0]),
-    (3, 1, &[0, 2]),
-    (3, 2, &[2]),
-    (4, 1, &[0, 4]),
-    (4, 2, &[4]),
-    (4, 3, &[2, 5, 3]),
-    (5, 1, &[0, 4, 6]),
-    (5, 2, &[4, 6]),
-    (5, 3, &[2, 5, 3, 6]),
-    (5, 4, &[6]),
-    (6, 1, &[0, 4, 8]),
-    (6, 2, &[4, 8]),
-    (6, 3, &[2, 5, 3, 8]),
-    (6, 4, &[8]),
-    (6, 5, &[6, 9, 7]),
-    (7, 1, &[0, 4, 10]),
-    (7, 2, &[4, 10]),
-    (7, 3, &[2, 5, 3, 10]),
-    (7, 4, &[10]),
-    (7, 5, &[6, 9, 11, 7]),
-    (7, 6, &[8, 11, 7]),
-    (8, 1, &[0, 4, 12]),
-    (8, 2, &[4, 12]),
-    (8, 3, &[2, 5, 3, 12]),
-    (8, 4, &[12]),
-    (8, 5, &[6, 9, 13, 7]),
-    (8, 6, &[8, 13, 7]),
-    (8, 7, &[11, 14, 8, 7]),
-];
+const ENTRY_2: &str = "0298d122906dcfc10892cb53a73992fc5b9f493ea4c9badb27b791b4127a7fe7";
+
+const ENTRY_3: &str = "07506a85fd9dd2f120eb694f86011e5bb4662e5c415a62917033d4a9624487e7";
+
+const ENTRY_4: &str = "bc1a0643b12e4d2d7c77918f44e0f4f79a838b6cf9ec5b5c283e1f4d88599e6b";
+
+const ENTRY_5: &str = "4271a26be0d8a84f0bd54c8c302e7cb3a3b5d1fa6780a40bcce2873477dab658";
+
+const ENTRY_6: &str = "b08693ec2e721597130641e8211e7eedccb4c26413963eee6c1e2ed16ffb1a5f";
+
+const ENTRIES_0_1: &str = "fac54203e7cc696cf0dfcb42c92a1d9dbaf70ad9e621f4bd8d98662f00e3c125";
+
+const ENTRIES_2_3: &str = "5f083f0a1a33ca076a95279832580db3e0ef4584bdff1f54c8a360f50de3031e";
+
+const ENTRIES_4_5: &str = "0ebc5d3437fbe2db158b9f126a1d118e308181031d0a949f8dededebc558ef6a";
+
+const ENTRIES_6_7: &str = "ca854ea128ed050b41b35ffc1b87b8eb2bde461e9e3b5596ece6b9d5975a0ae0";
+
+const ENTRIES_0_3: &str = "d37ee418976dd95753c1c73862b9398fa2a2cf9b4ff0fdfe8b30cd95209614b7";
+
+const ENTRIES_4_6: &str = "837dbb152e9b079010717e84e865da4ebc0fa198a806d59d31bf15accef22d0e";
+
+const ENTRIES_4_7: &str = "6b47aaf29ee3c2af9af889bc1fb9254dabd31177f16232dd6aab035ca39bf6e4";
 
 type Sha256Log = Log<[u8; 32], Rfc6962>;
 
@@ -161,13 +99,13 @@ fn is_shown(alloc: Global, digest: &[u8; 32], text: &str) -> bool {
     }
 }
 
-// Whether digests are those at these places of `NODES`.
-fn are_nodes(alloc: Global, digests: &[[u8; 32]], places: &[usize]) -> bool {
-    if digests.len() != places.len() {
+// Whether digests are shown so, in order.
+fn are_shown(alloc: Global, digests: &[[u8; 32]], texts: &[&str]) -> bool {
+    if digests.len() != texts.len() {
         return false;
     }
-    for (digest, place) in digests.iter().zip(places) {
-        if *place >= NODES.len() || !is_shown(alloc, digest, NODES[*place]) {
+    for (digest, text) in digests.iter().zip(texts) {
+        if !is_shown(alloc, digest, text) {
             return false;
         }
     }
@@ -222,7 +160,12 @@ fn is_bound(alloc: Global, log: &Sha256Log, size: usize, index: usize) -> Result
         }
         path[place] = own;
     }
-    for (other, length) in [(index ^ 1, size), (index, u64::MAX), (u64::MAX, size), (0, 0)] {
+    for (other, length) in [
+        (index ^ 1, size),
+        (index, u64::MAX),
+        (u64::MAX, size),
+        (0, 0),
+    ] {
         if verify_inclusion(alloc, &Rfc6962, &head, length, other, &leaf, &path)? {
             return Ok(false);
         }
@@ -256,7 +199,12 @@ fn is_front(alloc: Global, log: &Sha256Log, old_size: usize, size: usize) -> Res
     if verify_consistency(alloc, &Rfc6962, old_size, &new, size, &new, &path)? {
         return Ok(false);
     }
-    for (first, second) in [(size, old_size), (0, size), (old_size, u64::MAX), (u64::MAX, size)] {
+    for (first, second) in [
+        (size, old_size),
+        (0, size),
+        (old_size, u64::MAX),
+        (u64::MAX, size),
+    ] {
         if verify_consistency(alloc, &Rfc6962, first, &old, second, &new, &path)? {
             return Ok(false);
         }
@@ -304,33 +252,97 @@ fn frontiers(rt: HostRuntime) -> Result<(), Fail> {
     Ok(())
 }
 
+// Paths of the log of seven entries in section 2.1.3, and of others.
 #[test]
 fn paths(rt: HostRuntime) -> Result<(), Fail> {
     let alloc = rt.alloc();
     let log = eight(alloc)?;
-    for (size, index, places) in PATHS {
-        assert!(rt;
-            are_nodes(alloc, &inclusion(alloc, &log, size, index)?, places),
-            "at {index} of {size}"
-        );
-        assert!(rt; is_bound(alloc, &log, size, index)?, "at {index} of {size}");
+    assert!(rt;
+        are_shown(
+            alloc,
+            &inclusion(alloc, &log, 7, 0)?,
+            &[ENTRY_1, ENTRIES_2_3, ENTRIES_4_6]
+        )
+    );
+    assert!(rt;
+        are_shown(
+            alloc,
+            &inclusion(alloc, &log, 7, 3)?,
+            &[ENTRY_2, ENTRIES_0_1, ENTRIES_4_6]
+        )
+    );
+    assert!(rt;
+        are_shown(
+            alloc,
+            &inclusion(alloc, &log, 7, 4)?,
+            &[ENTRY_5, ENTRY_6, ENTRIES_0_3]
+        )
+    );
+    assert!(rt;
+        are_shown(
+            alloc,
+            &inclusion(alloc, &log, 7, 6)?,
+            &[ENTRIES_4_5, ENTRIES_0_3]
+        )
+    );
+    assert!(rt;
+        are_shown(
+            alloc,
+            &inclusion(alloc, &log, 8, 5)?,
+            &[ENTRY_4, ENTRIES_6_7, ENTRIES_0_3]
+        )
+    );
+    assert!(rt;
+        are_shown(
+            alloc,
+            &inclusion(alloc, &log, 5, 1)?,
+            &[ENTRY_0, ENTRIES_2_3, ENTRY_4]
+        )
+    );
+    assert!(rt; are_shown(alloc, &inclusion(alloc, &log, 3, 2)?, &[ENTRIES_0_1]));
+    assert!(rt; are_shown(alloc, &inclusion(alloc, &log, 1, 0)?, &[]));
+    for index in 0..7 {
+        assert!(rt; is_bound(alloc, &log, 7, index)?, "at {index}");
     }
     Ok(())
 }
 
+// Proofs of the log of seven entries in section 2.1.3, and of others.
 #[test]
 fn proofs(rt: HostRuntime) -> Result<(), Fail> {
     let alloc = rt.alloc();
     let log = eight(alloc)?;
-    for (size, old_size, places) in PROOFS {
-        assert!(rt;
-            are_nodes(alloc, &consistency(alloc, &log, old_size, size)?, places),
-            "{old_size} of {size}"
-        );
-        assert!(rt;
-            is_front(alloc, &log, old_size, size)?,
-            "{old_size} of {size}"
-        );
+    assert!(rt;
+        are_shown(
+            alloc,
+            &consistency(alloc, &log, 3, 7)?,
+            &[ENTRY_2, ENTRY_3, ENTRIES_0_1, ENTRIES_4_6]
+        )
+    );
+    assert!(rt; are_shown(alloc, &consistency(alloc, &log, 4, 7)?, &[ENTRIES_4_6]));
+    assert!(rt;
+        are_shown(
+            alloc,
+            &consistency(alloc, &log, 6, 7)?,
+            &[ENTRIES_4_5, ENTRY_6, ENTRIES_0_3]
+        )
+    );
+    assert!(rt;
+        are_shown(
+            alloc,
+            &consistency(alloc, &log, 1, 8)?,
+            &[ENTRY_1, ENTRIES_2_3, ENTRIES_4_7]
+        )
+    );
+    assert!(rt;
+        are_shown(
+            alloc,
+            &consistency(alloc, &log, 2, 5)?,
+            &[ENTRIES_2_3, ENTRY_4]
+        )
+    );
+    for old_size in 1..7 {
+        assert!(rt; is_front(alloc, &log, old_size, 7)?, "of {old_size}");
     }
     let head = root(alloc, &log, 8)?;
     assert!(rt; verify_consistency(alloc, &Rfc6962, 8, &head, 8, &head, &[])?);
