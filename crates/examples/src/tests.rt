@@ -141,7 +141,7 @@ const NO_ENTRIES: [u8; 32] = [
 ];
 
 // Whether a client of a log of four entries follows it to five by the proof that the log sends, and by no bytes.
-fn followed(alloc: Global, is_sent: bool) -> Result<bool, Error> {
+fn grown(alloc: Global, is_sent: bool) -> Result<bool, Error> {
     let mut log = Log::new(alloc, LogHasher, NO_ENTRIES);
     log.append_many(alloc, &entries(alloc)?)?;
     let mut client = Client {
@@ -160,9 +160,9 @@ fn followed(alloc: Global, is_sent: bool) -> Result<bool, Error> {
 
 #[test]
 fn a_client_follows_a_log_that_grows(rt: HostRuntime) {
-    assert_eq!(rt; followed(rt.alloc(), true), Ok(true));
+    assert_eq!(rt; grown(rt.alloc(), true), Ok(true));
     assert_eq!(rt;
-        followed(rt.alloc(), false),
+        grown(rt.alloc(), false),
         Err(Error::SerializationError(SerializationError::Truncated))
     );
 }
