@@ -1,7 +1,7 @@
 //! A log that grows, and a client that follows it: no accepted proof leads the client from one history to another.
 
 ghost use Rattle.std.specs.Prelude.{◌≡◌, ◌≢◌, true, length, map, IfOk, Ok};
-ghost use Rattle.ark_base.specs.Spelling.{itself, bytes_at};
+ghost use Rattle.ark_base.specs.Digits.{itself, bytes_at};
 ghost use Rattle.ark_trees.specs.Rfc6962.{node_of};
 ghost use Rattle.merkle_log.specs.Received.{digests_in, consistency_length, ShowsFront};
 
