@@ -5,11 +5,10 @@ use crate::hasher::Rfc6962;
 use ark_base::error::Error;
 use merkle_log::{
     Frontier, Log, verify_consistency, verify_consistency_bytes, verify_inclusion,
-    verify_inclusion_bytes, verify_inclusion_digest,
+    verify_inclusion_bytes,
 };
 use sha2::{Digest, Sha256};
 use std::alloc::Global;
-use std::test::Fail;
 
 const ENTRIES: [&[u8]; 8] = [
     b"",
@@ -143,211 +142,63 @@ fn consistency(
     log.consistency_proof(alloc, old_size, size)
 }
 
-// Whether the own path of an index is accepted, and at no other place or size, nor with a digest more, less or another.
-fn is_bound(alloc: Global, log: &Sha256Log, size: usize, index: usize) -> Result<bool, Error> {
-    let head = root(alloc, log, size)?;
-    let mut path = inclusion(alloc, log, size, index)?;
-    let leaf = entry(alloc, index)?;
-    let (size, index) = (size as u64, index as u64);
-    if !verify_inclusion(alloc, &Rfc6962, &head, size, index, &leaf, &path)? {
-        return Ok(false);
-    }
-    for place in 0..path.len() {
-        let own = path[place];
-        path[place] = [0; 32];
-        if verify_inclusion(alloc, &Rfc6962, &head, size, index, &leaf, &path)? {
-            return Ok(false);
-        }
-        path[place] = own;
-    }
-    for (other, length) in [
-        (index ^ 1, size),
-        (index, u64::MAX),
-        (u64::MAX, size),
-        (0, 0),
-    ] {
-        if verify_inclusion(alloc, &Rfc6962, &head, length, other, &leaf, &path)? {
-            return Ok(false);
-        }
-    }
-    path.push(head)?;
-    if verify_inclusion(alloc, &Rfc6962, &head, size, index, &leaf, &path)? {
-        return Ok(false);
-    }
-    let _last = path.pop();
-    let short = path.pop().is_some();
-    Ok(!short || !verify_inclusion(alloc, &Rfc6962, &head, size, index, &leaf, &path)?)
+// The digest of an entry.
+fn leaf_digest(index: usize) -> [u8; 32] {
+    let mut hasher = Sha256::new();
+    hasher.update([0].as_slice());
+    hasher.update(ENTRIES[index % 8]);
+    hasher.finalize()
 }
 
-// Whether the own proof of two sizes is accepted, and with other roots or a digest more, less or another is not.
-fn is_front(alloc: Global, log: &Sha256Log, old_size: usize, size: usize) -> Result<bool, Error> {
-    let old = root(alloc, log, old_size)?;
-    let new = root(alloc, log, size)?;
-    let mut path = consistency(alloc, log, old_size, size)?;
-    let (old_size, size) = (old_size as u64, size as u64);
-    if !verify_consistency(alloc, &Rfc6962, old_size, &old, size, &new, &path)? {
-        return Ok(false);
-    }
-    for place in 0..path.len() {
-        let own = path[place];
-        path[place] = [0; 32];
-        if verify_consistency(alloc, &Rfc6962, old_size, &old, size, &new, &path)? {
-            return Ok(false);
-        }
-        path[place] = own;
-    }
-    if verify_consistency(alloc, &Rfc6962, old_size, &new, size, &new, &path)? {
-        return Ok(false);
-    }
-    for (first, second) in [
-        (size, old_size),
-        (0, size),
-        (old_size, u64::MAX),
-        (u64::MAX, size),
-    ] {
-        if verify_consistency(alloc, &Rfc6962, first, &old, second, &new, &path)? {
-            return Ok(false);
-        }
-    }
-    path.push(old)?;
-    if verify_consistency(alloc, &Rfc6962, old_size, &old, size, &new, &path)? {
-        return Ok(false);
-    }
-    let _last = path.pop();
-    let _short = path.pop();
-    Ok(!verify_consistency(alloc, &Rfc6962, old_size, &old, size, &new, &path)?)
-}
-
-#[test]
-fn roots(rt: HostRuntime) -> Result<(), Fail> {
-    let alloc = rt.alloc();
+// Whether the log's path of an index is these digests.
+fn is_path(alloc: Global, size: usize, index: usize, texts: &[&str]) -> Result<bool, Error> {
     let log = eight(alloc)?;
-    for (size, text) in ROOTS.iter().enumerate() {
-        assert!(rt;
-            is_shown(alloc, &root(alloc, &log, size)?, text),
-            "at {size}"
-        );
-    }
-    Ok(())
+    let path = inclusion(alloc, &log, size, index)?;
+    Ok(are_shown(alloc, &path, texts))
 }
 
-// A frontier has the root of its leaves, after each.
-#[test]
-fn frontiers(rt: HostRuntime) -> Result<(), Fail> {
-    let alloc = rt.alloc();
-    let mut log = none(alloc);
+// Whether the log's proof of two sizes is these digests.
+fn is_proof(alloc: Global, old_size: usize, size: usize, texts: &[&str]) -> Result<bool, Error> {
+    let log = eight(alloc)?;
+    let proof = consistency(alloc, &log, old_size, size)?;
+    Ok(are_shown(alloc, &proof, texts))
+}
+
+// Whether the path of an index of seven is accepted for an entry.
+fn is_accepted(alloc: Global, index: usize, told: usize) -> Result<bool, Error> {
+    let log = eight(alloc)?;
+    let head = root(alloc, &log, 7)?;
+    let path = inclusion(alloc, &log, 7, index)?;
+    let leaf = entry(alloc, told)?;
+    verify_inclusion(alloc, &Rfc6962, &head, 7, index as u64, &leaf, &path)
+}
+
+// Whether the proof of a size and seven is accepted for the root of a size.
+fn is_continued(alloc: Global, old_size: usize, told: usize) -> Result<bool, Error> {
+    let log = eight(alloc)?;
+    let old = root(alloc, &log, told)?;
+    let head = root(alloc, &log, 7)?;
+    let proof = consistency(alloc, &log, old_size, 7)?;
+    verify_consistency(alloc, &Rfc6962, old_size as u64, &old, 7, &head, &proof)
+}
+
+// Whether the log's root of a size is shown so.
+fn is_root(alloc: Global, size: usize, text: &str) -> Result<bool, Error> {
+    let log = eight(alloc)?;
+    let digest = root(alloc, &log, size)?;
+    Ok(is_shown(alloc, &digest, text))
+}
+
+// Whether the frontier of the first entries has a root that is shown so.
+fn is_frontier(alloc: Global, size: usize, text: &str) -> Result<bool, Error> {
     let mut frontier = Frontier::new(alloc, Rfc6962, Sha256::digest([].as_slice()));
-    for (size, text) in ROOTS.iter().enumerate() {
-        assert!(rt; is_shown(alloc, &frontier.root(alloc)?, text), "at {size}");
+    for index in 0..size {
         if frontier.size() < u64::MAX {
-            let mut hasher = Sha256::new();
-            hasher.update([0].as_slice());
-            hasher.update(ENTRIES[size % 8]);
-            let digest = hasher.finalize();
-            frontier.append(alloc, digest)?;
-            log.append_digest(alloc, digest)?;
+            frontier.append(alloc, leaf_digest(index))?;
         }
     }
-    assert!(rt; is_shown(alloc, &root(alloc, &log, 8)?, ROOTS[8]));
-    Ok(())
-}
-
-// Paths of the log of seven entries in section 2.1.3, and of others.
-#[test]
-fn paths(rt: HostRuntime) -> Result<(), Fail> {
-    let alloc = rt.alloc();
-    let log = eight(alloc)?;
-    assert!(rt;
-        are_shown(
-            alloc,
-            &inclusion(alloc, &log, 7, 0)?,
-            &[ENTRY_1, ENTRIES_2_3, ENTRIES_4_6]
-        )
-    );
-    assert!(rt;
-        are_shown(
-            alloc,
-            &inclusion(alloc, &log, 7, 3)?,
-            &[ENTRY_2, ENTRIES_0_1, ENTRIES_4_6]
-        )
-    );
-    assert!(rt;
-        are_shown(
-            alloc,
-            &inclusion(alloc, &log, 7, 4)?,
-            &[ENTRY_5, ENTRY_6, ENTRIES_0_3]
-        )
-    );
-    assert!(rt;
-        are_shown(
-            alloc,
-            &inclusion(alloc, &log, 7, 6)?,
-            &[ENTRIES_4_5, ENTRIES_0_3]
-        )
-    );
-    assert!(rt;
-        are_shown(
-            alloc,
-            &inclusion(alloc, &log, 8, 5)?,
-            &[ENTRY_4, ENTRIES_6_7, ENTRIES_0_3]
-        )
-    );
-    assert!(rt;
-        are_shown(
-            alloc,
-            &inclusion(alloc, &log, 5, 1)?,
-            &[ENTRY_0, ENTRIES_2_3, ENTRY_4]
-        )
-    );
-    assert!(rt; are_shown(alloc, &inclusion(alloc, &log, 3, 2)?, &[ENTRIES_0_1]));
-    assert!(rt; are_shown(alloc, &inclusion(alloc, &log, 1, 0)?, &[]));
-    for index in 0..7 {
-        assert!(rt; is_bound(alloc, &log, 7, index)?, "at {index}");
-    }
-    Ok(())
-}
-
-// Proofs of the log of seven entries in section 2.1.3, and of others.
-#[test]
-fn proofs(rt: HostRuntime) -> Result<(), Fail> {
-    let alloc = rt.alloc();
-    let log = eight(alloc)?;
-    assert!(rt;
-        are_shown(
-            alloc,
-            &consistency(alloc, &log, 3, 7)?,
-            &[ENTRY_2, ENTRY_3, ENTRIES_0_1, ENTRIES_4_6]
-        )
-    );
-    assert!(rt; are_shown(alloc, &consistency(alloc, &log, 4, 7)?, &[ENTRIES_4_6]));
-    assert!(rt;
-        are_shown(
-            alloc,
-            &consistency(alloc, &log, 6, 7)?,
-            &[ENTRIES_4_5, ENTRY_6, ENTRIES_0_3]
-        )
-    );
-    assert!(rt;
-        are_shown(
-            alloc,
-            &consistency(alloc, &log, 1, 8)?,
-            &[ENTRY_1, ENTRIES_2_3, ENTRIES_4_7]
-        )
-    );
-    assert!(rt;
-        are_shown(
-            alloc,
-            &consistency(alloc, &log, 2, 5)?,
-            &[ENTRIES_2_3, ENTRY_4]
-        )
-    );
-    for old_size in 1..7 {
-        assert!(rt; is_front(alloc, &log, old_size, 7)?, "of {old_size}");
-    }
-    let head = root(alloc, &log, 8)?;
-    assert!(rt; verify_consistency(alloc, &Rfc6962, 8, &head, 8, &head, &[])?);
-    assert!(rt; !verify_inclusion_digest(alloc, &Rfc6962, &head, 8, 5, &head, &[])?);
-    Ok(())
+    let digest = frontier.root(alloc)?;
+    Ok(is_shown(alloc, &digest, text))
 }
 
 // The bytes of digests.
@@ -359,29 +210,119 @@ fn bytes_of(alloc: Global, digests: &[[u8; 32]]) -> Result<Vec<u8>, Error> {
     Ok(bytes)
 }
 
-// Proofs come as their digests alone; a byte more or less, and sizes that have no proof, are errors.
-#[test]
-fn bytes(rt: HostRuntime) -> Result<(), Fail> {
-    let alloc = rt.alloc();
+// What the bytes of the path of the last of seven entries say, for an index and an entry.
+fn told_bytes(alloc: Global, index: u64) -> Result<bool, Error> {
+    let log = eight(alloc)?;
+    let head = root(alloc, &log, 7)?;
+    let bytes = bytes_of(alloc, &inclusion(alloc, &log, 7, 6)?)?;
+    let leaf = entry(alloc, 6)?;
+    verify_inclusion_bytes(alloc, &Rfc6962, &head, 7, index, &leaf, &bytes)
+}
+
+// What the bytes of the proof of three and seven say, for an old size.
+fn continued_bytes(alloc: Global, old_size: u64) -> Result<bool, Error> {
     let log = eight(alloc)?;
     let old = root(alloc, &log, 3)?;
     let head = root(alloc, &log, 7)?;
-    let leaf = entry(alloc, 6)?;
-    let mut path = bytes_of(alloc, &inclusion(alloc, &log, 7, 6)?)?;
-    assert!(rt; path.len() == 64);
-    assert!(rt; verify_inclusion_bytes(alloc, &Rfc6962, &head, 7, 6, &leaf, &path)?);
-    assert!(rt; verify_inclusion_bytes(alloc, &Rfc6962, &head, 7, 7, &leaf, &path).is_err());
-    assert!(rt; verify_inclusion_bytes(alloc, &Rfc6962, &head, 7, 5, &leaf, &path).is_err());
-    path.push(0)?;
-    assert!(rt; verify_inclusion_bytes(alloc, &Rfc6962, &head, 7, 6, &leaf, &path).is_err());
-    let _last = path.pop();
-    let _byte = path.pop();
-    assert!(rt; verify_inclusion_bytes(alloc, &Rfc6962, &head, 7, 6, &leaf, &path).is_err());
-    let proof = bytes_of(alloc, &consistency(alloc, &log, 3, 7)?)?;
-    assert!(rt; verify_consistency_bytes(alloc, &Rfc6962, 3, &old, 7, &head, &proof)?);
-    assert!(rt; verify_consistency_bytes(alloc, &Rfc6962, 0, &old, 7, &head, &proof).is_err());
-    assert!(rt; verify_consistency_bytes(alloc, &Rfc6962, 8, &old, 7, &head, &proof).is_err());
-    assert!(rt; verify_consistency_bytes(alloc, &Rfc6962, 3, &old, 7, &head, &[]).is_err());
-    assert!(rt; verify_consistency_bytes(alloc, &Rfc6962, 7, &head, 7, &head, &[])?);
-    Ok(())
+    let bytes = bytes_of(alloc, &consistency(alloc, &log, 3, 7)?)?;
+    verify_consistency_bytes(alloc, &Rfc6962, old_size, &old, 7, &head, &bytes)
+}
+
+#[test]
+fn roots(rt: HostRuntime) {
+    for (size, text) in ROOTS.iter().enumerate() {
+        assert_eq!(rt; is_root(rt.alloc(), size, text), Ok(true), "at {size}");
+    }
+}
+
+#[test]
+fn frontiers(rt: HostRuntime) {
+    for (size, text) in ROOTS.iter().enumerate() {
+        assert_eq!(rt; is_frontier(rt.alloc(), size, text), Ok(true), "at {size}");
+    }
+}
+
+// Paths of the log of seven entries in section 2.1.3, and of others.
+#[test]
+fn paths(rt: HostRuntime) {
+    let alloc = rt.alloc();
+    assert_eq!(rt;
+        is_path(alloc, 7, 0, &[ENTRY_1, ENTRIES_2_3, ENTRIES_4_6]),
+        Ok(true)
+    );
+    assert_eq!(rt;
+        is_path(alloc, 7, 3, &[ENTRY_2, ENTRIES_0_1, ENTRIES_4_6]),
+        Ok(true)
+    );
+    assert_eq!(rt;
+        is_path(alloc, 7, 4, &[ENTRY_5, ENTRY_6, ENTRIES_0_3]),
+        Ok(true)
+    );
+    assert_eq!(rt; is_path(alloc, 7, 6, &[ENTRIES_4_5, ENTRIES_0_3]), Ok(true));
+    assert_eq!(rt;
+        is_path(alloc, 8, 5, &[ENTRY_4, ENTRIES_6_7, ENTRIES_0_3]),
+        Ok(true)
+    );
+    assert_eq!(rt;
+        is_path(alloc, 5, 1, &[ENTRY_0, ENTRIES_2_3, ENTRY_4]),
+        Ok(true)
+    );
+    assert_eq!(rt; is_path(alloc, 3, 2, &[ENTRIES_0_1]), Ok(true));
+}
+
+// Proofs of the log of seven entries in section 2.1.3, and of others.
+#[test]
+fn proofs(rt: HostRuntime) {
+    let alloc = rt.alloc();
+    assert_eq!(rt;
+        is_proof(alloc, 3, 7, &[ENTRY_2, ENTRY_3, ENTRIES_0_1, ENTRIES_4_6]),
+        Ok(true)
+    );
+    assert_eq!(rt; is_proof(alloc, 4, 7, &[ENTRIES_4_6]), Ok(true));
+    assert_eq!(rt;
+        is_proof(alloc, 6, 7, &[ENTRIES_4_5, ENTRY_6, ENTRIES_0_3]),
+        Ok(true)
+    );
+    assert_eq!(rt;
+        is_proof(alloc, 1, 8, &[ENTRY_1, ENTRIES_2_3, ENTRIES_4_7]),
+        Ok(true)
+    );
+    assert_eq!(rt; is_proof(alloc, 2, 5, &[ENTRIES_2_3, ENTRY_4]), Ok(true));
+}
+
+#[test]
+fn own_proofs_are_accepted(rt: HostRuntime) {
+    for index in 0..7 {
+        assert_eq!(rt;
+            is_accepted(rt.alloc(), index, index),
+            Ok(true),
+            "at {index}"
+        );
+        assert_eq!(rt;
+            is_accepted(rt.alloc(), index, index + 1),
+            Ok(false),
+            "at {index}"
+        );
+    }
+    for size in 1..7 {
+        assert_eq!(rt; is_continued(rt.alloc(), size, size), Ok(true), "of {size}");
+        assert_eq!(rt;
+            is_continued(rt.alloc(), size, size + 1),
+            Ok(false),
+            "of {size}"
+        );
+    }
+}
+
+// Bytes of the wrong count for an index or a size, and sizes that have no proof, are errors.
+#[test]
+fn bytes(rt: HostRuntime) {
+    let alloc = rt.alloc();
+    assert_eq!(rt; told_bytes(alloc, 6), Ok(true));
+    assert!(rt; told_bytes(alloc, 5).is_err());
+    assert!(rt; told_bytes(alloc, 7).is_err());
+    assert_eq!(rt; continued_bytes(alloc, 3), Ok(true));
+    assert!(rt; continued_bytes(alloc, 0).is_err());
+    assert!(rt; continued_bytes(alloc, 4).is_err());
+    assert!(rt; continued_bytes(alloc, 8).is_err());
 }
