@@ -28,14 +28,17 @@ keeps-appends (Some xs) None k = absurd k
 keeps-appends (Some xs) (Some ys) k = k ∙ sym (append-nil xs)
 
 pub appends_kept : (a b c : Option (List ℕ)) (x : List ℕ) → Appends a b x → Keeps b c → Appends a c x
-appends_kept a b c x h k = let all : Appends a c (x ++ []) = appends_both a b c x [] h (keeps-appends b c k) in rw append-nil at all
+appends_kept a b c x h k = let all : Appends a c (x ++ []) = appends_both a b c x [] h (keeps-appends b c k) in
+    rw append-nil at all
 
 pub kept_then : (a b c : Option (List ℕ)) (x : List ℕ) → Keeps a b → Appends b c x → Appends a c x
 kept_then a b c x k h = appends_both a b c [] x (keeps-appends a b k) h
 
 -- more of the bytes, where some are written
-pub appends_more : (a b c : Option (List ℕ)) (bytes : List ℕ) (n more : ℕ) → Appends a b (take n bytes) → Appends b c (take more (drop n bytes)) → Appends a c (take (n + more) bytes)
-appends_more a b c bytes n more h k = rw (take-add n more bytes) (appends_both a b c (take n bytes) (take more (drop n bytes)) h k)
+pub appends_more : (a b c : Option (List ℕ)) (bytes : List ℕ) (n more : ℕ) → Appends a b (take n bytes)
+    → Appends b c (take more (drop n bytes)) → Appends a c (take (n + more) bytes)
+appends_more a b c bytes n more h k = rw (take-add n more bytes) (appends_both a b c (take n bytes)
+    (take more (drop n bytes)) h k)
 
 pub keeps_self : (w : Option (List ℕ)) → Keeps w w
 keeps_self None = tt
@@ -56,7 +59,8 @@ appends-front a b x h = (length x, rw (ap (take (length x)) (sym (append-nil x))
 
 -- the first, then a front of the second
 front_behind : (a b c : Option (List ℕ)) (x y : List ℕ) → Appends a b x → AppendsFront b c y → AppendsFront a c (x ++ y)
-front_behind a b c x y h front = let m = take-behind x y front.0 in (m.0, rw m.1 (appends_both a b c x (take front.0 y) h front.1))
+front_behind a b c x y h front = let m =
+    take-behind x y front.0 in (m.0, rw m.1 (appends_both a b c x (take front.0 y) h front.1))
 
 pub kept_front : (a b c : Option (List ℕ)) (x : List ℕ) → Keeps a b → AppendsFront b c x → AppendsFront a c x
 kept_front a b c x k front = (front.0, kept_then a b c (take front.0 x) k front.1)
@@ -87,35 +91,46 @@ module _ {T : Type 0} (step : T → List ℕ → T → List ℕ → Type 0) wher
   -- some lines lead from a state to another, with the reply to each
   abbrev Through : T → List (List ℕ) → List (List ℕ) → T → Type 0
   Through before [] [] after = before ≡ after
-  Through before (line ∷ lines) (reply ∷ replies) after = (next : T) × step before line next reply × Through next lines replies after
+  Through before (line ∷ lines) (reply ∷ replies) after = (next : T) × step before line next reply × Through next lines
+      replies after
   Through before [] (reply ∷ replies) after = ⊥
   Through before (line ∷ lines) [] after = ⊥
 
-  through-session : (before after : T) (lines replies : List (List ℕ)) → Through before lines replies after → Session step before lines replies
+  through-session : (before after : T) (lines replies : List (List ℕ)) → Through before lines replies after
+      → Session step before lines replies
   through-session before after [] [] h = tt
-  through-session before after (line ∷ lines) (reply ∷ replies) h = (h.0, h.1, through-session h.0 after lines replies h.2)
+  through-session before after (line ∷ lines) (reply ∷ replies) h =
+      (h.0, h.1, through-session h.0 after lines replies h.2)
   through-session before after [] (reply ∷ replies) h = absurd h
   through-session before after (line ∷ lines) [] h = absurd h
 
-  through-more : (before middle after : T) (lines replies : List (List ℕ)) (line reply : List ℕ) → Through before lines replies middle → step middle line after reply → Through before (lines ++ line ∷ []) (replies ++ reply ∷ []) after
+  through-more : (before middle after : T) (lines replies : List (List ℕ)) (line reply : List ℕ) → Through before lines
+      replies middle → step middle line after reply → Through before (lines ++ line ∷ []) (replies ++ reply ∷ []) after
   through-more before middle after [] [] line reply h does = (after, rw h does, refl)
-  through-more before middle after (l ∷ lines) (r ∷ replies) line reply h does = (h.0, h.1, through-more h.0 middle after lines replies line reply h.2 does)
+  through-more before middle after (l ∷ lines) (r ∷ replies) line reply h does =
+      (h.0, h.1, through-more h.0 middle after lines replies line reply h.2 does)
   through-more before middle after [] (r ∷ replies) line reply h does = absurd h
   through-more before middle after (l ∷ lines) [] line reply h does = absurd h
 
 -- what is read up to a line feed is the first line
-next_line : (rest line : List ℕ) → 0 < length line → line ≡ take_through 10 rest → lines_of rest ≡ strip_last 10 line ∷ lines_of (drop_through 10 rest)
+next_line : (rest line : List ℕ) → 0 < length line → line ≡ take_through 10 rest → lines_of rest ≡ strip_last 10 line
+    ∷ lines_of (drop_through 10 rest)
 next_line [] line some took = absurd (omega (arith, ap length took))
-next_line (b ∷ bs) line some took = lines_of-cons b bs ∙ ap (λ s. strip_last 10 s ∷ lines_of (drop_through 10 (b ∷ bs))) (sym took)
+next_line (b ∷ bs) line some took = lines_of-cons b bs ∙ ap (λ s. strip_last 10 s ∷ lines_of (drop_through 10 (b ∷ bs)))
+    (sym took)
 
-one_more : (input done rest : List (List ℕ)) (line : List ℕ) (others : List (List ℕ)) → input ≡ done ++ rest → rest ≡ line ∷ others → input ≡ (done ++ line ∷ []) ++ others
-one_more input done rest line others is next = is ∙ ap (λ s. done ++ s) next ∙ sym (append_assoc done (line ∷ []) others)
+one_more : (input done rest : List (List ℕ)) (line : List ℕ) (others : List (List ℕ)) → input ≡ done ++ rest → rest
+    ≡ line ∷ others → input ≡ (done ++ line ∷ []) ++ others
+one_more input done rest line others is next =
+    is ∙ ap (λ s. done ++ s) next ∙ sym (append_assoc done (line ∷ []) others)
 
 module _ {T : Type 0} (step : T → List ℕ → T → List ℕ → Type 0) (start : T) where
-  -- A session that began with r0 to read and w0 written has come to this state, with r to read and w written: some lines are
+  -- A session that began with r0 to read and w0 written has come to this state, with r to read and w written: some
+  -- lines are
   -- done and the replies to them told, and the rest of the bytes is to come.
   abbrev pub Going : (r0 w0 : Option (List ℕ)) → T → (r w : Option (List ℕ)) → Type 0
-  Going r0 w0 state r w = IfSome r0 (λ input. (told : List (List ℕ)) × (done : List (List ℕ)) × (rest : List ℕ) × (r ≡ Some rest)
+  Going r0 w0 state r w = IfSome r0 (λ input. (told : List (List ℕ)) × (done : List (List ℕ)) × (rest : List ℕ)
+      × (r ≡ Some rest)
       × (lines_of input ≡ done ++ lines_of rest) × Through step start done told state
       × Appends w0 w (flat_map with_line_feed told))
 
@@ -123,7 +138,9 @@ module _ {T : Type 0} (step : T → List ℕ → T → List ℕ → Type 0) (sta
   going_from_start None w0 = tt
   going_from_start (Some input) w0 = ([], [], input, refl, refl, refl, appends_none w0)
 
-  pub going_on : (r0 w0 : Option (List ℕ)) (before after : T) (r r' w w' : Option (List ℕ)) (line reply : List ℕ) → Going r0 w0 before r w → 0 < length line → IfSome r (λ xs. line ≡ take_through 10 xs) → DropsThrough r r' 10 → step before (strip_last 10 line) after reply → Appends w w' (with_line_feed reply) → Going r0 w0 after r' w'
+  pub going_on : (r0 w0 : Option (List ℕ)) (before after : T) (r r' w w' : Option (List ℕ)) (line reply : List ℕ)
+      → Going r0 w0 before r w → 0 < length line → IfSome r (λ xs. line ≡ take_through 10 xs) → DropsThrough r r' 10
+      → step before (strip_last 10 line) after reply → Appends w w' (with_line_feed reply) → Going r0 w0 after r' w'
   going_on None w0 before after r r' w w' line reply so_far some taken left does told = tt
   going_on (Some input) w0 before after r r' w w' line reply so_far some taken left does told =
       let rest = so_far.2 in
@@ -134,34 +151,58 @@ module _ {T : Type 0} (step : T → List ℕ → T → List ℕ → Type 0) (sta
         so_far.1 ++ strip_last 10 line ∷ [],
         drop_through 10 rest,
         leaves,
-        one_more (lines_of input) so_far.1 (lines_of rest) (strip_last 10 line) (lines_of (drop_through 10 rest)) so_far.4 (next_line rest line some took),
+        one_more (lines_of input) so_far.1 (lines_of rest) (strip_last 10 line) (lines_of (drop_through 10 rest))
+            so_far.4 (next_line rest line some took),
         through-more step start before after so_far.1 so_far.0 (strip_last 10 line) reply so_far.5 does,
         rw (← flat_map_more with_line_feed [] so_far.0 reply) all,
       )
 
-  pub going_to_end : (r0 w0 : Option (List ℕ)) (state : T) (r w w' : Option (List ℕ)) → Going r0 w0 state r w → IsAtEnd r → Keeps w w' → ServesFrom step start r0 w0 w'
+  pub going_to_end : (r0 w0 : Option (List ℕ)) (state : T) (r w w' : Option (List ℕ)) → Going r0 w0 state r w
+      → IsAtEnd r → Keeps w w' → ServesFrom step start r0 w0 w'
   going_to_end None w0 state r w w' so_far end kept = tt
   going_to_end (Some input) w0 state r w w' so_far end kept =
       let none_left : so_far.2 ≡ [] = rw so_far.3 at end in
-      let all : lines_of input ≡ so_far.1 = so_far.4 ∙ ap (λ s. so_far.1 ++ lines_of s) none_left ∙ append-nil so_far.1 in
-      (so_far.0, rw all (through-session step start state so_far.1 so_far.0 so_far.5), appends_kept w0 w w' _ so_far.6 kept)
+      let all : lines_of input ≡ so_far.1 = so_far.4 ∙ ap (λ s. so_far.1 ++ lines_of s) none_left
+      ∙ append-nil so_far.1 in (
+        so_far.0,
+        rw all (through-session step start state so_far.1 so_far.0 so_far.5),
+        appends_kept w0 w w' _
+            so_far.6 kept,
+      )
 
   -- it is cut short between two lines
-  pub stops_here : (r0 w0 : Option (List ℕ)) (state : T) (r w w' : Option (List ℕ)) → Going r0 w0 state r w → Keeps w w' → StopsFrom step start r0 w0 w'
+  pub stops_here : (r0 w0 : Option (List ℕ)) (state : T) (r w w' : Option (List ℕ)) → Going r0 w0 state r w → Keeps w w'
+      → StopsFrom step start r0 w0 w'
   stops_here None w0 state r w w' so_far kept = tt
   stops_here (Some input) w0 state r w w' so_far kept =
-      let first : take (length so_far.1) (lines_of input) ≡ so_far.1 = ap (take (length so_far.1)) so_far.4 ∙ take-all so_far.1 (lines_of so_far.2) in
-      (length so_far.1, so_far.0, rw first (through-session step start state so_far.1 so_far.0 so_far.5), appends-front w0 w' _ (appends_kept w0 w w' _ so_far.6 kept))
+      let first : take (length so_far.1) (lines_of input) ≡ so_far.1 =
+      ap (take (length so_far.1)) so_far.4 ∙ take-all so_far.1 (lines_of so_far.2) in (
+        length so_far.1,
+        so_far.0,
+        rw first (through-session step start state so_far.1 so_far.0 so_far.5),
+        appends-front
+            w0 w' _ (appends_kept w0 w w' _ so_far.6 kept),
+      )
 
   -- it is cut short in a reply
-  pub stops_within : (r0 w0 : Option (List ℕ)) (before after : T) (r w w' : Option (List ℕ)) (line reply : List ℕ) → Going r0 w0 before r w → 0 < length line → IfSome r (λ xs. line ≡ take_through 10 xs) → step before (strip_last 10 line) after reply → AppendsFront w w' (reply ++ 10 ∷ []) → StopsFrom step start r0 w0 w'
+  pub stops_within : (r0 w0 : Option (List ℕ)) (before after : T) (r w w' : Option (List ℕ)) (line reply : List ℕ)
+      → Going r0 w0 before r w → 0 < length line → IfSome r (λ xs. line ≡ take_through 10 xs)
+      → step before (strip_last 10 line) after reply → AppendsFront w w' (reply ++ 10 ∷ []) → StopsFrom step
+      start r0 w0 w'
   stops_within None w0 before after r w w' line reply so_far some taken does front = tt
   stops_within (Some input) w0 before after r w w' line reply so_far some taken does front =
       let rest = so_far.2 in
       let took : line ≡ take_through 10 rest = rw so_far.3 at taken in
       let done = so_far.1 ++ strip_last 10 line ∷ [] in
-      let all = one_more (lines_of input) so_far.1 (lines_of rest) (strip_last 10 line) (lines_of (drop_through 10 rest)) so_far.4 (next_line rest line some took) in
-      let first : take (length done) (lines_of input) ≡ done = ap (take (length done)) all ∙ take-all done (lines_of (drop_through 10 rest)) in
+      let all = one_more (lines_of input) so_far.1 (lines_of rest) (strip_last 10 line)
+      (lines_of (drop_through 10 rest)) so_far.4 (next_line rest line some took) in
+      let first : take (length done) (lines_of input) ≡ done =
+      ap (take (length done)) all ∙ take-all done (lines_of (drop_through 10 rest)) in
       let through = through-more step start before after so_far.1 so_far.0 (strip_last 10 line) reply so_far.5 does in
-      let written = front_behind w0 w w' (flat_map with_line_feed so_far.0) (reply ++ 10 ∷ []) so_far.6 front in
-      (length done, so_far.0 ++ reply ∷ [], rw first (through-session step start after done (so_far.0 ++ reply ∷ []) through), rw (← flat_map_more with_line_feed [] so_far.0 reply) written)
+      let written = front_behind w0 w w' (flat_map with_line_feed so_far.0) (reply ++ 10 ∷ []) so_far.6 front in (
+        length done,
+        so_far.0 ++ reply ∷ [],
+        rw first (through-session step start after done (so_far.0 ++ reply ∷ [])
+            through),
+        rw (← flat_map_more with_line_feed [] so_far.0 reply) written,
+      )

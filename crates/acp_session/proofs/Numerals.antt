@@ -25,7 +25,8 @@ not_both true true h = absurd (h (refl, refl))
 not_both true false h = refl
 not_both false c h = refl
 
-module _ (bs : List ℕ) (first : ℕ) (first_is : first ≡ get_or bs 0 0) (some : 0 < length bs) (plain : IsPlain bs first) where
+module _ (bs : List ℕ) (first : ℕ) (first_is : first ≡ get_or bs 0 0) (some : 0 < length bs)
+    (plain : IsPlain bs first) where
   no_zero : (nat_lt 1 (length bs) && (get_or bs 0 0 == 48)) ≡ false
   no_zero = not_both (nat_lt 1 (length bs)) (get_or bs 0 0 == 48) (λ h.
       let more : 1 < length bs = ltb-true 1 (length bs) h.0 in
@@ -35,25 +36,32 @@ module _ (bs : List ℕ) (first : ℕ) (first_is : first ≡ get_or bs 0 0) (som
   is_index-digits : is_index bs ≡ (all_ascii_digits bs && nat_lt (digits_value 10 bs) (2 ^ 64))
   is_index-digits = rw (lt-ltb 0 (length bs) some, no_zero) refl
 
-  index_of-by : {E : Type 0} (r : Result ℕ E) → OkIff r (IsDigits bs × (0 < length bs) × (digits_value 10 bs < 2 ^ 64)) (digits_value 10 bs) → result_ok r ≡ index_of bs
-  index_of-by (Ok n) read = rw (is_index-digits, read.0.0, lt-ltb (digits_value 10 bs) (2 ^ 64) read.0.2) (ap (λ (n : ℕ). Some n) read.1)
+  index_of-by : {E : Type 0} (r : Result ℕ E) → OkIff r (IsDigits bs × (0 < length bs) × (digits_value 10 bs < 2 ^ 64))
+      (digits_value 10 bs) → result_ok r ≡ index_of bs
+  index_of-by (Ok n) read = rw (is_index-digits, read.0.0, lt-ltb (digits_value 10 bs) (2 ^ 64) read.0.2)
+      (ap (λ (n : ℕ). Some n) read.1)
   index_of-by (Err e) none =
-      let no : (all_ascii_digits bs && nat_lt (digits_value 10 bs) (2 ^ 64)) ≡ false = not_both (all_ascii_digits bs) (nat_lt (digits_value 10 bs) (2 ^ 64)) (λ h. none (h.0, some, ltb-true (digits_value 10 bs) (2 ^ 64) h.1)) in
+      let no : (all_ascii_digits bs && nat_lt (digits_value 10 bs) (2 ^ 64)) ≡ false = not_both (all_ascii_digits bs)
+      (nat_lt (digits_value 10 bs) (2 ^ 64)) (λ h. none (h.0, some, ltb-true (digits_value 10 bs) (2 ^ 64) h.1)) in
       rw (is_index-digits, no) refl
 
-  pub index_of-parsed : {E : Type 0} (r : Result ℕ E) → first ≢ 43 → ParsesUnsigned 64 10 bs r → result_ok r ≡ index_of bs
+  pub index_of-parsed : {E : Type 0} (r : Result ℕ E) → first ≢ 43 → ParsesUnsigned 64 10 bs r → result_ok r
+      ≡ index_of bs
   index_of-parsed r no_plus read = index_of-by r (parse_plain numerals 64 bs r read (λ plus. no_plus (first_is ∙ plus)))
 
   pub index_of-no_text : (IsUtf8 bs → ⊥) → None ≡ index_of bs
   index_of-no_text foreign =
-      let other : all_ascii_digits bs ≡ false = false_from_ne_true (all_ascii_digits bs) (λ digits. foreign (IsUtf8-from_ascii bs (IsAscii-from_digits bs (numerals.to bs digits)))) in
+      let other : all_ascii_digits bs ≡ false = false_from_ne_true (all_ascii_digits bs)
+      (λ digits. foreign (IsUtf8-from_ascii bs (IsAscii-from_digits bs (numerals.to bs digits)))) in
       rw (is_index-digits, other) refl
 
 -- what holds of a result's value, and of its error
-pub of_ok : {A E : Type 0} (P : A → Type 0) (Q : E → Type 0) (r : Result A E) (x : A) → Some x ≡ result_ok r → MatchResult r P Q → P x
+pub of_ok : {A E : Type 0} (P : A → Type 0) (Q : E → Type 0) (r : Result A E) (x : A) → Some x ≡ result_ok r
+    → MatchResult r P Q → P x
 of_ok P Q (Ok y) x e h = let same : x ≡ y = cc in subst P (sym same) h
 of_ok P Q (Err e') x e h = absurd cc
 
-pub of_err : {A E : Type 0} (P : A → Type 0) (Q : E → Type 0) (r : Result A E) → None ≡ result_ok r → MatchResult r P Q → (e : E) × Q e
+pub of_err : {A E : Type 0} (P : A → Type 0) (Q : E → Type 0) (r : Result A E) → None ≡ result_ok r → MatchResult r P Q
+    → (e : E) × Q e
 of_err P Q (Ok y) e h = absurd cc
 of_err P Q (Err e') e h = (e', h)

@@ -10,11 +10,13 @@ use Rattle.acp_session.specs.Language.{Language}
 use Rattle.acp_session.specs.Replies.{Strict}
 use Rattle.acp_session.specs.Steps.{finding, finding_reply, count_of, strict_reply}
 
-pub finding-refused : {W V : Type 0} (say : W → Outcome V) (reading : Reading W) (e : Error) → reading_outcome reading ≡ Err e → finding say reading ≡ Err e
+pub finding-refused : {W V : Type 0} (say : W → Outcome V) (reading : Reading W) (e : Error) → reading_outcome reading
+    ≡ Err e → finding say reading ≡ Err e
 finding-refused say reading e refused = rw refused refl
 
 -- what is said of a value that was read
-module _ {W V : Type 0} (say : W → Outcome V) (reading : Reading W) (w : W) (rest : List ℕ) (read : reading_outcome reading ≡ Ok (w, rest)) where
+module _ {W V : Type 0} (say : W → Outcome V) (reading : Reading W) (w : W) (rest : List ℕ) (read : reading_outcome
+    reading ≡ Ok (w, rest)) where
   pub finding-more : 0 < length rest → finding say reading ≡ Ok None
   finding-more some = ap (finding say) (read_of reading (w, rest) read) ∙ by_rest rest some
     where
@@ -29,5 +31,6 @@ module _ {W V : Type 0} (say : W → Outcome V) (reading : Reading W) (w : W) (r
       by_rest [] none = rw said refl
       by_rest (b ∷ bytes) none = absurd (omega arith)
 
-pub strict_reply-by : (l : Language) (bytes : List ℕ) (at : List ℕ → Reading MultiWay) → at ≡ l.multi_path_reading → strict_reply l bytes ≡ finding_reply Strict (finding count_of (strict_reading (at bytes)))
+pub strict_reply-by : (l : Language) (bytes : List ℕ) (at : List ℕ → Reading MultiWay) → at ≡ l.multi_path_reading
+    → strict_reply l bytes ≡ finding_reply Strict (finding count_of (strict_reading (at bytes)))
 strict_reply-by l bytes at read = rw read refl

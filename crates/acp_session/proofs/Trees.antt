@@ -12,15 +12,21 @@ use Rattle.acp_session.specs.Language.{Language}
 use Rattle.acp_session.specs.Replies.{Refused, MayLackMemory, text}
 use Rattle.acp_session.specs.Steps.{State, state_of, Turn, Takes, Settles, HasHashes, new_tree_turn, tree_turn, digests_turn}
 
-all_hashes-map : {A : Type 0} (hash : A → Outcome Digest) (xs : List A) → all_hashes (λ digest. digest) (map hash xs) ≡ all_hashes hash xs
+all_hashes-map : {A : Type 0} (hash : A → Outcome Digest) (xs : List A) → all_hashes (λ digest. digest) (map hash xs)
+    ≡ all_hashes hash xs
 all_hashes-map hash [] = refl
 all_hashes-map hash (x ∷ xs) = rw (all_hashes-map hash xs) refl
 
 -- the turn of leaves that fit, by the hash of each
-pub tree_turn-built : {A : Type 0} (l : Language) (before : State) (hash : A → Outcome Digest) (leaves : List A) (h : HashPair) → h ≡ l.pair_hashes → is_tree_size (length leaves) ≡ true → tree_turn l before (map hash leaves) ≡ new_tree_turn before (tree_leaves h hash leaves)
-tree_turn-built l before hash leaves h same fits = rw (length-map leaves hash, fits, all_hashes-map hash leaves, same) refl
+pub tree_turn-built : {A : Type 0} (l : Language) (before : State) (hash : A → Outcome Digest) (leaves : List A)
+    (h : HashPair) → h ≡ l.pair_hashes → is_tree_size (length leaves) ≡ true → tree_turn l before (map hash leaves)
+    ≡ new_tree_turn before (tree_leaves h hash leaves)
+tree_turn-built l before hash leaves h same fits =
+    rw (length-map leaves hash, fits, all_hashes-map hash leaves, same) refl
 
-pub digests_turn-built : {A : Type 0} (l : Language) (before : State) (numbers : A → Digest) (digests : List A) (h : HashPair) → h ≡ l.pair_hashes → is_tree_size (length digests) ≡ true → digests_turn l before (map numbers digests) ≡ new_tree_turn before (leaves_with_root h (map numbers digests))
+pub digests_turn-built : {A : Type 0} (l : Language) (before : State) (numbers : A → Digest) (digests : List A)
+    (h : HashPair) → h ≡ l.pair_hashes → is_tree_size (length digests) ≡ true → digests_turn l before
+    (map numbers digests) ≡ new_tree_turn before (leaves_with_root h (map numbers digests))
 digests_turn-built l before numbers digests h same fits = rw (length-map digests numbers, fits, same) refl
 
 MayLackMemory-new_tree : (before : State) (o : Outcome (List Digest)) → MayLackMemory (new_tree_turn before o).0
@@ -28,45 +34,66 @@ MayLackMemory-new_tree before (Ok digests) = tt
 MayLackMemory-new_tree before (Err error) = tt
 
 -- a tree that takes the place of the one before, or its refusal, as it is told
-pub takes_settled : {L T : Type 0} (before after : Option (Tree L T)) (exact : Turn) (o : Outcome (List Digest)) (made : Outcome (Tree L T)) (bytes : List ℕ) → exact ≡ new_tree_turn (state_of before) o → AnswersBy (λ tree. tree.leaves) o made → Settles before made after bytes → Takes (state_of before) exact (state_of after) bytes
-takes_settled before after exact o (Ok new) bytes same is settled = rw (same, is) (inl (settled.1, ap state_of settled.0))
-takes_settled before after exact o (Err error) bytes same (inl memory) settled = rw same (inr (settled.1 ∙ ap (λ e. text (Refused e)) memory, ap state_of settled.0, MayLackMemory-new_tree (state_of before) o))
-takes_settled before after exact o (Err error) bytes same (inr refused) settled = rw (same, refused) (inl (settled.1, ap state_of settled.0))
+pub takes_settled : {L T : Type 0} (before after : Option (Tree L T)) (exact : Turn) (o : Outcome (List Digest))
+    (made : Outcome (Tree L T)) (bytes : List ℕ) → exact ≡ new_tree_turn (state_of before) o
+    → AnswersBy (λ tree. tree.leaves) o made → Settles before made after bytes → Takes (state_of before) exact
+    (state_of after) bytes
+takes_settled before after exact o (Ok new) bytes same is settled =
+    rw (same, is) (inl (settled.1, ap state_of settled.0))
+takes_settled before after exact o (Err error) bytes same (inl memory) settled =
+    rw same (inr (
+      settled.1 ∙ ap (λ e. text (Refused e)) memory,
+      ap state_of settled.0,
+      MayLackMemory-new_tree
+          (state_of before) o,
+    ))
+takes_settled before after exact o (Err error) bytes same (inr refused) settled =
+    rw (same, refused) (inl (settled.1, ap state_of settled.0))
 
 -- ---- a tree that was made, as callers see it
 
-with_hashes-ok : {X : Type 0} (hashes : Hashes X) (o : Outcome (List Digest)) (tree : HashedTree X) → with_hashes hashes o ≡ Ok tree → (o ≡ Ok tree.leaves) × (hashes ≡ tree.hashes)
+with_hashes-ok : {X : Type 0} (hashes : Hashes X) (o : Outcome (List Digest)) (tree : HashedTree X) → with_hashes hashes
+    o ≡ Ok tree → (o ≡ Ok tree.leaves) × (hashes ≡ tree.hashes)
 with_hashes-ok hashes (Ok digests) tree is =
     let same : ◌≡◌ {A = HashedTree _} (record { hashes = hashes; leaves = digests }) tree = cc in
     (ap (λ (t : HashedTree _). Ok t.leaves) same, ap (λ (t : HashedTree _). t.hashes) same)
 with_hashes-ok hashes (Err e) tree is = absurd cc
 
-pub with_hashes-err : {X : Type 0} (hashes : Hashes X) (o : Outcome (List Digest)) (e : Error) → with_hashes hashes o ≡ Err e → o ≡ Err e
+pub with_hashes-err : {X : Type 0} (hashes : Hashes X) (o : Outcome (List Digest)) (e : Error) → with_hashes hashes o
+    ≡ Err e → o ≡ Err e
 with_hashes-err hashes (Ok digests) e is = absurd cc
 with_hashes-err hashes (Err d) e is = let same : d ≡ e = cc in ap Err same
 
 module _ {L T X : Type 0} (meaning : L → X → Outcome Digest) (pair : T → HashPair) where
   abbrev pub view_of : Tree L T → HashedTree X
-  view_of t = record { hashes = record { leaf = meaning t.leaf_parameters; pair = pair t.pair_parameters }; leaves = t.leaves }
+  view_of t = record {
+    hashes = record { leaf = meaning t.leaf_parameters; pair = pair t.pair_parameters };
+    leaves = t.leaves;
+  }
 
   module _ (p : L) (q : T) (o : Outcome (List Digest)) where
     abbrev hashes_at : Hashes X
     hashes_at = record { leaf = meaning p; pair = pair q }
 
-    pub made-leaves : (made : Outcome (Tree L T)) → AnswersBy view_of (with_hashes hashes_at o) made → AnswersBy (λ tree. tree.leaves) o made
+    pub made-leaves : (made : Outcome (Tree L T)) → AnswersBy view_of (with_hashes hashes_at o) made
+        → AnswersBy (λ tree. tree.leaves) o made
     made-leaves (Ok t) is = (with_hashes-ok hashes_at o (view_of t) is).0
     made-leaves (Err e) (inl memory) = inl memory
     made-leaves (Err e) (inr refused) = inr (with_hashes-err hashes_at o e refused)
 
-    pub made-hashes : (t : Tree L T) → with_hashes hashes_at o ≡ Ok (view_of t) → (meaning t.leaf_parameters ≡ meaning p) × (pair t.pair_parameters ≡ pair q)
+    pub made-hashes : (t : Tree L T) → with_hashes hashes_at o ≡ Ok (view_of t) → (meaning t.leaf_parameters
+        ≡ meaning p) × (pair t.pair_parameters ≡ pair q)
     made-hashes t is =
         let same = (with_hashes-ok hashes_at o (view_of t) is).1 in
         (ap (λ (h : Hashes X). h.leaf) (sym same), ap (λ (h : Hashes X). h.pair) (sym same))
 
 -- the tree afterwards hashes as the one before, where the one that was made does
-pub hashes_settled : {L T X A E : Type 0} (meaning : L → X → Outcome Digest) (pair : T → HashPair) (p : L) (q : T) (items : A → List ℕ) (before after : Option (Tree L T)) (made : Outcome (Tree L T)) (result : Result A E)
-    → HasHashes meaning pair p q before → ((t : Tree L T) → made ≡ Ok t → (meaning t.leaf_parameters ≡ meaning p) × (pair t.pair_parameters ≡ pair q))
-    → IfOk result (λ reply. Settles before made after (items reply)) → OnErr result (after ≡ before) → HasHashes meaning pair p q after
+pub hashes_settled : {L T X A E : Type 0} (meaning : L → X → Outcome Digest) (pair : T → HashPair) (p : L) (q : T)
+    (items : A → List ℕ) (before after : Option (Tree L T)) (made : Outcome (Tree L T)) (result : Result A E)
+    → HasHashes meaning pair p q before → ((t : Tree L T) → made ≡ Ok t → (meaning t.leaf_parameters ≡ meaning p)
+    × (pair t.pair_parameters ≡ pair q))
+    → IfOk result (λ reply. Settles before made after (items reply)) → OnErr result (after ≡ before) → HasHashes meaning
+    pair p q after
 hashes_settled meaning pair p q items before after (Ok t) (Ok reply) has new settled kept = rw settled.0 (new t refl)
 hashes_settled meaning pair p q items before after (Err e) (Ok reply) has new settled kept = rw settled.0 has
 hashes_settled meaning pair p q items before after made (Err e) has new settled kept = rw kept has

@@ -22,21 +22,26 @@ module _ {A : Type 0} where
   behind-start front None none = refl
   behind-start front (Some more) none = rw none refl
 
-  behind-onto : (front : List A) (x : A) (rest : Option (List A)) → behind front (onto_all (Some x) rest) ≡ behind (front ++ x ∷ []) rest
+  behind-onto : (front : List A) (x : A) (rest : Option (List A)) → behind front (onto_all (Some x) rest)
+      ≡ behind (front ++ x ∷ []) rest
   behind-onto front x None = refl
   behind-onto front x (Some more) = ap (λ (xs : List A). Some xs) (sym (append_assoc front (x ∷ []) more))
 
-  pub behind-more : (whole : Option (List A)) (front : List A) (said : Option A) (rest : Option (List A)) (x : A) → whole ≡ behind front (onto_all said rest) → said ≡ Some x → whole ≡ behind (front ++ x ∷ []) rest
+  pub behind-more : (whole : Option (List A)) (front : List A) (said : Option A) (rest : Option (List A)) (x : A)
+      → whole ≡ behind front (onto_all said rest) → said ≡ Some x → whole ≡ behind (front ++ x ∷ []) rest
   behind-more whole front said rest x so is = so ∙ rw is (behind-onto front x rest)
 
-  pub behind-nothing : (whole : Option (List A)) (front : List A) (said : Option A) (rest : Option (List A)) → whole ≡ behind front (onto_all said rest) → said ≡ None → whole ≡ None
+  pub behind-nothing : (whole : Option (List A)) (front : List A) (said : Option A) (rest : Option (List A)) → whole
+      ≡ behind front (onto_all said rest) → said ≡ None → whole ≡ None
   behind-nothing whole front said rest so is = so ∙ rw is refl
 
   pub behind-all : (whole : Option (List A)) (front : List A) → whole ≡ behind front (Some []) → whole ≡ Some front
   behind-all whole front so = so ∙ ap (λ (xs : List A). Some xs) (append-nil front)
 
 -- what is left of a line has a token
-pub all_left : {A : Type 0} (said told : List (List ℕ) → A) → ((token : List ℕ) (tokens : List (List ℕ)) → said (token ∷ tokens) ≡ told (token ∷ tokens)) → (left : Option (Bor (List ℕ))) → is_some left ≡ true → said (tokens_left (option_copied left)) ≡ told (tokens_left (option_copied left))
+pub all_left : {A : Type 0} (said told : List (List ℕ) → A) → ((token : List ℕ) (tokens : List (List ℕ))
+    → said (token ∷ tokens) ≡ told (token ∷ tokens)) → (left : Option (Bor (List ℕ))) → is_some left ≡ true
+    → said (tokens_left (option_copied left)) ≡ told (tokens_left (option_copied left))
 all_left said told same None some = absurd cc
 all_left said told same (Some line) some = by_tokens (tokens_of line.now) (tokens_of-some line.now)
   where
@@ -45,13 +50,15 @@ all_left said told same (Some line) some = by_tokens (tokens_of line.now) (token
     by_tokens (token ∷ tokens) none = same token tokens
 
 -- what is seen of what is seen
-pub option_map-seen : {A B C : Type 0} (seen : A → B) (more : B → C) (x : Option A) → option_map (λ a. more (seen a)) x ≡ option_map more (option_map seen x)
+pub option_map-seen : {A B C : Type 0} (seen : A → B) (more : B → C) (x : Option A) → option_map (λ a. more (seen a)) x
+    ≡ option_map more (option_map seen x)
 option_map-seen seen more None = refl
 option_map-seen seen more (Some a) = refl
 
 -- what is made of a value that is there, or not
 module _ {X Y Z : Type 0} (view : X → Y) (make : Y → Z) (o : Option X) where
-  pub made-some : (x : X) (seen : Option Y) → o ≡ Some x → option_map view o ≡ seen → Some (make (view x)) ≡ option_map make seen
+  pub made-some : (x : X) (seen : Option Y) → o ≡ Some x → option_map view o ≡ seen → Some (make (view x))
+      ≡ option_map make seen
   made-some x seen is same = ap (option_map make) (sym (ap (option_map view) is) ∙ same)
 
   pub made-none : (seen : Option Y) → o ≡ None → option_map view o ≡ seen → None ≡ option_map make seen

@@ -62,13 +62,16 @@ more_within m d s first others = record { over = omega (arith, ints); under = om
 wider : (m n : ℕ) (z : ℤ) → m ≤ n → IsWithin m z → IsWithin n z
 wider m n z le within = record { over = omega (arith, ints); under = omega (arith, ints) }
 
-pub scalar-within : (chunks : List Chunk) (n : ℕ) → length chunks ≤ n → IsWithin (greatest_scalar n) (segment_scalar chunks)
+pub scalar-within : (chunks : List Chunk) (n : ℕ) → length chunks ≤ n → IsWithin (greatest_scalar n)
+    (segment_scalar chunks)
 unfolding segment_scalar
 scalar-within [] n few = record { over = omega (arith, ints); under = omega (arith, ints) }
 scalar-within (c ∷ chunks) zero few = absurd (omega arith)
 scalar-within (c ∷ chunks) (suc n) few =
-    let whole = more_within (greatest_scalar n) (digit c) (segment_scalar chunks) (digit-within c) (scalar-within chunks n (omega arith)) in
-    wider (16 * greatest_scalar n + 4) (greatest_scalar (suc n)) (digit c +ℤ pos 16 *ℤ segment_scalar chunks) (omega (arith, greatest_scalar-suc n)) whole
+    let whole = more_within (greatest_scalar n) (digit c) (segment_scalar chunks) (digit-within c)
+    (scalar-within chunks n (omega arith)) in
+    wider (16 * greatest_scalar n + 4) (greatest_scalar (suc n)) (digit c +ℤ pos 16 *ℤ segment_scalar chunks)
+    (omega (arith, greatest_scalar-suc n)) whole
 
 -- a digit and what stands behind it are told by their sum
 split : (d e s t : ℤ) → IsWithin 4 d → IsWithin 4 e → d +ℤ pos 16 *ℤ s ≡ e +ℤ pos 16 *ℤ t → (d ≡ e) × (s ≡ t)
@@ -80,7 +83,8 @@ alone [] [] long same = refl
 alone [] (y ∷ b) long same = absurd (omega arith)
 alone (x ∷ a) [] long same = absurd (omega arith)
 alone (x ∷ a) (y ∷ b) long same =
-    let parts = split (digit x) (digit y) (segment_scalar a) (segment_scalar b) (digit-within x) (digit-within y) same in
+    let parts = split (digit x) (digit y) (segment_scalar a) (segment_scalar b) (digit-within x)
+    (digit-within y) same in
     let first : x ≡ y = sym (chunk_of-digit x) ∙ ap chunk_of parts.0 ∙ chunk_of-digit y in
     ap (λ (c : Chunk). c ∷ a) first ∙ ap (λ (t : List Chunk). y ∷ t) (alone a b (omega arith) parts.1)
 
@@ -94,7 +98,8 @@ number_of-below m order (pos n) half within = mod-eq_of_lt (omega (arith, ints))
 number_of-below m order (negsuc n) half within = mod-eq_of_lt (omega (arith, ints))
 
 -- whole numbers that lie within half of the order are told by their remainders
-remainders : (m order : ℕ) (a b : ℤ) → 2 * m < order → IsWithin m a → IsWithin m b → number_of a % order ≡ number_of a → number_of b % order ≡ number_of b
+remainders : (m order : ℕ) (a b : ℤ) → 2 * m < order → IsWithin m a → IsWithin m b → number_of a % order ≡ number_of a
+    → number_of b % order ≡ number_of b
     → int_rem_euclid a (pos order) ≡ int_rem_euclid b (pos order) → a ≡ b
 remainders m order (pos a) (pos b) half first second left right same = omega (arith, ints)
 remainders m order (pos a) (negsuc b) half first second left right same = omega (arith, ints)
@@ -109,4 +114,5 @@ fitting_tells order size fitting some a b long few same =
     let first = scalar-within a size few in
     let second = scalar-within b size (omega arith) in
     alone a b long
-    (remainders most order (segment_scalar a) (segment_scalar b) half first second (number_of-below most order _ half first) (number_of-below most order _ half second) same)
+    (remainders most order (segment_scalar a) (segment_scalar b) half first second (number_of-below most order _ half
+    first) (number_of-below most order _ half second) same)

@@ -23,12 +23,14 @@ module _ {G : Type 0} {g : Group G} (laws : IsCommutativeGroup g) where
 
   times-opposite : (n : ℕ) (x : G) → times g n (g.opposite x) ≡ g.opposite (times g n x)
   times-opposite n x =
-      opposite-alone _ _ (sym (times-plus laws n (g.opposite x) x) ∙ ap (times g n) (laws.left_opposite x) ∙ times-identity laws n)
+      opposite-alone _ _ (sym (times-plus laws n (g.opposite x) x) ∙ ap (times g n) (laws.left_opposite x)
+      ∙ times-identity laws n)
 
   -- ---- a digit
 
   -- the element, or its opposite, once and then as often as two bits say
-  pub digit-times : (a b c : Bool) (x : G) → signed_times g (digit (a, b, c)) x ≡ times g (suc (cond a 1 0 + cond b 2 0)) (cond c (g.opposite x) x)
+  pub digit-times : (a b c : Bool) (x : G) → signed_times g (digit (a, b, c)) x
+      ≡ times g (suc (cond a 1 0 + cond b 2 0)) (cond c (g.opposite x) x)
   digit-times true true true x = sym (times-opposite 4 x)
   digit-times true true false x = refl
   digit-times true false true x = sym (times-opposite 2 x)
@@ -45,10 +47,13 @@ module _ {G : Type 0} {g : Group G} (laws : IsCommutativeGroup g) where
   twice x = ap (λ y. g.plus y x) (once x)
 
   -- one or two of an element are added, then none or two of it
-  pub digit-added : (a b : Bool) (sum x : G) → g.plus sum (times g (suc (cond a 1 0 + cond b 2 0)) x) ≡ cond b (g.plus (g.plus sum (cond a (g.plus x x) x)) (g.plus x x)) (g.plus sum (cond a (g.plus x x) x))
-  digit-added true true sum x = ap (g.plus sum) (times-add laws 2 2 x ∙ ap (g.plus (times g 2 x)) (twice x) ∙ ap (λ y. g.plus y (g.plus x x)) (twice x)) ∙ sym (laws.assoc _ _ _)
+  pub digit-added : (a b : Bool) (sum x : G) → g.plus sum (times g (suc (cond a 1 0 + cond b 2 0)) x)
+      ≡ cond b (g.plus (g.plus sum (cond a (g.plus x x) x)) (g.plus x x)) (g.plus sum (cond a (g.plus x x) x))
+  digit-added true true sum x = ap (g.plus sum) (times-add laws 2 2 x ∙ ap (g.plus (times g 2 x)) (twice x)
+      ∙ ap (λ y. g.plus y (g.plus x x)) (twice x)) ∙ sym (laws.assoc _ _ _)
   digit-added true false sum x = ap (g.plus sum) (twice x)
-  digit-added false true sum x = ap (g.plus sum) (times-add laws 1 2 x ∙ ap (g.plus (times g 1 x)) (twice x) ∙ ap (λ y. g.plus y (g.plus x x)) (once x)) ∙ sym (laws.assoc _ _ _)
+  digit-added false true sum x = ap (g.plus sum) (times-add laws 1 2 x ∙ ap (g.plus (times g 1 x)) (twice x)
+      ∙ ap (λ y. g.plus y (g.plus x x)) (once x)) ∙ sym (laws.assoc _ _ _)
   digit-added false false sum x = ap (g.plus sum) (once x)
 
   -- doubled four times
@@ -74,12 +79,15 @@ module _ {G : Type 0} {g : Group G} (laws : IsCommutativeGroup g) where
   signed_times-less : (z : ℤ) (m n : ℕ) (x : G) → z +ℤ pos n ≡ pos m → signed_times g z x ≡ less m n x
   signed_times-less (pos k) m n x e =
       let sum : m ≡ k + n = omega (arith, ints) in
-      sym (ap (λ y. g.plus y (times g n (g.opposite x))) (times_at laws {m = m} {n = k + n} x sum ∙ times-add laws k n x)
+      sym (ap (λ y. g.plus y (times g n (g.opposite x))) (times_at laws {m = m} {n = k + n} x sum
+      ∙ times-add laws k n x)
       ∙ laws.assoc _ _ _ ∙ ap (g.plus (times g k x)) (none-left n x) ∙ right_identity laws _)
   signed_times-less (negsuc k) m n x e =
       let sum : n ≡ m + suc k = omega (arith, ints) in
-      sym (ap (g.plus (times g m x)) (times_at laws {m = n} {n = m + suc k} (g.opposite x) sum ∙ times-add laws m (suc k) (g.opposite x))
-      ∙ sym (laws.assoc _ _ _) ∙ ap (λ y. g.plus y (times g (suc k) (g.opposite x))) (none-left m x) ∙ laws.left_identity _ ∙ times-opposite (suc k) x)
+      sym (ap (g.plus (times g m x)) (times_at laws {m = n} {n = m + suc k} (g.opposite x) sum ∙ times-add laws m
+      (suc k) (g.opposite x))
+      ∙ sym (laws.assoc _ _ _) ∙ ap (λ y. g.plus y (times g (suc k) (g.opposite x))) (none-left m x)
+      ∙ laws.left_identity _ ∙ times-opposite (suc k) x)
 
   parts : (z : ℤ) → z +ℤ pos (down z) ≡ pos (up z)
   parts (pos n) = omega (arith, ints)
@@ -88,7 +96,8 @@ module _ {G : Type 0} {g : Group G} (laws : IsCommutativeGroup g) where
   signed_times-parts : (z : ℤ) (x : G) → signed_times g z x ≡ less (up z) (down z) x
   signed_times-parts z x = signed_times-less z (up z) (down z) x (parts z)
 
-  pub signed_times-add : (a b : ℤ) (x : G) → signed_times g (a +ℤ b) x ≡ g.plus (signed_times g a x) (signed_times g b x)
+  pub signed_times-add : (a b : ℤ) (x : G) → signed_times g (a +ℤ b) x ≡ g.plus (signed_times g a x)
+      (signed_times g b x)
   signed_times-add a b x =
       let first = parts a in
       let second = parts b in

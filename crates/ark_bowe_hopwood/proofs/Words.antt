@@ -19,7 +19,8 @@ take-bits_of_number : (j k n : ℕ) → j ≤ k → take j (bits_of_number k n) 
 unfolding bits_of_number
 take-bits_of_number zero k n fits = refl
 take-bits_of_number (suc j) zero n fits = absurd (omega arith)
-take-bits_of_number (suc j) (suc k) n fits = ap (λ (t : List Bool). eqb (n % 2) 1 ∷ t) (take-bits_of_number j k (n / 2) (omega arith))
+take-bits_of_number (suc j) (suc k) n fits =
+    ap (λ (t : List Bool). eqb (n % 2) 1 ∷ t) (take-bits_of_number j k (n / 2) (omega arith))
 
 -- the lowest digits are those of the lower number
 low_digits : (j k low high : ℕ) → j ≤ k → low < 2 ^ k → bits_of_number j (low + 2 ^ k * high) ≡ bits_of_number j low
@@ -27,40 +28,50 @@ unfolding bits_of_number
 low_digits j k low high within fits =
     let more : k ≡ k + 0 = omega arith in
     sym (take-bits_of_number j k (low + 2 ^ k * high) within)
-    ∙ ap (take j) (ap (λ (i : ℕ). bits_of_number i (low + 2 ^ k * high)) more ∙ bits_of_number-add k 0 low high fits ∙ append-nil (bits_of_number k low))
+    ∙ ap (take j) (ap (λ (i : ℕ). bits_of_number i (low + 2 ^ k * high)) more ∙ bits_of_number-add k 0 low high fits
+    ∙ append-nil (bits_of_number k low))
     ∙ take-bits_of_number j k low within
 
 module _ {G : Type 0} {g : Group G} (laws : IsCommutativeGroup g) where
   -- the chunks of the lower number are at the elements in front, those of the higher one at the others
   digits_sum-two : (xs : List G) (k m low high : ℕ) → low < 2 ^ (3 * k)
-      → digits_sum g xs (chunks_of (bits_of_number (3 * (k + m)) (low + 2 ^ (3 * k) * high))) ≡ g.plus (digits_sum g xs (chunks_of (bits_of_number (3 * k) low))) (digits_sum g (drop k xs) (chunks_of (bits_of_number (3 * m) high)))
+      → digits_sum g xs (chunks_of (bits_of_number (3 * (k + m)) (low + 2 ^ (3 * k) * high)))
+      ≡ g.plus (digits_sum g xs (chunks_of (bits_of_number (3 * k) low))) (digits_sum g (drop k xs)
+      (chunks_of (bits_of_number (3 * m) high)))
   digits_sum-two xs k m low high fits =
       let both : 3 * (k + m) ≡ 3 * k + 3 * m = omega arith in
       let front : List Chunk = chunks_of (bits_of_number (3 * k) low) in
       let behind : List Chunk = chunks_of (bits_of_number (3 * m) high) in
-      ap (digits_sum g xs) (ap chunks_of (ap (λ (i : ℕ). bits_of_number i (low + 2 ^ (3 * k) * high)) both ∙ bits_of_number-add (3 * k) (3 * m) low high fits)
+      ap (digits_sum g xs) (ap chunks_of (ap (λ (i : ℕ). bits_of_number i (low + 2 ^ (3 * k) * high)) both
+      ∙ bits_of_number-add (3 * k) (3 * m) low high fits)
       ∙ chunks_of-append k low (bits_of_number (3 * m) high))
       ∙ digits_sum-behind laws xs front behind
       ∙ ap (λ (i : ℕ). g.plus (digits_sum g xs front) (digits_sum g (drop i xs) behind)) (length-chunks_of k low)
 
   -- of a text, at most this many chunks of the first bytes, and the others
   pub digits_sum-part : (xs : List G) (k m low high : ℕ) → low < 2 ^ (3 * k)
-      → digits_sum g xs (chunks_of (bits_of_number (3 * m) (low + 2 ^ (3 * k) * high))) ≡ g.plus (digits_sum g xs (chunks_of (bits_of_number (3 * min m k) low))) (digits_sum g (drop k xs) (chunks_of (bits_of_number (3 * (m - k)) high)))
+      → digits_sum g xs (chunks_of (bits_of_number (3 * m) (low + 2 ^ (3 * k) * high)))
+      ≡ g.plus (digits_sum g xs (chunks_of (bits_of_number (3 * min m k) low))) (digits_sum g (drop k xs)
+      (chunks_of (bits_of_number (3 * (m - k)) high)))
   digits_sum-part xs k m low high fits =
       elim (cases_lt m k) [
         | inl few ↦
             let all : min m k ≡ m = omega arith in
             let none : 3 * (m - k) ≡ 0 = omega arith in
-            ap (λ (bits : List Bool). digits_sum g xs (chunks_of bits)) (low_digits (3 * m) (3 * k) low high (omega arith) fits)
+            ap (λ (bits : List Bool). digits_sum g xs (chunks_of bits)) (low_digits (3 * m) (3 * k) low high
+            (omega arith) fits)
             ∙ sym (right_identity laws _)
-            ∙ ap (g.plus (digits_sum g xs (chunks_of (bits_of_number (3 * m) low)))) (sym (digits_sum-nothing laws (drop k xs) (3 * (m - k)) high none))
-            ∙ ap (λ (i : ℕ). g.plus (digits_sum g xs (chunks_of (bits_of_number (3 * i) low))) (digits_sum g (drop k xs) (chunks_of (bits_of_number (3 * (m - k)) high)))) (sym all)
+            ∙ ap (g.plus (digits_sum g xs (chunks_of (bits_of_number (3 * m) low))))
+            (sym (digits_sum-nothing laws (drop k xs) (3 * (m - k)) high none))
+            ∙ ap (λ (i : ℕ). g.plus (digits_sum g xs (chunks_of (bits_of_number (3 * i) low))) (digits_sum g (drop k xs)
+            (chunks_of (bits_of_number (3 * (m - k)) high)))) (sym all)
         | inr many ↦
             let all : min m k ≡ k = omega arith in
             let more : m ≡ k + (m - k) = omega arith in
             ap (λ (i : ℕ). digits_sum g xs (chunks_of (bits_of_number (3 * i) (low + 2 ^ (3 * k) * high)))) more
             ∙ digits_sum-two xs k (m - k) low high fits
-            ∙ ap (λ (i : ℕ). g.plus (digits_sum g xs (chunks_of (bits_of_number (3 * i) low))) (digits_sum g (drop k xs) (chunks_of (bits_of_number (3 * (m - k)) high)))) (sym all)
+            ∙ ap (λ (i : ℕ). g.plus (digits_sum g xs (chunks_of (bits_of_number (3 * i) low))) (digits_sum g (drop k xs)
+            (chunks_of (bits_of_number (3 * (m - k)) high)))) (sym all)
       ]
 
 -- ---- texts
@@ -88,7 +99,8 @@ IsBytes-front x t small fits = λ i. by_index i
 
 pub IsBytes-append : (a b : List ℕ) → IsBytes a → IsBytes b → IsBytes (a ++ b)
 IsBytes-append [] b first second = second
-IsBytes-append (x ∷ a) b first second = IsBytes-front x (a ++ b) (first 0) (IsBytes-append a b (λ i. first (suc i)) second)
+IsBytes-append (x ∷ a) b first second = IsBytes-front x (a ++ b) (first 0)
+    (IsBytes-append a b (λ i. first (suc i)) second)
 
 IsBytes-zeros : (n : ℕ) → IsBytes (replicate n 0)
 IsBytes-zeros zero = λ i. omega arith
@@ -104,7 +116,8 @@ number_of_padded [] n = number_of_zeros n
 number_of_padded (x ∷ t) n = ap (λ (m : ℕ). x + 256 * m) (number_of_padded t n)
 
 -- the chunks of a text with zeros behind it
-pub chunks_of-text : (t : List ℕ) (n : ℕ) → IsBytes t → chunks_of (bits_of_bytes (t ++ replicate n 0)) ≡ chunks_of (bits_of_number (3 * div_ceil (8 * length (t ++ replicate n 0)) 3) (number_of_bytes t))
+pub chunks_of-text : (t : List ℕ) (n : ℕ) → IsBytes t → chunks_of (bits_of_bytes (t ++ replicate n 0))
+    ≡ chunks_of (bits_of_number (3 * div_ceil (8 * length (t ++ replicate n 0)) 3) (number_of_bytes t))
 chunks_of-text t n fits =
     let whole : List ℕ = t ++ replicate n 0 in
     let bytes = IsBytes-append t (replicate n 0) fits (IsBytes-zeros n) in

@@ -19,7 +19,8 @@ use Rattle.ark_merkle.specs.Binding.{binding_of, path_binding, binding_in, gives
 
 -- ---- the parts of an answer that is no refusal
 
-pub record Answered (h : HashPair) (leaves : List Digest) (leaf : Outcome Digest) (way : Way) (b : Binding) : Type 0 where
+pub record Answered (h : HashPair) (leaves : List Digest) (leaf : Outcome Digest) (way : Way) (b : Binding) :
+    Type 0 where
   pub long : length way.above ≡ upper_levels leaves
   pub digest : Digest
   pub leaf_is : leaf ≡ Ok digest
@@ -34,7 +35,9 @@ module _ (h : HashPair) (leaves : List Digest) (leaf : Outcome Digest) (way : Wa
   answered e = by_length (length way.above == upper_levels leaves) refl e
     where
       by_length : (t : Bool) → (length way.above == upper_levels leaves) ≡ t
-          → (if t then (leaf >>= λ digest. root h leaves >>= λ r. path_root h way digest >>= λ given. Ok (if digest_eq given r then binding_of (difference h leaves way digest) else Rejected)) else Err (IncorrectInputLength (length way.above))) ≡ Ok b → Answered h leaves leaf way b
+          → (if t then (leaf >>= λ digest. root h leaves >>= λ r. path_root h way digest >>= λ given.
+          Ok (if digest_eq given r then binding_of (difference h leaves way digest) else Rejected)) else Err
+          (IncorrectInputLength (length way.above))) ≡ Ok b → Answered h leaves leaf way b
       by_length true is e =
           let hashed = bind_ok leaf _ b e in
           let rooted = bind_ok (root h leaves) _ b hashed.2 in
@@ -57,37 +60,49 @@ gives_root-by true (Some level) b e = rw (e) refl
 gives_root-by false o b e = rw (e) refl
 
 -- it is not rejected exactly where the path gives the root
-pub bound-accepted : (h : HashPair) (leaves : List Digest) (leaf : Outcome Digest) (way : Way) (b : Binding) → path_binding h leaves leaf way ≡ Ok b → (r : Digest) → root h leaves ≡ Ok r → verdict h leaf way r ≡ Ok (gives_root b)
+pub bound-accepted : (h : HashPair) (leaves : List Digest) (leaf : Outcome Digest) (way : Way) (b : Binding)
+    → path_binding h leaves leaf way ≡ Ok b → (r : Digest) → root h leaves ≡ Ok r → verdict h leaf way r
+    ≡ Ok (gives_root b)
 bound-accepted h leaves leaf way b e r rooted =
     let a = answered h leaves leaf way b e in
     let same : r ≡ a.top_digest = done_injective _ _ (sym rooted ∙ a.root_is) in
-    rw (a.leaf_is, a.top_is, same) (ap Ok (gives_root-by (digest_eq a.given a.top_digest) (difference h leaves way a.digest) b a.answer))
+    rw (a.leaf_is, a.top_is, same) (ap Ok (gives_root-by (digest_eq a.given a.top_digest) (difference h leaves way
+    a.digest) b a.answer))
 
 stands-by : (t : Bool) (o : Option ℕ) → Stands ≡ (if t then binding_of o else Rejected) → (t ≡ true) × (o ≡ None)
 stands-by true None e = (refl, refl)
 stands-by true (Some level) e = absurd cc
 stands-by false o e = absurd cc
 
-differs-by : (t : Bool) (o : Option ℕ) (level : ℕ) → Differs level ≡ (if t then binding_of o else Rejected) → (t ≡ true) × (o ≡ Some level)
+differs-by : (t : Bool) (o : Option ℕ) (level : ℕ) → Differs level ≡ (if t then binding_of o else Rejected) → (t ≡ true)
+    × (o ≡ Some level)
 differs-by true None level e = absurd cc
 differs-by true (Some l) level e = let same : level ≡ l = cc in (refl, ap Some (sym same))
 differs-by false o level e = absurd cc
 
-module _ (h : HashPair) (leaves : List Digest) (rows : List (List Digest)) (tree : IsTree h leaves rows) (leaf : Outcome Digest) (way : Way) where
-  whole : (b : Binding) (a : Answered h leaves leaf way b) → digest_eq a.given a.top_digest ≡ true → path_root h way a.digest ≡ root h leaves
+module _ (h : HashPair) (leaves : List Digest) (rows : List (List Digest)) (tree : IsTree h leaves rows)
+    (leaf : Outcome Digest) (way : Way) where
+  whole : (b : Binding) (a : Answered h leaves leaf way b) → digest_eq a.given a.top_digest ≡ true → path_root h way
+      a.digest ≡ root h leaves
   whole b a same = a.top_is ∙ ap Ok (digest_eq-true a.given a.top_digest same) ∙ sym a.root_is
 
-  pub bound-stands : path_binding h leaves leaf way ≡ Ok Stands → leaf ≡ Ok (get_or leaves (way.index % length leaves) [])
+  pub bound-stands : path_binding h leaves leaf way ≡ Ok Stands → leaf
+      ≡ Ok (get_or leaves (way.index % length leaves) [])
   bound-stands e =
       let a = answered h leaves leaf way Stands e in
       let known = stands-by (digest_eq a.given a.top_digest) (difference h leaves way a.digest) a.answer in
       a.leaf_is ∙ ap Ok (agreed-leaf h leaves rows tree way a.digest a.long known.1)
 
-  pub bound-differs : (level : ℕ) → path_binding h leaves leaf way ≡ Ok (Differs level) → (digest : Digest) × (leaf ≡ Ok digest) × Collides h leaves way digest level
+  pub bound-differs : (level : ℕ) → path_binding h leaves leaf way ≡ Ok (Differs level) → (digest : Digest)
+      × (leaf ≡ Ok digest) × Collides h leaves way digest level
   bound-differs level e =
       let a = answered h leaves leaf way (Differs level) e in
-      let known = differs-by (digest_eq a.given a.top_digest) (difference h leaves way a.digest) level a.answer in
-      (a.digest, a.leaf_is, differing-collides h leaves rows tree way a.digest a.long level known.1 (whole (Differs level) a known.0))
+      let known = differs-by (digest_eq a.given a.top_digest) (difference h leaves way a.digest) level a.answer in (
+        a.digest,
+        a.leaf_is,
+        differing-collides h leaves rows tree way a.digest a.long level known.1
+            (whole (Differs level) a known.0),
+      )
 
 -- what each answer has, where it is no refusal
 pub answered-each : {B : Type 0} (o : Outcome B) (Q : B → Type 0) (result : Outcome B) → Answers o result
@@ -112,7 +127,8 @@ module _ {A : Type 0} (tree : HashedTree A) (leaf : A) (way : Way) where
 
     module _ (digest : Digest) (hashed : tree.hashes.leaf leaf ≡ Ok digest) (r : Digest) (rooted : root_in tree ≡ Ok r)
       where
-        pub bound-refused : (e : Error) → path_root tree.hashes.pair way digest ≡ Err e → binding_in tree leaf way ≡ Err e
+        pub bound-refused : (e : Error) → path_root tree.hashes.pair way digest ≡ Err e → binding_in tree leaf
+            way ≡ Err e
         bound-refused e refused = rw (long_enough, hashed, rooted, refused) refl
 
         pub bound-ok : (given : Digest) → path_root tree.hashes.pair way digest ≡ Ok given → (is_root : Bool)

@@ -23,73 +23,96 @@ pub places-seen : {A B : Type 0} (view : A → B) (cs : List (ℕ × A)) → pla
 places-seen view [] = refl
 places-seen view (c ∷ cs) = ap (λ (ns : List ℕ). c.0 ∷ ns) (places-seen view cs)
 
-placed-first : {A : Type 0} (n end : ℕ) (cs : List (ℕ × A)) → AreChanges (suc n) end cs → with_number n (places cs) ≡ n ∷ places cs
+placed-first : {A : Type 0} (n end : ℕ) (cs : List (ℕ × A)) → AreChanges (suc n) end cs → with_number n (places cs) ≡ n
+    ∷ places cs
 placed-first n end [] so = refl
 placed-first n end (c ∷ cs) so = placed-below n c.0 (places cs) (so.0)
 
-length-changes : {A : Type 0} (first end : ℕ) (cs : List (ℕ × A)) → AreChanges first end cs → first ≤ end → length cs + first ≤ end
+length-changes : {A : Type 0} (first end : ℕ) (cs : List (ℕ × A)) → AreChanges first end cs → first ≤ end
+    → length cs + first ≤ end
 length-changes first end [] so le = omega arith
-length-changes first end (c ∷ cs) so le = let more = length-changes (suc c.0) end cs so.2 (so.1) in omega (arith, so.0, more)
+length-changes first end (c ∷ cs) so le = let more = length-changes (suc c.0) end cs so.2 (so.1) in
+    omega (arith, so.0, more)
 
 module _ (row : List Digest) where
   -- the places of the couples are the halves of those of the changes
-  pub halves-reached : (first end : ℕ) (cs : List (ℕ × Digest)) → AreChanges first (2 * end) cs → rising_set (map (λ place. place / 2) (places cs)) ≡ places (couples_reached row cs)
+  pub halves-reached : (first end : ℕ) (cs : List (ℕ × Digest)) → AreChanges first (2 * end) cs
+      → rising_set (map (λ place. place / 2) (places cs)) ≡ places (couples_reached row cs)
   halves-reached first end [] so = refl
   halves-reached first end (c ∷ []) so = refl
-  halves-reached first end (c ∷ d ∷ others) so = by (cases_eq (c.0 / 2) (d.0 / 2)) (halves-reached (suc d.0) end others so.2.2) (halves-reached (suc c.0) end (d ∷ others) so.2)
+  halves-reached first end (c ∷ d ∷ others) so = by (cases_eq (c.0 / 2) (d.0 / 2)) (halves-reached (suc d.0) end others
+      so.2.2) (halves-reached (suc c.0) end (d ∷ others) so.2)
     where
-      by : (c.0 / 2 ≡ d.0 / 2) ⊎ (c.0 / 2 ≢ d.0 / 2) → rising_set (map (λ place. place / 2) (places others)) ≡ places (couples_reached row others)
+      by : (c.0 / 2 ≡ d.0 / 2) ⊎ (c.0 / 2 ≢ d.0 / 2) → rising_set (map (λ place. place / 2) (places others))
+          ≡ places (couples_reached row others)
           → rising_set (map (λ place. place / 2) (places (d ∷ others))) ≡ places (couples_reached row (d ∷ others))
-          → with_number (c.0 / 2) (rising_set (map (λ place. place / 2) (places (d ∷ others)))) ≡ places (couples_reached row (c ∷ d ∷ others))
+          → with_number (c.0 / 2) (rising_set (map (λ place. place / 2) (places (d ∷ others))))
+          ≡ places (couples_reached row (c ∷ d ∷ others))
       by (inl same) far near =
           let rise = couples-rise row (suc d.0) end others so.2.2 in
           let odd : suc d.0 / 2 ≡ suc (d.0 / 2) = omega (arith, so.2.0) in
           let first_is = placed-first (d.0 / 2) end (couples_reached row others) (rw odd at rise) in
           let rest = places (couples_reached row others) in
-          ap (with_number (c.0 / 2)) (ap (with_number (d.0 / 2)) far ∙ first_is) ∙ placed-same (c.0 / 2) (d.0 / 2) rest same
+          ap (with_number (c.0 / 2)) (ap (with_number (d.0 / 2)) far ∙ first_is) ∙ placed-same (c.0 / 2)
+          (d.0 / 2) rest same
           ∙ ap (λ (n : ℕ). n ∷ rest) (sym same) ∙ sym (ap places (couples-both row c d others same))
       by (inr other) far near =
           let rise = couples-rise row d.0 end (d ∷ others) (omega arith, so.2.1, so.2.2) in
           let apart : suc (c.0 / 2) ≤ d.0 / 2 = apart_halves c.0 d.0 so.2.0 other in
-          rw (couples-apart row c d others other, near) (placed-first (c.0 / 2) end (couples_reached row (d ∷ others)) (AreChanges-later (suc (c.0 / 2)) (d.0 / 2) end (couples_reached row (d ∷ others)) apart rise))
+          rw (couples-apart row c d others other, near) (placed-first (c.0 / 2) end (couples_reached row (d ∷ others))
+          (AreChanges-later (suc (c.0 / 2)) (d.0 / 2) end (couples_reached row (d ∷ others)) apart rise))
 
 -- ---- how many places are hashed
 
-module _ (hash : Digest → Digest → Outcome Digest) (row : List Digest) (cs : List (ℕ × Digest)) (ups : List (ℕ × Digest)) (made : hashed_changes (of_couple hash) (couples_reached row cs) ≡ Ok ups) where
-  pub halves-hashed : (end : ℕ) → AreChanges 0 (2 * end) cs → rising_set (map (λ place. place / 2) (places cs)) ≡ places ups
-  halves-hashed end so = halves-reached row 0 end cs so ∙ sym (hashed-places (of_couple hash) (couples_reached row cs) ups made)
+module _ (hash : Digest → Digest → Outcome Digest) (row : List Digest) (cs : List (ℕ × Digest))
+    (ups : List (ℕ × Digest)) (made : hashed_changes (of_couple hash) (couples_reached row cs) ≡ Ok ups) where
+  pub halves-hashed : (end : ℕ) → AreChanges 0 (2 * end) cs → rising_set (map (λ place. place / 2) (places cs))
+      ≡ places ups
+  halves-hashed end so = halves-reached row 0 end cs so ∙ sym (hashed-places (of_couple hash)
+      (couples_reached row cs) ups made)
 
   pub hashed-inside : (end : ℕ) → AreChanges 0 (2 * end) cs → AreChanges 0 end ups
-  hashed-inside end so = hashed-rise (of_couple hash) 0 end (couples_reached row cs) ups (couples-rise row 0 end cs so) made
+  hashed-inside end so = hashed-rise (of_couple hash) 0 end (couples_reached row cs) ups (couples-rise row 0 end
+      cs so) made
 
 -- fewer places stand above a row than in it
-pub count_over-fits : (rows : ℕ) (cs : List (ℕ × Digest)) → AreChanges 0 (2 ^ rows) cs → count_over rows (places cs) + 1 ≤ 2 ^ rows
+pub count_over-fits : (rows : ℕ) (cs : List (ℕ × Digest)) → AreChanges 0 (2 ^ rows) cs → count_over rows (places cs)
+    + 1 ≤ 2 ^ rows
 count_over-fits zero cs so = omega arith
 count_over-fits (suc rows) cs so =
     let twice : 2 ^ suc rows ≡ 2 * 2 ^ rows = pow-succ' 2 rows in
     let reached = couples_reached [] cs in
     let ups = seen_changes (λ (couple : Digest × Digest). couple.0) reached in
     let within : AreChanges 0 (2 * 2 ^ rows) cs = rw twice at so in
-    let inside = AreChanges-seen (λ (couple : Digest × Digest). couple.0) 0 (2 ^ rows) reached (couples-rise [] 0 (2 ^ rows) cs within) in
-    let halves : rising_set (map (λ place. place / 2) (places cs)) ≡ places ups = halves-reached [] 0 (2 ^ rows) cs within ∙ sym (places-seen (λ (couple : Digest × Digest). couple.0) reached) in
+    let inside = AreChanges-seen (λ (couple : Digest × Digest). couple.0) 0 (2 ^ rows) reached
+    (couples-rise [] 0 (2 ^ rows) cs within) in
+    let halves : rising_set (map (λ place. place / 2) (places cs)) ≡ places ups = halves-reached [] 0 (2 ^ rows) cs
+    within ∙ sym (places-seen (λ (couple : Digest × Digest). couple.0) reached) in
     let more = count_over-fits rows ups inside in
     let few = length-changes 0 (2 ^ rows) ups inside (omega arith) in
     rw halves (omega (arith, length-map ups (λ c. c.0), few, more, twice))
 
 -- ---- a row that changes, and the rows above it
 
-pub row-kept : (rows now : List (List Digest)) (row : ℕ) → take (row + 1) now ≡ take (row + 1) rows → get_or now row [] ≡ get_or rows row []
-row-kept rows now row same = sym (get_or-take (row + 1) now row [] (omega arith)) ∙ ap (λ (rs : List (List Digest)). get_or rs row []) same ∙ get_or-take (row + 1) rows row [] (omega arith)
+pub row-kept : (rows now : List (List Digest)) (row : ℕ) → take (row + 1) now ≡ take (row + 1) rows → get_or now row []
+    ≡ get_or rows row []
+row-kept rows now row same = sym (get_or-take (row + 1) now row [] (omega arith)) ∙ ap (λ (rs : List (List Digest)).
+    get_or rs row []) same ∙ get_or-take (row + 1) rows row [] (omega arith)
 
-pub below-kept : (rows now : List (List Digest)) (row : ℕ) (new : List Digest) → take (row + 1) now ≡ take (row + 1) rows → take row (set now row new) ≡ take row rows
-below-kept rows now row new same = take-set now row new ∙ sym (take-take row (row + 1) now (omega arith)) ∙ ap (take row) same ∙ take-take row (row + 1) rows (omega arith)
+pub below-kept : (rows now : List (List Digest)) (row : ℕ) (new : List Digest) → take (row + 1) now ≡ take (row + 1)
+    rows → take row (set now row new) ≡ take row rows
+below-kept rows now row new same = take-set now row new ∙ sym (take-take row (row + 1) now (omega arith))
+    ∙ ap (take row) same ∙ take-take row (row + 1) rows (omega arith)
 
-pub last-changed : (hash : Digest → Digest → Outcome Digest) (rows : List (List Digest)) (row : ℕ) (new : List Digest) → length rows ≡ row + 1 → rows_from hash (length rows - 1 - row) new ≡ Ok (drop row (set rows row new))
+pub last-changed : (hash : Digest → Digest → Outcome Digest) (rows : List (List Digest)) (row : ℕ) (new : List Digest)
+    → length rows ≡ row + 1 → rows_from hash (length rows - 1 - row) new ≡ Ok (drop row (set rows row new))
 last-changed hash rows row new last =
     let none : length rows - 1 - row ≡ 0 = omega arith in
     rw (none, drop-set rows row new (omega arith), drop_all (row + 1) rows (omega arith)) refl
 
-module _ (hash : Digest → Digest → Outcome Digest) (rows : List (List Digest)) (row : ℕ) (size : length (get_or rows row []) ≡ 2 ^ (length rows - 1 - row)) (hashed : AreHashed hash rows) (below : row + 1 < length rows) where
+module _ (hash : Digest → Digest → Outcome Digest) (rows : List (List Digest)) (row : ℕ)
+    (size : length (get_or rows row []) ≡ 2 ^ (length rows - 1 - row)) (hashed : AreHashed hash rows)
+    (below : row + 1 < length rows) where
   abbrev above : ℕ
   above = length rows - 1 - (row + 1)
 
@@ -100,7 +123,8 @@ module _ (hash : Digest → Digest → Outcome Digest) (rows : List (List Digest
   twice = size ∙ ap (λ (n : ℕ). 2 ^ n) here ∙ pow-succ' 2 above
 
   next_is : row_above hash (get_or rows row []) ≡ Ok (get_or rows (row + 1) [])
-  next_is = let one : suc row ≡ row + 1 = omega arith in hashed row (omega (arith, below)) ∙ ap (λ (n : ℕ). Ok (get_or rows n [])) one
+  next_is = let one : suc row ≡ row + 1 = omega arith in hashed row (omega (arith, below))
+      ∙ ap (λ (n : ℕ). Ok (get_or rows n [])) one
 
   pub row-even : length (get_or rows row []) % 2 ≡ 0
   row-even = omega (arith, twice)
@@ -118,8 +142,10 @@ module _ (hash : Digest → Digest → Outcome Digest) (rows : List (List Digest
     abbrev new : List Digest
     new = puts (get_or rows row []) cs
 
-    from_here : rows_from hash (length rows - 1 - row) new ≡ ((reached >>= λ ups. Ok (puts (get_or rows (row + 1) []) ups)) >>= λ next. rows_from hash above next >>= λ rest. Ok (new ∷ rest))
-    from_here = ap (λ (n : ℕ). rows_from hash n new) here ∙ ap (λ o. o >>= λ next. rows_from hash above next >>= λ rest. Ok (new ∷ rest)) (row_above-puts hash (get_or rows row []) (get_or rows (row + 1) []) cs row-even rise next_is)
+    from_here : rows_from hash (length rows - 1 - row) new ≡ ((reached >>= λ ups. Ok (puts (get_or rows (row + 1) [])
+        ups)) >>= λ next. rows_from hash above next >>= λ rest. Ok (new ∷ rest))
+    from_here = ap (λ (n : ℕ). rows_from hash n new) here ∙ ap (λ o. o >>= λ next. rows_from hash above next >>= λ rest.
+        Ok (new ∷ rest)) (row_above-puts hash (get_or rows row []) (get_or rows (row + 1) []) cs row-even rise next_is)
 
     pub rows-refused : (e : Error) → reached ≡ Err e → rows_from hash (length rows - 1 - row) new ≡ Err e
     rows-refused e is = from_here ∙ rw is refl
@@ -128,18 +154,22 @@ module _ (hash : Digest → Digest → Outcome Digest) (rows : List (List Digest
       pub changes-above : AreChanges 0 (length (get_or rows (row + 1) [])) ups
       changes-above = rw size-above (hashed-inside hash (get_or rows row []) cs ups made (2 ^ above) within)
 
-      pub rows-refused_above : (e : Error) → rows_from hash above (puts (get_or rows (row + 1) []) ups) ≡ Err e → rows_from hash (length rows - 1 - row) new ≡ Err e
+      pub rows-refused_above : (e : Error) → rows_from hash above (puts (get_or rows (row + 1) []) ups) ≡ Err e
+          → rows_from hash (length rows - 1 - row) new ≡ Err e
       rows-refused_above e is = from_here ∙ rw (made, is) refl
 
-      pub rows-changed : (now : List (List Digest)) → length now ≡ length rows → take (row + 1) now ≡ take (row + 1) rows → rows_from hash above (puts (get_or rows (row + 1) []) ups) ≡ Ok (drop (row + 1) now)
+      pub rows-changed : (now : List (List Digest)) → length now ≡ length rows → take (row + 1) now ≡ take (row + 1)
+          rows → rows_from hash above (puts (get_or rows (row + 1) []) ups) ≡ Ok (drop (row + 1) now)
           → rows_from hash (length rows - 1 - row) new ≡ Ok (drop row (set now row (puts (get_or now row []) cs)))
       rows-changed now long same is =
           let inside : row < length now = omega (arith, long, below) in
           let old = row-kept rows now row same in
           from_here ∙ rw (made, is, old) (ap Ok (sym (drop-set now row new inside)))
 
-      pub count_over-hashed : count_over (length rows - 1 - row) (places cs) ≡ length ups + count_over above (places ups)
+      pub count_over-hashed : count_over (length rows - 1 - row) (places cs) ≡ length ups + count_over above
+          (places ups)
       count_over-hashed =
           ap (λ (n : ℕ). count_over n (places cs)) here
-          ∙ ap (λ (ps : List ℕ). length ps + count_over above ps) (halves-hashed hash (get_or rows row []) cs ups made (2 ^ above) within)
+          ∙ ap (λ (ps : List ℕ). length ps + count_over above ps) (halves-hashed hash (get_or rows row []) cs ups made
+          (2 ^ above) within)
           ∙ ap (λ (n : ℕ). n + count_over above (places ups)) (length-map ups (λ c. c.0))

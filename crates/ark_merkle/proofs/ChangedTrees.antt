@@ -18,11 +18,14 @@ use Rattle.ark_merkle.proofs.Batches.{length-puts}
 use Rattle.ark_merkle.proofs.ChangedRows.{places, halves-hashed, hashed-inside, count_over-fits}
 use Rattle.ark_merkle.proofs.Reached.{of_couple, row_above-puts}
 
-same_hash : (hash : Digest → Digest → Outcome Digest) {x y z w : Digest} {o : Outcome Digest} → x ≡ y → z ≡ w → hash x z ≡ o → hash y w ≡ o
+same_hash : (hash : Digest → Digest → Outcome Digest) {x y z w : Digest} {o : Outcome Digest} → x ≡ y → z ≡ w → hash x z
+    ≡ o → hash y w ≡ o
 same_hash hash first second e = rw (← first, ← second) e
 
 -- a row is what its couples hash to
-row_above-from : (hash : Digest → Digest → Outcome Digest) (row above : List Digest) → length row ≡ 2 * length above → ((q : ℕ) → q < length above → hash (get_or row (2 * q) []) (get_or row (2 * q + 1) []) ≡ Ok (get_or above q [])) → row_above hash row ≡ Ok above
+row_above-from : (hash : Digest → Digest → Outcome Digest) (row above : List Digest) → length row ≡ 2 * length above
+    → ((q : ℕ) → q < length above → hash (get_or row (2 * q) []) (get_or row (2 * q + 1) []) ≡ Ok (get_or above q []))
+    → row_above hash row ≡ Ok above
 row_above-from hash [] [] long each = refl
 row_above-from hash [] (x ∷ above) long each = absurd (omega arith)
 row_above-from hash (a ∷ []) above long each = absurd (omega arith)
@@ -31,11 +34,13 @@ row_above-from hash (a ∷ b ∷ rest) (x ∷ above) long each =
     let others = row_above-from hash rest above (omega arith) (λ q below. shifted q (each (suc q) (omega arith))) in
     rw (each 0 (omega arith), others) refl
   where
-    shifted : (q : ℕ) → hash (get_or (a ∷ b ∷ rest) (2 * suc q) []) (get_or (a ∷ b ∷ rest) (2 * suc q + 1) []) ≡ Ok (get_or above q []) → hash (get_or rest (2 * q) []) (get_or rest (2 * q + 1) []) ≡ Ok (get_or above q [])
+    shifted : (q : ℕ) → hash (get_or (a ∷ b ∷ rest) (2 * suc q) []) (get_or (a ∷ b ∷ rest) (2 * suc q + 1) [])
+        ≡ Ok (get_or above q []) → hash (get_or rest (2 * q) []) (get_or rest (2 * q + 1) []) ≡ Ok (get_or above q [])
     shifted q e =
         let left : 2 * suc q ≡ suc (suc (2 * q)) = omega arith in
         let right : 2 * suc q + 1 ≡ suc (suc (2 * q + 1)) = omega arith in
-        same_hash hash (ap (λ (n : ℕ). get_or (a ∷ b ∷ rest) n []) left) (ap (λ (n : ℕ). get_or (a ∷ b ∷ rest) n []) right) e
+        same_hash hash (ap (λ (n : ℕ). get_or (a ∷ b ∷ rest) n []) left)
+        (ap (λ (n : ℕ). get_or (a ∷ b ∷ rest) n []) right) e
 
 module _ (h : HashPair) (leaves : List Digest) (rows : List (List Digest)) (tree : IsTree h leaves rows) where
   abbrev m : ℕ
@@ -45,7 +50,8 @@ module _ (h : HashPair) (leaves : List Digest) (rows : List (List Digest)) (tree
   double = pow-succ' 2 m
 
   lowest_long : length leaves ≡ 2 * length (get_or rows 0 [])
-  lowest_long = let one : 2 ^ suc 0 ≡ 2 = omega arith in let level = tree.levels 0 (omega (arith, tree.count)) in omega (arith, level, one)
+  lowest_long = let one : 2 ^ suc 0 ≡ 2 = omega arith in let level = tree.levels 0 (omega (arith, tree.count)) in
+      omega (arith, level, one)
 
   lowest_size : length (get_or rows 0 []) ≡ 2 ^ m
   lowest_size = omega (arith, lowest_long, tree.size, double)
@@ -60,7 +66,8 @@ module _ (h : HashPair) (leaves : List Digest) (rows : List (List Digest)) (tree
   lowest_is = row_above-from h.bottom leaves (get_or rows 0 []) lowest_long (bottom-row h leaves rows tree)
 
   pub rows-hashed : AreHashed h.upper rows
-  rows-hashed k below = row_above-from h.upper (get_or rows k []) (get_or rows (suc k) []) (row-twice rows (length leaves) tree.levels k below) (λ q inside. upper-row h leaves rows tree k q below inside)
+  rows-hashed k below = row_above-from h.upper (get_or rows k []) (get_or rows (suc k) [])
+      (row-twice rows (length leaves) tree.levels k below) (λ q inside. upper-row h leaves rows tree k q below inside)
 
   module _ (cs : List (ℕ × Digest)) (rise : AreChanges 0 (length leaves) cs) where
     abbrev new : List Digest
@@ -81,8 +88,11 @@ module _ (h : HashPair) (leaves : List Digest) (rows : List (List Digest)) (tree
     within : AreChanges 0 (2 * 2 ^ m) cs
     within = rw (tree.size ∙ double) at rise
 
-    rows_are : rows_of h (upper_levels new) new ≡ ((reached >>= λ ups. Ok (puts (get_or rows 0 []) ups)) >>= rows_from h.upper (length rows - 1 - 0))
-    rows_are = ap (λ (n : ℕ). rows_of h n new) (same_levels ∙ sym above_m) ∙ ap (λ o. o >>= rows_from h.upper (length rows - 1 - 0)) (row_above-puts h.bottom leaves (get_or rows 0 []) cs leaves-even rise lowest_is)
+    rows_are : rows_of h (upper_levels new) new ≡ ((reached >>= λ ups. Ok (puts (get_or rows 0 []) ups)) >>= rows_from
+        h.upper (length rows - 1 - 0))
+    rows_are = ap (λ (n : ℕ). rows_of h n new) (same_levels ∙ sym above_m)
+        ∙ ap (λ o. o >>= rows_from h.upper (length rows - 1 - 0)) (row_above-puts h.bottom leaves (get_or rows 0 []) cs
+        leaves-even rise lowest_is)
 
     pub leaves-refused : (e : Error) → reached ≡ Err e → leaves_with_root h new ≡ Err e
     leaves-refused e is = rooted-refused h new e new_size (rows_are ∙ rw is refl)
@@ -91,10 +101,12 @@ module _ (h : HashPair) (leaves : List Digest) (rows : List (List Digest)) (tree
       pub lowest-changes : AreChanges 0 (length (get_or rows 0 [])) ups
       lowest-changes = rw lowest_size (hashed-inside h.bottom leaves cs ups made (2 ^ m) within)
 
-      pub leaves-refused_above : (e : Error) → rows_from h.upper (length rows - 1 - 0) (puts (get_or rows 0 []) ups) ≡ Err e → leaves_with_root h new ≡ Err e
+      pub leaves-refused_above : (e : Error) → rows_from h.upper (length rows - 1 - 0) (puts (get_or rows 0 []) ups)
+          ≡ Err e → leaves_with_root h new ≡ Err e
       leaves-refused_above e is = rooted-refused h new e new_size (rows_are ∙ rw (made, is) refl)
 
-      module _ (now : List (List Digest)) (is : rows_from h.upper (length rows - 1 - 0) (puts (get_or rows 0 []) ups) ≡ Ok now) where
+      module _ (now : List (List Digest)) (is : rows_from h.upper (length rows - 1 - 0) (puts (get_or rows 0 []) ups)
+          ≡ Ok now) where
         rows_now : rows_of h (upper_levels new) new ≡ Ok now
         rows_now = rows_are ∙ rw (made, is) refl
 
@@ -104,7 +116,8 @@ module _ (h : HashPair) (leaves : List Digest) (rows : List (List Digest)) (tree
         pub tree-changed : IsTree h new now
         tree-changed = is_tree h new now new_size rows_now
 
-      pub count_over-leaves : count_over (length rows) (places cs) ≡ length ups + count_over (length rows - 1 - 0) (places ups)
+      pub count_over-leaves : count_over (length rows) (places cs) ≡ length ups + count_over (length rows - 1 - 0)
+          (places ups)
       count_over-leaves =
           ap (λ (n : ℕ). count_over n (places cs)) tree.count
           ∙ ap (λ (ps : List ℕ). length ps + count_over m ps) (halves-hashed h.bottom leaves cs ups made (2 ^ m) within)
@@ -113,5 +126,6 @@ module _ (h : HashPair) (leaves : List Digest) (rows : List (List Digest)) (tree
     -- fewer places stand above leaves than there are
     pub count_over-below : count_over (length rows) (places cs) < length leaves
     count_over-below =
-        let whole : AreChanges 0 (2 ^ length rows) cs = rw (tree.size ∙ ap (λ (n : ℕ). 2 ^ n) (sym tree.count)) at rise in
+        let whole : AreChanges 0 (2 ^ length rows) cs =
+        rw (tree.size ∙ ap (λ (n : ℕ). 2 ^ n) (sym tree.count)) at rise in
         omega (arith, count_over-fits (length rows) cs whole, tree.size ∙ ap (λ (n : ℕ). 2 ^ n) (sym tree.count))

@@ -34,11 +34,13 @@ rise-later : {A : Type 0} (first next : ℕ) (cs : List (ℕ × A)) → first �
 rise-later first next [] le so = tt
 rise-later first next (c ∷ cs) le so = (omega (arith, so.0), so.1)
 
-pub rise-unseen : {A B : Type 0} (view : A → B) (first : ℕ) (cs : List (ℕ × A)) → Rise first (seen_changes view cs) → Rise first cs
+pub rise-unseen : {A B : Type 0} (view : A → B) (first : ℕ) (cs : List (ℕ × A)) → Rise first (seen_changes view cs)
+    → Rise first cs
 rise-unseen view first [] so = tt
 rise-unseen view first (c ∷ cs) so = (so.0, rise-unseen view (suc c.0) cs so.1)
 
-rise-placed : {A : Type 0} (first : ℕ) (c : ℕ × A) (cs : List (ℕ × A)) → first ≤ c.0 → Rise first cs → Rise first (with_change c cs)
+rise-placed : {A : Type 0} (first : ℕ) (c : ℕ × A) (cs : List (ℕ × A)) → first ≤ c.0 → Rise first cs
+    → Rise first (with_change c cs)
 rise-placed first c [] le so = (le, tt)
 rise-placed first c (d ∷ cs) le so =
     elim (trichotomy c.0 d.0) [
@@ -57,7 +59,8 @@ places-placed c (d ∷ cs) =
     elim (trichotomy c.0 d.0) [
       | inl lt ↦ ap places (placed_change-below c d cs lt) ∙ sym (placed-below c.0 d.0 (places cs) lt)
       | inr (inl same) ↦ ap places (placed_change-same c d cs same) ∙ sym (placed-same c.0 d.0 (places cs) same)
-      | inr (inr gt) ↦ ap places (placed_change-past c d cs gt) ∙ ap (λ (ns : List ℕ). d.0 ∷ ns) (places-placed c cs) ∙ sym (placed-past c.0 d.0 (places cs) gt)
+      | inr (inr gt) ↦ ap places (placed_change-past c d cs gt) ∙ ap (λ (ns : List ℕ). d.0 ∷ ns) (places-placed c cs)
+          ∙ sym (placed-past c.0 d.0 (places cs) gt)
     ]
 
 -- the places are the changed indexes, each once
@@ -79,31 +82,40 @@ module _ {A B : Type 0} (view : A → B) (k : ℕ) (x : A) where
 
   found_none : (es : List (ℕ × A)) → Rise (suc k) es → is_some (lookup (is_at (nat_cmp k)) es) ≡ false
   found_none [] so = refl
-  found_none (e ∷ es) so = rw (test_below e.0 (so.0)) (found_none es (rise-later (suc k) (suc e.0) es (omega (arith, so.0)) so.1))
+  found_none (e ∷ es) so = rw (test_below e.0 (so.0)) (found_none es (rise-later (suc k) (suc e.0) es
+      (omega (arith, so.0)) so.1))
 
   -- a change of an index that is there is not entered
-  pub entered-again : (first : ℕ) (es : List (ℕ × A)) → Rise first es → is_some (lookup (is_at (nat_cmp k)) es) ≡ true → seen_changes view es ≡ with_change (k, view x) (seen_changes view es)
+  pub entered-again : (first : ℕ) (es : List (ℕ × A)) → Rise first es → is_some (lookup (is_at (nat_cmp k)) es) ≡ true
+      → seen_changes view es ≡ with_change (k, view x) (seen_changes view es)
   entered-again first [] so found = absurd cc
   entered-again first (e ∷ es) so found =
       elim (trichotomy k e.0) [
-        | inl lt ↦ absurd (no_both (rw (test_below e.0 lt) at found) (found_none es (rise-later (suc k) (suc e.0) es (omega arith) so.1)))
+        | inl lt ↦ absurd (no_both (rw (test_below e.0 lt) at found) (found_none es (rise-later (suc k) (suc e.0) es
+            (omega arith) so.1)))
         | inr (inl same) ↦ sym (placed_change-same (k, view x) (e.0, view e.1) (seen_changes view es) same)
-        | inr (inr gt) ↦ ap (λ cs. (e.0, view e.1) ∷ cs) (entered-again (suc e.0) es so.1 (rw (test_past e.0 gt) at found)) ∙ sym (placed_change-past (k, view x) (e.0, view e.1) (seen_changes view es) gt)
+        | inr (inr gt) ↦ ap (λ cs. (e.0, view e.1) ∷ cs) (entered-again (suc e.0) es so.1 (rw (test_past e.0 gt) at
+            found)) ∙ sym (placed_change-past (k, view x) (e.0, view e.1) (seen_changes view es) gt)
       ]
 
   -- another one is
-  pub entered-new : (es : List (ℕ × A)) → is_some (lookup (is_at (nat_cmp k)) es) ≡ false → seen_changes view (insert_entry nat_cmp es k x) ≡ with_change (k, view x) (seen_changes view es)
+  pub entered-new : (es : List (ℕ × A)) → is_some (lookup (is_at (nat_cmp k)) es) ≡ false → seen_changes view
+      (insert_entry nat_cmp es k x) ≡ with_change (k, view x) (seen_changes view es)
   entered-new [] none = refl
   entered-new (e ∷ es) none =
       elim (trichotomy k e.0) [
-        | inl lt ↦ rw (← nat_cmp_is k e.0 Less lt) (sym (placed_change-below (k, view x) (e.0, view e.1) (seen_changes view es) lt))
+        | inl lt ↦ rw (← nat_cmp_is k e.0 Less lt) (sym (placed_change-below (k, view x) (e.0, view e.1)
+            (seen_changes view es) lt))
         | inr (inl same) ↦ absurd (no_both (rw (test_same e.0 same) refl) none)
-        | inr (inr gt) ↦ rw (← nat_cmp_is k e.0 Greater gt) (ap (λ cs. (e.0, view e.1) ∷ cs) (entered-new es (rw (test_past e.0 gt) at none)) ∙ sym (placed_change-past (k, view x) (e.0, view e.1) (seen_changes view es) gt))
+        | inr (inr gt) ↦ rw (← nat_cmp_is k e.0 Greater gt) (ap (λ cs. (e.0, view e.1) ∷ cs)
+            (entered-new es (rw (test_past e.0 gt) at none)) ∙ sym (placed_change-past (k, view x) (e.0, view e.1)
+            (seen_changes view es) gt))
       ]
 
 -- ---- changes of a tree's leaves
 
-changes-placed : {A : Type 0} (first end : ℕ) (c : ℕ × A) (cs : List (ℕ × A)) → first ≤ c.0 → c.0 < end → AreChanges first end cs → AreChanges first end (with_change c cs)
+changes-placed : {A : Type 0} (first end : ℕ) (c : ℕ × A) (cs : List (ℕ × A)) → first ≤ c.0 → c.0 < end
+    → AreChanges first end cs → AreChanges first end (with_change c cs)
 changes-placed first end c [] le below so = (le, below, tt)
 changes-placed first end c (d ∷ cs) le below so =
     elim (trichotomy c.0 d.0) [
@@ -112,9 +124,11 @@ changes-placed first end c (d ∷ cs) le below so =
       | inr (inr gt) ↦ rw (placed_change-past c d cs gt) (so.0, so.1, changes-placed (suc d.0) end c cs gt below so.2)
     ]
 
-pub last-changes : {A : Type 0} (end : ℕ) (cs : List (ℕ × A)) → All (λ c. c.0 < end) cs → AreChanges 0 end (last_changes cs)
+pub last-changes : {A : Type 0} (end : ℕ) (cs : List (ℕ × A)) → All (λ c. c.0 < end) cs → AreChanges 0 end
+    (last_changes cs)
 last-changes end [] inside = tt
-last-changes end (c ∷ cs) inside = changes-placed 0 end c (last_changes cs) (omega arith) (inside 0 c (omega arith)) (last-changes end cs (λ k d below. inside (suc k) d (omega arith)))
+last-changes end (c ∷ cs) inside = changes-placed 0 end c (last_changes cs) (omega arith) (inside 0 c (omega arith))
+    (last-changes end cs (λ k d below. inside (suc k) d (omega arith)))
 
 -- ---- how many places stand above them
 
@@ -123,29 +137,40 @@ Contains-map f xs n c = (c.0, omega (arith, length-map xs f, c.1), get_or-map f 
 
 Contains-mapped : (f : ℕ → ℕ) (xs : List ℕ) (m : ℕ) → Contains (map f xs) m → (n : ℕ) × Contains xs n × (f n ≡ m)
 Contains-mapped f xs m c =
-    let below : c.0 < length xs = omega (arith, length-map xs f, c.1) in
-    (get_or xs c.0 m, (c.0, below, get_or_default xs c.0 (get_or xs c.0 m) m below), sym (get_or-map f xs c.0 m m below) ∙ c.2)
+    let below : c.0 < length xs = omega (arith, length-map xs f, c.1) in (
+      get_or xs c.0 m,
+      (c.0, below, get_or_default xs c.0 (get_or xs c.0 m) m below),
+      sym (get_or-map f xs c.0 m m below)
+          ∙ c.2,
+    )
 
 map-twice : (f g h : ℕ → ℕ) (xs : List ℕ) → ((n : ℕ) → g (f n) ≡ h n) → map g (map f xs) ≡ map h xs
 map-twice f g h [] same = refl
-map-twice f g h (x ∷ xs) same = ap (λ (ns : List ℕ). g (f x) ∷ ns) (map-twice f g h xs same) ∙ ap (λ (n : ℕ). n ∷ map h xs) (same x)
+map-twice f g h (x ∷ xs) same = ap (λ (ns : List ℕ). g (f x) ∷ ns) (map-twice f g h xs same)
+    ∙ ap (λ (n : ℕ). n ∷ map h xs) (same x)
 
 rising-mapped : (f : ℕ → ℕ) (xs : List ℕ) → rising_set (map f (rising_set xs)) ≡ rising_set (map f xs)
 rising-mapped f xs =
     rising-unique (map f (rising_set xs)) (rising_set (map f xs)) (rising-increases (map f xs))
-    (λ n h. let from = Contains-mapped f (rising_set xs) n h in (rising-elements (map f xs) n).1 (subst (Contains (map f xs)) from.2 (Contains-map f xs from.0 ((rising-elements xs from.0).0 from.1))))
-    (λ n h. let from = Contains-mapped f xs n ((rising-elements (map f xs) n).0 h) in subst (Contains (map f (rising_set xs))) from.2 (Contains-map f (rising_set xs) from.0 ((rising-elements xs from.0).1 from.1)))
+    (λ n h. let from = Contains-mapped f (rising_set xs) n h in (rising-elements (map f xs) n).1
+    (subst (Contains (map f xs)) from.2 (Contains-map f xs from.0 ((rising-elements xs from.0).0 from.1))))
+    (λ n h. let from = Contains-mapped f xs n ((rising-elements (map f xs) n).0 h) in
+    subst (Contains (map f (rising_set xs))) from.2 (Contains-map f (rising_set xs) from.0
+    ((rising-elements xs from.0).1 from.1)))
 
 -- the places of a level, of which that of the leaf digests is the lowest
 abbrev level_places : ℕ → List ℕ → List ℕ
 level_places level indexes = rising_set (map (λ i. i / 2 ^ level) indexes)
 
-level-halves : (level : ℕ) (indexes : List ℕ) → rising_set (map (λ place. place / 2) (level_places level indexes)) ≡ level_places (suc level) indexes
+level-halves : (level : ℕ) (indexes : List ℕ) → rising_set (map (λ place. place / 2) (level_places level indexes))
+    ≡ level_places (suc level) indexes
 level-halves level indexes =
     rising-mapped (λ place. place / 2) (map (λ i. i / 2 ^ level) indexes)
-    ∙ ap rising_set (map-twice (λ i. i / 2 ^ level) (λ place. place / 2) (λ i. i / 2 ^ suc level) indexes (λ i. sym (place-above i level)))
+    ∙ ap rising_set (map-twice (λ i. i / 2 ^ level) (λ place. place / 2) (λ i. i / 2 ^ suc level) indexes
+    (λ i. sym (place-above i level)))
 
-count-levels : (rows level : ℕ) (indexes : List ℕ) → count_over rows (level_places level indexes) + count_above level indexes ≡ count_above (level + rows) indexes
+count-levels : (rows level : ℕ) (indexes : List ℕ) → count_over rows (level_places level indexes) + count_above level
+    indexes ≡ count_above (level + rows) indexes
 count-levels zero level indexes = let same : level + zero ≡ level = omega arith in rw same (omega arith)
 count-levels (suc rows) level indexes =
     let next = count-levels rows (suc level) indexes in
@@ -156,21 +181,28 @@ count-levels (suc rows) level indexes =
 -- counted from row to row, they are the places above the leaves
 pub count_over-above : (rows : ℕ) (indexes : List ℕ) → count_over rows (rising_set indexes) ≡ count_above rows indexes
 count_over-above rows indexes =
-    let same : map (λ i. i / 2 ^ 0) indexes ≡ indexes = sym (map-id (map (λ i. i / 2 ^ 0) indexes)) ∙ map-twice (λ i. i / 2 ^ 0) (λ i. i) (λ i. i) indexes (λ i. omega arith) ∙ map-id indexes in
+    let same : map (λ i. i / 2 ^ 0) indexes ≡ indexes = sym (map-id (map (λ i. i / 2 ^ 0) indexes))
+    ∙ map-twice (λ i. i / 2 ^ 0) (λ i. i) (λ i. i) indexes (λ i. omega arith) ∙ map-id indexes in
     let none = count-levels rows 0 indexes in
     let at : 0 + rows ≡ rows = omega arith in
-    ap (λ (ps : List ℕ). count_over rows (rising_set ps)) (sym same) ∙ omega (arith, none ∙ ap (λ (n : ℕ). count_above n indexes) at)
+    ap (λ (ps : List ℕ). count_over rows (rising_set ps)) (sym same)
+    ∙ omega (arith, none ∙ ap (λ (n : ℕ). count_above n indexes) at)
 
 -- ---- what the calls answer
 
-pub with_leaves-hashed : {A : Type 0} (tree : HashedTree A) (cs : List (ℕ × A)) (hs : List (ℕ × Digest)) → hashed_changes tree.hashes.leaf (last_changes cs) ≡ Ok hs → with_leaves tree cs ≡ with_hashes tree.hashes (leaves_with_root tree.hashes.pair (puts tree.leaves hs))
+pub with_leaves-hashed : {A : Type 0} (tree : HashedTree A) (cs : List (ℕ × A)) (hs : List (ℕ × Digest))
+    → hashed_changes tree.hashes.leaf (last_changes cs) ≡ Ok hs → with_leaves tree cs ≡ with_hashes tree.hashes
+    (leaves_with_root tree.hashes.pair (puts tree.leaves hs))
 with_leaves-hashed tree cs hs is = rw is refl
 
-pub answered-again : {A B C : Type 0} (view : A → B) (see : A → C) (o : Outcome B) (p : Outcome C) (result : Outcome A) → AnswersBy view o result → ((a : A) → o ≡ Ok (view a) → p ≡ Ok (see a)) → ((e : Error) → o ≡ Err e → p ≡ Err e) → AnswersBy see p result
+pub answered-again : {A B C : Type 0} (view : A → B) (see : A → C) (o : Outcome B) (p : Outcome C) (result : Outcome A)
+    → AnswersBy view o result → ((a : A) → o ≡ Ok (view a) → p ≡ Ok (see a)) → ((e : Error) → o ≡ Err e → p ≡ Err e)
+    → AnswersBy see p result
 answered-again view see o p (Ok a) h good bad = good a h
 answered-again view see o p (Err e) h good bad = ⊎_map (λ memory. memory) (bad e) h
 
-pub if_ok-again : {A : Type 0} (P Q : A → Type 0) (result : Outcome A) → IfOk result P → ((a : A) → P a → Q a) → IfOk result Q
+pub if_ok-again : {A : Type 0} (P Q : A → Type 0) (result : Outcome A) → IfOk result P → ((a : A) → P a → Q a)
+    → IfOk result Q
 if_ok-again P Q (Ok a) h more = more a h
 if_ok-again P Q (Err e) h more = tt
 
@@ -195,16 +227,22 @@ pub batch-seen : {L T A B : Type 0} (meaning : L → A → Outcome Digest) (pair
     → view ≡ now → (own : Hashes A) → own ≡ (seen_by meaning pair view).hashes → (cs : List (ℕ × A))
     (made new : List Digest) (result : Outcome B)
     → AnswersBy (λ _. tree_with own made) (with_leaves (tree_with own view.leaves) cs) result → made ≡ new
-    → AnswersBy (λ _. tree_with (seen_by meaning pair view).hashes new) (with_leaves (seen_by meaning pair now) cs) result
+    → AnswersBy (λ _. tree_with (seen_by meaning pair view).hashes new) (with_leaves (seen_by meaning pair now) cs)
+    result
 batch-seen {A = A} {B = B} meaning pair view now same own is cs made new result answers items =
     let seen = (seen_by meaning pair view).hashes in
     subst (λ t. AnswersBy {A = B} (λ _. tree_with seen new) (with_leaves (seen_by meaning pair t) cs) result) same
-    (subst (λ (ds : List Digest). AnswersBy {A = B} (λ _. tree_with seen ds) (with_leaves (seen_by meaning pair view) cs)
+    (subst (λ (ds : List Digest). AnswersBy {A = B} (λ _. tree_with seen ds)
+    (with_leaves (seen_by meaning pair view) cs)
     result) items
-    (subst (λ (h : Hashes A). AnswersBy {A = B} (λ _. tree_with h made) (with_leaves (tree_with h view.leaves) cs) result)
+    (subst (λ (h : Hashes A). AnswersBy {A = B} (λ _. tree_with h made) (with_leaves (tree_with h view.leaves)
+    cs) result)
     is answers))
 
 -- The count of a batch is that of the places above the changed indexes.
-pub batch-counted : {A B : Type 0} (hash : A → Outcome Digest) (view : B → Digest) (rows : ℕ) (cs : List (ℕ × A)) (hs : List (ℕ × B)) → hashed_changes hash (last_changes cs) ≡ Ok (seen_changes view hs) → count_over rows (places hs) ≡ count_above rows (places cs)
+pub batch-counted : {A B : Type 0} (hash : A → Outcome Digest) (view : B → Digest) (rows : ℕ) (cs : List (ℕ × A))
+    (hs : List (ℕ × B)) → hashed_changes hash (last_changes cs) ≡ Ok (seen_changes view hs) → count_over rows
+    (places hs) ≡ count_above rows (places cs)
 batch-counted hash view rows cs hs hashed =
-    ap (count_over rows) (sym (places-seen view hs) ∙ hashed-places hash (last_changes cs) (seen_changes view hs) hashed ∙ last-places cs) ∙ count_over-above rows (places cs)
+    ap (count_over rows) (sym (places-seen view hs) ∙ hashed-places hash (last_changes cs) (seen_changes view hs) hashed
+    ∙ last-places cs) ∙ count_over-above rows (places cs)

@@ -16,8 +16,10 @@ abbrev pub beside_at : List (List Digest) → ℕ → ℕ → Digest
 beside_at rows k index = get_or (get_or rows k []) (neighbour (index / 2 ^ suc k)) []
 
 -- two ways at one place of a row
-pub beside_at-place : (rows : List (List Digest)) (k before index : ℕ) → neighbour (before / 2 ^ (k + 1)) ≡ neighbour (index / 2 ^ (k + 1)) → beside_at rows k before ≡ beside_at rows k index
-beside_at-place rows k before index same = let one : k + 1 ≡ suc k = omega arith in ap (λ (place : ℕ). get_or (get_or rows k []) place []) (rw one at same)
+pub beside_at-place : (rows : List (List Digest)) (k before index : ℕ) → neighbour (before / 2 ^ (k + 1))
+    ≡ neighbour (index / 2 ^ (k + 1)) → beside_at rows k before ≡ beside_at rows k index
+beside_at-place rows k before index same = let one : k + 1 ≡ suc k =
+    omega arith in ap (λ (place : ℕ). get_or (get_or rows k []) place []) (rw one at same)
 
 -- how many digests two ways have in common below row k
 abbrev pub common : List (List Digest) → ℕ → ℕ → ℕ → ℕ
@@ -29,52 +31,76 @@ not_decided false P d denied = refl
 
 module _ (rows : List (List Digest)) (before index k n above : ℕ) (level : k + above + 1 ≡ n) (some : 0 < above) where
   -- the digests in a row are the same
-  pub common-same : common rows (n - 1) before index ≡ above - 1 + common rows (n - above) before index → beside_at rows k before ≡ beside_at rows k index
+  pub common-same : common rows (n - 1) before index ≡ above - 1 + common rows (n - above) before index → beside_at rows
+      k before ≡ beside_at rows k index
       → common rows (n - 1) before index ≡ above + 1 - 1 + common rows (n - (above + 1)) before index
   common-same so same =
       let here : n - above ≡ suc k = omega arith in
       let next : n - (above + 1) ≡ k = omega arith in
-      let step : common rows (n - above) before index ≡ suc (common rows k before index) = rw here (shared-same (beside_at rows k before) (beside_at rows k index) (beside_in rows k before) (beside_in rows k index) ((bytes_eq-Decides (beside_at rows k before) (beside_at rows k index)).1 same)) in
+      let step : common rows (n - above) before index ≡ suc (common rows k before index) =
+      rw here (shared-same (beside_at rows k before) (beside_at rows k index) (beside_in rows k before)
+      (beside_in rows k index) ((bytes_eq-Decides (beside_at rows k before) (beside_at rows k index)).1 same)) in
       so ∙ rw (step, next) (omega arith)
 
   -- they differ
-  pub common-other : common rows (n - 1) before index ≡ above - 1 + common rows (n - above) before index → (beside_at rows k before ≡ beside_at rows k index → ⊥) → common rows (n - 1) before index ≡ above - 1
+  pub common-other : common rows (n - 1) before index ≡ above - 1 + common rows (n - above) before index
+      → (beside_at rows k before ≡ beside_at rows k index → ⊥) → common rows (n - 1) before index ≡ above - 1
   common-other so other =
       let here : n - above ≡ suc k = omega arith in
-      let step : common rows (n - above) before index ≡ 0 = rw here (shared-other (beside_at rows k before) (beside_at rows k index) (beside_in rows k before) (beside_in rows k index) (not_decided (digest_eq (beside_at rows k before) (beside_at rows k index)) _ (bytes_eq-Decides (beside_at rows k before) (beside_at rows k index)) other)) in
+      let step : common rows (n - above) before index ≡ 0 = rw here (shared-other (beside_at rows k before)
+      (beside_at rows k index) (beside_in rows k before) (beside_in rows k index)
+      (not_decided (digest_eq (beside_at rows k before) (beside_at rows k index)) _
+      (bytes_eq-Decides (beside_at rows k before) (beside_at rows k index)) other)) in
       so ∙ rw step (omega arith)
 
 pub common-le : (rows : List (List Digest)) (k before index : ℕ) → common rows k before index ≤ k
-common-le rows k before index = omega (arith, shared-le (beside_in rows k before) (beside_in rows k index), length-beside_in rows k index)
+common-le rows k before index = omega (
+  arith,
+  shared-le (beside_in rows k before) (beside_in rows k index),
+  length-beside_in rows k index,
+)
 
 -- ---- one index more
 
 module _ (lists : ℕ → List Digest) (indexes : List ℕ) where
-  map-take-more : (place : ℕ) → place < length indexes → map lists (take (place + 1) indexes) ≡ map lists (take place indexes) ++ lists (get_or indexes place 0) ∷ []
-  map-take-more place below = ap (map lists) (take_more indexes place 0 below) ∙ map-append lists (take place indexes) (get_or indexes place 0 ∷ [])
+  map-take-more : (place : ℕ) → place < length indexes → map lists (take (place + 1) indexes)
+      ≡ map lists (take place indexes) ++ lists (get_or indexes place 0) ∷ []
+  map-take-more place below = ap (map lists) (take_more indexes place 0 below) ∙ map-append lists (take place indexes)
+      (get_or indexes place 0 ∷ [])
 
   -- the prefix and the suffix that come with it
   pub record NextParts (place prefix : ℕ) : Type 0 where
-    pub prefixes : prefixes_of [] (map lists (take (place + 1) indexes)) ≡ prefixes_of [] (map lists (take place indexes)) ++ prefix ∷ []
-    pub suffixes : suffixes_of [] (map lists (take (place + 1) indexes)) ≡ suffixes_of [] (map lists (take place indexes)) ++ drop prefix (lists (get_or indexes place 0)) ∷ []
+    pub prefixes : prefixes_of [] (map lists (take (place + 1) indexes)) ≡ prefixes_of []
+        (map lists (take place indexes)) ++ prefix ∷ []
+    pub suffixes : suffixes_of [] (map lists (take (place + 1) indexes)) ≡ suffixes_of []
+        (map lists (take place indexes)) ++ drop prefix (lists (get_or indexes place 0)) ∷ []
 
-  next_parts : (place prefix : ℕ) → place < length indexes → prefix ≡ shared_count (last_of [] (map lists (take place indexes))) (lists (get_or indexes place 0)) → NextParts place prefix
+  next_parts : (place prefix : ℕ) → place < length indexes → prefix ≡ shared_count
+      (last_of [] (map lists (take place indexes))) (lists (get_or indexes place 0)) → NextParts place prefix
   next_parts place prefix below is =
       let list = lists (get_or indexes place 0) in
       let before = map lists (take place indexes) in
       record {
-        prefixes = ap (prefixes_of []) (map-take-more place below) ∙ prefixes_of-push [] list before ∙ ap (λ (n : ℕ). prefixes_of [] before ++ n ∷ []) (sym is);
-        suffixes = ap (suffixes_of []) (map-take-more place below) ∙ suffixes_of-push [] list before ∙ ap (λ (n : ℕ). suffixes_of [] before ++ drop n list ∷ []) (sym is);
+        prefixes = ap (prefixes_of []) (map-take-more place below) ∙ prefixes_of-push [] list before
+            ∙ ap (λ (n : ℕ). prefixes_of [] before ++ n ∷ []) (sym is);
+        suffixes = ap (suffixes_of []) (map-take-more place below) ∙ suffixes_of-push [] list before
+            ∙ ap (λ (n : ℕ). suffixes_of [] before ++ drop n list ∷ []) (sym is);
       }
 
   pub NextParts-first : (place : ℕ) → place < length indexes → place ≡ 0 → NextParts place 0
   NextParts-first place below first = next_parts place 0 below (rw first refl)
 
-  pub NextParts-next : (place prefix : ℕ) → place < length indexes → 0 < place → prefix ≡ shared_count (lists (get_or indexes (place - 1) 0)) (lists (get_or indexes place 0)) → NextParts place prefix
+  pub NextParts-next : (place prefix : ℕ) → place < length indexes → 0 < place → prefix ≡ shared_count
+      (lists (get_or indexes (place - 1) 0)) (lists (get_or indexes place 0)) → NextParts place prefix
   NextParts-next place prefix below some is =
-      let before : map lists (take place indexes) ≡ map lists (take (place - 1) indexes) ++ lists (get_or indexes (place - 1) 0) ∷ [] = let back : place - 1 + 1 ≡ place = omega arith in rw back at (map-take-more (place - 1) (omega arith)) in
-      let last : last_of [] (map lists (take place indexes)) ≡ lists (get_or indexes (place - 1) 0) = ap (last_of []) before ∙ last_of-push [] (lists (get_or indexes (place - 1) 0)) (map lists (take (place - 1) indexes)) in
-      next_parts place prefix below (is ∙ ap (λ (ds : List Digest). shared_count ds (lists (get_or indexes place 0))) (sym last))
+      let before : map lists (take place indexes) ≡ map lists (take (place - 1) indexes) ++ lists
+      (get_or indexes (place - 1) 0) ∷ [] = let back : place - 1 + 1 ≡ place = omega arith in rw back at
+      (map-take-more (place - 1) (omega arith)) in
+      let last : last_of [] (map lists (take place indexes)) ≡ lists (get_or indexes (place - 1) 0) =
+      ap (last_of []) before ∙ last_of-push [] (lists (get_or indexes (place - 1) 0))
+      (map lists (take (place - 1) indexes)) in
+      next_parts place prefix below (is ∙ ap (λ (ds : List Digest). shared_count ds (lists (get_or indexes place 0)))
+      (sym last))
 
 -- ---- what is read
 
@@ -84,7 +110,9 @@ module _ (rows : List (List Digest)) (k index : ℕ) (holds : HoldsIndex rows in
 
   module _ (place : ℕ) (at : place ≡ neighbour (index / 2 ^ (k + 1))) where
     pub beside-bound : place < length (get_or rows k [])
-    beside-bound = let one : k + 1 ≡ suc k = omega arith in rw (at, one) (beside-inside rows index holds k (omega arith))
+    beside-bound = let one : k + 1 ≡ suc k =
+        omega arith in rw (at, one) (beside-inside rows index holds k (omega arith))
 
     pub beside-read : (digest : Digest) → digest ≡ get_or (get_or rows k []) place [] → beside_at rows k index ≡ digest
-    beside-read digest found = let one : k + 1 ≡ suc k = omega arith in let there : place ≡ neighbour (index / 2 ^ suc k) = rw one at at in rw (← there) (sym found)
+    beside-read digest found = let one : k + 1 ≡ suc k =
+        omega arith in let there : place ≡ neighbour (index / 2 ^ suc k) = rw one at at in rw (← there) (sym found)

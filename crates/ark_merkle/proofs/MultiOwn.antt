@@ -33,9 +33,11 @@ module _ (h : HashPair) (leaves : List Digest) (rows : List (List Digest)) (tree
   IsInside index = index < length leaves
 
   own-above : (index : ℕ) → IsInside index → (own index).above ≡ beside_in rows (upper_levels leaves) index
-  own-above index inside = ap (λ (way : Way). way.above) (own_path-rows h leaves rows tree index inside (beside_in rows (upper_levels leaves) index) refl)
+  own-above index inside = ap (λ (way : Way). way.above) (own_path-rows h leaves rows tree index inside
+      (beside_in rows (upper_levels leaves) index) refl)
 
-  own-siblings : (indexes : List ℕ) → map (λ way. way.sibling) (map own indexes) ≡ map (λ i. get_or leaves (neighbour i) []) indexes
+  own-siblings : (indexes : List ℕ) → map (λ way. way.sibling) (map own indexes) ≡ map (λ i. get_or leaves (neighbour i)
+      []) indexes
   own-siblings [] = refl
   own-siblings (i ∷ indexes) = ap (λ (ds : List Digest). get_or leaves (neighbour i) [] ∷ ds) (own-siblings indexes)
 
@@ -43,23 +45,34 @@ module _ (h : HashPair) (leaves : List Digest) (rows : List (List Digest)) (tree
   own-indexes [] = refl
   own-indexes (i ∷ indexes) = ap (λ (ns : List ℕ). i ∷ ns) (own-indexes indexes)
 
-  own-aboves : (indexes : List ℕ) → All IsInside indexes → map (λ way. way.above) (map own indexes) ≡ map (beside_in rows (upper_levels leaves)) indexes
+  own-aboves : (indexes : List ℕ) → All IsInside indexes → map (λ way. way.above) (map own indexes)
+      ≡ map (beside_in rows (upper_levels leaves)) indexes
   own-aboves [] inside = refl
   own-aboves (i ∷ indexes) inside =
-      ap (λ (ds : List Digest). ds ∷ map (λ way. way.above) (map own indexes)) (own-above i (first_of IsInside i indexes inside)) ∙ ap (λ (lists : List (List Digest)). beside_in rows (upper_levels leaves) i ∷ lists) (own-aboves indexes (rest_of IsInside i indexes inside))
+      ap (λ (ds : List Digest). ds ∷ map (λ way. way.above) (map own indexes))
+      (own-above i (first_of IsInside i indexes inside)) ∙ ap (λ (lists : List (List Digest)). beside_in rows
+      (upper_levels leaves) i ∷ lists) (own-aboves indexes (rest_of IsInside i indexes inside))
 
-  pub own-long : (indexes : List ℕ) → All IsInside indexes → AllByRecursion (λ way. length way.above ≡ upper_levels leaves) (map own indexes)
+  pub own-long : (indexes : List ℕ) → All IsInside indexes → AllByRecursion (λ way. length way.above ≡ upper_levels
+      leaves) (map own indexes)
   own-long [] inside = tt
-  own-long (i ∷ indexes) inside = (ap length (own-above i (first_of IsInside i indexes inside)) ∙ length-beside_in rows (upper_levels leaves) i, own-long indexes (rest_of IsInside i indexes inside))
+  own-long (i ∷ indexes) inside = (
+    ap length (own-above i (first_of IsInside i indexes inside)) ∙ length-beside_in rows
+        (upper_levels leaves) i,
+    own-long indexes (rest_of IsInside i indexes inside),
+  )
 
   own-some : (indexes : List ℕ) → map Some (map own indexes) ≡ map (λ i. Some (own_path h i leaves)) indexes
   own-some [] = refl
   own-some (i ∷ indexes) = ap (λ (ways : List (Option Way)). Some (own i) ∷ ways) (own-some indexes)
 
-  own-verified : (r : Digest) (place : ℕ) (indexes : List ℕ) → All IsInside indexes → root h leaves ≡ Ok r → multi_verdict_from h r place (map (λ i. Some (own_path h i leaves)) indexes) (map (λ i. Ok (get_or leaves i [])) indexes) ≡ Ok true
+  own-verified : (r : Digest) (place : ℕ) (indexes : List ℕ) → All IsInside indexes → root h leaves ≡ Ok r
+      → multi_verdict_from h r place (map (λ i. Some (own_path h i leaves)) indexes) (map (λ i. Ok (get_or leaves i []))
+      indexes) ≡ Ok true
   own-verified r place [] inside rooted = refl
   own-verified r place (i ∷ indexes) inside rooted =
-      rw (own_path-accepted h leaves rows tree i (first_of IsInside i indexes inside) (own i) (Ok (get_or leaves i [])) r refl refl rooted) (own-verified r (suc place) indexes (rest_of IsInside i indexes inside) rooted)
+      rw (own_path-accepted h leaves rows tree i (first_of IsInside i indexes inside) (own i) (Ok (get_or leaves i []))
+      r refl refl rooted) (own-verified r (suc place) indexes (rest_of IsInside i indexes inside) rooted)
 
   module _ (asked : List ℕ) (inside : All IsInside asked) where
     pub within : All IsInside (rising_set asked)
@@ -79,24 +92,33 @@ module _ (h : HashPair) (leaves : List Digest) (rows : List (List Digest)) (tree
       indexes = own-indexes (rising_set asked) j;
     }
 
-    own-decoded : decoded_paths (own_multi_path h asked leaves) ≡ map (λ i. Some (own_path h i leaves)) (rising_set asked)
-    own-decoded = decoded-merged (upper_levels leaves) (map own (rising_set asked)) (own-long (rising_set asked) within) ∙ own-some (rising_set asked)
+    own-decoded : decoded_paths (own_multi_path h asked leaves) ≡ map (λ i. Some (own_path h i leaves))
+        (rising_set asked)
+    own-decoded = decoded-merged (upper_levels leaves) (map own (rising_set asked)) (own-long (rising_set asked) within)
+        ∙ own-some (rising_set asked)
 
-    own-accepted : (r : Digest) → 0 < length asked → root h leaves ≡ Ok r → multi_verdict h (map (λ i. Ok (get_or leaves i [])) (rising_set asked)) (own_multi_path h asked leaves) r ≡ Ok true
+    own-accepted : (r : Digest) → 0 < length asked → root h leaves ≡ Ok r → multi_verdict h
+        (map (λ i. Ok (get_or leaves i [])) (rising_set asked)) (own_multi_path h asked leaves) r ≡ Ok true
     own-accepted r some rooted =
-        let long : length (map (λ way. way.index) (map own (rising_set asked))) ≡ length (rising_set asked) = ap length (own-indexes (rising_set asked)) in
-        let not_none : nat_eq (length (map (λ way. way.index) (map own (rising_set asked)))) 0 ≡ false = ne_eqb _ 0 (λ none. omega (arith, long, rising-some asked some)) in
+        let long : length (map (λ way. way.index) (map own (rising_set asked))) ≡ length (rising_set asked) =
+        ap length (own-indexes (rising_set asked)) in
+        let not_none : nat_eq (length (map (λ way. way.index) (map own (rising_set asked)))) 0 ≡ false =
+        ne_eqb _ 0 (λ none. omega (arith, long, rising-some asked some)) in
         rw (not_none, own-decoded) (own-verified r 0 (rising_set asked) within rooted)
 
-    module _ (m : MultiWay) (indexes : List ℕ) (is : own_multi_path h asked leaves ≡ m) (once : rising_set asked ≡ indexes) where
+    module _ (m : MultiWay) (indexes : List ℕ) (is : own_multi_path h asked leaves ≡ m) (once : rising_set asked
+        ≡ indexes) where
       -- it decodes to the own paths of its indexes
       pub own_multi_path-decoded : decoded_paths m ≡ map (λ i. Some (own_path h i leaves)) indexes
       own_multi_path-decoded = ap decoded_paths (sym is) ∙ own-decoded ∙ ap (map (λ i. Some (own_path h i leaves))) once
 
       -- it is accepted with the digests of its leaves
-      pub own_multi_path-accepted : (hashed : List (Outcome Digest)) (r : Digest) → 0 < length asked → hashed ≡ map (λ i. Ok (get_or leaves i [])) indexes → root h leaves ≡ Ok r → multi_verdict h hashed m r ≡ Ok true
+      pub own_multi_path-accepted : (hashed : List (Outcome Digest)) (r : Digest) → 0 < length asked → hashed
+          ≡ map (λ i. Ok (get_or leaves i [])) indexes → root h leaves ≡ Ok r → multi_verdict h hashed m r ≡ Ok true
       own_multi_path-accepted hashed r some are rooted =
-          ap (λ (ds : List (Outcome Digest)). multi_verdict h ds m r) (are ∙ ap (map (λ i. Ok (get_or leaves i []))) (sym once)) ∙ ap (λ (w : MultiWay). multi_verdict h (map (λ i. Ok (get_or leaves i [])) (rising_set asked)) w r) (sym is) ∙ own-accepted r some rooted
+          ap (λ (ds : List (Outcome Digest)). multi_verdict h ds m r) (are ∙ ap (map (λ i. Ok (get_or leaves i [])))
+          (sym once)) ∙ ap (λ (w : MultiWay). multi_verdict h (map (λ i. Ok (get_or leaves i [])) (rising_set asked))
+          w r) (sym is) ∙ own-accepted r some rooted
 
 -- ---- as the calls of a tree read them
 

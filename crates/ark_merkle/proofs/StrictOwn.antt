@@ -20,21 +20,24 @@ from_recursion P (x ∷ xs) all zero d below = all.0
 from_recursion P (x ∷ xs) all (suc k) d below = from_recursion P xs all.1 k d (omega (arith, below))
 
 module _ (h : HashPair) (leaves : List Digest) (rows : List (List Digest)) (tree : IsTree h leaves rows) where
-  inside-by : (indexes : List ℕ) → All (λ i. i < length leaves) indexes → AllByRecursion (λ way. way.index < 2 ^ (upper_levels leaves + 1)) (map (own h leaves rows tree) indexes)
+  inside-by : (indexes : List ℕ) → All (λ i. i < length leaves) indexes → AllByRecursion
+      (λ way. way.index < 2 ^ (upper_levels leaves + 1)) (map (own h leaves rows tree) indexes)
   inside-by [] inside = tt
   inside-by (i ∷ indexes) inside =
       let one : upper_levels leaves + 1 ≡ suc (upper_levels leaves) = omega arith in
       let size : length leaves ≡ 2 ^ (upper_levels leaves + 1) = rw one tree.size in
       (rw size at (inside 0 i (omega arith)), inside-by indexes (λ k d below. inside (suc k) d (omega (arith, below))))
 
-  pub own_multi_path-strict : (asked : List ℕ) → All (λ i. i < length leaves) asked → 0 < length asked → (m : MultiWay) → own_multi_path h asked leaves ≡ m → is_strict m ≡ true
+  pub own_multi_path-strict : (asked : List ℕ) → All (λ i. i < length leaves) asked → 0 < length asked → (m : MultiWay)
+      → own_multi_path h asked leaves ≡ m → is_strict m ≡ true
   own_multi_path-strict asked inside some m is =
       let indexes = rising_set asked in
       let all : All (λ i. i < length leaves) indexes = within h leaves rows tree asked inside in
       let ways = map (own h leaves rows tree) indexes in
       ap is_strict (sym is) ∙ strict-in_order (upper_levels leaves) ways (record {
         some = omega (arith, length-map indexes (own h leaves rows tree), rising-some asked some);
-        same_length = from_recursion (λ way. length way.above ≡ upper_levels leaves) ways (own-long h leaves rows tree indexes all);
+        same_length = from_recursion (λ way. length way.above ≡ upper_levels leaves) ways (own-long h leaves rows tree
+            indexes all);
         rising = subst IsStrictlyIncreasing (sym (own-indexes h leaves rows tree indexes)) (rising-increases asked);
         within_tree = from_recursion (λ way. way.index < 2 ^ (upper_levels leaves + 1)) ways (inside-by indexes all);
       })

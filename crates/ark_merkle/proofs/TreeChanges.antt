@@ -14,12 +14,17 @@ use Rattle.ark_merkle.specs.Update.{changed_leaves, new_root, with_leaf, AreOnWa
 use Rattle.ark_merkle.proofs.Changes.{is_tree-changed}
 
 -- whether the last digest on a way, as it is read, is the asserted root
-pub agrees-read : {B V : Type 0} (numbers : B → Digest) (h : HashPair) (hashed : Outcome Digest) (index : ℕ) (leaves : List Digest) (way : Vec B V) (last : B) (asserted : Digest) (same : Bool)
-    → length (digests_of numbers way) ≡ suc (upper_levels leaves) → last ≡ get_or way.items (length way.items - 1) last → new_root h hashed index leaves ≡ Ok (get_or (digests_of numbers way) (upper_levels leaves) [])
-    → same ≡ digest_eq (numbers last) asserted → (new_root h hashed index leaves >>= λ new. Ok (digest_eq new asserted)) ≡ Ok same
+pub agrees-read : {B V : Type 0} (numbers : B → Digest) (h : HashPair) (hashed : Outcome Digest) (index : ℕ)
+    (leaves : List Digest) (way : Vec B V) (last : B) (asserted : Digest) (same : Bool)
+    → length (digests_of numbers way) ≡ suc (upper_levels leaves) → last ≡ get_or way.items (length way.items - 1) last
+    → new_root h hashed index leaves ≡ Ok (get_or (digests_of numbers way) (upper_levels leaves) [])
+    → same ≡ digest_eq (numbers last) asserted → (new_root h hashed index leaves >>= λ new. Ok (digest_eq new asserted))
+    ≡ Ok same
 agrees-read numbers h hashed index leaves way last asserted same whole read rooted is =
     let top : length way.items - 1 ≡ upper_levels leaves = omega (arith, length-map way.items numbers) in
-    let seen : get_or (digests_of numbers way) (upper_levels leaves) [] ≡ numbers last = rw top at (digest_read numbers way (length way.items - 1) last (omega (arith, length-map way.items numbers)) read) in
+    let seen : get_or (digests_of numbers way) (upper_levels leaves) [] ≡ numbers last =
+    rw top at (digest_read numbers way (length way.items - 1) last (omega (arith, length-map way.items numbers))
+    read) in
     rw (rooted, seen, is) refl
 
 -- a refused root is that of the changed leaves
@@ -42,11 +47,16 @@ module _ {A : Type 0} (tree : HashedTree A) (index : ℕ) (leaf : A) where
       → with_leaf tree index leaf ≡ Ok (tree_with tree.hashes (set tree.leaves index digest))
   with_leaf-ok digest top hashed rooted = rw (hashed, rw hashed at rooted) refl
 
-module _ {A B Z V : Type 0} (leaf_numbers : A → Digest) (numbers : B → Digest) (h : HashPair) (leaves : Vec A Z) (rows : List (List Digest)) (tree : IsTree h (digests_of leaf_numbers leaves) rows) where
+module _ {A B Z V : Type 0} (leaf_numbers : A → Digest) (numbers : B → Digest) (h : HashPair) (leaves : Vec A Z)
+    (rows : List (List Digest)) (tree : IsTree h (digests_of leaf_numbers leaves) rows) where
   -- the fields with a leaf digest put in, and the digests of its way
-  pub is_tree-put : (index : ℕ) (digest : A) (way : Vec B V) (put : List (List Digest)) → index < length (digests_of leaf_numbers leaves) → AreOnWay h (set (digests_of leaf_numbers leaves) index (leaf_numbers digest)) index (digests_of numbers way)
-      → length way.items ≡ length rows → length put ≡ length rows → ((k : ℕ) → k < length rows → get_or put k [] ≡ set (get_or rows k []) (index / 2 ^ suc k) (get_or (digests_of numbers way) k []))
+  pub is_tree-put : (index : ℕ) (digest : A) (way : Vec B V) (put : List (List Digest)) → index < length
+      (digests_of leaf_numbers leaves) → AreOnWay h (set (digests_of leaf_numbers leaves) index (leaf_numbers digest))
+      index (digests_of numbers way)
+      → length way.items ≡ length rows → length put ≡ length rows → ((k : ℕ) → k < length rows → get_or put k []
+      ≡ set (get_or rows k []) (index / 2 ^ suc k) (get_or (digests_of numbers way) k []))
       → IsTree h (digests_of leaf_numbers (with_item leaves index digest)) put
   is_tree-put index digest way put inside on_way long count puts =
       rw (map-set leaf_numbers leaves.items index digest)
-      (is_tree-changed h (digests_of leaf_numbers leaves) rows tree index inside (leaf_numbers digest) (digests_of numbers way) on_way (length-map way.items numbers ∙ long) put count puts)
+      (is_tree-changed h (digests_of leaf_numbers leaves) rows tree index inside (leaf_numbers digest)
+      (digests_of numbers way) on_way (length-map way.items numbers ∙ long) put count puts)

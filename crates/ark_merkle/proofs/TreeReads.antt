@@ -39,30 +39,42 @@ module _ {A : Type 0} (hashes : Hashes A) (leaves : List Digest) where
   made-ok rows size is = ap (with_hashes hashes) (rooted-ok hashes.pair leaves rows size is)
 
 -- a tree has as many levels as its rows say
-pub log2-leaves : (h : HashPair) (leaves : List Digest) (rows : List (List Digest)) → IsTree h leaves rows → log2 (length leaves) ≡ length rows
+pub log2-leaves : (h : HashPair) (leaves : List Digest) (rows : List (List Digest)) → IsTree h leaves rows
+    → log2 (length leaves) ≡ length rows
 log2-leaves h leaves rows tree = ap log2 tree.size ∙ log2-pow (suc (upper_levels leaves)) ∙ sym tree.count
 
-pub power-leaves : (h : HashPair) (leaves : List Digest) (rows : List (List Digest)) → IsTree h leaves rows → length leaves ≡ 2 ^ log2 (length leaves)
-power-leaves h leaves rows tree = tree.size ∙ ap (λ (n : ℕ). 2 ^ n) (sym tree.count ∙ sym (log2-leaves h leaves rows tree))
+pub power-leaves : (h : HashPair) (leaves : List Digest) (rows : List (List Digest)) → IsTree h leaves rows
+    → length leaves ≡ 2 ^ log2 (length leaves)
+power-leaves h leaves rows tree = tree.size ∙ ap (λ (n : ℕ). 2 ^ n) (sym tree.count
+    ∙ sym (log2-leaves h leaves rows tree))
 
 module _ (h : HashPair) (leaves : List Digest) (rows : List (List Digest)) (tree : IsTree h leaves rows) where
   -- the digest of the last row is the root
-  pub root-read : (n : ℕ) (digest : Digest) → n ≡ length rows → digest ≡ get_or (get_or rows (n - 1) []) 0 [] → root h leaves ≡ Ok digest
-  root-read n digest count first = let last : n - 1 ≡ upper_levels leaves = omega (arith, count, tree.count) in root-top h leaves rows tree ∙ ap Ok (sym (rw last at first))
+  pub root-read : (n : ℕ) (digest : Digest) → n ≡ length rows → digest ≡ get_or (get_or rows (n - 1) []) 0 []
+      → root h leaves ≡ Ok digest
+  root-read n digest count first = let last : n - 1 ≡ upper_levels leaves =
+      omega (arith, count, tree.count) in root-top h leaves rows tree ∙ ap Ok (sym (rw last at first))
 
   pub top-inside : (n : ℕ) → n ≡ length rows → 0 < length (get_or rows (n - 1) [])
-  top-inside n count = let last : n - 1 ≡ upper_levels leaves = omega (arith, count, tree.count) in rw last (top-row-some h leaves rows tree)
+  top-inside n count = let last : n - 1 ≡ upper_levels leaves =
+      omega (arith, count, tree.count) in rw last (top-row-some h leaves rows tree)
 
   -- the rows hold each index of the tree
   pub holds-index : (index : ℕ) → length leaves < 2 ^ 64 → index < length leaves → HoldsIndex rows index
   holds-index index fits inside = record { size = length leaves; small = fits; inside = inside; levels = tree.levels }
 
   -- the path that is made of a sibling and of the digests beside the way is the tree's own
-  pub own_path-read : (index n : ℕ) (sibling : Digest) (above : List Digest) → index < length leaves → get_or leaves (neighbour index) [] ≡ sibling → n ≡ length rows
-      → above ≡ beside_in rows (n - 1) index → own_path h index leaves ≡ record { sibling = sibling; above = above; index = index }
+  pub own_path-read : (index n : ℕ) (sibling : Digest) (above : List Digest) → index < length leaves → get_or leaves
+      (neighbour index) [] ≡ sibling → n ≡ length rows
+      → above ≡ beside_in rows (n - 1) index → own_path h index leaves ≡ record {
+        sibling = sibling;
+        above = above;
+        index = index;
+      }
   own_path-read index n sibling above inside beside count is =
       let last : n - 1 ≡ upper_levels leaves = omega (arith, count, tree.count) in
-      own_path-rows h leaves rows tree index inside above (rw last at is) ∙ ap (λ (d : Digest). record { sibling = d; above = above; index = index }) beside
+      own_path-rows h leaves rows tree index inside above (rw last at is)
+      ∙ ap (λ (d : Digest). record { sibling = d; above = above; index = index }) beside
 
   -- the leaf digests have a root
   pub rooted-leaves : leaves_with_root h leaves ≡ Ok leaves

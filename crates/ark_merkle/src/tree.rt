@@ -184,11 +184,13 @@ impl<P: Views> MerkleTree<P> {
         &'a [P::LeafDigest],
         &'a Levels<P::InnerDigest>,
     )
-        ensures seen { let own = ⟦<ConfigHasher<'a, P> as TreeHasher<P::LeafDigest, P::InnerDigest>>⟧ in
+        ensures seen { let own =
+            ⟦<ConfigHasher<'a, P> as TreeHasher<P::LeafDigest, P::InnerDigest>>⟧ in
             tree_with (own.hashes result.0) (map P.LeafDigest.numbers result.1.now)
             ≡ P.tree self.now }
         ensures leaves { map P.LeafDigest.numbers result.1.now ≡ self.now.leaves }
-        ensures tree { let own = ⟦<ConfigHasher<'a, P> as TreeHasher<P::LeafDigest, P::InnerDigest>>⟧ in
+        ensures tree { let own =
+            ⟦<ConfigHasher<'a, P> as TreeHasher<P::LeafDigest, P::InnerDigest>>⟧ in
             let h = (own.hashes result.0).pair in
             IsTree h (map P.LeafDigest.numbers result.1.now) result.2.now }
         ensures fits { length result.1.now < 2 ^ 64 }

@@ -5,9 +5,11 @@ use Rattle.std.proofs.Math.Nat.{pow-succ'}
 use Rattle.ark_paths.specs.Pair.{Digest, HashPair}
 use Rattle.ark_paths.specs.Root.{Place, place, place_of_halves}
 
-pub place-halves : {A : Type 0} (numbers : A → Digest) (h : HashPair) (m : ℕ) (digests left right : List A) {p q : Place} → (m ≡ 0 → ⊥) → length digests ≡ 2 ^ suc m
+pub place-halves : {A : Type 0} (numbers : A → Digest) (h : HashPair) (m : ℕ) (digests left right : List A)
+    {p q : Place} → (m ≡ 0 → ⊥) → length digests ≡ 2 ^ suc m
     → left ≡ take (length digests / 2) digests → right ≡ drop (length digests / 2) digests
-    → place h (m - 1) (map numbers left) ≡ p → place h (m - 1) (map numbers right) ≡ q → place h m (map numbers digests) ≡ place_of_halves h m p q
+    → place h (m - 1) (map numbers left) ≡ p → place h (m - 1) (map numbers right) ≡ q → place h m (map numbers digests)
+    ≡ place_of_halves h m p q
 place-halves numbers h zero digests left right some size front back l r = absurd (some refl)
 place-halves numbers h (suc m) digests left right some size front back l r =
     let twice : 2 ^ suc (suc m) ≡ 2 * 2 ^ suc m = pow-succ' 2 (suc m) in

@@ -14,7 +14,8 @@ length-couples [] = refl
 length-couples (a ∷ []) = refl
 length-couples (a ∷ b ∷ rest) = let more = length-couples rest in omega arith
 
-pub get_or-couples : {A : Type 0} (xs : List A) (i : ℕ) (d : A) (p : A × A) → i < length xs / 2 → get_or (couples xs) i p ≡ (get_or xs (2 * i) d, get_or xs (2 * i + 1) d)
+pub get_or-couples : {A : Type 0} (xs : List A) (i : ℕ) (d : A) (p : A × A) → i < length xs / 2 → get_or (couples xs) i
+    p ≡ (get_or xs (2 * i) d, get_or xs (2 * i + 1) d)
 get_or-couples [] i d p below = absurd (omega arith)
 get_or-couples (a ∷ []) i d p below = absurd (omega arith)
 get_or-couples (a ∷ b ∷ rest) zero d p below = refl
@@ -23,23 +24,28 @@ get_or-couples (a ∷ b ∷ rest) (suc i) d p below =
     let right : 2 * suc i + 1 ≡ suc (suc (2 * i + 1)) = omega arith in
     rw (right, left) (get_or-couples rest i d p (omega arith))
 
-couples-append : {A : Type 0} (n : ℕ) (xs ys : List A) → length xs ≡ 2 * n → couples (xs ++ ys) ≡ couples xs ++ couples ys
+couples-append : {A : Type 0} (n : ℕ) (xs ys : List A) → length xs ≡ 2 * n → couples (xs ++ ys)
+    ≡ couples xs ++ couples ys
 couples-append n [] ys even = refl
 couples-append n (a ∷ []) ys even = absurd (omega arith)
 couples-append n (a ∷ b ∷ rest) ys even = ap (λ c. (a, b) ∷ c) (couples-append (n - 1) rest ys (omega arith))
 
 module _ (hash : Digest → Digest → Outcome Digest) where
-  pub paired-append : (n : ℕ) (xs ys : List Digest) → length xs ≡ 2 * n → row_above hash (xs ++ ys) ≡ (row_above hash xs >>= λ cs. row_above hash ys >>= λ ds. Ok (cs ++ ds))
-  paired-append n xs ys even = rw (couples-append n xs ys even) (each-append (λ p. hash p.0 p.1) (couples xs) (couples ys))
+  pub paired-append : (n : ℕ) (xs ys : List Digest) → length xs ≡ 2 * n → row_above hash (xs ++ ys)
+      ≡ (row_above hash xs >>= λ cs. row_above hash ys >>= λ ds. Ok (cs ++ ds))
+  paired-append n xs ys even = rw (couples-append n xs ys even) (each-append (λ p. hash p.0 p.1) (couples xs)
+      (couples ys))
 
   pub length-paired : (row above : List Digest) → row_above hash row ≡ Ok above → length above ≡ length row / 2
   length-paired row above e = length-each (λ p. hash p.0 p.1) (couples row) above e ∙ length-couples row
 
   -- a digest of a row is the hash of two of the row below
-  pub get_or-paired : (row above : List Digest) (i : ℕ) → row_above hash row ≡ Ok above → i < length row / 2 → hash (get_or row (2 * i) []) (get_or row (2 * i + 1) []) ≡ Ok (get_or above i [])
+  pub get_or-paired : (row above : List Digest) (i : ℕ) → row_above hash row ≡ Ok above → i < length row / 2
+      → hash (get_or row (2 * i) []) (get_or row (2 * i + 1) []) ≡ Ok (get_or above i [])
   get_or-paired row above i e below =
       let two = get_or-couples row i [] ([], []) below in
-      let hashed = get_or-each (λ p. hash p.0 p.1) (couples row) above i ([], []) [] e (omega (arith, length-couples row)) in
+      let hashed = get_or-each (λ p. hash p.0 p.1) (couples row) above i ([], []) [] e
+      (omega (arith, length-couples row)) in
       rw two at hashed
 
 -- Pairing a list of what has numbers, couple by couple.
@@ -52,23 +58,34 @@ module _ {A : Type 0} (hash : Digest → Digest → Outcome Digest) (numbers : A
   long = length-couples (map numbers xs) ∙ ap (λ (n : ℕ). n / 2) (length-map xs numbers)
 
   -- what two reads of the list give of its couples
-  couple_read : (i : ℕ) (a b : A) → i < length xs / 2 → a ≡ get_or xs (2 * i) a → b ≡ get_or xs (2 * i + 1) b → (numbers a, numbers b) ≡ get_or (couples (map numbers xs)) i (numbers a, numbers b)
+  couple_read : (i : ℕ) (a b : A) → i < length xs / 2 → a ≡ get_or xs (2 * i) a → b ≡ get_or xs (2 * i + 1) b
+      → (numbers a, numbers b) ≡ get_or (couples (map numbers xs)) i (numbers a, numbers b)
   couple_read i a b below a_is b_is =
       let same : length (map numbers xs) ≡ length xs = length-map xs numbers in
-      let left : get_or (map numbers xs) (2 * i) [] ≡ numbers a = get_or-map numbers xs (2 * i) a [] (omega arith) ∙ ap numbers (sym a_is) in
-      let right : get_or (map numbers xs) (2 * i + 1) [] ≡ numbers b = get_or-map numbers xs (2 * i + 1) b [] (omega arith) ∙ ap numbers (sym b_is) in
+      let left : get_or (map numbers xs) (2 * i) [] ≡ numbers a = get_or-map numbers xs (2 * i) a [] (omega arith)
+      ∙ ap numbers (sym a_is) in
+      let right : get_or (map numbers xs) (2 * i + 1) [] ≡ numbers b =
+      get_or-map numbers xs (2 * i + 1) b [] (omega arith) ∙ ap numbers (sym b_is) in
       sym (get_or-couples (map numbers xs) i [] (numbers a, numbers b) (omega arith) ∙ rw (left, right) refl)
 
   pub ArePaired-none : ArePaired 0 []
   ArePaired-none = IsSoFar-none (λ p. hash p.0 p.1) (couples (map numbers xs))
 
-  pub ArePaired-more : (i : ℕ) (a b : A) (done : List Digest) (d : Digest) → i < length xs / 2 → a ≡ get_or xs (2 * i) a → b ≡ get_or xs (2 * i + 1) b → ArePaired i done → hash (numbers a) (numbers b) ≡ Ok d → ArePaired (i + 1) (done ++ d ∷ [])
-  ArePaired-more i a b done d below a_is b_is so hashed = IsSoFar-more (λ p. hash p.0 p.1) (couples (map numbers xs)) i (numbers a, numbers b) done d (rw long below) (couple_read i a b below a_is b_is) so hashed
+  pub ArePaired-more : (i : ℕ) (a b : A) (done : List Digest) (d : Digest) → i < length xs / 2 → a ≡ get_or xs (2 * i) a
+      → b ≡ get_or xs (2 * i + 1) b → ArePaired i done → hash (numbers a) (numbers b) ≡ Ok d → ArePaired (i + 1)
+      (done ++ d ∷ [])
+  ArePaired-more i a b done d below a_is b_is so hashed = IsSoFar-more (λ p. hash p.0 p.1) (couples (map numbers xs)) i
+      (numbers a, numbers b) done d (rw long below) (couple_read i a b below a_is b_is) so hashed
 
-  pub ArePaired-refused : (i : ℕ) (a b : A) (done : List Digest) (e : Error) → i < length xs / 2 → a ≡ get_or xs (2 * i) a → b ≡ get_or xs (2 * i + 1) b → ArePaired i done → hash (numbers a) (numbers b) ≡ Err e → row_above hash (map numbers xs) ≡ Err e
-  ArePaired-refused i a b done e below a_is b_is so refused = IsSoFar-refused (λ p. hash p.0 p.1) (couples (map numbers xs)) i (numbers a, numbers b) done e (rw long below) (couple_read i a b below a_is b_is) so refused
+  pub ArePaired-refused : (i : ℕ) (a b : A) (done : List Digest) (e : Error) → i < length xs / 2 → a ≡ get_or xs (2 * i)
+      a → b ≡ get_or xs (2 * i + 1) b → ArePaired i done → hash (numbers a) (numbers b) ≡ Err e → row_above hash
+      (map numbers xs) ≡ Err e
+  ArePaired-refused i a b done e below a_is b_is so refused = IsSoFar-refused (λ p. hash p.0 p.1)
+      (couples (map numbers xs)) i (numbers a, numbers b) done e (rw long below) (couple_read i a b below a_is b_is) so
+      refused
 
-  pub ArePaired-all : (i : ℕ) (done : List Digest) → length xs / 2 ≤ i → ArePaired i done → row_above hash (map numbers xs) ≡ Ok done
+  pub ArePaired-all : (i : ℕ) (done : List Digest) → length xs / 2 ≤ i → ArePaired i done → row_above hash
+      (map numbers xs) ≡ Ok done
   ArePaired-all i done past so = IsSoFar-all (λ p. hash p.0 p.1) (couples (map numbers xs)) i done (rw long past) so
 
   -- four couples, the first of which is one of four times a number
@@ -90,7 +107,8 @@ module _ {A : Type 0} (hash : Digest → Digest → Outcome Digest) (numbers : A
         → four_in_turn (hash (numbers a) (numbers ar)) (hash (numbers b) (numbers br)) (hash (numbers c) (numbers cr))
         (hash (numbers d) (numbers dr)) ≡ Ok (w ∷ x ∷ y ∷ z ∷ []) → ArePaired (4 * f + 4) (done ++ w ∷ x ∷ y ∷ z ∷ [])
     ArePaired-four =
-        IsSoFar-four (λ p. hash p.0 p.1) (couples (map numbers xs)) (4 * f) (numbers a, numbers ar) (numbers b, numbers br)
+        IsSoFar-four (λ p. hash p.0 p.1) (couples (map numbers xs)) (4 * f) (numbers a, numbers ar)
+        (numbers b, numbers br)
         (numbers c, numbers cr) (numbers d, numbers dr) (rw long inside)
         (read (4 * f) (8 * f) (8 * f + 1) a ar (omega arith) (omega arith) (omega arith) a_is ar_is)
         (read (4 * f + 1) (8 * f + 2) (8 * f + 3) b br (omega arith) (omega arith) (omega arith) b_is br_is)

@@ -25,7 +25,8 @@ module _ (SoFar : ℕ → List Digest → Type 0) (hashed : ℕ → Outcome Dige
 
   module _ (done : List Digest) (so : SoFar n done) where
     one : (a : Digest) → hashed 0 ≡ Ok a → SoFar (n + 1) (done ++ a ∷ [])
-    one a is = let none : n ≡ n + 0 = omega arith in more 0 done a (omega arith) (subst (λ (m : ℕ). SoFar m done) none so) is
+    one a is = let none : n ≡ n + 0 = omega arith in more 0 done a (omega arith) (subst (λ (m : ℕ). SoFar m done)
+        none so) is
 
     two : (a b : Digest) → hashed 0 ≡ Ok a → hashed 1 ≡ Ok b → SoFar (n + 2) ((done ++ a ∷ []) ++ b ∷ [])
     two a b first second = more 1 (done ++ a ∷ []) b (omega arith) (one a first) second
@@ -36,7 +37,8 @@ module _ (SoFar : ℕ → List Digest → Type 0) (hashed : ℕ → Outcome Dige
 
     behind : (a b c d : Digest) → (((done ++ a ∷ []) ++ b ∷ []) ++ c ∷ []) ++ d ∷ [] ≡ done ++ a ∷ b ∷ c ∷ d ∷ []
     behind a b c d =
-        append_assoc ((done ++ a ∷ []) ++ b ∷ []) (c ∷ []) (d ∷ []) ∙ append_assoc (done ++ a ∷ []) (b ∷ []) (c ∷ d ∷ [])
+        append_assoc ((done ++ a ∷ []) ++ b ∷ []) (c ∷ []) (d ∷ []) ∙ append_assoc (done ++ a ∷ []) (b ∷ [])
+        (c ∷ d ∷ [])
         ∙ append_assoc done (a ∷ []) (b ∷ c ∷ d ∷ [])
 
     -- all four are hashed
@@ -106,4 +108,5 @@ module _ {A : Type 0} (hash : A → Outcome Digest) (xs : List A) (n : ℕ) (a b
       → all_hashes hash xs ≡ Err e
   IsSoFar-four_refused =
       four-refused (IsSoFar hash xs) (λ k. hash (item k)) n item-more done so (λ e. all_hashes hash xs ≡ Err e)
-      (λ k made e small held is. IsSoFar-refused hash xs (n + k) (item k) made e (omega arith) (item_is k small) held is)
+      (λ k made e small held is. IsSoFar-refused hash xs (n + k) (item k) made e (omega arith)
+      (item_is k small) held is)

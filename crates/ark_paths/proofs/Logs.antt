@@ -17,7 +17,8 @@ halvings-between (suc most) (suc k) n le low high =
 
 below_power : (m : ℕ) → m ≤ 2 ^ m
 below_power zero = omega arith
-below_power (suc m) = let twice : 2 ^ suc m ≡ 2 * 2 ^ m = pow-succ' 2 m in let some : 0 < 2 ^ m = pow_pos m in let more = below_power m in omega arith
+below_power (suc m) = let twice : 2 ^ suc m ≡ 2 * 2 ^ m = pow-succ' 2 m in let some : 0 < 2 ^ m =
+    pow_pos m in let more = below_power m in omega arith
 
 pub log2-between : (k n : ℕ) → 2 ^ k ≤ n → n < 2 * 2 ^ k → log2 n ≡ k
 unfolding log2

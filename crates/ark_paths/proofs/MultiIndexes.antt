@@ -44,19 +44,23 @@ AreAbove-by n [] h = tt
 AreAbove-by n (x ∷ xs) h = (h x (inl refl), AreAbove-by n xs (λ k more. h k (inr more)))
 
 -- two lists that rise and have the same elements are the same
-Rise-unique : (xs ys : List ℕ) → Rise xs → Rise ys → ((k : ℕ) → IsAmong k xs → IsAmong k ys) → ((k : ℕ) → IsAmong k ys → IsAmong k xs) → xs ≡ ys
+Rise-unique : (xs ys : List ℕ) → Rise xs → Rise ys → ((k : ℕ) → IsAmong k xs → IsAmong k ys) → ((k : ℕ) → IsAmong k ys
+    → IsAmong k xs) → xs ≡ ys
 Rise-unique [] [] r s to from = refl
 Rise-unique [] (y ∷ ys) r s to from = absurd (from y (inl refl))
 Rise-unique (x ∷ xs) [] r s to from = absurd (to x (inl refl))
 Rise-unique (x ∷ xs) (y ∷ ys) r s to from =
     let same : x ≡ y = first (to x (inl refl)) (from y (inl refl)) in
-    let others : xs ≡ ys = Rise-unique xs ys r.1 s.1 (λ k more. behind x y ys k same (AreAbove-among x xs k r.0 more) (to k (inr more))) (λ k more. behind y x xs k (sym same) (AreAbove-among y ys k s.0 more) (from k (inr more))) in
+    let others : xs ≡ ys = Rise-unique xs ys r.1 s.1 (λ k more. behind x y ys k same (AreAbove-among x xs k r.0 more)
+    (to k (inr more))) (λ k more. behind y x xs k (sym same) (AreAbove-among y ys k s.0 more)
+    (from k (inr more))) in
     ap (λ (n : ℕ). n ∷ xs) same ∙ ap (λ (ns : List ℕ). y ∷ ns) others
   where
     first : IsAmong x (y ∷ ys) → IsAmong y (x ∷ xs) → x ≡ y
     first (inl same) h = same
     first (inr g) (inl same) = sym same
-    first (inr g) (inr h) = let a = AreAbove-among y ys x s.0 g in let b = AreAbove-among x xs y r.0 h in absurd (omega arith)
+    first (inr g) (inr h) = let a = AreAbove-among y ys x s.0 g in let b =
+        AreAbove-among x xs y r.0 h in absurd (omega arith)
 
     behind : (x y : ℕ) (ys : List ℕ) (k : ℕ) → x ≡ y → x < k → IsAmong k (y ∷ ys) → IsAmong k ys
     behind x y ys k same above (inl is) = absurd (omega arith)
@@ -66,8 +70,12 @@ Rise-unique (x ∷ xs) (y ∷ ys) r s to from =
 
 Rise-pairs : (xs : List ℕ) → AllPairs (λ x y. x < y) xs → Rise xs
 Rise-pairs [] h = tt
-Rise-pairs (x ∷ xs) h =
-    (AreAbove-by x xs (λ k more. let c = Contains-among xs k more in let lt = h 0 (suc c.0) k (omega arith) (omega (arith, c.1)) in rw (c.2) at lt), Rise-pairs xs (λ i j d lt below. h (suc i) (suc j) d (omega arith) (omega arith)))
+Rise-pairs (x ∷ xs) h = (
+  AreAbove-by x xs (λ k more. let c = Contains-among xs k more in let lt = h 0 (suc c.0) k (omega arith)
+      (omega (arith, c.1)) in rw (c.2) at lt),
+  Rise-pairs xs (λ i j d lt below. h (suc i) (suc j) d (omega arith)
+      (omega arith)),
+)
 
 Rise-increasing : (xs : List ℕ) → IsStrictlyIncreasing xs → Rise xs
 Rise-increasing xs h = Rise-pairs xs (AllPairs-from_increasing xs h)
@@ -76,22 +84,32 @@ IsStrictlyIncreasing-rise : (xs : List ℕ) → Rise xs → IsStrictlyIncreasing
 IsStrictlyIncreasing-rise [] r k below = absurd (omega arith)
 IsStrictlyIncreasing-rise (x ∷ []) r k below = absurd (omega arith)
 IsStrictlyIncreasing-rise (x ∷ y ∷ xs) r zero below = r.0.0
-IsStrictlyIncreasing-rise (x ∷ y ∷ xs) r (suc k) below = let next : suc k + 1 ≡ suc (k + 1) = omega arith in rw next (IsStrictlyIncreasing-rise (y ∷ xs) r.1 k (omega arith))
+IsStrictlyIncreasing-rise (x ∷ y ∷ xs) r (suc k) below = let next : suc k + 1 ≡ suc (k + 1) =
+    omega arith in rw next (IsStrictlyIncreasing-rise (y ∷ xs) r.1 k (omega arith))
 
 -- ---- a number at its place
 
 pub trichotomy : (n x : ℕ) → (n < x) ⊎ ((n ≡ x) ⊎ (x < n))
-trichotomy n x = elim (cases_lt n x) [ inl lt ↦ inl lt | inr ge ↦ elim (cases_lt x n) [ inl gt ↦ inr (inr gt) | inr le ↦ inr (inl (omega arith)) ] ]
+trichotomy n x = elim (cases_lt n x) [
+  | inl lt ↦ inl lt
+  | inr ge ↦ elim (cases_lt x n) [
+    | inl gt ↦ inr (inr gt)
+    | inr le ↦
+        inr (inl (omega arith))
+  ]
+]
 
 module _ (n x : ℕ) (xs : List ℕ) where
   pub placed-below : n < x → with_number n (x ∷ xs) ≡ n ∷ x ∷ xs
   placed-below lt = let e : ltb n x ≡ true = lt-ltb _ _ lt in rw e refl
 
   pub placed-same : n ≡ x → with_number n (x ∷ xs) ≡ x ∷ xs
-  placed-same same = let no : ltb n x ≡ false = le-ltb _ _ (omega arith) in let e : eqb n x ≡ true = eq-eqb n x same in rw (no, e) refl
+  placed-same same = let no : ltb n x ≡ false = le-ltb _ _ (omega arith) in let e : eqb n x ≡ true =
+      eq-eqb n x same in rw (no, e) refl
 
   pub placed-past : x < n → with_number n (x ∷ xs) ≡ x ∷ with_number n xs
-  placed-past gt = let no : ltb n x ≡ false = le-ltb _ _ (omega arith) in let other : eqb n x ≡ false = ne_eqb n x (λ same. omega arith) in rw (no, other) refl
+  placed-past gt = let no : ltb n x ≡ false = le-ltb _ _ (omega arith) in let other : eqb n x ≡ false =
+      ne_eqb n x (λ same. omega arith) in rw (no, other) refl
 
 module _ (n : ℕ) where
   placed-holds : (xs : List ℕ) (k : ℕ) → (k ≡ n) ⊎ IsAmong k xs → IsAmong k (with_number n xs)
@@ -107,7 +125,8 @@ module _ (n : ℕ) where
       at_same same (inl is) = inl (is ∙ same)
       at_same same (inr more) = more
 
-      at_past : ((k ≡ n) ⊎ IsAmong k xs → IsAmong k (with_number n xs)) → (k ≡ n) ⊎ IsAmong k (x ∷ xs) → IsAmong k (x ∷ with_number n xs)
+      at_past : ((k ≡ n) ⊎ IsAmong k xs → IsAmong k (with_number n xs)) → (k ≡ n) ⊎ IsAmong k (x ∷ xs)
+          → IsAmong k (x ∷ with_number n xs)
       at_past further (inl is) = inr (further (inl is))
       at_past further (inr (inl first)) = inl first
       at_past further (inr (inr more)) = inr (further (inr more))
@@ -125,7 +144,8 @@ module _ (n : ℕ) where
       regroup (inl is) = inl is
       regroup (inr more) = inr (inr more)
 
-      at_past : (IsAmong k (with_number n xs) → (k ≡ n) ⊎ IsAmong k xs) → IsAmong k (x ∷ with_number n xs) → (k ≡ n) ⊎ IsAmong k (x ∷ xs)
+      at_past : (IsAmong k (with_number n xs) → (k ≡ n) ⊎ IsAmong k xs) → IsAmong k (x ∷ with_number n xs) → (k ≡ n)
+          ⊎ IsAmong k (x ∷ xs)
       at_past further (inl first) = inr (inl first)
       at_past further (inr more) = regroup (further more)
 
@@ -133,9 +153,20 @@ module _ (n : ℕ) where
   placed-rises [] r = (tt, tt)
   placed-rises (x ∷ xs) r =
       elim (trichotomy n x) [
-        | inl lt ↦ rw (placed-below n x xs lt) ((lt, AreAbove-by n xs (λ k more. let above = AreAbove-among x xs k r.0 more in omega arith)), r)
+        | inl lt ↦ rw (placed-below n x xs lt) (
+          (
+            lt,
+            AreAbove-by n xs (λ k more. let above = AreAbove-among x xs k r.0
+                more in omega arith),
+          ),
+          r,
+        )
         | inr (inl same) ↦ rw (placed-same n x xs same) r
-        | inr (inr gt) ↦ rw (placed-past n x xs gt) (AreAbove-by x (with_number n xs) (λ k more. higher gt k (placed-adds xs k more)), placed-rises xs r.1)
+        | inr (inr gt) ↦ rw (placed-past n x xs gt) (
+          AreAbove-by x (with_number n xs) (λ k more. higher gt k
+              (placed-adds xs k more)),
+          placed-rises xs r.1,
+        )
       ]
     where
       higher : x < n → (k : ℕ) → (k ≡ n) ⊎ IsAmong k xs → x < k
@@ -153,7 +184,11 @@ rising-holds (x ∷ xs) k (inr more) = placed-holds x (rising_set xs) k (inr (ri
 
 rising-adds : (xs : List ℕ) (k : ℕ) → IsAmong k (rising_set xs) → IsAmong k xs
 rising-adds [] k h = h
-rising-adds (x ∷ xs) k h = elim (placed-adds x (rising_set xs) k h) [ inl is ↦ inl is | inr more ↦ inr (rising-adds xs k more) ]
+rising-adds (x ∷ xs) k h = elim (placed-adds x (rising_set xs) k h) [
+  | inl is ↦ inl is
+  | inr more ↦ inr
+      (rising-adds xs k more)
+]
 
 -- ---- what callers need
 
@@ -161,15 +196,24 @@ pub rising-increases : (xs : List ℕ) → IsStrictlyIncreasing (rising_set xs)
 rising-increases xs = IsStrictlyIncreasing-rise (rising_set xs) (rising-rises xs)
 
 pub rising-elements : (xs : List ℕ) (n : ℕ) → Contains (rising_set xs) n ↔ Contains xs n
-rising-elements xs n = (λ h. Contains-among xs n (rising-adds xs n (IsAmong-contained (rising_set xs) n h)), λ h. Contains-among (rising_set xs) n (rising-holds xs n (IsAmong-contained xs n h)))
+rising-elements xs n = (
+  λ h. Contains-among xs n (rising-adds xs n (IsAmong-contained (rising_set xs) n h)),
+  λ h.
+      Contains-among (rising_set xs) n (rising-holds xs n (IsAmong-contained xs n h)),
+)
 
-pub rising-unique : (xs ys : List ℕ) → IsStrictlyIncreasing ys → ((n : ℕ) → Contains xs n → Contains ys n) → ((n : ℕ) → Contains ys n → Contains xs n) → rising_set xs ≡ ys
+pub rising-unique : (xs ys : List ℕ) → IsStrictlyIncreasing ys → ((n : ℕ) → Contains xs n → Contains ys n)
+    → ((n : ℕ) → Contains ys n → Contains xs n) → rising_set xs ≡ ys
 rising-unique xs ys increases keeps adds_none =
-    Rise-unique (rising_set xs) ys (rising-rises xs) (Rise-increasing ys increases) (λ k h. IsAmong-contained ys k (keeps k (Contains-among xs k (rising-adds xs k h)))) (λ k h. rising-holds xs k (IsAmong-contained xs k (adds_none k (Contains-among ys k h))))
+    Rise-unique (rising_set xs) ys (rising-rises xs) (Rise-increasing ys increases) (λ k h. IsAmong-contained ys k
+    (keeps k (Contains-among xs k (rising-adds xs k h)))) (λ k h. rising-holds xs k (IsAmong-contained xs k
+    (adds_none k (Contains-among ys k h))))
 
 pub All-rising : (P : ℕ → Type 0) (xs : List ℕ) → All P xs → All P (rising_set xs)
-All-rising P xs h = All-from_get_or P (rising_set xs) 0 (λ i below. All-contains P xs (get_or (rising_set xs) i 0) h ((rising-elements xs (get_or (rising_set xs) i 0)).0 (Contains-get_or (rising_set xs) i 0 below)))
+All-rising P xs h = All-from_get_or P (rising_set xs) 0 (λ i below. All-contains P xs (get_or (rising_set xs) i 0) h
+    ((rising-elements xs (get_or (rising_set xs) i 0)).0 (Contains-get_or (rising_set xs) i 0 below)))
 
 pub rising-some : (xs : List ℕ) → 0 < length xs → 0 < length (rising_set xs)
 rising-some [] some = absurd (omega arith)
-rising-some (x ∷ xs) some = let c = Contains-among (rising_set (x ∷ xs)) x (rising-holds (x ∷ xs) x (inl refl)) in omega (arith, c.1)
+rising-some (x ∷ xs) some = let c = Contains-among (rising_set (x ∷ xs)) x (rising-holds (x ∷ xs) x (inl refl)) in
+    omega (arith, c.1)

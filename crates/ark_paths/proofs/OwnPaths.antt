@@ -36,62 +36,85 @@ pub record IsCouple (b : Bool) (i : ℕ) : Type 0 where
   pub neighbour_is : (if b then i - 1 else i + 1) ≡ (if b then 2 * (i / 2) else 2 * (i / 2) + 1)
 
 pub is_couple : (i : ℕ) (b : Bool) → bit_at i 0 ≡ b → IsCouple b i
-is_couple i true is = let odd : (i / 2 ^ 0) % 2 ≡ 1 = eqb-true ((i / 2 ^ 0) % 2) 1 is in record { place_is = omega arith; neighbour_is = omega arith }
-is_couple i false is = let even : (i / 2 ^ 0) % 2 ≡ 1 → ⊥ = eqb-false ((i / 2 ^ 0) % 2) 1 is in record { place_is = omega arith; neighbour_is = omega arith }
+is_couple i true is = let odd : (i / 2 ^ 0) % 2 ≡ 1 =
+    eqb-true ((i / 2 ^ 0) % 2) 1 is in record { place_is = omega arith; neighbour_is = omega arith }
+is_couple i false is = let even : (i / 2 ^ 0) % 2 ≡ 1 → ⊥ =
+    eqb-false ((i / 2 ^ 0) % 2) 1 is in record { place_is = omega arith; neighbour_is = omega arith }
 
-ordered_by : (hash : Digest → Digest → Outcome Digest) (row : List Digest) (i : ℕ) (b : Bool) → IsCouple b i → hash_in_order hash b (get_or row i []) (get_or row (if b then i - 1 else i + 1) []) ≡ hash (get_or row (2 * (i / 2)) []) (get_or row (2 * (i / 2) + 1) [])
+ordered_by : (hash : Digest → Digest → Outcome Digest) (row : List Digest) (i : ℕ) (b : Bool) → IsCouple b i
+    → hash_in_order hash b (get_or row i []) (get_or row (if b then i - 1 else i + 1) [])
+    ≡ hash (get_or row (2 * (i / 2)) []) (get_or row (2 * (i / 2) + 1) [])
 ordered_by hash row i true c = rw (c.neighbour_is, ← c.place_is) refl
 ordered_by hash row i false c = rw (c.neighbour_is, ← c.place_is) refl
 
 -- Two neighbours make one pair, whichever of them comes first.
-pub ordered-neighbour : (hash : Digest → Digest → Outcome Digest) (row : List Digest) (i : ℕ) → hash_in_order hash (bit_at i 0) (get_or row i []) (get_or row (neighbour i) []) ≡ hash (get_or row (2 * (i / 2)) []) (get_or row (2 * (i / 2) + 1) [])
+pub ordered-neighbour : (hash : Digest → Digest → Outcome Digest) (row : List Digest) (i : ℕ) → hash_in_order hash
+    (bit_at i 0) (get_or row i []) (get_or row (neighbour i) []) ≡ hash (get_or row (2 * (i / 2)) [])
+    (get_or row (2 * (i / 2) + 1) [])
 ordered-neighbour hash row i = ordered_by hash row i (bit_at i 0) (is_couple i (bit_at i 0) refl)
 
 pub length-beside_in : (rows : List (List Digest)) (k index : ℕ) → length (beside_in rows k index) ≡ k
 length-beside_in rows zero index = refl
 length-beside_in rows (suc k) index = ap suc (length-beside_in rows k index)
 
-pub drop-beside_in : (rows : List (List Digest)) (p k index : ℕ) → p ≤ k → drop p (beside_in rows k index) ≡ beside_in rows (k - p) index
+pub drop-beside_in : (rows : List (List Digest)) (p k index : ℕ) → p ≤ k → drop p (beside_in rows k index)
+    ≡ beside_in rows (k - p) index
 drop-beside_in rows zero k index le = let e : k - 0 ≡ k = omega arith in rw e refl
 drop-beside_in rows (suc p) zero index le = absurd (omega arith)
-drop-beside_in rows (suc p) (suc k) index le = let e : suc k - suc p ≡ k - p = omega arith in rw e (drop-beside_in rows p k index (omega arith))
+drop-beside_in rows (suc p) (suc k) index le = let e : suc k - suc p ≡ k - p =
+    omega arith in rw e (drop-beside_in rows p k index (omega arith))
 
 -- ---- the halves beside a way
 
-halves_by : (h : HashPair) (leaves : List Digest) (index k q p : ℕ) (b : Bool) → bit_at index (suc k) ≡ b → IsCouple b p → q ≡ p / 2 → halves_beside h (suc k) index (part (suc k) q leaves) ≡ root_digest (place h k (part k (if b then p - 1 else p + 1) leaves)) ∷ halves_beside h k index (part k p leaves)
-halves_by h leaves index k q p true is c half = rw (is, part-left k q leaves, part-right k q leaves, c.neighbour_is, half, ← c.place_is) refl
-halves_by h leaves index k q p false is c half = rw (is, part-left k q leaves, part-right k q leaves, c.neighbour_is, half, ← c.place_is) refl
+halves_by : (h : HashPair) (leaves : List Digest) (index k q p : ℕ) (b : Bool) → bit_at index (suc k) ≡ b → IsCouple b p
+    → q ≡ p / 2 → halves_beside h (suc k) index (part (suc k) q leaves)
+    ≡ root_digest (place h k (part k (if b then p - 1 else p + 1) leaves)) ∷ halves_beside h k index (part k p leaves)
+halves_by h leaves index k q p true is c half =
+    rw (is, part-left k q leaves, part-right k q leaves, c.neighbour_is, half, ← c.place_is) refl
+halves_by h leaves index k q p false is c half =
+    rw (is, part-left k q leaves, part-right k q leaves, c.neighbour_is, half, ← c.place_is) refl
 
 halves_beside-part : (h : HashPair) (leaves : List Digest) (index k : ℕ)
-    → halves_beside h (suc k) index (part (suc k) (index / 2 ^ suc (suc k)) leaves) ≡ root_digest (place h k (part k (neighbour (index / 2 ^ suc k)) leaves)) ∷ halves_beside h k index (part k (index / 2 ^ suc k) leaves)
+    → halves_beside h (suc k) index (part (suc k) (index / 2 ^ suc (suc k)) leaves)
+    ≡ root_digest (place h k (part k (neighbour (index / 2 ^ suc k)) leaves)) ∷ halves_beside h k index
+    (part k (index / 2 ^ suc k) leaves)
 halves_beside-part h leaves index k =
     let p = index / 2 ^ suc k in
     let bit : bit_at index (suc k) ≡ bit_at p 0 = sym (bit_at-level index (suc k)) in
-    halves_by h leaves index k (index / 2 ^ suc (suc k)) p (bit_at p 0) bit (is_couple p (bit_at p 0) refl) (place-above index (suc k))
+    halves_by h leaves index k (index / 2 ^ suc (suc k)) p (bit_at p 0) bit (is_couple p (bit_at p 0) refl)
+    (place-above index (suc k))
 
 module _ (h : HashPair) (leaves : List Digest) (rows : List (List Digest)) (tree : IsTree h leaves rows) where
   -- a digest of the lowest row is the hash of two leaf digests
-  pub bottom-row : (q : ℕ) → q < length (get_or rows 0 []) → h.bottom (get_or leaves (2 * q) []) (get_or leaves (2 * q + 1) []) ≡ Ok (get_or (get_or rows 0 []) q [])
+  pub bottom-row : (q : ℕ) → q < length (get_or rows 0 []) → h.bottom (get_or leaves (2 * q) [])
+      (get_or leaves (2 * q + 1) []) ≡ Ok (get_or (get_or rows 0 []) q [])
   bottom-row q below =
       let whole = tree.roots 0 q (omega (arith, tree.count)) below in
-      let left : get_or (part 0 q leaves) 0 [] ≡ get_or leaves (2 * q) [] = get_or-part q 0 leaves (omega arith) ∙ ap (λ (n : ℕ). get_or leaves n []) (omega arith) in
+      let left : get_or (part 0 q leaves) 0 [] ≡ get_or leaves (2 * q) [] =
+      get_or-part q 0 leaves (omega arith) ∙ ap (λ (n : ℕ). get_or leaves n []) (omega arith) in
       let right : get_or (part 0 q leaves) 1 [] ≡ get_or leaves (2 * q + 1) [] = get_or-part q 1 leaves (omega arith) in
-      at_level-root 0 (h.bottom (get_or leaves (2 * q) []) (get_or leaves (2 * q + 1) [])) (get_or (get_or rows 0 []) q []) (rw (left, right) at whole)
+      at_level-root 0 (h.bottom (get_or leaves (2 * q) []) (get_or leaves (2 * q + 1) [])) (get_or (get_or rows 0 []) q
+      []) (rw (left, right) at whole)
 
   -- a digest of each other row is the hash of two of the row below
-  pub upper-row : (k q : ℕ) → suc k < length rows → q < length (get_or rows (suc k) []) → h.upper (get_or (get_or rows k []) (2 * q) []) (get_or (get_or rows k []) (2 * q + 1) []) ≡ Ok (get_or (get_or rows (suc k) []) q [])
+  pub upper-row : (k q : ℕ) → suc k < length rows → q < length (get_or rows (suc k) [])
+      → h.upper (get_or (get_or rows k []) (2 * q) []) (get_or (get_or rows k []) (2 * q + 1) [])
+      ≡ Ok (get_or (get_or rows (suc k) []) q [])
   upper-row k q inside below =
       let row = get_or rows k [] in
-      let twice : length row ≡ 2 * length (get_or rows (suc k) []) = row-twice rows (length leaves) tree.levels k inside in
+      let twice : length row ≡ 2 * length (get_or rows (suc k) []) =
+      row-twice rows (length leaves) tree.levels k inside in
       let left = tree.roots k (2 * q) (omega arith) (omega arith) in
       let right = tree.roots k (2 * q + 1) (omega arith) (omega arith) in
       let whole = tree.roots (suc k) q inside below in
-      at_level-root (suc k) (h.upper (get_or row (2 * q) []) (get_or row (2 * q + 1) [])) (get_or (get_or rows (suc k) []) q []) (rw (part-left k q leaves, part-right k q leaves, left, right) at whole)
+      at_level-root (suc k) (h.upper (get_or row (2 * q) []) (get_or row (2 * q + 1) []))
+      (get_or (get_or rows (suc k) []) q []) (rw (part-left k q leaves, part-right k q leaves, left, right) at whole)
 
   pub top-row-some : 0 < length (get_or rows (upper_levels leaves) [])
   top-row-some =
       let m = upper_levels leaves in
-      let one : 0 / 2 ^ suc m < length (get_or rows m []) = place-inside rows (length leaves) tree.levels m 0 (omega (arith, tree.count)) (omega (arith, tree.size, pow_pos (suc m))) in
+      let one : 0 / 2 ^ suc m < length (get_or rows m []) = place-inside rows (length leaves) tree.levels m 0
+      (omega (arith, tree.count)) (omega (arith, tree.size, pow_pos (suc m))) in
       omega arith
 
   pub root-top : root h leaves ≡ Ok (get_or (get_or rows (upper_levels leaves) []) 0 [])
@@ -101,46 +124,68 @@ module _ (h : HashPair) (leaves : List Digest) (rows : List (List Digest)) (tree
       ap outcome_of (rw (part-whole m leaves tree.size) at whole)
 
   module _ (index : ℕ) (inside : index < length leaves) where
-    beside_in-halves : (k : ℕ) → k < length rows → beside_in rows k index ≡ halves_beside h k index (part k (index / 2 ^ suc k) leaves)
+    beside_in-halves : (k : ℕ) → k < length rows → beside_in rows k index ≡ halves_beside h k index
+        (part k (index / 2 ^ suc k) leaves)
     beside_in-halves zero below = refl
     beside_in-halves (suc k) below =
         let p = index / 2 ^ suc k in
         let twice = row-twice rows (length leaves) tree.levels k below in
         let here = place-inside rows (length leaves) tree.levels k index (omega arith) inside in
-        let next : neighbour p < 2 * length (get_or rows (suc k) []) = neighbour-inside p (length (get_or rows (suc k) [])) (omega arith) in
+        let next : neighbour p < 2 * length (get_or rows (suc k) []) =
+        neighbour-inside p (length (get_or rows (suc k) [])) (omega arith) in
         let beside = tree.roots k (neighbour p) (omega arith) (rw twice next) in
-        rw (halves_beside-part h leaves index k, beside) (ap (λ ds. get_or (get_or rows k []) (neighbour p) [] ∷ ds) (beside_in-halves k (omega arith)))
+        rw (halves_beside-part h leaves index k, beside) (ap (λ ds. get_or (get_or rows k []) (neighbour p) [] ∷ ds)
+        (beside_in-halves k (omega arith)))
 
     pub first_place : index / 2 ^ suc (upper_levels leaves) ≡ 0
     first_place = let below : index < 2 ^ suc (upper_levels leaves) = rw (← tree.size) inside in div-eq_of_lt below
 
     -- a tree's own path, from its rows
-    pub own_path-rows : (above : List Digest) → above ≡ beside_in rows (upper_levels leaves) index → own_path h index leaves ≡ record { sibling = get_or leaves (neighbour index) []; above = above; index = index }
+    pub own_path-rows : (above : List Digest) → above ≡ beside_in rows (upper_levels leaves) index → own_path h index
+        leaves ≡ record { sibling = get_or leaves (neighbour index) []; above = above; index = index }
     own_path-rows above is =
         let m = upper_levels leaves in
         let whole : part m (index / 2 ^ suc m) leaves ≡ leaves = rw first_place (part-whole m leaves tree.size) in
-        let same : halves_beside h m index leaves ≡ above = ap (halves_beside h m index) (sym whole) ∙ sym (beside_in-halves m (omega (arith, tree.count))) ∙ sym is in
-        ap (λ (ds : List Digest). record { sibling = get_or leaves (neighbour index) []; above = ds; index = index }) same
+        let same : halves_beside h m index leaves ≡ above =
+        ap (halves_beside h m index) (sym whole) ∙ sym (beside_in-halves m (omega (arith, tree.count))) ∙ sym is in
+        ap (λ (ds : List Digest). record { sibling = get_or leaves (neighbour index) []; above = ds; index = index })
+        same
 
-    pub climbed-own : (k : ℕ) → k < length rows → (lowest : Digest) → lowest ≡ get_or (get_or rows 0 []) (index / 2 ^ 1) [] → climb h.upper index (beside_in rows k index) lowest ≡ Ok (get_or (get_or rows k []) (index / 2 ^ suc k) [])
+    pub climbed-own : (k : ℕ) → k < length rows → (lowest : Digest) → lowest ≡ get_or (get_or rows 0 []) (index / 2 ^ 1)
+        [] → climb h.upper index (beside_in rows k index) lowest ≡ Ok (get_or (get_or rows k []) (index / 2 ^ suc k) [])
     climbed-own zero below lowest is = ap Ok is
     climbed-own (suc k) below lowest is =
         let p = index / 2 ^ suc k in
         let half : index / 2 ^ suc (suc k) ≡ p / 2 = place-above index (suc k) in
         let above = place-inside rows (length leaves) tree.levels (suc k) index below inside in
-        let under : climb h.upper index (beside_in rows k index) lowest ≡ Ok (get_or (get_or rows k []) p []) = climbed-own k (omega arith) lowest is in
+        let under : climb h.upper index (beside_in rows k index) lowest ≡ Ok (get_or (get_or rows k []) p []) =
+        climbed-own k (omega arith) lowest is in
         let hashed = upper-row k (p / 2) below (omega arith) in
-        rw (under, length-beside_in rows k index, half, ← bit_at-level index (suc k), ordered-neighbour h.upper (get_or rows k []) p) hashed
+        rw (
+          under,
+          length-beside_in rows k index,
+          half,
+          ← bit_at-level index (suc k),
+          ordered-neighbour h.upper
+              (get_or rows k []) p,
+        ) hashed
 
     own_path-top : path_root h (own_path h index leaves) (get_or leaves index []) ≡ root h leaves
     own_path-top =
         let m = upper_levels leaves in
         let half : index / 2 ^ 1 ≡ index / 2 = omega arith in
-        let here : index / 2 ^ 1 < length (get_or rows 0 []) = place-inside rows (length leaves) tree.levels 0 index (omega (arith, tree.count)) inside in
+        let here : index / 2 ^ 1 < length (get_or rows 0 []) =
+        place-inside rows (length leaves) tree.levels 0 index (omega (arith, tree.count)) inside in
         let lowest = bottom-row (index / 2) (omega arith) in
         let own = own_path-rows (beside_in rows m index) refl in
         let up = climbed-own m (omega (arith, tree.count)) (get_or (get_or rows 0 []) (index / 2) []) (rw half refl) in
-        ap (λ (way : Way). path_root h way (get_or leaves index [])) own ∙ rw (ordered-neighbour h.bottom leaves index, lowest, up, first_place, root-top) refl
+        ap (λ (way : Way). path_root h way (get_or leaves index [])) own ∙ rw (
+          ordered-neighbour h.bottom leaves index,
+          lowest,
+          up,
+          first_place,
+          root-top,
+        ) refl
 
     -- beside a leaf stands another
     pub leaf-neighbour : neighbour index < length leaves
@@ -149,5 +194,6 @@ module _ (h : HashPair) (leaves : List Digest) (rows : List (List Digest)) (tree
         rw twice (neighbour-inside index (2 ^ upper_levels leaves) (omega arith))
 
     -- a tree's own path is accepted with its leaf's digest
-    pub own_path-accepted : (way : Way) (leaf : Outcome Digest) (r : Digest) → own_path h index leaves ≡ way → leaf ≡ Ok (get_or leaves index []) → root h leaves ≡ Ok r → verdict h leaf way r ≡ Ok true
+    pub own_path-accepted : (way : Way) (leaf : Outcome Digest) (r : Digest) → own_path h index leaves ≡ way → leaf
+        ≡ Ok (get_or leaves index []) → root h leaves ≡ Ok r → verdict h leaf way r ≡ Ok true
     own_path-accepted way leaf r own digest rooted = rw (← own, digest, own_path-top, rooted) (ap Ok (digest_eq-same r))

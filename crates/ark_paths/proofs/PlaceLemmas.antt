@@ -17,10 +17,12 @@ module _ (rows : List (List Digest)) (size : ℕ) (levels : AreLevels size rows)
       let next = length (get_or rows (suc k) []) in
       let w : 0 < 2 ^ suc k = pow_pos (suc k) in
       let twice : next * 2 ^ suc (suc k) ≡ 2 * next * 2 ^ suc k = rw (pow-succ' 2 (suc k)) (grind arith) in
-      same_factor (length (get_or rows k [])) (2 * next) (2 ^ suc k) w (levels k (omega arith) ∙ sym (levels (suc k) below) ∙ twice)
+      same_factor (length (get_or rows k [])) (2 * next) (2 ^ suc k) w (levels k (omega arith)
+      ∙ sym (levels (suc k) below) ∙ twice)
 
   pub place-inside : (k index : ℕ) → k < length rows → index < size → index / 2 ^ suc k < length (get_or rows k [])
-  place-inside k index below inside = div_below index (2 ^ suc k) (length (get_or rows k [])) (pow_pos (suc k)) (let level = levels k below in omega arith)
+  place-inside k index below inside = div_below index (2 ^ suc k) (length (get_or rows k [])) (pow_pos (suc k))
+      (let level = levels k below in omega arith)
 
   -- a row's level is one of 64 bits
   pub level-fits : (k index : ℕ) → k < length rows → index < size → size < 2 ^ 64 → suc k < 64
@@ -37,22 +39,30 @@ module _ (rows : List (List Digest)) (size : ℕ) (levels : AreLevels size rows)
             absurd (omega (arith, large, whole))
       ]
 
-neighbour_by : (b : Bool) (place n : ℕ) → bit_at place 0 ≡ b → place < 2 * n → (if b then place - 1 else place + 1) < 2 * n
-neighbour_by true place n is below = let odd : (place / 2 ^ 0) % 2 ≡ 1 = eqb-true ((place / 2 ^ 0) % 2) 1 is in omega arith
-neighbour_by false place n is below = let even : (place / 2 ^ 0) % 2 ≡ 1 → ⊥ = eqb-false ((place / 2 ^ 0) % 2) 1 is in omega arith
+neighbour_by : (b : Bool) (place n : ℕ) → bit_at place 0 ≡ b → place < 2 * n
+    → (if b then place - 1 else place + 1) < 2 * n
+neighbour_by true place n is below = let odd : (place / 2 ^ 0) % 2 ≡ 1 =
+    eqb-true ((place / 2 ^ 0) % 2) 1 is in omega arith
+neighbour_by false place n is below = let even : (place / 2 ^ 0) % 2 ≡ 1 → ⊥ =
+    eqb-false ((place / 2 ^ 0) % 2) 1 is in omega arith
 
 -- beside a place of an even row stands another
 pub neighbour-inside : (place n : ℕ) → place < 2 * n → neighbour place < 2 * n
 neighbour-inside place n below = neighbour_by (bit_at place 0) place n refl below
 
 -- beside the way of an index, below a level, stands another digest
-pub way-neighbour : (rows : List (List Digest)) (size : ℕ) → AreLevels size rows → (index : ℕ) → index < size → (level : ℕ) → 1 ≤ level → level < length rows → neighbour (index / 2 ^ level) < length (get_or rows (level - 1) [])
+pub way-neighbour : (rows : List (List Digest)) (size : ℕ) → AreLevels size rows → (index : ℕ) → index < size
+    → (level : ℕ) → 1 ≤ level → level < length rows → neighbour (index / 2 ^ level) < length
+    (get_or rows (level - 1) [])
 way-neighbour rows size levels index inside level some below =
     let k = level - 1 in
     let is : suc k ≡ level = omega arith in
-    let twice : length (get_or rows k []) ≡ 2 * length (get_or rows (suc k) []) = row-twice rows size levels k (omega arith) in
-    let place : index / 2 ^ suc k < length (get_or rows k []) = place-inside rows size levels k index (omega arith) inside in
-    let next : neighbour (index / 2 ^ suc k) < 2 * length (get_or rows (suc k) []) = neighbour-inside (index / 2 ^ suc k) (length (get_or rows (suc k) [])) (omega arith) in
+    let twice : length (get_or rows k []) ≡ 2 * length (get_or rows (suc k) []) =
+    row-twice rows size levels k (omega arith) in
+    let place : index / 2 ^ suc k < length (get_or rows k []) =
+    place-inside rows size levels k index (omega arith) inside in
+    let next : neighbour (index / 2 ^ suc k) < 2 * length (get_or rows (suc k) []) =
+    neighbour-inside (index / 2 ^ suc k) (length (get_or rows (suc k) [])) (omega arith) in
     subst (λ (n : ℕ). neighbour (index / 2 ^ n) < length (get_or rows k [])) is (omega (arith, twice, next))
 
 module _ (rows : List (List Digest)) (index : ℕ) (holds : HoldsIndex rows index) where

@@ -26,14 +26,17 @@ use Rattle.ark_paths.proofs.StrictReadings.{read_of, fault_of}
 
 -- ---- the refusals
 
-pub refused_alike : {A B : Type 0} (plain : Reading A) (reading : Reading B) → ((fault : SerializationError) → plain ≡ Err fault → reading ≡ Err fault) → (e : Error) → reading_outcome plain ≡ Err e → reading_outcome reading ≡ Err e
+pub refused_alike : {A B : Type 0} (plain : Reading A) (reading : Reading B) → ((fault : SerializationError) → plain
+    ≡ Err fault → reading ≡ Err fault) → (e : Error) → reading_outcome plain ≡ Err e → reading_outcome reading ≡ Err e
 refused_alike plain reading alike e refused = let f = fault_of plain e refused in rw (alike f.0 f.1) (ap Err (sym f.2))
 
 module _ (size index : ℕ) (reading : Reading Way) (sized : is_tree_size size ≡ true) where
   pub received-fault : (e : Error) → reading_outcome reading ≡ Err e → received_path size index reading ≡ Err e
   received-fault e refused = rw (sized, refused) refl
 
-  module _ (way : Way) (rest : List ℕ) (read : reading ≡ Ok (way, rest)) (above own : ℕ) (asked : Bool) (long : length way.above ≡ above) (at : way.index ≡ own) (is : asked ≡ ((own == index) && nat_lt index size)) where
+  module _ (way : Way) (rest : List ℕ) (read : reading ≡ Ok (way, rest)) (above own : ℕ) (asked : Bool)
+      (long : length way.above ≡ above) (at : way.index ≡ own) (is : asked
+      ≡ ((own == index) && nat_lt index size)) where
     pub received-unfit : (e : Error) → is_fit size rest above asked ≡ Err e → received_path size index reading ≡ Err e
     received-unfit e refused = rw (sized, read, long, at, ← is, refused) refl
 
@@ -61,22 +64,29 @@ pub record IsFit (size : ℕ) (behind : List ℕ) (above : ℕ) (asked : Bool) :
   pub long : above ≡ log2 size - 1
   pub is_asked : asked ≡ true
 
-pub fit : (size : ℕ) (behind : List ℕ) (above : ℕ) (asked : Bool) → is_fit size behind above asked ≡ Ok tt → IsFit size behind above asked
+pub fit : (size : ℕ) (behind : List ℕ) (above : ℕ) (asked : Bool) → is_fit size behind above asked ≡ Ok tt
+    → IsFit size behind above asked
 fit size behind above asked is =
-    let first = bind_ok (provided (length behind == 0) (OfBytes InvalidData)) (λ _. provided (above == log2 size - 1) (IncorrectInputLength above) >>= λ _. provided asked (OfBytes InvalidData)) tt is in
-    let second = bind_ok (provided (above == log2 size - 1) (IncorrectInputLength above)) (λ _. provided asked (OfBytes InvalidData)) tt first.2 in
+    let first = bind_ok (provided (length behind == 0) (OfBytes InvalidData)) (λ _. provided (above == log2 size - 1)
+    (IncorrectInputLength above) >>= λ _. provided asked (OfBytes InvalidData)) tt is in
+    let second = bind_ok (provided (above == log2 size - 1) (IncorrectInputLength above))
+    (λ _. provided asked (OfBytes InvalidData)) tt first.2 in
     record {
-      none_behind = none-left behind (eqb-true (length behind) 0 (provided-true (length behind == 0) (OfBytes InvalidData) first.1));
-      long = eqb-true above (log2 size - 1) (provided-true (above == log2 size - 1) (IncorrectInputLength above) second.1);
+      none_behind = none-left behind (eqb-true (length behind) 0 (provided-true (length behind == 0)
+          (OfBytes InvalidData) first.1));
+      long = eqb-true above (log2 size - 1) (provided-true (above == log2 size - 1)
+          (IncorrectInputLength above) second.1);
       is_asked = provided-true asked (OfBytes InvalidData) second.2;
     }
 
 pub size-decided : (size : ℕ) → is_tree_size size ≡ true → IsTreeSize size
-size-decided size is = let both = both_true (nat_lt 1 size) (size == 2 ^ log2 size) is in (power_decided size (ltb-true 1 size both.0)).0 both.1
+size-decided size is = let both = both_true (nat_lt 1 size) (size == 2 ^ log2 size) is in
+    (power_decided size (ltb-true 1 size both.0)).0 both.1
 
 -- a path of the tree's length, at its index, shows what it binds
 module _ {A : Type 0} (hashes : Hashes A) (r : Digest) (size index : ℕ) (leaf : A) (way : Way) where
-  pub bound-stands-at : IsTreeSize size → length way.above ≡ log2 size - 1 → way.index ≡ index → index < size → BindsLeaf hashes r leaf way → StandsAt hashes r size index leaf way
+  pub bound-stands-at : IsTreeSize size → length way.above ≡ log2 size - 1 → way.index ≡ index → index < size
+      → BindsLeaf hashes r leaf way → StandsAt hashes r size index leaf way
   bound-stands-at sized long at below bound = (
     below,
     λ digests same rooted.
@@ -85,55 +95,81 @@ module _ {A : Type 0} (hashes : Hashes A) (r : Digest) (size index : ℕ) (leaf 
         (bound digests (subst IsTreeSize (sym same) sized) (long ∙ ap (λ (n : ℕ). log2 n - 1) (sym same)) rooted),
   )
 
-  pub received-shows : (reading : Reading Way) → received_path size index reading ≡ Ok way → BindsLeaf hashes r leaf way → ShowsLeaf hashes r size index leaf reading
+  pub received-shows : (reading : Reading Way) → received_path size index reading ≡ Ok way → BindsLeaf hashes r leaf way
+      → ShowsLeaf hashes r size index leaf reading
   received-shows reading received bound =
-      let sized = bind_ok (provided (is_tree_size size) (IncorrectInputLength size)) (λ _. reading_outcome reading >>= fit_path size index) way received in
+      let sized = bind_ok (provided (is_tree_size size) (IncorrectInputLength size)) (λ _. reading_outcome reading >>=
+      fit_path size index) way received in
       let read = bind_ok (reading_outcome reading) (fit_path size index) way sized.2 in
       let asked = ((read.0.0.index == index) && nat_lt index size) in
       let fits = bind_ok (is_fit size read.0.1 (length read.0.0.above) asked) (λ _. Ok read.0.0) way read.2 in
-      by_parts (provided-true (is_tree_size size) (IncorrectInputLength size) sized.1) read.0.0 read.0.1 (read_of reading read.0 read.1) (done_injective _ _ fits.2) (fit size read.0.1 (length read.0.0.above) asked fits.1)
+      by_parts (provided-true (is_tree_size size) (IncorrectInputLength size) sized.1) read.0.0 read.0.1
+      (read_of reading read.0 read.1) (done_injective _ _ fits.2) (fit size read.0.1 (length read.0.0.above)
+      asked fits.1)
     where
-      by_parts : is_tree_size size ≡ true → (own : Way) (rest : List ℕ) → reading ≡ Ok (own, rest) → own ≡ way → IsFit size rest (length own.above) ((own.index == index) && nat_lt index size) → ShowsLeaf hashes r size index leaf reading
+      by_parts : is_tree_size size ≡ true → (own : Way) (rest : List ℕ) → reading ≡ Ok (own, rest) → own ≡ way
+          → IsFit size rest (length own.above) ((own.index == index) && nat_lt index size) → ShowsLeaf hashes
+          r size index
+          leaf reading
       by_parts sized own rest read same fits =
           let asked = both_true (own.index == index) (nat_lt index size) fits.is_asked in
           let below = ltb-true index size asked.1 in
-          let at = eqb-true own.index index asked.0 in
-          (way, read ∙ (λ i. Ok (same i, fits.none_behind i)), bound-stands-at (size-decided size sized) (ap (λ (w : Way). length w.above) (sym same) ∙ fits.long) (ap (λ (w : Way). w.index) (sym same) ∙ at) below bound)
+          let at = eqb-true own.index index asked.0 in (
+            way,
+            read ∙ (λ i. Ok (same i, fits.none_behind i)),
+            bound-stands-at (size-decided size sized)
+                (ap (λ (w : Way). length w.above) (sym same) ∙ fits.long) (ap (λ (w : Way). w.index) (sym same) ∙ at)
+                below bound,
+          )
 
 -- ---- strict multi-proofs
 
 module _ (size : ℕ) (indexes : List ℕ) (reading : Reading MultiWay) (sized : is_tree_size size ≡ true) where
-  pub received-multi-fault : (e : Error) → reading_outcome (strict_reading reading) ≡ Err e → received_multi_path size indexes reading ≡ Err e
+  pub received-multi-fault : (e : Error) → reading_outcome (strict_reading reading) ≡ Err e → received_multi_path size
+      indexes reading ≡ Err e
   received-multi-fault e refused = rw (sized, refused) refl
 
-  module _ (m : MultiWay) (rest : List ℕ) (read : reading_outcome (strict_reading reading) ≡ Ok (m, rest)) (above : ℕ) (own : List ℕ) (asked : Bool) (long : path_length m ≡ above) (at : m.indexes ≡ own) (is : asked ≡ bytes_eq own indexes) where
-    pub received-multi-unfit : (e : Error) → is_fit size rest above asked ≡ Err e → received_multi_path size indexes reading ≡ Err e
+  module _ (m : MultiWay) (rest : List ℕ) (read : reading_outcome (strict_reading reading) ≡ Ok (m, rest)) (above : ℕ)
+      (own : List ℕ) (asked : Bool) (long : path_length m ≡ above) (at : m.indexes ≡ own) (is : asked ≡ bytes_eq own
+      indexes) where
+    pub received-multi-unfit : (e : Error) → is_fit size rest above asked ≡ Err e → received_multi_path size indexes
+        reading ≡ Err e
     received-multi-unfit e refused = rw (sized, read, long, at, ← is, refused) refl
 
     pub received-multi-fit : is_fit size rest above asked ≡ Ok tt → received_multi_path size indexes reading ≡ Ok m
     received-multi-fit fits = rw (sized, read, long, at, ← is, fits) refl
 
 -- what is read strictly is strict
-strict-of : (reading : Reading MultiWay) (m : MultiWay) (rest : List ℕ) → strict_reading reading ≡ Ok (m, rest) → is_strict m ≡ true
+strict-of : (reading : Reading MultiWay) (m : MultiWay) (rest : List ℕ) → strict_reading reading ≡ Ok (m, rest)
+    → is_strict m ≡ true
 strict-of reading m rest is =
-    let read = bind_ok reading (λ (r : MultiWay × List ℕ). if is_strict r.0 then Ok r else Err InvalidData) (m, rest) is in
+    let read = bind_ok reading (λ (r : MultiWay × List ℕ). if is_strict r.0 then Ok r else Err InvalidData)
+    (m, rest) is in
     by_test read.0 (is_strict read.0.0) refl read.2
   where
-    by_test : (r : MultiWay × List ℕ) (t : Bool) → is_strict r.0 ≡ t → (if t then Ok r else Err InvalidData) ≡ Ok (m, rest) → is_strict m ≡ true
+    by_test : (r : MultiWay × List ℕ) (t : Bool) → is_strict r.0 ≡ t → (if t then Ok r else Err InvalidData)
+        ≡ Ok (m, rest) → is_strict m ≡ true
     by_test r true holds same = ap (λ (q : MultiWay × List ℕ). is_strict q.0) (sym (done_injective _ _ same)) ∙ holds
     by_test r false holds same = absurd cc
 
 module _ {A : Type 0} (hashes : Hashes A) (r : Digest) (size : ℕ) (sized : IsTreeSize size) where
   -- each leaf that its path binds stands at the path's index
-  stand-bound : (ways : List Way) (leaves : List A) → AllByRecursion (λ way. length way.above ≡ log2 size - 1) ways → AllByRecursion (λ (way : Way). way.index < size) ways → BindsLeaves hashes r leaves (map Some ways) → StandInTurn hashes r size leaves ways
+  stand-bound : (ways : List Way) (leaves : List A) → AllByRecursion (λ way. length way.above ≡ log2 size - 1) ways
+      → AllByRecursion (λ (way : Way). way.index < size) ways → BindsLeaves hashes r leaves (map Some ways)
+      → StandInTurn hashes r size leaves ways
   stand-bound [] leaves long inside bound = tt
   stand-bound (way ∷ ways) [] long inside bound = bound
-  stand-bound (way ∷ ways) (leaf ∷ leaves) long inside bound =
-      (bound-stands-at hashes r size way.index leaf way sized long.0 refl inside.0 bound.0, stand-bound ways leaves long.1 inside.1 bound.1)
+  stand-bound (way ∷ ways) (leaf ∷ leaves) long inside bound = (
+    bound-stands-at hashes r size way.index leaf way sized long.0 refl inside.0 bound.0,
+    stand-bound ways leaves
+        long.1 inside.1 bound.1,
+  )
 
-all-below : (bound : ℕ) (ways : List Way) → list_all (λ index. nat_lt index bound) (map (λ way. way.index) ways) ≡ true → AllByRecursion (λ (way : Way). way.index < bound) ways
+all-below : (bound : ℕ) (ways : List Way) → list_all (λ index. nat_lt index bound) (map (λ way. way.index) ways) ≡ true
+    → AllByRecursion (λ (way : Way). way.index < bound) ways
 all-below bound [] all = tt
-all-below bound (way ∷ ways) all = let both = both_true (nat_lt way.index bound) (list_all (λ index. nat_lt index bound) (map (λ way. way.index) ways)) all in (ltb-true way.index bound both.0, all-below bound ways both.1)
+all-below bound (way ∷ ways) all = let both = both_true (nat_lt way.index bound) (list_all (λ index. nat_lt index bound)
+    (map (λ way. way.index) ways)) all in (ltb-true way.index bound both.0, all-below bound ways both.1)
 
 size-power : (size : ℕ) → IsTreeSize size → size ≡ 2 ^ (log2 size - 1 + 1)
 size-power size sized =
@@ -141,20 +177,29 @@ size-power size sized =
     let up : log2 size - 1 + 1 ≡ suc sized.0 = omega (arith, log) in
     rw (up) sized.1
 
-module _ {A : Type 0} (hashes : Hashes A) (r : Digest) (size : ℕ) (indexes : List ℕ) (leaves : List A) (m : MultiWay) where
-  pub received-multi-shows : (reading : Reading MultiWay) → received_multi_path size indexes reading ≡ Ok m → BindsLeaves hashes r leaves (decoded_paths m) → ShowsLeaves hashes r size indexes leaves reading
+module _ {A : Type 0} (hashes : Hashes A) (r : Digest) (size : ℕ) (indexes : List ℕ) (leaves : List A)
+    (m : MultiWay) where
+  pub received-multi-shows : (reading : Reading MultiWay) → received_multi_path size indexes reading ≡ Ok m
+      → BindsLeaves hashes r leaves (decoded_paths m) → ShowsLeaves hashes r size indexes leaves reading
   received-multi-shows reading received bound =
-      let sized = bind_ok (provided (is_tree_size size) (IncorrectInputLength size)) (λ _. reading_outcome (strict_reading reading) >>= fit_multi_path size indexes) m received in
+      let sized = bind_ok (provided (is_tree_size size) (IncorrectInputLength size))
+      (λ _. reading_outcome (strict_reading reading) >>= fit_multi_path size indexes) m received in
       let read = bind_ok (reading_outcome (strict_reading reading)) (fit_multi_path size indexes) m sized.2 in
       let asked = bytes_eq read.0.0.indexes indexes in
       let fits = bind_ok (is_fit size read.0.1 (path_length read.0.0) asked) (λ _. Ok read.0.0) m read.2 in
-      by_parts (provided-true (is_tree_size size) (IncorrectInputLength size) sized.1) read.0.0 read.0.1 (read_of (strict_reading reading) read.0 read.1) (done_injective _ _ fits.2) (fit size read.0.1 (path_length read.0.0) asked fits.1)
+      by_parts (provided-true (is_tree_size size) (IncorrectInputLength size) sized.1) read.0.0 read.0.1
+      (read_of (strict_reading reading) read.0 read.1) (done_injective _ _ fits.2)
+      (fit size read.0.1 (path_length read.0.0) asked fits.1)
     where
-      by_parts : is_tree_size size ≡ true → (own : MultiWay) (rest : List ℕ) → strict_reading reading ≡ Ok (own, rest) → own ≡ m → IsFit size rest (path_length own) (bytes_eq own.indexes indexes) → ShowsLeaves hashes r size indexes leaves reading
+      by_parts : is_tree_size size ≡ true → (own : MultiWay) (rest : List ℕ) → strict_reading reading ≡ Ok (own, rest)
+          → own ≡ m → IsFit size rest (path_length own) (bytes_eq own.indexes indexes) → ShowsLeaves hashes r
+          size indexes
+          leaves reading
       by_parts sized own rest read same fits =
           let strict = strict-of reading own rest read in
           let made = made_of own strict in
-          let power : 2 ^ (path_length own + 1) ≡ size = ap (λ (n : ℕ). 2 ^ (n + 1)) fits.long ∙ sym (size-power size (size-decided size sized)) in
+          let power : 2 ^ (path_length own + 1) ≡ size =
+          ap (λ (n : ℕ). 2 ^ (n + 1)) fits.long ∙ sym (size-power size (size-decided size sized)) in
           let below = all-below (2 ^ (path_length own + 1)) made.ways (rw made.indexes at (within_tree own strict)) in
           let paths : decoded_paths m ≡ map Some made.ways = ap decoded_paths (sym same) ∙ made.decoded in
           record {

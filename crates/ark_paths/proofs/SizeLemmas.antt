@@ -14,7 +14,8 @@ by_exponent n (suc m) some is = (m, is)
 pub power_decided : (n : ℕ) → 1 < n → Decides (nat_eq n (2 ^ log2 n)) (IsTreeSize n)
 power_decided n some = (
   λ same. by_exponent n (log2 n) some (eqb-true n (2 ^ log2 n) same),
-  λ size. let log : log2 n ≡ suc size.0 = ap log2 size.1 ∙ log2-pow (suc size.0) in rw log (eq-eqb n (2 ^ suc size.0) size.1),
+  λ size. let log : log2 n ≡ suc size.0 =
+      ap log2 size.1 ∙ log2-pow (suc size.0) in rw log (eq-eqb n (2 ^ suc size.0) size.1),
 )
 
 -- the same, with the power as it is computed

@@ -30,42 +30,79 @@ pub record IsMadeOf (m : MultiWay) (i : ℕ) (before : List Digest) : Type 0 whe
   pub indexes : drop i m.indexes ≡ map (λ way. way.index) ways
   pub long : AllByRecursion (λ way. length way.above ≡ path_length m) ways
 
-module _ (m : MultiWay) (siblings : length m.siblings ≡ length m.indexes) (prefixes : length m.prefixes ≡ length m.indexes) (suffixes : length m.suffixes ≡ length m.indexes) where
+module _ (m : MultiWay) (siblings : length m.siblings ≡ length m.indexes) (prefixes : length m.prefixes
+    ≡ length m.indexes) (suffixes : length m.suffixes ≡ length m.indexes) where
   module _ (i : ℕ) (before : List Digest) (below : i < length m.indexes) where
     abbrev here : Way
-    here = record { sibling = get_or m.siblings i []; above = take (get_or m.prefixes i 0) before ++ get_or m.suffixes i []; index = get_or m.indexes i 0 }
+    here = record {
+      sibling = get_or m.siblings i [];
+      above = take (get_or m.prefixes i 0) before ++ get_or m.suffixes i
+          [];
+      index = get_or m.indexes i 0;
+    }
 
-    step : (fits : Bool) → nat_eq (get_or m.prefixes i 0 + length (get_or m.suffixes i [])) (path_length m) ≡ fits → fits ≡ true → decoded_path m i before (get_or m.indexes i 0) ≡ Some here
+    step : (fits : Bool) → nat_eq (get_or m.prefixes i 0 + length (get_or m.suffixes i [])) (path_length m) ≡ fits
+        → fits ≡ true → decoded_path m i before (get_or m.indexes i 0) ≡ Some here
     step fits e holds =
-        let sums : nat_eq (get_or m.prefixes i 0 + length (get_or m.suffixes i [])) (path_length m) ≡ true = e ∙ holds in
-        rw (slice_get-drop m.siblings i _ _ (drop_more m.siblings i [] (omega (arith, siblings))), slice_get-drop m.prefixes i _ _ (drop_more m.prefixes i 0 (omega (arith, prefixes))), slice_get-drop m.suffixes i _ _ (drop_more m.suffixes i [] (omega (arith, suffixes))), sums) refl
+        let sums : nat_eq (get_or m.prefixes i 0 + length (get_or m.suffixes i [])) (path_length m) ≡ true =
+        e ∙ holds in
+        rw (
+          slice_get-drop m.siblings i _ _ (drop_more m.siblings i [] (omega (arith, siblings))),
+          slice_get-drop
+              m.prefixes i _ _ (drop_more m.prefixes i 0 (omega (arith, prefixes))),
+          slice_get-drop m.suffixes i _ _
+              (drop_more m.suffixes i [] (omega (arith, suffixes))),
+          sums,
+        ) refl
 
-    IsMadeOf-more : nat_eq (get_or m.prefixes i 0 + length (get_or m.suffixes i [])) (path_length m) ≡ true → all_shared before (get_or m.prefixes i 0) (get_or m.suffixes i []) ≡ true → IsMadeOf m (suc i) here.above → IsMadeOf m i before
+    IsMadeOf-more : nat_eq (get_or m.prefixes i 0 + length (get_or m.suffixes i [])) (path_length m) ≡ true
+        → all_shared before (get_or m.prefixes i 0) (get_or m.suffixes i []) ≡ true → IsMadeOf m (suc i) here.above
+        → IsMadeOf m i before
     IsMadeOf-more sums shared rest =
         let prefix = get_or m.prefixes i 0 in
         let suffix = get_or m.suffixes i [] in
         let longest : prefix ≡ shared_count before here.above = eqb-true prefix _ shared in
         let within : prefix ≤ length before = omega (arith, longest, shared-le_before before here.above) in
-        let others : suffix ≡ drop prefix here.above = sym (ap (λ (n : ℕ). drop n here.above) (sym (length-take-le prefix before within)) ∙ drop-append_seam (take prefix before) suffix) in
+        let others : suffix ≡ drop prefix here.above = sym (ap (λ (n : ℕ). drop n here.above)
+        (sym (length-take-le prefix before within)) ∙ drop-append_seam (take prefix before) suffix) in
         record {
           ways = here ∷ rest.ways;
-          decoded = rw (next-is m.indexes i 0 below, step _ refl sums) (ap (λ (ways : List (Option Way)). Some here ∷ ways) rest.decoded);
+          decoded = rw (next-is m.indexes i 0 below, step _ refl sums) (ap (λ (ways : List (Option Way)). Some here
+              ∷ ways) rest.decoded);
           parts = record {
-            siblings = next-is m.siblings i [] (omega (arith, siblings)) ∙ ap (λ (ds : List Digest). here.sibling ∷ ds) rest.parts.siblings;
-            prefixes = next-is m.prefixes i 0 (omega (arith, prefixes)) ∙ ap (λ (n : ℕ). n ∷ drop (suc i) m.prefixes) longest ∙ ap (λ (ns : List ℕ). shared_count before here.above ∷ ns) rest.parts.prefixes;
-            suffixes = next-is m.suffixes i [] (omega (arith, suffixes)) ∙ ap (λ (ds : List Digest). ds ∷ drop (suc i) m.suffixes) (others ∙ ap (λ (n : ℕ). drop n here.above) longest) ∙ ap (λ (ds : List (List Digest)). drop (shared_count before here.above) here.above ∷ ds) rest.parts.suffixes;
+            siblings = next-is m.siblings i [] (omega (arith, siblings)) ∙ ap (λ (ds : List Digest). here.sibling ∷ ds)
+                rest.parts.siblings;
+            prefixes = next-is m.prefixes i 0 (omega (arith, prefixes)) ∙ ap (λ (n : ℕ). n ∷ drop (suc i) m.prefixes)
+                longest ∙ ap (λ (ns : List ℕ). shared_count before here.above ∷ ns) rest.parts.prefixes;
+            suffixes = next-is m.suffixes i [] (omega (arith, suffixes)) ∙ ap (λ (ds : List Digest). ds ∷ drop (suc i)
+                m.suffixes) (others ∙ ap (λ (n : ℕ). drop n here.above) longest) ∙ ap (λ (ds : List (List Digest)). drop
+                (shared_count before here.above) here.above ∷ ds) rest.parts.suffixes;
           };
           indexes = next-is m.indexes i 0 below ∙ ap (λ (ns : List ℕ). here.index ∷ ns) rest.indexes;
-          long = (omega (arith, length-append (take prefix before) suffix, length-take-le prefix before within, eqb-true (prefix + length suffix) (path_length m) sums), rest.long);
+          long = (
+            omega (
+              arith,
+              length-append (take prefix before) suffix,
+              length-take-le prefix before within,
+              eqb-true (prefix + length suffix) (path_length m) sums,
+            ),
+            rest.long,
+          );
         }
 
-  IsMadeOf-left : (left i : ℕ) (before : List Digest) → i + left ≡ length m.indexes → longest_left m i before ≡ true → IsMadeOf m i before
+  IsMadeOf-left : (left i : ℕ) (before : List Digest) → i + left ≡ length m.indexes → longest_left m i before ≡ true
+      → IsMadeOf m i before
   IsMadeOf-left zero i before all holds =
       let none = drop_all i m.indexes (omega arith) in
       record {
         ways = [];
         decoded = rw none refl;
-        parts = record { siblings = drop_all i m.siblings (omega (arith, siblings)); prefixes = drop_all i m.prefixes (omega (arith, prefixes)); suffixes = drop_all i m.suffixes (omega (arith, suffixes)) };
+        parts = record {
+          siblings = drop_all i m.siblings (omega (arith, siblings));
+          prefixes = drop_all i m.prefixes
+              (omega (arith, prefixes));
+          suffixes = drop_all i m.suffixes (omega (arith, suffixes));
+        };
         indexes = none;
         long = tt;
       }
@@ -73,15 +110,20 @@ module _ (m : MultiWay) (siblings : length m.siblings ≡ length m.indexes) (pre
       let prefix = get_or m.prefixes i 0 in
       let suffix = get_or m.suffixes i [] in
       let below : i < length m.indexes = omega arith in
-      let next = longest_left-next m i before (get_or m.indexes i 0) prefix (get_or m.siblings i []) suffix _ _ (drop_more m.indexes i 0 below) (drop_more m.prefixes i 0 (omega (arith, prefixes))) (drop_more m.siblings i [] (omega (arith, siblings))) (drop_more m.suffixes i [] (omega (arith, suffixes))) _ refl in
-      let split = both_hold (nat_eq (prefix + length suffix) (path_length m) && all_shared before prefix suffix) _ (sym next ∙ holds) in
+      let next = longest_left-next m i before (get_or m.indexes i 0) prefix (get_or m.siblings i []) suffix _ _
+      (drop_more m.indexes i 0 below) (drop_more m.prefixes i 0 (omega (arith, prefixes))) (drop_more m.siblings i
+      [] (omega (arith, siblings))) (drop_more m.suffixes i [] (omega (arith, suffixes))) _ refl in
+      let split = both_hold (nat_eq (prefix + length suffix) (path_length m) && all_shared before prefix suffix) _
+      (sym next ∙ holds) in
       let tests = both_hold (nat_eq (prefix + length suffix) (path_length m)) _ split.0 in
       let further : longest_left m (suc i) (take prefix before ++ suffix) ≡ true = rw add-one at split.1 in
-      IsMadeOf-more i before below tests.0 tests.1 (IsMadeOf-left left (suc i) (take prefix before ++ suffix) (omega arith) further)
+      IsMadeOf-more i before below tests.0 tests.1 (IsMadeOf-left left (suc i) (take prefix before ++ suffix)
+      (omega arith) further)
 
 abbrev tests : MultiWay → Bool
 tests m =
-    nat_lt 0 (length m.indexes) && nat_eq (length m.siblings) (length m.indexes) && nat_eq (length m.prefixes) (length m.indexes) && nat_eq (length m.suffixes) (length m.indexes)
+    nat_lt 0 (length m.indexes) && nat_eq (length m.siblings) (length m.indexes) && nat_eq (length m.prefixes)
+    (length m.indexes) && nat_eq (length m.suffixes) (length m.indexes)
     && are_rising m.indexes && list_all (λ index. nat_lt index (2 ^ (path_length m + 1))) m.indexes
 
 pub made_of : (m : MultiWay) → is_strict m ≡ true → IsMadeOf m 0 []
@@ -92,14 +134,23 @@ made_of m strict =
     let suffixes = both_hold _ (nat_eq (length m.suffixes) (length m.indexes)) rising.0 in
     let prefixes = both_hold _ (nat_eq (length m.prefixes) (length m.indexes)) suffixes.0 in
     let siblings = both_hold _ (nat_eq (length m.siblings) (length m.indexes)) prefixes.0 in
-    IsMadeOf-left m (eqb-true _ _ siblings.1) (eqb-true _ _ prefixes.1) (eqb-true _ _ suffixes.1) (length m.indexes) 0 [] (omega arith) longest.1
+    IsMadeOf-left m (eqb-true _ _ siblings.1) (eqb-true _ _ prefixes.1) (eqb-true _ _ suffixes.1) (length m.indexes) 0
+    [] (omega arith) longest.1
 
 -- its indexes are inside the tree of its height
-pub within_tree : (m : MultiWay) → is_strict m ≡ true → list_all (λ index. nat_lt index (2 ^ (path_length m + 1))) m.indexes ≡ true
-within_tree m strict = (both_hold _ (list_all (λ index. nat_lt index (2 ^ (path_length m + 1))) m.indexes) (both_hold (tests m) (longest_left m 0 []) strict).0).1
+pub within_tree : (m : MultiWay) → is_strict m ≡ true → list_all (λ index. nat_lt index (2 ^ (path_length m + 1)))
+    m.indexes ≡ true
+within_tree m strict = (both_hold _ (list_all (λ index. nat_lt index (2 ^ (path_length m + 1))) m.indexes)
+    (both_hold (tests m) (longest_left m 0 []) strict).0).1
 
 is_of_its_paths : (m : MultiWay) (made : IsMadeOf m 0 []) → m ≡ multi_path_of made.ways
-is_of_its_paths m made = λ i. record { siblings = made.parts.siblings i; prefixes = made.parts.prefixes i; suffixes = made.parts.suffixes i; indexes = made.indexes i }
+is_of_its_paths m made = λ i. record {
+  siblings = made.parts.siblings i;
+  prefixes = made.parts.prefixes i;
+  suffixes =
+      made.parts.suffixes i;
+  indexes = made.indexes i;
+}
 
 same_paths : (ways others : List Way) → map Some ways ≡ map Some others → ways ≡ others
 same_paths [] [] e = refl
@@ -115,15 +166,18 @@ pub one_strict : (a b : MultiWay) → is_strict a ≡ true → is_strict b ≡ t
 one_strict a b a_strict b_strict same =
     let a_made = made_of a a_strict in
     let b_made = made_of b b_strict in
-    is_of_its_paths a a_made ∙ ap multi_path_of (same_paths a_made.ways b_made.ways (sym a_made.decoded ∙ same ∙ b_made.decoded)) ∙ sym (is_of_its_paths b b_made)
+    is_of_its_paths a a_made ∙ ap multi_path_of (same_paths a_made.ways b_made.ways (sym a_made.decoded ∙ same
+    ∙ b_made.decoded)) ∙ sym (is_of_its_paths b b_made)
 
 -- ---- the multi-proof of paths in order is strict
 
-length-prefixes_of : (before : List Digest) (lists : List (List Digest)) → length (prefixes_of before lists) ≡ length lists
+length-prefixes_of : (before : List Digest) (lists : List (List Digest)) → length (prefixes_of before lists)
+    ≡ length lists
 length-prefixes_of before [] = refl
 length-prefixes_of before (list ∷ lists) = ap suc (length-prefixes_of list lists)
 
-length-suffixes_of : (before : List Digest) (lists : List (List Digest)) → length (suffixes_of before lists) ≡ length lists
+length-suffixes_of : (before : List Digest) (lists : List (List Digest)) → length (suffixes_of before lists)
+    ≡ length lists
 length-suffixes_of before [] = refl
 length-suffixes_of before (list ∷ lists) = ap suc (length-suffixes_of list lists)
 
@@ -132,22 +186,31 @@ rising-from [] rises = refl
 rising-from (n ∷ []) rises = refl
 rising-from (n ∷ next ∷ numbers) rises =
     let first : n < next = rises 0 (omega arith) in
-    rw (lt-ltb n next first) (rising-from (next ∷ numbers) (λ k below. let further : suc k + 1 ≡ suc (k + 1) = omega arith in rw further at (rises (suc k) (omega (arith, below)))))
+    rw (lt-ltb n next first) (rising-from (next ∷ numbers) (λ k below. let further : suc k + 1 ≡ suc (k + 1) =
+    omega arith in rw further at (rises (suc k) (omega (arith, below)))))
 
-longest-from : (before : List Digest) (ways : List Way) → are_longest before (prefixes_of before (above_of ways)) (map Some ways) ≡ true
+longest-from : (before : List Digest) (ways : List Way) → are_longest before (prefixes_of before (above_of ways))
+    (map Some ways) ≡ true
 longest-from before [] = refl
-longest-from before (way ∷ ways) = rw (eq-eqb (shared_count before way.above) (shared_count before way.above) refl) (longest-from way.above ways)
+longest-from before (way ∷ ways) = rw (eq-eqb (shared_count before way.above) (shared_count before way.above) refl)
+    (longest-from way.above ways)
 
 by_recursion : {X : Type 0} (P : X → Type 0) (xs : List X) → All P xs → AllByRecursion P xs
 by_recursion P [] all = tt
-by_recursion P (x ∷ xs) all = (all 0 x (omega arith), by_recursion P xs (λ k d below. all (suc k) d (omega (arith, below))))
+by_recursion P (x ∷ xs) all = (
+  all 0 x (omega arith),
+  by_recursion P xs (λ k d below. all (suc k) d
+      (omega (arith, below))),
+)
 
 module _ (k : ℕ) (ways : List Way) (order : AreInOrder k ways) where
-  first-long : (ways : List Way) → 0 < length ways → All (λ way. length way.above ≡ k) ways → path_length (multi_path_of ways) ≡ k
+  first-long : (ways : List Way) → 0 < length ways → All (λ way. length way.above ≡ k) ways
+      → path_length (multi_path_of ways) ≡ k
   first-long [] some long = absurd (omega arith)
   first-long (way ∷ ways) some long = long 0 way (omega arith)
 
-  all-inside : (len : ℕ) → len ≡ k → (ways : List Way) → All (λ way. way.index < 2 ^ (k + 1)) ways → list_all (λ index. nat_lt index (2 ^ (len + 1))) (map (λ way. way.index) ways) ≡ true
+  all-inside : (len : ℕ) → len ≡ k → (ways : List Way) → All (λ way. way.index < 2 ^ (k + 1)) ways
+      → list_all (λ index. nat_lt index (2 ^ (len + 1))) (map (λ way. way.index) ways) ≡ true
   all-inside len same [] inside = refl
   all-inside len same (way ∷ ways) inside =
       let first : nat_lt way.index (2 ^ (len + 1)) ≡ true = rw same (lt-ltb _ _ (inside 0 way (omega arith))) in
@@ -161,15 +224,29 @@ module _ (k : ℕ) (ways : List Way) (order : AreInOrder k ways) where
       let m = multi_path_of ways in
       let indexes = length-map ways (λ way. way.index) in
       let count = lt-ltb 0 (length m.indexes) (omega (arith, indexes, order.some)) in
-      let siblings = eq-eqb (length m.siblings) (length m.indexes) (length-map ways (λ way. way.sibling) ∙ sym indexes) in
-      let prefixes = eq-eqb (length m.prefixes) (length m.indexes) (length-prefixes_of [] (above_of ways) ∙ length-map ways (λ way. way.above) ∙ sym indexes) in
-      let suffixes = eq-eqb (length m.suffixes) (length m.indexes) (length-suffixes_of [] (above_of ways) ∙ length-map ways (λ way. way.above) ∙ sym indexes) in
-      rw (count, siblings, prefixes, suffixes, rising-from m.indexes order.rising, all-inside (path_length m) (first-long ways order.some order.same_length) ways order.within_tree, decoded-in_order) (longest-from [] ways)
+      let siblings = eq-eqb (length m.siblings) (length m.indexes) (length-map ways (λ way. way.sibling)
+      ∙ sym indexes) in
+      let prefixes = eq-eqb (length m.prefixes) (length m.indexes) (length-prefixes_of [] (above_of ways)
+      ∙ length-map ways (λ way. way.above) ∙ sym indexes) in
+      let suffixes = eq-eqb (length m.suffixes) (length m.indexes) (length-suffixes_of [] (above_of ways)
+      ∙ length-map ways (λ way. way.above) ∙ sym indexes) in
+      rw (
+        count,
+        siblings,
+        prefixes,
+        suffixes,
+        rising-from m.indexes order.rising,
+        all-inside (path_length m)
+            (first-long ways order.some order.same_length) ways order.within_tree,
+        decoded-in_order,
+      ) (longest-from [] ways)
 
 -- ---- as contracts say it
 
-pub one_spelling : (bytes : MultiWay → List ℕ) (a b : MultiWay) → is_strict a ≡ true → is_strict b ≡ true → decoded_paths a ≡ decoded_paths b → (a ≡ b) × (bytes a ≡ bytes b)
+pub one_spelling : (bytes : MultiWay → List ℕ) (a b : MultiWay) → is_strict a ≡ true → is_strict b ≡ true
+    → decoded_paths a ≡ decoded_paths b → (a ≡ b) × (bytes a ≡ bytes b)
 one_spelling bytes a b a_strict b_strict same = let one = one_strict a b a_strict b_strict same in (one, ap bytes one)
 
-pub each_has_one : (k : ℕ) (ways : List Way) → AreInOrder k ways → (proof : MultiWay) × (is_strict proof ≡ true) × (decoded_paths proof ≡ map Some ways)
+pub each_has_one : (k : ℕ) (ways : List Way) → AreInOrder k ways → (proof : MultiWay) × (is_strict proof ≡ true)
+    × (decoded_paths proof ≡ map Some ways)
 each_has_one k ways order = (multi_path_of ways, strict-in_order k ways order, decoded-in_order k ways order)

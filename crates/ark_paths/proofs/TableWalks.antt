@@ -21,7 +21,8 @@ use Rattle.ark_paths.proofs.Tables.{HoldsPlaces-more, HoldsPlaces-same}
 
 -- ---- the path up to a level
 
-module _ {A : Type 0} (h : HashPair) (view : A → Digest) (xs : List A) (sibling : Digest) (index : ℕ) (digest : Digest) where
+module _ {A : Type 0} (h : HashPair) (view : A → Digest) (xs : List A) (sibling : Digest) (index : ℕ)
+    (digest : Digest) where
   -- the path of the lowest digests
   abbrev pub lower : ℕ → Way
   lower level = record { sibling = sibling; above = map view (drop (length xs - level) xs); index = index }
@@ -34,10 +35,12 @@ module _ {A : Type 0} (h : HashPair) (view : A → Digest) (xs : List A) (siblin
   same_value (Err e) = refl
 
   -- the lowest pair
-  pub path_root-lowest : path_root h (lower 0) digest ≡ h.bottom (couple (bit_at index 0) digest sibling).0 (couple (bit_at index 0) digest sibling).1
+  pub path_root-lowest : path_root h (lower 0) digest ≡ h.bottom (couple (bit_at index 0) digest sibling).0
+      (couple (bit_at index 0) digest sibling).1
   path_root-lowest =
       let none : drop (length xs - 0) xs ≡ [] = drop_all (length xs - 0) xs (omega arith) in
-      rw none (same_value (hash_in_order h.bottom (bit_at index 0) digest sibling)) ∙ sym (hashed-couple h.bottom (bit_at index 0) digest sibling)
+      rw none (same_value (hash_in_order h.bottom (bit_at index 0) digest sibling))
+      ∙ sym (hashed-couple h.bottom (bit_at index 0) digest sibling)
 
   module _ (level : ℕ) (x : A) (below : level < length xs) (is : x ≡ get_or xs (length xs - suc level) x) where
     drop-level : drop (length xs - suc level) xs ≡ x ∷ drop (length xs - level) xs
@@ -49,31 +52,44 @@ module _ {A : Type 0} (h : HashPair) (view : A → Digest) (xs : List A) (siblin
     long = omega (arith, length-map (drop (length xs - level) xs) view, length-drop (length xs - level) xs)
 
     -- one level up
-    pub path_root-up : (current : Digest) → path_root h (lower level) digest ≡ Ok current → path_root h (lower (suc level)) digest ≡ h.upper (couple (bit_at index (suc level)) current (view x)).0 (couple (bit_at index (suc level)) current (view x)).1
-    path_root-up current so = by_lowest (hash_in_order h.bottom (bit_at index 0) digest sibling) so ∙ sym (hashed-couple h.upper (bit_at index (suc level)) current (view x))
+    pub path_root-up : (current : Digest) → path_root h (lower level) digest ≡ Ok current
+        → path_root h (lower (suc level)) digest ≡ h.upper (couple (bit_at index (suc level)) current (view x)).0
+        (couple (bit_at index (suc level)) current (view x)).1
+    path_root-up current so = by_lowest (hash_in_order h.bottom (bit_at index 0) digest sibling) so
+        ∙ sym (hashed-couple h.upper (bit_at index (suc level)) current (view x))
       where
-        by_lowest : (o : Outcome Digest) → (o >>= λ lowest. climb h.upper index (lower level).above lowest) ≡ Ok current → (o >>= λ lowest. climb h.upper index (lower (suc level)).above lowest) ≡ hash_in_order h.upper (bit_at index (suc level)) current (view x)
+        by_lowest : (o : Outcome Digest) → (o >>= λ lowest. climb h.upper index (lower level).above lowest) ≡ Ok current
+            → (o >>= λ lowest. climb h.upper index (lower (suc level)).above lowest) ≡ hash_in_order h.upper
+            (bit_at index (suc level)) current (view x)
         by_lowest (Ok lowest) climbed = rw (drop-level, climbed, long) refl
         by_lowest (Err e) climbed = absurd cc
 
     -- the pair there
-    pub path_pair-up : (current : Digest) (pairs : ℕ × ℕ → Digest × Digest) → HasPairs h whole digest pairs → path_root h (lower level) digest ≡ Ok current → couple (bit_at index (suc level)) current (view x) ≡ pairs (suc level, index / 2 ^ suc (suc level))
+    pub path_pair-up : (current : Digest) (pairs : ℕ × ℕ → Digest × Digest) → HasPairs h whole digest pairs
+        → path_root h (lower level) digest ≡ Ok current → couple (bit_at index (suc level)) current (view x)
+        ≡ pairs (suc level, index / 2 ^ suc (suc level))
     path_pair-up current pairs has so =
         let at = has (suc level) (omega (arith, length-map xs view)) in
-        let here : drop (length (map view xs) - suc level) (map view xs) ≡ view x ∷ map view (drop (length xs - level) xs) = ap (λ (n : ℕ). drop (n - suc level) (map view xs)) (length-map xs view) ∙ drop-map view (length xs - suc level) xs ∙ ap (map view) drop-level in
+        let here : drop (length (map view xs) - suc level) (map view xs) ≡ view x ∷ map view (drop (length xs - level)
+        xs) = ap (λ (n : ℕ). drop (n - suc level) (map view xs)) (length-map xs view) ∙ drop-map view
+        (length xs - suc level) xs ∙ ap (map view) drop-level in
         done_injective _ _ (sym (rw (here, so, long) refl) ∙ at)
 
-  pub path_pair-lowest : (pairs : ℕ × ℕ → Digest × Digest) → HasPairs h whole digest pairs → couple (bit_at index 0) digest sibling ≡ pairs (0, index / 2 ^ 1)
+  pub path_pair-lowest : (pairs : ℕ × ℕ → Digest × Digest) → HasPairs h whole digest pairs → couple (bit_at index 0)
+      digest sibling ≡ pairs (0, index / 2 ^ 1)
   path_pair-lowest pairs has =
       let at = has 0 (omega arith) in
-      let none : drop (length (map view xs) - 0) (map view xs) ≡ [] = drop_all (length (map view xs) - 0) (map view xs) (omega arith) in
+      let none : drop (length (map view xs) - 0) (map view xs) ≡ [] =
+      drop_all (length (map view xs) - 0) (map view xs) (omega arith) in
       done_injective _ _ (sym (rw none refl) ∙ at)
 
   -- a refusal on the way is that of the whole
-  pub path_root-refused : (level : ℕ) (e : Error) → path_root h (lower level) digest ≡ Err e → path_root h whole digest ≡ Err e
+  pub path_root-refused : (level : ℕ) (e : Error) → path_root h (lower level) digest ≡ Err e → path_root h whole
+      digest ≡ Err e
   path_root-refused level e refused = by_lowest (hash_in_order h.bottom (bit_at index 0) digest sibling) refused
     where
-      by_lowest : (o : Outcome Digest) → (o >>= λ lowest. climb h.upper index (lower level).above lowest) ≡ Err e → (o >>= λ lowest. climb h.upper index (map view xs) lowest) ≡ Err e
+      by_lowest : (o : Outcome Digest) → (o >>= λ lowest. climb h.upper index (lower level).above lowest) ≡ Err e
+          → (o >>= λ lowest. climb h.upper index (map view xs) lowest) ≡ Err e
       by_lowest (Ok lowest) at = so_far-refused h.upper index view xs lowest (length xs - level) e at
       by_lowest (Err f) at = at
 
@@ -86,7 +102,8 @@ lt-itself : (n : ℕ) → nat_lt n n ≡ false
 lt-itself n = le-ltb n n (omega arith)
 
 module _ (picks : ℕ → Bool) (level index : ℕ) (seen : List ℕ) where
-  pub asked-here : picks level ≡ true → places_above picks level index seen (level, index / 2 ^ suc level) ≡ is_above level seen (index / 2 ^ suc level)
+  pub asked-here : picks level ≡ true → places_above picks level index seen (level, index / 2 ^ suc level)
+      ≡ is_above level seen (index / 2 ^ suc level)
   asked-here is = rw (is, lt-itself level) refl
 
   -- on another level nothing changes
@@ -99,122 +116,181 @@ module _ (picks : ℕ → Bool) (level index : ℕ) (seen : List ℕ) where
   ]
 
   -- one more place
-  pub placed-here : picks level ≡ true → (place : ℕ × ℕ) → with_place (level, index / 2 ^ suc level) (places_above picks level index seen) place ≡ places_above picks (suc level) index seen place
+  pub placed-here : picks level ≡ true → (place : ℕ × ℕ) → with_place (level, index / 2 ^ suc level)
+      (places_above picks level index seen) place ≡ places_above picks (suc level) index seen place
   placed-here is (l, n) = by_level (eqb_tells level l)
     where
       here : level ≡ l → nat_lt l (suc level) ≡ true
       here same = lt-ltb l (suc level) (omega arith)
 
-      same_level : (nat_eq level l ≡ true) → level ≡ l → with_place (level, index / 2 ^ suc level) (places_above picks level index seen) (l, n) ≡ places_above picks (suc level) index seen (l, n)
+      same_level : (nat_eq level l ≡ true) → level ≡ l → with_place (level, index / 2 ^ suc level)
+          (places_above picks level index seen) (l, n) ≡ places_above picks (suc level) index seen (l, n)
       same_level e same =
           let lt : nat_lt level (suc level) ≡ true = lt-ltb level (suc level) (omega arith) in
           let e_self : nat_eq level level ≡ true = ap (nat_eq level) same ∙ e in
-          subst (λ (k : ℕ). with_place (level, index / 2 ^ suc level) (places_above picks level index seen) (k, n) ≡ places_above picks (suc level) index seen (k, n)) same (rw (e_self, is, lt-itself level, lt) refl)
+          subst (λ (k : ℕ). with_place (level, index / 2 ^ suc level) (places_above picks level index seen) (k, n)
+          ≡ places_above picks (suc level) index seen (k, n)) same (rw (e_self, is, lt-itself level, lt) refl)
 
-      by_level : ((nat_eq level l ≡ true) × (level ≡ l)) ⊎ ((nat_eq level l ≡ false) × (level ≢ l)) → with_place (level, index / 2 ^ suc level) (places_above picks level index seen) (l, n) ≡ places_above picks (suc level) index seen (l, n)
+      by_level : ((nat_eq level l ≡ true) × (level ≡ l)) ⊎ ((nat_eq level l ≡ false) × (level ≢ l))
+          → with_place (level, index / 2 ^ suc level) (places_above picks level index seen) (l, n) ≡ places_above picks
+          (suc level) index seen (l, n)
       by_level (inl (e, same)) = same_level e same
       by_level (inr (e, other)) = rw (e, lt-other l other) refl
 
   -- a level that is not picked
-  pub placed-nowhere : picks level ≡ false → (place : ℕ × ℕ) → places_above picks level index seen place ≡ places_above picks (suc level) index seen place
+  pub placed-nowhere : picks level ≡ false → (place : ℕ × ℕ) → places_above picks level index seen place ≡ places_above
+      picks (suc level) index seen place
   placed-nowhere is (l, n) = by_level (eqb_tells level l)
     where
-      by_level : ((nat_eq level l ≡ true) × (level ≡ l)) ⊎ ((nat_eq level l ≡ false) × (level ≢ l)) → places_above picks level index seen (l, n) ≡ places_above picks (suc level) index seen (l, n)
+      by_level : ((nat_eq level l ≡ true) × (level ≡ l)) ⊎ ((nat_eq level l ≡ false) × (level ≢ l)) → places_above picks
+          level index seen (l, n) ≡ places_above picks (suc level) index seen (l, n)
       by_level (inl (e, same)) = rw (← same, is) refl
       by_level (inr (e, other)) = rw (lt-other l other) refl
 
   -- past all levels that are picked the leaf is one of those seen
-  pub placed-all : ((l : ℕ) → picks l ≡ true → l < level) → (place : ℕ × ℕ) → places_above picks level index seen place ≡ places_above picks 0 index (index ∷ seen) place
+  pub placed-all : ((l : ℕ) → picks l ≡ true → l < level) → (place : ℕ × ℕ) → places_above picks level index seen place
+      ≡ places_above picks 0 index (index ∷ seen) place
   placed-all below (l, n) = by_pick (picks l) refl
     where
-      by_pick : (pick : Bool) → picks l ≡ pick → places_above picks level index seen (l, n) ≡ places_above picks 0 index (index ∷ seen) (l, n)
-      by_pick true is = let none : nat_lt l 0 ≡ false = le-ltb l 0 (omega arith) in rw (is, lt-ltb l level (below l is), none) refl
+      by_pick : (pick : Bool) → picks l ≡ pick → places_above picks level index seen (l, n) ≡ places_above picks 0 index
+          (index ∷ seen) (l, n)
+      by_pick true is = let none : nat_lt l 0 ≡ false =
+          le-ltb l 0 (omega arith) in rw (is, lt-ltb l level (below l is), none) refl
       by_pick false is = rw is refl
 
 -- as many are made as there are new places
-pub count-level : (level index : ℕ) (seen : List ℕ) (old made more : ℕ) → more ≡ made + cond (is_above level seen (index / 2 ^ suc level)) 0 1 → made + count_above level seen ≡ old + count_above level (index ∷ seen)
+pub count-level : (level index : ℕ) (seen : List ℕ) (old made more : ℕ) → more
+    ≡ made + cond (is_above level seen (index / 2 ^ suc level)) 0 1 → made + count_above level seen ≡ old + count_above
+    level (index ∷ seen)
     → more + count_above (suc level) seen ≡ old + count_above (suc level) (index ∷ seen)
 count-level level index seen old made more is before = omega (arith, is, before, places_on-more level index seen)
 
 -- ---- counts
 
-pub RisesBy-chain : (old before after start mid end : ℕ) → old ≤ before → before ≤ after → RisesBy (before - old) start mid → RisesBy (after - before) mid end → RisesBy (after - old) start end
+pub RisesBy-chain : (old before after start mid end : ℕ) → old ≤ before → before ≤ after → RisesBy (before - old) start
+    mid → RisesBy (after - before) mid end → RisesBy (after - old) start end
 RisesBy-chain old before after start mid end first second one two = omega (arith, first, second, one, two)
 
 -- ---- the table on the way
 
-module _ {L D : Type 0} (leaf : L → Digest) (inner : D → Digest) (h : HashPair) (pairs : ℕ × ℕ → Digest × Digest) (above index : ℕ) (seen : List ℕ) where
+module _ {L D : Type 0} (leaf : L → Digest) (inner : D → Digest) (h : HashPair) (pairs : ℕ × ℕ → Digest × Digest)
+    (above index : ℕ) (seen : List ℕ) where
   -- the lowest pair is asked
-  pub HoldsTree-lowest : (old after : Table L D) (number : ℕ) (given : Digest × Digest) → after.upper ≡ old.upper → IsTable leaf inner h old → Extends (map leaf old.leaves.items) (map leaf after.leaves.items) → Extends (map inner old.made.items) (map inner after.made.items)
+  pub HoldsTree-lowest : (old after : Table L D) (number : ℕ) (given : Digest × Digest) → after.upper ≡ old.upper
+      → IsTable leaf inner h old → Extends (map leaf old.leaves.items) (map leaf after.leaves.items)
+      → Extends (map inner old.made.items) (map inner after.made.items)
       → number ≡ index / 2 ^ 1 → given ≡ pairs (0, index / 2 ^ 1)
-      → ((asked : ℕ × ℕ → Bool) → HoldsPlaces leaf (map leaf after.leaves.items) pairs asked old.lowest.all → given ≡ pairs (0, number) → HoldsPlaces leaf (map leaf after.leaves.items) pairs (with_place (0, number) asked) after.lowest.all × (length after.made.items ≡ length old.made.items + cond (asked (0, number)) 0 1))
+      → ((asked : ℕ × ℕ → Bool) → HoldsPlaces leaf (map leaf after.leaves.items) pairs asked old.lowest.all → given
+      ≡ pairs (0, number) → HoldsPlaces leaf (map leaf after.leaves.items) pairs (with_place (0, number) asked)
+      after.lowest.all × (length after.made.items ≡ length old.made.items + cond (asked (0, number)) 0 1))
       → HoldsTree leaf inner pairs above 0 index seen old
-      → HoldsTree leaf inner pairs above 1 index seen after × (length after.made.items + count_above 1 seen ≡ length old.made.items + count_above 1 (index ∷ seen))
+      → HoldsTree leaf inner pairs above 1 index seen after × (length after.made.items + count_above 1 seen
+      ≡ length old.made.items + count_above 1 (index ∷ seen))
   HoldsTree-lowest old after number given same table leaves made at is ask holds =
-      let here = ask (places_above (λ l. nat_eq l 0) 0 index seen) (HoldsPlaces-more leaf h.bottom _ _ _ pairs _ old.lowest leaves table.lowest holds.lowest) (is ∙ ap (λ (n : ℕ). pairs (0, n)) (sym at)) in (
+      let here = ask (places_above (λ l. nat_eq l 0) 0 index seen) (HoldsPlaces-more leaf h.bottom _ _ _ pairs _
+      old.lowest leaves table.lowest holds.lowest) (is ∙ ap (λ (n : ℕ). pairs (0, n)) (sym at)) in (
         record {
-          lowest = HoldsPlaces-same leaf _ pairs _ _ after.lowest.all (λ q. ap (λ (n : ℕ). with_place (0, n) (places_above (λ l. nat_eq l 0) 0 index seen) q) at ∙ placed-here (λ l. nat_eq l 0) 0 index seen refl q) here.0;
-          upper = HoldsPlaces-same inner _ pairs _ _ after.upper.all (placed-nowhere (λ l. nat_lt 0 l && nat_lt l (suc above)) 0 index seen refl) (rw same (HoldsPlaces-more inner h.upper _ _ _ pairs _ old.upper made table.upper holds.upper));
+          lowest = HoldsPlaces-same leaf _ pairs _ _ after.lowest.all
+              (λ q. ap (λ (n : ℕ). with_place (0, n) (places_above (λ l. nat_eq l 0) 0 index seen) q) at
+              ∙ placed-here (λ l. nat_eq l 0) 0 index seen refl q) here.0;
+          upper = HoldsPlaces-same inner _ pairs _ _ after.upper.all (placed-nowhere (λ l. nat_lt 0 l && nat_lt l
+              (suc above)) 0 index seen refl) (rw same (HoldsPlaces-more inner h.upper _ _ _ pairs _ old.upper made
+              table.upper holds.upper));
         },
-        count-level 0 index seen (length old.made.items) (length old.made.items) (length after.made.items) (here.1 ∙ ap (λ (b : Bool). length old.made.items + cond b 0 1) (ap (λ (n : ℕ). places_above (λ l. nat_eq l 0) 0 index seen (0, n)) at ∙ asked-here (λ l. nat_eq l 0) 0 index seen refl)) refl,
+        count-level 0 index seen (length old.made.items) (length old.made.items) (length after.made.items)
+            (here.1 ∙ ap (λ (b : Bool). length old.made.items + cond b 0 1)
+            (ap (λ (n : ℕ). places_above (λ l. nat_eq l 0)
+            0 index seen (0, n)) at ∙ asked-here (λ l. nat_eq l 0) 0 index seen refl)) refl,
       )
 
   -- a pair above it is asked
-  pub HoldsTree-upper : (start level number : ℕ) (before after : Table L D) (given : Digest × Digest) → after.leaves ≡ before.leaves → after.lowest ≡ before.lowest → level < above → number ≡ index / 2 ^ suc (suc level) → given ≡ pairs (suc level, index / 2 ^ suc (suc level))
-      → ((asked : ℕ × ℕ → Bool) → HoldsPlaces inner (map inner before.made.items) pairs asked before.upper.all → given ≡ pairs (suc level, number) → HoldsPlaces inner (map inner after.made.items) pairs (with_place (suc level, number) asked) after.upper.all × (length after.made.items ≡ length before.made.items + cond (asked (suc level, number)) 0 1))
-      → HoldsTree leaf inner pairs above (suc level) index seen before × (length before.made.items + count_above (suc level) seen ≡ start + count_above (suc level) (index ∷ seen))
-      → HoldsTree leaf inner pairs above (suc (suc level)) index seen after × (length after.made.items + count_above (suc (suc level)) seen ≡ start + count_above (suc (suc level)) (index ∷ seen))
+  pub HoldsTree-upper : (start level number : ℕ) (before after : Table L D) (given : Digest × Digest) → after.leaves
+      ≡ before.leaves → after.lowest ≡ before.lowest → level < above → number ≡ index / 2 ^ suc (suc level) → given
+      ≡ pairs (suc level, index / 2 ^ suc (suc level))
+      → ((asked : ℕ × ℕ → Bool) → HoldsPlaces inner (map inner before.made.items) pairs asked before.upper.all → given
+      ≡ pairs (suc level, number) → HoldsPlaces inner (map inner after.made.items) pairs
+      (with_place (suc level, number) asked) after.upper.all × (length after.made.items ≡ length before.made.items
+      + cond (asked (suc level, number)) 0 1))
+      → HoldsTree leaf inner pairs above (suc level) index seen before × (length before.made.items + count_above
+      (suc level) seen ≡ start + count_above (suc level) (index ∷ seen))
+      → HoldsTree leaf inner pairs above (suc (suc level)) index seen after × (length after.made.items + count_above
+      (suc (suc level)) seen ≡ start + count_above (suc (suc level)) (index ∷ seen))
   HoldsTree-upper start level number before after given same_leaves same below at is ask (holds, count) =
       let picks = λ (l : ℕ). nat_lt 0 l && nat_lt l (suc above) in
       let some : nat_lt 0 (suc level) ≡ true = lt-ltb 0 (suc level) (omega arith) in
       let few : nat_lt (suc level) (suc above) ≡ true = lt-ltb (suc level) (suc above) (omega arith) in
       let picked : picks (suc level) ≡ true = rw (some, few) refl in
-      let here = ask (places_above picks (suc level) index seen) holds.upper (is ∙ ap (λ (n : ℕ). pairs (suc level, n)) (sym at)) in (
+      let here = ask (places_above picks (suc level) index seen) holds.upper (is ∙ ap (λ (n : ℕ). pairs (suc level, n))
+      (sym at)) in (
         record {
-          lowest = rw (same_leaves, same) (HoldsPlaces-same leaf _ pairs _ _ before.lowest.all (placed-nowhere (λ l. nat_eq l 0) (suc level) index seen (ne_eqb (suc level) 0 (λ none. omega arith))) holds.lowest);
-          upper = HoldsPlaces-same inner _ pairs _ _ after.upper.all (λ q. ap (λ (n : ℕ). with_place (suc level, n) (places_above picks (suc level) index seen) q) at ∙ placed-here picks (suc level) index seen picked q) here.0;
+          lowest = rw (same_leaves, same) (HoldsPlaces-same leaf _ pairs _ _ before.lowest.all
+              (placed-nowhere (λ l. nat_eq l 0) (suc level) index seen (ne_eqb (suc level) 0 (λ none. omega arith)))
+              holds.lowest);
+          upper = HoldsPlaces-same inner _ pairs _ _ after.upper.all (λ q. ap (λ (n : ℕ). with_place (suc level, n)
+              (places_above picks (suc level) index seen) q) at ∙ placed-here picks (suc level) index seen picked q)
+              here.0;
         },
-        count-level (suc level) index seen start (length before.made.items) (length after.made.items) (here.1 ∙ ap (λ (b : Bool). length before.made.items + cond b 0 1) (ap (λ (n : ℕ). places_above picks (suc level) index seen (suc level, n)) at ∙ asked-here picks (suc level) index seen picked)) count,
+        count-level (suc level) index seen start (length before.made.items) (length after.made.items)
+            (here.1 ∙ ap (λ (b : Bool). length before.made.items + cond b 0 1)
+            (ap (λ (n : ℕ). places_above picks (suc level) index seen (suc level, n)) at ∙ asked-here picks (suc level)
+            index seen picked)) count,
       )
 
   -- at the next level
   pub HoldsTree-next : (start level next made : ℕ) (table : Table L D) → next ≡ suc level
-      → HoldsTree leaf inner pairs above (suc (suc level)) index seen table × (made + count_above (suc (suc level)) seen ≡ start + count_above (suc (suc level)) (index ∷ seen))
-      → HoldsTree leaf inner pairs above (suc next) index seen table × (made + count_above (suc next) seen ≡ start + count_above (suc next) (index ∷ seen))
-  HoldsTree-next start level next made table is = subst (λ (n : ℕ). HoldsTree leaf inner pairs above (suc n) index seen table × (made + count_above (suc n) seen ≡ start + count_above (suc n) (index ∷ seen))) (sym is)
+      → HoldsTree leaf inner pairs above (suc (suc level)) index seen table × (made + count_above (suc (suc level)) seen
+      ≡ start + count_above (suc (suc level)) (index ∷ seen))
+      → HoldsTree leaf inner pairs above (suc next) index seen table × (made + count_above (suc next) seen
+      ≡ start + count_above (suc next) (index ∷ seen))
+  HoldsTree-next start level next made table is = subst (λ (n : ℕ). HoldsTree leaf inner pairs above (suc n) index seen
+      table × (made + count_above (suc n) seen ≡ start + count_above (suc n) (index ∷ seen))) (sym is)
 
   -- at the top
   HoldsTree-top : (start level made : ℕ) (table : Table L D) → level ≡ above
-      → HoldsTree leaf inner pairs above (suc level) index seen table × (made + count_above (suc level) seen ≡ start + count_above (suc level) (index ∷ seen))
-      → HoldsTree leaf inner pairs above 0 index (index ∷ seen) table × (made + count_above (suc above) seen ≡ start + count_above (suc above) (index ∷ seen))
+      → HoldsTree leaf inner pairs above (suc level) index seen table × (made + count_above (suc level) seen
+      ≡ start + count_above (suc level) (index ∷ seen))
+      → HoldsTree leaf inner pairs above 0 index (index ∷ seen) table × (made + count_above (suc above) seen
+      ≡ start + count_above (suc above) (index ∷ seen))
   HoldsTree-top start level made table top (holds, count) =
       let picks = λ (l : ℕ). nat_lt 0 l && nat_lt l (suc above) in
-      let at_most : (l : ℕ) → picks l ≡ true → l < suc level = λ l pick. (let both = and_parts (nat_lt 0 l) (nat_lt l (suc above)) pick in let lt = ltb-true l (suc above) both.1 in omega arith) in
-      let lowest : (l : ℕ) → nat_eq l 0 ≡ true → l < suc level = λ l pick. (let none = eqb-true l 0 pick in omega arith) in (
+      let at_most : (l : ℕ) → picks l ≡ true → l < suc level = λ l pick. (let both = and_parts (nat_lt 0 l)
+      (nat_lt l (suc above)) pick in let lt = ltb-true l (suc above) both.1 in omega arith) in
+      let lowest : (l : ℕ) → nat_eq l 0 ≡ true → l < suc level =
+      λ l pick. (let none = eqb-true l 0 pick in omega arith) in (
         record {
-          lowest = HoldsPlaces-same leaf _ pairs _ _ table.lowest.all (placed-all (λ l. nat_eq l 0) (suc level) index seen lowest) holds.lowest;
-          upper = HoldsPlaces-same inner _ pairs _ _ table.upper.all (placed-all picks (suc level) index seen at_most) holds.upper;
+          lowest = HoldsPlaces-same leaf _ pairs _ _ table.lowest.all (placed-all (λ l. nat_eq l 0) (suc level) index
+              seen lowest) holds.lowest;
+          upper = HoldsPlaces-same inner _ pairs _ _ table.upper.all (placed-all picks (suc level) index seen at_most)
+              holds.upper;
         },
         subst (λ (n : ℕ). made + count_above (suc n) seen ≡ start + count_above (suc n) (index ∷ seen)) top count,
       )
 
 -- the whole way up
-pub IsWalked-top : {L D : Type 0} (leaf : L → Digest) (inner : D → Digest) (h : HashPair) (way : Way) (levels : ℕ) (digest : Digest) (old new : Table L D) (start end level : ℕ) → level ≡ levels → IsTable leaf inner h new
-    → ((pairs : ℕ × ℕ → Digest × Digest) (seen : List ℕ) → HoldsTree leaf inner pairs levels 0 way.index seen old → HasPairs h way digest pairs
-    → HoldsTree leaf inner pairs levels (suc level) way.index seen new × (length new.made.items + count_above (suc level) seen ≡ length old.made.items + count_above (suc level) (way.index ∷ seen)))
-    → RisesBy (length new.made.items - length old.made.items) start end → length old.made.items ≤ length new.made.items → IsWalked leaf inner h way levels (Ok digest) old new start end
+pub IsWalked-top : {L D : Type 0} (leaf : L → Digest) (inner : D → Digest) (h : HashPair) (way : Way) (levels : ℕ)
+    (digest : Digest) (old new : Table L D) (start end level : ℕ) → level ≡ levels → IsTable leaf inner h new
+    → ((pairs : ℕ × ℕ → Digest × Digest) (seen : List ℕ) → HoldsTree leaf inner pairs levels 0 way.index seen old
+    → HasPairs h way digest pairs
+    → HoldsTree leaf inner pairs levels (suc level) way.index seen new × (length new.made.items + count_above
+    (suc level) seen ≡ length old.made.items + count_above (suc level) (way.index ∷ seen)))
+    → RisesBy (length new.made.items - length old.made.items) start end → length old.made.items ≤ length new.made.items
+    → IsWalked leaf inner h way levels (Ok digest) old new start end
 IsWalked-top leaf inner h way levels digest old new start end level top table holds rises grows = record {
   table = table;
   holds = λ pairs seen other before is has.
-      HoldsTree-top leaf inner h pairs levels way.index seen (length old.made.items) level (length new.made.items) new top (holds pairs seen before (subst (λ (d : Digest). HasPairs h way d pairs) (sym (done_injective _ _ is)) has));
+      HoldsTree-top leaf inner h pairs levels way.index seen (length old.made.items) level (length new.made.items) new
+      top (holds pairs seen before (subst (λ (d : Digest). HasPairs h way d pairs)
+      (sym (done_injective _ _ is)) has));
   rises = rises;
   grows = grows;
 }
 
 -- what a path says, from what it gives
-pub verdict-by : (h : HashPair) (leaf : Outcome Digest) (way : Way) (root digest given : Digest) (same : Bool) → leaf ≡ Ok digest → path_root h way digest ≡ Ok given → digest_eq given root ≡ same → verdict h leaf way root ≡ Ok same
+pub verdict-by : (h : HashPair) (leaf : Outcome Digest) (way : Way) (root digest given : Digest) (same : Bool) → leaf
+    ≡ Ok digest → path_root h way digest ≡ Ok given → digest_eq given root ≡ same → verdict h leaf way root ≡ Ok same
 verdict-by h leaf way root digest given same hashed climbed is = rw (hashed, climbed, is) refl
 
 -- a path's refusal is that of the verdict
-pub verdict-refused : (h : HashPair) (leaf : Outcome Digest) (way : Way) (root digest : Digest) (e : Error) → leaf ≡ Ok digest → path_root h way digest ≡ Err e → verdict h leaf way root ≡ Err e
+pub verdict-refused : (h : HashPair) (leaf : Outcome Digest) (way : Way) (root digest : Digest) (e : Error) → leaf
+    ≡ Ok digest → path_root h way digest ≡ Err e → verdict h leaf way root ≡ Err e
 verdict-refused h leaf way root digest e hashed refused = rw (hashed, refused) refl

@@ -34,8 +34,15 @@ Extends-itself xs = ([], sym (append-nil xs))
 Extends-below : (xs ys : List Digest) (k : ℕ) → Extends xs ys → k < length xs → k < length ys
 Extends-below xs ys k (more, is) below = rw (is, length-append xs more) (omega (arith, below))
 
-pub length-Extends : {A : Type 0} (view : A → Digest) (before after : List A) → Extends (map view before) (map view after) → length before ≤ length after
-length-Extends view before after (more, is) = omega (arith, length-map before view, length-map after view, ap length is, length-append (map view before) more)
+pub length-Extends : {A : Type 0} (view : A → Digest) (before after : List A) → Extends (map view before)
+    (map view after) → length before ≤ length after
+length-Extends view before after (more, is) = omega (
+  arith,
+  length-map before view,
+  length-map after view,
+  ap length is,
+  length-append (map view before) more,
+)
 
 get_or-Extends : (xs ys : List Digest) (k : ℕ) → Extends xs ys → k < length xs → get_or ys k [] ≡ get_or xs k []
 get_or-Extends xs ys k (more, is) below = rw is (at xs more k below)
@@ -66,7 +73,8 @@ is_at-place : (a b : ℕ × ℕ) → is_at (place_cmp a) b ≡ same_place a b
 is_at-place a b = by_parts (eqb_tells a.0 b.0) (eqb_tells a.1 b.1)
   where
     by_parts : ((nat_eq a.0 b.0 ≡ true) × (a.0 ≡ b.0)) ⊎ ((nat_eq a.0 b.0 ≡ false) × (a.0 ≢ b.0))
-        → ((nat_eq a.1 b.1 ≡ true) × (a.1 ≡ b.1)) ⊎ ((nat_eq a.1 b.1 ≡ false) × (a.1 ≢ b.1)) → is_at (place_cmp a) b ≡ same_place a b
+        → ((nat_eq a.1 b.1 ≡ true) × (a.1 ≡ b.1)) ⊎ ((nat_eq a.1 b.1 ≡ false) × (a.1 ≢ b.1)) → is_at (place_cmp a) b
+        ≡ same_place a b
     by_parts x y = grind (arith, nat_tests)
 
 cond_cases : {A : Type 0} (b : Bool) (x e : A) (o : Option A) → cond b (Some x) o ≡ Some e → (o ≡ Some e) ⊎ (x ≡ e)
@@ -95,7 +103,8 @@ put_at-past [] (suc i) x past = refl
 put_at-past (y ∷ xs) zero x past = absurd (omega arith)
 put_at-past (y ∷ xs) (suc i) x past = ap (λ l. y ∷ l) (put_at-past xs i x (omega arith))
 
-slice_get-put_at : {A : Type 0} (xs : List A) (i j : ℕ) (x y : A) → slice_get (put_at xs i x) j ≡ Some y → ((i ≡ j) × (x ≡ y)) ⊎ ((i ≢ j) × (slice_get xs j ≡ Some y))
+slice_get-put_at : {A : Type 0} (xs : List A) (i j : ℕ) (x y : A) → slice_get (put_at xs i x) j ≡ Some y
+    → ((i ≡ j) × (x ≡ y)) ⊎ ((i ≢ j) × (slice_get xs j ≡ Some y))
 slice_get-put_at [] zero zero x y at = inl (refl, cc)
 slice_get-put_at [] zero (suc j) x y at = absurd cc
 slice_get-put_at [] (suc i) j x y at = absurd cc
@@ -111,26 +120,37 @@ slice_get-put_at (z ∷ xs) (suc i) (suc j) x y at = elim (slice_get-put_at xs i
 is_at-other : (a b : ℕ × ℕ) → a.0 - 1 ≢ b.0 - 1 → is_at (place_cmp a) b ≡ false
 is_at-other a b other = is_at-place a b ∙ by_parts (eqb_tells a.0 b.0)
   where
-    by_parts : ((nat_eq a.0 b.0 ≡ true) × (a.0 ≡ b.0)) ⊎ ((nat_eq a.0 b.0 ≡ false) × (a.0 ≢ b.0)) → same_place a b ≡ false
+    by_parts : ((nat_eq a.0 b.0 ≡ true) × (a.0 ≡ b.0)) ⊎ ((nat_eq a.0 b.0 ≡ false) × (a.0 ≢ b.0))
+        → same_place a b ≡ false
     by_parts (inl (is, same)) = absurd (other (ap (λ (n : ℕ). n - 1) same))
     by_parts (inr (is, differ)) = rw is refl
 
 is_at-itself : (a : ℕ × ℕ) → is_at (place_cmp a) a ≡ true
 is_at-itself a = is_at-place a a ∙ by_parts (eqb_tells a.0 a.0) (eqb_tells a.1 a.1)
   where
-    by_parts : ((nat_eq a.0 a.0 ≡ true) × (a.0 ≡ a.0)) ⊎ ((nat_eq a.0 a.0 ≡ false) × (a.0 ≢ a.0)) → ((nat_eq a.1 a.1 ≡ true) × (a.1 ≡ a.1)) ⊎ ((nat_eq a.1 a.1 ≡ false) × (a.1 ≢ a.1)) → same_place a a ≡ true
+    by_parts : ((nat_eq a.0 a.0 ≡ true) × (a.0 ≡ a.0)) ⊎ ((nat_eq a.0 a.0 ≡ false) × (a.0 ≢ a.0))
+        → ((nat_eq a.1 a.1 ≡ true) × (a.1 ≡ a.1)) ⊎ ((nat_eq a.1 a.1 ≡ false) × (a.1 ≢ a.1)) → same_place a a ≡ true
     by_parts (inl (one, _)) (inl (two, _)) = rw (one, two) refl
     by_parts (inr (_, other)) y = absurd (other refl)
     by_parts x (inr (_, other)) = absurd (other refl)
 
-pub AreKept-put : {X : Type 0} (all after : BTreeMap (ℕ × ℕ) (Entry X)) (last next : List (Slot X)) (slot : Slot X) → AreKept all last → Updates place_cmp all after slot.place (Some slot.entry) → next ≡ put_at last (slot.place.0 - 1) slot → AreKept after next
+pub AreKept-put : {X : Type 0} (all after : BTreeMap (ℕ × ℕ) (Entry X)) (last next : List (Slot X)) (slot : Slot X)
+    → AreKept all last → Updates place_cmp all after slot.place (Some slot.entry) → next
+    ≡ put_at last (slot.place.0 - 1) slot → AreKept after next
 AreKept-put all after last next slot kept updates is level other at =
     elim (slice_get-put_at last (slot.place.0 - 1) level slot other (sym (ap (λ l. slice_get l level) is) ∙ at)) [
-      | inl (here, same) ↦ subst (λ (s : Slot _). (s.place.0 - 1 ≡ level) × (get place_cmp after s.place ≡ Some s.entry)) same
-          (here, updates.0 slot.place ∙ ap (λ (b : Bool). cond b (Some slot.entry) (get place_cmp all slot.place)) (is_at-itself slot.place))
+      | inl (here, same) ↦ subst (λ (s : Slot _). (s.place.0 - 1 ≡ level) × (get place_cmp after s.place
+          ≡ Some s.entry)) same (
+            here,
+            updates.0 slot.place ∙ ap (λ (b : Bool). cond b (Some slot.entry) (get place_cmp all slot.place))
+                (is_at-itself slot.place),
+          )
       | inr (differ, old) ↦
-          let before = kept level other old in
-          (before.0, updates.0 other.place ∙ cond_none _ slot.entry _ (is_at-other slot.place other.place (λ is. differ (is ∙ before.0))) ∙ before.1)
+          let before = kept level other old in (
+            before.0,
+            updates.0 other.place ∙ cond_none _ slot.entry _ (is_at-other slot.place other.place
+                (λ is. differ (is ∙ before.0))) ∙ before.1,
+          )
     ]
 
 -- ---- entries
@@ -138,33 +158,53 @@ AreKept-put all after last next slot kept updates is level other at =
 count-kept : (here : Bool) (n : ℕ) → here ≡ true → n ≡ n + cond here 0 1
 count-kept here n is = rw is (omega arith)
 
-count-anew : {A : Type 0} (here : Bool) (view : A → Digest) (before after : List A) (y : Digest) → here ≡ false → map view after ≡ map view before ++ y ∷ [] → length after ≡ length before + cond here 0 1
-count-anew here view before after y is more = rw is (omega (arith, length-map after view, length-map before view, ap length more, length-append (map view before) (y ∷ [])))
+count-anew : {A : Type 0} (here : Bool) (view : A → Digest) (before after : List A) (y : Digest) → here ≡ false
+    → map view after ≡ map view before ++ y ∷ [] → length after ≡ length before + cond here 0 1
+count-anew here view before after y is more = rw is (omega (
+  arith,
+  length-map after view,
+  length-map before view,
+  ap length more,
+  length-append (map view before) (y ∷ []),
+))
 
 module _ {X : Type 0} (numbers : X → Digest) where
   -- a pair is the same when more digests stand behind
-  pair_seen-more : (xs ys : List Digest) (pair : Pair X) → Extends xs ys → pair.own < length xs → pair_seen numbers ys pair ≡ pair_seen numbers xs pair
-  pair_seen-more xs ys pair more below = ap (λ (d : Digest). couple pair.is_right d (numbers pair.sibling.now)) (get_or-Extends xs ys pair.own more below)
+  pair_seen-more : (xs ys : List Digest) (pair : Pair X) → Extends xs ys → pair.own < length xs → pair_seen numbers ys
+      pair ≡ pair_seen numbers xs pair
+  pair_seen-more xs ys pair more below = ap (λ (d : Digest). couple pair.is_right d (numbers pair.sibling.now))
+      (get_or-Extends xs ys pair.own more below)
 
   module _ (hash : Digest → Digest → Outcome Digest) where
-    IsMade-more : (xs ys us vs : List Digest) (entry : Entry X) → Extends xs us → Extends ys vs → IsMade numbers hash xs ys entry → IsMade numbers hash us vs entry
+    IsMade-more : (xs ys us vs : List Digest) (entry : Entry X) → Extends xs us → Extends ys vs → IsMade numbers hash xs
+        ys entry → IsMade numbers hash us vs entry
     IsMade-more xs ys us vs entry digests made m = record {
       own = Extends-below xs us entry.pair.own digests m.own;
       hashed = Extends-below ys vs entry.digest made m.hashed;
       is = rw (pair_seen-more xs us entry.pair digests m.own, get_or-Extends ys vs entry.digest made m.hashed) m.is;
     }
 
-    pub AllMade-more : (xs ys us vs : List Digest) (entries : Entries X) → Extends xs us → Extends ys vs → AllMade numbers hash xs ys entries → AllMade numbers hash us vs entries
+    pub AllMade-more : (xs ys us vs : List Digest) (entries : Entries X) → Extends xs us → Extends ys vs
+        → AllMade numbers hash xs ys entries → AllMade numbers hash us vs entries
     AllMade-more xs ys us vs entries digests made before =
-        record { kept = before.kept; all = λ place entry at. IsMade-more xs ys us vs entry digests made (before.all place entry at) }
+        record {
+          kept = before.kept;
+          all = λ place entry at. IsMade-more xs ys us vs entry digests made
+              (before.all place entry at);
+        }
 
     -- a digest that was made last, of a pair that was hashed
-    made-answer : (ys vs : List Digest) (given : Digest × Digest) (y : Digest) (number : ℕ) → hash given.0 given.1 ≡ Ok y → vs ≡ ys ++ y ∷ [] → number ≡ length ys → hash given.0 given.1 ≡ Ok (get_or vs number [])
-    made-answer ys vs given y number hashed is last = hashed ∙ ap Ok (sym (ap (λ (n : ℕ). get_or vs n []) last ∙ get_or-last ys vs y is))
+    made-answer : (ys vs : List Digest) (given : Digest × Digest) (y : Digest) (number : ℕ) → hash given.0 given.1
+        ≡ Ok y → vs ≡ ys ++ y ∷ [] → number ≡ length ys → hash given.0 given.1 ≡ Ok (get_or vs number [])
+    made-answer ys vs given y number hashed is last =
+        hashed ∙ ap Ok (sym (ap (λ (n : ℕ). get_or vs n []) last ∙ get_or-last ys vs y is))
 
     -- a made pair is kept
-    AllMade-kept : (xs us ys vs : List Digest) (entries after : Entries X) (place : ℕ × ℕ) (pair : Pair X) (y : Digest) (number : ℕ) → AllMade numbers hash xs ys entries → Extends xs us → pair.own < length xs
-        → hash (pair_seen numbers xs pair).0 (pair_seen numbers xs pair).1 ≡ Ok y → vs ≡ ys ++ y ∷ [] → number ≡ length ys → AreKept after.all after.last.items → Updates place_cmp entries.all after.all place (Some (record { pair = pair; digest = number })) → AllMade numbers hash us vs after
+    AllMade-kept : (xs us ys vs : List Digest) (entries after : Entries X) (place : ℕ × ℕ) (pair : Pair X) (y : Digest)
+        (number : ℕ) → AllMade numbers hash xs ys entries → Extends xs us → pair.own < length xs
+        → hash (pair_seen numbers xs pair).0 (pair_seen numbers xs pair).1 ≡ Ok y → vs ≡ ys ++ y ∷ [] → number
+        ≡ length ys → AreKept after.all after.last.items → Updates place_cmp entries.all after.all place
+        (Some (record { pair = pair; digest = number })) → AllMade numbers hash us vs after
     AllMade-kept xs us ys vs entries after place pair y number before digests own hashed is last kept updates = record {
       kept = kept;
       all = λ q entry at.
@@ -181,24 +221,32 @@ module _ {X : Type 0} (numbers : X → Digest) where
         fresh = record {
           own = Extends-below xs us pair.own digests own;
           hashed = rw (is, last, length-append ys (y ∷ [])) (omega arith);
-          is = rw (pair_seen-more xs us pair digests own) (made-answer ys vs (pair_seen numbers xs pair) y number hashed is last);
+          is = rw (pair_seen-more xs us pair digests own) (made-answer ys vs (pair_seen numbers xs pair) y number
+              hashed is last);
         }
 
   -- ---- places of a tree
 
-  module _ (xs : List Digest) (pairs : ℕ × ℕ → Digest × Digest) (asked : ℕ × ℕ → Bool) (entries : BTreeMap (ℕ × ℕ) (Entry X)) (holds : HoldsPlaces numbers xs pairs asked entries) (place : ℕ × ℕ) where
+  module _ (xs : List Digest) (pairs : ℕ × ℕ → Digest × Digest) (asked : ℕ × ℕ → Bool) (entries : BTreeMap (ℕ × ℕ)
+      (Entry X)) (holds : HoldsPlaces numbers xs pairs asked entries) (place : ℕ × ℕ) where
     -- a place that is kept was asked before
     asked-kept : (entry : Entry X) → get place_cmp entries place ≡ Some entry → asked place ≡ true
     asked-kept entry at = sym (holds.at place) ∙ ap is_some at
 
-    HoldsPlaces-kept : (entry : Entry X) → get place_cmp entries place ≡ Some entry → HoldsPlaces numbers xs pairs (with_place place asked) entries
-    HoldsPlaces-kept entry at = record { at = λ q. holds.at q ∙ by_place q (same_place place q) refl; pair = holds.pair }
+    HoldsPlaces-kept : (entry : Entry X) → get place_cmp entries place ≡ Some entry → HoldsPlaces numbers xs pairs
+        (with_place place asked) entries
+    HoldsPlaces-kept entry at = record {
+      at = λ q. holds.at q ∙ by_place q (same_place place q) refl;
+      pair =
+          holds.pair;
+    }
       where
         by_place : (q : ℕ × ℕ) (here : Bool) → same_place place q ≡ here → asked q ≡ (here || asked q)
         by_place q true is = ap asked (sym (same_place-true place q is)) ∙ asked-kept entry at
         by_place q false is = refl
 
-    module _ (given : Digest × Digest) (is : given ≡ pairs place) (other : (entry : Entry X) → get place_cmp entries place ≡ Some entry → pair_seen numbers xs entry.pair ≢ given) where
+    module _ (given : Digest × Digest) (is : given ≡ pairs place) (other : (entry : Entry X) → get place_cmp entries
+        place ≡ Some entry → pair_seen numbers xs entry.pair ≢ given) where
       -- a place with no such pair was not asked before
       asked-anew : asked place ≡ false
       asked-anew = by_entry (get place_cmp entries place) refl
@@ -207,8 +255,11 @@ module _ {X : Type 0} (numbers : X → Digest) where
           by_entry None at = sym (holds.at place) ∙ ap is_some at
           by_entry (Some entry) at = absurd (other entry at (holds.pair place entry at ∙ sym is))
 
-    HoldsPlaces-anew : (us : List Digest) (after : BTreeMap (ℕ × ℕ) (Entry X)) (pair : Pair X) (number : ℕ) → ((q : ℕ × ℕ) (entry : Entry X) → get place_cmp entries q ≡ Some entry → entry.pair.own < length xs) → Extends xs us → pair.own < length xs
-        → pair_seen numbers xs pair ≡ pairs place → Updates place_cmp entries after place (Some (record { pair = pair; digest = number })) → HoldsPlaces numbers us pairs (with_place place asked) after
+    HoldsPlaces-anew : (us : List Digest) (after : BTreeMap (ℕ × ℕ) (Entry X)) (pair : Pair X) (number : ℕ)
+        → ((q : ℕ × ℕ) (entry : Entry X) → get place_cmp entries q ≡ Some entry → entry.pair.own < length xs)
+        → Extends xs us → pair.own < length xs
+        → pair_seen numbers xs pair ≡ pairs place → Updates place_cmp entries after place
+        (Some (record { pair = pair; digest = number })) → HoldsPlaces numbers us pairs (with_place place asked) after
     HoldsPlaces-anew us after pair number below digests own is updates = record { at = at; pair = seen }
       where
         new : Entry X
@@ -219,60 +270,93 @@ module _ {X : Type 0} (numbers : X → Digest) where
         some false o = refl
 
         at : (q : ℕ × ℕ) → is_some (get place_cmp after q) ≡ with_place place asked q
-        at q = ap is_some (updates.0 q) ∙ some (is_at (place_cmp place) q) (get place_cmp entries q) ∙ rw (is_at-place place q, holds.at q) refl
+        at q = ap is_some (updates.0 q) ∙ some (is_at (place_cmp place) q) (get place_cmp entries q)
+            ∙ rw (is_at-place place q, holds.at q) refl
 
-        by_place : (q : ℕ × ℕ) (entry : Entry X) (here : Bool) → same_place place q ≡ here → cond here (Some new) (get place_cmp entries q) ≡ Some entry → pair_seen numbers us entry.pair ≡ pairs q
+        by_place : (q : ℕ × ℕ) (entry : Entry X) (here : Bool) → same_place place q ≡ here → cond here (Some new)
+            (get place_cmp entries q) ≡ Some entry → pair_seen numbers us entry.pair ≡ pairs q
         by_place q entry true same kept =
             let e : new ≡ entry = cc in
-            ap (λ (n : Entry X). pair_seen numbers us n.pair) (sym e) ∙ pair_seen-more xs us pair digests own ∙ is ∙ ap pairs (same_place-true place q same)
-        by_place q entry false same kept = pair_seen-more xs us entry.pair digests (below q entry kept) ∙ holds.pair q entry kept
+            ap (λ (n : Entry X). pair_seen numbers us n.pair) (sym e) ∙ pair_seen-more xs us pair digests own ∙ is
+            ∙ ap pairs (same_place-true place q same)
+        by_place q entry false same kept = pair_seen-more xs us entry.pair digests (below q entry kept)
+            ∙ holds.pair q entry kept
 
-        seen : (q : ℕ × ℕ) (entry : Entry X) → get place_cmp after q ≡ Some entry → pair_seen numbers us entry.pair ≡ pairs q
-        seen q entry kept = by_place q entry (same_place place q) refl (ap (λ (b : Bool). cond b (Some new) (get place_cmp entries q)) (sym (is_at-place place q)) ∙ sym (updates.0 q) ∙ kept)
+        seen : (q : ℕ × ℕ) (entry : Entry X) → get place_cmp after q ≡ Some entry → pair_seen numbers us
+            entry.pair ≡ pairs q
+        seen q entry kept = by_place q entry (same_place place q) refl
+            (ap (λ (b : Bool). cond b (Some new) (get place_cmp entries q)) (sym (is_at-place place q))
+            ∙ sym (updates.0 q) ∙ kept)
 
   -- ---- the same, of other digests or another test
 
-  pub HoldsPlaces-more : (hash : Digest → Digest → Outcome Digest) (xs us ys : List Digest) (pairs : ℕ × ℕ → Digest × Digest) (asked : ℕ × ℕ → Bool) (entries : Entries X) → Extends xs us → AllMade numbers hash xs ys entries → HoldsPlaces numbers xs pairs asked entries.all → HoldsPlaces numbers us pairs asked entries.all
+  pub HoldsPlaces-more : (hash : Digest → Digest → Outcome Digest) (xs us ys : List Digest) (pairs : ℕ × ℕ → Digest
+      × Digest) (asked : ℕ × ℕ → Bool) (entries : Entries X) → Extends xs us → AllMade numbers hash xs ys entries
+      → HoldsPlaces numbers xs pairs asked entries.all → HoldsPlaces numbers us pairs asked entries.all
   HoldsPlaces-more hash xs us ys pairs asked entries digests made holds =
-      record { at = holds.at; pair = λ place entry at. pair_seen-more xs us entry.pair digests (made.all place entry at).own ∙ holds.pair place entry at }
+      record {
+        at = holds.at;
+        pair = λ place entry at. pair_seen-more xs us entry.pair digests
+            (made.all place entry at).own ∙ holds.pair place entry at;
+      }
 
-  pub HoldsPlaces-same : (xs : List Digest) (pairs : ℕ × ℕ → Digest × Digest) (asked others : ℕ × ℕ → Bool) (entries : BTreeMap (ℕ × ℕ) (Entry X)) → ((place : ℕ × ℕ) → asked place ≡ others place) → HoldsPlaces numbers xs pairs asked entries → HoldsPlaces numbers xs pairs others entries
-  HoldsPlaces-same xs pairs asked others entries same holds = record { at = λ place. holds.at place ∙ same place; pair = holds.pair }
+  pub HoldsPlaces-same : (xs : List Digest) (pairs : ℕ × ℕ → Digest × Digest) (asked others : ℕ × ℕ → Bool)
+      (entries : BTreeMap (ℕ × ℕ) (Entry X)) → ((place : ℕ × ℕ) → asked place ≡ others place) → HoldsPlaces numbers xs
+      pairs asked entries → HoldsPlaces numbers xs pairs others entries
+  HoldsPlaces-same xs pairs asked others entries same holds =
+      record { at = λ place. holds.at place ∙ same place; pair = holds.pair }
 
   -- ---- a pair that is asked
 
-  module _ {D : Type 0} (inner : D → Digest) (hash : Digest → Digest → Outcome Digest) (xs : List Digest) (place : ℕ × ℕ) (pair : Pair X) (before : List D) (entries : Entries X) (made : AllMade numbers hash xs (map inner before) entries) (number : ℕ) where
+  module _ {D : Type 0} (inner : D → Digest) (hash : Digest → Digest → Outcome Digest) (xs : List Digest) (place : ℕ
+      × ℕ) (pair : Pair X) (before : List D) (entries : Entries X) (made : AllMade numbers hash xs (map inner before)
+      entries) (number : ℕ) where
     -- it is kept
-    module _ (kept : (entry : Entry X) × (get place_cmp entries.all place ≡ Some entry) × (number ≡ entry.digest) × (pair_seen numbers xs entry.pair ≡ pair_seen numbers xs pair)) where
-      pub answer-kept : hash (pair_seen numbers xs pair).0 (pair_seen numbers xs pair).1 ≡ Ok (get_or (map inner before) number [])
+    module _ (kept : (entry : Entry X) × (get place_cmp entries.all place ≡ Some entry) × (number ≡ entry.digest)
+        × (pair_seen numbers xs entry.pair ≡ pair_seen numbers xs pair)) where
+      pub answer-kept : hash (pair_seen numbers xs pair).0 (pair_seen numbers xs pair).1
+          ≡ Ok (get_or (map inner before) number [])
       answer-kept = rw (kept.2, ← kept.3) (made.all place kept.0 kept.1).is
 
-      pub IsServed-kept : (start : ℕ) → IsServed numbers inner hash xs xs place pair before before entries entries start start number
+      pub IsServed-kept : (start : ℕ) → IsServed numbers inner hash xs xs place pair before before entries entries start
+          start number
       IsServed-kept start = record {
         below = rw (kept.2, ← length-map before inner) (made.all place kept.0 kept.1).hashed;
         grows = Extends-itself (map inner before);
         made = made;
-        holds = λ pairs asked holds is. (HoldsPlaces-kept xs pairs asked entries.all holds place kept.0 kept.1, count-kept (asked place) (length before) (asked-kept xs pairs asked entries.all holds place kept.0 kept.1));
+        holds = λ pairs asked holds is. (
+          HoldsPlaces-kept xs pairs asked entries.all holds place kept.0 kept.1,
+          count-kept (asked place) (length before) (asked-kept xs pairs asked entries.all holds place kept.0 kept.1),
+        );
         rises = omega arith;
       }
 
     -- it is hashed
-    module _ (after : List D) (y : Digest) (hashed : hash (pair_seen numbers xs pair).0 (pair_seen numbers xs pair).1 ≡ Ok y) (more : map inner after ≡ map inner before ++ y ∷ []) (last : number ≡ length before) where
-      pub answer-anew : hash (pair_seen numbers xs pair).0 (pair_seen numbers xs pair).1 ≡ Ok (get_or (map inner after) number [])
-      answer-anew = made-answer hash (map inner before) (map inner after) (pair_seen numbers xs pair) y number hashed more (last ∙ sym (length-map before inner))
+    module _ (after : List D) (y : Digest) (hashed : hash (pair_seen numbers xs pair).0 (pair_seen numbers xs pair).1
+        ≡ Ok y) (more : map inner after ≡ map inner before ++ y ∷ []) (last : number ≡ length before) where
+      pub answer-anew : hash (pair_seen numbers xs pair).0 (pair_seen numbers xs pair).1
+          ≡ Ok (get_or (map inner after) number [])
+      answer-anew = made-answer hash (map inner before) (map inner after) (pair_seen numbers xs pair) y number hashed
+          more (last ∙ sym (length-map before inner))
 
-      pub IsServed-anew : (us : List Digest) (next : Entries X) (start end : ℕ) → Extends xs us → pair.own < length xs → AreKept next.all next.last.items → Updates place_cmp entries.all next.all place (Some (record { pair = pair; digest = number }))
-          → ((entry : Entry X) → get place_cmp entries.all place ≡ Some entry → pair_seen numbers xs entry.pair ≢ pair_seen numbers xs pair) → end ≡ min (start + 1) 18446744073709551615
+      pub IsServed-anew : (us : List Digest) (next : Entries X) (start end : ℕ) → Extends xs us → pair.own < length xs
+          → AreKept next.all next.last.items → Updates place_cmp entries.all next.all place
+          (Some (record { pair = pair; digest = number }))
+          → ((entry : Entry X) → get place_cmp entries.all place ≡ Some entry → pair_seen numbers xs entry.pair ≢
+          pair_seen numbers xs pair) → end ≡ min (start + 1) 18446744073709551615
           → IsServed numbers inner hash xs us place pair before after entries next start end number
       IsServed-anew us next start end digests own kept updates other counted =
           let one : length after ≡ length before + 1 = count-anew false inner before after y refl more in
           record {
             below = omega (arith, last, one);
             grows = (y ∷ [], more);
-            made = AllMade-kept hash xs us (map inner before) (map inner after) entries next place pair y number made digests own hashed more (last ∙ sym (length-map before inner)) kept updates;
+            made = AllMade-kept hash xs us (map inner before) (map inner after) entries next place pair y number made
+                digests own hashed more (last ∙ sym (length-map before inner)) kept updates;
             holds = λ pairs asked holds is. (
-              HoldsPlaces-anew xs pairs asked entries.all holds place us next.all pair number (λ q entry at. (made.all q entry at).own) digests own is updates,
-              count-anew (asked place) inner before after y (asked-anew xs pairs asked entries.all holds place (pair_seen numbers xs pair) is other) more,
+              HoldsPlaces-anew xs pairs asked entries.all holds place us next.all pair number
+                  (λ q entry at. (made.all q entry at).own) digests own is updates,
+              count-anew (asked place) inner before after y (asked-anew xs pairs asked entries.all holds place
+                  (pair_seen numbers xs pair) is other) more,
             );
             rises = omega (arith, counted, one);
           }

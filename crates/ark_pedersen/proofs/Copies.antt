@@ -8,4 +8,5 @@ map-seen view R alike [] [] all = refl
 map-seen view R alike [] (y ∷ ys) all = absurd all
 map-seen view R alike (x ∷ xs) [] all = absurd all
 map-seen {A} {B} view R alike (x ∷ xs) (y ∷ ys) all =
-    ap (λ (b : B). b ∷ map view xs) (alike x y all.0) ∙ ap (λ (bs : List B). view y ∷ bs) (map-seen view R alike xs ys all.1)
+    ap (λ (b : B). b ∷ map view xs) (alike x y all.0) ∙ ap (λ (bs : List B). view y ∷ bs) (map-seen view R alike
+    xs ys all.1)

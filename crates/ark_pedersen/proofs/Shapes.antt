@@ -26,15 +26,20 @@ module _ {G : Type 0} (size : ℕ) where
       let more : size * suc (length lists) ≡ size + size * length lists = grind arith in
       omega (arith, length-append list (concatenation lists))
 
-  long_at : (lists : List (List G)) (i : ℕ) (e : List G) → AreLong lists → i < length lists → length (get_or lists i e) ≡ size
+  long_at : (lists : List (List G)) (i : ℕ) (e : List G) → AreLong lists → i < length lists
+      → length (get_or lists i e) ≡ size
   long_at [] i e long within = absurd (omega arith)
-  long_at (list ∷ lists) zero e long within = eqb-true _ _ (both_true (eqb (length list) size) (list_all (λ list. eqb (length list) size) lists) long).0
-  long_at (list ∷ lists) (suc i) e long within = long_at lists i e (both_true (eqb (length list) size) (list_all (λ list. eqb (length list) size) lists) long).1 (omega arith)
+  long_at (list ∷ lists) zero e long within =
+      eqb-true _ _ (both_true (eqb (length list) size) (list_all (λ list. eqb (length list) size) lists) long).0
+  long_at (list ∷ lists) (suc i) e long within = long_at lists i e (both_true (eqb (length list) size)
+      (list_all (λ list. eqb (length list) size) lists) long).1 (omega arith)
 
-  concatenation_at : (lists : List (List G)) (i j : ℕ) (e : List G) (d : G) → AreLong lists → i < length lists → j < size → get_or (concatenation lists) (i * size + j) d ≡ get_or (get_or lists i e) j d
+  concatenation_at : (lists : List (List G)) (i j : ℕ) (e : List G) (d : G) → AreLong lists → i < length lists
+      → j < size → get_or (concatenation lists) (i * size + j) d ≡ get_or (get_or lists i e) j d
   concatenation_at [] i j e d long within low = absurd (omega arith)
   concatenation_at (list ∷ lists) zero j e d long within low =
-      let here = eqb-true _ _ (both_true (eqb (length list) size) (list_all (λ list. eqb (length list) size) lists) long).0 in
+      let here = eqb-true _ _ (both_true (eqb (length list) size) (list_all (λ list. eqb (length list) size)
+      lists) long).0 in
       let place : 0 * size + j ≡ j = omega arith in
       rw place (get_or_append_left list (concatenation lists) d j (omega arith))
   concatenation_at (list ∷ lists) (suc i) j e d long within low =
@@ -42,12 +47,14 @@ module _ {G : Type 0} (size : ℕ) where
       let here = eqb-true _ _ h.0 in
       let more : suc i * size ≡ size + i * size = grind arith in
       let place : suc i * size + j ≡ length list + (i * size + j) = omega arith in
-      rw place (get_or-append-add list (concatenation lists) (i * size + j) d ∙ concatenation_at lists i j e d h.1 (omega arith) low)
+      rw place (get_or-append-add list (concatenation lists) (i * size + j) d ∙ concatenation_at lists i j e d h.1
+      (omega arith) low)
 
 -- what lists of the shape are
 module _ {G : Type 0} (count size : ℕ) (lists : List (List G)) (shape : has_shape count size lists ≡ true) where
   parts : (length lists ≡ count) × (AreLong size lists)
-  parts = let h = both_true (eqb (length lists) count) (list_all (λ list. eqb (length list) size) lists) shape in (eqb-true _ _ h.0, h.1)
+  parts = let h = both_true (eqb (length lists) count) (list_all (λ list. eqb (length list) size) lists) shape in
+      (eqb-true _ _ h.0, h.1)
 
   pub shape_all : length (concatenation lists) ≡ size * count
   shape_all = length-concatenation size lists parts.1 ∙ ap (λ (n : ℕ). size * n) parts.0
@@ -63,13 +70,16 @@ module _ {G : Type 0} (count size : ℕ) (lists : List (List G)) (shape : has_sh
       positive zero h = absurd (omega arith)
       positive (suc s) h = omega arith
 
-  shape_at : (place : ℕ) (e : List G) (d : G) → place < size * count → get_or (concatenation lists) place d ≡ get_or (get_or lists (place / size) e) (place % size) d
+  shape_at : (place : ℕ) (e : List G) (d : G) → place < size * count → get_or (concatenation lists) place d
+      ≡ get_or (get_or lists (place / size) e) (place % size) d
   shape_at place e d within =
       let h = shape_in place within in
-      ap (λ (p : ℕ). get_or (concatenation lists) p d) (sym (div-add-mod' place size)) ∙ concatenation_at size lists (place / size) (place % size) e d parts.1 h.0 h.1
+      ap (λ (p : ℕ). get_or (concatenation lists) p d) (sym (div-add-mod' place size)) ∙ concatenation_at size lists
+      (place / size) (place % size) e d parts.1 h.0 h.1
 
 -- the element at a place, where the lists are those of some values
-module _ {G V : Type 0} (count size : ℕ) (items : V → List G) (values : List V) (shape : has_shape count size (map items values) ≡ true) (place : ℕ) (within : place < size * count) where
+module _ {G V : Type 0} (count size : ℕ) (items : V → List G) (values : List V) (shape : has_shape count size
+    (map items values) ≡ true) (place : ℕ) (within : place < size * count) where
   pub value_in : place / size < length values
   value_in = omega (arith, (shape_in count size (map items values) shape place within).0, length-map values items)
 
@@ -80,8 +90,10 @@ module _ {G V : Type 0} (count size : ℕ) (items : V → List G) (values : List
     pub element_in : place % size < length (items v)
     element_in =
         let low = (shape_in count size (map items values) shape place within).1 in
-        let long = long_at size (map items values) (place / size) (items v) (parts count size (map items values) shape).1 (shape_in count size (map items values) shape place within).0 in
+        let long = long_at size (map items values) (place / size) (items v) (parts count size (map items values)
+        shape).1 (shape_in count size (map items values) shape place within).0 in
         omega (arith, low, long, ap length same)
 
     pub element_at : (d : G) → get_or (concatenation (map items values)) place d ≡ get_or (items v) (place % size) d
-    element_at d = shape_at count size (map items values) shape place (items v) d within ∙ ap (λ (list : List G). get_or list (place % size) d) same
+    element_at d = shape_at count size (map items values) shape place (items v) d within
+        ∙ ap (λ (list : List G). get_or list (place % size) d) same

@@ -12,18 +12,24 @@ use Rattle.ark_pedersen.specs.declared.window.Window.{Ghosts as Windows}
 use Rattle.ark_pedersen.proofs.PedersenSums.{length-doublings, pedersen_sum-windows}
 
 module _ {G : Type 0} (g : Group G) where
-  lists_are_long : (size : ℕ) (elements : List G) → list_all (λ list. eqb (length list) size) (map (doublings g size) elements) ≡ true
+  lists_are_long : (size : ℕ) (elements : List G) → list_all (λ list. eqb (length list) size) (map (doublings g size)
+      elements) ≡ true
   lists_are_long size [] = refl
   lists_are_long size (x ∷ elements) =
-      ap (λ (b : Bool). b && list_all (λ list. eqb (length list) size) (map (doublings g size) elements)) (eq-eqb _ _ (length-doublings g size x)) ∙ lists_are_long size elements
+      ap (λ (b : Bool). b && list_all (λ list. eqb (length list) size) (map (doublings g size) elements))
+      (eq-eqb _ _ (length-doublings g size x)) ∙ lists_are_long size elements
 
-  windows_have_shape : (count size : ℕ) (elements : List G) → length elements ≡ count → has_shape count size (map (doublings g size) elements) ≡ true
+  windows_have_shape : (count size : ℕ) (elements : List G) → length elements ≡ count → has_shape count size
+      (map (doublings g size) elements) ≡ true
   windows_have_shape count size elements long =
-      ap (λ (b : Bool). b && list_all (λ list. eqb (length list) size) (map (doublings g size) elements)) (eq-eqb _ _ (length-map elements (doublings g size) ∙ long)) ∙ lists_are_long size elements
+      ap (λ (b : Bool). b && list_all (λ list. eqb (length list) size) (map (doublings g size) elements))
+      (eq-eqb _ _ (length-map elements (doublings g size) ∙ long)) ∙ lists_are_long size elements
 
   -- the hash is the sum over the windows
-  pub pedersen_hash-windows : {W : Type 0} (windows : Windows W) (elements : List G) (lists : List (List G)) (input : List ℕ)
-      → IsCommutativeGroup g → AreGeneratorsOf g windows elements lists → pedersen_hash g windows lists input ≡ windows_hash g windows elements input
+  pub pedersen_hash-windows : {W : Type 0} (windows : Windows W) (elements : List G) (lists : List (List G))
+      (input : List ℕ)
+      → IsCommutativeGroup g → AreGeneratorsOf g windows elements lists → pedersen_hash g windows lists input
+      ≡ windows_hash g windows elements input
   pedersen_hash-windows windows elements lists input laws are =
       let size = windows.WINDOW_SIZE in
       let bits = bits_of_bytes input in
@@ -35,6 +41,7 @@ module _ {G : Type 0} (g : Group G) where
       (ap (λ (b : Bool). cond b sum shapeless) (windows_have_shape windows.NUM_WINDOWS size elements are.0)
       ∙ ap (λ (x : G). let o : Outcome G = Ok x in o) (pedersen_sum-windows laws size elements bits))
     where
-      by_test : {x y : Outcome G} (b : Bool) → x ≡ y → cond b (Err (IncorrectInputLength (length input))) x ≡ cond b (Err (IncorrectInputLength (length input))) y
+      by_test : {x y : Outcome G} (b : Bool) → x ≡ y → cond b (Err (IncorrectInputLength (length input))) x
+          ≡ cond b (Err (IncorrectInputLength (length input))) y
       by_test true e = refl
       by_test false e = e

@@ -12,7 +12,8 @@ first_power x p below = sym (mod-eq_of_lt below) ∙ ap (λ n. n % p) one
 
 pub powers_multiplied : (x i j p y z w : ℕ) → y ≡ x ^ i % p → z ≡ x ^ j % p → w ≡ (y * z) % p → w ≡ x ^ (i + j) % p
 powers_multiplied x i j p y z w is_y is_z is_w =
-    is_w ∙ ap₂ (λ (m n : ℕ). (m * n) % p) is_y is_z ∙ sym (mul-mod (x ^ i) (x ^ j) p) ∙ ap (λ n. n % p) (sym (pow-add x i j))
+    is_w ∙ ap₂ (λ (m n : ℕ). (m * n) % p) is_y is_z ∙ sym (mul-mod (x ^ i) (x ^ j) p) ∙ ap (λ n. n % p)
+    (sym (pow-add x i j))
 
 -- ---- a step of the power by binary digits: what is done, times the base to the power of the rest
 

@@ -22,15 +22,18 @@ response-again r k x e s pos is_s =
 abbrev told : Outcome (Option ℕ) → ℕ → Outcome Bool
 told outcome e = outcome >>= λ found. Ok (option_map_or (λ f. f == e) found false)
 
-module _ {G : Type 0} {g : Group G} (laws : IsCommutativeGroup g) (r : ℕ) (pos : 0 < r) (generator : G) (order : times g r generator ≡ g.identity) where
+module _ {G : Type 0} {g : Group G} (laws : IsCommutativeGroup g) (r : ℕ) (pos : 0 < r) (generator : G)
+    (order : times g r generator ≡ g.identity) where
   -- s G + (e x) G is k G
-  sums : (k x e s : ℕ) → s ≡ response r x k e → g.plus (times g s generator) (times g (e * x) generator) ≡ times g k generator
+  sums : (k x e s : ℕ) → s ≡ response r x k e → g.plus (times g s generator) (times g (e * x) generator)
+      ≡ times g k generator
   sums k x e s is_s =
       sym (times-add laws s (e * x) generator) ∙ sym (times-mod laws r (s + e * x) generator order)
       ∙ ap (λ n. times g n generator) (response-again r k x e s pos is_s) ∙ times-mod laws r k generator order
 
   -- a signature made with k claims k G under its key
-  pub claimed-signed : (k x e s : ℕ) → s ≡ response r x k e → claimed g generator (times g x generator) (s, e) ≡ times g k generator
+  pub claimed-signed : (k x e s : ℕ) → s ≡ response r x k e → claimed g generator (times g x generator) (s, e)
+      ≡ times g k generator
   claimed-signed k x e s is_s =
       ap (g.plus (times g s generator)) (sym (times-mul laws e x generator)) ∙ sums k x e s is_s
 
@@ -45,7 +48,8 @@ module _ {G : Type 0} {g : Group G} (laws : IsCommutativeGroup g) (r : ℕ) (pos
       ∙ ap (λ y. g.plus y (times g e key)) (sums s m e new is_new)
 
   -- what is signed is valid
-  pub IsValid-signed : (challenge : G → Outcome (Option ℕ)) (k x e s : ℕ) → s ≡ response r x k e → challenge (times g k generator) ≡ Ok (Some e)
+  pub IsValid-signed : (challenge : G → Outcome (Option ℕ)) (k x e s : ℕ) → s ≡ response r x k e
+      → challenge (times g k generator) ≡ Ok (Some e)
       → IsValid g challenge generator (times g x generator) (s, e)
   IsValid-signed challenge k x e s is_s is_e =
       ap (λ (outcome : Outcome (Option ℕ)). told outcome e) (ap challenge (claimed-signed k x e s is_s) ∙ is_e)
@@ -53,7 +57,8 @@ module _ {G : Type 0} {g : Group G} (laws : IsCommutativeGroup g) (r : ℕ) (pos
 
   -- randomised, a signature is valid exactly where it was
   pub verified-randomised : (challenge : G → Outcome (Option ℕ)) (key : G) (m e s new : ℕ) → new ≡ response r m s e
-      → verified g challenge generator (randomised_key g generator m key) (new, e) ≡ verified g challenge generator key (s, e)
+      → verified g challenge generator (randomised_key g generator m key) (new, e) ≡ verified g challenge
+      generator key (s, e)
   verified-randomised challenge key m e s new is_new =
       ap (λ (point : G). told (challenge point) e) (claimed-randomised key m e s new is_new)
 

@@ -19,7 +19,8 @@ unfolding number_of_bits
 one_more n bits =
     ap (λ b. b + 2 * number_of_bits bits) (bit (n % 2) (mod_below n 2 (lit< tt))) ∙ omega arith
 
-reversed : (count n : ℕ) (bits : List Bool) → number_of_bits (reverse (bits_of_number count n) ++ bits) ≡ reverse_bits_onto count n (number_of_bits bits)
+reversed : (count n : ℕ) (bits : List Bool) → number_of_bits (reverse (bits_of_number count n) ++ bits)
+    ≡ reverse_bits_onto count n (number_of_bits bits)
 unfolding bits_of_number reverse_bits_onto
 reversed zero n bits = refl
 reversed (suc count) n bits =
@@ -35,7 +36,8 @@ unfolding reverse_bits_onto
 behind n a = omega arith
 
 -- a byte in front counts itself turned over, and what is behind it 256 times
-pub multiplier-byte : (byte : ℕ) (bytes : List ℕ) → multiplier (byte ∷ bytes) ≡ multiplier bytes * 256 + reverse_bits w8 byte
+pub multiplier-byte : (byte : ℕ) (bytes : List ℕ) → multiplier (byte ∷ bytes) ≡ multiplier bytes * 256
+    + reverse_bits w8 byte
 multiplier-byte byte bytes = reversed 8 byte (highest_first bytes) ∙ behind byte (multiplier bytes)
 
 -- modulo p, by a product and a sum
@@ -54,7 +56,8 @@ multiplier-none bytes p =
     sym (ap (λ (t : List ℕ). multiplier t % p) (drop_all (length bytes) bytes (omega arith)) ∙ zero-mod p)
 
 -- the bytes from the one before on
-pub drop-before : (bytes : List ℕ) (i : ℕ) → 0 < i → i ≤ length bytes → drop (i - 1) bytes ≡ get_or bytes (i - 1) 0 ∷ drop i bytes
+pub drop-before : (bytes : List ℕ) (i : ℕ) → 0 < i → i ≤ length bytes → drop (i - 1) bytes ≡ get_or bytes (i - 1) 0
+    ∷ drop i bytes
 drop-before bytes i some within =
     let next : suc (i - 1) ≡ i = omega arith in
     drop-cons bytes (i - 1) 0 (omega (arith, some, within)) ∙ ap (λ (n : ℕ). get_or bytes (i - 1) 0 ∷ drop n bytes) next
@@ -66,7 +69,8 @@ highest zero n =
     let whole : n ≡ n / 2 ^ 0 = omega arith in
     ap (λ (m : ℕ). eqb (m % 2) 1 ∷ []) whole
 highest (suc count) n =
-    let deeper : n / 2 / 2 ^ count ≡ n / 2 ^ suc count = div-div-eq-div-mul n 2 (2 ^ count) ∙ ap (λ (m : ℕ). n / m) (sym (pow-succ' 2 count)) in
+    let deeper : n / 2 / 2 ^ count ≡ n / 2 ^ suc count =
+    div-div-eq-div-mul n 2 (2 ^ count) ∙ ap (λ (m : ℕ). n / m) (sym (pow-succ' 2 count)) in
     ap (λ (t : List Bool). eqb (n % 2) 1 ∷ t) (highest count (n / 2))
     ∙ ap (λ (m : ℕ). (eqb (n % 2) 1 ∷ bits_of_number count (n / 2)) ++ eqb (m % 2) 1 ∷ []) deeper
 
@@ -87,7 +91,8 @@ highest-step front new whole i n more put so_far =
     ∙ ap (λ (k : ℕ). front ++ reverse (bits_of_number k n)) (sym one)
     ∙ so_far
 
-pub highest-all : (front whole : List Bool) (i n : ℕ) → 8 ≤ i → front ++ reverse (bits_of_number (8 - i) n) ≡ whole → front ≡ whole
+pub highest-all : (front whole : List Bool) (i n : ℕ) → 8 ≤ i → front ++ reverse (bits_of_number (8 - i) n) ≡ whole
+    → front ≡ whole
 unfolding bits_of_number
 highest-all front whole i n done so_far =
     let none : 8 - i ≡ 0 = omega (arith, done) in
@@ -96,4 +101,5 @@ highest-all front whole i n done so_far =
 pub highest_first-more : (bytes : List ℕ) (i : ℕ) → i < length bytes
     → highest_first (take i bytes) ++ reverse (bits_of_number 8 (get_or bytes i 0)) ≡ highest_first (take (i + 1) bytes)
 highest_first-more bytes i within =
-    flat_map_more (λ byte. reverse (bits_of_number 8 byte)) [] (take i bytes) (get_or bytes i 0) ∙ sym (ap highest_first (take_more bytes i 0 within))
+    flat_map_more (λ byte. reverse (bits_of_number 8 byte)) [] (take i bytes) (get_or bytes i 0)
+    ∙ sym (ap highest_first (take_more bytes i 0 within))

@@ -17,7 +17,8 @@ log_pair = record { bottom = λ a b. Ok (node_hash a b); upper = λ a b. Ok (nod
 abbrev pub log_hashes : {A : Type 0} → (A → List ℕ) → Hashes A
 log_hashes bytes = record { leaf = λ leaf. Ok (entry_hash (bytes leaf)); pair = log_pair }
 
-place-log : (m : ℕ) (entries : List (List ℕ)) → length entries ≡ 2 ^ suc m → place log_pair m (map entry_hash entries) ≡ Root (merkle_tree_hash (suc m) entries)
+place-log : (m : ℕ) (entries : List (List ℕ)) → length entries ≡ 2 ^ suc m → place log_pair m (map entry_hash entries)
+    ≡ Root (merkle_tree_hash (suc m) entries)
 place-log zero [] long = absurd (omega (arith, long))
 place-log zero (a ∷ []) long = absurd (omega (arith, long))
 place-log zero (a ∷ b ∷ entries) long = refl
@@ -27,7 +28,8 @@ place-log (suc m) entries long =
     let right = place-log m (drop (2 ^ suc m) entries) (length-drop (2 ^ suc m) entries ∙ omega (arith, long, half)) in
     rw (take-map entry_hash (2 ^ suc m) entries, drop-map entry_hash (2 ^ suc m) entries, left, right) refl
 
-all_hashes-made : {A : Type 0} (bytes : A → List ℕ) (leaves : List A) → all_hashes (log_hashes bytes).leaf leaves ≡ Ok (map entry_hash (map bytes leaves))
+all_hashes-made : {A : Type 0} (bytes : A → List ℕ) (leaves : List A) → all_hashes (log_hashes bytes).leaf leaves
+    ≡ Ok (map entry_hash (map bytes leaves))
 all_hashes-made bytes [] = refl
 all_hashes-made bytes (leaf ∷ leaves) = rw (all_hashes-made bytes leaves) refl
 
@@ -35,14 +37,17 @@ above_zero : (n k : ℕ) → 1 < n → n ≡ 2 ^ k → k ≡ suc (k - 1)
 above_zero n zero some is = absurd (omega (arith, some, is))
 above_zero n (suc k) some is = omega arith
 
-root-entries : (entries : List (List ℕ)) → 1 < length entries → length entries ≡ 2 ^ log2 (length entries) → root log_pair (map entry_hash entries) ≡ Ok (merkle_tree_hash (log2 (length entries)) entries)
+root-entries : (entries : List (List ℕ)) → 1 < length entries → length entries ≡ 2 ^ log2 (length entries)
+    → root log_pair (map entry_hash entries) ≡ Ok (merkle_tree_hash (log2 (length entries)) entries)
 root-entries entries some power =
     let level = above_zero (length entries) (log2 (length entries)) some power in
     let top = place-log (log2 (length entries) - 1) entries (power ∙ ap (λ (k : ℕ). 2 ^ k) level) in
     rw (length-map entries entry_hash, top) (ap (λ (k : ℕ). Ok (merkle_tree_hash k entries)) (sym level))
 
 -- the root of the tree above leaves that are entries
-pub root-log : {A : Type 0} (bytes : A → List ℕ) (leaves : List A) (tree : HashedTree A) → tree_of (log_hashes bytes) leaves ≡ Ok tree → 1 < length leaves → length tree.leaves ≡ 2 ^ log2 (length tree.leaves) → root_in tree ≡ Ok (merkle_tree_hash (log2 (length (map bytes leaves))) (map bytes leaves))
+pub root-log : {A : Type 0} (bytes : A → List ℕ) (leaves : List A) (tree : HashedTree A) → tree_of (log_hashes bytes)
+    leaves ≡ Ok tree → 1 < length leaves → length tree.leaves ≡ 2 ^ log2 (length tree.leaves) → root_in tree
+    ≡ Ok (merkle_tree_hash (log2 (length (map bytes leaves))) (map bytes leaves))
 root-log {A} bytes leaves tree made some power =
     let hashes = log_hashes bytes in
     let entries = map bytes leaves in
@@ -51,8 +56,11 @@ root-log {A} bytes leaves tree made some power =
     let hashed = ap (λ o. with_hashes hashes (o >>= leaves_with_root log_pair)) (all_hashes-made bytes leaves) in
     let rooted = bind_ok (leaves_with_root log_pair digests) (λ l. Ok (tree_above l)) tree (sym hashed ∙ made) in
     let found = bind_ok (root log_pair digests) (λ _. Ok digests) rooted.0 rooted.1 in
-    let is : tree_above digests ≡ tree = ap tree_above (done_injective digests rooted.0 found.2) ∙ done_injective (tree_above rooted.0) tree rooted.2 in
+    let is : tree_above digests ≡ tree = ap tree_above (done_injective digests rooted.0 found.2) ∙ done_injective
+    (tree_above rooted.0) tree rooted.2 in
     let count : length digests ≡ length entries = length-map entries entry_hash in
-    let of_digests : length digests ≡ 2 ^ log2 (length digests) = subst (λ (t : HashedTree A). length t.leaves ≡ 2 ^ log2 (length t.leaves)) (sym is) power in
+    let of_digests : length digests ≡ 2 ^ log2 (length digests) =
+    subst (λ (t : HashedTree A). length t.leaves ≡ 2 ^ log2 (length t.leaves)) (sym is) power in
     let of_entries : length entries ≡ 2 ^ log2 (length entries) = subst (λ (n : ℕ). n ≡ 2 ^ log2 n) count of_digests in
-    subst (λ (t : HashedTree A). root_in t ≡ Ok (merkle_tree_hash (log2 (length entries)) entries)) is (root-entries entries (omega (arith, some, length-map leaves bytes)) of_entries)
+    subst (λ (t : HashedTree A). root_in t ≡ Ok (merkle_tree_hash (log2 (length entries)) entries)) is
+    (root-entries entries (omega (arith, some, length-map leaves bytes)) of_entries)

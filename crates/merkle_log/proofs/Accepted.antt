@@ -17,13 +17,16 @@ all_of-there [] ds is = ap (map Ok) (done_injective {E = Error} [] ds is)
 all_of-there (x ∷ xs) ds is =
     let first = bind_ok x (λ digest. all_of xs >>= λ digests. Ok (digest ∷ digests)) ds is in
     let rest = bind_ok (all_of xs) (λ digests. Ok (first.0 ∷ digests)) ds first.2 in
-    heads x (Ok first.0) xs (map Ok rest.0) first.1 (all_of-there xs rest.0 rest.1) ∙ ap (map Ok) (done_injective {E = Error} (first.0 ∷ rest.0) ds rest.2)
+    heads x (Ok first.0) xs (map Ok rest.0) first.1 (all_of-there xs rest.0 rest.1)
+    ∙ ap (map Ok) (done_injective {E = Error} (first.0 ∷ rest.0) ds rest.2)
   where
     heads : (x y : Outcome Digest) (xs ys : List (Outcome Digest)) → x ≡ y → xs ≡ ys → x ∷ xs ≡ y ∷ ys
     heads x y xs ys p q = cc
 
-pub inclusion-accepted : (hash : NodeHash) (empty : Digest) (digests : List Digest) (size index : ℕ) (path : List Digest) (root : Digest) → index < size → size ≤ length digests
-    → all_of (inclusion_path hash empty index (take size digests)) ≡ Ok path → merkle_tree_hash hash empty (take size digests) ≡ Ok root
+pub inclusion-accepted : (hash : NodeHash) (empty : Digest) (digests : List Digest) (size index : ℕ)
+    (path : List Digest) (root : Digest) → index < size → size ≤ length digests
+    → all_of (inclusion_path hash empty index (take size digests)) ≡ Ok path → merkle_tree_hash hash empty
+    (take size digests) ≡ Ok root
     → inclusion_verdict hash root size index (get_or (take size digests) index []) path ≡ Ok true
 inclusion-accepted hash empty digests size index path root inside within is tree =
     inclusion-own hash root size index (get_or (take size digests) index []) path (record {
@@ -36,8 +39,10 @@ inclusion-accepted hash empty digests size index path root inside within is tree
       path_is = all_of-there (inclusion_path hash empty index (take size digests)) path is;
     })
 
-pub consistency-accepted : (hash : NodeHash) (empty : Digest) (digests : List Digest) (old_size size : ℕ) (path : List Digest) (old root : Digest) → 0 < old_size → old_size < size → size ≤ length digests
-    → all_of (consistency_path hash empty old_size (take size digests)) ≡ Ok path → merkle_tree_hash hash empty (take old_size (take size digests)) ≡ Ok old → merkle_tree_hash hash empty (take size digests) ≡ Ok root
+pub consistency-accepted : (hash : NodeHash) (empty : Digest) (digests : List Digest) (old_size size : ℕ)
+    (path : List Digest) (old root : Digest) → 0 < old_size → old_size < size → size ≤ length digests
+    → all_of (consistency_path hash empty old_size (take size digests)) ≡ Ok path → merkle_tree_hash hash empty
+    (take old_size (take size digests)) ≡ Ok old → merkle_tree_hash hash empty (take size digests) ≡ Ok root
     → consistency_verdict hash old_size old size root path ≡ Ok true
 consistency-accepted hash empty digests old_size size path old root some inside within is old_tree tree =
     consistency-own hash old_size old size root path (record {

@@ -12,16 +12,26 @@ use Rattle.merkle_log.specs.Stored.{row_pairs, IsStored}
 use Rattle.merkle_log.specs.Append.{IsCarried, pushed_row}
 
 -- those of the levels so far
-pub record CarriesTo (hash : NodeHash) (rows : ℕ → List Digest) (digest : Digest) (level : ℕ) (made : List Digest) : Type 0 where
+pub record CarriesTo (hash : NodeHash) (rows : ℕ → List Digest) (digest : Digest) (level : ℕ) (made : List Digest) :
+    Type 0 where
   pub first : get_or made 0 [] ≡ digest
   pub odd : (k : ℕ) → k < level → length (rows k) % 2 ≡ 1
-  pub hashed : (k : ℕ) → k < level → hash (get_or (rows k) (length (rows k) - 1) []) (get_or made k []) ≡ Ok (get_or made (suc k) [])
+  pub hashed : (k : ℕ) → k < level → hash (get_or (rows k) (length (rows k) - 1) []) (get_or made k [])
+      ≡ Ok (get_or made (suc k) [])
 
-pub carries-first : (hash : NodeHash) (rows : ℕ → List Digest) (digest : Digest) → CarriesTo hash rows digest 0 (digest ∷ [])
-carries-first hash rows digest = record { first = refl; odd = λ k under. absurd (omega arith); hashed = λ k under. absurd (omega arith) }
+pub carries-first : (hash : NodeHash) (rows : ℕ → List Digest) (digest : Digest) → CarriesTo hash rows digest 0
+    (digest ∷ [])
+carries-first hash rows digest = record {
+  first = refl;
+  odd = λ k under. absurd (omega arith);
+  hashed = λ k under.
+      absurd (omega arith);
+}
 
-pub carries-more : (hash : NodeHash) (rows : ℕ → List Digest) (digest : Digest) (level : ℕ) (made : List Digest) (up : Digest) → CarriesTo hash rows digest level made → length made ≡ level + 1 → length (rows level) % 2 ≡ 1
-    → hash (get_or (rows level) (length (rows level) - 1) []) (get_or made level []) ≡ Ok up → CarriesTo hash rows digest (level + 1) (made ++ (up ∷ []))
+pub carries-more : (hash : NodeHash) (rows : ℕ → List Digest) (digest : Digest) (level : ℕ) (made : List Digest)
+    (up : Digest) → CarriesTo hash rows digest level made → length made ≡ level + 1 → length (rows level) % 2 ≡ 1
+    → hash (get_or (rows level) (length (rows level) - 1) []) (get_or made level []) ≡ Ok up → CarriesTo hash rows
+    digest (level + 1) (made ++ (up ∷ []))
 carries-more hash rows digest level made up so_far count is_odd is = record {
   first = get_or_append_left made (up ∷ []) [] 0 (omega arith) ∙ so_far.first;
   odd = λ k under. elim (cases_lt k level) [
@@ -30,16 +40,19 @@ carries-more hash rows digest level made up so_far count is_odd is = record {
   ];
   hashed = λ k under. elim (cases_lt k level) [
     | inl less ↦
-        ap (hash (get_or (rows k) (length (rows k) - 1) [])) (get_or_append_left made (up ∷ []) [] k (omega arith)) ∙ so_far.hashed k less
+        ap (hash (get_or (rows k) (length (rows k) - 1) [])) (get_or_append_left made (up ∷ []) [] k (omega arith))
+        ∙ so_far.hashed k less
         ∙ ap Ok (sym (get_or_append_left made (up ∷ []) [] (suc k) (omega arith)))
     | inr here ↦
         let e : level ≡ k = omega arith in
-        rw (← e) (ap (hash (get_or (rows level) (length (rows level) - 1) [])) (get_or_append_left made (up ∷ []) [] level (omega arith)) ∙ is
+        rw (← e) (ap (hash (get_or (rows level) (length (rows level) - 1) [])) (get_or_append_left made (up ∷ []) []
+        level (omega arith)) ∙ is
         ∙ ap Ok (sym (get_or_push made up [] (suc level) (omega arith))))
   ];
 }
 
-pub carries-end : (hash : NodeHash) (rows : ℕ → List Digest) (digest : Digest) (level : ℕ) (made : List Digest) → CarriesTo hash rows digest level made → length made ≡ level + 1
+pub carries-end : (hash : NodeHash) (rows : ℕ → List Digest) (digest : Digest) (level : ℕ) (made : List Digest)
+    → CarriesTo hash rows digest level made → length made ≡ level + 1
     → length (rows level) % 2 ≡ 0 → IsCarried hash rows digest made
 carries-end hash rows digest level made so_far count even =
     let last : length made - 1 ≡ level = omega arith in
@@ -53,7 +66,8 @@ carries-end hash rows digest level made so_far count even =
 
 -- ---- pairs of a row with one more
 
-pub row_pairs-odd : (hash : NodeHash) (row next : List Digest) (digest up : Digest) → row_pairs hash row ≡ Ok next → length row % 2 ≡ 1 → hash (get_or row (length row - 1) []) digest ≡ Ok up
+pub row_pairs-odd : (hash : NodeHash) (row next : List Digest) (digest up : Digest) → row_pairs hash row ≡ Ok next
+    → length row % 2 ≡ 1 → hash (get_or row (length row - 1) []) digest ≡ Ok up
     → row_pairs hash (row ++ (digest ∷ [])) ≡ Ok (next ++ (up ∷ []))
 row_pairs-odd hash [] next digest up is odd hashed = absurd (omega arith)
 row_pairs-odd hash (a ∷ []) next digest up is odd hashed =
@@ -63,31 +77,38 @@ row_pairs-odd hash (a ∷ b ∷ row) next digest up is odd hashed =
     let h = bind_ok (hash a b) (λ c. row_pairs hash row >>= λ next. Ok (c ∷ next)) next is in
     let more = bind_ok (row_pairs hash row) (λ next. Ok (h.0 ∷ next)) next h.2 in
     let e = done_injective {E = Error} (h.0 ∷ more.0) next more.2 in
-    let at : get_or (a ∷ b ∷ row) (length (a ∷ b ∷ row) - 1) [] ≡ get_or row (length row - 1) [] = let p : length (a ∷ b ∷ row) - 1 ≡ suc (suc (length row - 1)) = omega arith in ap (λ n. get_or (a ∷ b ∷ row) n []) p in
-    let rest = row_pairs-odd hash row more.0 digest up more.1 (omega arith) (ap (λ d. hash d digest) (sym at) ∙ hashed) in
-    ap (λ o. o >>= λ c. row_pairs hash (row ++ (digest ∷ [])) >>= λ next. Ok (c ∷ next)) h.1 ∙ ap (λ o. o >>= λ next. Ok (h.0 ∷ next)) rest ∙ ap (λ l. Ok (l ++ (up ∷ []))) e
+    let at : get_or (a ∷ b ∷ row) (length (a ∷ b ∷ row) - 1) [] ≡ get_or row (length row - 1) [] =
+    let p : length (a ∷ b ∷ row) - 1 ≡ suc (suc (length row - 1)) =
+    omega arith in ap (λ n. get_or (a ∷ b ∷ row) n []) p in
+    let rest = row_pairs-odd hash row more.0 digest up more.1 (omega arith) (ap (λ d. hash d digest) (sym at)
+    ∙ hashed) in
+    ap (λ o. o >>= λ c. row_pairs hash (row ++ (digest ∷ [])) >>= λ next. Ok (c ∷ next)) h.1
+    ∙ ap (λ o. o >>= λ next. Ok (h.0 ∷ next)) rest ∙ ap (λ l. Ok (l ++ (up ∷ []))) e
 
-pub row_pairs-even : (hash : NodeHash) (row next : List Digest) (digest : Digest) → row_pairs hash row ≡ Ok next → length row % 2 ≡ 0 → row_pairs hash (row ++ (digest ∷ [])) ≡ Ok next
+pub row_pairs-even : (hash : NodeHash) (row next : List Digest) (digest : Digest) → row_pairs hash row ≡ Ok next
+    → length row % 2 ≡ 0 → row_pairs hash (row ++ (digest ∷ [])) ≡ Ok next
 row_pairs-even hash [] next digest is even = is
 row_pairs-even hash (a ∷ []) next digest is even = absurd (omega arith)
 row_pairs-even hash (a ∷ b ∷ row) next digest is even =
     let h = bind_ok (hash a b) (λ c. row_pairs hash row >>= λ next. Ok (c ∷ next)) next is in
     let more = bind_ok (row_pairs hash row) (λ next. Ok (h.0 ∷ next)) next h.2 in
     let rest = row_pairs-even hash row more.0 digest more.1 (omega arith) in
-    ap (λ o. o >>= λ c. row_pairs hash (row ++ (digest ∷ [])) >>= λ next. Ok (c ∷ next)) h.1 ∙ ap (λ o. o >>= λ next. Ok (h.0 ∷ next)) rest ∙ more.2
+    ap (λ o. o >>= λ c. row_pairs hash (row ++ (digest ∷ [])) >>= λ next. Ok (c ∷ next)) h.1
+    ∙ ap (λ o. o >>= λ next. Ok (h.0 ∷ next)) rest ∙ more.2
 
 -- ---- rows with one more each
 
-pushed-in : (rows : ℕ → List Digest) (made : List Digest) (level : ℕ) → level < length made → pushed_row rows made level ≡ rows level ++ (get_or made level [] ∷ [])
+pushed-in : (rows : ℕ → List Digest) (made : List Digest) (level : ℕ) → level < length made → pushed_row rows made level
+    ≡ rows level ++ (get_or made level [] ∷ [])
 pushed-in rows made level under = let t : nat_lt level (length made) ≡ true = grind (arith, nat_tests) in rw (t) refl
 
-pushed-out : (rows : ℕ → List Digest) (made : List Digest) (level : ℕ) → length made ≤ level → pushed_row rows made level ≡ rows level
+pushed-out : (rows : ℕ → List Digest) (made : List Digest) (level : ℕ) → length made ≤ level → pushed_row rows made
+    level ≡ rows level
 pushed-out rows made level over = let t : nat_lt level (length made) ≡ false = grind (arith, nat_tests) in rw (t) refl
 
-pub stored-same : (hash : NodeHash) (rows new : ℕ → List Digest) → IsStored hash rows → ((level : ℕ) → new level ≡ rows level) → IsStored hash new
-stored-same hash rows new stored same = record { pairs = λ level. ap (row_pairs hash) (same level) ∙ stored.pairs level ∙ ap Ok (sym (same (suc level))) }
-
-pub stored-pushed : (hash : NodeHash) (rows new : ℕ → List Digest) (digest : Digest) (made : List Digest) → IsStored hash rows → IsCarried hash rows digest made → ((level : ℕ) → new level ≡ pushed_row rows made level) → IsStored hash new
+pub stored-pushed : (hash : NodeHash) (rows new : ℕ → List Digest) (digest : Digest) (made : List Digest)
+    → IsStored hash rows → IsCarried hash rows digest made → ((level : ℕ) → new level ≡ pushed_row rows made level)
+    → IsStored hash new
 stored-pushed hash rows new digest made stored carried same = record {
   pairs = λ level. ap (row_pairs hash) (same level) ∙ pairs level ∙ ap Ok (sym (same (suc level)));
 }
@@ -96,21 +117,30 @@ stored-pushed hash rows new digest made stored carried same = record {
     pairs level = elim (cases_lt (suc level) (length made)) [
       | inl under ↦
           ap (row_pairs hash) (pushed-in rows made level (omega arith))
-          ∙ row_pairs-odd hash (rows level) (rows (suc level)) (get_or made level []) (get_or made (suc level) []) (stored.pairs level) (carried.odd level under) (carried.hashed level under)
+          ∙ row_pairs-odd hash (rows level) (rows (suc level)) (get_or made level []) (get_or made (suc level) [])
+          (stored.pairs level) (carried.odd level under) (carried.hashed level under)
           ∙ ap Ok (sym (pushed-in rows made (suc level) under))
       | inr over ↦ elim (cases_lt level (length made)) [
         | inl last ↦
             let e : length made - 1 ≡ level = omega arith in
             ap (row_pairs hash) (pushed-in rows made level last)
-            ∙ row_pairs-even hash (rows level) (rows (suc level)) (get_or made level []) (stored.pairs level) (rw (e) at carried.even)
+            ∙ row_pairs-even hash (rows level) (rows (suc level)) (get_or made level []) (stored.pairs level)
+            (rw (e) at carried.even)
             ∙ ap Ok (sym (pushed-out rows made (suc level) over))
-        | inr above ↦ ap (row_pairs hash) (pushed-out rows made level above) ∙ stored.pairs level ∙ ap Ok (sym (pushed-out rows made (suc level) over))
+        | inr above ↦ ap (row_pairs hash) (pushed-out rows made level above) ∙ stored.pairs level
+            ∙ ap Ok (sym (pushed-out rows made (suc level) over))
       ]
     ]
 
-pub pushed-first : (hash : NodeHash) (rows new : ℕ → List Digest) (digest : Digest) (made : List Digest) → IsCarried hash rows digest made → ((level : ℕ) → new level ≡ pushed_row rows made level) → new 0 ≡ rows 0 ++ (digest ∷ [])
-pushed-first hash rows new digest made carried same = same 0 ∙ pushed-in rows made 0 carried.some ∙ ap (λ d. rows 0 ++ (d ∷ [])) carried.first
+pub pushed-first : (hash : NodeHash) (rows new : ℕ → List Digest) (digest : Digest) (made : List Digest)
+    → IsCarried hash rows digest made → ((level : ℕ) → new level ≡ pushed_row rows made level) → new 0
+    ≡ rows 0 ++ (digest ∷ [])
+pushed-first hash rows new digest made carried same =
+    same 0 ∙ pushed-in rows made 0 carried.some ∙ ap (λ d. rows 0 ++ (d ∷ [])) carried.first
 
 -- the rows of no leaves
 pub stored-none : (hash : NodeHash) (rows : ℕ → List Digest) → ((level : ℕ) → rows level ≡ []) → IsStored hash rows
-stored-none hash rows none = record { pairs = λ level. ap (row_pairs hash) (none level) ∙ ap Ok (sym (none (suc level))) }
+stored-none hash rows none = record {
+  pairs = λ level. ap (row_pairs hash) (none level)
+      ∙ ap Ok (sym (none (suc level)));
+}

@@ -11,14 +11,17 @@ use Rattle.merkle_log.specs.Edge.{HasLast, last_raised}
 use Rattle.merkle_log.proofs.Lasts.{length-row_pairs}
 
 -- the first pair of a row, and the others
-pairs_parts : (hash : NodeHash) (a b : Digest) (row next : List Digest) → row_pairs hash (a ∷ b ∷ row) ≡ Ok next → (first : Digest) × (rest : List Digest) × (hash a b ≡ Ok first) × (row_pairs hash row ≡ Ok rest) × (first ∷ rest ≡ next)
+pairs_parts : (hash : NodeHash) (a b : Digest) (row next : List Digest) → row_pairs hash (a ∷ b ∷ row) ≡ Ok next
+    → (first : Digest) × (rest : List Digest) × (hash a b ≡ Ok first) × (row_pairs hash row ≡ Ok rest)
+    × (first ∷ rest ≡ next)
 pairs_parts hash a b row next is =
     let h = bind_ok (hash a b) (λ c. row_pairs hash row >>= λ next. Ok (c ∷ next)) next is in
     let more = bind_ok (row_pairs hash row) (λ next. Ok (h.0 ∷ next)) next h.2 in
     (h.0, more.0, h.1, more.1, done_injective {E = Error} (h.0 ∷ more.0) next more.2)
 
 -- a pair of a row
-pub row_pair : (hash : NodeHash) (row next : List Digest) → row_pairs hash row ≡ Ok next → (q i j : ℕ) → i ≡ q + q → j ≡ i + 1 → j < length row → hash (get_or row i []) (get_or row j []) ≡ Ok (get_or next q [])
+pub row_pair : (hash : NodeHash) (row next : List Digest) → row_pairs hash row ≡ Ok next → (q i j : ℕ) → i ≡ q + q → j
+    ≡ i + 1 → j < length row → hash (get_or row i []) (get_or row j []) ≡ Ok (get_or next q [])
 row_pair hash [] next is q i j two one below = absurd (omega arith)
 row_pair hash (a ∷ []) next is q i j two one below = absurd (omega arith)
 row_pair hash (a ∷ b ∷ row) next is zero zero zero two one below = absurd (omega arith)
@@ -31,7 +34,8 @@ row_pair hash (a ∷ b ∷ row) next is (suc q) (suc zero) j two one below = abs
 row_pair hash (a ∷ b ∷ row) next is (suc q) (suc (suc i)) zero two one below = absurd (omega arith)
 row_pair hash (a ∷ b ∷ row) next is (suc q) (suc (suc i)) (suc zero) two one below = absurd (omega arith)
 row_pair hash (a ∷ b ∷ row) next is (suc q) (suc (suc i)) (suc (suc j)) two one below =
-    let p = pairs_parts hash a b row next is in row_pair hash row p.1 p.3 q i j (omega arith) (omega arith) (omega arith) ∙ ap (λ l. Ok (get_or l (suc q) [])) p.4
+    let p = pairs_parts hash a b row next is in row_pair hash row p.1 p.3 q i j (omega arith) (omega arith)
+    (omega arith) ∙ ap (λ l. Ok (get_or l (suc q) [])) p.4
 
 -- the digests in front of a last one
 pub has-front : {A : Type 0} (row : List Digest) (s : ℕ) (last : Option A) → HasLast row s last → s ≤ length row
@@ -51,11 +55,14 @@ module _ {hash : NodeHash} {rows : ℕ → List Digest} (stored : IsStored hash 
   whole-up odd below = omega (arith, length-up)
 
   -- a complete place below a complete one
-  pub whole-raised : s % 2 ≡ 1 → s < length (rows level) → last_raised hash (rows level) s (get_or (rows level) s []) ≡ Ok (get_or (rows (level + 1)) (s / 2) [])
+  pub whole-raised : s % 2 ≡ 1 → s < length (rows level) → last_raised hash (rows level) s (get_or (rows level) s [])
+      ≡ Ok (get_or (rows (level + 1)) (s / 2) [])
   whole-raised odd below =
       let t : (s % 2 == 1) ≡ true = grind (arith, nat_tests) in
       let e : suc level ≡ level + 1 = omega arith in
-      chosen t ∙ row_pair hash (rows level) (rows (suc level)) (stored.pairs level) (s / 2) (s - 1) s (omega arith) (omega arith) below ∙ ap (λ l. Ok (get_or (rows l) (s / 2) [])) e
+      chosen t ∙ row_pair hash (rows level) (rows (suc level)) (stored.pairs level) (s / 2) (s - 1) s (omega arith)
+      (omega arith) below ∙ ap (λ l. Ok (get_or (rows l) (s / 2) [])) e
     where
-      chosen : (s % 2 == 1) ≡ true → last_raised hash (rows level) s (get_or (rows level) s []) ≡ hash (get_or (rows level) (s - 1) []) (get_or (rows level) s [])
+      chosen : (s % 2 == 1) ≡ true → last_raised hash (rows level) s (get_or (rows level) s [])
+          ≡ hash (get_or (rows level) (s - 1) []) (get_or (rows level) s [])
       chosen t = rw (t) refl

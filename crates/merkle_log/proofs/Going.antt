@@ -18,34 +18,42 @@ use Rattle.merkle_log.proofs.TreePairs.{get_or-there}
 use Rattle.merkle_log.proofs.Lasts.{Node, node_rows, length-row_pairs, raised, raised-err, row_up-last}
 
 pub length-row_with : (row : List Digest) (s : ℕ) (x : Node) → s ≤ length row → length (row_with row s x) ≡ s + 1
-length-row_with row s x le = length-append (node_rows (take s row)) (x ∷ []) ∙ ap (λ n. n + 1) (length-map (take s row) Ok ∙ length-take-le s row le)
+length-row_with row s x le = length-append (node_rows (take s row)) (x ∷ []) ∙ ap (λ n. n + 1) (length-map (take s row)
+    Ok ∙ length-take-le s row le)
 
-pub row_with-own : (row : List Digest) (s : ℕ) (x : Node) (none : Node) (j : ℕ) → s ≤ length row → j < s → get_or (row_with row s x) j none ≡ Ok (get_or row j [])
+pub row_with-own : (row : List Digest) (s : ℕ) (x : Node) (none : Node) (j : ℕ) → s ≤ length row → j < s
+    → get_or (row_with row s x) j none ≡ Ok (get_or row j [])
 row_with-own row s x none j le below =
     let l : length (take s row) ≡ s = length-take-le s row le in
     get_or_append_left (node_rows (take s row)) (x ∷ []) none j (omega (arith, length-map {B = Node} (take s row) Ok))
     ∙ get_or-there [] none (take s row) j (omega arith) ∙ ap Ok (get_or-take s row j [] below)
 
-row_with-last : (row : List Digest) (s : ℕ) (x : Node) (none : Node) → s ≤ length row → get_or (row_with row s x) s none ≡ x
-row_with-last row s x none le = get_or_at (node_rows (take s row)) x [] none s (length-map (take s row) Ok ∙ length-take-le s row le)
+row_with-last : (row : List Digest) (s : ℕ) (x : Node) (none : Node) → s ≤ length row → get_or (row_with row s x) s none
+    ≡ x
+row_with-last row s x none le = get_or_at (node_rows (take s row)) x [] none s (length-map (take s row) Ok
+    ∙ length-take-le s row le)
 
 -- ---- what stands beside
 
-beside-there : (row : List Digest) (i s : ℕ) (x : Node) (none : Node) (last : Digest) → s ≤ length row → i ≤ s → (i < s → x ≡ Ok last) → beside none i (row_with row s x) ≡ node_rows (digests_beside row i s last)
+beside-there : (row : List Digest) (i s : ℕ) (x : Node) (none : Node) (last : Digest) → s ≤ length row → i ≤ s
+    → (i < s → x ≡ Ok last) → beside none i (row_with row s x) ≡ node_rows (digests_beside row i s last)
 beside-there row i s x none last le inside known = elim (side i (s + 1)) [
   | Right odd ↦
       let t : (i % 2 == 1) ≡ true = grind (arith, nat_tests) in
-      beside-odd none i (row_with row s x) odd ∙ ap (λ z. z ∷ []) (row_with-own row s x none (i - 1) le (omega arith)) ∙ right t
+      beside-odd none i (row_with row s x) odd ∙ ap (λ z. z ∷ []) (row_with-own row s x none (i - 1) le (omega arith))
+      ∙ right t
   | Left even more ↦
       let t : (i % 2 == 1) ≡ false = grind (arith, nat_tests) in
       let u : nat_lt i s ≡ true = let l : i < s = omega arith in grind (arith, nat_tests) in
       let n = length-row_with row s x le in
       beside-even none i (row_with row s x) even (omega arith) ∙ elim (cases_lt (i + 1) s) [
-        | inl own ↦ let v : nat_lt (i + 1) s ≡ true = grind (arith, nat_tests) in ap (λ z. z ∷ []) (row_with-own row s x none (i + 1) le own) ∙ left t u v
+        | inl own ↦ let v : nat_lt (i + 1) s ≡ true =
+            grind (arith, nat_tests) in ap (λ z. z ∷ []) (row_with-own row s x none (i + 1) le own) ∙ left t u v
         | inr end ↦
             let v : nat_lt (i + 1) s ≡ false = grind (arith, nat_tests) in
             let e : i + 1 ≡ s = omega arith in
-            ap (λ z. z ∷ []) (ap (λ n. get_or (row_with row s x) n none) e ∙ row_with-last row s x none le ∙ known (omega arith)) ∙ left_last t u v
+            ap (λ z. z ∷ []) (ap (λ n. get_or (row_with row s x) n none) e ∙ row_with-last row s x none le
+            ∙ known (omega arith)) ∙ left_last t u v
       ]
   | Alone even end ↦
       let t : (i % 2 == 1) ≡ false = grind (arith, nat_tests) in
@@ -57,28 +65,34 @@ beside-there row i s x none last le inside known = elim (side i (s + 1)) [
     right : (i % 2 == 1) ≡ true → Ok (get_or row (i - 1) []) ∷ [] ≡ node_rows (digests_beside row i s last)
     right t = rw (t) refl
 
-    left : (i % 2 == 1) ≡ false → nat_lt i s ≡ true → nat_lt (i + 1) s ≡ true → Ok (get_or row (i + 1) []) ∷ [] ≡ node_rows (digests_beside row i s last)
+    left : (i % 2 == 1) ≡ false → nat_lt i s ≡ true → nat_lt (i + 1) s ≡ true → Ok (get_or row (i + 1) []) ∷ []
+        ≡ node_rows (digests_beside row i s last)
     left t u v = rw (t, u, v) refl
 
-    left_last : (i % 2 == 1) ≡ false → nat_lt i s ≡ true → nat_lt (i + 1) s ≡ false → Ok last ∷ [] ≡ node_rows (digests_beside row i s last)
+    left_last : (i % 2 == 1) ≡ false → nat_lt i s ≡ true → nat_lt (i + 1) s ≡ false → Ok last ∷ []
+        ≡ node_rows (digests_beside row i s last)
     left_last t u v = rw (t, u, v) refl
 
     alone : (i % 2 == 1) ≡ false → nat_lt i s ≡ false → [] ≡ node_rows (digests_beside row i s last)
     alone t u = rw (t, u) refl
 
 -- digests that are there, in front of others
-pub all_of-behind : (sofar ds : List Digest) (rest : List Node) → (all_of (node_rows ds ++ rest) >>= behind sofar) ≡ (all_of rest >>= behind (sofar ++ ds))
+pub all_of-behind : (sofar ds : List Digest) (rest : List Node) → (all_of (node_rows ds ++ rest) >>= behind sofar)
+    ≡ (all_of rest >>= behind (sofar ++ ds))
 all_of-behind sofar [] rest = ap (λ l. all_of rest >>= behind l) (sym (append-nil sofar))
-all_of-behind sofar (d ∷ ds) rest = one (all_of (node_rows ds ++ rest)) ∙ all_of-behind (sofar ++ (d ∷ [])) ds rest ∙ ap (λ l. all_of rest >>= behind l) (append_assoc sofar (d ∷ []) ds)
+all_of-behind sofar (d ∷ ds) rest = one (all_of (node_rows ds ++ rest)) ∙ all_of-behind (sofar ++ (d ∷ [])) ds rest
+    ∙ ap (λ l. all_of rest >>= behind l) (append_assoc sofar (d ∷ []) ds)
   where
-    one : (o : Outcome (List Digest)) → ((o >>= λ more. Ok (d ∷ more)) >>= behind sofar) ≡ (o >>= behind (sofar ++ (d ∷ [])))
+    one : (o : Outcome (List Digest)) → ((o >>= λ more. Ok (d ∷ more)) >>= behind sofar)
+        ≡ (o >>= behind (sofar ++ (d ∷ [])))
     one (Ok more) = ap Ok (sym (append_assoc sofar (d ∷ []) more))
     one (Err e) = refl
 
 -- ---- the path of an index of the first digests of a log
 
 -- From an index of a row with a last value on, with some levels left, the path behind these digests is this.
-pub record Goes (hash : NodeHash) (rows : ℕ → List Digest) (empty : Digest) (level i s : ℕ) (x : Node) (sofar : List Digest) (answer : Outcome (List Digest)) : Type 0 where
+pub record Goes (hash : NodeHash) (rows : ℕ → List Digest) (empty : Digest) (level i s : ℕ) (x : Node)
+    (sofar : List Digest) (answer : Outcome (List Digest)) : Type 0 where
   pub levels : ℕ
   pub high : s < 2 ^ levels
   pub within : s ≤ length (rows level)
@@ -86,7 +100,8 @@ pub record Goes (hash : NodeHash) (rows : ℕ → List Digest) (empty : Digest) 
   pub is : (all_of (path (joined hash) (Ok empty) levels i (row_with (rows level) s x)) >>= behind sofar) ≡ answer
 
 -- The same, where the last value is this digest as long as the path needs it.
-pub record Going (hash : NodeHash) (rows : ℕ → List Digest) (empty : Digest) (level i s : ℕ) (last : Digest) (sofar : List Digest) (answer : Outcome (List Digest)) : Type 0 where
+pub record Going (hash : NodeHash) (rows : ℕ → List Digest) (empty : Digest) (level i s : ℕ) (last : Digest)
+    (sofar : List Digest) (answer : Outcome (List Digest)) : Type 0 where
   pub x : Node
   pub known : i < s → x ≡ Ok last
   pub goes : Goes hash rows empty level i s x sofar answer
@@ -99,19 +114,25 @@ module _ {hash : NodeHash} {rows : ℕ → List Digest} (empty : Digest) (stored
   halves i s le = omega arith
 
   -- the row above
-  pub above_with : (level s : ℕ) (x : Node) → s ≤ length (rows level) → row_up (joined hash) (row_with (rows level) s x) ≡ row_with (rows (suc level)) (s / 2) (raised hash (rows level) s x)
+  pub above_with : (level s : ℕ) (x : Node) → s ≤ length (rows level) → row_up (joined hash) (row_with (rows level) s x)
+      ≡ row_with (rows (suc level)) (s / 2) (raised hash (rows level) s x)
   above_with level s x le = row_up-last hash (rows level) (rows (suc level)) s x (stored.pairs level) le
 
-  path-with : (k level i s : ℕ) (x : Node) → s ≤ length (rows level) → i ≤ s → s < 2 ^ suc k → path (joined hash) (Ok empty) (suc k) i (row_with (rows level) s x)
-      ≡ beside (Ok empty) i (row_with (rows level) s x) ++ path (joined hash) (Ok empty) k (i / 2) (row_with (rows (suc level)) (s / 2) (raised hash (rows level) s x))
+  path-with : (k level i s : ℕ) (x : Node) → s ≤ length (rows level) → i ≤ s → s < 2 ^ suc k → path (joined hash)
+      (Ok empty) (suc k) i (row_with (rows level) s x)
+      ≡ beside (Ok empty) i (row_with (rows level) s x) ++ path (joined hash) (Ok empty) k (i / 2)
+      (row_with (rows (suc level)) (s / 2) (raised hash (rows level) s x))
   path-with k level i s x le in_it high =
       let n = length-row_with (rows level) s x le in
       path-up (joined hash) (Ok empty) k i (row_with (rows level) s x) (omega arith) (omega arith)
-      ∙ ap (λ l. beside (Ok empty) i (row_with (rows level) s x) ++ path (joined hash) (Ok empty) k (i / 2) l) (above_with level s x le)
+      ∙ ap (λ l. beside (Ok empty) i (row_with (rows level) s x) ++ path (joined hash) (Ok empty) k (i / 2) l)
+      (above_with level s x le)
 
   -- one level up
-  pub goes-up : {level i s : ℕ} {x : Node} {sofar : List Digest} {answer : Outcome (List Digest)} → Goes hash rows empty level i s x sofar answer → 0 < s → (last : Digest) → (i < s → x ≡ Ok last)
-      → Goes hash rows empty (suc level) (i / 2) (s / 2) (raised hash (rows level) s x) (sofar ++ digests_beside (rows level) i s last) answer
+  pub goes-up : {level i s : ℕ} {x : Node} {sofar : List Digest} {answer : Outcome (List Digest)} → Goes hash rows empty
+      level i s x sofar answer → 0 < s → (last : Digest) → (i < s → x ≡ Ok last)
+      → Goes hash rows empty (suc level) (i / 2) (s / 2) (raised hash (rows level) s x) (sofar ++ digests_beside
+      (rows level) i s last) answer
   goes-up {level} {i} {s} {x} {sofar} {answer} at some last known = go at.levels at.high at.is
     where
       y : Node
@@ -120,63 +141,82 @@ module _ {hash : NodeHash} {rows : ℕ → List Digest} (empty : Digest) (stored
       ds : List Digest
       ds = digests_beside (rows level) i s last
 
-      go : (k : ℕ) → s < 2 ^ k → (all_of (path (joined hash) (Ok empty) k i (row_with (rows level) s x)) >>= behind sofar) ≡ answer
-          → Goes hash rows empty (suc level) (i / 2) (s / 2) (raised hash (rows level) s x) (sofar ++ digests_beside (rows level) i s last) answer
+      go : (k : ℕ) → s < 2 ^ k → (all_of (path (joined hash) (Ok empty) k i (row_with (rows level) s x)) >>= behind
+          sofar) ≡ answer
+          → Goes hash rows empty (suc level) (i / 2) (s / 2) (raised hash (rows level) s x) (sofar ++ digests_beside
+          (rows level) i s last) answer
       go zero high is = absurd (omega arith)
       go (suc k) high is =
           let two = twice k in
-          let rest = path (joined hash) (Ok empty) k (i / 2) (row_with (rows (suc level)) (s / 2) (raised hash (rows level) s x)) in
+          let rest = path (joined hash) (Ok empty) k (i / 2) (row_with (rows (suc level)) (s / 2)
+          (raised hash (rows level) s x)) in
           record {
             levels = k;
             high = omega arith;
             within = long level s at.within;
             inside = halves i s at.inside;
             is = sym (all_of-behind sofar (digests_beside (rows level) i s last) rest)
-                ∙ ap (λ l. all_of (l ++ rest) >>= behind sofar) (sym (beside-there (rows level) i s x (Ok empty) last at.within at.inside known))
+                ∙ ap (λ l. all_of (l ++ rest) >>= behind sofar) (sym (beside-there (rows level) i s x (Ok empty) last
+                at.within at.inside known))
                 ∙ ap (λ l. all_of l >>= behind sofar) (sym (path-with k level i s x at.within at.inside high)) ∙ is;
           }
 
-  pub going-end : {level i s : ℕ} {last : Digest} {sofar : List Digest} {answer : Outcome (List Digest)} → Going hash rows empty level i s last sofar answer → s ≡ 0 → answer ≡ Ok sofar
+  pub going-end : {level i s : ℕ} {last : Digest} {sofar : List Digest} {answer : Outcome (List Digest)}
+      → Going hash rows empty level i s last sofar answer → s ≡ 0 → answer ≡ Ok sofar
   going-end {level} {i} {s} {last} {sofar} {answer} going top =
       let in_it = going.goes.inside in
       let first : i ≡ 0 = omega arith in
       sym going.goes.is
-      ∙ ap (λ n. all_of (path (joined hash) (Ok empty) going.goes.levels i (row_with (rows level) n going.x)) >>= behind sofar) top
+      ∙ ap (λ n. all_of (path (joined hash) (Ok empty) going.goes.levels i (row_with (rows level) n going.x)) >>=
+      behind sofar) top
       ∙ ap (λ n. all_of (path (joined hash) (Ok empty) going.goes.levels n (going.x ∷ [])) >>= behind sofar) first
-      ∙ ap (λ l. all_of l >>= behind sofar) (path-one (joined hash) (Ok empty) going.goes.levels going.x) ∙ ap Ok (append-nil sofar)
+      ∙ ap (λ l. all_of l >>= behind sofar) (path-one (joined hash) (Ok empty) going.goes.levels going.x)
+      ∙ ap Ok (append-nil sofar)
 
   -- A refusal of the last value, which the path needs, is that of the path.
-  pub path-refused : (k level i s : ℕ) (e : Error) → s < 2 ^ k → s ≤ length (rows level) → i < s → all_of (path (joined hash) (Ok empty) k i (row_with (rows level) s (Err e))) ≡ Err e
+  pub path-refused : (k level i s : ℕ) (e : Error) → s < 2 ^ k → s ≤ length (rows level) → i < s
+      → all_of (path (joined hash) (Ok empty) k i (row_with (rows level) s (Err e))) ≡ Err e
   path-refused zero level i s e high le under = absurd (omega arith)
   path-refused (suc k) level i s e high le under =
       let two = twice k in
       let row = rows level in
       let n = length-row_with (rows level) s (Err e) le in
       let rest = path (joined hash) (Ok empty) k (i / 2) (row_with (rows (suc level)) (s / 2) (Err e)) in
-      let here : path (joined hash) (Ok empty) (suc k) i (row_with (rows level) s (Err e)) ≡ beside (Ok empty) i (row_with (rows level) s (Err e)) ++ rest =
+      let here : path (joined hash) (Ok empty) (suc k) i (row_with (rows level) s (Err e)) ≡ beside (Ok empty) i
+      (row_with (rows level) s (Err e)) ++ rest =
       path-with k level i s (Err e) le (omega arith) high
-      ∙ ap (λ z. beside (Ok empty) i (row_with (rows level) s (Err e)) ++ path (joined hash) (Ok empty) k (i / 2) (row_with (rows (suc level)) (s / 2) z)) (raised-err hash (rows level) s e) in
+      ∙ ap (λ z. beside (Ok empty) i (row_with (rows level) s (Err e)) ++ path (joined hash) (Ok empty) k (i / 2)
+      (row_with (rows (suc level)) (s / 2) z)) (raised-err hash (rows level) s e) in
       ap all_of here ∙ elim (side i (s + 1)) [
         | Right odd ↦
-            ap (λ l. all_of (l ++ rest)) (beside-odd (Ok empty) i (row_with (rows level) s (Err e)) odd ∙ ap (λ z. z ∷ []) (row_with-own (rows level) s (Err e) (Ok empty) (i - 1) le (omega arith)))
-            ∙ ap (λ o. o >>= λ more. Ok (get_or (rows level) (i - 1) [] ∷ more)) (path-refused k (suc level) (i / 2) (s / 2) e (omega arith) (long level s le) (omega arith))
+            ap (λ l. all_of (l ++ rest)) (beside-odd (Ok empty) i (row_with (rows level) s (Err e)) odd
+            ∙ ap (λ z. z ∷ []) (row_with-own (rows level) s (Err e) (Ok empty) (i - 1) le (omega arith)))
+            ∙ ap (λ o. o >>= λ more. Ok (get_or (rows level) (i - 1) [] ∷ more)) (path-refused k (suc level) (i / 2)
+            (s / 2) e (omega arith) (long level s le) (omega arith))
         | Left even more ↦ elim (cases_lt (i + 1) s) [
           | inl own ↦
-              ap (λ l. all_of (l ++ rest)) (beside-even (Ok empty) i (row_with (rows level) s (Err e)) even (omega arith) ∙ ap (λ z. z ∷ []) (row_with-own (rows level) s (Err e) (Ok empty) (i + 1) le own))
-              ∙ ap (λ o. o >>= λ more. Ok (get_or (rows level) (i + 1) [] ∷ more)) (path-refused k (suc level) (i / 2) (s / 2) e (omega arith) (long level s le) (omega arith))
+              ap (λ l. all_of (l ++ rest)) (beside-even (Ok empty) i (row_with (rows level) s (Err e)) even
+              (omega arith) ∙ ap (λ z. z ∷ []) (row_with-own (rows level) s (Err e) (Ok empty) (i + 1) le own))
+              ∙ ap (λ o. o >>= λ more. Ok (get_or (rows level) (i + 1) [] ∷ more)) (path-refused k (suc level) (i / 2)
+              (s / 2) e (omega arith) (long level s le) (omega arith))
           | inr end ↦
               let last : i + 1 ≡ s = omega arith in
-              ap (λ l. all_of (l ++ rest)) (beside-even (Ok empty) i (row_with (rows level) s (Err e)) even (omega arith) ∙ ap (λ z. z ∷ []) (ap (λ n. get_or (row_with (rows level) s (Err e)) n (Ok empty)) last ∙ row_with-last (rows level) s (Err e) (Ok empty) le))
+              ap (λ l. all_of (l ++ rest)) (beside-even (Ok empty) i (row_with (rows level) s (Err e)) even
+              (omega arith) ∙ ap (λ z. z ∷ []) (ap (λ n. get_or (row_with (rows level) s (Err e)) n (Ok empty)) last
+              ∙ row_with-last (rows level) s (Err e) (Ok empty) le))
         ]
         | Alone even end ↦ absurd (omega arith)
       ]
 
   -- ---- what a loop does at a level
 
-  needed-known : (level i s : ℕ) (x : Node) (last : Digest) (y : Outcome Digest) → (i < s → x ≡ Ok last) → last_raised hash (rows level) s last ≡ y → i / 2 < s / 2 → raised hash (rows level) s x ≡ y
+  needed-known : (level i s : ℕ) (x : Node) (last : Digest) (y : Outcome Digest) → (i < s → x ≡ Ok last)
+      → last_raised hash (rows level) s last ≡ y → i / 2 < s / 2 → raised hash (rows level) s x ≡ y
   needed-known level i s x last y known is under = ap (raised hash (rows level) s) (known (omega arith)) ∙ is
 
-  pub going-next : {level i s : ℕ} {last : Digest} {sofar : List Digest} {answer : Outcome (List Digest)} → Going hash rows empty level i s last sofar answer → 0 < s → (next : Digest) → (i / 2 < s / 2 → last_raised hash (rows level) s last ≡ Ok next)
+  pub going-next : {level i s : ℕ} {last : Digest} {sofar : List Digest} {answer : Outcome (List Digest)}
+      → Going hash rows empty level i s last sofar answer → 0 < s → (next : Digest)
+      → (i / 2 < s / 2 → last_raised hash (rows level) s last ≡ Ok next)
       → Going hash rows empty (suc level) (i / 2) (s / 2) next (sofar ++ digests_beside (rows level) i s last) answer
   going-next {level} {i} {s} {last} going some next is = record {
     x = raised hash (rows level) s going.x;
@@ -184,15 +224,23 @@ module _ {hash : NodeHash} {rows : ℕ → List Digest} (empty : Digest) (stored
     goes = goes-up going.goes some last going.known;
   }
 
-  pub going-refused : {level i s : ℕ} {last : Digest} {sofar : List Digest} {answer : Outcome (List Digest)} → Going hash rows empty level i s last sofar answer → 0 < s → (e : Error) → i / 2 < s / 2 → last_raised hash (rows level) s last ≡ Err e → answer ≡ Err e
+  pub going-refused : {level i s : ℕ} {last : Digest} {sofar : List Digest} {answer : Outcome (List Digest)}
+      → Going hash rows empty level i s last sofar answer → 0 < s → (e : Error) → i / 2 < s / 2 → last_raised hash
+      (rows level) s last ≡ Err e → answer ≡ Err e
   going-refused {level} {i} {s} {last} {sofar} {answer} going some e under is =
       let up = goes-up going.goes some last going.known in
-      sym up.is ∙ ap (λ z. all_of (path (joined hash) (Ok empty) up.levels (i / 2) (row_with (rows (suc level)) (s / 2) z)) >>= behind (sofar ++ digests_beside (rows level) i s last)) (needed-known level i s going.x last (Err e) going.known is under)
-      ∙ ap (λ o. o >>= behind (sofar ++ digests_beside (rows level) i s last)) (path-refused up.levels (suc level) (i / 2) (s / 2) e up.high up.within under)
+      sym up.is ∙ ap (λ z. all_of (path (joined hash) (Ok empty) up.levels (i / 2) (row_with (rows (suc level)) (s / 2)
+      z)) >>= behind (sofar ++ digests_beside (rows level) i s last)) (needed-known level i s going.x last (Err e)
+      going.known is under)
+      ∙ ap (λ o. o >>= behind (sofar ++ digests_beside (rows level) i s last)) (path-refused up.levels (suc level)
+      (i / 2) (s / 2) e up.high up.within under)
 
   -- the same, at a next level and with the path so far as the code has them
-  pub going-step : {level i s : ℕ} {last : Digest} {sofar : List Digest} {answer : Outcome (List Digest)} → Going hash rows empty level i s last sofar answer → 0 < s → (up : ℕ) → up ≡ level + 1 → (next : Digest) → (i / 2 < s / 2 → last_raised hash (rows level) s last ≡ Ok next)
-      → (more : List Digest) → sofar ++ digests_beside (rows level) i s last ≡ more → Going hash rows empty up (i / 2) (s / 2) next more answer
+  pub going-step : {level i s : ℕ} {last : Digest} {sofar : List Digest} {answer : Outcome (List Digest)}
+      → Going hash rows empty level i s last sofar answer → 0 < s → (up : ℕ) → up ≡ level + 1 → (next : Digest)
+      → (i / 2 < s / 2 → last_raised hash (rows level) s last ≡ Ok next)
+      → (more : List Digest) → sofar ++ digests_beside (rows level) i s last ≡ more → Going hash rows empty up (i / 2)
+      (s / 2) next more answer
   going-step {level} {i} {s} {last} {sofar} {answer} going some up is next raised_is more path_is =
       let e : suc level ≡ up = omega arith in
       rw (← e, ← path_is) (going-next going some next raised_is)

@@ -1,5 +1,5 @@
 -- A log's list with one leaf more.
-use Rattle.std.proofs.Common.{◌≡◌, ◌+◌, ◌<◌, ◌≤◌, ℕ, ◌++◌, List, [], ◌∷◌, length, take, get_or, Ok, Err, OnOk, OnErr, refl, ap, sym, ◌∙◌, arith}
+use Rattle.std.proofs.Common.{◌≡◌, ◌+◌, ◌<◌, ℕ, ◌++◌, List, [], ◌∷◌, length, take, get_or, Ok, Err, OnOk, OnErr, refl, ap, sym, ◌∙◌, arith}
 use Rattle.std.proofs.lemmas.List.{take_all, take-take, take_more, append-nil, append_assoc}
 use Rattle.ark_base.specs.Outcome.{Outcome, ◌>>=◌}
 use Rattle.ark_paths.specs.Pair.{Digest, Hashes}
@@ -7,7 +7,7 @@ use Rattle.ark_paths.specs.Root.{all_hashes}
 use Rattle.ark_paths.proofs.Eaches.{each-append}
 use Rattle.merkle_log.specs.Log.{NodeHash, LogValue, with_more}
 use Rattle.merkle_log.specs.Stored.{StoredValue, stored_count, row_of, IsStored}
-use Rattle.merkle_log.specs.Append.{Appends, AppendsLeaves, Extends, IsWhole}
+use Rattle.merkle_log.specs.Append.{Appends, Extends, IsWhole}
 use Rattle.merkle_log.proofs.Positions.{count-rises}
 use Rattle.merkle_log.proofs.Carried.{stored-pushed, pushed-first}
 
@@ -17,18 +17,27 @@ pub record IsKept (hash : NodeHash) (stored : StoredValue) : Type 0 where
   pub stored_is : IsStored hash (row_of stored)
 
 module _ {V : Type 0} (hash : NodeHash) (old new : StoredValue) (digest : Digest) (result : Outcome V) where
-  pub appends-kept : IsKept hash old → OnOk result (Appends hash old digest new) → OnErr result (new ≡ old) → IsKept hash new
+  pub appends-kept : IsKept hash old → OnOk result (Appends hash old digest new) → OnErr result (new ≡ old)
+      → IsKept hash new
   appends-kept kept appended same = by_result result appended same
     where
-      by_result : (result : Outcome V) → OnOk result (Appends hash old digest new) → OnErr result (new ≡ old) → IsKept hash new
-      by_result (Ok v) appended same = record { whole = appended.whole; stored_is = stored-pushed hash (row_of old) (row_of new) digest appended.made kept.stored_is appended.carried appended.rows }
+      by_result : (result : Outcome V) → OnOk result (Appends hash old digest new) → OnErr result (new ≡ old)
+          → IsKept hash new
+      by_result (Ok v) appended same = record {
+        whole = appended.whole;
+        stored_is = stored-pushed hash (row_of old)
+            (row_of new) digest appended.made kept.stored_is appended.carried appended.rows;
+      }
       by_result (Err e) appended same = rw (same) kept
 
-  pub appends-leaf : OnOk result (Appends hash old digest new) → OnOk result (row_of new 0 ≡ row_of old 0 ++ (digest ∷ []))
+  pub appends-leaf : OnOk result (Appends hash old digest new) → OnOk result (row_of new 0
+      ≡ row_of old 0 ++ (digest ∷ []))
   appends-leaf appended = by_result result appended
     where
-      by_result : (result : Outcome V) → OnOk result (Appends hash old digest new) → OnOk result (row_of new 0 ≡ row_of old 0 ++ (digest ∷ []))
-      by_result (Ok v) appended = pushed-first hash (row_of old) (row_of new) digest appended.made appended.carried appended.rows
+      by_result : (result : Outcome V) → OnOk result (Appends hash old digest new) → OnOk result (row_of new 0
+          ≡ row_of old 0 ++ (digest ∷ []))
+      by_result (Ok v) appended = pushed-first hash (row_of old) (row_of new) digest appended.made appended.carried
+          appended.rows
       by_result (Err e) appended = tt
 
 pub on_ok : {V P Q : Type 0} (result : Outcome V) → (P → Q) → OnOk result P → OnOk result Q
@@ -43,14 +52,19 @@ abbrev pub log_of : {T : Type 0} → T → Digest → List Digest → LogValue T
 log_of hasher empty digests = record { hasher = hasher; empty = empty; digests = digests }
 
 -- a log whose leaves' digests have more behind
-pub log-more : {V T : Type 0} (hasher : T) (empty : Digest) (result : Outcome V) (row old more : List Digest) → OnOk result (row ≡ old ++ more)
+pub log-more : {V T : Type 0} (hasher : T) (empty : Digest) (result : Outcome V) (row old more : List Digest)
+    → OnOk result (row ≡ old ++ more)
     → OnOk result (log_of hasher empty row ≡ with_more (log_of hasher empty old) more)
 log-more hasher empty result row old more same = on_ok result (λ e. ap (log_of hasher empty) e) same
 
 -- ---- many leaves
 
 pub extends-itself : (stored : StoredValue) → IsWhole stored → Extends stored stored
-extends-itself stored whole = record { size = omega arith; front = take_all (stored_count stored.size) stored.digests (omega arith) }
+extends-itself stored whole = record {
+  size = omega arith;
+  front = take_all (stored_count stored.size) stored.digests
+      (omega arith);
+}
 
 pub extends-more : (a b c : StoredValue) → Extends a b → Extends b c → Extends a c
 extends-more a b c first second =
@@ -58,11 +72,13 @@ extends-more a b c first second =
     let more = second.size in
     record {
       size = omega arith;
-      front = sym (take-take (stored_count a.size) (stored_count b.size) c.digests (count-rises a.size b.size less)) ∙ ap (take (stored_count a.size)) second.front ∙ first.front;
+      front = sym (take-take (stored_count a.size) (stored_count b.size) c.digests (count-rises a.size b.size less))
+          ∙ ap (take (stored_count a.size)) second.front ∙ first.front;
     }
 
 -- The list has the digests of the first leaves behind.
-pub record AppendsFirst {A : Type 0} (hashes : Hashes A) (old : StoredValue) (leaves : List A) (count : ℕ) (new : StoredValue) : Type 0 where
+pub record AppendsFirst {A : Type 0} (hashes : Hashes A) (old : StoredValue) (leaves : List A) (count : ℕ)
+    (new : StoredValue) : Type 0 where
   pub kept : IsKept hashes.pair.upper new
   pub extends : Extends old new
   pub digests : List Digest
@@ -79,27 +95,29 @@ module _ {A : Type 0} {hashes : Hashes A} {old : StoredValue} {leaves : List A} 
     first_row = sym (append-nil (row_of old 0));
   }
 
-  pub appends-next : {count : ℕ} {mid new : StoredValue} → AppendsFirst hashes old leaves count mid → (leaf : A) (digest : Digest) (next : ℕ) → next ≡ count + 1 → count < length leaves → leaf ≡ get_or leaves count leaf → hashes.leaf leaf ≡ Ok digest
+  pub appends-next : {count : ℕ} {mid new : StoredValue} → AppendsFirst hashes old leaves count mid
+      → (leaf : A) (digest : Digest) (next : ℕ) → next ≡ count + 1 → count < length leaves → leaf ≡ get_or leaves count
+      leaf → hashes.leaf leaf ≡ Ok digest
       → Appends hashes.pair.upper mid digest new → AppendsFirst hashes old leaves next new
   appends-next {count} {mid} {new} at leaf digest next next_is below is hashed appended =
-      let one : IsKept hashes.pair.upper new = record { whole = appended.whole; stored_is = stored-pushed hashes.pair.upper (row_of mid) (row_of new) digest appended.made at.kept.stored_is appended.carried appended.rows } in
+      let one : IsKept hashes.pair.upper new = record {
+        whole = appended.whole;
+        stored_is = stored-pushed
+            hashes.pair.upper (row_of mid) (row_of new) digest appended.made at.kept.stored_is appended.carried
+            appended.rows;
+      } in
       record {
         kept = one;
         extends = extends-more old mid new at.extends appended.extends;
         digests = at.digests ++ (digest ∷ []);
-        hashed = ap (λ n. all_hashes hashes.leaf (take n leaves)) next_is ∙ ap (all_hashes hashes.leaf) (take_more leaves count leaf below ∙ ap (λ x. take count leaves ++ (x ∷ [])) (sym is))
+        hashed = ap (λ n. all_hashes hashes.leaf (take n leaves)) next_is ∙ ap (all_hashes hashes.leaf)
+            (take_more leaves count leaf below ∙ ap (λ x. take count leaves ++ (x ∷ [])) (sym is))
             ∙ each-append hashes.leaf (take count leaves) (leaf ∷ []) ∙ both at.hashed;
-        first_row = pushed-first hashes.pair.upper (row_of mid) (row_of new) digest appended.made appended.carried appended.rows ∙ ap (λ l. l ++ (digest ∷ [])) at.first_row ∙ append_assoc (row_of old 0) at.digests (digest ∷ []);
+        first_row = pushed-first hashes.pair.upper (row_of mid) (row_of new) digest appended.made appended.carried
+            appended.rows ∙ ap (λ l. l ++ (digest ∷ [])) at.first_row ∙ append_assoc (row_of old 0) at.digests
+            (digest ∷ []);
       }
     where
-      both : all_hashes hashes.leaf (take count leaves) ≡ Ok at.digests → (all_hashes hashes.leaf (take count leaves) >>= λ cs. all_hashes hashes.leaf (leaf ∷ []) >>= λ ds. Ok (cs ++ ds)) ≡ Ok (at.digests ++ (digest ∷ []))
+      both : all_hashes hashes.leaf (take count leaves) ≡ Ok at.digests → (all_hashes hashes.leaf (take count leaves)
+          >>= λ cs. all_hashes hashes.leaf (leaf ∷ []) >>= λ ds. Ok (cs ++ ds)) ≡ Ok (at.digests ++ (digest ∷ []))
       both e = rw (e, hashed) refl
-
-  pub appends-all : {count : ℕ} {new : StoredValue} → AppendsFirst hashes old leaves count new → length leaves ≤ count → AppendsLeaves hashes old leaves new
-  appends-all {count} at all = record {
-    digests = at.digests;
-    hashed = ap (all_hashes hashes.leaf) (sym (take_all count leaves all)) ∙ at.hashed;
-    first_row = at.first_row;
-    whole = at.kept.whole;
-    stored = at.kept.stored_is;
-  }

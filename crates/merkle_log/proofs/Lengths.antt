@@ -78,14 +78,16 @@ module _ {i s total : ℕ} (at : Leads i s total) where
           step : (i % 2 == 1) ≡ true → length_from (suc k) i s ≡ length_from k (i / 2) (s / 2)
           step t = rw (t) refl
 
-  leads-even : i % 2 ≡ 0 → (seed rest : ℕ) → seed ≡ (if i == 0 then 0 else 1) → ((k : ℕ) → s < 2 ^ k → rest ≡ used_below k i s) → seed + rest ≡ total
+  leads-even : i % 2 ≡ 0 → (seed rest : ℕ) → seed ≡ (if i == 0 then 0 else 1) → ((k : ℕ) → s < 2 ^ k → rest
+      ≡ used_below k i s) → seed + rest ≡ total
   leads-even even seed rest seed_is rest_is = go at.levels at.high at.inside at.is
     where
       go : (k : ℕ) → s < 2 ^ k → i < s → length_from k i s ≡ total → seed + rest ≡ total
       go zero high inside is = absurd (omega arith)
       go (suc k) high inside is =
           let t : (i % 2 == 1) ≡ false = grind (arith, nat_tests) in
-          both seed rest (if i == 0 then 0 else 1) (used_below (suc k) i s) seed_is (rest_is (suc k) high) ∙ sym (step t) ∙ is
+          both seed rest (if i == 0 then 0 else 1) (used_below (suc k) i s) seed_is (rest_is (suc k) high)
+          ∙ sym (step t) ∙ is
         where
           step : (i % 2 == 1) ≡ false → length_from (suc k) i s ≡ (if i == 0 then 0 else 1) + used_below (suc k) i s
           step t = by_test (i % 2 == 1) t _ _

@@ -20,7 +20,8 @@ pub half_ones : (n : ℕ) → count_ones n ≡ count_ones (n / 2) + n % 2
 unfolding lib.Count.ones
 half_ones n =
     let e : n ≡ n / 2 * 2 ^ 1 + n % 2 = omega arith in
-    ap count_ones e ∙ ones_cat 1 (n / 2) (n % 2) (omega arith) ∙ ap (λ b. count_ones (n / 2) + b) (bit (n % 2) (omega arith))
+    ap count_ones e ∙ ones_cat 1 (n / 2) (n % 2) (omega arith) ∙ ap (λ b. count_ones (n / 2) + b)
+    (bit (n % 2) (omega arith))
   where
     bit : (b : ℕ) → b < 2 → count_ones b ≡ b
     bit zero low = refl
@@ -55,21 +56,27 @@ position-next : (level place : ℕ) → position level place < stored_count ((pl
 position-next zero place =
     let e : (place + 1) * 2 ^ 0 ≡ place + 1 = omega arith in
     let f : place + 1 - 1 ≡ place = omega arith in
-    rw (e, f) (let rises = count-rises (place / 2) ((place + 1) / 2) (omega arith) in omega (arith, count-half place, count-half (place + 1)))
+    rw (e, f) (let rises = count-rises (place / 2) ((place + 1) / 2) (omega arith) in omega (
+      arith,
+      count-half place,
+      count-half (place + 1),
+    ))
 position-next (suc level) place =
     let m = (place + 1) * 2 ^ level in
     let some : 0 < m = some-below level place in
     let ih = position-next level place in
     rw (below-up level place) (by_half m some ih)
   where
-    by_half : (m : ℕ) → 0 < m → stored_count (m - 1) + level < stored_count m → stored_count (m + m - 1) + suc level < stored_count (m + m)
+    by_half : (m : ℕ) → 0 < m → stored_count (m - 1) + level < stored_count m → stored_count (m + m - 1) + suc level
+        < stored_count (m + m)
     by_half m some ih =
         let a : (m + m - 1) / 2 ≡ m - 1 = omega arith in
         let b : (m + m) / 2 ≡ m = omega arith in
         omega (arith, count-half (m + m - 1), count-half (m + m), ap stored_count a, ap stored_count b)
 
 pub position-within : (level place size : ℕ) → (place + 1) * 2 ^ level ≤ size → position level place < stored_count size
-position-within level place size le = let next = position-next level place in omega (arith, count-rises ((place + 1) * 2 ^ level) size le)
+position-within level place size le = let next =
+    position-next level place in omega (arith, count-rises ((place + 1) * 2 ^ level) size le)
 
 -- ---- how many places a level has
 
@@ -78,7 +85,11 @@ pub up-times : (level n : ℕ) → index_up level n * 2 ^ level ≤ n
 up-times zero n = omega arith
 up-times (suc level) n =
     let ih = up-times level (n / 2) in
-    omega (arith, ap (λ m. index_up level (n / 2) * m) (twice level) ∙ mul-add (index_up level (n / 2)) (2 ^ level) (2 ^ level))
+    omega (
+      arith,
+      ap (λ m. index_up level (n / 2) * m) (twice level) ∙ mul-add (index_up level (n / 2)) (2 ^ level)
+          (2 ^ level),
+    )
 
 pub place-within : (level place n : ℕ) → place < index_up level n → (place + 1) * 2 ^ level ≤ n
 place-within level place n below =
@@ -90,14 +101,16 @@ place-within level place n below =
     mul_le a b c le = mul-le-mul_right c le
 
 -- one leaf more, where some lowest levels have an odd number of places
-pub up-carry : (level n : ℕ) → ((l : ℕ) → l < level → index_up l n % 2 ≡ 1) → index_up level (n + 1) ≡ index_up level n + 1
+pub up-carry : (level n : ℕ) → ((l : ℕ) → l < level → index_up l n % 2 ≡ 1) → index_up level (n + 1)
+    ≡ index_up level n + 1
 up-carry zero n odd = refl
 up-carry (suc level) n odd =
     let first = odd 0 (omega arith) in
     let e : (n + 1) / 2 ≡ n / 2 + 1 = omega arith in
     ap (index_up level) e ∙ up-carry level (n / 2) (λ l below. odd (suc l) (omega arith))
 
-pub up-times_all : (level n : ℕ) → ((l : ℕ) → l < level → index_up l n % 2 ≡ 1) → (index_up level n + 1) * 2 ^ level ≡ n + 1
+pub up-times_all : (level n : ℕ) → ((l : ℕ) → l < level → index_up l n % 2 ≡ 1) → (index_up level n + 1) * 2
+    ^ level ≡ n + 1
 up-times_all zero n odd = omega arith
 up-times_all (suc level) n odd =
     let first = odd 0 (omega arith) in
@@ -105,7 +118,8 @@ up-times_all (suc level) n odd =
     omega (arith, below-up level (index_up level (n / 2)))
 
 -- and above the lowest level that has an even number
-pub up-same : (level last n : ℕ) → last < level → ((l : ℕ) → l < last → index_up l n % 2 ≡ 1) → index_up last n % 2 ≡ 0 → index_up level (n + 1) ≡ index_up level n
+pub up-same : (level last n : ℕ) → last < level → ((l : ℕ) → l < last → index_up l n % 2 ≡ 1) → index_up last n % 2 ≡ 0
+    → index_up level (n + 1) ≡ index_up level n
 up-same zero last n less odd even = absurd (omega arith)
 up-same (suc level) zero n less odd even = let e : (n + 1) / 2 ≡ n / 2 = omega arith in ap (index_up level) e
 up-same (suc level) (suc last) n less odd even =
@@ -116,23 +130,31 @@ up-same (suc level) (suc last) n less odd even =
 -- ---- rows
 
 pub length-row_of : (stored : StoredValue) (level : ℕ) → length (row_of stored level) ≡ index_up level stored.size
-length-row_of stored level = length-map-range_with_len (λ place. get_or stored.digests (position level place) []) 0 (index_up level stored.size)
+length-row_of stored level = length-map-range_with_len (λ place. get_or stored.digests (position level place) []) 0
+    (index_up level stored.size)
 
-pub row_of-at : (stored : StoredValue) (level place : ℕ) → place < index_up level stored.size → get_or (row_of stored level) place [] ≡ get_or stored.digests (position level place) []
-row_of-at stored level place below = get_or-map-range_with_len (λ place. get_or stored.digests (position level place) []) 0 (index_up level stored.size) place place [] below (omega arith)
+pub row_of-at : (stored : StoredValue) (level place : ℕ) → place < index_up level stored.size
+    → get_or (row_of stored level) place [] ≡ get_or stored.digests (position level place) []
+row_of-at stored level place below = get_or-map-range_with_len (λ place. get_or stored.digests (position level place)
+    []) 0 (index_up level stored.size) place place [] below (omega arith)
 
 -- the rows of a list that has more digests behind
-same_places : (f g : ℕ → Digest) (a count : ℕ) → ((place : ℕ) → place < a + count → f place ≡ g place) → map f (range_with_len a count) ≡ map g (range_with_len a count)
+same_places : (f g : ℕ → Digest) (a count : ℕ) → ((place : ℕ) → place < a + count → f place ≡ g place)
+    → map f (range_with_len a count) ≡ map g (range_with_len a count)
 same_places f g a zero same = refl
-same_places f g a (suc count) same = heads (f a) (g a) _ _ (same a (omega arith)) (same_places f g (a + 1) count (λ place below. same place (omega arith)))
+same_places f g a (suc count) same = heads (f a) (g a) _ _ (same a (omega arith)) (same_places f g (a + 1) count
+    (λ place below. same place (omega arith)))
   where
     heads : (x y : Digest) (xs ys : List Digest) → x ≡ y → xs ≡ ys → x ∷ xs ≡ y ∷ ys
     heads x y xs ys p q = cc
 
 -- A list with the digests that one leaf completes has each row with its digest among those.
-pub rows-more : (stored : StoredValue) (made : List Digest) → length stored.digests ≡ stored_count stored.size → 0 < length made
-    → ((l : ℕ) → suc l < length made → index_up l stored.size % 2 ≡ 1) → index_up (length made - 1) stored.size % 2 ≡ 0 → (level : ℕ)
-    → row_of (record { size = stored.size + 1; digests = stored.digests ++ made }) level ≡ pushed_row (row_of stored) made level
+pub rows-more : (stored : StoredValue) (made : List Digest) → length stored.digests ≡ stored_count stored.size
+    → 0 < length made
+    → ((l : ℕ) → suc l < length made → index_up l stored.size % 2 ≡ 1) → index_up (length made - 1) stored.size % 2 ≡ 0
+    → (level : ℕ)
+    → row_of (record { size = stored.size + 1; digests = stored.digests ++ made }) level
+    ≡ pushed_row (row_of stored) made level
 rows-more stored made count some odd even level = elim (cases_lt level (length made)) [
   | inl in_made ↦
       let t : nat_lt level (length made) ≡ true = grind (arith, nat_tests) in
@@ -140,15 +162,21 @@ rows-more stored made count some odd even level = elim (cases_lt level (length m
       let n = index_up level stored.size in
       let all = up-times_all level stored.size below in
       let last : (n + 1) * 2 ^ level - 1 ≡ stored.size = omega arith in
-      let at : position level n ≡ length stored.digests + level = ap (λ m. stored_count m + level) last ∙ ap (λ m. m + level) (sym count) in
-      let own : get_or (stored.digests ++ made) (position level n) [] ≡ get_or made level [] = ap (λ p. get_or (stored.digests ++ made) p []) at ∙ get_or-append_right stored.digests made (length stored.digests) (length stored.digests + level) [] refl (omega arith) ∙ ap (λ p. get_or made p []) (past (length stored.digests)) in
-      ap (λ c. map (λ place. get_or (stored.digests ++ made) (position level place) []) (range_with_len 0 c)) (up-carry level stored.size below)
+      let at : position level n ≡ length stored.digests + level =
+      ap (λ m. stored_count m + level) last ∙ ap (λ m. m + level) (sym count) in
+      let own : get_or (stored.digests ++ made) (position level n) [] ≡ get_or made level [] =
+      ap (λ p. get_or (stored.digests ++ made) p []) at ∙ get_or-append_right stored.digests made
+      (length stored.digests) (length stored.digests + level) [] refl (omega arith) ∙ ap (λ p. get_or made p [])
+      (past (length stored.digests)) in
+      ap (λ c. map (λ place. get_or (stored.digests ++ made) (position level place) []) (range_with_len 0 c))
+      (up-carry level stored.size below)
       ∙ map-range_with_len_more (λ place. get_or (stored.digests ++ made) (position level place) []) 0 n n (omega arith)
       ∙ both _ _ _ _ (same_places _ _ 0 n (λ place less. before place (omega arith))) own
       ∙ sym (pushed t)
   | inr above ↦
       let t : nat_lt level (length made) ≡ false = grind (arith, nat_tests) in
-      ap (λ c. map (λ place. get_or (stored.digests ++ made) (position level place) []) (range_with_len 0 c)) (up-same level (length made - 1) stored.size (omega arith) (λ l less. odd l (omega arith)) even)
+      ap (λ c. map (λ place. get_or (stored.digests ++ made) (position level place) []) (range_with_len 0 c))
+      (up-same level (length made - 1) stored.size (omega arith) (λ l less. odd l (omega arith)) even)
       ∙ same_places _ _ 0 (index_up level stored.size) (λ place less. before place (omega arith))
       ∙ sym (whole t)
 ]
@@ -159,12 +187,14 @@ rows-more stored made count some odd even level = elim (cases_lt level (length m
     past : (n : ℕ) → n + level - n ≡ level
     past n = omega arith
 
-    before : (place : ℕ) → place < index_up level stored.size → get_or (stored.digests ++ made) (position level place) [] ≡ get_or stored.digests (position level place) []
+    before : (place : ℕ) → place < index_up level stored.size → get_or (stored.digests ++ made) (position level place)
+        [] ≡ get_or stored.digests (position level place) []
     before place less =
         let within = position-within level place stored.size (place-within level place stored.size less) in
         get_or_append_left stored.digests made [] (position level place) (omega arith)
 
-    pushed : nat_lt level (length made) ≡ true → pushed_row (row_of stored) made level ≡ row_of stored level ++ (get_or made level [] ∷ [])
+    pushed : nat_lt level (length made) ≡ true → pushed_row (row_of stored) made level ≡ row_of stored level
+        ++ (get_or made level [] ∷ [])
     pushed t = rw (t) refl
 
     whole : nat_lt level (length made) ≡ false → pushed_row (row_of stored) made level ≡ row_of stored level
@@ -188,7 +218,8 @@ pub record Neighbour (size level : ℕ) : Type 0 where
   pub level_fits : level < 64
   pub within : (index_up level size - 1 + 1) * 2 ^ level ≤ size
 
-pub left_neighbour : (size level : ℕ) → size < 2 ^ 64 → ((l : ℕ) → l < level → index_up l size % 2 ≡ 1) → index_up level size % 2 ≡ 1 → Neighbour size level
+pub left_neighbour : (size level : ℕ) → size < 2 ^ 64 → ((l : ℕ) → l < level → index_up l size % 2 ≡ 1) → index_up level
+    size % 2 ≡ 1 → Neighbour size level
 left_neighbour size level fits odd own =
     let all = up-times_all level size odd in
     let n = index_up level size in
@@ -224,7 +255,8 @@ pub size-within : (size : ℕ) → size ≤ stored_count size
 size-within size = omega (arith, ones_le_self size)
 
 -- what one leaf completes
-pub count-more : (last n : ℕ) → ((l : ℕ) → l < last → index_up l n % 2 ≡ 1) → index_up last n % 2 ≡ 0 → stored_count (n + 1) ≡ stored_count n + (last + 1)
+pub count-more : (last n : ℕ) → ((l : ℕ) → l < last → index_up l n % 2 ≡ 1) → index_up last n % 2 ≡ 0 → stored_count
+    (n + 1) ≡ stored_count n + (last + 1)
 count-more zero n odd even =
     let e : (n + 1) / 2 ≡ n / 2 = omega arith in
     omega (arith, count-half n, count-half (n + 1), ap stored_count e)
@@ -235,8 +267,10 @@ count-more (suc last) n odd even =
     omega (arith, count-half n, count-half (n + 1), ap stored_count e)
 
 -- a place of a row
-pub row-inside : (own seen : StoredValue) (level place : ℕ) → own ≡ seen → place < length (row_of seen level) → place < index_up level own.size
-row-inside own seen level place is below = let e = ap (λ s. length (row_of s level)) is in omega (arith, length-row_of own level)
+pub row-inside : (own seen : StoredValue) (level place : ℕ) → own ≡ seen → place < length (row_of seen level)
+    → place < index_up level own.size
+row-inside own seen level place is below = let e =
+    ap (λ s. length (row_of s level)) is in omega (arith, length-row_of own level)
 
 -- no leaves
 pub no-rows : (level : ℕ) → row_of (record { size = 0; digests = [] }) level ≡ []

@@ -5,13 +5,15 @@ use Rattle.merkle_log.proofs.RowsUp.{twice}
 use Rattle.merkle_log.proofs.Agree.{both_roots-odd, both_roots-even}
 
 -- From here, with some levels left, both roots are this.
-pub record Raised {D E : Type 0} (hash : D → D → Result D E) (i s : ℕ) (old : D) (path : List D) (answer : Result (Option (D × D)) E) : Type 0 where
+pub record Raised {D E : Type 0} (hash : D → D → Result D E) (i s : ℕ) (old : D) (path : List D)
+    (answer : Result (Option (D × D)) E) : Type 0 where
   pub levels : ℕ
   pub high : s < 2 ^ levels
   pub inside : i ≤ s
   pub is : both_roots hash levels i s old path ≡ answer
 
-module _ {D E : Type 0} {hash : D → D → Result D E} {i s : ℕ} {old : D} {path : List D} {answer : Result (Option (D × D)) E} (raised : Raised hash i s old path answer) where
+module _ {D E : Type 0} {hash : D → D → Result D E} {i s : ℕ} {old : D} {path : List D}
+    {answer : Result (Option (D × D)) E} (raised : Raised hash i s old path answer) where
   pub raised-odd : i % 2 ≡ 1 → Raised hash (i / 2) (s / 2) old path answer
   raised-odd odd = go raised.levels raised.high raised.is
     where
@@ -23,7 +25,12 @@ module _ {D E : Type 0} {hash : D → D → Result D E} {i s : ℕ} {old : D} {p
 
       go : (k : ℕ) → s < 2 ^ k → both_roots hash k i s old path ≡ answer → Raised hash (i / 2) (s / 2) old path answer
       go zero high is = let more = some raised.inside in absurd (omega arith)
-      go (suc k) high is = let two = twice k in record { levels = k; high = omega arith; inside = halves raised.inside; is = sym (both_roots-odd hash k i s old path odd) ∙ is }
+      go (suc k) high is = let two = twice k in record {
+        levels = k;
+        high = omega arith;
+        inside = halves raised.inside;
+        is = sym (both_roots-odd hash k i s old path odd) ∙ is;
+      }
 
   pub record Seeded : Type 0 where
     pub levels : ℕ
@@ -35,4 +42,9 @@ module _ {D E : Type 0} {hash : D → D → Result D E} {i s : ℕ} {old : D} {p
     where
       go : (k : ℕ) → s < 2 ^ k → both_roots hash k i s old path ≡ answer → Seeded
       go zero high is = record { levels = zero; high = high; is = sym is }
-      go (suc k) high is = record { levels = suc k; high = high; is = sym is ∙ both_roots-even hash k i s old path even }
+      go (suc k) high is = record {
+        levels = suc k;
+        high = high;
+        is = sym is ∙ both_roots-even hash k i s old
+            path even;
+      }

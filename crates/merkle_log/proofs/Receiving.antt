@@ -15,23 +15,30 @@ use Rattle.merkle_log.specs.Received.{whole_read, received_inclusion, received_c
 use Rattle.merkle_log.proofs.Verdicts.{leaf-bound, consistency-bound}
 
 -- bytes are left
-pub whole-more : {V : Type 0} (digest : V → Digest) (outcome : Outcome (List V × List ℕ)) (values : List V) (bytes : List ℕ) (used : ℕ) → outcome ≡ Ok (values, drop used bytes) → used < length bytes
+pub whole-more : {V : Type 0} (digest : V → Digest) (outcome : Outcome (List V × List ℕ)) (values : List V)
+    (bytes : List ℕ) (used : ℕ) → outcome ≡ Ok (values, drop used bytes) → used < length bytes
     → (outcome >>= whole_read digest) ≡ Err (SerializationError InvalidData)
-whole-more {V} digest outcome values bytes used is less = ap (λ o. o >>= whole_read digest) is ∙ by_rest (drop used bytes) (omega (arith, length-drop used bytes))
+whole-more {V} digest outcome values bytes used is less =
+    ap (λ o. o >>= whole_read digest) is ∙ by_rest (drop used bytes) (omega (arith, length-drop used bytes))
   where
-    by_rest : (rest : List ℕ) → 0 < length rest → whole_read digest (values, rest) ≡ Err (SerializationError InvalidData)
+    by_rest : (rest : List ℕ) → 0 < length rest → whole_read digest (values, rest)
+        ≡ Err (SerializationError InvalidData)
     by_rest [] some = absurd (omega arith)
     by_rest (byte ∷ rest) some = refl
 
 -- no byte is left
-pub whole-all : {V : Type 0} (digest : V → Digest) (outcome : Outcome (List V × List ℕ)) (values : List V) (bytes : List ℕ) (used : ℕ) → outcome ≡ Ok (values, drop used bytes) → length bytes ≤ used
+pub whole-all : {V : Type 0} (digest : V → Digest) (outcome : Outcome (List V × List ℕ)) (values : List V)
+    (bytes : List ℕ) (used : ℕ) → outcome ≡ Ok (values, drop used bytes) → length bytes ≤ used
     → (outcome >>= whole_read digest) ≡ Ok (map digest values)
-whole-all {V} digest outcome values bytes used is all = ap (λ o. o >>= whole_read digest) is ∙ ap (λ rest. whole_read digest (values, rest)) (drop_all used bytes all)
+whole-all {V} digest outcome values bytes used is all =
+    ap (λ o. o >>= whole_read digest) is ∙ ap (λ rest. whole_read digest (values, rest)) (drop_all used bytes all)
 
 -- digests by what their bytes spell
-pub numbers-read : {A V : Type 0} (numbers : A → Digest) (view : A → V) (digest : V → Digest) → ((a : A) → numbers a ≡ digest (view a)) → (items : List A) → map digest (map view items) ≡ map numbers items
+pub numbers-read : {A V : Type 0} (numbers : A → Digest) (view : A → V) (digest : V → Digest) → ((a : A) → numbers a
+    ≡ digest (view a)) → (items : List A) → map digest (map view items) ≡ map numbers items
 numbers-read numbers view digest same [] = refl
-numbers-read numbers view digest same (a ∷ items) = heads (digest (view a)) (numbers a) _ _ (sym (same a)) (numbers-read numbers view digest same items)
+numbers-read numbers view digest same (a ∷ items) =
+    heads (digest (view a)) (numbers a) _ _ (sym (same a)) (numbers-read numbers view digest same items)
   where
     heads : (x y : Digest) (xs ys : List Digest) → x ≡ y → xs ≡ ys → x ∷ xs ≡ y ∷ ys
     heads x y xs ys p q = cc
@@ -40,20 +47,25 @@ numbers-read numbers view digest same (a ∷ items) = heads (digest (view a)) (n
 refused : (error : Error) (o : Outcome Bool) → o ≡ Err error → o ≡ Ok true → ⊥
 refused error o e f = let g = sym e ∙ f in absurd cc
 
-module _ {A : Type 0} (hashes : Hashes A) (root : Digest) (size index : ℕ) (leaf : A) (path : Outcome (List Digest)) where
-  pub received-inside : index < size → received_inclusion hashes root size index leaf path ≡ (path >>= leaf_verdict hashes root size index leaf)
+module _ {A : Type 0} (hashes : Hashes A) (root : Digest) (size index : ℕ) (leaf : A)
+    (path : Outcome (List Digest)) where
+  pub received-inside : index < size → received_inclusion hashes root size index leaf path
+      ≡ (path >>= leaf_verdict hashes root size index leaf)
   received-inside inside = let t : nat_lt index size ≡ true = grind (arith, nat_tests) in step (nat_lt index size) t _ _
     where
       step : (b : Bool) → b ≡ true → (x y : Outcome Bool) → (if b then x else y) ≡ x
       step b t x y = rw (t) refl
 
-  pub received-outside : size ≤ index → received_inclusion hashes root size index leaf path ≡ Err (SerializationError InvalidData)
-  received-outside outside = let t : nat_lt index size ≡ false = grind (arith, nat_tests) in step (nat_lt index size) t _ _
+  pub received-outside : size ≤ index → received_inclusion hashes root size index leaf path
+      ≡ Err (SerializationError InvalidData)
+  received-outside outside = let t : nat_lt index size ≡ false =
+      grind (arith, nat_tests) in step (nat_lt index size) t _ _
     where
       step : (b : Bool) → b ≡ false → (x y : Outcome Bool) → (if b then x else y) ≡ y
       step b t x y = rw (t) refl
 
-  pub received-leaf : received_inclusion hashes root size index leaf path ≡ Ok true → ShowsLeaf hashes root size index leaf path
+  pub received-leaf : received_inclusion hashes root size index leaf path ≡ Ok true → ShowsLeaf hashes root size
+      index leaf path
   received-leaf is = elim (cases_lt index size) [
     | inl inside ↦
         let read = bind_ok path (leaf_verdict hashes root size index leaf) true (sym (received-inside inside) ∙ is) in
@@ -62,18 +74,22 @@ module _ {A : Type 0} (hashes : Hashes A) (root : Digest) (size index : ℕ) (le
   ]
 
 module _ (hash : NodeHash) (old_size : ℕ) (old : Digest) (size : ℕ) (new : Digest) (path : Outcome (List Digest)) where
-  pub received-sizes : 0 < old_size → old_size ≤ size → received_consistency hash old_size old size new path ≡ (path >>= consistency_verdict hash old_size old size new)
+  pub received-sizes : 0 < old_size → old_size ≤ size → received_consistency hash old_size old size new path
+      ≡ (path >>= consistency_verdict hash old_size old size new)
   received-sizes some le =
       let t : (old_size == 0) ≡ false = grind (arith, nat_tests) in
-      let u : nat_lt size old_size ≡ false = grind (arith, nat_tests) in step (old_size == 0) (nat_lt size old_size) t u _ _
+      let u : nat_lt size old_size ≡ false =
+      grind (arith, nat_tests) in step (old_size == 0) (nat_lt size old_size) t u _ _
     where
       step : (a b : Bool) → a ≡ false → b ≡ false → (x y : Outcome Bool) → (if (a || b) then x else y) ≡ y
       step a b t u x y = rw (t, u) refl
 
-  pub received-front : received_consistency hash old_size old size new path ≡ Ok true → ShowsFront hash old_size old size new path
+  pub received-front : received_consistency hash old_size old size new path ≡ Ok true → ShowsFront hash old_size old
+      size new path
   received-front is = by_test (old_size == 0 || nat_lt size old_size) is
     where
-      by_test : (b : Bool) → (if b then (Err (SerializationError InvalidData)) else (path >>= consistency_verdict hash old_size old size new)) ≡ Ok true → ShowsFront hash old_size old size new path
+      by_test : (b : Bool) → (if b then (Err (SerializationError InvalidData)) else (path >>= consistency_verdict hash
+          old_size old size new)) ≡ Ok true → ShowsFront hash old_size old size new path
       by_test true is = absurd (refused _ _ refl is)
       by_test false is =
           let read = bind_ok path (consistency_verdict hash old_size old size new) true is in

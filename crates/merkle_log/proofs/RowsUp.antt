@@ -25,16 +25,19 @@ drop-nil : {A : Type 0} (n : ℕ) → drop {A = A} n [] ≡ []
 drop-nil zero = refl
 drop-nil (suc n) = refl
 
-pub take-row_up : {A : Type 0} (join : A → A → A) (c d : ℕ) (xs : List A) → d ≡ c + c → take c (row_up join xs) ≡ row_up join (take d xs)
+pub take-row_up : {A : Type 0} (join : A → A → A) (c d : ℕ) (xs : List A) → d ≡ c + c → take c (row_up join xs)
+    ≡ row_up join (take d xs)
 take-row_up join zero zero xs e = refl
 take-row_up join zero (suc d) xs e = absurd (omega arith)
 take-row_up join (suc c) zero xs e = absurd (omega arith)
 take-row_up join (suc c) (suc zero) xs e = absurd (omega arith)
 take-row_up join (suc c) (suc (suc d)) [] e = refl
 take-row_up join (suc c) (suc (suc d)) (a ∷ []) e = ap (λ xs. a ∷ xs) (take-nil c)
-take-row_up join (suc c) (suc (suc d)) (a ∷ b ∷ rest) e = ap (λ xs. join a b ∷ xs) (take-row_up join c d rest (omega arith))
+take-row_up join (suc c) (suc (suc d)) (a ∷ b ∷ rest) e =
+    ap (λ xs. join a b ∷ xs) (take-row_up join c d rest (omega arith))
 
-pub drop-row_up : {A : Type 0} (join : A → A → A) (c d : ℕ) (xs : List A) → d ≡ c + c → drop c (row_up join xs) ≡ row_up join (drop d xs)
+pub drop-row_up : {A : Type 0} (join : A → A → A) (c d : ℕ) (xs : List A) → d ≡ c + c → drop c (row_up join xs)
+    ≡ row_up join (drop d xs)
 drop-row_up join zero zero xs e = refl
 drop-row_up join zero (suc d) xs e = absurd (omega arith)
 drop-row_up join (suc c) zero xs e = absurd (omega arith)
@@ -48,7 +51,8 @@ pub twice : (j : ℕ) → 2 ^ suc j ≡ 2 ^ j + 2 ^ j
 twice j = omega (arith, pow-suc 2 j)
 
 -- The hash of a tree is that of the row above.
-pub tree_hash-up : {A : Type 0} (join : A → A → A) (none : A) (k : ℕ) (xs : List A) → length xs ≤ 2 ^ suc k → tree_hash join none (suc k) xs ≡ tree_hash join none k (row_up join xs)
+pub tree_hash-up : {A : Type 0} (join : A → A → A) (none : A) (k : ℕ) (xs : List A) → length xs ≤ 2 ^ suc k
+    → tree_hash join none (suc k) xs ≡ tree_hash join none k (row_up join xs)
 tree_hash-up join none zero [] le = refl
 tree_hash-up join none zero (a ∷ []) le = refl
 tree_hash-up join none zero (a ∷ b ∷ []) le = refl
@@ -60,7 +64,8 @@ tree_hash-up join none (suc j) xs le =
     elim (cases_lt (2 ^ suc j) (length xs)) [
       | inl lt ↦
           let here : nat_lt (2 ^ suc j) (length xs) ≡ true = grind (arith, nat_tests) in
-          let above : nat_lt (2 ^ j) (length (row_up join xs)) ≡ true = let l : 2 ^ j < length (row_up join xs) = omega arith in grind (arith, nat_tests) in
+          let above : nat_lt (2 ^ j) (length (row_up join xs)) ≡ true = let l : 2 ^ j < length (row_up join xs) =
+          omega arith in grind (arith, nat_tests) in
           let front : length (take (2 ^ suc j) xs) ≤ 2 ^ suc j = omega (arith, length-take (2 ^ suc j) xs) in
           let back : length (drop (2 ^ suc j) xs) ≤ 2 ^ suc j = omega (arith, length-drop (2 ^ suc j) xs) in
           rw (
@@ -73,6 +78,7 @@ tree_hash-up join none (suc j) xs le =
           ) refl
       | inr ge ↦
           let here : nat_lt (2 ^ suc j) (length xs) ≡ false = grind (arith, nat_tests) in
-          let above : nat_lt (2 ^ j) (length (row_up join xs)) ≡ false = let l : length (row_up join xs) ≤ 2 ^ j = omega arith in grind (arith, nat_tests) in
+          let above : nat_lt (2 ^ j) (length (row_up join xs)) ≡ false = let l : length (row_up join xs) ≤ 2 ^ j =
+          omega arith in grind (arith, nat_tests) in
           rw (here, above) (tree_hash-up join none j xs ge)
     ]

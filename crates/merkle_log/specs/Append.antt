@@ -22,7 +22,8 @@ pushed_row rows made level =
     if nat_lt level (length made) then (rows level ++ (get_or made level [] ∷ [])) else (rows level)
 
 -- A log's list of this size is followed by the digests that an appended one makes.
-pub record Completes (hash : NodeHash) (size : ℕ) (before : List Digest) (digest : Digest) (after : List Digest) : Type 0 where
+pub record Completes (hash : NodeHash) (size : ℕ) (before : List Digest) (digest : Digest) (after : List Digest) :
+    Type 0 where
   pub made : List Digest
   pub carried : IsCarried hash (row_of (record { size = size; digests = before })) digest made
   pub is : after ≡ before ++ made
@@ -57,13 +58,15 @@ pub record HasLeaf {T A : Type 0} (hashes : Hashes A) (old : LogValue T) (leaf :
   pub is : new ≡ with_more old (digest ∷ [])
 
 -- A log has more leaves, which all have hashes.
-pub record HasLeaves {T A : Type 0} (hashes : Hashes A) (old : LogValue T) (leaves : List A) (new : LogValue T) : Type 0 where
+pub record HasLeaves {T A : Type 0} (hashes : Hashes A) (old : LogValue T) (leaves : List A) (new : LogValue T) :
+    Type 0 where
   pub digests : List Digest
   pub hashed : all_hashes hashes.leaf leaves ≡ Ok digests
   pub is : new ≡ with_more old digests
 
 -- A log's list is followed by the digests of more leaves and those that they make.
-pub record AppendsLeaves {A : Type 0} (hashes : Hashes A) (old : StoredValue) (leaves : List A) (new : StoredValue) : Type 0 where
+pub record AppendsLeaves {A : Type 0} (hashes : Hashes A) (old : StoredValue) (leaves : List A) (new : StoredValue) :
+    Type 0 where
   pub digests : List Digest
   pub hashed : all_hashes hashes.leaf leaves ≡ Ok digests
   pub first_row : row_of new 0 ≡ row_of old 0 ++ digests

@@ -10,12 +10,14 @@ complete_pairs join [] = []
 complete_pairs join (a ∷ []) = []
 complete_pairs join (a ∷ b ∷ rest) = join a b ∷ complete_pairs join rest
 
--- The hashes of the complete trees into which fewer than 2 ^ k values fall, the largest first: those of the joined pairs,
+-- The hashes of the complete trees into which fewer than 2 ^ k values fall, the largest first: those of the joined
+-- pairs,
 -- and behind them the last of an odd number of values.
 abbrev pub frontier : {A : Type 0} → (A → A → A) → A → ℕ → List A → List A
 frontier join none zero xs = []
 frontier join none (suc k) xs =
-    frontier join none k (complete_pairs join xs) ++ (if length xs % 2 == 1 then (get_or xs (length xs - 1) none ∷ []) else [])
+    frontier join none k (complete_pairs join xs) ++ (if length xs % 2 == 1 then (get_or xs (length xs - 1) none
+    ∷ []) else [])
 
 -- a frontier: its hasher, the root of no digests, how many digests there are, and its roots
 pub record FrontierValue (T : Type 0) : Type 0 where

@@ -37,7 +37,8 @@ digests_in reads digest count bytes = reading_outcome (items_at reads count byte
 -- the verdict on a path, where the index is below the size
 abbrev pub received_inclusion : {A : Type 0} → Hashes A → Digest → ℕ → ℕ → A → Outcome (List Digest) → Outcome Bool
 received_inclusion hashes root size index leaf path =
-    if nat_lt index size then (path >>= leaf_verdict hashes root size index leaf) else (Err (SerializationError InvalidData))
+    if nat_lt index size then (path >>= leaf_verdict hashes root size index leaf) else
+    (Err (SerializationError InvalidData))
 
 -- the verdict on a consistency proof, where the old size is above zero and not above the new one
 abbrev pub received_consistency : NodeHash → ℕ → Digest → ℕ → Digest → Outcome (List Digest) → Outcome Bool

@@ -52,7 +52,8 @@ abbrev pub is_empty : List Digest → Bool
 is_empty [] = true
 is_empty (digest ∷ rest) = false
 
--- Whether a path leads from the root of an old size to that of a new one. There is no proof for the old size 0, and that for
+-- Whether a path leads from the root of an old size to that of a new one. There is no proof for the old size 0, and
+-- that for
 -- equal sizes is empty.
 abbrev pub consistency_verdict : NodeHash → ℕ → Digest → ℕ → Digest → List Digest → Outcome Bool
 consistency_verdict hash old_size old size new path =

@@ -15,7 +15,8 @@ finish state [] = Ok (Some state)
 finish state (digest ∷ rest) = Ok None
 
 -- a level with a digest beside the way
-abbrev pub with_next : {D S R E : Type 0} → (D → Result S E) → (S → List D → Result (Option R) E) → List D → Result (Option R) E
+abbrev pub with_next : {D S R E : Type 0} → (D → Result S E) → (S → List D → Result (Option R) E) → List D
+    → Result (Option R) E
 with_next step next [] = Ok None
 with_next step next (digest ∷ rest) = do
   state ← step digest
@@ -23,7 +24,8 @@ with_next step next (digest ∷ rest) = do
 
 -- From index i of a row whose last index is s, k levels up: at an odd index a digest stands left, before the last index
 -- one stands right, and at an even last index none. What the digests make of a state, where they are as many as needed.
-abbrev pub walk : {D S E : Type 0} → (D → S → Result S E) → (D → S → Result S E) → ℕ → ℕ → ℕ → S → List D → Result (Option S) E
+abbrev pub walk : {D S E : Type 0} → (D → S → Result S E) → (D → S → Result S E) → ℕ → ℕ → ℕ → S → List D
+    → Result (Option S) E
 walk left right zero i s state path = finish state path
 walk left right (suc k) i s state path =
     let next = walk left right k (i / 2) (s / 2) in

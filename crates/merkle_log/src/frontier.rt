@@ -104,8 +104,10 @@ impl<D: DigestItem, T: TreeHasher<D, D>> Frontier<D, T> {
 
         // The frontier of a list of digests becomes that of the list with one more.
         ensures appended { let hash = (T.hashes self.old.hasher).pair.upper in
-            OnOk result ((digests : List Digest) → IsFrontier hash digests self.old.size self.old.peaks
-            → IsFrontier hash (digests ++ (D.numbers digest ∷ [])) self.new.size self.new.peaks) }
+            OnOk result ((digests : List Digest)
+            → IsFrontier hash digests self.old.size self.old.peaks
+            → let more = digests ++ (D.numbers digest ∷ []) in
+            IsFrontier hash more self.new.size self.new.peaks) }
         ensures hasher { self.new.hasher ≡ self.old.hasher }
         ensures empty { self.new.empty ≡ self.old.empty }
         ensures kept { OnErr result (self.new ≡ self.old) }

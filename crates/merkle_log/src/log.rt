@@ -93,7 +93,8 @@ impl<D: DigestItem, T: TreeHasher<D, D>> Log<D, T> {
 
     /// Appends a leaf. Errors, which leave the log unchanged: that of the leaf's hash; that of a pair; `OutOfMemory`.
     pub fn append(&mut self, alloc: Global, leaf: &T::Leaf) -> Result<(), Error>
-        ensures appended { OnOk result (HasLeaf (T.hashes self.old.hasher) self.old leaf.now self.new) }
+        ensures appended { let hashes = T.hashes self.old.hasher in
+            OnOk result (HasLeaf hashes self.old leaf.now self.new) }
         ensures kept { OnErr result (self.new ≡ self.old) }
         ensures refused { IfErr result (λ error. (error ≡ OutOfMemory)
             ⊎ ((T.hashes self.old.hasher).leaf leaf.now ≡ Err error)
@@ -186,7 +187,8 @@ impl<D: DigestItem, T: TreeHasher<D, D>> Log<D, T> {
         ensures accepted { let hash = (T.hashes self.now.hasher).pair.upper in
             IfOk result (λ path. (old new : Digest) → root_at hash self.now old_size ≡ Ok old
             → root_at hash self.now size ≡ Ok new
-            → consistency_verdict hash old_size old size new (digests_of D.numbers path) ≡ Ok true) }
+            → let digests = digests_of D.numbers path in
+            consistency_verdict hash old_size old size new digests ≡ Ok true) }
     {
         consistency_path_of(alloc, &self.hasher, &self.stored, old_size, size)
     }

@@ -51,7 +51,8 @@ pub fn raise_last<D: DigestItem, T: TreeHasher<D, D>>(
     ensures raised { let hash = (T.hashes hasher.now).pair.upper in
         let row = row_of rows.now level in
         let up = last_seen D.numbers (row_of rows.now (level + 1)) (last_index / 2) in
-        AnswersBy up (last_raised hash row last_index (last_seen D.numbers row last_index last)) result }
+        let seen = last_seen D.numbers row last_index last in
+        AnswersBy up (last_raised hash row last_index seen) result }
     ensures has { IfOk result (HasLast (row_of rows.now (level + 1)) (last_index / 2)) }
 {
     match last {

@@ -29,9 +29,15 @@ refusal-no Other zero = cc
 -- What an accepted path shows, where the answer is 0.
 module _ (h : Hashing) {A : Type 0} (bytes_of : A → List ℕ) (root : Digest) (size index : ℕ) (path : List ℕ) where
   pub shows-zero : (held : A) (leaf : List ℕ) → bytes_of held ≡ leaf → (result : Outcome Bool)
-      → IfOk result (λ accepted. accepted ≡ true → ShowsLeaf (record { leaf = λ x. Ok (h.leaf_hash (bytes_of x)); pair = node_pair h }) root size index held (read_path path))
-      → (code : ℤ) → code ≡ verdict_code (refusing result) → to_z w32 (of_z w32 code) ≡ pos 0 → ShowsLeaf (hashes_of h) root size index leaf (read_path path)
-  shows-zero held leaf same (Ok true) shows code is zero = let P : List ℕ → Type 0 = λ l. ShowsLeaf (hashes_of h) root size index l (read_path path) in subst P same (shows refl)
+      → IfOk result (λ accepted. accepted ≡ true → ShowsLeaf (record {
+        leaf = λ x. Ok (h.leaf_hash (bytes_of x));
+        pair =
+            node_pair h;
+      }) root size index held (read_path path))
+      → (code : ℤ) → code ≡ verdict_code (refusing result) → to_z w32 (of_z w32 code) ≡ pos 0 → ShowsLeaf (hashes_of h)
+      root size index leaf (read_path path)
+  shows-zero held leaf same (Ok true) shows code is zero = let P : List ℕ → Type 0 =
+      λ l. ShowsLeaf (hashes_of h) root size index l (read_path path) in subst P same (shows refl)
   shows-zero held leaf same (Ok false) shows code is zero = let no = rw is at zero in absurd cc
   shows-zero held leaf same (Err error) shows code is zero = absurd (refusal-no (refused_of error) (rw is at zero))
 
@@ -60,43 +66,69 @@ module _ (h : Hashing) {A : Type 0} (bytes_of : A → List ℕ) (root : Digest) 
   abbrev held_hashes : Hashes A
   held_hashes = record { leaf = λ x. Ok (h.leaf_hash (bytes_of x)); pair = node_pair h }
 
-  stand-held : (held : List A) (ways : List Way) → StandInTurn held_hashes root size held ways → StandInTurn (hashes_of h) root size (map bytes_of held) ways
+  stand-held : (held : List A) (ways : List Way) → StandInTurn held_hashes root size held ways
+      → StandInTurn (hashes_of h) root size (map bytes_of held) ways
   stand-held held [] stand = tt
   stand-held [] (way ∷ ways) stand = stand
   stand-held (x ∷ held) (way ∷ ways) stand = (stand.0, stand-held held ways stand.1)
 
-  shows-held : (indexes : List ℕ) (held : List A) (reading : Reading MultiWay) → ShowsLeaves held_hashes root size indexes held reading → ShowsLeaves (hashes_of h) root size indexes (map bytes_of held) reading
-  shows-held indexes held reading shows = record { proof = shows.proof; read = shows.read; ways = shows.ways; decoded = shows.decoded; places = shows.places; stand = stand-held held shows.ways shows.stand }
+  shows-held : (indexes : List ℕ) (held : List A) (reading : Reading MultiWay) → ShowsLeaves held_hashes root size
+      indexes held reading → ShowsLeaves (hashes_of h) root size indexes (map bytes_of held) reading
+  shows-held indexes held reading shows = record {
+    proof = shows.proof;
+    read = shows.read;
+    ways = shows.ways;
+    decoded =
+        shows.decoded;
+    places = shows.places;
+    stand = stand-held held shows.ways shows.stand;
+  }
 
-  verdict-held : (indexes : List ℕ) (held : List A) (reading : Reading MultiWay) → received_multi_verdict (hashes_of h) root size indexes (map bytes_of held) reading ≡ received_multi_verdict held_hashes root size indexes held reading
+  verdict-held : (indexes : List ℕ) (held : List A) (reading : Reading MultiWay) → received_multi_verdict (hashes_of h)
+      root size indexes (map bytes_of held) reading ≡ received_multi_verdict held_hashes root size indexes held reading
   verdict-held indexes held reading = rw (map-map (hashes_of h).leaf bytes_of held) refl
 
-  module _ (indexes bytes lengths proof : List ℕ) (held : List A) (are : results_of (λ leaf. leaf) (leaves_for size (length indexes) bytes lengths) ≡ Ok (map bytes_of held)) where
+  module _ (indexes bytes lengths proof : List ℕ) (held : List A) (are : results_of (λ leaf. leaf)
+      (leaves_for size (length indexes) bytes lengths) ≡ Ok (map bytes_of held)) where
     are-held : leaves_for size (length indexes) bytes lengths ≡ Ok (map bytes_of held)
     are-held = sym (results-same (leaves_for size (length indexes) bytes lengths)) ∙ are
 
-    pub multi-shows-zero : (result : Outcome Bool) → IfOk result (λ accepted. accepted ≡ true → ShowsLeaves held_hashes root size indexes held (read_multi_path proof))
+    pub multi-shows-zero : (result : Outcome Bool) → IfOk result (λ accepted. accepted ≡ true → ShowsLeaves held_hashes
+        root size indexes held (read_multi_path proof))
         → (code : ℤ) → code ≡ verdict_code (refusing result) → to_z w32 (of_z w32 code) ≡ pos 0
-        → IfOk (leaves_for size (length indexes) bytes lengths) (λ xs. ShowsLeaves (hashes_of h) root size indexes xs (read_multi_path proof))
-    multi-shows-zero (Ok true) shows code is zero = rw are-held (shows-held indexes held (read_multi_path proof) (shows refl))
+        → IfOk (leaves_for size (length indexes) bytes lengths) (λ xs. ShowsLeaves (hashes_of h) root size indexes xs
+        (read_multi_path proof))
+    multi-shows-zero (Ok true) shows code is zero =
+        rw are-held (shows-held indexes held (read_multi_path proof) (shows refl))
     multi-shows-zero (Ok false) shows code is zero = let no = rw is at zero in absurd cc
     multi-shows-zero (Err error) shows code is zero = absurd (refusal-no (refused_of error) (rw is at zero))
 
-    pub all-shown-gives : (result : Outcome Bool) → Answers (received_multi_verdict held_hashes root size indexes held (read_multi_path proof)) result
-        → (code : ℤ) → code ≡ verdict_code (refusing result) → Gives (verdict_code (all_shown h root size indexes bytes lengths proof)) (to_z w32 (of_z w32 code))
+    pub all-shown-gives : (result : Outcome Bool) → Answers (received_multi_verdict held_hashes root size indexes held
+        (read_multi_path proof)) result
+        → (code : ℤ) → code ≡ verdict_code (refusing result) → Gives (verdict_code (all_shown h root size indexes bytes
+        lengths proof)) (to_z w32 (of_z w32 code))
     all-shown-gives result answers code is =
-        let known : all_shown h root size indexes bytes lengths proof ≡ refusing (received_multi_verdict held_hashes root size indexes held (read_multi_path proof)) = rw are-held (ap refusing (verdict-held indexes held (read_multi_path proof))) in
-        rw (known, is, verdict-fits (refusing result)) (by_result (received_multi_verdict held_hashes root size indexes held (read_multi_path proof)) result answers)
+        let known : all_shown h root size indexes bytes lengths proof ≡ refusing (received_multi_verdict held_hashes
+        root size indexes held (read_multi_path proof)) = rw are-held
+        (ap refusing (verdict-held indexes held (read_multi_path proof))) in
+        rw (known, is, verdict-fits (refusing result)) (by_result (received_multi_verdict held_hashes root size indexes
+        held (read_multi_path proof)) result answers)
       where
-        by_result : (outcome result : Outcome Bool) → Answers outcome result → Gives (verdict_code (refusing outcome)) (verdict_code (refusing result))
+        by_result : (outcome result : Outcome Bool) → Answers outcome result → Gives (verdict_code (refusing outcome))
+            (verdict_code (refusing result))
         by_result outcome (Ok accepted) is = inl (ap (λ o. verdict_code (refusing o)) (sym is))
         by_result outcome (Err e) (inl memory) = inr (ap (λ e. refusal_code (refused_of e)) memory)
         by_result outcome (Err e) (inr refused) = inl (ap (λ o. verdict_code (refusing o)) (sym refused))
 
 -- leaves that are refused
-pub none-shown-gives : (h : Hashing) (root : Digest) (size : ℕ) (indexes bytes lengths proof : List ℕ) (refused : Refused) → (refused ≡ Memory) ⊎ (results_of (λ leaf. leaf) (leaves_for size (length indexes) bytes lengths) ≡ Err refused)
-    → (code : ℤ) → code ≡ refusal_code refused → Gives (verdict_code (all_shown h root size indexes bytes lengths proof)) (to_z w32 (of_z w32 code))
-none-shown-gives h root size indexes bytes lengths proof refused (inl memory) code is = inr (rw (is, verdict-fits (Err refused), memory) refl)
+pub none-shown-gives : (h : Hashing) (root : Digest) (size : ℕ) (indexes bytes lengths proof : List ℕ)
+    (refused : Refused) → (refused ≡ Memory) ⊎ (results_of (λ leaf. leaf) (leaves_for size (length indexes) bytes
+    lengths) ≡ Err refused)
+    → (code : ℤ) → code ≡ refusal_code refused → Gives (verdict_code (all_shown h root size indexes bytes lengths
+    proof)) (to_z w32 (of_z w32 code))
+none-shown-gives h root size indexes bytes lengths proof refused (inl memory) code is =
+    inr (rw (is, verdict-fits (Err refused), memory) refl)
 none-shown-gives h root size indexes bytes lengths proof refused (inr are) code is =
-    let none : leaves_for size (length indexes) bytes lengths ≡ Err refused = sym (results-same (leaves_for size (length indexes) bytes lengths)) ∙ are in
+    let none : leaves_for size (length indexes) bytes lengths ≡ Err refused =
+    sym (results-same (leaves_for size (length indexes) bytes lengths)) ∙ are in
     inl (rw (is, verdict-fits (Err refused), none) refl)

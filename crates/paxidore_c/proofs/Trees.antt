@@ -36,40 +36,66 @@ module _ (h : Hashing) where
 
   -- leaf digests have a tree
   tree-node : {A : Type 0} (leaf : A → Outcome Digest) (digests : List Digest)
-      → tree_above (record { leaf = leaf; pair = node_pair h }) digests ≡ Ok (record { hashes = record { leaf = leaf; pair = node_pair h }; leaves = digests })
+      → tree_above (record { leaf = leaf; pair = node_pair h }) digests
+      ≡ Ok (record { hashes = record { leaf = leaf; pair = node_pair h }; leaves = digests })
   tree-node leaf digests = rw (root-node digests).1 refl
 
   -- so that memory alone is refused
-  pub tree-memory : {A B C : Type 0} (leaf : A → Outcome Digest) (digests : List Digest) (view : B → C) (outcome : Result C Refused) (result : Result B Refused) (e : Error) → IsErrAnd result (λ refused. refused ≡ refused_of e)
-      → (e ≡ OutOfMemory) ⊎ (tree_above (record { leaf = leaf; pair = node_pair h }) digests ≡ Err e) → GivesBy view outcome result
-  tree-memory leaf digests view outcome result e is (inl memory) = let p = err_from_is_err_and result is in rw (p.1, p.2, memory) (inl refl)
-  tree-memory leaf digests view outcome result e is (inr refused) = let never = sym (tree-node leaf digests) ∙ refused in absurd cc
+  pub tree-memory : {A B C : Type 0} (leaf : A → Outcome Digest) (digests : List Digest) (view : B → C)
+      (outcome : Result C Refused) (result : Result B Refused) (e : Error) → IsErrAnd result (λ refused. refused
+      ≡ refused_of e)
+      → (e ≡ OutOfMemory) ⊎ (tree_above (record { leaf = leaf; pair = node_pair h }) digests ≡ Err e) → GivesBy view
+      outcome result
+  tree-memory leaf digests view outcome result e is (inl memory) = let p =
+      err_from_is_err_and result is in rw (p.1, p.2, memory) (inl refl)
+  tree-memory leaf digests view outcome result e is (inr refused) = let never =
+      sym (tree-node leaf digests) ∙ refused in absurd cc
 
 -- what holds of the digests of a tree holds of those of its leaves
-pub over-leaves : (made : List ℕ → Digest) (leaves : Result (List (List ℕ)) Refused) (digests : List Digest) → results_of made leaves ≡ Ok digests → (P : List Digest → Type 0) → P digests → IfOk leaves (λ xs. P (map made xs))
+pub over-leaves : (made : List ℕ → Digest) (leaves : Result (List (List ℕ)) Refused) (digests : List Digest)
+    → results_of made leaves ≡ Ok digests → (P : List Digest → Type 0) → P digests → IfOk leaves (λ xs. P (map made xs))
 over-leaves made (Ok xs) digests is P holds = let same : digests ≡ map made xs = cc in subst P same holds
 over-leaves made (Err refused) digests is P holds = tt
 
 -- ---- the bytes of a multi-proof
 
 -- what is written of a multi-proof, and the bytes of its numbers
-pub written-multi : (siblings : List Digest) (prefixes : List ℕ) (suffixes : List (Vec Digest Global)) (indexes : List ℕ)
-    → multi_path_spelling itself itself (map itself siblings, (map (λ n. n) prefixes, (map (λ suffix. map itself suffix.items) suffixes, map (λ n. n) indexes)))
-    ≡ bytes_of_multi_path (record { siblings = map itself siblings; prefixes = prefixes; suffixes = map (λ suffix. map itself suffix.items) suffixes; indexes = indexes })
-written-multi siblings prefixes suffixes indexes = multi_spelling-way itself itself itself itself siblings prefixes suffixes indexes itself itself itself itself (λ d. refl) (λ d. refl)
+pub written-multi : (siblings : List Digest) (prefixes : List ℕ) (suffixes : List (Vec Digest Global))
+    (indexes : List ℕ)
+    → multi_path_spelling itself itself (
+      map itself siblings,
+      (
+        map (λ n. n) prefixes,
+        (map (λ suffix. map itself suffix.items) suffixes, map (λ n. n) indexes),
+      ),
+    )
+    ≡ bytes_of_multi_path (record {
+      siblings = map itself siblings;
+      prefixes = prefixes;
+      suffixes = map
+          (λ suffix. map itself suffix.items) suffixes;
+      indexes = indexes;
+    })
+written-multi siblings prefixes suffixes indexes = multi_spelling-way itself itself itself itself siblings prefixes
+    suffixes indexes itself itself itself itself (λ d. refl) (λ d. refl)
 
-pub multi-made : (h : Hashing) (leaves lengths indexes : List ℕ) (digests : List Digest) → results_of h.leaf_hash (tree_leaves_in leaves lengths) ≡ Ok digests → are_indexes (length digests) indexes ≡ true
-    → (way : MultiWay) → Outcomes (Ok (own_multi_path (node_pair h) indexes digests)) (Ok way) → (bytes : List ℕ) → bytes ≡ bytes_of_multi_path way → multi_path_of_leaves h leaves lengths indexes ≡ Ok bytes
-multi-made h leaves lengths indexes digests made inside way own bytes written = by_leaves (tree_leaves_in leaves lengths) made
+pub multi-made : (h : Hashing) (leaves lengths indexes : List ℕ) (digests : List Digest) → results_of h.leaf_hash
+    (tree_leaves_in leaves lengths) ≡ Ok digests → are_indexes (length digests) indexes ≡ true
+    → (way : MultiWay) → Outcomes (Ok (own_multi_path (node_pair h) indexes digests)) (Ok way) → (bytes : List ℕ)
+    → bytes ≡ bytes_of_multi_path way → multi_path_of_leaves h leaves lengths indexes ≡ Ok bytes
+multi-made h leaves lengths indexes digests made inside way own bytes written =
+    by_leaves (tree_leaves_in leaves lengths) made
   where
     same : own_multi_path (node_pair h) indexes digests ≡ way
     same = cc
 
     by_leaves : (xs : Result (List (List ℕ)) Refused) → results_of h.leaf_hash xs ≡ Ok digests
-        → (xs >>= λ xs. only_if (are_indexes (length xs) indexes) Index (Ok (bytes_of_multi_path (multi_path_in (tree_over h xs) indexes)))) ≡ Ok bytes
+        → (xs >>= λ xs. only_if (are_indexes (length xs) indexes) Index
+        (Ok (bytes_of_multi_path (multi_path_in (tree_over h xs) indexes)))) ≡ Ok bytes
     by_leaves (Err refused) is = absurd cc
     by_leaves (Ok xs) is =
         let are : map h.leaf_hash xs ≡ digests = cc in
         let long : length xs ≡ length digests = sym (length-map xs h.leaf_hash) ∙ ap length are in
         let ok : List ℕ → Result (List ℕ) Refused = λ b. Ok b in
-        rw (long, inside) (ap ok (ap (λ (ds : List Digest). bytes_of_multi_path (own_multi_path (node_pair h) indexes ds)) are ∙ ap bytes_of_multi_path same ∙ sym written))
+        rw (long, inside) (ap ok (ap (λ (ds : List Digest). bytes_of_multi_path (own_multi_path (node_pair h) indexes
+        ds)) are ∙ ap bytes_of_multi_path same ∙ sym written))

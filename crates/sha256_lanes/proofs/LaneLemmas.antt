@@ -13,20 +13,19 @@ pub splat_lane : (k j : ℕ) → j < 4 → slice_index (k ∷ k ∷ k ∷ k ∷ 
 splat_lane k j lt = get_or-replicate 4 j k 0 lt
 
 -- a shift of each lane by k
-pub shifted : (f : ℕ → ℕ → ℕ) (x : List ℕ) (k j : ℕ) → length x ≡ 4 → j < 4 → slice_index (zip2 f x (k ∷ k ∷ k ∷ k ∷ [])) j ≡ f (slice_index x j) k
+pub shifted : (f : ℕ → ℕ → ℕ) (x : List ℕ) (k j : ℕ) → length x ≡ 4 → j < 4
+    → slice_index (zip2 f x (k ∷ k ∷ k ∷ k ∷ [])) j ≡ f (slice_index x j) k
 shifted f x k j size lt =
     get_or-zip2 f x (k ∷ k ∷ k ∷ k ∷ []) j 0 0 0 (omega arith) lt ∙ ap (f (slice_index x j)) (splat_lane k j lt)
 
--- a sum of three words, its last two added first
-pub add32_later : (x k w : ℕ) → add32 (add32 x k) w ≡ add32 x (add32 k w)
-add32_later x k w = omega arith
-
 -- word t of message j
-pub slice_index-words : (w : List (List ℕ)) (j t : ℕ) → t < length w → slice_index (words j w) t ≡ slice_index (slice_index_or w t []) j
+pub slice_index-words : (w : List (List ℕ)) (j t : ℕ) → t < length w → slice_index (words j w) t
+    ≡ slice_index (slice_index_or w t []) j
 slice_index-words w j t lt = get_or-map (λ vector. slice_index vector j) w t [] 0 lt
 
 -- a word of each message is replaced
-pub words-set : (w : List (List ℕ)) (j t : ℕ) (vector : List ℕ) → words j (slice_set w t vector) ≡ slice_set (words j w) t (slice_index vector j)
+pub words-set : (w : List (List ℕ)) (j t : ℕ) (vector : List ℕ) → words j (slice_set w t vector) ≡ slice_set (words j w)
+    t (slice_index vector j)
 words-set w j t vector = map-set (λ vector. slice_index vector j) w t vector
 
 -- a round's constant and its word of each message, added
@@ -40,9 +39,11 @@ padded_sums : zip2 add32 round_constants pad_schedule ≡ PADDED
 unfolding schedule first_words
 padded_sums = refl
 
-pub padded_sum : (t : ℕ) → t < 64 → slice_index PADDED t ≡ add32 (slice_index round_constants t) (slice_index pad_schedule t)
+pub padded_sum : (t : ℕ) → t < 64 → slice_index PADDED t ≡ add32 (slice_index round_constants t)
+    (slice_index pad_schedule t)
 padded_sum t lt =
-    ap (λ sums. slice_index sums t) (sym padded_sums) ∙ get_or-zip2 add32 round_constants pad_schedule t 0 0 0 lt (omega (arith, length-schedule pad 48))
+    ap (λ sums. slice_index sums t) (sym padded_sums) ∙ get_or-zip2 add32 round_constants pad_schedule t 0 0 0 lt
+    (omega (arith, length-schedule pad 48))
 
 -- what holds of each of the four lanes
 pub below_four : (P : ℕ → Type 0) → P 0 → P 1 → P 2 → P 3 → (j : ℕ) → j < 4 → P j
@@ -53,7 +54,8 @@ below_four P p0 p1 p2 p3 (suc (suc (suc zero))) h = p3
 below_four P p0 p1 p2 p3 (suc (suc (suc (suc n)))) h = absurd (omega arith)
 
 -- word i of the state in lane j
-pub slice_index-lane : (x : List (List ℕ)) (j i : ℕ) → i < 8 → slice_index (lane j x) i ≡ slice_index (slice_index_or x i []) j
+pub slice_index-lane : (x : List (List ℕ)) (j i : ℕ) → i < 8 → slice_index (lane j x) i
+    ≡ slice_index (slice_index_or x i []) j
 slice_index-lane x j zero h = refl
 slice_index-lane x j (suc zero) h = refl
 slice_index-lane x j (suc (suc zero)) h = refl

@@ -11,7 +11,8 @@ use Rattle.sha256_lanes.proofs.PairLemmas.{word_at-left}
 
 -- the digest of a message that makes two blocks with its padding
 pub sha256_long : (m : List ℕ) → length (m ++ padding (length m)) ≡ 128
-    → sha256 m ≡ digest_bytes (compress (compress initial_hash_256 (take 64 (m ++ padding (length m)))) (drop 64 (m ++ padding (length m)))) 8
+    → sha256 m ≡ digest_bytes (compress (compress initial_hash_256 (take 64 (m ++ padding (length m))))
+    (drop 64 (m ++ padding (length m)))) 8
 unfolding sha256 hash_after
 sha256_long m size =
     let p : List ℕ = m ++ padding (length m) in
@@ -20,8 +21,10 @@ sha256_long m size =
     rw (count, rest) refl
 
 -- the same, from the states after each step
-pub sha256_longs : (m blocks initial middle last digest : List ℕ) → length blocks ≡ 128 → blocks ≡ m ++ padding (length m) → initial ≡ initial_hash_256
-    → middle ≡ compress initial (take 64 blocks) → last ≡ compress middle (drop 64 blocks) → digest ≡ digest_bytes last 8 → digest ≡ sha256 m
+pub sha256_longs : (m blocks initial middle last digest : List ℕ) → length blocks ≡ 128 → blocks ≡ m ++ padding
+    (length m) → initial ≡ initial_hash_256
+    → middle ≡ compress initial (take 64 blocks) → last ≡ compress middle (drop 64 blocks) → digest ≡ digest_bytes last
+    8 → digest ≡ sha256 m
 sha256_longs m blocks initial middle last digest size eb ei em el ed =
     rw (sha256_long m (ap length (sym eb) ∙ size), ← eb, ← ei, ← em, ← el) ed
 
@@ -34,12 +37,15 @@ blocks_are m front t low high ef et =
     let fill : ℕ → List ℕ = λ k. replicate k 0 in
     let left : 128 - n ≡ suc (127 - n) = omega arith in
     let zeros : drop n (fill 128) ≡ 0 ∷ fill (127 - n) = drop-replicate n 128 0 ∙ ap fill left in
-    let whole : slice_set (front ++ drop n (replicate 128 0)) n 0x80 ≡ m ++ rest = rw (ef, zeros) (set-append_seam m 0 (replicate (127 - n) 0) 0x80) in
+    let whole : slice_set (front ++ drop n (replicate 128 0)) n 0x80 ≡ m ++ rest =
+    rw (ef, zeros) (set-append_seam m 0 (replicate (127 - n) 0) 0x80) in
     let size : length (m ++ rest) ≡ 128 = omega (arith, length-append m rest, length-replicate {A = ℕ} (127 - n) 0) in
     let cut : 120 ≡ n + suc (119 - n) = omega arith in
     let front_is : take 120 (m ++ rest) ≡ m ++ 0x80 ∷ replicate (119 - n) 0 =
-    ap (λ (k : ℕ). take k (m ++ rest)) cut ∙ take-append-add m rest (suc (119 - n)) ∙ ap (λ (zs : List ℕ). m ++ 0x80 ∷ zs) (take-replicate (119 - n) (127 - n) 0 (omega arith)) in
-    let back : drop 8 (drop 120 (m ++ rest)) ≡ [] = drop-drop 8 120 (m ++ rest) ∙ drop_all 128 (m ++ rest) (omega arith) in
+    ap (λ (k : ℕ). take k (m ++ rest)) cut ∙ take-append-add m rest (suc (119 - n)) ∙ ap (λ (zs : List ℕ). m ++ 0x80
+    ∷ zs) (take-replicate (119 - n) (127 - n) 0 (omega arith)) in
+    let back : drop 8 (drop 120 (m ++ rest)) ≡ [] =
+    drop-drop 8 120 (m ++ rest) ∙ drop_all 128 (m ++ rest) (omega arith) in
     let count : (119 - n % 64) % 64 ≡ 119 - n = omega arith in
     let bits : n * 8 % 2 ^ 64 ≡ 8 * n = omega arith in
     rw (whole, front_is, back, count, bits, ← et, append-nil) (append_assoc m (0x80 ∷ replicate (119 - n) 0) t)

@@ -33,9 +33,11 @@ word_at-right xs ys i k size e =
 -- the first k words of two digests stand in lane j
 abbrev pub AreLoaded : List ℕ → List ℕ → ℕ → ℕ → List (List ℕ) → Type 0
 AreLoaded l r j k w = (i : ℕ) → i < k
-    → (slice_index (slice_index_or w i []) j ≡ word_at l (4 * i)) × (slice_index (slice_index_or w (8 + i) []) j ≡ word_at r (4 * i))
+    → (slice_index (slice_index_or w i []) j ≡ word_at l (4 * i)) × (slice_index (slice_index_or w (8 + i) []) j
+    ≡ word_at r (4 * i))
 
-pub AreLoaded_more : (l r left right : List ℕ) (j k : ℕ) (w : List (List ℕ)) → length w ≡ 16 → k < 8 → AreLoaded l r j k w
+pub AreLoaded_more : (l r left right : List ℕ) (j k : ℕ) (w : List (List ℕ)) → length w ≡ 16 → k < 8
+    → AreLoaded l r j k w
     → slice_index left j ≡ word_at l (4 * k) → slice_index right j ≡ word_at r (4 * k)
     → AreLoaded l r j (k + 1) (slice_set (slice_set w k left) (8 + k) right)
 AreLoaded_more l r left right j k w size small so el er =
@@ -43,20 +45,24 @@ AreLoaded_more l r left right j k w size small so el er =
     let at = λ (vector : List ℕ). slice_index vector j in
     λ i lt. elim (cases_lt i k) [
       | inl a ↦ (
-        ap at (get_or-set_other mid (8 + k) i right [] (omega arith) ∙ get_or-set_other w k i left [] (omega arith)) ∙ (so i a).0,
-        ap at (get_or-set_other mid (8 + k) (8 + i) right [] (omega arith) ∙ get_or-set_other w k (8 + i) left [] (omega arith)) ∙ (so i a).1,
+        ap at (get_or-set_other mid (8 + k) i right [] (omega arith) ∙ get_or-set_other w k i left [] (omega arith))
+            ∙ (so i a).0,
+        ap at (get_or-set_other mid (8 + k) (8 + i) right [] (omega arith) ∙ get_or-set_other w k (8 + i) left []
+            (omega arith)) ∙ (so i a).1,
       )
       | inr b ↦
           let e : k ≡ i = omega arith in
           let inside : 8 + k < length mid = omega (arith, length-set w k left) in
           rw (← e) (
-            ap at (get_or-set_other mid (8 + k) k right [] (omega arith) ∙ get_or-set_same w k left [] (omega arith)) ∙ el,
+            ap at (get_or-set_other mid (8 + k) k right [] (omega arith) ∙ get_or-set_same w k left [] (omega arith))
+                ∙ el,
             ap at (get_or-set_same mid (8 + k) right [] inside) ∙ er,
           )
     ]
 
 -- all words of two digests are those of the block that they make
-pub AreLoaded-all : (l r : List ℕ) (j : ℕ) (w : List (List ℕ)) → length w ≡ 16 → length l ≡ 32 → AreLoaded l r j 8 w → AreWords (l ++ r) (words j w)
+pub AreLoaded-all : (l r : List ℕ) (j : ℕ) (w : List (List ℕ)) → length w ≡ 16 → length l ≡ 32 → AreLoaded l r j 8 w
+    → AreWords (l ++ r) (words j w)
 AreLoaded-all l r j w size long so =
     λ k lt. slice_index-words w j k (omega arith) ∙ elim (cases_lt k 8) [
       | inl a ↦ (so k a).0 ∙ sym (word_at-left l r (4 * k) (omega arith))
@@ -77,6 +83,7 @@ sha256_block m size =
 
 -- the same, from the states after each step
 pub sha256_pair : (l r initial middle last digest : List ℕ) → length l ≡ 32 → length r ≡ 32 → initial ≡ initial_hash_256
-    → middle ≡ compress initial (l ++ r) → last ≡ compress middle pad → digest ≡ digest_bytes last 8 → digest ≡ sha256 (l ++ r)
+    → middle ≡ compress initial (l ++ r) → last ≡ compress middle pad → digest ≡ digest_bytes last 8 → digest
+    ≡ sha256 (l ++ r)
 sha256_pair l r initial middle last digest sl sr ei em el ed =
     rw (sha256_block (l ++ r) (omega (arith, length-append l r)), ← ei, ← em, ← el) ed

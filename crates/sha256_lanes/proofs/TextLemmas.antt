@@ -25,19 +25,23 @@ AreFilled_more b word j k w size small so e =
           rw (← same) (ap at (get_or-set_same w k word [] (omega arith)) ∙ e)
     ]
 
-pub AreFilled-all : (b : List ℕ) (j : ℕ) (w : List (List ℕ)) → length w ≡ 16 → AreFilled b j 16 w → AreWords b (words j w)
+pub AreFilled-all : (b : List ℕ) (j : ℕ) (w : List (List ℕ)) → length w ≡ 16 → AreFilled b j 16 w
+    → AreWords b (words j w)
 AreFilled-all b j w size so = λ k lt. slice_index-words w j k (omega arith) ∙ so k lt
 
 -- the digest of a message that makes one block with its padding
-pub sha256_short : (m : List ℕ) → length (m ++ padding (length m)) ≡ 64 → sha256 m ≡ digest_bytes (compress initial_hash_256 (m ++ padding (length m))) 8
+pub sha256_short : (m : List ℕ) → length (m ++ padding (length m)) ≡ 64 → sha256 m ≡ digest_bytes
+    (compress initial_hash_256 (m ++ padding (length m))) 8
 unfolding sha256 hash_after
 sha256_short m size =
     let count : length (m ++ padding (length m)) / 64 ≡ 1 = omega arith in
-    let first : take 64 (m ++ padding (length m)) ≡ m ++ padding (length m) = take_all 64 (m ++ padding (length m)) (omega arith) in
+    let first : take 64 (m ++ padding (length m)) ≡ m ++ padding (length m) =
+    take_all 64 (m ++ padding (length m)) (omega arith) in
     rw (count, first) refl
 
 -- the same, from the states after each step
-pub sha256_shorts : (m block initial last digest : List ℕ) → length block ≡ 64 → block ≡ m ++ padding (length m) → initial ≡ initial_hash_256
+pub sha256_shorts : (m block initial last digest : List ℕ) → length block ≡ 64 → block ≡ m ++ padding (length m)
+    → initial ≡ initial_hash_256
     → last ≡ compress initial block → digest ≡ digest_bytes last 8 → digest ≡ sha256 m
 sha256_shorts m block initial last digest size eb ei el ed =
     rw (sha256_short m (ap length (sym eb) ∙ size), ← eb, ← ei, ← el) ed
@@ -51,11 +55,13 @@ block_is m front t short ef et =
     let fill : ℕ → List ℕ = λ k. replicate k 0 in
     let left : 64 - n ≡ suc (63 - n) = omega arith in
     let zeros : drop n (fill 64) ≡ 0 ∷ fill (63 - n) = drop-replicate n 64 0 ∙ ap fill left in
-    let whole : slice_set (front ++ drop n (replicate 64 0)) n 0x80 ≡ m ++ rest = rw (ef, zeros) (set-append_seam m 0 (replicate (63 - n) 0) 0x80) in
+    let whole : slice_set (front ++ drop n (replicate 64 0)) n 0x80 ≡ m ++ rest =
+    rw (ef, zeros) (set-append_seam m 0 (replicate (63 - n) 0) 0x80) in
     let size : length (m ++ rest) ≡ 64 = omega (arith, length-append m rest, length-replicate {A = ℕ} (63 - n) 0) in
     let cut : 56 ≡ n + suc (55 - n) = omega arith in
     let front_is : take 56 (m ++ rest) ≡ m ++ 0x80 ∷ replicate (55 - n) 0 =
-    ap (λ (k : ℕ). take k (m ++ rest)) cut ∙ take-append-add m rest (suc (55 - n)) ∙ ap (λ (zs : List ℕ). m ++ 0x80 ∷ zs) (take-replicate (55 - n) (63 - n) 0 (omega arith)) in
+    ap (λ (k : ℕ). take k (m ++ rest)) cut ∙ take-append-add m rest (suc (55 - n)) ∙ ap (λ (zs : List ℕ). m ++ 0x80
+    ∷ zs) (take-replicate (55 - n) (63 - n) 0 (omega arith)) in
     let back : drop 8 (drop 56 (m ++ rest)) ≡ [] = drop-drop 8 56 (m ++ rest) ∙ drop_all 64 (m ++ rest) (omega arith) in
     let count : (119 - n % 64) % 64 ≡ 55 - n = omega arith in
     let bits : n * 8 % 2 ^ 64 ≡ 8 * n = omega arith in

@@ -43,8 +43,9 @@ fn load_pairs(
     d: &[u8; 32],
     d_right: &[u8; 32],
 ) -> [u32x4; 16]
-    ensures { (j : ℕ) → j < 4 → AreWords (slice_index_or ((a.now ++ a_right.now)
-        ∷ (b.now ++ b_right.now) ∷ (c.now ++ c_right.now) ∷ (d.now ++ d_right.now) ∷ []) j []) (words j result) }
+    ensures { let pairs = (a.now ++ a_right.now) ∷ (b.now ++ b_right.now)
+        ∷ (c.now ++ c_right.now) ∷ (d.now ++ d_right.now) ∷ [] in
+        (j : ℕ) → j < 4 → AreWords (slice_index_or pairs j []) (words j result) }
 {
     let mut w = [u32x4::splat(0); 16];
     'load: for k in 0..8 {

@@ -6,10 +6,19 @@ use Rattle.std.proofs.lemmas.Bool.{cases_lt}
 use Rattle.ark_groups.specs.Field.{HasBits, IsModulus, IsFieldModulus}
 
 -- a modulus that is written out: its bounds are computed
-pub written_modulus : {p bits : ℕ} → T (leb 2 p) → T (ltb p (2 ^ 64)) → T (ltb p (2 ^ bits)) → T (leb (2 ^ bits) (2 * p))
+pub written_modulus : {p bits : ℕ} → T (leb 2 p) → T (ltb p (2 ^ 64)) → T (ltb p (2 ^ bits))
+    → T (leb (2 ^ bits) (2 * p))
     → IsModulus p bits
 written_modulus two word more fewer =
-    record { at_least_two = lit≤ two; in_word = lit< word; digits = record { no_more = lit< more; no_fewer = lit≤ fewer } }
+    record {
+      at_least_two = lit≤ two;
+      in_word = lit< word;
+      digits = record {
+        no_more = lit< more;
+        no_fewer =
+            lit≤ fewer;
+      };
+    }
 
 -- a modulus of one word is one of a field
 pub field_modulus : (p bits : ℕ) → IsModulus p bits → IsFieldModulus p bits

@@ -112,7 +112,8 @@ pub trait Field: Copy
     /// missing are 0. `None` where it is the modulus or more.
     fn from_random_bytes(bytes: &[u8]) -> Option<Self>
         ensures none { IsNone result ↔ (MODULUS ≤ drawn_number MODULUS_BIT_SIZE bytes.now) }
-        ensures some { IfSome result (λ x. Self.value x ≡ drawn_number MODULUS_BIT_SIZE bytes.now) };
+        ensures some { let number = drawn_number MODULUS_BIT_SIZE bytes.now in
+            IfSome result (λ x. Self.value x ≡ number) };
 
     ghost laws: { IsField MODULUS Self.value };
 

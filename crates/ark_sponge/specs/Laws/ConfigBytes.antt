@@ -130,7 +130,8 @@ parameters_are_long bits c =
     let shape = both_are_long word word 8 8 f.1.1.1.1.1 (word_is_long c.rate) (word_is_long c.capacity) in
     let matrix = both_are_long rows (both word word) 8 16 f.1.1.1.1 (long c.mds) shape in
     let constants = both_are_long rows (both rows (both word word)) 8 24 f.1.1.1 (long c.ark) matrix in
-    let exponent = both_are_long word (both rows (both rows (both word word))) 8 32 f.1.1 (word_is_long c.alpha) constants in
+    let exponent = both_are_long word (both rows (both rows (both word word))) 8 32 f.1.1 (word_is_long c.alpha)
+    constants in
     let partial = both_are_long word (both word (both rows (both rows (both word word)))) 8 40 f.1
     (word_is_long c.partial_rounds) exponent in
     both_are_long word (both word (both word (both rows (both rows (both word word))))) 8 48 f

@@ -3,13 +3,23 @@ use Rattle.acp_run.proofs.Runs.{going_from_start, going_on, going_to_end, stops_
 use Rattle.acp_run.proofs.run.answer_all.Goals as goal
 
 pub loop-init : goal.loop-init
-loop-init g c = record { going = going_from_start (g.S.Answering.step (g.S.Answering.language c.args.session.now)) (g.S.Answering.state c.args.session.now) _ _; same = refl; sound = c.requires; read = loses_none _ }
+loop-init g c = record {
+  going = going_from_start (g.S.Answering.step (g.S.Answering.language c.args.session.now))
+      (g.S.Answering.state c.args.session.now) _ _;
+  same = refl;
+  sound = c.requires;
+  read = loses_none _;
+}
 
 pub returns-in_err-read_line-clause-stopped : goal.returns-in_err-read_line-clause-stopped
-returns-in_err-read_line-clause-stopped g c = on_err c.from_residual.result (stops_here (g.S.Answering.step (g.S.Answering.language c.args.session.now)) (g.S.Answering.state c.args.session.now) _ _ _ _ _ _ c.loop.invariant.going c.read_line.ensures.kept)
+returns-in_err-read_line-clause-stopped g c = on_err c.from_residual.result
+    (stops_here (g.S.Answering.step (g.S.Answering.language c.args.session.now))
+    (g.S.Answering.state c.args.session.now) _ _ _ _ _ _ c.loop.invariant.going c.read_line.ensures.kept)
 
 pub returns-in_err-reply-clause-stopped : goal.returns-in_err-reply-clause-stopped
-returns-in_err-reply-clause-stopped g c = on_err c.from_residual-in_err-reply.result (stops_here (g.S.Answering.step (g.S.Answering.language c.args.session.now)) (g.S.Answering.state c.args.session.now) _ _ _ _ _ _ c.loop.invariant.going c.read_line.ensures.kept)
+returns-in_err-reply-clause-stopped g c = on_err c.from_residual-in_err-reply.result
+    (stops_here (g.S.Answering.step (g.S.Answering.language c.args.session.now))
+    (g.S.Answering.state c.args.session.now) _ _ _ _ _ _ c.loop.invariant.going c.read_line.ensures.kept)
 
 pub returns-in_err-read_line-clause-read : goal.returns-in_err-read_line-clause-read
 returns-in_err-read_line-clause-read g c = loses_both _ _ _ c.loop.invariant.read c.read_line.ensures.read
@@ -21,13 +31,17 @@ pub returns-in_err-write_reply-clause-read : goal.returns-in_err-write_reply-cla
 returns-in_err-write_reply-clause-read g c = loses_both _ _ _ c.loop.invariant.read c.read_line.ensures.read
 
 pub returns-then-not-branch-clause-served : goal.returns-then-not-branch-clause-served
-returns-then-not-branch-clause-served g c = going_to_end (g.S.Answering.step (g.S.Answering.language c.args.session.now)) (g.S.Answering.state c.args.session.now) _ _ _ _ _ _ c.loop.invariant.going (c.in_ok-read_line.ensures.end c.if-not-branch.true) c.read_line.ensures.kept
+returns-then-not-branch-clause-served g c = going_to_end (g.S.Answering.step (g.S.Answering.language
+    c.args.session.now)) (g.S.Answering.state c.args.session.now) _ _ _ _ _ _ c.loop.invariant.going
+    (c.in_ok-read_line.ensures.end c.if-not-branch.true) c.read_line.ensures.kept
 
 pub returns-in_err-write_reply-clause-stopped : goal.returns-in_err-write_reply-clause-stopped
 returns-in_err-write_reply-clause-stopped g c =
     let line = c.read_line.new.line.items in
     let some : 0 < length line = c.in_ok-read_line.ensures.some c.if-not-branch.false in
-    on_err c.from_residual-in_err-write_reply.result (stops_within (g.S.Answering.step (g.S.Answering.language c.args.session.now)) (g.S.Answering.state c.args.session.now) _ _ _ _ _ _ _ line _ c.loop.invariant.going some c.in_ok-read_line.ensures.line
+    on_err c.from_residual-in_err-write_reply.result (stops_within
+    (g.S.Answering.step (g.S.Answering.language c.args.session.now)) (g.S.Answering.state c.args.session.now) _ _ _ _
+    _ _ _ line _ c.loop.invariant.going some c.in_ok-read_line.ensures.line
     (rw (c.loop.invariant.same, c.without_line_feed.ensures, c.deref.ensures.value) at c.in_ok-reply.ensures.step)
     (kept_front _ _ _ _ c.read_line.ensures.kept c.write_reply.ensures.front))
 
@@ -35,7 +49,9 @@ pub loop-preserved : goal.loop-preserved
 loop-preserved g c =
     let line = c.read_line.new.line.items in
     let some : 0 < length line = c.in_ok-read_line.ensures.some c.if-not-branch.false in record {
-      going = going_on (g.S.Answering.step (g.S.Answering.language c.args.session.now)) (g.S.Answering.state c.args.session.now) _ _ _ _ _ _ _ _ line _ c.loop.invariant.going some c.in_ok-read_line.ensures.line c.in_ok-read_line.ensures.rest
+      going = going_on (g.S.Answering.step (g.S.Answering.language c.args.session.now))
+          (g.S.Answering.state c.args.session.now) _ _ _ _ _ _ _ _ line _ c.loop.invariant.going some
+          c.in_ok-read_line.ensures.line c.in_ok-read_line.ensures.rest
           (rw (c.loop.invariant.same, c.without_line_feed.ensures, c.deref.ensures.value) at c.in_ok-reply.ensures.step)
           (kept_then _ _ _ _ c.read_line.ensures.kept c.in_ok-write_reply.ensures.whole);
       same = c.answer.ensures.same ∙ c.loop.invariant.same;
@@ -44,4 +60,5 @@ loop-preserved g c =
     }
 
 pub returns-clause-stopped : goal.returns-clause-stopped
-returns-clause-stopped g c = stops_here (g.S.Answering.step (g.S.Answering.language c.args.session.now)) (g.S.Answering.state c.args.session.now) _ _ _ _ _ _ c.loop.invariant.going (keeps_self _)
+returns-clause-stopped g c = stops_here (g.S.Answering.step (g.S.Answering.language c.args.session.now))
+    (g.S.Answering.state c.args.session.now) _ _ _ _ _ _ c.loop.invariant.going (keeps_self _)

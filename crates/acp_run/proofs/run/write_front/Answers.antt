@@ -9,12 +9,16 @@ loop-preserved g c =
     let bytes = c.args.bytes.now in
     let contents = g.W.Write.contents in
     elim c.match-write.branch [
-      | in-Ok w ↦ let some : w.in-Ok.more ≤ length (drop c.loop.written bytes) = rw (take_rest bytes c.loop.written) at w.in-Ok.ensures.bound in rw w.written-is (record {
-        inside = omega (arith, length-drop c.loop.written bytes, c.loop.invariant.inside);
-        front = appends_more (contents c.args.writer.now) (contents c.loop.writer) _ bytes c.loop.written w.in-Ok.more c.loop.invariant.front (rw (take_rest bytes c.loop.written) at w.in-Ok.ensures.bytes);
-      })
+      | in-Ok w ↦ let some : w.in-Ok.more ≤ length (drop c.loop.written bytes) =
+          rw (take_rest bytes c.loop.written) at w.in-Ok.ensures.bound in rw w.written-is (record {
+            inside = omega (arith, length-drop c.loop.written bytes, c.loop.invariant.inside);
+            front = appends_more (contents c.args.writer.now) (contents c.loop.writer) _ bytes c.loop.written
+                w.in-Ok.more
+                c.loop.invariant.front (rw (take_rest bytes c.loop.written) at w.in-Ok.ensures.bytes);
+          })
       | in-Err+else-ne w ↦ rw w.written-is (record {
         inside = c.loop.invariant.inside;
-        front = appends_kept (contents c.args.writer.now) (contents c.loop.writer) _ (take c.loop.written bytes) c.loop.invariant.front w.in-Err.ensures.bytes;
+        front = appends_kept (contents c.args.writer.now) (contents c.loop.writer) _ (take c.loop.written bytes)
+            c.loop.invariant.front w.in-Err.ensures.bytes;
       })
     ]

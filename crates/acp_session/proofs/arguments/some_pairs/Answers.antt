@@ -8,4 +8,5 @@ pub returns : goal.returns
 returns g c = IfOk-weaker c.pairs.result _ _ (λ xs is p q.
     let value = g.A.Argument.value_of p in
     let other = g.B.Argument.value_of q in
-    is p q ∙ all_left (pairs value other) (some_pairs value other) (λ token tokens. refl) c.args.left c.if-is_none.ensures) c.pairs.ensures
+    is p q ∙ all_left (pairs value other) (some_pairs value other) (λ token tokens. refl) c.args.left
+    c.if-is_none.ensures) c.pairs.ensures

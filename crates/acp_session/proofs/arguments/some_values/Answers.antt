@@ -7,4 +7,5 @@ use Rattle.acp_session.proofs.arguments.some_values.Goals as goal
 pub returns : goal.returns
 returns g c = IfOk-weaker c.values.result _ _ (λ xs is p.
     let value = g.A.Argument.value_of p in
-    is p ∙ all_left (values value) (some_values value) (λ token tokens. refl) c.args.left c.if-is_none.ensures) c.values.ensures
+    is p ∙ all_left (values value) (some_values value) (λ token tokens. refl) c.args.left c.if-is_none.ensures)
+    c.values.ensures

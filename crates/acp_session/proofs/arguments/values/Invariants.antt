@@ -7,7 +7,9 @@ use Rattle.acp_session.proofs.arguments.values.Given as goal
 
 -- the values so far, and what the tokens that are left say, are the whole
 abbrev pub invariant-loop-left : goal.invariant-loop-left
-invariant-loop-left g l = (p : _) → values (g.A.Argument.value_of p) (tokens_left (option_copied l.fn.left)) ≡ behind (map (g.A.Argument.seen p) l.values.items) (values (g.A.Argument.value_of p) (tokens_left (option_copied l.left)))
+invariant-loop-left g l = (p : _) → values (g.A.Argument.value_of p) (tokens_left (option_copied l.fn.left))
+    ≡ behind (map (g.A.Argument.seen p) l.values.items) (values (g.A.Argument.value_of p)
+    (tokens_left (option_copied l.left)))
 
 abbrev pub decreases-loop-left : goal.decreases-loop-left
 decreases-loop-left g l = left_size (option_copied l.left)

@@ -10,5 +10,6 @@ pub returns-in-Some-clause-tokens : goal.returns-in-Some-clause-tokens
 returns-in-Some-clause-tokens c =
     let xs = c.args.line.now in
     let i = c.in-Some.space in
-    let cut = tokens_of-cut xs i c.in-Some.ensures.0.high c.in-Some.ensures.1 (λ k lt here. c.in-Some.ensures.0.before k (omega arith) lt here) in
+    let cut = tokens_of-cut xs i c.in-Some.ensures.0.high c.in-Some.ensures.1 (λ k lt here. c.in-Some.ensures.0.before k
+    (omega arith) lt here) in
     rw (take_rest xs (i + 1), add-one) cut

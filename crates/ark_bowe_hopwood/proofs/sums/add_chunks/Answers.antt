@@ -8,18 +8,23 @@ use Rattle.ark_bowe_hopwood.proofs.Chunks.{lowest, chunks_of-first, digits_sum-d
 use Rattle.ark_bowe_hopwood.proofs.sums.add_chunks.Goals as goal
 
 -- the element at a place is added as often as the lowest chunk says
-step : {G : Type 0} {g : Group G} (laws : IsCommutativeGroup g) (all : List G) (sum new x : G) (place end number : ℕ) → place < end → end ≤ length all → get_or all place x ≡ x
+step : {G : Type 0} {g : Group G} (laws : IsCommutativeGroup g) (all : List G) (sum new x : G) (place end number : ℕ)
+    → place < end → end ≤ length all → get_or all place x ≡ x
     → new ≡ g.plus sum (signed_times g (digit (lowest number)) x)
-    → g.plus new (digits_sum g (drop (place + 1) all) (chunks_of (bits_of_number (3 * (end - (place + 1))) (number / 8)))) ≡ g.plus sum (digits_sum g (drop place all) (chunks_of (bits_of_number (3 * (end - place)) number)))
+    → g.plus new (digits_sum g (drop (place + 1) all) (chunks_of (bits_of_number (3 * (end - (place + 1)))
+    (number / 8)))) ≡ g.plus sum (digits_sum g (drop place all)
+    (chunks_of (bits_of_number (3 * (end - place)) number)))
 unfolding digits_sum
 step {G} {g} laws all sum new x place end number before within same added =
     let one : end - place ≡ suc (end - (place + 1)) = omega arith in
     let next : suc place ≡ place + 1 = omega arith in
     let rest : List Chunk = chunks_of (bits_of_number (3 * (end - (place + 1))) (number / 8)) in
-    let here : drop place all ≡ x ∷ drop (place + 1) all = drop-cons all place x (omega arith) ∙ ap (λ (y : G). y ∷ drop (suc place) all) same ∙ ap (λ (n : ℕ). x ∷ drop n all) next in
+    let here : drop place all ≡ x ∷ drop (place + 1) all = drop-cons all place x (omega arith)
+    ∙ ap (λ (y : G). y ∷ drop (suc place) all) same ∙ ap (λ (n : ℕ). x ∷ drop n all) next in
     ap (λ (s : G). g.plus s (digits_sum g (drop (place + 1) all) rest)) added
     ∙ laws.assoc _ _ _
-    ∙ ap (g.plus sum) (sym (ap (λ (k : ℕ). digits_sum g (drop place all) (chunks_of (bits_of_number (3 * k) number))) one
+    ∙ ap (g.plus sum) (sym (ap (λ (k : ℕ). digits_sum g (drop place all) (chunks_of (bits_of_number (3 * k) number)))
+    one
     ∙ ap (digits_sum g (drop place all)) (chunks_of-first (end - (place + 1)) number)
     ∙ ap (λ (t : List G). digits_sum g t (lowest number ∷ rest)) here))
 
@@ -28,7 +33,8 @@ index-x-requires g c =
     let W = g.W.Window in
     let list = c.index-generators-place.result in
     let is = rw c.WINDOW_SIZE.ensures at c.index-generators-place.is in
-    let low = element_in W.NUM_WINDOWS W.WINDOW_SIZE (λ list. list.items) c.args.generators.now c.requires.shape c.loop-place.place (omega (arith, c.loop-place-test.true, c.requires.within)) list is in
+    let low = element_in W.NUM_WINDOWS W.WINDOW_SIZE (λ list. list.items) c.args.generators.now c.requires.shape
+    c.loop-place.place (omega (arith, c.loop-place-test.true, c.requires.within)) list is in
     rw c.WINDOW_SIZE-in-loop-place.ensures (omega (arith, list.ok.0, low))
 
 pub loop-place-preserved : goal.loop-place-preserved
@@ -39,12 +45,16 @@ loop-place-preserved g c =
     let is = rw c.WINDOW_SIZE.ensures at c.index-generators-place.is in
     let x = c.index-x.result.now in
     let here : get_or (concatenation lists) c.loop-place.place x ≡ x =
-    element_at W.NUM_WINDOWS W.WINDOW_SIZE (λ list. list.items) c.args.generators.now c.requires.shape c.loop-place.place (omega (arith, c.loop-place-test.true, c.requires.within)) list is x
+    element_at W.NUM_WINDOWS W.WINDOW_SIZE (λ list. list.items) c.args.generators.now c.requires.shape
+    c.loop-place.place (omega (arith, c.loop-place-test.true, c.requires.within)) list is x
     ∙ sym (rw c.WINDOW_SIZE-in-loop-place.ensures at c.index-x.ensures) in
     let long = shape_all W.NUM_WINDOWS W.WINDOW_SIZE lists c.requires.shape in
-    step g.met.G.CurveGroup.laws (concatenation lists) c.loop-place.sum c.add_digit-sum.result x c.loop-place.place c.args.end c.loop-place.number (omega (arith, c.loop-place-test.true)) (omega (arith, c.requires.within)) here c.add_digit-sum.ensures
+    step g.met.G.CurveGroup.laws (concatenation lists) c.loop-place.sum c.add_digit-sum.result x c.loop-place.place
+    c.args.end c.loop-place.number (omega (arith, c.loop-place-test.true)) (omega (arith, c.requires.within)) here
+    c.add_digit-sum.ensures
     ∙ c.loop-place.invariant
 
 pub returns : goal.returns
 returns g c =
-    digits_sum-done g.met.G.CurveGroup.laws _ c.loop-place.sum _ (3 * (c.args.end - c.loop-place.place)) c.loop-place.number (omega (arith, c.loop-place-test.false)) c.loop-place.invariant
+    digits_sum-done g.met.G.CurveGroup.laws _ c.loop-place.sum _ (3 * (c.args.end - c.loop-place.place))
+    c.loop-place.number (omega (arith, c.loop-place-test.false)) c.loop-place.invariant

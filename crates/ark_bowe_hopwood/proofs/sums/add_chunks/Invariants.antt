@@ -9,5 +9,6 @@ abbrev pub invariant-loop-place : goal.invariant-loop-place
 invariant-loop-place g l =
     let group = g.G.CurveGroup.group in
     let all = concatenation (lists_in l.generators) in
-    let sum = λ (place number : ℕ). digits_sum group (drop place all) (chunks_of (bits_of_number (3 * (l.end - place)) number)) in
+    let sum = λ (place number : ℕ). digits_sum group (drop place all) (chunks_of (bits_of_number (3 * (l.end - place))
+    number)) in
     group.plus l.sum (sum l.place l.number) ≡ group.plus l.fn.sum (sum l.first l.fn.number)

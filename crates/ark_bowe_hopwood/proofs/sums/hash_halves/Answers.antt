@@ -20,10 +20,16 @@ returns g c =
     let short = rw (c.WINDOW_SIZE.ensures, c.NUM_WINDOWS.ensures) at c.if-left-WINDOW_SIZE.false in
     let whole = full_halves half left right in
     let long = length-full_halves half left right same short in
-    let bits : 8 * (c.WINDOW_SIZE-2.result * c.NUM_WINDOWS-2.result / 8) ≡ 8 * length whole = rw (c.WINDOW_SIZE-2.ensures, c.NUM_WINDOWS-2.ensures) (omega (arith, long)) in
-    let count : c.div_ceil-chunks.result ≡ div_ceil (8 * length whole) 3 = c.div_ceil-chunks.ensures ∙ ap (λ (n : ℕ). div_ceil n 3) bits in
+    let bits : 8 * (c.WINDOW_SIZE-2.result * c.NUM_WINDOWS-2.result / 8) ≡ 8 * length whole =
+    rw (c.WINDOW_SIZE-2.ensures, c.NUM_WINDOWS-2.ensures) (omega (arith, long)) in
+    let count : c.div_ceil-chunks.result ≡ div_ceil (8 * length whole) 3 =
+    c.div_ceil-chunks.ensures ∙ ap (λ (n : ℕ). div_ceil n 3) bits in
     let fits : 8 * length whole ≤ 3 * (windows.WINDOW_SIZE * windows.NUM_WINDOWS) = omega (arith, long) in
-    let bytes : IsBytes (left ++ right) = IsBytes-append left right (λ k. omega (arith, c.type_inv.left k)) (λ k. omega (arith, c.type_inv.right k)) in
+    let bytes : IsBytes (left ++ right) = IsBytes-append left right (λ k. omega (arith, c.type_inv.left k))
+    (λ k. omega (arith, c.type_inv.right k)) in
     ap (λ (n : ℕ). let o : Outcome ℕ = Ok n in o) c.x.ensures
-    ∙ hash_of_text g.G.CurveGroup.group g.G.TECoordinates.x windows lists (left ++ right) whole (2 * half / 8 - length (left ++ right)) c.div_ceil-chunks.result c.sum_of_text.result bytes refl fits (sym c.if-not-has_shape.ensures) count c.sum_of_text.ensures
-    ∙ sym (of_halves-full windows (bowe_hopwood_hash g.G.CurveGroup.group g.G.TECoordinates.x windows lists) left right same short)
+    ∙ hash_of_text g.G.CurveGroup.group g.G.TECoordinates.x windows lists (left ++ right) whole (2 * half / 8 - length
+    (left ++ right)) c.div_ceil-chunks.result c.sum_of_text.result bytes refl fits (sym c.if-not-has_shape.ensures)
+    count c.sum_of_text.ensures
+    ∙ sym (of_halves-full windows (bowe_hopwood_hash g.G.CurveGroup.group g.G.TECoordinates.x windows lists) left right
+    same short)

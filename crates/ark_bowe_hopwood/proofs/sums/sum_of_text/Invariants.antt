@@ -11,5 +11,6 @@ invariant-loop-group g l =
     let group = g.G.CurveGroup.group in
     let all = concatenation (lists_in l.generators) in
     let text = l.left ++ l.right in
-    let sum = λ (i : ℕ). digits_sum group (drop (8 * i) all) (chunks_of (bits_of_number (3 * (l.chunks - 8 * i)) (number_of_bytes (drop (3 * i) text)))) in
+    let sum = λ (i : ℕ). digits_sum group (drop (8 * i) all) (chunks_of (bits_of_number (3 * (l.chunks - 8 * i))
+    (number_of_bytes (drop (3 * i) text)))) in
     group.plus l.sum (sum l.group) ≡ sum 0

@@ -11,27 +11,33 @@ use Rattle.ark_pedersen.proofs.Shapes.{shape_all, value_in, element_in, element_
 use Rattle.ark_pedersen.proofs.sums.add_word.Goals as goal
 
 -- the lowest set bit stands at an element
-place_in : (first all rest word : ℕ) → first ≤ all → 0 < rest → rest < 2 ^ 64 → rest ≤ word → word < 2 ^ (all - first) → first + count_trailing_zeros 64 rest < all
+place_in : (first all rest word : ℕ) → first ≤ all → 0 < rest → rest < 2 ^ 64 → rest ≤ word → word < 2 ^ (all - first)
+    → first + count_trailing_zeros 64 rest < all
 place_in first all rest word before some fits below small =
     let low = trailing_below (all - first) rest some fits (omega arith) in
     omega arith
 
 -- its element is added
-step : {G : Type 0} {g : Group G} (laws : IsCommutativeGroup g) (xs : List G) (sum x : G) (first rest : ℕ) → 0 < rest → rest < 2 ^ 64 → first + count_trailing_zeros 64 rest < length xs
+step : {G : Type 0} {g : Group G} (laws : IsCommutativeGroup g) (xs : List G) (sum x : G) (first rest : ℕ) → 0 < rest
+    → rest < 2 ^ 64 → first + count_trailing_zeros 64 rest < length xs
     → get_or xs (first + count_trailing_zeros 64 rest) x ≡ x
-    → g.plus (g.plus sum x) (pedersen_sum g (drop first xs) (bits_of_number 64 (bit_and rest (rest - 1)))) ≡ g.plus sum (pedersen_sum g (drop first xs) (bits_of_number 64 rest))
+    → g.plus (g.plus sum x) (pedersen_sum g (drop first xs) (bits_of_number 64 (bit_and rest (rest - 1))))
+    ≡ g.plus sum (pedersen_sum g (drop first xs) (bits_of_number 64 rest))
 step {G} {g} laws xs sum x first rest some fits within is =
     let t = count_trailing_zeros 64 rest in
     let next : G = pedersen_sum g (drop first xs) (bits_of_number 64 (bit_and rest (rest - 1))) in
     let low : t < length (drop first xs) = omega (arith, length-drop first xs) in
     let here : get_or (drop first xs) t x ≡ x = get_or-drop first xs t x ∙ is in
-    laws.assoc _ _ _ ∙ ap (g.plus sum) (sym (pedersen_sum-lowest g (drop first xs) x 64 rest some fits low ∙ ap (λ (y : G). g.plus y next) here))
+    laws.assoc _ _ _ ∙ ap (g.plus sum) (sym (pedersen_sum-lowest g (drop first xs) x 64 rest some fits low
+    ∙ ap (λ (y : G). g.plus y next) here))
 
 pub bounds-generators-place : goal.bounds-generators-place
 bounds-generators-place g c =
     let W = g.W.Window in
-    let within = place_in c.args.first (window_bits W) c.loop-word.word c.args.word c.requires.first_in c.loop-word-test.true (omega arith) c.loop-word.invariant.1 c.requires.fits in
-    rw c.WINDOW_SIZE.ensures (value_in W.NUM_WINDOWS W.WINDOW_SIZE (λ list. list.items) c.args.generators.now c.requires.shape _ within)
+    let within = place_in c.args.first (window_bits W) c.loop-word.word c.args.word c.requires.first_in
+    c.loop-word-test.true (omega arith) c.loop-word.invariant.1 c.requires.fits in
+    rw c.WINDOW_SIZE.ensures (value_in W.NUM_WINDOWS W.WINDOW_SIZE (λ list. list.items) c.args.generators.now
+    c.requires.shape _ within)
 
 pub offset_bounds-generators-place : goal.offset_bounds-generators-place
 offset_bounds-generators-place g c =
@@ -42,9 +48,11 @@ pub index-requires : goal.index-requires
 index-requires g c =
     let W = g.W.Window in
     let list = c.index-generators-place.result in
-    let within = place_in c.args.first (window_bits W) c.loop-word.word c.args.word c.requires.first_in c.loop-word-test.true (omega arith) c.loop-word.invariant.1 c.requires.fits in
+    let within = place_in c.args.first (window_bits W) c.loop-word.word c.args.word c.requires.first_in
+    c.loop-word-test.true (omega arith) c.loop-word.invariant.1 c.requires.fits in
     let is = rw c.WINDOW_SIZE.ensures at c.index-generators-place.is in
-    let low = element_in W.NUM_WINDOWS W.WINDOW_SIZE (λ list. list.items) c.args.generators.now c.requires.shape _ within list is in
+    let low = element_in W.NUM_WINDOWS W.WINDOW_SIZE (λ list. list.items) c.args.generators.now c.requires.shape _
+    within list is in
     rw c.WINDOW_SIZE-in-loop-word.ensures (omega (arith, list.ok.0, low))
 
 pub loop-word-preserved : goal.loop-word-preserved
@@ -52,13 +60,16 @@ loop-word-preserved g c =
     let W = g.W.Window in
     let lists = lists_in c.args.generators.now in
     let list = c.index-generators-place.result in
-    let within = place_in c.args.first (window_bits W) c.loop-word.word c.args.word c.requires.first_in c.loop-word-test.true (omega arith) c.loop-word.invariant.1 c.requires.fits in
+    let within = place_in c.args.first (window_bits W) c.loop-word.word c.args.word c.requires.first_in
+    c.loop-word-test.true (omega arith) c.loop-word.invariant.1 c.requires.fits in
     let is = rw c.WINDOW_SIZE.ensures at c.index-generators-place.is in
     let x = c.index.result.now in
     let here : get_or (concatenation lists) (c.args.first + count_trailing_zeros 64 c.loop-word.word) x ≡ x =
-    element_at W.NUM_WINDOWS W.WINDOW_SIZE (λ list. list.items) c.args.generators.now c.requires.shape _ within list is x ∙ sym (rw c.WINDOW_SIZE-in-loop-word.ensures at c.index.ensures) in
+    element_at W.NUM_WINDOWS W.WINDOW_SIZE (λ list. list.items) c.args.generators.now c.requires.shape _ within list is
+    x ∙ sym (rw c.WINDOW_SIZE-in-loop-word.ensures at c.index.ensures) in
     let long = shape_all W.NUM_WINDOWS W.WINDOW_SIZE lists c.requires.shape in (
-      rw c.add-sum.ensures (step g.met.C.CurveGroup.laws (concatenation lists) c.loop-word.sum x c.args.first c.loop-word.word c.loop-word-test.true (omega arith) (omega arith) here ∙ c.loop-word.invariant.0),
+      rw c.add-sum.ensures (step g.met.C.CurveGroup.laws (concatenation lists) c.loop-word.sum x c.args.first
+          c.loop-word.word c.loop-word-test.true (omega arith) (omega arith) here ∙ c.loop-word.invariant.0),
       omega (arith, and_le_l c.loop-word.word (c.loop-word.word - 1), c.loop-word.invariant.1),
     )
 
@@ -68,5 +79,6 @@ returns g c =
     let behind = drop c.args.first (concatenation (lists_in c.args.generators.now)) in
     let none : c.loop-word.word ≡ 0 = omega arith in
     sym (right_identity g.met.C.CurveGroup.laws c.loop-word.sum)
-    ∙ ap (group.plus c.loop-word.sum) (sym (ap (λ (n : ℕ). pedersen_sum group behind (bits_of_number 64 n)) none ∙ pedersen_sum-zero group behind 64))
+    ∙ ap (group.plus c.loop-word.sum) (sym (ap (λ (n : ℕ). pedersen_sum group behind (bits_of_number 64 n)) none
+    ∙ pedersen_sum-zero group behind 64))
     ∙ c.loop-word.invariant.0

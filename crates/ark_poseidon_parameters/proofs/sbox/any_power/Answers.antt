@@ -6,7 +6,8 @@ use Rattle.ark_poseidon_parameters.proofs.sbox.any_power.Goals.{then-rest-eq1, e
 pub loop-rest-init : goal.loop-rest-init
 loop-rest-init g c =
     let x = g.F.Valued.value c.args.x in
-    ap (λ n. (n * x ^ c.args.exponent) % g.F.Field.MODULUS) c.one-product.ensures ∙ no_power x c.args.exponent g.F.Field.MODULUS
+    ap (λ n. (n * x ^ c.args.exponent) % g.F.Field.MODULUS) c.one-product.ensures ∙ no_power x c.args.exponent
+    g.F.Field.MODULUS
 
 pub loop-rest-preserved : goal.loop-rest-preserved
 loop-rest-preserved g c =

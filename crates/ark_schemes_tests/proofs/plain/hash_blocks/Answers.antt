@@ -7,7 +7,9 @@ pub whole-init : goal.whole-init
 whole-init c = state_after-none _ _
 
 pub whole-preserved : goal.whole-preserved
-whole-preserved c = state_after-next c.args.h c.args.blocks.now c.whole.i c.whole.h _ c.whole.invariant c.compress.ensures
+whole-preserved c = state_after-next c.args.h c.args.blocks.now c.whole.i c.whole.h _ c.whole.invariant
+    c.compress.ensures
 
 pub returns : goal.returns
-returns c = last_state-end c.args.h c.args.blocks.now c.whole.i c.whole.h _ c.args.len (omega arith) c.whole.invariant c.compress-2.ensures
+returns c = last_state-end c.args.h c.args.blocks.now c.whole.i c.whole.h _ c.args.len (omega arith) c.whole.invariant
+    c.compress-2.ensures

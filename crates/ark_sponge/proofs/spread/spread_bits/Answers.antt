@@ -7,5 +7,7 @@ pub loop-element-preserved : goal.loop-element-preserved
 loop-element-preserved g c =
     let l = c.loop-element in
     let w = c.write_bits_at in
-    IsFilled-element g.F.Valued.value bits_of_number c.args.size (length c.args.out.now) length-bits_of_number take-bits_of_number c.args.elements.now l.element-index
-    c.element-item.result l.done c.min-count.result l.out w.new.out (omega arith) c.element-item.is c.min-count.ensures w.ensures.front w.ensures.length l.invariant
+    IsFilled-element g.F.Valued.value bits_of_number c.args.size (length c.args.out.now) length-bits_of_number
+    take-bits_of_number c.args.elements.now l.element-index
+    c.element-item.result l.done c.min-count.result l.out w.new.out (omega arith) c.element-item.is c.min-count.ensures
+    w.ensures.front w.ensures.length l.invariant

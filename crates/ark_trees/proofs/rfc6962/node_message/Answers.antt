@@ -12,4 +12,5 @@ filled zeros l r x y size fits ex ey =
     rw (ex, ey, take_first l zeros 32 fits, none, append-nil r) refl
 
 pub returns : goal.returns
-returns c = filled (replicate 32 0) c.args.left.now c.args.right.now _ _ refl c.told-left c.copy_from_slice.ensures.after c.copy_from_slice-2.ensures.after
+returns c = filled (replicate 32 0) c.args.left.now c.args.right.now _ _ refl c.told-left
+    c.copy_from_slice.ensures.after c.copy_from_slice-2.ensures.after

@@ -11,7 +11,8 @@ invariant-levels g l =
     let numbers = g.D.Numbered.numbers in
     record {
       used : l.used ≤ length l.path;
-      along : (k : ℕ) → l.initial.last < 2 ^ k → Along {S = Digest × Digest} (both_left hash) (new_right hash) l.index l.last (both_seen numbers l.ends) (map numbers (drop l.used l.path))
+      along : (k : ℕ) → l.initial.last < 2 ^ k → Along {S = Digest × Digest} (both_left hash) (new_right hash) l.index
+          l.last (both_seen numbers l.ends) (map numbers (drop l.used l.path))
           (from_shared hash k l.initial.index l.initial.last (numbers l.shared) (map numbers l.path));
     }
 

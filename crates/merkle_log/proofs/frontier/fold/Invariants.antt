@@ -12,7 +12,8 @@ invariant-left g l =
     let peaks = map numbers l.peaks in
     record {
       within : l.left + 1 ≤ length l.peaks;
-      at : (empty : Digest) (digests : List Digest) (size : ℕ) → IsFrontier hash digests size peaks → Folding hash peaks l.left (Ok (numbers l.last)) (merkle_tree_hash hash empty digests);
+      at : (empty : Digest) (digests : List Digest) (size : ℕ) → IsFrontier hash digests size peaks → Folding hash peaks
+          l.left (Ok (numbers l.last)) (merkle_tree_hash hash empty digests);
     }
 
 abbrev pub decreases-left : goal.decreases-left

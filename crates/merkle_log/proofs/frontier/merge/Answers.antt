@@ -15,7 +15,9 @@ odd-init g c =
       left = c.requires.count;
       within = omega arith;
       same = refl;
-      at = λ empty digests frontier. merging-with hash empty peaks c.args.size (length peaks) (length c.args.peaks.now) (numbers c.args.digest) _ (length-map c.args.peaks.now numbers) (merging-first hash empty digests c.args.size peaks (numbers c.args.digest) frontier);
+      at = λ empty digests frontier. merging-with hash empty peaks c.args.size (length peaks) (length c.args.peaks.now)
+          (numbers c.args.digest) _ (length-map c.args.peaks.now numbers) (merging-first hash empty digests c.args.size
+          peaks (numbers c.args.digest) frontier);
     }
 
 pub overflow_sub-left : goal.overflow_sub-left
@@ -39,12 +41,16 @@ odd-preserved g c =
     let some : c.odd.left ≡ c.odd.left - 1 + 1 = omega (arith, half_ones c.odd.count) in
     let up : (c.odd.count + 1) / 2 ≡ c.odd.count / 2 + 1 = omega arith in
     let even : (c.odd.count + 1) % 2 ≡ 0 = omega arith in
-    let own : get_or peaks (c.odd.left - 1) [] ≡ numbers c.index-peaks-left.result = sym (digest-read numbers c.args.peaks.now (c.odd.left - 1) c.index-peaks-left.result (omega arith) c.index-peaks-left.is) in
+    let own : get_or peaks (c.odd.left - 1) [] ≡ numbers c.index-peaks-left.result =
+    sym (digest-read numbers c.args.peaks.now (c.odd.left - 1) c.index-peaks-left.result (omega arith)
+    c.index-peaks-left.is) in
     record {
       left = omega (arith, half_ones c.odd.count);
       within = omega arith;
       same = omega (arith, c.odd.invariant.same, half_ones (c.odd.count + 1), ap count_ones up);
-      at = λ empty digests frontier. merging-next hash empty peaks c.odd.count c.odd.left (c.odd.left - 1) (numbers c.odd.last) _ _ (c.odd.invariant.at empty digests frontier) c.odd-test.true some (omega (arith, length-map c.args.peaks.now numbers))
+      at = λ empty digests frontier. merging-next hash empty peaks c.odd.count c.odd.left (c.odd.left - 1)
+          (numbers c.odd.last) _ _ (c.odd.invariant.at empty digests frontier) c.odd-test.true some
+          (omega (arith, length-map c.args.peaks.now numbers))
           (ap (λ d. hash d (numbers c.odd.last)) own ∙ c.in_ok-last.ensures);
     }
 
@@ -53,10 +59,18 @@ returns-clause-merged g c = λ digests frontier.
     let hash = (g.T.TreeHasher.hashes c.args.hasher.now).pair.upper in
     let numbers = g.D.Numbered.numbers in
     let peaks = map numbers c.args.peaks.now in
-    frontier-more hash digests c.args.size peaks (numbers c.args.digest) _ frontier (λ empty. merging-end hash empty peaks c.odd.count c.odd.left (numbers c.odd.last) _ (c.odd.invariant.at empty digests frontier) (omega arith))
+    frontier-more hash digests c.args.size peaks (numbers c.args.digest) _ frontier (λ empty. merging-end hash empty
+    peaks c.odd.count c.odd.left (numbers c.odd.last) _ (c.odd.invariant.at empty digests frontier) (omega arith))
 
 pub returns-clause-count : goal.returns-clause-count
 returns-clause-count g c =
     let up : (c.odd.count + 1) / 2 ≡ c.odd.count / 2 = omega arith in
     let odd : (c.odd.count + 1) % 2 ≡ 1 = omega arith in
-    omega (arith, c.odd.invariant.left, c.odd.invariant.same, half_ones c.odd.count, half_ones (c.odd.count + 1), ap count_ones up)
+    omega (
+      arith,
+      c.odd.invariant.left,
+      c.odd.invariant.same,
+      half_ones c.odd.count,
+      half_ones (c.odd.count + 1),
+      ap count_ones up,
+    )

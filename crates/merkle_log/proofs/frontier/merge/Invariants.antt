@@ -16,8 +16,10 @@ invariant-odd g l =
       left : l.left ≡ count_ones l.count;
       within : l.left ≤ length l.peaks;
       same : count_ones (l.count + 1) ≡ count_ones (l.fn.size + 1);
-      at : (empty : Digest) (digests : List Digest) → IsFrontier hash digests l.fn.size peaks → Merging hash empty peaks l.count l.left (numbers l.last)
-          (frontier (joined hash) (Ok empty) (length (digests ++ (numbers l.fn.digest ∷ []))) (node_rows (digests ++ (numbers l.fn.digest ∷ []))));
+      at : (empty : Digest) (digests : List Digest) → IsFrontier hash digests l.fn.size peaks → Merging hash empty peaks
+          l.count l.left (numbers l.last)
+          (frontier (joined hash) (Ok empty) (length (digests ++ (numbers l.fn.digest ∷ [])))
+          (node_rows (digests ++ (numbers l.fn.digest ∷ []))));
     }
 
 abbrev pub decreases-odd : goal.decreases-odd

@@ -9,8 +9,10 @@ invariant-levels g l =
     let numbers = g.D.Numbered.numbers in
     record {
       used : l.used ≤ length l.path;
-      along : (k : ℕ) → l.initial.last < 2 ^ k → Along (on_left hash) (on_right hash) l.index l.last (numbers l.own) (map numbers (drop l.used l.path))
-          (walk (on_left hash) (on_right hash) k l.initial.index l.initial.last (numbers l.initial.own) (map numbers l.path));
+      along : (k : ℕ) → l.initial.last < 2 ^ k → Along (on_left hash) (on_right hash) l.index l.last (numbers l.own)
+          (map numbers (drop l.used l.path))
+          (walk (on_left hash) (on_right hash) k l.initial.index l.initial.last (numbers l.initial.own)
+          (map numbers l.path));
     }
 
 abbrev pub decreases-levels : goal.decreases-levels

@@ -9,7 +9,9 @@ returns-clause-answer g c =
     rw (leaf_inside _ _ _ _ _ _ inside, c.in_ok-digest.ensures) c.verify_inclusion_digest.ensures.answer
 
 pub returns-clause-bound : goal.returns-clause-bound
-returns-clause-bound g c = answered-bound _ _ (leaf-bound (g.T.TreeHasher.hashes c.args.hasher.now) _ _ _ _ _) (returns-clause-answer g c)
+returns-clause-bound g c = answered-bound _ _ (leaf-bound (g.T.TreeHasher.hashes c.args.hasher.now) _ _ _ _ _)
+    (returns-clause-answer g c)
 
 pub returns-clause-own : goal.returns-clause-own
-returns-clause-own g c own = answered-own _ _ (leaf-own (g.T.TreeHasher.hashes c.args.hasher.now) _ _ _ _ _ own) (returns-clause-answer g c)
+returns-clause-own g c own = answered-own _ _ (leaf-own (g.T.TreeHasher.hashes c.args.hasher.now) _ _ _ _ _ own)
+    (returns-clause-answer g c)

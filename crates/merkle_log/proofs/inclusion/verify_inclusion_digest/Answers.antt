@@ -13,7 +13,8 @@ returns-clause-answer g c =
     let t : nat_lt c.args.index size ≡ true = grind (arith, nat_tests) in
     let high = pow_above size in
     let numbers = g.D.Numbered.numbers in
-    let same : numbers c.args.digest.now ≡ numbers c.in_ok-own.own = done_injective {E = Error} _ _ c.in_ok-own.ensures in
+    let same : numbers c.args.digest.now ≡ numbers c.in_ok-own.own =
+    done_injective {E = Error} _ _ c.in_ok-own.ensures in
     rw (t, same) (c.leads_to.ensures size (omega arith))
 
 pub returns-clause-bound : goal.returns-clause-bound

@@ -14,7 +14,8 @@ complete-init g c =
     record {
       count = omega arith;
       has = omega arith;
-      at = λ empty. seeding-first empty c.requires.stored c.args.old_size c.args.size (get_or (rows 0) (c.args.size - 1) []) c.requires.some c.requires.inside c.requires.within refl;
+      at = λ empty. seeding-first empty c.requires.stored c.args.old_size c.args.size (get_or (rows 0) (c.args.size - 1)
+          []) c.requires.some c.requires.inside c.requires.within refl;
     }
 
 pub raise_last-requires-clause-last : goal.raise_last-requires-clause-last
@@ -23,7 +24,8 @@ raise_last-requires-clause-last g c = c.complete.invariant.has
 pub returns-in_err-last : goal.returns-in_err-last
 returns-in_err-last g c = λ empty.
     passed_on _ _ c.from_residual.result c.in_err-last.field-0.0 c.from_residual.ensures.1 c.in_err-last.ensures.raised
-    (λ refused. let up = seeding-next empty c.requires.stored (c.complete.invariant.at empty) (omega arith) (c.complete.level + 1) refl _ refused in seeding-refused empty c.requires.stored up.levels up.high up)
+    (λ refused. let up = seeding-next empty c.requires.stored (c.complete.invariant.at empty) (omega arith)
+    (c.complete.level + 1) refl _ refused in seeding-refused empty c.requires.stored up.levels up.high up)
 
 pub overflow_add-level : goal.overflow_add-level
 overflow_add-level g c =
@@ -38,7 +40,8 @@ complete-preserved g c =
     record {
       count = omega arith;
       has = c.in_ok-last.ensures.has;
-      at = λ empty. seeding-next empty c.requires.stored (c.complete.invariant.at empty) (omega arith) (c.complete.level + 1) refl _ c.in_ok-last.ensures.raised;
+      at = λ empty. seeding-next empty c.requires.stored (c.complete.invariant.at empty) (omega arith)
+          (c.complete.level + 1) refl _ c.in_ok-last.ensures.raised;
     }
 
 pub seed_path-requires : goal.seed_path-requires
@@ -61,4 +64,5 @@ path_from-requires-clause-last g c = c.complete.invariant.has
 pub returns : goal.returns
 returns g c = λ empty.
     let seeded = seeding-even empty c.requires.stored (c.complete.invariant.at empty) (omega arith) in
-    rw (seeded.is, done_injective {E = Error} _ _ c.in_ok-path.ensures) (c.path_from.ensures empty seeded.levels seeded.high)
+    rw (seeded.is, done_injective {E = Error} _ _ c.in_ok-path.ensures) (c.path_from.ensures empty seeded.levels
+    seeded.high)

@@ -14,7 +14,8 @@ invariant-complete g l =
     record {
       count : l.level + l.last_index ≤ l.size;
       has : HasLast (rows l.level) l.last_index l.last;
-      at : (empty : Digest) → Seeding hash rows empty l.level l.index l.last_index (Ok last) (all_of (consistency_path hash empty l.old_size (take l.size (rows 0))));
+      at : (empty : Digest) → Seeding hash rows empty l.level l.index l.last_index (Ok last)
+          (all_of (consistency_path hash empty l.old_size (take l.size (rows 0))));
     }
 
 abbrev pub decreases-complete : goal.decreases-complete

@@ -17,5 +17,6 @@ returns g c = λ empty.
     let rows = row_of c.args.rows.now in
     let inside = c.requires.inside in
     let high = pow_above c.args.size in
-    rw (← path-first empty c.requires.stored c.args.index c.args.size (get_or (rows 0) (c.args.size - 1) []) (omega arith) c.requires.within refl (digests_of numbers c.new.result) (ap (map numbers) c.new.ensures.items))
+    rw (← path-first empty c.requires.stored c.args.index c.args.size (get_or (rows 0) (c.args.size - 1) [])
+    (omega arith) c.requires.within refl (digests_of numbers c.new.result) (ap (map numbers) c.new.ensures.items))
     (c.path_from.ensures empty c.args.size (omega arith))

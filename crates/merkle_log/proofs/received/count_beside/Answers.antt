@@ -4,7 +4,16 @@ use Rattle.merkle_log.proofs.received.count_beside.Goals as goal
 use Rattle.merkle_log.proofs.received.count_beside.Goals.{then-has_beside, else-has_beside}
 
 pub levels-init : goal.levels-init
-levels-init c = record { most = omega arith; at = λ k high. record { levels = k; high = high; inside = c.requires; is = omega arith } }
+levels-init c = record {
+  most = omega arith;
+  at = λ k high. record {
+    levels = k;
+    high = high;
+    inside = c.requires;
+    is =
+        omega arith;
+  };
+}
 
 pub overflow_add-used : goal.overflow_add-used
 overflow_add-used c =
@@ -17,11 +26,13 @@ levels-preserved c =
     elim c.if-has_beside.branch [
       | then-has_beside w ↦ record {
         most = omega (arith, w.used-is);
-        at = λ k high. rw (w.used-is) (counts-right (c.levels.invariant.at k high) c.levels-test.true (sym c.has_beside.ensures ∙ w.if-has_beside.true));
+        at = λ k high. rw (w.used-is) (counts-right (c.levels.invariant.at k high) c.levels-test.true
+            (sym c.has_beside.ensures ∙ w.if-has_beside.true));
       }
       | else-has_beside w ↦ record {
         most = omega (arith, w.used-is);
-        at = λ k high. rw (w.used-is) (counts-alone (c.levels.invariant.at k high) c.levels-test.true (sym c.has_beside.ensures ∙ w.if-has_beside.false));
+        at = λ k high. rw (w.used-is) (counts-alone (c.levels.invariant.at k high) c.levels-test.true
+            (sym c.has_beside.ensures ∙ w.if-has_beside.false));
       }
     ]
 

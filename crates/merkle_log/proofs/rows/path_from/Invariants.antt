@@ -16,7 +16,8 @@ invariant-levels g l =
     record {
       count : l.level + l.last_index ≤ l.fn.level + l.fn.last_index;
       has : l.index < l.last_index → HasLast (rows l.level) l.last_index l.last;
-      going : (empty : Digest) (k : ℕ) → l.fn.last_index < 2 ^ k → Going hash rows empty l.level l.index l.last_index last (digests_of numbers l.path)
+      going : (empty : Digest) (k : ℕ) → l.fn.last_index < 2 ^ k → Going hash rows empty l.level l.index l.last_index
+          last (digests_of numbers l.path)
           (path_with hash empty k (rows l.fn.level) l.fn.index l.fn.last_index first (digests_of numbers l.fn.path));
     }
 

@@ -3,16 +3,21 @@ use Rattle.merkle_log.proofs.rows.raise_last.Goals as goal
 
 pub returns-then-last_index-eq1-clause-raised : goal.returns-then-last_index-eq1-clause-raised
 returns-then-last_index-eq1-clause-raised g c =
-    rw (c.in-None.is) (whole-raised c.requires.stored c.args.level c.args.last_index c.if-last_index-eq1.true (rw (c.in-None.is) at c.requires.last))
+    rw (c.in-None.is) (whole-raised c.requires.stored c.args.level c.args.last_index c.if-last_index-eq1.true
+    (rw (c.in-None.is) at c.requires.last))
 
 pub returns-then-last_index-eq1-clause-has : goal.returns-then-last_index-eq1-clause-has
-returns-then-last_index-eq1-clause-has g c = whole-up c.requires.stored c.args.level c.args.last_index c.if-last_index-eq1.true (rw (c.in-None.is) at c.requires.last)
+returns-then-last_index-eq1-clause-has g c = whole-up c.requires.stored c.args.level c.args.last_index
+    c.if-last_index-eq1.true (rw (c.in-None.is) at c.requires.last)
 
 pub returns-in_ok-copy_of-in-None-clause-has : goal.returns-in_ok-copy_of-in-None-clause-has
-returns-in_ok-copy_of-in-None-clause-has g c = edge-up c.requires.stored c.args.level c.args.last_index (has-front _ _ c.args.last c.requires.last)
+returns-in_ok-copy_of-in-None-clause-has g c =
+    edge-up c.requires.stored c.args.level c.args.last_index (has-front _ _ c.args.last c.requires.last)
 
 pub returns-in_ok-upper-in-Some-clause-has : goal.returns-in_ok-upper-in-Some-clause-has
-returns-in_ok-upper-in-Some-clause-has g c = edge-up c.requires.stored c.args.level c.args.last_index (has-front _ _ c.args.last c.requires.last)
+returns-in_ok-upper-in-Some-clause-has g c =
+    edge-up c.requires.stored c.args.level c.args.last_index (has-front _ _ c.args.last c.requires.last)
 
 pub returns-else-last_index-eq1-2-clause-has : goal.returns-else-last_index-eq1-2-clause-has
-returns-else-last_index-eq1-2-clause-has g c = edge-up c.requires.stored c.args.level c.args.last_index (has-front _ _ c.args.last c.requires.last)
+returns-else-last_index-eq1-2-clause-has g c =
+    edge-up c.requires.stored c.args.level c.args.last_index (has-front _ _ c.args.last c.requires.last)

@@ -14,7 +14,8 @@ invariant-levels g l =
     record {
       count : l.level + l.last_index ≤ l.size;
       has : HasLast (rows l.level) l.last_index l.last;
-      at : (empty : Digest) → LastAt hash rows empty l.level l.last_index (Ok last) (merkle_tree_hash hash empty (take l.size (rows 0)));
+      at : (empty : Digest) → LastAt hash rows empty l.level l.last_index (Ok last) (merkle_tree_hash hash empty
+          (take l.size (rows 0)));
     }
 
 abbrev pub decreases-levels : goal.decreases-levels

@@ -4,7 +4,11 @@ use Rattle.merkle_log.proofs.Completing.{completing-first, completing-long, comp
 use Rattle.merkle_log.proofs.stored.complete.Goals as goal
 
 pub odd-init : goal.odd-init
-odd-init g c = record { same = refl; at = completing-first _ _ c.args.size _ c.args.digest _ c.in_ok-push.ensures.items }
+odd-init g c = record {
+  same = refl;
+  at = completing-first _ _ c.args.size _ c.args.digest _
+      c.in_ok-push.ensures.items;
+}
 
 pub overflow_sub-last : goal.overflow_sub-last
 overflow_sub-last g c =
@@ -40,7 +44,12 @@ returns-in_err-up-clause-refused g c =
     let result = err_from_is_err_and c.from_residual-in_err-up.result c.from_residual-in_err-up.ensures.1 in
     rw (result.1, result.2) (elim (rw (c.odd.invariant.same) at c.in_err-up.ensures.answer) [
       | inl memory ↦ inl memory
-      | inr refused ↦ inr (record { left = g.D.Numbered.numbers c.digest_at.result.now; right = g.D.Numbered.numbers c.index.result.now; is = refused })
+      | inr refused ↦ inr (record {
+        left = g.D.Numbered.numbers c.digest_at.result.now;
+        right = g.D.Numbered.numbers
+            c.index.result.now;
+        is = refused;
+      })
     ])
 
 pub returns-in_err-up-clause-same : goal.returns-in_err-up-clause-same
@@ -62,13 +71,18 @@ pub odd-preserved : goal.odd-preserved
 odd-preserved g c =
     let numbers = g.D.Numbered.numbers in
     let long = completing-long c.odd.invariant.at in
-    let last : c.len-last.result - 1 ≡ length c.odd.digests.items - 1 = omega (arith, c.len-last.ensures, c.odd.digests.ok.0) in
-    let below : c.len-last.result - 1 < length c.odd.digests.items = omega (arith, c.len-last.ensures, c.odd.digests.ok.0) in
-    let left : numbers c.digest_at.result.now ≡ get_or (map numbers c.odd.digests.items) _ [] = rw (c.deref.ensures.value) at c.digest_at.ensures in
-    let right = digest-read numbers c.odd.digests.items (c.len-last.result - 1) c.index.result.now below c.index.ensures in
+    let last : c.len-last.result - 1 ≡ length c.odd.digests.items - 1 =
+    omega (arith, c.len-last.ensures, c.odd.digests.ok.0) in
+    let below : c.len-last.result - 1 < length c.odd.digests.items =
+    omega (arith, c.len-last.ensures, c.odd.digests.ok.0) in
+    let left : numbers c.digest_at.result.now ≡ get_or (map numbers c.odd.digests.items) _ [] =
+    rw (c.deref.ensures.value) at c.digest_at.ensures in
+    let right = digest-read numbers c.odd.digests.items (c.len-last.result - 1) c.index.result.now below
+    c.index.ensures in
     record {
       same = c.upper.ensures.same ∙ c.odd.invariant.same;
-      at = completing-next c.odd.invariant.at c.ranges.size.fits c.odd-test.true c.requires (c.len-last.result - 1) last c.in_ok-up.up c.push-in-odd.new.self.items c.in_ok-push-2.ensures.items
+      at = completing-next c.odd.invariant.at c.ranges.size.fits c.odd-test.true c.requires (c.len-last.result - 1) last
+          c.in_ok-up.up c.push-in-odd.new.self.items c.in_ok-push-2.ensures.items
           (rw (← left, ← right, ← c.odd.invariant.same) c.in_ok-up.ensures.answer);
     }
 

@@ -20,7 +20,8 @@ schedule-init c = λ j lt b held.
 pub schedule-preserved : goal.schedule-preserved
 schedule-preserved c = λ j lt b held.
     let h = lane j c.args.h in
-    let s1 = c.four_steps-next.ensures j lt b h (IsRoundsAt_at b h _ _ _ _ (omega arith) (c.schedule.invariant j lt b held)) in
+    let s1 = c.four_steps-next.ensures j lt b h (IsRoundsAt_at b h _ _ _ _ (omega arith) (c.schedule.invariant j lt
+    b held)) in
     let s2 = c.four_steps-next-in-schedule.ensures j lt b h s1 in
     let s3 = c.four_steps-next-in-schedule-2.ensures j lt b h s2 in
     let s4 = c.four_steps-next-in-schedule-3.ensures j lt b h s3 in

@@ -11,7 +11,8 @@ pub rounds-preserved : goal.rounds-preserved
 rounds-preserved c = λ j lt.
     let h = lane j c.args.h in
     let after = rounds h pad_schedule in
-    c.four_padded_steps-next-in-rounds.ensures j lt h (c.four_padded_steps-next.ensures j lt h (c.rounds.invariant j lt)) ∙ ap after (omega arith)
+    c.four_padded_steps-next-in-rounds.ensures j lt h (c.four_padded_steps-next.ensures j lt h
+    (c.rounds.invariant j lt)) ∙ ap after (omega arith)
 
 pub returns : goal.returns
 unfolding compress

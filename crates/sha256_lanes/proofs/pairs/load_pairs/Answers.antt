@@ -19,7 +19,9 @@ returns c =
     let done : c.load.k ≡ 8 = omega arith in
     let size = c.load.invariant.0 in
     let all = rw done at c.load.invariant.1 in
-    below_four (λ j. AreWords (slice_index_or ((c.args.a.now ++ c.args.a_right.now) ∷ (c.args.b.now ++ c.args.b_right.now) ∷ (c.args.c.now ++ c.args.c_right.now) ∷ (c.args.d.now ++ c.args.d_right.now) ∷ []) j []) (words j c.load.w))
+    below_four (λ j. AreWords (slice_index_or ((c.args.a.now ++ c.args.a_right.now)
+    ∷ (c.args.b.now ++ c.args.b_right.now) ∷ (c.args.c.now ++ c.args.c_right.now)
+    ∷ (c.args.d.now ++ c.args.d_right.now) ∷ []) j []) (words j c.load.w))
     (AreLoaded-all c.args.a.now c.args.a_right.now 0 c.load.w size (omega arith) (all 0 (omega arith)))
     (AreLoaded-all c.args.b.now c.args.b_right.now 1 c.load.w size (omega arith) (all 1 (omega arith)))
     (AreLoaded-all c.args.c.now c.args.c_right.now 2 c.load.w size (omega arith) (all 2 (omega arith)))

@@ -8,7 +8,8 @@ load-init c = (search rules, λ j lt i none. absurd (omega arith))
 pub load-preserved : goal.load-preserved
 load-preserved c = (
   search rules,
-  λ j lt. AreFilled_more _ _ j c.load.k c.load.w c.load.invariant.0 c.load-test.true (c.load.invariant.1 j lt) (c.load_four-word.ensures j lt),
+  λ j lt. AreFilled_more _ _ j c.load.k c.load.w c.load.invariant.0 c.load-test.true (c.load.invariant.1 j lt)
+      (c.load_four-word.ensures j lt),
 )
 
 pub returns : goal.returns

@@ -3,4 +3,5 @@ use Rattle.sha256_lanes.proofs.TextLemmas.{AreFilled}
 use Rattle.sha256_lanes.proofs.texts.load_blocks.Given as goal
 
 abbrev pub invariant-load : goal.invariant-load
-invariant-load l = (length l.w ≡ 16) × ((j : ℕ) → j < 4 → AreFilled (slice_index_or (l.a ∷ l.b ∷ l.c ∷ l.d ∷ []) j []) j l.k l.w)
+invariant-load l = (length l.w ≡ 16) × ((j : ℕ) → j < 4 → AreFilled (slice_index_or (l.a ∷ l.b ∷ l.c ∷ l.d ∷ []) j
+    []) j l.k l.w)

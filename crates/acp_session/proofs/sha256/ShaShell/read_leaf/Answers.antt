@@ -6,4 +6,5 @@ use Rattle.acp_session.proofs.Values.{option_map-seen}
 use Rattle.acp_session.proofs.sha256.ShaShell.read_leaf.Goals as goal
 
 pub returns : goal.returns
-returns c = IfOk-weaker c.read_bytes.result _ _ (λ leaf is p q. option_map-seen (λ bytes. bytes.items) (λ bytes. Ok (sha256 bytes)) leaf ∙ ap (option_map (λ bytes. Ok (sha256 bytes))) (is p q)) c.read_bytes.ensures
+returns c = IfOk-weaker c.read_bytes.result _ _ (λ leaf is p q. option_map-seen (λ bytes. bytes.items)
+    (λ bytes. Ok (sha256 bytes)) leaf ∙ ap (option_map (λ bytes. Ok (sha256 bytes))) (is p q)) c.read_bytes.ensures

@@ -9,5 +9,7 @@ pub returns-in-Some : goal.returns-in-Some
 returns-in-Some g c =
     let p = c.args.leaf_parameters.now in
     let q = c.args.pair_parameters.now in
-    let exact = check_reply-in (g.C.Shell.language p q) _ _ (ap state_of c.in-Some.is) _ (g.met.C.Shell.pair_is p q) c.args.path.now (g.C.LeafHash.CRHScheme.meaning p c.args.leaf.now) _ (g.met.C.Shell.path_reading_is p q) in
-    IfOk-weaker c.verdict_reply.result _ _ (λ reply told. rw exact (tells_finding Verdict (λ _. tt) _ c.verdict-verdict.result reply.items c.verdict-verdict.ensures told)) c.verdict_reply.ensures
+    let exact = check_reply-in (g.C.Shell.language p q) _ _ (ap state_of c.in-Some.is) _ (g.met.C.Shell.pair_is p q)
+    c.args.path.now (g.C.LeafHash.CRHScheme.meaning p c.args.leaf.now) _ (g.met.C.Shell.path_reading_is p q) in
+    IfOk-weaker c.verdict_reply.result _ _ (λ reply told. rw exact (tells_finding Verdict (λ _. tt) _
+    c.verdict-verdict.result reply.items c.verdict-verdict.ensures told)) c.verdict_reply.ensures

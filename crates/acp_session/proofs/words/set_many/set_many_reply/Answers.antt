@@ -10,6 +10,8 @@ returns-in-Some-clause-turn g c =
     let language = g.C.Shell.language in
     let meaning = g.C.LeafHash.CRHScheme.meaning in
     let has = rw c.in-Some.is at hashes in
-    let pair = sym (g.met.C.Shell.pair_is tree.leaf_parameters tree.pair_parameters) ∙ has.1 ∙ g.met.C.Shell.pair_is p q in
-    let exact = set_many_turn-alike (language tree.leaf_parameters tree.pair_parameters) (language p q) (Some tree.leaves) (meaning tree.leaf_parameters) (meaning p) c.args.changes.now pair has.0 in
+    let pair = sym (g.met.C.Shell.pair_is tree.leaf_parameters tree.pair_parameters) ∙ has.1
+    ∙ g.met.C.Shell.pair_is p q in
+    let exact = set_many_turn-alike (language tree.leaf_parameters tree.pair_parameters) (language p q)
+    (Some tree.leaves) (meaning tree.leaf_parameters) (meaning p) c.args.changes.now pair has.0 in
     rw (c.in-Some.is, ← exact) turn) c.set_leaves.ensures.turn

@@ -8,4 +8,5 @@ pub returns-clause-inside : goal.returns-clause-inside
 returns-clause-inside c = λ is.
     let size = c.args.size in
     let indexes = c.args.indexes.now in
-    All-below size indexes (c.loop-index.invariant ∙ ap (all_below size) (drop_all c.loop-index.index-index indexes c.loop-index-test.false))
+    All-below size indexes (c.loop-index.invariant ∙ ap (all_below size) (drop_all c.loop-index.index-index indexes
+    c.loop-index-test.false))

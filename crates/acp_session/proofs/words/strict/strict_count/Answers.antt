@@ -5,14 +5,17 @@ use Rattle.acp_session.proofs.StrictFindings.{finding-refused, finding-more, fin
 use Rattle.acp_session.proofs.words.strict.strict_count.Goals as goal
 
 pub returns-in_err-proof : goal.returns-in_err-proof
-returns-in_err-proof g c = passed_on _ _ c.from_residual.result c.in_err-proof.field-0.0 c.from_residual.ensures.1 c.in_err-proof.ensures.exact (finding-refused count_of _ _)
+returns-in_err-proof g c = passed_on _ _ c.from_residual.result c.in_err-proof.field-0.0 c.from_residual.ensures.1
+    c.in_err-proof.ensures.exact (finding-refused count_of _ _)
 
 pub returns-then-used-bytes : goal.returns-then-used-bytes
 returns-then-used-bytes g c =
-    finding-more count_of _ _ (drop c.in_ok-proof.used c.args.bytes.now) c.in_ok-proof.ensures.exact (rw length-drop (omega (arith, c.if-used-bytes.true)))
+    finding-more count_of _ _ (drop c.in_ok-proof.used c.args.bytes.now) c.in_ok-proof.ensures.exact
+    (rw length-drop (omega (arith, c.if-used-bytes.true)))
 
 pub returns : goal.returns
 returns g c =
     let indexes = c.in_ok-proof.proof.leaf_indexes in
     let count : length indexes.items ≡ c.len.result = omega (arith, c.len.ensures, indexes.ok.0) in
-    finding-said count_of _ _ (drop c.in_ok-proof.used c.args.bytes.now) c.in_ok-proof.ensures.exact (rw length-drop (omega (arith, c.if-used-bytes.false))) _ (ap Ok count)
+    finding-said count_of _ _ (drop c.in_ok-proof.used c.args.bytes.now) c.in_ok-proof.ensures.exact
+    (rw length-drop (omega (arith, c.if-used-bytes.false))) _ (ap Ok count)

@@ -10,12 +10,17 @@ pub returns-clause-turn : goal.returns-clause-turn
 returns-clause-turn g c =
     let p = c.args.leaf_parameters.now in
     let q = c.args.pair_parameters.now in
-    let fits : is_tree_size (length c.args.digests.items) ≡ true = ap is_tree_size (sym (c.len.ensures ∙ c.args.digests.ok.0)) ∙ sym c.is_tree_size.ensures.test ∙ c.if-not-is_tree_size.false in
-    let exact = digests_turn-built (g.C.Shell.language p q) (state_of c.args.tree.now) g.C.LeafDigest.Numbered.numbers c.args.digests.items _ (g.met.C.Shell.pair_is p q) fits in
+    let fits : is_tree_size (length c.args.digests.items) ≡ true =
+    ap is_tree_size (sym (c.len.ensures ∙ c.args.digests.ok.0)) ∙ sym c.is_tree_size.ensures.test
+    ∙ c.if-not-is_tree_size.false in
+    let exact = digests_turn-built (g.C.Shell.language p q) (state_of c.args.tree.now) g.C.LeafDigest.Numbered.numbers
+    c.args.digests.items _ (g.met.C.Shell.pair_is p q) fits in
     let two = g.C.TwoToOneHash.TwoToOneCRHScheme in
     let pair = pair_of g.C.LeafInnerDigestConverter.DigestConverter.conversion two.evaluated two.compressed in
-    let made = made-leaves g.C.LeafHash.CRHScheme.meaning pair p q _ c.new_with_leaf_digest-made.result c.new_with_leaf_digest-made.ensures in
-    IfOk-weaker c.settle.result _ _ (λ reply settled. takes_settled c.args.tree.now _ _ _ c.new_with_leaf_digest-made.result reply.items exact made settled) c.settle.ensures.settled
+    let made = made-leaves g.C.LeafHash.CRHScheme.meaning pair p q _ c.new_with_leaf_digest-made.result
+    c.new_with_leaf_digest-made.ensures in
+    IfOk-weaker c.settle.result _ _ (λ reply settled. takes_settled c.args.tree.now _ _ _
+    c.new_with_leaf_digest-made.result reply.items exact made settled) c.settle.ensures.settled
 
 pub returns-clause-hashes : goal.returns-clause-hashes
 returns-clause-hashes g c =
@@ -24,5 +29,7 @@ returns-clause-hashes g c =
     let meaning = g.C.LeafHash.CRHScheme.meaning in
     let two = g.C.TwoToOneHash.TwoToOneCRHScheme in
     let pair = pair_of g.C.LeafInnerDigestConverter.DigestConverter.conversion two.evaluated two.compressed in
-    hashes_settled meaning pair p q (λ reply. reply.items) c.args.tree.now _ c.new_with_leaf_digest-made.result c.settle.result c.requires
-    (λ t is. made-hashes meaning pair p q _ t (rw is at c.new_with_leaf_digest-made.ensures)) c.settle.ensures.settled c.settle.ensures.refused
+    hashes_settled meaning pair p q (λ reply. reply.items) c.args.tree.now _ c.new_with_leaf_digest-made.result
+    c.settle.result c.requires
+    (λ t is. made-hashes meaning pair p q _ t (rw is at c.new_with_leaf_digest-made.ensures)) c.settle.ensures.settled
+    c.settle.ensures.refused

@@ -10,12 +10,15 @@ pub returns-clause-turn : goal.returns-clause-turn
 returns-clause-turn g c =
     let p = c.args.leaf_parameters.now in
     let q = c.args.pair_parameters.now in
-    let fits : is_tree_size (length c.args.leaves.now) ≡ true = sym c.is_tree_size.ensures.test ∙ c.if-not-is_tree_size.false in
-    let exact = tree_turn-built (g.C.Shell.language p q) (state_of c.args.tree.now) (g.C.LeafHash.CRHScheme.meaning p) c.args.leaves.now _ (g.met.C.Shell.pair_is p q) fits in
+    let fits : is_tree_size (length c.args.leaves.now) ≡ true =
+    sym c.is_tree_size.ensures.test ∙ c.if-not-is_tree_size.false in
+    let exact = tree_turn-built (g.C.Shell.language p q) (state_of c.args.tree.now) (g.C.LeafHash.CRHScheme.meaning p)
+    c.args.leaves.now _ (g.met.C.Shell.pair_is p q) fits in
     let two = g.C.TwoToOneHash.TwoToOneCRHScheme in
     let pair = pair_of g.C.LeafInnerDigestConverter.DigestConverter.conversion two.evaluated two.compressed in
     let made = made-leaves g.C.LeafHash.CRHScheme.meaning pair p q _ c.new-made.result c.new-made.ensures in
-    IfOk-weaker c.settle.result _ _ (λ reply settled. takes_settled c.args.tree.now _ _ _ c.new-made.result reply.items exact made settled) c.settle.ensures.settled
+    IfOk-weaker c.settle.result _ _ (λ reply settled. takes_settled c.args.tree.now _ _ _ c.new-made.result reply.items
+    exact made settled) c.settle.ensures.settled
 
 pub returns-clause-hashes : goal.returns-clause-hashes
 returns-clause-hashes g c =
@@ -24,5 +27,7 @@ returns-clause-hashes g c =
     let meaning = g.C.LeafHash.CRHScheme.meaning in
     let two = g.C.TwoToOneHash.TwoToOneCRHScheme in
     let pair = pair_of g.C.LeafInnerDigestConverter.DigestConverter.conversion two.evaluated two.compressed in
-    hashes_settled meaning pair p q (λ reply. reply.items) c.args.tree.now _ c.new-made.result c.settle.result c.requires
-    (λ t is. made-hashes meaning pair p q _ t (rw is at c.new-made.ensures)) c.settle.ensures.settled c.settle.ensures.refused
+    hashes_settled meaning pair p q (λ reply. reply.items) c.args.tree.now _ c.new-made.result
+    c.settle.result c.requires
+    (λ t is. made-hashes meaning pair p q _ t (rw is at c.new-made.ensures)) c.settle.ensures.settled
+    c.settle.ensures.refused

@@ -9,5 +9,7 @@ returns g c =
     let own = g.M.Modulus.P in
     let modulus = g.F.Field.MODULUS in
     let same = c.is_same_field.ensures.0 c.if-not-is_same_field.false in
-    let by_item = batch_by_item-own (λ (x : Fp g.row.M.Denot g.M.Modulus). x.value) own modulus g.F.Field.MODULUS_BIT_SIZE c.args.batch.now same in
-    subst (λ e. AppendsElements g.F.Valued.value e c.args.dest.now.items c.push_elements_by_item.new.dest.items c.push_elements_by_item.result) by_item c.push_elements_by_item.ensures
+    let by_item = batch_by_item-own (λ (x : Fp g.row.M.Denot g.M.Modulus). x.value) own modulus
+    g.F.Field.MODULUS_BIT_SIZE c.args.batch.now same in
+    subst (λ e. AppendsElements g.F.Valued.value e c.args.dest.now.items c.push_elements_by_item.new.dest.items
+    c.push_elements_by_item.result) by_item c.push_elements_by_item.ensures

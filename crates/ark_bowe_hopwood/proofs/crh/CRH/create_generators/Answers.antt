@@ -15,9 +15,11 @@ loop-preserved g c =
     let group = g.G.CurveGroup in
     let list = c.in_ok-segment.field-0 in
     let left = g.R.Rng.stream c.loop.rng in
-    one_list_drawn (sixteenfolds group.group g.W.Window.WINDOW_SIZE) group.draw g.W.Window.NUM_WINDOWS _ c.loop.counter (lists_in c.loop.lists.items) _ list.items left _
+    one_list_drawn (sixteenfolds group.group g.W.Window.WINDOW_SIZE) group.draw g.W.Window.NUM_WINDOWS _ c.loop.counter
+    (lists_in c.loop.lists.items) _ list.items left _
     (omega (arith, c.loop-test.true, c.NUM_WINDOWS-end.ensures))
-    (ap (λ lists. lists_in lists) c.in_ok-push.ensures.items ∙ map-append (λ made. made.items) c.loop.lists.items (list ∷ []))
+    (ap (λ lists. lists_in lists) c.in_ok-push.ensures.items ∙ map-append (λ made. made.items) c.loop.lists.items
+    (list ∷ []))
     (c.in_ok-segment.ensures.made ∙ ap (λ n. sixteenfolds group.group n c.rand.result) c.WINDOW_SIZE.ensures
     ∙ ap (λ (drawn : g.row.G.Denot × Stream). sixteenfolds group.group g.W.Window.WINDOW_SIZE drawn.0) c.rand.ensures)
     (ap (λ (drawn : g.row.G.Denot × Stream). drawn.1) c.rand.ensures)
@@ -27,10 +29,12 @@ pub returns-clause-made : goal.returns-clause-made
 returns-clause-made g c =
     let group = g.G.CurveGroup in (
       length-drawn_values group.draw _ _,
-      (all_lists_drawn _ group.draw _ _ _ _ _ (omega (arith, c.loop-test.false, c.NUM_WINDOWS-end.ensures)) c.loop.invariant).0,
+      (all_lists_drawn _ group.draw _ _ _ _ _ (omega (arith, c.loop-test.false, c.NUM_WINDOWS-end.ensures))
+          c.loop.invariant).0,
     )
 
 pub returns-clause-left : goal.returns-clause-left
 returns-clause-left g c =
     let group = g.G.CurveGroup in
-    (all_lists_drawn _ group.draw _ _ _ _ _ (omega (arith, c.loop-test.false, c.NUM_WINDOWS-end.ensures)) c.loop.invariant).1
+    (all_lists_drawn _ group.draw _ _ _ _ _ (omega (arith, c.loop-test.false, c.NUM_WINDOWS-end.ensures))
+    c.loop.invariant).1

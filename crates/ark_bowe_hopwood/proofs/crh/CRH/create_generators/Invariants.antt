@@ -7,4 +7,5 @@ abbrev pub invariant-loop : goal.invariant-loop
 invariant-loop g l =
     let group = g.G.CurveGroup in
     let windows = g.W.Window in
-    AreDrawnSoFar (sixteenfolds group.group windows.WINDOW_SIZE) group.draw windows.NUM_WINDOWS (g.R.Rng.stream l.initial.rng) l.counter (lists_in l.lists.items) (g.R.Rng.stream l.rng)
+    AreDrawnSoFar (sixteenfolds group.group windows.WINDOW_SIZE) group.draw windows.NUM_WINDOWS
+    (g.R.Rng.stream l.initial.rng) l.counter (lists_in l.lists.items) (g.R.Rng.stream l.rng)

@@ -7,5 +7,6 @@ pub returns-clause-unique : goal.returns-clause-unique
 returns-clause-unique g c =
     let order = g.G.ScalarField.PrimeField.MODULUS in
     let size = g.W.Window.WINDOW_SIZE in
-    let fits : is_fitting order size ≡ true = ap (λ (o : ℕ). is_fitting o size) (sym c.MODULUS.ensures) ∙ ap (λ (s : ℕ). is_fitting c.MODULUS.result s) (sym c.WINDOW_SIZE.ensures) ∙ sym c.if-not-is_fitting.ensures in
+    let fits : is_fitting order size ≡ true = ap (λ (o : ℕ). is_fitting o size) (sym c.MODULUS.ensures)
+    ∙ ap (λ (s : ℕ). is_fitting c.MODULUS.result s) (sym c.WINDOW_SIZE.ensures) ∙ sym c.if-not-is_fitting.ensures in
     fitting_tells order size fits (omega (arith, g.G.ScalarField.PrimeField.modulus_laws.at_least_two))

@@ -12,5 +12,7 @@ returns-clause-segments g c elements are =
     let lists = lists_in c.args.parameters.now.generators.items in
     let left = c.args.left.now.items in
     let right = c.args.right.now.items in
-    let exact : seen_by g.G.BaseField.Valued.value c.hash_halves.result ≡ of_halves windows (bowe_hopwood_hash group x windows lists) left right = search rules in
-    exact ∙ (λ i. of_halves windows (λ (input : List ℕ). bowe_hopwood_hash-segments g.met.G.CurveGroup.laws x windows elements lists input are i) left right)
+    let exact : seen_by g.G.BaseField.Valued.value c.hash_halves.result ≡ of_halves windows (bowe_hopwood_hash group x
+    windows lists) left right = search rules in
+    exact ∙ (λ i. of_halves windows (λ (input : List ℕ). bowe_hopwood_hash-segments g.met.G.CurveGroup.laws x windows
+    elements lists input are i) left right)

@@ -39,7 +39,9 @@ returns g c =
       accepted = answered-each _ _ c.binding_in.result answer (λ binding is.
           bound-accepted now.hashes.pair now.leaves (now.hashes.leaf leaf) way binding is);
       stands = answered-each _ _ c.binding_in.result answer (λ binding is same.
-          rw (← place) (bound-stands now.hashes.pair now.leaves c.parts.result.2.now tree (now.hashes.leaf leaf) way (is ∙ ap Ok same)));
+          rw (← place) (bound-stands now.hashes.pair now.leaves c.parts.result.2.now tree (now.hashes.leaf leaf) way
+          (is ∙ ap Ok same)));
       differs = answered-each _ _ c.binding_in.result answer (λ binding is level same.
-          bound-differs now.hashes.pair now.leaves c.parts.result.2.now tree (now.hashes.leaf leaf) way level (is ∙ ap Ok same));
+          bound-differs now.hashes.pair now.leaves c.parts.result.2.now tree (now.hashes.leaf leaf) way level
+          (is ∙ ap Ok same));
     }

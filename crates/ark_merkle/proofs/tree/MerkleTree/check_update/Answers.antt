@@ -10,7 +10,12 @@ use Rattle.ark_merkle.proofs.tree.MerkleTree.check_update.Goals as goal
 
 pub overflow_sub-len : goal.overflow_sub-len
 overflow_sub-len g c =
-    omega (arith, c.in_ok-digest.ensures.way.whole, length-map c.in_ok-digest.on_way.items g.P.InnerDigest.Numbered.numbers)
+    omega (
+      arith,
+      c.in_ok-digest.ensures.way.whole,
+      length-map c.in_ok-digest.on_way.items
+          g.P.InnerDigest.Numbered.numbers,
+    )
 
 pub index-requires : goal.index-requires
 index-requires g c = omega (arith, overflow_sub-len g c, c.len.ensures)
@@ -37,10 +42,13 @@ returns-else-agrees-clause-agrees g c =
     let t = left_of c.parts.ensures.seen in
     let asserted = g.P.InnerDigest.Numbered.numbers c.args.asserted_new_root.now in
     let read = rw (c.len.ensures, way.ok.0) at c.index.ensures in
-    subst (λ (t : HashedTree _). change_agrees t c.args.index c.args.new_leaf.now asserted ≡ Ok c.are_same-agrees.result)
+    subst (λ (t : HashedTree _). change_agrees t c.args.index c.args.new_leaf.now asserted
+    ≡ Ok c.are_same-agrees.result)
     c.parts.ensures.seen
-    (agrees-read g.P.InnerDigest.Numbered.numbers t.hashes.pair (t.hashes.leaf c.args.new_leaf.now) c.args.index t.leaves
-    way c.index.result.now asserted c.are_same-agrees.result changed.way.whole read changed.root c.are_same-agrees.ensures)
+    (agrees-read g.P.InnerDigest.Numbered.numbers t.hashes.pair (t.hashes.leaf c.args.new_leaf.now)
+    c.args.index t.leaves
+    way c.index.result.now asserted c.are_same-agrees.result changed.way.whole read changed.root
+    c.are_same-agrees.ensures)
 
 pub returns-then-agrees-clause-agrees : goal.returns-then-agrees-clause-agrees
 returns-then-agrees-clause-agrees g c =
@@ -49,10 +57,13 @@ returns-then-agrees-clause-agrees g c =
     let t = left_of c.parts.ensures.seen in
     let asserted = g.P.InnerDigest.Numbered.numbers c.args.asserted_new_root.now in
     let read = rw (c.len.ensures, way.ok.0) at c.index.ensures in
-    subst (λ (t : HashedTree _). change_agrees t c.args.index c.args.new_leaf.now asserted ≡ Ok c.are_same-agrees.result)
+    subst (λ (t : HashedTree _). change_agrees t c.args.index c.args.new_leaf.now asserted
+    ≡ Ok c.are_same-agrees.result)
     c.parts.ensures.seen
-    (agrees-read g.P.InnerDigest.Numbered.numbers t.hashes.pair (t.hashes.leaf c.args.new_leaf.now) c.args.index t.leaves
-    way c.index.result.now asserted c.are_same-agrees.result changed.way.whole read changed.root c.are_same-agrees.ensures)
+    (agrees-read g.P.InnerDigest.Numbered.numbers t.hashes.pair (t.hashes.leaf c.args.new_leaf.now)
+    c.args.index t.leaves
+    way c.index.result.now asserted c.are_same-agrees.result changed.way.whole read changed.root
+    c.are_same-agrees.ensures)
 
 pub returns-then-agrees-clause-tree : goal.returns-then-agrees-clause-tree
 returns-then-agrees-clause-tree g c =

@@ -38,6 +38,7 @@ returns g c =
     record {
       proof = rw g.met.P.Views.way_is (ap Ok is);
       accepted = rw g.met.P.Views.way_is (λ leaf r digest rooted.
-          own_path-accepted now.hashes.pair now.leaves c.parts.result.2.now tree c.args.index (rw g.met.P.Views.tree_is c.requires) own _ r
+          own_path-accepted now.hashes.pair now.leaves c.parts.result.2.now tree c.args.index (rw g.met.P.Views.tree_is
+          c.requires) own _ r
           is digest rooted);
     }

@@ -48,7 +48,8 @@ returns g c =
     let conversion = g.P.LeafInnerDigestConverter.DigestConverter.conversion in
     let leaf_given = c.args.leaf_parameters.now in
     let leaf_alike = done_injective _ _ c.in_ok-leaf_parameters.ensures in
-    let hash = g.met.P.LeafHash.CRHScheme.same_parameters leaf_given c.in_ok-leaf_parameters.leaf_parameters leaf_alike in
+    let hash = g.met.P.LeafHash.CRHScheme.same_parameters leaf_given c.in_ok-leaf_parameters.leaf_parameters
+    leaf_alike in
     let given = c.args.pair_parameters.now in
     let copy = c.in_ok-pair_parameters.pair_parameters in
     let alike = done_injective _ _ c.in_ok-pair_parameters.ensures in
@@ -63,7 +64,15 @@ returns g c =
     (rw c.deref.ensures.value at c.in_ok-rows.ensures) in
     let own = subst (λ (h : Hashes _). tree_above h leaves ≡ Ok (tree_with h leaves)) c.new-hasher.ensures made in
     let seen = ap (λ (f : _ → _ → Hashes _). f leaf_given given) g.met.P.Views.hashes_are in
-    let copied : record { leaf = g.P.LeafHash.CRHScheme.meaning leaf_given; pair = pair_of conversion two.evaluated two.compressed given }
-    ≡ record { leaf = g.P.LeafHash.CRHScheme.meaning c.in_ok-leaf_parameters.leaf_parameters; pair = pair_of conversion two.evaluated two.compressed copy } =
+    let copied : record {
+      leaf = g.P.LeafHash.CRHScheme.meaning leaf_given;
+      pair = pair_of conversion two.evaluated
+          two.compressed given;
+    }
+    ≡ record {
+      leaf = g.P.LeafHash.CRHScheme.meaning c.in_ok-leaf_parameters.leaf_parameters;
+      pair = pair_of conversion
+          two.evaluated two.compressed copy;
+    } =
     λ i. record { leaf = hash i; pair = pairs i } in
     rw g.met.P.Views.tree_is (own ∙ ap (λ (h : Hashes _). Ok (tree_with h leaves)) (seen ∙ copied))

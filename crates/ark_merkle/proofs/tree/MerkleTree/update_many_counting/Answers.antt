@@ -58,7 +58,12 @@ returns g c =
           (ap (map numbers) (sym items)));
       count = rw (← long) c.update_leaves.ensures.count;
       refused = on_err-again _ _ result c.update_leaves.ensures.refused
-          (λ alike. ap (λ ds. record { leaf_parameters = inside.leaf_parameters; pair_parameters = inside.pair_parameters; leaves = map numbers ds })
+          (λ alike. ap (λ ds. record {
+            leaf_parameters = inside.leaf_parameters;
+            pair_parameters =
+                inside.pair_parameters;
+            leaves = map numbers ds;
+          })
           (items ∙ alike ∙ c.deref_mut.ensures.value) ∙ c.self.view_is);
       one_by_one =
           subst (λ (t : HashedTree _). (made : HashedTree _) → with_each_leaf t changes ≡ Ok made

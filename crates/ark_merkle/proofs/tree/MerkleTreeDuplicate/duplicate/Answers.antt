@@ -14,5 +14,7 @@ invariant_of-result g c =
     let leaves = digests_of g.P.LeafDigest.Numbered.numbers c.self.inside.leaves in
     let copies = digests_of g.P.LeafDigest.Numbered.numbers c.in_ok-copies_of.field-0 in
     is_tree-copied _ _ leaves copies c.self.inside.rows c.in_ok-duplicate-3.field-0
-    (pair_of-same g.P.LeafInnerDigestConverter.DigestConverter.conversion two.evaluated two.compressed given copy (laws.evaluated_same given copy alike) (laws.compressed_same given copy alike))
-    (done_injective leaves copies (rw c.deref.ensures.value at c.in_ok-copies_of.ensures)) (done_injective c.self.inside.rows c.in_ok-duplicate-3.field-0 c.in_ok-duplicate-3.ensures) c.self.invariant
+    (pair_of-same g.P.LeafInnerDigestConverter.DigestConverter.conversion two.evaluated two.compressed given copy
+    (laws.evaluated_same given copy alike) (laws.compressed_same given copy alike))
+    (done_injective leaves copies (rw c.deref.ensures.value at c.in_ok-copies_of.ensures))
+    (done_injective c.self.inside.rows c.in_ok-duplicate-3.field-0 c.in_ok-duplicate-3.ensures) c.self.invariant

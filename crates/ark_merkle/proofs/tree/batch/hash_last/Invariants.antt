@@ -7,4 +7,5 @@ use Rattle.ark_merkle.proofs.tree.batch.hash_last.Given as goal
 -- the leaves before those that are left are hashed
 abbrev pub invariant-loop-index : goal.invariant-loop-index
 invariant-loop-index g l =
-    AreHashedSoFar (g.T.TreeHasher.hashes l.hasher).leaf (last_changes l.changes) (seen_changes g.L.Numbered.numbers l.digests.items) (seen_changes (λ (leaf : Bor _). leaf.now) l.index-iterator)
+    AreHashedSoFar (g.T.TreeHasher.hashes l.hasher).leaf (last_changes l.changes) (seen_changes g.L.Numbered.numbers
+    l.digests.items) (seen_changes (λ (leaf : Bor _). leaf.now) l.index-iterator)

@@ -3,4 +3,5 @@ use Rattle.ark_merkle.proofs.LastLeaves.{last-rises}
 use Rattle.ark_merkle.proofs.tree.batch.last_leaves.Goals as goal
 
 pub enter-requires : goal.enter-requires
-enter-requires g c = rw c.loop-n.invariant (last-rises (drop (length c.args.changes.now - c.loop-n.n) c.args.changes.now))
+enter-requires g c = rw c.loop-n.invariant (last-rises (drop (length c.args.changes.now - c.loop-n.n)
+    c.args.changes.now))

@@ -14,7 +14,8 @@ change_leaves-requires-clause-changes g c =
     let size = length c.args.leaves.now in
     let changes = c.args.changes.now in
     AreChanges-unseen g.L.Numbered.numbers 0 size c.in_ok-digests.digests.items
-    (hashed-rise _ 0 size (last_changes changes) _ (last-changes size changes c.requires.changes) c.in_ok-digests.ensures)
+    (hashed-rise _ 0 size (last_changes changes) _ (last-changes size changes c.requires.changes)
+    c.in_ok-digests.ensures)
 
 pub returns-clause-leaves : goal.returns-clause-leaves
 returns-clause-leaves g c =

@@ -12,4 +12,6 @@ invariant-loop-step g l =
     let leaf_numbers = g.L.Numbered.numbers in
     let way : Way = record { sibling = leaf_numbers l.sibling; above = map numbers l.above; index = l.path_index } in
     let m = length l.above in
-    (top_from h way (leaf_numbers l.digest) (m - l.step) ≡ Ok (numbers l.current)) × (l.difference ≡ difference_from h (map leaf_numbers l.leaves) way (leaf_numbers l.digest) (m - l.step) (suc l.step))
+    (top_from h way (leaf_numbers l.digest) (m - l.step) ≡ Ok (numbers l.current))
+    × (l.difference ≡ difference_from h (map leaf_numbers l.leaves) way (leaf_numbers l.digest) (m - l.step)
+    (suc l.step))

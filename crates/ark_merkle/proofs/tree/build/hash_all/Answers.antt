@@ -37,14 +37,16 @@ returns-in_err-next-clause-digests g c =
     let e = c.in_err-next.field-0.0 in
     passed_on _ _ c.from_residual-in_err-next.result e c.from_residual-in_err-next.ensures.1 c.in_err-next.ensures
     (IsSoFar-refused (g.T.TreeHasher.hashes c.args.hasher.now).leaf c.args.leaves.now c.rest.place
-    c.index-leaves-place.result (map g.L.Numbered.numbers c.rest.digests.items) e c.rest-test.true c.index-leaves-place.is
+    c.index-leaves-place.result (map g.L.Numbered.numbers c.rest.digests.items) e c.rest-test.true
+    c.index-leaves-place.is
     c.rest.invariant)
 
 pub rest-preserved : goal.rest-preserved
 rest-preserved g c =
     let numbers = g.L.Numbered.numbers in
     rw (c.in_ok-push.ensures.items, map_push)
-    (IsSoFar-more (g.T.TreeHasher.hashes c.args.hasher.now).leaf c.args.leaves.now c.rest.place c.index-leaves-place.result
+    (IsSoFar-more (g.T.TreeHasher.hashes c.args.hasher.now).leaf c.args.leaves.now c.rest.place
+    c.index-leaves-place.result
     (map numbers c.rest.digests.items) (numbers c.in_ok-next.next) c.rest-test.true c.index-leaves-place.is
     c.rest.invariant c.in_ok-next.ensures)
 
@@ -53,7 +55,8 @@ returns g c =
     let hash = (g.T.TreeHasher.hashes c.args.hasher.now).leaf in
     let numbers = g.L.Numbered.numbers in
     let digests = c.rest.digests.items in
-    let all = IsSoFar-all hash c.args.leaves.now c.rest.place (map numbers digests) c.rest-test.false c.rest.invariant in
+    let all = IsSoFar-all hash c.args.leaves.now c.rest.place (map numbers digests) c.rest-test.false
+    c.rest.invariant in
     record {
       digests = all;
       size = λ size. (

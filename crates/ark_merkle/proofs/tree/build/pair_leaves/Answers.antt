@@ -15,7 +15,8 @@ returns-in_err-made g c =
     let digests = c.args.digests.now in
     let inside : 4 * c.fours.four + 3 < length digests / 2 = omega arith in
     passed_on _ _ c.from_residual-in_err-made.result e c.from_residual-in_err-made.ensures.1 c.in_err-made.ensures
-    (ArePaired-four_refused (g.T.TreeHasher.hashes c.args.hasher.now).pair.bottom g.L.Numbered.numbers digests c.fours.four
+    (ArePaired-four_refused (g.T.TreeHasher.hashes c.args.hasher.now).pair.bottom g.L.Numbered.numbers digests
+    c.fours.four
     _ _ _ _ _ _ _ _ inside c.index-digests-four.is c.index-digests-four-in-fours.is c.index-digests-four-in-fours-2.is
     c.index-digests-four-in-fours-3.is c.index-digests-four-in-fours-4.is c.index-digests-four-in-fours-5.is
     c.index-digests-four-in-fours-6.is c.index-digests-four-in-fours-7.is (map g.D.Numbered.numbers c.fours.row.items)

@@ -15,11 +15,15 @@ returns-in_err-up g c =
 pub loop-next-preserved : goal.loop-next-preserved
 loop-next-preserved g c =
     let hash = of_couple (g.T.TreeHasher.hashes c.args.hasher.now).pair.bottom in
-    let so = rw c.reached_by-place.ensures.reached at c.loop-next.invariant.1 in
-    (c.reached_by-place.ensures.inside, rw (c.in_ok-push.ensures.items, map_push) (hashed_so_far-more hash _ _ _ _ (g.D.Numbered.numbers c.in_ok-up.up) so c.in_ok-up.ensures))
+    let so = rw c.reached_by-place.ensures.reached at c.loop-next.invariant.1 in (
+      c.reached_by-place.ensures.inside,
+      rw (c.in_ok-push.ensures.items, map_push) (hashed_so_far-more hash _ _ _ _
+          (g.D.Numbered.numbers c.in_ok-up.up) so c.in_ok-up.ensures),
+    )
 
 pub returns : goal.returns
 returns g c =
     let hash = of_couple (g.T.TreeHasher.hashes c.args.hasher.now).pair.bottom in
-    let none : drop c.loop-next.next c.args.changes.now ≡ [] = drop_all c.loop-next.next c.args.changes.now c.loop-next-test.false in
+    let none : drop c.loop-next.next c.args.changes.now ≡ [] =
+    drop_all c.loop-next.next c.args.changes.now c.loop-next-test.false in
     hashed_so_far-all hash _ _ (rw none at c.loop-next.invariant.1)

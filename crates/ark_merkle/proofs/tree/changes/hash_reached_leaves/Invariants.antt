@@ -10,7 +10,8 @@ invariant-loop-next g l =
     let numbers = g.L.Numbered.numbers in
     let hash = (g.T.TreeHasher.hashes l.hasher).pair.bottom in
     let from = λ (n : _). couples_reached (map numbers l.leaves) (seen_changes numbers (drop n l.changes)) in
-    (l.next ≤ length l.changes) × AreHashedSoFar (of_couple hash) (from 0) (seen_changes g.D.Numbered.numbers l.above.items) (from l.next)
+    (l.next ≤ length l.changes) × AreHashedSoFar (of_couple hash) (from 0) (seen_changes g.D.Numbered.numbers
+    l.above.items) (from l.next)
 
 abbrev pub decreases-loop-next : goal.decreases-loop-next
 decreases-loop-next g l = length l.changes - l.next

@@ -5,4 +5,5 @@ use Rattle.ark_merkle.proofs.tree.changes.put_changes.Given as goal
 abbrev pub invariant-loop-n : goal.invariant-loop-n
 invariant-loop-n g l =
     let numbers = g.D.Numbered.numbers in
-    ArePutSoFar numbers l.initial.changes.items (map numbers l.initial.digests) l.n (map numbers l.digests) l.changes.items
+    ArePutSoFar numbers l.initial.changes.items (map numbers l.initial.digests) l.n (map numbers l.digests)
+    l.changes.items

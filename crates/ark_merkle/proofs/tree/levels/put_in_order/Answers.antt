@@ -16,7 +16,15 @@ pub turn_back-requires : goal.turn_back-requires
 turn_back-requires g c =
     let level = c.loop-level.level in
     let width : 1 * 2 ^ level % 2 ^ 64 ≡ 2 ^ level = one_shl level 64 (omega (arith, c.requires.fits)) in
-    omega (arith, width, pow_pos level, level-inside c.args.count level c.loop-level-test.true, c.requires.whole, c.loop-level.auto.digests, c.reverse.ensures.len)
+    omega (
+      arith,
+      width,
+      pow_pos level,
+      level-inside c.args.count level c.loop-level-test.true,
+      c.requires.whole,
+      c.loop-level.auto.digests,
+      c.reverse.ensures.len,
+    )
 
 pub loop-level-preserved : goal.loop-level-preserved
 loop-level-preserved g c =
@@ -24,9 +32,11 @@ loop-level-preserved g c =
     let width : 1 * 2 ^ level % 2 ^ 64 ≡ 2 ^ level = one_shl level 64 (omega (arith, c.requires.fits)) in
     let some : 0 < 2 ^ level = pow_pos level in
     let whole : 2 ^ level - 1 + 1 ≡ 2 ^ level = omega arith in
-    rw (rw (width, whole) at c.turn_back.ensures) (turned-more c.args.digests.now c.loop-level.digests level c.args.count c.requires.whole c.loop-level-test.true c.loop-level.invariant _ refl)
+    rw (rw (width, whole) at c.turn_back.ensures) (turned-more c.args.digests.now c.loop-level.digests level
+    c.args.count c.requires.whole c.loop-level-test.true c.loop-level.invariant _ refl)
 
 pub returns : goal.returns
 returns g c =
-    let last : c.loop-level.level ≡ c.args.count = omega (arith, c.loop-level-test.false, c.loop-level.auto.level-end) in
+    let last : c.loop-level.level ≡ c.args.count =
+    omega (arith, c.loop-level-test.false, c.loop-level.auto.level-end) in
     turned-all c.args.digests.now c.loop-level.digests c.args.count c.requires.whole (rw last at c.loop-level.invariant)

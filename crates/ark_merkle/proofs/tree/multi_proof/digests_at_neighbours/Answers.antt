@@ -5,7 +5,8 @@ use Rattle.ark_paths.specs.Index.{neighbour}
 use Rattle.ark_merkle.proofs.tree.multi_proof.digests_at_neighbours.Goals as goal
 
 pub bounds-leaves-neighbour_of : goal.bounds-leaves-neighbour_of
-bounds-leaves-neighbour_of g c = rw c.neighbour_of.ensures (c.requires c.loop-index.index-index 0 c.loop-index-test.true)
+bounds-leaves-neighbour_of g c = rw c.neighbour_of.ensures (c.requires c.loop-index.index-index 0
+    c.loop-index-test.true)
 
 pub loop-index-preserved : goal.loop-index-preserved
 loop-index-preserved g c =
@@ -16,13 +17,23 @@ loop-index-preserved g c =
     let place = c.neighbour_of.result in
     let digest = c.index-leaves-neighbour_of.result in
     let copy = c.in_ok-duplicate.field-0 in
-    let copied : numbers digest ≡ numbers copy = (g.met.D.DigestItem.seen_alike digest copy).0 (done_injective _ _ c.in_ok-duplicate.ensures) in
+    let copied : numbers digest ≡ numbers copy =
+    (g.met.D.DigestItem.seen_alike digest copy).0 (done_injective _ _ c.in_ok-duplicate.ensures) in
     let within : place < length leaves = rw c.neighbour_of.ensures (c.requires at 0 c.loop-index-test.true) in
     let read : get_or (map numbers leaves) (neighbour (get_or indexes at 0)) [] ≡ numbers copy =
-    rw (← c.neighbour_of.ensures) (get_or-map numbers leaves place digest [] within ∙ ap numbers (sym c.index-leaves-neighbour_of.is) ∙ copied) in
-    rw (c.in_ok-push.ensures.items, map_push, c.loop-index.invariant, take_more indexes at 0 c.loop-index-test.true, map_push, read) refl
+    rw (← c.neighbour_of.ensures) (get_or-map numbers leaves place digest [] within
+    ∙ ap numbers (sym c.index-leaves-neighbour_of.is) ∙ copied) in
+    rw (
+      c.in_ok-push.ensures.items,
+      map_push,
+      c.loop-index.invariant,
+      take_more indexes at 0 c.loop-index-test.true,
+      map_push,
+      read,
+    ) refl
 
 pub returns : goal.returns
 returns g c =
-    let all : take c.loop-index.index-index c.args.indexes.now ≡ c.args.indexes.now = take_all c.loop-index.index-index c.args.indexes.now c.loop-index-test.false in
+    let all : take c.loop-index.index-index c.args.indexes.now ≡ c.args.indexes.now =
+    take_all c.loop-index.index-index c.args.indexes.now c.loop-index-test.false in
     ap Ok (sym (rw all at c.loop-index.invariant))

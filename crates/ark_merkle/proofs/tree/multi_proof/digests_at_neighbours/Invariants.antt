@@ -5,4 +5,5 @@ use Rattle.ark_merkle.proofs.tree.multi_proof.digests_at_neighbours.Given as goa
 abbrev pub invariant-loop-index : goal.invariant-loop-index
 invariant-loop-index g l =
     let numbers = g.D.Numbered.numbers in
-    map numbers l.digests.items ≡ map (λ i. get_or (map numbers l.leaves) (neighbour i) []) (take l.index-index l.indexes)
+    map numbers l.digests.items ≡ map (λ i. get_or (map numbers l.leaves) (neighbour i) [])
+    (take l.index-index l.indexes)

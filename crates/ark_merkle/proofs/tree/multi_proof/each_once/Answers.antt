@@ -12,7 +12,8 @@ pub returns : goal.returns
 returns c =
     let is = dedup_is _ _ _ c.dedup.ensures.filtered in
     let moved = c.sort_unstable.ensures.permutation in
-    let once : rising_set c.in_ok-once.once.items ≡ c.dedup.new.self.items = rising-unique c.in_ok-once.once.items c.dedup.new.self.items
+    let once : rising_set c.in_ok-once.once.items ≡ c.dedup.new.self.items =
+    rising-unique c.in_ok-once.once.items c.dedup.new.self.items
     (rw is (IsStrictlyIncreasing-dedup _ c.sort_unstable.ensures.sorted))
     (λ x h. rw is (Contains-dedup_nat _ x (Contains-permutation _ _ x moved h)))
     (λ x h. Contains-permutation _ _ x (IsPermutation-sym _ _ moved) (Contains-from_dedup _ _ x (rw is at h))) in

@@ -10,10 +10,15 @@ returns-in_default-next-clause-next g c = inr (inl (rw c.in_default-next.is at c
 
 pub returns-in_err-extend-clause-next : goal.returns-in_err-extend-clause-next
 returns-in_err-extend-clause-next g c =
-    memory_passed _ _ c.from_residual.result c.in_err-extend.field-0.0 c.from_residual.ensures.1 (inr (inr (c.in-Some-next.leaf, rw c.in-Some-next.is at c.next.ensures.steps, c.in_err-extend.ensures.memory)))
+    memory_passed _ _ c.from_residual.result c.in_err-extend.field-0.0 c.from_residual.ensures.1
+    (inr (inr (c.in-Some-next.leaf, rw c.in-Some-next.is at c.next.ensures.steps, c.in_err-extend.ensures.memory)))
 
 pub returns-clause-next : goal.returns-clause-next
-returns-clause-next g c = (rw c.in-Some-next.is at c.next.ensures.steps, λ index. rw c.in_ok-extend.ensures.above (c.in-Some.ensures _ index))
+returns-clause-next g c = (
+  rw c.in-Some-next.is at c.next.ensures.steps,
+  λ index. rw c.in_ok-extend.ensures.above
+      (c.in-Some.ensures _ index),
+)
 
 pub returns-clause-can : goal.returns-clause-can
 returns-clause-can g c = rw c.in-Some-next.is at c.next.ensures.goes.keeps

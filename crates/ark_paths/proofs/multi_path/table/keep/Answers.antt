@@ -5,5 +5,13 @@ use Rattle.ark_paths.proofs.multi_path.table.keep.Goals as goal
 
 pub returns-clause-kept : goal.returns-clause-kept
 returns-clause-kept g c =
-    let slot : Slot _ = record { place = c.args.place; entry = record { pair = c.args.pair; digest = c.len-number.result } } in
-    AreKept-put c.args.entries.now.all c.insert.new.self c.args.entries.now.last.items c.put.new.items.items slot c.requires c.in_ok-insert.ensures.updates (search rules)
+    let slot : Slot _ = record {
+      place = c.args.place;
+      entry = record {
+        pair = c.args.pair;
+        digest =
+            c.len-number.result;
+      };
+    } in
+    AreKept-put c.args.entries.now.all c.insert.new.self c.args.entries.now.last.items c.put.new.items.items slot
+    c.requires c.in_ok-insert.ensures.updates (search rules)

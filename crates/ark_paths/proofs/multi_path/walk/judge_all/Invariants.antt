@@ -17,11 +17,14 @@ invariant-loop-place g l =
     let above = map (λ x. inner x.now) l.above.items in
     record {
       can : g.I.Iterator.can_next l.leaves;
-      at : AtPlace g.I.Iterator.next_gives (λ leaf. hash leaf.now) l.fn.leaves l.leaves h (inner l.root) m l.place above;
+      at : AtPlace g.I.Iterator.next_gives (λ leaf. hash leaf.now) l.fn.leaves l.leaves h (inner l.root) m
+          l.place above;
       decoded : Decoded m l.place above;
       table : IsTable leaf inner h l.table;
-      counted : Counted g.I.Iterator.next_gives l.fn.leaves l.leaves leaf inner h (inner l.root) m (λ leaf. hash leaf.now) l.place l.table;
+      counted : Counted g.I.Iterator.next_gives l.fn.leaves l.leaves leaf inner h (inner l.root) m
+          (λ leaf. hash leaf.now) l.place l.table;
       same : g.T.PairHasher.pair l.hasher ≡ h;
-      rises : RisesBy (length l.table.made.items) (g.T.PairHasher.counted l.fn.hasher) (g.T.PairHasher.counted l.hasher);
+      rises : RisesBy (length l.table.made.items) (g.T.PairHasher.counted l.fn.hasher)
+          (g.T.PairHasher.counted l.hasher);
       most : g.T.PairHasher.counted l.hasher ≤ g.T.PairHasher.counted l.fn.hasher + l.place * suc (path_length m);
     }

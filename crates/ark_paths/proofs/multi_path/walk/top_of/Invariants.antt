@@ -18,10 +18,14 @@ invariant-loop-below g l =
     record {
       table : IsTable leaf inner h l.table;
       number : l.own < made;
-      so_far : path_root h (lower h (λ x. inner x.now) l.above (leaf l.sibling) l.index (leaf l.fn.digest) l.below) (leaf l.fn.digest) ≡ Ok (get_or (map inner l.table.made.items) l.own []);
-      holds : (pairs : ℕ × ℕ → Digest × Digest) (seen : List ℕ) → HoldsTree leaf inner pairs (length l.above) 0 l.index seen l.fn.table
-          → HasPairs h (whole h (λ x. inner x.now) l.above (leaf l.sibling) l.index (leaf l.fn.digest)) (leaf l.fn.digest) pairs
-          → HoldsTree leaf inner pairs (length l.above) (suc l.below) l.index seen l.table × (made + count_above (suc l.below) seen ≡ old + count_above (suc l.below) (l.index ∷ seen));
+      so_far : path_root h (lower h (λ x. inner x.now) l.above (leaf l.sibling) l.index (leaf l.fn.digest) l.below)
+          (leaf l.fn.digest) ≡ Ok (get_or (map inner l.table.made.items) l.own []);
+      holds : (pairs : ℕ × ℕ → Digest × Digest) (seen : List ℕ) → HoldsTree leaf inner pairs (length l.above) 0 l.index
+          seen l.fn.table
+          → HasPairs h (whole h (λ x. inner x.now) l.above (leaf l.sibling) l.index (leaf l.fn.digest))
+          (leaf l.fn.digest) pairs
+          → HoldsTree leaf inner pairs (length l.above) (suc l.below) l.index seen l.table
+          × (made + count_above (suc l.below) seen ≡ old + count_above (suc l.below) (l.index ∷ seen));
       same : g.T.PairHasher.pair l.hasher ≡ h;
       rises : RisesBy (made - old) (g.T.PairHasher.counted l.fn.hasher) (g.T.PairHasher.counted l.hasher);
       grows : old ≤ made;

@@ -9,4 +9,5 @@ returns-clause-answer g c =
 pub returns-clause-bound : goal.returns-clause-bound
 returns-clause-bound g c =
     let hashes = g.P.Views.hashes c.args.leaf_parameters.now c.args.pair_parameters.now in
-    answered-bound hashes (g.P.InnerDigest.Numbered.numbers c.args.root.now) c.args.leaf.now (g.P.Views.way c.args.self.now) c.verify_leaf.result (returns-clause-answer g c)
+    answered-bound hashes (g.P.InnerDigest.Numbered.numbers c.args.root.now) c.args.leaf.now
+    (g.P.Views.way c.args.self.now) c.verify_leaf.result (returns-clause-answer g c)

@@ -6,4 +6,5 @@ abbrev pub invariant-loop : goal.invariant-loop
 invariant-loop g l =
     let group = g.C.CurveGroup in
     let windows = g.W.Window in
-    AreDrawnSoFar (doublings group.group windows.WINDOW_SIZE) group.draw windows.NUM_WINDOWS (g.R.Rng.stream l.initial.rng) l.counter (lists_in l.lists.items) (g.R.Rng.stream l.rng)
+    AreDrawnSoFar (doublings group.group windows.WINDOW_SIZE) group.draw windows.NUM_WINDOWS
+    (g.R.Rng.stream l.initial.rng) l.counter (lists_in l.lists.items) (g.R.Rng.stream l.rng)

@@ -5,7 +5,8 @@ use Rattle.ark_groups.specs.Group.{Group}
 use Rattle.ark_pedersen.specs.Pedersen.{doublings}
 use Rattle.ark_pedersen.proofs.crh.CRH.generator_powers.Goals as goal
 
-step : {G : Type 0} (g : Group G) (front new : List G) (x double : G) (count i : ℕ) (whole : List G) → i + 1 ≤ count → new ≡ front ++ x ∷ [] → double ≡ g.plus x x
+step : {G : Type 0} (g : Group G) (front new : List G) (x double : G) (count i : ℕ) (whole : List G) → i + 1 ≤ count
+    → new ≡ front ++ x ∷ [] → double ≡ g.plus x x
     → front ++ doublings g (count - i) x ≡ whole → new ++ doublings g (count - (i + 1)) double ≡ whole
 unfolding doublings
 step {G} g front new x double count i whole more put doubled so_far =
@@ -16,7 +17,8 @@ step {G} g front new x double count i whole more put doubled so_far =
     ∙ ap (λ (n : ℕ). front ++ doublings g n x) (sym one)
     ∙ so_far
 
-all : {G : Type 0} (g : Group G) (front : List G) (x : G) (count i : ℕ) (whole : List G) → count ≤ i → front ++ doublings g (count - i) x ≡ whole → front ≡ whole
+all : {G : Type 0} (g : Group G) (front : List G) (x : G) (count i : ℕ) (whole : List G) → count ≤ i
+    → front ++ doublings g (count - i) x ≡ whole → front ≡ whole
 unfolding doublings
 all {G} g front x count i whole done so_far =
     let none : count - i ≡ 0 = omega arith in
@@ -24,7 +26,8 @@ all {G} g front x count i whole done so_far =
 
 pub loop-preserved : goal.loop-preserved
 loop-preserved g c =
-    step g.C.CurveGroup.group c.loop.list.items c.push.new.self.items c.loop.power c.double-power.result c.args.count c.loop.counter _ (omega arith) c.in_ok-push.ensures.items c.double-power.ensures c.loop.invariant
+    step g.C.CurveGroup.group c.loop.list.items c.push.new.self.items c.loop.power c.double-power.result c.args.count
+    c.loop.counter _ (omega arith) c.in_ok-push.ensures.items c.double-power.ensures c.loop.invariant
 
 pub returns-clause-made : goal.returns-clause-made
 returns-clause-made g c =

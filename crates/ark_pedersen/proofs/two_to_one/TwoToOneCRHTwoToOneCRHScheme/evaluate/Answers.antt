@@ -10,5 +10,7 @@ returns-clause-windows g c elements are =
     let lists = generators_in c.args.parameters.now in
     let left = c.args.left.now.items in
     let right = c.args.right.now.items in
-    let exact : c.hash_halves.result ≡ of_halves windows (pedersen_hash group windows lists) left right = search rules in
-    exact ∙ (λ i. of_halves windows (λ (input : List ℕ). pedersen_hash-windows group windows elements lists input g.met.C.CurveGroup.laws are i) left right)
+    let exact : c.hash_halves.result ≡ of_halves windows (pedersen_hash group windows lists) left right =
+    search rules in
+    exact ∙ (λ i. of_halves windows (λ (input : List ℕ). pedersen_hash-windows group windows elements lists input
+    g.met.C.CurveGroup.laws are i) left right)

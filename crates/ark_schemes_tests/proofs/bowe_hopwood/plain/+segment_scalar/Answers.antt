@@ -23,7 +23,9 @@ within : (chunks : List Chunk) → length chunks ≤ 15 → IsWithin 30744573456
 unfolding greatest_scalar
 within chunks few = scalar-within chunks 15 few
 
-parts : (chunks behind : List Chunk) (d rest : ℤ) → nat_eq (length chunks) 0 ≡ false → length chunks ≤ 15 → behind ≡ drop 1 chunks → SFits w64 d → SFits w64 rest → d ≡ digit (get_or chunks 0 (false, false, false)) → rest ≡ segment_scalar behind
+parts : (chunks behind : List Chunk) (d rest : ℤ) → nat_eq (length chunks) 0 ≡ false → length chunks ≤ 15 → behind
+    ≡ drop 1 chunks → SFits w64 d → SFits w64 rest → d ≡ digit (get_or chunks 0 (false, false, false)) → rest
+    ≡ segment_scalar behind
     → AreParts (segment_scalar chunks) d rest
 unfolding segment_scalar
 parts [] behind d rest some few is first others is_first is_rest = absurd (omega (arith, eqb-false 0 0 some))
@@ -38,10 +40,12 @@ parts (chunk ∷ chunks) behind d rest some few is first others is_first is_rest
 product-fits : (whole d rest : ℤ) → AreParts whole d rest → SFits w64 (pos 16 *ℤ to_z w64 (of_z w64 rest))
 product-fits whole d rest are = omega (arith, ints)
 
-sum-fits : (whole d rest : ℤ) → AreParts whole d rest → SFits w64 (to_z w64 (of_z w64 d) +ℤ to_z w64 (of_z w64 (pos 16 *ℤ to_z w64 (of_z w64 rest))))
+sum-fits : (whole d rest : ℤ) → AreParts whole d rest → SFits w64 (to_z w64 (of_z w64 d) +ℤ to_z w64
+    (of_z w64 (pos 16 *ℤ to_z w64 (of_z w64 rest))))
 sum-fits whole d rest are = omega (arith, ints)
 
-sum-is : (whole d rest : ℤ) → AreParts whole d rest → to_z w64 (of_z w64 (to_z w64 (of_z w64 d) +ℤ to_z w64 (of_z w64 (pos 16 *ℤ to_z w64 (of_z w64 rest))))) ≡ whole
+sum-is : (whole d rest : ℤ) → AreParts whole d rest
+    → to_z w64 (of_z w64 (to_z w64 (of_z w64 d) +ℤ to_z w64 (of_z w64 (pos 16 *ℤ to_z w64 (of_z w64 rest))))) ≡ whole
 sum-is whole d rest are = omega (arith, ints)
 
 pub returns-then-is_empty : goal.returns-then-is_empty
@@ -49,12 +53,18 @@ returns-then-is_empty t c = none c.args.chunks.now (eqb-true _ 0 (sym c.is_empty
 
 pub overflow_mul-result : goal.overflow_mul-result
 overflow_mul-result t c =
-    product-fits _ _ _ (parts c.args.chunks.now c.behind.result.now c.digit.result c.segment_scalar.result (sym c.is_empty.ensures ∙ c.if-is_empty.false) c.requires c.behind.ensures (search rules) (search rules) c.digit.ensures c.segment_scalar.ensures)
+    product-fits _ _ _ (parts c.args.chunks.now c.behind.result.now c.digit.result c.segment_scalar.result
+    (sym c.is_empty.ensures ∙ c.if-is_empty.false) c.requires c.behind.ensures (search rules) (search rules)
+    c.digit.ensures c.segment_scalar.ensures)
 
 pub overflow_add-result : goal.overflow_add-result
 overflow_add-result t c =
-    sum-fits _ _ _ (parts c.args.chunks.now c.behind.result.now c.digit.result c.segment_scalar.result (sym c.is_empty.ensures ∙ c.if-is_empty.false) c.requires c.behind.ensures (search rules) (search rules) c.digit.ensures c.segment_scalar.ensures)
+    sum-fits _ _ _ (parts c.args.chunks.now c.behind.result.now c.digit.result c.segment_scalar.result
+    (sym c.is_empty.ensures ∙ c.if-is_empty.false) c.requires c.behind.ensures (search rules) (search rules)
+    c.digit.ensures c.segment_scalar.ensures)
 
 pub returns : goal.returns
 returns t c =
-    sum-is _ _ _ (parts c.args.chunks.now c.behind.result.now c.digit.result c.segment_scalar.result (sym c.is_empty.ensures ∙ c.if-is_empty.false) c.requires c.behind.ensures (search rules) (search rules) c.digit.ensures c.segment_scalar.ensures)
+    sum-is _ _ _ (parts c.args.chunks.now c.behind.result.now c.digit.result c.segment_scalar.result
+    (sym c.is_empty.ensures ∙ c.if-is_empty.false) c.requires c.behind.ensures (search rules) (search rules)
+    c.digit.ensures c.segment_scalar.ensures)

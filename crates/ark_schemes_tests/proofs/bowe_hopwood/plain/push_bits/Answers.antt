@@ -3,7 +3,8 @@ use Rattle.std.proofs.lemmas.List.{append-nil}
 use Rattle.ark_groups.specs.Bits.{bits_of_number}
 use Rattle.ark_schemes_tests.proofs.bowe_hopwood.plain.push_bits.Goals as goal
 
-step : (front whole : List Bool) (i rest : ℕ) → i < 8 → front ++ bits_of_number (8 - i) rest ≡ whole → (front ++ nat_eq (rest % 2) 1 ∷ []) ++ bits_of_number (8 - (i + 1)) (rest / 2) ≡ whole
+step : (front whole : List Bool) (i rest : ℕ) → i < 8 → front ++ bits_of_number (8 - i) rest ≡ whole
+    → (front ++ nat_eq (rest % 2) 1 ∷ []) ++ bits_of_number (8 - (i + 1)) (rest / 2) ≡ whole
 unfolding bits_of_number
 step front whole i rest more so_far =
     let one : 8 - i ≡ suc (8 - (i + 1)) = omega arith in
@@ -17,7 +18,8 @@ all front whole i rest done so_far =
 
 pub loop-preserved : goal.loop-preserved
 loop-preserved c =
-    rw c.in_ok-push.ensures.items (step c.loop.bits.items _ c.loop.counter c.loop.rest (omega (arith, c.loop-test.true)) c.loop.invariant)
+    rw c.in_ok-push.ensures.items (step c.loop.bits.items _ c.loop.counter c.loop.rest (omega (arith, c.loop-test.true))
+    c.loop.invariant)
 
 pub returns : goal.returns
 returns c = all _ _ c.loop.counter c.loop.rest (omega (arith, c.loop-test.false)) c.loop.invariant

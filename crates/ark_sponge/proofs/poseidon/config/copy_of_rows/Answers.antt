@@ -6,4 +6,6 @@ use Rattle.ark_sponge.proofs.poseidon.config.copy_of_rows.Goals as goal
 pub returns : goal.returns
 returns g c =
     let clones = g.met.F.Field.clones in
-    ap Ok (rows-same g.F.Valued.value (λ row. row.items) _ (λ v w alike. sym (same_from_all_zip g.F.Clone.is_clone v.items w.items alike.0 (λ x y clone. sym (clones x y clone)))) c.args.rows.now.items c.in_ok-clone.field-0.items c.in_ok-clone.ensures.cases.0)
+    ap Ok (rows-same g.F.Valued.value (λ row. row.items) _ (λ v w alike. sym (same_from_all_zip g.F.Clone.is_clone
+    v.items w.items alike.0 (λ x y clone. sym (clones x y clone)))) c.args.rows.now.items c.in_ok-clone.field-0.items
+    c.in_ok-clone.ensures.cases.0)

@@ -10,8 +10,10 @@ invariant-loop-index g l =
     let c = l.parameters in
     let permute = permutation f.MODULUS g.S.SBox.image c in
     record {
-      so_far : blocks_left f.MODULUS c.rate c.capacity permute (map g.F.Valued.value l.state) l.index (map g.F.Valued.value l.rest)
-          ≡ state_absorbing f.MODULUS c.rate c.capacity permute (map g.F.Valued.value l.fn.state) l.start (map g.F.Valued.value l.elements);
+      so_far : blocks_left f.MODULUS c.rate c.capacity permute (map g.F.Valued.value l.state) l.index
+          (map g.F.Valued.value l.rest)
+          ≡ state_absorbing f.MODULUS c.rate c.capacity permute (map g.F.Valued.value l.fn.state) l.start
+          (map g.F.Valued.value l.elements);
       within : l.index ≤ c.rate;
       state : length l.state ≡ width c;
       scratch : length l.scratch ≡ width c;

@@ -32,15 +32,30 @@ loop-given-preserved g c =
     let kept = c.loop-given.invariant in
     let rate = c.rate-rate.ensures in
     let pos : 0 < q.rate = omega (arith, rate.positive, rate.value) in
-    let turned = at_turn q.rate permute init (c.args.start + given) c.loop-given.index place (map g.F.Valued.value c.loop-given.state) (map g.F.Valued.value state) pos kept.at c.turn-place.ensures.value in
+    let turned = at_turn q.rate permute init (c.args.start + given) c.loop-given.index place
+    (map g.F.Valued.value c.loop-given.state) (map g.F.Valued.value state) pos kept.at c.turn-place.ensures.value in
     let long : length state ≡ q.rate + q.capacity = c.turn-place.auto.state ∙ kept.state in
     let room : place + count ≤ q.rate = omega (arith, c.min-count.ensures, turned.1, rate.value) in
-    let behind-is : behind ≡ drop (q.capacity + place) state = c.split_at.ensures.back ∙ ap (λ n. drop (n + place) state) c.capacity-capacity.ensures in
-    let taken : length (take count behind) ≡ count = length-take-le count behind (omega (arith, ap length behind-is, length-drop (q.capacity + place) state, long, room)) in
+    let behind-is : behind ≡ drop (q.capacity + place) state =
+    c.split_at.ensures.back ∙ ap (λ n. drop (n + place) state) c.capacity-capacity.ensures in
+    let taken : length (take count behind) ≡ count = length-take-le count behind (omega (
+      arith,
+      ap length behind-is,
+      length-drop (q.capacity + place) state,
+      long,
+      room,
+    )) in
     record {
-      at = record { turns = turned.0.turns; state = turned.0.state; count = omega (arith, turned.0.count); within = room };
-      numbers = given_block q.rate permute init g.F.Valued.value q.capacity c.args.start given count place c.loop-given.out new (take count behind) behind state turned.0 room
-          (omega (arith, long)) behind-is refl (ap (λ n. take (given + n) new) (sym taken) ∙ c.write_at.ensures.front) kept.numbers;
+      at = record {
+        turns = turned.0.turns;
+        state = turned.0.state;
+        count = omega (arith, turned.0.count);
+        within = room;
+      };
+      numbers = given_block q.rate permute init g.F.Valued.value q.capacity c.args.start given count place
+          c.loop-given.out new (take count behind) behind state turned.0 room
+          (omega (arith, long)) behind-is refl (ap (λ n. take (given + n) new) (sym taken) ∙ c.write_at.ensures.front)
+          kept.numbers;
       begun = λ some. omega (arith, c.min-count.ensures, turned.1, rate.value, c.loop-given-test.true);
       within = omega (arith, c.write_at.ensures.length, c.min-count.ensures, kept.within);
       state = long;
@@ -53,10 +68,13 @@ returns-clause-numbers g c =
     let f = g.F.Field in
     let q = c.args.parameters.now in
     let kept = c.loop-given.invariant in
-    let all : take c.loop-given.given c.loop-given.out ≡ c.loop-given.out = take_all c.loop-given.given c.loop-given.out c.loop-given-test.false in
-    let count : c.loop-given.given ≡ length c.args.out.now = omega (arith, c.loop-given-test.false, kept.within, kept.out) in
+    let all : take c.loop-given.given c.loop-given.out ≡ c.loop-given.out =
+    take_all c.loop-given.given c.loop-given.out c.loop-given-test.false in
+    let count : c.loop-given.given ≡ length c.args.out.now =
+    omega (arith, c.loop-given-test.false, kept.within, kept.out) in
     ap (map g.F.Valued.value) (sym all) ∙ kept.numbers
-    ∙ ap (numbers_from_place q.rate q.capacity (permutation f.MODULUS g.S.SBox.image q) (map g.F.Valued.value c.args.state.now) c.args.start) count
+    ∙ ap (numbers_from_place q.rate q.capacity (permutation f.MODULUS g.S.SBox.image q)
+    (map g.F.Valued.value c.args.state.now) c.args.start) count
 
 pub returns-clause-index : goal.returns-clause-index
 returns-clause-index g c =
@@ -64,8 +82,10 @@ returns-clause-index g c =
     let q = c.args.parameters.now in
     let kept = c.loop-given.invariant in
     let some : 0 < c.loop-given.given = omega (arith, c.loop-given-test.false, kept.out, c.requires.some) in
-    let whole : c.args.start + c.loop-given.given ≡ (c.args.start + (length c.args.out.now - 1)) + 1 = omega (arith, c.loop-given-test.false, kept.within, kept.out, c.requires.some) in
-    (at_end q.rate (permutation f.MODULUS g.S.SBox.image q) (map g.F.Valued.value c.args.state.now) (c.args.start + (length c.args.out.now - 1)) (c.args.start + c.loop-given.given)
+    let whole : c.args.start + c.loop-given.given ≡ (c.args.start + (length c.args.out.now - 1)) + 1 =
+    omega (arith, c.loop-given-test.false, kept.within, kept.out, c.requires.some) in
+    (at_end q.rate (permutation f.MODULUS g.S.SBox.image q) (map g.F.Valued.value c.args.state.now)
+    (c.args.start + (length c.args.out.now - 1)) (c.args.start + c.loop-given.given)
     c.loop-given.index (map g.F.Valued.value c.loop-given.state) whole kept.at (kept.begun some)).1
 
 pub returns-clause-state : goal.returns-clause-state
@@ -74,13 +94,21 @@ returns-clause-state g c =
     let q = c.args.parameters.now in
     let kept = c.loop-given.invariant in
     let some : 0 < c.loop-given.given = omega (arith, c.loop-given-test.false, kept.out, c.requires.some) in
-    let whole : c.args.start + c.loop-given.given ≡ (c.args.start + (length c.args.out.now - 1)) + 1 = omega (arith, c.loop-given-test.false, kept.within, kept.out, c.requires.some) in
-    (at_end q.rate (permutation f.MODULUS g.S.SBox.image q) (map g.F.Valued.value c.args.state.now) (c.args.start + (length c.args.out.now - 1)) (c.args.start + c.loop-given.given)
+    let whole : c.args.start + c.loop-given.given ≡ (c.args.start + (length c.args.out.now - 1)) + 1 =
+    omega (arith, c.loop-given-test.false, kept.within, kept.out, c.requires.some) in
+    (at_end q.rate (permutation f.MODULUS g.S.SBox.image q) (map g.F.Valued.value c.args.state.now)
+    (c.args.start + (length c.args.out.now - 1)) (c.args.start + c.loop-given.given)
     c.loop-given.index (map g.F.Valued.value c.loop-given.state) whole kept.at (kept.begun some)).0
 
 pub split_at-requires : goal.split_at-requires
 split_at-requires g c =
-    omega (arith, c.capacity-capacity.ensures, c.turn-place.ensures.within, c.turn-place.auto.state, c.loop-given.invariant.state)
+    omega (
+      arith,
+      c.capacity-capacity.ensures,
+      c.turn-place.ensures.within,
+      c.turn-place.auto.state,
+      c.loop-given.invariant.state,
+    )
 
 pub write_at-requires : goal.write_at-requires
 write_at-requires g c =
@@ -88,7 +116,12 @@ write_at-requires g c =
 
 pub turn-place-requires : goal.turn-place-requires
 turn-place-requires g c =
-    record { width = c.loop-given.invariant.state; scratch = c.loop-given.invariant.scratch ∙ sym c.loop-given.invariant.state; index = c.loop-given.invariant.at.within }
+    record {
+      width = c.loop-given.invariant.state;
+      scratch = c.loop-given.invariant.scratch
+          ∙ sym c.loop-given.invariant.state;
+      index = c.loop-given.invariant.at.within;
+    }
 
 pub returns-clause-within : goal.returns-clause-within
 returns-clause-within g c = c.loop-given.invariant.at.within

@@ -12,7 +12,8 @@ invariant-loop-given g l =
     let init = map g.F.Valued.value l.fn.state in
     record {
       at : IsAt c.rate permute init (l.start + l.given) (map g.F.Valued.value l.state) l.index;
-      numbers : map g.F.Valued.value (take l.given l.out) ≡ numbers_from_place c.rate c.capacity permute init l.start l.given;
+      numbers : map g.F.Valued.value (take l.given l.out) ≡ numbers_from_place c.rate c.capacity permute init
+          l.start l.given;
       begun : 0 < l.given → 0 < l.index;
       within : l.given ≤ length l.out;
       state : length l.state ≡ width c;

@@ -8,5 +8,6 @@ loop-i-init g c = sym (sums-nil _ _)
 pub loop-i-preserved : goal.loop-i-preserved
 loop-i-preserved g c =
     let f = g.F.Field in
-    constant_added g.F.Valued.value f.MODULUS c.args.state.now c.loop-i.state c.args.row.now c.loop-i.i _ _ _ (omega arith) (omega arith) (omega arith)
+    constant_added g.F.Valued.value f.MODULUS c.args.state.now c.loop-i.state c.args.row.now c.loop-i.i _ _ _
+    (omega arith) (omega arith) (omega arith)
     c.loop-i.invariant c.index-state-i.is c.index-row-i.is c.add.ensures

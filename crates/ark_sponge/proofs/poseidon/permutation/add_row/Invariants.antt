@@ -5,4 +5,5 @@ use Rattle.ark_sponge.proofs.poseidon.permutation.add_row.Given as goal
 abbrev pub invariant-loop-i : goal.invariant-loop-i
 invariant-loop-i g l =
     let f = g.F.Field in
-    map g.F.Valued.value l.state ≡ sums f.MODULUS (map g.F.Valued.value l.initial.state) (take l.i (map g.F.Valued.value l.row))
+    map g.F.Valued.value l.state ≡ sums f.MODULUS (map g.F.Valued.value l.initial.state)
+    (take l.i (map g.F.Valued.value l.row))

@@ -6,4 +6,6 @@ abbrev pub invariant-loop-row : goal.invariant-loop-row
 invariant-loop-row g l =
     let f = g.F.Field in
     map g.F.Valued.value l.state
-    ≡ poseidon_rounds f.MODULUS (g.S.SBox.image l.alpha) (map (λ row. map g.F.Valued.value row.items) l.mds) l.count (take l.row-index (map (λ row. map g.F.Valued.value row.items) l.constants)) (map g.F.Valued.value l.initial.state)
+    ≡ poseidon_rounds f.MODULUS (g.S.SBox.image l.alpha) (map (λ row. map g.F.Valued.value row.items) l.mds) l.count
+    (take l.row-index (map (λ row. map g.F.Valued.value row.items) l.constants))
+    (map g.F.Valued.value l.initial.state)

@@ -10,5 +10,7 @@ loop-i-preserved g c =
     let i = c.loop-i.i in
     let row = c.deref.result.now in
     let in_rows : i < length rows = omega arith in
-    product_written g.F.Valued.value f.MODULUS (map (λ row. map g.F.Valued.value row.items) rows) c.loop-i.product (map g.F.Valued.value c.args.state.now) (map g.F.Valued.value row) i _ (rw length-map in_rows) (omega arith)
-    c.loop-i.invariant (row_read g.F.Valued.value f.MODULUS (λ v. v.items) rows i _ row in_rows c.index-mds-i.is c.deref.ensures.value) c.sum_of_products.ensures
+    product_written g.F.Valued.value f.MODULUS (map (λ row. map g.F.Valued.value row.items) rows) c.loop-i.product
+    (map g.F.Valued.value c.args.state.now) (map g.F.Valued.value row) i _ (rw length-map in_rows) (omega arith)
+    c.loop-i.invariant (row_read g.F.Valued.value f.MODULUS (λ v. v.items) rows i _ row in_rows c.index-mds-i.is
+    c.deref.ensures.value) c.sum_of_products.ensures

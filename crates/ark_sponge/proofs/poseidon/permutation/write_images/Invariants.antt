@@ -5,4 +5,5 @@ use Rattle.ark_sponge.proofs.poseidon.permutation.write_images.Given as goal
 abbrev pub invariant-loop-i : goal.invariant-loop-i
 invariant-loop-i g l =
     let f = g.F.Field in
-    map g.F.Valued.value (take l.i l.out) ≡ take l.i (front_images (g.S.SBox.image l.alpha) l.count (sums f.MODULUS (map g.F.Valued.value l.state) (map g.F.Valued.value l.row)))
+    map g.F.Valued.value (take l.i l.out) ≡ take l.i (front_images (g.S.SBox.image l.alpha) l.count
+    (sums f.MODULUS (map g.F.Valued.value l.state) (map g.F.Valued.value l.row)))

@@ -12,4 +12,5 @@ returns-then-is_empty g c =
     let peaks = c.self.inside.peaks in
     let long : length (digests_of numbers peaks) ≡ length peaks.items = length-map peaks.items numbers in
     let none : length peaks.items ≡ 0 = grind (arith, nat_tests, c.is_empty.ensures, c.if-is_empty.true, peaks.ok.0) in
-    rw (← c.self.view_is) (λ digests own. rw (empty-root hash (numbers c.self.inside.empty) digests c.self.inside.size (digests_of numbers peaks) own (long ∙ c.self.invariant) (long ∙ none)) c.copy_of.ensures)
+    rw (← c.self.view_is) (λ digests own. rw (empty-root hash (numbers c.self.inside.empty) digests c.self.inside.size
+    (digests_of numbers peaks) own (long ∙ c.self.invariant) (long ∙ none)) c.copy_of.ensures)

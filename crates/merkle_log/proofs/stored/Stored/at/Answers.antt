@@ -6,7 +6,8 @@ use Rattle.merkle_log.proofs.stored.Stored.at.Goals as goal
 
 pub digest_at-requires-clause-below : goal.digest_at-requires-clause-below
 digest_at-requires-clause-below g c =
-    let within = place-within c.args.level c.args.place c.self.inside.size (row-inside _ _ c.args.level c.args.place c.self.view_is c.requires) in
+    let within = place-within c.args.level c.args.place c.self.inside.size (row-inside _ _ c.args.level c.args.place
+    c.self.view_is c.requires) in
     let size = size-within c.self.inside.size in
     omega (arith, c.self.invariant, c.self.inside.digests.ok.0)
 
@@ -15,13 +16,17 @@ digest_at-requires-clause-level g c = level-fits c.args.level c.args.place (dige
 
 pub digest_at-requires-clause-inside : goal.digest_at-requires-clause-inside
 digest_at-requires-clause-inside g c =
-    let within = place-within c.args.level c.args.place c.self.inside.size (row-inside _ _ c.args.level c.args.place c.self.view_is c.requires) in
+    let within = place-within c.args.level c.args.place c.self.inside.size (row-inside _ _ c.args.level c.args.place
+    c.self.view_is c.requires) in
     let place = position-within c.args.level c.args.place c.self.inside.size within in
     omega (arith, c.self.invariant, ap length c.deref.ensures.value)
 
 pub returns : goal.returns
 returns g c =
     let numbers = g.D.Numbered.numbers in
-    let below : c.args.place < index_up c.args.level c.self.inside.size = row-inside _ _ c.args.level c.args.place c.self.view_is c.requires in
-    rw (← c.self.view_is) (c.digest_at.ensures ∙ ap (λ l. get_or (map numbers l) (position c.args.level c.args.place) []) c.deref.ensures.value
-    ∙ sym (row_of-at (record { size = c.self.inside.size; digests = map numbers c.self.inside.digests.items }) c.args.level c.args.place below))
+    let below : c.args.place < index_up c.args.level c.self.inside.size =
+    row-inside _ _ c.args.level c.args.place c.self.view_is c.requires in
+    rw (← c.self.view_is) (c.digest_at.ensures ∙ ap (λ l. get_or (map numbers l) (position c.args.level c.args.place)
+    []) c.deref.ensures.value
+    ∙ sym (row_of-at (record { size = c.self.inside.size; digests = map numbers c.self.inside.digests.items })
+    c.args.level c.args.place below))

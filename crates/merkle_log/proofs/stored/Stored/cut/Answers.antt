@@ -13,13 +13,16 @@ overflow_add-count g c =
 pub invariant_of-self : goal.invariant_of-self
 invariant_of-self g c =
     let less = count-rises c.args.size c.self.inside.size (rw (← c.self.view_is) at c.requires) in
-    ap length c.truncate.ensures.items ∙ length-take-le (stored_count c.args.size) c.self.inside.digests.items (omega (arith, c.self.invariant))
+    ap length c.truncate.ensures.items ∙ length-take-le (stored_count c.args.size) c.self.inside.digests.items
+    (omega (arith, c.self.invariant))
 
 pub returns : goal.returns
 returns g c =
     let numbers = g.D.Numbered.numbers in
     let size = c.args.size in
-    let items : map numbers c.truncate.new.self.items ≡ take (stored_count size) (map numbers c.self.inside.digests.items) = ap (map numbers) c.truncate.ensures.items ∙ sym (take-map numbers (stored_count size) c.self.inside.digests.items) in
+    let items : map numbers c.truncate.new.self.items ≡ take (stored_count size)
+    (map numbers c.self.inside.digests.items) = ap (map numbers) c.truncate.ensures.items
+    ∙ sym (take-map numbers (stored_count size) c.self.inside.digests.items) in
     rw (← c.self.view_is) (ap (λ l. with_size size l) items)
   where
     with_size : ℕ → List Digest → StoredValue

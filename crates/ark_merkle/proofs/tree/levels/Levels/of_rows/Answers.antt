@@ -11,7 +11,9 @@ put_in_order-requires g c =
     }
 
 pub invariant_of-result : goal.invariant_of-result
-invariant_of-result g c = of_rows-whole c.args.count c.args.digests c.deref_mut.result.now c.put_in_order.new.digests c.deref_mut.ensures.value c.put_in_order.ensures c.args.digests.ok.0 c.requires
+invariant_of-result g c = of_rows-whole c.args.count c.args.digests c.deref_mut.result.now c.put_in_order.new.digests
+    c.deref_mut.ensures.value c.put_in_order.ensures c.args.digests.ok.0 c.requires
 
 pub returns : goal.returns
-returns g c = of_rows-seen g.D.Numbered.numbers c.args.count c.args.digests c.deref_mut.result.now c.put_in_order.new.digests c.deref_mut.ensures.value c.put_in_order.ensures c.args.digests.ok.0 c.requires
+returns g c = of_rows-seen g.D.Numbered.numbers c.args.count c.args.digests c.deref_mut.result.now
+    c.put_in_order.new.digests c.deref_mut.ensures.value c.put_in_order.ensures c.args.digests.ok.0 c.requires

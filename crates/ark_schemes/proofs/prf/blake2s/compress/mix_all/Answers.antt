@@ -7,5 +7,14 @@ pub returns : goal.returns
 unfolding round
 returns c =
     let size : length c.args.v ≡ 16 = search rules in
-    rw (c.mix-8.ensures, c.mix-7.ensures, c.mix-6.ensures, c.mix-5.ensures, c.mix-4.ensures, c.mix-3.ensures, c.mix-2.ensures, c.mix.ensures) refl
+    rw (
+      c.mix-8.ensures,
+      c.mix-7.ensures,
+      c.mix-6.ensures,
+      c.mix-5.ensures,
+      c.mix-4.ensures,
+      c.mix-3.ensures,
+      c.mix-2.ensures,
+      c.mix.ensures,
+    ) refl
     ∙ ap (λ (v : List ℕ). round v c.args.s) (vector_words c.args.v size)

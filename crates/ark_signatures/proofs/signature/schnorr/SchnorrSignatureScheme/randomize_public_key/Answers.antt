@@ -8,4 +8,6 @@ returns g c =
     let group = g.C.CurveGroup.group in
     ap (λ (y : g.row.C.Denot). let o : Outcome g.row.C.Denot = Ok y in o)
     (c.add.ensures ∙ ap (group.plus c.args.public_key.now)
-    (c.mul.ensures ∙ times-multiplier g.met.C.CurveGroup.laws g.C.ScalarField.PrimeField.MODULUS (omega (arith, g.C.ScalarField.PrimeField.modulus_laws.at_least_two)) c.args.pp.now.generator (g.met.C.CurveGroup.order c.args.pp.now.generator) _ _ c.multiplier-m.ensures))
+    (c.mul.ensures ∙ times-multiplier g.met.C.CurveGroup.laws g.C.ScalarField.PrimeField.MODULUS
+    (omega (arith, g.C.ScalarField.PrimeField.modulus_laws.at_least_two)) c.args.pp.now.generator
+    (g.met.C.CurveGroup.order c.args.pp.now.generator) _ _ c.multiplier-m.ensures))

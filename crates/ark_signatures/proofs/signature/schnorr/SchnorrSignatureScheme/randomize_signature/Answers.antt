@@ -10,7 +10,8 @@ returns-clause-exact g c =
     let e = g.C.ScalarField.Valued.value c.args.signature.now.verifier_challenge in
     ap (λ new. (new, e))
     (c.sub.ensures ∙ ap (λ n. (s + (field.MODULUS - n)) % field.MODULUS) c.mul.ensures
-    ∙ response-multiplier field.MODULUS (multiplier c.args.randomness.now) (g.C.ScalarField.Valued.value c.multiplier-m.result) s e c.multiplier-m.ensures)
+    ∙ response-multiplier field.MODULUS (multiplier c.args.randomness.now) (g.C.ScalarField.Valued.value
+    c.multiplier-m.result) s e c.multiplier-m.ensures)
 
 pub returns-clause-alike : goal.returns-clause-alike
 returns-clause-alike g c challenge key =
@@ -18,7 +19,9 @@ returns-clause-alike g c challenge key =
     let s = g.C.ScalarField.Valued.value c.args.signature.now.prover_response in
     let e = g.C.ScalarField.Valued.value c.args.signature.now.verifier_challenge in
     let group = g.met.C.CurveGroup in
-    verified-randomised group.laws field.MODULUS (omega (arith, g.C.ScalarField.PrimeField.modulus_laws.at_least_two)) c.args.pp.now.generator (group.order c.args.pp.now.generator)
+    verified-randomised group.laws field.MODULUS (omega (arith, g.C.ScalarField.PrimeField.modulus_laws.at_least_two))
+    c.args.pp.now.generator (group.order c.args.pp.now.generator)
     challenge key (multiplier c.args.randomness.now) e s (g.C.ScalarField.Valued.value c.sub.result)
     (c.sub.ensures ∙ ap (λ n. (s + (field.MODULUS - n)) % field.MODULUS) c.mul.ensures
-    ∙ response-multiplier field.MODULUS (multiplier c.args.randomness.now) (g.C.ScalarField.Valued.value c.multiplier-m.result) s e c.multiplier-m.ensures)
+    ∙ response-multiplier field.MODULUS (multiplier c.args.randomness.now) (g.C.ScalarField.Valued.value
+    c.multiplier-m.result) s e c.multiplier-m.ensures)

@@ -13,10 +13,13 @@ returns-clause-valid g c =
     let pp = c.args.pp.now in
     let challenge : g.row.C.Denot → Outcome (Option ℕ) = λ point.
     challenge_of field.MODULUS field.MODULUS_BIT_SIZE
-    (g.D.ByteDigest.meaning (challenge_text pp.salt (g.C.Canonical.spelling (g.C.Canonical.view point)) c.args.message.now)) in
+    (g.D.ByteDigest.meaning (challenge_text pp.salt (g.C.Canonical.spelling (g.C.Canonical.view point))
+    c.args.message.now)) in
     let k = g.C.ScalarField.Valued.value c.in_ok-k.k in
     let e = g.C.ScalarField.Valued.value c.in_ok-k.e in
-    IsValid-signed group.laws field.MODULUS (omega (arith, g.C.ScalarField.PrimeField.modulus_laws.at_least_two)) pp.generator (group.order pp.generator)
+    IsValid-signed group.laws field.MODULUS (omega (arith, g.C.ScalarField.PrimeField.modulus_laws.at_least_two))
+    pp.generator (group.order pp.generator)
     challenge k (g.C.ScalarField.Valued.value c.args.sk.now.0) e (g.C.ScalarField.Valued.value c.sub.result)
     (c.sub.ensures ∙ ap (λ n. (k + (field.MODULUS - n)) % field.MODULUS) c.mul.ensures)
-    (first_nonce-has g.C.ScalarField.UniformRand.draw g.C.ScalarField.Valued.value (λ n. challenge (times g.C.CurveGroup.group n pp.generator)) 128 _ k e _ c.in_ok-k.ensures)
+    (first_nonce-has g.C.ScalarField.UniformRand.draw g.C.ScalarField.Valued.value
+    (λ n. challenge (times g.C.CurveGroup.group n pp.generator)) 128 _ k e _ c.in_ok-k.ensures)

@@ -5,7 +5,8 @@ use Rattle.ark_signatures.proofs.signature.schnorr.bits.bytes_to_bits.Goals as g
 
 pub loop-place-preserved : goal.loop-place-preserved
 loop-place-preserved c =
-    highest-step c.loop-place.bits.items c.push.new.self.items _ c.loop-place.place (get_or c.args.bytes.now c.loop-byte.byte-index 0) (omega arith) c.in_ok-push.ensures.items c.loop-place.invariant
+    highest-step c.loop-place.bits.items c.push.new.self.items _ c.loop-place.place (get_or c.args.bytes.now
+    c.loop-byte.byte-index 0) (omega arith) c.in_ok-push.ensures.items c.loop-place.invariant
 
 pub loop-byte-preserved : goal.loop-byte-preserved
 loop-byte-preserved c =

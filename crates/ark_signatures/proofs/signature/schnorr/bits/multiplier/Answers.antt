@@ -6,7 +6,11 @@ use Rattle.ark_signatures.proofs.signature.schnorr.bits.multiplier.Goals as goal
 
 pub loop-rest-init : goal.loop-rest-init
 loop-rest-init g c =
-    record { number = c.zero-number.ensures ∙ multiplier-none c.args.bytes.now g.F.PrimeField.MODULUS; within = omega arith }
+    record {
+      number = c.zero-number.ensures ∙ multiplier-none c.args.bytes.now g.F.PrimeField.MODULUS;
+      within =
+          omega arith;
+    }
 
 pub loop-rest-preserved : goal.loop-rest-preserved
 loop-rest-preserved g c =
@@ -21,7 +25,8 @@ loop-rest-preserved g c =
     let sum = c.add-number.ensures ∙ ap (λ n. (value c.mul-number.result + n) % p) turned in
     record {
       number =
-          multiplier-mod p byte (value c.loop-rest.number) (value c.mul-number.result) (value c.add-number.result) (value c.from_u64.result) (drop i bytes)
+          multiplier-mod p byte (value c.loop-rest.number) (value c.mul-number.result) (value c.add-number.result)
+          (value c.from_u64.result) (drop i bytes)
           c.loop-rest.invariant.number c.from_u64.ensures c.mul-number.ensures sum
           ∙ sym (ap (λ t. multiplier t % p) (drop-before bytes i some c.loop-rest.invariant.within));
       within = omega (arith, c.loop-rest.invariant.within);

@@ -5,7 +5,8 @@ use Rattle.ark_sponge.specs.Permutation.{width}
 use Rattle.ark_sponge.proofs.Rows.{permutation-parts}
 use Rattle.ark_sponge.proofs.poseidon.config.PoseidonConfig.permute.Goals as goal
 
-module _ {R : Type 0} (len : R → ℕ) (xs ys : List R) (n w : ℕ) (same : xs ≡ ys) (count : n ≡ w) (all : All (λ r. len r ≡ w) ys) where
+module _ {R : Type 0} (len : R → ℕ) (xs ys : List R) (n w : ℕ) (same : xs ≡ ys) (count : n ≡ w)
+    (all : All (λ r. len r ≡ w) ys) where
   fits : All (λ r. len r ≡ n) xs
   fits = rw (same, count) all
 
@@ -19,8 +20,10 @@ pub returns : goal.returns
 returns g c =
     let f = g.F.Field in
     let i = c.self.inside in
-    rw (← c.self.view_is) (permutation-parts (λ row. map g.F.Valued.value row.items) f.MODULUS g.S.SBox.image i.full_rounds i.partial_rounds i.alpha i.mds.items i.ark.items _ _ i.rate i.capacity _ _ _ _
-    c.as_slice-mds.ensures.value c.as_slice-ark.ensures.value c.apply_rounds.ensures c.apply_rounds-2.ensures c.apply_rounds-3.ensures)
+    rw (← c.self.view_is) (permutation-parts (λ row. map g.F.Valued.value row.items) f.MODULUS g.S.SBox.image
+    i.full_rounds i.partial_rounds i.alpha i.mds.items i.ark.items _ _ i.rate i.capacity _ _ _ _
+    c.as_slice-mds.ensures.value c.as_slice-ark.ensures.value c.apply_rounds.ensures c.apply_rounds-2.ensures
+    c.apply_rounds-3.ensures)
 
 pub apply_rounds-requires : goal.apply_rounds-requires
 apply_rounds-requires g c =
@@ -37,7 +40,8 @@ apply_rounds-requires g c =
 pub apply_rounds-requires-2 : goal.apply_rounds-requires-2
 apply_rounds-requires-2 g c =
     let i = c.self.inside in
-    let wide : length c.apply_rounds.new.state ≡ i.rate + i.capacity = c.apply_rounds.auto.state ∙ c.requires.width ∙ ap width (sym c.self.view_is) in
+    let wide : length c.apply_rounds.new.state ≡ i.rate + i.capacity =
+    c.apply_rounds.auto.state ∙ c.requires.width ∙ ap width (sym c.self.view_is) in
     record {
       columns = fits vec_len _ _ _ _ c.as_slice-mds.ensures.value wide c.self.invariant.4;
       constants = fits-run vec_len _ _ _ _ c.as_slice-ark.ensures.value wide c.self.invariant.6 _ _;
@@ -50,7 +54,8 @@ pub apply_rounds-requires-3 : goal.apply_rounds-requires-3
 apply_rounds-requires-3 g c =
     let i = c.self.inside in
     let state = c.apply_rounds-2.auto.state ∙ c.apply_rounds.auto.state in
-    let wide : length c.apply_rounds-2.new.state ≡ i.rate + i.capacity = state ∙ c.requires.width ∙ ap width (sym c.self.view_is) in
+    let wide : length c.apply_rounds-2.new.state ≡ i.rate + i.capacity =
+    state ∙ c.requires.width ∙ ap width (sym c.self.view_is) in
     record {
       columns = fits vec_len _ _ _ _ c.as_slice-mds.ensures.value wide c.self.invariant.4;
       constants = fits-run vec_len _ _ _ _ c.as_slice-ark.ensures.value wide c.self.invariant.6 _ _;

@@ -17,8 +17,14 @@ returns-then-not-is_empty-clause-cut g c =
     let p_pos : 0 < f.MODULUS = omega (arith, f.modulus_laws.at_least_two) in
     let pi = permutation f.MODULUS g.S.SBox.image q in
     rw (← c.self.view_is)
-    (after_absorbing-cut f.MODULUS g.S.SBox.image (record { parameters = q; state = map g.F.Valued.value i.state.items; mode = i.mode }) pos p_pos r.rows
-    (numbers-state g.F.Valued.value f.MODULUS q.rate q.capacity pi pos p_pos i.state.items laws.laws.below (omega (arith, i.state.ok.0, c.self.invariant.0))) (within_start q.rate i.mode c.self.invariant.2) (map g.F.Valued.value c.args.elements.now))
+    (after_absorbing-cut f.MODULUS g.S.SBox.image (record {
+      parameters = q;
+      state = map g.F.Valued.value i.state.items;
+      mode = i.mode;
+    }) pos p_pos r.rows
+    (numbers-state g.F.Valued.value f.MODULUS q.rate q.capacity pi pos p_pos i.state.items laws.laws.below
+    (omega (arith, i.state.ok.0, c.self.invariant.0))) (within_start q.rate i.mode c.self.invariant.2)
+    (map g.F.Valued.value c.args.elements.now))
 
 pub absorb_blocks-index-requires-clause-width : goal.absorb_blocks-index-requires-clause-width
 absorb_blocks-index-requires-clause-width g c = omega (arith, c.deref_mut.ensures.len, c.self.invariant.0)
@@ -36,10 +42,12 @@ invariant_of-self g c = (c.self.invariant.0, c.self.invariant.1, c.absorb_blocks
 
 pub returns-else-not-is_empty-clause-sponge : goal.returns-else-not-is_empty-clause-sponge
 returns-else-not-is_empty-clause-sponge g c =
-    let none : c.args.elements.now ≡ [] = nil_from_length c.args.elements.now (eqb-true (length c.args.elements.now) 0 (sym c.if-not-is_empty.ensures)) in
+    let none : c.args.elements.now ≡ [] = nil_from_length c.args.elements.now (eqb-true (length c.args.elements.now) 0
+    (sym c.if-not-is_empty.ensures)) in
     rw none refl
 
 pub returns-else-not-is_empty-clause-cut : goal.returns-else-not-is_empty-clause-cut
 returns-else-not-is_empty-clause-cut g c = λ more.
-    let none : c.args.elements.now ≡ [] = nil_from_length c.args.elements.now (eqb-true (length c.args.elements.now) 0 (sym c.if-not-is_empty.ensures)) in
+    let none : c.args.elements.now ≡ [] = nil_from_length c.args.elements.now (eqb-true (length c.args.elements.now) 0
+    (sym c.if-not-is_empty.ensures)) in
     rw none refl

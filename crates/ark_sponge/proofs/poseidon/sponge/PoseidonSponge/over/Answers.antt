@@ -12,4 +12,5 @@ returns g c =
     let items = c.in_ok-state.ensures.items_if_clones_equal (λ y k. sym (g.met.F.Field.clones _ _ k)) in
     let make : List ℕ → Outcome Sponge = λ t. Ok (record { parameters = q; state = t; mode = Absorbing 0 }) in
     let width : c.rate.result + c.capacity.result ≡ q.rate + q.capacity = omega arith in
-    sym (ap make (ap (map f) items ∙ all_zero f (c.rate.result + c.capacity.result) c.zero.result c.zero.ensures ∙ ap (λ n. replicate n 0) width))
+    sym (ap make (ap (map f) items ∙ all_zero f (c.rate.result + c.capacity.result) c.zero.result c.zero.ensures
+    ∙ ap (λ n. replicate n 0) width))

@@ -10,6 +10,9 @@ generators elements lists = record { randomness = elements; windows = lists }
 pub returns : goal.returns
 returns g c =
     let clones = g.met.C.CurveGroup.clones in
-    let elements = same_from_all_zip g.C.Clone.is_clone _ _ c.in_ok-clone.ensures.cases.0 (λ x y clone. sym (clones x y clone)) in
-    let lists = map-seen (λ list. list.items) _ (λ v w alike. sym (same_from_all_zip g.C.Clone.is_clone v.items w.items alike.0 (λ x y clone. sym (clones x y clone)))) c.args.self.now.generators.items c.in_ok-clone-2.field-0.items c.in_ok-clone-2.ensures.cases.0 in
+    let elements = same_from_all_zip g.C.Clone.is_clone _ _ c.in_ok-clone.ensures.cases.0
+    (λ x y clone. sym (clones x y clone)) in
+    let lists = map-seen (λ list. list.items) _ (λ v w alike. sym (same_from_all_zip g.C.Clone.is_clone v.items w.items
+    alike.0 (λ x y clone. sym (clones x y clone)))) c.args.self.now.generators.items c.in_ok-clone-2.field-0.items
+    c.in_ok-clone-2.ensures.cases.0 in
     ap Ok (λ i. generators (sym elements i) (lists i))

@@ -12,7 +12,8 @@ returns-in_err-fields g c =
     let result = c.from_residual.result in
     record {
       answer = passed_on _ _ result c.in_err-fields.field-0.0 c.from_residual.ensures.1 c.in_err-fields.ensures.answer
-          (parameters_fault f.MODULUS f.MODULUS_BIT_SIZE canonical.view canonical.reads g.F.Valued.value g.met.F.Field.reads_numbers c.args.bytes.now c.in_err-fields.field-0.0);
+          (parameters_fault f.MODULUS f.MODULUS_BIT_SIZE canonical.view canonical.reads g.F.Valued.value
+          g.met.F.Field.reads_numbers c.args.bytes.now c.in_err-fields.field-0.0);
       within = IfOk-from_err result _ c.from_residual.ensures.0;
     }
 
@@ -22,11 +23,14 @@ returns-in-Ok g c =
     let canonical = g.F.Canonical in
     let is = g.met.F.Field.reads_numbers in
     let x = c.in_ok-fields.fields in
-    let ark = rows_numbers f.MODULUS f.MODULUS_BIT_SIZE canonical.view canonical.reads g.F.Valued.value is (λ row. row.items) x.1.1.1.0.items in
-    let mds = rows_numbers f.MODULUS f.MODULUS_BIT_SIZE canonical.view canonical.reads g.F.Valued.value is (λ row. row.items) x.1.1.1.1.0.items in
+    let ark = rows_numbers f.MODULUS f.MODULUS_BIT_SIZE canonical.view canonical.reads g.F.Valued.value is
+    (λ row. row.items) x.1.1.1.0.items in
+    let mds = rows_numbers f.MODULUS f.MODULUS_BIT_SIZE canonical.view canonical.reads g.F.Valued.value is
+    (λ row. row.items) x.1.1.1.1.0.items in
     let read = c.in_ok-fields.ensures in
     record {
-      answer = ap reading_outcome (parameters_read f.MODULUS f.MODULUS_BIT_SIZE canonical.view canonical.reads g.F.Valued.value is c.args.bytes.now _ _ c.in-Ok.parameters read.answer
+      answer = ap reading_outcome (parameters_read f.MODULUS f.MODULUS_BIT_SIZE canonical.view canonical.reads
+          g.F.Valued.value is c.args.bytes.now _ _ c.in-Ok.parameters read.answer
           (rw (ark, mds) (sym c.new.ensures ∙ c.in-Ok.is)));
       within = read.within;
     }
@@ -37,11 +41,14 @@ returns-in-Err g c =
     let canonical = g.F.Canonical in
     let is = g.met.F.Field.reads_numbers in
     let x = c.in_ok-fields.fields in
-    let ark = rows_numbers f.MODULUS f.MODULUS_BIT_SIZE canonical.view canonical.reads g.F.Valued.value is (λ row. row.items) x.1.1.1.0.items in
-    let mds = rows_numbers f.MODULUS f.MODULUS_BIT_SIZE canonical.view canonical.reads g.F.Valued.value is (λ row. row.items) x.1.1.1.1.0.items in
+    let ark = rows_numbers f.MODULUS f.MODULUS_BIT_SIZE canonical.view canonical.reads g.F.Valued.value is
+    (λ row. row.items) x.1.1.1.0.items in
+    let mds = rows_numbers f.MODULUS f.MODULUS_BIT_SIZE canonical.view canonical.reads g.F.Valued.value is
+    (λ row. row.items) x.1.1.1.1.0.items in
     let read = c.in_ok-fields.ensures in
     record {
-      answer = inr (ap reading_outcome (parameters_unfit f.MODULUS f.MODULUS_BIT_SIZE canonical.view canonical.reads g.F.Valued.value is c.args.bytes.now _ _ c.in-Err.field-0 read.answer
+      answer = inr (ap reading_outcome (parameters_unfit f.MODULUS f.MODULUS_BIT_SIZE canonical.view canonical.reads
+          g.F.Valued.value is c.args.bytes.now _ _ c.in-Err.field-0 read.answer
           (rw (ark, mds) (sym c.new.ensures ∙ c.in-Err.is))));
       within = tt;
     }

@@ -19,7 +19,8 @@ within_by_index rate (Squeezing i) h = h
 copied : (g : _) (c : goal.In_ok-duplicate g) → c.args.parameters.now ≡ c.in_ok-duplicate.field-0
 copied g c = done_injective c.args.parameters.now c.in_ok-duplicate.field-0 c.in_ok-duplicate.ensures
 
-long : (g : _) (c : goal.In_ok-duplicate g) → vec_len c.state.inside.state ≡ c.args.parameters.now.rate + c.args.parameters.now.capacity
+long : (g : _) (c : goal.In_ok-duplicate g) → vec_len c.state.inside.state ≡ c.args.parameters.now.rate
+    + c.args.parameters.now.capacity
 long g c = omega (arith, c.len.ensures, c.if-len-width.false, c.rate.ensures.value, c.capacity.ensures)
 
 below : (g : _) (c : goal.In_ok-duplicate g) → mode_index c.state.inside.mode ≤ c.args.parameters.now.rate
@@ -27,15 +28,27 @@ below g c = omega (arith, c.mode_index.ensures, c.if-mode_index-rate.false, c.ra
 
 pub invariant_of-result : goal.invariant_of-result
 invariant_of-result g c =
-    rw (← copied g c) (long g c, omega (arith, c.in_ok-scratch.ensures.len, c.rate.ensures.value, c.capacity.ensures, long g c), within_by_index _ _ (below g c))
+    rw (← copied g c) (
+      long g c,
+      omega (
+        arith,
+        c.in_ok-scratch.ensures.len,
+        c.rate.ensures.value,
+        c.capacity.ensures,
+        long g c,
+      ),
+      within_by_index _ _ (below g c),
+    )
 
 pub returns : goal.returns
 returns g c =
     let f = g.F.Valued.value in
     let i = c.state.inside in
     let q = c.args.parameters.now in
-    let count : length (map f i.state.items) ≡ q.rate + q.capacity = omega (arith, length-map i.state.items f, i.state.ok.0, long g c) in
-    let over : Parameters → Outcome Sponge = λ p. Ok (record { parameters = p; state = map f i.state.items; mode = i.mode }) in
+    let count : length (map f i.state.items) ≡ q.rate + q.capacity =
+    omega (arith, length-map i.state.items f, i.state.ok.0, long g c) in
+    let over : Parameters → Outcome Sponge =
+    λ p. Ok (record { parameters = p; state = map f i.state.items; mode = i.mode }) in
     rw (← c.state.view_is, eq-eqb _ _ count, le-ltb _ _ (below g c)) (ap over (copied g c))
 
 pub returns-then-len-width : goal.returns-then-len-width
@@ -43,13 +56,17 @@ returns-then-len-width g c =
     let f = g.F.Valued.value in
     let i = c.state.inside in
     let q = c.args.parameters.now in
-    let len : length (map f i.state.items) ≡ c.len.result = omega (arith, length-map i.state.items f, i.state.ok.0, c.len.ensures) in
+    let len : length (map f i.state.items) ≡ c.len.result =
+    omega (arith, length-map i.state.items f, i.state.ok.0, c.len.ensures) in
     elim c.then-len-width.branch [
       | then-len-width-via-then-len-width w ↦
-          let other : length (map f i.state.items) ≢ q.rate + q.capacity = omega (arith, len, w.if-len-width.true, c.rate.ensures.value, c.capacity.ensures) in
+          let other : length (map f i.state.items) ≢ q.rate + q.capacity =
+          omega (arith, len, w.if-len-width.true, c.rate.ensures.value, c.capacity.ensures) in
           inr (rw (← c.state.view_is, ne_eqb _ _ other) refl)
       | then-len-width-via-else-len-width+then-mode_index-rate w ↦
-          let count : length (map f i.state.items) ≡ q.rate + q.capacity = omega (arith, len, w.if-len-width.false, c.rate.ensures.value, c.capacity.ensures) in
-          let past : q.rate < mode_index i.mode = omega (arith, w.mode_index.ensures, w.if-mode_index-rate.true, w.rate-else-len-width.ensures.value) in
+          let count : length (map f i.state.items) ≡ q.rate + q.capacity =
+          omega (arith, len, w.if-len-width.false, c.rate.ensures.value, c.capacity.ensures) in
+          let past : q.rate < mode_index i.mode =
+          omega (arith, w.mode_index.ensures, w.if-mode_index-rate.true, w.rate-else-len-width.ensures.value) in
           inr (rw (← c.state.view_is, eq-eqb _ _ count, lt-ltb _ _ past) refl)
     ]
