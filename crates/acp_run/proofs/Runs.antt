@@ -126,8 +126,7 @@ one_more input done rest line others is next =
 
 module _ {T : Type 0} (step : T → List ℕ → T → List ℕ → Type 0) (start : T) where
   -- A session that began with r0 to read and w0 written has come to this state, with r to read and w written: some
-  -- lines are
-  -- done and the replies to them told, and the rest of the bytes is to come.
+  -- lines are done and the replies to them told, and the rest of the bytes is to come.
   abbrev pub Going : (r0 w0 : Option (List ℕ)) → T → (r w : Option (List ℕ)) → Type 0
   Going r0 w0 state r w = IfSome r0 (λ input. (told : List (List ℕ)) × (done : List (List ℕ)) × (rest : List ℕ)
       × (r ≡ Some rest)

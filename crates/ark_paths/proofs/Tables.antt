@@ -208,7 +208,8 @@ module _ {X : Type 0} (numbers : X → Digest) where
     AllMade-kept xs us ys vs entries after place pair y number before digests own hashed is last kept updates = record {
       kept = kept;
       all = λ q entry at.
-          elim (cond_cases (is_at (place_cmp place) q) new entry (get place_cmp entries.all q) (sym (updates.0 q) ∙ at)) [
+          elim
+          (cond_cases (is_at (place_cmp place) q) new entry (get place_cmp entries.all q) (sym (updates.0 q) ∙ at)) [
             | inl old ↦ IsMade-more xs ys us vs entry digests (y ∷ [], is) (before.all q entry old)
             | inr same ↦ subst (IsMade numbers hash us vs) same fresh
           ];

@@ -40,8 +40,7 @@ IsLeafInclusion hashes root size index leaf path = (digest : Digest) × (hashes.
 -- ---- consistency
 
 -- A path binds an old root to a new one: each list of the old size with the old root is the front of each list of the
--- new
--- size with the new root, or two pairs collide at a place that is named.
+-- new size with the new root, or two pairs collide at a place that is named.
 abbrev pub BindsFront : NodeHash → ℕ → Digest → ℕ → Digest → List Digest → Type 0
 BindsFront hash old_size old size new path = (empty : Digest) (old_digests digests : List Digest)
     → length old_digests ≡ old_size → length digests ≡ size

@@ -11,8 +11,7 @@ pub record Collide {D E : Type 0} (hash : D → D → Result D E) (pair other : 
   pub other_hash : hash other.0 other.1 ≡ Ok common
 
 -- A list's own tree has this pair below a place: the hashes of the two halves, of which the left one is whole, and its
--- place
--- stands level + 1 levels above the list.
+-- place stands level + 1 levels above the list.
 pub record IsTreePair {D E : Type 0} (hash : D → D → Result D E) (empty : Result D E) (digests : List D)
     (level place : ℕ) (pair : D × D) : Type 0 where
   pub inside : (place + place + 1) * 2 ^ level < length digests
@@ -35,17 +34,15 @@ pub record CollidesAt {D E : Type 0} (hash : D → D → Result D E) (empty : Re
 -- ---- consistency
 
 -- Where the walk of a consistency proof begins, for an old list with last index i: `start` levels up, the lowest level
--- at which
--- that index is even. There it takes the old root, where the old list is one whole tree, and else the path's first
--- digest.
+-- at which that index is even. There it takes the old root, where the old list is one whole tree, and else the path's
+-- first digest.
 pub record IsSeed {D : Type 0} (i : ℕ) (root : D) (path : List D) (start : ℕ) (seed : D) (rest : List D) : Type 0 where
   pub whole : (level : ℕ) → level < start → index_up level i % 2 ≡ 1
   pub even : index_up start i % 2 ≡ 0
   pub is : (index_up start i ≡ 0) × (seed ≡ root) × (rest ≡ path) ⊎ (0 < index_up start i) × (path ≡ seed ∷ rest)
 
 -- A walk begins `start` levels above two lists, at indexes i and s of their last digests there, with a digest of each.
--- At
--- a level its pair for the old root is another one than that of the old list's tree, and both hash alike.
+-- At a level its pair for the old root is another one than that of the old list's tree, and both hash alike.
 pub record OldCollidesAt {D E : Type 0} (hash : D → D → Result D E) (empty : Result D E) (old : List D) (start i s : ℕ)
     (ends : D × D) (path : List D) (level : ℕ) : Type 0 where
   pub reached : D × D
@@ -76,8 +73,7 @@ pub record TreesCollideAt {D E : Type 0} (hash : D → D → Result D E) (empty 
   pub collide : Collide hash old_pair new_pair
 
 -- Where two lists with last indexes i and s collide, of which a path leads from the old root to the new one: in a pair
--- of
--- the walk for the old root and one of the old list's tree, in one of the walk for the new root and one of the new
+-- of the walk for the old root and one of the old list's tree, in one of the walk for the new root and one of the new
 -- list's tree, or in one of either tree.
 pub data HistoriesCollide {D E : Type 0} (hash : D → D → Result D E) (empty : Result D E) (old new : List D) (i s : ℕ)
     (root : D) (path : List D) : Type 0 where

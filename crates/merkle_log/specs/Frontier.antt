@@ -11,8 +11,7 @@ complete_pairs join (a ∷ []) = []
 complete_pairs join (a ∷ b ∷ rest) = join a b ∷ complete_pairs join rest
 
 -- The hashes of the complete trees into which fewer than 2 ^ k values fall, the largest first: those of the joined
--- pairs,
--- and behind them the last of an odd number of values.
+-- pairs, and behind them the last of an odd number of values.
 abbrev pub frontier : {A : Type 0} → (A → A → A) → A → ℕ → List A → List A
 frontier join none zero xs = []
 frontier join none (suc k) xs =

@@ -11,8 +11,7 @@ abbrev pub stored_count : ℕ → ℕ
 stored_count size = size - count_ones size + size
 
 -- Where the digest of a place stands, some levels up: behind those that were complete before the last leaf below it,
--- and
--- those that this leaf completes on the levels below.
+-- and those that this leaf completes on the levels below.
 abbrev pub position : ℕ → ℕ → ℕ
 position level place = stored_count ((place + 1) * 2 ^ level - 1) + level
 

@@ -11,8 +11,7 @@ tree_hash join none (suc j) xs =
     else (tree_hash join none j xs)
 
 -- The hash of a place of a tree, `level` levels above the values: that of the 2 ^ level values from place * 2 ^ level
--- on,
--- or of as many as there are.
+-- on, or of as many as there are.
 abbrev pub node : {A : Type 0} → (A → A → A) → A → ℕ → ℕ → List A → A
 node join none level place xs = tree_hash join none level (take (2 ^ level) (drop (place * 2 ^ level) xs))
 

@@ -53,8 +53,7 @@ is_empty [] = true
 is_empty (digest ∷ rest) = false
 
 -- Whether a path leads from the root of an old size to that of a new one. There is no proof for the old size 0, and
--- that for
--- equal sizes is empty.
+-- that for equal sizes is empty.
 abbrev pub consistency_verdict : NodeHash → ℕ → Digest → ℕ → Digest → List Digest → Outcome Bool
 consistency_verdict hash old_size old size new path =
     if old_size == 0 || nat_lt size old_size then (Ok false)
