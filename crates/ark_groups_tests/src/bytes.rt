@@ -114,6 +114,17 @@ fn is_appended<T: CanonicalSerialize>(
     Ok(written.as_slice() == bytes)
 }
 
+// The canonical bytes of a number.
+fn bytes_of_number(alloc: Global, number: u64) -> Result<bool, Error> {
+    let bytes = to_uncompressed_bytes!(in alloc; number)?;
+    Ok(bytes.as_slice() == [2, 1, 0, 0, 0, 0, 0, 0].as_slice())
+}
+
+#[test]
+fn a_number_is_written_least_first(rt: HostRuntime) {
+    assert_eq!(rt; bytes_of_number(rt.alloc(), 258), Ok(true));
+}
+
 fn slice_has_bytes<T: CanonicalItem>(
     alloc: Global,
     items: &[T],

@@ -6,4 +6,4 @@ use Rattle.ark_base.specs.declared.error.Refusal.TheVariants.{Custom}
 
 -- the refusal, whatever the bytes
 abbrev pub refused : List ℕ → Outcome (List ℕ)
-refused bytes = Err (GenericError (Custom 7))
+refused bytes = Err (GenericError (Custom 9))

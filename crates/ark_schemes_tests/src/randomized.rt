@@ -47,6 +47,19 @@ fn signature_of<C: CurveGroup + Numeral, D: ByteDigest>(
     ))
 }
 
+// The point that a signature and a key recompute, for the generator 2.
+fn recomputed<C: CurveGroup + Numeral>(key: u64, s: u64, e: u64) -> u64 {
+    let response = C::of(2).mul(C::ScalarField::from_u64(s));
+    let challenge = C::of(key).mul(C::ScalarField::from_u64(e));
+    response.add(challenge).number()
+}
+
+#[test]
+fn both_pairs_recompute_one_point(rt: HostRuntime) {
+    assert_eq!(rt; recomputed::<Residues<M13>>(10, 4, 3), 12);
+    assert_eq!(rt; recomputed::<Residues<M13>>(6, 10, 3), 12);
+}
+
 // Modulo 13: 4 times 2 and 3 times 10, as 10 times 2 and 3 times 6, are 12.
 fn are_moved<C: CurveGroup + Numeral, D: ByteDigest>(alloc: Global) -> bool {
     key_of::<C, D>(alloc, 2, 10, &[1]) == Ok(6)

@@ -43,7 +43,7 @@ impl ByteDigest for Refuses {
     ghost meaning = { refused };
 
     fn digest(_alloc: Global, _input: &[u8]) -> Result<Vec<u8>, Error> {
-        Err(Error::GenericError(Refusal::Custom(7)))
+        Err(Error::GenericError(Refusal::Custom(9)))
     }
 
     ghost decided = { λ _ same. cc };
@@ -237,7 +237,7 @@ fn a_digest_without_scalars_is_refused(rt: HostRuntime) {
 fn a_refusal_of_the_digest_is_told(rt: HostRuntime) {
     let mut rng = ChaCha20Rng::seed_from_u64(26);
     let mut twin = ChaCha20Rng::seed_from_u64(26);
-    let custom = Error::GenericError(Refusal::Custom(7));
+    let custom = Error::GenericError(Refusal::Custom(9));
     assert!(rt;
         judges::<G61, Refuses, ChaCha20Rng>(
             rt.alloc(),
@@ -306,6 +306,25 @@ fn are_listed<C: CurveGroup>(alloc: Global, second: &SecretKey<C>) -> bool {
     is_list_of_two(alloc, &KEYS, second)
         && are_refused::<Vec<SecretKey<C>>>(alloc, &EARLY, &BEYOND)
         && are_refused::<SecretKey<C>>(alloc, &[1; 7], &[255; 8])
+}
+
+const PARAMETERS: &str =
+    "Parameters { generator: 3, salt: [7, 7, 7, 7, 7, 7, 7, 7, 7, 7, 7, 7, 7, 7, 7, 7, 7, 7, 7, 7, 7, 7, 7, 7, 7, 7, 7, 7, 7, 7, 7, 7] }";
+
+const SIGNATURE: &str = "Signature { prover_response: 10, verifier_challenge: 3 }";
+
+// Whether parameters and a signature are printed field by field.
+fn are_printed<C: CurveGroup + Numeral>(alloc: Global) -> bool {
+    let signature = Signature::<C> {
+        prover_response: C::ScalarField::from_u64(10),
+        verifier_challenge: C::ScalarField::from_u64(3),
+    };
+    is_printed(alloc, &parameters::<C>(), PARAMETERS) && is_printed(alloc, &signature, SIGNATURE)
+}
+
+#[test]
+fn parameters_and_signatures_are_printed(rt: HostRuntime) {
+    assert_eq!(rt; are_printed::<G61>(rt.alloc()), true);
 }
 
 fn are_shown<C: CurveGroup + Numeral>(alloc: Global) -> bool {

@@ -37,7 +37,8 @@ above_zero : (n k : ℕ) → 1 < n → n ≡ 2 ^ k → k ≡ suc (k - 1)
 above_zero n zero some is = absurd (omega (arith, some, is))
 above_zero n (suc k) some is = omega arith
 
-root-entries : (entries : List (List ℕ)) → 1 < length entries → length entries ≡ 2 ^ log2 (length entries)
+-- the root above the hashes of entries
+pub root-entries : (entries : List (List ℕ)) → 1 < length entries → length entries ≡ 2 ^ log2 (length entries)
     → root log_pair (map entry_hash entries) ≡ Ok (merkle_tree_hash (log2 (length entries)) entries)
 root-entries entries some power =
     let level = above_zero (length entries) (log2 (length entries)) some power in

@@ -1,5 +1,6 @@
 -- Trees whose hashes refuse nothing.
-use Rattle.std.proofs.Common.{◌≡◌, ◌⊎◌, ℕ, zero, suc, ◌^◌, List, length, take, drop, map, true, Result, Ok, Err, IfOk, Global, refl, sym, ap, subst, ◌∙◌, inl, inr}
+use Rattle.std.proofs.Common.{arith, pow_pos, ◌≡◌, ◌⊎◌, ℕ, zero, suc, ◌^◌, List, length, take, drop, map, true, Result, Ok, Err, IfOk, Global, refl, sym, ap, subst, ◌∙◌, inl, inr}
+use Rattle.std.proofs.Math.Nat.{pow-succ'}
 use Rattle.std.proofs.lemmas.List.{length-map}
 use Rattle.std.specs.declared.vec.Vec.{Vec}
 use Rattle.ark_base.specs.Digits.{itself}
@@ -11,12 +12,17 @@ use Rattle.std.proofs.lemmas.Result.{err_from_is_err_and}
 use Rattle.std.specs.Result.{IsErrAnd}
 use Rattle.ark_base.specs.declared.error.Error.{Error}
 use Rattle.ark_base.specs.declared.error.Error.TheVariants.{OutOfMemory}
+use Rattle.ark_base.specs.Laws.Steps.{done_injective}
 use Rattle.ark_base.specs.Outcome.{Outcome, ◌>>=◌}
+use Rattle.ark_paths.proofs.Logs.{log2-pow}
+use Rattle.ark_paths.specs.Index.{IsTreeSize, log2}
 use Rattle.ark_paths.specs.Pair.{Digest}
 use Rattle.ark_paths.specs.Root.{Root, place, root, upper_levels}
 use Rattle.ark_paths.specs.Tree.{tree_above}
 use Rattle.paxidore_calls.specs.Answer.{GivesBy, are_indexes, multi_path_of_leaves, only_if, refused_of, results_of, tree_leaves_in}
-use Rattle.paxidore_calls.specs.Hashing.{Hashing, node_pair, bytes_of_multi_path, tree_over}
+use Rattle.ark_trees.proofs.TreeHashes.{root-entries}
+use Rattle.ark_trees.specs.Rfc6962.{entry_hash, merkle_tree_hash}
+use Rattle.paxidore_calls.specs.Hashing.{Hashing, node_pair, bytes_of_multi_path, rfc6962_hashing, tree_over}
 use Rattle.paxidore_calls.specs.declared.refused.Refused.{Refused}
 use Rattle.paxidore_calls.specs.declared.refused.Refused.TheVariants.{Index}
 
@@ -24,7 +30,7 @@ abbrev Outcomes : Outcome MultiWay → Outcome MultiWay → Type 0
 Outcomes a b = a ≡ b
 
 module _ (h : Hashing) where
-  place-node : (m : ℕ) (digests : List Digest) → (d : Digest) × (place (node_pair h) m digests ≡ Root d)
+  pub place-node : (m : ℕ) (digests : List Digest) → (d : Digest) × (place (node_pair h) m digests ≡ Root d)
   place-node zero digests = (_, refl)
   place-node (suc m) digests =
       let left = place-node m (take (2 ^ suc m) digests) in
@@ -56,6 +62,19 @@ pub over-leaves : (made : List ℕ → Digest) (leaves : Result (List (List ℕ)
     → results_of made leaves ≡ Ok digests → (P : List Digest → Type 0) → P digests → IfOk leaves (λ xs. P (map made xs))
 over-leaves made (Ok xs) digests is P holds = let same : digests ≡ map made xs = cc in subst P same holds
 over-leaves made (Err refused) digests is P holds = tt
+
+-- the root over entries is their Merkle tree hash
+pub log-root : (leaves : Result (List (List ℕ)) Refused) (digests : List Digest) (r : Digest)
+    → results_of entry_hash leaves ≡ Ok digests → IsTreeSize (length digests)
+    → root (node_pair rfc6962_hashing) digests ≡ Ok r → IfOk leaves (λ xs. r ≡ merkle_tree_hash (log2 (length xs)) xs)
+log-root (Ok xs) digests r is (k, power) rooted =
+    let same : digests ≡ map entry_hash xs = cc in
+    let size : length xs ≡ 2 ^ suc k = sym (length-map xs entry_hash) ∙ ap length (sym same) ∙ power in
+    let some : 1 < length xs = omega (arith, size, pow_pos k, pow-succ' 2 k) in
+    let log : length xs ≡ 2 ^ log2 (length xs) =
+    size ∙ ap (λ (n : ℕ). 2 ^ n) (sym (log2-pow (suc k)) ∙ ap log2 (sym size)) in
+    done_injective r _ (sym rooted ∙ ap (root (node_pair rfc6962_hashing)) same ∙ root-entries xs some log)
+log-root (Err refused) digests r is size rooted = tt
 
 -- ---- the bytes of a multi-proof
 

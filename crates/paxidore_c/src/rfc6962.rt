@@ -1,11 +1,12 @@
 //! Trees as transparency logs hash them (RFC 6962, section 2.1): a zero byte stands before a leaf, a one byte before a pair.
 
-ghost use Rattle.std.specs.Prelude.{◌≡◌, ◌≢◌, pos, length, IfOk, Ok};
+ghost use Rattle.std.specs.Prelude.{◌≡◌, ◌≢◌, ◌+◌, ◌*◌, pos, length, IfOk, Ok};
+ghost use Rattle.ark_paths.specs.Index.{log2};
 ghost use Rattle.ark_paths.specs.Received.{ShowsLeaf, ShowsLeaves};
 ghost use Rattle.ark_paths.specs.Tree.{root_in};
 ghost use Rattle.paxidore_calls.specs.Answer.{Gives, GivesBy, Hands, all_shown, done_code, leaves_for, multi_path_of_leaves, path_of_leaves, results_of, shown, tree_leaves_in, verdict_code};
 ghost use Rattle.paxidore_calls.specs.Hashing.{hashes_of, read_multi_path, read_path, rfc6962_hashing, tree_over};
-ghost use Rattle.ark_trees.specs.Rfc6962.{entry_hash};
+ghost use Rattle.ark_trees.specs.Rfc6962.{entry_hash, merkle_tree_hash};
 
 use ark_base::serialize::canonical_bytes;
 use ark_merkle::{MerkleTree, MultiPath, Path, is_tree_size};
@@ -140,10 +141,16 @@ pub extern "C" fn paxidore_rfc6962_root(
     ensures answer { Gives (done_code (tree_leaves_in leaves.now lengths.now)) result }
     ensures root { result ≡ pos 0 → IfOk (tree_leaves_in leaves.now lengths.now)
         (λ xs. root_in (tree_over rfc6962_hashing xs) ≡ Ok root.new) }
+
+    // That is the Merkle tree hash of the leaves (section 2.1).
+    ensures tree_hash { result ≡ pos 0 → IfOk (tree_leaves_in leaves.now lengths.now)
+        (λ xs. root.new ≡ merkle_tree_hash (log2 (length xs)) xs) }
     ensures kept { result ≢ pos 0 → root.new ≡ root.old }
 {
     match tree_of(alloc, leaves, lengths) {
         Ok(tree) => {
+            // The call tells the proof that the size is a power of two.
+            let _size = tree.size();
             *root = *tree.root();
             0
         }
@@ -161,8 +168,11 @@ pub extern "C" fn paxidore_rfc6962_path(
     lengths: &[usize],
     index: usize,
 ) -> i32
-    ensures { let outcome = path_of_leaves rfc6962_hashing leaves.now lengths.now index in
+    ensures handed { let outcome = path_of_leaves rfc6962_hashing leaves.now lengths.now index in
         Hands outcome path.old path.new path_len.old path_len.new result }
+
+    // PAXIDORE_PATHBYTES of the size's logarithm.
+    ensures counted { result ≡ pos 0 → path_len.new ≡ 16 + 32 * log2 (length lengths.now) }
 {
     hand_over(path_of(alloc, leaves, lengths, index), path, path_len)
 }

@@ -1,6 +1,7 @@
 //! Trees whose hashes are SHA-256 of the leaf, and of left followed by right.
 
-ghost use Rattle.std.specs.Prelude.{◌≡◌, ◌≢◌, pos, length, IfOk, Ok};
+ghost use Rattle.std.specs.Prelude.{◌≡◌, ◌≢◌, ◌+◌, ◌*◌, pos, length, IfOk, Ok};
+ghost use Rattle.ark_paths.specs.Index.{log2};
 ghost use Rattle.ark_paths.specs.Received.{ShowsLeaf, ShowsLeaves};
 ghost use Rattle.ark_paths.specs.Tree.{root_in};
 ghost use Rattle.paxidore_calls.specs.Answer.{Gives, GivesBy, Hands, all_shown, done_code, leaves_for, multi_path_of_leaves, path_of_leaves, results_of, shown, tree_leaves_in, verdict_code};
@@ -170,8 +171,11 @@ pub extern "C" fn paxidore_sha256_path(
     lengths: &[usize],
     index: usize,
 ) -> i32
-    ensures { let outcome = path_of_leaves sha256_hashing leaves.now lengths.now index in
+    ensures handed { let outcome = path_of_leaves sha256_hashing leaves.now lengths.now index in
         Hands outcome path.old path.new path_len.old path_len.new result }
+
+    // PAXIDORE_PATHBYTES of the size's logarithm.
+    ensures counted { result ≡ pos 0 → path_len.new ≡ 16 + 32 * log2 (length lengths.now) }
 {
     hand_over(path_of(alloc, leaves, lengths, index), path, path_len)
 }

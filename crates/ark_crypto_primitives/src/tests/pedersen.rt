@@ -245,6 +245,32 @@ fn proof_of_all<P: Config>(alloc: Global, tree: &MerkleTree<P>) -> Result<MultiP
     tree.generate_multi_proof(alloc, &indexes)
 }
 
+// Whether the proof of all eight leaves has these prefixes, each of which its suffix makes two.
+fn is_dissected<P: Config>(proof: &MultiPath<P>) -> bool {
+    let prefixes = &proof.auth_paths_prefix_lenghts;
+    for (prefix, suffix) in prefixes.iter().zip(&proof.auth_paths_suffixes) {
+        if *prefix > 2 || suffix.len() != 2 - *prefix {
+            return false;
+        }
+    }
+    prefixes.as_slice() == [0, 2, 1, 2, 0, 2, 1, 2].as_slice()
+}
+
+// The same of a tree of drawn leaves of 32 bytes, over drawn parameters.
+fn eight_are_dissected<P: Config<Leaf = Vec<u8>>>(alloc: Global) -> Result<bool, Error> {
+    let mut rng = SmallRng::seed_from_u64(62);
+    let leaf_parameters = P::LeafHash::setup(alloc, &mut rng)?;
+    let pair_parameters = P::TwoToOneHash::setup(alloc, &mut rng)?;
+    let leaves = drawn_leaves(alloc, 8, &mut rng)?;
+    let tree = tree_of::<P>(alloc, &leaf_parameters, &pair_parameters, &leaves)?;
+    Ok(is_dissected(&proof_of_all(alloc, &tree)?))
+}
+
+#[test]
+fn the_proof_of_all_eight_leaves_is_dissected(rt: HostRuntime) {
+    assert_eq!(rt; eight_are_dissected::<By61>(rt.alloc()), Ok(true));
+}
+
 fn path_is_accepted<P: Config>(
     alloc: Global,
     leaf_parameters: &LeafParam<P>,

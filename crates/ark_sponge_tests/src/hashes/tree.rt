@@ -25,7 +25,7 @@ impl Config for PoseidonTree {
     type TwoToOneHash = TwoToOneCRH<Element, Cube>;
 }
 
-// Whether a tree has this root, this digest beside its first leaf, and accepts the first leaf's path.
+// Whether a tree has this root, these digests of its first two leaves, and accepts the first leaf's path.
 fn is_tree<P: Config>(
     tree: &MerkleTree<P>,
     alloc: Global,
@@ -33,15 +33,16 @@ fn is_tree<P: Config>(
     pair_parameters: &TwoToOneParam<P>,
     first: &P::Leaf,
     root: &P::InnerDigest,
-    sibling: &P::LeafDigest,
+    digests: (&P::LeafDigest, &P::LeafDigest),
 ) -> Result<bool, Error> {
-    if tree.size() == 0 {
+    if tree.size() < 2 {
         return Ok(false);
     }
     let path = tree.generate_proof(alloc, 0)?;
     Ok(
         tree.root() == root
-            && path.leaf_sibling_hash == *sibling
+            && tree.get_leaf_sibling_hash(1) == digests.0
+            && path.leaf_sibling_hash == *digests.1
             && path.verify(alloc, leaf_parameters, pair_parameters, root, first)?,
     )
 }
@@ -53,7 +54,7 @@ fn has_root<P: Config>(
     pair_parameters: &TwoToOneParam<P>,
     leaves: &[P::Leaf],
     root: &P::InnerDigest,
-    sibling: &P::LeafDigest,
+    digests: (&P::LeafDigest, &P::LeafDigest),
 ) -> Result<bool, Error> {
     if !is_tree_size(leaves.len()) {
         return Ok(false);
@@ -68,7 +69,7 @@ fn has_root<P: Config>(
                 pair_parameters,
                 first,
                 root,
-                sibling,
+                digests,
             )
         }
         None => Ok(false),
@@ -86,8 +87,9 @@ fn leaves<F: PrimeField>(alloc: Global) -> Result<Vec<Vec<F>>, Error> {
 fn tree_of_two(alloc: Global) -> Result<bool, Error> {
     let hash = parameters(alloc)?;
     let leaves = leaves::<Element>(alloc)?;
-    let (root, sibling) = (Element::from_u64(15), Element::from_u64(27));
-    has_root::<PoseidonTree>(alloc, &hash, &hash, &leaves, &root, &sibling)
+    let (first, second) = (Element::from_u64(215), Element::from_u64(27));
+    let root = Element::from_u64(15);
+    has_root::<PoseidonTree>(alloc, &hash, &hash, &leaves, &root, (&first, &second))
 }
 
 #[test]

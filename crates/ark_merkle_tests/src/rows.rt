@@ -1,0 +1,157 @@
+//! Worked rows over numbers below 257: paths and multi-proofs that are longer than a tree, or cut short.
+
+use crate::samples::tree_over;
+use crate::toy::copies_of_one;
+use ark_base::error::{Error, SerializationError};
+use ark_base::serialize::{CanonicalDeserialize, Duplicate};
+use ark_groups::ff::{Fp, PrimeField};
+use ark_merkle::{Config, LeafParam, MultiPath, Path, TwoToOneParam};
+use ark_toy::Toy;
+use std::alloc::Global;
+
+const TRUNCATED: Error = Error::SerializationError(SerializationError::Truncated);
+
+const INVALID: Error = Error::SerializationError(SerializationError::InvalidData);
+
+// A path of 70 times one digest, at the largest index.
+fn path_of_seventy<P: Config>(
+    alloc: Global,
+    sibling: &P::LeafDigest,
+    digest: &P::InnerDigest,
+) -> Result<Path<P>, Error> {
+    Ok(Path {
+        leaf_sibling_hash: sibling.duplicate(alloc)?,
+        auth_path: copies_of_one(alloc, digest, 70)?,
+        leaf_index: usize::MAX,
+    })
+}
+
+fn seventy_give<P: Config>(
+    alloc: Global,
+    leaf_parameters: &LeafParam<P>,
+    pair_parameters: &TwoToOneParam<P>,
+    sibling: &P::LeafDigest,
+    digest: &P::InnerDigest,
+    leaf: &P::Leaf,
+    root: &P::InnerDigest,
+) -> Result<bool, Error> {
+    path_of_seventy::<P>(alloc, sibling, digest)?.verify(
+        alloc,
+        leaf_parameters,
+        pair_parameters,
+        root,
+        leaf,
+    )
+}
+
+// The leaf 1 is doubled on 64 levels, since the index has 64 bits; 2 ^ 64 is 1 modulo 257.
+#[test]
+fn a_path_of_seventy_digests(rt: HostRuntime) {
+    let zero = Fp::from_u64(0);
+    for (root, accepted) in [(1u64, true), (128, false)] {
+        assert_eq!(rt;
+            seventy_give::<Toy>(rt.alloc(), &(), &(), &zero, &zero, &1, &Fp::from_u64(root)),
+            Ok(accepted)
+        );
+    }
+}
+
+// The refusal of such a path where it is to be bound to a tree.
+fn bound<P: Config>(
+    alloc: Global,
+    leaf_parameters: &LeafParam<P>,
+    pair_parameters: &TwoToOneParam<P>,
+    leaves: &[P::Leaf],
+    digest: &P::LeafDigest,
+    above: &P::InnerDigest,
+    leaf: &P::Leaf,
+) -> Result<Option<Error>, Error> {
+    let tree = tree_over::<P>(alloc, leaf_parameters, pair_parameters, leaves)?;
+    let path = path_of_seventy::<P>(alloc, digest, above)?;
+    Ok(tree.bind(alloc, &path, leaf).err())
+}
+
+#[test]
+fn a_path_of_seventy_digests_is_of_no_tree(rt: HostRuntime) {
+    let zero = Fp::from_u64(0);
+    assert_eq!(rt;
+        bound::<Toy>(rt.alloc(), &(), &(), &[1, 2, 3, 4], &zero, &zero, &1),
+        Ok(Some(Error::IncorrectInputLength(70)))
+    );
+}
+
+// What a multi-proof of two leaves says whose second prefix is the largest number.
+fn second_prefix_is_largest<P: Config>(
+    alloc: Global,
+    leaf_parameters: &LeafParam<P>,
+    pair_parameters: &TwoToOneParam<P>,
+    leaves: &[P::Leaf],
+    siblings: (&P::LeafDigest, &P::LeafDigest),
+    digest: &P::InnerDigest,
+) -> Result<bool, Error> {
+    let tree = tree_over::<P>(alloc, leaf_parameters, pair_parameters, leaves)?;
+    let first = siblings.0.duplicate(alloc)?;
+    let second = siblings.1.duplicate(alloc)?;
+    let proof = MultiPath::<P> {
+        leaf_siblings_hashes: vec![in alloc; first, second]?,
+        auth_paths_prefix_lenghts: vec![in alloc; 0, usize::MAX]?,
+        auth_paths_suffixes: vec![in alloc; Vec::new(alloc), copies_of_one(alloc, digest, 1)?]?,
+        leaf_indexes: vec![in alloc; 0, 1]?,
+    };
+    proof.verify(
+        alloc,
+        leaf_parameters,
+        pair_parameters,
+        tree.root(),
+        leaves.iter(),
+    )
+}
+
+#[test]
+fn a_prefix_past_the_path_before(rt: HostRuntime) {
+    let siblings = (&Fp::from_u64(2), &Fp::from_u64(1));
+    assert_eq!(rt;
+        second_prefix_is_largest::<Toy>(rt.alloc(), &(), &(), &[1, 2], siblings, &Fp::from_u64(5)),
+        Err(Error::IncorrectInputLength(1))
+    );
+}
+
+// The refusals of bytes where a path is read, and where a multi-proof is.
+fn refusals<P: Config>(alloc: Global, bytes: &[u8]) -> (Option<Error>, Option<Error>) {
+    (
+        Path::<P>::deserialize(alloc, bytes).err(),
+        MultiPath::<P>::deserialize(alloc, bytes).err(),
+    )
+}
+
+// The path of the third leaf of the tree of 1 2 3 4.
+const PATH: [u8; 20] = [4, 0, 1, 0, 0, 0, 0, 0, 0, 0, 5, 0, 2, 0, 0, 0, 0, 0, 0, 0];
+
+#[test]
+fn each_beginning_of_a_path_is_cut_short(rt: HostRuntime) {
+    for len in 0..20usize {
+        assert_eq!(rt;
+            refusals::<Toy>(rt.alloc(), &PATH[..len]).0,
+            Some(TRUNCATED),
+            "{len}"
+        );
+    }
+}
+
+// The digest 257, in front of a path.
+const LARGE_IN_PATH: [u8; 20] = [1, 1, 1, 0, 0, 0, 0, 0, 0, 0, 5, 0, 2, 0, 0, 0, 0, 0, 0, 0];
+
+// The same behind the count of a multi-proof's digests.
+const LARGE_IN_MULTI_PROOF: [u8; 10] = [1, 0, 0, 0, 0, 0, 0, 0, 1, 1];
+
+#[test]
+fn digests_are_below_the_modulus(rt: HostRuntime) {
+    assert_eq!(rt;
+        refusals::<Toy>(rt.alloc(), &LARGE_IN_PATH).0,
+        Some(INVALID)
+    );
+    assert_eq!(rt;
+        refusals::<Toy>(rt.alloc(), &LARGE_IN_MULTI_PROOF).1,
+        Some(INVALID)
+    );
+}

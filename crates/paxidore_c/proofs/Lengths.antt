@@ -1,0 +1,128 @@
+-- How many bytes the path of a tree has.
+use Rattle.std.proofs.Common.{◌≡◌, ℕ, zero, suc, ◌+◌, ◌-◌, ◌*◌, ◌<◌, ◌^◌, List, [], ◌∷◌, ◌++◌, length, take, drop, map, get_or, nat_lt, Bool, true, false, if◌then◌else◌, ℤ, pos, Option, Some, None, Result, Ok, Err, IfOk, arith, refl, sym, ap, subst, ◌∙◌, inl, inr}
+use Rattle.std.proofs.Math.Nat.{pow-succ'}
+use Rattle.std.proofs.lemmas.Bool.{ltb-true}
+use Rattle.std.proofs.lemmas.List.{get_or-map, length-append, length-map}
+use Rattle.std.specs.List.{flat_map}
+use Rattle.std.specs.Option.{option_map}
+use Rattle.ark_base.specs.Digits.{itself}
+use Rattle.ark_base.specs.Laws.Numbers.{length-word}
+use Rattle.ark_base.specs.Spelling.{word}
+use Rattle.ark_paths.specs.Index.{IsTreeSize, bit_at, is_tree_size, log2, neighbour}
+use Rattle.ark_paths.specs.Pair.{Digest}
+use Rattle.ark_paths.specs.Root.{place}
+use Rattle.ark_paths.specs.Tree.{halves_beside, path_in, root_digest}
+use Rattle.ark_paths.proofs.Logs.{log2-pow}
+use Rattle.ark_paths.proofs.PlaceLemmas.{neighbour-inside}
+use Rattle.ark_paths.proofs.Receiveds.{size-decided}
+use Rattle.paxidore_calls.specs.Answer.{Hands, leaves_in, only_if, path_of_leaves, refusal_code, tree_leaves_in}
+use Rattle.paxidore_calls.specs.Cut.{parts_by}
+use Rattle.paxidore_calls.specs.Hashing.{Hashing, bytes_of_path, node_pair, tree_over}
+use Rattle.paxidore_calls.specs.declared.refused.Refused.{Refused}
+use Rattle.paxidore_calls.specs.declared.refused.Refused.TheVariants.{Index, Lengths, Size}
+use Rattle.paxidore_c.proofs.Trees.{place-node}
+
+-- a path of a tree of this size
+abbrev pub path_bytes : ℕ → ℕ
+path_bytes size = 16 + 32 * log2 size
+
+AreLong : ℕ → List Digest → Type 0
+AreLong count digests = (length digests ≡ count) × (length (flat_map itself digests) ≡ 32 * count)
+
+AreLong-more : (count : ℕ) (d : Digest) (digests : List Digest) → length d ≡ 32 → AreLong count digests
+    → AreLong (suc count) (d ∷ digests)
+AreLong-more count d digests long so =
+    (ap suc so.0, length-append d (flat_map itself digests) ∙ omega (arith, long, so.1))
+
+AreLong-either : (b : Bool) (count : ℕ) (yes no : List Digest) → AreLong count yes → AreLong count no
+    → AreLong count (if b then yes else no)
+AreLong-either true count yes no of_yes of_no = of_yes
+AreLong-either false count yes no of_yes of_no = of_no
+
+-- as many parts as lengths
+parts-count : (bytes lengths : List ℕ) (parts : List (List ℕ)) → parts_by bytes lengths ≡ Some parts
+    → length parts ≡ length lengths
+parts-count bytes [] parts is = by_rest (nat_lt 0 (length bytes)) is
+  where
+    by_rest : (left : Bool) → (if left then None else Some []) ≡ Some parts → length parts ≡ 0
+    by_rest true is = absurd cc
+    by_rest false is = let same : [] ≡ parts = cc in ap length (sym same)
+parts-count bytes (len ∷ lengths) parts is = by_rest (nat_lt (length bytes) len)
+    (parts_by (drop len bytes) lengths) (parts-count (drop len bytes) lengths) is
+  where
+    by_rest : (short : Bool) (rest : Option (List (List ℕ)))
+        → ((more : List (List ℕ)) → rest ≡ Some more → length more ≡ length lengths)
+        → (if short then None else option_map (λ more. take len bytes ∷ more) rest) ≡ Some parts
+        → length parts ≡ suc (length lengths)
+    by_rest true rest counts is = absurd cc
+    by_rest false None counts is = absurd cc
+    by_rest false (Some more) counts is =
+        let same : take len bytes ∷ more ≡ parts = cc in ap length (sym same) ∙ ap suc (counts more refl)
+
+module _ (h : Hashing) (leaf-long : (leaf : List ℕ) → length (h.leaf_hash leaf) ≡ 32)
+    (node-long : (left right : Digest) → length (h.node left right) ≡ 32) where
+  place-long : (m : ℕ) (digests : List Digest) → length (root_digest (place (node_pair h) m digests)) ≡ 32
+  place-long zero digests = node-long (get_or digests 0 []) (get_or digests 1 [])
+  place-long (suc m) digests =
+      let left = place-node h m (take (2 ^ suc m) digests) in
+      let right = place-node h m (drop (2 ^ suc m) digests) in
+      rw (left.1, right.1) (node-long left.0 right.0)
+
+  halves-long : (m i : ℕ) (digests : List Digest) → AreLong m (halves_beside (node_pair h) m i digests)
+  halves-long zero i digests = (refl, refl)
+  halves-long (suc m) i digests =
+      let left = take (2 ^ suc m) digests in
+      let right = drop (2 ^ suc m) digests in
+      AreLong-either (bit_at i (suc m)) (suc m)
+          (root_digest (place (node_pair h) m left) ∷ halves_beside (node_pair h) m i right)
+          (root_digest (place (node_pair h) m right) ∷ halves_beside (node_pair h) m i left)
+          (AreLong-more m _ _ (place-long m left) (halves-long m i right))
+          (AreLong-more m _ _ (place-long m right) (halves-long m i left))
+
+  -- the bytes of the path of an index
+  own-long : (xs : List (List ℕ)) (index : ℕ) → IsTreeSize (length xs) → index < length xs
+      → length (bytes_of_path (path_in (tree_over h xs) index)) ≡ path_bytes (length xs)
+  own-long xs index (k, power) below =
+      let digests = map h.leaf_hash xs in
+      let count : length digests ≡ length xs = length-map xs h.leaf_hash in
+      let log : log2 (length xs) ≡ suc k = ap log2 power ∙ log2-pow (suc k) in
+      let levels : log2 (length digests) - 1 ≡ k = ap (λ (n : ℕ). log2 n - 1) count ∙ omega (arith, log) in
+      let twice = pow-succ' 2 k in
+      let beside : neighbour index < length xs =
+      subst (λ (n : ℕ). neighbour index < n) (sym (power ∙ twice))
+          (neighbour-inside index (2 ^ k) (omega (arith, below, power, twice))) in
+      let sibling : length (get_or digests (neighbour index) []) ≡ 32 =
+      ap length (get_or-map h.leaf_hash xs (neighbour index) [] [] beside) ∙ leaf-long _ in
+      let above = halves-long (log2 (length digests) - 1) index digests in
+      let halves = halves_beside (node_pair h) (log2 (length digests) - 1) index digests in
+      let listed = word (length halves) ++ flat_map itself halves in
+      let whole = length-append (get_or digests (neighbour index) []) (listed ++ word index) in
+      let behind = length-append listed (word index) in
+      let list = length-append (word (length halves)) (flat_map itself halves) in
+      let first = length-word (length halves) in
+      let last = length-word index in
+      whole ∙ omega (arith, sibling, behind, list, first, last, above.1, levels, log)
+
+  -- the path of an index in the tree above some leaves, where there is one
+  path-long : (leaves lengths : List ℕ) (index : ℕ)
+      → IfOk (path_of_leaves h leaves lengths index) (λ bytes. length bytes ≡ path_bytes (length lengths))
+  path-long leaves lengths index =
+      by_size (is_tree_size (length lengths)) refl (parts_by leaves lengths) refl
+    where
+      by_size : (sized : Bool) → is_tree_size (length lengths) ≡ sized → (parts : Option (List (List ℕ)))
+          → parts_by leaves lengths ≡ parts
+          → IfOk (path_of_leaves h leaves lengths index) (λ bytes. length bytes ≡ path_bytes (length lengths))
+      by_size false is parts cut = rw is tt
+      by_size true is None cut = rw (is, cut) tt
+      by_size true is (Some xs) cut = rw (is, cut) (by_index (nat_lt index (length xs)) refl)
+        where
+          count : length xs ≡ length lengths
+          count = parts-count leaves lengths xs cut
+
+          by_index : (below : Bool) → nat_lt index (length xs) ≡ below
+              → IfOk (only_if below Index (Ok (bytes_of_path (path_in (tree_over h xs) index))))
+              (λ bytes. length bytes ≡ path_bytes (length lengths))
+          by_index false is_at = tt
+          by_index true is_at =
+              own-long xs index (subst IsTreeSize (sym count) (size-decided (length lengths) is))
+                  (ltb-true index (length xs) is_at) ∙ ap path_bytes count
