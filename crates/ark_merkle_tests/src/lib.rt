@@ -20,6 +20,8 @@ mod refusals;
 #[cfg(test)]
 mod rows;
 #[cfg(test)]
+mod salted;
+#[cfg(test)]
 mod samples;
 #[cfg(test)]
 mod strict;

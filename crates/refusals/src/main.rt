@@ -2,6 +2,9 @@
 //! what was lent to a refused call is as it was.
 #![tactic(auto)]
 
+mod copies;
+mod hashes;
+mod hostile;
 mod schemes;
 mod sponges;
 mod trees;
@@ -70,6 +73,9 @@ fn ended_of(alloc: Global, word: &str) -> Result<Option<Ended>, Error> {
     };
     match family {
         "sponge" => sponges::ended_of::<Fp<M61>>(alloc, call),
+        "copy" => copies::ended_of(alloc, call),
+        "hash" => Ok(hashes::ended_of(alloc, call)),
+        "read" => Ok(hostile::ended_of::<Fp<M61>>(alloc, call)),
         "pedersen" => schemes::pedersen_committed::<Group, Two>(alloc, call),
         "blake2s" => schemes::committed::<blake2s::Commitment>(alloc, call),
         "schnorr" => schemes::schnorr_signed::<Group, Blake2s256>(alloc, call),

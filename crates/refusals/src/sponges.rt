@@ -1,11 +1,12 @@
 //! Calls of a sponge.
 
+use crate::copies::copied;
 use crate::{Ended, ending, without_value};
 use ark_crypto_primitives::Error;
-use ark_crypto_primitives::ff::PrimeField;
+use ark_crypto_primitives::ff::{Fp, M257, PrimeField};
 use ark_crypto_primitives::sponge::poseidon::{PoseidonConfig, PoseidonSponge, SBox};
 use ark_crypto_primitives::sponge::{
-    Absorb, CryptographicSponge, FieldBasedCryptographicSponge, FieldElementSize,
+    Absorb, CryptographicSponge, FieldBasedCryptographicSponge, FieldElementSize, SpongeExt,
 };
 use std::alloc::Global;
 
@@ -33,15 +34,28 @@ impl<F: PrimeField, S: SBox<F>> Compared for PoseidonSponge<F, S> {
 /// How a call of a sponge that has absorbed some elements ended.
 pub fn ended_of<F: PrimeField + Absorb>(alloc: Global, call: &str) -> Result<Option<Ended>, Error> {
     let parameters = PoseidonConfig::new(2, 1, 1, rows(alloc)?, rows(alloc)?, 2, 1)?;
-    ended_over::<F, PoseidonSponge<F, Same>>(alloc, &parameters, call)
+    match call {
+        "config" => Ok(Some(copied(alloc, &parameters))),
+        "state" => state_copied::<F, PoseidonSponge<F, Same>>(alloc, &parameters),
+        _ => ended_over::<F, Fp<M257>, PoseidonSponge<F, Same>>(alloc, &parameters, call),
+    }
+}
+
+// How the copy of a sponge's state ended.
+fn state_copied<F: PrimeField, S: FieldBasedCryptographicSponge<F> + SpongeExt>(
+    alloc: Global,
+    parameters: &S::Config,
+) -> Result<Option<Ended>, Error> {
+    let state = S::new(alloc, parameters)?.into_state();
+    Ok(Some(copied(alloc, &state)))
 }
 
 // Over any sponge, since each exit of a function drops the parts of what it owns, and this one's are not known.
-fn ended_over<F: PrimeField + Absorb, S: FieldBasedCryptographicSponge<F> + Compared>(
-    alloc: Global,
-    parameters: &S::Config,
-    call: &str,
-) -> Result<Option<Ended>, Error> {
+fn ended_over<
+    F: PrimeField + Absorb,
+    G: PrimeField,
+    S: FieldBasedCryptographicSponge<F> + Compared + SpongeExt,
+>(alloc: Global, parameters: &S::Config, call: &str) -> Result<Option<Ended>, Error> {
     let input = elements::<F>(alloc, 9)?;
     let mut sponge = S::new(alloc, parameters)?;
     sponge.absorb(&input)?;
@@ -54,9 +68,20 @@ fn ended_over<F: PrimeField + Absorb, S: FieldBasedCryptographicSponge<F> + Comp
             let sizes = [FieldElementSize::Truncated(9), FieldElementSize::Full];
             without_value(sponge.squeeze_field_elements_with_sizes::<F>(&sizes))
         }
+        "other" => without_value(sponge.squeeze_field_elements::<G>(5)),
+        "other_sizes" => {
+            let sizes = [FieldElementSize::Truncated(3), FieldElementSize::Full];
+            without_value(sponge.squeeze_field_elements_with_sizes::<G>(&sizes))
+        }
         "bytes" => without_value(sponge.squeeze_bytes(40)),
         "bits" => without_value(sponge.squeeze_bits(200)),
         "fork" => without_value(sponge.fork(b"domain")),
+        "copy" => without_value(sponge.duplicate(alloc)),
+        "new" => without_value(S::new(alloc, parameters)),
+        "from_state" => {
+            let state = sponge.duplicate(alloc)?.into_state();
+            without_value(S::from_state(alloc, state, parameters))
+        }
         _ => return Ok(None),
     };
     Ok(Some(ending(answer, sponge.is_as(&before))))

@@ -1,5 +1,6 @@
 //! Calls of a tree that the lines of `acp` do not make.
 
+use crate::copies::copied;
 use crate::{Ended, ending, without_value};
 use ark_crypto_primitives::Error;
 use ark_crypto_primitives::merkle_tree::{
@@ -15,11 +16,33 @@ pub fn ended_of<P: Config<Leaf = Vec<u8>>>(
     pair: &TwoToOneParam<P>,
     call: &str,
 ) -> Result<Option<Ended>, Error> {
-    if call != "check_update" {
+    let mut tree = tree_of_four::<P>(alloc, leaf, pair)?;
+    match call {
+        "check_update" => updated(alloc, &mut tree),
+        "copy" => Ok(Some(copied(alloc, &tree))),
+        "path_copy" => path_copied(alloc, &tree),
+        "multi_path_copy" => multi_path_copied(alloc, &tree),
+        _ => Ok(None),
+    }
+}
+
+fn path_copied<P: Config>(alloc: Global, tree: &MerkleTree<P>) -> Result<Option<Ended>, Error> {
+    if tree.size() <= 2 {
         return Ok(None);
     }
-    let mut tree = tree_of_four::<P>(alloc, leaf, pair)?;
-    updated(alloc, &mut tree)
+    let path = tree.generate_proof(alloc, 2)?;
+    Ok(Some(copied(alloc, &path)))
+}
+
+fn multi_path_copied<P: Config>(
+    alloc: Global,
+    tree: &MerkleTree<P>,
+) -> Result<Option<Ended>, Error> {
+    if tree.size() <= 2 {
+        return Ok(None);
+    }
+    let proof = tree.generate_multi_proof(alloc, &[0, 2])?;
+    Ok(Some(copied(alloc, &proof)))
 }
 
 // How `check_update` ended. The lists are lent to `show`, so that it owns a path alone: each exit drops the parts of what is owned.
