@@ -1,7 +1,9 @@
 //! Rows that cross crates, by the names of this one.
 
 mod pedersen;
+mod poseidon;
 mod trees;
+mod updates;
 
 use crate::Error;
 use crate::crh::{CRHScheme, TwoToOneCRHScheme};

@@ -136,7 +136,7 @@ module _ (h : HashPair) (leaves : List Digest) (rows : List (List Digest)) (tree
   same_levels : upper_levels new ≡ upper_levels leaves
   same_levels = rw (length-set leaves index digest) refl
 
-  root-own : root h new ≡ outcome_of (place h (upper_levels leaves) (own (upper_levels leaves)))
+  pub root-own : root h new ≡ outcome_of (place h (upper_levels leaves) (own (upper_levels leaves)))
   root-own =
       let m = upper_levels leaves in
       let long : length new ≡ 2 ^ suc m = length-set leaves index digest ∙ tree.size in

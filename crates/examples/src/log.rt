@@ -1,8 +1,12 @@
 //! A log publishes a root and hands out receipts, which a client checks without the log.
 
-ghost use Rattle.std.specs.Prelude.{◌≡◌, true, length, IfOk, Ok};
+ghost use Rattle.std.specs.Prelude.{◌≡◌, ◌<◌, ◌≤◌, true, false, length, map, IfOk, Ok, Err};
+ghost use Rattle.ark_base.specs.Outcome.{AnswersBy};
+ghost use Rattle.ark_base.specs.declared.error.Error.TheVariants.{IncorrectInputLength};
+ghost use Rattle.ark_paths.specs.Index.{is_tree_size, log2};
 ghost use Rattle.ark_paths.specs.Received.{ShowsLeaf};
-ghost use Rattle.ark_paths.specs.Tree.{root_in};
+ghost use Rattle.ark_paths.specs.Tree.{path_in, root_in, tree_of};
+ghost use Rattle.ark_trees.specs.Rfc6962.{merkle_tree_hash};
 
 use ark_crypto_primitives::Error;
 use ark_crypto_primitives::merkle_tree::{MerkleTree, Path, Views, is_tree_size};
@@ -17,8 +21,21 @@ pub struct Head {
     pub size: usize,
 }
 
-/// A log of these entries. `IncorrectInputLength` where their count is no power of two above one.
-pub fn open(alloc: Global, entries: &[Vec<u8>]) -> Result<MerkleTree<Sha256Log>, Error> {
+/// Returns the log of these entries.
+///
+/// Errors: `IncorrectInputLength` where their count is no power of two above one; `OutOfMemory`.
+pub fn open(alloc: Global, entries: &[Vec<u8>]) -> Result<MerkleTree<Sha256Log>, Error>
+    ensures size { let size = length entries.now in
+        is_tree_size size ≡ false → result ≡ Err (IncorrectInputLength size) }
+    ensures tree { let hashes = ⟦<Sha256Log as Views>⟧.hashes tt tt in
+        is_tree_size (length entries.now) ≡ true
+        → AnswersBy ⟦<Sha256Log as Views>⟧.tree (tree_of hashes entries.now) result }
+
+    // Its root is the Merkle tree hash of the entries (RFC 6962, section 2.1).
+    ensures root { let entries = map (λ entry. entry.items) entries.now in
+        let hash = merkle_tree_hash (log2 (length entries)) entries in
+        IfOk result (λ log. root_in (⟦<Sha256Log as Views>⟧.tree log) ≡ Ok hash) }
+{
     if !is_tree_size(entries.len()) {
         return Err(Error::IncorrectInputLength(entries.len()));
     }
@@ -36,8 +53,15 @@ pub fn head_of(log: &MerkleTree<Sha256Log>) -> Head
     }
 }
 
-/// The receipt of the entry at an index: the bytes of its path. `IncorrectInputLength` past the size.
-pub fn receipt(alloc: Global, log: &MerkleTree<Sha256Log>, index: usize) -> Result<Vec<u8>, Error> {
+/// Returns the receipt of the entry at an index: the canonical bytes of its path.
+///
+/// Errors: `IncorrectInputLength(index)` at the size and past it; `OutOfMemory`.
+pub fn receipt(alloc: Global, log: &MerkleTree<Sha256Log>, index: usize) -> Result<Vec<u8>, Error>
+    ensures past { length log.now.leaves ≤ index → result ≡ Err (IncorrectInputLength index) }
+    ensures bytes { let path = path_in (⟦<Sha256Log as Views>⟧.tree log.now) index in
+        let bytes = ⟦<Sha256Log as Views>⟧.path_bytes path in
+        index < length log.now.leaves → AnswersBy (λ receipt. receipt.items) (Ok bytes) result }
+{
     if index >= log.size() {
         return Err(Error::IncorrectInputLength(index));
     }

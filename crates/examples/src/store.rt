@@ -1,7 +1,9 @@
 //! A client of an authenticated store, who keeps the root alone and follows each update by a proof.
 
 ghost use Rattle.std.specs.Prelude.{◌≡◌, ◌≢◌, true, IfOk, Ok};
-ghost use Rattle.ark_paths.specs.Received.{ShowsLeaf};
+ghost use Rattle.ark_base.specs.Outcome.{Answers};
+ghost use Rattle.ark_paths.specs.Received.{ShowsLeaf, received_verdict};
+ghost use Rattle.examples.specs.Change.{ShowsChange};
 
 use ark_crypto_primitives::Error;
 use ark_crypto_primitives::merkle_tree::{Path, Views};
@@ -24,7 +26,11 @@ impl Follower {
         value: &Vec<u8>,
         proof: &[u8],
     ) -> Result<bool, Error>
-        ensures { let hashes = ⟦<Sha256Arrays as Views>⟧.hashes tt tt in
+        ensures answer { let hashes = ⟦<Sha256Arrays as Views>⟧.hashes tt tt in
+            let reading = ⟦<Sha256Arrays as Views>⟧.path_reading proof.now in
+            let verdict = received_verdict hashes self.now.root self.now.size index in
+            Answers (verdict value.now reading) result }
+        ensures shows { let hashes = ⟦<Sha256Arrays as Views>⟧.hashes tt tt in
             let reading = ⟦<Sha256Arrays as Views>⟧.path_reading proof.now in
             IfOk result (λ holds. holds ≡ true
             → ShowsLeaf hashes self.now.root self.now.size index value.now reading) }
@@ -63,6 +69,13 @@ impl Follower {
             let reading = ⟦<Sha256Arrays as Views>⟧.path_reading proof.now in
             result ≡ Ok true
             → ShowsLeaf hashes root.now self.old.size index new.now reading }
+
+        // In every store of this size with the old root, the new value in place of the old one, all others left as they are,
+        // gives the new root; or two different pairs of the path and of that store are named that hash alike.
+        ensures others { let hashes = ⟦<Sha256Arrays as Views>⟧.hashes tt tt in
+            let reading = ⟦<Sha256Arrays as Views>⟧.path_reading proof.now in
+            let changes = ShowsChange hashes self.old.root root.now self.old.size index in
+            result ≡ Ok true → changes old.now new.now reading }
 
         // Else, and where a call refuses, nothing changes.
         ensures stays { result ≢ Ok true → self.new ≡ self.old }

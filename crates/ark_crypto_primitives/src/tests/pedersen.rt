@@ -1,18 +1,15 @@
 //! Trees over Pedersen hashes.
 
-ghost use Rattle.std.specs.Prelude.{◌↔◌, ◌<◌, IsTrue};
-ghost use Rattle.std.specs.List.{All};
-
 use crate::crh::pedersen::{CRH, Parameters, TwoToOneCRH, Window};
 use crate::crh::{CRHScheme, TwoToOneCRHScheme};
 use crate::ec::Residues;
 use crate::ff::{Fp, M13, M61, PrimeField, UniformRand};
 use crate::merkle_tree::{
     ByteDigestConverter, Config, LeafParam, MerkleTree, MultiPath, Path, TwoToOneParam,
-    is_tree_size,
 };
 use crate::serialize::DigestItem;
 use crate::tests::trees::tree_of as tree_of_entries;
+use crate::tests::updates::{DrawnLeaf, drawn_leaves, proof_of_all, tree_of, tree_stays_accepted};
 use crate::{Error, to_uncompressed_bytes};
 use rand::rngs::SmallRng;
 use rand::{Rng, SeedableRng};
@@ -120,18 +117,6 @@ fn parameters(alloc: Global, windows: &[[u64; 4]]) -> Result<Parameters<Residues
     Ok(Parameters { generators })
 }
 
-fn tree_of<P: Config>(
-    alloc: Global,
-    leaf_parameters: &LeafParam<P>,
-    pair_parameters: &TwoToOneParam<P>,
-    leaves: &[P::Leaf],
-) -> Result<MerkleTree<P>, Error> {
-    if !is_tree_size(leaves.len()) {
-        return Err(Error::IncorrectInputLength(leaves.len()));
-    }
-    MerkleTree::new(alloc, leaf_parameters, pair_parameters, leaves)
-}
-
 // Whether a digest has these canonical bytes, by reading them.
 fn is_spelled<D: DigestItem>(alloc: Global, digest: &D, bytes: &[u8]) -> Result<bool, Error> {
     Ok(D::deserialize(alloc, bytes)?.0 == *digest)
@@ -216,33 +201,10 @@ fn leaf_digests_reach_the_pair_hash_as_bytes(rt: HostRuntime) {
     }
 }
 
-fn drawn_leaf<R: Rng>(alloc: Global, rng: &mut R) -> Result<Vec<u8>, Error> {
-    Ok(Vec::from_array(alloc, <[u8; 32] as UniformRand>::rand(rng))?)
-}
-
-fn drawn_leaves<R: Rng>(alloc: Global, count: usize, rng: &mut R) -> Result<Vec<Vec<u8>>, Error> {
-    let mut leaves = Vec::new(alloc);
-    for _ in 0..count {
-        leaves.push(drawn_leaf(alloc, rng)?)?;
+impl DrawnLeaf for Vec<u8> {
+    fn drawn<R: Rng>(alloc: Global, rng: &mut R) -> Result<Vec<u8>, Error> {
+        Ok(Vec::from_array(alloc, <[u8; 32] as UniformRand>::rand(rng))?)
     }
-    Ok(leaves)
-}
-
-fn are_inside(indexes: &[usize], size: usize) -> bool
-    ensures { IsTrue result ↔ All (λ i. i < size) indexes.now }
-{
-    indexes.iter().all(|index| *index < size)
-}
-
-fn proof_of_all<P: Config>(alloc: Global, tree: &MerkleTree<P>) -> Result<MultiPath<P>, Error> {
-    let mut indexes = Vec::new(alloc);
-    for index in 0..tree.size() {
-        indexes.push(index)?;
-    }
-    if !are_inside(&indexes, tree.size()) {
-        return Err(Error::IncorrectInputLength(indexes.len()));
-    }
-    tree.generate_multi_proof(alloc, &indexes)
 }
 
 // Whether the proof of all eight leaves has these prefixes, each of which its suffix makes two.
@@ -261,7 +223,7 @@ fn eight_are_dissected<P: Config<Leaf = Vec<u8>>>(alloc: Global) -> Result<bool,
     let mut rng = SmallRng::seed_from_u64(62);
     let leaf_parameters = P::LeafHash::setup(alloc, &mut rng)?;
     let pair_parameters = P::TwoToOneHash::setup(alloc, &mut rng)?;
-    let leaves = drawn_leaves(alloc, 8, &mut rng)?;
+    let leaves = drawn_leaves::<Vec<u8>, SmallRng>(alloc, 8, &mut rng)?;
     let tree = tree_of::<P>(alloc, &leaf_parameters, &pair_parameters, &leaves)?;
     Ok(is_dissected(&proof_of_all(alloc, &tree)?))
 }
@@ -269,88 +231,6 @@ fn eight_are_dissected<P: Config<Leaf = Vec<u8>>>(alloc: Global) -> Result<bool,
 #[test]
 fn the_proof_of_all_eight_leaves_is_dissected(rt: HostRuntime) {
     assert_eq!(rt; eight_are_dissected::<By61>(rt.alloc()), Ok(true));
-}
-
-fn path_is_accepted<P: Config>(
-    alloc: Global,
-    leaf_parameters: &LeafParam<P>,
-    pair_parameters: &TwoToOneParam<P>,
-    tree: &MerkleTree<P>,
-    index: usize,
-    leaf: &P::Leaf,
-) -> Result<bool, Error> {
-    if index >= tree.size() {
-        return Err(Error::IncorrectInputLength(index));
-    }
-    let path = tree.generate_proof(alloc, index)?;
-    path.verify(alloc, leaf_parameters, pair_parameters, tree.root(), leaf)
-}
-
-// Whether each own path is accepted with its leaf, and the multi-proof of all indexes with all leaves.
-fn all_are_accepted<P: Config>(
-    alloc: Global,
-    leaf_parameters: &LeafParam<P>,
-    pair_parameters: &TwoToOneParam<P>,
-    tree: &MerkleTree<P>,
-    leaves: &[P::Leaf],
-) -> Result<bool, Error> {
-    for (index, leaf) in leaves.iter().enumerate() {
-        if !path_is_accepted(alloc, leaf_parameters, pair_parameters, tree, index, leaf)? {
-            return Ok(false);
-        }
-    }
-    proof_of_all(alloc, tree)?.verify(
-        alloc,
-        leaf_parameters,
-        pair_parameters,
-        tree.root(),
-        leaves.iter(),
-    )
-}
-
-fn set_leaf<P: Config>(
-    alloc: Global,
-    tree: &mut MerkleTree<P>,
-    leaves: &mut [P::Leaf],
-    index: usize,
-    leaf: P::Leaf,
-) -> Result<(), Error> {
-    if index >= tree.size() || index >= leaves.len() {
-        return Err(Error::IncorrectInputLength(index));
-    }
-    tree.update(alloc, index, &leaf)?;
-    leaves[index] = leaf;
-    Ok(())
-}
-
-fn set_drawn_leaves<P: Config<Leaf = Vec<u8>>, R: Rng>(
-    alloc: Global,
-    tree: &mut MerkleTree<P>,
-    leaves: &mut [Vec<u8>],
-    indexes: &[usize],
-    rng: &mut R,
-) -> Result<(), Error> {
-    for index in indexes {
-        set_leaf(alloc, tree, leaves, *index, drawn_leaf(alloc, rng)?)?;
-    }
-    Ok(())
-}
-
-// Whether the tree of some leaves accepts its own proofs, before drawn leaves are set at these indexes and after.
-fn tree_stays_accepted<P: Config<Leaf = Vec<u8>>, R: Rng>(
-    alloc: Global,
-    leaf_parameters: &LeafParam<P>,
-    pair_parameters: &TwoToOneParam<P>,
-    leaves: &mut [Vec<u8>],
-    indexes: &[usize],
-    rng: &mut R,
-) -> Result<bool, Error> {
-    let mut tree = tree_of::<P>(alloc, leaf_parameters, pair_parameters, leaves)?;
-    if !all_are_accepted(alloc, leaf_parameters, pair_parameters, &tree, leaves)? {
-        return Ok(false);
-    }
-    set_drawn_leaves(alloc, &mut tree, leaves, indexes, rng)?;
-    all_are_accepted(alloc, leaf_parameters, pair_parameters, &tree, leaves)
 }
 
 // Such a tree of drawn leaves of 32 bytes, over drawn parameters.
@@ -362,8 +242,8 @@ fn stays_accepted<P: Config<Leaf = Vec<u8>>>(
     let mut rng = SmallRng::seed_from_u64(61);
     let leaf_parameters = P::LeafHash::setup(alloc, &mut rng)?;
     let pair_parameters = P::TwoToOneHash::setup(alloc, &mut rng)?;
-    let mut leaves = drawn_leaves(alloc, count, &mut rng)?;
-    tree_stays_accepted::<P, SmallRng>(
+    let mut leaves = drawn_leaves::<Vec<u8>, SmallRng>(alloc, count, &mut rng)?;
+    tree_stays_accepted::<P, Vec<u8>, SmallRng>(
         alloc,
         &leaf_parameters,
         &pair_parameters,
