@@ -21,6 +21,6 @@ hasher_of salt personalization text = record {
 abbrev pub HoldsText : Blake2s256 → List ℕ → Type 0
 HoldsText s text = s.hasher ≡ hasher_of (replicate 8 0) (replicate 8 0) text
 
--- no other hasher has taken the text
+-- each hasher that has taken the text is this one
 abbrev pub AloneHoldsText : Blake2s256 → List ℕ → Type 0
 AloneHoldsText s text = (other : Blake2s256) → HoldsText other text → other ≡ s

@@ -25,13 +25,13 @@ elements_in parameters = record {
   windows = lists_in parameters.generators.items;
 }
 
--- they are those of an element, one for each bit of the randomness, and of the windows' elements
+-- The lists are the doublings of an element, one for each bit of the randomness, and those of the windows' elements.
 pub record AreOf {G W : Type 0} (g : Group G) (bits : ℕ) (windows : Windows W)
     (element : G) (elements : List G) (lists : Generators G) : Type 0 where
   pub of_randomness : lists.randomness ≡ doublings g bits element
   pub of_windows : AreGeneratorsOf g windows elements lists.windows
 
--- they are those of some elements or other
+-- the lists are so for some elements
 abbrev pub AreMade : {G W : Type 0} → Group G → ℕ → Windows W → Generators G → Type 0
 AreMade {G} g bits windows lists = (element : G) × (elements : List G) × AreOf g bits windows element elements lists
 
@@ -41,7 +41,7 @@ drawn_elements draw windows stream =
     let others = window_elements draw windows (draw stream).1 in
     (((draw stream).0, others.0), others.1)
 
--- they are those of the elements that are drawn
+-- the lists are so for the elements that are drawn from a stream
 abbrev pub AreAllDrawn : {G W : Type 0} → Group G → (Stream → G × Stream) → ℕ → Windows W → Stream → Generators G
     → Type 0
 AreAllDrawn g draw bits windows stream lists =

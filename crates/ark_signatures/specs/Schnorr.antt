@@ -30,17 +30,23 @@ challenge_of modulus bits digest = digest >>= λ bytes. Ok (scalar_of modulus bi
 
 -- ---- signing
 
--- The first number, drawn one after another, whose multiple of the generator has a challenge; that challenge; and the
--- stream behind the draw. The digest's refusal is told at the first multiple that meets one, and `DrawsExhausted` after
--- the given count of draws without a challenge.
+-- a number whose multiple of the generator has a challenge, that challenge, and the stream behind the draw
+pub record Nonce : Type 0 where
+  pub number : ℕ
+  pub challenge : ℕ
+  pub left : Stream
+
+-- The first such number that is drawn, one after another. The digest's refusal is returned at the first multiple that
+-- meets one, and `DrawsExhausted` after the given count of draws without a challenge.
 unfoldable pub first_nonce : {F : Type 0} → (Stream → F × Stream) → (F → ℕ) → (ℕ → Outcome (Option ℕ)) → ℕ → Stream
-    → Outcome ((ℕ × ℕ) × Stream)
+    → Outcome Nonce
 first_nonce draw value challenge zero stream = Err (GenericError DrawsExhausted)
 first_nonce draw value challenge (suc draws) stream =
     let number = value (draw stream).0 in
     let left = (draw stream).1 in
     challenge number >>= λ found.
-    option_map_or (λ e. Ok ((number, e), left)) found (first_nonce draw value challenge draws left)
+    option_map_or (λ e. Ok (record { number = number; challenge = e; left = left })) found
+    (first_nonce draw value challenge draws left)
 
 -- k - x e modulo the modulus
 abbrev pub response : ℕ → ℕ → ℕ → ℕ → ℕ
@@ -52,7 +58,7 @@ abbrev pub signed : {F : Type 0} → (Stream → F × Stream) → (F → ℕ) �
     → Outcome ((ℕ × ℕ) × Stream)
 signed draw value challenge modulus x stream =
     first_nonce draw value challenge 128 stream >>= λ nonce.
-    Ok ((response modulus x nonce.0.0 nonce.0.1, nonce.0.1), nonce.1)
+    Ok ((response modulus x nonce.number nonce.challenge, nonce.challenge), nonce.left)
 
 -- the two numbers that a signature is
 abbrev pub numbers_of : {G F : Type 0} → (F → ℕ) → Signature G F → ℕ × ℕ

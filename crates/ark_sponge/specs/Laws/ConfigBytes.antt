@@ -126,13 +126,17 @@ pub parameters_are_long : (bits : ℕ) (c : Parameters) → 56 ≤ length (param
 parameters_are_long bits c =
     let rows = counted_list (counted_list (bytes_of_number (bytes_for bits))) in
     let long = counted_list_is_long (counted_list (bytes_of_number (bytes_for bits))) in
-    let f = fields_of c in
-    let shape = both_are_long word word 8 8 f.1.1.1.1.1 (word_is_long c.rate) (word_is_long c.capacity) in
-    let matrix = both_are_long rows (both word word) 8 16 f.1.1.1.1 (long c.mds) shape in
-    let constants = both_are_long rows (both rows (both word word)) 8 24 f.1.1.1 (long c.ark) matrix in
-    let exponent = both_are_long word (both rows (both rows (both word word))) 8 32 f.1.1 (word_is_long c.alpha)
-    constants in
-    let partial = both_are_long word (both word (both rows (both rows (both word word)))) 8 40 f.1
-    (word_is_long c.partial_rounds) exponent in
-    both_are_long word (both word (both word (both rows (both rows (both word word))))) 8 48 f
-    (word_is_long c.full_rounds) partial
+    let shape = (c.rate, c.capacity) in
+    let matrix = (c.mds, shape) in
+    let constants = (c.ark, matrix) in
+    let exponent = (c.alpha, constants) in
+    let partial = (c.partial_rounds, exponent) in
+    let shape_long = both_are_long word word 8 8 shape (word_is_long c.rate) (word_is_long c.capacity) in
+    let matrix_long = both_are_long rows (both word word) 8 16 matrix (long c.mds) shape_long in
+    let constants_long = both_are_long rows (both rows (both word word)) 8 24 constants (long c.ark) matrix_long in
+    let exponent_long = both_are_long word (both rows (both rows (both word word))) 8 32 exponent
+    (word_is_long c.alpha) constants_long in
+    let partial_long = both_are_long word (both word (both rows (both rows (both word word)))) 8 40 partial
+    (word_is_long c.partial_rounds) exponent_long in
+    both_are_long word (both word (both word (both rows (both rows (both word word))))) 8 48 (fields_of c)
+    (word_is_long c.full_rounds) partial_long

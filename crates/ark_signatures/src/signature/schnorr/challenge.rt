@@ -68,7 +68,11 @@ pub fn draw_nonce<C: CurveGroup, D: ByteDigest, R: Rng>(
         (times C.group k pp.now.generator) in
         let nonce = first_nonce C.ScalarField.draw value challenge 128 (R.stream rng.old) in
         let left = R.stream rng.new in
-        AnswersBy (λ pair. ((value pair.0, value pair.1), left)) nonce result }
+        AnswersBy (λ pair. record {
+          number = value pair.0;
+          challenge = value pair.1;
+          left = left;
+        }) nonce result }
 {
     for _ in 0..DRAWS {
         let k = C::ScalarField::rand(rng);
