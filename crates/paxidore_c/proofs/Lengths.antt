@@ -1,5 +1,5 @@
 -- How many bytes the path of a tree has.
-use Rattle.std.proofs.Common.{◌≡◌, ℕ, zero, suc, ◌+◌, ◌-◌, ◌*◌, ◌<◌, ◌^◌, List, [], ◌∷◌, ◌++◌, length, take, drop, map, get_or, nat_lt, Bool, true, false, if◌then◌else◌, ℤ, pos, Option, Some, None, Result, Ok, Err, IfOk, arith, refl, sym, ap, subst, ◌∙◌, inl, inr}
+use Rattle.std.proofs.Common.{◌≡◌, ℕ, zero, suc, ◌+◌, ◌-◌, ◌*◌, ◌<◌, ◌^◌, List, [], ◌∷◌, ◌++◌, length, take, drop, map, get_or, nat_lt, Bool, true, false, if◌then◌else◌, ℤ, pos, w32, to_z, of_z, Option, Some, None, Result, Ok, Err, IfOk, arith, refl, sym, ap, subst, ◌∙◌, inl, inr}
 use Rattle.std.proofs.Math.Nat.{pow-succ'}
 use Rattle.std.proofs.lemmas.Bool.{ltb-true}
 use Rattle.std.proofs.lemmas.List.{get_or-map, length-append, length-map}
@@ -15,11 +15,12 @@ use Rattle.ark_paths.specs.Tree.{halves_beside, path_in, root_digest}
 use Rattle.ark_paths.proofs.Logs.{log2-pow}
 use Rattle.ark_paths.proofs.PlaceLemmas.{neighbour-inside}
 use Rattle.ark_paths.proofs.Receiveds.{size-decided}
-use Rattle.paxidore_calls.specs.Answer.{Hands, leaves_in, only_if, path_of_leaves, refusal_code, tree_leaves_in}
+use Rattle.paxidore_calls.specs.Answer.{Gives, Hands, only_if, path_of_leaves, refusal_code, written_code}
 use Rattle.paxidore_calls.specs.Cut.{parts_by}
 use Rattle.paxidore_calls.specs.Hashing.{Hashing, bytes_of_path, node_pair, tree_over}
 use Rattle.paxidore_calls.specs.declared.refused.Refused.{Refused}
-use Rattle.paxidore_calls.specs.declared.refused.Refused.TheVariants.{Index, Lengths, Size}
+use Rattle.paxidore_calls.specs.declared.refused.Refused.TheVariants.{Index, Memory}
+use Rattle.paxidore_c.proofs.Codes.{refusal-no}
 use Rattle.paxidore_c.proofs.Trees.{place-node}
 
 -- a path of a tree of this size
@@ -126,3 +127,21 @@ module _ (h : Hashing) (leaf-long : (leaf : List ℕ) → length (h.leaf_hash le
           by_index true is_at =
               own-long xs index (subst IsTreeSize (sym count) (size-decided (length lengths) is))
                   (ltb-true index (length xs) is_at) ∙ ap path_bytes count
+
+  -- so many bytes are handed over
+  pub path-counted : (leaves lengths : List ℕ) (index : ℕ) (before after : List ℕ) (count_before count_after : ℕ)
+      (code : ℤ) → Hands (path_of_leaves h leaves lengths index) before after count_before count_after code
+      → code ≡ pos 0 → count_after ≡ path_bytes (length lengths)
+  path-counted leaves lengths index before after count_before count_after code hands zero =
+      by_outcome (path_of_leaves h leaves lengths index) (path-long leaves lengths index) hands.right_code
+      (hands.counted zero)
+    where
+      no : (refused : Refused) → code ≡ refusal_code refused → ⊥
+      no refused is = refusal-no refused (ap (λ (z : ℤ). to_z w32 (of_z w32 z)) (sym is ∙ zero))
+
+      by_outcome : (outcome : Result (List ℕ) Refused) → IfOk outcome (λ bytes. length bytes ≡ path_bytes
+          (length lengths)) → Gives (written_code outcome (length before)) code
+          → IfOk outcome (λ bytes. count_after ≡ length bytes) → count_after ≡ path_bytes (length lengths)
+      by_outcome (Ok bytes) long gives counted = counted ∙ long
+      by_outcome (Err refused) long (inl is) counted = absurd (no refused is)
+      by_outcome (Err refused) long (inr is) counted = absurd (no Memory is)
