@@ -11,6 +11,9 @@ use sha2::{Digest, Sha256};
 use sha256_lanes::{four_messages, four_pairs};
 use std::alloc::Global;
 
+// Four digests.
+pub(crate) type Four = ([u8; 32], [u8; 32], [u8; 32], [u8; 32]);
+
 /// Trees of byte strings whose digests are arrays: the digest of a leaf is its SHA-256, that of a pair the SHA-256 of left
 /// followed by right. No digest asks for memory.
 pub struct Sha256Arrays;
@@ -64,7 +67,7 @@ impl CRHScheme for ArraySha256 {
         b: &Vec<u8>,
         c: &Vec<u8>,
         d: &Vec<u8>,
-    ) -> Result<([u8; 32], [u8; 32], [u8; 32], [u8; 32]), Error> {
+    ) -> Result<Four, Error> {
         Ok(four_messages(a, b, c, d))
     }
 
@@ -110,14 +113,14 @@ impl TwoToOneCRHScheme for ArraySha256 {
 
     /// The digest of left followed by right. It takes no memory.
     fn compress(
-        _alloc: Global,
-        _parameters: &(),
+        alloc: Global,
+        parameters: &(),
         left: &[u8; 32],
         right: &[u8; 32],
     ) -> Result<[u8; 32], Error>
         ensures exact { result ≡ Ok (sha256 (left.now ++ right.now)) }
     {
-        Ok(digest_of_pair(left, right))
+        <ArraySha256 as TwoToOneCRHScheme>::evaluate(alloc, parameters, left, right)
     }
 
     /// Hashes four pairs together. It allocates nothing.
@@ -132,14 +135,14 @@ impl TwoToOneCRHScheme for ArraySha256 {
         c_right: &[u8; 32],
         d: &[u8; 32],
         d_right: &[u8; 32],
-    ) -> Result<([u8; 32], [u8; 32], [u8; 32], [u8; 32]), Error> {
+    ) -> Result<Four, Error> {
         Ok(four_pairs(a, a_right, b, b_right, c, c_right, d, d_right))
     }
 
     /// Hashes four pairs together. It allocates nothing.
     fn compress_four(
-        _alloc: Global,
-        _parameters: &(),
+        alloc: Global,
+        parameters: &(),
         a: &[u8; 32],
         a_right: &[u8; 32],
         b: &[u8; 32],
@@ -148,8 +151,10 @@ impl TwoToOneCRHScheme for ArraySha256 {
         c_right: &[u8; 32],
         d: &[u8; 32],
         d_right: &[u8; 32],
-    ) -> Result<([u8; 32], [u8; 32], [u8; 32], [u8; 32]), Error> {
-        Ok(four_pairs(a, a_right, b, b_right, c, c_right, d, d_right))
+    ) -> Result<Four, Error> {
+        <ArraySha256 as TwoToOneCRHScheme>::evaluate_four(
+            alloc, parameters, a, a_right, b, b_right, c, c_right, d, d_right,
+        )
     }
 
     ghost evaluated_decided = { λ _ _ _. tt };

@@ -6,5 +6,5 @@ mod rfc6962;
 mod strings;
 
 pub use arrays::{ArraySha256, Sha256Arrays};
-pub use rfc6962::{LogHasher, LogSha256, Sha256Log};
+pub use rfc6962::{LogHasher, LogSha256, Sha256Log, digest_of_entry, digests_of_entries};
 pub use strings::Sha256Strings;

@@ -6,6 +6,7 @@ ghost use Rattle.ark_paths.specs.Index.{IsTreeSize, log2};
 ghost use Rattle.ark_paths.specs.Tree.{root_in, tree_of};
 ghost use Rattle.ark_trees.specs.Rfc6962.{entry_hash, node_hash, node_of, merkle_tree_hash};
 
+use crate::arrays::Four;
 use ark_base::error::Error;
 use ark_crh::{CRHScheme, TwoToOneCRHScheme};
 use ark_merkle::hasher::TreeHasher;
@@ -88,7 +89,7 @@ impl CRHScheme for LogSha256 {
         b: &Vec<u8>,
         c: &Vec<u8>,
         d: &Vec<u8>,
-    ) -> Result<([u8; 32], [u8; 32], [u8; 32], [u8; 32]), Error> {
+    ) -> Result<Four, Error> {
         Ok(digests_of_entries(a, b, c, d))
     }
 
@@ -134,14 +135,14 @@ impl TwoToOneCRHScheme for LogSha256 {
 
     /// The hash of the node over two others. It takes no memory.
     fn compress(
-        _alloc: Global,
-        _parameters: &(),
+        alloc: Global,
+        parameters: &(),
         left: &[u8; 32],
         right: &[u8; 32],
     ) -> Result<[u8; 32], Error>
         ensures exact { result ≡ Ok (node_hash left.now right.now) }
     {
-        Ok(digest_of_node(left, right))
+        <LogSha256 as TwoToOneCRHScheme>::evaluate(alloc, parameters, left, right)
     }
 
     /// Hashes four nodes together. It allocates nothing.
@@ -156,14 +157,14 @@ impl TwoToOneCRHScheme for LogSha256 {
         c_right: &[u8; 32],
         d: &[u8; 32],
         d_right: &[u8; 32],
-    ) -> Result<([u8; 32], [u8; 32], [u8; 32], [u8; 32]), Error> {
+    ) -> Result<Four, Error> {
         Ok(digests_of_nodes(a, a_right, b, b_right, c, c_right, d, d_right))
     }
 
     /// Hashes four nodes together. It allocates nothing.
     fn compress_four(
-        _alloc: Global,
-        _parameters: &(),
+        alloc: Global,
+        parameters: &(),
         a: &[u8; 32],
         a_right: &[u8; 32],
         b: &[u8; 32],
@@ -172,8 +173,10 @@ impl TwoToOneCRHScheme for LogSha256 {
         c_right: &[u8; 32],
         d: &[u8; 32],
         d_right: &[u8; 32],
-    ) -> Result<([u8; 32], [u8; 32], [u8; 32], [u8; 32]), Error> {
-        Ok(digests_of_nodes(a, a_right, b, b_right, c, c_right, d, d_right))
+    ) -> Result<Four, Error> {
+        <LogSha256 as TwoToOneCRHScheme>::evaluate_four(
+            alloc, parameters, a, a_right, b, b_right, c, c_right, d, d_right,
+        )
     }
 
     ghost evaluated_decided = { λ _ _ _. tt };
@@ -223,13 +226,57 @@ impl TreeHasher<[u8; 32], [u8; 32]> for LogHasher {
     }
 
     /// Hashes the node over two others. It allocates nothing.
-    fn upper(&self, _alloc: Global, left: &[u8; 32], right: &[u8; 32]) -> Result<[u8; 32], Error> {
-        Ok(digest_of_node(left, right))
+    fn upper(&self, alloc: Global, left: &[u8; 32], right: &[u8; 32]) -> Result<[u8; 32], Error> {
+        self.bottom(alloc, left, right)
+    }
+
+    /// Hashes four entries, together where none has more than 118 bytes. It allocates nothing.
+    fn leaf_four(
+        &self,
+        _alloc: Global,
+        a: &Vec<u8>,
+        b: &Vec<u8>,
+        c: &Vec<u8>,
+        d: &Vec<u8>,
+    ) -> Result<Four, Error> {
+        Ok(digests_of_entries(a, b, c, d))
+    }
+
+    /// Hashes four nodes over entries' hashes together. It allocates nothing.
+    fn bottom_four(
+        &self,
+        _alloc: Global,
+        a: &[u8; 32],
+        a_right: &[u8; 32],
+        b: &[u8; 32],
+        b_right: &[u8; 32],
+        c: &[u8; 32],
+        c_right: &[u8; 32],
+        d: &[u8; 32],
+        d_right: &[u8; 32],
+    ) -> Result<Four, Error> {
+        Ok(digests_of_nodes(a, a_right, b, b_right, c, c_right, d, d_right))
+    }
+
+    /// Hashes four nodes together. It allocates nothing.
+    fn upper_four(
+        &self,
+        alloc: Global,
+        a: &[u8; 32],
+        a_right: &[u8; 32],
+        b: &[u8; 32],
+        b_right: &[u8; 32],
+        c: &[u8; 32],
+        c_right: &[u8; 32],
+        d: &[u8; 32],
+        d_right: &[u8; 32],
+    ) -> Result<Four, Error> {
+        self.bottom_four(alloc, a, a_right, b, b_right, c, c_right, d, d_right)
     }
 }
 
-// The digest of a zero byte and an entry.
-fn digest_of_entry(entry: &[u8]) -> [u8; 32]
+/// The digest of a zero byte and an entry (section 2.1).
+pub fn digest_of_entry(entry: &[u8]) -> [u8; 32]
     ensures { result ≡ entry_hash entry.now }
 {
     let mut hasher = Sha256::new();
@@ -248,13 +295,8 @@ fn entry_message(entry: &[u8]) -> [u8; 119]
     message
 }
 
-// The digests of four entries.
-fn digests_of_entries(
-    a: &[u8],
-    b: &[u8],
-    c: &[u8],
-    d: &[u8],
-) -> ([u8; 32], [u8; 32], [u8; 32], [u8; 32])
+/// The digests of four entries, which are hashed together where none has more than 118 bytes.
+pub fn digests_of_entries(a: &[u8], b: &[u8], c: &[u8], d: &[u8]) -> Four
     ensures a { result.0 ≡ entry_hash a.now }
     ensures b { result.1 ≡ entry_hash b.now }
     ensures c { result.2 ≡ entry_hash c.now }
@@ -298,7 +340,7 @@ fn digests_of_nodes(
     c_right: &[u8; 32],
     d: &[u8; 32],
     d_right: &[u8; 32],
-) -> ([u8; 32], [u8; 32], [u8; 32], [u8; 32])
+) -> Four
     ensures a { result.0 ≡ node_hash a.now a_right.now }
     ensures b { result.1 ≡ node_hash b.now b_right.now }
     ensures c { result.2 ≡ node_hash c.now c_right.now }

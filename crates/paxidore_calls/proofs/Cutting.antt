@@ -1,8 +1,7 @@
 -- Leaves that are cut off in turn, and what is made of each.
-use Rattle.std.proofs.Common.{◌≡◌, ℕ, suc, ◌<◌, ◌≤◌, List, [], ◌∷◌, ◌++◌, length, take, drop, get_or, nat_lt, true, false, Option, Some, None, Result, Ok, Err, refl, sym, ap, ◌∙◌, append_assoc, append-nil}
-use Rattle.std.proofs.Math.Seq.{drop-cons}
+use Rattle.std.proofs.Common.{◌≡◌, ℕ, ◌+◌, ◌<◌, ◌≤◌, List, [], ◌∷◌, ◌++◌, length, take, drop, map, get_or, nat_lt, true, false, Option, Some, None, Result, Ok, Err, refl, sym, ap, ◌∙◌, append_assoc, append-nil}
 use Rattle.std.proofs.lemmas.Bool.{le-ltb, lt-ltb}
-use Rattle.std.proofs.lemmas.List.{drop_all}
+use Rattle.std.proofs.lemmas.List.{drop_all, drop_more, map-append}
 use Rattle.std.specs.Option.{option_map}
 use Rattle.paxidore_calls.specs.Answer.{leaves_in, results_of}
 use Rattle.paxidore_calls.specs.Cut.{parts_by}
@@ -18,20 +17,51 @@ behind-nil : {B : Type 0} (rest : Result (List B) Refused) → rest ≡ behind [
 behind-nil (Ok more) = refl
 behind-nil (Err refused) = refl
 
-behind-onto : {B : Type 0} (front : List B) (x : B) (rest : Result (List B) Refused) → behind front
-    (behind (x ∷ []) rest) ≡ behind (front ++ x ∷ []) rest
-behind-onto front x (Ok more) = ap Ok (sym (append_assoc front (x ∷ []) more))
-behind-onto front x (Err refused) = refl
+behind-onto : {B : Type 0} (front more : List B) (rest : Result (List B) Refused) → behind front (behind more rest)
+    ≡ behind (front ++ more) rest
+behind-onto front more (Ok others) = ap Ok (sym (append_assoc front more others))
+behind-onto front more (Err refused) = refl
+
+-- the first part of some bytes
+module _ (bytes lengths : List ℕ) (i len : ℕ) (inside : i < length lengths) (is : len ≡ get_or lengths i len) where
+  here : drop i lengths ≡ len ∷ drop (i + 1) lengths
+  here = drop_more lengths i len inside ∙ ap (λ (n : ℕ). n ∷ drop (i + 1) lengths) (sym is)
+
+  pub parts-short : length bytes < len → parts_by bytes (drop i lengths) ≡ None
+  parts-short short =
+      let test : nat_lt (length bytes) len ≡ true = lt-ltb (length bytes) len short in
+      rw (here, test) refl
+
+  pub parts-first : len ≤ length bytes → parts_by bytes (drop i lengths)
+      ≡ option_map (λ others. take len bytes ∷ others) (parts_by (drop len bytes) (drop (i + 1) lengths))
+  parts-first fits =
+      let test : nat_lt (length bytes) len ≡ false = le-ltb (length bytes) len fits in
+      rw (here, test) refl
+
+-- four parts, each in front of others
+pub four-parts : {A : Type 0} (a b c d : A) (o : Option (List A)) → option_map (λ others. a ∷ others)
+    (option_map (λ others. b ∷ others) (option_map (λ others. c ∷ others) (option_map (λ others. d ∷ others) o)))
+    ≡ option_map (λ others. a ∷ b ∷ c ∷ d ∷ others) o
+four-parts a b c d None = refl
+four-parts a b c d (Some others) = refl
 
 module _ {B : Type 0} (made : List ℕ → B) where
   -- what is made of the parts of some bytes
   abbrev pub of_parts : List ℕ → List ℕ → Result (List B) Refused
   of_parts bytes lengths = results_of made (leaves_in (parts_by bytes lengths))
 
-  first-part : (part : List ℕ) (rest : Option (List (List ℕ))) → results_of made
-      (leaves_in (option_map (λ parts. part ∷ parts) rest)) ≡ behind (made part ∷ []) (results_of made (leaves_in rest))
-  first-part part None = refl
-  first-part part (Some parts) = refl
+  first-parts : (parts : List (List ℕ)) (rest : Option (List (List ℕ))) → results_of made
+      (leaves_in (option_map (λ others. parts ++ others) rest))
+      ≡ behind (map made parts) (results_of made (leaves_in rest))
+  first-parts parts None = refl
+  first-parts parts (Some others) = ap Ok (map-append made parts others)
+
+  -- what is made of four parts, as it is seen behind other values
+  pub four-made : {M : Type 0} (seen : M → B) (front : List M) (w x y z : M) (a b c d : List ℕ)
+      → (seen w ≡ made a) × (seen x ≡ made b) × (seen y ≡ made c) × (seen z ≡ made d)
+      → map seen (front ++ w ∷ x ∷ y ∷ z ∷ []) ≡ map seen front ++ map made (a ∷ b ∷ c ∷ d ∷ [])
+  four-made seen front w x y z a b c d are =
+      map-append seen front (w ∷ x ∷ y ∷ z ∷ []) ∙ rw (are.0, are.1, are.2, are.3) refl
 
   module _ (bytes : List ℕ) (lengths : List ℕ) where
     -- before place i all is made; the rest is left
@@ -41,31 +71,22 @@ module _ {B : Type 0} (made : List ℕ → B) where
     pub so_far-none : of_parts bytes lengths ≡ behind [] (of_parts bytes (drop 0 lengths))
     so_far-none = behind-nil (of_parts bytes lengths)
 
-    module _ (i : ℕ) (front : List B) (rest : List ℕ) (inside : i < length lengths) (so : of_parts bytes lengths
+    module _ (i : ℕ) (front : List B) (rest : List ℕ) (so : of_parts bytes lengths
         ≡ behind front (of_parts rest (drop i lengths))) where
-      here : drop i lengths ≡ get_or lengths i 0 ∷ drop (suc i) lengths
-      here = drop-cons lengths i 0 inside
+      pub so_far-more : (j : ℕ) (next : List ℕ) (parts : List (List ℕ)) → parts_by rest (drop i lengths)
+          ≡ option_map (λ others. parts ++ others) (parts_by next (drop j lengths)) → of_parts bytes lengths
+          ≡ behind (front ++ map made parts) (of_parts next (drop j lengths))
+      so_far-more j next parts are =
+          so ∙ rw (are, first-parts parts (parts_by next (drop j lengths)))
+          (behind-onto front (map made parts) (of_parts next (drop j lengths)))
 
-      pub so_far-more : get_or lengths i 0 ≤ length rest → of_parts bytes lengths
-          ≡ behind (front ++ made (take (get_or lengths i 0) rest) ∷ []) (of_parts (drop (get_or lengths i 0) rest)
-          (drop (suc i) lengths))
-      so_far-more fits =
-          let len = get_or lengths i 0 in
-          let test : nat_lt (length rest) len ≡ false = le-ltb (length rest) len fits in
-          so ∙ rw (here, test, first-part (take len rest) (parts_by (drop len rest) (drop (suc i) lengths)))
-          (behind-onto front (made (take len rest)) (of_parts (drop len rest) (drop (suc i) lengths)))
+      pub so_far-short : parts_by rest (drop i lengths) ≡ None → of_parts bytes lengths ≡ Err Lengths
+      so_far-short none = so ∙ rw none refl
 
-      pub so_far-short : length rest < get_or lengths i 0 → of_parts bytes lengths ≡ Err Lengths
-      so_far-short short =
-          let test : nat_lt (length rest) (get_or lengths i 0) ≡ true =
-          lt-ltb (length rest) (get_or lengths i 0) short in
-          so ∙ rw (here, test) refl
+      module _ (past : length lengths ≤ i) where
+        pub so_far-all : length rest ≡ 0 → of_parts bytes lengths ≡ Ok front
+        so_far-all none = so ∙ rw (drop_all i lengths past, none) (ap Ok (append-nil front))
 
-    module _ (i : ℕ) (front : List B) (rest : List ℕ) (past : length lengths ≤ i) (so : of_parts bytes lengths
-        ≡ behind front (of_parts rest (drop i lengths))) where
-      pub so_far-all : length rest ≡ 0 → of_parts bytes lengths ≡ Ok front
-      so_far-all none = so ∙ rw (drop_all i lengths past, none) (ap Ok (append-nil front))
-
-      pub so_far-left : 0 < length rest → of_parts bytes lengths ≡ Err Lengths
-      so_far-left some = let test : nat_lt 0 (length rest) ≡ true =
-          lt-ltb 0 (length rest) some in so ∙ rw (drop_all i lengths past, test) refl
+        pub so_far-left : 0 < length rest → of_parts bytes lengths ≡ Err Lengths
+        so_far-left some = let test : nat_lt 0 (length rest) ≡ true =
+            lt-ltb 0 (length rest) some in so ∙ rw (drop_all i lengths past, test) refl

@@ -1,17 +1,21 @@
 //! Leaves that stand one behind the other.
 
-ghost use Rattle.std.specs.Prelude.{◌≡◌, ◌<◌, ◌≤◌, ℕ, List, length, take, map, nat_lt, true, IfOk};
+ghost use Rattle.std.specs.Prelude.{◌≡◌, ◌<◌, ◌≤◌, ◌+◌, ◌++◌, ◌∷◌, [], ℕ, List, None, length, take, drop, map, nat_lt, true, IfOk, IsOkUnless, OnOk, MatchOption};
+ghost use Rattle.std.specs.Option.{option_map};
 ghost use Rattle.std.specs.List.{All, list_all};
 ghost use Rattle.ark_paths.specs.Index.{IsTreeSize};
 ghost use Rattle.ark_trees.specs.Rfc6962.{entry_hash};
 ghost use Rattle.paxidore_calls.specs.Answer.{GivesBy, are_indexes, leaves_for, leaves_in, results_of};
 ghost use Rattle.paxidore_calls.specs.Cut.{parts_by};
+ghost use Rattle.paxidore_calls.specs.declared.refused.Refused.TheVariants.{Memory};
 ghost use Rattle.sha2.specs.Sha256.{sha256};
 
 use crate::refused::Refused;
 use ark_base::serialize::rest_of;
 use ark_merkle::is_tree_size;
+use ark_trees::{digest_of_entry, digests_of_entries};
 use sha2::{Digest, Sha256};
+use sha256_lanes::four_messages;
 use std::alloc::{AllocError, Global};
 
 /// What is made of a leaf.
@@ -26,7 +30,28 @@ pub trait OfLeaf {
     /// What is made of the leaf of some bytes.
     fn make(alloc: Global, leaf: &[u8]) -> Result<Self::Made, AllocError>
         ensures { IfOk result (λ x. seen x ≡ made leaf.now) };
+
+    /// What is made of the leaves of four times some bytes. They may be hashed together.
+    fn make_four(
+        alloc: Global,
+        a: &[u8],
+        b: &[u8],
+        c: &[u8],
+        d: &[u8],
+    ) -> Result<(Self::Made, Self::Made, Self::Made, Self::Made), AllocError>
+        ensures { IfOk result (λ four. (seen four.0 ≡ made a.now) × (seen four.1 ≡ made b.now)
+            × (seen four.2 ≡ made c.now) × (seen four.3 ≡ made d.now)) }
+    {
+        let first = Self::make(alloc, a)?;
+        let second = Self::make(alloc, b)?;
+        let third = Self::make(alloc, c)?;
+        let fourth = Self::make(alloc, d)?;
+        Ok((first, second, third, fourth))
+    }
 }
+
+// Four digests.
+type Four = ([u8; 32], [u8; 32], [u8; 32], [u8; 32]);
 
 /// The leaf itself.
 pub struct Itself;
@@ -56,6 +81,16 @@ impl OfLeaf for PlainDigest {
     fn make(_alloc: Global, leaf: &[u8]) -> Result<[u8; 32], AllocError> {
         Ok(Sha256::digest(leaf))
     }
+
+    fn make_four(
+        _alloc: Global,
+        a: &[u8],
+        b: &[u8],
+        c: &[u8],
+        d: &[u8],
+    ) -> Result<Four, AllocError> {
+        Ok(four_messages(a, b, c, d))
+    }
 }
 
 /// Its digest in a log (RFC 6962, section 2.1).
@@ -69,10 +104,17 @@ impl OfLeaf for LogDigest {
     ghost seen = { λ digest. digest };
 
     fn make(_alloc: Global, leaf: &[u8]) -> Result<[u8; 32], AllocError> {
-        let mut hasher = Sha256::new();
-        hasher.update([0].as_slice());
-        hasher.update(leaf);
-        Ok(hasher.finalize())
+        Ok(digest_of_entry(leaf))
+    }
+
+    fn make_four(
+        _alloc: Global,
+        a: &[u8],
+        b: &[u8],
+        c: &[u8],
+        d: &[u8],
+    ) -> Result<Four, AllocError> {
+        Ok(digests_of_entries(a, b, c, d))
     }
 }
 
@@ -82,6 +124,55 @@ fn front_of(bytes: &[u8], count: usize) -> &[u8]
     ensures { result.now ≡ take count bytes.now }
 {
     &bytes[..count]
+}
+
+// The leaf of the length at a place, and the bytes behind it.
+fn next_leaf<'a>(bytes: &'a [u8], lengths: &[usize], place: usize) -> Option<(&'a [u8], &'a [u8])>
+    requires { place < length lengths.now }
+    ensures { let parts = parts_by bytes.now (drop place lengths.now) in
+        MatchOption result (parts ≡ None)
+        (λ next. parts ≡ option_map (λ others. next.0.now ∷ others)
+        (parts_by next.1.now (drop (place + 1) lengths.now))) }
+{
+    let len = lengths[place];
+    if len > bytes.len() {
+        return None;
+    }
+    Some((front_of(bytes, len), rest_of(bytes, len)))
+}
+
+// The leaves of four lengths from a place on, and the bytes behind them.
+fn next_four<'a>(
+    bytes: &'a [u8],
+    lengths: &[usize],
+    place: usize,
+) -> Option<(&'a [u8], &'a [u8], &'a [u8], &'a [u8], &'a [u8])>
+    requires { place + 3 < length lengths.now }
+    ensures { let parts = parts_by bytes.now (drop place lengths.now) in
+        MatchOption result (parts ≡ None)
+        (λ next. parts ≡ option_map
+        (λ others. next.0.now ∷ next.1.now ∷ next.2.now ∷ next.3.now ∷ others)
+        (parts_by next.4.now (drop (place + 4) lengths.now))) }
+{
+    let (a, behind) = next_leaf(bytes, lengths, place)?;
+    let (b, behind) = next_leaf(behind, lengths, place + 1)?;
+    let (c, behind) = next_leaf(behind, lengths, place + 2)?;
+    let (d, behind) = next_leaf(behind, lengths, place + 3)?;
+    Some((a, b, c, d, behind))
+}
+
+// Puts four values behind others, the first one first.
+fn push_four<T: Drop>(all: &mut Vec<T>, four: (T, T, T, T)) -> Result<(), Refused>
+    ensures items { OnOk result (all.new.items
+        ≡ all.old.items ++ four.0 ∷ four.1 ∷ four.2 ∷ four.3 ∷ []) }
+    ensures memory { IsOkUnless result Memory }
+{
+    let (first, second, third, fourth) = four;
+    all.push(first)?;
+    all.push(second)?;
+    all.push(third)?;
+    all.push(fourth)?;
+    Ok(())
 }
 
 /// What is made of each leaf, where the lengths are those of parts that are all of the bytes.
@@ -97,12 +188,21 @@ pub fn of_leaves<M: OfLeaf>(
 {
     let mut all = Vec::with_capacity(alloc, lengths.len())?;
     let mut rest = bytes;
-    for len in lengths {
-        if *len > rest.len() {
+    let fours = lengths.len() / 4;
+    'fours: for four in 0..fours {
+        let Some((a, b, c, d, behind)) = next_four(rest, lengths, 4 * four) else {
             return Err(Refused::Lengths);
-        }
-        all.push(M::make(alloc, front_of(rest, *len))?)?;
-        rest = rest_of(rest, *len);
+        };
+        let made = M::make_four(alloc, a, b, c, d)?;
+        push_four(&mut all, made)?;
+        rest = behind;
+    }
+    'others: for place in 4 * fours..lengths.len() {
+        let Some((leaf, behind)) = next_leaf(rest, lengths, place) else {
+            return Err(Refused::Lengths);
+        };
+        all.push(M::make(alloc, leaf)?)?;
+        rest = behind;
     }
     if !rest.is_empty() {
         return Err(Refused::Lengths);

@@ -1,6 +1,6 @@
 //! Changes of several leaves at once.
 
-ghost use Rattle.std.specs.Prelude.{◌≡◌, ◌<◌, ℕ, [], ◌∷◌, map, length, IfOk, OnErr, Ok};
+ghost use Rattle.std.specs.Prelude.{◌≡◌, ◌<◌, ℕ, [], ◌∷◌, map, length, IfOk, MatchOption, OnErr, Ok};
 ghost use Rattle.std.specs.List.{All};
 ghost use Rattle.ark_base.specs.Outcome.{AnswersBy};
 ghost use Rattle.ark_paths.specs.Index.{log2};
@@ -13,7 +13,7 @@ ghost use Rattle.ark_merkle.specs.Changed.{seen_changes, entered, AreChanges, Ri
 ghost use Rattle.ark_merkle.specs.Update.{with_leaf};
 
 use crate::tree::MerkleTree;
-use crate::tree::changes::{change_rows, hash_reached_leaves, put_changes};
+use crate::tree::changes::{change_rows, hash_reached_leaves, push_changes, put_changes};
 use crate::tree::levels::Levels;
 use ark_base::error::Error;
 use ark_base::serialize::DigestItem;
@@ -21,6 +21,7 @@ use ark_paths::hasher::{ConfigHasher, TreeHasher};
 use ark_paths::views::Views;
 use std::alloc::Global;
 use std::collections::BTreeMap;
+use std::collections::btree_map::Iter;
 
 impl<P: Views> MerkleTree<P> {
     /// Puts leaves in the places of those at indexes below the size. Where an index is changed twice, the last leaf counts,
@@ -157,6 +158,34 @@ fn last_leaves<'a, L>(
     Ok(last)
 }
 
+// A changed index with its last leaf, as a map lends them.
+type Entry<'b, 'a, L> = (&'b usize, &'b &'a L);
+
+// The next four entries, where as many are left.
+fn next_four<'b, 'a, L>(
+    left: &mut Iter<'b, usize, &'a L>,
+) -> Option<
+    (
+        Entry<'b, 'a, L>,
+        Entry<'b, 'a, L>,
+        Entry<'b, 'a, L>,
+        Entry<'b, 'a, L>,
+    ),
+>
+    ensures { MatchOption result (left.new ≡ left.old) (λ four. left.old
+        ≡ (four.0.0.now, four.0.1.now) ∷ (four.1.0.now, four.1.1.now)
+        ∷ (four.2.0.now, four.2.1.now) ∷ (four.3.0.now, four.3.1.now) ∷ left.new) }
+{
+    if left.len() < 4 {
+        return None;
+    }
+    let a = left.next()?;
+    let b = left.next()?;
+    let c = left.next()?;
+    let d = left.next()?;
+    Some((a, b, c, d))
+}
+
 // The digest of the last leaf of each changed index.
 fn hash_last<L: DigestItem, D: DigestItem, T: TreeHasher<L, D>>(
     alloc: Global,
@@ -169,7 +198,12 @@ fn hash_last<L: DigestItem, D: DigestItem, T: TreeHasher<L, D>>(
 {
     let last = last_leaves(alloc, changes)?;
     let mut digests = Vec::with_capacity(alloc, last.len())?;
-    for (index, leaf) in &last {
+    let mut left = last.iter();
+    'fours: while let Some((a, b, c, d)) = next_four(&mut left) {
+        let made = hasher.leaf_four(alloc, a.1, b.1, c.1, d.1)?;
+        push_changes(&mut digests, (*a.0, *b.0, *c.0, *d.0), made)?;
+    }
+    'rest: for (index, leaf) in left {
         digests.push((*index, hasher.leaf(alloc, leaf)?))?;
     }
     Ok(digests)

@@ -1,6 +1,7 @@
 //! Changed digests of a row, and what they change above it.
 
-ghost use Rattle.std.specs.Prelude.{◌≡◌, ◌<◌, ◌≤◌, ◌-◌, ◌/◌, ◌%◌, ◌^◌, ℕ, [], ◌∷◌, map, length, take, drop, get_or, set, slice_index, IfOk, OnErr};
+ghost use Rattle.std.specs.Prelude.{◌≡◌, ◌<◌, ◌≤◌, ◌-◌, ◌/◌, ◌%◌, ◌^◌, ◌+◌, ◌++◌, ℕ, [], ◌∷◌, map, length, take, drop, get_or, set, slice_index, IfOk, IsOkUnless, OnErr, OnOk};
+ghost use Rattle.ark_base.specs.declared.error.Error.TheVariants.{OutOfMemory};
 ghost use Rattle.ark_base.specs.Outcome.{AnswersBy};
 ghost use Rattle.ark_paths.specs.Rows.{rows_from};
 ghost use Rattle.ark_merkle.specs.Batch.{hashed_changes, puts};
@@ -15,6 +16,7 @@ use std::alloc::Global;
 use std::mem::swap;
 
 // A couple of a row that changes reach, as it becomes.
+#[derive(Drop)]
 struct Reached<'a, D: DigestItem> {
     // The couple's place in the row above.
     place: usize,
@@ -38,6 +40,7 @@ fn reached_by<'a, D: DigestItem>(
         from next ≡ (result.place, (D.numbers result.left.now, D.numbers result.right.now))
         ∷ from result.behind }
     ensures more { next < result.behind }
+    ensures most { result.behind ≤ next + 2 }
     ensures inside { result.behind ≤ length changes.now }
 {
     let (index, digest) = &changes[next];
@@ -66,6 +69,71 @@ fn reached_by<'a, D: DigestItem>(
     }
 }
 
+// Four couples of a row that changes reach, as they become.
+struct FourReached<'a, D: DigestItem> {
+    // The couples' places in the row above.
+    places: (usize, usize, usize, usize),
+    a: (&'a D, &'a D),
+    b: (&'a D, &'a D),
+    c: (&'a D, &'a D),
+    d: (&'a D, &'a D),
+    // The first change behind them.
+    behind: usize,
+}
+
+// The next four couples of a row that changes reach.
+fn four_reached<'a, D: DigestItem>(
+    row: &'a [D],
+    changes: &'a [(usize, D)],
+    next: usize,
+) -> FourReached<'a, D>
+    requires even { length row.now % 2 ≡ 0 }
+    requires changes { AreChanges 0 (length row.now) changes.now }
+    requires next { next + 7 < length changes.now }
+    ensures reached { let row = map D.numbers row.now in
+        let from = λ (n : ℕ). couples_reached row (seen_changes D.numbers (drop n changes.now)) in
+        from next ≡ (result.places.0, (D.numbers result.a.0.now, D.numbers result.a.1.now))
+        ∷ (result.places.1, (D.numbers result.b.0.now, D.numbers result.b.1.now))
+        ∷ (result.places.2, (D.numbers result.c.0.now, D.numbers result.c.1.now))
+        ∷ (result.places.3, (D.numbers result.d.0.now, D.numbers result.d.1.now))
+        ∷ from result.behind }
+    ensures more { next < result.behind }
+    ensures inside { result.behind ≤ length changes.now }
+{
+    let first = reached_by(row, changes, next);
+    let second = reached_by(row, changes, first.behind);
+    let third = reached_by(row, changes, second.behind);
+    let fourth = reached_by(row, changes, third.behind);
+    FourReached {
+        places: (first.place, second.place, third.place, fourth.place),
+        a: (first.left, first.right),
+        b: (second.left, second.right),
+        c: (third.left, third.right),
+        d: (fourth.left, fourth.right),
+        behind: fourth.behind,
+    }
+}
+
+/// Puts four digests behind others, each with its place, the first one first.
+pub fn push_changes<D: DigestItem>(
+    changes: &mut Vec<(usize, D)>,
+    places: (usize, usize, usize, usize),
+    digests: (D, D, D, D),
+) -> Result<(), Error>
+    ensures changes { let old = seen_changes D.numbers changes.old.items in
+        OnOk result (seen_changes D.numbers changes.new.items ≡ old
+        ++ (places.0, D.numbers digests.0) ∷ (places.1, D.numbers digests.1)
+        ∷ (places.2, D.numbers digests.2) ∷ (places.3, D.numbers digests.3) ∷ []) }
+    ensures memory { IsOkUnless result OutOfMemory }
+{
+    let (first, second, third, fourth) = digests;
+    changes.push((places.0, first))?;
+    changes.push((places.1, second))?;
+    changes.push((places.2, third))?;
+    changes.push((places.3, fourth))?;
+    Ok(())
+}
+
 // The hashes of the couples of a row that changes reach.
 fn hash_reached<L: DigestItem, D: DigestItem, T: TreeHasher<L, D>>(
     alloc: Global,
@@ -83,7 +151,21 @@ fn hash_reached<L: DigestItem, D: DigestItem, T: TreeHasher<L, D>>(
 {
     let mut above = Vec::with_capacity(alloc, changes.len())?;
     let mut next = 0;
-    while next < changes.len() {
+    // Eight changes reach four couples at least.
+    'fours: while next + 7 < changes.len() {
+        let FourReached {
+            places,
+            a,
+            b,
+            c,
+            d,
+            behind,
+        } = four_reached(row, changes, next);
+        let made = hasher.upper_four(alloc, a.0, a.1, b.0, b.1, c.0, c.1, d.0, d.1)?;
+        push_changes(&mut above, places, made)?;
+        next = behind;
+    }
+    'rest: while next < changes.len() {
         let Reached {
             place,
             left,
@@ -114,7 +196,21 @@ pub fn hash_reached_leaves<L: DigestItem, D: DigestItem, T: TreeHasher<L, D>>(
 {
     let mut above = Vec::with_capacity(alloc, changes.len())?;
     let mut next = 0;
-    while next < changes.len() {
+    // Eight changes reach four couples at least.
+    'fours: while next + 7 < changes.len() {
+        let FourReached {
+            places,
+            a,
+            b,
+            c,
+            d,
+            behind,
+        } = four_reached(leaves, changes, next);
+        let made = hasher.bottom_four(alloc, a.0, a.1, b.0, b.1, c.0, c.1, d.0, d.1)?;
+        push_changes(&mut above, places, made)?;
+        next = behind;
+    }
+    'rest: while next < changes.len() {
         let Reached {
             place,
             left,

@@ -1,11 +1,19 @@
-use Rattle.std.proofs.Common.{Bor}
+use Rattle.std.proofs.Common.{Bor, length}
 use Rattle.ark_merkle.specs.Batch.{last_changes}
 use Rattle.ark_merkle.specs.Changed.{seen_changes}
 use Rattle.ark_merkle.proofs.Batches.{AreHashedSoFar}
 use Rattle.ark_merkle.proofs.tree.batch.hash_last.Given as goal
 
 -- the leaves before those that are left are hashed
-abbrev pub invariant-loop-index : goal.invariant-loop-index
-invariant-loop-index g l =
+abbrev pub invariant-fours : goal.invariant-fours
+invariant-fours g l =
+    AreHashedSoFar (g.T.TreeHasher.hashes l.hasher).leaf (last_changes l.changes) (seen_changes g.L.Numbered.numbers
+    l.digests.items) (seen_changes (λ (leaf : Bor _). leaf.now) l.left)
+
+abbrev pub decreases-fours : goal.decreases-fours
+decreases-fours g l = length l.left
+
+abbrev pub invariant-rest : goal.invariant-rest
+invariant-rest g l =
     AreHashedSoFar (g.T.TreeHasher.hashes l.hasher).leaf (last_changes l.changes) (seen_changes g.L.Numbered.numbers
     l.digests.items) (seen_changes (λ (leaf : Bor _). leaf.now) l.index-iterator)
