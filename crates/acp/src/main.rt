@@ -2,15 +2,12 @@
 #![tactic(auto)]
 
 use acp_run::command::command;
-use std::env;
+use acp_run::words::words;
 use std::io::{self, BufReader, BufWriter};
 use std::process::ExitCode;
 
 fn start(rt: &HostRuntime) -> io::Result<u8> {
-    let mut words = Vec::new(rt.alloc());
-    for word in env::args(rt)?.skip(1) {
-        words.push(word)?;
-    }
+    let words = words(rt.alloc(), rt)?;
     let mut lines = BufReader::new(rt.alloc(), rt.stdin())?;
     let mut replies = BufWriter::new(rt.alloc(), rt.stdout())?;
     Ok(command(

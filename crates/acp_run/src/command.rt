@@ -1,6 +1,6 @@
 //! The program, over a reader and writers.
 
-ghost use Rattle.std.specs.Prelude.{◌≡◌, ◌≢◌, map, string_bytes, None, IfSome, MatchResult};
+ghost use Rattle.std.specs.Prelude.{◌≡◌, ◌≢◌, map, vec_items, None, IfSome, MatchResult};
 ghost use Rattle.std.specs.Io.Buffered.{reader_remaining};
 ghost use Rattle.std.specs.Io.KnownBytes.{Keeps};
 ghost use Rattle.acp_run.specs.Commands.{configuration_of, language_of, usage, stop_notice};
@@ -21,13 +21,13 @@ pub enum Configuration {
 }
 
 /// The configuration that the words name: one word alone does.
-pub fn configuration_of(words: &[String]) -> Option<Configuration>
-    ensures { result ≡ configuration_of (map string_bytes words.now) }
+pub fn configuration_of(words: &[Vec<u8>]) -> Option<Configuration>
+    ensures { result ≡ configuration_of (map vec_items words.now) }
 {
     if words.len() != 1 {
         return None;
     }
-    let word = words[0].as_bytes();
+    let word = words[0].as_slice();
     if word == b"sha256".as_slice() {
         Some(Configuration::Sha256)
     } else if word == b"toy".as_slice() {
@@ -41,25 +41,25 @@ pub fn configuration_of(words: &[String]) -> Option<Configuration>
 /// `acp: stopped` among the faults, where something failed before; 2, with the usage there, for words that it doesn't know.
 pub fn command<R: Read, W: Write, E: Write>(
     alloc: Global,
-    words: &[String],
+    words: &[Vec<u8>],
     lines: &mut BufReader<R>,
     replies: &mut W,
     faults: &mut E,
 ) -> u8
-    ensures unknown { configuration_of (map string_bytes words.now) ≡ None
+    ensures unknown { configuration_of (map vec_items words.now) ≡ None
         → (result ≡ 2) × (lines.new ≡ lines.old) × (replies.new ≡ replies.old) }
-    ensures usage { configuration_of (map string_bytes words.now) ≡ None
+    ensures usage { configuration_of (map vec_items words.now) ≡ None
         → AppendsFront (E.contents faults.old) (E.contents faults.new) usage }
 
-    ensures status { configuration_of (map string_bytes words.now) ≢ None
+    ensures status { configuration_of (map vec_items words.now) ≢ None
         → result ≢ 0 → result ≡ 1 }
-    ensures served { IfSome (configuration_of (map string_bytes words.now)) (λ configuration.
+    ensures served { IfSome (configuration_of (map vec_items words.now)) (λ configuration.
         let input = reader_remaining R.remaining lines.old in
         let step = Step (language_of configuration) in
         result ≡ 0 → Serves step input (W.contents replies.old) (W.contents replies.new)) }
     ensures quiet { result ≡ 0 → faults.new ≡ faults.old }
 
-    ensures stopped { IfSome (configuration_of (map string_bytes words.now)) (λ configuration.
+    ensures stopped { IfSome (configuration_of (map vec_items words.now)) (λ configuration.
         let input = reader_remaining R.remaining lines.old in
         let step = Step (language_of configuration) in
         result ≡ 1 → Stops step input (W.contents replies.old) (W.contents replies.new)) }

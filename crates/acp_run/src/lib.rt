@@ -4,3 +4,4 @@
 pub mod answering;
 pub mod command;
 pub mod run;
+pub mod words;

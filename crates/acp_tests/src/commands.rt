@@ -15,10 +15,10 @@ pub const INPUT: &[u8] = b"root\ntree - -\ntree -\n\nproof 2";
 pub const REPLIES: &[u8] =
     b"refused tree\ntree 2 height 2\nrefused leaves\nbad line\nrefused index\n";
 
-fn owned(alloc: Global, words: &[&str]) -> Result<Vec<String>, Error> {
+fn owned(alloc: Global, words: &[&[u8]]) -> Result<Vec<Vec<u8>>, Error> {
     let mut owned = Vec::new(alloc);
     for word in words {
-        owned.push(String::from_str(alloc, word)?)?;
+        owned.push(Vec::from_slice(alloc, word)?)?;
     }
     Ok(owned)
 }
@@ -35,7 +35,7 @@ fn fault(status: u8) -> &'static [u8] {
 /// The status of a command, and whether the faults are those of this status.
 pub fn status_of<R: Read + Drop, W: Write>(
     alloc: Global,
-    words: &[&str],
+    words: &[&[u8]],
     reader: R,
     writer: &mut W,
 ) -> Result<(u8, bool), Error> {

@@ -76,7 +76,7 @@ fn ended<'a, R: Read + Drop>(
         fails_at,
         lines_sent,
     };
-    let (status, told) = status_of(alloc, &["sha256"], reader, &mut writer)?;
+    let (status, told) = status_of(alloc, &[b"sha256"], reader, &mut writer)?;
     let is_front = REPLIES.starts_with(&writer.sent);
     Ok(if told && is_front {
         Some((status, writer.flushes, writer.sent.len()))
