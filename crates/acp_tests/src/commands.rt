@@ -1,5 +1,6 @@
 //! Commands over readers and writers of the tests' own, and sessions over bytes.
 
+use acp_run::buffered::{BufferedInput, BufferedOutput};
 use acp_run::command::command;
 use acp_run::run::run;
 use acp_session::shell::Shell;
@@ -40,10 +41,13 @@ pub fn status_of<R: Read + Drop, W: Write>(
     writer: &mut W,
 ) -> Result<(u8, bool), Error> {
     let words = owned(alloc, words)?;
-    let mut lines = BufReader::new(alloc, reader).map_err(|_| Error::OutOfMemory)?;
-    let mut faults = Vec::new(alloc);
-    let status = command(alloc, &words, &mut lines, writer, &mut faults);
-    Ok((status, faults.as_slice() == fault(status)))
+    let reader = BufReader::new(alloc, reader).map_err(|_| Error::OutOfMemory)?;
+    let mut lines = BufferedInput::new(reader);
+    let mut replies = BufferedOutput::new(alloc, writer).map_err(|_| Error::OutOfMemory)?;
+    let mut faults = BufferedOutput::direct(alloc, Vec::new(alloc));
+    let status = command(alloc, &words, &mut lines, &mut replies, &mut faults);
+    let told: Vec<u8> = faults.into_inner();
+    Ok((status, told.as_slice() == fault(status)))
 }
 
 /// How many line feeds some bytes have.
@@ -59,14 +63,16 @@ pub fn answers<C: Shell>(
     input: &[u8],
     replies: &[u8],
 ) -> Result<bool, Error> {
-    let mut lines = BufReader::new(alloc, input).map_err(|_| Error::OutOfMemory)?;
-    let mut written: Vec<u8> = Vec::new(alloc);
-    let ended = run::<C, &[u8], Vec<u8>>(
+    let reader = BufReader::new(alloc, input).map_err(|_| Error::OutOfMemory)?;
+    let mut lines = BufferedInput::new(reader);
+    let mut written = BufferedOutput::direct(alloc, Vec::new(alloc));
+    let ended = run::<C, BufferedInput<&[u8]>, BufferedOutput<Vec<u8>>>(
         alloc,
         leaf_parameters,
         pair_parameters,
         &mut lines,
         &mut written,
     );
+    let written = written.into_inner();
     Ok(ended.is_ok() && written.as_slice() == replies)
 }

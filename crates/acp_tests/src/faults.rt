@@ -113,10 +113,10 @@ fn stops_at_each_failed_read(rt: HostRuntime) {
     }
 }
 
-// The replies have 67 bytes, and no reply is written together with the next one.
+// The replies have 67 bytes. By four bytes a read, the third and the fourth line come together, and so do their replies.
 #[test]
 fn stops_at_each_failed_write(rt: HostRuntime) {
-    for (size, writes) in [(1usize, 67usize), (4, 19)] {
+    for (size, writes) in [(1usize, 67usize), (4, 18)] {
         for k in 0..=writes {
             let calls = Calls { size, left: k };
             let status = if k == writes { 0 } else { 1 };
