@@ -214,6 +214,10 @@ module _ {T : Type 0} (step : T → List ℕ → T → List ℕ → Type 0) (sta
             w0 w' _ (appends_kept w0 w w' _ so_far.6 kept),
       )
 
+  -- it is cut short before its first line
+  pub stops_at_once : (r0 w0 : Option (List ℕ)) → StopsFrom step start r0 w0 w0
+  stops_at_once r0 w0 = stops_here 0 r0 w0 start r0 w0 w0 (going_from_start r0 w0) (keeps_self w0)
+
   -- it is cut short in a reply
   pub stops_within : (n : ℕ) (r0 w0 : Option (List ℕ)) (before after : T) (r w w' : Option (List ℕ)) (line reply : List ℕ)
       → Going n r0 w0 before r w → 0 < length line → IfSome r (λ xs. line ≡ take_through 10 xs)
