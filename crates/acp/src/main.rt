@@ -1,24 +1,23 @@
 //! The program `acp`: trees, proofs and checks, line by line.
 #![tactic(auto)]
 
+use acp_run::buffered::{BufferedInput, BufferedOutput};
 use acp_run::command::command;
-use std::env;
-use std::io::{self, BufReader, BufWriter};
+use acp_run::words::words;
+use std::io::{self, BufReader};
 use std::process::ExitCode;
 
 fn start(rt: &HostRuntime) -> io::Result<u8> {
-    let mut words = Vec::new(rt.alloc());
-    for word in env::args(rt)?.skip(1) {
-        words.push(word)?;
-    }
-    let mut lines = BufReader::new(rt.alloc(), rt.stdin())?;
-    let mut replies = BufWriter::new(rt.alloc(), rt.stdout())?;
+    let words = words(rt.alloc(), rt)?;
+    let mut lines = BufferedInput::new(BufReader::new(rt.alloc(), rt.stdin())?);
+    let mut replies = BufferedOutput::new(rt.alloc(), rt.stdout())?;
+    let mut faults = BufferedOutput::direct(rt.alloc(), rt.stderr());
     Ok(command(
         rt.alloc(),
         &words,
         &mut lines,
         &mut replies,
-        &mut rt.stderr(),
+        &mut faults,
     ))
 }
 

@@ -1,3 +1,4 @@
 pub mod Commands
 pub mod Lines
 pub mod Sessions
+pub mod Streams

@@ -1,5 +1,5 @@
 -- Whole sessions.
-use Rattle.std.specs.Prelude.{ℕ, List, [], ◌∷◌, take, Option, None, IfSome}
+use Rattle.std.specs.Prelude.{◌≡◌, ◌<◌, ◌⊎◌, ◌^◌, ◌-◌, ℕ, List, [], ◌∷◌, length, take, Option, None, IfSome, ⊤}
 use Rattle.std.specs.List.{flat_map}
 use Rattle.std.specs.Io.KnownBytes.{Appends, Consumes}
 use Rattle.acp_run.specs.Lines.{lines_of, with_line_feed}
@@ -45,3 +45,18 @@ StopsFrom step start input before after =
 abbrev pub Stops : {T : Type 0} → (Option T → List ℕ → Option T → List ℕ → Type 0)
     → Option (List ℕ) → Option (List ℕ) → Option (List ℕ) → Type 0
 Stops step = StopsFrom step None
+
+-- What the writer holds when a session is cut short and neither the reader nor the writer failed: what it held, then the
+-- whole replies to some first lines. Either there was a further line, for whose reply memory lacked, or 2 ^ 64 - 1
+-- lines were answered.
+abbrev pub HaltsFrom : {T : Type 0} → (T → List ℕ → T → List ℕ → Type 0) → T → Type 0
+    → Option (List ℕ) → Option (List ℕ) → Option (List ℕ) → Type 0
+HaltsFrom step start lacks input before after =
+    IfSome input (λ bytes. (n : ℕ) × (replies : List (List ℕ)) × Session step start (take n (lines_of bytes)) replies
+    × Appends before after (flat_map with_line_feed replies)
+    × ((n < length (lines_of bytes)) × lacks ⊎ length replies ≡ 2 ^ 64 - 1))
+
+-- the same from no tree on; that memory lacked is not seen from outside
+abbrev pub Halts : {T : Type 0} → (Option T → List ℕ → Option T → List ℕ → Type 0)
+    → Option (List ℕ) → Option (List ℕ) → Option (List ℕ) → Type 0
+Halts step = HaltsFrom step None ⊤

@@ -1,6 +1,6 @@
 //! What answers lines, one after another.
 
-ghost use Rattle.std.specs.Prelude.{◌≡◌, ℕ, List, None, IfOk, OnErr};
+ghost use Rattle.std.specs.Prelude.{◌≡◌, ℕ, List, None, IfOk, OnErr, ⊤};
 ghost use Rattle.acp_session.specs.Language.{Language as OfTokens};
 ghost use Rattle.acp_session.specs.Steps.{State as OfTree, Step, state_of};
 
@@ -28,6 +28,9 @@ pub trait Answering {
     // What each call keeps.
     ghost is_sound: { Self → Type 0 };
 
+    // What holds behind a call for which memory lacked.
+    ghost lacks: { Self → Type 0 };
+
     /// The reply to a line, without a line feed. The only refusal is `AllocError`, where memory lacks, and it leaves the state.
     fn answer(&mut self, alloc: Global, line: &[u8]) -> Result<Vec<u8>, AllocError>
         requires { is_sound self.old }
@@ -35,6 +38,7 @@ pub trait Answering {
             step (language self.old) (state self.old) line.now (state self.new) reply.items) }
         ensures same { language self.new ≡ language self.old }
         ensures refused { OnErr result (state self.new ≡ state self.old) }
+        ensures lacks { OnErr result (lacks self.new) }
         ensures sound { is_sound self.new };
 }
 
@@ -79,6 +83,9 @@ impl<'a, C: Shell> Answering for Session<'a, C> {
 
     ghost is_sound = { λ session. ⟦<C as Hashing>⟧.has_hashes
         session.leaf_parameters.now session.pair_parameters.now session.tree };
+
+    // It keeps no trace of that.
+    ghost lacks = { λ _. ⊤ };
 
     fn answer(&mut self, alloc: Global, line: &[u8]) -> Result<Vec<u8>, AllocError> {
         answer(

@@ -2,5 +2,8 @@
 #![tactic(auto)]
 
 pub mod answering;
+pub mod buffered;
 pub mod command;
 pub mod run;
+pub mod streams;
+pub mod words;

@@ -1,5 +1,6 @@
 //! Commands over readers and writers of the tests' own, and sessions over bytes.
 
+use acp_run::buffered::{BufferedInput, BufferedOutput};
 use acp_run::command::command;
 use acp_run::run::run;
 use acp_session::shell::Shell;
@@ -15,10 +16,10 @@ pub const INPUT: &[u8] = b"root\ntree - -\ntree -\n\nproof 2";
 pub const REPLIES: &[u8] =
     b"refused tree\ntree 2 height 2\nrefused leaves\nbad line\nrefused index\n";
 
-fn owned(alloc: Global, words: &[&str]) -> Result<Vec<String>, Error> {
+fn owned(alloc: Global, words: &[&[u8]]) -> Result<Vec<Vec<u8>>, Error> {
     let mut owned = Vec::new(alloc);
     for word in words {
-        owned.push(String::from_str(alloc, word)?)?;
+        owned.push(Vec::from_slice(alloc, word)?)?;
     }
     Ok(owned)
 }
@@ -35,15 +36,18 @@ fn fault(status: u8) -> &'static [u8] {
 /// The status of a command, and whether the faults are those of this status.
 pub fn status_of<R: Read + Drop, W: Write>(
     alloc: Global,
-    words: &[&str],
+    words: &[&[u8]],
     reader: R,
     writer: &mut W,
 ) -> Result<(u8, bool), Error> {
     let words = owned(alloc, words)?;
-    let mut lines = BufReader::new(alloc, reader).map_err(|_| Error::OutOfMemory)?;
-    let mut faults = Vec::new(alloc);
-    let status = command(alloc, &words, &mut lines, writer, &mut faults);
-    Ok((status, faults.as_slice() == fault(status)))
+    let reader = BufReader::new(alloc, reader).map_err(|_| Error::OutOfMemory)?;
+    let mut lines = BufferedInput::new(reader);
+    let mut replies = BufferedOutput::new(alloc, writer).map_err(|_| Error::OutOfMemory)?;
+    let mut faults = BufferedOutput::direct(alloc, Vec::new(alloc));
+    let status = command(alloc, &words, &mut lines, &mut replies, &mut faults);
+    let told: Vec<u8> = faults.into_inner();
+    Ok((status, told.as_slice() == fault(status)))
 }
 
 /// How many line feeds some bytes have.
@@ -59,14 +63,16 @@ pub fn answers<C: Shell>(
     input: &[u8],
     replies: &[u8],
 ) -> Result<bool, Error> {
-    let mut lines = BufReader::new(alloc, input).map_err(|_| Error::OutOfMemory)?;
-    let mut written: Vec<u8> = Vec::new(alloc);
-    let ended = run::<C, &[u8], Vec<u8>>(
+    let reader = BufReader::new(alloc, input).map_err(|_| Error::OutOfMemory)?;
+    let mut lines = BufferedInput::new(reader);
+    let mut written = BufferedOutput::direct(alloc, Vec::new(alloc));
+    let ended = run::<C, BufferedInput<&[u8]>, BufferedOutput<Vec<u8>>>(
         alloc,
         leaf_parameters,
         pair_parameters,
         &mut lines,
         &mut written,
     );
+    let written = written.into_inner();
     Ok(ended.is_ok() && written.as_slice() == replies)
 }

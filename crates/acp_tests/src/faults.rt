@@ -66,7 +66,7 @@ fn ended(alloc: Global, reads: Calls, writes: Calls) -> Result<Option<(u8, usize
         bytes: INPUT,
         calls: reads,
     };
-    let (status, told) = status_of(alloc, &["sha256"], reader, &mut sink)?;
+    let (status, told) = status_of(alloc, &[b"sha256"], reader, &mut sink)?;
     let is_front = REPLIES.starts_with(&sink.bytes);
     Ok(if told && is_front {
         Some((status, count_lines(&sink.bytes)))
@@ -113,10 +113,10 @@ fn stops_at_each_failed_read(rt: HostRuntime) {
     }
 }
 
-// The replies have 67 bytes, and no reply is written together with the next one.
+// The replies have 67 bytes. By four bytes a read, the third and the fourth line come together, and so do their replies.
 #[test]
 fn stops_at_each_failed_write(rt: HostRuntime) {
-    for (size, writes) in [(1usize, 67usize), (4, 19)] {
+    for (size, writes) in [(1usize, 67usize), (4, 18)] {
         for k in 0..=writes {
             let calls = Calls { size, left: k };
             let status = if k == writes { 0 } else { 1 };
@@ -131,7 +131,7 @@ fn stops_at_each_failed_write(rt: HostRuntime) {
 }
 
 // The status of some words, where nothing is written and the faults are those of the status.
-fn told_usage(alloc: Global, words: &[&str]) -> Result<Option<u8>, Error> {
+fn told_usage(alloc: Global, words: &[&[u8]]) -> Result<Option<u8>, Error> {
     let mut replies = Vec::new(alloc);
     let (status, told) = status_of(alloc, words, INPUT, &mut replies)?;
     Ok(if told && replies.is_empty() {
@@ -142,12 +142,14 @@ fn told_usage(alloc: Global, words: &[&str]) -> Result<Option<u8>, Error> {
 }
 
 // Words that name no configuration.
-const WORDS: [&[&str]; 5] = [
+const WORDS: [&[&[u8]]; 7] = [
     &[],
-    &["sha"],
-    &["Toy"],
-    &["sha256", "toy"],
-    &["sha256", "sha256"],
+    &[b"sha"],
+    &[b"Toy"],
+    &[b"sha256", b"toy"],
+    &[b"sha256", b"sha256"],
+    &[b"\xff"],
+    &[b"sha256", b"\xff"],
 ];
 
 #[test]

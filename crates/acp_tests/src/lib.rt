@@ -1,5 +1,5 @@
-//! Tests of the program's parts: readers and writers that fail, when replies are sent off, leaves that are hashed with a key, lines that
-//! set several leaves, lines that count pairs.
+//! Tests of the program's parts: its words, readers and writers that fail or are interrupted, when replies are sent off, leaves that
+//! are hashed with a key, lines that set several leaves, lines that count pairs.
 #![tactic(auto)]
 
 #[cfg(test)]
@@ -11,6 +11,10 @@ mod faults;
 #[cfg(test)]
 mod flushes;
 #[cfg(test)]
+mod interrupts;
+#[cfg(test)]
 mod keyed;
 #[cfg(test)]
 mod set_many;
+#[cfg(test)]
+mod words;

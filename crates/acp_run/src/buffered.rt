@@ -1,0 +1,244 @@
+//! Readers and writers of `std::io` as what a session reads and writes.
+
+ghost use Rattle.std.specs.Prelude.{◌≡◌, ◌≤◌, [], length, take, true, false, is_some, None, IfErr, OnOk, OnErr, IfOk, MatchResult};
+ghost use Rattle.std.specs.Io.Buffered.{reader_buffer, reader_remaining};
+ghost use Rattle.std.specs.Io.KnownBytes.{Appends, Keeps, append_known};
+ghost use Rattle.acp_run.specs.Lines.{HoldsLineFeed};
+ghost use Rattle.acp_run.specs.Sessions.{AppendsFront};
+ghost use Rattle.acp_run.specs.Streams.{held_back};
+
+use crate::streams::{Input, Output};
+use memchr::memchr;
+use std::alloc::Global;
+use std::io::{self, BufRead, BufReader, ErrorKind, Read, Write};
+
+// How many bytes of replies wait to be sent off together.
+const CAPACITY: usize = 8192;
+
+/// Lines from a reader.
+#[derive(Drop)]
+pub struct BufferedInput<R> {
+    lines: BufReader<R>,
+    has_failed: bool,
+}
+
+impl<R: Read> BufferedInput<R> {
+    /// Takes a reader, of which no call has failed.
+    pub fn new(lines: BufReader<R>) -> BufferedInput<R>
+        ensures remaining { let remaining = ⟦<Self as Input>⟧.remaining in
+            remaining result ≡ reader_remaining R.remaining lines }
+        ensures going { ⟦<Self as Input>⟧.has_failed result ≡ false }
+    {
+        BufferedInput {
+            lines,
+            has_failed: false,
+        }
+    }
+}
+
+impl<R: Read> Input for BufferedInput<R> {
+    ghost remaining = { λ input. reader_remaining R.remaining input.lines };
+
+    ghost has_failed = { λ input. input.has_failed };
+
+    ghost HasLine = { λ input. HoldsLineFeed (reader_buffer input.lines) };
+
+    fn has_failed(&self) -> bool {
+        self.has_failed
+    }
+
+    fn has_line(&self) -> bool {
+        memchr(b'\n', self.lines.buffer()).is_some()
+    }
+
+    fn read_line<O: Output>(&mut self, _replies: &O, line: &mut Vec<u8>) -> io::Result<bool> {
+        line.clear();
+        let read = self.lines.read_until(b'\n', line);
+        self.has_failed = read.is_err();
+        Ok(read? > 0)
+    }
+}
+
+// How a write was cut short, and how many bytes were written before.
+#[derive(Drop)]
+struct Cut {
+    written: usize,
+    fault: io::Error,
+}
+
+/// A writer behind a buffer.
+#[derive(Drop)]
+pub struct BufferedOutput<W> {
+    writer: W,
+    buffer: Vec<u8>,
+    // Where a call failed: how many of the buffer's bytes were written.
+    failure: Option<usize>,
+}
+
+impl<W: Write> BufferedOutput<W> {
+    /// Takes a writer, of which no call has failed, and allocates a buffer before it.
+    pub fn new(alloc: Global, writer: W) -> io::Result<BufferedOutput<W>>
+    where
+        W: Drop,
+        ensures contents { let contents = ⟦<Self as Output>⟧.contents in
+            IfOk result (λ output. Keeps (W.contents writer) (contents output)) }
+        ensures sent { let unsent = ⟦<Self as Output>⟧.unsent in
+            IfOk result (λ output. unsent output ≡ []) }
+        ensures going { let has_failed = ⟦<Self as Output>⟧.has_failed in
+            IfOk result (λ output. has_failed output ≡ false) }
+    {
+        let buffer = Vec::with_capacity(alloc, CAPACITY)?;
+        Ok(BufferedOutput {
+            writer,
+            buffer,
+            failure: None,
+        })
+    }
+
+    /// Takes a writer, of which no call has failed, and sends each write off at once.
+    pub fn direct(alloc: Global, writer: W) -> BufferedOutput<W>
+        ensures contents { let contents = ⟦<Self as Output>⟧.contents in
+            Keeps (W.contents writer) (contents result) }
+        ensures sent { ⟦<Self as Output>⟧.unsent result ≡ [] }
+        ensures going { ⟦<Self as Output>⟧.has_failed result ≡ false }
+    {
+        BufferedOutput {
+            writer,
+            buffer: Vec::new(alloc),
+            failure: None,
+        }
+    }
+
+    /// Gives the writer back. Where all was sent off and no call failed, it holds all.
+    pub fn into_inner(self) -> W
+        ensures { let contents = ⟦<Self as Output>⟧.contents in
+            ⟦<Self as Output>⟧.unsent self ≡ [] → Keeps (contents self) (W.contents result) }
+    {
+        self.writer
+    }
+
+    // Whether the buffer takes so many more bytes without growing.
+    fn has_room(&self, count: usize) -> bool {
+        count <= self.buffer.capacity().saturating_sub(self.buffer.len())
+    }
+
+    // Puts bytes behind those in the buffer.
+    fn keep(&mut self, bytes: &[u8]) -> io::Result<()>
+        requires { self.old.failure ≡ None }
+        ensures whole { let contents = ⟦<Self as Output>⟧.contents in
+            OnOk result (Appends (contents self.old) (contents self.new) bytes.now) }
+        ensures kept { let contents = ⟦<Self as Output>⟧.contents in
+            OnErr result (Keeps (contents self.old) (contents self.new)) }
+        ensures failed { MatchResult result
+            (λ _. self.new.failure ≡ None) (λ _. is_some self.new.failure ≡ true) }
+    {
+        match self.buffer.extend_from_slice(bytes) {
+            Ok(()) => Ok(()),
+            Err(fault) => {
+                self.failure = Some(0);
+                Err(io::Error::from(fault))
+            }
+        }
+    }
+
+    // Writes bytes, with none in the buffer before them.
+    fn pass(&mut self, bytes: &[u8]) -> io::Result<()>
+        requires going { self.old.failure ≡ None }
+        requires empty { self.old.buffer.items ≡ [] }
+        ensures whole { let contents = ⟦<Self as Output>⟧.contents in
+            OnOk result (Appends (contents self.old) (contents self.new) bytes.now) }
+        ensures cut { let contents = ⟦<Self as Output>⟧.contents in
+            OnErr result (AppendsFront (contents self.old) (contents self.new) bytes.now) }
+        ensures failed { MatchResult result
+            (λ _. self.new.failure ≡ None) (λ _. is_some self.new.failure ≡ true) }
+    {
+        match hand_over(&mut self.writer, bytes) {
+            Ok(()) => Ok(()),
+            Err(cut) => {
+                self.failure = Some(0);
+                Err(cut.fault)
+            }
+        }
+    }
+
+    // Writes the buffer's bytes.
+    fn pass_buffer(&mut self) -> io::Result<()>
+        requires { self.old.failure ≡ None }
+        ensures kept { let contents = ⟦<Self as Output>⟧.contents in
+            Keeps (contents self.old) (contents self.new) }
+        ensures sent { OnOk result (self.new.buffer.items ≡ []) }
+        ensures failed { MatchResult result
+            (λ _. self.new.failure ≡ None) (λ _. is_some self.new.failure ≡ true) }
+    {
+        match hand_over(&mut self.writer, &self.buffer) {
+            Ok(()) => {
+                self.buffer.clear();
+                Ok(())
+            }
+            Err(cut) => {
+                self.failure = Some(cut.written);
+                Err(cut.fault)
+            }
+        }
+    }
+}
+
+impl<W: Write> Output for BufferedOutput<W> {
+    ghost contents = { λ output.
+        append_known (W.contents output.writer) (held_back output.failure output.buffer.items) };
+
+    ghost unsent = { λ output. output.buffer.items };
+
+    ghost has_failed = { λ output. is_some output.failure };
+
+    fn has_failed(&self) -> bool {
+        self.failure.is_some()
+    }
+
+    fn write(&mut self, bytes: &[u8]) -> io::Result<()> {
+        if self.has_room(bytes.len()) {
+            return self.keep(bytes);
+        }
+        self.pass_buffer()?;
+        if self.has_room(bytes.len()) {
+            return self.keep(bytes);
+        }
+        self.pass(bytes)
+    }
+
+    fn send(&mut self) -> io::Result<()> {
+        if self.buffer.is_empty() {
+            return Ok(());
+        }
+        self.pass_buffer()
+    }
+}
+
+// Writes bytes whole and flushes. A write that was interrupted is tried again; any other failure ends it.
+fn hand_over<W: Write>(writer: &mut W, bytes: &[u8]) -> Result<(), Cut>
+    ensures whole { let held = W.contents in
+        OnOk result (Appends (held writer.old) (held writer.new) bytes.now) }
+    ensures cut { let held = W.contents in IfErr result (λ cut.
+        Appends (held writer.old) (held writer.new) (take cut.written bytes.now)) }
+{
+    let mut written = 0;
+    for _ in 0..u64::MAX {
+        if written == bytes.len() {
+            return writer.flush().map_err(|fault| Cut { written, fault });
+        }
+        match writer.write(&bytes[written..]) {
+            Ok(0) => {
+                let fault = io::Error::from(ErrorKind::WriteZero);
+                return Err(Cut { written, fault });
+            }
+            Ok(more) => written += more,
+            Err(fault) => {
+                if fault.kind() != ErrorKind::Interrupted {
+                    return Err(Cut { written, fault });
+                }
+            }
+        }
+    }
+    let fault = io::Error::from(ErrorKind::Other);
+    Err(Cut { written, fault })
+}
