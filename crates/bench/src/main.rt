@@ -5,6 +5,7 @@
 mod blake2s;
 mod bowe_hopwood;
 mod fields;
+mod logs;
 mod pedersen;
 mod poseidon;
 mod signatures;

@@ -2,10 +2,11 @@
 
 ghost use Rattle.std.specs.Prelude.{◌*◌, ◌%◌};
 
+use crate::sums::sum_of_value;
 use ark_crypto_primitives::Error;
 use ark_crypto_primitives::crh::TwoToOneCRHScheme;
 use ark_crypto_primitives::crh::poseidon::TwoToOneCRH;
-use ark_crypto_primitives::ff::PrimeField;
+use ark_crypto_primitives::ff::{Field, PrimeField};
 use ark_crypto_primitives::serialize::DigestItem;
 use ark_crypto_primitives::sponge::poseidon::{PoseidonConfig, PoseidonSponge, SBox};
 use ark_crypto_primitives::sponge::{Absorb, FieldBasedCryptographicSponge};
@@ -55,7 +56,8 @@ pub fn checksum<F: PrimeField + Absorb + DigestItem, S: SBox<F>>(
     with_parameters::<F, S>(alloc, &parameters, work, count)
 }
 
-fn with_parameters<F: PrimeField + Absorb + DigestItem, S: SBox<F>>(
+/// The work that a word names, `count` times, with these parameters.
+pub fn with_parameters<F: Field + Absorb + DigestItem, S: SBox<F>>(
     alloc: Global,
     parameters: &PoseidonConfig<F>,
     work: &str,
@@ -68,11 +70,11 @@ fn with_parameters<F: PrimeField + Absorb + DigestItem, S: SBox<F>>(
         "hash" => pair_hashes::<F, S>(alloc, parameters, count),
         _ => return Ok(None),
     };
-    Ok(Some(element?.value()))
+    Ok(Some(sum_of_value(alloc, &element?)?))
 }
 
 // Elements that have no pattern.
-fn elements<F: PrimeField>(alloc: Global, seed: u64, count: usize) -> Result<Vec<F>, Error> {
+fn elements<F: Field>(alloc: Global, seed: u64, count: usize) -> Result<Vec<F>, Error> {
     let mut made = Vec::with_capacity(alloc, count)?;
     let mut element = F::from_u64(seed);
     for _ in 0..count {
@@ -82,7 +84,7 @@ fn elements<F: PrimeField>(alloc: Global, seed: u64, count: usize) -> Result<Vec
     Ok(made)
 }
 
-fn rows<F: PrimeField>(
+fn rows<F: Field>(
     alloc: Global,
     seed: u64,
     count: usize,
@@ -96,7 +98,7 @@ fn rows<F: PrimeField>(
 }
 
 // Permutations of one state.
-fn permutations<F: PrimeField, S: SBox<F>>(
+fn permutations<F: Field, S: SBox<F>>(
     alloc: Global,
     parameters: &PoseidonConfig<F>,
     count: u64,
@@ -110,7 +112,7 @@ fn permutations<F: PrimeField, S: SBox<F>>(
     Ok(first_of(&state))
 }
 
-fn first_of<F: PrimeField>(elements: &[F]) -> F {
+fn first_of<F: Field>(elements: &[F]) -> F {
     match elements.first() {
         Some(element) => *element,
         None => F::zero(),
@@ -118,18 +120,18 @@ fn first_of<F: PrimeField>(elements: &[F]) -> F {
 }
 
 // A sponge whose state is seen.
-trait WithState<F: PrimeField>: FieldBasedCryptographicSponge<F> {
+trait WithState<F: Field>: FieldBasedCryptographicSponge<F> {
     fn first_of_state(&self) -> F;
 }
 
-impl<F: PrimeField, S: SBox<F>> WithState<F> for PoseidonSponge<F, S> {
+impl<F: Field, S: SBox<F>> WithState<F> for PoseidonSponge<F, S> {
     fn first_of_state(&self) -> F {
         first_of(self.state())
     }
 }
 
 // Absorbing 1,000 elements into one sponge.
-fn absorptions<F: PrimeField + Absorb, S: WithState<F>>(
+fn absorptions<F: Field + Absorb, S: WithState<F>>(
     alloc: Global,
     parameters: &S::Config,
     count: u64,
@@ -143,7 +145,7 @@ fn absorptions<F: PrimeField + Absorb, S: WithState<F>>(
 }
 
 // Squeezing 1,000 elements out of one sponge.
-fn squeezes<F: PrimeField, S: FieldBasedCryptographicSponge<F>>(
+fn squeezes<F: Field, S: FieldBasedCryptographicSponge<F>>(
     alloc: Global,
     parameters: &S::Config,
     count: u64,
@@ -157,7 +159,7 @@ fn squeezes<F: PrimeField, S: FieldBasedCryptographicSponge<F>>(
 }
 
 // Hashes of two elements, the left one being the hash before.
-fn pair_hashes<F: PrimeField + DigestItem, S: SBox<F>>(
+fn pair_hashes<F: Field + DigestItem, S: SBox<F>>(
     alloc: Global,
     parameters: &PoseidonConfig<F>,
     count: u64,

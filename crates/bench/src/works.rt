@@ -1,11 +1,12 @@
 //! The works by their names.
 
 use crate::poseidon::{Fifth, Seventh};
-use crate::{blake2s, bowe_hopwood, fields, pedersen, poseidon, signatures, trees};
+use crate::{blake2s, bowe_hopwood, fields, logs, pedersen, poseidon, signatures, trees};
 use ark_crypto_primitives::Error;
 use ark_crypto_primitives::ec::Residues;
-use ark_crypto_primitives::ff::{BabyBear, Fp, Goldilocks, M61};
+use ark_crypto_primitives::ff::{BabyBear, Bls12_381Fr, Fp, Goldilocks, M61};
 use ark_crypto_primitives::prf::Blake2s256;
+use ark_crypto_primitives::sponge::poseidon::parameters::{Power, bls12_381_fr};
 use ark_crypto_primitives::trees::{Sha256Arrays, Sha256Strings};
 use std::alloc::Global;
 
@@ -26,6 +27,7 @@ pub fn checksum(alloc: Global, words: &[String]) -> Result<Option<u64>, Error> {
         "product" => Ok(fields::products(work, count)),
         "sum" => Ok(fields::sums(work, count)),
         "reduce" => Ok(fields::reductions(work, count)),
+        "log" => logs::checksum(alloc, work, count),
         "blake2s" => blake2s::checksum(alloc, work, count),
         "pedersen" => pedersen::checksum(alloc, work, count),
         "bowe" => bowe_hopwood::checksum(alloc, work, count),
@@ -37,11 +39,15 @@ pub fn checksum(alloc: Global, words: &[String]) -> Result<Option<u64>, Error> {
     }
 }
 
-// Permutations name their field and their width; all else is over three elements of 2^61 - 1.
+// Permutations name their field and their width, and works over four words their width behind `bls-`; all else is over three
+// elements of 2^61 - 1.
 fn poseidon_checksum(alloc: Global, work: &str, count: u64) -> Result<Option<u64>, Error> {
     let Some((field, width)) = work.split_once('-') else {
         return poseidon::checksum::<Fp<M61>, Fifth>(alloc, work, 3, 31, count);
     };
+    if let Some((work, width)) = width.split_once('-') {
+        return wide_checksum(alloc, field, work, width, count);
+    }
     let Ok(width) = width.parse::<usize>() else {
         return Ok(None);
     };
@@ -52,5 +58,26 @@ fn poseidon_checksum(alloc: Global, work: &str, count: u64) -> Result<Option<u64
         ),
         "babybear" => poseidon::checksum::<Fp<BabyBear>, Seventh>(alloc, work, width, 13, count),
         _ => Ok(None),
+    }
+}
+
+// A work over the scalar field of BLS12-381, at the ready parameters of a width.
+fn wide_checksum(
+    alloc: Global,
+    field: &str,
+    work: &str,
+    width: &str,
+    count: u64,
+) -> Result<Option<u64>, Error> {
+    let rate = match (field, width) {
+        ("bls", "3") => 2,
+        ("bls", "9") => 8,
+        _ => return Ok(None),
+    };
+    match bls12_381_fr(alloc, rate)? {
+        Some(parameters) => {
+            poseidon::with_parameters::<Bls12_381Fr, Power>(alloc, &parameters, work, count)
+        }
+        None => Ok(None),
     }
 }
