@@ -7,7 +7,7 @@ use Rattle.ark_paths.specs.Root.{all_hashes}
 use Rattle.ark_paths.proofs.Eaches.{each-append}
 use Rattle.merkle_log.specs.Log.{NodeHash, LogValue, with_more}
 use Rattle.merkle_log.specs.Stored.{StoredValue, stored_count, row_of, IsStored}
-use Rattle.merkle_log.specs.Append.{Appends, Extends, IsWhole}
+use Rattle.merkle_log.specs.Append.{Appends, GrowsTo, IsWhole}
 use Rattle.merkle_log.proofs.Positions.{count-rises}
 use Rattle.merkle_log.proofs.Carried.{stored-pushed, pushed-first}
 
@@ -59,14 +59,14 @@ log-more hasher empty result row old more same = on_ok result (λ e. ap (log_of 
 
 -- ---- many leaves
 
-pub extends-itself : (stored : StoredValue) → IsWhole stored → Extends stored stored
+pub extends-itself : (stored : StoredValue) → IsWhole stored → GrowsTo stored stored
 extends-itself stored whole = record {
   size = omega arith;
   front = take_all (stored_count stored.size) stored.digests
       (omega arith);
 }
 
-pub extends-more : (a b c : StoredValue) → Extends a b → Extends b c → Extends a c
+pub extends-more : (a b c : StoredValue) → GrowsTo a b → GrowsTo b c → GrowsTo a c
 extends-more a b c first second =
     let less = first.size in
     let more = second.size in
@@ -80,7 +80,7 @@ extends-more a b c first second =
 pub record AppendsFirst {A : Type 0} (hashes : Hashes A) (old : StoredValue) (leaves : List A) (count : ℕ)
     (new : StoredValue) : Type 0 where
   pub kept : IsKept hashes.pair.upper new
-  pub extends : Extends old new
+  pub extends : GrowsTo old new
   pub digests : List Digest
   pub hashed : all_hashes hashes.leaf (take count leaves) ≡ Ok digests
   pub first_row : row_of new 0 ≡ row_of old 0 ++ digests

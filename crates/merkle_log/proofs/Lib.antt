@@ -14,6 +14,8 @@ pub mod Carried
 pub mod Positions
 pub mod Completing
 pub mod Lasts
+pub mod Highest
+pub mod Climbing
 pub mod Going
 pub mod Seeding
 pub mod Accepted

@@ -33,7 +33,7 @@ abbrev pub IsWhole : StoredValue → Type 0
 IsWhole stored = length stored.digests ≡ stored_count stored.size
 
 -- A list is followed by more leaves.
-pub record Extends (old new : StoredValue) : Type 0 where
+pub record GrowsTo (old new : StoredValue) : Type 0 where
   pub size : old.size ≤ new.size
   pub front : take (stored_count old.size) new.digests ≡ old.digests
 
@@ -43,7 +43,7 @@ pub record Appends (hash : NodeHash) (old : StoredValue) (digest : Digest) (new 
   pub carried : IsCarried hash (row_of old) digest made
   pub rows : (level : ℕ) → row_of new level ≡ pushed_row (row_of old) made level
   pub whole : IsWhole new
-  pub extends : Extends old new
+  pub extends : GrowsTo old new
 
 -- The hash of pairs has this error for some pair.
 pub record Refuses (hash : NodeHash) (error : Error) : Type 0 where

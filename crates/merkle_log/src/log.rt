@@ -1,16 +1,19 @@
 //! Logs that keep the digests of their complete subtrees.
 
-ghost use Rattle.std.specs.Prelude.{◌≡◌, ◌⊎◌, ◌<◌, ◌≤◌, ◌∷◌, ℕ, List, [], true, length, map, get_or, take, IfOk, IfErr, OnOk, OnErr, Ok, Err};
+ghost use Rattle.std.specs.Prelude.{◌≡◌, ◌⊎◌, ◌<◌, ◌≤◌, ◌∷◌, ℕ, List, [], true, length, map, get_or, take, IfOk, IfErr, OnOk, OnErr, Ok, Err, Some, None};
 ghost use Rattle.ark_base.specs.declared.error.Error.TheVariants.{OutOfMemory};
 ghost use Rattle.ark_base.specs.Outcome.{AnswersBy};
 ghost use Rattle.ark_paths.specs.Pair.{Digest};
 ghost use Rattle.ark_paths.specs.Rows.{digests_of};
-ghost use Rattle.merkle_log.specs.Append.{AppendsLeaves, Extends, HasLeaf, HasLeaves, IsWhole, Refuses};
+ghost use Rattle.merkle_log.specs.Append.{AppendsLeaves, GrowsTo, HasLeaf, HasLeaves, IsWhole, Refuses};
+ghost use Rattle.merkle_log.specs.Binding.{is_accepted, HighestIn, LeafHighestIn, leaf_verdict_in, verdict_in};
+ghost use Rattle.merkle_log.specs.declared.bind.LogBinding.TheVariants.{Rejected, Stands, Collides};
 ghost use Rattle.merkle_log.specs.Edge.{all_of};
 ghost use Rattle.merkle_log.specs.Log.{LogValue, inclusion_path, consistency_path, root_at, with_more};
 ghost use Rattle.merkle_log.specs.Stored.{row_of, IsStored};
 ghost use Rattle.merkle_log.specs.Verdict.{inclusion_verdict, consistency_verdict};
 
+use crate::bind::{LogBinding, binding_of};
 use crate::digests::copy_of;
 use crate::paths::{consistency_path_of, inclusion_path_of};
 use crate::rows::root_of;
@@ -58,7 +61,7 @@ fn append_each<D: DigestItem, T: TreeHasher<D, D>>(
     requires stored { IsStored (T.hashes hasher.now).pair.upper (row_of stored.old) }
     ensures appended { let hashes = T.hashes hasher.now in
         OnOk result (AppendsLeaves hashes stored.old leaves.now stored.new) }
-    ensures extends { Extends stored.old stored.new }
+    ensures extends { GrowsTo stored.old stored.new }
 {
     for place in 0..leaves.len() {
         let digest = hasher.leaf(alloc, &leaves[place])?;
@@ -191,5 +194,75 @@ impl<D: DigestItem, T: TreeHasher<D, D>> Log<D, T> {
             consistency_verdict hash old_size old size new digests ≡ Ok true) }
     {
         consistency_path_of(alloc, &self.hasher, &self.stored, old_size, size)
+    }
+
+    /// Says what a path shows of a leaf at an index of the first leaves, where `verify_inclusion` accepts it under their root:
+    /// that the leaf's hash stands there, or the level at which a pair of the path and one of the log collide.
+    ///
+    /// The index may be any number, and the path any list. Errors, the first that applies: that of the leaf's hash; those of
+    /// `root`; those of `verify_inclusion`; `OutOfMemory`.
+    pub fn bind(
+        &self,
+        alloc: Global,
+        size: usize,
+        index: usize,
+        leaf: &T::Leaf,
+        path: &[D],
+    ) -> Result<LogBinding, Error>
+        requires { size ≤ length self.now.digests }
+
+        // It is rejected exactly where `verify_inclusion` says false under the root of the size.
+        ensures verdict { let hashes = T.hashes self.now.hasher in
+            let path = map D.numbers path.now in
+            AnswersBy is_accepted (leaf_verdict_in hashes self.now size index leaf.now path) result }
+
+        // The leaf's hash stands at the index, and pairs collide at no level.
+        ensures stands { let hashes = T.hashes self.now.hasher in
+            let path = map D.numbers path.now in
+            IfOk result (λ binding. binding ≡ Stands
+            → LeafHighestIn hashes self.now size index leaf.now path None) }
+
+        // At the level that is named two different pairs hash alike, and at no level above.
+        ensures collides { let hashes = T.hashes self.now.hasher in
+            let path = map D.numbers path.now in
+            IfOk result (λ binding. (level : ℕ) → binding ≡ Collides level
+            → LeafHighestIn hashes self.now size index leaf.now path (Some level)) }
+    {
+        if index >= size {
+            return Ok(LogBinding::Rejected);
+        }
+        let digest = self.hasher.leaf(alloc, leaf)?;
+        self.bind_digest(alloc, size, index, &digest, path)
+    }
+
+    /// Says what a path shows of a leaf's digest, as `bind` does of a leaf.
+    pub fn bind_digest(
+        &self,
+        alloc: Global,
+        size: usize,
+        index: usize,
+        digest: &D,
+        path: &[D],
+    ) -> Result<LogBinding, Error>
+        requires { size ≤ length self.now.digests }
+
+        // It is rejected exactly where `verify_inclusion_digest` says false under the root of the size.
+        ensures verdict { let hash = (T.hashes self.now.hasher).pair.upper in
+            let verdict = verdict_in hash self.now.empty self.now.digests size index in
+            let path = map D.numbers path.now in
+            AnswersBy is_accepted (verdict (D.numbers digest.now) path) result }
+
+        // The digest stands at the index, and pairs collide at no level.
+        ensures stands { let hash = (T.hashes self.now.hasher).pair.upper in
+            let highest = HighestIn hash self.now size index (D.numbers digest.now) in
+            IfOk result (λ binding. binding ≡ Stands → highest (map D.numbers path.now) None) }
+
+        // At the level that is named two different pairs hash alike, and at no level above.
+        ensures collides { let hash = (T.hashes self.now.hasher).pair.upper in
+            let highest = HighestIn hash self.now size index (D.numbers digest.now) in
+            IfOk result (λ binding. (level : ℕ) → binding ≡ Collides level
+            → highest (map D.numbers path.now) (Some level)) }
+    {
+        binding_of(alloc, &self.hasher, &self.stored, size, index, digest, path)
     }
 }
