@@ -21,6 +21,7 @@ pub mod Seeding
 pub mod Accepted
 pub mod Edges
 pub mod Growing
+pub mod Counted
 pub mod Peaks
 pub mod Merging
 pub mod Lengths

@@ -1,11 +1,12 @@
 //! Logs that keep the digests of their complete subtrees.
 
-ghost use Rattle.std.specs.Prelude.{◌≡◌, ◌⊎◌, ◌<◌, ◌≤◌, ◌∷◌, ℕ, List, [], true, length, map, get_or, take, IfOk, IfErr, OnOk, OnErr, Ok, Err, Some, None};
+ghost use Rattle.std.specs.Prelude.{◌≡◌, ◌⊎◌, ◌<◌, ◌≤◌, ◌+◌, ◌-◌, ◌^◌, ◌∷◌, ℕ, List, [], true, length, map, get_or, take, IfOk, IfErr, OnOk, OnErr, Ok, Err, Some, None};
 ghost use Rattle.ark_base.specs.declared.error.Error.TheVariants.{OutOfMemory};
 ghost use Rattle.ark_base.specs.Outcome.{AnswersBy};
 ghost use Rattle.ark_paths.specs.Pair.{Digest};
+ghost use Rattle.ark_paths.specs.Root.{all_hashes};
 ghost use Rattle.ark_paths.specs.Rows.{digests_of};
-ghost use Rattle.merkle_log.specs.Append.{AppendsLeaves, GrowsTo, HasLeaf, HasLeaves, IsWhole, Refuses};
+ghost use Rattle.merkle_log.specs.Append.{AppendsLeaves, GrowsTo, HasLeaf, HasLeaves, IsWhole, KeepsSizes, Refuses, counted_after, pair_count};
 ghost use Rattle.merkle_log.specs.Binding.{is_accepted, HighestIn, LeafHighestIn, leaf_verdict_in, verdict_in};
 ghost use Rattle.merkle_log.specs.declared.bind.LogBinding.TheVariants.{Rejected, Stands, Collides};
 ghost use Rattle.merkle_log.specs.Edge.{all_of};
@@ -20,6 +21,7 @@ use crate::rows::root_of;
 use crate::stored::Stored;
 use ark_base::error::Error;
 use ark_base::serialize::DigestItem;
+use ark_paths::PairHasher;
 use ark_paths::hasher::{Counting, TreeHasher};
 use std::alloc::Global;
 use std::marker::Model;
@@ -50,23 +52,33 @@ impl<D: DigestItem, T: TreeHasher<D, D>> Model for Log<D, T> {
     } };
 }
 
-// Puts the digests of leaves behind a list. An error may leave some of them.
-fn append_each<D: DigestItem, T: TreeHasher<D, D>>(
+// Puts the digests of leaves behind a list, and hashes the pairs that they complete by a second hasher. An error may leave some
+// of them.
+fn append_each<D: DigestItem, T: TreeHasher<D, D>, W: PairHasher<D, D>>(
     alloc: Global,
     hasher: &T,
+    pairs: &mut W,
     stored: &mut Stored<D>,
     leaves: &[T::Leaf],
 ) -> Result<(), Error>
     requires whole { IsWhole stored.old }
     requires stored { IsStored (T.hashes hasher.now).pair.upper (row_of stored.old) }
+    requires same { (W.pair pairs.old).upper ≡ (T.hashes hasher.now).pair.upper }
+    requires fits { stored.old.size < 2 ^ 64 }
+    requires counted { W.counted pairs.old < 2 ^ 64 }
     ensures appended { let hashes = T.hashes hasher.now in
         OnOk result (AppendsLeaves hashes stored.old leaves.now stored.new) }
     ensures extends { GrowsTo stored.old stored.new }
+    ensures refused { IfErr result (λ error. (error ≡ OutOfMemory)
+        ⊎ (all_hashes (T.hashes hasher.now).leaf leaves.now ≡ Err error)
+        ⊎ Refuses (T.hashes hasher.now).pair.upper error) }
+    ensures counts { let more = pair_count stored.new.size - pair_count stored.old.size in
+        OnOk result (W.counted pairs.new ≡ counted_after (W.counted pairs.old) more) }
+    ensures fits { stored.new.size < 2 ^ 64 }
 {
     for place in 0..leaves.len() {
         let digest = hasher.leaf(alloc, &leaves[place])?;
-        let mut pairs = Counting::new(hasher);
-        stored.append(alloc, &mut pairs, digest)?;
+        stored.append(alloc, pairs, digest)?;
     }
     Ok(())
 }
@@ -102,23 +114,46 @@ impl<D: DigestItem, T: TreeHasher<D, D>> Log<D, T> {
         ensures refused { IfErr result (λ error. (error ≡ OutOfMemory)
             ⊎ ((T.hashes self.old.hasher).leaf leaf.now ≡ Err error)
             ⊎ Refuses (T.hashes self.old.hasher).pair.upper error) }
+
+        // Roots and proofs of the sizes that the log had stay.
+        ensures stays { let hash = (T.hashes self.old.hasher).pair.upper in
+            OnOk result (KeepsSizes hash self.old self.new) }
     {
         let digest = self.hasher.leaf(alloc, leaf)?;
         self.append_digest(alloc, digest)
     }
 
     /// Appends a leaf's digest. Errors, which leave the log unchanged: that of a pair; `OutOfMemory`.
-    ///
-    /// It hashes as many pairs as the size has ones at its low end: over n appends n less the count of ones of n.
     pub fn append_digest(&mut self, alloc: Global, digest: D) -> Result<(), Error>
         ensures appended { let more = D.numbers digest ∷ [] in
             OnOk result (self.new ≡ with_more self.old more) }
         ensures kept { OnErr result (self.new ≡ self.old) }
         ensures refused { IfErr result (λ error. (error ≡ OutOfMemory)
             ⊎ Refuses (T.hashes self.old.hasher).pair.upper error) }
+
+        // Roots and proofs of the sizes that the log had stay.
+        ensures stays { let hash = (T.hashes self.old.hasher).pair.upper in
+            OnOk result (KeepsSizes hash self.old self.new) }
+    {
+        self.append_digest_counting(alloc, digest)?;
+        Ok(())
+    }
+
+    /// As `append_digest`, and returns how many pairs were hashed: those of the subtrees that the leaf completes.
+    ///
+    /// Over n appends to an empty log that is n less the count of ones of n.
+    pub fn append_digest_counting(&mut self, alloc: Global, digest: D) -> Result<usize, Error>
+        ensures appended { let more = D.numbers digest ∷ [] in
+            OnOk result (self.new ≡ with_more self.old more) }
+        ensures kept { OnErr result (self.new ≡ self.old) }
+        ensures refused { IfErr result (λ error. (error ≡ OutOfMemory)
+            ⊎ Refuses (T.hashes self.old.hasher).pair.upper error) }
+        ensures count { let before = pair_count (length self.old.digests) in
+            IfOk result (λ count. before + count ≡ pair_count (length self.new.digests)) }
     {
         let mut hasher = Counting::new(&self.hasher);
-        self.stored.append(alloc, &mut hasher, digest)
+        self.stored.append(alloc, &mut hasher, digest)?;
+        Ok(hasher.calls())
     }
 
     /// Appends leaves: as `append` of each in turn, whole or not at all. It allocates once.
@@ -128,11 +163,38 @@ impl<D: DigestItem, T: TreeHasher<D, D>> Log<D, T> {
         ensures appended { let hashes = T.hashes self.old.hasher in
             OnOk result (HasLeaves hashes self.old leaves.now self.new) }
         ensures kept { OnErr result (self.new ≡ self.old) }
+        ensures refused { IfErr result (λ error. (error ≡ OutOfMemory)
+            ⊎ (all_hashes (T.hashes self.old.hasher).leaf leaves.now ≡ Err error)
+            ⊎ Refuses (T.hashes self.old.hasher).pair.upper error) }
+
+        // Roots and proofs of the sizes that the log had stay.
+        ensures stays { let hash = (T.hashes self.old.hasher).pair.upper in
+            OnOk result (KeepsSizes hash self.old self.new) }
+    {
+        self.append_many_counting(alloc, leaves)?;
+        Ok(())
+    }
+
+    /// As `append_many`, and returns how many pairs were hashed: for n leaves in an empty log, n less the count of ones of n.
+    pub fn append_many_counting(
+        &mut self,
+        alloc: Global,
+        leaves: &[T::Leaf],
+    ) -> Result<usize, Error>
+        ensures appended { let hashes = T.hashes self.old.hasher in
+            OnOk result (HasLeaves hashes self.old leaves.now self.new) }
+        ensures kept { OnErr result (self.new ≡ self.old) }
+        ensures refused { IfErr result (λ error. (error ≡ OutOfMemory)
+            ⊎ (all_hashes (T.hashes self.old.hasher).leaf leaves.now ≡ Err error)
+            ⊎ Refuses (T.hashes self.old.hasher).pair.upper error) }
+        ensures count { let before = pair_count (length self.old.digests) in
+            IfOk result (λ count. before + count ≡ pair_count (length self.new.digests)) }
     {
         let size = self.stored.size();
         self.stored.reserve(leaves.len())?;
-        match append_each(alloc, &self.hasher, &mut self.stored, leaves) {
-            Ok(()) => Ok(()),
+        let mut pairs = Counting::new(&self.hasher);
+        match append_each(alloc, &self.hasher, &mut pairs, &mut self.stored, leaves) {
+            Ok(()) => Ok(pairs.calls()),
             Err(error) => {
                 self.stored.cut(size);
                 Err(error)
