@@ -22,6 +22,7 @@ pub mod Accepted
 pub mod Edges
 pub mod Growing
 pub mod Counted
+pub mod Halving
 pub mod Peaks
 pub mod Merging
 pub mod Lengths

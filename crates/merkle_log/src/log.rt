@@ -1,16 +1,16 @@
 //! Logs that keep the digests of their complete subtrees.
 
-ghost use Rattle.std.specs.Prelude.{◌≡◌, ◌⊎◌, ◌<◌, ◌≤◌, ◌+◌, ◌-◌, ◌^◌, ◌∷◌, ℕ, List, [], true, length, map, get_or, take, IfOk, IfErr, OnOk, OnErr, Ok, Err, Some, None};
+ghost use Rattle.std.specs.Prelude.{◌≡◌, ◌⊎◌, ◌<◌, ◌≤◌, ◌+◌, ◌-◌, ◌^◌, ◌∷◌, ℕ, suc, List, [], true, length, map, get_or, take, IfOk, IfErr, OnOk, OnErr, Ok, Err, Some, None};
 ghost use Rattle.ark_base.specs.declared.error.Error.TheVariants.{OutOfMemory};
 ghost use Rattle.ark_base.specs.Outcome.{AnswersBy};
 ghost use Rattle.ark_paths.specs.Pair.{Digest};
-ghost use Rattle.ark_paths.specs.Root.{all_hashes};
+ghost use Rattle.ark_paths.specs.Root.{all_hashes, root_of};
 ghost use Rattle.ark_paths.specs.Rows.{digests_of};
 ghost use Rattle.merkle_log.specs.Append.{AppendsLeaves, GrowsTo, HasLeaf, HasLeaves, IsWhole, KeepsSizes, Refuses, counted_after, pair_count};
 ghost use Rattle.merkle_log.specs.Binding.{is_accepted, HighestIn, LeafHighestIn, leaf_verdict_in, verdict_in};
 ghost use Rattle.merkle_log.specs.declared.bind.LogBinding.TheVariants.{Rejected, Stands, Collides};
 ghost use Rattle.merkle_log.specs.Edge.{all_of};
-ghost use Rattle.merkle_log.specs.Log.{LogValue, inclusion_path, consistency_path, root_at, with_more};
+ghost use Rattle.merkle_log.specs.Log.{LogValue, both_levels, inclusion_path, consistency_path, root_at, with_more};
 ghost use Rattle.merkle_log.specs.Stored.{row_of, IsStored};
 ghost use Rattle.merkle_log.specs.Verdict.{inclusion_verdict, consistency_verdict};
 
@@ -206,8 +206,14 @@ impl<D: DigestItem, T: TreeHasher<D, D>> Log<D, T> {
     /// those of the right edge can have; `OutOfMemory`.
     pub fn root(&self, alloc: Global, size: usize) -> Result<D, Error>
         requires { size ≤ length self.now.digests }
-        ensures { let hash = (T.hashes self.now.hasher).pair.upper in
+        ensures root { let hash = (T.hashes self.now.hasher).pair.upper in
             AnswersBy D.numbers (root_at hash self.now size) result }
+
+        // Of a power of two above one it is the root by repeated halving, that of a tree of such leaves.
+        ensures halved { let pair = both_levels (T.hashes self.now.hasher).pair.upper in
+            let digests = take size self.now.digests in
+            IfOk result (λ root. (m : ℕ) → size ≡ 2 ^ suc m
+            → root_of pair m digests ≡ Ok (D.numbers root)) }
     {
         if size == 0 {
             return copy_of(alloc, &self.empty);

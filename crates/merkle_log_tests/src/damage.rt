@@ -7,6 +7,7 @@ use merkle_log::{LogBinding, verify_consistency, verify_inclusion};
 use std::alloc::Global;
 
 // What happens to a proof before it is read.
+#[derive(Clone, Copy)]
 enum Change {
     Nothing,
     Other(usize),
