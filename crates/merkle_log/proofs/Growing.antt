@@ -1,14 +1,14 @@
 -- A log's list with one leaf more.
-use Rattle.std.proofs.Common.{◌≡◌, ◌+◌, ◌<◌, ◌≤◌, ℕ, ◌++◌, List, [], ◌∷◌, length, take, get_or, Ok, Err, OnOk, OnErr, refl, ap, sym, ◌∙◌, arith}
-use Rattle.std.proofs.lemmas.List.{take_all, take-take, take-append-le, append-nil, append_assoc}
-use Rattle.ark_base.specs.Outcome.{Outcome, ◌>>=◌}
+use Rattle.std.proofs.Common.{◌≡◌, ◌+◌, ◌<◌, ◌≤◌, ℕ, ◌++◌, List, [], ◌∷◌, length, take, get_or, Ok, Err, OnOk, OnErr, ap, sym, ◌∙◌, arith}
+use Rattle.std.proofs.lemmas.List.{take_all, take-take, append-nil, append_assoc}
+use Rattle.ark_base.specs.Outcome.{Outcome}
 use Rattle.ark_paths.specs.Pair.{Digest, Hashes}
 use Rattle.ark_paths.specs.Root.{all_hashes}
 use Rattle.ark_base.specs.declared.error.Error.{Error}
 use Rattle.ark_paths.proofs.Eaches.{IsSoFar, IsSoFar-none, IsSoFar-more, IsSoFar-refused, IsSoFar-all}
-use Rattle.merkle_log.specs.Log.{NodeHash, LogValue, merkle_tree_hash, inclusion_path, consistency_path, with_more}
+use Rattle.merkle_log.specs.Log.{NodeHash, LogValue, with_more}
 use Rattle.merkle_log.specs.Stored.{StoredValue, stored_count, row_of, IsStored}
-use Rattle.merkle_log.specs.Append.{Appends, AppendsLeaves, GrowsTo, IsWhole, KeepsSizes}
+use Rattle.merkle_log.specs.Append.{Appends, AppendsLeaves, GrowsTo, IsWhole}
 use Rattle.merkle_log.proofs.Positions.{count-rises}
 use Rattle.merkle_log.proofs.Carried.{stored-pushed, pushed-first}
 
@@ -132,14 +132,3 @@ module _ {A : Type 0} {hashes : Hashes A} {old : StoredValue} {leaves : List A} 
     whole = at.kept.whole;
     stored = at.kept.stored_is;
   }
-
--- the sizes that a log had
-pub keeps-more : {T : Type 0} (hash : NodeHash) (old new : LogValue T) (more : List Digest) → new ≡ with_more old more
-    → KeepsSizes hash old new
-keeps-more hash old new more is = record {
-  roots = λ size within. rw (is) (ap (merkle_tree_hash hash old.empty) (take-append-le size old.digests more within));
-  paths = λ size index within. rw (is) (ap (inclusion_path hash old.empty index) (take-append-le size old.digests more
-      within));
-  proofs = λ first size within. rw (is) (ap (consistency_path hash old.empty first) (take-append-le size old.digests
-      more within));
-}

@@ -161,9 +161,11 @@ module _ (hash : NodeHash) (empty : Digest) (xs ys : List Digest) (i s : ℕ) (o
       lifted next rest (λ level. moves-odd (on_left hash) (on_right hash) i s own path sibling rest next level odd is
       stepped) (is_other_pair xs i s own sibling)
       (λ t here.
-          let same = same-pair own sibling (get_or xs i []) (get_or xs (i - 1) []) (sym other ∙ t) in
-          (sym same.0, own_lowest sibling rest is (in_order-right i own sibling odd ∙ both (same.1 ∙ ap (λ n. get_or xs
-          n []) left) (same.0 ∙ ap (λ n. get_or xs n []) right))))
+      let same = same-pair own sibling (get_or xs i []) (get_or xs (i - 1) []) (sym other ∙ t) in (
+        sym same.0,
+        own_lowest sibling rest is (in_order-right i own sibling odd ∙ both (same.1 ∙ ap (λ n. get_or xs
+            n []) left) (same.0 ∙ ap (λ n. get_or xs n []) right)),
+      ))
       (λ t here. lowest_collision same_digests hash sibling rest (get_or xs (i - 1) [], get_or xs i []) (sibling, own)
       (beside-right i s odd) is (in_order-right i own sibling odd)
       (tree_pair-zero [] (Ok empty) xs (i / 2) (i - 1) i left (omega arith) (omega arith))
@@ -189,9 +191,11 @@ module _ (hash : NodeHash) (empty : Digest) (xs ys : List Digest) (i s : ℕ) (o
       lifted next rest (λ level. moves-even (on_left hash) (on_right hash) i s own path sibling rest next level even
       more is stepped) (is_other_pair xs i s own sibling)
       (λ t here.
-          let same = same-pair own sibling (get_or xs i []) (get_or xs (i + 1) []) (sym other ∙ t) in
-          (sym same.0, own_lowest sibling rest is (in_order-left i own sibling even ∙ both (same.0 ∙ ap (λ n. get_or xs
-          n []) left) (same.1 ∙ ap (λ n. get_or xs n []) right))))
+      let same = same-pair own sibling (get_or xs i []) (get_or xs (i + 1) []) (sym other ∙ t) in (
+        sym same.0,
+        own_lowest sibling rest is (in_order-left i own sibling even ∙ both (same.0 ∙ ap (λ n. get_or xs
+            n []) left) (same.1 ∙ ap (λ n. get_or xs n []) right)),
+      ))
       (λ t here. lowest_collision same_digests hash sibling rest (get_or xs i [], get_or xs (i + 1) []) (own, sibling)
       (beside-left i s more) is (in_order-left i own sibling even)
       (tree_pair-zero [] (Ok empty) xs (i / 2) i (i + 1) left refl (omega arith))

@@ -40,7 +40,7 @@ abbrev pub verdict_in : NodeHash → Digest → List Digest → ℕ → ℕ → 
 verdict_in hash empty digests size index digest path =
     if nat_lt index size
     then (merkle_tree_hash hash empty (take size digests) >>= λ root.
-        inclusion_verdict hash root size index digest path)
+    inclusion_verdict hash root size index digest path)
     else (Ok false)
 
 -- the same from a leaf, which is hashed only where the index is below the size
@@ -48,7 +48,7 @@ abbrev pub leaf_verdict_in : {T A : Type 0} → Hashes A → LogValue T → ℕ 
 leaf_verdict_in hashes log size index leaf path =
     if nat_lt index size
     then (hashes.leaf leaf >>= λ digest.
-        verdict_in hashes.pair.upper log.empty log.digests size index digest path)
+    verdict_in hashes.pair.upper log.empty log.digests size index digest path)
     else (Ok false)
 
 -- what a path shows that is accepted and collides highest at this level or at none

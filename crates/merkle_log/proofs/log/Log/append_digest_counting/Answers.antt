@@ -1,6 +1,5 @@
 use Rattle.std.proofs.Common.{◌≡◌, ◌-◌, length, ap, sym, ◌∙◌}
 use Rattle.merkle_log.specs.Append.{counted_after, pair_count}
-use Rattle.merkle_log.specs.Stored.{row_of}
 use Rattle.merkle_log.proofs.Counted.{counted-growth}
 use Rattle.merkle_log.proofs.Growing.{IsKept, appends-kept}
 use Rattle.merkle_log.proofs.Positions.{length-row_of}

@@ -14,4 +14,4 @@ returns-clause-collides g c =
     let hashed = ap (λ log. (g.T.TreeHasher.hashes log.hasher).leaf c.args.leaf.now) (sym c.self.view_is)
     ∙ c.in_ok-digest.ensures in
     if_ok c.bind_digest.result (λ binding known level is.
-        (g.D.Numbered.numbers c.in_ok-digest.digest, hashed, known level is)) c.bind_digest.ensures.collides
+    (g.D.Numbered.numbers c.in_ok-digest.digest, hashed, known level is)) c.bind_digest.ensures.collides
