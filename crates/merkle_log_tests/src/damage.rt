@@ -100,8 +100,14 @@ fn paths_for_others(rt: HostRuntime) {
     assert_eq!(rt; is_taken(alloc, 3, 3, Change::Nothing), Ok(false));
     assert_eq!(rt; is_taken(alloc, 0, 0, Change::Nothing), Ok(false));
     assert_eq!(rt; is_taken(alloc, u64::MAX, 3, Change::Nothing), Ok(false));
-    assert_eq!(rt; is_taken(alloc, u64::MAX, u64::MAX - 1, Change::Nothing), Ok(false));
-    assert_eq!(rt; is_taken(alloc, u64::MAX, u64::MAX, Change::Nothing), Ok(false));
+    assert_eq!(rt;
+        is_taken(alloc, u64::MAX, u64::MAX - 1, Change::Nothing),
+        Ok(false)
+    );
+    assert_eq!(rt;
+        is_taken(alloc, u64::MAX, u64::MAX, Change::Nothing),
+        Ok(false)
+    );
 }
 
 #[test]
@@ -125,8 +131,14 @@ fn proofs_for_others(rt: HostRuntime) {
     assert_eq!(rt; is_followed(alloc, 3, 4, Change::Nothing), Ok(false));
     assert_eq!(rt; is_followed(alloc, 3, 9, Change::Nothing), Ok(false));
     assert_eq!(rt; is_followed(alloc, 3, u64::MAX, Change::Nothing), Ok(false));
-    assert_eq!(rt; is_followed(alloc, u64::MAX - 1, u64::MAX, Change::Nothing), Ok(false));
-    assert_eq!(rt; is_followed(alloc, u64::MAX, u64::MAX, Change::Nothing), Ok(false));
+    assert_eq!(rt;
+        is_followed(alloc, u64::MAX - 1, u64::MAX, Change::Nothing),
+        Ok(false)
+    );
+    assert_eq!(rt;
+        is_followed(alloc, u64::MAX, u64::MAX, Change::Nothing),
+        Ok(false)
+    );
 }
 
 #[test]

@@ -129,7 +129,12 @@ pub fn is_path(alloc: Global, size: usize, index: usize, texts: &[&str]) -> Resu
 }
 
 // Whether the log's proof of two sizes is these digests.
-pub fn is_proof(alloc: Global, old_size: usize, size: usize, texts: &[&str]) -> Result<bool, Error> {
+pub fn is_proof(
+    alloc: Global,
+    old_size: usize,
+    size: usize,
+    texts: &[&str],
+) -> Result<bool, Error> {
     let log = eight(alloc)?;
     let proof = consistency(alloc, &log, old_size, size)?;
     Ok(are_shown(alloc, &proof, texts))

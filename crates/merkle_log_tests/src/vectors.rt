@@ -53,10 +53,22 @@ fn paths_of_one_to_four(rt: HostRuntime) {
 #[test]
 fn paths_of_five(rt: HostRuntime) {
     let alloc = rt.alloc();
-    assert_eq!(rt; is_path(alloc, 5, 0, &[ENTRY_1, ENTRIES_2_3, ENTRY_4]), Ok(true));
-    assert_eq!(rt; is_path(alloc, 5, 1, &[ENTRY_0, ENTRIES_2_3, ENTRY_4]), Ok(true));
-    assert_eq!(rt; is_path(alloc, 5, 2, &[ENTRY_3, ENTRIES_0_1, ENTRY_4]), Ok(true));
-    assert_eq!(rt; is_path(alloc, 5, 3, &[ENTRY_2, ENTRIES_0_1, ENTRY_4]), Ok(true));
+    assert_eq!(rt;
+        is_path(alloc, 5, 0, &[ENTRY_1, ENTRIES_2_3, ENTRY_4]),
+        Ok(true)
+    );
+    assert_eq!(rt;
+        is_path(alloc, 5, 1, &[ENTRY_0, ENTRIES_2_3, ENTRY_4]),
+        Ok(true)
+    );
+    assert_eq!(rt;
+        is_path(alloc, 5, 2, &[ENTRY_3, ENTRIES_0_1, ENTRY_4]),
+        Ok(true)
+    );
+    assert_eq!(rt;
+        is_path(alloc, 5, 3, &[ENTRY_2, ENTRIES_0_1, ENTRY_4]),
+        Ok(true)
+    );
     assert_eq!(rt; is_path(alloc, 5, 4, &[ENTRIES_0_3]), Ok(true));
 }
 
@@ -64,10 +76,22 @@ fn paths_of_five(rt: HostRuntime) {
 #[test]
 fn paths_of_six(rt: HostRuntime) {
     let alloc = rt.alloc();
-    assert_eq!(rt; is_path(alloc, 6, 0, &[ENTRY_1, ENTRIES_2_3, ENTRIES_4_5]), Ok(true));
-    assert_eq!(rt; is_path(alloc, 6, 1, &[ENTRY_0, ENTRIES_2_3, ENTRIES_4_5]), Ok(true));
-    assert_eq!(rt; is_path(alloc, 6, 2, &[ENTRY_3, ENTRIES_0_1, ENTRIES_4_5]), Ok(true));
-    assert_eq!(rt; is_path(alloc, 6, 3, &[ENTRY_2, ENTRIES_0_1, ENTRIES_4_5]), Ok(true));
+    assert_eq!(rt;
+        is_path(alloc, 6, 0, &[ENTRY_1, ENTRIES_2_3, ENTRIES_4_5]),
+        Ok(true)
+    );
+    assert_eq!(rt;
+        is_path(alloc, 6, 1, &[ENTRY_0, ENTRIES_2_3, ENTRIES_4_5]),
+        Ok(true)
+    );
+    assert_eq!(rt;
+        is_path(alloc, 6, 2, &[ENTRY_3, ENTRIES_0_1, ENTRIES_4_5]),
+        Ok(true)
+    );
+    assert_eq!(rt;
+        is_path(alloc, 6, 3, &[ENTRY_2, ENTRIES_0_1, ENTRIES_4_5]),
+        Ok(true)
+    );
     assert_eq!(rt; is_path(alloc, 6, 4, &[ENTRY_5, ENTRIES_0_3]), Ok(true));
     assert_eq!(rt; is_path(alloc, 6, 5, &[ENTRY_4, ENTRIES_0_3]), Ok(true));
 }
@@ -76,12 +100,30 @@ fn paths_of_six(rt: HostRuntime) {
 #[test]
 fn paths_of_seven(rt: HostRuntime) {
     let alloc = rt.alloc();
-    assert_eq!(rt; is_path(alloc, 7, 0, &[ENTRY_1, ENTRIES_2_3, ENTRIES_4_6]), Ok(true));
-    assert_eq!(rt; is_path(alloc, 7, 1, &[ENTRY_0, ENTRIES_2_3, ENTRIES_4_6]), Ok(true));
-    assert_eq!(rt; is_path(alloc, 7, 2, &[ENTRY_3, ENTRIES_0_1, ENTRIES_4_6]), Ok(true));
-    assert_eq!(rt; is_path(alloc, 7, 3, &[ENTRY_2, ENTRIES_0_1, ENTRIES_4_6]), Ok(true));
-    assert_eq!(rt; is_path(alloc, 7, 4, &[ENTRY_5, ENTRY_6, ENTRIES_0_3]), Ok(true));
-    assert_eq!(rt; is_path(alloc, 7, 5, &[ENTRY_4, ENTRY_6, ENTRIES_0_3]), Ok(true));
+    assert_eq!(rt;
+        is_path(alloc, 7, 0, &[ENTRY_1, ENTRIES_2_3, ENTRIES_4_6]),
+        Ok(true)
+    );
+    assert_eq!(rt;
+        is_path(alloc, 7, 1, &[ENTRY_0, ENTRIES_2_3, ENTRIES_4_6]),
+        Ok(true)
+    );
+    assert_eq!(rt;
+        is_path(alloc, 7, 2, &[ENTRY_3, ENTRIES_0_1, ENTRIES_4_6]),
+        Ok(true)
+    );
+    assert_eq!(rt;
+        is_path(alloc, 7, 3, &[ENTRY_2, ENTRIES_0_1, ENTRIES_4_6]),
+        Ok(true)
+    );
+    assert_eq!(rt;
+        is_path(alloc, 7, 4, &[ENTRY_5, ENTRY_6, ENTRIES_0_3]),
+        Ok(true)
+    );
+    assert_eq!(rt;
+        is_path(alloc, 7, 5, &[ENTRY_4, ENTRY_6, ENTRIES_0_3]),
+        Ok(true)
+    );
     assert_eq!(rt; is_path(alloc, 7, 6, &[ENTRIES_4_5, ENTRIES_0_3]), Ok(true));
 }
 
@@ -89,14 +131,38 @@ fn paths_of_seven(rt: HostRuntime) {
 #[test]
 fn paths_of_eight(rt: HostRuntime) {
     let alloc = rt.alloc();
-    assert_eq!(rt; is_path(alloc, 8, 0, &[ENTRY_1, ENTRIES_2_3, ENTRIES_4_7]), Ok(true));
-    assert_eq!(rt; is_path(alloc, 8, 1, &[ENTRY_0, ENTRIES_2_3, ENTRIES_4_7]), Ok(true));
-    assert_eq!(rt; is_path(alloc, 8, 2, &[ENTRY_3, ENTRIES_0_1, ENTRIES_4_7]), Ok(true));
-    assert_eq!(rt; is_path(alloc, 8, 3, &[ENTRY_2, ENTRIES_0_1, ENTRIES_4_7]), Ok(true));
-    assert_eq!(rt; is_path(alloc, 8, 4, &[ENTRY_5, ENTRIES_6_7, ENTRIES_0_3]), Ok(true));
-    assert_eq!(rt; is_path(alloc, 8, 5, &[ENTRY_4, ENTRIES_6_7, ENTRIES_0_3]), Ok(true));
-    assert_eq!(rt; is_path(alloc, 8, 6, &[ENTRY_7, ENTRIES_4_5, ENTRIES_0_3]), Ok(true));
-    assert_eq!(rt; is_path(alloc, 8, 7, &[ENTRY_6, ENTRIES_4_5, ENTRIES_0_3]), Ok(true));
+    assert_eq!(rt;
+        is_path(alloc, 8, 0, &[ENTRY_1, ENTRIES_2_3, ENTRIES_4_7]),
+        Ok(true)
+    );
+    assert_eq!(rt;
+        is_path(alloc, 8, 1, &[ENTRY_0, ENTRIES_2_3, ENTRIES_4_7]),
+        Ok(true)
+    );
+    assert_eq!(rt;
+        is_path(alloc, 8, 2, &[ENTRY_3, ENTRIES_0_1, ENTRIES_4_7]),
+        Ok(true)
+    );
+    assert_eq!(rt;
+        is_path(alloc, 8, 3, &[ENTRY_2, ENTRIES_0_1, ENTRIES_4_7]),
+        Ok(true)
+    );
+    assert_eq!(rt;
+        is_path(alloc, 8, 4, &[ENTRY_5, ENTRIES_6_7, ENTRIES_0_3]),
+        Ok(true)
+    );
+    assert_eq!(rt;
+        is_path(alloc, 8, 5, &[ENTRY_4, ENTRIES_6_7, ENTRIES_0_3]),
+        Ok(true)
+    );
+    assert_eq!(rt;
+        is_path(alloc, 8, 6, &[ENTRY_7, ENTRIES_4_5, ENTRIES_0_3]),
+        Ok(true)
+    );
+    assert_eq!(rt;
+        is_path(alloc, 8, 7, &[ENTRY_6, ENTRIES_4_5, ENTRIES_0_3]),
+        Ok(true)
+    );
 }
 
 // All consistency proofs of the logs of two to five entries.
@@ -108,10 +174,19 @@ fn proofs_of_two_to_five(rt: HostRuntime) {
     assert_eq!(rt; is_proof(alloc, 2, 3, &[ENTRY_2]), Ok(true));
     assert_eq!(rt; is_proof(alloc, 1, 4, &[ENTRY_1, ENTRIES_2_3]), Ok(true));
     assert_eq!(rt; is_proof(alloc, 2, 4, &[ENTRIES_2_3]), Ok(true));
-    assert_eq!(rt; is_proof(alloc, 3, 4, &[ENTRY_2, ENTRY_3, ENTRIES_0_1]), Ok(true));
-    assert_eq!(rt; is_proof(alloc, 1, 5, &[ENTRY_1, ENTRIES_2_3, ENTRY_4]), Ok(true));
+    assert_eq!(rt;
+        is_proof(alloc, 3, 4, &[ENTRY_2, ENTRY_3, ENTRIES_0_1]),
+        Ok(true)
+    );
+    assert_eq!(rt;
+        is_proof(alloc, 1, 5, &[ENTRY_1, ENTRIES_2_3, ENTRY_4]),
+        Ok(true)
+    );
     assert_eq!(rt; is_proof(alloc, 2, 5, &[ENTRIES_2_3, ENTRY_4]), Ok(true));
-    assert_eq!(rt; is_proof(alloc, 3, 5, &[ENTRY_2, ENTRY_3, ENTRIES_0_1, ENTRY_4]), Ok(true));
+    assert_eq!(rt;
+        is_proof(alloc, 3, 5, &[ENTRY_2, ENTRY_3, ENTRIES_0_1, ENTRY_4]),
+        Ok(true)
+    );
     assert_eq!(rt; is_proof(alloc, 4, 5, &[ENTRY_4]), Ok(true));
 }
 
@@ -119,34 +194,79 @@ fn proofs_of_two_to_five(rt: HostRuntime) {
 #[test]
 fn proofs_of_six(rt: HostRuntime) {
     let alloc = rt.alloc();
-    assert_eq!(rt; is_proof(alloc, 1, 6, &[ENTRY_1, ENTRIES_2_3, ENTRIES_4_5]), Ok(true));
-    assert_eq!(rt; is_proof(alloc, 2, 6, &[ENTRIES_2_3, ENTRIES_4_5]), Ok(true));
-    assert_eq!(rt; is_proof(alloc, 3, 6, &[ENTRY_2, ENTRY_3, ENTRIES_0_1, ENTRIES_4_5]), Ok(true));
+    assert_eq!(rt;
+        is_proof(alloc, 1, 6, &[ENTRY_1, ENTRIES_2_3, ENTRIES_4_5]),
+        Ok(true)
+    );
+    assert_eq!(rt;
+        is_proof(alloc, 2, 6, &[ENTRIES_2_3, ENTRIES_4_5]),
+        Ok(true)
+    );
+    assert_eq!(rt;
+        is_proof(alloc, 3, 6, &[ENTRY_2, ENTRY_3, ENTRIES_0_1, ENTRIES_4_5]),
+        Ok(true)
+    );
     assert_eq!(rt; is_proof(alloc, 4, 6, &[ENTRIES_4_5]), Ok(true));
-    assert_eq!(rt; is_proof(alloc, 5, 6, &[ENTRY_4, ENTRY_5, ENTRIES_0_3]), Ok(true));
+    assert_eq!(rt;
+        is_proof(alloc, 5, 6, &[ENTRY_4, ENTRY_5, ENTRIES_0_3]),
+        Ok(true)
+    );
 }
 
 // Those of seven: the log of section 2.1.3.
 #[test]
 fn proofs_of_seven(rt: HostRuntime) {
     let alloc = rt.alloc();
-    assert_eq!(rt; is_proof(alloc, 1, 7, &[ENTRY_1, ENTRIES_2_3, ENTRIES_4_6]), Ok(true));
-    assert_eq!(rt; is_proof(alloc, 2, 7, &[ENTRIES_2_3, ENTRIES_4_6]), Ok(true));
-    assert_eq!(rt; is_proof(alloc, 3, 7, &[ENTRY_2, ENTRY_3, ENTRIES_0_1, ENTRIES_4_6]), Ok(true));
+    assert_eq!(rt;
+        is_proof(alloc, 1, 7, &[ENTRY_1, ENTRIES_2_3, ENTRIES_4_6]),
+        Ok(true)
+    );
+    assert_eq!(rt;
+        is_proof(alloc, 2, 7, &[ENTRIES_2_3, ENTRIES_4_6]),
+        Ok(true)
+    );
+    assert_eq!(rt;
+        is_proof(alloc, 3, 7, &[ENTRY_2, ENTRY_3, ENTRIES_0_1, ENTRIES_4_6]),
+        Ok(true)
+    );
     assert_eq!(rt; is_proof(alloc, 4, 7, &[ENTRIES_4_6]), Ok(true));
-    assert_eq!(rt; is_proof(alloc, 5, 7, &[ENTRY_4, ENTRY_5, ENTRY_6, ENTRIES_0_3]), Ok(true));
-    assert_eq!(rt; is_proof(alloc, 6, 7, &[ENTRIES_4_5, ENTRY_6, ENTRIES_0_3]), Ok(true));
+    assert_eq!(rt;
+        is_proof(alloc, 5, 7, &[ENTRY_4, ENTRY_5, ENTRY_6, ENTRIES_0_3]),
+        Ok(true)
+    );
+    assert_eq!(rt;
+        is_proof(alloc, 6, 7, &[ENTRIES_4_5, ENTRY_6, ENTRIES_0_3]),
+        Ok(true)
+    );
 }
 
 // Those of eight.
 #[test]
 fn proofs_of_eight(rt: HostRuntime) {
     let alloc = rt.alloc();
-    assert_eq!(rt; is_proof(alloc, 1, 8, &[ENTRY_1, ENTRIES_2_3, ENTRIES_4_7]), Ok(true));
-    assert_eq!(rt; is_proof(alloc, 2, 8, &[ENTRIES_2_3, ENTRIES_4_7]), Ok(true));
-    assert_eq!(rt; is_proof(alloc, 3, 8, &[ENTRY_2, ENTRY_3, ENTRIES_0_1, ENTRIES_4_7]), Ok(true));
+    assert_eq!(rt;
+        is_proof(alloc, 1, 8, &[ENTRY_1, ENTRIES_2_3, ENTRIES_4_7]),
+        Ok(true)
+    );
+    assert_eq!(rt;
+        is_proof(alloc, 2, 8, &[ENTRIES_2_3, ENTRIES_4_7]),
+        Ok(true)
+    );
+    assert_eq!(rt;
+        is_proof(alloc, 3, 8, &[ENTRY_2, ENTRY_3, ENTRIES_0_1, ENTRIES_4_7]),
+        Ok(true)
+    );
     assert_eq!(rt; is_proof(alloc, 4, 8, &[ENTRIES_4_7]), Ok(true));
-    assert_eq!(rt; is_proof(alloc, 5, 8, &[ENTRY_4, ENTRY_5, ENTRIES_6_7, ENTRIES_0_3]), Ok(true));
-    assert_eq!(rt; is_proof(alloc, 6, 8, &[ENTRIES_4_5, ENTRIES_6_7, ENTRIES_0_3]), Ok(true));
-    assert_eq!(rt; is_proof(alloc, 7, 8, &[ENTRY_6, ENTRY_7, ENTRIES_4_5, ENTRIES_0_3]), Ok(true));
+    assert_eq!(rt;
+        is_proof(alloc, 5, 8, &[ENTRY_4, ENTRY_5, ENTRIES_6_7, ENTRIES_0_3]),
+        Ok(true)
+    );
+    assert_eq!(rt;
+        is_proof(alloc, 6, 8, &[ENTRIES_4_5, ENTRIES_6_7, ENTRIES_0_3]),
+        Ok(true)
+    );
+    assert_eq!(rt;
+        is_proof(alloc, 7, 8, &[ENTRY_6, ENTRY_7, ENTRIES_4_5, ENTRIES_0_3]),
+        Ok(true)
+    );
 }
