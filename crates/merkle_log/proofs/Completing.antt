@@ -5,7 +5,8 @@ use Rattle.ark_paths.specs.Pair.{Digest}
 use Rattle.merkle_log.specs.Log.{NodeHash}
 use Rattle.merkle_log.specs.Walk.{index_up}
 use Rattle.merkle_log.specs.Stored.{stored_count, position, StoredValue, row_of}
-use Rattle.merkle_log.specs.Append.{Appends, Completes, pushed_row}
+use Rattle.std.proofs.lemmas.Nat.{ones_le_self}
+use Rattle.merkle_log.specs.Append.{Appends, Completes, pair_count, pushed_row}
 use Rattle.merkle_log.proofs.Carried.{CarriesTo, carries-first, carries-more, carries-end}
 use Rattle.merkle_log.proofs.Positions.{left_neighbour, length-row_of, row_of-at, position-within, up-more, count-more, rows-more}
 
@@ -118,6 +119,12 @@ module _ {A : Type 0} {numbers : A → Digest} {hash : NodeHash} {size : ℕ} {b
             ∙ at.count) row_even;
         is = ap (map numbers) at.items_are ∙ map-append numbers before at.made;
       }
+
+  -- the pairs that were hashed
+  pub completing-pairs : left % 2 ≡ 0 → level ≡ pair_count (size + 1) - pair_count size
+  completing-pairs even =
+      let more = count-more level size (λ l below. odd_below l below) (ap (λ n. n % 2) (sym at.left_is) ∙ even) in
+      omega (arith, ones_le_self size, ones_le_self (size + 1))
 
 -- ---- the list with one leaf more
 

@@ -1,13 +1,14 @@
 -- A log's list with one leaf more.
-use Rattle.std.proofs.Common.{◌≡◌, ◌+◌, ◌<◌, ℕ, ◌++◌, List, [], ◌∷◌, length, take, get_or, Ok, Err, OnOk, OnErr, refl, ap, sym, ◌∙◌, arith}
-use Rattle.std.proofs.lemmas.List.{take_all, take-take, take_more, append-nil, append_assoc}
-use Rattle.ark_base.specs.Outcome.{Outcome, ◌>>=◌}
+use Rattle.std.proofs.Common.{◌≡◌, ◌+◌, ◌<◌, ◌≤◌, ℕ, ◌++◌, List, [], ◌∷◌, length, take, get_or, Ok, Err, OnOk, OnErr, ap, sym, ◌∙◌, arith}
+use Rattle.std.proofs.lemmas.List.{take_all, take-take, append-nil, append_assoc}
+use Rattle.ark_base.specs.Outcome.{Outcome}
 use Rattle.ark_paths.specs.Pair.{Digest, Hashes}
 use Rattle.ark_paths.specs.Root.{all_hashes}
-use Rattle.ark_paths.proofs.Eaches.{each-append}
+use Rattle.ark_base.specs.declared.error.Error.{Error}
+use Rattle.ark_paths.proofs.Eaches.{IsSoFar, IsSoFar-none, IsSoFar-more, IsSoFar-refused, IsSoFar-all}
 use Rattle.merkle_log.specs.Log.{NodeHash, LogValue, with_more}
 use Rattle.merkle_log.specs.Stored.{StoredValue, stored_count, row_of, IsStored}
-use Rattle.merkle_log.specs.Append.{Appends, Extends, IsWhole}
+use Rattle.merkle_log.specs.Append.{Appends, AppendsLeaves, GrowsTo, IsWhole}
 use Rattle.merkle_log.proofs.Positions.{count-rises}
 use Rattle.merkle_log.proofs.Carried.{stored-pushed, pushed-first}
 
@@ -59,14 +60,14 @@ log-more hasher empty result row old more same = on_ok result (λ e. ap (log_of 
 
 -- ---- many leaves
 
-pub extends-itself : (stored : StoredValue) → IsWhole stored → Extends stored stored
+pub extends-itself : (stored : StoredValue) → IsWhole stored → GrowsTo stored stored
 extends-itself stored whole = record {
   size = omega arith;
   front = take_all (stored_count stored.size) stored.digests
       (omega arith);
 }
 
-pub extends-more : (a b c : StoredValue) → Extends a b → Extends b c → Extends a c
+pub extends-more : (a b c : StoredValue) → GrowsTo a b → GrowsTo b c → GrowsTo a c
 extends-more a b c first second =
     let less = first.size in
     let more = second.size in
@@ -80,9 +81,9 @@ extends-more a b c first second =
 pub record AppendsFirst {A : Type 0} (hashes : Hashes A) (old : StoredValue) (leaves : List A) (count : ℕ)
     (new : StoredValue) : Type 0 where
   pub kept : IsKept hashes.pair.upper new
-  pub extends : Extends old new
+  pub extends : GrowsTo old new
   pub digests : List Digest
-  pub hashed : all_hashes hashes.leaf (take count leaves) ≡ Ok digests
+  pub hashed : IsSoFar hashes.leaf leaves count digests
   pub first_row : row_of new 0 ≡ row_of old 0 ++ digests
 
 module _ {A : Type 0} {hashes : Hashes A} {old : StoredValue} {leaves : List A} where
@@ -91,7 +92,7 @@ module _ {A : Type 0} {hashes : Hashes A} {old : StoredValue} {leaves : List A} 
     kept = record { whole = whole; stored_is = stored };
     extends = extends-itself old whole;
     digests = [];
-    hashed = refl;
+    hashed = IsSoFar-none hashes.leaf leaves;
     first_row = sym (append-nil (row_of old 0));
   }
 
@@ -110,14 +111,24 @@ module _ {A : Type 0} {hashes : Hashes A} {old : StoredValue} {leaves : List A} 
         kept = one;
         extends = extends-more old mid new at.extends appended.extends;
         digests = at.digests ++ (digest ∷ []);
-        hashed = ap (λ n. all_hashes hashes.leaf (take n leaves)) next_is ∙ ap (all_hashes hashes.leaf)
-            (take_more leaves count leaf below ∙ ap (λ x. take count leaves ++ (x ∷ [])) (sym is))
-            ∙ each-append hashes.leaf (take count leaves) (leaf ∷ []) ∙ both at.hashed;
+        hashed = rw (next_is) (IsSoFar-more hashes.leaf leaves count leaf at.digests digest below is at.hashed hashed);
         first_row = pushed-first hashes.pair.upper (row_of mid) (row_of new) digest appended.made appended.carried
             appended.rows ∙ ap (λ l. l ++ (digest ∷ [])) at.first_row ∙ append_assoc (row_of old 0) at.digests
             (digest ∷ []);
       }
-    where
-      both : all_hashes hashes.leaf (take count leaves) ≡ Ok at.digests → (all_hashes hashes.leaf (take count leaves)
-          >>= λ cs. all_hashes hashes.leaf (leaf ∷ []) >>= λ ds. Ok (cs ++ ds)) ≡ Ok (at.digests ++ (digest ∷ []))
-      both e = rw (e, hashed) refl
+
+  pub appends-refused : {count : ℕ} {mid : StoredValue} → AppendsFirst hashes old leaves count mid → (leaf : A)
+      (e : Error) → count < length leaves → leaf ≡ get_or leaves count leaf → hashes.leaf leaf ≡ Err e
+      → all_hashes hashes.leaf leaves ≡ Err e
+  appends-refused {count} at leaf e below is refused =
+      IsSoFar-refused hashes.leaf leaves count leaf at.digests e below is at.hashed refused
+
+  pub appends-all : {count : ℕ} {new : StoredValue} → AppendsFirst hashes old leaves count new → length leaves ≤ count
+      → AppendsLeaves hashes old leaves new
+  appends-all {count} at all = record {
+    digests = at.digests;
+    hashed = IsSoFar-all hashes.leaf leaves count at.digests all at.hashed;
+    first_row = at.first_row;
+    whole = at.kept.whole;
+    stored = at.kept.stored_is;
+  }

@@ -14,11 +14,15 @@ pub mod Carried
 pub mod Positions
 pub mod Completing
 pub mod Lasts
+pub mod Highest
+pub mod Climbing
 pub mod Going
 pub mod Seeding
 pub mod Accepted
 pub mod Edges
 pub mod Growing
+pub mod Counted
+pub mod Halving
 pub mod Peaks
 pub mod Merging
 pub mod Lengths

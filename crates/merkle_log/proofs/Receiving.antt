@@ -11,7 +11,7 @@ use Rattle.ark_base.specs.Laws.Steps.{bind_ok}
 use Rattle.ark_paths.specs.Pair.{Digest, Hashes}
 use Rattle.merkle_log.specs.Log.{NodeHash}
 use Rattle.merkle_log.specs.Verdict.{leaf_verdict, consistency_verdict}
-use Rattle.merkle_log.specs.Received.{whole_read, received_inclusion, received_consistency, ShowsLeaf, ShowsFront}
+use Rattle.merkle_log.specs.Received.{whole_read, received_inclusion, received_consistency, ShowsLogLeaf, ShowsFront}
 use Rattle.merkle_log.proofs.Verdicts.{leaf-bound, consistency-bound}
 
 -- bytes are left
@@ -64,7 +64,7 @@ module _ {A : Type 0} (hashes : Hashes A) (root : Digest) (size index : ℕ) (le
       step : (b : Bool) → b ≡ false → (x y : Outcome Bool) → (if b then x else y) ≡ y
       step b t x y = rw (t) refl
 
-  pub received-leaf : received_inclusion hashes root size index leaf path ≡ Ok true → ShowsLeaf hashes root size
+  pub received-leaf : received_inclusion hashes root size index leaf path ≡ Ok true → ShowsLogLeaf hashes root size
       index leaf path
   received-leaf is = elim (cases_lt index size) [
     | inl inside ↦

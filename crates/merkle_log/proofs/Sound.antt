@@ -4,7 +4,7 @@ use Rattle.std.proofs.lemmas.Bool.Decides.{nat_tests}
 use Rattle.ark_base.specs.Laws.Steps.{bind_ok}
 use Rattle.ark_base.specs.Outcome.{◌>>=◌}
 use Rattle.merkle_log.specs.Trees.{tree_hash}
-use Rattle.merkle_log.specs.Collision.{Collide, CollidesAt, IsTreePair}
+use Rattle.merkle_log.specs.Collision.{Collide, PathCollidesAt, IsTreePair}
 use Rattle.merkle_log.specs.Walk.{joined, finish, with_next, walk, on_left, on_right, has_beside, used_below, index_up, in_order, Meets}
 use Rattle.merkle_log.proofs.Above.{there, IsAbove, higher, above-pair, above-last}
 use Rattle.merkle_log.proofs.PathRows.{Right, Left, Alone, side}
@@ -88,69 +88,101 @@ module _ {D S E : Type 0} (left right : D → S → Result S E) (i s : ℕ) (sta
   used-more : (level : ℕ) → has_beside i s ≡ true → used_below (suc level) i s ≡ suc (used_below level (i / 2) (s / 2))
   used-more level beside = rw (beside) refl
 
+  -- What is left of the path and where the way is, some levels up, are so from the level above this one, too.
+  pub record Moves (level : ℕ) (next : S) (rest : List D) : Type 0 where
+    pub drops : drop (used_below (suc level) i s) path ≡ drop (used_below level (i / 2) (s / 2)) rest
+    pub walks : walk left right (suc level) i s state (take (used_below (suc level) i s) path)
+        ≡ walk left right level (i / 2) (s / 2) next (take (used_below level (i / 2) (s / 2)) rest)
+
+  pub moves-odd : (digest : D) (rest : List D) (next : S) (level : ℕ) → i % 2 ≡ 1 → path ≡ digest ∷ rest
+      → left digest state ≡ Ok next → Moves level next rest
+  moves-odd digest rest next level odd is stepped =
+      let u = used_below level (i / 2) (s / 2) in
+      let used = used-more level (beside-right i s odd) in
+      record {
+        drops = ap (λ n. drop n path) used ∙ ap (drop (suc u)) is;
+        walks = ap (λ n. walk left right (suc level) i s state (take n path)) used
+            ∙ ap (λ p. walk left right (suc level) i s state (take (suc u) p)) is
+            ∙ walk-odd left right level i s state (digest ∷ take u rest) odd ∙ ap (λ o. o >>= λ state. walk left right
+            level (i / 2) (s / 2) state (take u rest)) stepped;
+      }
+
+  pub moves-even : (digest : D) (rest : List D) (next : S) (level : ℕ) → i % 2 ≡ 0 → i < s → path ≡ digest ∷ rest
+      → right digest state ≡ Ok next → Moves level next rest
+  moves-even digest rest next level even more is stepped =
+      let u = used_below level (i / 2) (s / 2) in
+      let used = used-more level (beside-left i s more) in
+      record {
+        drops = ap (λ n. drop n path) used ∙ ap (drop (suc u)) is;
+        walks = ap (λ n. walk left right (suc level) i s state (take n path)) used
+            ∙ ap (λ p. walk left right (suc level) i s state (take (suc u) p)) is
+            ∙ walk-even left right level i s state (digest ∷ take u rest) even more
+            ∙ ap (λ o. o >>= λ state. walk left right level (i / 2) (s / 2) state (take u rest)) stepped;
+      }
+
+  pub moves-last : (level : ℕ) → i % 2 ≡ 0 → s ≤ i → Moves level state path
+  moves-last level even last =
+      let used : used_below (suc level) i s ≡ used_below level (i / 2) (s / 2) = let none =
+      beside-none i s even last in rw (none) refl in
+      record {
+        drops = ap (λ n. drop n path) used;
+        walks = ap (λ n. walk left right (suc level) i s state (take n path)) used ∙ walk-last left right level i s
+            state (take (used_below level (i / 2) (s / 2)) path) even last;
+      }
+
+  pub meets-up : {level : ℕ} {next : S} {rest : List D} → Moves level next rest → (reached : S) (sibling : D)
+      → Meets left right (i / 2) (s / 2) next rest level reached sibling
+      → Meets left right i s state path (suc level) reached sibling
+  meets-up moved reached sibling met = record {
+    beside = met.beside;
+    rest = met.rest;
+    next_is = moved.drops ∙ met.next_is;
+    reached_is = moved.walks ∙ met.reached_is;
+  }
+
+  pub meets-down : {level : ℕ} {next : S} {rest : List D} → Moves level next rest → (reached : S) (sibling : D)
+      → Meets left right i s state path (suc level) reached sibling
+      → Meets left right (i / 2) (s / 2) next rest level reached sibling
+  meets-down moved reached sibling met = record {
+    beside = met.beside;
+    rest = met.rest;
+    next_is = sym moved.drops ∙ met.next_is;
+    reached_is = sym moved.walks ∙ met.reached_is;
+  }
+
   pub meets-odd : (digest : D) (rest : List D) (next : S) (level : ℕ) (reached : S) (sibling : D) → i % 2 ≡ 1 → path
       ≡ digest ∷ rest → left digest state ≡ Ok next
       → Meets left right (i / 2) (s / 2) next rest level reached sibling → Meets left right i s state path (suc level)
       reached sibling
-  meets-odd digest rest next level reached sibling odd is stepped met =
-      let u = used_below level (i / 2) (s / 2) in
-      let used = used-more level (beside-right i s odd) in
-      record {
-        beside = met.beside;
-        rest = met.rest;
-        next_is = ap (λ n. drop n path) used ∙ ap (drop (suc u)) is ∙ met.next_is;
-        reached_is = ap (λ n. walk left right (suc level) i s state (take n path)) used
-            ∙ ap (λ p. walk left right (suc level) i s state (take (suc u) p)) is
-            ∙ walk-odd left right level i s state (digest ∷ take u rest) odd ∙ ap (λ o. o >>= λ state. walk left right
-            level (i / 2) (s / 2) state (take u rest)) stepped ∙ met.reached_is;
-      }
+  meets-odd digest rest next level reached sibling odd is stepped =
+      meets-up (moves-odd digest rest next level odd is stepped) reached sibling
 
   pub meets-even : (digest : D) (rest : List D) (next : S) (level : ℕ) (reached : S) (sibling : D) → i % 2 ≡ 0 → i < s
       → path ≡ digest ∷ rest → right digest state ≡ Ok next
       → Meets left right (i / 2) (s / 2) next rest level reached sibling → Meets left right i s state path (suc level)
       reached sibling
-  meets-even digest rest next level reached sibling even more is stepped met =
-      let u = used_below level (i / 2) (s / 2) in
-      let used = used-more level (beside-left i s more) in
-      record {
-        beside = met.beside;
-        rest = met.rest;
-        next_is = ap (λ n. drop n path) used ∙ ap (drop (suc u)) is ∙ met.next_is;
-        reached_is = ap (λ n. walk left right (suc level) i s state (take n path)) used
-            ∙ ap (λ p. walk left right (suc level) i s state (take (suc u) p)) is
-            ∙ walk-even left right level i s state (digest ∷ take u rest) even more
-            ∙ ap (λ o. o >>= λ state. walk left right level (i / 2) (s / 2) state (take u rest)) stepped
-            ∙ met.reached_is;
-      }
+  meets-even digest rest next level reached sibling even more is stepped =
+      meets-up (moves-even digest rest next level even more is stepped) reached sibling
 
   pub meets-last : (level : ℕ) (reached : S) (sibling : D) → i % 2 ≡ 0 → s ≤ i → Meets left right (i / 2) (s / 2) state
       path level reached sibling → Meets left right i s state path (suc level) reached sibling
-  meets-last level reached sibling even last met =
-      let used : used_below (suc level) i s ≡ used_below level (i / 2) (s / 2) = let none =
-      beside-none i s even last in rw (none) refl in
-      record {
-        beside = met.beside;
-        rest = met.rest;
-        next_is = ap (λ n. drop n path) used ∙ met.next_is;
-        reached_is = ap (λ n. walk left right (suc level) i s state (take n path)) used ∙ walk-last left right level i s
-            state (take (used_below level (i / 2) (s / 2)) path) even last ∙ met.reached_is;
-      }
+  meets-last level reached sibling even last = meets-up (moves-last level even last) reached sibling
 
 -- ---- inclusion
 
 module _ {D E : Type 0} (same : (x y : D) → (x ≡ y) ⊎ (x ≢ y)) (hash : D → D → Result D E) where
   -- The digest stands in a row, or at some level the walk's pair and the tree's collide.
   abbrev pub Binds : D → Result D E → List D → ℕ → ℕ → D → List D → Type 0
-  Binds none empty xs i s own path = (get_or xs i none ≡ own) ⊎ ((level : ℕ) × CollidesAt hash empty xs i s own
+  Binds none empty xs i s own path = (get_or xs i none ≡ own) ⊎ ((level : ℕ) × PathCollidesAt hash empty xs i s own
       path level)
 
   -- what collides in the row above collides here
   module _ {empty : Result D E} {xs : List D} {i s : ℕ} {own : D} {path : List D} where
-    higher_collision : {ys : List D} (state : D) (rest : List D) (level : ℕ) → IsAbove hash xs ys → length ys
+    pub higher_collision : {ys : List D} (state : D) (rest : List D) (level : ℕ) → IsAbove hash xs ys → length ys
         ≡ (length xs + 1) / 2
         → ((reached sibling : D) → Meets (on_left hash) (on_right hash) (i / 2) (s / 2) state rest level reached sibling
         → Meets (on_left hash) (on_right hash) i s own path (suc level) reached sibling)
-        → CollidesAt hash empty ys (i / 2) (s / 2) state rest level → CollidesAt hash empty xs i s own path (suc level)
+        → PathCollidesAt hash empty ys (i / 2) (s / 2) state rest level → PathCollidesAt hash empty xs i s own path (suc level)
     higher_collision {ys} state rest level up size met found = record {
       reached = found.reached;
       sibling = found.sibling;
@@ -161,9 +193,9 @@ module _ {D E : Type 0} (same : (x y : D) → (x ≡ y) ⊎ (x ≢ y)) (hash : D
     }
 
     -- the lowest pairs
-    lowest_collision : (sibling : D) (rest : List D) (pair : D × D) (given : D × D) → has_beside i s ≡ true → path
+    pub lowest_collision : (sibling : D) (rest : List D) (pair : D × D) (given : D × D) → has_beside i s ≡ true → path
         ≡ sibling ∷ rest → in_order i own sibling ≡ given
-        → IsTreePair hash empty xs 0 (i / 2) pair → Collide hash given pair → CollidesAt hash empty xs i s own path 0
+        → IsTreePair hash empty xs 0 (i / 2) pair → Collide hash given pair → PathCollidesAt hash empty xs i s own path 0
     lowest_collision sibling rest pair given beside is order tree collide = record {
       reached = own;
       sibling = sibling;

@@ -26,7 +26,7 @@ node-up join none level place xs =
     (drop (place * 2 ^ suc level) xs) two)
     ∙ ap (take (2 ^ level)) (sym (drop-row_up join (place * 2 ^ level) (place * 2 ^ suc level) xs far)))
 
-node-zero : {D E : Type 0} (hash : D → D → Result D E) (none : D) (empty : Result D E) (xs : List D) (place : ℕ)
+pub node-zero : {D E : Type 0} (hash : D → D → Result D E) (none : D) (empty : Result D E) (xs : List D) (place : ℕ)
     → place < length xs → node (joined hash) empty 0 place (there xs) ≡ Ok (get_or xs place none)
 node-zero hash none empty xs place below =
     let one : place * 1 + 0 ≡ place = omega arith in
@@ -49,6 +49,22 @@ module _ {D E : Type 0} {hash : D → D → Result D E} where
             (place + place)) up.is ∙ tree.left;
         right = node-up (joined hash) empty level (place + place + 1) (there xs) ∙ ap (node (joined hash) empty level
             (place + place + 1)) up.is ∙ tree.right;
+      }
+
+  pub tree_pair-down : (empty : Result D E) (xs ys : List D) (level place : ℕ) (pair : D × D) → IsAbove hash xs ys
+      → length ys ≡ (length xs + 1) / 2 → IsTreePair hash empty xs (suc level) place pair → IsTreePair hash empty ys
+      level place pair
+  tree_pair-down empty xs ys level place pair up size tree =
+      let below = tree.inside in
+      let far : (place + place + 1) * 2 ^ suc level ≡ (place + place + 1) * 2 ^ level + (place + place + 1) * 2
+      ^ level = ap (λ n. (place + place + 1) * n) (twice level) ∙ mul-add (place + place + 1) (2 ^ level)
+      (2 ^ level) in
+      record {
+        inside = omega arith;
+        left = sym (node-up (joined hash) empty level (place + place) (there xs) ∙ ap (node (joined hash) empty level
+            (place + place)) up.is) ∙ tree.left;
+        right = sym (node-up (joined hash) empty level (place + place + 1) (there xs) ∙ ap (node (joined hash) empty
+            level (place + place + 1)) up.is) ∙ tree.right;
       }
 
   -- two neighbours

@@ -13,7 +13,7 @@ use Rattle.merkle_log.specs.Walk.{joined, walk, on_left, on_right, both_roots}
 use Rattle.ark_paths.specs.Pair.{Digest, Hashes}
 use Rattle.merkle_log.specs.Log.{NodeHash, merkle_tree_hash}
 use Rattle.merkle_log.specs.Verdict.{ends_at, ends_at_both, is_empty, inclusion_verdict, consistency_verdict, leaf_verdict}
-use Rattle.merkle_log.specs.Bind.{BindsDigest, BindsLeaf, BindsFront, IsInclusion, IsLeafInclusion, IsConsistency}
+use Rattle.merkle_log.specs.Bind.{BindsDigest, BindsLogLeaf, BindsFront, IsInclusion, IsLeafInclusion, IsConsistency}
 use Rattle.merkle_log.specs.Collision.{InTrees}
 use Rattle.merkle_log.proofs.RowsUp.{twice}
 use Rattle.merkle_log.proofs.Above.{there}
@@ -21,7 +21,7 @@ use Rattle.merkle_log.proofs.Sound.{walk-binds}
 use Rattle.merkle_log.proofs.Agree.{both_roots-agree, same_root}
 use Rattle.merkle_log.proofs.Own.{walk-own, both_roots-own}
 
-same_digests : (x y : Digest) → (x ≡ y) ⊎ (x ≢ y)
+pub same_digests : (x y : Digest) → (x ≡ y) ⊎ (x ≢ y)
 same_digests x y = by_test (bytes_eq x y) refl
   where
     by_test : (b : Bool) → bytes_eq x y ≡ b → (x ≡ y) ⊎ (x ≢ y)
@@ -54,14 +54,14 @@ tree_hash-levels join none k (suc d) xs le =
 -- ---- inclusion
 
 -- a way that was accepted
-ended_at : (root : Digest) (o : Outcome (Option Digest)) → (o >>= ends_at root) ≡ Ok true → o ≡ Ok (Some root)
+pub ended_at : (root : Digest) (o : Outcome (Option Digest)) → (o >>= ends_at root) ≡ Ok true → o ≡ Ok (Some root)
 ended_at root (Err e) is = absurd cc
 ended_at root (Ok None) is = let f : done {E = Error} false ≡ done true =
     is in absurd (let g : false ≡ true = done_injective false true f in cc)
 ended_at root (Ok (Some end)) is = let f : done {E = Error} (bytes_eq end root) ≡ done true =
     is in ap (λ d. Ok (Some d)) ((bytes_eq-Decides end root).0 (done_injective (bytes_eq end root) true f))
 
-refused : (b : Bool) → done {E = Error} b ≡ done true → b ≡ true
+pub refused : (b : Bool) → done {E = Error} b ≡ done true → b ≡ true
 refused b e = done_injective b true e
 
 pub inclusion-bound : (hash : NodeHash) (root : Digest) (size index : ℕ) (digest : Digest) (path : List Digest)
@@ -106,7 +106,7 @@ module _ {A : Type 0} (hashes : Hashes A) (root : Digest) (size index : ℕ) (le
       inclusion_verdict hashes.pair.upper root size index digest path)
   leaf_inside inside = let t : nat_lt index size ≡ true = grind (arith, nat_tests) in rw (t) refl
 
-  pub leaf-bound : leaf_verdict hashes root size index leaf path ≡ Ok true → BindsLeaf hashes root size index leaf path
+  pub leaf-bound : leaf_verdict hashes root size index leaf path ≡ Ok true → BindsLogLeaf hashes root size index leaf path
   leaf-bound is = elim (cases_lt index size) [
     | inl inside ↦
         let hashed = bind_ok (hashes.leaf leaf) (λ digest. inclusion_verdict hashes.pair.upper root size index digest

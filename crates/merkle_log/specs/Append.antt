@@ -1,9 +1,9 @@
 -- A digest is appended to a log.
-use Rattle.std.specs.Prelude.{◌≡◌, ◌<◌, ◌≤◌, ◌-◌, ◌%◌, nat_lt, ◌++◌, ℕ, suc, if◌then◌else◌, List, [], ◌∷◌, length, take, get_or, Ok, Err}
+use Rattle.std.specs.Prelude.{◌≡◌, ◌<◌, ◌+◌, min, count_ones, ◌≤◌, ◌-◌, ◌%◌, nat_lt, ◌++◌, ℕ, suc, if◌then◌else◌, List, [], ◌∷◌, length, take, get_or, Ok, Err}
 use Rattle.ark_base.specs.declared.error.Error.{Error}
 use Rattle.ark_paths.specs.Pair.{Digest, Hashes}
 use Rattle.ark_paths.specs.Root.{all_hashes}
-use Rattle.merkle_log.specs.Log.{NodeHash, LogValue, with_more}
+use Rattle.merkle_log.specs.Log.{NodeHash, LogValue, inclusion_path, consistency_path, root_at, with_more}
 use Rattle.merkle_log.specs.Stored.{StoredValue, stored_count, row_of, IsStored}
 
 -- The digests that an appended one makes: itself, and as long as the row has an odd number, the hash of the row's last
@@ -33,7 +33,7 @@ abbrev pub IsWhole : StoredValue → Type 0
 IsWhole stored = length stored.digests ≡ stored_count stored.size
 
 -- A list is followed by more leaves.
-pub record Extends (old new : StoredValue) : Type 0 where
+pub record GrowsTo (old new : StoredValue) : Type 0 where
   pub size : old.size ≤ new.size
   pub front : take (stored_count old.size) new.digests ≡ old.digests
 
@@ -43,13 +43,29 @@ pub record Appends (hash : NodeHash) (old : StoredValue) (digest : Digest) (new 
   pub carried : IsCarried hash (row_of old) digest made
   pub rows : (level : ℕ) → row_of new level ≡ pushed_row (row_of old) made level
   pub whole : IsWhole new
-  pub extends : Extends old new
+  pub extends : GrowsTo old new
 
 -- The hash of pairs has this error for some pair.
 pub record Refuses (hash : NodeHash) (error : Error) : Type 0 where
   pub left : Digest
   pub right : Digest
   pub is : hash left right ≡ Err error
+
+-- how many pairs a log of so many leaves has hashed: each complete place above the leaves once
+abbrev pub pair_count : ℕ → ℕ
+pair_count size = size - count_ones size
+
+-- a count of calls after more of them: past the largest `usize` it stays there
+abbrev pub counted_after : ℕ → ℕ → ℕ
+counted_after before more = min (before + more) 18446744073709551615
+
+-- The roots and proofs of all sizes that a log had are as they were.
+pub record KeepsSizes {T : Type 0} (hash : NodeHash) (old new : LogValue T) : Type 0 where
+  pub roots : (size : ℕ) → size ≤ length old.digests → root_at hash new size ≡ root_at hash old size
+  pub paths : (size index : ℕ) → size ≤ length old.digests → inclusion_path hash new.empty index (take size
+      new.digests) ≡ inclusion_path hash old.empty index (take size old.digests)
+  pub proofs : (first size : ℕ) → size ≤ length old.digests → consistency_path hash new.empty first (take size
+      new.digests) ≡ consistency_path hash old.empty first (take size old.digests)
 
 -- A log has one more leaf, which has a hash.
 pub record HasLeaf {T A : Type 0} (hashes : Hashes A) (old : LogValue T) (leaf : A) (new : LogValue T) : Type 0 where

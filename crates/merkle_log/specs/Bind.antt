@@ -1,24 +1,24 @@
 -- What an accepted proof says of each list of digests with the root.
 use Rattle.std.specs.Prelude.{◌≡◌, ◌⊎◌, ◌<◌, ◌-◌, ℕ, List, [], length, map, take, get_or, Ok}
 use Rattle.ark_paths.specs.Pair.{Digest, Hashes}
-use Rattle.merkle_log.specs.Collision.{CollidesAt, HistoriesCollide}
+use Rattle.merkle_log.specs.Collision.{PathCollidesAt, HistoriesCollide}
 use Rattle.merkle_log.specs.Log.{NodeHash, merkle_tree_hash, inclusion_path, consistency_path}
 
 -- ---- inclusion
 
 -- The digest stands in the list at the index, or at some level the path's pair and the pair of the list's tree collide.
-abbrev pub StandsOrCollides : NodeHash → Digest → List Digest → ℕ → Digest → List Digest → Type 0
-StandsOrCollides hash empty digests index digest path = (get_or digests index [] ≡ digest)
-    ⊎ ((level : ℕ) × CollidesAt hash (Ok empty) digests index (length digests - 1) digest path level)
+abbrev pub StandsOrPathCollides : NodeHash → Digest → List Digest → ℕ → Digest → List Digest → Type 0
+StandsOrPathCollides hash empty digests index digest path = (get_or digests index [] ≡ digest)
+    ⊎ ((level : ℕ) × PathCollidesAt hash (Ok empty) digests index (length digests - 1) digest path level)
 
 -- A path binds a digest to a root: so it is in each list of this size with this root.
 abbrev pub BindsDigest : NodeHash → Digest → ℕ → ℕ → Digest → List Digest → Type 0
 BindsDigest hash root size index digest path = (empty : Digest) (digests : List Digest) → length digests ≡ size
-    → merkle_tree_hash hash empty digests ≡ Ok root → StandsOrCollides hash empty digests index digest path
+    → merkle_tree_hash hash empty digests ≡ Ok root → StandsOrPathCollides hash empty digests index digest path
 
 -- A path binds a leaf to a root: the leaf has a hash, and the path binds that.
-abbrev pub BindsLeaf : {A : Type 0} → Hashes A → Digest → ℕ → ℕ → A → List Digest → Type 0
-BindsLeaf hashes root size index leaf path = (digest : Digest) × (hashes.leaf leaf ≡ Ok digest)
+abbrev pub BindsLogLeaf : {A : Type 0} → Hashes A → Digest → ℕ → ℕ → A → List Digest → Type 0
+BindsLogLeaf hashes root size index leaf path = (digest : Digest) × (hashes.leaf leaf ≡ Ok digest)
     × BindsDigest hashes.pair.upper root size index digest path
 
 -- The path is PATH(i, D) of a list with this root and size, where the digest stands at the index.

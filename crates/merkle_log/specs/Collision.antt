@@ -22,7 +22,7 @@ pub record IsTreePair {D E : Type 0} (hash : D → D → Result D E) (empty : Re
 
 -- At a level the pair that a path's walk hashes is another one than that of the list's own tree at this place, and both
 -- hash alike.
-pub record CollidesAt {D E : Type 0} (hash : D → D → Result D E) (empty : Result D E) (digests : List D)
+pub record PathCollidesAt {D E : Type 0} (hash : D → D → Result D E) (empty : Result D E) (digests : List D)
     (i s : ℕ) (own : D) (path : List D) (level : ℕ) : Type 0 where
   pub reached : D
   pub sibling : D

@@ -10,3 +10,4 @@ pub mod Append
 pub mod Edge
 pub mod Frontier
 pub mod Received
+pub mod Binding

@@ -1,13 +1,17 @@
 -- Lists of digests that grow, and their roots and proofs (RFC 9162, section 2.1).
 use Rattle.std.specs.Prelude.{ℕ, true, List, ◌++◌, length, map, take, Ok}
 use Rattle.ark_base.specs.Outcome.{Outcome}
-use Rattle.ark_paths.specs.Pair.{Digest}
+use Rattle.ark_paths.specs.Pair.{Digest, HashPair}
 use Rattle.merkle_log.specs.Trees.{tree_hash, path, subproof}
 use Rattle.merkle_log.specs.Walk.{joined}
 
 -- what the hash of two digests returns
 abbrev pub NodeHash : Type 0
 NodeHash = Digest → Digest → Outcome Digest
+
+-- one hash of pairs for the lowest pairs of a tree and for those above them
+abbrev pub both_levels : NodeHash → HashPair
+both_levels hash = record { bottom = hash; upper = hash }
 
 -- MTH(D), where no digest has the hash `empty`; or the first error
 abbrev pub merkle_tree_hash : NodeHash → Digest → List Digest → Outcome Digest

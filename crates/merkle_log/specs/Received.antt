@@ -9,7 +9,7 @@ use Rattle.ark_paths.specs.Pair.{Digest, Hashes}
 use Rattle.merkle_log.specs.Walk.{used_below}
 use Rattle.merkle_log.specs.Log.{NodeHash}
 use Rattle.merkle_log.specs.Verdict.{leaf_verdict, consistency_verdict}
-use Rattle.merkle_log.specs.Bind.{BindsLeaf, BindsFront}
+use Rattle.merkle_log.specs.Bind.{BindsLogLeaf, BindsFront}
 
 -- how many digests the path of an index has
 abbrev pub inclusion_length : ℕ → ℕ → ℕ
@@ -47,9 +47,9 @@ received_consistency hash old_size old size new path =
     else (path >>= consistency_verdict hash old_size old size new)
 
 -- The bytes spell a path that binds the leaf.
-abbrev pub ShowsLeaf : {A : Type 0} → Hashes A → Digest → ℕ → ℕ → A → Outcome (List Digest) → Type 0
-ShowsLeaf hashes root size index leaf path =
-    (digests : List Digest) × (path ≡ Ok digests) × BindsLeaf hashes root size index leaf digests
+abbrev pub ShowsLogLeaf : {A : Type 0} → Hashes A → Digest → ℕ → ℕ → A → Outcome (List Digest) → Type 0
+ShowsLogLeaf hashes root size index leaf path =
+    (digests : List Digest) × (path ≡ Ok digests) × BindsLogLeaf hashes root size index leaf digests
 
 -- The bytes spell a path that binds the old root.
 abbrev pub ShowsFront : NodeHash → ℕ → Digest → ℕ → Digest → Outcome (List Digest) → Type 0

@@ -2,7 +2,7 @@
 
 ghost use Rattle.std.specs.Prelude.{◌≡◌, ◌<◌, ◌≤◌, ◌^◌, ℕ, true, map, IfOk, Ok};
 ghost use Rattle.ark_base.specs.Outcome.{Answers};
-ghost use Rattle.merkle_log.specs.Bind.{BindsDigest, BindsLeaf, IsInclusion, IsLeafInclusion};
+ghost use Rattle.merkle_log.specs.Bind.{BindsDigest, BindsLogLeaf, IsInclusion, IsLeafInclusion};
 ghost use Rattle.merkle_log.specs.Verdict.{leads_to, inclusion_verdict, leaf_verdict};
 
 use crate::digests::copy_of;
@@ -32,7 +32,7 @@ pub fn verify_inclusion<D: DigestItem, T: TreeHasher<D, D>>(
 
     // In each list of this size with this root the leaf's hash stands at the index, or at some level the path's pair and that
     // of the list's tree differ and hash alike.
-    ensures bound { let binds = BindsLeaf (T.hashes hasher.now) (D.numbers root.now) in
+    ensures bound { let binds = BindsLogLeaf (T.hashes hasher.now) (D.numbers root.now) in
         IfOk result (λ accepted. accepted ≡ true
         → binds size index leaf.now (map D.numbers path.now)) }
 

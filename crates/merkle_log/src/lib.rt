@@ -2,6 +2,7 @@
 //! front of another (RFC 6962 and RFC 9162, section 2.1).
 #![tactic(auto)]
 
+pub mod bind;
 pub mod consistency;
 mod digests;
 pub mod frontier;
@@ -13,6 +14,7 @@ mod rows;
 mod stored;
 mod way;
 
+pub use bind::LogBinding;
 pub use consistency::verify_consistency;
 pub use frontier::Frontier;
 pub use inclusion::{verify_inclusion, verify_inclusion_digest};

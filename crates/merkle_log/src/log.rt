@@ -1,22 +1,27 @@
 //! Logs that keep the digests of their complete subtrees.
 
-ghost use Rattle.std.specs.Prelude.{◌≡◌, ◌⊎◌, ◌<◌, ◌≤◌, ◌∷◌, ℕ, List, [], true, length, map, get_or, take, IfOk, IfErr, OnOk, OnErr, Ok, Err};
+ghost use Rattle.std.specs.Prelude.{◌≡◌, ◌⊎◌, ◌<◌, ◌≤◌, ◌+◌, ◌-◌, ◌^◌, ◌∷◌, ℕ, suc, List, [], true, length, map, get_or, take, IfOk, IfErr, OnOk, OnErr, Ok, Err, Some, None};
 ghost use Rattle.ark_base.specs.declared.error.Error.TheVariants.{OutOfMemory};
 ghost use Rattle.ark_base.specs.Outcome.{AnswersBy};
 ghost use Rattle.ark_paths.specs.Pair.{Digest};
+ghost use Rattle.ark_paths.specs.Root.{all_hashes, root_of};
 ghost use Rattle.ark_paths.specs.Rows.{digests_of};
-ghost use Rattle.merkle_log.specs.Append.{AppendsLeaves, Extends, HasLeaf, HasLeaves, IsWhole, Refuses};
+ghost use Rattle.merkle_log.specs.Append.{AppendsLeaves, GrowsTo, HasLeaf, HasLeaves, IsWhole, KeepsSizes, Refuses, counted_after, pair_count};
+ghost use Rattle.merkle_log.specs.Binding.{is_accepted, HighestIn, LeafHighestIn, leaf_verdict_in, verdict_in};
+ghost use Rattle.merkle_log.specs.declared.bind.LogBinding.TheVariants.{Rejected, Stands, Collides};
 ghost use Rattle.merkle_log.specs.Edge.{all_of};
-ghost use Rattle.merkle_log.specs.Log.{LogValue, inclusion_path, consistency_path, root_at, with_more};
+ghost use Rattle.merkle_log.specs.Log.{LogValue, both_levels, inclusion_path, consistency_path, root_at, with_more};
 ghost use Rattle.merkle_log.specs.Stored.{row_of, IsStored};
 ghost use Rattle.merkle_log.specs.Verdict.{inclusion_verdict, consistency_verdict};
 
+use crate::bind::{LogBinding, binding_of};
 use crate::digests::copy_of;
 use crate::paths::{consistency_path_of, inclusion_path_of};
 use crate::rows::root_of;
 use crate::stored::Stored;
 use ark_base::error::Error;
 use ark_base::serialize::DigestItem;
+use ark_paths::PairHasher;
 use ark_paths::hasher::{Counting, TreeHasher};
 use std::alloc::Global;
 use std::marker::Model;
@@ -47,23 +52,33 @@ impl<D: DigestItem, T: TreeHasher<D, D>> Model for Log<D, T> {
     } };
 }
 
-// Puts the digests of leaves behind a list. An error may leave some of them.
-fn append_each<D: DigestItem, T: TreeHasher<D, D>>(
+// Puts the digests of leaves behind a list, and hashes the pairs that they complete by a second hasher. An error may leave some
+// of them.
+fn append_each<D: DigestItem, T: TreeHasher<D, D>, W: PairHasher<D, D>>(
     alloc: Global,
     hasher: &T,
+    pairs: &mut W,
     stored: &mut Stored<D>,
     leaves: &[T::Leaf],
 ) -> Result<(), Error>
     requires whole { IsWhole stored.old }
     requires stored { IsStored (T.hashes hasher.now).pair.upper (row_of stored.old) }
+    requires same { (W.pair pairs.old).upper ≡ (T.hashes hasher.now).pair.upper }
+    requires fits { stored.old.size < 2 ^ 64 }
+    requires counted { W.counted pairs.old < 2 ^ 64 }
     ensures appended { let hashes = T.hashes hasher.now in
         OnOk result (AppendsLeaves hashes stored.old leaves.now stored.new) }
-    ensures extends { Extends stored.old stored.new }
+    ensures extends { GrowsTo stored.old stored.new }
+    ensures refused { IfErr result (λ error. (error ≡ OutOfMemory)
+        ⊎ (all_hashes (T.hashes hasher.now).leaf leaves.now ≡ Err error)
+        ⊎ Refuses (T.hashes hasher.now).pair.upper error) }
+    ensures counts { let more = pair_count stored.new.size - pair_count stored.old.size in
+        OnOk result (W.counted pairs.new ≡ counted_after (W.counted pairs.old) more) }
+    ensures fits { stored.new.size < 2 ^ 64 }
 {
     for place in 0..leaves.len() {
         let digest = hasher.leaf(alloc, &leaves[place])?;
-        let mut pairs = Counting::new(hasher);
-        stored.append(alloc, &mut pairs, digest)?;
+        stored.append(alloc, pairs, digest)?;
     }
     Ok(())
 }
@@ -99,23 +114,46 @@ impl<D: DigestItem, T: TreeHasher<D, D>> Log<D, T> {
         ensures refused { IfErr result (λ error. (error ≡ OutOfMemory)
             ⊎ ((T.hashes self.old.hasher).leaf leaf.now ≡ Err error)
             ⊎ Refuses (T.hashes self.old.hasher).pair.upper error) }
+
+        // Roots and proofs of the sizes that the log had stay.
+        ensures stays { let hash = (T.hashes self.old.hasher).pair.upper in
+            OnOk result (KeepsSizes hash self.old self.new) }
     {
         let digest = self.hasher.leaf(alloc, leaf)?;
         self.append_digest(alloc, digest)
     }
 
     /// Appends a leaf's digest. Errors, which leave the log unchanged: that of a pair; `OutOfMemory`.
-    ///
-    /// It hashes as many pairs as the size has ones at its low end: over n appends n less the count of ones of n.
     pub fn append_digest(&mut self, alloc: Global, digest: D) -> Result<(), Error>
         ensures appended { let more = D.numbers digest ∷ [] in
             OnOk result (self.new ≡ with_more self.old more) }
         ensures kept { OnErr result (self.new ≡ self.old) }
         ensures refused { IfErr result (λ error. (error ≡ OutOfMemory)
             ⊎ Refuses (T.hashes self.old.hasher).pair.upper error) }
+
+        // Roots and proofs of the sizes that the log had stay.
+        ensures stays { let hash = (T.hashes self.old.hasher).pair.upper in
+            OnOk result (KeepsSizes hash self.old self.new) }
+    {
+        self.append_digest_counting(alloc, digest)?;
+        Ok(())
+    }
+
+    /// As `append_digest`, and returns how many pairs were hashed: those of the subtrees that the leaf completes.
+    ///
+    /// Over n appends to an empty log that is n less the count of ones of n.
+    pub fn append_digest_counting(&mut self, alloc: Global, digest: D) -> Result<usize, Error>
+        ensures appended { let more = D.numbers digest ∷ [] in
+            OnOk result (self.new ≡ with_more self.old more) }
+        ensures kept { OnErr result (self.new ≡ self.old) }
+        ensures refused { IfErr result (λ error. (error ≡ OutOfMemory)
+            ⊎ Refuses (T.hashes self.old.hasher).pair.upper error) }
+        ensures count { let before = pair_count (length self.old.digests) in
+            IfOk result (λ count. before + count ≡ pair_count (length self.new.digests)) }
     {
         let mut hasher = Counting::new(&self.hasher);
-        self.stored.append(alloc, &mut hasher, digest)
+        self.stored.append(alloc, &mut hasher, digest)?;
+        Ok(hasher.calls())
     }
 
     /// Appends leaves: as `append` of each in turn, whole or not at all. It allocates once.
@@ -125,11 +163,38 @@ impl<D: DigestItem, T: TreeHasher<D, D>> Log<D, T> {
         ensures appended { let hashes = T.hashes self.old.hasher in
             OnOk result (HasLeaves hashes self.old leaves.now self.new) }
         ensures kept { OnErr result (self.new ≡ self.old) }
+        ensures refused { IfErr result (λ error. (error ≡ OutOfMemory)
+            ⊎ (all_hashes (T.hashes self.old.hasher).leaf leaves.now ≡ Err error)
+            ⊎ Refuses (T.hashes self.old.hasher).pair.upper error) }
+
+        // Roots and proofs of the sizes that the log had stay.
+        ensures stays { let hash = (T.hashes self.old.hasher).pair.upper in
+            OnOk result (KeepsSizes hash self.old self.new) }
+    {
+        self.append_many_counting(alloc, leaves)?;
+        Ok(())
+    }
+
+    /// As `append_many`, and returns how many pairs were hashed: for n leaves in an empty log, n less the count of ones of n.
+    pub fn append_many_counting(
+        &mut self,
+        alloc: Global,
+        leaves: &[T::Leaf],
+    ) -> Result<usize, Error>
+        ensures appended { let hashes = T.hashes self.old.hasher in
+            OnOk result (HasLeaves hashes self.old leaves.now self.new) }
+        ensures kept { OnErr result (self.new ≡ self.old) }
+        ensures refused { IfErr result (λ error. (error ≡ OutOfMemory)
+            ⊎ (all_hashes (T.hashes self.old.hasher).leaf leaves.now ≡ Err error)
+            ⊎ Refuses (T.hashes self.old.hasher).pair.upper error) }
+        ensures count { let before = pair_count (length self.old.digests) in
+            IfOk result (λ count. before + count ≡ pair_count (length self.new.digests)) }
     {
         let size = self.stored.size();
         self.stored.reserve(leaves.len())?;
-        match append_each(alloc, &self.hasher, &mut self.stored, leaves) {
-            Ok(()) => Ok(()),
+        let mut pairs = Counting::new(&self.hasher);
+        match append_each(alloc, &self.hasher, &mut pairs, &mut self.stored, leaves) {
+            Ok(()) => Ok(pairs.calls()),
             Err(error) => {
                 self.stored.cut(size);
                 Err(error)
@@ -141,8 +206,14 @@ impl<D: DigestItem, T: TreeHasher<D, D>> Log<D, T> {
     /// those of the right edge can have; `OutOfMemory`.
     pub fn root(&self, alloc: Global, size: usize) -> Result<D, Error>
         requires { size ≤ length self.now.digests }
-        ensures { let hash = (T.hashes self.now.hasher).pair.upper in
+        ensures root { let hash = (T.hashes self.now.hasher).pair.upper in
             AnswersBy D.numbers (root_at hash self.now size) result }
+
+        // Of a power of two above one it is the root by repeated halving, that of a tree of such leaves.
+        ensures halved { let pair = both_levels (T.hashes self.now.hasher).pair.upper in
+            let digests = take size self.now.digests in
+            IfOk result (λ root. (m : ℕ) → size ≡ 2 ^ suc m
+            → root_of pair m digests ≡ Ok (D.numbers root)) }
     {
         if size == 0 {
             return copy_of(alloc, &self.empty);
@@ -191,5 +262,75 @@ impl<D: DigestItem, T: TreeHasher<D, D>> Log<D, T> {
             consistency_verdict hash old_size old size new digests ≡ Ok true) }
     {
         consistency_path_of(alloc, &self.hasher, &self.stored, old_size, size)
+    }
+
+    /// Says what a path shows of a leaf at an index of the first leaves, where `verify_inclusion` accepts it under their root:
+    /// that the leaf's hash stands there, or the level at which a pair of the path and one of the log collide.
+    ///
+    /// The index may be any number, and the path any list. Errors, the first that applies: that of the leaf's hash; those of
+    /// `root`; those of `verify_inclusion`; `OutOfMemory`.
+    pub fn bind(
+        &self,
+        alloc: Global,
+        size: usize,
+        index: usize,
+        leaf: &T::Leaf,
+        path: &[D],
+    ) -> Result<LogBinding, Error>
+        requires { size ≤ length self.now.digests }
+
+        // It is rejected exactly where `verify_inclusion` says false under the root of the size.
+        ensures verdict { let hashes = T.hashes self.now.hasher in
+            let path = map D.numbers path.now in
+            AnswersBy is_accepted (leaf_verdict_in hashes self.now size index leaf.now path) result }
+
+        // The leaf's hash stands at the index, and pairs collide at no level.
+        ensures stands { let hashes = T.hashes self.now.hasher in
+            let path = map D.numbers path.now in
+            IfOk result (λ binding. binding ≡ Stands
+            → LeafHighestIn hashes self.now size index leaf.now path None) }
+
+        // At the level that is named two different pairs hash alike, and at no level above.
+        ensures collides { let hashes = T.hashes self.now.hasher in
+            let path = map D.numbers path.now in
+            IfOk result (λ binding. (level : ℕ) → binding ≡ Collides level
+            → LeafHighestIn hashes self.now size index leaf.now path (Some level)) }
+    {
+        if index >= size {
+            return Ok(LogBinding::Rejected);
+        }
+        let digest = self.hasher.leaf(alloc, leaf)?;
+        self.bind_digest(alloc, size, index, &digest, path)
+    }
+
+    /// Says what a path shows of a leaf's digest, as `bind` does of a leaf.
+    pub fn bind_digest(
+        &self,
+        alloc: Global,
+        size: usize,
+        index: usize,
+        digest: &D,
+        path: &[D],
+    ) -> Result<LogBinding, Error>
+        requires { size ≤ length self.now.digests }
+
+        // It is rejected exactly where `verify_inclusion_digest` says false under the root of the size.
+        ensures verdict { let hash = (T.hashes self.now.hasher).pair.upper in
+            let verdict = verdict_in hash self.now.empty self.now.digests size index in
+            let path = map D.numbers path.now in
+            AnswersBy is_accepted (verdict (D.numbers digest.now) path) result }
+
+        // The digest stands at the index, and pairs collide at no level.
+        ensures stands { let hash = (T.hashes self.now.hasher).pair.upper in
+            let highest = HighestIn hash self.now size index (D.numbers digest.now) in
+            IfOk result (λ binding. binding ≡ Stands → highest (map D.numbers path.now) None) }
+
+        // At the level that is named two different pairs hash alike, and at no level above.
+        ensures collides { let hash = (T.hashes self.now.hasher).pair.upper in
+            let highest = HighestIn hash self.now size index (D.numbers digest.now) in
+            IfOk result (λ binding. (level : ℕ) → binding ≡ Collides level
+            → highest (map D.numbers path.now) (Some level)) }
+    {
+        binding_of(alloc, &self.hasher, &self.stored, size, index, digest, path)
     }
 }

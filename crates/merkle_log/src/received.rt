@@ -4,7 +4,7 @@
 ghost use Rattle.std.specs.Prelude.{◌≡◌, ◌<◌, ◌≤◌, ◌+◌, ◌-◌, ◌^◌, ℕ, true, List, map, IfOk};
 ghost use Rattle.ark_base.specs.Outcome.{Answers, AnswersBy};
 ghost use Rattle.ark_paths.specs.Rows.{digests_of};
-ghost use Rattle.merkle_log.specs.Received.{digests_in, inclusion_length, consistency_length, length_from, received_inclusion, received_consistency, ShowsLeaf, ShowsFront};
+ghost use Rattle.merkle_log.specs.Received.{digests_in, inclusion_length, consistency_length, length_from, received_inclusion, received_consistency, ShowsLogLeaf, ShowsFront};
 ghost use Rattle.merkle_log.specs.Walk.{used_below};
 
 use crate::consistency::verify_consistency;
@@ -95,7 +95,7 @@ pub fn verify_inclusion_bytes<D: DigestItem, T: TreeHasher<D, D>>(
     // What the bytes spell binds the leaf, as in `verify_inclusion`.
     ensures bound { let digests = digests_in D.reads (λ value. D.numbers_of (D.spelling value)) in
         let path = digests (inclusion_length size index) bytes.now in
-        let shows = ShowsLeaf (T.hashes hasher.now) (D.numbers root.now) size index in
+        let shows = ShowsLogLeaf (T.hashes hasher.now) (D.numbers root.now) size index in
         IfOk result (λ accepted. accepted ≡ true → shows leaf.now path) }
 {
     if index >= size {

@@ -1,10 +1,10 @@
 //! The list of a log: the digests of all complete places, in the order in which they were completed.
 
-ghost use Rattle.std.specs.Prelude.{◌≡◌, ◌⊎◌, ◌<◌, ◌≤◌, ◌+◌, ◌*◌, ◌^◌, ◌++◌, ℕ, List, [], length, map, take, get_or, IfErr, OnOk, OnErr, Ok};
+ghost use Rattle.std.specs.Prelude.{◌≡◌, ◌⊎◌, ◌<◌, ◌≤◌, ◌+◌, ◌-◌, ◌*◌, ◌^◌, ◌++◌, ℕ, List, [], length, map, take, get_or, IfErr, OnOk, OnErr, Ok};
 ghost use Rattle.ark_base.specs.declared.error.Error.TheVariants.{OutOfMemory};
 ghost use Rattle.ark_paths.specs.Pair.{Digest};
 ghost use Rattle.ark_paths.specs.Rows.{digests_of};
-ghost use Rattle.merkle_log.specs.Append.{Appends, Completes, Refuses};
+ghost use Rattle.merkle_log.specs.Append.{Appends, Completes, Refuses, counted_after, pair_count};
 ghost use Rattle.merkle_log.specs.Stored.{position, stored_count, StoredValue, row_of};
 
 use ark_base::error::Error;
@@ -60,7 +60,8 @@ fn complete<D: DigestItem, W: PairHasher<D, D>>(
     size: usize,
     digest: D,
 ) -> Result<(), Error>
-    requires { length digests.old.items ≡ stored_count size }
+    requires whole { length digests.old.items ≡ stored_count size }
+    requires counted { W.counted hasher.old < 2 ^ 64 }
     ensures completed { let hash = (W.pair hasher.old).upper in
         let before = digests_of D.numbers digests.old in
         let after = digests_of D.numbers digests.new in
@@ -69,6 +70,8 @@ fn complete<D: DigestItem, W: PairHasher<D, D>>(
     ensures refused { IfErr result (λ error. (error ≡ OutOfMemory)
         ⊎ Refuses (W.pair hasher.old).upper error) }
     ensures same { W.pair hasher.new ≡ W.pair hasher.old }
+    ensures counts { let pairs = pair_count (size + 1) - pair_count size in
+        OnOk result (W.counted hasher.new ≡ counted_after (W.counted hasher.old) pairs) }
 {
     digests.push(digest)?;
     let mut level = 0;
@@ -116,12 +119,16 @@ impl<D: DigestItem> Stored<D> {
         hasher: &mut W,
         digest: D,
     ) -> Result<(), Error>
+        requires { W.counted hasher.old < 2 ^ 64 }
         ensures appended { let hash = (W.pair hasher.old).upper in
             OnOk result (Appends hash self.old (D.numbers digest) self.new) }
         ensures kept { OnErr result (self.new ≡ self.old) }
         ensures refused { IfErr result (λ error. (error ≡ OutOfMemory)
             ⊎ Refuses (W.pair hasher.old).upper error) }
         ensures same { W.pair hasher.new ≡ W.pair hasher.old }
+        ensures counts { let pairs = pair_count self.new.size - pair_count self.old.size in
+            OnOk result (W.counted hasher.new ≡ counted_after (W.counted hasher.old) pairs) }
+        ensures fits { self.new.size < 2 ^ 64 }
     {
         let count = self.digests.len();
         match complete(alloc, hasher, &mut self.digests, self.size, digest) {

@@ -1,5 +1,7 @@
 //! Tests of `merkle_log` at SHA-256 as RFC 6962 takes it.
 #![tactic(auto)]
 
+mod damage;
 mod hasher;
 mod tests;
+mod vectors;

@@ -33,51 +33,22 @@ const ROOTS: [&str; 9] = [
     "5dc9da79a70659a9ad559cb701ded9a2ab9d823aad2f4960cfe370eff4604328",
 ];
 
-// The digest of an entry, or of the subtree of the first to the last of several.
-const ENTRY_0: &str = "6e340b9cffb37a989ca544e6bb780a2c78901d3fb33738768511a30617afa01d";
-
-const ENTRY_1: &str = "96a296d224f285c67bee93c30f8a309157f0daa35dc5b87e410b78630a09cfc7";
-
-const ENTRY_2: &str = "0298d122906dcfc10892cb53a73992fc5b9f493ea4c9badb27b791b4127a7fe7";
-
-const ENTRY_3: &str = "07506a85fd9dd2f120eb694f86011e5bb4662e5c415a62917033d4a9624487e7";
-
-const ENTRY_4: &str = "bc1a0643b12e4d2d7c77918f44e0f4f79a838b6cf9ec5b5c283e1f4d88599e6b";
-
-const ENTRY_5: &str = "4271a26be0d8a84f0bd54c8c302e7cb3a3b5d1fa6780a40bcce2873477dab658";
-
-const ENTRY_6: &str = "b08693ec2e721597130641e8211e7eedccb4c26413963eee6c1e2ed16ffb1a5f";
-
-const ENTRIES_0_1: &str = "fac54203e7cc696cf0dfcb42c92a1d9dbaf70ad9e621f4bd8d98662f00e3c125";
-
-const ENTRIES_2_3: &str = "5f083f0a1a33ca076a95279832580db3e0ef4584bdff1f54c8a360f50de3031e";
-
-const ENTRIES_4_5: &str = "0ebc5d3437fbe2db158b9f126a1d118e308181031d0a949f8dededebc558ef6a";
-
-const ENTRIES_6_7: &str = "ca854ea128ed050b41b35ffc1b87b8eb2bde461e9e3b5596ece6b9d5975a0ae0";
-
-const ENTRIES_0_3: &str = "d37ee418976dd95753c1c73862b9398fa2a2cf9b4ff0fdfe8b30cd95209614b7";
-
-const ENTRIES_4_6: &str = "837dbb152e9b079010717e84e865da4ebc0fa198a806d59d31bf15accef22d0e";
-
-const ENTRIES_4_7: &str = "6b47aaf29ee3c2af9af889bc1fb9254dabd31177f16232dd6aab035ca39bf6e4";
-
-type Sha256Log = Log<[u8; 32], Rfc6962>;
+pub type Sha256Log = Log<[u8; 32], Rfc6962>;
 
 // One of the entries.
-fn entry(alloc: Global, index: usize) -> Result<Vec<u8>, Error> {
+pub fn entry(alloc: Global, index: usize) -> Result<Vec<u8>, Error> {
     let mut bytes = Vec::new(alloc);
     bytes.extend_from_slice(ENTRIES[index % 8])?;
     Ok(bytes)
 }
 
 // The log of no entries.
-fn none(alloc: Global) -> Sha256Log {
+pub fn none(alloc: Global) -> Sha256Log {
     Log::new(alloc, Rfc6962, Sha256::digest([].as_slice()))
 }
 
 // The log of the eight entries, of which three come at once and the others one by one.
-fn eight(alloc: Global) -> Result<Sha256Log, Error> {
+pub fn eight(alloc: Global) -> Result<Sha256Log, Error> {
     let mut log = none(alloc);
     let mut first = Vec::new(alloc);
     for index in 0..3 {
@@ -111,14 +82,14 @@ fn are_shown(alloc: Global, digests: &[[u8; 32]], texts: &[&str]) -> bool {
     true
 }
 
-fn root(alloc: Global, log: &Sha256Log, size: usize) -> Result<[u8; 32], Error> {
+pub fn root(alloc: Global, log: &Sha256Log, size: usize) -> Result<[u8; 32], Error> {
     if size > log.size() {
         return Err(Error::IncorrectInputLength(size));
     }
     log.root(alloc, size)
 }
 
-fn inclusion(
+pub fn inclusion(
     alloc: Global,
     log: &Sha256Log,
     size: usize,
@@ -130,7 +101,7 @@ fn inclusion(
     log.inclusion_proof(alloc, size, index)
 }
 
-fn consistency(
+pub fn consistency(
     alloc: Global,
     log: &Sha256Log,
     old_size: usize,
@@ -143,7 +114,7 @@ fn consistency(
 }
 
 // The digest of an entry.
-fn leaf_digest(index: usize) -> [u8; 32] {
+pub fn leaf_digest(index: usize) -> [u8; 32] {
     let mut hasher = Sha256::new();
     hasher.update([0].as_slice());
     hasher.update(ENTRIES[index % 8]);
@@ -151,14 +122,19 @@ fn leaf_digest(index: usize) -> [u8; 32] {
 }
 
 // Whether the log's path of an index is these digests.
-fn is_path(alloc: Global, size: usize, index: usize, texts: &[&str]) -> Result<bool, Error> {
+pub fn is_path(alloc: Global, size: usize, index: usize, texts: &[&str]) -> Result<bool, Error> {
     let log = eight(alloc)?;
     let path = inclusion(alloc, &log, size, index)?;
     Ok(are_shown(alloc, &path, texts))
 }
 
 // Whether the log's proof of two sizes is these digests.
-fn is_proof(alloc: Global, old_size: usize, size: usize, texts: &[&str]) -> Result<bool, Error> {
+pub fn is_proof(
+    alloc: Global,
+    old_size: usize,
+    size: usize,
+    texts: &[&str],
+) -> Result<bool, Error> {
     let log = eight(alloc)?;
     let proof = consistency(alloc, &log, old_size, size)?;
     Ok(are_shown(alloc, &proof, texts))
@@ -240,54 +216,6 @@ fn frontiers(rt: HostRuntime) {
     for (size, text) in ROOTS.iter().enumerate() {
         assert_eq!(rt; is_frontier(rt.alloc(), size, text), Ok(true), "at {size}");
     }
-}
-
-// Paths of the log of seven entries in section 2.1.3, and of others.
-#[test]
-fn paths(rt: HostRuntime) {
-    let alloc = rt.alloc();
-    assert_eq!(rt;
-        is_path(alloc, 7, 0, &[ENTRY_1, ENTRIES_2_3, ENTRIES_4_6]),
-        Ok(true)
-    );
-    assert_eq!(rt;
-        is_path(alloc, 7, 3, &[ENTRY_2, ENTRIES_0_1, ENTRIES_4_6]),
-        Ok(true)
-    );
-    assert_eq!(rt;
-        is_path(alloc, 7, 4, &[ENTRY_5, ENTRY_6, ENTRIES_0_3]),
-        Ok(true)
-    );
-    assert_eq!(rt; is_path(alloc, 7, 6, &[ENTRIES_4_5, ENTRIES_0_3]), Ok(true));
-    assert_eq!(rt;
-        is_path(alloc, 8, 5, &[ENTRY_4, ENTRIES_6_7, ENTRIES_0_3]),
-        Ok(true)
-    );
-    assert_eq!(rt;
-        is_path(alloc, 5, 1, &[ENTRY_0, ENTRIES_2_3, ENTRY_4]),
-        Ok(true)
-    );
-    assert_eq!(rt; is_path(alloc, 3, 2, &[ENTRIES_0_1]), Ok(true));
-}
-
-// Proofs of the log of seven entries in section 2.1.3, and of others.
-#[test]
-fn proofs(rt: HostRuntime) {
-    let alloc = rt.alloc();
-    assert_eq!(rt;
-        is_proof(alloc, 3, 7, &[ENTRY_2, ENTRY_3, ENTRIES_0_1, ENTRIES_4_6]),
-        Ok(true)
-    );
-    assert_eq!(rt; is_proof(alloc, 4, 7, &[ENTRIES_4_6]), Ok(true));
-    assert_eq!(rt;
-        is_proof(alloc, 6, 7, &[ENTRIES_4_5, ENTRY_6, ENTRIES_0_3]),
-        Ok(true)
-    );
-    assert_eq!(rt;
-        is_proof(alloc, 1, 8, &[ENTRY_1, ENTRIES_2_3, ENTRIES_4_7]),
-        Ok(true)
-    );
-    assert_eq!(rt; is_proof(alloc, 2, 5, &[ENTRIES_2_3, ENTRY_4]), Ok(true));
 }
 
 #[test]

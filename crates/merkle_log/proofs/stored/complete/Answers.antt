@@ -1,11 +1,14 @@
 use Rattle.std.proofs.Common.{◌≡◌, ◌<◌, ◌-◌, length, map, get_or, refl, ap, ◌∙◌, inl, inr, arith, take, []}
 use Rattle.std.proofs.lemmas.Result.{err_from_is_err_and}
-use Rattle.merkle_log.proofs.Completing.{completing-first, completing-long, completing-front, completing-place, completing-inside, completing-next, completing-end, digest-read}
+use Rattle.merkle_log.proofs.Completing.{completing-first, completing-long, completing-front, completing-place, completing-inside, completing-next, completing-end, completing-pairs, digest-read}
+use Rattle.merkle_log.specs.Append.{counted_after}
+use Rattle.merkle_log.proofs.Counted.{counted-same, counted-next}
 use Rattle.merkle_log.proofs.stored.complete.Goals as goal
 
 pub odd-init : goal.odd-init
 odd-init g c = record {
   same = refl;
+  counted = counted-same (g.W.PairHasher.counted c.args.hasher.now) c.requires.counted;
   at = completing-first _ _ c.args.size _ c.args.digest _
       c.in_ok-push.ensures.items;
 }
@@ -26,7 +29,7 @@ digest_at-requires-clause-below g c =
 
 pub digest_at-requires-clause-inside : goal.digest_at-requires-clause-inside
 digest_at-requires-clause-inside g c =
-    let inside = completing-inside c.odd.invariant.at c.ranges.size.fits c.odd-test.true c.requires in
+    let inside = completing-inside c.odd.invariant.at c.ranges.size.fits c.odd-test.true c.requires.whole in
     let long = completing-long c.odd.invariant.at in
     omega (arith, ap length c.deref.ensures.value)
 
@@ -81,7 +84,8 @@ odd-preserved g c =
     c.index.ensures in
     record {
       same = c.upper.ensures.same ∙ c.odd.invariant.same;
-      at = completing-next c.odd.invariant.at c.ranges.size.fits c.odd-test.true c.requires (c.len-last.result - 1) last
+      counted = counted-next _ _ c.odd.level _ c.odd.invariant.counted c.upper.ensures.counts;
+      at = completing-next c.odd.invariant.at c.ranges.size.fits c.odd-test.true c.requires.whole (c.len-last.result - 1) last
           c.in_ok-up.up c.push-in-odd.new.self.items c.in_ok-push-2.ensures.items
           (rw (← left, ← right, ← c.odd.invariant.same) c.in_ok-up.ensures.answer);
     }
@@ -94,3 +98,8 @@ returns-clause-front g c = completing-front c.odd.invariant.at
 
 pub returns-clause-same : goal.returns-clause-same
 returns-clause-same g c = c.odd.invariant.same
+
+pub returns-clause-counts : goal.returns-clause-counts
+returns-clause-counts g c =
+    c.odd.invariant.counted
+    ∙ ap (counted_after (g.W.PairHasher.counted c.args.hasher.now)) (completing-pairs c.odd.invariant.at (omega arith))

@@ -1,4 +1,5 @@
 use Rattle.std.proofs.Common.{◌≡◌}
+use Rattle.merkle_log.specs.Append.{counted_after}
 use Rattle.merkle_log.proofs.Completing.{Completing}
 use Rattle.merkle_log.proofs.stored.complete.Given as goal
 
@@ -8,6 +9,7 @@ invariant-odd g l =
     let numbers = g.D.Numbered.numbers in
     record {
       same : g.W.PairHasher.pair l.hasher ≡ g.W.PairHasher.pair l.fn.hasher;
+      counted : g.W.PairHasher.counted l.hasher ≡ counted_after (g.W.PairHasher.counted l.fn.hasher) l.level;
       at : Completing numbers hash l.size l.fn.digests.items (numbers l.fn.digest) l.digests.items l.level l.left;
     }
 
