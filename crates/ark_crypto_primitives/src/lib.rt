@@ -155,7 +155,7 @@ pub mod merkle_tree {
 pub mod log {
     pub use ark_trees::LogHasher;
     pub use merkle_log::{
-        Frontier, Log, verify_consistency, verify_consistency_bytes, verify_inclusion,
+        Frontier, Log, LogBinding, verify_consistency, verify_consistency_bytes, verify_inclusion,
         verify_inclusion_bytes, verify_inclusion_digest,
     };
 }

@@ -5,17 +5,14 @@ use Rattle.std.proofs.lemmas.List.{take-map, drop-map, length-take, length-drop,
 use Rattle.ark_base.specs.Outcome.{◌>>=◌}
 use Rattle.ark_base.specs.Laws.Steps.{bind_ok, done_injective}
 use Rattle.ark_paths.specs.Index.{log2}
-use Rattle.ark_paths.specs.Pair.{Digest, HashPair, Hashes}
+use Rattle.ark_paths.specs.Pair.{Digest, HashPair}
 use Rattle.ark_paths.specs.Root.{Root, place, root, all_hashes, leaves_with_root}
 use Rattle.ark_paths.specs.Tree.{HashedTree, root_in, tree_of, with_hashes}
-use Rattle.ark_trees.specs.Rfc6962.{entry_hash, node_hash, merkle_tree_hash}
+use Rattle.ark_trees.specs.Rfc6962.{entry_hash, log_hashes, node_hash, merkle_tree_hash}
 
 -- the hashes of a log
 abbrev pub log_pair : HashPair
 log_pair = record { bottom = λ a b. Ok (node_hash a b); upper = λ a b. Ok (node_hash a b) }
-
-abbrev pub log_hashes : {A : Type 0} → (A → List ℕ) → Hashes A
-log_hashes bytes = record { leaf = λ leaf. Ok (entry_hash (bytes leaf)); pair = log_pair }
 
 place-log : (m : ℕ) (entries : List (List ℕ)) → length entries ≡ 2 ^ suc m → place log_pair m (map entry_hash entries)
     ≡ Root (merkle_tree_hash (suc m) entries)

@@ -2,6 +2,7 @@
 use Rattle.std.specs.Prelude.{ℕ, zero, suc, ◌^◌, List, [], ◌∷◌, ◌++◌, take, drop, get_or, Ok}
 use Rattle.sha2.specs.Sha256.{sha256}
 use Rattle.ark_base.specs.Outcome.{Outcome}
+use Rattle.ark_paths.specs.Pair.{Hashes}
 
 -- the hash of an entry: of a zero byte and its bytes
 abbrev pub entry_hash : List ℕ → List ℕ
@@ -14,6 +15,13 @@ node_hash left right = sha256 (1 ∷ left ++ right)
 -- the same as a hash that refuses nothing
 abbrev pub node_of : List ℕ → List ℕ → Outcome (List ℕ)
 node_of left right = Ok (node_hash left right)
+
+-- the hashes of a log: of entries, seen as their bytes, and of nodes, on every level alike
+abbrev pub log_hashes : {A : Type 0} → (A → List ℕ) → Hashes A
+log_hashes bytes = record {
+  leaf = λ entry. Ok (entry_hash (bytes entry));
+  pair = record { bottom = node_of; upper = node_of };
+}
 
 -- the Merkle tree hash of 2 ^ m entries: of one entry its hash; else the hash of the node over those of the halves
 abbrev pub merkle_tree_hash : ℕ → List (List ℕ) → List ℕ

@@ -74,7 +74,7 @@ module _ (h : HashPair) (leaves : List Digest) (rows : List (List Digest)) (tree
       (sym (top_from-up h way new level (omega (arith, long, is))) ∙ made) in
       let hashed = rw up at step.2 in
       place-up h leaves rows tree way.index inside new k (omega (arith, tree.count, is)) step.0
-          (climbed k (suc level) (omega (arith, is)) step.0 step.1)
+      (climbed k (suc level) (omega (arith, is)) step.0 step.1)
       ∙ ap (place_at (suc k)) (ap (hash_in_order h.upper (bit_at way.index (suc k)) step.0)
       (sym (above-own level k is)) ∙ hashed)
 
@@ -102,7 +102,7 @@ module _ {A : Type 0} (hashes : Hashes A) (before after : Digest) (size index : 
       let levels : length way.above ≡ upper_levels digests = long ∙ ap (λ (n : ℕ). log2 n - 1) (sym same) in
       let inside : way.index < length digests = omega (arith, at_index, below, same) in
       by_level tree.0 tree.1 first.0 second.0 levels inside first.1 second.1 (first.2 ∙ sym rooted) second.2
-          (difference h digests way first.0) refl
+      (difference h digests way first.0) refl
     where
       by_level : (rows : List (List Digest)) (tree : IsTree hashes.pair digests rows) (was is : Digest)
           (levels : length way.above ≡ upper_levels digests) → way.index < length digests
@@ -160,4 +160,4 @@ module _ {A : Type 0} (hashes : Hashes A) (before after : Digest) (size index : 
       (λ way. verdict hashes.pair (hashes.leaf new) way after) true of_new in
       let same : second.0 ≡ first.0 = done_injective _ _ (sym second.1 ∙ first.1) in
       shows-way first.0 first.1 first.2
-          (subst (λ (w : Way). verdict hashes.pair (hashes.leaf new) w after ≡ Ok true) same second.2)
+      (subst (λ (w : Way). verdict hashes.pair (hashes.leaf new) w after ≡ Ok true) same second.2)

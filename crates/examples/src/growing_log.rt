@@ -2,8 +2,10 @@
 
 ghost use Rattle.std.specs.Prelude.{◌≡◌, ◌≢◌, true, length, map, IfOk, Ok};
 ghost use Rattle.ark_base.specs.Digits.{itself, bytes_at};
-ghost use Rattle.ark_trees.specs.Rfc6962.{node_of};
-ghost use Rattle.merkle_log.specs.Received.{digests_in, consistency_length, ShowsFront};
+ghost use Rattle.ark_base.specs.Outcome.{AnswersBy};
+ghost use Rattle.ark_trees.specs.Rfc6962.{log_hashes, node_of};
+ghost use Rattle.merkle_log.specs.Log.{root_at};
+ghost use Rattle.merkle_log.specs.Received.{digests_in, consistency_length, inclusion_length, ShowsFront, ShowsLogLeaf};
 
 use ark_crypto_primitives::Error;
 use ark_crypto_primitives::log::{
@@ -19,7 +21,11 @@ pub struct Head {
 }
 
 /// Returns the head of a log. The only error is `OutOfMemory`.
-pub fn head_of(alloc: Global, log: &Log<[u8; 32], LogHasher>) -> Result<Head, Error> {
+pub fn head_of(alloc: Global, log: &Log<[u8; 32], LogHasher>) -> Result<Head, Error>
+    ensures root { let root = root_at node_of log.now (length log.now.digests) in
+        AnswersBy (λ head. head.root) root result }
+    ensures size { IfOk result (λ head. head.size ≡ length log.now.digests) }
+{
     Ok(Head {
         root: log.root(alloc, log.size())?,
         size: log.size() as u64,
@@ -42,7 +48,15 @@ impl Client {
         index: u64,
         entry: &Vec<u8>,
         path: &[u8],
-    ) -> Result<bool, Error> {
+    ) -> Result<bool, Error>
+        // In each log of this size with this root the entry's hash stands at the index, or at some level the path's pair and
+        // that of the log's tree differ and hash alike.
+        ensures shows { let head = self.now.head in
+            let hashes = log_hashes (λ entry. entry.items) in
+            let path = digests_in (bytes_at 32) itself
+            (inclusion_length head.size index) path.now in
+            result ≡ Ok true → ShowsLogLeaf hashes head.root head.size index entry.now path }
+    {
         let Head { root, size } = self.head;
         verify_inclusion_bytes(alloc, &LogHasher, &root, size, index, entry, path)
     }

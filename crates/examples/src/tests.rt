@@ -140,6 +140,29 @@ const NO_ENTRIES: [u8; 32] = [
     0x27, 0xae, 0x41, 0xe4, 0x64, 0x9b, 0x93, 0x4c, 0xa4, 0x95, 0x99, 0x1b, 0x78, 0x52, 0xb8, 0x55,
 ];
 
+// Whether a client of a log of four entries is shown the third by the bytes of its path, or of the path of the second.
+fn held(alloc: Global, sent: usize) -> Result<bool, Error> {
+    let mut log = Log::new(alloc, LogHasher, NO_ENTRIES);
+    log.append_many(alloc, &entries(alloc)?)?;
+    let client = Client {
+        head: head_of(alloc, &log)?,
+    };
+    let size = log.size();
+    let mut path = Vec::new(alloc);
+    if sent < size {
+        for digest in &log.inclusion_proof(alloc, size, sent)? {
+            path.extend_from_slice(digest)?;
+        }
+    }
+    client.holds(alloc, 2, &vec![in alloc; 2]?, &path)
+}
+
+#[test]
+fn a_client_is_shown_an_entry(rt: HostRuntime) {
+    assert_eq!(rt; held(rt.alloc(), 2), Ok(true));
+    assert_eq!(rt; held(rt.alloc(), 1), Ok(false));
+}
+
 // Whether a client of a log of four entries follows it to five by the proof that the log sends, and by no bytes.
 fn grown(alloc: Global, is_sent: bool) -> Result<bool, Error> {
     let mut log = Log::new(alloc, LogHasher, NO_ENTRIES);
