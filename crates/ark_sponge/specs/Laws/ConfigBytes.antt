@@ -126,11 +126,11 @@ pub parameters_are_long : (bits : ℕ) (c : Parameters) → 56 ≤ length (param
 parameters_are_long bits c =
     let rows = counted_list (counted_list (bytes_of_number (bytes_for bits))) in
     let long = counted_list_is_long (counted_list (bytes_of_number (bytes_for bits))) in
-    let shape = (c.rate, c.capacity) in
-    let matrix = (c.mds, shape) in
-    let constants = (c.ark, matrix) in
-    let exponent = (c.alpha, constants) in
-    let partial = (c.partial_rounds, exponent) in
+    let shape : ℕ × ℕ = (c.rate, c.capacity) in
+    let matrix : List (List ℕ) × (ℕ × ℕ) = (c.mds, shape) in
+    let constants : List (List ℕ) × (List (List ℕ) × (ℕ × ℕ)) = (c.ark, matrix) in
+    let exponent : ℕ × (List (List ℕ) × (List (List ℕ) × (ℕ × ℕ))) = (c.alpha, constants) in
+    let partial : ℕ × (ℕ × (List (List ℕ) × (List (List ℕ) × (ℕ × ℕ)))) = (c.partial_rounds, exponent) in
     let shape_long = both_are_long word word 8 8 shape (word_is_long c.rate) (word_is_long c.capacity) in
     let matrix_long = both_are_long rows (both word word) 8 16 matrix (long c.mds) shape_long in
     let constants_long = both_are_long rows (both rows (both word word)) 8 24 constants (long c.ark) matrix_long in
