@@ -12,13 +12,7 @@ fn start(rt: &HostRuntime) -> io::Result<u8> {
     let mut lines = BufferedInput::new(BufReader::new(rt.alloc(), rt.stdin())?);
     let mut replies = BufferedOutput::new(rt.alloc(), rt.stdout())?;
     let mut faults = BufferedOutput::direct(rt.alloc(), rt.stderr());
-    Ok(command(
-        rt.alloc(),
-        &words,
-        &mut lines,
-        &mut replies,
-        &mut faults,
-    ))
+    Ok(command(rt.alloc(), &words, &mut lines, &mut replies, &mut faults))
 }
 
 fn main(rt: HostRuntime) -> ExitCode {

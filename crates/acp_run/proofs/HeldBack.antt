@@ -1,7 +1,6 @@
 -- What a writer holds back.
-use Rattle.std.proofs.Common.{◌≡◌, ℕ, zero, suc, List, [], ◌++◌, take, drop, Option, None, Some, refl, sym, ◌∙◌, ap, append-nil}
+use Rattle.std.proofs.Common.{◌≡◌, ℕ, zero, suc, List, [], ◌++◌, drop, Option, None, Some, refl, sym, ◌∙◌, ap, append-nil}
 use Rattle.std.specs.Io.KnownBytes.{Appends, Keeps, append_known}
-use Rattle.acp_run.specs.Sessions.{AppendsFront}
 use Rattle.acp_run.specs.Streams.{held_back}
 
 drop-none : (n : ℕ) → drop {A = ℕ} n [] ≡ []

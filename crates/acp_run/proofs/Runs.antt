@@ -252,8 +252,11 @@ module _ {T : Type 0} (step : T → List ℕ → T → List ℕ → Type 0) (sta
       let all = so_far.4 ∙ ap (λ s. so_far.1 ++ s) (next_line rest line some took) in
       let first : take (length so_far.1) (lines_of input) ≡ so_far.1 =
       ap (take (length so_far.1)) so_far.4 ∙ take-all so_far.1 (lines_of rest) in
-      let more : length so_far.1 < length (lines_of input) = omega (arith, ap length all,
-          length-append so_far.1 (strip_last 10 line ∷ lines_of (drop_through 10 rest))) in (
+      let more : length so_far.1 < length (lines_of input) = omega (
+        arith,
+        ap length all,
+        length-append so_far.1 (strip_last 10 line ∷ lines_of (drop_through 10 rest)),
+      ) in (
         length so_far.1,
         so_far.0,
         rw first (through-session step start state so_far.1 so_far.0 so_far.5),

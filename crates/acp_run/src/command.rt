@@ -76,7 +76,7 @@ pub fn command<I: Input, O: Output, E: Output>(
     ensures why { IfSome (configuration_of (map vec_items words.now)) (λ configuration.
         let halts = Halts (Step (language_of configuration)) (I.remaining lines.old) in
         result ≡ 1 → I.has_failed lines.new ≡ true ⊎ O.has_failed replies.new ≡ true
-            ⊎ halts (O.contents replies.old) (O.contents replies.new)) }
+        ⊎ halts (O.contents replies.old) (O.contents replies.new)) }
     ensures notice { result ≡ 1
         → AppendsFront (E.contents faults.old) (E.contents faults.new) stop_notice }
     ensures notice_whole { result ≡ 1 → E.has_failed faults.new ≡ false

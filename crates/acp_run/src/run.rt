@@ -99,7 +99,7 @@ pub fn run<C: Shell, I: Input, O: Output>(
     ensures why { OnErr result
         (let halts = Halts (Step (C.language leaf_parameters.now pair_parameters.now)) in
         I.has_failed lines.new ≡ true ⊎ O.has_failed replies.new ≡ true
-            ⊎ halts (I.remaining lines.old) (O.contents replies.old) (O.contents replies.new)) }
+        ⊎ halts (I.remaining lines.old) (O.contents replies.old) (O.contents replies.new)) }
     ensures read { LosesFront (I.remaining lines.old) (I.remaining lines.new) }
 {
     if lines.has_failed() || replies.has_failed() {
@@ -134,7 +134,7 @@ fn answer_all<S: Answering, I: Input, O: Output>(
         (let step = S.step (S.language session.old) in
         let halts = HaltsFrom step (S.state session.old) (S.lacks session.new) in
         I.has_failed lines.new ≡ true ⊎ O.has_failed replies.new ≡ true
-            ⊎ halts (I.remaining lines.old) (O.contents replies.old) (O.contents replies.new)) }
+        ⊎ halts (I.remaining lines.old) (O.contents replies.old) (O.contents replies.new)) }
     ensures read { LosesFront (I.remaining lines.old) (I.remaining lines.new) }
 {
     for _ in 0..u64::MAX {

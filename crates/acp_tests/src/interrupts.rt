@@ -53,7 +53,7 @@ impl<'a> Write for Faulty<'a> {
     }
 }
 
-fn faulty<'a>(alloc: Global, left: &'a [u8], fails_at: usize, kind: ErrorKind) -> Faulty<'a> {
+fn make_faulty<'a>(alloc: Global, left: &'a [u8], fails_at: usize, kind: ErrorKind) -> Faulty<'a> {
     Faulty {
         left,
         taken: Vec::new(alloc),
@@ -65,8 +65,8 @@ fn faulty<'a>(alloc: Global, left: &'a [u8], fails_at: usize, kind: ErrorKind) -
 
 // Whether all lines are answered, with no fault, where one read and one write are interrupted.
 fn goes_on(alloc: Global, read: usize, write: usize) -> Result<bool, Error> {
-    let reader = faulty(alloc, INPUT, read, ErrorKind::Interrupted);
-    let mut writer = faulty(alloc, b"", write, ErrorKind::Interrupted);
+    let reader = make_faulty(alloc, INPUT, read, ErrorKind::Interrupted);
+    let mut writer = make_faulty(alloc, b"", write, ErrorKind::Interrupted);
     let (status, told) = status_of(alloc, &[b"sha256"], reader, &mut writer)?;
     Ok(status == 0 && told && writer.taken.as_slice() == REPLIES)
 }
@@ -74,19 +74,21 @@ fn goes_on(alloc: Global, read: usize, write: usize) -> Result<bool, Error> {
 // Whether the session ends with status 1 and the whole notice where a write fails for good: so many bytes were written before, and
 // no further write is tried.
 fn stops(alloc: Global, write: usize, written: usize) -> Result<bool, Error> {
-    let mut writer = faulty(alloc, b"", write, ErrorKind::BrokenPipe);
+    let mut writer = make_faulty(alloc, b"", write, ErrorKind::BrokenPipe);
     let (status, told) = status_of(alloc, &[b"sha256"], INPUT, &mut writer)?;
-    Ok(status == 1
-        && told
-        && writer.calls == write
-        && writer.taken.len() == written
-        && REPLIES.starts_with(&writer.taken))
+    Ok(
+        status == 1
+            && told
+            && writer.calls == write
+            && writer.taken.len() == written
+            && REPLIES.starts_with(&writer.taken),
+    )
 }
 
 // Whether the session ends with status 1 and the whole notice where a read fails for good, and what was answered before is sent off.
 fn stops_reading(alloc: Global) -> Result<bool, Error> {
-    let reader = faulty(alloc, INPUT, 3, ErrorKind::BrokenPipe);
-    let mut writer = faulty(alloc, b"", 0, ErrorKind::Interrupted);
+    let reader = make_faulty(alloc, INPUT, 3, ErrorKind::BrokenPipe);
+    let mut writer = make_faulty(alloc, b"", 0, ErrorKind::Interrupted);
     let (status, told) = status_of(alloc, &[b"sha256"], reader, &mut writer)?;
     Ok(status == 1 && told && writer.taken.as_slice() == b"refused tree\n".as_slice())
 }

@@ -38,11 +38,13 @@ const LONG: [u8; 200] = [b'a'; 200];
 // Whether the words are the arguments behind the first.
 fn are_kept(alloc: Global, arguments: &[&[u8]]) -> Result<bool, Error> {
     let words = words(alloc, &Given { arguments }).map_err(|_| Error::OutOfMemory)?;
-    Ok(words.len() + 1 == arguments.len()
-        && words
-            .iter()
-            .zip(arguments.iter().skip(1))
-            .all(|(word, argument)| word.as_slice() == *argument))
+    Ok(
+        words.len() + 1 == arguments.len()
+            && words
+                .iter()
+                .zip(arguments.iter().skip(1))
+                .all(|(word, argument)| word.as_slice() == *argument),
+    )
 }
 
 // Whether the words name a configuration.
