@@ -1,5 +1,5 @@
 -- A path that is accepted for the old leaf and the old root, and for the new ones, says what the other leaves do.
-use Rattle.std.proofs.Common.{zero, suc, ◌≡◌, ℕ, ◌+◌, ◌-◌, ◌/◌, ◌%◌, ◌==◌, ◌<◌, ◌^◌, Bool, true, false, not, nat_lt, ◌&&◌, Option, Some, None, List, [], length, get_or, set, Ok, Err, arith, refl, ap, sym, subst, ◌∙◌, inl, inr}
+use Rattle.std.proofs.Common.{zero, suc, ◌≡◌, ◌⊎◌, ℕ, ◌+◌, ◌-◌, ◌/◌, ◌%◌, ◌==◌, ◌<◌, ◌^◌, Bool, true, false, not, nat_lt, ◌&&◌, Option, Some, None, List, [], length, get_or, set, Ok, Err, arith, refl, ap, sym, subst, ◌∙◌, inl, inr}
 use Rattle.std.proofs.lemmas.Bool.{ltb-true, eqb-true}
 use Rattle.std.proofs.Math.Nat.{mod-eq_of_lt}
 use Rattle.ark_base.specs.declared.error.Error.TheVariants.{IncorrectInputLength}
@@ -10,7 +10,7 @@ use Rattle.ark_merkle.proofs.Changes.{lowest-place, place-up, root-own}
 use Rattle.ark_paths.proofs.Binds.{differs, differs-last, differs-row, first_level-none, path_pair-up, top_from, top_from-last, top_from-up}
 use Rattle.ark_paths.proofs.Clients.{rooted-tree}
 use Rattle.ark_paths.proofs.Collisions.{differing-collides, digest_eq-true}
-use Rattle.ark_paths.proofs.Receiveds.{IsFit, both_true, fit, provided-true, size-decided}
+use Rattle.ark_paths.proofs.Receiveds.{IsFit, fit, provided-true, size-decided}
 use Rattle.ark_paths.proofs.StrictReadings.{read_of}
 use Rattle.ark_merkle.specs.Update.{new_root}
 use Rattle.ark_paths.specs.Bind.{CollidesAt, difference, is_other}
@@ -32,6 +32,11 @@ second-true : (a b : Bool) → not (a && b) ≡ false → b ≡ true
 second-true true true same = refl
 second-true true false same = absurd cc
 second-true false b same = absurd cc
+
+both-true : (a b : Bool) → (a && b) ≡ true → (a ≡ true) × (b ≡ true)
+both-true true true is = (refl, refl)
+both-true true false is = absurd cc
+both-true false b is = absurd cc
 
 -- A path whose pairs agree with the tree's has the digests beside its way, so it gives the root of the changed leaves.
 module _ (h : HashPair) (leaves : List Digest) (rows : List (List Digest)) (tree : IsTree h leaves rows) (way : Way)
@@ -72,7 +77,9 @@ module _ (h : HashPair) (leaves : List Digest) (rows : List (List Digest)) (tree
       let up : length way.above - level ≡ suc k = omega (arith, long, is) in
       let step = bind_ok (top_from h way new (suc level)) _ r
       (sym (top_from-up h way new level (omega (arith, long, is))) ∙ made) in
-      let hashed = rw up at step.2 in
+      let hashed : hash_in_order h.upper (bit_at way.index (suc k)) step.0 (get_or way.above level []) ≡ Ok r =
+      ap (λ (n : ℕ). hash_in_order h.upper (bit_at way.index n) step.0 (get_or way.above level [])) (sym up)
+      ∙ step.2 in
       place-up h leaves rows tree way.index inside new k (omega (arith, tree.count, is)) step.0
       (climbed k (suc level) (omega (arith, is)) step.0 step.1)
       ∙ ap (place_at (suc k)) (ap (hash_in_order h.upper (bit_at way.index (suc k)) step.0)
@@ -80,7 +87,8 @@ module _ (h : HashPair) (leaves : List Digest) (rows : List (List Digest)) (tree
 
   pub root-changed : (r : Digest) → path_root h way new ≡ Ok r → root h (set leaves way.index new) ≡ Ok r
   root-changed r made =
-      root-own h leaves rows tree way.index inside new ∙ ap outcome_of (climbed (upper_levels leaves) 0 refl r made)
+      root-own h leaves rows tree way.index inside new
+      ∙ ap outcome_of (climbed (upper_levels leaves) 0 (omega arith) r made)
 
 -- what an accepted path gives
 given-root : (h : HashPair) (leaf : Outcome Digest) (way : Way) (r : Digest) → verdict h leaf way r ≡ Ok true
@@ -94,13 +102,13 @@ module _ {A : Type 0} (hashes : Hashes A) (before after : Digest) (size index : 
   leads : verdict hashes.pair (hashes.leaf old) way before ≡ Ok true → verdict hashes.pair (hashes.leaf new) way after
       ≡ Ok true → IsTreeSize size → length way.above ≡ log2 size - 1 → way.index ≡ index → index < size
       → LeadsTo hashes before after size index old new way
-  leads of_old of_new sized long at_index below digests same rooted =
+  leads of_old of_new sized long at_own below digests same rooted =
       let h = hashes.pair in
       let first = given-root h (hashes.leaf old) way before of_old in
       let second = given-root h (hashes.leaf new) way after of_new in
       let tree = rooted-tree h digests before (subst IsTreeSize (sym same) sized) rooted in
       let levels : length way.above ≡ upper_levels digests = long ∙ ap (λ (n : ℕ). log2 n - 1) (sym same) in
-      let inside : way.index < length digests = omega (arith, at_index, below, same) in
+      let inside : way.index < length digests = omega (arith, at_own, below, same) in
       by_level tree.0 tree.1 first.0 second.0 levels inside first.1 second.1 (first.2 ∙ sym rooted) second.2
       (difference h digests way first.0) refl
     where
@@ -113,10 +121,11 @@ module _ {A : Type 0} (hashes : Hashes A) (before after : Digest) (size index : 
           ⊎ ((level : ℕ) × CollidesAt (tree_with hashes digests) old way level)
       by_level rows tree was is levels inside of_was of_is whole made None none =
           let h = hashes.pair in
-          let agree = λ (l : ℕ) under. first_level-none (differs h digests rows tree way was levels) 0
-          (suc (upper_levels digests)) none l (omega arith) under in
+          let agree : (l : ℕ) → l < suc (upper_levels digests) → differs h digests rows tree way was levels l ≡ false =
+          λ l under. first_level-none (differs h digests rows tree way was levels) 0
+          (suc (upper_levels digests)) none l (omega arith) (omega (arith, under)) in
           let changed = root-changed h digests rows tree way was is levels inside agree after made in
-          inl (rw of_is (subst (λ (i : ℕ). root h (set digests i is) ≡ Ok after) at_index changed))
+          inl (rw of_is (subst (λ (i : ℕ). root h (set digests i is) ≡ Ok after) at_own changed))
       by_level rows tree was is levels inside of_was of_is whole made (Some level) found =
           inr (level, (was, of_was, differing-collides hashes.pair digests rows tree way was levels level found whole))
 
@@ -140,7 +149,7 @@ module _ {A : Type 0} (hashes : Hashes A) (before after : Digest) (size index : 
           → IsFit size rest (length own.above) ((own.index == index) && nat_lt index size)
           → ShowsChange hashes before after size index old new reading
       by_parts sized own rest read same fits =
-          let asked = both_true (own.index == index) (nat_lt index size) fits.is_asked in (
+          let asked = both-true (own.index == index) (nat_lt index size) fits.is_asked in (
             way,
             read ∙ (λ i. Ok (same i, fits.none_behind i)),
             leads hashes before after size index old new way of_old of_new (size-decided size sized)

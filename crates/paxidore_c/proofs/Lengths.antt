@@ -27,7 +27,7 @@ use Rattle.paxidore_c.proofs.Trees.{place-node}
 abbrev pub path_bytes : ℕ → ℕ
 path_bytes size = 16 + 32 * log2 size
 
-AreLong : ℕ → List Digest → Type 0
+abbrev AreLong : ℕ → List Digest → Type 0
 AreLong count digests = (length digests ≡ count) × (length (flat_map itself digests) ≡ 32 * count)
 
 AreLong-more : (count : ℕ) (d : Digest) (digests : List Digest) → length d ≡ 32 → AreLong count digests
@@ -35,10 +35,10 @@ AreLong-more : (count : ℕ) (d : Digest) (digests : List Digest) → length d �
 AreLong-more count d digests long so =
     (ap suc so.0, length-append d (flat_map itself digests) ∙ omega (arith, long, so.1))
 
-AreLong-either : (b : Bool) (count : ℕ) (yes no : List Digest) → AreLong count yes → AreLong count no
-    → AreLong count (if b then yes else no)
-AreLong-either true count yes no of_yes of_no = of_yes
-AreLong-either false count yes no of_yes of_no = of_no
+AreLong-either : (b : Bool) (count : ℕ) (first second : List Digest) → AreLong count first → AreLong count second
+    → AreLong count (if b then first else second)
+AreLong-either true count first second of_first of_second = of_first
+AreLong-either false count first second of_first of_second = of_second
 
 -- as many parts as lengths
 parts-count : (bytes lengths : List ℕ) (parts : List (List ℕ)) → parts_by bytes lengths ≡ Some parts
@@ -75,10 +75,10 @@ module _ (h : Hashing) (leaf-long : (leaf : List ℕ) → length (h.leaf_hash le
       let left = take (2 ^ suc m) digests in
       let right = drop (2 ^ suc m) digests in
       AreLong-either (bit_at i (suc m)) (suc m)
-          (root_digest (place (node_pair h) m left) ∷ halves_beside (node_pair h) m i right)
-          (root_digest (place (node_pair h) m right) ∷ halves_beside (node_pair h) m i left)
-          (AreLong-more m _ _ (place-long m left) (halves-long m i right))
-          (AreLong-more m _ _ (place-long m right) (halves-long m i left))
+      (root_digest (place (node_pair h) m left) ∷ halves_beside (node_pair h) m i right)
+      (root_digest (place (node_pair h) m right) ∷ halves_beside (node_pair h) m i left)
+      (AreLong-more m _ _ (place-long m left) (halves-long m i right))
+      (AreLong-more m _ _ (place-long m right) (halves-long m i left))
 
   -- the bytes of the path of an index
   own-long : (xs : List (List ℕ)) (index : ℕ) → IsTreeSize (length xs) → index < length xs
@@ -91,7 +91,7 @@ module _ (h : Hashing) (leaf-long : (leaf : List ℕ) → length (h.leaf_hash le
       let twice = pow-succ' 2 k in
       let beside : neighbour index < length xs =
       subst (λ (n : ℕ). neighbour index < n) (sym (power ∙ twice))
-          (neighbour-inside index (2 ^ k) (omega (arith, below, power, twice))) in
+      (neighbour-inside index (2 ^ k) (omega (arith, below, power, twice))) in
       let sibling : length (get_or digests (neighbour index) []) ≡ 32 =
       ap length (get_or-map h.leaf_hash xs (neighbour index) [] [] beside) ∙ leaf-long _ in
       let above = halves-long (log2 (length digests) - 1) index digests in
@@ -126,18 +126,18 @@ module _ (h : Hashing) (leaf-long : (leaf : List ℕ) → length (h.leaf_hash le
           by_index false is_at = tt
           by_index true is_at =
               own-long xs index (subst IsTreeSize (sym count) (size-decided (length lengths) is))
-                  (ltb-true index (length xs) is_at) ∙ ap path_bytes count
+              (ltb-true index (length xs) is_at) ∙ ap path_bytes count
 
   -- so many bytes are handed over
   pub path-counted : (leaves lengths : List ℕ) (index : ℕ) (before after : List ℕ) (count_before count_after : ℕ)
       (code : ℤ) → Hands (path_of_leaves h leaves lengths index) before after count_before count_after code
       → code ≡ pos 0 → count_after ≡ path_bytes (length lengths)
-  path-counted leaves lengths index before after count_before count_after code hands zero =
+  path-counted leaves lengths index before after count_before count_after code hands is_zero =
       by_outcome (path_of_leaves h leaves lengths index) (path-long leaves lengths index) hands.right_code
-      (hands.counted zero)
+      (hands.counted is_zero)
     where
       no : (refused : Refused) → code ≡ refusal_code refused → ⊥
-      no refused is = refusal-no refused (ap (λ (z : ℤ). to_z w32 (of_z w32 z)) (sym is ∙ zero))
+      no refused is = refusal-no refused (ap (λ (z : ℤ). to_z w32 (of_z w32 z)) (sym is ∙ is_zero))
 
       by_outcome : (outcome : Result (List ℕ) Refused) → IfOk outcome (λ bytes. length bytes ≡ path_bytes
           (length lengths)) → Gives (written_code outcome (length before)) code

@@ -1,5 +1,5 @@
 -- Trees whose hashes refuse nothing.
-use Rattle.std.proofs.Common.{arith, pow_pos, ◌≡◌, ◌⊎◌, ℕ, zero, suc, ◌^◌, List, length, take, drop, map, true, Result, Ok, Err, IfOk, Global, refl, sym, ap, subst, ◌∙◌, inl, inr}
+use Rattle.std.proofs.Common.{◌<◌, arith, pow_pos, ◌≡◌, ◌⊎◌, ℕ, zero, suc, ◌^◌, List, length, take, drop, map, true, Result, Ok, Err, IfOk, Global, refl, sym, ap, subst, ◌∙◌, inl, inr}
 use Rattle.std.proofs.Math.Nat.{pow-succ'}
 use Rattle.std.proofs.lemmas.List.{length-map}
 use Rattle.std.specs.declared.vec.Vec.{Vec}
