@@ -3,10 +3,11 @@
 ghost use Rattle.std.specs.Prelude.{◌≡◌, ◌⊎◌, ◌<◌, ◌≤◌, ◌+◌, ◌-◌, ◌^◌, ◌∷◌, ℕ, suc, List, [], true, length, map, get_or, take, IfOk, IfErr, OnOk, OnErr, Ok, Err, Some, None};
 ghost use Rattle.ark_base.specs.declared.error.Error.TheVariants.{OutOfMemory};
 ghost use Rattle.ark_base.specs.Outcome.{AnswersBy};
+ghost use Rattle.ark_crh.specs.Four.{four_seen};
 ghost use Rattle.ark_paths.specs.Pair.{Digest};
 ghost use Rattle.ark_paths.specs.Root.{all_hashes, root_of};
 ghost use Rattle.ark_paths.specs.Rows.{digests_of};
-ghost use Rattle.merkle_log.specs.Append.{AppendsLeaves, GrowsTo, HasLeaf, HasLeaves, IsWhole, KeepsSizes, Refuses, counted_after, pair_count};
+ghost use Rattle.merkle_log.specs.Append.{AppendsAll, AppendsLeaves, GrowsTo, HasLeaf, HasLeaves, IsWhole, KeepsSizes, Refuses, counted_after, pair_count};
 ghost use Rattle.merkle_log.specs.Binding.{is_accepted, HighestIn, LeafHighestIn, leaf_verdict_in, verdict_in};
 ghost use Rattle.merkle_log.specs.declared.bind.LogBinding.TheVariants.{Rejected, Stands, Collides};
 ghost use Rattle.merkle_log.specs.Edge.{all_of};
@@ -52,6 +53,34 @@ impl<D: DigestItem, T: TreeHasher<D, D>> Model for Log<D, T> {
     } };
 }
 
+// Puts four digests behind a list, the first one first, and hashes the pairs that they complete. An error may leave some of them.
+fn append_four<D: DigestItem, W: PairHasher<D, D>>(
+    alloc: Global,
+    pairs: &mut W,
+    stored: &mut Stored<D>,
+    four: (D, D, D, D),
+) -> Result<(), Error>
+    requires whole { IsWhole stored.old }
+    requires stored { IsStored (W.pair pairs.old).upper (row_of stored.old) }
+    requires counted { W.counted pairs.old < 2 ^ 64 }
+    ensures appended { let digests = four_seen D.numbers four in
+        OnOk result (AppendsAll (W.pair pairs.old).upper stored.old digests stored.new) }
+    ensures extends { GrowsTo stored.old stored.new }
+    ensures refused { IfErr result (λ error. (error ≡ OutOfMemory)
+        ⊎ Refuses (W.pair pairs.old).upper error) }
+    ensures same { OnOk result (W.pair pairs.new ≡ W.pair pairs.old) }
+    ensures counts { let more = pair_count stored.new.size - pair_count stored.old.size in
+        OnOk result (W.counted pairs.new ≡ counted_after (W.counted pairs.old) more) }
+    ensures fits { stored.new.size < 2 ^ 64 }
+{
+    let (first, second, third, fourth) = four;
+    stored.append(alloc, pairs, first)?;
+    stored.append(alloc, pairs, second)?;
+    stored.append(alloc, pairs, third)?;
+    stored.append(alloc, pairs, fourth)?;
+    Ok(())
+}
+
 // Puts the digests of leaves behind a list, and hashes the pairs that they complete by a second hasher. An error may leave some
 // of them.
 fn append_each<D: DigestItem, T: TreeHasher<D, D>, W: PairHasher<D, D>>(
@@ -76,7 +105,18 @@ fn append_each<D: DigestItem, T: TreeHasher<D, D>, W: PairHasher<D, D>>(
         OnOk result (W.counted pairs.new ≡ counted_after (W.counted pairs.old) more) }
     ensures fits { stored.new.size < 2 ^ 64 }
 {
-    for place in 0..leaves.len() {
+    let fours = leaves.len() / 4;
+    'fours: for four in 0..fours {
+        let made = hasher.leaf_four(
+            alloc,
+            &leaves[4 * four],
+            &leaves[4 * four + 1],
+            &leaves[4 * four + 2],
+            &leaves[4 * four + 3],
+        )?;
+        append_four(alloc, pairs, stored, made)?;
+    }
+    'rest: for place in 4 * fours..leaves.len() {
         let digest = hasher.leaf(alloc, &leaves[place])?;
         stored.append(alloc, pairs, digest)?;
     }

@@ -165,6 +165,18 @@ fn is_root(alloc: Global, size: usize, text: &str) -> Result<bool, Error> {
     Ok(is_shown(alloc, &digest, text))
 }
 
+// Whether the log of the first entries, which come at once, has a root that is shown so.
+fn is_many(alloc: Global, size: usize, text: &str) -> Result<bool, Error> {
+    let mut log = none(alloc);
+    let mut entries = Vec::new(alloc);
+    for index in 0..size {
+        entries.push(entry(alloc, index)?)?;
+    }
+    log.append_many(alloc, &entries)?;
+    let digest = root(alloc, &log, size)?;
+    Ok(is_shown(alloc, &digest, text))
+}
+
 // Whether the frontier of the first entries has a root that is shown so.
 fn is_frontier(alloc: Global, size: usize, text: &str) -> Result<bool, Error> {
     let mut frontier = Frontier::new(alloc, Rfc6962, Sha256::digest([].as_slice()));
@@ -209,6 +221,14 @@ fn roots(rt: HostRuntime) {
     for (size, text) in ROOTS.iter().enumerate() {
         assert_eq!(rt; is_root(rt.alloc(), size, text), Ok(true), "at {size}");
     }
+}
+
+// Four at a time, and the rest one by one.
+#[test]
+fn many_at_once(rt: HostRuntime) {
+    assert_eq!(rt; is_many(rt.alloc(), 3, ROOTS[3]), Ok(true));
+    assert_eq!(rt; is_many(rt.alloc(), 7, ROOTS[7]), Ok(true));
+    assert_eq!(rt; is_many(rt.alloc(), 8, ROOTS[8]), Ok(true));
 }
 
 #[test]
