@@ -28,3 +28,4 @@ pub mod Merging
 pub mod Lengths
 pub mod Receiving
 pub mod Bytes
+pub mod Tallied

@@ -173,7 +173,12 @@ impl<D: DigestItem, T: TreeHasher<D, D> + Drop> Frontier<D, T> {
     ///
     /// Errors: `Truncated` for bytes of fewer digests than the count has ones, `InvalidData` for more bytes, and for digests
     /// that are none; `OutOfMemory`. Whether some list has these roots is not known.
-    pub fn from_bytes(alloc: Global, hasher: T, empty: D, bytes: &[u8]) -> Result<Frontier<D, T>, Error>
+    pub fn from_bytes(
+        alloc: Global,
+        hasher: T,
+        empty: D,
+        bytes: &[u8],
+    ) -> Result<Frontier<D, T>, Error>
         ensures { let reads = frontier_in D.reads (λ value. D.numbers_of (D.spelling value)) in
             Answers (reads hasher (D.numbers empty) bytes.now) result }
     {

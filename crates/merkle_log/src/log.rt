@@ -10,7 +10,7 @@ ghost use Rattle.ark_paths.specs.Rows.{digests_of};
 ghost use Rattle.merkle_log.specs.Append.{AppendsAll, AppendsLeaves, GrowsTo, HasLeaf, HasLeaves, IsWhole, KeepsSizes, Refuses, counted_after, pair_count};
 ghost use Rattle.merkle_log.specs.Binding.{is_accepted, HighestIn, LeafHighestIn, leaf_verdict_in, verdict_in};
 ghost use Rattle.merkle_log.specs.declared.bind.LogBinding.TheVariants.{Rejected, Stands, Collides};
-ghost use Rattle.merkle_log.specs.Edge.{all_of};
+ghost use Rattle.merkle_log.specs.Edge.{all_of, root_pairs};
 ghost use Rattle.merkle_log.specs.Log.{LogValue, both_levels, inclusion_path, consistency_path, root_at, with_more};
 ghost use Rattle.merkle_log.specs.Stored.{row_of, IsStored};
 ghost use Rattle.merkle_log.specs.Verdict.{inclusion_verdict, consistency_verdict};
@@ -18,7 +18,7 @@ ghost use Rattle.merkle_log.specs.Verdict.{inclusion_verdict, consistency_verdic
 use crate::bind::{LogBinding, binding_of};
 use crate::digests::copy_of;
 use crate::paths::{consistency_path_of, inclusion_path_of};
-use crate::rows::root_of;
+use crate::rows::{root_counted, root_of};
 use crate::stored::Stored;
 use ark_base::error::Error;
 use ark_base::serialize::DigestItem;
@@ -259,6 +259,21 @@ impl<D: DigestItem, T: TreeHasher<D, D>> Log<D, T> {
             return copy_of(alloc, &self.empty);
         }
         root_of(alloc, &self.hasher, &self.stored, size)
+    }
+
+    /// As `root`, and returns how many pairs were hashed: the ones of the size less one, those of an incomplete right edge alone.
+    pub fn root_counting(&self, alloc: Global, size: usize) -> Result<(D, usize), Error>
+        requires { size ≤ length self.now.digests }
+        ensures root { let hash = (T.hashes self.now.hasher).pair.upper in
+            AnswersBy (λ counted. D.numbers counted.0) (root_at hash self.now size) result }
+        ensures count { IfOk result (λ counted. counted.1 ≡ root_pairs size) }
+    {
+        if size == 0 {
+            return Ok((copy_of(alloc, &self.empty)?, 0));
+        }
+        let mut pairs = Counting::new(&self.hasher);
+        let root = root_counted(alloc, &mut pairs, &self.stored, size)?;
+        Ok((root, pairs.calls()))
     }
 
     /// Returns the path of an index of the first leaves: PATH(index, D[0:size]). Errors: those of `root`.

@@ -9,8 +9,11 @@ returns-clause-appended g c =
     let two = all-next _ _ _ _ _ one (rw (c.in_ok-append.ensures.same) at c.in_ok-append-2.ensures.appended) in
     let three = all-next _ _ _ _ _ two (rw (c.in_ok-append-2.ensures.same, c.in_ok-append.ensures.same)
     at c.in_ok-append-3.ensures.appended) in
-    all-next _ _ _ _ _ three (rw (c.in_ok-append-3.ensures.same, c.in_ok-append-2.ensures.same,
-    c.in_ok-append.ensures.same) at c.in_ok-append-4.ensures.appended)
+    all-next _ _ _ _ _ three (rw (
+      c.in_ok-append-3.ensures.same,
+      c.in_ok-append-2.ensures.same,
+      c.in_ok-append.ensures.same,
+    ) at c.in_ok-append-4.ensures.appended)
 
 pub returns-clause-counts : goal.returns-clause-counts
 returns-clause-counts g c =
