@@ -8,7 +8,7 @@ use Rattle.ark_base.specs.declared.error.Error.{Error}
 use Rattle.ark_paths.proofs.Eaches.{IsSoFar, IsSoFar-none, IsSoFar-more, IsSoFar-refused, IsSoFar-all}
 use Rattle.merkle_log.specs.Log.{NodeHash, LogValue, with_more}
 use Rattle.merkle_log.specs.Stored.{StoredValue, stored_count, row_of, IsStored}
-use Rattle.merkle_log.specs.Append.{Appends, AppendsLeaves, GrowsTo, IsWhole}
+use Rattle.merkle_log.specs.Append.{Appends, AppendsAll, AppendsLeaves, GrowsTo, IsWhole}
 use Rattle.merkle_log.proofs.Positions.{count-rises}
 use Rattle.merkle_log.proofs.Carried.{stored-pushed, pushed-first}
 
@@ -77,6 +77,31 @@ extends-more a b c first second =
           ∙ ap (take (stored_count a.size)) second.front ∙ first.front;
     }
 
+module _ {hash : NodeHash} where
+  pub all-first : (old new : StoredValue) (digest : Digest) → IsStored hash (row_of old) → Appends hash old digest new
+      → AppendsAll hash old (digest ∷ []) new
+  all-first old new digest stored appended = record {
+    first_row = pushed-first hash (row_of old) (row_of new) digest appended.made appended.carried appended.rows;
+    whole = appended.whole;
+    stored = stored-pushed hash (row_of old) (row_of new) digest appended.made stored appended.carried appended.rows;
+    extends = appended.extends;
+  }
+
+  pub all-more : (old mid new : StoredValue) (digests more : List Digest) → AppendsAll hash old digests mid
+      → AppendsAll hash mid more new → AppendsAll hash old (digests ++ more) new
+  all-more old mid new digests more first second = record {
+    first_row = second.first_row ∙ ap (λ l. l ++ more) first.first_row ∙ append_assoc (row_of old 0) digests more;
+    whole = second.whole;
+    stored = second.stored;
+    extends = extends-more old mid new first.extends second.extends;
+  }
+
+  pub all-next : (old mid new : StoredValue) (digests : List Digest) (digest : Digest) → AppendsAll hash old digests mid
+      → Appends hash mid digest new → AppendsAll hash old (digests ++ (digest ∷ [])) new
+  all-next old mid new digests digest first appended =
+      all-more old mid new digests (digest ∷ []) first
+      (all-first mid new digest first.stored appended)
+
 -- The list has the digests of the first leaves behind.
 pub record AppendsFirst {A : Type 0} (hashes : Hashes A) (old : StoredValue) (leaves : List A) (count : ℕ)
     (new : StoredValue) : Type 0 where
@@ -122,6 +147,18 @@ module _ {A : Type 0} {hashes : Hashes A} {old : StoredValue} {leaves : List A} 
       → all_hashes hashes.leaf leaves ≡ Err e
   appends-refused {count} at leaf e below is refused =
       IsSoFar-refused hashes.leaf leaves count leaf at.digests e below is at.hashed refused
+
+  pub appends-four : {count : ℕ} {mid new : StoredValue} → AppendsFirst hashes old leaves count mid
+      → (more : List Digest) → ((digests : List Digest) → IsSoFar hashes.leaf leaves count digests
+      → IsSoFar hashes.leaf leaves (count + 4) (digests ++ more)) → (next : ℕ) → count + 4 ≡ next
+      → AppendsAll hashes.pair.upper mid more new → AppendsFirst hashes old leaves next new
+  appends-four {count} {mid} {new} at more hashed next next_is appended = record {
+    kept = record { whole = appended.whole; stored_is = appended.stored };
+    extends = extends-more old mid new at.extends appended.extends;
+    digests = at.digests ++ more;
+    hashed = rw (← next_is) (hashed at.digests at.hashed);
+    first_row = appended.first_row ∙ ap (λ l. l ++ more) at.first_row ∙ append_assoc (row_of old 0) at.digests more;
+  }
 
   pub appends-all : {count : ℕ} {new : StoredValue} → AppendsFirst hashes old leaves count new → length leaves ≤ count
       → AppendsLeaves hashes old leaves new

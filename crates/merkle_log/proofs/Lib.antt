@@ -27,3 +27,5 @@ pub mod Peaks
 pub mod Merging
 pub mod Lengths
 pub mod Receiving
+pub mod Bytes
+pub mod Tallied

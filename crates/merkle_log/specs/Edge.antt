@@ -1,5 +1,5 @@
 -- What is read of a log's rows for a size that it had: the rows' first digests, and a last one at the right edge.
-use Rattle.std.specs.Prelude.{◌+◌, ◌-◌, ◌/◌, ◌%◌, ◌<◌, ◌≤◌, ◌≡◌, ◌⊎◌, ◌==◌, nat_lt, ◌++◌, ℕ, if◌then◌else◌, List, [], ◌∷◌, length, map, take, get_or, Ok, Err, MatchResult, Option, Some, None}
+use Rattle.std.specs.Prelude.{◌+◌, ◌-◌, ◌/◌, ◌%◌, ◌<◌, ◌≤◌, ◌≡◌, ◌⊎◌, ◌==◌, nat_lt, ◌++◌, ℕ, if◌then◌else◌, List, [], ◌∷◌, length, map, take, get_or, Ok, Err, MatchResult, Option, Some, None, count_ones}
 use Rattle.ark_base.specs.declared.error.Error.TheVariants.{OutOfMemory}
 use Rattle.ark_base.specs.Outcome.{Outcome, ◌>>=◌}
 use Rattle.ark_paths.specs.Pair.{Digest}
@@ -20,6 +20,16 @@ HasLast row s (Some last) = s ≤ length row
 -- the last digest of a row of a log that has more digests of its own, one level up
 abbrev pub last_raised : NodeHash → List Digest → ℕ → Digest → Outcome Digest
 last_raised hash row s last = if s % 2 == 1 then (hash (get_or row (s - 1) []) last) else (Ok last)
+
+-- how many pairs of an incomplete right edge the root of the first leaves is hashed from: between two of the complete
+-- trees into which they fall there is one
+abbrev pub root_pairs : ℕ → ℕ
+root_pairs size = count_ones size - 1
+
+-- how many of them are left to hash above the first s digests of a row and a last one
+abbrev pub pairs_left : {A : Type 0} → ℕ → Option A → ℕ
+pairs_left s None = root_pairs (s + 1)
+pairs_left s (Some last) = count_ones s
 
 -- all of these, or the first error
 abbrev pub all_of : List (Outcome Digest) → Outcome (List Digest)

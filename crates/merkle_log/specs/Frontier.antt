@@ -1,5 +1,9 @@
 -- The roots of the complete trees of a list, which are all that its root and its growth need.
-use Rattle.std.specs.Prelude.{◌≡◌, ℕ, zero, suc, ◌-◌, ◌%◌, ◌==◌, if◌then◌else◌, List, [], ◌∷◌, ◌++◌, length, map, get_or, Ok}
+use Rattle.std.specs.Prelude.{count_ones, ◌≡◌, ℕ, zero, suc, ◌-◌, ◌%◌, ◌==◌, if◌then◌else◌, List, [], ◌∷◌, ◌++◌, length, map, get_or, Ok}
+use Rattle.ark_base.specs.Outcome.{Outcome, ◌>>=◌}
+use Rattle.ark_base.specs.Reading.{Reading, reading_outcome}
+use Rattle.ark_base.specs.Spelling.{word_at}
+use Rattle.merkle_log.specs.Received.{digests_in}
 use Rattle.merkle_log.specs.Walk.{joined}
 use Rattle.ark_paths.specs.Pair.{Digest}
 use Rattle.merkle_log.specs.Log.{NodeHash}
@@ -29,3 +33,21 @@ pub record FrontierValue (T : Type 0) : Type 0 where
 pub record IsFrontier (hash : NodeHash) (digests : List Digest) (size : ℕ) (peaks : List Digest) : Type 0 where
   pub size_is : length digests ≡ size
   pub peaks_are : (empty : Digest) → frontier (joined hash) (Ok empty) (length digests) (map Ok digests) ≡ map Ok peaks
+
+-- ---- bytes
+
+-- the frontier with this hasher and root of no digests that has a count and roots
+abbrev pub frontier_of : {T : Type 0} → T → Digest → ℕ × List Digest → FrontierValue T
+frontier_of hasher empty read = record { hasher = hasher; empty = empty; size = read.0; peaks = read.1 }
+
+-- the count and the roots that bytes spell: the count as a word, as many digests as it has ones, and nothing else
+abbrev pub peaks_in : {V : Type 0} → (List ℕ → Reading V) → (V → Digest) → List ℕ → Outcome (ℕ × List Digest)
+peaks_in reads digest bytes = do
+  size ← reading_outcome (word_at bytes)
+  peaks ← digests_in reads digest (count_ones size.0) size.1
+  Ok (size.0, peaks)
+
+-- the frontier that bytes spell
+abbrev pub frontier_in : {T V : Type 0} → (List ℕ → Reading V) → (V → Digest) → T → Digest → List ℕ
+    → Outcome (FrontierValue T)
+frontier_in reads digest hasher empty bytes = peaks_in reads digest bytes >>= λ read. Ok (frontier_of hasher empty read)

@@ -1,17 +1,20 @@
 //! Frontiers: the roots of the complete trees of a list, which are all that its root and its growth need.
 
+ghost use Rattle.std.specs.List.{flat_map};
 ghost use Rattle.std.specs.Prelude.{◌≡◌, ◌⊎◌, ◌<◌, ◌≤◌, ◌+◌, ◌^◌, ◌++◌, ◌∷◌, ℕ, List, [], length, map, take, count_ones, IfOk, IfErr, OnOk, OnErr, Ok};
 ghost use Rattle.ark_base.specs.declared.error.Error.TheVariants.{OutOfMemory};
-ghost use Rattle.ark_base.specs.Outcome.{AnswersBy};
+ghost use Rattle.ark_base.specs.Outcome.{Answers, AnswersBy};
+ghost use Rattle.ark_base.specs.Spelling.{word};
 ghost use Rattle.merkle_log.specs.Append.{Refuses};
-ghost use Rattle.merkle_log.specs.Frontier.{FrontierValue, IsFrontier};
+ghost use Rattle.merkle_log.specs.Frontier.{FrontierValue, IsFrontier, frontier_in, peaks_in};
 ghost use Rattle.ark_paths.specs.Pair.{Digest};
 ghost use Rattle.ark_paths.specs.Rows.{digests_of};
 ghost use Rattle.merkle_log.specs.Log.{merkle_tree_hash};
 
 use crate::digests::copy_of;
+use crate::received::read_digests;
 use ark_base::error::Error;
-use ark_base::serialize::DigestItem;
+use ark_base::serialize::{CanonicalDeserialize, CanonicalSerialize, DigestItem};
 use ark_paths::hasher::TreeHasher;
 use std::alloc::Global;
 use std::marker::Model;
@@ -71,6 +74,17 @@ fn merge<D: DigestItem, T: TreeHasher<D, D>>(
     Ok((left, last))
 }
 
+// Reads a count of digests and the roots of their complete trees.
+fn read_peaks<D: DigestItem>(alloc: Global, bytes: &[u8]) -> Result<(u64, Vec<D>), Error>
+    ensures read { let peaks = peaks_in D.reads (λ value. D.numbers_of (D.spelling value)) in
+        AnswersBy (λ read. (read.0, digests_of D.numbers read.1)) (peaks bytes.now) result }
+    ensures count { IfOk result (λ read. length read.1.items ≡ count_ones read.0) }
+{
+    let (size, used) = u64::deserialize(alloc, bytes)?;
+    let peaks = read_digests(alloc, &bytes[used..], size.count_ones() as u64)?;
+    Ok((size, peaks))
+}
+
 impl<D: DigestItem, T: TreeHasher<D, D>> Frontier<D, T> {
     /// The frontier of no digests, whose root is given.
     pub fn new(alloc: Global, hasher: T, empty: D) -> Frontier<D, T>
@@ -87,6 +101,25 @@ impl<D: DigestItem, T: TreeHasher<D, D>> Frontier<D, T> {
             size: 0,
             peaks: Vec::new(alloc),
         }
+    }
+
+    /// Writes the canonical bytes: the count in eight bytes, the least first, and the roots, the largest tree's first.
+    ///
+    /// The only error is `OutOfMemory`.
+    pub fn to_bytes(&self, alloc: Global) -> Result<Vec<u8>, Error>
+        ensures written { let bytes = word self.now.size ++ flat_map D.bytes_of self.now.peaks in
+            IfOk result (λ written. written.items ≡ bytes) }
+        ensures refused { IfErr result (λ error. error ≡ OutOfMemory) }
+
+        // With the same hasher and root of no digests they are read again as this frontier.
+        ensures again { let reads = frontier_in D.reads (λ value. D.numbers_of (D.spelling value)) in
+            let again = reads self.now.hasher self.now.empty in
+            IfOk result (λ written. again written.items ≡ Ok self.now) }
+    {
+        let mut bytes = Vec::new(alloc);
+        self.size.serialize(&mut bytes)?;
+        D::serialize_items(&self.peaks, &mut bytes)?;
+        Ok(bytes)
     }
 
     /// How many digests there are.
@@ -132,6 +165,30 @@ impl<D: DigestItem, T: TreeHasher<D, D>> Frontier<D, T> {
             return copy_of(alloc, &self.empty);
         }
         fold(alloc, &self.hasher, &self.peaks)
+    }
+}
+
+impl<D: DigestItem, T: TreeHasher<D, D> + Drop> Frontier<D, T> {
+    /// Reads a frontier from the bytes that `to_bytes` writes. At most 64 digests are read.
+    ///
+    /// Errors: `Truncated` for bytes of fewer digests than the count has ones, `InvalidData` for more bytes, and for digests
+    /// that are none; `OutOfMemory`. Whether some list has these roots is not known.
+    pub fn from_bytes(
+        alloc: Global,
+        hasher: T,
+        empty: D,
+        bytes: &[u8],
+    ) -> Result<Frontier<D, T>, Error>
+        ensures { let reads = frontier_in D.reads (λ value. D.numbers_of (D.spelling value)) in
+            Answers (reads hasher (D.numbers empty) bytes.now) result }
+    {
+        let (size, peaks) = read_peaks(alloc, bytes)?;
+        Ok(Frontier {
+            hasher,
+            empty,
+            size,
+            peaks,
+        })
     }
 }
 

@@ -3,13 +3,14 @@
 ghost use Rattle.std.specs.Prelude.{◌≡◌, ◌⊎◌, ◌<◌, ◌≤◌, ◌+◌, ◌-◌, ◌^◌, ◌∷◌, ℕ, suc, List, [], true, length, map, get_or, take, IfOk, IfErr, OnOk, OnErr, Ok, Err, Some, None};
 ghost use Rattle.ark_base.specs.declared.error.Error.TheVariants.{OutOfMemory};
 ghost use Rattle.ark_base.specs.Outcome.{AnswersBy};
+ghost use Rattle.ark_crh.specs.Four.{four_seen};
 ghost use Rattle.ark_paths.specs.Pair.{Digest};
 ghost use Rattle.ark_paths.specs.Root.{all_hashes, root_of};
 ghost use Rattle.ark_paths.specs.Rows.{digests_of};
-ghost use Rattle.merkle_log.specs.Append.{AppendsLeaves, GrowsTo, HasLeaf, HasLeaves, IsWhole, KeepsSizes, Refuses, counted_after, pair_count};
+ghost use Rattle.merkle_log.specs.Append.{AppendsAll, AppendsLeaves, GrowsTo, HasLeaf, HasLeaves, IsWhole, KeepsSizes, Refuses, counted_after, pair_count};
 ghost use Rattle.merkle_log.specs.Binding.{is_accepted, HighestIn, LeafHighestIn, leaf_verdict_in, verdict_in};
 ghost use Rattle.merkle_log.specs.declared.bind.LogBinding.TheVariants.{Rejected, Stands, Collides};
-ghost use Rattle.merkle_log.specs.Edge.{all_of};
+ghost use Rattle.merkle_log.specs.Edge.{all_of, root_pairs};
 ghost use Rattle.merkle_log.specs.Log.{LogValue, both_levels, inclusion_path, consistency_path, root_at, with_more};
 ghost use Rattle.merkle_log.specs.Stored.{row_of, IsStored};
 ghost use Rattle.merkle_log.specs.Verdict.{inclusion_verdict, consistency_verdict};
@@ -17,7 +18,7 @@ ghost use Rattle.merkle_log.specs.Verdict.{inclusion_verdict, consistency_verdic
 use crate::bind::{LogBinding, binding_of};
 use crate::digests::copy_of;
 use crate::paths::{consistency_path_of, inclusion_path_of};
-use crate::rows::root_of;
+use crate::rows::{root_counted, root_of};
 use crate::stored::Stored;
 use ark_base::error::Error;
 use ark_base::serialize::DigestItem;
@@ -52,6 +53,34 @@ impl<D: DigestItem, T: TreeHasher<D, D>> Model for Log<D, T> {
     } };
 }
 
+// Puts four digests behind a list, the first one first, and hashes the pairs that they complete. An error may leave some of them.
+fn append_four<D: DigestItem, W: PairHasher<D, D>>(
+    alloc: Global,
+    pairs: &mut W,
+    stored: &mut Stored<D>,
+    four: (D, D, D, D),
+) -> Result<(), Error>
+    requires whole { IsWhole stored.old }
+    requires stored { IsStored (W.pair pairs.old).upper (row_of stored.old) }
+    requires counted { W.counted pairs.old < 2 ^ 64 }
+    ensures appended { let digests = four_seen D.numbers four in
+        OnOk result (AppendsAll (W.pair pairs.old).upper stored.old digests stored.new) }
+    ensures extends { GrowsTo stored.old stored.new }
+    ensures refused { IfErr result (λ error. (error ≡ OutOfMemory)
+        ⊎ Refuses (W.pair pairs.old).upper error) }
+    ensures same { OnOk result (W.pair pairs.new ≡ W.pair pairs.old) }
+    ensures counts { let more = pair_count stored.new.size - pair_count stored.old.size in
+        OnOk result (W.counted pairs.new ≡ counted_after (W.counted pairs.old) more) }
+    ensures fits { stored.new.size < 2 ^ 64 }
+{
+    let (first, second, third, fourth) = four;
+    stored.append(alloc, pairs, first)?;
+    stored.append(alloc, pairs, second)?;
+    stored.append(alloc, pairs, third)?;
+    stored.append(alloc, pairs, fourth)?;
+    Ok(())
+}
+
 // Puts the digests of leaves behind a list, and hashes the pairs that they complete by a second hasher. An error may leave some
 // of them.
 fn append_each<D: DigestItem, T: TreeHasher<D, D>, W: PairHasher<D, D>>(
@@ -76,7 +105,18 @@ fn append_each<D: DigestItem, T: TreeHasher<D, D>, W: PairHasher<D, D>>(
         OnOk result (W.counted pairs.new ≡ counted_after (W.counted pairs.old) more) }
     ensures fits { stored.new.size < 2 ^ 64 }
 {
-    for place in 0..leaves.len() {
+    let fours = leaves.len() / 4;
+    'fours: for four in 0..fours {
+        let made = hasher.leaf_four(
+            alloc,
+            &leaves[4 * four],
+            &leaves[4 * four + 1],
+            &leaves[4 * four + 2],
+            &leaves[4 * four + 3],
+        )?;
+        append_four(alloc, pairs, stored, made)?;
+    }
+    'rest: for place in 4 * fours..leaves.len() {
         let digest = hasher.leaf(alloc, &leaves[place])?;
         stored.append(alloc, pairs, digest)?;
     }
@@ -219,6 +259,21 @@ impl<D: DigestItem, T: TreeHasher<D, D>> Log<D, T> {
             return copy_of(alloc, &self.empty);
         }
         root_of(alloc, &self.hasher, &self.stored, size)
+    }
+
+    /// As `root`, and returns how many pairs were hashed: the ones of the size less one, those of an incomplete right edge alone.
+    pub fn root_counting(&self, alloc: Global, size: usize) -> Result<(D, usize), Error>
+        requires { size ≤ length self.now.digests }
+        ensures root { let hash = (T.hashes self.now.hasher).pair.upper in
+            AnswersBy (λ counted. D.numbers counted.0) (root_at hash self.now size) result }
+        ensures count { IfOk result (λ counted. counted.1 ≡ root_pairs size) }
+    {
+        if size == 0 {
+            return Ok((copy_of(alloc, &self.empty)?, 0));
+        }
+        let mut pairs = Counting::new(&self.hasher);
+        let root = root_counted(alloc, &mut pairs, &self.stored, size)?;
+        Ok((root, pairs.calls()))
     }
 
     /// Returns the path of an index of the first leaves: PATH(index, D[0:size]). Errors: those of `root`.

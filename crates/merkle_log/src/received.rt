@@ -61,8 +61,8 @@ fn count_of(old_size: u64, new_size: u64) -> u64
     count_from(old_size - 1, new_size - 1)
 }
 
-// Reads so many digests and nothing else.
-fn read_digests<D: DigestItem>(alloc: Global, bytes: &[u8], count: u64) -> Result<Vec<D>, Error>
+/// Reads so many digests and nothing else.
+pub fn read_digests<D: DigestItem>(alloc: Global, bytes: &[u8], count: u64) -> Result<Vec<D>, Error>
     ensures { let digests = digests_in D.reads (λ value. D.numbers_of (D.spelling value)) in
         AnswersBy (digests_of D.numbers) (digests count bytes.now) result }
 {

@@ -2,11 +2,11 @@
 //!
 //! A row has a last digest at the right edge: its own where the place is complete, and else one that was hashed.
 
-ghost use Rattle.std.specs.Prelude.{◌≡◌, ◌<◌, ◌≤◌, ◌+◌, ◌/◌, ◌^◌, ◌++◌, ℕ, length, take, true, IfOk, Ok};
+ghost use Rattle.std.specs.Prelude.{◌≡◌, ◌<◌, ◌≤◌, ◌+◌, ◌/◌, ◌^◌, ◌++◌, ℕ, length, take, true, IfOk, OnOk, Ok};
 ghost use Rattle.ark_base.specs.Outcome.{AnswersBy};
 ghost use Rattle.ark_paths.specs.Pair.{Digest};
 ghost use Rattle.ark_paths.specs.Rows.{digests_of};
-ghost use Rattle.merkle_log.specs.Edge.{last_seen, HasLast, last_raised, RaisesNeeded, digest_beside, digests_beside, path_with};
+ghost use Rattle.merkle_log.specs.Edge.{last_seen, HasLast, last_raised, RaisesNeeded, digest_beside, digests_beside, pairs_left, path_with, root_pairs};
 ghost use Rattle.merkle_log.specs.Log.{merkle_tree_hash};
 ghost use Rattle.merkle_log.specs.Stored.{row_of, IsStored};
 ghost use Rattle.merkle_log.specs.Walk.{has_beside};
@@ -16,7 +16,8 @@ use crate::stored::Stored;
 use crate::way::has_beside;
 use ark_base::error::Error;
 use ark_base::serialize::DigestItem;
-use ark_paths::hasher::TreeHasher;
+use ark_paths::PairHasher;
+use ark_paths::hasher::{Counting, TreeHasher};
 use std::alloc::Global;
 
 /// Returns the last digest of a row.
@@ -38,6 +39,46 @@ pub fn last_of<'a, D: DigestItem>(
 
 /// Returns the last digest of a row, one level up. At an odd index it is hashed with the one before it, unless its place is
 /// complete, and so the one above it.
+pub fn raise_counted<D: DigestItem, W: PairHasher<D, D>>(
+    alloc: Global,
+    pairs: &mut W,
+    rows: &Stored<D>,
+    level: usize,
+    last_index: usize,
+    last: Option<D>,
+) -> Result<Option<D>, Error>
+    requires stored { IsStored (W.pair pairs.old).upper (row_of rows.now) }
+    requires last { HasLast (row_of rows.now level) last_index last }
+    requires counted { W.counted pairs.old + 1 < 2 ^ 64 }
+    ensures raised { let hash = (W.pair pairs.old).upper in
+        let row = row_of rows.now level in
+        let up = last_seen D.numbers (row_of rows.now (level + 1)) (last_index / 2) in
+        let seen = last_seen D.numbers row last_index last in
+        AnswersBy up (last_raised hash row last_index seen) result }
+    ensures has { IfOk result (HasLast (row_of rows.now (level + 1)) (last_index / 2)) }
+    ensures same { W.pair pairs.new ≡ W.pair pairs.old }
+    ensures counts { let before = W.counted pairs.old + pairs_left last_index last in
+        IfOk result (λ up. W.counted pairs.new + pairs_left (last_index / 2) up ≡ before) }
+{
+    match last {
+        None => {
+            if last_index % 2 == 1 {
+                Ok(None)
+            } else {
+                Ok(Some(copy_of(alloc, rows.at(level, last_index))?))
+            }
+        }
+        Some(digest) => {
+            if last_index % 2 == 1 {
+                Ok(Some(pairs.upper(alloc, rows.at(level, last_index - 1), &digest)?))
+            } else {
+                Ok(Some(digest))
+            }
+        }
+    }
+}
+
+/// Returns the last digest of a row, one level up, as `raise_counted`.
 pub fn raise_last<D: DigestItem, T: TreeHasher<D, D>>(
     alloc: Global,
     hasher: &T,
@@ -55,22 +96,36 @@ pub fn raise_last<D: DigestItem, T: TreeHasher<D, D>>(
         AnswersBy up (last_raised hash row last_index seen) result }
     ensures has { IfOk result (HasLast (row_of rows.now (level + 1)) (last_index / 2)) }
 {
-    match last {
-        None => {
-            if last_index % 2 == 1 {
-                Ok(None)
-            } else {
-                Ok(Some(copy_of(alloc, rows.at(level, last_index))?))
-            }
-        }
-        Some(digest) => {
-            if last_index % 2 == 1 {
-                Ok(Some(hasher.upper(alloc, rows.at(level, last_index - 1), &digest)?))
-            } else {
-                Ok(Some(digest))
-            }
-        }
+    let mut pairs = Counting::new(hasher);
+    raise_counted(alloc, &mut pairs, rows, level, last_index, last)
+}
+
+/// Returns the root of the first digests, of which there is one at least. A counting hasher counts the ones of the size less
+/// one.
+pub fn root_counted<D: DigestItem, W: PairHasher<D, D>>(
+    alloc: Global,
+    pairs: &mut W,
+    rows: &Stored<D>,
+    size: usize,
+) -> Result<D, Error>
+    requires stored { IsStored (W.pair pairs.old).upper (row_of rows.now) }
+    requires some { 0 < size }
+    requires inside { size ≤ length (row_of rows.now 0) }
+    requires none { W.counted pairs.old ≡ 0 }
+    ensures root { let hash = (W.pair pairs.old).upper in
+        (empty : Digest) → let root = merkle_tree_hash hash empty (take size (row_of rows.now 0)) in
+        AnswersBy D.numbers root result }
+    ensures counts { OnOk result (W.counted pairs.new ≡ root_pairs size) }
+{
+    let mut last_index = size - 1;
+    let mut last = None;
+    let mut level = 0;
+    'levels: while last_index > 0 {
+        last = raise_counted(alloc, pairs, rows, level, last_index, last)?;
+        last_index /= 2;
+        level += 1;
     }
+    copy_of(alloc, last_of(rows, level, last_index, &last))
 }
 
 /// Returns the root of the first digests, of which there is one at least.
@@ -87,15 +142,8 @@ pub fn root_of<D: DigestItem, T: TreeHasher<D, D>>(
         (empty : Digest) → let root = merkle_tree_hash hash empty (take size (row_of rows.now 0)) in
         AnswersBy D.numbers root result }
 {
-    let mut last_index = size - 1;
-    let mut last = None;
-    let mut level = 0;
-    'levels: while last_index > 0 {
-        last = raise_last(alloc, hasher, rows, level, last_index, last)?;
-        last_index /= 2;
-        level += 1;
-    }
-    copy_of(alloc, last_of(rows, level, last_index, &last))
+    let mut pairs = Counting::new(hasher);
+    root_counted(alloc, &mut pairs, rows, size)
 }
 
 // Returns the digest beside an index of a row, where one stands there.

@@ -80,6 +80,16 @@ fn next_cost(alloc: Global, size: usize) -> Result<usize, Error> {
     log.append_digest_counting(alloc, leaf_digest(size))
 }
 
+// How many pairs the root of the first of eight entries costs.
+fn root_cost(alloc: Global, size: usize) -> Result<usize, Error> {
+    let log = eight(alloc)?;
+    if size > log.size() {
+        return Err(Error::IncorrectInputLength(size));
+    }
+    let (_, cost) = log.root_counting(alloc, size)?;
+    Ok(cost)
+}
+
 #[test]
 fn damaged_paths(rt: HostRuntime) {
     let alloc = rt.alloc();
@@ -161,4 +171,14 @@ fn costs(rt: HostRuntime) {
     assert_eq!(rt; next_cost(alloc, 6), Ok(0));
     assert_eq!(rt; next_cost(alloc, 5), Ok(1));
     assert_eq!(rt; next_cost(alloc, 7), Ok(3));
+}
+
+// The ones of the size less one.
+#[test]
+fn root_costs(rt: HostRuntime) {
+    let alloc = rt.alloc();
+    assert_eq!(rt; root_cost(alloc, 0), Ok(0));
+    assert_eq!(rt; root_cost(alloc, 6), Ok(1));
+    assert_eq!(rt; root_cost(alloc, 7), Ok(2));
+    assert_eq!(rt; root_cost(alloc, 8), Ok(0));
 }

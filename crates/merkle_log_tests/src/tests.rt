@@ -2,7 +2,7 @@
 //! them.
 
 use crate::hasher::Rfc6962;
-use ark_base::error::Error;
+use ark_base::error::{Error, SerializationError};
 use merkle_log::{
     Frontier, Log, verify_consistency, verify_consistency_bytes, verify_inclusion,
     verify_inclusion_bytes,
@@ -165,16 +165,58 @@ fn is_root(alloc: Global, size: usize, text: &str) -> Result<bool, Error> {
     Ok(is_shown(alloc, &digest, text))
 }
 
-// Whether the frontier of the first entries has a root that is shown so.
-fn is_frontier(alloc: Global, size: usize, text: &str) -> Result<bool, Error> {
+// Whether the log of the first entries, which come at once, has a root that is shown so.
+fn is_many(alloc: Global, size: usize, text: &str) -> Result<bool, Error> {
+    let mut log = none(alloc);
+    let mut entries = Vec::new(alloc);
+    for index in 0..size {
+        entries.push(entry(alloc, index)?)?;
+    }
+    log.append_many(alloc, &entries)?;
+    let digest = root(alloc, &log, size)?;
+    Ok(is_shown(alloc, &digest, text))
+}
+
+// The frontier of the first entries.
+fn first(alloc: Global, size: usize) -> Result<Frontier<[u8; 32], Rfc6962>, Error> {
     let mut frontier = Frontier::new(alloc, Rfc6962, Sha256::digest([].as_slice()));
     for index in 0..size {
         if frontier.size() < u64::MAX {
             frontier.append(alloc, leaf_digest(index))?;
         }
     }
-    let digest = frontier.root(alloc)?;
+    Ok(frontier)
+}
+
+// Whether the frontier of the first entries has a root that is shown so.
+fn is_frontier(alloc: Global, size: usize, text: &str) -> Result<bool, Error> {
+    let digest = first(alloc, size)?.root(alloc)?;
     Ok(is_shown(alloc, &digest, text))
+}
+
+// The bytes of the frontier of the first entries, a number of them cut off and others put behind.
+fn frontier_bytes(alloc: Global, size: usize, cut: usize, more: &[u8]) -> Result<Vec<u8>, Error> {
+    let mut bytes = first(alloc, size)?.to_bytes(alloc)?;
+    bytes.truncate(bytes.len().saturating_sub(cut));
+    bytes.extend_from_slice(more)?;
+    Ok(bytes)
+}
+
+// The root of the frontier that bytes spell.
+fn root_of_bytes(alloc: Global, bytes: &[u8]) -> Result<[u8; 32], Error> {
+    Frontier::from_bytes(alloc, Rfc6962, Sha256::digest([].as_slice()), bytes)?.root(alloc)
+}
+
+// Whether the bytes of the frontier of the first entries are of a count and spell one whose root is shown so.
+fn is_read_again(alloc: Global, size: usize, len: usize, text: &str) -> Result<bool, Error> {
+    let bytes = frontier_bytes(alloc, size, 0, &[])?;
+    let digest = root_of_bytes(alloc, &bytes)?;
+    Ok(bytes.len() == len && is_shown(alloc, &digest, text))
+}
+
+// What is read of the bytes of seven entries' frontier, changed so.
+fn read_changed(alloc: Global, cut: usize, more: &[u8]) -> Result<[u8; 32], Error> {
+    root_of_bytes(alloc, &frontier_bytes(alloc, 7, cut, more)?)
 }
 
 // The bytes of digests.
@@ -211,11 +253,36 @@ fn roots(rt: HostRuntime) {
     }
 }
 
+// Four at a time, and the rest one by one.
+#[test]
+fn many_at_once(rt: HostRuntime) {
+    assert_eq!(rt; is_many(rt.alloc(), 3, ROOTS[3]), Ok(true));
+    assert_eq!(rt; is_many(rt.alloc(), 7, ROOTS[7]), Ok(true));
+    assert_eq!(rt; is_many(rt.alloc(), 8, ROOTS[8]), Ok(true));
+}
+
 #[test]
 fn frontiers(rt: HostRuntime) {
     for (size, text) in ROOTS.iter().enumerate() {
         assert_eq!(rt; is_frontier(rt.alloc(), size, text), Ok(true), "at {size}");
     }
+}
+
+// Eight bytes of the count, and 32 for each of its ones.
+#[test]
+fn frontiers_are_read_again(rt: HostRuntime) {
+    let alloc = rt.alloc();
+    assert_eq!(rt; is_read_again(alloc, 0, 8, ROOTS[0]), Ok(true));
+    assert_eq!(rt; is_read_again(alloc, 7, 104, ROOTS[7]), Ok(true));
+    assert_eq!(rt; is_read_again(alloc, 8, 40, ROOTS[8]), Ok(true));
+    assert_eq!(rt;
+        read_changed(alloc, 1, &[]),
+        Err(Error::SerializationError(SerializationError::Truncated))
+    );
+    assert_eq!(rt;
+        read_changed(alloc, 0, &[0]),
+        Err(Error::SerializationError(SerializationError::InvalidData))
+    );
 }
 
 #[test]

@@ -1,5 +1,7 @@
+use Rattle.std.proofs.Common.{arith}
 use Rattle.merkle_log.proofs.Edges.{has-front, edge-up, whole-up, whole-raised}
-use Rattle.merkle_log.proofs.rows.raise_last.Goals as goal
+use Rattle.merkle_log.proofs.Tallied.{left-whole, left-copied, left-hashed, left-kept}
+use Rattle.merkle_log.proofs.rows.raise_counted.Goals as goal
 
 pub returns-then-last_index-eq1-clause-raised : goal.returns-then-last_index-eq1-clause-raised
 returns-then-last_index-eq1-clause-raised g c =
@@ -21,3 +23,17 @@ returns-in_ok-upper-in-Some-clause-has g c =
 pub returns-else-last_index-eq1-2-clause-has : goal.returns-else-last_index-eq1-2-clause-has
 returns-else-last_index-eq1-2-clause-has g c =
     edge-up c.requires.stored c.args.level c.args.last_index (has-front _ _ c.args.last c.requires.last)
+
+pub returns-then-last_index-eq1-clause-counts : goal.returns-then-last_index-eq1-clause-counts
+returns-then-last_index-eq1-clause-counts g c =
+    rw (c.in-None.is) (left-whole _ c.args.last_index c.if-last_index-eq1.true)
+
+pub returns-in_ok-copy_of-in-None-clause-counts : goal.returns-in_ok-copy_of-in-None-clause-counts
+returns-in_ok-copy_of-in-None-clause-counts g c = rw (c.in-None.is) (left-copied _ c.args.last_index (omega arith))
+
+pub returns-in_ok-upper-in-Some-clause-counts : goal.returns-in_ok-upper-in-Some-clause-counts
+returns-in_ok-upper-in-Some-clause-counts g c =
+    rw (c.in-Some.is) (left-hashed _ _ c.args.last_index c.requires.counted c.in_ok-upper-in-Some.ensures.counts (omega arith))
+
+pub returns-else-last_index-eq1-2-clause-counts : goal.returns-else-last_index-eq1-2-clause-counts
+returns-else-last_index-eq1-2-clause-counts g c = rw (c.in-Some.is) (left-kept _ c.args.last_index (omega arith))
