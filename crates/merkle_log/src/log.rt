@@ -55,7 +55,7 @@ impl<D: DigestItem, T: TreeHasher<D, D>> Model for Log<D, T> {
     } };
 }
 
-// Puts four digests behind a list, the first one first, and hashes the pairs that they complete. An error may leave some of them.
+// Puts four digests behind a list, the first one first, and hashes the pairs that they complete. An error may leave some.
 fn append_four<D: DigestItem, W: PairHasher<D, D>>(
     alloc: Global,
     pairs: &mut W,
@@ -263,7 +263,8 @@ impl<D: DigestItem, T: TreeHasher<D, D>> Log<D, T> {
         root_of(alloc, &self.hasher, &self.stored, size)
     }
 
-    /// As `root`, and returns how many pairs were hashed: the ones of the size less one, those of an incomplete right edge alone.
+    /// As `root`, and returns how many pairs were hashed: the ones of the size less one, all of an incomplete right edge, and none
+    /// for no leaves.
     pub fn root_counting(&self, alloc: Global, size: usize) -> Result<(D, usize), Error>
         requires { size ≤ length self.now.digests }
         ensures root { let hash = (T.hashes self.now.hasher).pair.upper in
