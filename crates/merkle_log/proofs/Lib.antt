@@ -29,3 +29,4 @@ pub mod Lengths
 pub mod Receiving
 pub mod Bytes
 pub mod Tallied
+pub mod Turned

@@ -1,12 +1,14 @@
 //! Logs that keep the digests of their complete subtrees.
 
-ghost use Rattle.std.specs.Prelude.{◌≡◌, ◌⊎◌, ◌<◌, ◌≤◌, ◌+◌, ◌-◌, ◌^◌, ◌∷◌, ℕ, suc, List, [], true, length, map, get_or, take, IfOk, IfErr, OnOk, OnErr, Ok, Err, Some, None};
+ghost use Rattle.std.specs.Prelude.{◌≡◌, ◌⊎◌, ◌<◌, ◌≤◌, ◌+◌, ◌-◌, ◌^◌, ◌∷◌, ℕ, suc, List, [], true, length, map, get_or, reverse, take, IfOk, IfErr, OnOk, OnErr, Ok, Err, Some, None};
 ghost use Rattle.ark_base.specs.declared.error.Error.TheVariants.{OutOfMemory};
 ghost use Rattle.ark_base.specs.Outcome.{AnswersBy};
 ghost use Rattle.ark_crh.specs.Four.{four_seen};
+ghost use Rattle.ark_paths.specs.Index.{neighbour};
 ghost use Rattle.ark_paths.specs.Pair.{Digest};
 ghost use Rattle.ark_paths.specs.Root.{all_hashes, root_of};
 ghost use Rattle.ark_paths.specs.Rows.{digests_of};
+ghost use Rattle.ark_paths.specs.Tree.{halves_beside};
 ghost use Rattle.merkle_log.specs.Append.{AppendsAll, AppendsLeaves, GrowsTo, HasLeaf, HasLeaves, IsWhole, KeepsSizes, Refuses, counted_after, pair_count};
 ghost use Rattle.merkle_log.specs.Binding.{is_accepted, HighestIn, LeafHighestIn, leaf_verdict_in, verdict_in};
 ghost use Rattle.merkle_log.specs.declared.bind.LogBinding.TheVariants.{Rejected, Stands, Collides};
@@ -53,7 +55,7 @@ impl<D: DigestItem, T: TreeHasher<D, D>> Model for Log<D, T> {
     } };
 }
 
-// Puts four digests behind a list, the first one first, and hashes the pairs that they complete. An error may leave some of them.
+// Puts four digests behind a list, the first one first, and hashes the pairs that they complete. An error may leave some.
 fn append_four<D: DigestItem, W: PairHasher<D, D>>(
     alloc: Global,
     pairs: &mut W,
@@ -261,7 +263,8 @@ impl<D: DigestItem, T: TreeHasher<D, D>> Log<D, T> {
         root_of(alloc, &self.hasher, &self.stored, size)
     }
 
-    /// As `root`, and returns how many pairs were hashed: the ones of the size less one, those of an incomplete right edge alone.
+    /// As `root`, and returns how many pairs were hashed: the ones of the size less one, all of an incomplete right edge, and none
+    /// for no leaves.
     pub fn root_counting(&self, alloc: Global, size: usize) -> Result<(D, usize), Error>
         requires { size ≤ length self.now.digests }
         ensures root { let hash = (T.hashes self.now.hasher).pair.upper in
@@ -290,6 +293,14 @@ impl<D: DigestItem, T: TreeHasher<D, D>> Log<D, T> {
             let own = get_or (take size self.now.digests) index [] in
             IfOk result (λ path. (root : Digest) → root_at hash self.now size ≡ Ok root
             → inclusion_verdict hash root size index own (digests_of D.numbers path) ≡ Ok true) }
+
+        // Of a power of two above one it is, from the leaf up, the path of a tree of such leaves.
+        ensures halved { let pair = both_levels (T.hashes self.now.hasher).pair.upper in
+            let digests = take size self.now.digests in
+            let sibling = get_or digests (neighbour index) [] in
+            IfOk result (λ path. (m : ℕ) → size ≡ 2 ^ suc m
+            → let above = halves_beside pair m index digests in
+            digests_of D.numbers path ≡ sibling ∷ reverse above) }
     {
         inclusion_path_of(alloc, &self.hasher, &self.stored, size, index)
     }
