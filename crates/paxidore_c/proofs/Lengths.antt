@@ -19,7 +19,7 @@ use Rattle.paxidore_calls.specs.Answer.{Gives, Hands, only_if, path_of_leaves, r
 use Rattle.paxidore_calls.specs.Cut.{parts_by}
 use Rattle.paxidore_calls.specs.Hashing.{Hashing, bytes_of_path, node_pair, tree_over}
 use Rattle.paxidore_calls.specs.declared.refused.Refused.{Refused}
-use Rattle.paxidore_calls.specs.declared.refused.Refused.TheVariants.{Index, Memory}
+use Rattle.paxidore_calls.specs.declared.refused.Refused.TheVariants.{Index, Memory, Room}
 use Rattle.paxidore_c.proofs.Codes.{refusal-no}
 use Rattle.paxidore_c.proofs.Trees.{place-node}
 
@@ -131,17 +131,23 @@ module _ (h : Hashing) (leaf-long : (leaf : List ℕ) → length (h.leaf_hash le
   -- so many bytes are handed over
   pub path-counted : (leaves lengths : List ℕ) (index : ℕ) (before after : List ℕ) (count_before count_after : ℕ)
       (code : ℤ) → Hands (path_of_leaves h leaves lengths index) before after count_before count_after code
-      → code ≡ pos 0 → count_after ≡ path_bytes (length lengths)
+      → to_z w32 (of_z w32 code) ≡ pos 0 → count_after ≡ path_bytes (length lengths)
   path-counted leaves lengths index before after count_before count_after code hands is_zero =
-      by_outcome (path_of_leaves h leaves lengths index) (path-long leaves lengths index) hands.right_code
-      (hands.counted is_zero)
+      by_outcome (path_of_leaves h leaves lengths index) (path-long leaves lengths index) hands.right_code hands.counted
     where
-      no : (refused : Refused) → code ≡ refusal_code refused → ⊥
-      no refused is = refusal-no refused (ap (λ (z : ℤ). to_z w32 (of_z w32 z)) (sym is ∙ is_zero))
+      no : {A : Type 0} (refused : Refused) → code ≡ refusal_code refused → A
+      no refused is = absurd (refusal-no refused (ap (λ (z : ℤ). to_z w32 (of_z w32 z)) (sym is) ∙ is_zero))
+
+      by_room : (short : Bool) → code ≡ (if short then refusal_code Room else pos 0) → code ≡ pos 0
+      by_room true is = no Room is
+      by_room false is = is
 
       by_outcome : (outcome : Result (List ℕ) Refused) → IfOk outcome (λ bytes. length bytes ≡ path_bytes
           (length lengths)) → Gives (written_code outcome (length before)) code
-          → IfOk outcome (λ bytes. count_after ≡ length bytes) → count_after ≡ path_bytes (length lengths)
-      by_outcome (Ok bytes) long gives counted = counted ∙ long
-      by_outcome (Err refused) long (inl is) counted = absurd (no refused is)
-      by_outcome (Err refused) long (inr is) counted = absurd (no Memory is)
+          → (code ≡ pos 0 → IfOk outcome (λ bytes. count_after ≡ length bytes))
+          → count_after ≡ path_bytes (length lengths)
+      by_outcome (Ok bytes) long (inl is) counted =
+          counted (by_room (nat_lt (length before) (length bytes)) is) ∙ long
+      by_outcome (Ok bytes) long (inr is) counted = no Memory is
+      by_outcome (Err refused) long (inl is) counted = no refused is
+      by_outcome (Err refused) long (inr is) counted = no Memory is

@@ -1,5 +1,6 @@
-use Rattle.std.proofs.Common.{◌≡◌, Ok}
+use Rattle.std.proofs.Common.{◌≡◌, Ok, subst}
 use Rattle.ark_trees.specs.Rfc6962.{entry_hash}
+use Rattle.ark_paths.specs.Index.{IsTreeSize}
 use Rattle.ark_paths.specs.Root.{root}
 use Rattle.paxidore_c.proofs.Trees.{log-root, over-leaves}
 use Rattle.paxidore_calls.specs.Answer.{tree_leaves_in}
@@ -13,4 +14,5 @@ returns-in-Ok-clause-root c = λ zero. over-leaves entry_hash (tree_leaves_in c.
 
 pub returns-in-Ok-clause-tree_hash : goal.returns-in-Ok-clause-tree_hash
 returns-in-Ok-clause-tree_hash c = λ zero. log-root (tree_leaves_in c.args.leaves.now c.args.lengths.now)
-    c.in-Ok.tree.leaves c.root.result.now c.in-Ok.ensures c.size-size.ensures.power c.root.ensures
+    c.in-Ok.tree.leaves c.root.result.now c.in-Ok.ensures (subst IsTreeSize c.size-size.ensures.size
+    c.size-size.ensures.power) c.root.ensures
