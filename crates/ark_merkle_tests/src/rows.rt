@@ -1,11 +1,11 @@
 //! Worked rows over numbers below 257: paths and multi-proofs that are longer than a tree, or cut short.
 
-use crate::samples::tree_over;
+use crate::samples::{multi_proof_of, tree_over};
 use crate::toy::copies_of_one;
 use ark_base::error::{Error, SerializationError};
 use ark_base::serialize::{CanonicalDeserialize, Duplicate};
 use ark_groups::ff::{Fp, PrimeField};
-use ark_merkle::{Config, LeafParam, MultiPath, Path, TwoToOneParam};
+use ark_merkle::{Config, LeafParam, MerkleTree, MultiPath, Path, TwoToOneParam};
 use ark_toy::Toy;
 use std::alloc::Global;
 
@@ -80,24 +80,32 @@ fn a_path_of_seventy_digests_is_of_no_tree(rt: HostRuntime) {
     );
 }
 
-// What a multi-proof of two leaves says whose second prefix is the largest number.
-fn second_prefix_is_largest<P: Config>(
+// Makes the second prefix the largest number, and the second suffix longer by a digest.
+fn lengthen_second<P: Config>(
+    alloc: Global,
+    proof: &mut MultiPath<P>,
+    digest: &P::InnerDigest,
+) -> Result<(), Error> {
+    if let Some(prefix) = proof.auth_paths_prefix_lenghts.get_mut(1) {
+        *prefix = usize::MAX;
+    }
+    if let Some(suffix) = proof.auth_paths_suffixes.get_mut(1) {
+        suffix.push(digest.duplicate(alloc)?)?;
+    }
+    Ok(())
+}
+
+// What such a proof of both leaves of a tree says of them.
+fn lengthened_says<P: Config>(
     alloc: Global,
     leaf_parameters: &LeafParam<P>,
     pair_parameters: &TwoToOneParam<P>,
+    tree: &MerkleTree<P>,
     leaves: &[P::Leaf],
-    siblings: (&P::LeafDigest, &P::LeafDigest),
     digest: &P::InnerDigest,
 ) -> Result<bool, Error> {
-    let tree = tree_over::<P>(alloc, leaf_parameters, pair_parameters, leaves)?;
-    let first = siblings.0.duplicate(alloc)?;
-    let second = siblings.1.duplicate(alloc)?;
-    let proof = MultiPath::<P> {
-        leaf_siblings_hashes: vec![in alloc; first, second]?,
-        auth_paths_prefix_lenghts: vec![in alloc; 0, usize::MAX]?,
-        auth_paths_suffixes: vec![in alloc; Vec::new(alloc), copies_of_one(alloc, digest, 1)?]?,
-        leaf_indexes: vec![in alloc; 0, 1]?,
-    };
+    let mut proof = multi_proof_of(alloc, tree, &[0, 1])?;
+    lengthen_second::<P>(alloc, &mut proof, digest)?;
     proof.verify(
         alloc,
         leaf_parameters,
@@ -107,11 +115,29 @@ fn second_prefix_is_largest<P: Config>(
     )
 }
 
+// The same of the tree of these leaves.
+fn second_prefix_is_largest<P: Config>(
+    alloc: Global,
+    leaf_parameters: &LeafParam<P>,
+    pair_parameters: &TwoToOneParam<P>,
+    leaves: &[P::Leaf],
+    digest: &P::InnerDigest,
+) -> Result<bool, Error> {
+    let tree = tree_over::<P>(alloc, leaf_parameters, pair_parameters, leaves)?;
+    lengthened_says(
+        alloc,
+        leaf_parameters,
+        pair_parameters,
+        &tree,
+        leaves,
+        digest,
+    )
+}
+
 #[test]
 fn a_prefix_past_the_path_before(rt: HostRuntime) {
-    let siblings = (&Fp::from_u64(2), &Fp::from_u64(1));
     assert_eq!(rt;
-        second_prefix_is_largest::<Toy>(rt.alloc(), &(), &(), &[1, 2], siblings, &Fp::from_u64(5)),
+        second_prefix_is_largest::<Toy>(rt.alloc(), &(), &(), &[1, 2], &Fp::from_u64(5)),
         Err(Error::IncorrectInputLength(1))
     );
 }

@@ -1,6 +1,6 @@
 //! A hash that is keyed by bytes, as a user writes one, and a tree over it: SHA-256 of a salt of 32 bytes and the input.
 
-ghost use Rattle.std.specs.Prelude.{◌≡◌, ◌++◌, ℕ, List, Ok, ap, sym, ◌∙◌};
+ghost use Rattle.std.specs.Prelude.{◌≡◌, ◌++◌, ℕ, List, Ok};
 ghost use Rattle.rand_core.specs.Stream.{fill_bytes};
 ghost use Rattle.sha2.specs.Sha256.{sha256};
 
@@ -19,6 +19,8 @@ use std::alloc::Global;
 struct Salted;
 
 impl CRHScheme for Salted {
+    ghost use Rattle.std.proofs.Common.{sym, ap, ◌∙◌};
+
     type Input = Vec<u8>;
 
     type Output = [u8; 32];
