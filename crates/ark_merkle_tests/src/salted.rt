@@ -1,6 +1,6 @@
 //! A hash that is keyed by bytes, as a user writes one, and a tree over it: SHA-256 of a salt of 32 bytes and the input.
 
-ghost use Rattle.std.specs.Prelude.{◌≡◌, ◌++◌, ℕ, List, Ok};
+ghost use Rattle.std.specs.Prelude.{◌≡◌, ◌++◌, Ok};
 ghost use Rattle.rand_core.specs.Stream.{fill_bytes};
 ghost use Rattle.sha2.specs.Sha256.{sha256};
 
@@ -19,7 +19,7 @@ use std::alloc::Global;
 struct Salted;
 
 impl CRHScheme for Salted {
-    ghost use Rattle.std.proofs.Common.{sym, ap, ◌∙◌};
+    ghost use Rattle.std.proofs.Common.{sym, ◌∙◌};
 
     type Input = Vec<u8>;
 
@@ -50,8 +50,7 @@ impl CRHScheme for Salted {
 
     ghost made_alike = { λ _ p q made also. made ∙ sym also };
 
-    ghost same_parameters = { λ p q same.
-        ap (λ (salt : List ℕ) input. Ok (sha256 (salt ++ input.items))) same };
+    ghost same_parameters = { λ p q same i input. Ok (sha256 (same i ++ input.items)) };
 }
 
 struct SaltedTree;
