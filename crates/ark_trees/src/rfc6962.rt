@@ -35,7 +35,7 @@ impl Config for Sha256Log {
 }
 
 impl Sha256Log {
-    /// The tree of a log over these entries, of which there are a power of two above one. The only refusal is
+    /// Returns the tree of a log over these entries, of which there are a power of two above one. The only error is
     /// `OutOfMemory`.
     pub fn tree(alloc: Global, entries: &[Vec<u8>]) -> Result<MerkleTree<Sha256Log>, Error>
         requires { IsTreeSize (length entries.now) }
@@ -74,7 +74,7 @@ impl CRHScheme for LogSha256 {
         Ok(())
     }
 
-    /// The hash of an entry. It takes no memory.
+    /// Returns the hash of an entry. It allocates nothing.
     fn evaluate(_alloc: Global, _parameters: &(), input: &Vec<u8>) -> Result<[u8; 32], Error>
         ensures exact { result ≡ Ok (entry_hash input.now.items) }
     {
@@ -121,7 +121,7 @@ impl TwoToOneCRHScheme for LogSha256 {
         Ok(())
     }
 
-    /// The hash of the node over two others. It takes no memory.
+    /// Returns the hash of the node over two others. It allocates nothing.
     fn evaluate(
         _alloc: Global,
         _parameters: &(),
@@ -133,7 +133,7 @@ impl TwoToOneCRHScheme for LogSha256 {
         Ok(digest_of_node(left, right))
     }
 
-    /// The hash of the node over two others. It takes no memory.
+    /// Returns the hash of the node over two others. It allocates nothing.
     fn compress(
         alloc: Global,
         parameters: &(),
@@ -275,7 +275,7 @@ impl TreeHasher<[u8; 32], [u8; 32]> for LogHasher {
     }
 }
 
-/// The digest of a zero byte and an entry (section 2.1).
+/// Returns the digest of a zero byte and an entry (section 2.1).
 pub fn digest_of_entry(entry: &[u8]) -> [u8; 32]
     ensures { result ≡ entry_hash entry.now }
 {
@@ -295,7 +295,7 @@ fn entry_message(entry: &[u8]) -> [u8; 119]
     message
 }
 
-/// The digests of four entries, which are hashed together where none has more than 118 bytes.
+/// Returns the digests of four entries, which are hashed together where none has more than 118 bytes.
 pub fn digests_of_entries(a: &[u8], b: &[u8], c: &[u8], d: &[u8]) -> Four
     ensures a { result.0 ≡ entry_hash a.now }
     ensures b { result.1 ≡ entry_hash b.now }

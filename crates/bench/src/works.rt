@@ -14,7 +14,7 @@ use std::alloc::Global;
 
 type Group = Residues<M61>;
 
-/// The checksum of the work that two words name, its name and how often it is done, if they name one.
+/// Returns the checksum of the work that two words name, its name and how often it is done, if they name one.
 pub fn checksum(alloc: Global, words: &[String]) -> Result<Option<u64>, Error> {
     let [name, count] = words else {
         return Ok(None);

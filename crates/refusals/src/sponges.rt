@@ -31,7 +31,7 @@ impl<F: PrimeField, S: SBox<F>> Compared for PoseidonSponge<F, S> {
     }
 }
 
-/// How a call of a sponge that has absorbed some elements ended.
+/// Returns how a call of a sponge that has absorbed some elements ended.
 pub fn ended_of<F: PrimeField + Absorb>(alloc: Global, call: &str) -> Result<Option<Ended>, Error> {
     let parameters = PoseidonConfig::new(2, 1, 1, rows(alloc)?, rows(alloc)?, 2, 1)?;
     match call {
