@@ -1,6 +1,6 @@
-/* Paxidore: Merkle trees over byte strings, and BLAKE2s. The code behind these calls is proved.
+/* Paxidore: Merkle trees over byte strings, clients of transparency logs, and BLAKE2s. The code behind these calls is proved.
  *
- * No call keeps memory or a pointer, and each may run in any thread at any time. The calls of trees allocate: they stand on the
+ * No call keeps memory or a pointer, and each may run in any thread at any time. The calls of trees and logs allocate: they stand on the
  * process's malloc and free, so do not call them in a signal handler, nor in the child of a process with threads between fork
  * and exec. Where malloc returns NULL the answer is PAXIDORE_E_MEMORY; no clause says that enough memory is not answered so.
  * The calls of BLAKE2s allocate nothing.
@@ -42,7 +42,8 @@ enum paxidore_answer {
     PAXIDORE_E_TRUNCATED = -2, /* the bytes of the proof end early */
     PAXIDORE_E_INVALID = -3,   /* the bytes are no proof for these indexes: of others, not canonical, or with bytes behind */
     PAXIDORE_E_HEIGHT = -4,    /* the proof is for a tree of another size */
-    PAXIDORE_E_SIZE = -5,      /* no tree has this count of leaves: a tree has 2, 4, 8, 16 .. of them */
+    PAXIDORE_E_SIZE = -5,      /* no tree has this count of leaves: a tree has 2, 4, 8, 16 .. of them; or no log has one of
+                                * the sizes, or the old one is above the new one */
     PAXIDORE_E_LENGTHS = -6,   /* the lengths of the leaves do not sum to that of their bytes */
     PAXIDORE_E_COUNT = -7,     /* there are not as many leaves as indexes */
     PAXIDORE_E_INDEX = -8,     /* an index is not below the count of leaves, or there is none */
@@ -119,6 +120,25 @@ int32_t paxidore_rfc6962_multi_path(uint8_t *proof, size_t proof_room, size_t *p
                                     const uint8_t *leaves, size_t leaves_len,
                                     const size_t *lengths, size_t count,
                                     const size_t *indexes, size_t indexes_count);
+
+/* ---- Clients of a transparency log of any size (RFC 6962 and RFC 9162, section 2.1), which hashes as the trees above. A log
+ * publishes its root and its size. Its proofs are their digests alone, 32 bytes each, in the order of the standard, and no other
+ * byte. */
+
+/* PAXIDORE_OK where the bytes of an inclusion proof show that `entry` stands at `index` in the log of `size` entries with this
+ * root: then it does, or two different inputs with one SHA-256 are at hand. PAXIDORE_NOT_SHOWN, E_INDEX for an index not below
+ * the size, E_TRUNCATED and E_INVALID for bytes of fewer or more digests than a proof of this index and size has, E_MEMORY. */
+int32_t paxidore_log_verify_inclusion(const uint8_t root[PAXIDORE_DIGESTBYTES], size_t size, size_t index,
+                                      const uint8_t *entry, size_t entry_len,
+                                      const uint8_t *path, size_t path_len);
+
+/* PAXIDORE_OK where the bytes of a consistency proof show that the log with the new root and size continues the one with the old
+ * root and size: then each list of the new size and root begins with each list of the old ones, or two different inputs with one
+ * SHA-256 are at hand. Of equal sizes the proof has no bytes and the roots are to be equal. PAXIDORE_NOT_SHOWN, E_SIZE for the old
+ * size 0 and for one above the new size, E_TRUNCATED, E_INVALID, E_MEMORY. */
+int32_t paxidore_log_verify_consistency(size_t old_size, const uint8_t old_root[PAXIDORE_DIGESTBYTES],
+                                        size_t new_size, const uint8_t new_root[PAXIDORE_DIGESTBYTES],
+                                        const uint8_t *proof, size_t proof_len);
 
 /* ---- BLAKE2s with 32 bytes out and no key (RFC 7693). Nothing is refused. The standard defines it for inputs below 2^64 bytes:
  * of a longer text, which `update` can take in pieces, the count is kept modulo 2^64. */

@@ -199,6 +199,62 @@ static void multi_paths(const struct hashing *h) {
     CHECK(h->multi_verify(root, SIZE, NULL, 0, NULL, 0, NULL, 0, NULL, 0) == PAXIDORE_E_TRUNCATED);
 }
 
+/* The path of entry 3 of seven and the proof that seven continue three, by a recursion over hashlib. */
+static const uint8_t ROOT_3[32] =
+    "\xae\xb6\xbc\xfe\x27\x4b\x70\xa1\x4f\xb0\x67\xa5\xe5\x57\x82\x64\xdb\x0f\xa9\xb5\x1a\xf5\xe0\xba\x15\x91\x58\xf3\x29\xe0\x6e\x77";
+static const uint8_t ROOT_7[32] =
+    "\xdd\xb8\x9b\xe4\x03\x80\x9e\x32\x57\x50\xd3\xd2\x63\xcd\x78\x92\x9c\x29\x42\xb7\x94\x2a\x34\xb7\x7e\x12\x2c\x95\x94\xa7\x4c\x8c";
+static const uint8_t PROOF_7[128] =
+    "\x02\x98\xd1\x22\x90\x6d\xcf\xc1\x08\x92\xcb\x53\xa7\x39\x92\xfc\x5b\x9f\x49\x3e\xa4\xc9\xba\xdb\x27\xb7\x91\xb4\x12\x7a\x7f\xe7"
+    "\x07\x50\x6a\x85\xfd\x9d\xd2\xf1\x20\xeb\x69\x4f\x86\x01\x1e\x5b\xb4\x66\x2e\x5c\x41\x5a\x62\x91\x70\x33\xd4\xa9\x62\x44\x87\xe7"
+    "\xfa\xc5\x42\x03\xe7\xcc\x69\x6c\xf0\xdf\xcb\x42\xc9\x2a\x1d\x9d\xba\xf7\x0a\xd9\xe6\x21\xf4\xbd\x8d\x98\x66\x2f\x00\xe3\xc1\x25"
+    "\x83\x7d\xbb\x15\x2e\x9b\x07\x90\x10\x71\x7e\x84\xe8\x65\xda\x4e\xbc\x0f\xa1\x98\xa8\x06\xd5\x9d\x31\xbf\x15\xac\xce\xf2\x2d\x0e";
+
+static void logs(void) {
+    uint8_t path[97], proof[129], other[128];
+    memset(path, 0, sizeof path);
+    memset(proof, 0, sizeof proof);
+    memcpy(path, PROOF_7, 32);
+    memcpy(path + 32, PROOF_7 + 64, 64);
+    memcpy(proof, PROOF_7, 128);
+    const uint8_t *entry = (const uint8_t *)"\x20\x21";
+    CHECK(paxidore_log_verify_inclusion(ROOT_7, 7, 3, entry, 2, path, 96) == PAXIDORE_OK);
+    CHECK(paxidore_log_verify_inclusion(ROOT_7, 7, 3, entry, 1, path, 96) == PAXIDORE_NOT_SHOWN);
+    CHECK(paxidore_log_verify_inclusion(ROOT_7, 7, 2, entry, 2, path, 96) == PAXIDORE_NOT_SHOWN);
+    CHECK(paxidore_log_verify_inclusion(ROOT_3, 7, 3, entry, 2, path, 96) == PAXIDORE_NOT_SHOWN);
+    CHECK(paxidore_log_verify_inclusion(ROOT_7, 7, 6, entry, 2, path, 96) == PAXIDORE_E_INVALID);
+    CHECK(paxidore_log_verify_inclusion(ROOT_7, 9, 3, entry, 2, path, 96) == PAXIDORE_E_TRUNCATED);
+    CHECK(paxidore_log_verify_inclusion(ROOT_7, 7, 7, entry, 2, path, 96) == PAXIDORE_E_INDEX);
+    CHECK(paxidore_log_verify_inclusion(ROOT_7, 0, 0, entry, 2, path, 96) == PAXIDORE_E_INDEX);
+    CHECK(paxidore_log_verify_inclusion(ROOT_7, SIZE_MAX, SIZE_MAX - 1, entry, 2, path, 96) == PAXIDORE_E_TRUNCATED);
+    for (size_t front = 0; front < 96; front++)
+        CHECK(paxidore_log_verify_inclusion(ROOT_7, 7, 3, entry, 2, front ? path : NULL, front) == PAXIDORE_E_TRUNCATED);
+    CHECK(paxidore_log_verify_inclusion(ROOT_7, 7, 3, entry, 2, path, 97) == PAXIDORE_E_INVALID);
+    for (size_t bit = 0; bit < 8 * 96; bit++) {
+        memcpy(other, path, 96);
+        other[bit / 8] ^= (uint8_t)(1 << bit % 8);
+        CHECK(paxidore_log_verify_inclusion(ROOT_7, 7, 3, entry, 2, other, 96) == PAXIDORE_NOT_SHOWN);
+    }
+    CHECK(paxidore_log_verify_consistency(3, ROOT_3, 7, ROOT_7, proof, 128) == PAXIDORE_OK);
+    CHECK(paxidore_log_verify_consistency(3, ROOT_7, 7, ROOT_7, proof, 128) == PAXIDORE_NOT_SHOWN);
+    CHECK(paxidore_log_verify_consistency(3, ROOT_3, 7, ROOT_3, proof, 128) == PAXIDORE_NOT_SHOWN);
+    CHECK(paxidore_log_verify_consistency(4, ROOT_3, 7, ROOT_7, proof, 128) == PAXIDORE_E_INVALID);
+    CHECK(paxidore_log_verify_consistency(3, ROOT_3, 9, ROOT_7, proof, 128) == PAXIDORE_E_TRUNCATED);
+    CHECK(paxidore_log_verify_consistency(7, ROOT_7, 7, ROOT_7, NULL, 0) == PAXIDORE_OK);
+    CHECK(paxidore_log_verify_consistency(7, ROOT_3, 7, ROOT_7, NULL, 0) == PAXIDORE_NOT_SHOWN);
+    CHECK(paxidore_log_verify_consistency(7, ROOT_7, 7, ROOT_7, proof, 1) == PAXIDORE_E_INVALID);
+    CHECK(paxidore_log_verify_consistency(0, ROOT_3, 7, ROOT_7, proof, 128) == PAXIDORE_E_SIZE);
+    CHECK(paxidore_log_verify_consistency(8, ROOT_3, 7, ROOT_7, proof, 128) == PAXIDORE_E_SIZE);
+    for (size_t front = 0; front < 128; front++)
+        CHECK(paxidore_log_verify_consistency(3, ROOT_3, 7, ROOT_7, front ? proof : NULL, front) == PAXIDORE_E_TRUNCATED);
+    CHECK(paxidore_log_verify_consistency(3, ROOT_3, 7, ROOT_7, proof, 129) == PAXIDORE_E_INVALID);
+    for (size_t bit = 0; bit < 8 * 128; bit++) {
+        memcpy(other, proof, 128);
+        other[bit / 8] ^= (uint8_t)(1 << bit % 8);
+        CHECK(paxidore_log_verify_consistency(3, ROOT_3, 7, ROOT_7, other, 128) == PAXIDORE_NOT_SHOWN);
+    }
+}
+
 static void blake2s(void) {
     static uint8_t text[1000];
     uint8_t once[32], pieces[32];
@@ -238,6 +294,7 @@ int main(void) {
         paths(all[i]);
         multi_paths(all[i]);
     }
+    logs();
     blake2s();
     CHECK(strcmp(paxidore_version(), PAXIDORE_VERSION_STRING) == 0);
     for (int32_t answer = -11; answer <= 2; answer++)

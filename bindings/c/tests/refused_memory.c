@@ -39,7 +39,7 @@ void __wrap_free(void *block) {
 
 static const uint8_t LEAVES[] = "aaabbbcccdddeeefffggghhh";
 static const size_t LENGTHS[8] = {3, 3, 3, 3, 3, 3, 3, 3}, INDEXES[3] = {1, 4, 5}, SHOWN[3] = {3, 3, 3};
-static uint8_t root[32], path[112], proof[512];
+static uint8_t root[32], path[112], proof[512], halves[2][32], log_path[96];
 static size_t path_len, proof_len;
 
 static uint8_t to_root[32], to_path[112], to_proof[512];
@@ -51,8 +51,10 @@ static int32_t call(int which) {
     case 1: return paxidore_rfc6962_path(to_path, sizeof to_path, &to_len, LEAVES, 24, LENGTHS, 8, 4);
     case 2: return paxidore_rfc6962_multi_path(to_proof, sizeof to_proof, &to_len, LEAVES, 24, LENGTHS, 8, INDEXES, 3);
     case 3: return paxidore_rfc6962_verify(root, 8, 4, LEAVES + 12, 3, path, path_len);
-    default:
+    case 4:
         return paxidore_rfc6962_multi_verify(root, 8, INDEXES, 3, (const uint8_t *)"bbbeeefff", 9, SHOWN, 3, proof, proof_len);
+    case 5: return paxidore_log_verify_inclusion(root, 8, 4, LEAVES + 12, 3, log_path, sizeof log_path);
+    default: return paxidore_log_verify_consistency(4, halves[0], 8, root, halves[1], 32);
     }
 }
 
@@ -69,7 +71,14 @@ int main(void) {
         paxidore_rfc6962_path(path, sizeof path, &path_len, LEAVES, 24, LENGTHS, 8, 4) != PAXIDORE_OK ||
         paxidore_rfc6962_multi_path(proof, sizeof proof, &proof_len, LEAVES, 24, LENGTHS, 8, INDEXES, 3) != PAXIDORE_OK)
         failed++;
-    for (int which = 0; which < 5; which++) {
+    for (int half = 0; half < 2; half++)
+        if (paxidore_rfc6962_root(halves[half], LEAVES + 12 * half, 12, LENGTHS, 4) != PAXIDORE_OK)
+            failed++;
+    /* a log's path has its digests from the leaf up; the bytes of a tree's path have them behind the sibling, from the root down */
+    memcpy(log_path, path, 32);
+    memcpy(log_path + 32, path + 72, 32);
+    memcpy(log_path + 64, path + 40, 32);
+    for (int which = 0; which < 7; which++) {
         calls = 0;
         int is_well = call(which) == PAXIDORE_OK && calls > 0 && live == 0;
         long most = calls;

@@ -1,4 +1,4 @@
-"""Merkle trees over byte strings, and BLAKE2s, by the proved code of libpaxidore.
+"""Merkle trees over byte strings, clients of transparency logs, and BLAKE2s, by the proved code of libpaxidore.
 
 A log or a store publishes the root of its leaves and their count, and hands out paths::
 
@@ -12,7 +12,7 @@ Whoever has the root and the count checks them without the other leaves::
     if rfc6962.verify(root, 8, 3, leaf, path): ...
 
 ``sha256`` has the same calls for trees whose hashes are SHA-256 of a leaf, and of left followed by right. There are 2, 4, 8, 16 ..
-leaves in a tree.
+leaves in a tree. ``Log`` has the checks for a client of a log of any size.
 
 The library is found by the variable ``PAXIDORE_LIBRARY`` (a path), else as the system finds ``libpaxidore.so.1``.
 """
@@ -26,6 +26,7 @@ __all__ = [
     "IndexBeyondSize",
     "InvalidProof",
     "LengthsError",
+    "Log",
     "OutOfMemory",
     "Refused",
     "SizeError",
@@ -76,7 +77,7 @@ class HeightError(Refused, ValueError):
 
 
 class SizeError(Refused, ValueError):
-    """No tree has this count of leaves: a tree has 2, 4, 8, 16 .. of them."""
+    """No tree has this count of leaves: a tree has 2, 4, 8, 16 .. of them; or no log continues one of the old size."""
 
     code = -5
 
@@ -132,9 +133,9 @@ def _exact(name: str, value: bytes) -> bytes:
     return value
 
 
-def _digest(root: bytes) -> bytes:
-    if len(_exact("root", root)) != DIGEST_BYTES:
-        raise ValueError("root has 32 bytes, not %d" % len(root))
+def _digest(root: bytes, name: str = "root") -> bytes:
+    if len(_exact(name, root)) != DIGEST_BYTES:
+        raise ValueError("%s has 32 bytes, not %d" % (name, len(root)))
     return root
 
 
@@ -249,6 +250,49 @@ class Trees:
         if answer != 0:
             raise _refusal(answer)
         return ctypes.string_at(proof, count.value)
+
+
+def _log_call(what: str, *types: type):  # type: ignore[no-untyped-def]
+    function = getattr(_library, "paxidore_log_" + what)
+    function.argtypes = types
+    function.restype = ctypes.c_int32
+    return function
+
+
+class Log:
+    """The checks for a client of a transparency log of any size (RFC 6962 and RFC 9162, section 2.1).
+
+    A log publishes its root and its size. Its proofs are their digests alone, 32 bytes each, in the order of the standard.
+    """
+
+    _inclusion = _log_call("verify_inclusion", _bytes, _size, _size, _bytes, _size, _bytes, _size)
+    _consistency = _log_call("verify_consistency", _size, _bytes, _size, _bytes, _bytes, _size)
+
+    @staticmethod
+    def verify_inclusion(root: bytes, size: int, index: int, entry: bytes, path: bytes) -> bool:
+        """Whether the path shows that the entry stands at the index of the log of ``size`` entries with this root.
+
+        ``False`` says that the path was read and leads elsewhere. Raises ``IndexBeyondSize``, ``TruncatedProof``,
+        ``InvalidProof``, ``OutOfMemory``.
+        """
+        _digest(root), _word(size), _word(index), _exact("entry", entry), _exact("path", path)
+        answer: int = Log._inclusion(root, size, index, entry, len(entry), path, len(path))
+        if answer < 0:
+            raise _refusal(answer)
+        return answer == 0
+
+    @staticmethod
+    def verify_consistency(old_size: int, old_root: bytes, new_size: int, new_root: bytes, proof: bytes) -> bool:
+        """Whether the proof shows that the log with the new root and size continues the one with the old root and size.
+
+        Raises ``SizeError`` for the old size 0 and for one above the new size; ``TruncatedProof``, ``InvalidProof``,
+        ``OutOfMemory``.
+        """
+        _word(old_size), _digest(old_root, "old_root"), _word(new_size), _digest(new_root, "new_root")
+        answer: int = Log._consistency(old_size, old_root, new_size, new_root, _exact("proof", proof), len(proof))
+        if answer < 0:
+            raise _refusal(answer)
+        return answer == 0
 
 
 sha256 = Trees("sha256")

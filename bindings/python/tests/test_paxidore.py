@@ -56,6 +56,46 @@ class Tree:
         return count + siblings + count + prefixes + count + suffixes + count + b"".join(map(word, indexes))
 
 
+class Longer(bytes):
+    # it says another length than that of its bytes
+    def __len__(self):
+        return 1 << 32
+
+
+def split(count):
+    # the largest power of two below the count
+    return 1 << (count - 1).bit_length() - 1
+
+
+class History:
+    """A log by hashlib, by the recursions of RFC 6962, section 2.1."""
+
+    @staticmethod
+    def root(digests):
+        if len(digests) == 1:
+            return digests[0]
+        k = split(len(digests))
+        return sha(b"\1" + History.root(digests[:k]) + History.root(digests[k:]))
+
+    @staticmethod
+    def path(index, digests):
+        if len(digests) == 1:
+            return b""
+        k = split(len(digests))
+        if index < k:
+            return History.path(index, digests[:k]) + History.root(digests[k:])
+        return History.path(index - k, digests[k:]) + History.root(digests[:k])
+
+    @staticmethod
+    def proof(old, digests, whole=True):
+        if old == len(digests):
+            return b"" if whole else History.root(digests)
+        k = split(len(digests))
+        if old <= k:
+            return History.proof(old, digests[:k], whole) + History.root(digests[k:])
+        return History.proof(old - k, digests[k:], False) + History.root(digests[:k])
+
+
 def drawn_leaves(count):
     return [DRAWS.randbytes(DRAWS.randrange(80)) for _ in range(count)]
 
@@ -147,10 +187,6 @@ class Calls(unittest.TestCase):
         self.assertEqual(str(self.refusal(lambda: trees.root([]))), "no tree has this count of leaves")
 
     def test_only_bytes_themselves_are_taken(self):
-        class Longer(bytes):
-            def __len__(self):
-                return 1 << 32
-
         class Changing(list):
             # a list that is longer at each look
             looks = 0
@@ -181,6 +217,52 @@ class Calls(unittest.TestCase):
             self.assertEqual(trees.path(Changing(leaves), 2), path)
             self.assertEqual(trees.multi_path(Changing(leaves), Changing([3, 0])), proof)
             self.assertTrue(trees.multi_verify(root, 4, Changing([0, 3]), Changing([b"", b"ccc"]), proof))
+
+    def test_logs(self):
+        log = paxidore.Log
+        for size in list(range(1, 34)) + [100, 257]:
+            entries = drawn_leaves(size)
+            digests = [sha(b"\0" + entry) for entry in entries]
+            root = History.root(digests)
+            for index in range(size) if size < 34 else DRAWS.sample(range(size), 20):
+                path = History.path(index, digests)
+                self.assertTrue(log.verify_inclusion(root, size, index, entries[index], path))
+                self.assertFalse(log.verify_inclusion(root, size, index, entries[index] + b"a", path))
+                self.assertIsInstance(
+                    self.refusal(lambda: log.verify_inclusion(root, size, index, entries[index], path + b"a")),
+                    paxidore.InvalidProof,
+                )
+                for other in flips(path, 8):
+                    self.assertFalse(log.verify_inclusion(root, size, index, entries[index], other))
+            self.assertIsInstance(
+                self.refusal(lambda: log.verify_inclusion(root, size, size, b"", b"")), paxidore.IndexBeyondSize
+            )
+            for old in range(1, size + 1) if size < 34 else DRAWS.sample(range(1, size), 20):
+                before, proof = History.root(digests[:old]), History.proof(old, digests)
+                self.assertTrue(log.verify_consistency(old, before, size, root, proof))
+                self.assertEqual(log.verify_consistency(old, root, size, root, proof), before == root)
+                for other in flips(proof, 8):
+                    self.assertFalse(log.verify_consistency(old, before, size, root, other))
+                if proof:
+                    self.assertIsInstance(
+                        self.refusal(lambda: log.verify_consistency(old, before, size, root, proof[1:])),
+                        paxidore.TruncatedProof,
+                    )
+            for old in (0, size + 1):
+                self.assertIsInstance(
+                    self.refusal(lambda: log.verify_consistency(old, root, size, root, b"")), paxidore.SizeError
+                )
+        for wrap in (Longer, bytearray, memoryview):
+            for name, call in (
+                ("root", lambda: log.verify_inclusion(wrap(root), 1, 0, b"", b"")),
+                ("entry", lambda: log.verify_inclusion(root, 1, 0, wrap(b"abc"), b"")),
+                ("path", lambda: log.verify_inclusion(root, 1, 0, b"", wrap(b"abc"))),
+                ("old_root", lambda: log.verify_consistency(1, wrap(root), 1, root, b"")),
+                ("new_root", lambda: log.verify_consistency(1, root, 1, wrap(root), b"")),
+                ("proof", lambda: log.verify_consistency(1, root, 1, root, wrap(b"abc"))),
+            ):
+                with self.assertRaisesRegex(TypeError, "^%s is bytes, not %s$" % (name, wrap.__name__)):
+                    call()
 
     def refusal(self, call):
         try:

@@ -118,5 +118,22 @@ pub static RFC6962: Calls = calls!(
 
 extern "C" {
     pub fn paxidore_blake2s(digest: *mut u8, input: *const u8, input_len: usize);
+    pub fn paxidore_log_verify_inclusion(
+        root: *const u8,
+        size: usize,
+        index: usize,
+        entry: *const u8,
+        entry_len: usize,
+        path: *const u8,
+        path_len: usize,
+    ) -> i32;
+    pub fn paxidore_log_verify_consistency(
+        old_size: usize,
+        old_root: *const u8,
+        new_size: usize,
+        new_root: *const u8,
+        proof: *const u8,
+        proof_len: usize,
+    ) -> i32;
     pub fn paxidore_version() -> *const c_char;
 }

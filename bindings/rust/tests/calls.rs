@@ -1,6 +1,6 @@
 //! Each call once, the refusals, and values of other implementations.
 
-use paxidore::{blake2s, version, Refused, Trees};
+use paxidore::{blake2s, version, Log, Refused, Trees};
 
 fn hex(bytes: &[u8]) -> String {
     bytes.iter().map(|byte| format!("{byte:02x}")).collect()
@@ -102,6 +102,51 @@ fn multi_paths() -> Result<(), Refused> {
         assert_eq!(trees.multi_path(&ENTRIES, &[]), Err(Refused::Index));
         assert_eq!(trees.multi_path(&ENTRIES, &[3, 8]), Err(Refused::Index));
     }
+    Ok(())
+}
+
+fn unhex(text: &str) -> Vec<u8> {
+    (0..text.len() / 2)
+        .map(|i| u8::from_str_radix(&text[2 * i..2 * i + 2], 16).expect("two digits"))
+        .collect()
+}
+
+// The roots of three and seven entries, and the proof that seven continue three, by a recursion over Python's hashlib.
+const ROOT_3: &str = "aeb6bcfe274b70a14fb067a5e5578264db0fa9b51af5e0ba159158f329e06e77";
+const ROOT_7: &str = "ddb89be403809e325750d3d263cd78929c2942b7942a34b77e122c9594a74c8c";
+const PROOF_7: [&str; 4] = [
+    "0298d122906dcfc10892cb53a73992fc5b9f493ea4c9badb27b791b4127a7fe7",
+    "07506a85fd9dd2f120eb694f86011e5bb4662e5c415a62917033d4a9624487e7",
+    "fac54203e7cc696cf0dfcb42c92a1d9dbaf70ad9e621f4bd8d98662f00e3c125",
+    "837dbb152e9b079010717e84e865da4ebc0fa198a806d59d31bf15accef22d0e",
+];
+
+#[test]
+fn logs() -> Result<(), Refused> {
+    let root = |text: &str| -> [u8; 32] { unhex(text).try_into().expect("32 bytes") };
+    let (three, seven) = (root(ROOT_3), root(ROOT_7));
+    let path = unhex(&[PROOF_7[0], PROOF_7[2], PROOF_7[3]].concat());
+    assert!(Log::verify_inclusion(&seven, 7, 3, ENTRIES[3], &path)?);
+    assert!(!Log::verify_inclusion(&seven, 7, 3, ENTRIES[4], &path)?);
+    assert_eq!(
+        Log::verify_inclusion(&seven, 7, 7, ENTRIES[3], &path),
+        Err(Refused::Index)
+    );
+    assert_eq!(
+        Log::verify_inclusion(&seven, 7, 3, ENTRIES[3], &path[1..]),
+        Err(Refused::Truncated)
+    );
+    let proof = unhex(&PROOF_7.concat());
+    assert!(Log::verify_consistency(3, &three, 7, &seven, &proof)?);
+    assert!(!Log::verify_consistency(3, &seven, 7, &seven, &proof)?);
+    assert_eq!(
+        Log::verify_consistency(0, &three, 7, &seven, &proof),
+        Err(Refused::Size)
+    );
+    assert_eq!(
+        Log::verify_consistency(4, &three, 7, &seven, &proof),
+        Err(Refused::Invalid)
+    );
     Ok(())
 }
 

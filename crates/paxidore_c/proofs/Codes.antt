@@ -26,6 +26,13 @@ refusal-no Index zero = cc
 refusal-no Room zero = cc
 refusal-no Other zero = cc
 
+-- what an accepting verdict says, where the answer is 0
+pub zero-says : {P : Type 0} (verdict : Outcome Bool) → IfOk verdict (λ accepted. accepted ≡ true → P)
+    → (code : ℤ) → code ≡ verdict_code (refusing verdict) → to_z w32 (of_z w32 code) ≡ pos 0 → P
+zero-says (Ok true) says code is zero = says refl
+zero-says (Ok false) says code is zero = let no = rw is at zero in absurd cc
+zero-says (Err error) says code is zero = absurd (refusal-no (refused_of error) (rw is at zero))
+
 -- What an accepted path shows, where the answer is 0.
 module _ (h : Hashing) {A : Type 0} (bytes_of : A → List ℕ) (root : Digest) (size index : ℕ) (path : List ℕ) where
   pub shows-zero : (held : A) (leaf : List ℕ) → bytes_of held ≡ leaf → (result : Outcome Bool)
@@ -36,10 +43,9 @@ module _ (h : Hashing) {A : Type 0} (bytes_of : A → List ℕ) (root : Digest) 
       }) root size index held (read_path path))
       → (code : ℤ) → code ≡ verdict_code (refusing result) → to_z w32 (of_z w32 code) ≡ pos 0 → ShowsLeaf (hashes_of h)
       root size index leaf (read_path path)
-  shows-zero held leaf same (Ok true) shows code is zero = let P : List ℕ → Type 0 =
-      λ l. ShowsLeaf (hashes_of h) root size index l (read_path path) in subst P same (shows refl)
-  shows-zero held leaf same (Ok false) shows code is zero = let no = rw is at zero in absurd cc
-  shows-zero held leaf same (Err error) shows code is zero = absurd (refusal-no (refused_of error) (rw is at zero))
+  shows-zero held leaf same verdict shows code is zero = let P : List ℕ → Type 0 =
+      λ l. ShowsLeaf (hashes_of h) root size index l (read_path path) in
+      subst P same (zero-says verdict shows code is zero)
 
 -- a code is what it is in 32 bits
 pub verdict-fits : (verdict : Result Bool Refused) → to_z w32 (of_z w32 (verdict_code verdict)) ≡ verdict_code verdict

@@ -1,3 +1,4 @@
 pub mod Cut
 pub mod Hashing
+pub mod LogProofs
 pub mod Answer
