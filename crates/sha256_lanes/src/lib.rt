@@ -12,5 +12,5 @@ mod pairs;
 mod tests;
 mod texts;
 
-pub use messages::four_messages;
+pub use messages::{four_messages, four_prefixed};
 pub use pairs::four_pairs;
