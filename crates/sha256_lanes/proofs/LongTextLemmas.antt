@@ -3,7 +3,7 @@ use borrow.Rule.Slice.PartMut.{put_mid}
 use Rattle.std.specs.Int.{w64, to_be_bytes}
 use Rattle.std.proofs.Math.Seq.{set-append_seam, take-append-add}
 use Rattle.std.proofs.lemmas.Simd.{length-replicate}
-use Rattle.std.proofs.Common.{replicate, suc, ℕ, ◌≡◌, ◌≤◌, ◌+◌, ◌-◌, ◌*◌, ◌/◌, ◌%◌, ◌^◌, List, [], ◌∷◌, ◌++◌, length, take, drop, slice_index, slice_set, arith, refl, ap, sym, ◌∙◌}
+use Rattle.std.proofs.Common.{replicate, suc, ℕ, ◌≡◌, ◌<◌, ◌≤◌, ◌+◌, ◌-◌, ◌*◌, ◌/◌, ◌%◌, ◌^◌, List, [], ◌∷◌, ◌++◌, length, take, drop, slice_index, slice_set, arith, refl, ap, sym, ◌∙◌}
 use Rattle.std.proofs.lemmas.List.{get_or-drop, length-append, length-take, take-append-drop, length-drop, take_all, drop_all, drop-drop, drop-replicate, take-replicate, append_assoc, append-nil}
 use Rattle.sha2.specs.Sha256.{compress, digest_bytes, hash_after, initial_hash_256, padded_message, padding, sha256, word_at}
 use Rattle.sha256_lanes.specs.Lanes.{AreWords}
@@ -64,12 +64,14 @@ word_at-drop xs n i =
       at (i + 3) (n + i + 3) (omega arith),
     ) refl
 
+-- a word of the first of two blocks
+pub word_at-take : (xs : List ℕ) (k : ℕ) → length xs ≡ 128 → k < 16 → word_at (take 64 xs) (4 * k) ≡ word_at xs (4 * k)
+word_at-take xs k size lt =
+    sym (word_at-left (take 64 xs) (drop 64 xs) (4 * k) (omega (arith, length-take 64 xs)))
+    ∙ ap (λ (ys : List ℕ). word_at ys (4 * k)) (take-append-drop 64 xs)
+
 -- the words of the first of two blocks
 pub AreWords-front : (xs w : List ℕ) → length xs ≡ 128 → AreWords (drop 0 xs) w → AreWords (take 64 xs) w
-AreWords-front xs w size so =
-    let whole : take 64 xs ++ drop 64 xs ≡ xs = take-append-drop 64 xs in
-    λ k lt.
+AreWords-front xs w size so = λ k lt.
     let here : 0 + 4 * k ≡ 4 * k = omega arith in
-    so k lt ∙ word_at-drop xs 0 (4 * k) ∙ ap (word_at xs) here
-    ∙ sym (ap (λ (ys : List ℕ). word_at ys (4 * k)) whole)
-    ∙ word_at-left (take 64 xs) (drop 64 xs) (4 * k) (omega (arith, length-take 64 xs))
+    so k lt ∙ word_at-drop xs 0 (4 * k) ∙ ap (word_at xs) here ∙ sym (word_at-take xs k size lt)
