@@ -10,6 +10,8 @@ mod messages;
 mod pairs;
 mod prefixed_pairs;
 #[cfg(test)]
+mod prefixed_tests;
+#[cfg(test)]
 mod tests;
 mod texts;
 

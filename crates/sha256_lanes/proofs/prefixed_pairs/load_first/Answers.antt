@@ -1,4 +1,4 @@
-use Rattle.std.proofs.Common.{◌≡◌, ℕ, List, [], ◌∷◌, ◌++◌, ◌∙◌, ◌*◌, length, slice_index, slice_index_or, arith, sym}
+use Rattle.std.proofs.Common.{◌≡◌, [], ◌∷◌, ◌++◌, ◌∙◌, ◌*◌, length, slice_index, slice_index_or, arith, sym}
 use Rattle.sha2.specs.Sha256.{word_at}
 use Rattle.sha256_lanes.specs.Lanes.{words}
 use Rattle.sha256_lanes.proofs.LaneLemmas.{below_four, below_sixteen}

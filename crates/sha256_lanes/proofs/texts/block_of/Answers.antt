@@ -1,4 +1,4 @@
-use Rattle.std.proofs.Common.{replicate, ◌+◌, ◌++◌, ◌∙◌, length, arith, refl, sym}
+use Rattle.std.proofs.Common.{replicate, ◌+◌, ◌++◌, ◌∙◌, length, refl, sym}
 use Rattle.std.proofs.lemmas.List.{length-append}
 use Rattle.sha256_lanes.proofs.TextLemmas.{block_is, headed}
 use Rattle.sha256_lanes.proofs.texts.block_of.Goals as goal
