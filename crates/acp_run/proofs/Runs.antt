@@ -64,13 +64,10 @@ pub front_of_all : (a b : Option (List ℕ)) (x : List ℕ) → Appends a b x �
 front_of_all a b x h = (length x, rw (ap (take (length x)) (sym (append-nil x)) ∙ take-all x []) h)
 
 -- the first, then a front of the second
-pub front_behind : (a b c : Option (List ℕ)) (x y : List ℕ) → Appends a b x → AppendsFront b c y → AppendsFront a c (x ++ y)
+pub front_behind : (a b c : Option (List ℕ)) (x y : List ℕ) → Appends a b x → AppendsFront b c y
+    → AppendsFront a c (x ++ y)
 front_behind a b c x y h front = let m =
     take-behind x y front.0 in (m.0, rw m.1 (appends_both a b c x (take front.0 y) h front.1))
-
--- none of the bytes, where nothing is written
-pub front_of_none : (a b : Option (List ℕ)) (x : List ℕ) → Keeps a b → AppendsFront a b x
-front_of_none a b x k = (0, keeps-appends a b k)
 
 take-within : (x y : List ℕ) (n : ℕ) → (m : ℕ) × (take m (x ++ y) ≡ take n x)
 take-within [] y zero = (0, refl)
@@ -167,9 +164,11 @@ module _ {T : Type 0} (step : T → List ℕ → T → List ℕ → Type 0) (sta
   going_from_start None w0 = tt
   going_from_start (Some input) w0 = ([], [], input, refl, refl, refl, appends_none w0, refl)
 
-  pub going_on : (n : ℕ) (r0 w0 : Option (List ℕ)) (before after : T) (r r' w w' : Option (List ℕ)) (line reply : List ℕ)
+  pub going_on : (n : ℕ) (r0 w0 : Option (List ℕ)) (before after : T) (r r' w w' : Option (List ℕ))
+      (line reply : List ℕ)
       → Going n r0 w0 before r w → 0 < length line → IfSome r (λ xs. line ≡ take_through 10 xs) → DropsThrough r r' 10
-      → step before (strip_last 10 line) after reply → Appends w w' (with_line_feed reply) → Going (n + 1) r0 w0 after r' w'
+      → step before (strip_last 10 line) after reply → Appends w w' (with_line_feed reply)
+      → Going (n + 1) r0 w0 after r' w'
   going_on n None w0 before after r r' w w' line reply so_far some taken left does told = tt
   going_on n (Some input) w0 before after r r' w w' line reply so_far some taken left does told =
       let rest = so_far.2 in
@@ -201,7 +200,8 @@ module _ {T : Type 0} (step : T → List ℕ → T → List ℕ → Type 0) (sta
       )
 
   -- it is cut short between two lines
-  pub stops_here : (n : ℕ) (r0 w0 : Option (List ℕ)) (state : T) (r w w' : Option (List ℕ)) → Going n r0 w0 state r w → Keeps w w'
+  pub stops_here : (n : ℕ) (r0 w0 : Option (List ℕ)) (state : T) (r w w' : Option (List ℕ))
+      → Going n r0 w0 state r w → Keeps w w'
       → StopsFrom step start r0 w0 w'
   stops_here n None w0 state r w w' so_far kept = tt
   stops_here n (Some input) w0 state r w w' so_far kept =
@@ -219,7 +219,8 @@ module _ {T : Type 0} (step : T → List ℕ → T → List ℕ → Type 0) (sta
   stops_at_once r0 w0 = stops_here 0 r0 w0 start r0 w0 w0 (going_from_start r0 w0) (keeps_self w0)
 
   -- it is cut short in a reply
-  pub stops_within : (n : ℕ) (r0 w0 : Option (List ℕ)) (before after : T) (r w w' : Option (List ℕ)) (line reply : List ℕ)
+  pub stops_within : (n : ℕ) (r0 w0 : Option (List ℕ)) (before after : T) (r w w' : Option (List ℕ))
+      (line reply : List ℕ)
       → Going n r0 w0 before r w → 0 < length line → IfSome r (λ xs. line ≡ take_through 10 xs)
       → step before (strip_last 10 line) after reply → AppendsFront w w' (reply ++ 10 ∷ []) → StopsFrom step
       start r0 w0 w'

@@ -38,7 +38,8 @@ Serves step = ServesFrom step None
 abbrev pub StopsFrom : {T : Type 0} → (T → List ℕ → T → List ℕ → Type 0) → T
     → Option (List ℕ) → Option (List ℕ) → Option (List ℕ) → Type 0
 StopsFrom step start input before after =
-    IfSome input (λ bytes. (n : ℕ) × (replies : List (List ℕ)) × Session step start (take n (lines_of bytes)) replies
+    IfSome input (λ bytes. (n : ℕ) × (replies : List (List ℕ))
+    × Session step start (take n (lines_of bytes)) replies
     × AppendsFront before after (flat_map with_line_feed replies))
 
 -- the same from no tree on
@@ -52,7 +53,8 @@ Stops step = StopsFrom step None
 abbrev pub HaltsFrom : {T : Type 0} → (T → List ℕ → T → List ℕ → Type 0) → T → Type 0
     → Option (List ℕ) → Option (List ℕ) → Option (List ℕ) → Type 0
 HaltsFrom step start lacks input before after =
-    IfSome input (λ bytes. (n : ℕ) × (replies : List (List ℕ)) × Session step start (take n (lines_of bytes)) replies
+    IfSome input (λ bytes. (n : ℕ) × (replies : List (List ℕ))
+    × Session step start (take n (lines_of bytes)) replies
     × Appends before after (flat_map with_line_feed replies)
     × ((n < length (lines_of bytes)) × lacks ⊎ length replies ≡ 2 ^ 64 - 1))
 

@@ -31,7 +31,8 @@ pub trait Answering {
     // What holds behind a call for which memory lacked.
     ghost lacks: { Self → Type 0 };
 
-    /// The reply to a line, without a line feed. The only refusal is `AllocError`, where memory lacks, and it leaves the state.
+    /// Returns the reply to a line, without a line feed. The only error is `AllocError`, where memory lacks, and it
+    /// leaves the state.
     fn answer(&mut self, alloc: Global, line: &[u8]) -> Result<Vec<u8>, AllocError>
         requires { is_sound self.old }
         ensures step { IfOk result (λ reply.
@@ -51,7 +52,7 @@ pub struct Session<'a, C: Shell> {
 }
 
 impl<'a, C: Shell> Session<'a, C> {
-    /// A session without a tree.
+    /// Returns a session without a tree.
     pub fn new(
         leaf_parameters: &'a LeafParam<C>,
         pair_parameters: &'a TwoToOneParam<C>,

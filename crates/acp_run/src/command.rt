@@ -20,7 +20,7 @@ pub enum Configuration {
     Toy,
 }
 
-/// The configuration that the words name: one word alone does.
+/// Returns the configuration that the words name: one word alone does.
 pub fn configuration_of(words: &[Vec<u8>]) -> Option<Configuration>
     ensures { result ≡ configuration_of (map vec_items words.now) }
 {

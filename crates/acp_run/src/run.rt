@@ -54,7 +54,7 @@ fn read_line<I: Input, O: Output>(
     lines.read_line(replies, line)
 }
 
-/// The line without the line feed at its end, if it has one.
+/// Returns the line without the line feed at its end, if it has one.
 fn without_line_feed(line: &[u8]) -> &[u8]
     ensures { result.now ≡ strip_last 10 line.now }
 {

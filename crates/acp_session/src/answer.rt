@@ -16,8 +16,8 @@ use ark_crh::CRHScheme;
 use ark_merkle::{LeafParam, MerkleTree, TwoToOneParam};
 use std::alloc::{AllocError, Global};
 
-/// The reply to one line, without a line feed, in a session over hashes with these parameters. Only `tree`, `digests`, `set`
-/// and `setmany` change the tree.
+/// Returns the reply to one line, without a line feed, in a session over hashes with these parameters. Only `tree`,
+/// `digests`, `set` and `setmany` change the tree.
 pub fn answer<C: Shell>(
     alloc: Global,
     leaf_parameters: &LeafParam<C>,

@@ -23,13 +23,13 @@ pub trait Argument {
     // What a token says, if it says something.
     ghost value_of: { Parameters → List ℕ → Option Seen };
 
-    /// The value that a token says, if it says one.
+    /// Returns the value that a token says, if it says one.
     fn read(alloc: Global, token: &[u8]) -> Result<Option<Self::Value>, AllocError>
         ensures { IfOk result (λ x. (p : Parameters)
             → option_map (seen p) x ≡ value_of p token.now) };
 }
 
-/// The values of all tokens, where each says one.
+/// Returns the values of all tokens, where each says one.
 pub fn values<A: Argument>(
     alloc: Global,
     left: Option<&[u8]>,
@@ -50,7 +50,7 @@ pub fn values<A: Argument>(
     Ok(Some(values))
 }
 
-/// The values of one token or more, where each says one.
+/// Returns the values of one token or more, where each says one.
 pub fn some_values<A: Argument>(
     alloc: Global,
     left: Option<&[u8]>,
@@ -64,7 +64,7 @@ pub fn some_values<A: Argument>(
     values::<A>(alloc, left)
 }
 
-/// The value of one token alone, if it says one.
+/// Returns the value of one token alone, if it says one.
 pub fn only_value<A: Argument>(
     alloc: Global,
     left: Option<&[u8]>,
@@ -78,7 +78,7 @@ pub fn only_value<A: Argument>(
     }
 }
 
-/// The values of two tokens alone, where each says one.
+/// Returns the values of two tokens alone, where each says one.
 pub fn two_values<A: Argument, B: Argument>(
     alloc: Global,
     left: Option<&[u8]>,
@@ -136,7 +136,7 @@ fn pairs<A: Argument, B: Argument>(
     Ok(Some(pairs))
 }
 
-/// The values of two tokens or more, two by two, where their number is even and each says one.
+/// Returns the values of two tokens or more, two by two, where their number is even and each says one.
 pub fn some_pairs<A: Argument, B: Argument>(
     alloc: Global,
     left: Option<&[u8]>,
@@ -151,7 +151,7 @@ pub fn some_pairs<A: Argument, B: Argument>(
     pairs::<A, B>(alloc, left)
 }
 
-/// The value of a first token and those of the others, where each says one.
+/// Returns the value of a first token and those of the others, where each says one.
 pub fn value_and_others<A: Argument, B: Argument>(
     alloc: Global,
     left: Option<&[u8]>,

@@ -38,7 +38,7 @@ pub enum JudgeWord {
     Strict,
 }
 
-/// The word that a token spells.
+/// Returns the word that a token spells.
 pub fn keyword_of(token: &[u8]) -> Option<Keyword>
     ensures { result ≡ keyword_of token.now }
 {

@@ -30,17 +30,17 @@ pub trait TokenKinds {
 
     ghost numbers: { Self.Digest → Numbers };
 
-    /// The leaf that a token says, if it says one.
+    /// Returns the leaf that a token says, if it says one.
     fn read_leaf(alloc: Global, token: &[u8]) -> Result<Option<Self::Leaf>, AllocError>
         ensures { IfOk result (λ leaf. (p : Parameters)
             → option_map (hash p) leaf ≡ (language p).leaf_outcome token.now) };
 
-    /// The digest that a token says, if it says one.
+    /// Returns the digest that a token says, if it says one.
     fn read_digest(alloc: Global, token: &[u8]) -> Result<Option<Self::Digest>, AllocError>
         ensures { IfOk result (λ digest. (p : Parameters)
             → option_map numbers digest ≡ (language p).digest token.now) };
 
-    /// The bytes that a token says, if it says some.
+    /// Returns the bytes that a token says, if it says some.
     fn read_bytes(alloc: Global, token: &[u8]) -> Result<Option<Vec<u8>>, AllocError>
         ensures { IfOk result (λ bytes. (p : Parameters)
             → option_map (λ bytes. bytes.items) bytes ≡ (language p).bytes token.now) };

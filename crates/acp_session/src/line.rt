@@ -49,7 +49,7 @@ pub enum Judge<L> {
     Strict(Vec<u8>),
 }
 
-/// The line that some bytes spell, if they spell one.
+/// Returns the line that some bytes spell, if they spell one.
 pub fn line_of<C: Shell>(
     alloc: Global,
     line: &[u8],

@@ -98,7 +98,7 @@ impl<P: Config> Proof for MultiPath<P> {
         P.LeafDigest.reads P.InnerDigest.reads bytes fault };
 }
 
-/// The canonical bytes of a proof. The only refusal is `OutOfMemory`.
+/// Returns the canonical bytes of a proof. The only error is `OutOfMemory`.
 pub fn proof_bytes<T: Proof + CanonicalSerialize>(
     alloc: Global,
     proof: &T,
@@ -110,9 +110,9 @@ pub fn proof_bytes<T: Proof + CanonicalSerialize>(
     Ok(bytes)
 }
 
-/// The proof that some bytes spell; nothing where bytes are left behind it.
+/// Returns the proof that some bytes spell; nothing where bytes are left behind it.
 ///
-/// Refusals: `SerializationError` with the first fault from the left, `OutOfMemory`.
+/// Errors: `SerializationError` with the first fault from the left, `OutOfMemory`.
 pub fn whole_proof<T: Proof + CanonicalDeserialize + Drop>(
     alloc: Global,
     bytes: &[u8],

@@ -8,7 +8,7 @@ ghost use Rattle.acp_session.specs.Replies.{Refused, text};
 use ark_base::error::Error;
 use std::alloc::{AllocError, Global};
 
-/// A reply of fixed text.
+/// Returns a reply of fixed text.
 pub fn plain(alloc: Global, text: &[u8]) -> Result<Vec<u8>, AllocError>
     ensures { IfOk result (λ reply. reply.items ≡ text.now) }
 {
@@ -17,7 +17,7 @@ pub fn plain(alloc: Global, text: &[u8]) -> Result<Vec<u8>, AllocError>
     Ok(reply)
 }
 
-/// Why a call was refused.
+/// Returns why a call was refused.
 pub fn refused(alloc: Global, error: Error) -> Result<Vec<u8>, AllocError>
     ensures { IfOk result (λ reply. reply.items ≡ text (Refused error)) }
 {
@@ -31,7 +31,7 @@ pub fn refused(alloc: Global, error: Error) -> Result<Vec<u8>, AllocError>
     Ok(reply.into_bytes())
 }
 
-/// The size of a new tree, and its height.
+/// Returns the size of a new tree, and its height.
 pub fn built(alloc: Global, size: usize, height: usize) -> Result<Vec<u8>, AllocError>
     ensures { IfOk result (λ reply.
         reply.items ≡ codes "tree " ++ (decimal size ++ (codes " height " ++ decimal height))) }
@@ -39,7 +39,7 @@ pub fn built(alloc: Global, size: usize, height: usize) -> Result<Vec<u8>, Alloc
     Ok(format!(in alloc; "tree {size} height {height}")?.into_bytes())
 }
 
-/// A word, and bytes in hexadecimal behind it.
+/// Returns a word, and bytes in hexadecimal behind it.
 pub fn with_bytes(alloc: Global, word: &[u8], bytes: &[u8]) -> Result<Vec<u8>, AllocError>
     ensures { IfOk result (λ reply. reply.items ≡ word.now ++ encode_lower bytes.now) }
 {

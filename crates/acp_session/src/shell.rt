@@ -17,19 +17,19 @@ pub trait Shell: Config {
     // What contracts see of it under some parameters of the leaf hash and of the pair hash.
     ghost language: { Self.LeafHash.Parameters → Self.TwoToOneHash.Parameters → Language };
 
-    /// The leaf that a token says, if it says one.
+    /// Returns the leaf that a token says, if it says one.
     fn read_leaf(alloc: Global, token: &[u8]) -> Result<Option<Self::Leaf>, AllocError>
         ensures { IfOk result (λ leaf.
             (p : Self.LeafHash.Parameters) (q : Self.TwoToOneHash.Parameters)
             → option_map (Self.LeafHash.meaning p) leaf ≡ (language p q).leaf_outcome token.now) };
 
-    /// The digest that a token says, if it says one.
+    /// Returns the digest that a token says, if it says one.
     fn read_digest(alloc: Global, token: &[u8]) -> Result<Option<Self::LeafDigest>, AllocError>
         ensures { IfOk result (λ digest.
             (p : Self.LeafHash.Parameters) (q : Self.TwoToOneHash.Parameters)
             → option_map Self.LeafDigest.numbers digest ≡ (language p q).digest token.now) };
 
-    /// The bytes that a token says, if it says some.
+    /// Returns the bytes that a token says, if it says some.
     fn read_bytes(alloc: Global, token: &[u8]) -> Result<Option<Vec<u8>>, AllocError>
         ensures { IfOk result (λ bytes.
             (p : Self.LeafHash.Parameters) (q : Self.TwoToOneHash.Parameters)

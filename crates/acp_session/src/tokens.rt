@@ -10,7 +10,7 @@ use hex::FromHexError;
 use memchr::memchr;
 use std::alloc::{AllocError, Global};
 
-/// The first token of a line, and what stands behind the space after it.
+/// Returns the first token of a line, and what stands behind the space after it.
 pub fn first_token(line: &[u8]) -> (&[u8], Option<&[u8]>)
     ensures tokens { tokens_of line.now ≡ result.0.now ∷ tokens_left (option_copied result.1) }
     ensures shorter { IfSome result.1 (λ more. length more.now < length line.now) }
@@ -21,7 +21,7 @@ pub fn first_token(line: &[u8]) -> (&[u8], Option<&[u8]>)
     }
 }
 
-/// The first two tokens of a line, and what stands behind the space after them; nothing where it is one token.
+/// Returns the first two tokens of a line, and what stands behind the space after them; nothing where it is one token.
 pub fn first_two_tokens(line: &[u8]) -> Option<(&[u8], &[u8], Option<&[u8]>)>
     ensures some { IfSome result (λ two. tokens_of line.now
         ≡ two.0.now ∷ two.1.now ∷ tokens_left (option_copied two.2)) }
@@ -34,7 +34,7 @@ pub fn first_two_tokens(line: &[u8]) -> Option<(&[u8], &[u8], Option<&[u8]>)>
     Some((first, second, rest))
 }
 
-/// The number that a token spells in decimal without leading zeros, below 2^64.
+/// Returns the number that a token spells in decimal without leading zeros, below 2^64.
 pub fn index_of(token: &[u8]) -> Option<usize>
     ensures { result ≡ index_of token.now }
 {
@@ -45,7 +45,7 @@ pub fn index_of(token: &[u8]) -> Option<usize>
     str::from_utf8(token).ok()?.parse().ok()
 }
 
-/// The bytes that a token spells in hexadecimal, one or more.
+/// Returns the bytes that a token spells in hexadecimal, one or more.
 pub fn some_bytes_of(alloc: Global, token: &[u8]) -> Result<Option<Vec<u8>>, AllocError>
     ensures { IfOk result (λ bytes.
         option_map (λ bytes. bytes.items) bytes ≡ some_bytes_of token.now) }
@@ -60,7 +60,7 @@ pub fn some_bytes_of(alloc: Global, token: &[u8]) -> Result<Option<Vec<u8>>, All
     }
 }
 
-/// The number of the one to eight bytes that a token spells in hexadecimal, the least first.
+/// Returns the number of the one to eight bytes that a token spells in hexadecimal, the least first.
 pub fn number_of_token(alloc: Global, token: &[u8]) -> Result<Option<u64>, AllocError>
     ensures { IfOk result (λ number. number ≡ number_of_token token.now) }
 {
@@ -73,7 +73,7 @@ pub fn number_of_token(alloc: Global, token: &[u8]) -> Result<Option<u64>, Alloc
     Ok(Some(number_of(&bytes)))
 }
 
-/// The one token that is left, if there is one and no more.
+/// Returns the one token that is left, if there is one and no more.
 pub fn only_token(left: Option<&[u8]>) -> Option<&[u8]>
     ensures some { IfSome result (λ token.
         tokens_left (option_copied left.entry) ≡ token.now ∷ []) }
@@ -87,7 +87,7 @@ pub fn only_token(left: Option<&[u8]>) -> Option<&[u8]>
     }
 }
 
-/// The two tokens that are left, if there are two and no more.
+/// Returns the two tokens that are left, if there are two and no more.
 pub fn two_tokens(left: Option<&[u8]>) -> Option<(&[u8], &[u8])>
     ensures some { IfSome result (λ two.
         tokens_left (option_copied left.entry) ≡ two.0.now ∷ two.1.now ∷ []) }

@@ -33,7 +33,7 @@ fn fault(status: u8) -> &'static [u8] {
     }
 }
 
-/// The status of a command, and whether the faults are those of this status.
+/// Returns the status of a command, and whether the faults are those of this status.
 pub fn status_of<R: Read + Drop, W: Write>(
     alloc: Global,
     words: &[&[u8]],
@@ -50,12 +50,12 @@ pub fn status_of<R: Read + Drop, W: Write>(
     Ok((status, told.as_slice() == fault(status)))
 }
 
-/// How many line feeds some bytes have.
+/// Returns how many line feeds some bytes have.
 pub fn count_lines(bytes: &[u8]) -> usize {
     bytes.iter().filter(|byte| **byte == b'\n').count()
 }
 
-/// Whether a session over these parameters is answered so.
+/// Returns whether a session over these parameters is answered so.
 pub fn answers<C: Shell>(
     alloc: Global,
     leaf_parameters: &LeafParam<C>,

@@ -27,8 +27,8 @@ pub struct CRH<G: CurveGroup + TECoordinates, W: Window> {
 }
 
 impl<G: CurveGroup + TECoordinates, W: Window> CRH<G, W> {
-    /// A list for each window: an element that is drawn, then each sixteen times the one before, as many as the window
-    /// has chunks. The only refusal is `OutOfMemory`.
+    /// Returns a list for each window: an element that is drawn, then each sixteen times the one before, as many as the
+    /// window has chunks. The only error is `OutOfMemory`.
     pub fn create_generators<R: Rng>(alloc: Global, rng: &mut R) -> Result<Vec<Vec<G>>, Error>
         ensures made { let AreMade = AreDrawnSegments G.group G.draw W.Window (R.stream rng.old) in
             IfOk result (λ lists. AreMade (lists_in lists.items)) }
@@ -82,7 +82,7 @@ where
 
     /// Parameters of generators as `create_generators` makes them.
     ///
-    /// Refusals: `WindowTooLarge`, where four times the sum of the powers of 16 below a window's size passes half of the
+    /// Errors: `WindowTooLarge`, where four times the sum of the powers of 16 below a window's size passes half of the
     /// order less one; `OutOfMemory`.
     fn setup<R: Rng>(alloc: Global, rng: &mut R) -> Result<Parameters<G>, Error>
         ensures outcome { let left = R.stream rng.new in
@@ -102,10 +102,10 @@ where
         })
     }
 
-    /// The first coordinate of the sum of the generators, each as often as the digit of its chunk of the input says. It
-    /// takes no memory.
+    /// Returns the first coordinate of the sum of the generators, each as often as the digit of its chunk of the input
+    /// says. It allocates nothing.
     ///
-    /// Refusals: `IncorrectInputLength` with the input's bytes, where these have more bits than three for each generator;
+    /// Errors: `IncorrectInputLength` with the input's bytes, where these have more bits than three for each generator;
     /// `ParameterShape`, where the generators are not a list for each window with an element for each of its chunks.
     fn evaluate(
         _alloc: Global,

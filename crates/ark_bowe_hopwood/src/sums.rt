@@ -13,9 +13,9 @@ use ark_base::error::{Error, Refusal};
 use ark_groups::ec::{CurveGroup, TECoordinates};
 use ark_pedersen::{Window, has_shape};
 
-/// The hash of the input. It takes no memory.
+/// Returns the hash of the input. It allocates nothing.
 ///
-/// Refusals: `IncorrectInputLength` with the input's bytes, where these have more than three bits for each element;
+/// Errors: `IncorrectInputLength` with the input's bytes, where these have more than three bits for each element;
 /// `ParameterShape`, where the generators are not a list for each window with an element for each of its chunks.
 pub fn hash_bytes<G: CurveGroup + TECoordinates, W: Window>(
     generators: &[Vec<G>],
@@ -34,10 +34,10 @@ pub fn hash_bytes<G: CurveGroup + TECoordinates, W: Window>(
     Ok(sum_of_text::<G, W>(generators, input, &[], chunks).x())
 }
 
-/// The hash of left followed by right, with zeros behind them as far as two halves reach. It takes no memory.
+/// Returns the hash of left followed by right, with zeros behind them as far as two halves reach. It allocates nothing.
 ///
-/// Refusals: `IncorrectInputLength` with right's bytes, where left has not as many, and with left's, where these have more
-/// bits than half as many as there are elements; `ParameterShape` as above.
+/// Errors: `IncorrectInputLength` with right's bytes, where left has not as many, and with left's, where these have
+/// more bits than half as many as there are elements; `ParameterShape` as above.
 pub fn hash_halves<G: CurveGroup + TECoordinates, W: Window>(
     generators: &[Vec<G>],
     left: &[u8],

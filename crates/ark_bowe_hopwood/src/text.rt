@@ -3,7 +3,7 @@
 ghost use Rattle.std.specs.Prelude.{◌≡◌, ◌+◌, ◌<◌, ◌^◌, ◌++◌, take, drop, get_or};
 ghost use Rattle.ark_base.specs.Digits.{number_of_bytes};
 
-/// The number of the three bytes from a place on, the least first.
+/// Returns the number of the three bytes from a place on, the least first.
 pub fn number_at(left: &[u8], right: &[u8], place: usize) -> u32
     requires { place + 2 < 2 ^ 64 }
     ensures { result ≡ number_of_bytes (take 3 (drop place (left.now ++ right.now))) }

@@ -25,7 +25,7 @@ pub struct TwoToOneCRH<G: CurveGroup + TECoordinates, W: Window> {
 }
 
 impl<G: CurveGroup + TECoordinates, W: Window> TwoToOneCRH<G, W> {
-    /// As `CRH::create_generators`.
+    /// Acts as `CRH::create_generators`.
     pub fn create_generators<R: Rng>(alloc: Global, rng: &mut R) -> Result<Vec<Vec<G>>, Error>
         ensures made { let AreMade = AreDrawnSegments G.group G.draw W.Window (R.stream rng.old) in
             IfOk result (λ lists. AreMade (lists_in lists.items)) }
@@ -67,7 +67,7 @@ where
     ghost is_made = { λ stream parameters.
         AreDrawnSegments G.group G.draw W.Window stream (lists_in parameters.generators.items) };
 
-    /// As `CRH::setup`.
+    /// Acts as `CRH::setup`.
     fn setup<R: Rng>(alloc: Global, rng: &mut R) -> Result<Parameters<G>, Error>
         ensures outcome { let left = R.stream rng.new in
             let outcome = segments_outcome G.ScalarField.MODULUS G.draw W.Window in
@@ -79,12 +79,12 @@ where
         <CRH<G, W> as CRHScheme>::setup(alloc, rng)
     }
 
-    /// The hash of left followed by right, with zeros behind them up to an eighth as many bytes as there are generators.
-    /// It takes no memory.
+    /// Returns the hash of left followed by right, with zeros behind them up to an eighth as many bytes as there are
+    /// generators. It allocates nothing.
     ///
-    /// Refusals: `IncorrectInputLength` with right's bytes, where left has not as many, and with left's, where these have
-    /// more bits than half as many as there are generators; `ParameterShape`, where the generators are not a list for each
-    /// window with an element for each of its chunks.
+    /// Errors: `IncorrectInputLength` with right's bytes, where left has not as many, and with left's, where these have
+    /// more bits than half as many as there are generators; `ParameterShape`, where the generators are not a list for
+    /// each window with an element for each of its chunks.
     fn evaluate(
         _alloc: Global,
         parameters: &Parameters<G>,
@@ -106,9 +106,9 @@ where
         hash_halves::<G, W>(&parameters.generators, left, right)
     }
 
-    /// The hash of the canonical bytes of two digests.
+    /// Returns the hash of the canonical bytes of two digests.
     ///
-    /// Refusals: those of `evaluate`; `OutOfMemory`.
+    /// Errors: those of `evaluate`; `OutOfMemory`.
     fn compress(
         alloc: Global,
         parameters: &Parameters<G>,

@@ -8,7 +8,7 @@ pub const INVALID: Option<Error> = Some(Error::SerializationError(SerializationE
 
 pub const TRUNCATED: Option<Error> = Some(Error::SerializationError(SerializationError::Truncated));
 
-/// Whether the bytes are those of a digest, and are read as it whatever follows.
+/// Returns whether the bytes are those of a digest, and are read as it whatever follows.
 pub fn is_spelled<D: DigestItem>(alloc: Global, digest: &D, bytes: &[u8]) -> bool {
     match canonical_bytes(alloc, digest) {
         Ok(mut spelling) => {
@@ -19,7 +19,7 @@ pub fn is_spelled<D: DigestItem>(alloc: Global, digest: &D, bytes: &[u8]) -> boo
     }
 }
 
-/// Whether bytes are read as this digest, and how many of them.
+/// Returns whether bytes are read as this digest, and how many of them.
 pub fn is_read<D: DigestItem>(alloc: Global, bytes: &[u8], digest: &D, used: usize) -> bool {
     match D::deserialize(alloc, bytes) {
         Ok(read) => read.0 == *digest && read.1 == used,
@@ -27,12 +27,12 @@ pub fn is_read<D: DigestItem>(alloc: Global, bytes: &[u8], digest: &D, used: usi
     }
 }
 
-/// Why bytes are not read.
+/// Returns why bytes are not read.
 pub fn fault<D: CanonicalDeserialize + Drop>(alloc: Global, bytes: &[u8]) -> Option<Error> {
     D::deserialize(alloc, bytes).err()
 }
 
-/// Whether a digest's duplicate is equal to it, and this is the blank one.
+/// Returns whether a digest's duplicate is equal to it, and this is the blank one.
 pub fn is_digest<D: DigestItem>(alloc: Global, digest: &D, blank: &D) -> bool {
     match digest.duplicate(alloc) {
         Ok(copy) => copy == *digest && D::blank(alloc) == *blank,

@@ -6,7 +6,7 @@ ghost use Rattle.ark_groups.specs.Group.{times};
 
 use ark_groups::ec::CurveGroup;
 
-/// The element, added so often.
+/// Returns the element, added so often.
 pub fn times<C: CurveGroup>(count: u64, x: C) -> C
     ensures { result ≡ times C.group count x }
 {
@@ -17,7 +17,7 @@ pub fn times<C: CurveGroup>(count: u64, x: C) -> C
     sum
 }
 
-/// The number that bytes are, the least first.
+/// Returns the number that bytes are, the least first.
 pub fn number(bytes: &[u8]) -> u128
     requires { length bytes.now ≤ 16 }
     ensures { result ≡ number_of_bytes bytes.now }

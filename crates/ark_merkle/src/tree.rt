@@ -58,9 +58,9 @@ impl<P: Config> Model for MerkleTree<P> {
 }
 
 impl<P: Views> MerkleTree<P> {
-    /// The tree above these leaves, of which there are a power of two above one.
+    /// Returns the tree above these leaves, of which there are a power of two above one.
     ///
-    /// Refusals: that of the first leaf from the left whose hash refuses; else that of the lowest pair, leftmost among
+    /// Errors: that of the first leaf from the left whose hash refuses; else that of the lowest pair, leftmost among
     /// equals; `OutOfMemory`.
     pub fn new(
         alloc: Global,
@@ -77,9 +77,9 @@ impl<P: Views> MerkleTree<P> {
         MerkleTree::new_with_leaf_digest(alloc, leaf_parameters, pair_parameters, digests)
     }
 
-    /// The tree above these leaf digests, of which there are a power of two above one.
+    /// Returns the tree above these leaf digests, of which there are a power of two above one.
     ///
-    /// Refusals: that of the lowest pair, leftmost among equals; `OutOfMemory`.
+    /// Errors: that of the lowest pair, leftmost among equals; `OutOfMemory`.
     pub fn new_with_leaf_digest(
         alloc: Global,
         leaf_parameters: &LeafParam<P>,
@@ -102,9 +102,9 @@ impl<P: Views> MerkleTree<P> {
         })
     }
 
-    /// The tree of this height above blank leaf digests.
+    /// Returns the tree of this height above blank leaf digests.
     ///
-    /// Refusals: that of their pair, or of the lowest one above; `OutOfMemory`.
+    /// Errors: that of their pair, or of the lowest one above; `OutOfMemory`.
     pub fn blank(
         alloc: Global,
         leaf_parameters: &LeafParam<P>,
@@ -121,7 +121,7 @@ impl<P: Views> MerkleTree<P> {
         MerkleTree::new_with_leaf_digest(alloc, leaf_parameters, pair_parameters, digests)
     }
 
-    /// The digest of the leaf beside that of an index below the size.
+    /// Returns the digest of the leaf beside that of an index below the size.
     pub fn get_leaf_sibling_hash(&self, index: usize) -> &P::LeafDigest
         requires { index < length self.now.leaves }
         ensures { P.LeafDigest.numbers result.now ≡ get_or self.now.leaves (neighbour index) [] }
@@ -129,7 +129,7 @@ impl<P: Views> MerkleTree<P> {
         &self.leaves[neighbour_of(index)]
     }
 
-    /// The root: the repeated halving of the leaf digests.
+    /// Returns the root: the repeated halving of the leaf digests.
     pub fn root(&self) -> &P::InnerDigest
         ensures { root_in (P.tree self.now) ≡ Ok (P.InnerDigest.numbers result.now) }
     {
@@ -137,8 +137,8 @@ impl<P: Views> MerkleTree<P> {
         rows.at(rows.len() - 1, 0)
     }
 
-    /// The count of levels, that of the leaf digests and that of the root included: the logarithm of the size to base
-    /// two, plus one.
+    /// Returns the count of levels, that of the leaf digests and that of the root included: the logarithm of the size
+    /// to base two, plus one.
     pub fn height(&self) -> usize
         ensures levels { result ≡ log2 (length self.now.leaves) + 1 }
         ensures power { length self.now.leaves ≡ 2 ^ log2 (length self.now.leaves) }
@@ -147,7 +147,7 @@ impl<P: Views> MerkleTree<P> {
         rows.len() + 1
     }
 
-    /// The count of leaf digests.
+    /// Returns the count of leaf digests.
     pub fn size(&self) -> usize
         ensures size { result ≡ length self.now.leaves }
         ensures power { IsTreeSize result }
@@ -155,7 +155,7 @@ impl<P: Views> MerkleTree<P> {
         self.leaves.len()
     }
 
-    /// The path of an index below the size. The only refusal is `OutOfMemory`.
+    /// Returns the path of an index below the size. The only error is `OutOfMemory`.
     pub fn generate_proof(&self, alloc: Global, index: usize) -> Result<Path<P>, Error>
         requires { index < length self.now.leaves }
 

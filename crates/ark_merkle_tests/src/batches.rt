@@ -156,7 +156,7 @@ fn is_of_leaves<P: Config>(
     )
 }
 
-/// The leaves 1, 2 and so on.
+/// Returns the leaves 1, 2 and so on.
 pub fn numbers(alloc: Global, size: u64) -> Result<Vec<u64>, Error> {
     let mut leaves = Vec::new(alloc);
     for leaf in 0..size {

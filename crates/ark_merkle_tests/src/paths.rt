@@ -66,7 +66,7 @@ fn is_defined(
     }
 }
 
-/// The leaves' digests.
+/// Returns the leaves' digests.
 pub fn digests_of<H: CRHScheme>(
     alloc: Global,
     parameters: &H::Parameters,

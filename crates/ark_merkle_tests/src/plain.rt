@@ -67,7 +67,7 @@ fn place_of_halves<H: TwoToOneCRHScheme>(
     }
 }
 
-/// The place of 2^(m + 1) leaf digests.
+/// Returns the place of 2^(m + 1) leaf digests.
 pub fn place<P: Config>(
     alloc: Global,
     pair_parameters: &TwoToOneParam<P>,
@@ -97,7 +97,7 @@ pub fn place<P: Config>(
     place_of_halves::<P::TwoToOneHash>(alloc, pair_parameters, m, left, right)
 }
 
-/// What the digests beside a way make of the lowest one on it.
+/// Returns what the digests beside a way make of the lowest one on it.
 pub fn climb<H: TwoToOneCRHScheme>(
     alloc: Global,
     pair_parameters: &H::Parameters,

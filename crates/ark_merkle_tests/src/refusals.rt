@@ -84,12 +84,14 @@ fn updates_where_the_new_root_is_the_asserted_one(rt: HostRuntime) {
     }
 }
 
-// The leaves of a tree, and what its building is refused with. The lowest pair that refuses is named, and the leftmost of its row: over
-// 1 2 249 4 a walk into the depth would meet (5, 0) before the 7 beside a 0.
-const BUILT: [(&[u64], Error); 6] = [
+// The leaves of a tree, and what its building is refused with. The lowest pair that refuses is named, and the leftmost of its row,
+// wherever it stands among four: over 1 2 249 4 a walk into the depth would meet (5, 0) before the 7 beside a 0.
+const BUILT: [(&[u64], Error); 8] = [
     (&[1, 0, 2, 0], ONE),
     (&[1, 2, 3, 0], THREE),
     (&[1, 2, 255, 1], FIVE),
+    (&[1, 0, 3, 4, 5, 6, 7, 0], ONE),
+    (&[1, 2, 3, 4, 5, 0, 7, 0], FIVE),
     (&[1, 2, 249, 4, 5, 6, 7, 0], SEVEN),
     (&[1, 2, 249, 4, 5, 6, 7, 8], FIVE),
     (&[1, 2, 3, 0, 5, 6, 7, 0], THREE),

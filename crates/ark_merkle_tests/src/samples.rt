@@ -24,7 +24,7 @@ pub fn leaves_of(alloc: Global, bytes: &[u8]) -> Result<Vec<Vec<u8>>, Error> {
     Ok(leaves)
 }
 
-/// The tree of these leaves.
+/// Returns the tree of these leaves.
 pub fn tree_over<P: Config>(
     alloc: Global,
     leaf_parameters: &LeafParam<P>,
@@ -37,7 +37,7 @@ pub fn tree_over<P: Config>(
     MerkleTree::<P>::new(alloc, leaf_parameters, pair_parameters, leaves)
 }
 
-/// Whether a value has this text.
+/// Returns whether a value has this text.
 pub fn has_text<T: Debug>(alloc: Global, value: &T, text: &str) -> Result<bool, Error> {
     Ok(format!(in alloc; "{value:?}")?.as_str() == text)
 }
@@ -54,7 +54,7 @@ pub trait Question {
     ) -> Result<(bool, bool), Error>;
 }
 
-/// The answer of the tree of leaves of these bytes, and its multi-proof of these indexes.
+/// Returns the answer of the tree of leaves of these bytes, and its multi-proof of these indexes.
 pub fn asked<Q: Question>(
     alloc: Global,
     bytes: &[u8],
@@ -77,7 +77,7 @@ fn asked_of<Q: Question>(
     question.answer(alloc, tree, leaves, &mut proof)
 }
 
-/// The path of an index, if the tree has it.
+/// Returns the path of an index, if the tree has it.
 pub fn proof_of<P: Config>(
     alloc: Global,
     tree: &MerkleTree<P>,
@@ -96,7 +96,7 @@ fn are_inside(indexes: &[usize], size: usize) -> bool
     indexes.iter().all(|index| *index < size)
 }
 
-/// The multi-proof of these indexes, if the tree has them.
+/// Returns the multi-proof of these indexes, if the tree has them.
 pub fn multi_proof_of<P: Config>(
     alloc: Global,
     tree: &MerkleTree<P>,
@@ -108,7 +108,7 @@ pub fn multi_proof_of<P: Config>(
     tree.generate_multi_proof(alloc, indexes)
 }
 
-/// So many indexes in a tree with so many levels above its leaves.
+/// Returns so many indexes in a tree with so many levels above its leaves.
 pub fn drawn<R: Rng>(
     alloc: Global,
     rng: &mut R,
@@ -127,7 +127,7 @@ pub fn drawn<R: Rng>(
     Ok(indexes)
 }
 
-/// How many places stand above these indexes on so many levels, by keeping each once.
+/// Returns how many places stand above these indexes on so many levels, by keeping each once.
 pub fn places_above(alloc: Global, indexes: &[usize], levels: usize) -> Result<usize, Error> {
     let mut places = BTreeSet::new(alloc);
     for index in indexes {
@@ -140,7 +140,7 @@ pub fn places_above(alloc: Global, indexes: &[usize], levels: usize) -> Result<u
     Ok(places.len())
 }
 
-/// A multi-proof without places.
+/// Returns a multi-proof without places.
 pub fn no_places<P: Config>(alloc: Global) -> MultiPath<P> {
     MultiPath {
         leaf_siblings_hashes: Vec::new(alloc),
@@ -150,7 +150,7 @@ pub fn no_places<P: Config>(alloc: Global) -> MultiPath<P> {
     }
 }
 
-/// Another place, with this digest beside its leaf.
+/// Adds another place, with this digest beside its leaf.
 pub fn push_place<P: Config>(
     proof: &mut MultiPath<P>,
     sibling: P::LeafDigest,
@@ -165,7 +165,7 @@ pub fn push_place<P: Config>(
     Ok(())
 }
 
-/// Blank digests.
+/// Returns blank digests.
 pub fn blanks<D: DigestItem>(alloc: Global, count: usize) -> Result<Vec<D>, Error> {
     let mut blanks = Vec::new(alloc);
     for _ in 0..count {

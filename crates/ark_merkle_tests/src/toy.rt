@@ -11,7 +11,7 @@ use rand::rngs::SmallRng;
 use rand::{Rng, SeedableRng};
 use std::alloc::Global;
 
-/// A digest, so many times.
+/// Returns a digest, so many times.
 pub fn copies_of_one<D: DigestItem>(
     alloc: Global,
     digest: &D,

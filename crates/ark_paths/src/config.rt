@@ -16,7 +16,8 @@ use std::marker::PhantomData;
 pub trait DigestConverter<From: DigestItem, To: Numbered> {
     ghost conversion: { List ℕ → Outcome (List ℕ) };
 
-    /// Refusals: those of `conversion`, of which none is `OutOfMemory`; `OutOfMemory`.
+    /// Converts a leaf digest to a digest above. Errors: those of `conversion`, none of which is `OutOfMemory`; and
+    /// `OutOfMemory`.
     fn convert(alloc: Global, item: From) -> Result<To, Error>
         ensures { AnswersBy To.numbers (conversion (From.numbers item)) result };
 

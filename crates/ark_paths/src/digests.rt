@@ -10,7 +10,7 @@ use ark_base::error::Error;
 use ark_base::serialize::{DigestItem, Duplicate};
 use std::alloc::Global;
 
-/// Whether two digests are the same.
+/// Returns whether two digests are the same.
 pub fn are_same<D: DigestItem>(a: &D, b: &D) -> bool
     ensures { result ≡ digest_eq (D.numbers a.now) (D.numbers b.now) }
 {
@@ -39,7 +39,7 @@ pub fn copies_of_rows<D: DigestItem>(alloc: Global, rows: &[Vec<D>]) -> Result<V
     Ok(copies)
 }
 
-/// The blank leaf digests of a tree of this height.
+/// Returns the blank leaf digests of a tree of this height.
 pub fn blank_row<D: DigestItem>(alloc: Global, height: usize) -> Result<Vec<D>, Error>
     requires low { 2 ≤ height }
     requires high { height ≤ 64 }

@@ -4,14 +4,14 @@ ghost use Rattle.std.specs.Bool.{Decides};
 ghost use Rattle.std.specs.Prelude.{◌≡◌, ◌<◌, ◌-◌, ◌^◌};
 ghost use Rattle.ark_paths.specs.Index.{bit_at, log2, neighbour, IsTreeSize, is_tree_size};
 
-/// Whether a bit of a number is set. Those past its 64 are not.
+/// Returns whether a bit of a number is set. Those past its 64 are not.
 pub fn is_bit_set(n: usize, bit: usize) -> bool
     ensures { result ≡ bit_at n bit }
 {
     bit < 64 && n >> bit & 1 == 1
 }
 
-/// The place that differs in bit 0.
+/// Returns the place that differs in bit 0.
 pub fn neighbour_of(place: usize) -> usize
     requires { neighbour place < 2 ^ 64 }
     ensures { result ≡ neighbour place }
@@ -23,8 +23,8 @@ pub fn neighbour_of(place: usize) -> usize
     }
 }
 
-/// Whether a tree can have this many leaves: a power of two above one. No tree has another size, so whoever builds one
-/// of a stranger's leaves asks this first.
+/// Returns whether a tree can have this many leaves: a power of two above one. No tree has another size, so whoever
+/// builds one of a stranger's leaves asks this first.
 pub fn is_tree_size(size: usize) -> bool
     ensures decides { Decides result (IsTreeSize size) }
     ensures test { result ≡ is_tree_size size }
@@ -32,7 +32,7 @@ pub fn is_tree_size(size: usize) -> bool
     size > 1 && size == 1 << size.ilog2()
 }
 
-/// How many levels of a tree with this many leaves stand between the leaf digests and the root.
+/// Returns how many levels of a tree with this many leaves stand between the leaf digests and the root.
 pub fn levels_between(size: usize) -> usize
     requires { IsTreeSize size }
     ensures { result ≡ log2 size - 1 }

@@ -107,9 +107,9 @@ impl<P: Config> CanonicalItem for Path<P> {
 }
 
 impl<P: Views> Path<P> {
-    /// Whether the leaf's digest gives the root along this path.
+    /// Returns whether the leaf's digest gives the root along this path.
     ///
-    /// The path may have any length, and the index any bits: those past its length do not count. Refusals: that of the
+    /// The path may have any length, and the index any bits: those past its length do not count. Errors: that of the
     /// leaf's hash, then that of the lowest pair, and so upward; `OutOfMemory`.
     pub fn verify(
         &self,

@@ -41,13 +41,13 @@ fn is_asked(own: usize, index: usize, size: usize) -> bool
 }
 
 impl<P: Values> Path<P> {
-    /// The path of an index in a tree of `size` leaves, which the bytes spell, all of them: for a client, who was sent the
-    /// bytes and knows size and index.
+    /// Returns the path of an index in a tree of `size` leaves, which the bytes spell, all of them: for a client, who
+    /// was sent the bytes and knows size and index.
     ///
-    /// Refusals, the first that applies: `IncorrectInputLength(size)` where the size is no power of two above one; the first
-    /// fault of the bytes from the left, as `deserialize`; `InvalidData` where bytes are left; `IncorrectInputLength` with the
-    /// length of `auth_path` where it is not the logarithm of the size less one; `InvalidData` where the path's own index is
-    /// another one or not below the size; `OutOfMemory`.
+    /// Errors, the first that applies: `IncorrectInputLength(size)` where the size is no power of two above one; the
+    /// first fault of the bytes from the left, as `deserialize`; `InvalidData` where bytes are left;
+    /// `IncorrectInputLength` with the length of `auth_path` where it is not the logarithm of the size less one;
+    /// `InvalidData` where the path's own index is another one or not below the size; `OutOfMemory`.
     pub fn read_at(alloc: Global, bytes: &[u8], size: usize, index: usize) -> Result<Path<P>, Error>
         ensures { let reading = P.path_reading bytes.now in
             AnswersBy P.way (received_path size index reading) result }
@@ -61,9 +61,10 @@ impl<P: Values> Path<P> {
         Ok(path)
     }
 
-    /// Whether the bytes of a path show a leaf at an index to whoever has the root of a tree of `size` leaves alone.
+    /// Returns whether the bytes of a path show a leaf at an index to whoever has the root of a tree of `size` leaves
+    /// alone.
     ///
-    /// Refusals: those of `read_at`, then those of `verify`. Whoever keeps a root and is sent proofs takes this call:
+    /// Errors: those of `read_at`, then those of `verify`. Whoever keeps a root and is sent proofs takes this call:
     /// `verify` alone takes a path of any length and any index.
     pub fn verify_bytes(
         alloc: Global,
@@ -109,12 +110,13 @@ fn is_fit_for<D>(
 }
 
 impl<P: Values> MultiPath<P> {
-    /// The strict multi-proof of some indexes in a tree of `size` leaves, which the bytes spell, all of them: as
-    /// `Path::read_at`, of many indexes at once, which rise.
+    /// Returns the strict multi-proof of some indexes in a tree of `size` leaves, which the bytes spell, all of them:
+    /// as `Path::read_at`, of many indexes at once, which rise.
     ///
-    /// Refusals, the first that applies: `IncorrectInputLength(size)` where the size is no power of two above one; those of
-    /// `read_strict`; `InvalidData` where bytes are left; `IncorrectInputLength` with the length of the first suffix where it is
-    /// not the logarithm of the size less one; `InvalidData` where the proof's own indexes are others; `OutOfMemory`.
+    /// Errors, the first that applies: `IncorrectInputLength(size)` where the size is no power of two above one; those
+    /// of `read_strict`; `InvalidData` where bytes are left; `IncorrectInputLength` with the length of the first suffix
+    /// where it is not the logarithm of the size less one; `InvalidData` where the proof's own indexes are others;
+    /// `OutOfMemory`.
     pub fn read_strict_at(
         alloc: Global,
         bytes: &[u8],
@@ -138,10 +140,10 @@ impl<P: Values> MultiPath<P> {
         Ok(proof)
     }
 
-    /// Whether the bytes of a strict multi-proof show leaves at these indexes, in their order, to whoever has the root of a
-    /// tree of `size` leaves alone.
+    /// Returns whether the bytes of a strict multi-proof show leaves at these indexes, in their order, to whoever has
+    /// the root of a tree of `size` leaves alone.
     ///
-    /// Refusals: those of `read_strict_at`, then those of `verify`. Leaves past the last index are ignored.
+    /// Errors: those of `read_strict_at`, then those of `verify`. Leaves past the last index are ignored.
     pub fn verify_bytes(
         alloc: Global,
         leaf_parameters: &LeafParam<P>,

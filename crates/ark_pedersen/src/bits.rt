@@ -6,7 +6,7 @@ ghost use Rattle.ark_pedersen.specs.Pedersen.{bits_of_bytes};
 use ark_base::error::Error;
 use std::alloc::Global;
 
-/// The bits of the bytes, the lowest of each byte first. The only refusal is `OutOfMemory`.
+/// Returns the bits of the bytes, the lowest of each byte first. The only error is `OutOfMemory`.
 pub fn bytes_to_bits(alloc: Global, bytes: &[u8]) -> Result<Vec<bool>, Error>
     ensures bits { IfOk result (λ bits. bits.items ≡ bits_of_bytes bytes.now) }
     ensures refused { IfErr result (λ error. error ≡ Error.OutOfMemory) }

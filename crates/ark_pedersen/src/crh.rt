@@ -23,7 +23,7 @@ pub struct CRH<C: CurveGroup, W: Window> {
 }
 
 impl<C: CurveGroup, W: Window> CRH<C, W> {
-    /// A list for each window: an element that is drawn, then its doublings. The only refusal is `OutOfMemory`.
+    /// Returns a list for each window: an element that is drawn, then its doublings. The only error is `OutOfMemory`.
     pub fn create_generators<R: Rng>(alloc: Global, rng: &mut R) -> Result<Vec<Vec<C>>, Error>
         ensures made { let stream = R.stream rng.old in
             IfOk result (λ made. AreDrawn C.group C.draw W.Window stream (lists_in made.items)) }
@@ -38,7 +38,7 @@ impl<C: CurveGroup, W: Window> CRH<C, W> {
         Ok(lists)
     }
 
-    /// An element that is drawn, then its doublings, `count` in all. The only refusal is `OutOfMemory`.
+    /// Returns an element that is drawn, then its doublings, `count` in all. The only error is `OutOfMemory`.
     pub fn generator_powers<R: Rng>(
         alloc: Global,
         count: usize,
@@ -84,9 +84,9 @@ impl<C: CurveGroup + DigestItem, W: Window> CRHScheme for CRH<C, W> {
         })
     }
 
-    /// The sum of the generators at the set bits of the input. It takes no memory.
+    /// Returns the sum of the generators at the set bits of the input. It allocates nothing.
     ///
-    /// Refusals: `IncorrectInputLength` with the input's bytes, where these have more bits than the windows;
+    /// Errors: `IncorrectInputLength` with the input's bytes, where these have more bits than the windows;
     /// `ParameterShape`, where the generators are not a list for each window with an element for each of its bits.
     fn evaluate(_alloc: Global, parameters: &Parameters<C>, input: &Vec<u8>) -> Result<C, Error>
         ensures exact { let lists = generators_in parameters.now in

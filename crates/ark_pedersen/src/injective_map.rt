@@ -24,9 +24,9 @@ pub trait InjectiveMap<C> {
     // The canonical bytes of an element's image, or the refusal of the element.
     ghost image: { C → Outcome (List ℕ) };
 
-    /// The image of an element.
+    /// Returns the image of an element.
     ///
-    /// Refusals: those of `image`, none of which is `OutOfMemory`; and `OutOfMemory`.
+    /// Errors: those of `image`, none of which is `OutOfMemory`; and `OutOfMemory`.
     fn injective_map(alloc: Global, ge: &C) -> Result<Self::Output, Error>
         ensures { let bytes : Self.Output → List ℕ =
             λ x. Self.Output.spelling (Self.Output.view x) in
@@ -51,7 +51,7 @@ impl<C: CurveGroup + TECoordinates> InjectiveMap<C> for TECompressor {
 
     ghost image = { λ x. Ok (bytes_of_number (bytes_for C.BaseField.MODULUS_BIT_SIZE) (C.x x)) };
 
-    /// The first coordinate. It takes no memory.
+    /// Returns the first coordinate. It allocates nothing.
     fn injective_map(_alloc: Global, ge: &C) -> Result<C::BaseField, Error>
         ensures { IsOkAnd result (λ x. C.BaseField.value x ≡ C.x ge.now) }
     {
@@ -96,16 +96,16 @@ where
     ghost is_made = { λ stream parameters.
         AreDrawn C.group C.draw W.Window stream (generators_in parameters) };
 
-    /// As `CRH::setup`.
+    /// Acts as `CRH::setup`.
     fn setup<R: Rng>(alloc: Global, rng: &mut R) -> Result<Parameters<C>, Error> {
         Ok(Parameters {
             generators: CRH::<C, W>::create_generators(alloc, rng)?,
         })
     }
 
-    /// The image of the Pedersen hash.
+    /// Returns the image of the Pedersen hash.
     ///
-    /// Refusals: those of `CRH::evaluate`; those of the map; `OutOfMemory`.
+    /// Errors: those of `CRH::evaluate`; those of the map; `OutOfMemory`.
     fn evaluate(
         alloc: Global,
         parameters: &Parameters<C>,
@@ -162,16 +162,16 @@ where
     ghost is_made = { λ stream parameters.
         AreDrawn C.group C.draw W.Window stream (generators_in parameters) };
 
-    /// As `TwoToOneCRH::setup`.
+    /// Acts as `TwoToOneCRH::setup`.
     fn setup<R: Rng>(alloc: Global, rng: &mut R) -> Result<Parameters<C>, Error> {
         Ok(Parameters {
             generators: TwoToOneCRH::<C, W>::create_generators(alloc, rng)?,
         })
     }
 
-    /// The image of the Pedersen hash of two inputs.
+    /// Returns the image of the Pedersen hash of two inputs.
     ///
-    /// Refusals: those of `TwoToOneCRH::evaluate`; those of the map; `OutOfMemory`.
+    /// Errors: those of `TwoToOneCRH::evaluate`; those of the map; `OutOfMemory`.
     fn evaluate(
         alloc: Global,
         parameters: &Parameters<C>,
@@ -182,9 +182,9 @@ where
         I::injective_map(alloc, &hash)
     }
 
-    /// The image of the Pedersen hash of the canonical bytes of two images.
+    /// Returns the image of the Pedersen hash of the canonical bytes of two images.
     ///
-    /// Refusals: those of `evaluate`.
+    /// Errors: those of `evaluate`.
     fn compress(
         alloc: Global,
         parameters: &Parameters<C>,

@@ -10,9 +10,9 @@ use ark_base::error::{Error, Refusal};
 use ark_base::serialize::number_of;
 use ark_groups::ec::CurveGroup;
 
-/// The sum of the generators at the set bits of the input. It takes no memory.
+/// Returns the sum of the generators at the set bits of the input. It allocates nothing.
 ///
-/// Refusals: `IncorrectInputLength` with the input's bytes, where these have more bits than the windows;
+/// Errors: `IncorrectInputLength` with the input's bytes, where these have more bits than the windows;
 /// `ParameterShape`, where the generators are not a list for each window with an element for each of its bits.
 pub fn hash_bytes<C: CurveGroup, W: Window>(generators: &[Vec<C>], input: &[u8]) -> Result<C, Error>
     ensures { result ≡ pedersen_hash C.group W.Window (lists_in generators.now) input.now }
@@ -26,10 +26,10 @@ pub fn hash_bytes<C: CurveGroup, W: Window>(generators: &[Vec<C>], input: &[u8])
     Ok(add_bytes::<C, W>(C::zero(), generators, 0, input))
 }
 
-/// The hash of left followed by right, with zeros behind them as far as two halves reach. It takes no memory.
+/// Returns the hash of left followed by right, with zeros behind them as far as two halves reach. It allocates nothing.
 ///
-/// Refusals: `IncorrectInputLength` with right's bytes, where left has not as many, and with left's, where these have more
-/// bits than half of all the windows' bits; `ParameterShape` as above.
+/// Errors: `IncorrectInputLength` with right's bytes, where left has not as many, and with left's, where these have
+/// more bits than half of all the windows' bits; `ParameterShape` as above.
 pub fn hash_halves<C: CurveGroup, W: Window>(
     generators: &[Vec<C>],
     left: &[u8],
@@ -51,7 +51,7 @@ pub fn hash_halves<C: CurveGroup, W: Window>(
     Ok(add_bytes::<C, W>(sum, generators, 8 * left.len(), right))
 }
 
-/// Whether there is a list for each window, with as many elements as its size says.
+/// Returns whether there is a list for each window, with as many elements as its size says.
 pub fn has_shape<C: CurveGroup, W: Window>(generators: &[Vec<C>]) -> bool
     ensures { result ≡ has_shape W.NUM_WINDOWS W.WINDOW_SIZE (lists_in generators.now) }
 {

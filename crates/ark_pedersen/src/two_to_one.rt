@@ -22,7 +22,7 @@ pub struct TwoToOneCRH<C: CurveGroup, W: Window> {
 }
 
 impl<C: CurveGroup, W: Window> TwoToOneCRH<C, W> {
-    /// As `CRH::create_generators`.
+    /// Acts as `CRH::create_generators`.
     pub fn create_generators<R: Rng>(alloc: Global, rng: &mut R) -> Result<Vec<Vec<C>>, Error>
         ensures made { let stream = R.stream rng.old in
             IfOk result (λ made. AreDrawn C.group C.draw W.Window stream (lists_in made.items)) }
@@ -33,7 +33,7 @@ impl<C: CurveGroup, W: Window> TwoToOneCRH<C, W> {
         CRH::<C, W>::create_generators(alloc, rng)
     }
 
-    /// As `CRH::generator_powers`.
+    /// Acts as `CRH::generator_powers`.
     pub fn generator_powers<R: Rng>(
         alloc: Global,
         count: usize,
@@ -71,16 +71,17 @@ impl<C: CurveGroup + DigestItem, W: Window> TwoToOneCRHScheme for TwoToOneCRH<C,
     ghost is_made = { λ stream parameters.
         AreDrawn C.group C.draw W.Window stream (generators_in parameters) };
 
-    /// As `CRH::setup`.
+    /// Acts as `CRH::setup`.
     fn setup<R: Rng>(alloc: Global, rng: &mut R) -> Result<Parameters<C>, Error> {
         <CRH<C, W> as CRHScheme>::setup(alloc, rng)
     }
 
-    /// The hash of left followed by right, with zeros behind them as far as two halves reach. It takes no memory.
+    /// Returns the hash of left followed by right, with zeros behind them as far as two halves reach. It allocates
+    /// nothing.
     ///
-    /// Refusals: `IncorrectInputLength` with right's bytes, where left has not as many, and with left's, where these have
-    /// more bits than half of all the windows' bits; `ParameterShape`, where the generators are not a list for each window
-    /// with an element for each of its bits.
+    /// Errors: `IncorrectInputLength` with right's bytes, where left has not as many, and with left's, where these have
+    /// more bits than half of all the windows' bits; `ParameterShape`, where the generators are not a list for each
+    /// window with an element for each of its bits.
     fn evaluate(
         _alloc: Global,
         parameters: &Parameters<C>,
@@ -99,9 +100,9 @@ impl<C: CurveGroup + DigestItem, W: Window> TwoToOneCRHScheme for TwoToOneCRH<C,
         hash_halves::<C, W>(&parameters.generators, left, right)
     }
 
-    /// The hash of the canonical bytes of two digests.
+    /// Returns the hash of the canonical bytes of two digests.
     ///
-    /// Refusals: those of `evaluate`; `OutOfMemory`.
+    /// Errors: those of `evaluate`; `OutOfMemory`.
     fn compress(alloc: Global, parameters: &Parameters<C>, left: &C, right: &C) -> Result<C, Error>
         ensures { let hash = pedersen_hash C.group W.Window (generators_in parameters.now) in
             let bytes : C → List ℕ = λ digest. C.spelling (C.view digest) in

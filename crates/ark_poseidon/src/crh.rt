@@ -39,14 +39,14 @@ impl<F: Field + DigestItem, S: SBox<F>> CRHScheme for CRH<F, S> {
 
     ghost is_made = { λ _ _. ⊥ };
 
-    /// No parameters are made here: `SetupNotAvailable`.
+    /// Makes no parameters: the error is always `SetupNotAvailable`.
     fn setup<R: Rng>(_alloc: Global, _rng: &mut R) -> Result<PoseidonConfig<F>, Error>
         ensures { result ≡ Err (Error.GenericError SetupNotAvailable) }
     {
         Err(Error::GenericError(Refusal::SetupNotAvailable))
     }
 
-    /// The element that a new sponge gives once it has absorbed the list. The only refusal is `OutOfMemory`.
+    /// Returns the element that a new sponge gives once it has absorbed the list. The only error is `OutOfMemory`.
     fn evaluate(alloc: Global, parameters: &PoseidonConfig<F>, input: &Vec<F>) -> Result<F, Error>
         ensures { let numbers = map F.value input.now.items in
             let digest = poseidon_digest F.MODULUS S.image parameters.now numbers in

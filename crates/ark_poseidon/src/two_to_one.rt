@@ -73,14 +73,14 @@ impl<F: Field + DigestItem, S: SBox<F>> TwoToOneCRHScheme for TwoToOneCRH<F, S> 
 
     ghost is_made = { λ _ _. ⊥ };
 
-    /// No parameters are made here: `SetupNotAvailable`.
+    /// Makes no parameters: the error is always `SetupNotAvailable`.
     fn setup<R: Rng>(_alloc: Global, _rng: &mut R) -> Result<PoseidonConfig<F>, Error>
         ensures { result ≡ Err (Error.GenericError SetupNotAvailable) }
     {
         Err(Error::GenericError(Refusal::SetupNotAvailable))
     }
 
-    /// As `compress`.
+    /// Acts as `compress`.
     fn evaluate(
         alloc: Global,
         parameters: &PoseidonConfig<F>,
@@ -95,7 +95,8 @@ impl<F: Field + DigestItem, S: SBox<F>> TwoToOneCRHScheme for TwoToOneCRH<F, S> 
         hash_of_two::<F, S>(alloc, parameters, *left, *right)
     }
 
-    /// The element that a new sponge gives once it has absorbed left and then right. The only refusal is `OutOfMemory`.
+    /// Returns the element that a new sponge gives once it has absorbed left and then right. The only error is
+    /// `OutOfMemory`.
     fn compress(
         alloc: Global,
         parameters: &PoseidonConfig<F>,

@@ -13,7 +13,7 @@ use std::alloc::Global;
 
 /// Parameters over the scalar field of BLS12-381 for a rate of 2 to 8; `None` for any other.
 ///
-/// The only refusal is `OutOfMemory`.
+/// The only error is `OutOfMemory`.
 pub fn bls12_381_fr(
     alloc: Global,
     rate: usize,

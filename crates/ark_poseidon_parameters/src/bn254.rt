@@ -13,7 +13,7 @@ use std::alloc::Global;
 
 /// Parameters over the scalar field of BN254 for a rate of 2 to 8; `None` for any other.
 ///
-/// The only refusal is `OutOfMemory`.
+/// The only error is `OutOfMemory`.
 pub fn bn254_fr(alloc: Global, rate: usize) -> Result<Option<PoseidonConfig<Bn254Fr>>, Error>
     ensures rates { IfOk result (λ found. IsSome found ↔ ((2 ≤ rate) × (rate ≤ 8))) }
     ensures ready { IfOk result (λ found. IfSome found (AreReady rate (bn254_fr_rounds rate) 5)) }

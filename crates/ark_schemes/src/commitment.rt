@@ -36,15 +36,15 @@ pub trait CommitmentScheme {
 
     /// Makes parameters from what it draws.
     ///
-    /// Refusals: that of the scheme, where it has none to make; `OutOfMemory`.
+    /// Errors: that of the scheme, where it has none to make; `OutOfMemory`.
     fn setup<R: Rng>(alloc: Global, rng: &mut R) -> Result<Self::Parameters, Error>
         ensures outcome { let left = R.stream rng.new in
             AnswersBy (λ _. left) (setup_outcome (R.stream rng.old)) result }
         ensures made { IfOk result (is_made (R.stream rng.old)) };
 
-    /// The commitment to bytes under randomness.
+    /// Returns the commitment to bytes under randomness.
     ///
-    /// Refusals: those of `meaning`, none of which is `OutOfMemory`; and `OutOfMemory`.
+    /// Errors: those of `meaning`, none of which is `OutOfMemory`; and `OutOfMemory`.
     fn commit(
         alloc: Global,
         parameters: &Self::Parameters,

@@ -23,9 +23,9 @@ pub trait PRF {
     // The canonical bytes of the output for a seed and an input, or their refusal.
     ghost meaning: { Self.Seed → Self.Input → Outcome (List ℕ) };
 
-    /// The output for a seed and an input.
+    /// Returns the output for a seed and an input.
     ///
-    /// Refusals: those of `meaning`, none of which is `OutOfMemory`; and `OutOfMemory`.
+    /// Errors: those of `meaning`, none of which is `OutOfMemory`; and `OutOfMemory`.
     fn evaluate(seed: &Self::Seed, input: &Self::Input) -> Result<Self::Output, Error>
         ensures { let bytes : Self.Output → List ℕ =
             λ output. Self.Output.spelling (Self.Output.view output) in

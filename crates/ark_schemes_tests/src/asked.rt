@@ -16,7 +16,7 @@ pub trait Alike {
     fn is_like(&self, other: &Self) -> bool;
 }
 
-/// Whether the value is spelled by these bytes.
+/// Returns whether the value is spelled by these bytes.
 pub fn is_spelled<T: CanonicalSerialize>(alloc: Global, value: &T, bytes: &[u8]) -> bool {
     match canonical_bytes(alloc, value) {
         Ok(spelling) => spelling.as_slice() == bytes,
@@ -24,7 +24,7 @@ pub fn is_spelled<T: CanonicalSerialize>(alloc: Global, value: &T, bytes: &[u8])
     }
 }
 
-/// Whether the bytes are read to their end, as this value.
+/// Returns whether the bytes are read to their end, as this value.
 pub fn is_read<T: CanonicalDeserialize + Alike + Drop>(
     alloc: Global,
     bytes: &[u8],
@@ -36,12 +36,12 @@ pub fn is_read<T: CanonicalDeserialize + Alike + Drop>(
     }
 }
 
-/// Why bytes are not read.
+/// Returns why bytes are not read.
 pub fn fault<T: CanonicalDeserialize + Drop>(alloc: Global, bytes: &[u8]) -> Option<Error> {
     T::deserialize(alloc, bytes).err()
 }
 
-/// Whether the bytes are read to their end as a list of two, the second like this value, and written again.
+/// Returns whether the bytes are read to their end as a list of two, the second like this value, and written again.
 pub fn is_list_of_two<T: CanonicalItem + Alike + Drop>(
     alloc: Global,
     bytes: &[u8],
@@ -58,7 +58,7 @@ pub fn is_list_of_two<T: CanonicalItem + Alike + Drop>(
     }
 }
 
-/// Whether the value is duplicated.
+/// Returns whether the value is duplicated.
 pub fn is_duplicated<T: Duplicate + Alike>(alloc: Global, value: &T) -> bool {
     match value.duplicate(alloc) {
         Ok(copy) => copy.is_like(value),
@@ -66,7 +66,7 @@ pub fn is_duplicated<T: Duplicate + Alike>(alloc: Global, value: &T) -> bool {
     }
 }
 
-/// Whether the value is printed so.
+/// Returns whether the value is printed so.
 pub fn is_printed<T: Debug>(alloc: Global, value: &T, text: &str) -> bool {
     match format!(in alloc; "{value:?}") {
         Ok(printed) => printed.as_str() == text,
@@ -74,7 +74,7 @@ pub fn is_printed<T: Debug>(alloc: Global, value: &T, text: &str) -> bool {
     }
 }
 
-/// Whether bytes are shown so in hexadecimal.
+/// Returns whether bytes are shown so in hexadecimal.
 pub fn is_shown(alloc: Global, bytes: &[u8], text: &str) -> bool {
     match hex::encode(alloc, bytes) {
         Ok(shown) => shown.as_str() == text,
@@ -82,7 +82,7 @@ pub fn is_shown(alloc: Global, bytes: &[u8], text: &str) -> bool {
     }
 }
 
-/// Whether an answer is bytes that are shown so.
+/// Returns whether an answer is bytes that are shown so.
 pub fn are_shown(alloc: Global, answer: Result<Vec<u8>, Error>, text: &str) -> bool {
     match answer {
         Ok(bytes) => is_shown(alloc, &bytes, text),

@@ -70,7 +70,7 @@ fn two_have_digests<H: Asked>(
     true
 }
 
-/// Whether the hash with these generators gives these digests.
+/// Returns whether the hash with these generators gives these digests.
 pub fn are_digests<H: Asked>(alloc: Global, generators: &[&[u64]], rows: &[Row]) -> bool {
     match H::Parameters::listed(alloc, generators) {
         Ok(parameters) => have_digests::<H>(alloc, &parameters, rows),
@@ -78,7 +78,7 @@ pub fn are_digests<H: Asked>(alloc: Global, generators: &[&[u64]], rows: &[Row])
     }
 }
 
-/// The same of two inputs.
+/// Returns the same of two inputs.
 pub fn are_digests_of_two<H: Asked>(
     alloc: Global,
     generators: &[&[u64]],
@@ -90,7 +90,7 @@ pub fn are_digests_of_two<H: Asked>(
     }
 }
 
-/// What the hash with these generators gives for two digests.
+/// Returns what the hash with these generators gives for two digests.
 pub fn compressed<H: Asked>(
     alloc: Global,
     generators: &[&[u64]],

@@ -47,7 +47,7 @@ where
     }
 }
 
-/// Whether parameters have these bytes, and others stand in a list of two.
+/// Returns whether parameters have these bytes, and others stand in a list of two.
 pub fn have_bytes<P>(
     alloc: Global,
     bytes: &[u8],
@@ -64,7 +64,7 @@ where
     }
 }
 
-/// Whether the parameters are printed so.
+/// Returns whether the parameters are printed so.
 pub fn are_printed<P: Debug + Listed>(alloc: Global, rows: &[&[u64]], text: &str) -> bool {
     match P::listed(alloc, rows) {
         Ok(parameters) => is_printed(alloc, &parameters, text),

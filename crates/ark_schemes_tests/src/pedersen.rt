@@ -73,7 +73,7 @@ where
     number(S::commit(alloc, &parameters, input, &randomness_of(randomness)))
 }
 
-/// Whether a scheme gives these commitments.
+/// Returns whether a scheme gives these commitments.
 pub fn are_commitments<S, C>(alloc: Global, rows: &[Row]) -> bool
 where
     C: CurveGroup + Numeral,

@@ -29,7 +29,7 @@ fn filled(bytes: &[u8]) -> [u8; 64]
     block
 }
 
-/// All blocks of a text.
+/// Returns all blocks of a text.
 fn blocks(alloc: Global, text: &[u8]) -> Result<Vec<[u32; 16]>, AllocError>
     requires { length text.now < 2 ^ 32 }
     ensures { IfOk result (λ d. d.items ≡ blocks text.now) }
@@ -56,7 +56,7 @@ fn hash_blocks(mut h: [u32; 8], blocks: &[[u32; 16]], len: u64) -> [u32; 8]
     h
 }
 
-/// The digest of a text with salt and personalization.
+/// Returns the digest of a text with salt and personalization.
 pub fn digest(
     alloc: Global,
     salt: &[u8; 8],

@@ -111,7 +111,7 @@ impl<M: Modulus> Numeral for Fp<M> {
     }
 }
 
-/// The number of an answer.
+/// Returns the number of an answer.
 pub fn number<T: Numeral>(answer: Result<T, Error>) -> Result<u64, Error> {
     match answer {
         Ok(value) => Ok(value.number()),
@@ -119,7 +119,7 @@ pub fn number<T: Numeral>(answer: Result<T, Error>) -> Result<u64, Error> {
     }
 }
 
-/// The elements of these numbers.
+/// Returns the elements of these numbers.
 pub fn list<G: CurveGroup + Numeral>(alloc: Global, numbers: &[u64]) -> Result<Vec<G>, Error> {
     let mut list = Vec::new(alloc);
     for number in numbers {
@@ -128,7 +128,7 @@ pub fn list<G: CurveGroup + Numeral>(alloc: Global, numbers: &[u64]) -> Result<V
     Ok(list)
 }
 
-/// A list of elements for each of these lists of numbers.
+/// Returns a list of elements for each of these lists of numbers.
 pub fn lists<G: CurveGroup + Numeral>(
     alloc: Global,
     rows: &[&[u64]],
@@ -200,7 +200,7 @@ fn next<C: CurveGroup>(growth: Growth, power: C) -> C {
     }
 }
 
-/// Whether the list is an element with what grows of it, as many in all.
+/// Returns whether the list is an element with what grows of it, as many in all.
 pub fn is_grown<C: CurveGroup>(growth: Growth, list: &[C], element: C, count: usize) -> bool {
     let mut power = element;
     for item in list {
@@ -212,7 +212,7 @@ pub fn is_grown<C: CurveGroup>(growth: Growth, list: &[C], element: C, count: us
     list.len() == count
 }
 
-/// Whether there is such a list for each window, of an element of the twin's.
+/// Returns whether there is such a list for each window, of an element of the twin's.
 pub fn are_drawn<C: CurveGroup, W: Window, R: Rng>(
     growth: Growth,
     lists: &[Vec<C>],

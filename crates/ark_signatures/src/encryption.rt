@@ -47,7 +47,7 @@ pub trait AsymmetricEncryptionScheme {
     ) -> Result<(Self::PublicKey, Self::SecretKey), Error>
         ensures { keygen_gives pp.now (R.stream rng.old) result (R.stream rng.new) };
 
-    /// The ciphertext of a message under a public key and randomness.
+    /// Returns the ciphertext of a message under a public key and randomness.
     fn encrypt(
         alloc: Global,
         pp: &Self::Parameters,
@@ -57,7 +57,7 @@ pub trait AsymmetricEncryptionScheme {
     ) -> Result<Self::Ciphertext, Error>
         ensures { encrypt_gives pp.now pk.now message.now r.now result };
 
-    /// What the secret key reads in a ciphertext.
+    /// Returns what the secret key reads in a ciphertext.
     fn decrypt(
         alloc: Global,
         pp: &Self::Parameters,

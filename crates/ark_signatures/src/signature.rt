@@ -63,7 +63,7 @@ pub trait SignatureScheme {
         ensures { sign_gives pp.now sk.now message.now (R.stream rng.old) result
             (R.stream rng.new) };
 
-    /// Whether the message is signed under the public key.
+    /// Returns whether the message is signed under the public key.
     fn verify(
         alloc: Global,
         pp: &Self::Parameters,
@@ -73,7 +73,7 @@ pub trait SignatureScheme {
     ) -> Result<bool, Error>
         ensures { verify_gives pp.now pk.now message.now signature.now result };
 
-    /// Another public key, by the randomness.
+    /// Returns another public key, by the randomness.
     fn randomize_public_key(
         alloc: Global,
         pp: &Self::Parameters,
@@ -82,7 +82,7 @@ pub trait SignatureScheme {
     ) -> Result<Self::PublicKey, Error>
         ensures { public_key_gives pp.now public_key.now randomness.now result };
 
-    /// The signature for the public key that the same randomness makes.
+    /// Returns the signature for the public key that the same randomness makes.
     fn randomize_signature(
         alloc: Global,
         pp: &Self::Parameters,

@@ -52,7 +52,7 @@ impl CRHScheme for ArraySha256 {
         Ok(())
     }
 
-    /// The digest of the input. It takes no memory.
+    /// Returns the digest of the input. It allocates nothing.
     fn evaluate(_alloc: Global, _parameters: &(), input: &Vec<u8>) -> Result<[u8; 32], Error>
         ensures exact { result ≡ Ok (sha256 input.now.items) }
     {
@@ -99,7 +99,7 @@ impl TwoToOneCRHScheme for ArraySha256 {
         Ok(())
     }
 
-    /// The digest of left followed by right. It takes no memory.
+    /// Returns the digest of left followed by right. It allocates nothing.
     fn evaluate(
         _alloc: Global,
         _parameters: &(),
@@ -111,7 +111,7 @@ impl TwoToOneCRHScheme for ArraySha256 {
         Ok(digest_of_pair(left, right))
     }
 
-    /// The digest of left followed by right. It takes no memory.
+    /// Returns the digest of left followed by right. It allocates nothing.
     fn compress(
         alloc: Global,
         parameters: &(),

@@ -1,6 +1,6 @@
 //! Trees as transparency logs hash them (RFC 6962, section 2.1).
 
-ghost use Rattle.std.specs.Prelude.{◌≡◌, ◌≤◌, ◌+◌, ◌∷◌, ◌++◌, Ok, IfOk, refl, length, map, take};
+ghost use Rattle.std.specs.Prelude.{◌≡◌, Ok, IfOk, refl, length, map};
 ghost use Rattle.ark_base.specs.Outcome.{AnswersBy};
 ghost use Rattle.ark_paths.specs.Index.{IsTreeSize, log2};
 ghost use Rattle.ark_paths.specs.Tree.{root_in, tree_of};
@@ -13,7 +13,7 @@ use ark_merkle::hasher::TreeHasher;
 use ark_merkle::{Config, IdentityDigestConverter, MerkleTree, Views};
 use rand::Rng;
 use sha2::{Digest, Sha256};
-use sha256_lanes::four_messages;
+use sha256_lanes::{four_prefixed, four_prefixed_pairs};
 use std::alloc::Global;
 
 /// Trees with the hashing of RFC 6962: a zero byte stands before a leaf, a one byte before a pair, so that no pair is taken
@@ -35,7 +35,7 @@ impl Config for Sha256Log {
 }
 
 impl Sha256Log {
-    /// The tree of a log over these entries, of which there are a power of two above one. The only refusal is
+    /// Returns the tree of a log over these entries, of which there are a power of two above one. The only error is
     /// `OutOfMemory`.
     pub fn tree(alloc: Global, entries: &[Vec<u8>]) -> Result<MerkleTree<Sha256Log>, Error>
         requires { IsTreeSize (length entries.now) }
@@ -74,7 +74,7 @@ impl CRHScheme for LogSha256 {
         Ok(())
     }
 
-    /// The hash of an entry. It takes no memory.
+    /// Returns the hash of an entry. It allocates nothing.
     fn evaluate(_alloc: Global, _parameters: &(), input: &Vec<u8>) -> Result<[u8; 32], Error>
         ensures exact { result ≡ Ok (entry_hash input.now.items) }
     {
@@ -121,7 +121,7 @@ impl TwoToOneCRHScheme for LogSha256 {
         Ok(())
     }
 
-    /// The hash of the node over two others. It takes no memory.
+    /// Returns the hash of the node over two others. It allocates nothing.
     fn evaluate(
         _alloc: Global,
         _parameters: &(),
@@ -133,7 +133,7 @@ impl TwoToOneCRHScheme for LogSha256 {
         Ok(digest_of_node(left, right))
     }
 
-    /// The hash of the node over two others. It takes no memory.
+    /// Returns the hash of the node over two others. It allocates nothing.
     fn compress(
         alloc: Global,
         parameters: &(),
@@ -275,7 +275,7 @@ impl TreeHasher<[u8; 32], [u8; 32]> for LogHasher {
     }
 }
 
-/// The digest of a zero byte and an entry (section 2.1).
+/// Returns the digest of a zero byte and an entry (section 2.1).
 pub fn digest_of_entry(entry: &[u8]) -> [u8; 32]
     ensures { result ≡ entry_hash entry.now }
 {
@@ -285,49 +285,14 @@ pub fn digest_of_entry(entry: &[u8]) -> [u8; 32]
     hasher.finalize()
 }
 
-// A zero byte and an entry, in a buffer.
-fn entry_message(entry: &[u8]) -> [u8; 119]
-    requires { length entry.now ≤ 118 }
-    ensures { take (length entry.now + 1) result ≡ 0 ∷ entry.now }
-{
-    let mut message = [0; 119];
-    message[1..entry.len() + 1].copy_from_slice(entry);
-    message
-}
-
-/// The digests of four entries, which are hashed together where none has more than 118 bytes.
+/// Returns the digests of four entries. They are hashed together where all have at most 54 bytes, or all have 55 to 118.
 pub fn digests_of_entries(a: &[u8], b: &[u8], c: &[u8], d: &[u8]) -> Four
     ensures a { result.0 ≡ entry_hash a.now }
     ensures b { result.1 ≡ entry_hash b.now }
     ensures c { result.2 ≡ entry_hash c.now }
     ensures d { result.3 ≡ entry_hash d.now }
 {
-    if a.len() <= 118 && b.len() <= 118 && c.len() <= 118 && d.len() <= 118 {
-        four_messages(
-            &entry_message(a)[..a.len() + 1],
-            &entry_message(b)[..b.len() + 1],
-            &entry_message(c)[..c.len() + 1],
-            &entry_message(d)[..d.len() + 1],
-        )
-    } else {
-        (
-            digest_of_entry(a),
-            digest_of_entry(b),
-            digest_of_entry(c),
-            digest_of_entry(d),
-        )
-    }
-}
-
-// A one byte, left and right.
-fn node_message(left: &[u8; 32], right: &[u8; 32]) -> [u8; 65]
-    ensures { result ≡ 1 ∷ left.now ++ right.now }
-{
-    let mut message = [0; 65];
-    message[0] = 1;
-    message[1..33].copy_from_slice(left);
-    message[33..].copy_from_slice(right);
-    message
+    four_prefixed(0, a, b, c, d)
 }
 
 // The digests of four nodes.
@@ -346,10 +311,5 @@ fn digests_of_nodes(
     ensures c { result.2 ≡ node_hash c.now c_right.now }
     ensures d { result.3 ≡ node_hash d.now d_right.now }
 {
-    four_messages(
-        &node_message(a, a_right),
-        &node_message(b, b_right),
-        &node_message(c, c_right),
-        &node_message(d, d_right),
-    )
+    four_prefixed_pairs(1, a, a_right, b, b_right, c, c_right, d, d_right)
 }

@@ -9,7 +9,7 @@ use ark_crypto_primitives::commitment::blake2s::Commitment;
 use ark_crypto_primitives::prf::{Blake2s, Blake2s256, Blake2sWithParameterBlock, PRF};
 use std::alloc::Global;
 
-/// The work that a word names, `count` times.
+/// Does the work that a word names, `count` times.
 pub fn checksum(alloc: Global, work: &str, count: u64) -> Result<Option<u64>, Error> {
     let sum = match work {
         "64" => digests(alloc, 64, count)?,

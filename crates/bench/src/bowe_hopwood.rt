@@ -29,7 +29,7 @@ impl Window for Wide {
     ghost fits = { lit< tt };
 }
 
-/// The work that a word names, `count` times.
+/// Does the work that a word names, `count` times.
 pub fn checksum(alloc: Global, work: &str, count: u64) -> Result<Option<u64>, Error> {
     match work {
         "hopwood" => Ok(Some(bowe_hopwood_hashes::<Small<M13>, Wide>(alloc, count)?)),

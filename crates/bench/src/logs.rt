@@ -11,7 +11,8 @@ type ArrayLog = Log<[u8; 32], LogHasher>;
 // The size of the log that proofs are asked of.
 const SIZE: u64 = 1 << 20;
 
-/// The work that a word names: so many thousand entries are appended or hashed, or so many proofs made or checked.
+/// Does the work that a word names: so many thousand entries are appended or hashed, or so many proofs made or
+/// checked.
 pub fn checksum(alloc: Global, work: &str, count: u64) -> Result<Option<u64>, Error> {
     match work {
         "hash" => Ok(Some(hashed(alloc, count)?)),

@@ -11,6 +11,7 @@ mod poseidon;
 mod signatures;
 mod sums;
 mod trees;
+mod wide_fields;
 mod works;
 
 use crate::works::checksum;

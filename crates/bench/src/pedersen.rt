@@ -50,7 +50,7 @@ impl<M: Modulus> Number for Residues<M> {
     }
 }
 
-/// The work that a word names, `count` times.
+/// Does the work that a word names, `count` times.
 pub fn checksum(alloc: Global, work: &str, count: u64) -> Result<Option<u64>, Error> {
     let sum = match work {
         "hash" => pedersen_hashes::<Residues<M61>, Wide>(alloc, count),

@@ -39,7 +39,7 @@ impl<F: PrimeField> SBox<F> for Seventh {
     }
 }
 
-/// The work that a word names, `count` times, over states of `width` elements with `partial_rounds`.
+/// Does the work that a word names, `count` times, over states of `width` elements with `partial_rounds`.
 pub fn checksum<F: PrimeField + Absorb + DigestItem, S: SBox<F>>(
     alloc: Global,
     work: &str,
@@ -56,7 +56,7 @@ pub fn checksum<F: PrimeField + Absorb + DigestItem, S: SBox<F>>(
     with_parameters::<F, S>(alloc, &parameters, work, count)
 }
 
-/// The work that a word names, `count` times, with these parameters.
+/// Does the work that a word names, `count` times, with these parameters.
 pub fn with_parameters<F: Field + Absorb + DigestItem, S: SBox<F>>(
     alloc: Global,
     parameters: &PoseidonConfig<F>,

@@ -15,7 +15,7 @@ use std::alloc::Global;
 
 const MESSAGE: &[u8] = &[0xa5; 32];
 
-/// The work on signatures that a word names, `count` times.
+/// Does the work on signatures that a word names, `count` times.
 pub fn signing<G: CurveGroup, D: ByteDigest>(
     alloc: Global,
     work: &str,
@@ -25,7 +25,7 @@ pub fn signing<G: CurveGroup, D: ByteDigest>(
     signing_with::<Schnorr<G, D>>(alloc, &mut rng, work, count)
 }
 
-/// The work on encryption that a word names, `count` times.
+/// Does the work on encryption that a word names, `count` times.
 pub fn encryption<G: CurveGroup>(
     alloc: Global,
     work: &str,

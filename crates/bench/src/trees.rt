@@ -12,7 +12,7 @@ use rand::rngs::SmallRng;
 use rand::{Rng, SeedableRng};
 use std::alloc::Global;
 
-/// The work that a word names, in a tree of 2^16 or 2^20 leaves, `count` times.
+/// Does the work that a word names, in a tree of 2^16 or 2^20 leaves, `count` times.
 pub fn checksum<P: Config<Leaf = Vec<u8>>>(
     alloc: Global,
     leaf: &LeafParam<P>,

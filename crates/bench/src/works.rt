@@ -1,7 +1,9 @@
 //! The works by their names.
 
 use crate::poseidon::{Fifth, Seventh};
-use crate::{blake2s, bowe_hopwood, fields, logs, pedersen, poseidon, signatures, trees};
+use crate::{
+    blake2s, bowe_hopwood, fields, logs, pedersen, poseidon, signatures, trees, wide_fields,
+};
 use ark_crypto_primitives::Error;
 use ark_crypto_primitives::ec::Residues;
 use ark_crypto_primitives::ff::{BabyBear, Bls12_381Fr, Fp, Goldilocks, M61};
@@ -12,7 +14,7 @@ use std::alloc::Global;
 
 type Group = Residues<M61>;
 
-/// The checksum of the work that two words name, its name and how often it is done, if they name one.
+/// Returns the checksum of the work that two words name, its name and how often it is done, if they name one.
 pub fn checksum(alloc: Global, words: &[String]) -> Result<Option<u64>, Error> {
     let [name, count] = words else {
         return Ok(None);
@@ -27,6 +29,7 @@ pub fn checksum(alloc: Global, words: &[String]) -> Result<Option<u64>, Error> {
         "product" => Ok(fields::products(work, count)),
         "sum" => Ok(fields::sums(work, count)),
         "reduce" => Ok(fields::reductions(work, count)),
+        "wide" => Ok(wide_fields::checksum(work, count)),
         "log" => logs::checksum(alloc, work, count),
         "blake2s" => blake2s::checksum(alloc, work, count),
         "pedersen" => pedersen::checksum(alloc, work, count),

@@ -39,7 +39,7 @@ pub struct Client {
 }
 
 impl Client {
-    /// Whether an entry stands at an index of the log: the log sent the bytes of its path.
+    /// Returns whether an entry stands at an index of the log: the log sent the bytes of its path.
     ///
     /// Errors: those of `verify_inclusion_bytes`.
     pub fn holds(

@@ -42,7 +42,7 @@ pub fn open(alloc: Global, entries: &[Vec<u8>]) -> Result<MerkleTree<Sha256Log>,
     Sha256Log::tree(alloc, entries)
 }
 
-/// What the log publishes.
+/// Returns what the log publishes.
 pub fn head_of(log: &MerkleTree<Sha256Log>) -> Head
     ensures root { root_in (⟦<Sha256Log as Views>⟧.tree log.now) ≡ Ok result.root }
     ensures size { result.size ≡ length log.now.leaves }
@@ -68,7 +68,7 @@ pub fn receipt(alloc: Global, log: &MerkleTree<Sha256Log>, index: usize) -> Resu
     canonical_bytes(alloc, &log.generate_proof(alloc, index)?)
 }
 
-/// A client's check, with the head alone: whether the receipt shows that the entry stands at the index.
+/// Returns a client's check, with the head alone: whether the receipt shows that the entry stands at the index.
 pub fn is_logged(
     alloc: Global,
     head: &Head,

@@ -8,14 +8,14 @@ use ark_crypto_primitives::commitment::CommitmentScheme;
 use ark_crypto_primitives::commitment::blake2s::Commitment;
 use std::alloc::Global;
 
-/// The commitment to a bid. The nonce has 32 bytes that nobody can guess, and serves once.
+/// Returns the commitment to a bid. The nonce has 32 bytes that nobody can guess, and serves once.
 pub fn commit(alloc: Global, bid: &[u8], nonce: &[u8; 32]) -> Result<[u8; 32], Error>
     ensures { result ≡ blake2s_commitment bid.now nonce.now }
 {
     Commitment::commit(alloc, &(), bid, nonce)
 }
 
-/// Whether a bid and a nonce open a commitment: exactly where they commit to it.
+/// Returns whether a bid and a nonce open a commitment: exactly where they commit to it.
 pub fn opens(
     alloc: Global,
     commitment: &[u8; 32],

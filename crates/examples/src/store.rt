@@ -18,7 +18,8 @@ pub struct Follower {
 }
 
 impl Follower {
-    /// Whether a value stands at an index: the store sent the bytes of its path. Refusals: those of `Path::verify_bytes`.
+    /// Returns whether a value stands at an index: the store sent the bytes of its path. Errors: those of
+    /// `Path::verify_bytes`.
     pub fn holds(
         &self,
         alloc: Global,

@@ -86,7 +86,7 @@ fn read_peaks<D: DigestItem>(alloc: Global, bytes: &[u8]) -> Result<(u64, Vec<D>
 }
 
 impl<D: DigestItem, T: TreeHasher<D, D>> Frontier<D, T> {
-    /// The frontier of no digests, whose root is given.
+    /// Returns the frontier of no digests, whose root is given.
     pub fn new(alloc: Global, hasher: T, empty: D) -> Frontier<D, T>
         ensures { result ≡ record {
           hasher = hasher;
@@ -122,7 +122,7 @@ impl<D: DigestItem, T: TreeHasher<D, D>> Frontier<D, T> {
         Ok(bytes)
     }
 
-    /// How many digests there are.
+    /// Returns how many digests there are.
     pub fn size(&self) -> u64
         ensures { result ≡ self.now.size }
     {
@@ -131,7 +131,7 @@ impl<D: DigestItem, T: TreeHasher<D, D>> Frontier<D, T> {
 
     /// Puts a digest behind the others.
     ///
-    /// Refusals, which leave the frontier as it was: that of a pair; `OutOfMemory`.
+    /// Errors, which leave the frontier as it was: that of a pair; `OutOfMemory`.
     pub fn append(&mut self, alloc: Global, digest: D) -> Result<(), Error>
         requires { self.old.size + 1 < 2 ^ 64 }
 
@@ -155,7 +155,7 @@ impl<D: DigestItem, T: TreeHasher<D, D>> Frontier<D, T> {
         Ok(())
     }
 
-    /// The root of the digests: MTH(D). Refusals: that of the hash; `OutOfMemory`.
+    /// Returns the root of the digests: MTH(D). Errors: that of the hash; `OutOfMemory`.
     pub fn root(&self, alloc: Global) -> Result<D, Error>
         ensures { let hash = (T.hashes self.now.hasher).pair.upper in
             (digests : List Digest) → IsFrontier hash digests self.now.size self.now.peaks

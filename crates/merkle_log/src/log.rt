@@ -181,7 +181,7 @@ impl<D: DigestItem, T: TreeHasher<D, D>> Log<D, T> {
         Ok(())
     }
 
-    /// As `append_digest`, and returns how many pairs were hashed: those of the subtrees that the leaf completes.
+    /// Acts as `append_digest`, and returns how many pairs were hashed: those of the subtrees that the leaf completes.
     ///
     /// Over n appends to an empty log that is n less the count of ones of n.
     pub fn append_digest_counting(&mut self, alloc: Global, digest: D) -> Result<usize, Error>
@@ -217,7 +217,8 @@ impl<D: DigestItem, T: TreeHasher<D, D>> Log<D, T> {
         Ok(())
     }
 
-    /// As `append_many`, and returns how many pairs were hashed: for n leaves in an empty log, n less the count of ones of n.
+    /// Acts as `append_many`, and returns how many pairs were hashed: for n leaves in an empty log, n less the count of
+    /// ones of n.
     pub fn append_many_counting(
         &mut self,
         alloc: Global,
@@ -263,8 +264,8 @@ impl<D: DigestItem, T: TreeHasher<D, D>> Log<D, T> {
         root_of(alloc, &self.hasher, &self.stored, size)
     }
 
-    /// As `root`, and returns how many pairs were hashed: the ones of the size less one, all of an incomplete right edge, and none
-    /// for no leaves.
+    /// Acts as `root`, and returns how many pairs were hashed: the ones of the size less one, all of an incomplete
+    /// right edge, and none for no leaves.
     pub fn root_counting(&self, alloc: Global, size: usize) -> Result<(D, usize), Error>
         requires { size ≤ length self.now.digests }
         ensures root { let hash = (T.hashes self.now.hasher).pair.upper in

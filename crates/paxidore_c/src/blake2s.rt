@@ -7,7 +7,7 @@ ghost use Rattle.ark_schemes.specs.Hashers.{HoldsText};
 use ark_schemes::prf::blake2s::Blake2s256;
 use std::mem;
 
-/// The digest of some bytes, to `digest`. It takes no memory and refuses nothing.
+/// Writes the digest of some bytes to `digest`. It allocates nothing and never fails.
 #[unsafe(no_mangle)]
 pub extern "C" fn paxidore_blake2s(digest: &mut [u8; 32], input: &[u8])
     ensures { digest.new ≡ blake2s input.now }
@@ -34,7 +34,7 @@ pub extern "C" fn paxidore_blake2s_update(state: &mut Blake2s256, input: &[u8])
     state.update(input);
 }
 
-/// The digest of the text, to `digest`; the hasher is then that of the text of no bytes.
+/// Writes the digest of the text to `digest`; the hasher is then that of the text of no bytes.
 #[unsafe(no_mangle)]
 pub extern "C" fn paxidore_blake2s_final(state: &mut Blake2s256, digest: &mut [u8; 32])
     ensures digest { (text : List ℕ) → HoldsText state.old text → digest.new ≡ blake2s text }

@@ -16,7 +16,7 @@ use paxidore_calls::leaves::{PlainDigest, are_indexes, leaves_for, of_leaves};
 use paxidore_calls::refused::{Refused, verdict_code};
 use std::alloc::Global;
 
-/// Whether the bytes of a path show a leaf at an index of a tree with this root and size.
+/// Returns whether the bytes of a path show a leaf at an index of a tree with this root and size.
 #[unsafe(no_mangle)]
 pub extern "C" fn paxidore_sha256_verify(
     alloc: Global,
@@ -52,7 +52,7 @@ pub extern "C" fn paxidore_sha256_verify(
     ))
 }
 
-/// Whether the bytes of a strict multi-proof show leaves, one for each of some rising indexes, in such a tree.
+/// Returns whether the bytes of a strict multi-proof show leaves, one for each of some rising indexes, in such a tree.
 #[unsafe(no_mangle)]
 pub extern "C" fn paxidore_sha256_multi_verify(
     alloc: Global,
@@ -139,7 +139,7 @@ fn multi_path_of(
     Ok(canonical_bytes(alloc, &proof)?)
 }
 
-/// The root of the tree above the leaves, to `root`. A refusal leaves that as before.
+/// Writes the root of the tree above the leaves to `root`. An error leaves that as before.
 #[unsafe(no_mangle)]
 pub extern "C" fn paxidore_sha256_root(
     alloc: Global,
@@ -161,7 +161,7 @@ pub extern "C" fn paxidore_sha256_root(
     }
 }
 
-/// The bytes of the path of an index in the tree above the leaves, to the front of `path`, and their count.
+/// Writes the bytes of the path of an index in the tree above the leaves to the front of `path`, and their count.
 #[unsafe(no_mangle)]
 pub extern "C" fn paxidore_sha256_path(
     alloc: Global,
@@ -180,7 +180,8 @@ pub extern "C" fn paxidore_sha256_path(
     hand_over(path_of(alloc, leaves, lengths, index), path, path_len)
 }
 
-/// The bytes of the multi-proof of some indexes in the tree above the leaves, to the front of `proof`, and their count.
+/// Writes the bytes of the multi-proof of some indexes in the tree above the leaves to the front of `proof`, and their
+/// count.
 #[unsafe(no_mangle)]
 pub extern "C" fn paxidore_sha256_multi_path(
     alloc: Global,

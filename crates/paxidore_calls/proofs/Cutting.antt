@@ -1,7 +1,7 @@
 -- Leaves that are cut off in turn, and what is made of each.
-use Rattle.std.proofs.Common.{◌≡◌, ℕ, ◌+◌, ◌<◌, ◌≤◌, List, [], ◌∷◌, ◌++◌, length, take, drop, map, get_or, nat_lt, true, false, Option, Some, None, Result, Ok, Err, refl, sym, ap, ◌∙◌, append_assoc, append-nil}
-use Rattle.std.proofs.lemmas.Bool.{le-ltb, lt-ltb}
-use Rattle.std.proofs.lemmas.List.{drop_all, drop_more, map-append}
+use Rattle.std.proofs.Common.{◌≡◌, ℕ, ◌+◌, ◌<◌, ◌≤◌, List, [], ◌∷◌, ◌++◌, length, drop, map, nat_lt, true, Option, Some, None, Result, Ok, Err, refl, sym, ap, ◌∙◌, append_assoc, append-nil}
+use Rattle.std.proofs.lemmas.Bool.{lt-ltb}
+use Rattle.std.proofs.lemmas.List.{drop_all, map-append}
 use Rattle.std.specs.Option.{option_map}
 use Rattle.paxidore_calls.specs.Answer.{leaves_in, results_of}
 use Rattle.paxidore_calls.specs.Cut.{parts_by}
@@ -22,22 +22,6 @@ behind-onto : {B : Type 0} (front more : List B) (rest : Result (List B) Refused
 behind-onto front more (Ok others) = ap Ok (sym (append_assoc front more others))
 behind-onto front more (Err refused) = refl
 
--- the first part of some bytes
-module _ (bytes lengths : List ℕ) (i len : ℕ) (inside : i < length lengths) (is : len ≡ get_or lengths i len) where
-  here : drop i lengths ≡ len ∷ drop (i + 1) lengths
-  here = drop_more lengths i len inside ∙ ap (λ (n : ℕ). n ∷ drop (i + 1) lengths) (sym is)
-
-  pub parts-short : length bytes < len → parts_by bytes (drop i lengths) ≡ None
-  parts-short short =
-      let test : nat_lt (length bytes) len ≡ true = lt-ltb (length bytes) len short in
-      rw (here, test) refl
-
-  pub parts-first : len ≤ length bytes → parts_by bytes (drop i lengths)
-      ≡ option_map (λ others. take len bytes ∷ others) (parts_by (drop len bytes) (drop (i + 1) lengths))
-  parts-first fits =
-      let test : nat_lt (length bytes) len ≡ false = le-ltb (length bytes) len fits in
-      rw (here, test) refl
-
 -- four parts, each in front of others
 pub four-parts : {A : Type 0} (a b c d : A) (o : Option (List A)) → option_map (λ others. a ∷ others)
     (option_map (λ others. b ∷ others) (option_map (λ others. c ∷ others) (option_map (λ others. d ∷ others) o)))
@@ -55,13 +39,6 @@ module _ {B : Type 0} (made : List ℕ → B) where
       ≡ behind (map made parts) (results_of made (leaves_in rest))
   first-parts parts None = refl
   first-parts parts (Some others) = ap Ok (map-append made parts others)
-
-  -- what is made of four parts, as it is seen behind other values
-  pub four-made : {M : Type 0} (seen : M → B) (front : List M) (w x y z : M) (a b c d : List ℕ)
-      → (seen w ≡ made a) × (seen x ≡ made b) × (seen y ≡ made c) × (seen z ≡ made d)
-      → map seen (front ++ w ∷ x ∷ y ∷ z ∷ []) ≡ map seen front ++ map made (a ∷ b ∷ c ∷ d ∷ [])
-  four-made seen front w x y z a b c d are =
-      map-append seen front (w ∷ x ∷ y ∷ z ∷ []) ∙ rw (are.0, are.1, are.2, are.3) refl
 
   module _ (bytes : List ℕ) (lengths : List ℕ) where
     -- before place i all is made; the rest is left

@@ -27,11 +27,11 @@ pub trait OfLeaf {
     // What is seen of it.
     ghost seen: { Self.Made → List ℕ };
 
-    /// What is made of the leaf of some bytes.
+    /// Returns what is made of the leaf of some bytes.
     fn make(alloc: Global, leaf: &[u8]) -> Result<Self::Made, AllocError>
         ensures { IfOk result (λ x. seen x ≡ made leaf.now) };
 
-    /// What is made of the leaves of four times some bytes. They may be hashed together.
+    /// Returns what is made of the leaves of four times some bytes. They may be hashed together.
     fn make_four(
         alloc: Global,
         a: &[u8],
@@ -175,7 +175,7 @@ fn push_four<T: Drop>(all: &mut Vec<T>, four: (T, T, T, T)) -> Result<(), Refuse
     Ok(())
 }
 
-/// What is made of each leaf, where the lengths are those of parts that are all of the bytes.
+/// Returns what is made of each leaf, where the lengths are those of parts that are all of the bytes.
 pub fn of_leaves<M: OfLeaf>(
     alloc: Global,
     bytes: &[u8],
@@ -210,7 +210,7 @@ pub fn of_leaves<M: OfLeaf>(
     Ok(all)
 }
 
-/// The leaves for as many indexes of a tree of this size.
+/// Returns the leaves for as many indexes of a tree of this size.
 pub fn leaves_for(
     alloc: Global,
     size: usize,
@@ -231,7 +231,7 @@ pub fn leaves_for(
     of_leaves::<Itself>(alloc, bytes, lengths)
 }
 
-/// Whether all indexes are of leaves in a tree of this size, and there is one.
+/// Returns whether all indexes are of leaves in a tree of this size, and there is one.
 pub fn are_indexes(size: usize, indexes: &[usize]) -> bool
     ensures test { result ≡ are_indexes size indexes.now }
     ensures inside { result ≡ true → All (λ i. i < size) indexes.now }

@@ -34,7 +34,7 @@ pub enum Refused {
 }
 
 impl Refused {
-    /// The code of the refusal.
+    /// Returns the code of the refusal.
     pub fn code(self) -> i32
         ensures { result ≡ refusal_code self }
     {
@@ -83,7 +83,7 @@ impl<T: Drop> From<AllocFailed<T>> for Refused {
     }
 }
 
-/// The code of what a proof says.
+/// Returns the code of what a proof says.
 pub fn verdict_code(verdict: Result<bool, Error>) -> i32
     ensures { result ≡ verdict_code (refusing verdict) }
 {

@@ -10,7 +10,7 @@ use rand::SeedableRng;
 use rand::rngs::SmallRng;
 use std::alloc::Global;
 
-/// How the copy of a value ended.
+/// Returns how the copy of a value ended.
 pub fn copied<T: Duplicate>(alloc: Global, value: &T) -> Ended {
     ending(without_value(value.duplicate(alloc)), true)
 }
@@ -35,7 +35,7 @@ where
     Ok(copied(alloc, &parameters))
 }
 
-/// How the copy of what a word names ended.
+/// Returns how the copy of what a word names ended.
 pub fn ended_of(alloc: Global, call: &str) -> Result<Option<Ended>, Error> {
     let ended = match call {
         "bytes" => bytes_copied(alloc)?,

@@ -47,7 +47,7 @@ fn pair_set_up<H: TwoToOneCRHScheme>(alloc: Global) -> Ended {
     ending(without_value(H::setup(alloc, &mut rng)), true)
 }
 
-/// How the setup of the hash that a word names ended.
+/// Returns how the setup of the hash that a word names ended.
 pub fn ended_of(alloc: Global, call: &str) -> Option<Ended> {
     match call {
         "sha256" => Some(set_up::<Sha256>(alloc)),

@@ -30,7 +30,7 @@ fn read<T: CanonicalDeserialize + Drop>(alloc: Global, zeros: usize) -> Ended {
     }
 }
 
-/// How the reading of what a word names ended.
+/// Returns how the reading of what a word names ended.
 pub fn ended_of<F: PrimeField>(alloc: Global, call: &str) -> Option<Ended> {
     match call {
         "bytes" => Some(read::<Vec<u8>>(alloc, 0)),

@@ -51,13 +51,13 @@ pub enum Ended {
     Wrong,
 }
 
-/// How a call ended, without what it answered.
+/// Returns how a call ended, without what it answered.
 pub fn without_value<T: Drop>(answer: Result<T, Error>) -> Result<(), Error> {
     answer?;
     Ok(())
 }
 
-/// How a call ended that left what was lent to it as it was, or not.
+/// Returns how a call ended that left what was lent to it as it was, or not.
 pub fn ending(answer: Result<(), Error>, is_kept: bool) -> Ended {
     match answer {
         Ok(()) => Ended::Well,

@@ -14,7 +14,7 @@ use std::alloc::Global;
 
 const MESSAGE: &[u8] = &[0xa5];
 
-/// How a call of a commitment scheme ended.
+/// Returns how a call of a commitment scheme ended.
 pub fn committed<C: CommitmentScheme>(alloc: Global, call: &str) -> Result<Option<Ended>, Error> {
     let mut rng = SmallRng::seed_from_u64(1);
     let setup = C::setup(alloc, &mut rng);
@@ -29,7 +29,7 @@ pub fn committed<C: CommitmentScheme>(alloc: Global, call: &str) -> Result<Optio
     Ok(Some(ending(answer, true)))
 }
 
-/// How a call of a Pedersen commitment ended.
+/// Returns how a call of a Pedersen commitment ended.
 pub fn pedersen_committed<C: CurveGroup, W: Window>(
     alloc: Global,
     call: &str,
@@ -37,7 +37,7 @@ pub fn pedersen_committed<C: CurveGroup, W: Window>(
     committed::<pedersen::Commitment<C, W>>(alloc, call)
 }
 
-/// How a call of Schnorr signatures ended.
+/// Returns how a call of Schnorr signatures ended.
 pub fn schnorr_signed<C: CurveGroup, D: ByteDigest>(
     alloc: Global,
     call: &str,

@@ -31,7 +31,7 @@ impl<F: PrimeField, S: SBox<F>> Compared for PoseidonSponge<F, S> {
     }
 }
 
-/// How a call of a sponge that has absorbed some elements ended.
+/// Returns how a call of a sponge that has absorbed some elements ended.
 pub fn ended_of<F: PrimeField + Absorb>(alloc: Global, call: &str) -> Result<Option<Ended>, Error> {
     let parameters = PoseidonConfig::new(2, 1, 1, rows(alloc)?, rows(alloc)?, 2, 1)?;
     match call {
@@ -60,31 +60,60 @@ fn ended_over<
     let mut sponge = S::new(alloc, parameters)?;
     sponge.absorb(&input)?;
     let before = sponge.duplicate(alloc)?;
-    let answer = match call {
-        "absorb" => sponge.absorb(&input),
-        "native" => without_value(sponge.squeeze_native_field_elements(5)),
-        "elements" => without_value(sponge.squeeze_field_elements::<F>(5)),
-        "sizes" => {
-            let sizes = [FieldElementSize::Truncated(9), FieldElementSize::Full];
-            without_value(sponge.squeeze_field_elements_with_sizes::<F>(&sizes))
-        }
-        "other" => without_value(sponge.squeeze_field_elements::<G>(5)),
-        "other_sizes" => {
-            let sizes = [FieldElementSize::Truncated(3), FieldElementSize::Full];
-            without_value(sponge.squeeze_field_elements_with_sizes::<G>(&sizes))
-        }
-        "bytes" => without_value(sponge.squeeze_bytes(40)),
-        "bits" => without_value(sponge.squeeze_bits(200)),
-        "fork" => without_value(sponge.fork(b"domain")),
-        "copy" => without_value(sponge.duplicate(alloc)),
-        "new" => without_value(S::new(alloc, parameters)),
-        "from_state" => {
-            let state = sponge.duplicate(alloc)?.into_state();
-            without_value(S::from_state(alloc, state, parameters))
-        }
-        _ => return Ok(None),
-    };
-    Ok(Some(ending(answer, sponge.is_as(&before))))
+    let asked = asked::<F, G, S>(alloc, parameters, &mut sponge, &input, call);
+    match asked {
+        Some(answer) => Ok(Some(ending(answer, sponge.is_as(&before)))),
+        None => Ok(None),
+    }
+}
+
+// What a call answers, or nothing for another word.
+fn asked<F: PrimeField + Absorb, G: PrimeField, S: FieldBasedCryptographicSponge<F> + SpongeExt>(
+    alloc: Global,
+    parameters: &S::Config,
+    sponge: &mut S,
+    input: &Vec<F>,
+    call: &str,
+) -> Option<Result<(), Error>> {
+    match call {
+        "absorb" => Some(sponge.absorb(input)),
+        "fork" => Some(without_value(sponge.fork(b"domain"))),
+        "copy" => Some(without_value(sponge.duplicate(alloc))),
+        "new" => Some(without_value(S::new(alloc, parameters))),
+        "from_state" => Some(put_back::<F, S>(alloc, parameters, sponge)),
+        _ => squeezed::<F, G, S>(sponge, call),
+    }
+}
+
+// How a sponge is made of the state of another one's copy.
+fn put_back<F: PrimeField, S: FieldBasedCryptographicSponge<F> + SpongeExt>(
+    alloc: Global,
+    parameters: &S::Config,
+    sponge: &S,
+) -> Result<(), Error> {
+    let state = sponge.duplicate(alloc)?.into_state();
+    without_value(S::from_state(alloc, state, parameters))
+}
+
+// What a squeeze answers, or nothing for another word.
+fn squeezed<F: PrimeField, G: PrimeField, S: FieldBasedCryptographicSponge<F>>(
+    sponge: &mut S,
+    call: &str,
+) -> Option<Result<(), Error>> {
+    let short = [FieldElementSize::Truncated(9), FieldElementSize::Full];
+    let shorter = [FieldElementSize::Truncated(3), FieldElementSize::Full];
+    match call {
+        "native" => Some(without_value(sponge.squeeze_native_field_elements(5))),
+        "elements" => Some(without_value(sponge.squeeze_field_elements::<F>(5))),
+        "sizes" => Some(without_value(sponge.squeeze_field_elements_with_sizes::<F>(&short))),
+        "other" => Some(without_value(sponge.squeeze_field_elements::<G>(5))),
+        "other_sizes" => Some(without_value(sponge.squeeze_field_elements_with_sizes::<G>(
+            &shorter,
+        ))),
+        "bytes" => Some(without_value(sponge.squeeze_bytes(40))),
+        "bits" => Some(without_value(sponge.squeeze_bits(200))),
+        _ => None,
+    }
 }
 
 fn elements<F: PrimeField>(alloc: Global, count: u64) -> Result<Vec<F>, Error> {

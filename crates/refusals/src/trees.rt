@@ -9,7 +9,7 @@ use ark_crypto_primitives::merkle_tree::{
 use ark_crypto_primitives::serialize::{CanonicalSerialize, DigestItem};
 use std::alloc::Global;
 
-/// How a call of a tree of four leaves ended.
+/// Returns how a call of a tree of four leaves ended.
 pub fn ended_of<P: Config<Leaf = Vec<u8>>>(
     alloc: Global,
     leaf: &LeafParam<P>,

@@ -149,7 +149,7 @@ fn binding_reply(
     }
 }
 
-/// The reply to `check`.
+/// Returns the reply to `check`.
 pub fn check_reply<C: Shell>(
     alloc: Global,
     leaf_parameters: &LeafParam<C>,
@@ -172,7 +172,7 @@ pub fn check_reply<C: Shell>(
     }
 }
 
-/// The reply to `mcheck`.
+/// Returns the reply to `mcheck`.
 pub fn mcheck_reply<C: Shell>(
     alloc: Global,
     leaf_parameters: &LeafParam<C>,
@@ -195,7 +195,7 @@ pub fn mcheck_reply<C: Shell>(
     }
 }
 
-/// The reply to `mcount`.
+/// Returns the reply to `mcount`.
 pub fn mcount_reply<C: Shell>(
     alloc: Global,
     leaf_parameters: &LeafParam<C>,
@@ -218,7 +218,7 @@ pub fn mcount_reply<C: Shell>(
     }
 }
 
-/// The reply to `bind`.
+/// Returns the reply to `bind`.
 pub fn bind_reply<C: Shell>(
     alloc: Global,
     tree: &Option<MerkleTree<C>>,

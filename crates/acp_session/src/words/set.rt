@@ -36,7 +36,7 @@ fn set_leaf<C: Shell>(
     }
 }
 
-/// The reply to `set`.
+/// Returns the reply to `set`.
 pub fn set_reply<C: Shell>(
     alloc: Global,
     tree: &mut Option<MerkleTree<C>>,

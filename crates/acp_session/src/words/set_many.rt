@@ -50,7 +50,7 @@ fn set_leaves<C: Shell>(
     }
 }
 
-/// The reply to `setmany`.
+/// Returns the reply to `setmany`.
 pub fn set_many_reply<C: Shell>(
     alloc: Global,
     tree: &mut Option<MerkleTree<C>>,

@@ -16,7 +16,7 @@ use ark_crh::{CRHScheme, TwoToOneCRHScheme};
 use ark_merkle::{MerkleTree, Views};
 use std::alloc::{AllocError, Global};
 
-/// The reply to `root`.
+/// Returns the reply to `root`.
 pub fn root_reply<C: Shell>(
     alloc: Global,
     tree: &Option<MerkleTree<C>>,
@@ -43,7 +43,7 @@ fn path_bytes<C: Shell>(alloc: Global, tree: &MerkleTree<C>, index: usize) -> Re
     proof_bytes(alloc, &path)
 }
 
-/// The reply to `proof`.
+/// Returns the reply to `proof`.
 pub fn proof_reply<C: Shell>(
     alloc: Global,
     tree: &Option<MerkleTree<C>>,
@@ -92,7 +92,7 @@ fn multi_path_bytes<C: Shell>(
     proof_bytes(alloc, &proof)
 }
 
-/// The reply to `multi`.
+/// Returns the reply to `multi`.
 pub fn multi_reply<C: Shell>(
     alloc: Global,
     tree: &Option<MerkleTree<C>>,

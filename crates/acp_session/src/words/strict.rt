@@ -36,7 +36,7 @@ fn count_reply(alloc: Global, count: Result<Option<usize>, Error>) -> Result<Vec
     }
 }
 
-/// The reply to `strict`, which needs no tree.
+/// Returns the reply to `strict`, which needs no tree.
 pub fn strict_reply<C: Shell>(alloc: Global, proof: &[u8]) -> Result<Vec<u8>, AllocError>
     ensures { IfOk result (λ reply. (p : C.LeafHash.Parameters) (q : C.TwoToOneHash.Parameters)
         → Tells (strict_reply (C.language p q) proof.now) reply.items) }

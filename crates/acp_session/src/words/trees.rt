@@ -11,7 +11,7 @@ use ark_crh::CRHScheme;
 use ark_merkle::{LeafParam, MerkleTree, TwoToOneParam, is_tree_size};
 use std::alloc::{AllocError, Global};
 
-/// The reply to `tree`, which puts the tree above these leaves in the place of the one before.
+/// Returns the reply to `tree`, which puts the tree above these leaves in the place of the one before.
 pub fn tree_reply<C: Shell>(
     alloc: Global,
     leaf_parameters: &LeafParam<C>,
@@ -35,7 +35,7 @@ pub fn tree_reply<C: Shell>(
     settle(alloc, tree, made)
 }
 
-/// The reply to `digests`, which puts the tree above these leaf digests in the place of the one before.
+/// Returns the reply to `digests`, which puts the tree above these leaf digests in the place of the one before.
 pub fn digests_reply<C: Shell>(
     alloc: Global,
     leaf_parameters: &LeafParam<C>,

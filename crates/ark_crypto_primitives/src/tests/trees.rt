@@ -39,7 +39,7 @@ fn leaves_of(alloc: Global, entries: &[&[u8]]) -> Result<Vec<Vec<u8>>, Error> {
     Ok(leaves)
 }
 
-/// The tree of these entries, if there is one.
+/// Returns the tree of these entries, if there is one.
 pub fn tree_of<P: Config<Leaf = Vec<u8>>>(
     alloc: Global,
     leaf_parameters: &LeafParam<P>,

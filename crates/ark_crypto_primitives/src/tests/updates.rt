@@ -14,7 +14,7 @@ pub trait DrawnLeaf: Drop + Sized {
     fn drawn<R: Rng>(alloc: Global, rng: &mut R) -> Result<Self, Error>;
 }
 
-/// As many drawn leaves.
+/// Returns as many drawn leaves.
 pub fn drawn_leaves<L: DrawnLeaf, R: Rng>(
     alloc: Global,
     count: usize,
@@ -27,7 +27,7 @@ pub fn drawn_leaves<L: DrawnLeaf, R: Rng>(
     Ok(leaves)
 }
 
-/// The tree of some leaves.
+/// Returns the tree of some leaves.
 pub fn tree_of<P: Config>(
     alloc: Global,
     leaf_parameters: &LeafParam<P>,
@@ -46,7 +46,7 @@ fn are_inside(indexes: &[usize], size: usize) -> bool
     indexes.iter().all(|index| *index < size)
 }
 
-/// The multi-proof of all leaves.
+/// Returns the multi-proof of all leaves.
 pub fn proof_of_all<P: Config>(alloc: Global, tree: &MerkleTree<P>) -> Result<MultiPath<P>, Error> {
     let mut indexes = Vec::new(alloc);
     for index in 0..tree.size() {
@@ -137,7 +137,8 @@ fn set_drawn_leaves<P: Config<Leaf = L>, L: DrawnLeaf, R: Rng>(
     Ok(())
 }
 
-/// Whether the tree of some leaves accepts its own proofs, before drawn leaves are set at these indexes and after.
+/// Returns whether the tree of some leaves accepts its own proofs, before drawn leaves are set at these indexes and
+/// after.
 pub fn tree_stays_accepted<P: Config<Leaf = L>, L: DrawnLeaf, R: Rng>(
     alloc: Global,
     leaf_parameters: &LeafParam<P>,

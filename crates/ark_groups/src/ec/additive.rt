@@ -25,7 +25,7 @@ pub struct WithoutCoordinates;
 pub type Residues<M> = Additive<M, WithoutCoordinates>;
 
 impl<M: Modulus, K> Additive<M, K> {
-    /// The element that a number is.
+    /// Returns the element that a number is.
     pub fn new(number: Fp<M>) -> Additive<M, K>
         ensures { result.0 ≡ number }
     {

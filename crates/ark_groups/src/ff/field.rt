@@ -35,45 +35,45 @@ pub trait Field: Copy
     // It stands above the functions, so that canonical bytes made of elements can rest on it.
     ghost modulus_laws: { IsFieldModulus MODULUS MODULUS_BIT_SIZE };
 
-    /// The modulus.
+    /// Returns the modulus.
     fn modulus() -> Words
         ensures { number result ≡ MODULUS };
 
-    /// 0.
+    /// Returns 0.
     fn zero() -> Self
         ensures { Self.value result ≡ 0 };
 
-    /// 1.
+    /// Returns 1.
     fn one() -> Self
         ensures { Self.value result ≡ 1 };
 
-    /// The sum modulo the modulus.
+    /// Returns the sum modulo the modulus.
     fn add(self, other: Self) -> Self
         ensures { Self.value result ≡ (Self.value self + Self.value other) % MODULUS };
 
-    /// The difference modulo the modulus.
+    /// Returns the difference modulo the modulus.
     fn sub(self, other: Self) -> Self
         ensures { Self.value result ≡ (Self.value self + (MODULUS - Self.value other)) % MODULUS };
 
-    /// The negative modulo the modulus.
+    /// Returns the negative modulo the modulus.
     fn neg(self) -> Self
         ensures { Self.value result ≡ (MODULUS - Self.value self) % MODULUS };
 
-    /// The product modulo the modulus.
+    /// Returns the product modulo the modulus.
     fn mul(self, other: Self) -> Self
         ensures { Self.value result ≡ (Self.value self * Self.value other) % MODULUS };
 
-    /// The sum of the products of two lists, place by place, modulo the modulus.
+    /// Returns the sum of the products of two lists, place by place, modulo the modulus.
     fn sum_of_products(xs: &[Self], ys: &[Self]) -> Self
         requires { length xs.now ≡ length ys.now }
         ensures { Self.value result
             ≡ dot_product (map Self.value xs.now) (map Self.value ys.now) % MODULUS };
 
-    /// Twice the element.
+    /// Returns twice the element.
     fn double(self) -> Self
         ensures { Self.value result ≡ (2 * Self.value self) % MODULUS };
 
-    /// The number that the element is, below the modulus.
+    /// Returns the number that the element is, below the modulus.
     fn words(self) -> Words
         ensures { number result ≡ Self.value self };
 
@@ -91,25 +91,25 @@ pub trait Field: Copy
         write_bits(self.words(), out);
     }
 
-    /// The element of a number below the modulus.
+    /// Returns the element of a number below the modulus.
     fn from_words(words: Words) -> Self
         requires { number words < MODULUS }
         ensures { Self.value result ≡ number words };
 
-    /// The number modulo the modulus.
+    /// Returns the number modulo the modulus.
     fn from_u64(number: u64) -> Self
         ensures { Self.value result ≡ number % MODULUS };
 
-    /// The number modulo the modulus.
+    /// Returns the number modulo the modulus.
     fn from_u128(number: u128) -> Self
         ensures { Self.value result ≡ number % MODULUS };
 
-    /// The number that the bytes are, the least first, modulo the modulus.
+    /// Returns the number that the bytes are, the least first, modulo the modulus.
     fn from_le_bytes_mod_order(bytes: &[u8]) -> Self
         ensures { Self.value result ≡ number_of_bytes bytes.now % MODULUS };
 
-    /// The number in the lowest `MODULUS_BIT_SIZE` binary digits of the bytes, the least byte first; bytes that are
-    /// missing are 0. `None` where it is the modulus or more.
+    /// Returns the number in the lowest `MODULUS_BIT_SIZE` binary digits of the bytes, the least byte first; bytes that
+    /// are missing are 0. `None` where it is the modulus or more.
     fn from_random_bytes(bytes: &[u8]) -> Option<Self>
         ensures none { IsNone result ↔ (MODULUS ≤ drawn_number MODULUS_BIT_SIZE bytes.now) }
         ensures some { let number = drawn_number MODULUS_BIT_SIZE bytes.now in

@@ -9,14 +9,14 @@ use crate::ff::{Field, PrimeField, is_same_number};
 use ark_base::error::Error;
 use ark_base::serialize::serialize_number;
 
-/// Whether two fields have one modulus.
+/// Returns whether two fields have one modulus.
 pub fn is_same_field<F: Field, G: Field>() -> bool
     ensures { Decides result (F.MODULUS ≡ G.MODULUS) }
 {
     is_same_number(F::modulus(), G::modulus())
 }
 
-/// The element of another field that has the same modulus.
+/// Returns the element of another field that has the same modulus.
 pub fn same_element<F: Field, G: Field>(element: G) -> F
     requires { F.MODULUS ≡ G.MODULUS }
     ensures { F.value result ≡ G.value element }
@@ -26,7 +26,7 @@ pub fn same_element<F: Field, G: Field>(element: G) -> F
 
 /// Appends the `count` lowest bytes of an element's number, the least first. Bytes past the number's are 0.
 ///
-/// The only refusal is `OutOfMemory`, and it leaves `dest` as before.
+/// The only error is `OutOfMemory`, and it leaves `dest` as before.
 pub fn push_low_bytes<F: PrimeField>(
     element: F,
     count: usize,
@@ -40,7 +40,7 @@ pub fn push_low_bytes<F: PrimeField>(
     serialize_number(element.value(), count, dest)
 }
 
-/// The number that bits are, the lowest first, modulo the modulus.
+/// Returns the number that bits are, the lowest first, modulo the modulus.
 pub fn element_of_bits<F: Field>(bits: &[bool]) -> F
     ensures { F.value result ≡ number_of_bits bits.now % F.MODULUS }
 {

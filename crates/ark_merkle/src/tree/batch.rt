@@ -27,7 +27,7 @@ impl<P: Views> MerkleTree<P> {
     /// Puts leaves in the places of those at indexes below the size. Where an index is changed twice, the last leaf counts,
     /// and the others are not hashed.
     ///
-    /// Refusals, which leave the tree as it was: that of the first leaf by rising index whose hash refuses; else that of
+    /// Errors, which leave the tree as it was: that of the first leaf by rising index whose hash refuses; else that of
     /// the new leaf digests' halving; `OutOfMemory`.
     pub fn update_many(&mut self, alloc: Global, changes: &[(usize, P::Leaf)]) -> Result<(), Error>
         requires { All (λ change. change.0 < length self.old.leaves) changes.now }
@@ -47,7 +47,7 @@ impl<P: Views> MerkleTree<P> {
         Ok(())
     }
 
-    /// As `update_many`, and answers how many pairs were hashed: each place above a changed leaf is hashed once.
+    /// Acts as `update_many`, and returns how many pairs were hashed: each place above a changed leaf is hashed once.
     pub fn update_many_counting(
         &mut self,
         alloc: Global,

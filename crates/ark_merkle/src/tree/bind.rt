@@ -35,11 +35,12 @@ pub enum Binding {
 }
 
 impl<P: Views> MerkleTree<P> {
-    /// What a path says of a leaf, where it has one digest for each level between the leaf digests and the root. A path that
-    /// `verify` accepts binds its leaf: the leaf's digest stands at the index modulo the size, or two different pairs hash alike.
+    /// Returns what a path says of a leaf, where it has one digest for each level between the leaf digests and the
+    /// root. A path that `verify` accepts binds its leaf: the leaf's digest stands at the index modulo the size, or two
+    /// different pairs hash alike.
     ///
-    /// Refusals: `IncorrectInputLength` for a path of another length; that of the leaf's hash; that of the path's lowest pair,
-    /// and so upward; `OutOfMemory`.
+    /// Errors: `IncorrectInputLength` for a path of another length; that of the leaf's hash; that of the path's lowest
+    /// pair, and so upward; `OutOfMemory`.
     pub fn bind(&self, alloc: Global, path: &Path<P>, leaf: &P::Leaf) -> Result<Binding, Error>
         ensures answer { Answers (binding_in (P.tree self.now) leaf.now (P.way path.now)) result }
 

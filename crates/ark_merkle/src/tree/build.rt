@@ -15,7 +15,7 @@ use ark_base::serialize::DigestItem;
 use ark_paths::hasher::TreeHasher;
 use std::alloc::Global;
 
-/// The digests of leaves.
+/// Returns the digests of leaves.
 pub fn hash_all<L: DigestItem, D: DigestItem, T: TreeHasher<L, D>>(
     alloc: Global,
     hasher: &T,
@@ -130,7 +130,7 @@ fn pair_rows<L: DigestItem, D: DigestItem, T: TreeHasher<L, D>>(
     Ok(digests)
 }
 
-/// The rows above leaf digests.
+/// Returns the rows above leaf digests.
 pub fn rows_above<L: DigestItem, D: DigestItem, T: TreeHasher<L, D>>(
     alloc: Global,
     hasher: &T,

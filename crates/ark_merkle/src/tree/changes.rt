@@ -179,7 +179,7 @@ fn hash_reached<L: DigestItem, D: DigestItem, T: TreeHasher<L, D>>(
     Ok(above)
 }
 
-/// The hashes of the couples of leaf digests that changes reach.
+/// Returns the hashes of the couples of leaf digests that changes reach.
 pub fn hash_reached_leaves<L: DigestItem, D: DigestItem, T: TreeHasher<L, D>>(
     alloc: Global,
     hasher: &T,

@@ -71,7 +71,7 @@ fn put_in_order<D: DigestItem>(digests: &mut [D], count: usize)
 }
 
 impl<D: DigestItem> Levels<D> {
-    /// Those of digests that stand row by row, the lowest row first, the root last.
+    /// Returns the levels of digests that stand row by row, the lowest row first, the root last.
     pub fn of_rows(mut digests: Vec<D>, count: usize) -> Levels<D>
         requires { length digests.items + 1 ≡ 2 ^ count }
         ensures { result ≡ rows_in_turn count (digests_of D.numbers digests) }
@@ -80,7 +80,7 @@ impl<D: DigestItem> Levels<D> {
         Levels { digests, count }
     }
 
-    /// The count of rows, at most 64.
+    /// Returns the count of rows, at most 64.
     pub fn len(&self) -> usize
         ensures count { result ≡ length self.now }
         ensures most { result ≤ 64 }
@@ -88,7 +88,7 @@ impl<D: DigestItem> Levels<D> {
         self.count
     }
 
-    /// The digest at a place of a row.
+    /// Returns the digest at a place of a row.
     pub fn at(&self, row: usize, place: usize) -> &D
         requires row { row < length self.now }
         requires place { place < length (get_or self.now row []) }
@@ -97,7 +97,7 @@ impl<D: DigestItem> Levels<D> {
         &self.digests[position(self.count, row, place)]
     }
 
-    /// The digests of a row.
+    /// Returns the digests of a row.
     pub fn row(&self, row: usize) -> &[D]
         requires { row < length self.now }
         ensures { map D.numbers result.now ≡ get_or self.now row [] }

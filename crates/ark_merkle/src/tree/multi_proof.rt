@@ -23,7 +23,7 @@ use ark_paths::views::Views;
 use std::alloc::Global;
 
 impl<P: Views> MerkleTree<P> {
-    /// The multi-proof of some indexes below the size. The only refusal is `OutOfMemory`.
+    /// Returns the multi-proof of some indexes below the size. The only error is `OutOfMemory`.
     pub fn generate_multi_proof(
         &self,
         alloc: Global,

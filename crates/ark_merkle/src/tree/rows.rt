@@ -10,7 +10,7 @@ use ark_base::serialize::{DigestItem, Duplicate};
 use ark_paths::index::neighbour_of;
 use std::alloc::Global;
 
-/// The digests beside the way of an index in the first rows but the last of these, from above down.
+/// Returns the digests beside the way of an index in the first rows but the last of these, from above down.
 pub fn digests_beside<D: DigestItem>(
     alloc: Global,
     rows: &Levels<D>,

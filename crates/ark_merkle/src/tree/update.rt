@@ -20,7 +20,7 @@ use std::alloc::Global;
 impl<P: Views> MerkleTree<P> {
     /// Puts a leaf in the place of the one at an index below the size.
     ///
-    /// Refusals, which leave the tree as it was: that of the leaf's hash; else that of the new leaf digests' halving;
+    /// Errors, which leave the tree as it was: that of the leaf's hash; else that of the new leaf digests' halving;
     /// `OutOfMemory`.
     pub fn update(&mut self, alloc: Global, index: usize, new_leaf: &P::Leaf) -> Result<(), Error>
         requires { index < length self.old.leaves }
@@ -34,9 +34,9 @@ impl<P: Views> MerkleTree<P> {
         Ok(())
     }
 
-    /// As `update` where the new root is the asserted one, and then `true`; else the tree is left as it was.
+    /// Acts as `update` where the new root is the asserted one, and then `true`; else the tree is left as it was.
     ///
-    /// Refusals: those of `update`, whatever is asserted.
+    /// Errors: those of `update`, whatever is asserted.
     pub fn check_update(
         &mut self,
         alloc: Global,

@@ -13,7 +13,7 @@ use ark_merkle::multi_path::places::{Part, part_at};
 use ark_merkle::{Config, LeafParam, MultiPath, Path, TwoToOneParam, Views};
 use std::alloc::Global;
 
-/// What a multi-proof says of these leaves.
+/// Returns what a multi-proof says of these leaves.
 pub fn multi_verdict<P: Config>(
     alloc: Global,
     leaf_parameters: &LeafParam<P>,

@@ -12,7 +12,7 @@ use std::alloc::Global;
 /// The siblings, the prefixes, the suffixes and the indexes.
 pub type Parts<L, D> = (Vec<L>, (Vec<usize>, (Vec<Vec<D>>, Vec<usize>)));
 
-/// Appends their canonical bytes. The only refusal is `OutOfMemory`, and it leaves `dest` as before.
+/// Appends their canonical bytes. The only error is `OutOfMemory`, and it leaves `dest` as before.
 pub fn serialize_parts<L: CanonicalItem, D: CanonicalItem>(
     siblings: &Vec<L>,
     prefixes: &Vec<usize>,
@@ -34,7 +34,7 @@ pub fn serialize_parts<L: CanonicalItem, D: CanonicalItem>(
 
 /// Reads them, and the count of bytes that they take.
 ///
-/// Refusals: `SerializationError` with the first fault from the left, `OutOfMemory`.
+/// Errors: `SerializationError` with the first fault from the left, `OutOfMemory`.
 pub fn read_parts<L: CanonicalItem, D: CanonicalItem>(
     alloc: Global,
     bytes: &[u8],

@@ -21,14 +21,14 @@ pub struct Part<'a, S, D> {
     pub suffix: &'a [D],
 }
 
-/// Whether a number is the sum of two.
+/// Returns whether a number is the sum of two.
 pub fn is_sum(number: usize, first: usize, second: usize) -> bool
     ensures { result ≡ (first + second == number) }
 {
     first <= number && number - first == second
 }
 
-/// The parts of a place in the lists of a multi-proof, where it decodes.
+/// Returns the parts of a place in the lists of a multi-proof, where it decodes.
 pub fn part_at<'a, S: Numbered, D: Numbered>(
     siblings: &'a [S],
     prefixes: &[usize],
@@ -62,7 +62,7 @@ pub fn part_at<'a, S: Numbered, D: Numbered>(
     }
 }
 
-/// How many items the first of some lists has; none where there is no list.
+/// Returns how many items the first of some lists has; none where there is no list.
 pub fn first_length<D>(lists: &[Vec<D>]) -> usize
     ensures { result ≡ length (get_or (map (λ list. list.items) lists.now) 0 []) }
 {
@@ -93,7 +93,7 @@ pub fn extend<'a, D: DigestItem>(
 /// Takes the leaf of a place, and makes the path there of the path before. It answers the digest beside the leaf's, and the
 /// leaf.
 ///
-/// Refusals: `IncorrectInputLength` of a place that does not decode, before a leaf is taken, or for which there is none;
+/// Errors: `IncorrectInputLength` of a place that does not decode, before a leaf is taken, or for which there is none;
 /// `OutOfMemory`.
 pub fn next_place<'a, 'b, S: Numbered, D: DigestItem, L, I: Iterator<Item = &'b L>>(
     siblings: &'a [S],

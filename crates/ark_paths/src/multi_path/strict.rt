@@ -22,12 +22,13 @@ use ark_base::serialize::{Canonical, CanonicalDeserialize, DigestItem, Numbered}
 use std::alloc::Global;
 
 impl<P: Values> MultiPath<P> {
-    /// The strict multi-proof that the front of the bytes spells, and the count of bytes read. It is for whoever compares,
-    /// signs or counts multi-proofs by their bytes: those that `deserialize` reads can spell the same paths in other bytes.
+    /// Returns the strict multi-proof that the front of the bytes spells, and the count of bytes read. It is for
+    /// whoever compares, signs or counts multi-proofs by their bytes: those that `deserialize` reads can spell the same
+    /// paths in other bytes.
     ///
-    /// Strict is a multi-proof with an index, four lists of one length, indexes that rise and are below 2^(k + 1) with k the
-    /// first suffix's length, in which every place decodes and each prefix is the longest that its path has in common with
-    /// the path before (0 at the first). Refusals: those of `deserialize`, else `InvalidData`; `OutOfMemory`.
+    /// Strict is a multi-proof with an index, four lists of one length, indexes that rise and are below 2^(k + 1) with
+    /// k the first suffix's length, in which every place decodes and each prefix is the longest that its path has in
+    /// common with the path before (0 at the first). Errors: those of `deserialize`, else `InvalidData`; `OutOfMemory`.
     pub fn read_strict(alloc: Global, bytes: &[u8]) -> Result<(MultiPath<P>, usize), Error>
         ensures within { IfOk result (λ read. read.1 ≤ length bytes.now) }
 

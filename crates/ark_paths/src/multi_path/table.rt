@@ -62,7 +62,7 @@ pub struct Table<'a, L, D> {
 }
 
 impl<'a, L: DigestItem, D: DigestItem> Table<'a, L, D> {
-    /// A table without entries. It takes no memory.
+    /// Returns a table without entries. It allocates nothing.
     pub fn new(alloc: Global) -> Table<'a, L, D>
         ensures made { (h : HashPair) → IsTable L.numbers D.numbers h result }
         ensures none { result.made.items ≡ [] }
@@ -79,7 +79,7 @@ impl<'a, L: DigestItem, D: DigestItem> Table<'a, L, D> {
 }
 
 impl<'a, X> Entries<'a, X> {
-    /// No entries. It takes no memory.
+    /// Returns no entries. It allocates nothing.
     pub fn new(alloc: Global) -> Entries<'a, X>
         ensures all { (place : ℕ × ℕ) → get place_cmp result.all place ≡ None }
         ensures last { result.last.items ≡ [] }
@@ -215,7 +215,8 @@ fn keep<'a, X, D: DigestItem>(
     Ok(number)
 }
 
-/// The number of the digest of a pair of leaf digests: the table's, where it has this pair at this place, else it is hashed.
+/// Returns the number of the digest of a pair of leaf digests: the table's, where it has this pair at this place, else
+/// it is hashed.
 pub fn ask_lowest<'a, L: DigestItem, D: DigestItem, T: PairHasher<L, D>>(
     alloc: Global,
     hasher: &mut T,
@@ -249,8 +250,8 @@ pub fn ask_lowest<'a, L: DigestItem, D: DigestItem, T: PairHasher<L, D>>(
     Ok(number)
 }
 
-/// The number of the digest of a pair above the leaves: the table's, where it has this pair at this place, else it is
-/// hashed.
+/// Returns the number of the digest of a pair above the leaves: the table's, where it has this pair at this place, else
+/// it is hashed.
 pub fn ask_upper<'a, L: DigestItem, D: DigestItem, T: PairHasher<L, D>>(
     alloc: Global,
     hasher: &mut T,

@@ -17,12 +17,12 @@ use ark_base::error::Error;
 use std::alloc::Global;
 
 impl<P: Views> MultiPath<P> {
-    /// Whether each leaf's digest gives the root along its path, the leaves in the order of `leaf_indexes`.
+    /// Returns whether each leaf's digest gives the root along its path, the leaves in the order of `leaf_indexes`.
     ///
-    /// A pair that was hashed last at its place is not hashed again. Refusals: `NoIndex` of a proof without an index; else,
-    /// place by place, `IncorrectInputLength` with the place where it has no leaf or its parts make no path, then those of
-    /// `Path::verify`; `OutOfMemory`. The first place that is refused or is not accepted decides, and no leaf behind it is
-    /// taken. Parts and leaves past the last index are ignored.
+    /// A pair that was hashed last at its place is not hashed again. Errors: `NoIndex` of a proof without an index;
+    /// else, place by place, `IncorrectInputLength` with the place where it has no leaf or its parts make no path, then
+    /// those of `Path::verify`; `OutOfMemory`. The first place that is refused or is not accepted decides, and no leaf
+    /// behind it is taken. Parts and leaves past the last index are ignored.
     pub fn verify<'a, I: Iterator<Item = &'a P::Leaf>>(
         &self,
         alloc: Global,
@@ -49,7 +49,7 @@ impl<P: Views> MultiPath<P> {
         self.verify_next(alloc, leaf_parameters, pair_parameters, root, &mut leaves)
     }
 
-    /// As `verify`, of the leaves that a lent iterator gives next.
+    /// Acts as `verify`, of the leaves that a lent iterator gives next.
     pub fn verify_next<'a, I: Iterator<Item = &'a P::Leaf>>(
         &self,
         alloc: Global,
@@ -70,7 +70,7 @@ impl<P: Views> MultiPath<P> {
         self.verify_next_with(alloc, leaf_parameters, &mut hasher, root, leaves)
     }
 
-    /// As `verify`, and answers how many pairs were hashed.
+    /// Acts as `verify`, and returns how many pairs were hashed.
     pub fn verify_counting<'a, I: Iterator<Item = &'a P::Leaf>>(
         &self,
         alloc: Global,
@@ -109,9 +109,9 @@ impl<P: Views> MultiPath<P> {
         Ok((accepted, hasher.calls()))
     }
 
-    /// As `verify`, where a hasher of the caller's hashes the pairs, by its own two functions.
+    /// Acts as `verify`, where a hasher of the caller's hashes the pairs, by its own two functions.
     ///
-    /// What it was asked counts where the answer is a refusal, too.
+    /// Its calls count where the result is an error, too.
     pub fn verify_with<
         'a,
         T: PairHasher<P::LeafDigest, P::InnerDigest>,
@@ -148,7 +148,7 @@ impl<P: Views> MultiPath<P> {
         self.verify_next_with(alloc, leaf_parameters, hasher, root, &mut leaves)
     }
 
-    /// As `verify_with`, of the leaves that a lent iterator gives next.
+    /// Acts as `verify_with`, of the leaves that a lent iterator gives next.
     pub fn verify_next_with<
         'a,
         T: PairHasher<P::LeafDigest, P::InnerDigest>,

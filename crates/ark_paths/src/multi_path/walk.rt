@@ -99,7 +99,7 @@ fn top_of<'a, L: DigestItem, D: DigestItem, T: PairHasher<L, D>>(
     Ok(own)
 }
 
-/// Whether a leaf's digest gives the root along the path of these parts.
+/// Returns whether a leaf's digest gives the root along the path of these parts.
 pub fn judge<'a, H: CRHScheme, D: DigestItem, T: PairHasher<H::Output, D>>(
     alloc: Global,
     leaf_parameters: &H::Parameters,
@@ -137,8 +137,8 @@ pub fn judge<'a, H: CRHScheme, D: DigestItem, T: PairHasher<H::Output, D>>(
     Ok(table.made[top] == *root)
 }
 
-/// Whether each leaf's digest gives the root along the path of its place, with an empty path before the first and a table
-/// without entries.
+/// Returns whether each leaf's digest gives the root along the path of its place, with an empty path before the first
+/// and a table without entries.
 pub fn judge_all<
     'a,
     'b,

@@ -37,8 +37,8 @@ impl CommitmentScheme for Commitment {
         Ok(())
     }
 
-    /// The digest. It takes no memory. The only refusal is `LengthOverflow`, where the length of the input with 32 does not
-    /// fit 64 bits.
+    /// Returns the digest. It allocates nothing. The only error is `LengthOverflow`, where the length of the input with
+    /// 32 does not fit 64 bits.
     fn commit(
         _alloc: Global,
         _parameters: &(),

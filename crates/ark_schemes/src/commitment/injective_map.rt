@@ -44,14 +44,14 @@ impl<C: CurveGroup, I: InjectiveMap<C>, W: Window> CommitmentScheme
         let bits = C.ScalarField.MODULUS_BIT_SIZE in
         AreAllDrawn C.group C.draw bits W.Window stream (elements_in parameters) };
 
-    /// As `pedersen::Commitment::setup`.
+    /// Acts as `pedersen::Commitment::setup`.
     fn setup<R: Rng>(alloc: Global, rng: &mut R) -> Result<Parameters<C>, Error> {
         Commitment::<C, W>::setup(alloc, rng)
     }
 
-    /// The image of the Pedersen commitment.
+    /// Returns the image of the Pedersen commitment.
     ///
-    /// Refusals: those of `pedersen::Commitment::commit`; those of the map; `OutOfMemory`.
+    /// Errors: those of `pedersen::Commitment::commit`; those of the map; `OutOfMemory`.
     fn commit(
         alloc: Global,
         parameters: &Parameters<C>,

@@ -63,11 +63,11 @@ impl<C: CurveGroup, W: Window> CommitmentScheme for Commitment<C, W> {
         })
     }
 
-    /// The commitment. It takes no memory.
+    /// Returns the commitment. It allocates nothing.
     ///
-    /// Refusals: `IncorrectInputLength` with the input's bytes, where these have more bits than the windows; `ParameterShape`, where
-    /// the generators are not a list for each window with an element for each of its bits, or the randomness's elements are not
-    /// as many as the bits of the scalars' modulus.
+    /// Errors: `IncorrectInputLength` with the input's bytes, where these have more bits than the windows;
+    /// `ParameterShape`, where the generators are not a list for each window with an element for each of its bits, or
+    /// the randomness's elements are not as many as the bits of the scalars' modulus.
     fn commit(
         _alloc: Global,
         parameters: &Parameters<C>,

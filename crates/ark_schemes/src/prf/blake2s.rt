@@ -24,7 +24,7 @@ pub struct Blake2s256 {
 }
 
 impl Blake2s256 {
-    /// The hasher of the text of no bytes. It takes no memory.
+    /// Returns the hasher of the text of no bytes. It allocates nothing.
     pub fn new() -> Blake2s256
         ensures { HoldsText result [] }
     {
@@ -33,7 +33,7 @@ impl Blake2s256 {
         }
     }
 
-    /// Appends bytes to the text. It takes no memory. A text of 2^64 bytes or more has no digest: none is promised.
+    /// Appends bytes to the text. It allocates nothing. A text of 2^64 bytes or more has no digest: none is promised.
     pub fn update(&mut self, input: &[u8])
         ensures text { (text : List ℕ) → length text + length input.now < 2 ^ 64
             → HoldsText self.old text → HoldsText self.new (text ++ input.now) }
@@ -45,7 +45,7 @@ impl Blake2s256 {
         self.hasher.update(input);
     }
 
-    /// The digest of the text. It takes no memory.
+    /// Returns the digest of the text. It allocates nothing.
     pub fn finalize(self) -> [u8; 32]
         ensures { (text : List ℕ) → HoldsText self text → result ≡ blake2s text }
     {
@@ -80,7 +80,7 @@ impl PRF for Blake2s {
 
     ghost meaning = { λ seed input. Ok (blake2s (seed ++ input)) };
 
-    /// The digest of the 64 bytes. It takes no memory and refuses nothing.
+    /// Returns the digest of the 64 bytes. It allocates nothing and never fails.
     fn evaluate(seed: &[u8; 32], input: &[u8; 32]) -> Result<[u8; 32], Error>
         ensures { result ≡ Ok (blake2s (seed.now ++ input.now)) }
     {
@@ -113,7 +113,7 @@ pub struct Blake2sWithParameterBlock {
 }
 
 impl Blake2sWithParameterBlock {
-    /// The digest of the bytes. The only refusal is `OutOfMemory`.
+    /// Returns the digest of the bytes. The only error is `OutOfMemory`.
     pub fn evaluate(&self, alloc: Global, input: &[u8]) -> Result<Vec<u8>, Error>
         ensures { let digest = blake2s_with self.now.salt self.now.personalization input.now in
             AnswersBy (λ bytes. bytes.items) (Ok digest) result }

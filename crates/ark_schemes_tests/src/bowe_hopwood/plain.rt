@@ -156,7 +156,8 @@ fn input_chunks(alloc: Global, input: &[u8]) -> Result<Vec<(bool, bool, bool)>, 
     chunks_of(alloc, &bits_of(alloc, input)?)
 }
 
-/// The first coordinate of the sum of the elements of lists, each as often as the digit of its chunk of the input says.
+/// Returns the first coordinate of the sum of the elements of lists, each as often as the digit of its chunk of the
+/// input says.
 pub fn coordinate<G: CurveGroup + TECoordinates>(
     alloc: Global,
     lists: &[Vec<G>],
@@ -170,7 +171,7 @@ pub fn coordinate<G: CurveGroup + TECoordinates>(
     Ok(digits_sum(&all, &input_chunks(alloc, input)?).x())
 }
 
-/// The same over segments of at most fifteen chunks, each element as often as the scalar of its segment says.
+/// Returns the same over segments of at most fifteen chunks, each element as often as the scalar of its segment says.
 pub fn coordinate_of_segments<G: CurveGroup + TECoordinates>(
     alloc: Global,
     size: usize,

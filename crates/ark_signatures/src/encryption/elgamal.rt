@@ -101,7 +101,8 @@ impl<C: CurveGroup> AsymmetricEncryptionScheme for ElGamal<C> {
         Ok((pp.generator.mul(x), SecretKey(x)))
     }
 
-    /// r times the generator, and the message plus r times the public key. It takes no memory and refuses nothing.
+    /// Returns r times the generator, and the message plus r times the public key. It allocates nothing and never
+    /// fails.
     fn encrypt(
         _alloc: Global,
         pp: &Parameters<C>,
@@ -119,7 +120,7 @@ impl<C: CurveGroup> AsymmetricEncryptionScheme for ElGamal<C> {
         Ok((pp.generator.mul(r.0), message.add(pk.mul(r.0))))
     }
 
-    /// The second part less s times the first, for the secret key s. It takes no memory and refuses nothing.
+    /// Returns the second part less s times the first, for the secret key s. It allocates nothing and never fails.
     fn decrypt(
         _alloc: Global,
         _pp: &Parameters<C>,

@@ -90,7 +90,7 @@ impl<C: CurveGroup, D: ByteDigest> SignatureScheme for Schnorr<C, D> {
 
     /// Draws k until the point k times the generator has a challenge e: k - x e and e, for the secret key x.
     ///
-    /// Refusals: the digest's at the first point that meets one; `DrawsExhausted` after 128 draws without a challenge;
+    /// Errors: the digest's at the first point that meets one; `DrawsExhausted` after 128 draws without a challenge;
     /// `OutOfMemory`.
     fn sign<R: Rng>(
         alloc: Global,
@@ -123,10 +123,10 @@ impl<C: CurveGroup, D: ByteDigest> SignatureScheme for Schnorr<C, D> {
         })
     }
 
-    /// Whether e is the challenge of the point s times the generator plus e times the public key, for a signature (s, e);
-    /// `false` where that point has none.
+    /// Returns whether e is the challenge of the point s times the generator plus e times the public key, for a
+    /// signature (s, e); `false` where that point has none.
     ///
-    /// Refusals: the digest's at that point; `OutOfMemory`.
+    /// Errors: the digest's at that point; `OutOfMemory`.
     fn verify(
         alloc: Global,
         pp: &Parameters<C>,
@@ -144,8 +144,8 @@ impl<C: CurveGroup, D: ByteDigest> SignatureScheme for Schnorr<C, D> {
         )
     }
 
-    /// The key and m times the generator, where m is the number that the bytes multiply by. It takes no memory and refuses
-    /// nothing.
+    /// Returns the key and m times the generator, where m is the number that the bytes multiply by. It allocates
+    /// nothing and never fails.
     fn randomize_public_key(
         _alloc: Global,
         pp: &Parameters<C>,
@@ -156,8 +156,8 @@ impl<C: CurveGroup, D: ByteDigest> SignatureScheme for Schnorr<C, D> {
         Ok(public_key.add(pp.generator.mul(m)))
     }
 
-    /// (s - e m, e) of the signature (s, e), where m is the number that the bytes multiply by. It takes no memory and
-    /// refuses nothing.
+    /// Returns (s - e m, e) of the signature (s, e), where m is the number that the bytes multiply by. It allocates
+    /// nothing and never fails.
     fn randomize_signature(
         _alloc: Global,
         pp: &Parameters<C>,

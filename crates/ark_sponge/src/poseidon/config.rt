@@ -61,11 +61,12 @@ fn is_matrix<F: Field>(rows: &[Vec<F>], count: usize, len: usize) -> bool
 }
 
 impl<F: Field> PoseidonConfig<F> {
-    /// These parameters: `full_rounds` and `partial_rounds` rounds under the exponent `alpha` of the S-box, the matrix `mds`
-    /// and the constants `ark` by rows, and a state of `rate` and `capacity` elements. It takes no memory.
+    /// Returns these parameters: `full_rounds` and `partial_rounds` rounds under the exponent `alpha` of the S-box, the
+    /// matrix `mds` and the constants `ark` by rows, and a state of `rate` and `capacity` elements. It allocates
+    /// nothing.
     ///
-    /// Refusals: `FieldTooSmall` over fewer than nine bits, `ZeroRate`, `ParameterShape` where `ark` has not a row for each
-    /// round and `mds` for each element of the state, each as long as the state.
+    /// Errors: `FieldTooSmall` over fewer than nine bits, `ZeroRate`, `ParameterShape` where `ark` has not a row for
+    /// each round and `mds` for each element of the state, each as long as the state.
     pub fn new(
         full_rounds: usize,
         partial_rounds: usize,
@@ -112,42 +113,42 @@ impl<F: Field> PoseidonConfig<F> {
         })
     }
 
-    /// The count of full rounds.
+    /// Returns the count of full rounds.
     pub fn full_rounds(&self) -> usize
         ensures { result ≡ self.now.full_rounds }
     {
         self.full_rounds
     }
 
-    /// The count of partial rounds.
+    /// Returns the count of partial rounds.
     pub fn partial_rounds(&self) -> usize
         ensures { result ≡ self.now.partial_rounds }
     {
         self.partial_rounds
     }
 
-    /// The exponent that the S-box takes.
+    /// Returns the exponent that the S-box takes.
     pub fn alpha(&self) -> u64
         ensures { result ≡ self.now.alpha }
     {
         self.alpha
     }
 
-    /// The matrix, row by row.
+    /// Returns the matrix, row by row.
     pub fn mds(&self) -> &[Vec<F>]
         ensures { map (λ row. map F.value row.items) result.now ≡ self.now.mds }
     {
         &self.mds
     }
 
-    /// The constants, a row for each round.
+    /// Returns the constants, a row for each round.
     pub fn ark(&self) -> &[Vec<F>]
         ensures { map (λ row. map F.value row.items) result.now ≡ self.now.ark }
     {
         &self.ark
     }
 
-    /// How many elements of a state are absorbed or given before it is permuted, one or more.
+    /// Returns how many elements of a state are absorbed or given before it is permuted, one or more.
     pub fn rate(&self) -> usize
         ensures value { result ≡ self.now.rate }
 
@@ -161,7 +162,7 @@ impl<F: Field> PoseidonConfig<F> {
         self.rate
     }
 
-    /// How many elements of a state, its first, are neither absorbed nor given.
+    /// Returns how many elements of a state, its first, are neither absorbed nor given.
     pub fn capacity(&self) -> usize
         ensures { result ≡ self.now.capacity }
     {

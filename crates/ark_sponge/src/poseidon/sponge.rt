@@ -46,7 +46,7 @@ impl<F: Valued, S> Model for PoseidonSponge<F, S> {
 }
 
 impl<F: Field, S: SBox<F>> PoseidonSponge<F, S> {
-    /// A sponge that has absorbed nothing. The only refusal is `OutOfMemory`.
+    /// Returns a sponge that has absorbed nothing. The only error is `OutOfMemory`.
     pub fn over(alloc: Global, parameters: PoseidonConfig<F>) -> Result<Self, Error>
         ensures { AnswersBy (λ sponge. sponge) (Ok (new_sponge parameters)) result }
     {
@@ -64,28 +64,28 @@ impl<F: Field, S: SBox<F>> PoseidonSponge<F, S> {
         })
     }
 
-    /// How the sponge is set up.
+    /// Returns how the sponge is set up.
     pub fn parameters(&self) -> &PoseidonConfig<F>
         ensures { result.now ≡ self.now.parameters }
     {
         &self.parameters
     }
 
-    /// The state, its capacity first.
+    /// Returns the state, its capacity first.
     pub fn state(&self) -> &[F]
         ensures { map F.value result.now ≡ self.now.state }
     {
         &self.state
     }
 
-    /// What the sponge does next.
+    /// Returns what the sponge does next.
     pub fn mode(&self) -> DuplexSpongeMode
         ensures { result ≡ self.now.mode }
     {
         self.mode
     }
 
-    /// Absorbs elements of the sponge's own field. It takes no memory.
+    /// Absorbs elements of the sponge's own field. It allocates nothing.
     pub fn absorb_native(&mut self, elements: &[F])
         ensures sponge { self.new ≡ after_absorbing F.MODULUS S.image self.old
             (map F.value elements.now) }
@@ -110,7 +110,7 @@ impl<F: Field, S: SBox<F>> PoseidonSponge<F, S> {
         }
     }
 
-    /// Fills a list with the next elements of the sponge's own field. It takes no memory.
+    /// Fills a list with the next elements of the sponge's own field. It allocates nothing.
     pub fn squeeze_into(&mut self, out: &mut [F])
         ensures numbers { map F.value out.new
             ≡ squeezed_numbers F.MODULUS S.image self.old (length out.old) }

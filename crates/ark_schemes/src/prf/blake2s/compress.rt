@@ -113,7 +113,7 @@ fn finish(h: [u32; 8], v: [u32; 16]) -> [u32; 8]
     ]
 }
 
-/// F (section 3.2): takes a block of sixteen words into the state, with the counter and whether it is the last.
+/// Applies F (section 3.2): mixes a block of sixteen words into the state, with the counter and whether it is the last.
 #[tactic(auto, unfolding(crate::specs::Blake2s::compression))]
 pub fn compress(h: &mut [u32; 8], m: [u32; 16], t: u64, last: bool)
     ensures { h.new ≡ compression h.old m t last }

@@ -23,7 +23,7 @@ pub struct Hasher {
 }
 
 impl Hasher {
-    /// The hasher of no bytes.
+    /// Returns the hasher of no bytes.
     pub fn new(salt: &[u8; 8], personalization: &[u8; 8]) -> Hasher
         ensures { result ≡ hasher_of salt.now personalization.now [] }
     {
@@ -53,7 +53,7 @@ impl Hasher {
         }
     }
 
-    /// The digest of the text.
+    /// Returns the digest of the text.
     pub fn finalize(self) -> [u8; 32]
         ensures { (salt personalization text : List ℕ)
             → self ≡ hasher_of salt personalization text

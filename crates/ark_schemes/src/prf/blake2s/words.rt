@@ -13,7 +13,7 @@ fn word_of(bytes: &[u8], i: usize) -> u32
     u32::from_le_bytes([bytes[i], bytes[i + 1], bytes[i + 2], bytes[i + 3]])
 }
 
-/// The sixteen words of a block of 64 bytes (section 2.4).
+/// Returns the sixteen words of a block of 64 bytes (section 2.4).
 pub fn words_of(block: &[u8]) -> [u32; 16]
     requires { length block.now ≡ 64 }
     ensures { result ≡ words_from block.now 0 }
@@ -25,7 +25,8 @@ pub fn words_of(block: &[u8]) -> [u32; 16]
     words
 }
 
-/// The state before the first block: 32 bytes out, no key (section 2.5; salt and personalization by the BLAKE2 specification).
+/// Returns the state before the first block: 32 bytes out, no key (section 2.5; salt and personalization by the BLAKE2
+/// specification).
 #[tactic(auto, unfolding(crate::specs::Blake2s::first_state))]
 pub fn first_state(salt: &[u8; 8], personalization: &[u8; 8]) -> [u32; 8]
     ensures { result ≡ first_state salt.now personalization.now }
@@ -44,7 +45,7 @@ pub fn first_state(salt: &[u8; 8], personalization: &[u8; 8]) -> [u32; 8]
     ]
 }
 
-/// The 32 bytes of a state (section 2.4).
+/// Returns the 32 bytes of a state (section 2.4).
 #[tactic(auto, unfolding(crate::specs::Blake2s::state_bytes))]
 pub fn state_bytes(h: [u32; 8]) -> [u8; 32]
     ensures { result ≡ state_bytes h }

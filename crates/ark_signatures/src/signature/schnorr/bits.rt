@@ -7,7 +7,7 @@ use ark_base::error::Error;
 use ark_groups::ff::PrimeField;
 use std::alloc::Global;
 
-/// The bits of the bytes, the highest of each byte first. The only refusal is `OutOfMemory`.
+/// Returns the bits of the bytes, the highest of each byte first. The only error is `OutOfMemory`.
 pub fn bytes_to_bits(alloc: Global, bytes: &[u8]) -> Result<Vec<bool>, Error>
     ensures bits { IfOk result (λ bits. bits.items ≡ highest_first bytes.now) }
     ensures refused { IfErr result (λ error. error ≡ Error.OutOfMemory) }
@@ -21,7 +21,7 @@ pub fn bytes_to_bits(alloc: Global, bytes: &[u8]) -> Result<Vec<bool>, Error>
     Ok(bits)
 }
 
-/// The number that bytes multiply by, modulo the modulus: 2^i for each place i of their bits that is set.
+/// Returns the number that bytes multiply by, modulo the modulus: 2^i for each place i of their bits that is set.
 pub fn multiplier<F: PrimeField>(bytes: &[u8]) -> F
     ensures { F.value result ≡ multiplier bytes.now % F.MODULUS }
 {

@@ -30,10 +30,10 @@ impl<C: CurveGroup, D: ByteDigest> Challenges<D> for C {
         challenge_of C.ScalarField.MODULUS C.ScalarField.MODULUS_BIT_SIZE (D.meaning text) };
 }
 
-/// The challenge of a point: the scalar that the digest of the salt, of the point's canonical bytes and of the message's
-/// gives, if it gives one.
+/// Returns the challenge of a point: the scalar that the digest of the salt, of the point's canonical bytes and of the
+/// message's gives, if it gives one.
 ///
-/// Refusals: the digest's; `OutOfMemory`.
+/// Errors: the digest's; `OutOfMemory`.
 pub fn challenge_of<C: CurveGroup, D: ByteDigest>(
     alloc: Global,
     salt: &[u8; 32],
@@ -52,9 +52,10 @@ pub fn challenge_of<C: CurveGroup, D: ByteDigest>(
     Ok(C::ScalarField::from_random_bytes(&digest))
 }
 
-/// The first scalar, drawn one after another, whose multiple of the generator has a challenge; and that challenge.
+/// Returns the first scalar, drawn one after another, whose multiple of the generator has a challenge; and that
+/// challenge.
 ///
-/// Refusals: the digest's at the first multiple that meets one; `DrawsExhausted` after 128 draws without a challenge;
+/// Errors: the digest's at the first multiple that meets one; `DrawsExhausted` after 128 draws without a challenge;
 /// `OutOfMemory`.
 pub fn draw_nonce<C: CurveGroup, D: ByteDigest, R: Rng>(
     alloc: Global,

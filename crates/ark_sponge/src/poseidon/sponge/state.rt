@@ -33,21 +33,21 @@ impl<F: Valued> Model for PoseidonSpongeState<F> {
 }
 
 impl<F: Field> PoseidonSpongeState<F> {
-    /// The state of these elements, the capacity first, that goes on so.
+    /// Returns the state of these elements, the capacity first, that goes on so.
     pub fn new(state: Vec<F>, mode: DuplexSpongeMode) -> PoseidonSpongeState<F>
         ensures { result ≡ record { state = map F.value state.items; mode = mode } }
     {
         PoseidonSpongeState { state, mode }
     }
 
-    /// The elements, the capacity first.
+    /// Returns the elements, the capacity first.
     pub fn state(&self) -> &[F]
         ensures { map F.value result.now ≡ self.now.state }
     {
         &self.state
     }
 
-    /// What the sponge does next.
+    /// Returns what the sponge does next.
     pub fn mode(&self) -> DuplexSpongeMode
         ensures { result ≡ self.now.mode }
     {
