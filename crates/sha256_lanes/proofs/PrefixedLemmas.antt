@@ -10,8 +10,14 @@ use Rattle.sha256_lanes.proofs.PairLemmas.{at_right, word_at-left, word_at-right
 -- a word behind the first byte
 word_behind : (p : ℕ) (xs : List ℕ) (i n : ℕ) → n ≡ suc i → word_at (p ∷ xs) n ≡ word_at xs i
 word_behind p xs i n e =
-    let at : (k m : ℕ) → m ≡ suc k → slice_index (p ∷ xs) m ≡ slice_index xs k = λ k m is. ap (slice_index (p ∷ xs)) is in
-    rw (at i n e, at (i + 1) (n + 1) (omega arith), at (i + 2) (n + 2) (omega arith), at (i + 3) (n + 3) (omega arith)) refl
+    let at : (k m : ℕ) → m ≡ suc k → slice_index (p ∷ xs) m ≡ slice_index xs k =
+    λ k m is. ap (slice_index (p ∷ xs)) is in
+    rw (
+      at i n e,
+      at (i + 1) (n + 1) (omega arith),
+      at (i + 2) (n + 2) (omega arith),
+      at (i + 3) (n + 3) (omega arith),
+    ) refl
 
 -- words that lie within the left digest and within the right one, and the word between them
 pub word_left : (p : ℕ) (l r : List ℕ) (k x : ℕ) → 1 ≤ k → k < 8 → length l ≡ 32 → x ≡ word_at l (4 * k - 1)
@@ -63,7 +69,8 @@ AreWords-second p l r w sl sr so =
     drop-append-le 64 m (padding 65) (omega (arith, length-append l r)) in
     let tail : drop (length l + 31) (l ++ r) ≡ drop 31 r = drop-append-add l r 31 in
     let right : drop 63 (l ++ r) ≡ drop 31 r = rw sl at tail in
-    let last : drop 31 r ≡ slice_index r 31 ∷ [] = drop-cons r 31 0 (omega arith) ∙ ap (λ zs. slice_index r 31 ∷ zs) (drop_all 32 r (omega arith)) in
+    let last : drop 31 r ≡ slice_index r 31 ∷ [] =
+    drop-cons r 31 0 (omega arith) ∙ ap (λ zs. slice_index r 31 ∷ zs) (drop_all 32 r (omega arith)) in
     let whole : drop 64 (padded_message m) ≡ slice_index r 31 ∷ padding 65 =
     ap (drop 64) (prefixed_padded p l r sl sr) ∙ cut ∙ ap (λ (b : List ℕ). b ++ padding 65) (right ∙ last) in
     λ k lt. so k lt ∙ sym (ap (λ (b : List ℕ). word_at b (4 * k)) whole)

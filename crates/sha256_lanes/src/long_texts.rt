@@ -74,8 +74,7 @@ fn load_blocks(
     w
 }
 
-/// Hashes four messages of 56 to 119 bytes each: the head, and the tail that stands in the lane. The tails may differ in
-/// length.
+/// Hashes four messages of 56 to 119 bytes each, a head and a tail of each lane. The tails may differ in length.
 #[inline(always)]
 pub fn four_long_texts(
     head: &[u8],

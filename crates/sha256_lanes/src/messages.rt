@@ -35,7 +35,7 @@ fn digest_of(head: &[u8], tail: &[u8]) -> [u8; 32]
     hasher.finalize()
 }
 
-// It is inlined so that a head of no bytes or of one costs no call.
+// It is inlined so that the copy of a head of no bytes is none, and that of one byte a store.
 #[inline(always)]
 fn four_headed(
     head: &[u8],
@@ -78,8 +78,8 @@ pub fn four_messages(
     four_headed(&[], a, b, c, d)
 }
 
-/// Hashes four messages, each behind the byte `prefix`. They are hashed together where all have at most 54 bytes, or all
-/// have 55 to 118, without the prefix.
+/// Hashes four messages, each behind the byte `prefix`. They are hashed together where all have at most 54 bytes, or
+/// all have 55 to 118: the prefix does not count.
 pub fn four_prefixed(
     prefix: u8,
     a: &[u8],

@@ -61,8 +61,7 @@ fn load_blocks(a: &[u8; 64], b: &[u8; 64], c: &[u8; 64], d: &[u8; 64]) -> [u32x4
     w
 }
 
-/// Hashes four messages of at most 55 bytes each: the head, and the tail that stands in the lane. The tails may differ in
-/// length.
+/// Hashes four messages of at most 55 bytes each, a head and a tail of each lane. The tails may differ in length.
 #[inline(always)]
 pub fn four_texts(
     head: &[u8],

@@ -9,7 +9,8 @@ returns-clause-a c =
     let p = c.args.prefix in
     let l = c.args.a.now in
     let r = c.args.a_right.now in
-    sha256_longs (p ∷ l ++ r) (padded_message (p ∷ l ++ r)) _ _ _ _ (prefixed_size p l r (omega arith) (omega arith)) refl
+    sha256_longs (p ∷ l ++ r) (padded_message (p ∷ l ++ r)) _ _ _ _
+    (prefixed_size p l r (omega arith) (omega arith)) refl
     (c.initial_states.ensures 0 (omega arith))
     (c.compress_block-middle.ensures 0 (omega arith) _ (AreWords-first p l r _ (omega arith) (omega arith)
     (c.load_first-first.ensures 0 (omega arith))))
@@ -22,7 +23,8 @@ returns-clause-b c =
     let p = c.args.prefix in
     let l = c.args.b.now in
     let r = c.args.b_right.now in
-    sha256_longs (p ∷ l ++ r) (padded_message (p ∷ l ++ r)) _ _ _ _ (prefixed_size p l r (omega arith) (omega arith)) refl
+    sha256_longs (p ∷ l ++ r) (padded_message (p ∷ l ++ r)) _ _ _ _
+    (prefixed_size p l r (omega arith) (omega arith)) refl
     (c.initial_states.ensures 1 (omega arith))
     (c.compress_block-middle.ensures 1 (omega arith) _ (AreWords-first p l r _ (omega arith) (omega arith)
     (c.load_first-first.ensures 1 (omega arith))))
@@ -35,7 +37,8 @@ returns-clause-c c =
     let p = c.args.prefix in
     let l = c.args.c.now in
     let r = c.args.c_right.now in
-    sha256_longs (p ∷ l ++ r) (padded_message (p ∷ l ++ r)) _ _ _ _ (prefixed_size p l r (omega arith) (omega arith)) refl
+    sha256_longs (p ∷ l ++ r) (padded_message (p ∷ l ++ r)) _ _ _ _
+    (prefixed_size p l r (omega arith) (omega arith)) refl
     (c.initial_states.ensures 2 (omega arith))
     (c.compress_block-middle.ensures 2 (omega arith) _ (AreWords-first p l r _ (omega arith) (omega arith)
     (c.load_first-first.ensures 2 (omega arith))))
@@ -48,7 +51,8 @@ returns-clause-d c =
     let p = c.args.prefix in
     let l = c.args.d.now in
     let r = c.args.d_right.now in
-    sha256_longs (p ∷ l ++ r) (padded_message (p ∷ l ++ r)) _ _ _ _ (prefixed_size p l r (omega arith) (omega arith)) refl
+    sha256_longs (p ∷ l ++ r) (padded_message (p ∷ l ++ r)) _ _ _ _
+    (prefixed_size p l r (omega arith) (omega arith)) refl
     (c.initial_states.ensures 3 (omega arith))
     (c.compress_block-middle.ensures 3 (omega arith) _ (AreWords-first p l r _ (omega arith) (omega arith)
     (c.load_first-first.ensures 3 (omega arith))))
