@@ -20,6 +20,7 @@ configuration_of [] = None
 configuration_of (word ∷ []) = named word
 configuration_of (word ∷ more ∷ words) = None
 
+-- the language of a configuration
 abbrev pub language_of : Configuration → Language
 language_of Sha256 = sha_language
 language_of Toy = toy_language

@@ -77,6 +77,8 @@ pub struct BufferedOutput<W> {
 
 impl<W: Write> BufferedOutput<W> {
     /// Takes a writer, of which no call has failed, and allocates a buffer before it.
+    ///
+    /// Errors: an `io::Error` where memory lacks for the buffer; no clause says so.
     pub fn new(alloc: Global, writer: W) -> io::Result<BufferedOutput<W>>
     where
         W: Drop,

@@ -28,7 +28,7 @@ fn send_before_waiting<I: Input, O: Output>(lines: &I, replies: &mut O) -> io::R
     replies.send()
 }
 
-/// Reads the next line whole, with its line feed if it has one; answers whether there is one.
+/// Reads the next line whole, with its line feed if it has one; returns whether there is one.
 fn read_line<I: Input, O: Output>(
     lines: &mut I,
     replies: &mut O,
@@ -80,6 +80,8 @@ fn write_reply<O: Output>(replies: &mut O, reply: &[u8]) -> io::Result<()>
 
 /// Answers each line that comes, from no tree on, until the input ends, over hashes with these parameters. The first fault of the
 /// reader, of the writer or of memory ends it before.
+///
+/// Errors: an `io::Error` where a call of the reader or of the writer failed, or memory lacked for a reply.
 pub fn run<C: Shell, I: Input, O: Output>(
     alloc: Global,
     leaf_parameters: &LeafParam<C>,

@@ -57,6 +57,8 @@ pub trait Output {
         ensures { result ≡ has_failed self.now };
 
     /// Takes bytes whole. Where that fails, a front of them was taken.
+    ///
+    /// Errors: an `io::Error` of the writer. No further call may come.
     fn write(&mut self, bytes: &[u8]) -> io::Result<()>
         requires { has_failed self.old ≡ false }
         ensures whole { OnOk result (Appends (contents self.old) (contents self.new) bytes.now) }
@@ -66,6 +68,8 @@ pub trait Output {
             (λ _. has_failed self.new ≡ false) (λ _. has_failed self.new ≡ true) };
 
     /// Sends off all that it holds.
+    ///
+    /// Errors: an `io::Error` of the writer, which leaves what it holds. No further call may come.
     fn send(&mut self) -> io::Result<()>
         requires { has_failed self.old ≡ false }
         ensures kept { Keeps (contents self.old) (contents self.new) }

@@ -6,6 +6,8 @@ use Rattle.ark_paths.specs.MultiPath.{MultiWay}
 use Rattle.ark_paths.specs.Pair.{Digest, HashPair}
 use Rattle.ark_paths.specs.Path.{Way}
 
+-- what a configuration tells: leaf tokens, digest tokens, byte tokens, a root's bytes, the hash pair, paths and
+-- multi-proofs as bytes
 pub record Language : Type 0 where
   -- what the leaf hash answers for the leaf that a token says, if it says one
   pub leaf_outcome : List ℕ → Option (Outcome Digest)

@@ -9,6 +9,8 @@ use Rattle.ark_paths.specs.Index.{log2}
 use Rattle.ark_merkle.specs.declared.tree.bind.Binding.{Binding}
 use Rattle.ark_merkle.specs.declared.tree.bind.Binding.TheVariants.{Rejected, Stands, Differs}
 
+-- the replies: `Verdict` is that of a check, `Counted` that of a check with its pairs, `Bound` that of what a path says
+-- of a leaf
 pub data Reply : Type 0 where
   BadLine : Reply
   NoTree : Reply

@@ -83,12 +83,14 @@ change_by l DigestsWord tokens = option_map NewTreeOfDigests (some_values l.dige
 change_by l SetWord tokens = option_map (λ two. NewLeaf two.0 two.1) (two_values index_of l.leaf_outcome tokens)
 change_by l SetManyWord tokens = option_map NewLeaves (some_pairs index_of l.leaf_outcome tokens)
 
+-- the same of the words that show something of the tree
 abbrev pub show_by : Language → ShowWord → List (List ℕ) → Option Request
 show_by l RootWord [] = Some ShowRoot
 show_by l RootWord (token ∷ tokens) = None
 show_by l ProofWord tokens = option_map ShowProof (only_value index_of tokens)
 show_by l MultiWord tokens = option_map ShowMultiProof (values index_of tokens)
 
+-- the same of the words that judge a proof
 abbrev pub judge_by : Language → JudgeWord → List (List ℕ) → Option Request
 judge_by l CheckWord tokens = option_map (λ two. CheckPath two.0 two.1) (two_values l.bytes l.leaf_outcome tokens)
 judge_by l BindWord tokens = option_map (λ two. BindPath two.0 two.1) (two_values l.bytes l.leaf_outcome tokens)
@@ -98,6 +100,7 @@ judge_by l MultiCountWord tokens =
     option_map (λ two. CountMultiProof two.0 two.1) (value_and_others l.bytes l.leaf_outcome tokens)
 judge_by l StrictWord tokens = option_map ReadStrictly (only_value l.bytes tokens)
 
+-- what a keyword asks of the tokens behind it
 abbrev pub request_by : Language → Option Keyword → List (List ℕ) → Option Request
 request_by l None tokens = None
 request_by l (Some (ChangeKey word)) tokens = change_by l word tokens
@@ -116,11 +119,13 @@ asked_change hash numbers (Digests digests) = NewTreeOfDigests (map numbers dige
 asked_change hash numbers (Set index leaf) = NewLeaf index (hash leaf)
 asked_change hash numbers (SetMany changes) = NewLeaves (map (λ change. (change.0, hash change.1)) changes.items)
 
+-- the same of a line that shows something of the tree
 abbrev pub asked_show : Show → Request
 asked_show Root = ShowRoot
 asked_show (Proof index) = ShowProof index
 asked_show (Multi indexes) = ShowMultiProof indexes.items
 
+-- the same of a line that judges a proof
 abbrev pub asked_judge : {L : Type 0} → (L → Outcome Digest) → Judge L → Request
 asked_judge hash (Check path leaf) = CheckPath path.items (hash leaf)
 asked_judge hash (Bind path leaf) = BindPath path.items (hash leaf)
@@ -128,6 +133,7 @@ asked_judge hash (MultiCheck proof leaves) = CheckMultiProof proof.items (map ha
 asked_judge hash (MultiCount proof leaves) = CountMultiProof proof.items (map hash leaves.items)
 asked_judge hash (Strict proof) = ReadStrictly proof.items
 
+-- what a line asks, as it stands in the program
 abbrev pub asked : {L D : Type 0} → (L → Outcome Digest) → (D → Digest) → Line L D → Request
 asked hash numbers (ChangeLine change) = asked_change hash numbers change
 asked hash numbers (ShowLine show) = asked_show show

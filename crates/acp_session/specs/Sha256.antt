@@ -9,6 +9,7 @@ use Rattle.ark_paths.specs.PathBytes.{way_bytes, way_at}
 use Rattle.acp_session.specs.Language.{Language}
 use Rattle.acp_session.specs.Tokens.{bytes_of}
 
+-- the language of `sha256`
 abbrev pub sha_language : Language
 sha_language = record {
   leaf_outcome = λ token. option_map (λ bytes. Ok (sha256 bytes)) (bytes_of token);

@@ -47,12 +47,14 @@ abbrev pub new_tree_turn : State → Outcome (List Digest) → Turn
 new_tree_turn before (Ok digests) = (Built (length digests), Some digests)
 new_tree_turn before (Err error) = (Refused error, before)
 
+-- the exact reply to `tree`, and the tree afterwards
 abbrev pub tree_turn : Language → State → List (Outcome Digest) → Turn
 tree_turn l before leaves =
     if is_tree_size (length leaves)
     then new_tree_turn before (tree_leaves l.pair_hashes (λ digest. digest) leaves)
     else ((NotLeaves, before))
 
+-- the exact reply to `digests`, and the tree afterwards
 abbrev pub digests_turn : Language → State → List Digest → Turn
 digests_turn l before digests =
     if is_tree_size (length digests)
@@ -71,6 +73,7 @@ abbrev pub new_leaf_turn : State → Outcome (List Digest) → Turn
 new_leaf_turn before (Ok digests) = (Changed, Some digests)
 new_leaf_turn before (Err error) = (Refused error, before)
 
+-- the exact reply to `set`, and the tree afterwards
 abbrev pub set_turn : Language → State → ℕ → Outcome Digest → Turn
 set_turn l None index leaf = (NoTree, None)
 set_turn l (Some digests) index leaf =
@@ -89,6 +92,7 @@ many_changed_leaves h changes digests = do
   new ← new_digests (λ digest. digest) changes digests
   leaves_with_root h new
 
+-- the exact reply to `setmany`, and the tree afterwards
 abbrev pub set_many_turn : Language → State → List (ℕ × Outcome Digest) → Turn
 set_many_turn l None changes = (NoTree, None)
 set_many_turn l (Some digests) changes =
@@ -102,15 +106,18 @@ abbrev pub shown_root : Language → Outcome Digest → Reply
 shown_root l (Ok digest) = Root (l.root_bytes digest)
 shown_root l (Err error) = Refused error
 
+-- the exact reply to `root`
 abbrev pub root_reply : Language → State → Reply
 root_reply l None = NoTree
 root_reply l (Some digests) = shown_root l (root l.pair_hashes digests)
 
+-- the exact reply to `proof`
 abbrev pub proof_reply : Language → State → ℕ → Reply
 proof_reply l None index = NoTree
 proof_reply l (Some digests) index =
     if nat_lt index (length digests) then Proof (l.path_bytes (own_path l.pair_hashes index digests)) else NoIndex
 
+-- the exact reply to `multi`
 abbrev pub multi_reply : Language → State → List ℕ → Reply
 multi_reply l None indexes = NoTree
 multi_reply l (Some digests) indexes =
@@ -145,6 +152,7 @@ finding say reading = do
   w ← alone_of reading
   about say w
 
+-- the reply to what is said of what bytes spell
 abbrev pub finding_reply : {V : Type 0} → (V → Reply) → Outcome (Option V) → Reply
 finding_reply reply (Ok (Some v)) = reply v
 finding_reply reply (Ok None) = Trailing
@@ -162,16 +170,19 @@ multi_path_holds h digests leaves proof = do
   r ← root h digests
   multi_verdict h leaves proof r
 
+-- the exact reply to `check`
 abbrev pub check_reply : Language → State → List ℕ → Outcome Digest → Reply
 check_reply l None bytes leaf = NoTree
 check_reply l (Some digests) bytes leaf =
     finding_reply Verdict (finding (path_holds l.pair_hashes digests leaf) (l.path_reading bytes))
 
+-- the exact reply to `bind`
 abbrev pub bind_reply : Language → State → List ℕ → Outcome Digest → Reply
 bind_reply l None bytes leaf = NoTree
 bind_reply l (Some digests) bytes leaf =
     finding_reply Bound (finding (path_binding l.pair_hashes digests leaf) (l.path_reading bytes))
 
+-- the exact reply to `mcheck`
 abbrev pub mcheck_reply : Language → State → List ℕ → List (Outcome Digest) → Reply
 mcheck_reply l None bytes leaves = NoTree
 mcheck_reply l (Some digests) bytes leaves =
@@ -214,6 +225,7 @@ TellsCount l (Some digests) proof leaves bytes =
 abbrev pub count_of : MultiWay → Outcome ℕ
 count_of proof = Ok (length proof.indexes)
 
+-- the exact reply to `strict`
 abbrev pub strict_reply : Language → List ℕ → Reply
 strict_reply l bytes = finding_reply Strict (finding count_of (strict_reading (l.multi_path_reading bytes)))
 

@@ -28,6 +28,7 @@ toy_digest (Some bytes) = whole_digest (below_at 257 2 bytes)
 abbrev pub read_digest : ℕ → Digest
 read_digest value = number_of_bytes (bytes_of_number 2 value) ∷ []
 
+-- the language of `toy`
 abbrev pub toy_language : Language
 toy_language = record {
   leaf_outcome = λ token. option_map toy_leaf (number_of_token token);

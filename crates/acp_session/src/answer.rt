@@ -18,6 +18,9 @@ use std::alloc::{AllocError, Global};
 
 /// Returns the reply to one line, without a line feed, in a session over hashes with these parameters. Only `tree`,
 /// `digests`, `set` and `setmany` change the tree.
+///
+/// The only error is `AllocError`, where memory lacks for the line or for the reply's own bytes; it leaves the tree as
+/// before.
 pub fn answer<C: Shell>(
     alloc: Global,
     leaf_parameters: &LeafParam<C>,

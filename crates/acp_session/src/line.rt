@@ -50,6 +50,8 @@ pub enum Judge<L> {
 }
 
 /// Returns the line that some bytes spell, if they spell one.
+///
+/// The only error is `AllocError`.
 pub fn line_of<C: Shell>(
     alloc: Global,
     line: &[u8],

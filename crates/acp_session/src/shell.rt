@@ -18,24 +18,32 @@ pub trait Shell: Config {
     ghost language: { Self.LeafHash.Parameters → Self.TwoToOneHash.Parameters → Language };
 
     /// Returns the leaf that a token says, if it says one.
+    ///
+    /// The only error is `AllocError`.
     fn read_leaf(alloc: Global, token: &[u8]) -> Result<Option<Self::Leaf>, AllocError>
         ensures { IfOk result (λ leaf.
             (p : Self.LeafHash.Parameters) (q : Self.TwoToOneHash.Parameters)
             → option_map (Self.LeafHash.meaning p) leaf ≡ (language p q).leaf_outcome token.now) };
 
     /// Returns the digest that a token says, if it says one.
+    ///
+    /// The only error is `AllocError`.
     fn read_digest(alloc: Global, token: &[u8]) -> Result<Option<Self::LeafDigest>, AllocError>
         ensures { IfOk result (λ digest.
             (p : Self.LeafHash.Parameters) (q : Self.TwoToOneHash.Parameters)
             → option_map Self.LeafDigest.numbers digest ≡ (language p q).digest token.now) };
 
     /// Returns the bytes that a token says, if it says some.
+    ///
+    /// The only error is `AllocError`.
     fn read_bytes(alloc: Global, token: &[u8]) -> Result<Option<Vec<u8>>, AllocError>
         ensures { IfOk result (λ bytes.
             (p : Self.LeafHash.Parameters) (q : Self.TwoToOneHash.Parameters)
             → option_map (λ bytes. bytes.items) bytes ≡ (language p q).bytes token.now) };
 
     /// Appends the hexadecimal of a root's token bytes.
+    ///
+    /// The only error is `AllocError`; what `reply` then holds no clause says.
     fn show_root(root: &Self::InnerDigest, reply: &mut Vec<u8>) -> Result<(), AllocError>
         ensures { OnOk result ((p : Self.LeafHash.Parameters) (q : Self.TwoToOneHash.Parameters)
             → reply.new.items ≡ reply.old.items

@@ -46,6 +46,8 @@ pub fn index_of(token: &[u8]) -> Option<usize>
 }
 
 /// Returns the bytes that a token spells in hexadecimal, one or more.
+///
+/// The only error is `AllocError`.
 pub fn some_bytes_of(alloc: Global, token: &[u8]) -> Result<Option<Vec<u8>>, AllocError>
     ensures { IfOk result (λ bytes.
         option_map (λ bytes. bytes.items) bytes ≡ some_bytes_of token.now) }
@@ -61,6 +63,8 @@ pub fn some_bytes_of(alloc: Global, token: &[u8]) -> Result<Option<Vec<u8>>, All
 }
 
 /// Returns the number of the one to eight bytes that a token spells in hexadecimal, the least first.
+///
+/// The only error is `AllocError`.
 pub fn number_of_token(alloc: Global, token: &[u8]) -> Result<Option<u64>, AllocError>
     ensures { IfOk result (λ number. number ≡ number_of_token token.now) }
 {

@@ -27,7 +27,7 @@ chunks_of (a ∷ b ∷ c ∷ bits) = (a, b, c) ∷ chunks_of bits
 abbrev pub one_if : Bool → ℤ
 one_if b = if b then pos 1 else pos 0
 
--- the digit of a chunk: one of -4 .. -1 and 1 .. 4, negative where the third bit is set
+-- of a chunk of the bits a, b and c: the whole number (1 - 2 c) (1 + a + 2 b), one of -4 .. -1 and 1 .. 4
 abbrev pub digit : Chunk → ℤ
 digit (a, b, c) = (pos 1 -ℤ pos 2 *ℤ one_if c) *ℤ (pos 1 +ℤ one_if a +ℤ pos 2 *ℤ one_if b)
 
@@ -40,7 +40,7 @@ segment_scalar (chunk ∷ chunks) = digit chunk +ℤ pos 16 *ℤ segment_scalar 
 unfoldable pub greatest_scalar : ℕ → ℕ
 greatest_scalar count = 4 * (16 ^ count - 1) / 15
 
--- the scalars of a segment of this many chunks lie between half the order and its negative
+-- 4 (16^n - 1) / 15, the greatest scalar of a segment of n chunks, is at most half of the order less one
 unfoldable pub is_fitting : ℕ → ℕ → Bool
 is_fitting order size = nat_le (greatest_scalar size) ((order - 1) / 2)
 
@@ -87,7 +87,7 @@ abbrev pub AreDrawnSegments : {G W : Type 0}
 AreDrawnSegments g draw windows stream lists =
     AreSegmentsOf g windows (window_elements draw windows stream).0 lists
 
--- What making parameters leaves of a stream; refused where the scalars of a segment do not fit the order.
+-- what making parameters leaves of a stream, or `WindowTooLarge` where a segment does not fit the order
 abbrev pub segments_outcome : {G W : Type 0} → ℕ → (Stream → G × Stream) → Windows W → Stream → Outcome Stream
 segments_outcome order draw windows stream =
     if is_fitting order windows.WINDOW_SIZE then Ok (window_elements draw windows stream).1

@@ -80,7 +80,7 @@ where
     ghost is_made = { λ stream parameters.
         AreDrawnSegments G.group G.draw W.Window stream (lists_in parameters.generators.items) };
 
-    /// Parameters of generators as `create_generators` makes them.
+    /// Returns parameters of generators as `create_generators` makes them.
     ///
     /// Errors: `WindowTooLarge`, where four times the sum of the powers of 16 below a window's size passes half of the
     /// order less one; `OutOfMemory`.

@@ -10,6 +10,7 @@ use Rattle.ark_paths.specs.Tree.{HashedTree, root_in}
 use Rattle.ark_merkle.specs.declared.tree.bind.Binding.{Binding}
 use Rattle.ark_merkle.specs.declared.tree.bind.Binding.TheVariants.{Rejected, Stands, Differs}
 
+-- what that level says: the leaf stands, or the level
 abbrev pub binding_of : Option ℕ → Binding
 binding_of None = Stands
 binding_of (Some level) = Differs level

@@ -71,7 +71,7 @@ multi_verdict_from h root i (Some way ∷ ways) (leaf ∷ leaves) = do
   holds ← verdict h leaf way root
   if holds then multi_verdict_from h root (suc i) ways leaves else Ok false
 
--- what a multi-proof says of leaves, each of them by what its hash answers
+-- no index; else what the decoded paths say of their leaves in turn: the first answer that is not `true` decides
 abbrev pub multi_verdict : HashPair → List (Outcome Digest) → MultiWay → Digest → Outcome Bool
 multi_verdict h leaves m root =
     if length m.indexes == 0 then Err (GenericError NoIndex) else multi_verdict_from h root 0 (decoded_paths m) leaves

@@ -18,15 +18,18 @@ parts_of leaf inner siblings prefixes suffixes indexes = (
   (map (λ n. n) prefixes, (map (λ suffix. map inner suffix.items) suffixes, map (λ n. n) indexes)),
 )
 
+-- multi-proofs that have a spelling
 abbrev pub MultiFits : {L U : Type 0} → (L → Type 0) → (U → Type 0) → MultiParts L U → Type 0
 MultiFits fits_leaf fits_inner =
     BothFit (IsCounted fits_leaf)
     (BothFit (IsCounted IsWord) (BothFit (IsCounted (IsCounted fits_inner)) (IsCounted IsWord)))
 
+-- the four lists of a multi-proof
 abbrev pub multi_path_spelling : {L U : Type 0} → (L → List ℕ) → (U → List ℕ) → MultiParts L U → List ℕ
 multi_path_spelling leaf inner =
     both (counted_list leaf) (both (counted_list word) (both (counted_list (counted_list inner)) (counted_list word)))
 
+-- how these are read
 abbrev pub multi_path_at : {L U : Type 0} → (List ℕ → Reading L) → (List ℕ → Reading U)
     → List ℕ → Reading (MultiParts L U)
 multi_path_at leaf_at inner_at =

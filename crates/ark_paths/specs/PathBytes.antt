@@ -9,12 +9,15 @@ use Rattle.ark_paths.specs.Path.{Way}
 abbrev pub PathParts : Type 0 → Type 0 → Type 0
 PathParts L U = L × (List U × ℕ)
 
+-- paths that have a spelling
 abbrev pub PathFits : {L U : Type 0} → (L → Type 0) → (U → Type 0) → PathParts L U → Type 0
 PathFits fits_leaf fits_inner = BothFit fits_leaf (BothFit (IsCounted fits_inner) IsWord)
 
+-- the sibling, the counted list of digests, the index as a word
 abbrev pub path_spelling : {L U : Type 0} → (L → List ℕ) → (U → List ℕ) → PathParts L U → List ℕ
 path_spelling leaf inner = both leaf (both (counted_list inner) word)
 
+-- how these are read
 abbrev pub path_at : {L U : Type 0} → (List ℕ → Reading L) → (List ℕ → Reading U) → List ℕ → Reading (PathParts L U)
 path_at leaf_at inner_at = both_at leaf_at (both_at (counted_list_at inner_at) word_at)
 

@@ -62,5 +62,6 @@ beside_in rows (suc k) index = get_or (get_or rows k []) (neighbour (index / 2 ^
 abbrev pub digests_of : {A Z : Type 0} → (A → Digest) → Vec A Z → List Digest
 digests_of numbers digests = map numbers digests.items
 
+-- rows of digests, by their numbers
 abbrev pub rows_seen : {A Z Y : Type 0} → (A → Digest) → Vec (Vec A Z) Y → List (List Digest)
 rows_seen numbers rows = map (digests_of numbers) rows.items

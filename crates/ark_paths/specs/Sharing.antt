@@ -15,6 +15,7 @@ abbrev pub prefixes_of : List Digest → List (List Digest) → List ℕ
 prefixes_of before [] = []
 prefixes_of before (list ∷ lists) = shared_count before list ∷ prefixes_of list lists
 
+-- what each list adds to the digests that it shares with the one before
 abbrev pub suffixes_of : List Digest → List (List Digest) → List (List Digest)
 suffixes_of before [] = []
 suffixes_of before (list ∷ lists) = drop (shared_count before list) list ∷ suffixes_of list lists

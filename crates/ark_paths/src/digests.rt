@@ -17,7 +17,9 @@ pub fn are_same<D: DigestItem>(a: &D, b: &D) -> bool
     *a == *b
 }
 
-/// Digests once more.
+/// Copies a list of digests.
+///
+/// The only error is `OutOfMemory`.
 pub fn copies_of<D: DigestItem>(alloc: Global, digests: &[D]) -> Result<Vec<D>, Error>
     ensures { AnswersBy (digests_of D.numbers) (Ok (map D.numbers digests.now)) result }
 {
@@ -28,7 +30,9 @@ pub fn copies_of<D: DigestItem>(alloc: Global, digests: &[D]) -> Result<Vec<D>, 
     Ok(copies)
 }
 
-/// Rows of digests once more.
+/// Copies rows of digests.
+///
+/// The only error is `OutOfMemory`.
 pub fn copies_of_rows<D: DigestItem>(alloc: Global, rows: &[Vec<D>]) -> Result<Vec<Vec<D>>, Error>
     ensures { AnswersBy (rows_seen D.numbers) (Ok (map (digests_of D.numbers) rows.now)) result }
 {
@@ -40,6 +44,8 @@ pub fn copies_of_rows<D: DigestItem>(alloc: Global, rows: &[Vec<D>]) -> Result<V
 }
 
 /// Returns the blank leaf digests of a tree of this height.
+///
+/// The only error is `OutOfMemory`.
 pub fn blank_row<D: DigestItem>(alloc: Global, height: usize) -> Result<Vec<D>, Error>
     requires low { 2 ≤ height }
     requires high { height ≤ 64 }

@@ -23,6 +23,8 @@ fn converted<L: DigestItem, I: Numbered, C: DigestConverter<L, I>>(
 }
 
 /// Converts two leaf digests, left first, and hashes them.
+///
+/// Errors: the conversion of the left digest; that of the right one; the hash of both; `OutOfMemory`.
 pub fn hash_bottom<L: DigestItem, C: DigestConverter<L, H::Input>, H: TwoToOneCRHScheme>(
     alloc: Global,
     pair_parameters: &H::Parameters,
@@ -133,6 +135,9 @@ pub fn hash_bottom_four<L: DigestItem, C: DigestConverter<L, H::Input>, H: TwoTo
 }
 
 /// Hashes a leaf digest with the one beside it.
+///
+/// Errors: the conversion of the digest that stands left; that of the one that stands right; the hash of both;
+/// `OutOfMemory`.
 pub fn hash_leaves<L: DigestItem, D: DigestItem, T: TreeHasher<L, D>>(
     alloc: Global,
     hasher: &T,
@@ -153,6 +158,8 @@ pub fn hash_leaves<L: DigestItem, D: DigestItem, T: TreeHasher<L, D>>(
 }
 
 /// Hashes a digest above the leaves with the one beside it.
+///
+/// Errors: those of the pair hash's `compressed`; `OutOfMemory`.
 pub fn hash_upper<L: DigestItem, D: DigestItem, T: TreeHasher<L, D>>(
     alloc: Global,
     hasher: &T,

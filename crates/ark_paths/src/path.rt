@@ -82,6 +82,8 @@ type Parts<P> = (
 );
 
 impl<P: Config> CanonicalDeserialize for Path<P> {
+    /// Errors: the first fault from the left, `Truncated` where a part ends early, `InvalidData` where a digest's bytes
+    /// are none; `OutOfMemory`.
     fn read(alloc: Global, bytes: &[u8]) -> Result<(Path<P>, usize), Error> {
         let ((leaf_sibling_hash, (auth_path, leaf_index)), used) = Parts::<P>::read(alloc, bytes)?;
         Ok((

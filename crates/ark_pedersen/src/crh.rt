@@ -77,7 +77,9 @@ impl<C: CurveGroup + DigestItem, W: Window> CRHScheme for CRH<C, W> {
     ghost is_made = { λ stream parameters.
         AreDrawn C.group C.draw W.Window stream (generators_in parameters) };
 
-    /// Parameters of generators as `create_generators` makes them.
+    /// Returns parameters of generators as `create_generators` makes them.
+    ///
+    /// The only error is `OutOfMemory`.
     fn setup<R: Rng>(alloc: Global, rng: &mut R) -> Result<Parameters<C>, Error> {
         Ok(Parameters {
             generators: Self::create_generators(alloc, rng)?,

@@ -11,7 +11,7 @@ use ark_sponge::poseidon::PoseidonConfig;
 use ark_wide_fields::Bls12_381Fr;
 use std::alloc::Global;
 
-/// Parameters over the scalar field of BLS12-381 for a rate of 2 to 8; `None` for any other.
+/// Returns parameters over the scalar field of BLS12-381 for a rate of 2 to 8; `None` for any other.
 ///
 /// The only error is `OutOfMemory`.
 pub fn bls12_381_fr(

@@ -11,7 +11,7 @@ use ark_sponge::poseidon::PoseidonConfig;
 use ark_wide_fields::Bn254Fr;
 use std::alloc::Global;
 
-/// Parameters over the scalar field of BN254 for a rate of 2 to 8; `None` for any other.
+/// Returns parameters over the scalar field of BN254 for a rate of 2 to 8; `None` for any other.
 ///
 /// The only error is `OutOfMemory`.
 pub fn bn254_fr(alloc: Global, rate: usize) -> Result<Option<PoseidonConfig<Bn254Fr>>, Error>

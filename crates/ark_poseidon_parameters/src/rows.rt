@@ -63,8 +63,8 @@ fn rows<F: Field>(
     Ok(rows)
 }
 
-/// Parameters with a capacity of one element and eight full rounds, from a table of the rows of constants and those of
-/// the matrix. The only error is `OutOfMemory`.
+/// Returns parameters with a capacity of one element and eight full rounds, from a table of the rows of constants and
+/// those of the matrix. The only error is `OutOfMemory`.
 pub fn parameters<F: Field>(
     alloc: Global,
     table: &str,

@@ -18,7 +18,7 @@ pub record Generators (G : Type 0) : Type 0 where
   pub randomness : List G
   pub windows : List (List G)
 
--- those of parameters
+-- the elements for the randomness and for the windows that parameters have
 abbrev pub elements_in : {G S : Type 0} → Parameters G S → Generators G
 elements_in parameters = record {
   randomness = parameters.randomness_generator.items;
@@ -31,7 +31,7 @@ pub record AreOf {G W : Type 0} (g : Group G) (bits : ℕ) (windows : Windows W)
   pub of_randomness : lists.randomness ≡ doublings g bits element
   pub of_windows : AreGeneratorsOf g windows elements lists.windows
 
--- the lists are so for some elements
+-- the lists are those of some elements, with their doublings
 abbrev pub AreMade : {G W : Type 0} → Group G → ℕ → Windows W → Generators G → Type 0
 AreMade {G} g bits windows lists = (element : G) × (elements : List G) × AreOf g bits windows element elements lists
 
@@ -41,7 +41,7 @@ drawn_elements draw windows stream =
     let others = window_elements draw windows (draw stream).1 in
     (((draw stream).0, others.0), others.1)
 
--- the lists are so for the elements that are drawn from a stream
+-- of a commitment: the randomness's list and the windows' are those of the elements that are drawn from a stream
 abbrev pub AreAllDrawn : {G W : Type 0} → Group G → (Stream → G × Stream) → ℕ → Windows W → Stream → Generators G
     → Type 0
 AreAllDrawn g draw bits windows stream lists =

@@ -52,8 +52,7 @@ first_nonce draw value challenge (suc draws) stream =
 abbrev pub response : ℕ → ℕ → ℕ → ℕ → ℕ
 response modulus x k e = (k + (modulus - (x * e) % modulus)) % modulus
 
--- The signature with the secret key x, a response and a challenge, by the first such number among 128 draws; and the
--- stream behind it.
+-- the response k - x e and the challenge e for the first such k among 128 draws, and the stream behind it
 abbrev pub signed : {F : Type 0} → (Stream → F × Stream) → (F → ℕ) → (ℕ → Outcome (Option ℕ)) → ℕ → ℕ → Stream
     → Outcome ((ℕ × ℕ) × Stream)
 signed draw value challenge modulus x stream =
@@ -70,7 +69,7 @@ numbers_of value signature = (value signature.prover_response, value signature.v
 abbrev pub claimed : {G : Type 0} → Group G → G → G → ℕ × ℕ → G
 claimed g generator key signature = g.plus (times g signature.0 generator) (times g signature.1 key)
 
--- whether e is the challenge of that point, none being no challenge; or the digest's refusal
+-- whether e is the challenge of s times the generator plus e times the key, or the digest's refusal
 abbrev pub verified : {G : Type 0} → Group G → (G → Outcome (Option ℕ)) → G → G → ℕ × ℕ → Outcome Bool
 verified g challenge generator key signature =
     challenge (claimed g generator key signature) >>= λ found.

@@ -36,10 +36,14 @@ pub trait AsymmetricEncryptionScheme {
         → Outcome Self.Plaintext → Type 0 };
 
     /// Makes parameters from what it draws.
+    ///
+    /// Errors: what `setup_gives` says.
     fn setup<R: Rng>(alloc: Global, rng: &mut R) -> Result<Self::Parameters, Error>
         ensures { setup_gives (R.stream rng.old) result (R.stream rng.new) };
 
     /// Makes a public key and its secret key from what it draws.
+    ///
+    /// Errors: what `keygen_gives` says.
     fn keygen<R: Rng>(
         alloc: Global,
         pp: &Self::Parameters,
@@ -48,6 +52,8 @@ pub trait AsymmetricEncryptionScheme {
         ensures { keygen_gives pp.now (R.stream rng.old) result (R.stream rng.new) };
 
     /// Returns the ciphertext of a message under a public key and randomness.
+    ///
+    /// Errors: what `encrypt_gives` says.
     fn encrypt(
         alloc: Global,
         pp: &Self::Parameters,
@@ -58,6 +64,8 @@ pub trait AsymmetricEncryptionScheme {
         ensures { encrypt_gives pp.now pk.now message.now r.now result };
 
     /// Returns what the secret key reads in a ciphertext.
+    ///
+    /// Errors: what `decrypt_gives` says.
     fn decrypt(
         alloc: Global,
         pp: &Self::Parameters,

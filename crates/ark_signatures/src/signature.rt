@@ -41,10 +41,14 @@ pub trait SignatureScheme {
         → Outcome Self.Signature → Type 0 };
 
     /// Makes parameters from what it draws.
+    ///
+    /// Errors: what `setup_gives` says.
     fn setup<R: Rng>(alloc: Global, rng: &mut R) -> Result<Self::Parameters, Error>
         ensures { setup_gives (R.stream rng.old) result (R.stream rng.new) };
 
     /// Makes a public key and its secret key from what it draws.
+    ///
+    /// Errors: what `keygen_gives` says.
     fn keygen<R: Rng>(
         alloc: Global,
         pp: &Self::Parameters,
@@ -53,6 +57,8 @@ pub trait SignatureScheme {
         ensures { keygen_gives pp.now (R.stream rng.old) result (R.stream rng.new) };
 
     /// Signs the message with what it draws.
+    ///
+    /// Errors: what `sign_gives` says.
     fn sign<R: Rng>(
         alloc: Global,
         pp: &Self::Parameters,
@@ -64,6 +70,8 @@ pub trait SignatureScheme {
             (R.stream rng.new) };
 
     /// Returns whether the message is signed under the public key.
+    ///
+    /// Errors: what `verify_gives` says.
     fn verify(
         alloc: Global,
         pp: &Self::Parameters,
@@ -74,6 +82,8 @@ pub trait SignatureScheme {
         ensures { verify_gives pp.now pk.now message.now signature.now result };
 
     /// Returns another public key, by the randomness.
+    ///
+    /// Errors: what `public_key_gives` says.
     fn randomize_public_key(
         alloc: Global,
         pp: &Self::Parameters,
@@ -83,6 +93,8 @@ pub trait SignatureScheme {
         ensures { public_key_gives pp.now public_key.now randomness.now result };
 
     /// Returns the signature for the public key that the same randomness makes.
+    ///
+    /// Errors: what `signature_gives` says.
     fn randomize_signature(
         alloc: Global,
         pp: &Self::Parameters,

@@ -48,6 +48,7 @@ impl CRHScheme for ToyLeafHash {
         Ok(())
     }
 
+    /// Errors: `Custom(1)` for 999.
     fn evaluate(_alloc: Global, _parameters: &(), input: &u64) -> Result<Fp<M257>, Error> {
         if *input == 999 {
             return Err(Error::GenericError(Refusal::Custom(1)));

@@ -51,6 +51,7 @@ impl TwoToOneCRHScheme for RefusingPairHash {
         Ok(())
     }
 
+    /// Errors: `Custom` with the first number where the second is 0.
     fn evaluate(
         alloc: Global,
         parameters: &(),
@@ -64,6 +65,7 @@ impl TwoToOneCRHScheme for RefusingPairHash {
         <ToyPairHash as TwoToOneCRHScheme>::evaluate(alloc, parameters, left, right)
     }
 
+    /// Errors: `Custom` with the first number where the second is 0.
     fn compress(
         alloc: Global,
         parameters: &(),

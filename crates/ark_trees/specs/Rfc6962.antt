@@ -23,7 +23,8 @@ log_hashes bytes = record {
   pair = record { bottom = node_of; upper = node_of };
 }
 
--- the Merkle tree hash of 2 ^ m entries: of one entry its hash; else the hash of the node over those of the halves
+-- the Merkle tree hash of RFC 6962 of a power of two of entries: of one its hash, else the node over those of the
+-- halves
 abbrev pub merkle_tree_hash : ℕ → List (List ℕ) → List ℕ
 merkle_tree_hash zero entries = entry_hash (get_or entries 0 [])
 merkle_tree_hash (suc m) entries =

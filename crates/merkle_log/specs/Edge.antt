@@ -44,6 +44,7 @@ abbrev pub digest_beside : List Digest → ℕ → ℕ → Digest → Digest
 digest_beside row i s last =
     if i % 2 == 1 then (get_or row (i - 1) []) else (if nat_lt (i + 1) s then (get_or row (i + 1) []) else last)
 
+-- the digest beside an index of such a row as a list, empty where none stands there
 abbrev pub digests_beside : List Digest → ℕ → ℕ → Digest → List Digest
 digests_beside row i s last = if has_beside i s then (digest_beside row i s last ∷ []) else []
 

@@ -153,6 +153,8 @@ fn binding_by(highest: Option<usize>) -> LogBinding
 }
 
 /// Returns what a path shows of a digest at an index of the first digests.
+///
+/// Errors: those of `Log::bind_digest`.
 pub fn binding_of<D: DigestItem, T: TreeHasher<D, D>>(
     alloc: Global,
     hasher: &T,

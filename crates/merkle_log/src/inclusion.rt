@@ -48,6 +48,8 @@ pub fn verify_inclusion<D: DigestItem, T: TreeHasher<D, D>>(
 }
 
 /// Checks that a leaf's digest stands at an index of the log with this root and size, as `verify_inclusion` does of a leaf.
+///
+/// Errors: those of the pairs' hash, the lowest first; `OutOfMemory`.
 pub fn verify_inclusion_digest<D: DigestItem, T: TreeHasher<D, D>>(
     alloc: Global,
     hasher: &T,

@@ -371,6 +371,8 @@ impl<D: DigestItem, T: TreeHasher<D, D>> Log<D, T> {
     }
 
     /// Says what a path shows of a leaf's digest, as `bind` does of a leaf.
+    ///
+    /// Errors: those of `bind` but that of the leaf's hash.
     pub fn bind_digest(
         &self,
         alloc: Global,

@@ -62,6 +62,9 @@ fn count_of(old_size: u64, new_size: u64) -> u64
 }
 
 /// Reads so many digests and nothing else.
+///
+/// Errors: the first fault of a digest's bytes, `Truncated` where bytes are missing; `InvalidData` where bytes are
+/// left; `OutOfMemory`.
 pub fn read_digests<D: DigestItem>(alloc: Global, bytes: &[u8], count: u64) -> Result<Vec<D>, Error>
     ensures { let digests = digests_in D.reads (λ value. D.numbers_of (D.spelling value)) in
         AnswersBy (digests_of D.numbers) (digests count bytes.now) result }

@@ -17,6 +17,9 @@ use paxidore_calls::refused::{Refused, verdict_code};
 use std::alloc::Global;
 
 /// Returns whether the bytes of a path show a leaf at an index of a tree with this root and size.
+///
+/// Answers: 0 for a yes, 1 for another root; else the first of `E_SIZE`, `E_TRUNCATED`, `E_INVALID` where bytes are
+/// left, `E_HEIGHT`, `E_INVALID` where its own index is another one or not below the size; `E_MEMORY` in place of any.
 #[unsafe(no_mangle)]
 pub extern "C" fn paxidore_sha256_verify(
     alloc: Global,
@@ -53,6 +56,10 @@ pub extern "C" fn paxidore_sha256_verify(
 }
 
 /// Returns whether the bytes of a strict multi-proof show leaves, one for each of some rising indexes, in such a tree.
+///
+/// Answers: 0 for a yes, 1 for another root; else the first of `E_SIZE`, `E_COUNT`, `E_LENGTHS`, `E_TRUNCATED`,
+/// `E_INVALID` where it is not strict or bytes are left, `E_HEIGHT`, `E_INVALID` where its own indexes are others;
+/// `E_MEMORY` in place of any.
 #[unsafe(no_mangle)]
 pub extern "C" fn paxidore_sha256_multi_verify(
     alloc: Global,
@@ -140,6 +147,8 @@ fn multi_path_of(
 }
 
 /// Writes the root of the tree above the leaves to `root`. An error leaves that as before.
+///
+/// Answers: 0; else the first of `E_SIZE`, `E_LENGTHS`; `E_MEMORY` in place of any.
 #[unsafe(no_mangle)]
 pub extern "C" fn paxidore_sha256_root(
     alloc: Global,
@@ -162,6 +171,9 @@ pub extern "C" fn paxidore_sha256_root(
 }
 
 /// Writes the bytes of the path of an index in the tree above the leaves to the front of `path`, and their count.
+///
+/// Answers: 0; else the first of `E_SIZE`, `E_LENGTHS`, `E_INDEX`, `E_ROOM`, which alone writes the count that is
+/// needed; `E_MEMORY` in place of any. Any other refusal leaves both buffers as before.
 #[unsafe(no_mangle)]
 pub extern "C" fn paxidore_sha256_path(
     alloc: Global,
@@ -182,6 +194,9 @@ pub extern "C" fn paxidore_sha256_path(
 
 /// Writes the bytes of the multi-proof of some indexes in the tree above the leaves to the front of `proof`, and their
 /// count.
+///
+/// Answers: 0; else the first of `E_SIZE`, `E_LENGTHS`, `E_INDEX`, `E_ROOM`, which alone writes the count that is
+/// needed; `E_MEMORY` in place of any. Any other refusal leaves both buffers as before.
 #[unsafe(no_mangle)]
 pub extern "C" fn paxidore_sha256_multi_path(
     alloc: Global,

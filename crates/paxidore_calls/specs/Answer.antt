@@ -17,6 +17,7 @@ use Rattle.paxidore_calls.specs.Hashing.{Hashing, hashes_of, tree_over, bytes_of
 
 -- ---- refusals and their codes
 
+-- the code below 0 of a refusal
 abbrev pub refusal_code : Refused → ℤ
 refusal_code Memory = negsuc 0
 refusal_code Truncated = negsuc 1
@@ -38,15 +39,18 @@ refused_of (IncorrectInputLength n) = Height
 refused_of (GenericError refusal) = Other
 refused_of NotPrimeOrder = Other
 
+-- an outcome of the library with the refusals for C
 abbrev pub refusing : {A : Type 0} → Outcome A → Result A Refused
 refusing (Ok value) = Ok value
 refusing (Err error) = Err (refused_of error)
 
+-- the code of what a proof says: 0 yes, 1 no, or that of its refusal
 abbrev pub verdict_code : Result Bool Refused → ℤ
 verdict_code (Ok true) = pos 0
 verdict_code (Ok false) = pos 1
 verdict_code (Err refused) = refusal_code refused
 
+-- the code of a call that does something: 0, or that of its refusal
 abbrev pub done_code : {A : Type 0} → Result A Refused → ℤ
 done_code (Ok value) = pos 0
 done_code (Err refused) = refusal_code refused

@@ -28,6 +28,7 @@ rfc6962_hashing = record { leaf_hash = entry_hash; node = node_hash }
 abbrev pub node_pair : Hashing → HashPair
 node_pair h = record { bottom = λ left right. Ok (h.node left right); upper = λ left right. Ok (h.node left right) }
 
+-- a hashing as hashes that refuse nothing
 abbrev pub hashes_of : Hashing → Hashes (List ℕ)
 hashes_of h = record { leaf = λ leaf. Ok (h.leaf_hash leaf); pair = node_pair h }
 
@@ -37,14 +38,18 @@ tree_over h leaves = record { hashes = hashes_of h; leaves = map h.leaf_hash lea
 
 -- ---- paths of digests of 32 bytes, which stand in them with no count
 
+-- the canonical bytes of a path whose digests are 32 bytes
 abbrev pub bytes_of_path : Way → List ℕ
 bytes_of_path = way_bytes itself itself
 
+-- how they are read
 abbrev pub read_path : List ℕ → Reading Way
 read_path = way_at itself itself (bytes_at 32) (bytes_at 32)
 
+-- the canonical bytes of a multi-proof whose digests are 32 bytes
 abbrev pub bytes_of_multi_path : MultiWay → List ℕ
 bytes_of_multi_path = multi_bytes itself itself
 
+-- how they are read
 abbrev pub read_multi_path : List ℕ → Reading MultiWay
 read_multi_path = multi_way_at itself itself (bytes_at 32) (bytes_at 32)

@@ -2,4 +2,5 @@ mod ChMaj
 pub mod LaneLemmas
 pub mod LongTextLemmas
 pub mod PairLemmas
+pub mod PrefixedLemmas
 pub mod TextLemmas

@@ -16,12 +16,12 @@ word_at-left xs ys i le =
       get_or_append_left xs ys 0 (i + 3) (omega arith),
     ) refl
 
-at_right : (xs ys : List ℕ) (i k : ℕ) → length xs ≡ 32 → k ≡ 32 + i → slice_index (xs ++ ys) k ≡ slice_index ys i
+pub at_right : (xs ys : List ℕ) (i k : ℕ) → length xs ≡ 32 → k ≡ 32 + i → slice_index (xs ++ ys) k ≡ slice_index ys i
 at_right xs ys i k size e =
     let rest : k - 32 ≡ i = omega arith in
     get_or-append_right xs ys 32 k 0 size (omega arith) ∙ ap (λ n. slice_index ys n) rest
 
-word_at-right : (xs ys : List ℕ) (i k : ℕ) → length xs ≡ 32 → k ≡ 32 + i → word_at (xs ++ ys) k ≡ word_at ys i
+pub word_at-right : (xs ys : List ℕ) (i k : ℕ) → length xs ≡ 32 → k ≡ 32 + i → word_at (xs ++ ys) k ≡ word_at ys i
 word_at-right xs ys i k size e =
     rw (
       at_right xs ys i k size e,

@@ -1,12 +1,12 @@
 -- A message of one block with its padding: its words, and its digest.
 use borrow.Rule.Slice.PartMut.{put_mid}
 use Rattle.std.specs.Int.{w64, to_be_bytes}
-use Rattle.std.proofs.Math.Seq.{set-append_seam, take-append-add}
+use Rattle.std.proofs.Math.Seq.{set-append_seam, take-append_seam, take-append-add, drop-append_seam}
 use Rattle.std.proofs.lemmas.Simd.{length-replicate}
 use Rattle.std.proofs.Common.{replicate, suc, ◌^◌, ℕ, ◌≡◌, ◌<◌, ◌≤◌, ◌+◌, ◌-◌, ◌*◌, ◌/◌, ◌%◌, List, [], ◌∷◌, ◌++◌, length, take, drop, slice_index, slice_index_or, slice_set, arith, refl, ap, sym, ◌∙◌, inl, inr}
 use Rattle.std.proofs.lemmas.Bool.{cases_lt}
 use Rattle.std.proofs.lemmas.List.{get_or-set_same, get_or-set_other, length-append, take_all, drop_all, drop-drop, drop-replicate, take-replicate, append_assoc, append-nil}
-use Rattle.sha2.specs.Sha256.{compress, digest_bytes, hash_after, initial_hash_256, padding, sha256, word_at}
+use Rattle.sha2.specs.Sha256.{compress, digest_bytes, hash_after, initial_hash_256, padded_message, padding, sha256, word_at}
 use Rattle.sha256_lanes.specs.Lanes.{AreWords, words}
 use Rattle.sha256_lanes.proofs.LaneLemmas.{slice_index-words}
 
@@ -46,23 +46,41 @@ pub sha256_shorts : (m block initial last digest : List ℕ) → length block �
 sha256_shorts m block initial last digest size eb ei el ed =
     rw (sha256_short m (ap length (sym eb) ∙ size), ← eb, ← ei, ← el) ed
 
+-- a head and a tail, written to the front of zs
+pub headed : (h m zs front mid : List ℕ) (e : ℕ) → e ≡ length h + length m → front ≡ h → mid ≡ m
+    → put_mid (length h) (e - length h) (front ++ drop (length h) zs) mid ≡ (h ++ m) ++ drop (length (h ++ m)) zs
+headed h m zs front mid e ee ef em =
+    let count : length h + length m - length h ≡ length m = omega arith in
+    let size : length (h ++ m) ≡ length h + length m = length-append h m in
+    rw (
+      ef,
+      em,
+      ee,
+      count,
+      size,
+      take-append_seam h (drop (length h) zs),
+      drop-append_seam h (drop (length h) zs),
+      drop-drop (length m) (length h) zs,
+    ) (sym (append_assoc h m (drop (length h + length m) zs)))
+
 -- the bytes of a block: the message, a bit 1, zeros, and the length in bits
-pub block_is : (m front t : List ℕ) → length m ≤ 55 → front ≡ m → t ≡ to_be_bytes w64 (8 * length m)
-    → put_mid 56 8 (slice_set (front ++ drop (length m) (replicate 64 0)) (length m) 0x80) t ≡ m ++ padding (length m)
-block_is m front t short ef et =
-    let n = length m in
+pub block_is : (m placed t : List ℕ) (n : ℕ) → n ≡ length m → n ≤ 55 → placed ≡ m ++ drop (length m) (replicate 64 0)
+    → t ≡ to_be_bytes w64 (8 * n) → put_mid 56 8 (slice_set placed n 0x80) t ≡ padded_message m
+block_is m placed t n en short ef et =
     let rest : List ℕ = 0x80 ∷ replicate (63 - n) 0 in
     let fill : ℕ → List ℕ = λ k. replicate k 0 in
     let left : 64 - n ≡ suc (63 - n) = omega arith in
     let zeros : drop n (fill 64) ≡ 0 ∷ fill (63 - n) = drop-replicate n 64 0 ∙ ap fill left in
-    let whole : slice_set (front ++ drop n (replicate 64 0)) n 0x80 ≡ m ++ rest =
-    rw (ef, zeros) (set-append_seam m 0 (replicate (63 - n) 0) 0x80) in
+    let seam : slice_set (m ++ 0 ∷ replicate (63 - n) 0) (length m) 0x80 ≡ m ++ rest =
+    set-append_seam m 0 (replicate (63 - n) 0) 0x80 in
+    let whole : slice_set placed n 0x80 ≡ m ++ rest = rw (ef, ← en, zeros) (rw (← en) at seam) in
     let size : length (m ++ rest) ≡ 64 = omega (arith, length-append m rest, length-replicate {A = ℕ} (63 - n) 0) in
-    let cut : 56 ≡ n + suc (55 - n) = omega arith in
+    let cut : 56 ≡ length m + suc (55 - n) = omega arith in
     let front_is : take 56 (m ++ rest) ≡ m ++ 0x80 ∷ replicate (55 - n) 0 =
     ap (λ (k : ℕ). take k (m ++ rest)) cut ∙ take-append-add m rest (suc (55 - n)) ∙ ap (λ (zs : List ℕ). m ++ 0x80
     ∷ zs) (take-replicate (55 - n) (63 - n) 0 (omega arith)) in
     let back : drop 8 (drop 56 (m ++ rest)) ≡ [] = drop-drop 8 56 (m ++ rest) ∙ drop_all 64 (m ++ rest) (omega arith) in
     let count : (119 - n % 64) % 64 ≡ 55 - n = omega arith in
     let bits : n * 8 % 2 ^ 64 ≡ 8 * n = omega arith in
-    rw (whole, front_is, back, count, bits, ← et, append-nil) (append_assoc m (0x80 ∷ replicate (55 - n) 0) t)
+    rw (whole, front_is, back, ← en, count, bits, ← et, append-nil)
+    (append_assoc m (0x80 ∷ replicate (55 - n) 0) t)

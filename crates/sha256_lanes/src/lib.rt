@@ -8,9 +8,13 @@ mod lanes;
 mod long_texts;
 mod messages;
 mod pairs;
+mod prefixed_pairs;
+#[cfg(test)]
+mod prefixed_tests;
 #[cfg(test)]
 mod tests;
 mod texts;
 
-pub use messages::four_messages;
+pub use messages::{four_messages, four_prefixed};
 pub use pairs::four_pairs;
+pub use prefixed_pairs::four_prefixed_pairs;

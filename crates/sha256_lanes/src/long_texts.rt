@@ -1,23 +1,24 @@
 //! Four messages that make two blocks each with their padding.
 
 ghost use Rattle.std.specs.Prelude.{◌≡◌, ℕ, [], ◌∷◌, ◌++◌, ◌+◌, ◌*◌, ◌<◌, ◌≤◌, length, slice_index, slice_index_or, take, drop};
-ghost use Rattle.sha2.specs.Sha256.{padding, sha256, word_at};
+ghost use Rattle.sha2.specs.Sha256.{padded_message, sha256, word_at};
 ghost use Rattle.sha256_lanes.specs.Lanes.{AreWords, words};
 
 use crate::lanes::{compress_block, initial_states};
 use crate::pairs::digest_in;
 use std::simd::u32x4;
 
-// A message and its padding (section 5.1.1).
+// A message and its padding (section 5.1.1): the message is a head and a tail.
 #[inline(always)]
-fn blocks_of(message: &[u8]) -> [u8; 128]
-    requires low { 56 ≤ length message.now }
-    requires high { length message.now ≤ 119 }
-    ensures { result ≡ message.now ++ padding (length message.now) }
+fn blocks_of(head: &[u8], tail: &[u8]) -> [u8; 128]
+    requires low { 56 ≤ length head.now + length tail.now }
+    requires high { length head.now + length tail.now ≤ 119 }
+    ensures { result ≡ padded_message (head.now ++ tail.now) }
 {
-    let used = message.len();
+    let used = head.len() + tail.len();
     let mut blocks = [0u8; 128];
-    blocks[..used].copy_from_slice(message);
+    blocks[..head.len()].copy_from_slice(head);
+    blocks[head.len()..used].copy_from_slice(tail);
     blocks[used] = 0x80;
     blocks[120..].copy_from_slice(&(8 * used as u64).to_be_bytes());
     blocks
@@ -73,26 +74,32 @@ fn load_blocks(
     w
 }
 
-/// Hashes four messages of 56 to 119 bytes each, of which each may have another length.
+/// Hashes four messages of 56 to 119 bytes each, a head and a tail of each lane. The tails may differ in length.
+#[inline(always)]
 pub fn four_long_texts(
+    head: &[u8],
     a: &[u8],
     b: &[u8],
     c: &[u8],
     d: &[u8],
 ) -> ([u8; 32], [u8; 32], [u8; 32], [u8; 32])
-    requires a { (56 ≤ length a.now) × (length a.now ≤ 119) }
-    requires b { (56 ≤ length b.now) × (length b.now ≤ 119) }
-    requires c { (56 ≤ length c.now) × (length c.now ≤ 119) }
-    requires d { (56 ≤ length d.now) × (length d.now ≤ 119) }
-    ensures a { result.0 ≡ sha256 a.now }
-    ensures b { result.1 ≡ sha256 b.now }
-    ensures c { result.2 ≡ sha256 c.now }
-    ensures d { result.3 ≡ sha256 d.now }
+    requires a { (56 ≤ length head.now + length a.now)
+        × (length head.now + length a.now ≤ 119) }
+    requires b { (56 ≤ length head.now + length b.now)
+        × (length head.now + length b.now ≤ 119) }
+    requires c { (56 ≤ length head.now + length c.now)
+        × (length head.now + length c.now ≤ 119) }
+    requires d { (56 ≤ length head.now + length d.now)
+        × (length head.now + length d.now ≤ 119) }
+    ensures a { result.0 ≡ sha256 (head.now ++ a.now) }
+    ensures b { result.1 ≡ sha256 (head.now ++ b.now) }
+    ensures c { result.2 ≡ sha256 (head.now ++ c.now) }
+    ensures d { result.3 ≡ sha256 (head.now ++ d.now) }
 {
-    let a_blocks = blocks_of(a);
-    let b_blocks = blocks_of(b);
-    let c_blocks = blocks_of(c);
-    let d_blocks = blocks_of(d);
+    let a_blocks = blocks_of(head, a);
+    let b_blocks = blocks_of(head, b);
+    let c_blocks = blocks_of(head, c);
+    let d_blocks = blocks_of(head, d);
     let first = load_blocks(&a_blocks, &b_blocks, &c_blocks, &d_blocks, 0);
     let second = load_blocks(&a_blocks, &b_blocks, &c_blocks, &d_blocks, 64);
     let middle = compress_block(first, initial_states());

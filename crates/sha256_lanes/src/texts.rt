@@ -1,22 +1,23 @@
 //! Four messages that make one block each with their padding.
 
 ghost use Rattle.std.specs.Prelude.{◌≡◌, ℕ, [], ◌∷◌, ◌++◌, ◌+◌, ◌*◌, ◌<◌, ◌≤◌, length, slice_index, slice_index_or};
-ghost use Rattle.sha2.specs.Sha256.{padding, sha256, word_at};
+ghost use Rattle.sha2.specs.Sha256.{padded_message, sha256, word_at};
 ghost use Rattle.sha256_lanes.specs.Lanes.{AreWords, words};
 
 use crate::lanes::{compress_block, initial_states};
 use crate::pairs::digest_in;
 use std::simd::u32x4;
 
-// A message and its padding.
+// A message and its padding: the message is a head and a tail.
 #[inline(always)]
-fn block_of(message: &[u8]) -> [u8; 64]
-    requires { length message.now ≤ 55 }
-    ensures { result ≡ message.now ++ padding (length message.now) }
+fn block_of(head: &[u8], tail: &[u8]) -> [u8; 64]
+    requires { length head.now + length tail.now ≤ 55 }
+    ensures { result ≡ padded_message (head.now ++ tail.now) }
 {
-    let used = message.len();
+    let used = head.len() + tail.len();
     let mut block = [0u8; 64];
-    block[..used].copy_from_slice(message);
+    block[..head.len()].copy_from_slice(head);
+    block[head.len()..used].copy_from_slice(tail);
     block[used] = 0x80;
     block[56..].copy_from_slice(&(8 * used as u64).to_be_bytes());
     block
@@ -60,23 +61,30 @@ fn load_blocks(a: &[u8; 64], b: &[u8; 64], c: &[u8; 64], d: &[u8; 64]) -> [u32x4
     w
 }
 
-/// Hashes four messages of at most 55 bytes each, of which each may have another length.
+/// Hashes four messages of at most 55 bytes each, a head and a tail of each lane. The tails may differ in length.
+#[inline(always)]
 pub fn four_texts(
+    head: &[u8],
     a: &[u8],
     b: &[u8],
     c: &[u8],
     d: &[u8],
 ) -> ([u8; 32], [u8; 32], [u8; 32], [u8; 32])
-    requires a { length a.now ≤ 55 }
-    requires b { length b.now ≤ 55 }
-    requires c { length c.now ≤ 55 }
-    requires d { length d.now ≤ 55 }
-    ensures a { result.0 ≡ sha256 a.now }
-    ensures b { result.1 ≡ sha256 b.now }
-    ensures c { result.2 ≡ sha256 c.now }
-    ensures d { result.3 ≡ sha256 d.now }
+    requires a { length head.now + length a.now ≤ 55 }
+    requires b { length head.now + length b.now ≤ 55 }
+    requires c { length head.now + length c.now ≤ 55 }
+    requires d { length head.now + length d.now ≤ 55 }
+    ensures a { result.0 ≡ sha256 (head.now ++ a.now) }
+    ensures b { result.1 ≡ sha256 (head.now ++ b.now) }
+    ensures c { result.2 ≡ sha256 (head.now ++ c.now) }
+    ensures d { result.3 ≡ sha256 (head.now ++ d.now) }
 {
-    let blocks = load_blocks(&block_of(a), &block_of(b), &block_of(c), &block_of(d));
+    let blocks = load_blocks(
+        &block_of(head, a),
+        &block_of(head, b),
+        &block_of(head, c),
+        &block_of(head, d),
+    );
     let states = compress_block(blocks, initial_states());
     (
         digest_in(&states, 0),

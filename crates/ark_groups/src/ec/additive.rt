@@ -109,6 +109,7 @@ impl<M: Modulus, K> CanonicalSerialize for Additive<M, K> {
 }
 
 impl<M: Modulus, K> CanonicalDeserialize for Additive<M, K> {
+    /// Errors: `Truncated`, then `InvalidData` of the modulus or more.
     fn read(alloc: Global, bytes: &[u8]) -> Result<(Additive<M, K>, usize), Error> {
         let (number, used) = Fp::read(alloc, bytes)?;
         Ok((Additive::new(number), used))

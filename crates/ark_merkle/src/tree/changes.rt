@@ -257,8 +257,8 @@ fn put_in_row<D: DigestItem>(rows: &mut Levels<D>, row: usize, mut changes: Vec<
     }
 }
 
-/// Puts changed digests into a row, and into the rows above it what these then hash to. All is hashed before anything is
-/// written, each place once; answers how many.
+/// Puts changed digests into a row, and into the rows above it what these then hash to. All is hashed before anything
+/// is written, each place once; returns how many.
 pub fn change_rows<L: DigestItem, D: DigestItem, T: TreeHasher<L, D>>(
     alloc: Global,
     hasher: &T,

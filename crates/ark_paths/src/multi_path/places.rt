@@ -73,6 +73,8 @@ pub fn first_length<D>(lists: &[Vec<D>]) -> usize
 }
 
 /// Makes the path of a place of the path before: its first digests stay, and the suffix takes the place of the others.
+///
+/// The only error is `OutOfMemory`; what `above` then holds no clause says.
 pub fn extend<'a, D: DigestItem>(
     above: &mut Vec<&'a D>,
     prefix: usize,
@@ -90,8 +92,8 @@ pub fn extend<'a, D: DigestItem>(
     Ok(())
 }
 
-/// Takes the leaf of a place, and makes the path there of the path before. It answers the digest beside the leaf's, and the
-/// leaf.
+/// Takes the leaf of a place, and makes the path there of the path before. It returns the digest beside the leaf's, and
+/// the leaf.
 ///
 /// Errors: `IncorrectInputLength` of a place that does not decode, before a leaf is taken, or for which there is none;
 /// `OutOfMemory`.

@@ -49,7 +49,7 @@ impl<P: Views> MultiPath<P> {
         self.verify_next(alloc, leaf_parameters, pair_parameters, root, &mut leaves)
     }
 
-    /// Acts as `verify`, of the leaves that a lent iterator gives next.
+    /// Acts as `verify`, of the leaves that a borrowed iterator gives next.
     pub fn verify_next<'a, I: Iterator<Item = &'a P::Leaf>>(
         &self,
         alloc: Global,
@@ -148,7 +148,7 @@ impl<P: Views> MultiPath<P> {
         self.verify_next_with(alloc, leaf_parameters, hasher, root, &mut leaves)
     }
 
-    /// Acts as `verify_with`, of the leaves that a lent iterator gives next.
+    /// Acts as `verify_with`, of the leaves that a borrowed iterator gives next.
     pub fn verify_next_with<
         'a,
         T: PairHasher<P::LeafDigest, P::InnerDigest>,

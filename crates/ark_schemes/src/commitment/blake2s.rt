@@ -30,6 +30,8 @@ impl CommitmentScheme for Commitment {
     ghost is_made = { λ _ _. Unit {0} };
 
     /// Draws nothing.
+    ///
+    /// It returns no error and allocates nothing.
     fn setup<R: Rng>(_alloc: Global, rng: &mut R) -> Result<(), Error>
         ensures made { result ≡ Ok tt }
         ensures as_before { R.stream rng.new ≡ R.stream rng.old }

@@ -55,6 +55,8 @@ impl<C: CurveGroup, W: Window> CommitmentScheme for Commitment<C, W> {
 
     /// Draws the randomness element and puts its doublings, one for each bit of the scalars' modulus; then the generators of the
     /// hash, as its `create_generators` makes them.
+    ///
+    /// The only error is `OutOfMemory`.
     fn setup<R: Rng>(alloc: Global, rng: &mut R) -> Result<Parameters<C>, Error> {
         let bits = C::ScalarField::MODULUS_BIT_SIZE as usize;
         Ok(Parameters {

@@ -76,7 +76,7 @@ impl<C: CurveGroup> AsymmetricEncryptionScheme for ElGamal<C> {
     ghost decrypt_gives = { λ pp sk ciphertext result.
         result ≡ Ok (decrypted C.group (C.ScalarField.value sk.0) ciphertext) };
 
-    /// Draws the generator. It refuses nothing.
+    /// Draws the generator. It returns no error.
     fn setup<R: Rng>(_alloc: Global, rng: &mut R) -> Result<Parameters<C>, Error>
         ensures made { result ≡ Ok (record { generator = (C.draw (R.stream rng.old)).0 }) }
         ensures left { R.stream rng.new ≡ (C.draw (R.stream rng.old)).1 }
@@ -86,7 +86,7 @@ impl<C: CurveGroup> AsymmetricEncryptionScheme for ElGamal<C> {
         })
     }
 
-    /// Draws the secret key x; the public key is x times the generator. It refuses nothing.
+    /// Draws the secret key x; the public key is x times the generator. It returns no error.
     fn keygen<R: Rng>(
         _alloc: Global,
         pp: &Parameters<C>,

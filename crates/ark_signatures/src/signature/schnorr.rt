@@ -71,14 +71,14 @@ impl<C: CurveGroup, D: ByteDigest> SignatureScheme for Schnorr<C, D> {
         IsOkAnd result (λ new. numbers_of value new
         ≡ randomised C.ScalarField.MODULUS (multiplier bytes) numbers) };
 
-    /// Draws the salt, then the generator. It refuses nothing.
+    /// Draws the salt, then the generator. It returns no error.
     fn setup<R: Rng>(_alloc: Global, rng: &mut R) -> Result<Parameters<C>, Error> {
         let salt = <[u8; 32] as UniformRand>::rand(rng);
         let generator = C::rand(rng);
         Ok(Parameters { generator, salt })
     }
 
-    /// Draws the secret key x; the public key is x times the generator. It refuses nothing.
+    /// Draws the secret key x; the public key is x times the generator. It returns no error.
     fn keygen<R: Rng>(
         _alloc: Global,
         pp: &Parameters<C>,

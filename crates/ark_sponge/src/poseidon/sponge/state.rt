@@ -84,6 +84,7 @@ impl<F: Field, S: SBox<F>> SpongeExt for PoseidonSponge<F, S> {
 
     ghost is_over = { λ sponge parameters. sponge.parameters ≡ parameters };
 
+    /// Errors: `StateShape` of another length, then `StateShape` of an index past the rate; `OutOfMemory`.
     fn from_state(
         alloc: Global,
         state: PoseidonSpongeState<F>,

@@ -1,10 +1,11 @@
-use Rattle.std.proofs.Common.{arith}
+use Rattle.std.proofs.Common.{◌++◌, arith}
 use Rattle.sha256_lanes.proofs.LongTextLemmas.{AreWords-front, sha256_longs}
 use Rattle.sha256_lanes.proofs.long_texts.four_long_texts.Goals as goal
 
 pub returns-clause-a : goal.returns-clause-a
 returns-clause-a c =
-    sha256_longs c.args.a.now c.blocks_of-a_blocks.result _ _ _ _ (omega arith) c.blocks_of-a_blocks.ensures
+    sha256_longs (c.args.head.now ++ c.args.a.now) c.blocks_of-a_blocks.result _ _ _ _ (omega arith)
+    c.blocks_of-a_blocks.ensures
     (c.initial_states.ensures 0 (omega arith))
     (c.compress_block-middle.ensures 0 (omega arith) _ (AreWords-front c.blocks_of-a_blocks.result _ (omega arith)
     (c.load_blocks-first.ensures 0 (omega arith))))
@@ -13,7 +14,8 @@ returns-clause-a c =
 
 pub returns-clause-b : goal.returns-clause-b
 returns-clause-b c =
-    sha256_longs c.args.b.now c.blocks_of-b_blocks.result _ _ _ _ (omega arith) c.blocks_of-b_blocks.ensures
+    sha256_longs (c.args.head.now ++ c.args.b.now) c.blocks_of-b_blocks.result _ _ _ _ (omega arith)
+    c.blocks_of-b_blocks.ensures
     (c.initial_states.ensures 1 (omega arith))
     (c.compress_block-middle.ensures 1 (omega arith) _ (AreWords-front c.blocks_of-b_blocks.result _ (omega arith)
     (c.load_blocks-first.ensures 1 (omega arith))))
@@ -22,7 +24,8 @@ returns-clause-b c =
 
 pub returns-clause-c : goal.returns-clause-c
 returns-clause-c c =
-    sha256_longs c.args.c.now c.blocks_of-c_blocks.result _ _ _ _ (omega arith) c.blocks_of-c_blocks.ensures
+    sha256_longs (c.args.head.now ++ c.args.c.now) c.blocks_of-c_blocks.result _ _ _ _ (omega arith)
+    c.blocks_of-c_blocks.ensures
     (c.initial_states.ensures 2 (omega arith))
     (c.compress_block-middle.ensures 2 (omega arith) _ (AreWords-front c.blocks_of-c_blocks.result _ (omega arith)
     (c.load_blocks-first.ensures 2 (omega arith))))
@@ -31,7 +34,8 @@ returns-clause-c c =
 
 pub returns-clause-d : goal.returns-clause-d
 returns-clause-d c =
-    sha256_longs c.args.d.now c.blocks_of-d_blocks.result _ _ _ _ (omega arith) c.blocks_of-d_blocks.ensures
+    sha256_longs (c.args.head.now ++ c.args.d.now) c.blocks_of-d_blocks.result _ _ _ _ (omega arith)
+    c.blocks_of-d_blocks.ensures
     (c.initial_states.ensures 3 (omega arith))
     (c.compress_block-middle.ensures 3 (omega arith) _ (AreWords-front c.blocks_of-d_blocks.result _ (omega arith)
     (c.load_blocks-first.ensures 3 (omega arith))))

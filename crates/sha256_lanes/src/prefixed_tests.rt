@@ -1,0 +1,169 @@
+//! Messages and pairs behind a byte: digests as another implementation has them.
+
+use crate::{four_prefixed, four_prefixed_pairs};
+use std::test::Fail;
+
+// The digest of a zero byte.
+const EMPTY: [u8; 32] = [
+    0x6e, 0x34, 0x0b, 0x9c, 0xff, 0xb3, 0x7a, 0x98, 0x9c, 0xa5, 0x44, 0xe6, 0xbb, 0x78, 0x0a, 0x2c,
+    0x78, 0x90, 0x1d, 0x3f, 0xb3, 0x37, 0x38, 0x76, 0x85, 0x11, 0xa3, 0x06, 0x17, 0xaf, 0xa0, 0x1d,
+];
+
+// The digest of a zero byte and 54 bytes "a".
+const BYTES_54: [u8; 32] = [
+    0x74, 0x5b, 0x56, 0xdb, 0xbd, 0xcd, 0x39, 0x81, 0x04, 0x1d, 0x85, 0x80, 0x64, 0x1f, 0x81, 0x12,
+    0xb2, 0x6b, 0x8d, 0xf7, 0xe5, 0x0c, 0x4f, 0xdb, 0x64, 0x9d, 0xa0, 0x6f, 0xda, 0xaf, 0xf2, 0x5d,
+];
+
+// The digest of a zero byte and 55 bytes "a".
+const BYTES_55: [u8; 32] = [
+    0x2f, 0x96, 0x78, 0x0f, 0xb4, 0x15, 0xb2, 0x87, 0xdd, 0x95, 0x89, 0x7a, 0x04, 0xef, 0x96, 0xfd,
+    0xe6, 0xa5, 0xf5, 0xb0, 0xc7, 0x71, 0xd0, 0xa1, 0x17, 0x55, 0x43, 0xbc, 0x32, 0x50, 0x71, 0x8e,
+];
+
+// The digest of a zero byte and 118 bytes "a".
+const BYTES_118: [u8; 32] = [
+    0x83, 0xce, 0x1e, 0x76, 0x16, 0x68, 0xe0, 0xdc, 0x78, 0xea, 0x31, 0x70, 0xb1, 0x2a, 0x24, 0x85,
+    0x44, 0x69, 0x69, 0xb9, 0x09, 0xc1, 0x88, 0x42, 0xe9, 0xe0, 0xb7, 0xa8, 0x3d, 0x5a, 0x42, 0xaa,
+];
+
+// The digest of a zero byte and 119 bytes "a".
+const BYTES_119: [u8; 32] = [
+    0xa9, 0x68, 0x94, 0x10, 0x81, 0x51, 0x5c, 0xca, 0x6c, 0x34, 0xb1, 0xac, 0x5f, 0x4e, 0x14, 0x6f,
+    0xd2, 0xb8, 0x2e, 0xd6, 0x07, 0x50, 0x6b, 0x48, 0x93, 0x3e, 0x68, 0x3f, 0xec, 0x35, 0x55, 0x49,
+];
+
+// The digest of a one byte and 54 bytes "a".
+const ONE_AND_BYTES_54: [u8; 32] = [
+    0xcf, 0x8d, 0xcc, 0x3c, 0xbf, 0x85, 0x52, 0x57, 0x98, 0xef, 0xe2, 0x50, 0x38, 0x96, 0x3d, 0x55,
+    0x79, 0x69, 0xcf, 0xc2, 0xd7, 0xf0, 0x9a, 0x8e, 0x5c, 0x0e, 0x85, 0x38, 0x42, 0xed, 0x89, 0xc7,
+];
+
+// The digest of a one byte and 118 bytes "a".
+const ONE_AND_BYTES_118: [u8; 32] = [
+    0xcb, 0x0b, 0x59, 0x3f, 0xa0, 0x51, 0xfd, 0xd8, 0x12, 0x14, 0x2d, 0x91, 0xd5, 0x6d, 0x9a, 0x89,
+    0x26, 0xc8, 0xec, 0xcc, 0x08, 0x2e, 0x41, 0x31, 0x7a, 0x3f, 0xdd, 0xb6, 0x2d, 0xee, 0xdb, 0x0b,
+];
+
+// The digest of a zero byte, `EMPTY` and `BYTES_54`.
+const LEFT_RIGHT: [u8; 32] = [
+    0xbb, 0xa8, 0xbf, 0x30, 0x50, 0x55, 0x74, 0x1e, 0x7b, 0x41, 0x2a, 0xa4, 0x37, 0x4c, 0xc8, 0xaf,
+    0x07, 0xb7, 0x2b, 0x52, 0xaa, 0x67, 0x17, 0xf7, 0x9e, 0xad, 0xc0, 0xa1, 0x02, 0xb1, 0xcd, 0xe3,
+];
+
+// The digest of a zero byte, `BYTES_54` and `EMPTY`.
+const RIGHT_LEFT: [u8; 32] = [
+    0xd1, 0xc4, 0xac, 0xf4, 0x89, 0xfb, 0x4d, 0xba, 0xaf, 0xa1, 0xb2, 0xfd, 0xfe, 0xe3, 0x2d, 0xea,
+    0x00, 0x8e, 0x60, 0xb6, 0xe3, 0x34, 0x29, 0x5b, 0x2d, 0x86, 0xac, 0x8b, 0xc6, 0x58, 0x33, 0x36,
+];
+
+// The digest of a one byte, `EMPTY` and `BYTES_54`.
+const ONE_AND_LEFT_RIGHT: [u8; 32] = [
+    0x73, 0x6f, 0x45, 0x38, 0x0a, 0xfb, 0x98, 0x7f, 0xac, 0xf6, 0x8f, 0x00, 0xdf, 0x36, 0xe4, 0x05,
+    0x52, 0xcd, 0x3a, 0x6e, 0x78, 0xb5, 0xf7, 0xb1, 0x07, 0xd1, 0x27, 0x18, 0x81, 0x6b, 0x3d, 0xb8,
+];
+
+// The digest of a one byte, `BYTES_54` and `EMPTY`.
+const ONE_AND_RIGHT_LEFT: [u8; 32] = [
+    0x5b, 0x1b, 0x4b, 0x15, 0x16, 0xd0, 0x37, 0xd5, 0x31, 0x88, 0x87, 0xe7, 0x6c, 0xb6, 0xa6, 0x49,
+    0x76, 0x65, 0x51, 0x69, 0xdb, 0x74, 0x12, 0x3f, 0xc8, 0x8c, 0xf1, 0x24, 0x1b, 0x7a, 0xd2, 0x05,
+];
+
+// Both lengths in each lane, in one block each.
+#[test]
+fn one_block_in_each_lane(rt: HostRuntime) -> Result<(), Fail> {
+    let (a, b, c, d) = four_prefixed(0, &[], &[b'a'; 54], &[], &[b'a'; 54]);
+    assert_eq!(rt; a, EMPTY);
+    assert_eq!(rt; b, BYTES_54);
+    assert_eq!(rt; c, EMPTY);
+    assert_eq!(rt; d, BYTES_54);
+    let (a, b, c, d) = four_prefixed(0, &[b'a'; 54], &[], &[b'a'; 54], &[]);
+    assert_eq!(rt; a, BYTES_54);
+    assert_eq!(rt; b, EMPTY);
+    assert_eq!(rt; c, BYTES_54);
+    assert_eq!(rt; d, EMPTY);
+    Ok(())
+}
+
+// Both lengths in each lane, in two blocks each.
+#[test]
+fn two_blocks_in_each_lane(rt: HostRuntime) -> Result<(), Fail> {
+    let (a, b, c, d) = four_prefixed(0, &[b'a'; 55], &[b'a'; 118], &[b'a'; 55], &[b'a'; 118]);
+    assert_eq!(rt; a, BYTES_55);
+    assert_eq!(rt; b, BYTES_118);
+    assert_eq!(rt; c, BYTES_55);
+    assert_eq!(rt; d, BYTES_118);
+    let (a, b, c, d) = four_prefixed(0, &[b'a'; 118], &[b'a'; 55], &[b'a'; 118], &[b'a'; 55]);
+    assert_eq!(rt; a, BYTES_118);
+    assert_eq!(rt; b, BYTES_55);
+    assert_eq!(rt; c, BYTES_118);
+    assert_eq!(rt; d, BYTES_55);
+    Ok(())
+}
+
+// One by one.
+#[test]
+fn three_blocks_in_each_lane(rt: HostRuntime) -> Result<(), Fail> {
+    let (a, b, c, d) = four_prefixed(0, &[b'a'; 119], &[b'a'; 119], &[b'a'; 119], &[b'a'; 119]);
+    assert_eq!(rt; a, BYTES_119);
+    assert_eq!(rt; b, BYTES_119);
+    assert_eq!(rt; c, BYTES_119);
+    assert_eq!(rt; d, BYTES_119);
+    Ok(())
+}
+
+// Lengths that do not go together are hashed one by one.
+#[test]
+fn lengths_that_differ(rt: HostRuntime) -> Result<(), Fail> {
+    let (a, b, c, d) = four_prefixed(0, &[], &[b'a'; 119], &[b'a'; 54], &[b'a'; 55]);
+    assert_eq!(rt; a, EMPTY);
+    assert_eq!(rt; b, BYTES_119);
+    assert_eq!(rt; c, BYTES_54);
+    assert_eq!(rt; d, BYTES_55);
+    let (a, b, c, d) = four_prefixed(0, &[b'a'; 55], &[], &[b'a'; 118], &[b'a'; 54]);
+    assert_eq!(rt; a, BYTES_55);
+    assert_eq!(rt; b, EMPTY);
+    assert_eq!(rt; c, BYTES_118);
+    assert_eq!(rt; d, BYTES_54);
+    let (a, b, c, d) = four_prefixed(0, &[b'a'; 54], &[b'a'; 55], &[], &[b'a'; 118]);
+    assert_eq!(rt; a, BYTES_54);
+    assert_eq!(rt; b, BYTES_55);
+    assert_eq!(rt; c, EMPTY);
+    assert_eq!(rt; d, BYTES_118);
+    Ok(())
+}
+
+// The prefix is part of the message.
+#[test]
+fn the_prefix_counts(rt: HostRuntime) -> Result<(), Fail> {
+    let (a, b, c, d) = four_prefixed(1, &[b'a'; 54], &[b'a'; 54], &[b'a'; 54], &[b'a'; 54]);
+    assert_eq!(rt; a, ONE_AND_BYTES_54);
+    assert_eq!(rt; b, ONE_AND_BYTES_54);
+    assert_eq!(rt; c, ONE_AND_BYTES_54);
+    assert_eq!(rt; d, ONE_AND_BYTES_54);
+    let (a, b, c, d) = four_prefixed(1, &[b'a'; 118], &[b'a'; 118], &[b'a'; 118], &[b'a'; 118]);
+    assert_eq!(rt; a, ONE_AND_BYTES_118);
+    assert_eq!(rt; b, ONE_AND_BYTES_118);
+    assert_eq!(rt; c, ONE_AND_BYTES_118);
+    assert_eq!(rt; d, ONE_AND_BYTES_118);
+    Ok(())
+}
+
+#[test]
+fn pairs_in_each_lane(rt: HostRuntime) -> Result<(), Fail> {
+    let (a, b, c, d) = four_prefixed_pairs(
+        0, &EMPTY, &BYTES_54, &BYTES_54, &EMPTY, &EMPTY, &BYTES_54, &BYTES_54, &EMPTY,
+    );
+    assert_eq!(rt; a, LEFT_RIGHT);
+    assert_eq!(rt; b, RIGHT_LEFT);
+    assert_eq!(rt; c, LEFT_RIGHT);
+    assert_eq!(rt; d, RIGHT_LEFT);
+    let (a, b, c, d) = four_prefixed_pairs(
+        1, &BYTES_54, &EMPTY, &EMPTY, &BYTES_54, &BYTES_54, &EMPTY, &EMPTY, &BYTES_54,
+    );
+    assert_eq!(rt; a, ONE_AND_RIGHT_LEFT);
+    assert_eq!(rt; b, ONE_AND_LEFT_RIGHT);
+    assert_eq!(rt; c, ONE_AND_RIGHT_LEFT);
+    assert_eq!(rt; d, ONE_AND_LEFT_RIGHT);
+    Ok(())
+}
