@@ -1,9 +1,10 @@
-/* Paxidore: Merkle trees over byte strings, clients of transparency logs, and BLAKE2s. The code behind these calls is proved.
+/* Paxidore: Merkle trees over byte strings, clients of transparency logs, SHA-256, BLAKE2s and commitments. The code behind these
+ * calls is proved.
  *
  * No call keeps memory or a pointer, and each may run in any thread at any time. The calls of trees and logs allocate: they stand on the
  * process's malloc and free, so do not call them in a signal handler, nor in the child of a process with threads between fork
  * and exec. Where malloc returns NULL the answer is PAXIDORE_E_MEMORY; no clause says that enough memory is not answered so.
- * The calls of BLAKE2s allocate nothing.
+ * The calls of SHA-256, of BLAKE2s and of commitments allocate nothing.
  *
  * size_t has 64 bits. Only inputs may overlap. A pointer to a first byte or number is not NULL and may be read, or written where
  * it is not const, for its length; with length 0 it is not looked at and may be NULL. */
@@ -23,8 +24,11 @@ extern "C" {
 
 #define PAXIDORE_VERSION_STRING "1.0.0"
 
-/* Roots, digests, and the digests in proofs. */
+/* Roots, digests, commitments, and the digests in proofs. */
 #define PAXIDORE_DIGESTBYTES 32U
+
+/* The nonce of a commitment. */
+#define PAXIDORE_NONCEBYTES 32U
 
 /* The canonical bytes of a path in a tree of 2^log2_of_size leaves, and of the longest path there is. */
 #define PAXIDORE_PATHBYTES(log2_of_size) (16U + 32U * (size_t)(log2_of_size))
@@ -33,6 +37,40 @@ extern "C" {
 /* A multi-proof of some indexes in such a tree has no more. */
 #define PAXIDORE_MULTIPATHBYTES_MAX(indexes_count, log2_of_size) \
     (32U + (24U + 32U * (size_t)(log2_of_size)) * (size_t)(indexes_count))
+
+/* What a compiler is told of a call, where it has words for it: that its answer is to be looked at, and which of its pointers are
+ * not NULL, whatever their lengths. */
+#if defined(__GNUC__)
+#define PAXIDORE_ANSWERS __attribute__((warn_unused_result))
+#define PAXIDORE_NOT_NULL(places) __attribute__((nonnull places))
+#else
+#define PAXIDORE_ANSWERS
+#define PAXIDORE_NOT_NULL(places)
+#endif
+
+/* The bytes of proofs. A digest has 32 bytes; a count or an index has 8, the least first. Of a tree of 2^h leaves:
+ *
+ *   a path               32           the digest beside the leaf's
+ *                        8            h - 1
+ *                        32 (h - 1)   the digests beside the way above, from below the root down
+ *                        8            the index
+ *
+ *   a multi-proof        8            n
+ *   of n indexes         32 n         the digest beside each leaf's
+ *                        8            n
+ *                        8 n          of each path, how many digests it shares with the path before, from below the root down
+ *                        8            n
+ *                        8 + 32 k     of each path: k, and the k digests that it does not share with the path before
+ *                        8            n
+ *                        8 n          the indexes, each above the one before
+ *
+ * Of a log:
+ *
+ *   an inclusion proof   32 each      the digests beside the way, from the entry up (RFC 9162, section 2.1.3)
+ *
+ *   a consistency proof  32 each      the digests in the order of RFC 9162, section 2.1.4
+ *
+ * Bytes behind a proof are refused. */
 
 /* What a call answers. Only 0 is a yes: compare with PAXIDORE_OK. After another answer each buffer is as it was. */
 enum paxidore_answer {
@@ -56,6 +94,11 @@ const char *paxidore_strerror(int32_t answer);
 /* PAXIDORE_VERSION_STRING of the library that is linked. */
 const char *paxidore_version(void);
 
+/* ---- SHA-256 (FIPS 180-4). Nothing is refused. */
+
+PAXIDORE_NOT_NULL((1))
+void paxidore_sha256(uint8_t digest[PAXIDORE_DIGESTBYTES], const uint8_t *input, size_t input_len);
+
 /* ---- Trees whose hashes are SHA-256 of a leaf, and of left followed by right.
  *
  * Leaves are handed over one behind the other, with the length of each: `leaves_len` is the sum of the `count` lengths. A
@@ -65,12 +108,14 @@ const char *paxidore_version(void);
 /* PAXIDORE_OK where the bytes of a path show that `leaf` stands at `index` in the tree of `size` leaves with this root: then it
  * does, or two different inputs with one SHA-256 are at hand. Bytes of another path, of another tree, or with anything
  * behind them are refused. PAXIDORE_NOT_SHOWN, E_SIZE, E_TRUNCATED, E_INVALID, E_HEIGHT, E_MEMORY. */
+PAXIDORE_ANSWERS PAXIDORE_NOT_NULL((1))
 int32_t paxidore_sha256_verify(const uint8_t root[PAXIDORE_DIGESTBYTES], size_t size, size_t index,
                                const uint8_t *leaf, size_t leaf_len,
                                const uint8_t *path, size_t path_len);
 
 /* The same of several leaves at once, one for each index; the indexes rise. Also E_COUNT and E_LENGTHS, before the bytes of
  * the proof are looked at. */
+PAXIDORE_ANSWERS PAXIDORE_NOT_NULL((1))
 int32_t paxidore_sha256_multi_verify(const uint8_t root[PAXIDORE_DIGESTBYTES], size_t size,
                                      const size_t *indexes, size_t indexes_count,
                                      const uint8_t *leaves, size_t leaves_len,
@@ -78,6 +123,7 @@ int32_t paxidore_sha256_multi_verify(const uint8_t root[PAXIDORE_DIGESTBYTES], s
                                      const uint8_t *proof, size_t proof_len);
 
 /* Writes the root of the tree above the leaves. E_SIZE, E_LENGTHS, E_MEMORY. */
+PAXIDORE_ANSWERS PAXIDORE_NOT_NULL((1))
 int32_t paxidore_sha256_root(uint8_t root[PAXIDORE_DIGESTBYTES],
                              const uint8_t *leaves, size_t leaves_len,
                              const size_t *lengths, size_t count);
@@ -85,11 +131,13 @@ int32_t paxidore_sha256_root(uint8_t root[PAXIDORE_DIGESTBYTES],
 /* Builds the tree above the leaves, and writes the bytes of the path of `index` to the front of `path`, which has room for
  * `path_room`, and their count to `path_len`. Where the room is too short, the answer is E_ROOM and `path_len` is what is
  * needed: PAXIDORE_PATHBYTES. E_SIZE, E_LENGTHS, E_INDEX, E_ROOM, E_MEMORY. */
+PAXIDORE_ANSWERS PAXIDORE_NOT_NULL((3))
 int32_t paxidore_sha256_path(uint8_t *path, size_t path_room, size_t *path_len,
                              const uint8_t *leaves, size_t leaves_len,
                              const size_t *lengths, size_t count, size_t index);
 
 /* Writes the bytes of the multi-proof of some indexes, in any order, which shows them rising and each once. As above. */
+PAXIDORE_ANSWERS PAXIDORE_NOT_NULL((3))
 int32_t paxidore_sha256_multi_path(uint8_t *proof, size_t proof_room, size_t *proof_len,
                                    const uint8_t *leaves, size_t leaves_len,
                                    const size_t *lengths, size_t count,
@@ -98,24 +146,29 @@ int32_t paxidore_sha256_multi_path(uint8_t *proof, size_t proof_room, size_t *pr
 /* ---- Trees as transparency logs hash them (RFC 6962, section 2.1): a zero byte stands before a leaf, a one byte before a
  * pair, so that no pair is taken for a leaf. The calls are those above. */
 
+PAXIDORE_ANSWERS PAXIDORE_NOT_NULL((1))
 int32_t paxidore_rfc6962_verify(const uint8_t root[PAXIDORE_DIGESTBYTES], size_t size, size_t index,
                                 const uint8_t *leaf, size_t leaf_len,
                                 const uint8_t *path, size_t path_len);
 
+PAXIDORE_ANSWERS PAXIDORE_NOT_NULL((1))
 int32_t paxidore_rfc6962_multi_verify(const uint8_t root[PAXIDORE_DIGESTBYTES], size_t size,
                                       const size_t *indexes, size_t indexes_count,
                                       const uint8_t *leaves, size_t leaves_len,
                                       const size_t *lengths, size_t count,
                                       const uint8_t *proof, size_t proof_len);
 
+PAXIDORE_ANSWERS PAXIDORE_NOT_NULL((1))
 int32_t paxidore_rfc6962_root(uint8_t root[PAXIDORE_DIGESTBYTES],
                               const uint8_t *leaves, size_t leaves_len,
                               const size_t *lengths, size_t count);
 
+PAXIDORE_ANSWERS PAXIDORE_NOT_NULL((3))
 int32_t paxidore_rfc6962_path(uint8_t *path, size_t path_room, size_t *path_len,
                               const uint8_t *leaves, size_t leaves_len,
                               const size_t *lengths, size_t count, size_t index);
 
+PAXIDORE_ANSWERS PAXIDORE_NOT_NULL((3))
 int32_t paxidore_rfc6962_multi_path(uint8_t *proof, size_t proof_room, size_t *proof_len,
                                     const uint8_t *leaves, size_t leaves_len,
                                     const size_t *lengths, size_t count,
@@ -128,6 +181,7 @@ int32_t paxidore_rfc6962_multi_path(uint8_t *proof, size_t proof_room, size_t *p
 /* PAXIDORE_OK where the bytes of an inclusion proof show that `entry` stands at `index` in the log of `size` entries with this
  * root: then it does, or two different inputs with one SHA-256 are at hand. PAXIDORE_NOT_SHOWN, E_INDEX for an index not below
  * the size, E_TRUNCATED and E_INVALID for bytes of fewer or more digests than a proof of this index and size has, E_MEMORY. */
+PAXIDORE_ANSWERS PAXIDORE_NOT_NULL((1))
 int32_t paxidore_log_verify_inclusion(const uint8_t root[PAXIDORE_DIGESTBYTES], size_t size, size_t index,
                                       const uint8_t *entry, size_t entry_len,
                                       const uint8_t *path, size_t path_len);
@@ -136,6 +190,7 @@ int32_t paxidore_log_verify_inclusion(const uint8_t root[PAXIDORE_DIGESTBYTES], 
  * root and size: then each list of the new size and root begins with each list of the old ones, or two different inputs with one
  * SHA-256 are at hand. Of equal sizes the proof has no bytes and the roots are to be equal. PAXIDORE_NOT_SHOWN, E_SIZE for the old
  * size 0 and for one above the new size, E_TRUNCATED, E_INVALID, E_MEMORY. */
+PAXIDORE_ANSWERS PAXIDORE_NOT_NULL((2, 4))
 int32_t paxidore_log_verify_consistency(size_t old_size, const uint8_t old_root[PAXIDORE_DIGESTBYTES],
                                         size_t new_size, const uint8_t new_root[PAXIDORE_DIGESTBYTES],
                                         const uint8_t *proof, size_t proof_len);
@@ -143,6 +198,7 @@ int32_t paxidore_log_verify_consistency(size_t old_size, const uint8_t old_root[
 /* ---- BLAKE2s with 32 bytes out and no key (RFC 7693). Nothing is refused. The standard defines it for inputs below 2^64 bytes:
  * of a longer text, which `update` can take in pieces, the count is kept modulo 2^64. */
 
+PAXIDORE_NOT_NULL((1))
 void paxidore_blake2s(uint8_t digest[PAXIDORE_DIGESTBYTES], const uint8_t *input, size_t input_len);
 
 /* A text that comes piece by piece, in memory of the caller's: `init`, any number of `update`, `final`, which makes it ready
@@ -154,9 +210,27 @@ typedef struct paxidore_blake2s_state {
     uint64_t len;
 } paxidore_blake2s_state;
 
+PAXIDORE_NOT_NULL((1))
 void paxidore_blake2s_init(paxidore_blake2s_state *state);
+PAXIDORE_NOT_NULL((1))
 void paxidore_blake2s_update(paxidore_blake2s_state *state, const uint8_t *input, size_t input_len);
+PAXIDORE_NOT_NULL((1, 2))
 void paxidore_blake2s_final(paxidore_blake2s_state *state, uint8_t digest[PAXIDORE_DIGESTBYTES]);
+
+/* ---- Commitments: the BLAKE2s of a value followed by a nonce of 32 bytes. Whoever has the commitment can be shown the value later,
+ * with the nonce, and no other one, or two different inputs with one BLAKE2s are at hand. The nonce is for one commitment, drawn at
+ * random and kept secret until then: it is what hides the value, of which nothing is proved. */
+
+/* Writes the commitment to a value. Nothing is refused. What holds of both calls holds for `value_len` below 2^64 - 32, which no memory
+ * reaches. */
+PAXIDORE_NOT_NULL((1, 4))
+void paxidore_blake2s_commit(uint8_t commitment[PAXIDORE_DIGESTBYTES], const uint8_t *value, size_t value_len,
+                             const uint8_t nonce[PAXIDORE_NONCEBYTES]);
+
+/* PAXIDORE_OK where the BLAKE2s of `value` followed by `nonce` is the commitment, else PAXIDORE_NOT_SHOWN. */
+PAXIDORE_ANSWERS PAXIDORE_NOT_NULL((1, 4))
+int32_t paxidore_blake2s_opens(const uint8_t commitment[PAXIDORE_DIGESTBYTES], const uint8_t *value, size_t value_len,
+                               const uint8_t nonce[PAXIDORE_NONCEBYTES]);
 
 #ifdef __cplusplus
 }

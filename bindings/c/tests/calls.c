@@ -287,6 +287,49 @@ static void blake2s(void) {
     CHECK(is_hex(pieces, "69217a3079908094e11121d042354a7c1f55b6482ca1a51e1b250dfd1ed0eef9"));
 }
 
+static void digests(void) {
+    uint8_t digest[32];
+    /* FIPS 180-4's example; no bytes by Python's hashlib */
+    paxidore_sha256(digest, (const uint8_t *)"abc", 3);
+    CHECK(is_hex(digest, "ba7816bf8f01cfea414140de5dae2223b00361a396177a9cb410ff61f20015ad"));
+    paxidore_sha256(digest, NULL, 0);
+    CHECK(is_hex(digest, "e3b0c44298fc1c149afbf4c8996fb92427ae41e4649b934ca495991b7852b855"));
+}
+
+static void commitments(void) {
+    uint8_t commitment[32], nonce[32], once[32];
+    uint8_t both[35] = "abc";
+    for (size_t i = 0; i < sizeof nonce; i++)
+        both[3 + i] = nonce[i] = (uint8_t)i;
+    const uint8_t *value = both;
+    /* by Python's hashlib */
+    paxidore_blake2s_commit(commitment, value, 0, nonce);
+    CHECK(is_hex(commitment, "05825607d7fdf2d82ef4c3c8c2aea961ad98d60edff7d018983e21204c0d93d1"));
+    CHECK(paxidore_blake2s_opens(commitment, NULL, 0, nonce) == PAXIDORE_OK);
+    paxidore_blake2s_commit(commitment, NULL, 0, nonce);
+    CHECK(is_hex(commitment, "05825607d7fdf2d82ef4c3c8c2aea961ad98d60edff7d018983e21204c0d93d1"));
+    paxidore_blake2s_commit(commitment, value, 3, nonce);
+    CHECK(is_hex(commitment, "e0f7bc605522dd045ccd1954b126f0900edac1411fe3a003d999438ba30b6434"));
+    paxidore_blake2s(once, both, 35);
+    CHECK(memcmp(commitment, once, 32) == 0);
+    CHECK(paxidore_blake2s_opens(commitment, value, 3, nonce) == PAXIDORE_OK);
+    CHECK(paxidore_blake2s_opens(commitment, value, 2, nonce) == PAXIDORE_NOT_SHOWN);
+    CHECK(paxidore_blake2s_opens(commitment, value, 4, nonce) == PAXIDORE_NOT_SHOWN);
+    CHECK(paxidore_blake2s_opens(commitment, value, 3, commitment) == PAXIDORE_NOT_SHOWN);
+    for (size_t bit = 0; bit < 256; bit++) {
+        uint8_t other[32];
+        memcpy(other, commitment, 32);
+        other[bit / 8] ^= (uint8_t)(1 << bit % 8);
+        CHECK(paxidore_blake2s_opens(other, value, 3, nonce) == PAXIDORE_NOT_SHOWN);
+        memcpy(other, nonce, 32);
+        other[bit / 8] ^= (uint8_t)(1 << bit % 8);
+        CHECK(paxidore_blake2s_opens(commitment, value, 3, other) == PAXIDORE_NOT_SHOWN);
+    }
+    /* inputs may be the same bytes */
+    paxidore_blake2s_commit(once, nonce, 32, nonce);
+    CHECK(paxidore_blake2s_opens(once, nonce, 32, nonce) == PAXIDORE_OK);
+}
+
 int main(void) {
     const struct hashing *all[2] = {&sha256, &rfc6962};
     for (int i = 0; i < 2; i++) {
@@ -295,7 +338,9 @@ int main(void) {
         multi_paths(all[i]);
     }
     logs();
+    digests();
     blake2s();
+    commitments();
     CHECK(strcmp(paxidore_version(), PAXIDORE_VERSION_STRING) == 0);
     for (int32_t answer = -11; answer <= 2; answer++)
         CHECK((strcmp(paxidore_strerror(answer), "unknown answer") == 0) == (answer < -9 || answer > 1));

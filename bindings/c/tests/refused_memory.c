@@ -101,6 +101,15 @@ int main(void) {
             fprintf(stderr, "refused_memory.c: call %d\n", which);
         }
     }
+    /* digests and commitments allocate nothing */
+    calls = 0;
+    paxidore_sha256(to_root, LEAVES, 24);
+    paxidore_blake2s(to_root, LEAVES, 24);
+    paxidore_blake2s_commit(to_root, LEAVES, 24, root);
+    if (paxidore_blake2s_opens(to_root, LEAVES, 24, root) == PAXIDORE_OK && calls == 0)
+        passed++;
+    else
+        failed++;
     for (long i = 0; i < 1000000; i++)
         call(3);
     if (live == 0)

@@ -1,27 +1,26 @@
 -- How many bytes the path of a tree has.
-use Rattle.std.proofs.Common.{◌≡◌, ℕ, zero, suc, ◌+◌, ◌-◌, ◌*◌, ◌<◌, ◌^◌, List, [], ◌∷◌, ◌++◌, length, take, drop, map, get_or, nat_lt, Bool, true, false, if◌then◌else◌, ℤ, pos, w32, to_z, of_z, Option, Some, None, Result, Ok, Err, IfOk, arith, refl, sym, ap, subst, ◌∙◌, inl, inr}
+use Rattle.std.proofs.Common.{◌≡◌, ℕ, zero, suc, ◌+◌, ◌-◌, ◌*◌, ◌<◌, ◌^◌, List, [], ◌∷◌, ◌++◌, length, take, drop, map, get_or, nat_lt, Bool, true, false, if◌then◌else◌, ℤ, pos, w32, to_z, of_z, Result, Ok, Err, IfOk, arith, refl, sym, ap, subst, ◌∙◌, inl, inr}
 use Rattle.std.proofs.Math.Nat.{pow-succ'}
 use Rattle.std.proofs.lemmas.Bool.{ltb-true}
 use Rattle.std.proofs.lemmas.List.{get_or-map, length-append, length-map}
 use Rattle.std.specs.List.{flat_map}
-use Rattle.std.specs.Option.{option_map}
 use Rattle.ark_base.specs.Digits.{itself}
+use Rattle.ark_base.specs.Outcome.{◌>>=◌}
 use Rattle.ark_base.specs.Laws.Numbers.{length-word}
 use Rattle.ark_base.specs.Spelling.{word}
-use Rattle.ark_paths.specs.Index.{IsTreeSize, bit_at, is_tree_size, log2, neighbour}
+use Rattle.ark_paths.specs.Index.{IsTreeSize, bit_at, log2, neighbour}
 use Rattle.ark_paths.specs.Pair.{Digest}
 use Rattle.ark_paths.specs.Root.{place}
 use Rattle.ark_paths.specs.Tree.{halves_beside, path_in, root_digest}
 use Rattle.ark_paths.proofs.Logs.{log2-pow}
 use Rattle.ark_paths.proofs.PlaceLemmas.{neighbour-inside}
-use Rattle.ark_paths.proofs.Receiveds.{size-decided}
-use Rattle.paxidore_calls.specs.Answer.{Gives, Hands, only_if, path_of_leaves, refusal_code, written_code}
-use Rattle.paxidore_calls.specs.Cut.{parts_by}
+use Rattle.paxidore_calls.specs.Answer.{Gives, Hands, only_if, path_of_leaves, refusal_code, tree_leaves_in, written_code}
 use Rattle.paxidore_calls.specs.Hashing.{Hashing, bytes_of_path, node_pair, tree_over}
 use Rattle.paxidore_calls.specs.declared.refused.Refused.{Refused}
 use Rattle.paxidore_calls.specs.declared.refused.Refused.TheVariants.{Index, Memory, Room}
-use Rattle.paxidore_c.proofs.Codes.{refusal-no}
-use Rattle.paxidore_c.proofs.Trees.{place-node}
+use Rattle.paxidore_calls.proofs.Codes.{refusal-no}
+use Rattle.paxidore_c.proofs.Parts.{leaves-fit}
+use Rattle.paxidore_c.proofs.TreeLemmas.{place-node}
 
 -- a path of a tree of this size
 abbrev pub path_bytes : ℕ → ℕ
@@ -39,26 +38,6 @@ AreLong-either : (b : Bool) (count : ℕ) (first second : List Digest) → AreLo
     → AreLong count (if b then first else second)
 AreLong-either true count first second of_first of_second = of_first
 AreLong-either false count first second of_first of_second = of_second
-
--- as many parts as lengths
-parts-count : (bytes lengths : List ℕ) (parts : List (List ℕ)) → parts_by bytes lengths ≡ Some parts
-    → length parts ≡ length lengths
-parts-count bytes [] parts is = by_rest (nat_lt 0 (length bytes)) is
-  where
-    by_rest : (left : Bool) → (if left then None else Some []) ≡ Some parts → length parts ≡ 0
-    by_rest true is = absurd cc
-    by_rest false is = let same : [] ≡ parts = cc in ap length (sym same)
-parts-count bytes (len ∷ lengths) parts is = by_rest (nat_lt (length bytes) len)
-    (parts_by (drop len bytes) lengths) (parts-count (drop len bytes) lengths) is
-  where
-    by_rest : (short : Bool) (rest : Option (List (List ℕ)))
-        → ((more : List (List ℕ)) → rest ≡ Some more → length more ≡ length lengths)
-        → (if short then None else option_map (λ more. take len bytes ∷ more) rest) ≡ Some parts
-        → length parts ≡ suc (length lengths)
-    by_rest true rest counts is = absurd cc
-    by_rest false None counts is = absurd cc
-    by_rest false (Some more) counts is =
-        let same : take len bytes ∷ more ≡ parts = cc in ap length (sym same) ∙ ap suc (counts more refl)
 
 module _ (h : Hashing) (leaf-long : (leaf : List ℕ) → length (h.leaf_hash leaf) ≡ 32)
     (node-long : (left right : Digest) → length (h.node left right) ≡ 32) where
@@ -107,26 +86,22 @@ module _ (h : Hashing) (leaf-long : (leaf : List ℕ) → length (h.leaf_hash le
   -- the path of an index in the tree above some leaves, where there is one
   path-long : (leaves lengths : List ℕ) (index : ℕ)
       → IfOk (path_of_leaves h leaves lengths index) (λ bytes. length bytes ≡ path_bytes (length lengths))
-  path-long leaves lengths index =
-      by_size (is_tree_size (length lengths)) refl (parts_by leaves lengths) refl
+  path-long leaves lengths index = by_leaves (tree_leaves_in leaves lengths) (leaves-fit leaves lengths)
     where
-      by_size : (sized : Bool) → is_tree_size (length lengths) ≡ sized → (parts : Option (List (List ℕ)))
-          → parts_by leaves lengths ≡ parts
-          → IfOk (path_of_leaves h leaves lengths index) (λ bytes. length bytes ≡ path_bytes (length lengths))
-      by_size false is parts cut = rw is tt
-      by_size true is None cut = rw (is, cut) tt
-      by_size true is (Some xs) cut = rw (is, cut) (by_index (nat_lt index (length xs)) refl)
-        where
-          count : length xs ≡ length lengths
-          count = parts-count leaves lengths xs cut
+      by_index : (xs : List (List ℕ)) → length xs ≡ length lengths → IsTreeSize (length xs) → (below : Bool)
+          → nat_lt index (length xs) ≡ below
+          → IfOk (only_if below Index (Ok (bytes_of_path (path_in (tree_over h xs) index))))
+          (λ bytes. length bytes ≡ path_bytes (length lengths))
+      by_index xs count sized false is = tt
+      by_index xs count sized true is =
+          own-long xs index sized (ltb-true index (length xs) is) ∙ ap path_bytes count
 
-          by_index : (below : Bool) → nat_lt index (length xs) ≡ below
-              → IfOk (only_if below Index (Ok (bytes_of_path (path_in (tree_over h xs) index))))
-              (λ bytes. length bytes ≡ path_bytes (length lengths))
-          by_index false is_at = tt
-          by_index true is_at =
-              own-long xs index (subst IsTreeSize (sym count) (size-decided (length lengths) is))
-              (ltb-true index (length xs) is_at) ∙ ap path_bytes count
+      by_leaves : (leaves : Result (List (List ℕ)) Refused)
+          → IfOk leaves (λ xs. (length xs ≡ length lengths) × IsTreeSize (length xs))
+          → IfOk (leaves >>= λ xs. only_if (nat_lt index (length xs)) Index
+          (Ok (bytes_of_path (path_in (tree_over h xs) index)))) (λ bytes. length bytes ≡ path_bytes (length lengths))
+      by_leaves (Ok xs) fit = by_index xs fit.0 fit.1 (nat_lt index (length xs)) refl
+      by_leaves (Err refused) fit = tt
 
   -- so many bytes are handed over
   pub path-counted : (leaves lengths : List ℕ) (index : ℕ) (before after : List ℕ) (count_before count_after : ℕ)

@@ -1,3 +1,4 @@
 pub mod Codes
 pub mod Lengths
-pub mod Trees
+pub mod Parts
+pub mod TreeLemmas

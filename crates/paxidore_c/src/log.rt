@@ -6,12 +6,13 @@ ghost use Rattle.merkle_log.specs.Received.{ShowsFront, ShowsLogLeaf, consistenc
 ghost use Rattle.paxidore_calls.specs.Answer.{Gives, verdict_code};
 ghost use Rattle.paxidore_calls.specs.LogProofs.{continuing_shown, entry_shown, proof_digests};
 
-use ark_trees::LogHasher;
-use merkle_log::{verify_consistency_bytes, verify_inclusion_bytes};
-use paxidore_calls::refused::{Refused, verdict_code};
+use paxidore_calls::log::{verify_consistency, verify_inclusion};
 use std::alloc::Global;
 
 /// Returns whether the bytes of a path show an entry at an index of a log with this root and size.
+///
+/// Answers: 0 for a yes, 1 for another root; else the first of `E_INDEX`, `E_TRUNCATED`, `E_INVALID` for bytes of more
+/// digests than such a path has; `E_MEMORY` in place of any.
 #[unsafe(no_mangle)]
 pub extern "C" fn paxidore_log_verify_inclusion(
     alloc: Global,
@@ -24,24 +25,20 @@ pub extern "C" fn paxidore_log_verify_inclusion(
     ensures answer { let outcome = entry_shown root.now size index entry.now path.now in
         Gives (verdict_code outcome) result }
 
-    // 0 says: in every log with this root and size the entry's hash stands at the index, or at some level the path's pair and that of
-    // the log's tree differ and hash alike.
+    // 0 says: in every log with this root and size the entry's hash stands at the index, or at some level the path's
+    // pair and that of the log's tree differ and hash alike.
     ensures shows { let hashes = log_hashes (λ bytes. bytes) in
         let digests = proof_digests (inclusion_length size index) path.now in
         result ≡ pos 0 → ShowsLogLeaf hashes root.now size index entry.now digests }
 {
-    if index >= size {
-        return Refused::Index.code();
-    }
-    let Ok(entry) = Vec::from_slice(alloc, entry) else {
-        return Refused::Memory.code();
-    };
-    let (size, index) = (size as u64, index as u64);
-    verdict_code(verify_inclusion_bytes(alloc, &LogHasher, root, size, index, &entry, path))
+    verify_inclusion(alloc, root, size, index, entry, path)
 }
 
-/// Returns whether the bytes of a consistency proof show that a log with a new root and size continues one with an old root
-/// and size.
+/// Returns whether the bytes of a consistency proof show that a log with a new root and size continues one with an old
+/// root and size.
+///
+/// Answers: 0 for a yes, 1 for another root; else the first of `E_SIZE` for the old size 0 and for one above the new
+/// size, `E_TRUNCATED`, `E_INVALID` for bytes of more digests than such a proof has; `E_MEMORY` in place of any.
 #[unsafe(no_mangle)]
 pub extern "C" fn paxidore_log_verify_consistency(
     alloc: Global,
@@ -54,17 +51,11 @@ pub extern "C" fn paxidore_log_verify_consistency(
     ensures answer { let of_sizes = continuing_shown old_size old_root.now new_size new_root.now in
         Gives (verdict_code (of_sizes proof.now)) result }
 
-    // 0 says: each list of the old size with the old root is the front of each list of the new size with the new root, or two
-    // different pairs of the proof and of these lists' trees are named that hash alike.
+    // 0 says: each list of the old size with the old root is the front of each list of the new size with the new root,
+    // or two different pairs of the proof and of these lists' trees are named that hash alike.
     ensures shows { let digests = proof_digests (consistency_length old_size new_size) proof.now in
         let shows = ShowsFront node_of old_size old_root.now new_size new_root.now in
         result ≡ pos 0 → shows digests }
 {
-    if old_size == 0 || new_size < old_size {
-        return Refused::Size.code();
-    }
-    let (old_size, new_size) = (old_size as u64, new_size as u64);
-    verdict_code(verify_consistency_bytes(
-        alloc, &LogHasher, old_size, old_root, new_size, new_root, proof,
-    ))
+    verify_consistency(alloc, old_size, old_root, new_size, new_root, proof)
 }

@@ -4,16 +4,13 @@ ghost use Rattle.std.specs.Prelude.{◌≡◌, ◌≢◌, ◌+◌, ◌*◌, pos,
 ghost use Rattle.ark_paths.specs.Index.{log2};
 ghost use Rattle.ark_paths.specs.Received.{ShowsLeaf, ShowsLeaves};
 ghost use Rattle.ark_paths.specs.Tree.{root_in};
-ghost use Rattle.paxidore_calls.specs.Answer.{Gives, GivesBy, Hands, all_shown, done_code, leaves_for, multi_path_of_leaves, path_of_leaves, results_of, shown, tree_leaves_in, verdict_code};
+ghost use Rattle.paxidore_calls.specs.Answer.{Gives, Hands, all_shown, done_code, leaves_for, multi_path_of_leaves, path_of_leaves, shown, tree_leaves_in, verdict_code};
 ghost use Rattle.paxidore_calls.specs.Hashing.{hashes_of, read_multi_path, read_path, rfc6962_hashing, tree_over};
-ghost use Rattle.ark_trees.specs.Rfc6962.{entry_hash, merkle_tree_hash};
+ghost use Rattle.ark_trees.specs.Rfc6962.{merkle_tree_hash};
 
-use ark_base::serialize::canonical_bytes;
-use ark_merkle::{MerkleTree, MultiPath, Path, is_tree_size};
-use ark_trees::Sha256Log;
-use paxidore_calls::buffer::hand_over;
-use paxidore_calls::leaves::{LogDigest, are_indexes, leaves_for, of_leaves};
-use paxidore_calls::refused::{Refused, verdict_code};
+use crate::trees;
+use crate::trees::{multi_path, multi_verify, verify};
+use paxidore_calls::leaves::LogDigest;
 use std::alloc::Global;
 
 /// Returns whether the bytes of a path show a leaf at an index of a tree with this root and size.
@@ -37,13 +34,7 @@ pub extern "C" fn paxidore_rfc6962_verify(
     ensures shows { result ≡ pos 0 → ShowsLeaf
         (hashes_of rfc6962_hashing) root.now size index leaf.now (read_path path.now) }
 {
-    if !is_tree_size(size) {
-        return Refused::Size.code();
-    }
-    let Ok(leaf) = Vec::from_slice(alloc, leaf) else {
-        return Refused::Memory.code();
-    };
-    verdict_code(Path::<Sha256Log>::verify_bytes(alloc, &(), &(), root, size, index, path, &leaf))
+    verify::<LogDigest>(alloc, root, size, index, leaf, path)
 }
 
 /// Returns whether the bytes of a strict multi-proof show leaves, one for each of some rising indexes, in such a tree.
@@ -70,71 +61,7 @@ pub extern "C" fn paxidore_rfc6962_multi_verify(
         result ≡ pos 0 → IfOk (leaves_for size (length indexes.now) leaves.now lengths.now)
         (λ xs. ShowsLeaves hashes root.now size indexes.now xs reading) }
 {
-    match leaves_for(alloc, size, indexes.len(), leaves, lengths) {
-        Ok(leaves) => verdict_code(MultiPath::<Sha256Log>::verify_bytes(
-            alloc,
-            &(),
-            &(),
-            root,
-            size,
-            indexes,
-            proof,
-            &leaves,
-        )),
-        Err(refused) => refused.code(),
-    }
-}
-
-// The tree above some leaves.
-fn tree_of(
-    alloc: Global,
-    leaves: &[u8],
-    lengths: &[usize],
-) -> Result<MerkleTree<Sha256Log>, Refused>
-    ensures { let outcome = results_of entry_hash (tree_leaves_in leaves.now lengths.now) in
-        GivesBy (λ tree. tree.leaves) outcome result }
-{
-    if !is_tree_size(lengths.len()) {
-        return Err(Refused::Size);
-    }
-    let digests = of_leaves::<LogDigest>(alloc, leaves, lengths)?;
-    Ok(MerkleTree::new_with_leaf_digest(alloc, &(), &(), digests)?)
-}
-
-// The bytes of the path of an index in that tree.
-fn path_of(
-    alloc: Global,
-    leaves: &[u8],
-    lengths: &[usize],
-    index: usize,
-) -> Result<Vec<u8>, Refused>
-    ensures { let outcome = path_of_leaves rfc6962_hashing leaves.now lengths.now index in
-        GivesBy (λ bytes. bytes.items) outcome result }
-{
-    let tree = tree_of(alloc, leaves, lengths)?;
-    if index >= tree.size() {
-        return Err(Refused::Index);
-    }
-    let path = tree.generate_proof(alloc, index)?;
-    Ok(canonical_bytes(alloc, &path)?)
-}
-
-// The bytes of the multi-proof of some indexes in that tree.
-fn multi_path_of(
-    alloc: Global,
-    leaves: &[u8],
-    lengths: &[usize],
-    indexes: &[usize],
-) -> Result<Vec<u8>, Refused>
-    ensures { let of_indexes = multi_path_of_leaves rfc6962_hashing leaves.now lengths.now in
-        GivesBy (λ bytes. bytes.items) (of_indexes indexes.now) result }
-{
-    let tree = tree_of(alloc, leaves, lengths)?;
-    if !are_indexes(tree.size(), indexes) {
-        return Err(Refused::Index);
-    }
-    let proof = tree.generate_multi_proof(alloc, indexes)?;
-    Ok(canonical_bytes(alloc, &proof)?)
+    multi_verify::<LogDigest>(alloc, root, size, indexes, leaves, lengths, proof)
 }
 
 /// Writes the root of the tree above the leaves to `root`. An error leaves that as before.
@@ -156,15 +83,7 @@ pub extern "C" fn paxidore_rfc6962_root(
         (λ xs. root.new ≡ merkle_tree_hash (log2 (length xs)) xs) }
     ensures kept { result ≢ pos 0 → root.new ≡ root.old }
 {
-    match tree_of(alloc, leaves, lengths) {
-        Ok(tree) => {
-            // The call tells the proof that the size is a power of two.
-            let _size = tree.size();
-            *root = *tree.root();
-            0
-        }
-        Err(refused) => refused.code(),
-    }
+    trees::root::<LogDigest>(alloc, root, leaves, lengths)
 }
 
 /// Writes the bytes of the path of an index in the tree above the leaves to the front of `path`, and their count.
@@ -186,7 +105,7 @@ pub extern "C" fn paxidore_rfc6962_path(
     // PAXIDORE_PATHBYTES of the size's logarithm.
     ensures counted { result ≡ pos 0 → path_len.new ≡ 16 + 32 * log2 (length lengths.now) }
 {
-    hand_over(path_of(alloc, leaves, lengths, index), path, path_len)
+    trees::path::<LogDigest>(alloc, path, path_len, leaves, lengths, index)
 }
 
 /// Writes the bytes of the multi-proof of some indexes in the tree above the leaves to the front of `proof`, and their
@@ -207,9 +126,5 @@ pub extern "C" fn paxidore_rfc6962_multi_path(
         let outcome = of_indexes indexes.now in
         Hands outcome proof.old proof.new proof_len.old proof_len.new result }
 {
-    hand_over(
-        multi_path_of(alloc, leaves, lengths, indexes),
-        proof,
-        proof_len,
-    )
+    multi_path::<LogDigest>(alloc, proof, proof_len, leaves, lengths, indexes)
 }

@@ -1,20 +1,26 @@
-//! Trees whose hashes are SHA-256 of the leaf, and of left followed by right.
+//! SHA-256 (FIPS 180-4), and trees whose hashes are SHA-256 of the leaf, and of left followed by right.
 
 ghost use Rattle.std.specs.Prelude.{◌≡◌, ◌≢◌, ◌+◌, ◌*◌, pos, length, IfOk, Ok};
 ghost use Rattle.ark_paths.specs.Index.{log2};
 ghost use Rattle.ark_paths.specs.Received.{ShowsLeaf, ShowsLeaves};
 ghost use Rattle.ark_paths.specs.Tree.{root_in};
-ghost use Rattle.paxidore_calls.specs.Answer.{Gives, GivesBy, Hands, all_shown, done_code, leaves_for, multi_path_of_leaves, path_of_leaves, results_of, shown, tree_leaves_in, verdict_code};
+ghost use Rattle.paxidore_calls.specs.Answer.{Gives, Hands, all_shown, done_code, leaves_for, multi_path_of_leaves, path_of_leaves, shown, tree_leaves_in, verdict_code};
 ghost use Rattle.paxidore_calls.specs.Hashing.{hashes_of, read_multi_path, read_path, sha256_hashing, tree_over};
 ghost use Rattle.sha2.specs.Sha256.{sha256};
 
-use ark_base::serialize::canonical_bytes;
-use ark_merkle::{MerkleTree, MultiPath, Path, is_tree_size};
-use ark_trees::Sha256Arrays;
-use paxidore_calls::buffer::hand_over;
-use paxidore_calls::leaves::{PlainDigest, are_indexes, leaves_for, of_leaves};
-use paxidore_calls::refused::{Refused, verdict_code};
+use crate::trees;
+use crate::trees::{multi_path, multi_verify, verify};
+use paxidore_calls::leaves::PlainDigest;
+use sha2::{Digest, Sha256};
 use std::alloc::Global;
+
+/// Writes the digest of some bytes to `digest`. It allocates nothing and never fails.
+#[unsafe(no_mangle)]
+pub extern "C" fn paxidore_sha256(digest: &mut [u8; 32], input: &[u8])
+    ensures { digest.new ≡ sha256 input.now }
+{
+    *digest = Sha256::digest(input);
+}
 
 /// Returns whether the bytes of a path show a leaf at an index of a tree with this root and size.
 ///
@@ -37,22 +43,7 @@ pub extern "C" fn paxidore_sha256_verify(
     ensures shows { result ≡ pos 0 → ShowsLeaf
         (hashes_of sha256_hashing) root.now size index leaf.now (read_path path.now) }
 {
-    if !is_tree_size(size) {
-        return Refused::Size.code();
-    }
-    let Ok(leaf) = Vec::from_slice(alloc, leaf) else {
-        return Refused::Memory.code();
-    };
-    verdict_code(Path::<Sha256Arrays>::verify_bytes(
-        alloc,
-        &(),
-        &(),
-        root,
-        size,
-        index,
-        path,
-        &leaf,
-    ))
+    verify::<PlainDigest>(alloc, root, size, index, leaf, path)
 }
 
 /// Returns whether the bytes of a strict multi-proof show leaves, one for each of some rising indexes, in such a tree.
@@ -79,71 +70,7 @@ pub extern "C" fn paxidore_sha256_multi_verify(
         result ≡ pos 0 → IfOk (leaves_for size (length indexes.now) leaves.now lengths.now)
         (λ xs. ShowsLeaves hashes root.now size indexes.now xs reading) }
 {
-    match leaves_for(alloc, size, indexes.len(), leaves, lengths) {
-        Ok(leaves) => verdict_code(MultiPath::<Sha256Arrays>::verify_bytes(
-            alloc,
-            &(),
-            &(),
-            root,
-            size,
-            indexes,
-            proof,
-            &leaves,
-        )),
-        Err(refused) => refused.code(),
-    }
-}
-
-// The tree above some leaves.
-fn tree_of(
-    alloc: Global,
-    leaves: &[u8],
-    lengths: &[usize],
-) -> Result<MerkleTree<Sha256Arrays>, Refused>
-    ensures { let outcome = results_of sha256 (tree_leaves_in leaves.now lengths.now) in
-        GivesBy (λ tree. tree.leaves) outcome result }
-{
-    if !is_tree_size(lengths.len()) {
-        return Err(Refused::Size);
-    }
-    let digests = of_leaves::<PlainDigest>(alloc, leaves, lengths)?;
-    Ok(MerkleTree::new_with_leaf_digest(alloc, &(), &(), digests)?)
-}
-
-// The bytes of the path of an index in that tree.
-fn path_of(
-    alloc: Global,
-    leaves: &[u8],
-    lengths: &[usize],
-    index: usize,
-) -> Result<Vec<u8>, Refused>
-    ensures { let outcome = path_of_leaves sha256_hashing leaves.now lengths.now index in
-        GivesBy (λ bytes. bytes.items) outcome result }
-{
-    let tree = tree_of(alloc, leaves, lengths)?;
-    if index >= tree.size() {
-        return Err(Refused::Index);
-    }
-    let path = tree.generate_proof(alloc, index)?;
-    Ok(canonical_bytes(alloc, &path)?)
-}
-
-// The bytes of the multi-proof of some indexes in that tree.
-fn multi_path_of(
-    alloc: Global,
-    leaves: &[u8],
-    lengths: &[usize],
-    indexes: &[usize],
-) -> Result<Vec<u8>, Refused>
-    ensures { let of_indexes = multi_path_of_leaves sha256_hashing leaves.now lengths.now in
-        GivesBy (λ bytes. bytes.items) (of_indexes indexes.now) result }
-{
-    let tree = tree_of(alloc, leaves, lengths)?;
-    if !are_indexes(tree.size(), indexes) {
-        return Err(Refused::Index);
-    }
-    let proof = tree.generate_multi_proof(alloc, indexes)?;
-    Ok(canonical_bytes(alloc, &proof)?)
+    multi_verify::<PlainDigest>(alloc, root, size, indexes, leaves, lengths, proof)
 }
 
 /// Writes the root of the tree above the leaves to `root`. An error leaves that as before.
@@ -161,13 +88,7 @@ pub extern "C" fn paxidore_sha256_root(
         (λ xs. root_in (tree_over sha256_hashing xs) ≡ Ok root.new) }
     ensures kept { result ≢ pos 0 → root.new ≡ root.old }
 {
-    match tree_of(alloc, leaves, lengths) {
-        Ok(tree) => {
-            *root = *tree.root();
-            0
-        }
-        Err(refused) => refused.code(),
-    }
+    trees::root::<PlainDigest>(alloc, root, leaves, lengths)
 }
 
 /// Writes the bytes of the path of an index in the tree above the leaves to the front of `path`, and their count.
@@ -189,7 +110,7 @@ pub extern "C" fn paxidore_sha256_path(
     // PAXIDORE_PATHBYTES of the size's logarithm.
     ensures counted { result ≡ pos 0 → path_len.new ≡ 16 + 32 * log2 (length lengths.now) }
 {
-    hand_over(path_of(alloc, leaves, lengths, index), path, path_len)
+    trees::path::<PlainDigest>(alloc, path, path_len, leaves, lengths, index)
 }
 
 /// Writes the bytes of the multi-proof of some indexes in the tree above the leaves to the front of `proof`, and their
@@ -210,9 +131,5 @@ pub extern "C" fn paxidore_sha256_multi_path(
         let outcome = of_indexes indexes.now in
         Hands outcome proof.old proof.new proof_len.old proof_len.new result }
 {
-    hand_over(
-        multi_path_of(alloc, leaves, lengths, indexes),
-        proof,
-        proof_len,
-    )
+    multi_path::<PlainDigest>(alloc, proof, proof_len, leaves, lengths, indexes)
 }

@@ -32,6 +32,10 @@ node_pair h = record { bottom = λ left right. Ok (h.node left right); upper = �
 abbrev pub hashes_of : Hashing → Hashes (List ℕ)
 hashes_of h = record { leaf = λ leaf. Ok (h.leaf_hash leaf); pair = node_pair h }
 
+-- the same of leaves that are seen as byte strings
+abbrev pub hashes_by : {A : Type 0} → (A → List ℕ) → Hashing → Hashes A
+hashes_by bytes h = record { leaf = λ leaf. Ok (h.leaf_hash (bytes leaf)); pair = node_pair h }
+
 -- the tree above some leaves
 abbrev pub tree_over : Hashing → List (List ℕ) → HashedTree (List ℕ)
 tree_over h leaves = record { hashes = hashes_of h; leaves = map h.leaf_hash leaves }

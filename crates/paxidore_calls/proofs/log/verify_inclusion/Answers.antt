@@ -2,8 +2,8 @@ use Rattle.std.proofs.Common.{List, ℕ, subst}
 use Rattle.ark_trees.specs.Rfc6962.{log_hashes}
 use Rattle.merkle_log.specs.Received.{ShowsLogLeaf, inclusion_length}
 use Rattle.paxidore_calls.specs.LogProofs.{proof_digests}
-use Rattle.paxidore_c.proofs.Codes.{zero-says}
-use Rattle.paxidore_c.proofs.log.paxidore_log_verify_inclusion.Goals as goal
+use Rattle.paxidore_calls.proofs.Codes.{zero-says}
+use Rattle.paxidore_calls.proofs.log.verify_inclusion.Goals as goal
 
 pub returns-clause-shows : goal.returns-clause-shows
 returns-clause-shows c =

@@ -1,5 +1,5 @@
-use Rattle.paxidore_c.proofs.Codes.{zero-says}
-use Rattle.paxidore_c.proofs.log.paxidore_log_verify_consistency.Goals as goal
+use Rattle.paxidore_calls.proofs.Codes.{zero-says}
+use Rattle.paxidore_calls.proofs.log.verify_consistency.Goals as goal
 
 pub returns-clause-shows : goal.returns-clause-shows
 returns-clause-shows c = zero-says c.verify_consistency_bytes.result c.verify_consistency_bytes.ensures.bound
