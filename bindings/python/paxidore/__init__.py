@@ -1,4 +1,4 @@
-"""Merkle trees over byte strings, clients of transparency logs, and BLAKE2s, by the proved code of libpaxidore.
+"""Merkle trees over byte strings, clients of transparency logs, SHA-256, BLAKE2s and commitments, by the proved code of libpaxidore.
 
 A log or a store publishes the root of its leaves and their count, and hands out paths::
 
@@ -12,9 +12,10 @@ Whoever has the root and the count checks them without the other leaves::
     if rfc6962.verify(root, 8, 3, leaf, path): ...
 
 ``sha256`` has the same calls for trees whose hashes are SHA-256 of a leaf, and of left followed by right. There are 2, 4, 8, 16 ..
-leaves in a tree. ``Log`` has the checks for a client of a log of any size.
+leaves in a tree. ``Log`` has the checks for a client of a log of any size. ``blake2s_commit`` commits to a value that is shown later.
 
-The library is found by the variable ``PAXIDORE_LIBRARY`` (a path), else as the system finds ``libpaxidore.so.1``.
+The library is found by the variable ``PAXIDORE_LIBRARY`` (a path), else as the system finds ``libpaxidore.so.1``. Where it is not
+there, or is older than this module, ``import paxidore`` raises ``ImportError``.
 """
 import ctypes
 import os
@@ -33,8 +34,11 @@ __all__ = [
     "TruncatedProof",
     "Trees",
     "blake2s",
+    "blake2s_commit",
+    "blake2s_opens",
     "rfc6962",
     "sha256",
+    "sha256_digest",
     "version",
 ]
 
@@ -43,17 +47,43 @@ DIGEST_BYTES = 32
 _size = ctypes.c_size_t
 _sizes = ctypes.POINTER(_size)
 _bytes = ctypes.c_char_p
-_library = ctypes.CDLL(os.environ.get("PAXIDORE_LIBRARY", "libpaxidore.so.1"))
-_library.paxidore_strerror.argtypes = [ctypes.c_int32]
-_library.paxidore_strerror.restype = ctypes.c_char_p
-_library.paxidore_version.argtypes = []
-_library.paxidore_version.restype = ctypes.c_char_p
-_library.paxidore_blake2s.argtypes = [ctypes.c_void_p, _bytes, _size]
-_library.paxidore_blake2s.restype = None
+_NAME = os.environ.get("PAXIDORE_LIBRARY", "libpaxidore.so.1")
+try:
+    _library = ctypes.CDLL(_NAME)
+except OSError as error:
+    raise ImportError(
+        "the library of paxidore cannot be loaded (%s): build it with tools/build-library, and set PAXIDORE_LIBRARY to the path of "
+        "its lib/libpaxidore.so.1" % error
+    ) from None
+
+
+def _call(name: str, result: object, *types: object):  # type: ignore[no-untyped-def]
+    try:
+        function = getattr(_library, "paxidore_" + name)
+    except AttributeError:
+        raise ImportError(
+            "%s has no call paxidore_%s, so it is not the library that this module is for: build that with tools/build-library, and "
+            "set PAXIDORE_LIBRARY to the path of its lib/libpaxidore.so.1" % (_NAME, name)
+        ) from None
+    function.argtypes = types
+    function.restype = result
+    return function
+
+
+_strerror = _call("strerror", ctypes.c_char_p, ctypes.c_int32)
+_version = _call("version", ctypes.c_char_p)
+_sha256 = _call("sha256", None, ctypes.c_void_p, _bytes, _size)
+_blake2s = _call("blake2s", None, ctypes.c_void_p, _bytes, _size)
+_commit = _call("blake2s_commit", None, ctypes.c_void_p, _bytes, _size, _bytes)
+_opens = _call("blake2s_opens", ctypes.c_int32, _bytes, _bytes, _size, _bytes)
 
 
 class Refused(Exception):
-    """A call was refused. ``code`` is the answer of the library, as ``paxidore.h`` lists them."""
+    """A call was refused. ``code`` is the answer of the library, as ``paxidore.h`` lists them.
+
+    Each answer that a call of this module can give has a class below, with the code that is its own. An answer of a newer library is
+    ``Refused`` itself, with its code.
+    """
 
     code = 0
 
@@ -106,7 +136,6 @@ class OutOfMemory(Refused, MemoryError):
     code = -1
 
 
-_ROOM = -9
 _KINDS = {
     kind.code: kind
     for kind in (
@@ -123,7 +152,9 @@ _KINDS = {
 
 
 def _refusal(answer: int) -> Refused:
-    return _KINDS.get(answer, Refused)(_library.paxidore_strerror(answer).decode("ascii"))
+    refused = _KINDS.get(answer, Refused)(_strerror(answer).decode("ascii"))
+    refused.code = answer
+    return refused
 
 
 def _exact(name: str, value: bytes) -> bytes:
@@ -168,11 +199,8 @@ class Trees:
     """The calls of one hashing: ``sha256`` or ``rfc6962``."""
 
     def __init__(self, name: str) -> None:
-        def call(what: str, *types: type):  # type: ignore[no-untyped-def]
-            function = getattr(_library, "paxidore_%s_%s" % (name, what))
-            function.argtypes = types
-            function.restype = ctypes.c_int32
-            return function
+        def call(what: str, *types: object):  # type: ignore[no-untyped-def]
+            return _call("%s_%s" % (name, what), ctypes.c_int32, *types)
 
         self.name = name
         leaves = (_bytes, _size, _sizes, _size)
@@ -252,21 +280,14 @@ class Trees:
         return ctypes.string_at(proof, count.value)
 
 
-def _log_call(what: str, *types: type):  # type: ignore[no-untyped-def]
-    function = getattr(_library, "paxidore_log_" + what)
-    function.argtypes = types
-    function.restype = ctypes.c_int32
-    return function
-
-
 class Log:
     """The checks for a client of a transparency log of any size (RFC 6962 and RFC 9162, section 2.1).
 
     A log publishes its root and its size. Its proofs are their digests alone, 32 bytes each, in the order of the standard.
     """
 
-    _inclusion = _log_call("verify_inclusion", _bytes, _size, _size, _bytes, _size, _bytes, _size)
-    _consistency = _log_call("verify_consistency", _size, _bytes, _size, _bytes, _bytes, _size)
+    _inclusion = _call("log_verify_inclusion", ctypes.c_int32, _bytes, _size, _size, _bytes, _size, _bytes, _size)
+    _consistency = _call("log_verify_consistency", ctypes.c_int32, _size, _bytes, _size, _bytes, _bytes, _size)
 
     @staticmethod
     def verify_inclusion(root: bytes, size: int, index: int, entry: bytes, path: bytes) -> bool:
@@ -299,14 +320,39 @@ sha256 = Trees("sha256")
 rfc6962 = Trees("rfc6962")
 
 
+def sha256_digest(data: bytes) -> bytes:
+    """The SHA-256 of some bytes: 32 of them (FIPS 180-4). ``sha256`` has the trees."""
+    digest = ctypes.create_string_buffer(DIGEST_BYTES)
+    _sha256(digest, _exact("data", data), len(data))
+    return digest.raw
+
+
 def blake2s(data: bytes) -> bytes:
     """The BLAKE2s of some bytes: 32 of them, with no key (RFC 7693)."""
     digest = ctypes.create_string_buffer(DIGEST_BYTES)
-    _library.paxidore_blake2s(digest, _exact("data", data), len(data))
+    _blake2s(digest, _exact("data", data), len(data))
     return digest.raw
+
+
+def blake2s_commit(value: bytes, nonce: bytes) -> bytes:
+    """The commitment to a value: the BLAKE2s of the value followed by the nonce.
+
+    The nonce has 32 bytes, drawn at random for this commitment, as by ``secrets.token_bytes(32)``, and is kept secret until the value is
+    shown: it is what hides the value, of which nothing is proved.
+    """
+    commitment = ctypes.create_string_buffer(DIGEST_BYTES)
+    _commit(commitment, _exact("value", value), len(value), _digest(nonce, "nonce"))
+    return commitment.raw
+
+
+def blake2s_opens(commitment: bytes, value: bytes, nonce: bytes) -> bool:
+    """Whether the commitment is that to the value, with this nonce."""
+    _digest(commitment, "commitment"), _digest(nonce, "nonce")
+    answer: int = _opens(commitment, _exact("value", value), len(value), nonce)
+    return answer == 0
 
 
 def version() -> str:
     """The version of the library that was found."""
-    text: bytes = _library.paxidore_version()
+    text: bytes = _version()
     return text.decode("ascii")

@@ -1,8 +1,11 @@
 """Every call, against trees that hashlib makes."""
 import hashlib
+import os
 import random
 import resource
 import struct
+import subprocess
+import sys
 import unittest
 
 import paxidore
@@ -210,6 +213,12 @@ class Calls(unittest.TestCase):
                     ("a leaf", lambda: trees.path([b"", wrap(b"a")], 0)),
                     ("a leaf", lambda: trees.multi_path([b"", wrap(b"a")], [0])),
                     ("data", lambda: paxidore.blake2s(wrap(b"abc"))),
+                    ("data", lambda: paxidore.sha256_digest(wrap(b"abc"))),
+                    ("value", lambda: paxidore.blake2s_commit(wrap(b"abc"), root)),
+                    ("nonce", lambda: paxidore.blake2s_commit(b"abc", wrap(root))),
+                    ("commitment", lambda: paxidore.blake2s_opens(wrap(root), b"abc", root)),
+                    ("value", lambda: paxidore.blake2s_opens(root, wrap(b"abc"), root)),
+                    ("nonce", lambda: paxidore.blake2s_opens(root, b"abc", wrap(root))),
                 ):
                     with self.assertRaisesRegex(TypeError, "^%s is bytes, not %s$" % (name, wrap.__name__)):
                         call()
@@ -270,10 +279,52 @@ class Calls(unittest.TestCase):
         except paxidore.Refused as refused:
             return refused
 
-    def test_blake2s(self):
+    def test_refusals_have_their_codes(self):
+        codes = [kind.code for kind in paxidore._KINDS.values()]
+        self.assertEqual(sorted(codes), list(range(-8, 0)))
+        for code in codes + [-9, -10, -99]:
+            self.assertEqual(paxidore._refusal(code).code, code)
+        for code in (-9, -10, -99):
+            self.assertIs(type(paxidore._refusal(code)), paxidore.Refused)
+        self.assertEqual(str(paxidore._refusal(-9)), "the buffer is too short")
+        self.assertEqual(paxidore.Refused.code, 0)
+
+    def test_a_library_that_is_not_there(self):
+        for library, said in (("/nowhere/libpaxidore.so.1", "cannot be loaded"), ("libc.so.6", "has no call paxidore_")):
+            ran = subprocess.run(
+                [sys.executable, "-c", "import paxidore"],
+                env=dict(os.environ, PAXIDORE_LIBRARY=library),
+                stdout=subprocess.PIPE,
+                stderr=subprocess.PIPE,
+            )
+            last = ran.stderr.decode().splitlines()[-1]
+            self.assertRegex(last, "^ImportError: .*%s.*: build .* with tools/build-library, and set PAXIDORE_LIBRARY" % said)
+
+    def test_digests(self):
         for length in list(range(260)) + [1 << 16]:
             data = DRAWS.randbytes(length)
             self.assertEqual(paxidore.blake2s(data), hashlib.blake2s(data).digest())
+            self.assertEqual(paxidore.sha256_digest(data), sha(data))
+
+    def test_commitments(self):
+        for length in list(range(200)) + [1 << 16]:
+            value, nonce = DRAWS.randbytes(length), DRAWS.randbytes(32)
+            commitment = paxidore.blake2s_commit(value, nonce)
+            self.assertEqual(commitment, hashlib.blake2s(value + nonce).digest())
+            self.assertIs(paxidore.blake2s_opens(commitment, value, nonce), True)
+            self.assertIs(paxidore.blake2s_opens(commitment, value + b"\0", nonce), False)
+            for other in flips(commitment, 4):
+                self.assertIs(paxidore.blake2s_opens(other, value, nonce), False)
+            for other in flips(nonce, 4):
+                self.assertIs(paxidore.blake2s_opens(commitment, value, other), False)
+            for other in flips(value, 4):
+                self.assertIs(paxidore.blake2s_opens(commitment, other, nonce), False)
+        for name, call in (
+            ("nonce", lambda: paxidore.blake2s_commit(b"", bytes(31))),
+            ("nonce", lambda: paxidore.blake2s_opens(bytes(32), b"", bytes(33))),
+            ("commitment", lambda: paxidore.blake2s_opens(bytes(31), b"", bytes(32))),
+        ):
+            self.assertRaisesRegex(ValueError, "^%s has 32 bytes, not " % name, call)
 
     def test_memory_does_not_grow(self):
         leaves = drawn_leaves(16)

@@ -1,4 +1,4 @@
-//! Merkle trees over byte strings, clients of transparency logs, and BLAKE2s, by the proved code of libpaxidore.
+//! Merkle trees over byte strings, clients of transparency logs, SHA-256, BLAKE2s and commitments, by the proved code of libpaxidore.
 //!
 //! A log or a store publishes the root of its leaves and their count, and hands out paths. Whoever has the root and the count
 //! checks them without the other leaves:
@@ -20,8 +20,11 @@ use std::error::Error;
 use std::ffi::CStr;
 use std::fmt;
 
-/// A root, or another digest.
+/// A root, a commitment, or another digest.
 pub type Digest = [u8; 32];
+
+/// What stands behind the value in a commitment.
+pub type Nonce = [u8; 32];
 
 /// Why a call was refused.
 #[derive(Debug, Clone, Copy, PartialEq, Eq, Hash)]
@@ -331,12 +334,53 @@ fn path_digests(size: usize) -> usize {
     32 * (usize::BITS - size.saturating_sub(1).leading_zeros()) as usize
 }
 
+/// The SHA-256 of some bytes (FIPS 180-4).
+pub fn sha256(input: &[u8]) -> Digest {
+    let mut digest = [0; 32];
+    // SAFETY: as in `Trees::root`.
+    unsafe { sys::paxidore_sha256(digest.as_mut_ptr(), input.as_ptr(), input.len()) };
+    digest
+}
+
 /// The BLAKE2s of some bytes, with no key (RFC 7693).
 pub fn blake2s(input: &[u8]) -> Digest {
     let mut digest = [0; 32];
     // SAFETY: as in `Trees::root`.
     unsafe { sys::paxidore_blake2s(digest.as_mut_ptr(), input.as_ptr(), input.len()) };
     digest
+}
+
+/// The commitment to a value: the BLAKE2s of the value followed by the nonce.
+///
+/// The nonce is for one commitment, drawn at random and kept secret until the value is shown: it is what hides the value, of which
+/// nothing is proved.
+pub fn blake2s_commit(value: &[u8], nonce: &Nonce) -> Digest {
+    let mut commitment = [0; 32];
+    // SAFETY: as in `Trees::root`.
+    unsafe {
+        sys::paxidore_blake2s_commit(
+            commitment.as_mut_ptr(),
+            value.as_ptr(),
+            value.len(),
+            nonce.as_ptr(),
+        )
+    };
+    commitment
+}
+
+/// Whether the commitment is that to the value, with this nonce.
+#[must_use]
+pub fn blake2s_opens(commitment: &Digest, value: &[u8], nonce: &Nonce) -> bool {
+    // SAFETY: as in `Trees::verify`.
+    let answer = unsafe {
+        sys::paxidore_blake2s_opens(
+            commitment.as_ptr(),
+            value.as_ptr(),
+            value.len(),
+            nonce.as_ptr(),
+        )
+    };
+    answer == 0
 }
 
 /// The version of the library that is linked.

@@ -117,7 +117,20 @@ pub static RFC6962: Calls = calls!(
 );
 
 extern "C" {
+    pub fn paxidore_sha256(digest: *mut u8, input: *const u8, input_len: usize);
     pub fn paxidore_blake2s(digest: *mut u8, input: *const u8, input_len: usize);
+    pub fn paxidore_blake2s_commit(
+        commitment: *mut u8,
+        value: *const u8,
+        value_len: usize,
+        nonce: *const u8,
+    );
+    pub fn paxidore_blake2s_opens(
+        commitment: *const u8,
+        value: *const u8,
+        value_len: usize,
+        nonce: *const u8,
+    ) -> i32;
     pub fn paxidore_log_verify_inclusion(
         root: *const u8,
         size: usize,

@@ -1,6 +1,6 @@
 //! Each call once, the refusals, and values of other implementations.
 
-use paxidore::{blake2s, version, Log, Refused, Trees};
+use paxidore::{blake2s, blake2s_commit, blake2s_opens, sha256, version, Log, Refused, Trees};
 
 fn hex(bytes: &[u8]) -> String {
     bytes.iter().map(|byte| format!("{byte:02x}")).collect()
@@ -151,10 +151,46 @@ fn logs() -> Result<(), Refused> {
 }
 
 #[test]
+fn commitments() {
+    // by Python's hashlib
+    let nonce: [u8; 32] = std::array::from_fn(|i| i as u8);
+    let commitment = blake2s_commit(b"abc", &nonce);
+    assert_eq!(
+        hex(&commitment),
+        "e0f7bc605522dd045ccd1954b126f0900edac1411fe3a003d999438ba30b6434"
+    );
+    assert_eq!(
+        hex(&blake2s_commit(b"", &nonce)),
+        "05825607d7fdf2d82ef4c3c8c2aea961ad98d60edff7d018983e21204c0d93d1"
+    );
+    assert!(blake2s_opens(&commitment, b"abc", &nonce));
+    assert!(!blake2s_opens(&commitment, b"abd", &nonce));
+    assert!(!blake2s_opens(&commitment, b"ab", &nonce));
+    assert!(!blake2s_opens(&commitment, b"abc", &[0; 32]));
+    for bit in 0..256 {
+        let mut other = commitment;
+        other[bit / 8] ^= 1 << (bit % 8);
+        assert!(!blake2s_opens(&other, b"abc", &nonce));
+    }
+}
+
+#[test]
 fn others() {
+    // FIPS 180-4's example, and no bytes by Python's hashlib
+    assert_eq!(
+        hex(&sha256(b"abc")),
+        "ba7816bf8f01cfea414140de5dae2223b00361a396177a9cb410ff61f20015ad"
+    );
+    assert_eq!(
+        hex(&sha256(b"")),
+        "e3b0c44298fc1c149afbf4c8996fb92427ae41e4649b934ca495991b7852b855"
+    );
     // RFC 7693, appendix B
     let abc = "508c5e8c327c14e2e1a72ba34eeb452f37458b209ed63a294d999b4c86675982";
     assert_eq!(hex(&blake2s(b"abc")), abc);
     assert_eq!(version(), "1.0.0");
-    assert_eq!(Refused::Size.to_string(), "no tree has this count of leaves");
+    assert_eq!(
+        Refused::Size.to_string(),
+        "no tree has this count of leaves"
+    );
 }
