@@ -14,7 +14,8 @@ Whoever has the root and the count checks them without the other leaves::
 ``sha256`` has the same calls for trees whose hashes are SHA-256 of a leaf, and of left followed by right. There are 2, 4, 8, 16 ..
 leaves in a tree.
 
-The library is found by the variable ``PAXIDORE_LIBRARY`` (a path), else as the system finds ``libpaxidore.so.1``.
+The library is found by the variable ``PAXIDORE_LIBRARY`` (a path), else beside this file, where a wheel has it, else as the
+system finds ``libpaxidore.so.1``.
 """
 import ctypes
 import os
@@ -42,7 +43,10 @@ DIGEST_BYTES = 32
 _size = ctypes.c_size_t
 _sizes = ctypes.POINTER(_size)
 _bytes = ctypes.c_char_p
-_library = ctypes.CDLL(os.environ.get("PAXIDORE_LIBRARY", "libpaxidore.so.1"))
+# a wheel has the library beside this file
+_beside = os.path.join(os.path.dirname(os.path.abspath(__file__)), "libpaxidore.so.1")
+_found = _beside if os.path.exists(_beside) else "libpaxidore.so.1"
+_library = ctypes.CDLL(os.environ.get("PAXIDORE_LIBRARY", _found))
 _library.paxidore_strerror.argtypes = [ctypes.c_int32]
 _library.paxidore_strerror.restype = ctypes.c_char_p
 _library.paxidore_version.argtypes = []
