@@ -182,7 +182,8 @@ module _ {D E : Type 0} (same : (x y : D) → (x ≡ y) ⊎ (x ≢ y)) (hash : D
         ≡ (length xs + 1) / 2
         → ((reached sibling : D) → Meets (on_left hash) (on_right hash) (i / 2) (s / 2) state rest level reached sibling
         → Meets (on_left hash) (on_right hash) i s own path (suc level) reached sibling)
-        → PathCollidesAt hash empty ys (i / 2) (s / 2) state rest level → PathCollidesAt hash empty xs i s own path (suc level)
+        → PathCollidesAt hash empty ys (i / 2) (s / 2) state rest level
+        → PathCollidesAt hash empty xs i s own path (suc level)
     higher_collision {ys} state rest level up size met found = record {
       reached = found.reached;
       sibling = found.sibling;

@@ -347,8 +347,8 @@ impl<D: DigestItem, T: TreeHasher<D, D>> Log<D, T> {
 
         // It is rejected exactly where `verify_inclusion` says false under the root of the size.
         ensures verdict { let hashes = T.hashes self.now.hasher in
-            let path = map D.numbers path.now in
-            AnswersBy is_accepted (leaf_verdict_in hashes self.now size index leaf.now path) result }
+            let verdict = leaf_verdict_in hashes self.now size index leaf.now in
+            AnswersBy is_accepted (verdict (map D.numbers path.now)) result }
 
         // The leaf's hash stands at the index, and pairs collide at no level.
         ensures stands { let hashes = T.hashes self.now.hasher in

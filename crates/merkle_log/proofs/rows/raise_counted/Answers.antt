@@ -33,7 +33,8 @@ returns-in_ok-copy_of-in-None-clause-counts g c = rw (c.in-None.is) (left-copied
 
 pub returns-in_ok-upper-in-Some-clause-counts : goal.returns-in_ok-upper-in-Some-clause-counts
 returns-in_ok-upper-in-Some-clause-counts g c =
-    rw (c.in-Some.is) (left-hashed _ _ c.args.last_index c.requires.counted c.in_ok-upper-in-Some.ensures.counts (omega arith))
+    rw (c.in-Some.is) (left-hashed _ _ c.args.last_index c.requires.counted c.in_ok-upper-in-Some.ensures.counts
+    (omega arith))
 
 pub returns-else-last_index-eq1-2-clause-counts : goal.returns-else-last_index-eq1-2-clause-counts
 returns-else-last_index-eq1-2-clause-counts g c = rw (c.in-Some.is) (left-kept _ c.args.last_index (omega arith))
