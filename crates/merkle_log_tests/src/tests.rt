@@ -62,7 +62,7 @@ pub fn eight(alloc: Global) -> Result<Sha256Log, Error> {
 }
 
 // Whether a digest is shown so.
-fn is_shown(alloc: Global, digest: &[u8; 32], text: &str) -> bool {
+pub fn is_shown(alloc: Global, digest: &[u8; 32], text: &str) -> bool {
     match hex::encode(alloc, digest.as_slice()) {
         Ok(shown) => shown.as_str() == text,
         Err(_) => false,
