@@ -196,7 +196,8 @@ module _ {D E : Type 0} (same : (x y : D) → (x ≡ y) ⊎ (x ≢ y)) (hash : D
     -- the lowest pairs
     pub lowest_collision : (sibling : D) (rest : List D) (pair : D × D) (given : D × D) → has_beside i s ≡ true → path
         ≡ sibling ∷ rest → in_order i own sibling ≡ given
-        → IsTreePair hash empty xs 0 (i / 2) pair → Collide hash given pair → PathCollidesAt hash empty xs i s own path 0
+        → IsTreePair hash empty xs 0 (i / 2) pair → Collide hash given pair
+        → PathCollidesAt hash empty xs i s own path 0
     lowest_collision sibling rest pair given beside is order tree collide = record {
       reached = own;
       sibling = sibling;

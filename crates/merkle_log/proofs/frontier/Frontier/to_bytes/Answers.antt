@@ -32,4 +32,5 @@ returns-clause-again g c =
     (λ value. g.D.DigestItem.numbers_of (g.D.Canonical.spelling value)) own.hasher (numbers own.empty)) plain
     ∙ ap (λ o. o >>= λ read. Ok (frontier_of own.hasher (numbers own.empty) read))
     (read ∙ ap (λ l. Ok (own.size, l)) (numbers-read numbers view
-    (λ value. g.D.DigestItem.numbers_of (g.D.Canonical.spelling value)) g.met.D.DigestItem.numbers_are own.peaks.items)))
+    (λ value. g.D.DigestItem.numbers_of (g.D.Canonical.spelling value)) g.met.D.DigestItem.numbers_are
+    own.peaks.items)))
