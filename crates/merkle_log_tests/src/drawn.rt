@@ -3,8 +3,10 @@
 ghost use Rattle.std.specs.Prelude.{◌<◌, ◌≤◌};
 
 use crate::hasher::Rfc6962;
-use crate::model::{PATHS, PROOFS, ROOTS};
-use crate::tests::{Sha256Log, consistency, inclusion, is_shown, none, root};
+use crate::model::{PATH_PAIRS, PATHS, PROOF_PAIRS, PROOFS, ROOTS};
+use crate::tests::{
+    Sha256Log, consistency, inclusion, is_shown, none, path_cost, proof_cost, root,
+};
 use ark_base::error::Error;
 use merkle_log::{verify_consistency, verify_inclusion};
 use sha2::{Digest, Sha256};
@@ -166,6 +168,32 @@ fn are_proofs(alloc: Global, text: &str) -> Result<bool, Error> {
     Ok(is_shown(alloc, &hasher.finalize(), text))
 }
 
+// How many pairs the drawn paths cost.
+fn paths_cost(alloc: Global) -> Result<usize, Error> {
+    let log = log_of(alloc, &entries(alloc)?)?;
+    let mut cost = 0usize;
+    let mut drawn = 2;
+    for _ in 0..DRAWN {
+        let (last, index, high) = pair_after(drawn, ENTRIES);
+        drawn = last;
+        cost = cost.saturating_add(path_cost(alloc, &log, high + 1, index)?);
+    }
+    Ok(cost)
+}
+
+// How many pairs the drawn consistency proofs cost.
+fn proofs_cost(alloc: Global) -> Result<usize, Error> {
+    let log = log_of(alloc, &entries(alloc)?)?;
+    let mut cost = 0usize;
+    let mut drawn = 3;
+    for _ in 0..DRAWN {
+        let (last, low, high) = pair_after(drawn, ENTRIES - 1);
+        drawn = last;
+        cost = cost.saturating_add(proof_cost(alloc, &log, low + 1, high + 2)?);
+    }
+    Ok(cost)
+}
+
 #[test]
 fn drawn_roots(rt: HostRuntime) {
     assert_eq!(rt; are_roots(rt.alloc()), Ok(true));
@@ -174,9 +202,11 @@ fn drawn_roots(rt: HostRuntime) {
 #[test]
 fn drawn_paths(rt: HostRuntime) {
     assert_eq!(rt; are_paths(rt.alloc(), PATHS), Ok(true));
+    assert_eq!(rt; paths_cost(rt.alloc()), Ok(PATH_PAIRS));
 }
 
 #[test]
 fn drawn_proofs(rt: HostRuntime) {
     assert_eq!(rt; are_proofs(rt.alloc(), PROOFS), Ok(true));
+    assert_eq!(rt; proofs_cost(rt.alloc()), Ok(PROOF_PAIRS));
 }

@@ -79,5 +79,11 @@ pub const ROOTS: [(usize, &str); 18] = [
 /// The SHA-256 of the 2754 digests of 256 drawn paths.
 pub const PATHS: &str = "9c135a71db65dd7d2abe8697e761d3d51a5b1be564069622c103ca2bf9b6adb3";
 
+/// How many pairs above these digests' entries stand in no complete subtree.
+pub const PATH_PAIRS: usize = 910;
+
 /// The SHA-256 of the 2726 digests of 256 drawn consistency proofs.
 pub const PROOFS: &str = "0e2b5d4bbeee0dbd11648bc3e2f26bbe73db0a012ccd2f253b0d97e62f53607f";
+
+/// How many pairs above these digests' entries stand in no complete subtree.
+pub const PROOF_PAIRS: usize = 854;
