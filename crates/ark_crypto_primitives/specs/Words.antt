@@ -1,4 +1,5 @@
--- The words that the contracts of this crate use, so that a contract over it needs one import.
+-- The words that the contracts of this crate use, so that a contract over it needs one import. Where two crates have a
+-- word of one name, `merkle_tree_hash` is that of logs, and `tree_hash_of_entries` that of trees.
 
 -- results and errors
 pub use Rattle.ark_base.specs.Outcome.{Answers, AnswersBy, IsDecided, IsMemory, LacksMemoryOnly, Outcome}
@@ -33,7 +34,8 @@ pub use Rattle.ark_bowe_hopwood.specs.BoweHopwood.{AreDrawnSegments, AreSegments
 pub use Rattle.ark_bowe_hopwood.specs.BoweHopwood.{segments_hash, segments_outcome}
 pub use Rattle.ark_schemes.specs.Blake2s.{blake2s, blake2s_with}
 pub use Rattle.ark_schemes.specs.Hashers.{AloneHoldsText, HoldsText}
-pub use Rattle.ark_trees.specs.Rfc6962.{entry_hash, log_hashes, node_hash, node_of}
+pub use Rattle.ark_trees.specs.Rfc6962.{entry_hash, log_hashes, merkle_tree_hash as tree_hash_of_entries, node_hash}
+pub use Rattle.ark_trees.specs.Rfc6962.{node_of}
 -- commitments, encryption and signatures
 pub use Rattle.ark_schemes.specs.Commitments.{blake2s_commitment}
 pub use Rattle.ark_schemes.specs.PedersenCommitments.{AreMade, AreOf, IsUnion, elements_in, pedersen_commitment, sum_of}
