@@ -48,29 +48,17 @@ extern "C" {
 #define PAXIDORE_NOT_NULL(places)
 #endif
 
-/* The bytes of proofs. A digest has 32 bytes; a count or an index has 8, the least first. Of a tree of 2^h leaves:
+/* The bytes of proofs. A digest has 32 bytes; a count or an index has 8, the least first. Bytes behind a proof are refused.
  *
- *   a path               32           the digest beside the leaf's
- *                        8            h - 1
- *                        32 (h - 1)   the digests beside the way above, from below the root down
- *                        8            the index
+ * A path in a tree of 2^h leaves: the digest beside the leaf's; the count h - 1; so many digests beside the way above, from below
+ * the root down; the index.
  *
- *   a multi-proof        8            n
- *   of n indexes         32 n         the digest beside each leaf's
- *                        8            n
- *                        8 n          of each path, how many digests it shares with the path before, from below the root down
- *                        8            n
- *                        8 + 32 k     of each path: k, and the k digests that it does not share with the path before
- *                        8            n
- *                        8 n          the indexes, each above the one before
+ * A multi-proof of n indexes: n, and the digest beside each leaf's; n, and of each path the count of digests that it shares with the
+ * path before, from below the root down; n, and of each path the count of its other digests, followed by these; n, and the indexes,
+ * each above the one before.
  *
- * Of a log:
- *
- *   an inclusion proof   32 each      the digests beside the way, from the entry up (RFC 9162, section 2.1.3)
- *
- *   a consistency proof  32 each      the digests in the order of RFC 9162, section 2.1.4
- *
- * Bytes behind a proof are refused. */
+ * An inclusion proof of a log: the digests beside the way, from the entry up (RFC 9162, section 2.1.3). A consistency proof of a log:
+ * the digests in the order of its section 2.1.4. No count stands before them: the index and the sizes say how many there are. */
 
 /* What a call answers. Only 0 is a yes: compare with PAXIDORE_OK. After another answer each buffer is as it was. */
 enum paxidore_answer {

@@ -14,8 +14,9 @@ Whoever has the root and the count checks them without the other leaves::
 ``sha256`` has the same calls for trees whose hashes are SHA-256 of a leaf, and of left followed by right. There are 2, 4, 8, 16 ..
 leaves in a tree. ``Log`` has the checks for a client of a log of any size. ``blake2s_commit`` commits to a value that is shown later.
 
-The library is found by the variable ``PAXIDORE_LIBRARY`` (a path), else as the system finds ``libpaxidore.so.1``. Where it is not
-there, or is older than this module, ``import paxidore`` raises ``ImportError``.
+The library is found by the variable ``PAXIDORE_LIBRARY`` (a path), else beside this file, where a wheel has it, else as the
+system finds ``libpaxidore.so.1``. Where it is not there, or is older than this module, ``import paxidore`` raises
+``ImportError``.
 """
 import ctypes
 import os
@@ -47,9 +48,11 @@ DIGEST_BYTES = 32
 _size = ctypes.c_size_t
 _sizes = ctypes.POINTER(_size)
 _bytes = ctypes.c_char_p
-_NAME = os.environ.get("PAXIDORE_LIBRARY", "libpaxidore.so.1")
+# a wheel has the library beside this file
+_beside = os.path.join(os.path.dirname(os.path.abspath(__file__)), "libpaxidore.so.1")
+_found = os.environ.get("PAXIDORE_LIBRARY", _beside if os.path.exists(_beside) else "libpaxidore.so.1")
 try:
-    _library = ctypes.CDLL(_NAME)
+    _library = ctypes.CDLL(_found)
 except OSError as error:
     raise ImportError(
         "the library of paxidore cannot be loaded (%s): build it with tools/build-library, and set PAXIDORE_LIBRARY to the path of "
@@ -63,7 +66,7 @@ def _call(name: str, result: object, *types: object):  # type: ignore[no-untyped
     except AttributeError:
         raise ImportError(
             "%s has no call paxidore_%s, so it is not the library that this module is for: build that with tools/build-library, and "
-            "set PAXIDORE_LIBRARY to the path of its lib/libpaxidore.so.1" % (_NAME, name)
+            "set PAXIDORE_LIBRARY to the path of its lib/libpaxidore.so.1" % (_found, name)
         ) from None
     function.argtypes = types
     function.restype = result

@@ -1,11 +1,7 @@
 //! A log that grows, and a client that follows it: no accepted proof leads the client from one history to another.
 
 ghost use Rattle.std.specs.Prelude.{◌≡◌, ◌≢◌, true, length, map, IfOk, Ok};
-ghost use Rattle.ark_base.specs.Digits.{itself, bytes_at};
-ghost use Rattle.ark_base.specs.Outcome.{AnswersBy};
-ghost use Rattle.ark_trees.specs.Rfc6962.{log_hashes, node_of};
-ghost use Rattle.merkle_log.specs.Log.{root_at};
-ghost use Rattle.merkle_log.specs.Received.{digests_in, consistency_length, inclusion_length, ShowsFront, ShowsLogLeaf};
+ghost use Rattle.ark_crypto_primitives.specs.Words.{AnswersBy, ShowsFront, ShowsLogLeaf, bytes_at, consistency_length, digests_in, inclusion_length, itself, log_hashes, node_of, root_at};
 
 use ark_crypto_primitives::Error;
 use ark_crypto_primitives::log::{

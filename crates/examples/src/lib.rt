@@ -7,3 +7,4 @@ pub mod reveal;
 pub mod store;
 #[cfg(test)]
 mod tests;
+pub mod transcript;

@@ -1,12 +1,7 @@
 //! A log publishes a root and hands out receipts, which a client checks without the log.
 
 ghost use Rattle.std.specs.Prelude.{◌≡◌, ◌<◌, ◌≤◌, true, false, length, map, IfOk, Ok, Err};
-ghost use Rattle.ark_base.specs.Outcome.{AnswersBy};
-ghost use Rattle.ark_base.specs.declared.error.Error.TheVariants.{IncorrectInputLength};
-ghost use Rattle.ark_paths.specs.Index.{is_tree_size, log2};
-ghost use Rattle.ark_paths.specs.Received.{ShowsLeaf};
-ghost use Rattle.ark_paths.specs.Tree.{path_in, root_in, tree_of};
-ghost use Rattle.ark_trees.specs.Rfc6962.{merkle_tree_hash};
+ghost use Rattle.ark_crypto_primitives.specs.Words.{AnswersBy, IncorrectInputLength, ShowsLeaf, is_tree_size, log2, path_in, root_in, tree_hash_of_entries, tree_of};
 
 use ark_crypto_primitives::Error;
 use ark_crypto_primitives::merkle_tree::{MerkleTree, Path, Views, is_tree_size};
@@ -33,7 +28,7 @@ pub fn open(alloc: Global, entries: &[Vec<u8>]) -> Result<MerkleTree<Sha256Log>,
 
     // Its root is the Merkle tree hash of the entries (RFC 6962, section 2.1).
     ensures root { let entries = map (λ entry. entry.items) entries.now in
-        let hash = merkle_tree_hash (log2 (length entries)) entries in
+        let hash = tree_hash_of_entries (log2 (length entries)) entries in
         IfOk result (λ log. root_in (⟦<Sha256Log as Views>⟧.tree log) ≡ Ok hash) }
 {
     if !is_tree_size(entries.len()) {

@@ -1,7 +1,7 @@
 //! Commit and reveal: a bid is committed to, and later opened.
 
 ghost use Rattle.std.specs.Prelude.{◌≡◌, ◌↔◌, true, IfOk, Ok};
-ghost use Rattle.ark_schemes.specs.Commitments.{blake2s_commitment};
+ghost use Rattle.ark_crypto_primitives.specs.Words.{blake2s_commitment};
 
 use ark_crypto_primitives::Error;
 use ark_crypto_primitives::commitment::CommitmentScheme;

@@ -1,8 +1,7 @@
 //! A client of an authenticated store, who keeps the root alone and follows each update by a proof.
 
 ghost use Rattle.std.specs.Prelude.{◌≡◌, ◌≢◌, true, IfOk, Ok};
-ghost use Rattle.ark_base.specs.Outcome.{Answers};
-ghost use Rattle.ark_paths.specs.Received.{ShowsLeaf, received_verdict};
+ghost use Rattle.ark_crypto_primitives.specs.Words.{Answers, ShowsLeaf, received_verdict};
 ghost use Rattle.examples.specs.Change.{ShowsChange};
 
 use ark_crypto_primitives::Error;

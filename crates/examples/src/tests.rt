@@ -2,12 +2,17 @@
 
 use crate::growing_log::{Client, head_of};
 use crate::store::Follower;
+use crate::transcript::challenge_after;
 use crate::{log, reveal};
+use ark_crypto_primitives::ff::{Bls12_381Fr, Field};
 use ark_crypto_primitives::log::{Log, LogHasher};
 use ark_crypto_primitives::merkle_tree::{
     Config, LeafParam, MerkleTree, TwoToOneParam, is_tree_size,
 };
 use ark_crypto_primitives::serialize::CanonicalSerialize;
+use ark_crypto_primitives::sponge::FieldBasedCryptographicSponge;
+use ark_crypto_primitives::sponge::poseidon::PoseidonSponge;
+use ark_crypto_primitives::sponge::poseidon::parameters::{Power, bls12_381_fr};
 use ark_crypto_primitives::trees::{Sha256Arrays, Sha256Log};
 use ark_crypto_primitives::{Error, SerializationError};
 use std::alloc::Global;
@@ -188,4 +193,51 @@ fn a_client_follows_a_log_that_grows(rt: HostRuntime) {
         grown(rt.alloc(), false),
         Err(Error::SerializationError(SerializationError::Truncated))
     );
+}
+
+// The challenge behind these messages.
+fn challenge<F: Field, S: FieldBasedCryptographicSponge<F>>(
+    alloc: Global,
+    parameters: &S::Config,
+    messages: &[Vec<u8>],
+) -> Result<Vec<F>, Error> {
+    let mut transcript = S::new(alloc, parameters)?;
+    let mut last = Vec::new(alloc);
+    for message in messages {
+        last = challenge_after::<F, S, Vec<u8>>(&mut transcript, message)?;
+    }
+    Ok(last)
+}
+
+// Whether the challenges behind these messages are the same.
+fn are_alike<F: Field, S: FieldBasedCryptographicSponge<F>>(
+    alloc: Global,
+    parameters: &S::Config,
+    said: &[Vec<u8>],
+    heard: &[Vec<u8>],
+) -> Result<bool, Error> {
+    let proved = challenge::<F, S>(alloc, parameters, said)?;
+    let checked = challenge::<F, S>(alloc, parameters, heard)?;
+    Ok(proved == checked)
+}
+
+// The same over the scalar field of BLS12-381, of four entries and those behind the first.
+fn agree(alloc: Global, skipped: usize) -> Result<bool, Error> {
+    let said = entries(alloc)?;
+    let heard = said.get(skipped..).unwrap_or(&[]);
+    match bls12_381_fr(alloc, 2)? {
+        Some(parameters) => are_alike::<Bls12_381Fr, PoseidonSponge<Bls12_381Fr, Power>>(
+            alloc,
+            &parameters,
+            &said,
+            heard,
+        ),
+        None => Ok(false),
+    }
+}
+
+#[test]
+fn challenges_follow_what_was_said(rt: HostRuntime) {
+    assert_eq!(rt; agree(rt.alloc(), 0), Ok(true));
+    assert_eq!(rt; agree(rt.alloc(), 1), Ok(false));
 }

@@ -74,8 +74,9 @@ module _ {hash : NodeHash} {rows : ℕ → List Digest} (stored : IsStored hash 
           along = along-next at.along (i % 2 == 1) some refl beside sibling rest next is (turned (i % 2 == 1) stepped);
           known = λ found highest.
               rw (here_is, up_is) (rw (found_over-up below level (is_other_pair xs i s own sibling) found) at (at.known
-              (found_up found (is_other_pair xs i s own sibling)) (highest-next hash empty xs (edge_of (rows (suc level)) (s / 2) last_up) i s own path (edge-above level s last last_up within
-              raised) (edge-size level s last last_up within) (length-edge (rows level) s last within) inside beside
+              (found_up found (is_other_pair xs i s own sibling)) (highest-next hash empty xs
+              (edge_of (rows (suc level)) (s / 2) last_up) i s own path (edge-above level s last last_up within raised)
+              (edge-size level s last last_up within) (length-edge (rows level) s last within) inside beside
               sibling rest next is stepped found (rw (← e) at highest))));
         }
       where
@@ -99,8 +100,9 @@ module _ {hash : NodeHash} {rows : ℕ → List Digest} (stored : IsStored hash 
           along = along-alone at.along some alone;
           known = λ found highest.
               rw (here_is, up_is) (rw (found_over-up below level (is_other_pair xs i s own sibling) found) at (at.known
-              (found_up found (is_other_pair xs i s own sibling)) (highest-alone hash empty xs (edge_of (rows (suc level)) (s / 2) last_up) i s own path (edge-above level s last last_up within
-              raised) (edge-size level s last last_up within) (length-edge (rows level) s last within) inside alone
+              (found_up found (is_other_pair xs i s own sibling)) (highest-alone hash empty xs
+              (edge_of (rows (suc level)) (s / 2) last_up) i s own path (edge-above level s last last_up within raised)
+              (edge-size level s last last_up within) (length-edge (rows level) s last within) inside alone
               sibling found (rw (← e) at highest))));
         }
 
@@ -152,8 +154,8 @@ module _ {hash : NodeHash} {rows : ℕ → List Digest} (stored : IsStored hash 
             let long = length-edge (rows level) s last at.last_at.inside in
             absurd (omega arith)
 
-  pub climbing-first : {empty root : Digest} (size start : ℕ) (digest own : Digest) (path : List Digest) (last : Digest) → start < size
-      → size ≤ length (rows 0) → last ≡ get_or (rows 0) (size - 1) []
+  pub climbing-first : {empty root : Digest} (size start : ℕ) (digest own : Digest) (path : List Digest)
+      (last : Digest) → start < size → size ≤ length (rows 0) → last ≡ get_or (rows 0) (size - 1) []
       → merkle_tree_hash hash empty (take size (rows 0)) ≡ Ok root
       → walk (on_left hash) (on_right hash) size start (size - 1) digest path ≡ Ok (Some root) → digest ≡ own
       → Climbing hash rows empty root 0 start (size - 1) last own path None

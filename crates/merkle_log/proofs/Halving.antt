@@ -12,8 +12,9 @@ use Rattle.merkle_log.proofs.RowsUp.{twice}
 use Rattle.merkle_log.proofs.Above.{there, joined-ok}
 use Rattle.merkle_log.proofs.Verdicts.{pow_above, tree_hash-levels}
 
-pub halved : (hash : NodeHash) (none : Outcome Digest) (m : ℕ) (xs : List Digest) (root : Digest) → length xs ≡ 2 ^ suc m
-    → tree_hash (joined hash) none (suc m) (there xs) ≡ Ok root → place (both_levels hash) m xs ≡ Root root
+pub halved : (hash : NodeHash) (none : Outcome Digest) (m : ℕ) (xs : List Digest) (root : Digest)
+    → length xs ≡ 2 ^ suc m → tree_hash (joined hash) none (suc m) (there xs) ≡ Ok root
+    → place (both_levels hash) m xs ≡ Root root
 halved hash none zero [] root long is = absurd (omega arith)
 halved hash none zero (a ∷ []) root long is = absurd (omega arith)
 halved hash none zero (a ∷ b ∷ []) root long is = ap (place_at 0) is

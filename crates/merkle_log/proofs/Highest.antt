@@ -222,7 +222,10 @@ module _ (hash : NodeHash) (empty : Digest) (xs ys : List Digest) (i s : ℕ) (o
       found highest
     where
       alone : Hit 0 → ⊥
-      alone hit = let none = beside-none i s even last in let more : true ≡ false = sym hit.met.beside ∙ none in absurd cc
+      alone hit =
+          let none = beside-none i s even last in
+          let more : true ≡ false = sym hit.met.beside ∙ none in
+          absurd cc
 
   -- the same as the code has them
   pub highest-next : i ≤ s → has_beside i s ≡ true → (sibling : Digest) (rest : List Digest) (next : Digest)

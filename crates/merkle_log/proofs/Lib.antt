@@ -29,4 +29,5 @@ pub mod Lengths
 pub mod Receiving
 pub mod Bytes
 pub mod Tallied
+pub mod Backs
 pub mod Turned

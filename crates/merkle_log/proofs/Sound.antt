@@ -182,7 +182,8 @@ module _ {D E : Type 0} (same : (x y : D) → (x ≡ y) ⊎ (x ≢ y)) (hash : D
         ≡ (length xs + 1) / 2
         → ((reached sibling : D) → Meets (on_left hash) (on_right hash) (i / 2) (s / 2) state rest level reached sibling
         → Meets (on_left hash) (on_right hash) i s own path (suc level) reached sibling)
-        → PathCollidesAt hash empty ys (i / 2) (s / 2) state rest level → PathCollidesAt hash empty xs i s own path (suc level)
+        → PathCollidesAt hash empty ys (i / 2) (s / 2) state rest level
+        → PathCollidesAt hash empty xs i s own path (suc level)
     higher_collision {ys} state rest level up size met found = record {
       reached = found.reached;
       sibling = found.sibling;
@@ -195,7 +196,8 @@ module _ {D E : Type 0} (same : (x y : D) → (x ≡ y) ⊎ (x ≢ y)) (hash : D
     -- the lowest pairs
     pub lowest_collision : (sibling : D) (rest : List D) (pair : D × D) (given : D × D) → has_beside i s ≡ true → path
         ≡ sibling ∷ rest → in_order i own sibling ≡ given
-        → IsTreePair hash empty xs 0 (i / 2) pair → Collide hash given pair → PathCollidesAt hash empty xs i s own path 0
+        → IsTreePair hash empty xs 0 (i / 2) pair → Collide hash given pair
+        → PathCollidesAt hash empty xs i s own path 0
     lowest_collision sibling rest pair given beside is order tree collide = record {
       reached = own;
       sibling = sibling;

@@ -51,6 +51,11 @@ left-end c n s None end is =
 left-end c n s (Some last) end is =
     let same : count_ones s ≡ count_ones 0 = ap count_ones end in omega (arith, ones_le_self 0)
 
+-- what holds where a call answers
+pub known_if_ok : {V P Q : Type 0} (result : Outcome V) → (P → Q) → OnOk result P → OnOk result Q
+known_if_ok (Ok v) f p = f p
+known_if_ok (Err e) f p = tt
+
 -- what holds whatever a call answers
 pub known_anyway : {V P : Type 0} (result : Outcome V) → P → OnOk result P
 known_anyway (Ok v) p = p

@@ -106,7 +106,8 @@ module _ {A : Type 0} (hashes : Hashes A) (root : Digest) (size index : ℕ) (le
       inclusion_verdict hashes.pair.upper root size index digest path)
   leaf_inside inside = let t : nat_lt index size ≡ true = grind (arith, nat_tests) in rw (t) refl
 
-  pub leaf-bound : leaf_verdict hashes root size index leaf path ≡ Ok true → BindsLogLeaf hashes root size index leaf path
+  pub leaf-bound : leaf_verdict hashes root size index leaf path ≡ Ok true
+      → BindsLogLeaf hashes root size index leaf path
   leaf-bound is = elim (cases_lt index size) [
     | inl inside ↦
         let hashed = bind_ok (hashes.leaf leaf) (λ digest. inclusion_verdict hashes.pair.upper root size index digest

@@ -1,5 +1,5 @@
 -- What is read of a log's rows for a size that it had: the rows' first digests, and a last one at the right edge.
-use Rattle.std.specs.Prelude.{◌+◌, ◌-◌, ◌/◌, ◌%◌, ◌<◌, ◌≤◌, ◌≡◌, ◌⊎◌, ◌==◌, nat_lt, ◌++◌, ℕ, if◌then◌else◌, List, [], ◌∷◌, length, map, take, get_or, Ok, Err, MatchResult, Option, Some, None, count_ones}
+use Rattle.std.specs.Prelude.{◌+◌, ◌-◌, ◌/◌, ◌%◌, ◌^◌, ◌<◌, ◌≤◌, ◌≡◌, ◌⊎◌, ◌==◌, nat_lt, ◌++◌, ℕ, zero, suc, if◌then◌else◌, List, [], ◌∷◌, length, map, take, get_or, Ok, Err, MatchResult, Option, Some, None, count_ones}
 use Rattle.ark_base.specs.declared.error.Error.TheVariants.{OutOfMemory}
 use Rattle.ark_base.specs.Outcome.{Outcome, ◌>>=◌}
 use Rattle.ark_paths.specs.Pair.{Digest}
@@ -30,6 +30,31 @@ root_pairs size = count_ones size - 1
 abbrev pub pairs_left : {A : Type 0} → ℕ → Option A → ℕ
 pairs_left s None = root_pairs (s + 1)
 pairs_left s (Some last) = count_ones s
+
+-- A last digest behind s others was raised, and the count of hashed pairs went from one number to another: by so many
+-- fewer are left to hash, above any number of digests with the parity of s.
+abbrev pub Tallies : {A : Type 0} → ℕ → ℕ → ℕ → Option A → Option A → Type 0
+Tallies before after s last up = (edge : ℕ) → edge % 2 ≡ s % 2
+    → after + pairs_left (edge / 2) up ≡ before + pairs_left edge last
+
+-- Beside the way of an index of n leaves, at most 2 ^ k, one subtree may be incomplete: the back part at the first
+-- split with the index in front. So many leaves it has; none where the index is the last.
+abbrev pub back_leaves : ℕ → ℕ → ℕ → ℕ
+back_leaves zero i n = 0
+back_leaves (suc j) i n =
+    if nat_lt (2 ^ j) n
+    then (if nat_lt i (2 ^ j) then (n - 2 ^ j) else back_leaves j (i - 2 ^ j) (n - 2 ^ j))
+    else (back_leaves j i n)
+
+-- how many pairs are hashed for the digests beside the way of an index of the first leaves: those of that subtree's
+-- root
+abbrev pub beside_pairs : ℕ → ℕ → ℕ
+beside_pairs i size = root_pairs (back_leaves size i size)
+
+-- how many of them are left to hash, k levels below the root, beside the way of an index of a row with s digests and a
+-- last one
+abbrev pub beside_left : {A : Type 0} → ℕ → ℕ → ℕ → Option A → ℕ
+beside_left k i s last = pairs_left (back_leaves k i (s + 1) - 1) last
 
 -- all of these, or the first error
 abbrev pub all_of : List (Outcome Digest) → Outcome (List Digest)

@@ -112,9 +112,9 @@ impl<D: DigestItem, T: TreeHasher<D, D>> Frontier<D, T> {
         ensures refused { IfErr result (λ error. error ≡ OutOfMemory) }
 
         // With the same hasher and root of no digests they are read again as this frontier.
-        ensures again { let reads = frontier_in D.reads (λ value. D.numbers_of (D.spelling value)) in
-            let again = reads self.now.hasher self.now.empty in
-            IfOk result (λ written. again written.items ≡ Ok self.now) }
+        ensures again { let own = self.now in
+            let reads = frontier_in D.reads (λ value. D.numbers_of (D.spelling value)) in
+            IfOk result (λ written. reads own.hasher own.empty written.items ≡ Ok own) }
     {
         let mut bytes = Vec::new(alloc);
         self.size.serialize(&mut bytes)?;

@@ -44,7 +44,7 @@ pub fn verify_inclusion<D: DigestItem, T: TreeHasher<D, D>>(
         return Ok(false);
     }
     let digest = hasher.leaf(alloc, leaf)?;
-    verify_inclusion_digest(alloc, hasher, root, size, index, &digest, path)
+    leads_to(alloc, hasher, root, size - 1, index, digest, path)
 }
 
 /// Checks that a leaf's digest stands at an index of the log with this root and size, as `verify_inclusion` does of a leaf.

@@ -12,7 +12,7 @@ ghost use Rattle.ark_paths.specs.Tree.{halves_beside};
 ghost use Rattle.merkle_log.specs.Append.{AppendsAll, AppendsLeaves, GrowsTo, HasLeaf, HasLeaves, IsWhole, KeepsSizes, Refuses, counted_after, pair_count};
 ghost use Rattle.merkle_log.specs.Binding.{is_accepted, HighestIn, LeafHighestIn, leaf_verdict_in, verdict_in};
 ghost use Rattle.merkle_log.specs.declared.bind.LogBinding.TheVariants.{Rejected, Stands, Collides};
-ghost use Rattle.merkle_log.specs.Edge.{all_of, root_pairs};
+ghost use Rattle.merkle_log.specs.Edge.{all_of, beside_pairs, root_pairs};
 ghost use Rattle.merkle_log.specs.Log.{LogValue, both_levels, inclusion_path, consistency_path, root_at, with_more};
 ghost use Rattle.merkle_log.specs.Stored.{row_of, IsStored};
 ghost use Rattle.merkle_log.specs.Verdict.{inclusion_verdict, consistency_verdict};
@@ -303,7 +303,29 @@ impl<D: DigestItem, T: TreeHasher<D, D>> Log<D, T> {
             → let above = halves_beside pair m index digests in
             digests_of D.numbers path ≡ sibling ∷ reverse above) }
     {
-        inclusion_path_of(alloc, &self.hasher, &self.stored, size, index)
+        let (path, _) = self.inclusion_proof_counting(alloc, size, index)?;
+        Ok(path)
+    }
+
+    /// Acts as `inclusion_proof`, and returns how many pairs were hashed: those of the one subtree beside the way that
+    /// may be incomplete, the ones of its count of leaves less one, and none for the last leaf.
+    pub fn inclusion_proof_counting(
+        &self,
+        alloc: Global,
+        size: usize,
+        index: usize,
+    ) -> Result<(Vec<D>, usize), Error>
+        requires inside { index < size }
+        requires within { size ≤ length self.now.digests }
+        ensures proof { let digests = take size self.now.digests in
+            let hash = (T.hashes self.now.hasher).pair.upper in
+            let path = inclusion_path hash self.now.empty index digests in
+            AnswersBy (λ counted. digests_of D.numbers counted.0) (all_of path) result }
+        ensures count { IfOk result (λ counted. counted.1 ≡ beside_pairs index size) }
+    {
+        let mut pairs = Counting::new(&self.hasher);
+        let path = inclusion_path_of(alloc, &mut pairs, &self.stored, size, index)?;
+        Ok((path, pairs.calls()))
     }
 
     /// Returns the consistency proof of fewer of the first leaves: PROOF(old_size, D[0:size]). Errors: those of `root`.
@@ -328,7 +350,30 @@ impl<D: DigestItem, T: TreeHasher<D, D>> Log<D, T> {
             → let digests = digests_of D.numbers path in
             consistency_verdict hash old_size old size new digests ≡ Ok true) }
     {
-        consistency_path_of(alloc, &self.hasher, &self.stored, old_size, size)
+        let (path, _) = self.consistency_proof_counting(alloc, old_size, size)?;
+        Ok(path)
+    }
+
+    /// Acts as `consistency_proof`, and returns how many pairs were hashed: as many as for the path of the last of the
+    /// fewer leaves.
+    pub fn consistency_proof_counting(
+        &self,
+        alloc: Global,
+        old_size: usize,
+        size: usize,
+    ) -> Result<(Vec<D>, usize), Error>
+        requires some { 0 < old_size }
+        requires inside { old_size < size }
+        requires within { size ≤ length self.now.digests }
+        ensures proof { let digests = take size self.now.digests in
+            let hash = (T.hashes self.now.hasher).pair.upper in
+            let path = consistency_path hash self.now.empty old_size digests in
+            AnswersBy (λ counted. digests_of D.numbers counted.0) (all_of path) result }
+        ensures count { IfOk result (λ counted. counted.1 ≡ beside_pairs (old_size - 1) size) }
+    {
+        let mut pairs = Counting::new(&self.hasher);
+        let path = consistency_path_of(alloc, &mut pairs, &self.stored, old_size, size)?;
+        Ok((path, pairs.calls()))
     }
 
     /// Says what a path shows of a leaf at an index of the first leaves, where `verify_inclusion` accepts it under their root:
@@ -348,8 +393,8 @@ impl<D: DigestItem, T: TreeHasher<D, D>> Log<D, T> {
 
         // It is rejected exactly where `verify_inclusion` says false under the root of the size.
         ensures verdict { let hashes = T.hashes self.now.hasher in
-            let path = map D.numbers path.now in
-            AnswersBy is_accepted (leaf_verdict_in hashes self.now size index leaf.now path) result }
+            let verdict = leaf_verdict_in hashes self.now size index leaf.now in
+            AnswersBy is_accepted (verdict (map D.numbers path.now)) result }
 
         // The leaf's hash stands at the index, and pairs collide at no level.
         ensures stands { let hashes = T.hashes self.now.hasher in

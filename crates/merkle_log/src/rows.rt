@@ -6,7 +6,7 @@ ghost use Rattle.std.specs.Prelude.{◌≡◌, ◌<◌, ◌≤◌, ◌+◌, ◌/
 ghost use Rattle.ark_base.specs.Outcome.{AnswersBy};
 ghost use Rattle.ark_paths.specs.Pair.{Digest};
 ghost use Rattle.ark_paths.specs.Rows.{digests_of};
-ghost use Rattle.merkle_log.specs.Edge.{last_seen, HasLast, last_raised, RaisesNeeded, digest_beside, digests_beside, pairs_left, path_with, root_pairs};
+ghost use Rattle.merkle_log.specs.Edge.{last_seen, HasLast, last_raised, RaisesNeeded, Tallies, beside_left, digest_beside, digests_beside, path_with, root_pairs};
 ghost use Rattle.merkle_log.specs.Log.{merkle_tree_hash};
 ghost use Rattle.merkle_log.specs.Stored.{row_of, IsStored};
 ghost use Rattle.merkle_log.specs.Walk.{has_beside};
@@ -57,8 +57,8 @@ pub fn raise_counted<D: DigestItem, W: PairHasher<D, D>>(
         AnswersBy up (last_raised hash row last_index seen) result }
     ensures has { IfOk result (HasLast (row_of rows.now (level + 1)) (last_index / 2)) }
     ensures same { W.pair pairs.new ≡ W.pair pairs.old }
-    ensures counts { let before = W.counted pairs.old + pairs_left last_index last in
-        IfOk result (λ up. W.counted pairs.new + pairs_left (last_index / 2) up ≡ before) }
+    ensures counts { let tallies = Tallies (W.counted pairs.old) (W.counted pairs.new) in
+        IfOk result (tallies last_index last) }
 {
     match last {
         None => {
@@ -196,36 +196,42 @@ fn with_beside<D: DigestItem>(
 }
 
 // Raises the last digest one level, where a path still needs it.
-fn raise_needed<D: DigestItem, T: TreeHasher<D, D>>(
+fn raise_needed<D: DigestItem, W: PairHasher<D, D>>(
     alloc: Global,
-    hasher: &T,
+    pairs: &mut W,
     rows: &Stored<D>,
     level: usize,
     index: usize,
     last_index: usize,
     last: Option<D>,
 ) -> Result<Option<D>, Error>
-    requires stored { IsStored (T.hashes hasher.now).pair.upper (row_of rows.now) }
+    requires stored { IsStored (W.pair pairs.old).upper (row_of rows.now) }
     requires last { index < last_index → HasLast (row_of rows.now level) last_index last }
-    ensures raised { let hash = (T.hashes hasher.now).pair.upper in
+    requires counted { W.counted pairs.old + 1 < 2 ^ 64 }
+    ensures raised { let hash = (W.pair pairs.old).upper in
         let row = row_of rows.now level in
         let last = last_seen D.numbers row last_index last in
         let up = last_seen D.numbers (row_of rows.now (level + 1)) (last_index / 2) in
         RaisesNeeded hash row index last_index last up result }
     ensures has { IfOk result (λ up. index / 2 < last_index / 2
         → HasLast (row_of rows.now (level + 1)) (last_index / 2) up) }
+    ensures same { W.pair pairs.new ≡ W.pair pairs.old }
+    ensures counts { let tallies = Tallies (W.counted pairs.old) (W.counted pairs.new) in
+        IfOk result (λ up. index / 2 < last_index / 2 → tallies last_index last up) }
+    ensures none { last_index / 2 ≤ index / 2 → W.counted pairs.new ≡ W.counted pairs.old }
 {
     if index / 2 < last_index / 2 {
-        raise_last(alloc, hasher, rows, level, last_index, last)
+        raise_counted(alloc, pairs, rows, level, last_index, last)
     } else {
         Ok(None)
     }
 }
 
-/// Returns a path, and behind it that of an index of a row which has a last digest behind its first ones.
-pub fn path_from<D: DigestItem, T: TreeHasher<D, D>>(
+/// Returns a path, and behind it that of an index of a row which has a last digest behind its first ones. A counting hasher
+/// counts the pairs of the one subtree beside the way that may be incomplete.
+pub fn path_from<D: DigestItem, W: PairHasher<D, D>>(
     alloc: Global,
-    hasher: &T,
+    pairs: &mut W,
     rows: &Stored<D>,
     mut level: usize,
     mut index: usize,
@@ -233,23 +239,27 @@ pub fn path_from<D: DigestItem, T: TreeHasher<D, D>>(
     mut last: Option<D>,
     mut path: Vec<D>,
 ) -> Result<Vec<D>, Error>
-    requires stored { IsStored (T.hashes hasher.now).pair.upper (row_of rows.now) }
+    requires stored { IsStored (W.pair pairs.old).upper (row_of rows.now) }
     requires inside { index ≤ last_index }
     requires within { last_index ≤ length (row_of rows.now level) }
     requires last { HasLast (row_of rows.now level) last_index last }
     requires fits { level + last_index < 2 ^ 64 }
-    ensures { let numbers = D.numbers in
+    requires counted { W.counted pairs.old ≤ level }
+    ensures path { let numbers = D.numbers in
         let row = row_of rows.now level in
-        let hash = (T.hashes hasher.now).pair.upper in
+        let hash = (W.pair pairs.old).upper in
         let last = last_seen numbers row last_index last in
         let sofar = digests_of numbers path in
         (empty : Digest) (k : ℕ) → last_index < 2 ^ k
         → let path = path_with hash empty k row index last_index last sofar in
         AnswersBy (digests_of numbers) path result }
+    ensures counts { let before = W.counted pairs.old in
+        OnOk result ((k : ℕ) → last_index < 2 ^ k
+        → W.counted pairs.new ≡ before + beside_left k index last_index last) }
 {
     'levels: while last_index > 0 {
         path = with_beside(alloc, rows, level, index, last_index, &last, path)?;
-        last = raise_needed(alloc, hasher, rows, level, index, last_index, last)?;
+        last = raise_needed(alloc, pairs, rows, level, index, last_index, last)?;
         index /= 2;
         last_index /= 2;
         level += 1;

@@ -1,7 +1,9 @@
 //! Proofs that are damaged, or told for another index or size; what a log's holder and a counting caller learn.
 
 use crate::hasher::Rfc6962;
-use crate::tests::{consistency, eight, entry, inclusion, leaf_digest, none, root};
+use crate::tests::{
+    consistency, eight, entry, inclusion, leaf_digest, none, path_cost, proof_cost, root,
+};
 use ark_base::error::Error;
 use merkle_log::{LogBinding, verify_consistency, verify_inclusion};
 use std::alloc::Global;
@@ -88,6 +90,16 @@ fn root_cost(alloc: Global, size: usize) -> Result<usize, Error> {
     }
     let (_, cost) = log.root_counting(alloc, size)?;
     Ok(cost)
+}
+
+// How many pairs the path of an index of the first of eight entries costs.
+fn cost_of_path(alloc: Global, size: usize, index: usize) -> Result<usize, Error> {
+    path_cost(alloc, &eight(alloc)?, size, index)
+}
+
+// How many pairs the consistency proof of two sizes of eight entries costs.
+fn cost_of_proof(alloc: Global, old_size: usize, size: usize) -> Result<usize, Error> {
+    proof_cost(alloc, &eight(alloc)?, old_size, size)
 }
 
 #[test]
@@ -181,4 +193,17 @@ fn root_costs(rt: HostRuntime) {
     assert_eq!(rt; root_cost(alloc, 6), Ok(1));
     assert_eq!(rt; root_cost(alloc, 7), Ok(2));
     assert_eq!(rt; root_cost(alloc, 8), Ok(0));
+}
+
+// Of seven entries the last three stand beside the first four, and the last one beside the two before it.
+#[test]
+fn proof_costs(rt: HostRuntime) {
+    let alloc = rt.alloc();
+    assert_eq!(rt; cost_of_path(alloc, 7, 3), Ok(1));
+    assert_eq!(rt; cost_of_path(alloc, 7, 5), Ok(0));
+    assert_eq!(rt; cost_of_path(alloc, 7, 6), Ok(0));
+    assert_eq!(rt; cost_of_path(alloc, 8, 3), Ok(0));
+    assert_eq!(rt; cost_of_proof(alloc, 3, 7), Ok(1));
+    assert_eq!(rt; cost_of_proof(alloc, 4, 7), Ok(1));
+    assert_eq!(rt; cost_of_proof(alloc, 6, 7), Ok(0));
 }

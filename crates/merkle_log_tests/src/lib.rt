@@ -2,6 +2,8 @@
 #![tactic(auto)]
 
 mod damage;
+mod drawn;
 mod hasher;
+mod model;
 mod tests;
 mod vectors;

@@ -62,7 +62,7 @@ pub fn eight(alloc: Global) -> Result<Sha256Log, Error> {
 }
 
 // Whether a digest is shown so.
-fn is_shown(alloc: Global, digest: &[u8; 32], text: &str) -> bool {
+pub fn is_shown(alloc: Global, digest: &[u8; 32], text: &str) -> bool {
     match hex::encode(alloc, digest.as_slice()) {
         Ok(shown) => shown.as_str() == text,
         Err(_) => false,
@@ -111,6 +111,34 @@ pub fn consistency(
         return Err(Error::IncorrectInputLength(size));
     }
     log.consistency_proof(alloc, old_size, size)
+}
+
+// How many pairs the path of an index of the first entries costs.
+pub fn path_cost(
+    alloc: Global,
+    log: &Sha256Log,
+    size: usize,
+    index: usize,
+) -> Result<usize, Error> {
+    if index >= size || size > log.size() {
+        return Err(Error::IncorrectInputLength(size));
+    }
+    let (_, cost) = log.inclusion_proof_counting(alloc, size, index)?;
+    Ok(cost)
+}
+
+// How many pairs the consistency proof of two sizes costs.
+pub fn proof_cost(
+    alloc: Global,
+    log: &Sha256Log,
+    old_size: usize,
+    size: usize,
+) -> Result<usize, Error> {
+    if old_size == 0 || old_size >= size || size > log.size() {
+        return Err(Error::IncorrectInputLength(size));
+    }
+    let (_, cost) = log.consistency_proof_counting(alloc, old_size, size)?;
+    Ok(cost)
 }
 
 // The digest of an entry.

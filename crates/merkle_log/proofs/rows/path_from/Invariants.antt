@@ -1,14 +1,16 @@
-use Rattle.std.proofs.Common.{◌+◌, ◌≤◌, ◌<◌, ◌^◌, ℕ}
+use Rattle.std.proofs.Common.{◌≡◌, ◌+◌, ◌≤◌, ◌<◌, ◌^◌, ℕ}
 use Rattle.ark_paths.specs.Pair.{Digest}
 use Rattle.ark_paths.specs.Rows.{digests_of}
-use Rattle.merkle_log.specs.Edge.{last_seen, HasLast, path_with}
+use Rattle.merkle_log.specs.Edge.{last_seen, HasLast, path_with, beside_left}
 use Rattle.merkle_log.specs.Stored.{row_of}
+use Rattle.merkle_log.proofs.Backs.{Tallying}
 use Rattle.merkle_log.proofs.Going.{Going}
 use Rattle.merkle_log.proofs.rows.path_from.Given as goal
 
 abbrev pub invariant-levels : goal.invariant-levels
 invariant-levels g l =
-    let hash = (g.T.TreeHasher.hashes l.hasher).pair.upper in
+    let hash = (g.W.PairHasher.pair l.initial.pairs).upper in
+    let counted = g.W.PairHasher.counted l.initial.pairs in
     let numbers = g.D.Numbered.numbers in
     let rows = row_of l.rows in
     let last = last_seen numbers (rows l.level) l.last_index l.last in
@@ -19,6 +21,10 @@ invariant-levels g l =
       going : (empty : Digest) (k : ℕ) → l.fn.last_index < 2 ^ k → Going hash rows empty l.level l.index l.last_index
           last (digests_of numbers l.path)
           (path_with hash empty k (rows l.fn.level) l.fn.index l.fn.last_index first (digests_of numbers l.fn.path));
+      same : g.W.PairHasher.pair l.pairs ≡ g.W.PairHasher.pair l.initial.pairs;
+      low : g.W.PairHasher.counted l.pairs ≤ l.level;
+      tally : (k : ℕ) → l.fn.last_index < 2 ^ k → Tallying (g.W.PairHasher.counted l.pairs) l.index l.last_index l.last
+          (counted + beside_left k l.fn.index l.fn.last_index l.fn.last);
     }
 
 abbrev pub decreases-levels : goal.decreases-levels

@@ -1,4 +1,4 @@
-use Rattle.std.proofs.Common.{arith}
+use Rattle.std.proofs.Common.{arith, ◌∙◌}
 use Rattle.merkle_log.proofs.Edges.{has-front, edge-up, whole-up, whole-raised}
 use Rattle.merkle_log.proofs.Tallied.{left-whole, left-copied, left-hashed, left-kept}
 use Rattle.merkle_log.proofs.rows.raise_counted.Goals as goal
@@ -25,15 +25,18 @@ returns-else-last_index-eq1-2-clause-has g c =
     edge-up c.requires.stored c.args.level c.args.last_index (has-front _ _ c.args.last c.requires.last)
 
 pub returns-then-last_index-eq1-clause-counts : goal.returns-then-last_index-eq1-clause-counts
-returns-then-last_index-eq1-clause-counts g c =
-    rw (c.in-None.is) (left-whole _ c.args.last_index c.if-last_index-eq1.true)
+returns-then-last_index-eq1-clause-counts g c = λ edge same.
+    rw (c.in-None.is) (left-whole _ edge (same ∙ c.if-last_index-eq1.true))
 
 pub returns-in_ok-copy_of-in-None-clause-counts : goal.returns-in_ok-copy_of-in-None-clause-counts
-returns-in_ok-copy_of-in-None-clause-counts g c = rw (c.in-None.is) (left-copied _ c.args.last_index (omega arith))
+returns-in_ok-copy_of-in-None-clause-counts g c = λ edge same.
+    rw (c.in-None.is) (left-copied _ edge (omega (arith, same)))
 
 pub returns-in_ok-upper-in-Some-clause-counts : goal.returns-in_ok-upper-in-Some-clause-counts
-returns-in_ok-upper-in-Some-clause-counts g c =
-    rw (c.in-Some.is) (left-hashed _ _ c.args.last_index c.requires.counted c.in_ok-upper-in-Some.ensures.counts (omega arith))
+returns-in_ok-upper-in-Some-clause-counts g c = λ edge same.
+    rw (c.in-Some.is) (left-hashed _ _ edge c.requires.counted c.in_ok-upper-in-Some.ensures.counts
+    (omega (arith, same)))
 
 pub returns-else-last_index-eq1-2-clause-counts : goal.returns-else-last_index-eq1-2-clause-counts
-returns-else-last_index-eq1-2-clause-counts g c = rw (c.in-Some.is) (left-kept _ c.args.last_index (omega arith))
+returns-else-last_index-eq1-2-clause-counts g c = λ edge same.
+    rw (c.in-Some.is) (left-kept _ edge (omega (arith, same)))

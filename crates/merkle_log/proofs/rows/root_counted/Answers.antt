@@ -44,7 +44,7 @@ levels-preserved g c =
       at = λ empty. last-next c.requires.stored (c.levels.invariant.at empty) c.levels-test.true (c.levels.level + 1)
           refl _ (rw (c.levels.invariant.same) at c.in_ok-last.ensures.raised);
       same = c.in_ok-last.ensures.same ∙ c.levels.invariant.same;
-      tally = c.in_ok-last.ensures.counts ∙ c.levels.invariant.tally;
+      tally = c.in_ok-last.ensures.counts c.levels.last_index refl ∙ c.levels.invariant.tally;
     }
 
 pub last_of-requires : goal.last_of-requires

@@ -85,8 +85,8 @@ odd-preserved g c =
     record {
       same = c.upper.ensures.same ∙ c.odd.invariant.same;
       counted = counted-next _ _ c.odd.level _ c.odd.invariant.counted c.upper.ensures.counts;
-      at = completing-next c.odd.invariant.at c.ranges.size.fits c.odd-test.true c.requires.whole (c.len-last.result - 1) last
-          c.in_ok-up.up c.push-in-odd.new.self.items c.in_ok-push-2.ensures.items
+      at = completing-next c.odd.invariant.at c.ranges.size.fits c.odd-test.true c.requires.whole
+          (c.len-last.result - 1) last c.in_ok-up.up c.push-in-odd.new.self.items c.in_ok-push-2.ensures.items
           (rw (← left, ← right, ← c.odd.invariant.same) c.in_ok-up.ensures.answer);
     }
 

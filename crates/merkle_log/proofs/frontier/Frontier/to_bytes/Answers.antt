@@ -25,11 +25,12 @@ returns-clause-again g c =
     c.new-bytes.ensures.items c.in_ok-serialize.ensures.appended c.in_ok-serialize_items.ensures.appended
     c.deref.ensures.value in
     let read = peaks-again g.D.Canonical.has_spelling g.D.Canonical.spelling g.D.Canonical.reads g.D.Canonical.laws
-    (λ value. g.D.DigestItem.numbers_of (g.D.Canonical.spelling value)) own.size (map view own.peaks.items) c.in_ok-serialize.ensures.spelled
-    (rw (c.deref.ensures.value) at c.in_ok-serialize_items.ensures.spelled)
+    (λ value. g.D.DigestItem.numbers_of (g.D.Canonical.spelling value)) own.size (map view own.peaks.items)
+    c.in_ok-serialize.ensures.spelled (rw (c.deref.ensures.value) at c.in_ok-serialize_items.ensures.spelled)
     (length-map own.peaks.items view ∙ c.self.invariant) in
     rw (← c.self.view_is) (ap (frontier_in g.D.Canonical.reads
     (λ value. g.D.DigestItem.numbers_of (g.D.Canonical.spelling value)) own.hasher (numbers own.empty)) plain
     ∙ ap (λ o. o >>= λ read. Ok (frontier_of own.hasher (numbers own.empty) read))
     (read ∙ ap (λ l. Ok (own.size, l)) (numbers-read numbers view
-    (λ value. g.D.DigestItem.numbers_of (g.D.Canonical.spelling value)) g.met.D.DigestItem.numbers_are own.peaks.items)))
+    (λ value. g.D.DigestItem.numbers_of (g.D.Canonical.spelling value)) g.met.D.DigestItem.numbers_are
+    own.peaks.items)))
