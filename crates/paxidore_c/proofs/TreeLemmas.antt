@@ -1,5 +1,5 @@
 -- Trees whose hashes refuse nothing.
-use Rattle.std.proofs.Common.{◌<◌, arith, pow_pos, ◌≡◌, ◌⊎◌, ℕ, zero, suc, ◌^◌, List, length, take, drop, map, nat_lt, true, Result, Ok, Err, IfOk, Global, refl, sym, ap, subst, ◌∙◌, inl, inr}
+use Rattle.std.proofs.Common.{◌<◌, arith, pow_pos, ◌≡◌, ◌⊎◌, ℕ, zero, suc, ◌^◌, List, length, take, drop, map, nat_lt, true, false, Result, Ok, Err, IfOk, Global, refl, sym, ap, subst, ◌∙◌, inl, inr}
 use Rattle.std.proofs.Math.Nat.{pow-succ'}
 use Rattle.std.proofs.lemmas.List.{length-map}
 use Rattle.std.specs.declared.vec.Vec.{Vec}
@@ -109,26 +109,36 @@ log-root leaves lengths r = by_leaves (tree_leaves_in leaves lengths) (leaves-fi
 
 -- ---- the bytes of a path
 
-pub path-made : (h : Hashing) (pair : HashPair) → pair ≡ node_pair h → (leaves lengths : List ℕ) (index : ℕ)
-    (digests : List Digest) → results_of h.leaf_hash (tree_leaves_in leaves lengths) ≡ Ok digests
-    → nat_lt index (length digests) ≡ true → (way : Way) → Ways (Ok (own_path pair index digests)) (Ok way)
-    → (bytes : List ℕ) → bytes ≡ bytes_of_path way → path_of_leaves h leaves lengths index ≡ Ok bytes
-path-made h pair are leaves lengths index digests made below way own bytes written =
-    by_leaves (tree_leaves_in leaves lengths) made
+-- in a tree that holds these digests
+path-known : (h : Hashing) (leaves lengths : List ℕ) (index : ℕ) (digests : List Digest) → results_of h.leaf_hash
+    (tree_leaves_in leaves lengths) ≡ Ok digests → path_of_leaves h leaves lengths index
+    ≡ only_if (nat_lt index (length digests)) Index (Ok (bytes_of_path (own_path (node_pair h) index digests)))
+path-known h leaves lengths index digests made = by_leaves (tree_leaves_in leaves lengths) made
   where
-    same : own_path (node_pair h) index digests ≡ way
-    same = ap (λ p. own_path p index digests) (sym are) ∙ done_injective _ _ own
-
     by_leaves : (xs : Result (List (List ℕ)) Refused) → results_of h.leaf_hash xs ≡ Ok digests
         → (xs >>= λ xs. only_if (nat_lt index (length xs)) Index (Ok (bytes_of_path (path_in (tree_over h xs) index))))
-        ≡ Ok bytes
+        ≡ only_if (nat_lt index (length digests)) Index (Ok (bytes_of_path (own_path (node_pair h) index digests)))
     by_leaves (Err refused) is = absurd cc
     by_leaves (Ok xs) is =
         let are : map h.leaf_hash xs ≡ digests = cc in
         let long : length xs ≡ length digests = sym (length-map xs h.leaf_hash) ∙ ap length are in
-        let ok : List ℕ → Result (List ℕ) Refused = λ b. Ok b in
-        rw (long, below) (ap ok (ap (λ (ds : List Digest). bytes_of_path (own_path (node_pair h) index ds)) are
-        ∙ ap bytes_of_path same ∙ sym written))
+        let ok : List Digest → Result (List ℕ) Refused = λ ds. Ok (bytes_of_path (own_path (node_pair h) index ds)) in
+        rw long (ap (only_if (nat_lt index (length digests)) Index) (ap ok are))
+
+module _ (h : Hashing) (leaves lengths : List ℕ) (index : ℕ) (digests : List Digest) (made : results_of h.leaf_hash
+    (tree_leaves_in leaves lengths) ≡ Ok digests) where
+  pub path-made : nat_lt index (length digests) ≡ true → (pair : HashPair) → pair ≡ node_pair h → (way : Way)
+      → Ways (Ok (own_path pair index digests)) (Ok way) → (bytes : List ℕ) → bytes ≡ bytes_of_path way
+      → path_of_leaves h leaves lengths index ≡ Ok bytes
+  path-made below pair are way own bytes written =
+      let same : own_path (node_pair h) index digests ≡ way =
+      ap (λ p. own_path p index digests) (sym are) ∙ done_injective _ _ own in
+      let ok : List ℕ → Result (List ℕ) Refused = λ b. Ok b in
+      path-known h leaves lengths index digests made
+      ∙ rw below (ap ok (ap bytes_of_path same ∙ sym written))
+
+  pub path-refused : nat_lt index (length digests) ≡ false → path_of_leaves h leaves lengths index ≡ Err Index
+  path-refused past = path-known h leaves lengths index digests made ∙ rw past refl
 
 -- ---- the bytes of a multi-proof
 
