@@ -1,8 +1,8 @@
 //! A transcript of a protocol: who proves and who checks absorb the same messages, and squeeze the same challenges.
 
-ghost use Rattle.std.specs.Prelude.{◌≡◌, map, Ok};
+ghost use Rattle.std.specs.Prelude.{map};
 ghost use Rattle.ark_crypto_primitives.specs.Words.{AnswersBy};
-ghost use Rattle.ark_base.specs.Outcome.{◌>>=◌};
+ghost use Rattle.examples.specs.Transcript.{given_behind};
 
 use ark_crypto_primitives::Error;
 use ark_crypto_primitives::ff::Field;
@@ -19,7 +19,7 @@ pub fn challenge_after<F: Field, S: FieldBasedCryptographicSponge<F>, A: Absorb>
     ensures given { let bytes = A.sponge_bytes message.now in
         let after = S.absorbed (S.value transcript.old) bytes (A.sponge_elements message.now) in
         AnswersBy (λ given. (map F.value given.items, S.value transcript.new))
-        (after >>= λ sponge. Ok (S.native_given sponge 1)) result }
+        (given_behind after (λ sponge. S.native_given sponge 1)) result }
 {
     transcript.absorb(message)?;
     transcript.squeeze_native_field_elements(1)
