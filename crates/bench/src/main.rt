@@ -9,6 +9,7 @@ mod logs;
 mod pedersen;
 mod poseidon;
 mod signatures;
+mod single;
 mod sums;
 mod trees;
 mod wide_fields;

@@ -57,7 +57,8 @@ fn in_tree<P: Config<Leaf = Vec<u8>>>(
 ) -> Result<Option<u64>, Error> {
     let sum = match work {
         "update" => updates(alloc, tree, count),
-        "update-many" => batches(alloc, tree, count),
+        "update-many" => drawn_batches(alloc, tree, count),
+        "update-all" => whole_batches(alloc, tree, count),
         "proof" => proofs(alloc, tree, count),
         "verify" => verifications(alloc, leaf, pair, tree, count),
         "bind" => bindings(alloc, tree, count),
@@ -118,14 +119,32 @@ fn update_at<P: Config>(
     tree.update(alloc, index, leaf)
 }
 
-fn batches<P: Config<Leaf = Vec<u8>>>(
+fn drawn_batches<P: Config<Leaf = Vec<u8>>>(
     alloc: Global,
     tree: &mut MerkleTree<P>,
     count: u64,
 ) -> Result<u64, Error> {
     let changes = drawn_changes(alloc, tree.size())?;
+    batches(alloc, tree, &changes, count)
+}
+
+fn whole_batches<P: Config<Leaf = Vec<u8>>>(
+    alloc: Global,
+    tree: &mut MerkleTree<P>,
+    count: u64,
+) -> Result<u64, Error> {
+    let changes = all_changes(alloc, tree.size())?;
+    batches(alloc, tree, &changes, count)
+}
+
+fn batches<P: Config<Leaf = Vec<u8>>>(
+    alloc: Global,
+    tree: &mut MerkleTree<P>,
+    changes: &[(usize, Vec<u8>)],
+    count: u64,
+) -> Result<u64, Error> {
     for _ in 0..count {
-        change(alloc, tree, &changes)?;
+        change(alloc, tree, changes)?;
     }
     sum_of_value(alloc, tree.root())
 }
@@ -138,6 +157,15 @@ fn drawn_changes(alloc: Global, size: usize) -> Result<Vec<(usize, Vec<u8>)>, Er
         let number = rng.next_u64();
         let index = (number as usize).checked_rem(size).unwrap_or(0);
         changes.push((index, leaf_of(alloc, number)?))?;
+    }
+    Ok(changes)
+}
+
+// A new leaf in each place.
+fn all_changes(alloc: Global, size: usize) -> Result<Vec<(usize, Vec<u8>)>, Error> {
+    let mut changes = Vec::with_capacity(alloc, size)?;
+    for index in 0..size {
+        changes.push((index, leaf_of(alloc, !(index as u64))?))?;
     }
     Ok(changes)
 }

@@ -1,6 +1,7 @@
 //! The works by their names.
 
 use crate::poseidon::{Fifth, Seventh};
+use crate::single::Single;
 use crate::{
     blake2s, bowe_hopwood, fields, logs, pedersen, poseidon, signatures, trees, wide_fields,
 };
@@ -9,7 +10,7 @@ use ark_crypto_primitives::ec::Residues;
 use ark_crypto_primitives::ff::{BabyBear, Bls12_381Fr, Fp, Goldilocks, M61};
 use ark_crypto_primitives::prf::Blake2s256;
 use ark_crypto_primitives::sponge::poseidon::parameters::{Power, bls12_381_fr};
-use ark_crypto_primitives::trees::{Sha256Arrays, Sha256Strings};
+use ark_crypto_primitives::trees::{Sha256Arrays, Sha256Log, Sha256Strings};
 use std::alloc::Global;
 
 type Group = Residues<M61>;
@@ -38,7 +39,21 @@ pub fn checksum(alloc: Global, words: &[String]) -> Result<Option<u64>, Error> {
         "schnorr" => signatures::signing::<Group, Blake2s256>(alloc, work, count),
         "elgamal" => signatures::encryption::<Group>(alloc, work, count),
         "array" => trees::checksum::<Sha256Arrays>(alloc, &(), &(), work, count),
+        "rfc6962" => trees::checksum::<Sha256Log>(alloc, &(), &(), work, count),
+        "single" => single_checksum(alloc, work, count),
         _ => trees::checksum::<Sha256Strings>(alloc, &(), &(), name.as_str(), count),
+    }
+}
+
+// Works on trees whose hashes go one by one.
+fn single_checksum(alloc: Global, name: &str, count: u64) -> Result<Option<u64>, Error> {
+    let Some((family, work)) = name.split_once('-') else {
+        return Ok(None);
+    };
+    match family {
+        "array" => trees::checksum::<Single<Sha256Arrays>>(alloc, &(), &(), work, count),
+        "rfc6962" => trees::checksum::<Single<Sha256Log>>(alloc, &(), &(), work, count),
+        _ => trees::checksum::<Single<Sha256Strings>>(alloc, &(), &(), name, count),
     }
 }
 
