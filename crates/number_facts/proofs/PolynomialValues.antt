@@ -69,7 +69,8 @@ polynomial-product xs (t ∷ p) q =
 
 pub normal_right : (xs : List ℕ) (e : Expr) → polynomial_at xs (normal e) ≡ value xs e
 normal_right xs (var i) = omega (arith, monomial-unit xs i)
-normal_right xs (lit c) = omega arith
+normal_right xs (lit zero) = refl
+normal_right xs (lit (suc c)) = omega arith
 normal_right xs (plus a b) = polynomial-merge xs (normal a) (normal b) ∙ ap₂ (λ a b. a + b) (normal_right xs a) (normal_right xs b)
 normal_right xs (times a b) = polynomial-product xs (normal a) (normal b) ∙ ap₂ (λ a b. a * b) (normal_right xs a) (normal_right xs b)
 

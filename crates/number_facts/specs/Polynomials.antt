@@ -104,10 +104,15 @@ same_polynomial [] (u ∷ q) = false
 same_polynomial (t ∷ p) [] = false
 same_polynomial (t ∷ p) (u ∷ q) = eqb t.0 u.0 && (same_monomial t.1 u.1 && same_polynomial p q)
 
+-- the number c, without a term where it is 0
+abbrev pub constant : ℕ → Polynomial
+constant zero = []
+constant (suc c) = (suc c, []) ∷ []
+
 -- the polynomial that an expression is
 abbrev pub normal : Expr → Polynomial
 normal (var i) = (1, unit i) ∷ []
-normal (lit c) = (c, []) ∷ []
+normal (lit c) = constant c
 normal (plus a b) = merge (normal a) (normal b)
 normal (times a b) = product (normal a) (normal b)
 
