@@ -1,1 +1,3 @@
 pub mod Edwards
+pub mod Jubjub
+pub mod Laws

@@ -3,12 +3,12 @@ use Rattle.std.proofs.Common.{◌≡◌, ℕ, ◌+◌, ◌-◌, ◌*◌, ◌%◌
 use Rattle.std.proofs.Math.Nat.{zero-mod, mod-add-mod, mod_self}
 use Rattle.number_facts.proofs.CongruenceLaws.{sums, multiples}
 use Rattle.jubjub.specs.Edwards.{Coordinates, IsOnCurve, cross, sum, over, neutral, negative}
-use Rattle.jubjub.proofs.Quotients.{HasInverses, some_modulus, cancelled, product_some, over_times, over_below, is_over, same_ratio, less, differs}
-use Rattle.jubjub.proofs.RootFacts.{minus_one, plus_one}
-use Rattle.jubjub.proofs.ClosureFacts.{sum_on_curve, negative_on_curve, negative_adds_to_zero}
-use Rattle.jubjub.proofs.ClearedFacts.{x_cleared, y_cleared, x_denominator, y_denominator}
-use Rattle.jubjub.proofs.CrossedX.{crossed_x}
-use Rattle.jubjub.proofs.CrossedY.{crossed_y}
+use Rattle.jubjub.specs.Laws.Quotients.{HasInverses, some_modulus, cancelled, product_some, over_times, over_below, is_over, same_ratio, less, differs}
+use Rattle.jubjub.specs.Laws.RootFacts.{minus_one, plus_one}
+use Rattle.jubjub.specs.Laws.ClosureFacts.{sum_on_curve, negative_on_curve, negative_adds_to_zero}
+use Rattle.jubjub.specs.Laws.ClearedFacts.{x_cleared, y_cleared, x_denominator, y_denominator}
+use Rattle.jubjub.specs.Laws.CrossedX.{crossed_x}
+use Rattle.jubjub.specs.Laws.CrossedY.{crossed_y}
 
 -- the square of d x1 x2 y1 y2 is never 1
 abbrev pub NoCrossIsOne : ℕ → ℕ → Type 0
