@@ -1,3 +1,5 @@
 pub mod Edwards
 pub mod Jubjub
+pub mod Values
+pub mod Extended
 pub mod Laws

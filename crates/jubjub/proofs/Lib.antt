@@ -1,0 +1,2 @@
+pub mod ExtendedFacts
+pub mod ExtendedLaws
