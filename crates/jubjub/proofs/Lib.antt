@@ -1,2 +1,3 @@
 pub mod ExtendedFacts
 pub mod ExtendedLaws
+pub mod PowerSteps

@@ -9,3 +9,4 @@ pub mod Modulus
 pub mod Points
 pub mod Quotients
 pub mod RootFacts
+pub mod Elements

@@ -3,3 +3,4 @@ pub mod Jubjub
 pub mod Values
 pub mod Extended
 pub mod Laws
+pub mod Elements
