@@ -1,3 +1,6 @@
 pub mod ExtendedFacts
 pub mod ExtendedLaws
 pub mod PowerSteps
+pub mod GroupLaws
+pub mod Halves
+pub mod Tests

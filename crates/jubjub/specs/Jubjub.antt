@@ -28,3 +28,10 @@ pub record IsInSubgroup (a : Coordinates) : Type 0 where
   pub on_curve : IsOnJubjub a
   pub of_order : times curve order a ≡ neutral
 
+
+-- the generator of the prime subgroup
+abbrev pub generator : Coordinates
+generator = record {
+  x = 8076246640662884909881801758704306714034609987455869804520522091855516602923;
+  y = 13262374693698910701929044844600465831413122818447359594527400194675274060458;
+}

@@ -2,9 +2,12 @@
 
 ghost use Rattle.jubjub.specs.Edwards.{Coordinates};
 ghost use Rattle.jubjub.specs.Jubjub.{IsInSubgroup};
+ghost use Rattle.jubjub.specs.Values.{value};
 ghost use Rattle.jubjub.specs.Laws.Points.{in_subgroup_alike};
 
-use ark_groups::ff::Valued;
+use crate::extended::{affine, coefficient, doubled, is_neutral, lifted, plus};
+use crate::multiple::{is_on_curve, multiple, order_of_subgroup};
+use ark_groups::ff::{Field, Words};
 use ark_wide_fields::Bls12_381Fr;
 
 /// A point of the prime subgroup, by its coordinates.
@@ -12,12 +15,95 @@ use ark_wide_fields::Bls12_381Fr;
 pub struct Jubjub {
     x: Bls12_381Fr,
     y: Bls12_381Fr,
-    ghost in_subgroup: { IsInSubgroup (record { x = ⟦<Bls12_381Fr as Valued>⟧.value x; y = ⟦<Bls12_381Fr as Valued>⟧.value y }) } by { in_subgroup_alike _ },
+    ghost in_subgroup: { IsInSubgroup (record { x = value x; y = value y }) } by { in_subgroup_alike _ },
 }
 
 impl Jubjub {
+    ghost use Rattle.std.specs.Prelude.{◌≡◌, ◌↔◌, IsNone, IfSome};
+    ghost use Rattle.ark_groups.specs.Group.{times};
+    ghost use Rattle.ark_groups.specs.Words.{number};
+    ghost use Rattle.jubjub.specs.Edwards.{neutral, negative, sum};
+    ghost use Rattle.jubjub.specs.Jubjub.{p, d, curve, generator};
+    ghost use Rattle.jubjub.specs.Elements.{coordinates, jubjub};
+
+    // The element of coordinates that are known to be in the subgroup.
+    fn of(x: Bls12_381Fr, y: Bls12_381Fr) -> Jubjub
+        requires { IsInSubgroup (record { x = value x; y = value y }) }
+        ensures { coordinates result ≡ record { x = value x; y = value y } }
+    {
+        Jubjub { x, y }
+    }
+
+    /// Returns the element that adds nothing.
+    pub fn zero() -> Jubjub
+        ensures group { result ≡ jubjub.identity }
+        ensures coordinates { coordinates result ≡ neutral }
+    {
+        Jubjub::of(Bls12_381Fr::zero(), Bls12_381Fr::one())
+    }
+
     /// Returns the first coordinate.
-    pub fn x(self) -> Bls12_381Fr {
+    pub fn x(self) -> Bls12_381Fr
+        ensures { value result ≡ (coordinates self).x }
+    {
         self.x
+    }
+
+    /// Returns the second coordinate.
+    pub fn y(self) -> Bls12_381Fr
+        ensures { value result ≡ (coordinates self).y }
+    {
+        self.y
+    }
+
+    /// Returns the sum.
+    pub fn add(self, other: Jubjub) -> Jubjub
+        ensures group { result ≡ jubjub.plus self other }
+        ensures coordinates { coordinates result ≡ sum p d (coordinates self) (coordinates other) }
+    {
+        let a = lifted(self.x, self.y);
+        let b = lifted(other.x, other.y);
+        let (x, y) = affine(plus(coefficient(), a, b));
+        Jubjub::of(x, y)
+    }
+
+    /// Returns the negative.
+    pub fn neg(self) -> Jubjub
+        ensures group { result ≡ jubjub.opposite self }
+        ensures coordinates { coordinates result ≡ negative p (coordinates self) }
+    {
+        Jubjub::of(self.x.neg(), self.y)
+    }
+
+    /// Returns the element added to itself.
+    pub fn double(self) -> Jubjub
+        ensures group { result ≡ jubjub.plus self self }
+        ensures coordinates { coordinates result ≡ sum p d (coordinates self) (coordinates self) }
+    {
+        let (x, y) = affine(doubled(lifted(self.x, self.y)));
+        Jubjub::of(x, y)
+    }
+
+    /// Returns the element, added as often as the scalar says. The scalar may be any number of four words.
+    pub fn mul(self, scalar: Words) -> Jubjub
+        ensures group { result ≡ times jubjub (number scalar) self }
+        ensures coordinates { coordinates result ≡ times curve (number scalar) (coordinates self) }
+    {
+        let (x, y) = affine(multiple(lifted(self.x, self.y), scalar));
+        Jubjub::of(x, y)
+    }
+
+    /// Returns the element with these coordinates. `None` where they are not in the prime subgroup.
+    pub fn from_coordinates(x: Bls12_381Fr, y: Bls12_381Fr) -> Option<Jubjub>
+        ensures none { IsNone result ↔ ¬ IsInSubgroup (record { x = value x; y = value y }) }
+        ensures some { IfSome result (λ e. coordinates e ≡ record { x = value x; y = value y }) }
+    {
+        if !is_on_curve(x, y) {
+            return None;
+        }
+        if !is_neutral(multiple(lifted(x, y), order_of_subgroup())) {
+            return None;
+        }
+        Some(Jubjub::of(x, y))
     }
 }

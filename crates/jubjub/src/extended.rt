@@ -1,6 +1,7 @@
 //! Points by four coordinates.
 
 ghost use Rattle.std.specs.Prelude.{◌≡◌, ◌*◌, ◌%◌};
+ghost use Rattle.std.specs.Bool.{Decides};
 ghost use Rattle.jubjub.specs.Edwards.{Coordinates, neutral, sum};
 ghost use Rattle.jubjub.specs.Jubjub.{p, d, IsOnJubjub};
 ghost use Rattle.jubjub.specs.Extended.{Stands};
@@ -108,4 +109,11 @@ pub fn affine(a: Extended) -> (Bls12_381Fr, Bls12_381Fr)
 {
     let z = inverse(a.z);
     (a.x.mul(z), a.y.mul(z))
+}
+
+/// Returns whether it is the neutral point.
+pub fn is_neutral(a: Extended) -> bool
+    ensures { (s : Coordinates) → IsOnJubjub s → Stands a s → Decides result (s ≡ neutral) }
+{
+    a.x == Bls12_381Fr::zero() && a.y == a.z
 }
