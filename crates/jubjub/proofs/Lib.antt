@@ -4,3 +4,5 @@ pub mod PowerSteps
 pub mod GroupLaws
 pub mod Halves
 pub mod Tests
+pub mod Ladder
+pub mod Generator
