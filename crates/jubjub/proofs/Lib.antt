@@ -6,3 +6,4 @@ pub mod Halves
 pub mod Tests
 pub mod Ladder
 pub mod Generator
+pub mod OrderPrime

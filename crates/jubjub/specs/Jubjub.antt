@@ -30,8 +30,8 @@ pub record IsInSubgroup (a : Coordinates) : Type 0 where
 
 
 -- the generator of the prime subgroup
-abbrev pub generator : Coordinates
-generator = record {
+abbrev pub base_point : Coordinates
+base_point = record {
   x = 8076246640662884909881801758704306714034609987455869804520522091855516602923;
   y = 13262374693698910701929044844600465831413122818447359594527400194675274060458;
 }

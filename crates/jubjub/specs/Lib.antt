@@ -2,5 +2,6 @@ pub mod Edwards
 pub mod Jubjub
 pub mod Values
 pub mod Extended
-pub mod Laws
 pub mod Elements
+pub mod Theorems
+pub mod Laws

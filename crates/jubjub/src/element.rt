@@ -10,6 +10,21 @@ use crate::multiple::{is_on_curve, multiple, order_of_subgroup};
 use ark_groups::ff::{Field, Words};
 use ark_wide_fields::Bls12_381Fr;
 
+// The coordinates of the generator.
+const GENERATOR_X: Words = Words {
+    w0: 4497696437803487787,
+    w1: 16658651183625237090,
+    w2: 9701709870209645883,
+    w3: 1286620319555068288,
+};
+
+const GENERATOR_Y: Words = Words {
+    w0: 14717630602976334506,
+    w1: 4478471787023236823,
+    w2: 10597865444426039491,
+    w3: 2112818184693946903,
+};
+
 /// A point of the prime subgroup, by its coordinates.
 #[derive(Clone, Copy, PartialEq, Eq, Hash, Debug)]
 pub struct Jubjub {
@@ -23,7 +38,7 @@ impl Jubjub {
     ghost use Rattle.ark_groups.specs.Group.{times};
     ghost use Rattle.ark_groups.specs.Words.{number};
     ghost use Rattle.jubjub.specs.Edwards.{neutral, negative, sum};
-    ghost use Rattle.jubjub.specs.Jubjub.{p, d, curve, generator};
+    ghost use Rattle.jubjub.specs.Jubjub.{p, d, curve, base_point};
     ghost use Rattle.jubjub.specs.Elements.{coordinates, jubjub};
 
     // The element of coordinates that are known to be in the subgroup.
@@ -40,6 +55,16 @@ impl Jubjub {
         ensures coordinates { coordinates result ≡ neutral }
     {
         Jubjub::of(Bls12_381Fr::zero(), Bls12_381Fr::one())
+    }
+
+    /// Returns the generator of the subgroup.
+    pub fn generator() -> Jubjub
+        ensures { coordinates result ≡ base_point }
+    {
+        Jubjub::of(
+            Bls12_381Fr::from_words(GENERATOR_X),
+            Bls12_381Fr::from_words(GENERATOR_Y),
+        )
     }
 
     /// Returns the first coordinate.
