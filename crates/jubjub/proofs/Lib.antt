@@ -7,3 +7,4 @@ pub mod Tests
 pub mod Ladder
 pub mod Generator
 pub mod OrderPrime
+pub mod Spelled

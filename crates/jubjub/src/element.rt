@@ -5,6 +5,7 @@ ghost use Rattle.jubjub.specs.Jubjub.{IsInSubgroup};
 ghost use Rattle.jubjub.specs.Values.{value};
 ghost use Rattle.jubjub.specs.Laws.Points.{in_subgroup_alike};
 
+use crate::bytes::spelled;
 use crate::extended::{affine, coefficient, doubled, is_neutral, lifted, plus};
 use crate::multiple::{is_on_curve, multiple, order_of_subgroup};
 use ark_groups::ff::{Field, Words};
@@ -34,12 +35,14 @@ pub struct Jubjub {
 }
 
 impl Jubjub {
-    ghost use Rattle.std.specs.Prelude.{◌≡◌, ◌↔◌, IsNone, IfSome};
+    ghost use Rattle.std.specs.Prelude.{◌≡◌, ◌≢◌, ◌↔◌, IsNone, IfSome};
     ghost use Rattle.ark_groups.specs.Group.{times};
     ghost use Rattle.ark_groups.specs.Words.{number};
     ghost use Rattle.jubjub.specs.Edwards.{neutral, negative, sum};
     ghost use Rattle.jubjub.specs.Jubjub.{p, d, curve, base_point};
+    ghost use Rattle.jubjub.specs.declared.element.Jubjub.{Jubjub};
     ghost use Rattle.jubjub.specs.Elements.{coordinates, jubjub};
+    ghost use Rattle.jubjub.specs.Spelling.{spelling};
 
     // The element of coordinates that are known to be in the subgroup.
     fn of(x: Bls12_381Fr, y: Bls12_381Fr) -> Jubjub
@@ -130,5 +133,29 @@ impl Jubjub {
             return None;
         }
         Some(Jubjub::of(x, y))
+    }
+
+    /// Returns the canonical bytes: 32 of each coordinate, the first coordinate first, the least byte first.
+    pub fn to_bytes(self) -> [u8; 64]
+        ensures { result ≡ spelling (coordinates self) }
+    {
+        spelled(self.x, self.y)
+    }
+
+    /// Returns the element with these canonical bytes. `None` where no element has them: another length, a number that is
+    /// the field's modulus or more, a point off the curve or outside the subgroup.
+    pub fn from_bytes(bytes: &[u8]) -> Option<Jubjub>
+        ensures some { IfSome result (λ e. bytes.now ≡ spelling (coordinates e)) }
+        ensures none { IsNone result → (e : Jubjub) → bytes.now ≢ spelling (coordinates e) }
+    {
+        if bytes.len() != 64 {
+            return None;
+        }
+        let x = Bls12_381Fr::from_le_bytes_mod_order(&bytes[..32]);
+        let y = Bls12_381Fr::from_le_bytes_mod_order(&bytes[32..]);
+        if spelled(x, y).as_slice() != bytes {
+            return None;
+        }
+        Jubjub::from_coordinates(x, y)
     }
 }
