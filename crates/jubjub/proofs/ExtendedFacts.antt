@@ -160,7 +160,8 @@ pub first_denominator : (m T1 T2 Z1 Z2 x1 y1 x2 y2 d : ℕ) → 0 < m
 first_denominator m T1 T2 Z1 Z2 x1 y1 x2 y2 d pos h1 h2 =
     follows
     (plus (times (var 2) (var 3)) (times (times (var 8) (var 0)) (var 1)))
-    (times (plus (lit 1) (times (times (times (times (var 8) (var 4)) (var 6)) (var 5)) (var 7))) (times (var 2) (var 3)))
+    (times (plus (lit 1) (times (times (times (times (var 8) (var 4)) (var 6)) (var 5)) (var 7))) (times (var 2)
+    (var 3)))
     first_denominator-steps refl m pos (T1 ∷ T2 ∷ Z1 ∷ Z2 ∷ x1 ∷ y1 ∷ x2 ∷ y2 ∷ d ∷ [])
     (sym h1, (sym h2, tt))
 
@@ -251,7 +252,8 @@ double_denominator-steps =
       double_denominator-3,
     ) ∷
     (
-      plus (plus (times (var 4) (var 4)) (lit 1)) (times (times (times (times (var 6) (var 4)) (var 4)) (var 5)) (var 5)),
+      plus (plus (times (var 4) (var 4)) (lit 1)) (times (times (times (times (var 6) (var 4)) (var 4)) (var 5))
+          (var 5)),
       times (var 5) (var 5),
       double_denominator-4,
     ) ∷ []
@@ -266,7 +268,8 @@ pub double_denominator : (m G X Y Z x y d : ℕ) → 0 < m
 double_denominator m G X Y Z x y d pos h1 h2 h3 h4 =
     follows
     (var 0)
-    (times (plus (lit 1) (times (times (times (times (var 6) (var 4)) (var 4)) (var 5)) (var 5))) (times (var 3) (var 3)))
+    (times (plus (lit 1) (times (times (times (times (var 6) (var 4)) (var 4)) (var 5)) (var 5))) (times (var 3)
+    (var 3)))
     double_denominator-steps refl m pos (G ∷ X ∷ Y ∷ Z ∷ x ∷ y ∷ d ∷ [])
     (sym h1, (h2, (sym h3, (h4, tt))))
 
@@ -291,7 +294,8 @@ double_other-steps =
     ) ∷
     (
       var 1,
-      times (plus (lit 1) (times (times (times (times (var 6) (var 4)) (var 4)) (var 5)) (var 5))) (times (var 3) (var 3)),
+      times (plus (lit 1) (times (times (times (times (var 6) (var 4)) (var 4)) (var 5)) (var 5))) (times (var 3)
+          (var 3)),
       double_other-2,
     ) ∷
     (

@@ -1,5 +1,6 @@
 -- Sums in extended coordinates stand for sums.
-use Rattle.std.proofs.Common.{◌≡◌, ℕ, ◌+◌, ◌-◌, ◌*◌, ◌%◌, ◌<◌, ◌≤◌, refl, sym, ◌∙◌, ap, ap₂, arith, mod-eq_of_lt, mod-lt, mul_comm}
+use Rattle.std.proofs.Common.{◌≡◌, ℕ, ◌+◌, ◌-◌, ◌*◌, ◌%◌, ◌<◌, ◌≤◌, refl, sym, ◌∙◌, ap, ap₂, arith, mod-eq_of_lt}
+use Rattle.std.proofs.Common.{mod-lt, mul_comm}
 use Rattle.std.proofs.Math.Nat.{mod-mod, mod-add-mod, add-mul-mod_self_right, zero-mod}
 use Rattle.std.proofs.lemmas.Nat.{mul-mod_first}
 use Rattle.number_facts.proofs.CongruenceLaws.{sums, multiples}
@@ -44,9 +45,11 @@ joined_stands r E F G H z s t on_s on_t some rx ry rz rt hE hH hG hF =
     let u : ℕ = (sum p d s t).x in
     let v : ℕ = (sum p d s t).y in
     let some_g : G % p ≡ 0 → ⊥ =
-    λ e. product_some p has_inverses (above s t) z (above_some p d has_inverses complete s t on_s on_t) some (sym hG ∙ e) in
+    λ e. product_some p has_inverses (above s t) z (above_some p d has_inverses complete s t on_s on_t) some (sym hG
+        ∙ e) in
     let some_f : F % p ≡ 0 → ⊥ =
-    λ e. product_some p has_inverses (below s t) z (below_some p d has_inverses complete s t on_s on_t) some (sym hF ∙ e) in
+    λ e. product_some p has_inverses (below s t) z (below_some p d has_inverses complete s t on_s on_t) some (sym hF
+        ∙ e) in
     let times : (w : ℕ) → w * (F * G) % p ≡ w * value r.z % p =
     λ w. ap (λ n. n % p) (mul_comm w (F * G)) ∙ sym (mul-mod_first (F * G) w p) ∙ ap (λ n. n * w % p) (sym rz)
     ∙ ap (λ n. n % p) (mul_comm (value r.z) w) in
@@ -75,7 +78,8 @@ plus_stands r a b E F G H crossed scale is_scale is_crossed is_e is_f is_g is_h 
     joined_stands r E F G H z s t on_s on_t
     (product_some p has_inverses (value a.z) (value b.z) of_a.some of_b.some) rx ry rz rt
     (reduced p E (value a.x * value b.y + value a.y * value b.x) is_e
-    ∙ first_numerator p (value a.x) (value a.y) (value b.x) (value b.y) (value a.z) (value b.z) (sum p d s t).x (above s t)
+    ∙ first_numerator p (value a.x) (value a.y) (value b.x) (value b.y) (value a.z) (value b.z) (sum p d s t).x
+    (above s t)
     s.x s.y t.x t.y pos of_a.first of_a.second of_b.first of_b.second (x_of p d has_inverses complete s t on_s on_t))
     (reduced p H (value a.y * value b.y + value a.x * value b.x) is_h
     ∙ second_numerator p (value a.x) (value a.y) (value b.x) (value b.y) (value a.z) (value b.z) (sum p d s t).y
@@ -110,7 +114,8 @@ double_stands r a E F G H x y z zz is_x is_y is_z is_zz is_e is_f is_g is_h rx r
     ∙ ap (λ n. n % p) (twice X Y) in
     let g_mod : G % p ≡ above s s * (Z * Z) % p =
     double_denominator p G X Y Z s.x s.y d pos
-    (sums p G G (X * X) x refl (sym x_mod) ∙ ap (λ n. (n + x) % p) is_g ∙ taken_back p y x (below_p x (X * X) is_x) ∙ y_mod)
+    (sums p G G (X * X) x refl (sym x_mod) ∙ ap (λ n. (n + x) % p) is_g ∙ taken_back p y x (below_p x (X * X) is_x)
+    ∙ y_mod)
     of_a.first of_a.second on.equation in
     joined_stands r E F G H (Z * Z) s s on on (product_some p has_inverses Z Z of_a.some of_a.some) rx ry rz rt
     (e_mod ∙ first_numerator p X Y X Y Z Z (sum p d s s).x (above s s) s.x s.y s.x s.y pos of_a.first of_a.second

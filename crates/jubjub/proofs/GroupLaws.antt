@@ -13,7 +13,8 @@ use Rattle.jubjub.specs.Laws.Elements.{kept, same_element, coordinates_of}
 use Rattle.jubjub.specs.Laws.Modulus.{has_inverses}
 use Rattle.jubjub.specs.Laws.Completeness.{complete}
 use Rattle.jubjub.specs.Laws.CurveLaws.{same_coordinates, sum_comm, sum_neutral, sum_negative, sum_assoc}
-use Rattle.jubjub.specs.Laws.Points.{Point, points, at-times, neutral_in_subgroup, sum_in_subgroup, negative_in_subgroup}
+use Rattle.jubjub.specs.Laws.Points.{Point, points, at-times, neutral_in_subgroup, sum_in_subgroup}
+use Rattle.jubjub.specs.Laws.Points.{negative_in_subgroup}
 
 pub at-identity : coordinates jubjub.identity ≡ neutral
 at-identity = kept neutral neutral_in_subgroup

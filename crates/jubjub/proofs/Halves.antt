@@ -48,7 +48,8 @@ odd z y a b rest half n s is_half is_odd twice more w = record {
   doubled = points.plus w.doubled w.doubled;
   added_stands = more w.added.at w.doubled.at w.added.on w.doubled.on w.added_stands w.doubled_stands;
   doubled_stands = twice w.doubled.at w.doubled.on w.doubled_stands;
-  whole = ap (λ k. points.plus (points.plus w.added w.doubled) (times points k (points.plus w.doubled w.doubled))) is_half
+  whole = ap (λ k. points.plus (points.plus w.added w.doubled) (times points k
+      (points.plus w.doubled w.doubled))) is_half
       ∙ odd_step points_laws rest w.added w.doubled is_odd ∙ w.whole;
 }
 

@@ -1,5 +1,6 @@
 -- Multiples of coordinates that are written out.
-use Rattle.std.proofs.Common.{◌≡◌, ℕ, zero, suc, ◌+◌, ◌-◌, ◌*◌, ◌/◌, ◌%◌, ◌^◌, ◌<◌, cond, eqb, refl, sym, ◌∙◌, ap, ap₂, arith, lit<, pow-suc}
+use Rattle.std.proofs.Common.{◌≡◌, ℕ, zero, suc, ◌+◌, ◌-◌, ◌*◌, ◌/◌, ◌%◌, ◌^◌, ◌<◌, cond, eqb, refl, sym, ◌∙◌, ap, ap₂}
+use Rattle.std.proofs.Common.{arith, lit<, pow-suc}
 use Rattle.std.proofs.lemmas.Bool.{cond_both, eqb-true, eqb-false}
 use Rattle.ark_groups.specs.Group.{times}
 use Rattle.ark_groups.proofs.Multiples.{even_step, odd_step}

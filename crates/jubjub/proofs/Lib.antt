@@ -3,7 +3,7 @@ pub mod ExtendedLaws
 pub mod PowerSteps
 pub mod GroupLaws
 pub mod Halves
-pub mod Tests
+pub mod PointTests
 pub mod Ladder
 pub mod Generator
 pub mod OrderPrime

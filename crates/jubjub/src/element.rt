@@ -142,8 +142,8 @@ impl Jubjub {
         spelled(self.x, self.y)
     }
 
-    /// Returns the element with these canonical bytes. `None` where no element has them: another length, a number that is
-    /// the field's modulus or more, a point off the curve or outside the subgroup.
+    /// Returns the element with these canonical bytes. `None` where no element has them: another length, a number
+    /// that is the field's modulus or more, a point off the curve or outside the subgroup.
     pub fn from_bytes(bytes: &[u8]) -> Option<Jubjub>
         ensures some { IfSome result (λ e. bytes.now ≡ spelling (coordinates e)) }
         ensures none { IsNone result → (e : Jubjub) → bytes.now ≢ spelling (coordinates e) }

@@ -19,7 +19,8 @@ with_first-at : (xs : List ℕ) (p : Polynomial) (steps : List Step) → polynom
 with_first-at xs p [] = omega arith
 with_first-at xs p (s ∷ steps) =
     polynomial-merge xs (product (normal s.0) s.2) (with_first p steps)
-    ∙ ap₂ (λ a b. a + b) (polynomial-product xs (normal s.0) s.2 ∙ ap (λ a. a * polynomial_at xs s.2) (normal_right xs s.0))
+    ∙ ap₂ (λ a b. a + b) (polynomial-product xs (normal s.0) s.2
+    ∙ ap (λ a. a * polynomial_at xs s.2) (normal_right xs s.0))
     (with_first-at xs p steps) ∙ omega arith
 
 with_second-at : (xs : List ℕ) (p : Polynomial) (steps : List Step) → polynomial_at xs (with_second p steps)
@@ -27,13 +28,15 @@ with_second-at : (xs : List ℕ) (p : Polynomial) (steps : List Step) → polyno
 with_second-at xs p [] = omega arith
 with_second-at xs p (s ∷ steps) =
     polynomial-merge xs (product (normal s.1) s.2) (with_second p steps)
-    ∙ ap₂ (λ a b. a + b) (polynomial-product xs (normal s.1) s.2 ∙ ap (λ a. a * polynomial_at xs s.2) (normal_right xs s.1))
+    ∙ ap₂ (λ a b. a + b) (polynomial-product xs (normal s.1) s.2
+    ∙ ap (λ a. a * polynomial_at xs s.2) (normal_right xs s.1))
     (with_second-at xs p steps) ∙ omega arith
 
 all_agree : (m : ℕ) (xs : List ℕ) (steps : List Step) → AllAgree m xs steps → firsts xs steps % m ≡ seconds xs steps % m
 all_agree m xs [] h = refl
 all_agree m xs (s ∷ steps) h =
-    sums m (value xs s.0 * polynomial_at xs s.2) (value xs s.1 * polynomial_at xs s.2) (firsts xs steps) (seconds xs steps)
+    sums m (value xs s.0 * polynomial_at xs s.2) (value xs s.1 * polynomial_at xs s.2) (firsts xs steps)
+        (seconds xs steps)
     (multiples m (value xs s.0) (value xs s.1) (polynomial_at xs s.2) h.0) (all_agree m xs steps h.1)
 
 pub follows : FollowsFromSteps

@@ -59,11 +59,14 @@ pub x_cleared : (m s u v a k x1 y1 x2 y2 x3 y3 d : ℕ) → 0 < m
     → (u * a) % m ≡ (x1 * y2 + y1 * x2) % m
     → (v * k) % m ≡ (y1 * y2 + x1 * x2) % m
     → (s * (1 + d * u * x3 * v * y3)) % m ≡ (u * y3 + v * x3) % m
-    → (s * (a * k + d * ((x1 * y2 + y1 * x2) * (y1 * y2 + x1 * x2)) * (x3 * y3))) % m ≡ ((x1 * y2 + y1 * x2) * k * y3 + (y1 * y2 + x1 * x2) * a * x3) % m
+    → (s * (a * k + d * ((x1 * y2 + y1 * x2) * (y1 * y2 + x1 * x2)) * (x3 * y3))) % m ≡
+    ((x1 * y2 + y1 * x2) * k * y3 + (y1 * y2 + x1 * x2) * a * x3) % m
 x_cleared m s u v a k x1 y1 x2 y2 x3 y3 d pos h1 h2 h3 =
     follows
-    (times (var 0) (plus (times (var 3) (var 4)) (times (times (var 11) (times (plus (times (var 5) (var 8)) (times (var 6) (var 7))) (plus (times (var 6) (var 8)) (times (var 5) (var 7))))) (times (var 9) (var 10)))))
-    (plus (times (times (plus (times (var 5) (var 8)) (times (var 6) (var 7))) (var 4)) (var 10)) (times (times (plus (times (var 6) (var 8)) (times (var 5) (var 7))) (var 3)) (var 9)))
+    (times (var 0) (plus (times (var 3) (var 4)) (times (times (var 11) (times (plus (times (var 5) (var 8)) (times
+    (var 6) (var 7))) (plus (times (var 6) (var 8)) (times (var 5) (var 7))))) (times (var 9) (var 10)))))
+    (plus (times (times (plus (times (var 5) (var 8)) (times (var 6) (var 7))) (var 4)) (var 10)) (times (times (plus
+    (times (var 6) (var 8)) (times (var 5) (var 7))) (var 3)) (var 9)))
     x_cleared-steps refl m pos (s ∷ u ∷ v ∷ a ∷ k ∷ x1 ∷ y1 ∷ x2 ∷ y2 ∷ x3 ∷ y3 ∷ d ∷ [])
     (sym h1, (h1, (sym h2, (h2, (sym h3, tt)))))
 
@@ -109,7 +112,8 @@ y_cleared-steps =
     ) ∷
     (
       times (var 5) (var 6),
-      plus (var 2) (times (times (var 13) (times (plus (times (var 7) (var 10)) (times (var 8) (var 9))) (plus (times (var 8) (var 10)) (times (var 7) (var 9))))) (times (var 11) (var 12))),
+      plus (var 2) (times (times (var 13) (times (plus (times (var 7) (var 10)) (times (var 8) (var 9))) (plus (times
+          (var 8) (var 10)) (times (var 7) (var 9))))) (times (var 11) (var 12))),
       y_cleared-4,
     ) ∷
     (
@@ -129,7 +133,8 @@ pub y_cleared : (m t f e u v a k x1 y1 x2 y2 x3 y3 d : ℕ) → 0 < m
 y_cleared m t f e u v a k x1 y1 x2 y2 x3 y3 d pos h1 h2 h3 h4 h5 =
     follows
     (times (var 0) (var 2))
-    (plus (times (times (plus (times (var 8) (var 10)) (times (var 7) (var 9))) (var 5)) (var 12)) (times (times (plus (times (var 7) (var 10)) (times (var 8) (var 9))) (var 6)) (var 11)))
+    (plus (times (times (plus (times (var 8) (var 10)) (times (var 7) (var 9))) (var 5)) (var 12)) (times (times (plus
+    (times (var 7) (var 10)) (times (var 8) (var 9))) (var 6)) (var 11)))
     y_cleared-steps refl m pos (t ∷ f ∷ e ∷ u ∷ v ∷ a ∷ k ∷ x1 ∷ y1 ∷ x2 ∷ y2 ∷ x3 ∷ y3 ∷ d ∷ [])
     (sym h1, (sym h2, (h3, (sym h4, (sym h5, tt)))))
 
@@ -158,11 +163,14 @@ x_denominator-steps =
 pub x_denominator : (m u v a k x1 y1 x2 y2 x3 y3 d : ℕ) → 0 < m
     → (u * a) % m ≡ (x1 * y2 + y1 * x2) % m
     → (v * k) % m ≡ (y1 * y2 + x1 * x2) % m
-    → (a * k * (1 + d * u * x3 * v * y3)) % m ≡ (a * k + d * ((x1 * y2 + y1 * x2) * (y1 * y2 + x1 * x2)) * (x3 * y3)) % m
+    → (a * k * (1 + d * u * x3 * v * y3)) % m ≡ (a * k + d * ((x1 * y2 + y1 * x2) * (y1 * y2 + x1 * x2)) *
+    (x3 * y3)) % m
 x_denominator m u v a k x1 y1 x2 y2 x3 y3 d pos h1 h2 =
     follows
-    (times (times (var 2) (var 3)) (plus (lit 1) (times (times (times (times (var 10) (var 0)) (var 8)) (var 1)) (var 9))))
-    (plus (times (var 2) (var 3)) (times (times (var 10) (times (plus (times (var 4) (var 7)) (times (var 5) (var 6))) (plus (times (var 5) (var 7)) (times (var 4) (var 6))))) (times (var 8) (var 9))))
+    (times (times (var 2) (var 3)) (plus (lit 1) (times (times (times (times (var 10) (var 0)) (var 8)) (var 1))
+    (var 9))))
+    (plus (times (var 2) (var 3)) (times (times (var 10) (times (plus (times (var 4) (var 7)) (times (var 5) (var 6)))
+    (plus (times (var 5) (var 7)) (times (var 4) (var 6))))) (times (var 8) (var 9))))
     x_denominator-steps refl m pos (u ∷ v ∷ a ∷ k ∷ x1 ∷ y1 ∷ x2 ∷ y2 ∷ x3 ∷ y3 ∷ d ∷ [])
     (sym h1, (sym h2, tt))
 
@@ -201,7 +209,8 @@ y_denominator-steps =
       y_denominator-3,
     ) ∷
     (
-      plus (var 1) (times (times (var 12) (times (plus (times (var 6) (var 9)) (times (var 7) (var 8))) (plus (times (var 7) (var 9)) (times (var 6) (var 8))))) (times (var 10) (var 11))),
+      plus (var 1) (times (times (var 12) (times (plus (times (var 6) (var 9)) (times (var 7) (var 8))) (plus (times
+          (var 7) (var 9)) (times (var 6) (var 8))))) (times (var 10) (var 11))),
       times (var 4) (var 5),
       y_denominator-4,
     ) ∷ []

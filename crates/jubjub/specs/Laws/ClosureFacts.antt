@@ -116,21 +116,25 @@ sum_on_curve-steps =
     ) ∷
     (
       times (var 5) (var 5),
-      plus (plus (times (var 4) (var 4)) (lit 1)) (times (times (times (times (var 8) (var 4)) (var 4)) (var 5)) (var 5)),
+      plus (plus (times (var 4) (var 4)) (lit 1)) (times (times (times (times (var 8) (var 4)) (var 4)) (var 5))
+          (var 5)),
       sum_on_curve-8,
     ) ∷
     (
-      plus (plus (times (var 4) (var 4)) (lit 1)) (times (times (times (times (var 8) (var 4)) (var 4)) (var 5)) (var 5)),
+      plus (plus (times (var 4) (var 4)) (lit 1)) (times (times (times (times (var 8) (var 4)) (var 4)) (var 5))
+          (var 5)),
       times (var 5) (var 5),
       sum_on_curve-9,
     ) ∷
     (
       times (var 7) (var 7),
-      plus (plus (times (var 6) (var 6)) (lit 1)) (times (times (times (times (var 8) (var 6)) (var 6)) (var 7)) (var 7)),
+      plus (plus (times (var 6) (var 6)) (lit 1)) (times (times (times (times (var 8) (var 6)) (var 6)) (var 7))
+          (var 7)),
       sum_on_curve-10,
     ) ∷
     (
-      plus (plus (times (var 6) (var 6)) (lit 1)) (times (times (times (times (var 8) (var 6)) (var 6)) (var 7)) (var 7)),
+      plus (plus (times (var 6) (var 6)) (lit 1)) (times (times (times (times (var 8) (var 6)) (var 6)) (var 7))
+          (var 7)),
       times (var 7) (var 7),
       sum_on_curve-11,
     ) ∷ []
@@ -146,7 +150,8 @@ pub sum_on_curve : (m u v a k x1 y1 x2 y2 d : ℕ) → 0 < m
     → ((u * u + 1 + d * u * u * v * v) * (a * k * (a * k))) % m ≡ (v * v * (a * k * (a * k))) % m
 sum_on_curve m u v a k x1 y1 x2 y2 d pos h1 h2 h3 h4 h5 h6 =
     follows
-    (times (plus (plus (times (var 0) (var 0)) (lit 1)) (times (times (times (times (var 8) (var 0)) (var 0)) (var 1)) (var 1))) (times (times (var 2) (var 3)) (times (var 2) (var 3))))
+    (times (plus (plus (times (var 0) (var 0)) (lit 1)) (times (times (times (times (var 8) (var 0)) (var 0)) (var 1))
+    (var 1))) (times (times (var 2) (var 3)) (times (var 2) (var 3))))
     (times (times (var 1) (var 1)) (times (times (var 2) (var 3)) (times (var 2) (var 3))))
     sum_on_curve-steps refl m pos (u ∷ v ∷ a ∷ k ∷ x1 ∷ y1 ∷ x2 ∷ y2 ∷ d ∷ [])
     (sym h1, (sym h2, (h2, (sym h3, (h3, (sym h4, (h4, (sym h5, (h5, (sym h6, (h6, tt)))))))))))
@@ -177,7 +182,8 @@ negative_on_curve-steps =
     ) ∷
     (
       times (var 2) (var 2),
-      plus (plus (times (var 1) (var 1)) (lit 1)) (times (times (times (times (var 3) (var 1)) (var 1)) (var 2)) (var 2)),
+      plus (plus (times (var 1) (var 1)) (lit 1)) (times (times (times (times (var 3) (var 1)) (var 1)) (var 2))
+          (var 2)),
       negative_on_curve-3,
     ) ∷ []
 
@@ -188,7 +194,8 @@ pub negative_on_curve : (m n x y d : ℕ) → 0 < m
     → (n * n + 1 + d * n * n * y * y) % m ≡ (y * y) % m
 negative_on_curve m n x y d pos h1 h2 =
     follows
-    (plus (plus (times (var 0) (var 0)) (lit 1)) (times (times (times (times (var 3) (var 0)) (var 0)) (var 2)) (var 2)))
+    (plus (plus (times (var 0) (var 0)) (lit 1)) (times (times (times (times (var 3) (var 0)) (var 0)) (var 2))
+    (var 2)))
     (times (var 2) (var 2))
     negative_on_curve-steps refl m pos (n ∷ x ∷ y ∷ d ∷ [])
     (sym h1, (h1, (sym h2, tt)))
@@ -219,7 +226,8 @@ negative_adds_to_zero-steps =
     ) ∷
     (
       times (var 3) (var 3),
-      plus (plus (times (var 2) (var 2)) (lit 1)) (times (times (times (times (var 4) (var 2)) (var 2)) (var 3)) (var 3)),
+      plus (plus (times (var 2) (var 2)) (lit 1)) (times (times (times (times (var 4) (var 2)) (var 2)) (var 3))
+          (var 3)),
       negative_adds_to_zero-3,
     ) ∷ []
 

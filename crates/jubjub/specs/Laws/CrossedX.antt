@@ -191,31 +191,37 @@ crossed_x-steps =
     ) ∷
     (
       times (var 5) (var 5),
-      plus (plus (times (var 4) (var 4)) (lit 1)) (times (times (times (times (var 10) (var 4)) (var 4)) (var 5)) (var 5)),
+      plus (plus (times (var 4) (var 4)) (lit 1)) (times (times (times (times (var 10) (var 4)) (var 4)) (var 5))
+          (var 5)),
       crossed_x-9,
     ) ∷
     (
-      plus (plus (times (var 4) (var 4)) (lit 1)) (times (times (times (times (var 10) (var 4)) (var 4)) (var 5)) (var 5)),
+      plus (plus (times (var 4) (var 4)) (lit 1)) (times (times (times (times (var 10) (var 4)) (var 4)) (var 5))
+          (var 5)),
       times (var 5) (var 5),
       crossed_x-10,
     ) ∷
     (
       times (var 7) (var 7),
-      plus (plus (times (var 6) (var 6)) (lit 1)) (times (times (times (times (var 10) (var 6)) (var 6)) (var 7)) (var 7)),
+      plus (plus (times (var 6) (var 6)) (lit 1)) (times (times (times (times (var 10) (var 6)) (var 6)) (var 7))
+          (var 7)),
       crossed_x-11,
     ) ∷
     (
-      plus (plus (times (var 6) (var 6)) (lit 1)) (times (times (times (times (var 10) (var 6)) (var 6)) (var 7)) (var 7)),
+      plus (plus (times (var 6) (var 6)) (lit 1)) (times (times (times (times (var 10) (var 6)) (var 6)) (var 7))
+          (var 7)),
       times (var 7) (var 7),
       crossed_x-12,
     ) ∷
     (
       times (var 9) (var 9),
-      plus (plus (times (var 8) (var 8)) (lit 1)) (times (times (times (times (var 10) (var 8)) (var 8)) (var 9)) (var 9)),
+      plus (plus (times (var 8) (var 8)) (lit 1)) (times (times (times (times (var 10) (var 8)) (var 8)) (var 9))
+          (var 9)),
       crossed_x-13,
     ) ∷
     (
-      plus (plus (times (var 8) (var 8)) (lit 1)) (times (times (times (times (var 10) (var 8)) (var 8)) (var 9)) (var 9)),
+      plus (plus (times (var 8) (var 8)) (lit 1)) (times (times (times (times (var 10) (var 8)) (var 8)) (var 9))
+          (var 9)),
       times (var 9) (var 9),
       crossed_x-14,
     ) ∷ []
@@ -229,11 +235,19 @@ pub crossed_x : (m a b k l x1 y1 x2 y2 x3 y3 d : ℕ) → 0 < m
     → (x1 * x1 + 1 + d * x1 * x1 * y1 * y1) % m ≡ (y1 * y1) % m
     → (x2 * x2 + 1 + d * x2 * x2 * y2 * y2) % m ≡ (y2 * y2) % m
     → (x3 * x3 + 1 + d * x3 * x3 * y3 * y3) % m ≡ (y3 * y3) % m
-    → (((x1 * y2 + y1 * x2) * k * y3 + (y1 * y2 + x1 * x2) * a * x3) * (b * l + d * ((x2 * y3 + y2 * x3) * (y2 * y3 + x2 * x3)) * (x1 * y1))) % m ≡ (((x2 * y3 + y2 * x3) * l * y1 + (y2 * y3 + x2 * x3) * b * x1) * (a * k + d * ((x1 * y2 + y1 * x2) * (y1 * y2 + x1 * x2)) * (x3 * y3))) % m
+    → (((x1 * y2 + y1 * x2) * k * y3 + (y1 * y2 + x1 * x2) * a * x3) * (b * l + d * ((x2 * y3 + y2 * x3) *
+    (y2 * y3 + x2 * x3)) * (x1 * y1))) % m ≡ (((x2 * y3 + y2 * x3) * l * y1 + (y2 * y3 + x2 * x3) * b * x1) *
+    (a * k + d * ((x1 * y2 + y1 * x2) * (y1 * y2 + x1 * x2)) * (x3 * y3))) % m
 crossed_x m a b k l x1 y1 x2 y2 x3 y3 d pos h1 h2 h3 h4 h5 h6 h7 =
     follows
-    (times (plus (times (times (plus (times (var 4) (var 7)) (times (var 5) (var 6))) (var 2)) (var 9)) (times (times (plus (times (var 5) (var 7)) (times (var 4) (var 6))) (var 0)) (var 8))) (plus (times (var 1) (var 3)) (times (times (var 10) (times (plus (times (var 6) (var 9)) (times (var 7) (var 8))) (plus (times (var 7) (var 9)) (times (var 6) (var 8))))) (times (var 4) (var 5)))))
-    (times (plus (times (times (plus (times (var 6) (var 9)) (times (var 7) (var 8))) (var 3)) (var 5)) (times (times (plus (times (var 7) (var 9)) (times (var 6) (var 8))) (var 1)) (var 4))) (plus (times (var 0) (var 2)) (times (times (var 10) (times (plus (times (var 4) (var 7)) (times (var 5) (var 6))) (plus (times (var 5) (var 7)) (times (var 4) (var 6))))) (times (var 8) (var 9)))))
+    (times (plus (times (times (plus (times (var 4) (var 7)) (times (var 5) (var 6))) (var 2)) (var 9)) (times (times
+    (plus (times (var 5) (var 7)) (times (var 4) (var 6))) (var 0)) (var 8))) (plus (times (var 1) (var 3)) (times
+    (times (var 10) (times (plus (times (var 6) (var 9)) (times (var 7) (var 8))) (plus (times (var 7) (var 9)) (times
+    (var 6) (var 8))))) (times (var 4) (var 5)))))
+    (times (plus (times (times (plus (times (var 6) (var 9)) (times (var 7) (var 8))) (var 3)) (var 5)) (times (times
+    (plus (times (var 7) (var 9)) (times (var 6) (var 8))) (var 1)) (var 4))) (plus (times (var 0) (var 2)) (times
+    (times (var 10) (times (plus (times (var 4) (var 7)) (times (var 5) (var 6))) (plus (times (var 5) (var 7)) (times
+    (var 4) (var 6))))) (times (var 8) (var 9)))))
     crossed_x-steps refl m pos (a ∷ b ∷ k ∷ l ∷ x1 ∷ y1 ∷ x2 ∷ y2 ∷ x3 ∷ y3 ∷ d ∷ [])
     (sym h1, (h1, (sym h2, (h2, (sym h3, (h3, (sym h4, (h4, (sym h5, (h5, (sym h6, (h6, (sym h7, (h7, tt))))))))))))))
 

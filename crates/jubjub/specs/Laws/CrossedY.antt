@@ -209,13 +209,15 @@ crossed_y-16 =
 abbrev crossed_y-steps : List Step
 crossed_y-steps =
     (
-      plus (var 0) (times (times (var 12) (times (plus (times (var 6) (var 9)) (times (var 7) (var 8))) (plus (times (var 7) (var 9)) (times (var 6) (var 8))))) (times (var 10) (var 11))),
+      plus (var 0) (times (times (var 12) (times (plus (times (var 6) (var 9)) (times (var 7) (var 8))) (plus (times
+          (var 7) (var 9)) (times (var 6) (var 8))))) (times (var 10) (var 11))),
       times (var 2) (var 4),
       crossed_y-1,
     ) ∷
     (
       times (var 3) (var 5),
-      plus (var 1) (times (times (var 12) (times (plus (times (var 8) (var 11)) (times (var 9) (var 10))) (plus (times (var 9) (var 11)) (times (var 8) (var 10))))) (times (var 6) (var 7))),
+      plus (var 1) (times (times (var 12) (times (plus (times (var 8) (var 11)) (times (var 9) (var 10))) (plus (times
+          (var 9) (var 11)) (times (var 8) (var 10))))) (times (var 6) (var 7))),
       crossed_y-2,
     ) ∷
     (
@@ -260,31 +262,37 @@ crossed_y-steps =
     ) ∷
     (
       times (var 7) (var 7),
-      plus (plus (times (var 6) (var 6)) (lit 1)) (times (times (times (times (var 12) (var 6)) (var 6)) (var 7)) (var 7)),
+      plus (plus (times (var 6) (var 6)) (lit 1)) (times (times (times (times (var 12) (var 6)) (var 6)) (var 7))
+          (var 7)),
       crossed_y-11,
     ) ∷
     (
-      plus (plus (times (var 6) (var 6)) (lit 1)) (times (times (times (times (var 12) (var 6)) (var 6)) (var 7)) (var 7)),
+      plus (plus (times (var 6) (var 6)) (lit 1)) (times (times (times (times (var 12) (var 6)) (var 6)) (var 7))
+          (var 7)),
       times (var 7) (var 7),
       crossed_y-12,
     ) ∷
     (
       times (var 9) (var 9),
-      plus (plus (times (var 8) (var 8)) (lit 1)) (times (times (times (times (var 12) (var 8)) (var 8)) (var 9)) (var 9)),
+      plus (plus (times (var 8) (var 8)) (lit 1)) (times (times (times (times (var 12) (var 8)) (var 8)) (var 9))
+          (var 9)),
       crossed_y-13,
     ) ∷
     (
-      plus (plus (times (var 8) (var 8)) (lit 1)) (times (times (times (times (var 12) (var 8)) (var 8)) (var 9)) (var 9)),
+      plus (plus (times (var 8) (var 8)) (lit 1)) (times (times (times (times (var 12) (var 8)) (var 8)) (var 9))
+          (var 9)),
       times (var 9) (var 9),
       crossed_y-14,
     ) ∷
     (
       times (var 11) (var 11),
-      plus (plus (times (var 10) (var 10)) (lit 1)) (times (times (times (times (var 12) (var 10)) (var 10)) (var 11)) (var 11)),
+      plus (plus (times (var 10) (var 10)) (lit 1)) (times (times (times (times (var 12) (var 10)) (var 10)) (var 11))
+          (var 11)),
       crossed_y-15,
     ) ∷
     (
-      plus (plus (times (var 10) (var 10)) (lit 1)) (times (times (times (times (var 12) (var 10)) (var 10)) (var 11)) (var 11)),
+      plus (plus (times (var 10) (var 10)) (lit 1)) (times (times (times (times (var 12) (var 10)) (var 10)) (var 11))
+          (var 11)),
       times (var 11) (var 11),
       crossed_y-16,
     ) ∷ []
@@ -300,11 +308,15 @@ pub crossed_y : (m e f a b k l x1 y1 x2 y2 x3 y3 d : ℕ) → 0 < m
     → (x1 * x1 + 1 + d * x1 * x1 * y1 * y1) % m ≡ (y1 * y1) % m
     → (x2 * x2 + 1 + d * x2 * x2 * y2 * y2) % m ≡ (y2 * y2) % m
     → (x3 * x3 + 1 + d * x3 * x3 * y3 * y3) % m ≡ (y3 * y3) % m
-    → (((y1 * y2 + x1 * x2) * a * y3 + (x1 * y2 + y1 * x2) * k * x3) * f) % m ≡ (((y2 * y3 + x2 * x3) * b * y1 + (x2 * y3 + y2 * x3) * l * x1) * e) % m
+    → (((y1 * y2 + x1 * x2) * a * y3 + (x1 * y2 + y1 * x2) * k * x3) * f) % m ≡ (((y2 * y3 + x2 * x3) * b * y1 +
+    (x2 * y3 + y2 * x3) * l * x1) * e) % m
 crossed_y m e f a b k l x1 y1 x2 y2 x3 y3 d pos h1 h2 h3 h4 h5 h6 h7 h8 h9 =
     follows
-    (times (plus (times (times (plus (times (var 7) (var 9)) (times (var 6) (var 8))) (var 2)) (var 11)) (times (times (plus (times (var 6) (var 9)) (times (var 7) (var 8))) (var 4)) (var 10))) (var 1))
-    (times (plus (times (times (plus (times (var 9) (var 11)) (times (var 8) (var 10))) (var 3)) (var 7)) (times (times (plus (times (var 8) (var 11)) (times (var 9) (var 10))) (var 5)) (var 6))) (var 0))
+    (times (plus (times (times (plus (times (var 7) (var 9)) (times (var 6) (var 8))) (var 2)) (var 11)) (times (times
+    (plus (times (var 6) (var 9)) (times (var 7) (var 8))) (var 4)) (var 10))) (var 1))
+    (times (plus (times (times (plus (times (var 9) (var 11)) (times (var 8) (var 10))) (var 3)) (var 7)) (times
+    (times (plus (times (var 8) (var 11)) (times (var 9) (var 10))) (var 5)) (var 6))) (var 0))
     crossed_y-steps refl m pos (e ∷ f ∷ a ∷ b ∷ k ∷ l ∷ x1 ∷ y1 ∷ x2 ∷ y2 ∷ x3 ∷ y3 ∷ d ∷ [])
-    (h1, (sym h2, (sym h3, (h3, (sym h4, (h4, (sym h5, (h5, (sym h6, (h6, (sym h7, (h7, (sym h8, (h8, (sym h9, (h9, tt))))))))))))))))
+    (h1, (sym h2, (sym h3, (h3, (sym h4, (h4, (sym h5, (h5, (sym h6, (h6, (sym h7, (h7, (sym h8, (h8, (sym h9,
+    (h9, tt))))))))))))))))
 

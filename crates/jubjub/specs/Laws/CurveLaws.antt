@@ -1,9 +1,11 @@
 -- The group laws of a twisted Edwards curve whose sums have no denominator that is 0.
-use Rattle.std.proofs.Common.{◌≡◌, ℕ, ◌+◌, ◌-◌, ◌*◌, ◌%◌, ◌<◌, ◌≤◌, refl, sym, ◌∙◌, ap, ap₂, arith, mul_comm, mod-eq_of_lt, mod-lt}
+use Rattle.std.proofs.Common.{◌≡◌, ℕ, ◌+◌, ◌-◌, ◌*◌, ◌%◌, ◌<◌, ◌≤◌, refl, sym, ◌∙◌, ap, ap₂, arith, mul_comm}
+use Rattle.std.proofs.Common.{mod-eq_of_lt, mod-lt}
 use Rattle.std.proofs.Math.Nat.{zero-mod, mod-add-mod, mod_self}
 use Rattle.number_facts.proofs.CongruenceLaws.{sums, multiples}
 use Rattle.jubjub.specs.Edwards.{Coordinates, IsOnCurve, cross, sum, over, neutral, negative}
-use Rattle.jubjub.specs.Laws.Quotients.{HasInverses, some_modulus, cancelled, product_some, over_times, over_below, is_over, same_ratio, less, differs}
+use Rattle.jubjub.specs.Laws.Quotients.{HasInverses, some_modulus, cancelled, product_some, over_times, over_below}
+use Rattle.jubjub.specs.Laws.Quotients.{is_over, same_ratio, less, differs}
 use Rattle.jubjub.specs.Laws.RootFacts.{minus_one, plus_one}
 use Rattle.jubjub.specs.Laws.ClosureFacts.{sum_on_curve, negative_on_curve, negative_adds_to_zero}
 use Rattle.jubjub.specs.Laws.ClearedFacts.{x_cleared, y_cleared, x_denominator, y_denominator}
@@ -178,12 +180,14 @@ module _ (p d : ℕ) (f : HasInverses p) (complete : NoCrossIsOne p d) where
       let rest = differs p (above a b * below a b) (cross_of a b c) pos in
       record {
         x_is = x_cleared p t.x s.x s.y (above a b) (below a b) a.x a.y b.x b.y c.x c.y d pos hx hy (x_of s c on_s on_c);
-        y_is = y_cleared p t.y (below s c) (y_den a b c) s.x s.y (above a b) (below a b) a.x a.y b.x b.y c.x c.y d pos hx
+        y_is = y_cleared p t.y (below s c) (y_den a b c) s.x s.y (above a b)
+            (below a b) a.x a.y b.x b.y c.x c.y d pos hx
             hy (less p (cross d s c) pos) rest (y_of s c on_s on_c);
         x_some = λ e. product_some p f (above a b * below a b) (above s c) both (above_some s c on_s on_c)
             (x_denominator p s.x s.y (above a b) (below a b) a.x a.y b.x b.y c.x c.y d pos hx hy ∙ e);
         y_some = λ e. product_some p f (above a b * below a b) (below s c) both (below_some s c on_s on_c)
-            (y_denominator p (below s c) (y_den a b c) s.x s.y (above a b) (below a b) a.x a.y b.x b.y c.x c.y d pos hx hy
+            (y_denominator p (below s c) (y_den a b c) s.x s.y (above a b)
+            (below a b) a.x a.y b.x b.y c.x c.y d pos hx hy
             (less p (cross d s c) pos) rest ∙ e);
       }
 
@@ -198,11 +202,13 @@ module _ (p d : ℕ) (f : HasInverses p) (complete : NoCrossIsOne p d) where
       let on_s : IsOnCurve p d s = sum_closed (sum p d a b) c (sum_closed a b on_a on_b) on_c in
       let on_t : IsOnCurve p d t = sum_closed (sum p d b c) a (sum_closed b c on_b on_c) on_a in
       same_coordinates s t
-      (same_ratio p f s.x t.x (x_num a b c) (x_num b c a) (x_den a b c) (x_den b c a) left.x_some right.x_some on_s.x_below
+      (same_ratio p f s.x t.x (x_num a b c) (x_num b c a) (x_den a b c)
+      (x_den b c a) left.x_some right.x_some on_s.x_below
       on_t.x_below left.x_is right.x_is
       (crossed_x p (above a b) (above b c) (below a b) (below b c) a.x a.y b.x b.y c.x c.y d pos refl refl
       (less p (cross d a b) pos) (less p (cross d b c) pos) on_a.equation on_b.equation on_c.equation))
-      (same_ratio p f s.y t.y (y_num a b c) (y_num b c a) (y_den a b c) (y_den b c a) left.y_some right.y_some on_s.y_below
+      (same_ratio p f s.y t.y (y_num a b c) (y_num b c a) (y_den a b c)
+      (y_den b c a) left.y_some right.y_some on_s.y_below
       on_t.y_below left.y_is right.y_is
       (crossed_y p (y_den a b c) (y_den b c a) (above a b) (above b c) (below a b) (below b c) a.x a.y b.x b.y c.x c.y d
       pos (differs p (above a b * below a b) (cross_of a b c) pos)

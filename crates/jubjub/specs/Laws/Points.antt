@@ -9,7 +9,8 @@ use Rattle.jubjub.specs.Edwards.{Coordinates, IsOnCurve, sum, neutral, negative,
 use Rattle.jubjub.specs.Jubjub.{p, d, order, curve, IsOnJubjub, IsInSubgroup}
 use Rattle.jubjub.specs.Laws.Modulus.{has_inverses}
 use Rattle.jubjub.specs.Laws.Completeness.{complete}
-use Rattle.jubjub.specs.Laws.CurveLaws.{sum_closed, neutral_on_curve, negative_closed, sum_comm, sum_neutral, sum_negative, sum_assoc}
+use Rattle.jubjub.specs.Laws.CurveLaws.{sum_closed, neutral_on_curve, negative_closed, sum_comm, sum_neutral}
+use Rattle.jubjub.specs.Laws.CurveLaws.{sum_negative, sum_assoc}
 
 pub on_curve_alike : (m d : ℕ) (a : Coordinates) (u v : IsOnCurve m d a) → u ≡ v
 on_curve_alike m d a u v = λ i. record {

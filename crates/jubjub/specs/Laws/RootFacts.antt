@@ -43,21 +43,25 @@ roots-steps =
     ) ∷
     (
       lit 1,
-      times (times (times (times (times (var 5) (var 1)) (var 3)) (var 2)) (var 4)) (times (times (times (times (var 5) (var 1)) (var 3)) (var 2)) (var 4)),
+      times (times (times (times (times (var 5) (var 1)) (var 3)) (var 2)) (var 4)) (times (times (times (times
+          (var 5) (var 1)) (var 3)) (var 2)) (var 4)),
       roots-3,
     ) ∷
     (
-      times (times (times (times (times (var 5) (var 1)) (var 3)) (var 2)) (var 4)) (times (times (times (times (var 5) (var 1)) (var 3)) (var 2)) (var 4)),
+      times (times (times (times (times (var 5) (var 1)) (var 3)) (var 2)) (var 4)) (times (times (times (times
+          (var 5) (var 1)) (var 3)) (var 2)) (var 4)),
       lit 1,
       roots-4,
     ) ∷
     (
       times (var 2) (var 2),
-      plus (plus (times (var 1) (var 1)) (lit 1)) (times (times (times (times (var 5) (var 1)) (var 1)) (var 2)) (var 2)),
+      plus (plus (times (var 1) (var 1)) (lit 1)) (times (times (times (times (var 5) (var 1)) (var 1)) (var 2))
+          (var 2)),
       roots-5,
     ) ∷
     (
-      plus (plus (times (var 3) (var 3)) (lit 1)) (times (times (times (times (var 5) (var 3)) (var 3)) (var 4)) (var 4)),
+      plus (plus (times (var 3) (var 3)) (lit 1)) (times (times (times (times (var 5) (var 3)) (var 3)) (var 4))
+          (var 4)),
       times (var 4) (var 4),
       roots-6,
     ) ∷ []
@@ -68,11 +72,15 @@ pub roots : (m c x1 y1 x2 y2 d : ℕ) → 0 < m
     → (d * x1 * x2 * y1 * y2 * (d * x1 * x2 * y1 * y2)) % m ≡ (1) % m
     → (x1 * x1 + 1 + d * x1 * x1 * y1 * y1) % m ≡ (y1 * y1) % m
     → (x2 * x2 + 1 + d * x2 * x2 * y2 * y2) % m ≡ (y2 * y2) % m
-    → (d * (x1 * y1 * (c * x2 + y2) * (x1 * y1 * (c * x2 + y2)))) % m ≡ ((c * x1 + d * x1 * x2 * y1 * y2 * y1) * (c * x1 + d * x1 * x2 * y1 * y2 * y1)) % m
+    → (d * (x1 * y1 * (c * x2 + y2) * (x1 * y1 * (c * x2 + y2)))) % m ≡ ((c * x1 + d * x1 * x2 * y1 * y2 * y1) *
+    (c * x1 + d * x1 * x2 * y1 * y2 * y1)) % m
 roots m c x1 y1 x2 y2 d pos h1 h2 h3 h4 =
     follows
-    (times (var 5) (times (times (times (var 1) (var 2)) (plus (times (var 0) (var 3)) (var 4))) (times (times (var 1) (var 2)) (plus (times (var 0) (var 3)) (var 4)))))
-    (times (plus (times (var 0) (var 1)) (times (times (times (times (times (var 5) (var 1)) (var 3)) (var 2)) (var 4)) (var 2))) (plus (times (var 0) (var 1)) (times (times (times (times (times (var 5) (var 1)) (var 3)) (var 2)) (var 4)) (var 2))))
+    (times (var 5) (times (times (times (var 1) (var 2)) (plus (times (var 0) (var 3)) (var 4))) (times (times (var 1)
+    (var 2)) (plus (times (var 0) (var 3)) (var 4)))))
+    (times (plus (times (var 0) (var 1)) (times (times (times (times (times (var 5) (var 1)) (var 3)) (var 2))
+    (var 4)) (var 2))) (plus (times (var 0) (var 1)) (times (times (times (times (times (var 5) (var 1)) (var 3))
+    (var 2)) (var 4)) (var 2))))
     roots-steps refl m pos (c ∷ x1 ∷ y1 ∷ x2 ∷ y2 ∷ d ∷ [])
     (sym h1, (h1, (sym h2, (h2, (sym h3, (h4, tt))))))
 
@@ -110,7 +118,8 @@ fours-steps =
       fours-3,
     ) ∷
     (
-      times (times (times (times (times (var 6) (var 2)) (var 4)) (var 3)) (var 5)) (times (times (times (times (var 6) (var 2)) (var 4)) (var 3)) (var 5)),
+      times (times (times (times (times (var 6) (var 2)) (var 4)) (var 3)) (var 5)) (times (times (times (times
+          (var 6) (var 2)) (var 4)) (var 3)) (var 5)),
       lit 1,
       fours-4,
     ) ∷ []

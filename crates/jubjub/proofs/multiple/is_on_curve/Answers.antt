@@ -2,7 +2,7 @@ use Rattle.std.proofs.Common.{◌≡◌, ◌+◌, ◌*◌, ◌%◌, ◌∙◌, s
 use Rattle.ark_wide_fields.specs.Laws.Fp256.{wide_equal_if_same, wide_below}
 use Rattle.jubjub.specs.Jubjub.{p, d}
 use Rattle.jubjub.specs.Values.{value}
-use Rattle.jubjub.proofs.Tests.{left_side}
+use Rattle.jubjub.proofs.PointTests.{left_side}
 use Rattle.jubjub.proofs.multiple.is_on_curve.Goals as goal
 
 pub returns : goal.returns

@@ -11,7 +11,8 @@ of-requires c =
     let s = sum_in_subgroup a (coordinates c.args.other) c.args.self.in_subgroup c.args.other.in_subgroup in
     let stands = c.plus.ensures a (coordinates c.args.other) c.args.self.in_subgroup.on_curve
     c.args.other.in_subgroup.on_curve c.lifted-a.ensures c.lifted-b.ensures in
-    entry c.affine.result.0 c.affine.result.1 (sum p d a (coordinates c.args.other)) (c.affine.ensures.x (sum p d a (coordinates c.args.other)) s.on_curve stands)
+    entry c.affine.result.0 c.affine.result.1 (sum p d a (coordinates c.args.other)) (c.affine.ensures.x (sum p d a
+        (coordinates c.args.other)) s.on_curve stands)
     (c.affine.ensures.y (sum p d a (coordinates c.args.other)) s.on_curve stands) s
 
 pub returns-clause-group : goal.returns-clause-group
@@ -20,8 +21,10 @@ returns-clause-group c =
     let s = sum_in_subgroup a (coordinates c.args.other) c.args.self.in_subgroup c.args.other.in_subgroup in
     let stands = c.plus.ensures a (coordinates c.args.other) c.args.self.in_subgroup.on_curve
     c.args.other.in_subgroup.on_curve c.lifted-a.ensures c.lifted-b.ensures in
-    made_is c.of.result (jubjub.plus c.args.self c.args.other) c.affine.result.0 c.affine.result.1 (sum p d a (coordinates c.args.other))
-    (c.affine.ensures.x (sum p d a (coordinates c.args.other)) s.on_curve stands) (c.affine.ensures.y (sum p d a (coordinates c.args.other)) s.on_curve stands) c.of.ensures
+    made_is c.of.result (jubjub.plus c.args.self c.args.other) c.affine.result.0 c.affine.result.1 (sum p d a
+        (coordinates c.args.other))
+    (c.affine.ensures.x (sum p d a (coordinates c.args.other)) s.on_curve stands) (c.affine.ensures.y (sum p d a
+    (coordinates c.args.other)) s.on_curve stands) c.of.ensures
     (at-plus c.args.self c.args.other)
 
 pub returns-clause-coordinates : goal.returns-clause-coordinates
@@ -30,5 +33,6 @@ returns-clause-coordinates c =
     let s = sum_in_subgroup a (coordinates c.args.other) c.args.self.in_subgroup c.args.other.in_subgroup in
     let stands = c.plus.ensures a (coordinates c.args.other) c.args.self.in_subgroup.on_curve
     c.args.other.in_subgroup.on_curve c.lifted-a.ensures c.lifted-b.ensures in
-    made_at c.of.result c.affine.result.0 c.affine.result.1 (sum p d a (coordinates c.args.other)) (c.affine.ensures.x (sum p d a (coordinates c.args.other)) s.on_curve stands)
+    made_at c.of.result c.affine.result.0 c.affine.result.1 (sum p d a (coordinates c.args.other)) (c.affine.ensures.x
+        (sum p d a (coordinates c.args.other)) s.on_curve stands)
     (c.affine.ensures.y (sum p d a (coordinates c.args.other)) s.on_curve stands) c.of.ensures

@@ -19,7 +19,8 @@ returns-clause-group c =
     let s = sum_in_subgroup a a c.args.self.in_subgroup c.args.self.in_subgroup in
     let stands = c.doubled.ensures a c.args.self.in_subgroup.on_curve c.lifted.ensures in
     made_is c.of.result (jubjub.plus c.args.self c.args.self) c.affine.result.0 c.affine.result.1 (sum p d a a)
-    (c.affine.ensures.x (sum p d a a) s.on_curve stands) (c.affine.ensures.y (sum p d a a) s.on_curve stands) c.of.ensures
+    (c.affine.ensures.x (sum p d a a) s.on_curve stands) (c.affine.ensures.y
+    (sum p d a a) s.on_curve stands) c.of.ensures
     (at-plus c.args.self c.args.self)
 
 pub returns-clause-coordinates : goal.returns-clause-coordinates
@@ -27,5 +28,6 @@ returns-clause-coordinates c =
     let a = coordinates c.args.self in
     let s = sum_in_subgroup a a c.args.self.in_subgroup c.args.self.in_subgroup in
     let stands = c.doubled.ensures a c.args.self.in_subgroup.on_curve c.lifted.ensures in
-    made_at c.of.result c.affine.result.0 c.affine.result.1 (sum p d a a) (c.affine.ensures.x (sum p d a a) s.on_curve stands)
+    made_at c.of.result c.affine.result.0 c.affine.result.1 (sum p d a a) (c.affine.ensures.x
+        (sum p d a a) s.on_curve stands)
     (c.affine.ensures.y (sum p d a a) s.on_curve stands) c.of.ensures

@@ -12,7 +12,8 @@ of-requires c =
     let a = coordinates c.args.self in
     let s = times_in_subgroup (number c.args.scalar) c.args.self in
     let stands = c.multiple.ensures a c.args.self.in_subgroup.on_curve c.lifted.ensures in
-    entry c.affine.result.0 c.affine.result.1 (times curve (number c.args.scalar) a) (c.affine.ensures.x (times curve (number c.args.scalar) a) s.on_curve stands)
+    entry c.affine.result.0 c.affine.result.1 (times curve (number c.args.scalar) a) (c.affine.ensures.x (times curve
+        (number c.args.scalar) a) s.on_curve stands)
     (c.affine.ensures.y (times curve (number c.args.scalar) a) s.on_curve stands) s
 
 pub returns-clause-group : goal.returns-clause-group
@@ -20,8 +21,10 @@ returns-clause-group c =
     let a = coordinates c.args.self in
     let s = times_in_subgroup (number c.args.scalar) c.args.self in
     let stands = c.multiple.ensures a c.args.self.in_subgroup.on_curve c.lifted.ensures in
-    made_is c.of.result (times jubjub (number c.args.scalar) c.args.self) c.affine.result.0 c.affine.result.1 (times curve (number c.args.scalar) a)
-    (c.affine.ensures.x (times curve (number c.args.scalar) a) s.on_curve stands) (c.affine.ensures.y (times curve (number c.args.scalar) a) s.on_curve stands) c.of.ensures
+    made_is c.of.result (times jubjub (number c.args.scalar) c.args.self) c.affine.result.0 c.affine.result.1
+        (times curve (number c.args.scalar) a)
+    (c.affine.ensures.x (times curve (number c.args.scalar) a) s.on_curve stands) (c.affine.ensures.y (times curve
+    (number c.args.scalar) a) s.on_curve stands) c.of.ensures
     (coordinates-times (number c.args.scalar) c.args.self)
 
 pub returns-clause-coordinates : goal.returns-clause-coordinates
@@ -29,5 +32,6 @@ returns-clause-coordinates c =
     let a = coordinates c.args.self in
     let s = times_in_subgroup (number c.args.scalar) c.args.self in
     let stands = c.multiple.ensures a c.args.self.in_subgroup.on_curve c.lifted.ensures in
-    made_at c.of.result c.affine.result.0 c.affine.result.1 (times curve (number c.args.scalar) a) (c.affine.ensures.x (times curve (number c.args.scalar) a) s.on_curve stands)
+    made_at c.of.result c.affine.result.0 c.affine.result.1 (times curve (number c.args.scalar) a) (c.affine.ensures.x
+        (times curve (number c.args.scalar) a) s.on_curve stands)
     (c.affine.ensures.y (times curve (number c.args.scalar) a) s.on_curve stands) c.of.ensures

@@ -18,4 +18,5 @@ returns-clause-group c =
 
 pub returns-clause-coordinates : goal.returns-clause-coordinates
 returns-clause-coordinates c =
-    made_at c.of.result c.neg.result c.args.self.y (negative p (coordinates c.args.self)) c.neg.ensures refl c.of.ensures
+    made_at c.of.result c.neg.result c.args.self.y (negative p
+        (coordinates c.args.self)) c.neg.ensures refl c.of.ensures
