@@ -1,16 +1,16 @@
 -- Sums in extended coordinates stand for sums.
-use Rattle.std.proofs.Common.{◌≡◌, ℕ, ◌+◌, ◌-◌, ◌*◌, ◌%◌, ◌<◌, ◌≤◌, refl, sym, ◌∙◌, ap, ap₂, arith, mod-eq_of_lt}
+use Rattle.std.proofs.Common.{◌≡◌, ℕ, ◌+◌, ◌-◌, ◌*◌, ◌%◌, ◌<◌, refl, sym, ◌∙◌, ap, arith}
 use Rattle.std.proofs.Common.{mod-lt, mul_comm}
-use Rattle.std.proofs.Math.Nat.{mod-mod, mod-add-mod, add-mul-mod_self_right, zero-mod}
+use Rattle.std.proofs.Math.Nat.{mod-mod, mod-add-mod, add-mul-mod_self_right}
 use Rattle.std.proofs.lemmas.Nat.{mul-mod_first}
 use Rattle.number_facts.proofs.CongruenceLaws.{sums, multiples}
 use Rattle.jubjub.specs.declared.extended.Extended.{Extended}
-use Rattle.jubjub.specs.Edwards.{Coordinates, IsOnCurve, cross, sum, neutral}
+use Rattle.jubjub.specs.Edwards.{Coordinates, cross, sum}
 use Rattle.jubjub.specs.Jubjub.{p, d, IsOnJubjub}
 use Rattle.jubjub.specs.Extended.{Stands}
 use Rattle.jubjub.specs.Values.{value}
-use Rattle.jubjub.specs.Laws.Quotients.{HasInverses, some_modulus, product_some, less}
-use Rattle.jubjub.specs.Laws.CurveLaws.{NoCrossIsOne, above_some, below_some, x_of, y_of}
+use Rattle.jubjub.specs.Laws.Quotients.{some_modulus, product_some, less}
+use Rattle.jubjub.specs.Laws.CurveLaws.{above_some, below_some, x_of, y_of}
 use Rattle.jubjub.specs.Laws.Modulus.{has_inverses}
 use Rattle.jubjub.specs.Laws.Completeness.{complete}
 use Rattle.jubjub.proofs.ExtendedFacts.{first_numerator, second_numerator, first_denominator, second_denominator}
@@ -46,10 +46,10 @@ joined_stands r E F G H z s t on_s on_t some rx ry rz rt hE hH hG hF =
     let v : ℕ = (sum p d s t).y in
     let some_g : G % p ≡ 0 → ⊥ =
     λ e. product_some p has_inverses (above s t) z (above_some p d has_inverses complete s t on_s on_t) some (sym hG
-        ∙ e) in
+    ∙ e) in
     let some_f : F % p ≡ 0 → ⊥ =
     λ e. product_some p has_inverses (below s t) z (below_some p d has_inverses complete s t on_s on_t) some (sym hF
-        ∙ e) in
+    ∙ e) in
     let times : (w : ℕ) → w * (F * G) % p ≡ w * value r.z % p =
     λ w. ap (λ n. n % p) (mul_comm w (F * G)) ∙ sym (mul-mod_first (F * G) w p) ∙ ap (λ n. n * w % p) (sym rz)
     ∙ ap (λ n. n % p) (mul_comm (value r.z) w) in

@@ -1,8 +1,7 @@
 -- The generator is in the prime subgroup, by computation.
-use Rattle.std.proofs.Common.{◌≡◌, ℕ, ◌^◌, ◌<◌, refl, sym, ◌∙◌, ap, lit<}
-use Rattle.ark_groups.specs.Group.{times}
-use Rattle.jubjub.specs.Edwards.{Coordinates, neutral}
-use Rattle.jubjub.specs.Jubjub.{order, curve, base_point, IsOnJubjub, IsInSubgroup}
+use Rattle.std.proofs.Common.{◌≡◌, ◌^◌, ◌<◌, refl, ◌∙◌, lit<}
+use Rattle.jubjub.specs.Edwards.{neutral}
+use Rattle.jubjub.specs.Jubjub.{order, base_point, IsOnJubjub, IsInSubgroup}
 use Rattle.jubjub.proofs.Ladder.{ladder, multiple_is}
 
 on_curve : IsOnJubjub base_point

@@ -1,7 +1,7 @@
 -- The group of the elements of the prime subgroup.
-use Rattle.std.proofs.Common.{◌≡◌, ℕ, zero, suc, Bool, refl, sym, ◌∙◌, ap, subst}
+use Rattle.std.proofs.Common.{◌≡◌, ℕ, zero, suc, Bool, sym, ◌∙◌, ap, subst}
 use Rattle.std.specs.Bool.{Decides}
-use Rattle.ark_groups.specs.Group.{Group, IsCommutativeGroup, times}
+use Rattle.ark_groups.specs.Group.{IsCommutativeGroup, times}
 use Rattle.jubjub.specs.declared.element.Jubjub.{Jubjub}
 use Rattle.jubjub.specs.Edwards.{Coordinates, sum, neutral, negative}
 use Rattle.jubjub.specs.declared.extended.Extended.{Extended}

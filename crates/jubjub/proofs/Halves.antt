@@ -1,6 +1,6 @@
 -- Doubling and adding, step by step.
-use Rattle.std.proofs.Common.{◌≡◌, ℕ, zero, ◌/◌, ◌%◌, refl, sym, ◌∙◌, ap, subst, arith}
-use Rattle.ark_groups.specs.Group.{Group, IsCommutativeGroup, times}
+use Rattle.std.proofs.Common.{◌≡◌, ℕ, ◌/◌, ◌%◌, sym, ◌∙◌, ap, subst, arith}
+use Rattle.ark_groups.specs.Group.{times}
 use Rattle.ark_groups.proofs.Multiples.{even_step, odd_step, right_identity}
 use Rattle.jubjub.specs.declared.extended.Extended.{Extended}
 use Rattle.jubjub.specs.Edwards.{Coordinates, sum, neutral}

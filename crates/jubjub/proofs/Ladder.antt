@@ -1,12 +1,12 @@
 -- Multiples of coordinates that are written out.
-use Rattle.std.proofs.Common.{◌≡◌, ℕ, zero, suc, ◌+◌, ◌-◌, ◌*◌, ◌/◌, ◌%◌, ◌^◌, ◌<◌, cond, eqb, refl, sym, ◌∙◌, ap, ap₂}
+use Rattle.std.proofs.Common.{◌≡◌, ℕ, zero, suc, ◌+◌, ◌-◌, ◌*◌, ◌/◌, ◌%◌, ◌^◌, ◌<◌, cond, eqb, sym, ◌∙◌, ap}
 use Rattle.std.proofs.Common.{arith, lit<, pow-suc}
 use Rattle.std.proofs.lemmas.Bool.{cond_both, eqb-true, eqb-false}
 use Rattle.ark_groups.specs.Group.{times}
 use Rattle.ark_groups.proofs.Multiples.{even_step, odd_step}
 use Rattle.number_facts.specs.Powers.{power_mod}
 use Rattle.number_facts.proofs.PowerLaws.{power_right}
-use Rattle.jubjub.specs.Edwards.{Coordinates, cross, inverse, over, sum, neutral}
+use Rattle.jubjub.specs.Edwards.{Coordinates, cross, inverse, sum, neutral}
 use Rattle.jubjub.specs.Jubjub.{p, d, curve, IsOnJubjub}
 use Rattle.jubjub.specs.Laws.CurveLaws.{same_coordinates}
 use Rattle.jubjub.specs.Laws.Points.{Point, points, points_laws, at-times}

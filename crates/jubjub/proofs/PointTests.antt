@@ -1,7 +1,6 @@
 -- What the tests of a point show.
-use Rattle.std.proofs.Common.{◌≡◌, ℕ, ◌+◌, ◌*◌, ◌%◌, ◌<◌, refl, sym, ◌∙◌, ap, ap₂, arith, mod-eq_of_lt, lit<}
+use Rattle.std.proofs.Common.{◌≡◌, ℕ, ◌+◌, ◌*◌, ◌%◌, refl, sym, ◌∙◌, ap, arith, mod-eq_of_lt}
 use Rattle.std.proofs.Math.Nat.{mod-mod}
-use Rattle.std.proofs.lemmas.Nat.{mul-mod_first}
 use Rattle.number_facts.proofs.CongruenceLaws.{sums, multiples, products}
 use Rattle.ark_wide_fields.specs.Laws.Fp256.{wide_below}
 use Rattle.jubjub.specs.declared.extended.Extended.{Extended}

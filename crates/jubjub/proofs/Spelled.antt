@@ -1,5 +1,5 @@
 -- The bytes of coordinates, written and read back.
-use Rattle.std.proofs.Common.{◌≡◌, ℕ, ◌+◌, ◌-◌, ◌%◌, ◌^◌, ◌<◌, ◌≤◌, Bool, true, false, not, List, [], ◌∷◌, ◌++◌, length}
+use Rattle.std.proofs.Common.{◌≡◌, ℕ, ◌+◌, ◌-◌, ◌%◌, ◌^◌, ◌<◌, ◌≤◌, Bool, true, false, not, List, ◌++◌, length}
 use Rattle.std.proofs.Common.{take, drop, refl, sym, ◌∙◌, ap, ap₂, arith, mod-eq_of_lt, true≢false}
 use Rattle.std.proofs.lemmas.List.{take-append-drop, append-nil, drop_all, take_all, length-append, length-drop}
 use Rattle.std.proofs.lemmas.List.{length-take-le}

@@ -1,9 +1,8 @@
 -- Elements of the prime subgroup, and their group.
-use Rattle.std.specs.Prelude.{◌≡◌, ℕ}
 use Rattle.ark_groups.specs.Group.{Group}
 use Rattle.jubjub.specs.declared.element.Jubjub.{Jubjub}
 use Rattle.jubjub.specs.Edwards.{Coordinates, sum, neutral, negative}
-use Rattle.jubjub.specs.Jubjub.{p, d, IsInSubgroup}
+use Rattle.jubjub.specs.Jubjub.{p, d}
 use Rattle.jubjub.specs.Laws.Points.{neutral_in_subgroup, sum_in_subgroup, negative_in_subgroup}
 use Rattle.jubjub.specs.Laws.Elements.{element, coordinates_of}
 

@@ -28,7 +28,6 @@ pub record IsInSubgroup (a : Coordinates) : Type 0 where
   pub on_curve : IsOnJubjub a
   pub of_order : times curve order a ≡ neutral
 
-
 -- the generator of the prime subgroup
 abbrev pub base_point : Coordinates
 base_point = record {

@@ -3,7 +3,7 @@ use Rattle.std.specs.Prelude.{◌≡◌, ℕ, ◌+◌, ◌-◌, ◌*◌, ◌%◌
 use Rattle.ark_groups.specs.Group.{Group, times}
 use Rattle.jubjub.specs.declared.element.Jubjub.{Jubjub}
 use Rattle.jubjub.specs.Edwards.{Coordinates, cross, over}
-use Rattle.jubjub.specs.Jubjub.{p, d, order, curve, IsOnJubjub, IsInSubgroup}
+use Rattle.jubjub.specs.Jubjub.{p, d, order, IsOnJubjub, IsInSubgroup}
 use Rattle.jubjub.specs.Elements.{coordinates, jubjub}
 
 -- a quotient times its divisor is the dividend, modulo p, if p does not divide the divisor

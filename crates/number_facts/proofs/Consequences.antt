@@ -36,7 +36,7 @@ all_agree : (m : ℕ) (xs : List ℕ) (steps : List Step) → AllAgree m xs step
 all_agree m xs [] h = refl
 all_agree m xs (s ∷ steps) h =
     sums m (value xs s.0 * polynomial_at xs s.2) (value xs s.1 * polynomial_at xs s.2) (firsts xs steps)
-        (seconds xs steps)
+    (seconds xs steps)
     (multiples m (value xs s.0) (value xs s.1) (polynomial_at xs s.2) h.0) (all_agree m xs steps h.1)
 
 pub follows : FollowsFromSteps

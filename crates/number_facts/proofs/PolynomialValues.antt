@@ -15,7 +15,7 @@ monomial-add xs (e ∷ m) [] = omega arith
 monomial-add [] (e ∷ m) (f ∷ n) = refl
 monomial-add (x ∷ xs) (e ∷ m) (f ∷ n) =
     ap₂ (λ a b. a * b) (pow-add x e f) (monomial-add xs m n)
-        ∙ regroup (x ^ e) (x ^ f) (monomial_at xs m) (monomial_at xs n)
+    ∙ regroup (x ^ e) (x ^ f) (monomial_at xs m) (monomial_at xs n)
   where
     regroup : (a b c d : ℕ) → a * b * (c * d) ≡ a * c * (b * d)
     regroup a b c d = omega arith
@@ -49,7 +49,7 @@ polynomial-insert : (xs : List ℕ) (t : ℕ × Monomial) (p : Polynomial) (f : 
 polynomial-insert xs t p f right [] = omega arith
 polynomial-insert xs t p f right (u ∷ q) =
     cond_both (less_monomial t.1 u.1) _ _ (λ r. polynomial_at xs r ≡ polynomial_at xs (t ∷ p) + polynomial_at xs
-        (u ∷ q))
+    (u ∷ q))
     (λ h. omega (arith, right (u ∷ q)))
     (λ h. cond_both (same_monomial t.1 u.1) _ _ (λ r. polynomial_at xs r ≡ polynomial_at xs (t ∷ p) + polynomial_at xs
     (u ∷ q))
@@ -76,7 +76,7 @@ pub polynomial-product : (xs : List ℕ) (p q : Polynomial)
 polynomial-product xs [] q = omega arith
 polynomial-product xs (t ∷ p) q =
     polynomial-merge xs (times_term t q) (product p q)
-        ∙ ap₂ (λ a b. a + b) (polynomial-term xs t q) (polynomial-product xs p q) ∙ omega arith
+    ∙ ap₂ (λ a b. a + b) (polynomial-term xs t q) (polynomial-product xs p q) ∙ omega arith
 
 pub normal_right : (xs : List ℕ) (e : Expr) → polynomial_at xs (normal e) ≡ value xs e
 normal_right xs (var i) = omega (arith, monomial-unit xs i)

@@ -1,8 +1,8 @@
 -- The group laws of a twisted Edwards curve whose sums have no denominator that is 0.
-use Rattle.std.proofs.Common.{◌≡◌, ℕ, ◌+◌, ◌-◌, ◌*◌, ◌%◌, ◌<◌, ◌≤◌, refl, sym, ◌∙◌, ap, ap₂, arith, mul_comm}
-use Rattle.std.proofs.Common.{mod-eq_of_lt, mod-lt}
+use Rattle.std.proofs.Common.{◌≡◌, ℕ, ◌+◌, ◌-◌, ◌*◌, ◌%◌, ◌<◌, refl, sym, ◌∙◌, ap, ap₂, arith, mul_comm}
+use Rattle.std.proofs.Common.{mod-lt}
 use Rattle.std.proofs.Math.Nat.{zero-mod, mod-add-mod, mod_self}
-use Rattle.number_facts.proofs.CongruenceLaws.{sums, multiples}
+use Rattle.number_facts.proofs.CongruenceLaws.{multiples}
 use Rattle.jubjub.specs.Edwards.{Coordinates, IsOnCurve, cross, sum, over, neutral, negative}
 use Rattle.jubjub.specs.Laws.Quotients.{HasInverses, some_modulus, cancelled, product_some, over_times, over_below}
 use Rattle.jubjub.specs.Laws.Quotients.{is_over, same_ratio, less, differs}

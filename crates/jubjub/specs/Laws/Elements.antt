@@ -1,11 +1,11 @@
 -- Elements of the prime subgroup are their coordinates.
-use Rattle.std.proofs.Common.{◌≡◌, ℕ, zero, suc, ◌%◌, ◌<◌, refl, sym, ◌∙◌, ap, subst, mod-eq_of_lt}
+use Rattle.std.proofs.Common.{◌≡◌, ℕ, sym, ◌∙◌, ap, subst, mod-eq_of_lt}
 use mathlib.Core.HLevel.{is_prop→PathP}
 use Rattle.ark_wide_fields.specs.Laws.Fp256.{wide_of, wide_of-value, wide_same}
 use Rattle.ark_wide_fields.specs.contracts.moduli.Bls12_381FrModulusWideModulus.TheImpl.{ghosts}
 use Rattle.jubjub.specs.declared.element.Jubjub.{Jubjub}
 use Rattle.jubjub.specs.Edwards.{Coordinates}
-use Rattle.jubjub.specs.Jubjub.{p, IsInSubgroup}
+use Rattle.jubjub.specs.Jubjub.{IsInSubgroup}
 use Rattle.jubjub.specs.Values.{Fr, value}
 use Rattle.jubjub.specs.Laws.CurveLaws.{same_coordinates}
 use Rattle.jubjub.specs.Laws.Points.{in_subgroup_alike}

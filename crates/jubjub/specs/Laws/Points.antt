@@ -1,11 +1,11 @@
 -- The points of Jubjub as a commutative group, and its subgroup of the points of prime order.
-use Rattle.std.proofs.Common.{◌≡◌, ℕ, zero, suc, ◌+◌, ◌*◌, ◌%◌, ◌<◌, refl, sym, ◌∙◌, ap}
+use Rattle.std.proofs.Common.{◌≡◌, ℕ, zero, suc, refl, sym, ◌∙◌, ap}
 use Rattle.std.proofs.Math.Nat.{ℕ_set}
 use Rattle.std.specs.Coded.{le_prop}
 use mathlib.Core.HLevel.{is_prop→PathP}
 use Rattle.ark_groups.specs.Group.{Group, IsCommutativeGroup, times}
 use Rattle.ark_groups.proofs.Multiples.{times-plus, times-identity, right_identity}
-use Rattle.jubjub.specs.Edwards.{Coordinates, IsOnCurve, sum, neutral, negative, edwards}
+use Rattle.jubjub.specs.Edwards.{Coordinates, IsOnCurve, sum, neutral, negative}
 use Rattle.jubjub.specs.Jubjub.{p, d, order, curve, IsOnJubjub, IsInSubgroup}
 use Rattle.jubjub.specs.Laws.Modulus.{has_inverses}
 use Rattle.jubjub.specs.Laws.Completeness.{complete}

@@ -1,5 +1,5 @@
 -- Quotients modulo a number where each number that it does not divide has an inverse.
-use Rattle.std.proofs.Common.{◌≡◌, ℕ, ◌+◌, ◌-◌, ◌*◌, ◌/◌, ◌%◌, ◌<◌, ◌≤◌, refl, sym, ◌∙◌, ap, arith, mul_comm}
+use Rattle.std.proofs.Common.{◌≡◌, ℕ, ◌+◌, ◌-◌, ◌*◌, ◌/◌, ◌%◌, ◌<◌, ◌≤◌, sym, ◌∙◌, ap, arith}
 use Rattle.std.proofs.Common.{mod-eq_of_lt, mod-lt, div-add-mod'}
 use Rattle.std.proofs.Math.Nat.{zero-mod, add-mul-mod_self_right}
 use Rattle.std.proofs.lemmas.Nat.{mul-mod_first}
@@ -77,7 +77,7 @@ module _ (p : ℕ) (f : HasInverses p) where
 pub less : (p t : ℕ) → 0 < p → (1 + (p - t % p) + t) % p ≡ 1 % p
 less p t pos =
     ap (λ n. n % p) (turn (t / p) (t % p) t p (div-add-mod' t p) (mod-lt t pos))
-        ∙ add-mul-mod_self_right 1 (t / p + 1) p
+    ∙ add-mul-mod_self_right 1 (t / p + 1) p
   where
     turn : (q r t m : ℕ) → q * m + r ≡ t → r < m → 1 + (m - r) + t ≡ 1 + (q + 1) * m
     turn q r t m e l = omega arith
@@ -86,7 +86,7 @@ less p t pos =
 pub differs : (p a t : ℕ) → 0 < p → (a + (p - t % p) + t) % p ≡ a % p
 differs p a t pos =
     ap (λ n. n % p) (turn (t / p) (t % p) a t p (div-add-mod' t p) (mod-lt t pos))
-        ∙ add-mul-mod_self_right a (t / p + 1) p
+    ∙ add-mul-mod_self_right a (t / p + 1) p
   where
     turn : (q r a t m : ℕ) → q * m + r ≡ t → r < m → a + (m - r) + t ≡ a + (q + 1) * m
     turn q r a t m e l = omega arith

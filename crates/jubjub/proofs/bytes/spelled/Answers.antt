@@ -1,4 +1,4 @@
-use Rattle.std.proofs.Common.{◌≡◌, List, ◌++◌, ℕ, refl, sym, ◌∙◌, ap, ap₂, length, replicate}
+use Rattle.std.proofs.Common.{◌≡◌, List, ◌++◌, ℕ, refl, ◌∙◌, ap, ap₂, length, replicate}
 use Rattle.ark_base.specs.Digits.{bytes_of_number}
 use Rattle.ark_base.specs.Laws.Digits.{length-bytes_of_number}
 use Rattle.jubjub.specs.Values.{value}

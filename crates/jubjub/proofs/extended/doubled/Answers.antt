@@ -1,4 +1,4 @@
-use Rattle.std.proofs.Common.{◌≡◌, ℕ, ◌*◌, ◌%◌, ◌∙◌, ap}
+use Rattle.std.proofs.Common.{◌*◌, ◌%◌, ◌∙◌, ap}
 use Rattle.jubjub.specs.Jubjub.{p}
 use Rattle.jubjub.specs.Values.{value}
 use Rattle.jubjub.proofs.ExtendedLaws.{double_stands}

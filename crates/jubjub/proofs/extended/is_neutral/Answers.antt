@@ -1,6 +1,5 @@
-use Rattle.std.proofs.Common.{◌≡◌, ◌∙◌, sym, ap}
+use Rattle.std.proofs.Common.{◌∙◌, sym}
 use Rattle.ark_wide_fields.specs.Laws.Fp256.{wide_equal_if_same}
-use Rattle.jubjub.specs.Values.{value}
 use Rattle.jubjub.proofs.PointTests.{neutral_from, neutral_first, neutral_second}
 use Rattle.jubjub.proofs.extended.is_neutral.Goals as goal
 

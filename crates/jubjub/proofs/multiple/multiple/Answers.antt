@@ -1,4 +1,4 @@
-use Rattle.std.proofs.Common.{◌≡◌, ◌∙◌, ap, sym, subst}
+use Rattle.std.proofs.Common.{sym, subst}
 use Rattle.ark_groups.specs.Words.{number}
 use Rattle.jubjub.specs.declared.extended.Extended.{Extended}
 use Rattle.jubjub.proofs.Halves.{Whole, begins, even, odd, ends}

@@ -1,8 +1,8 @@
-use Rattle.jubjub.specs.Edwards.{Coordinates, sum, neutral, negative}
+use Rattle.jubjub.specs.Edwards.{sum}
 use Rattle.jubjub.specs.Jubjub.{p, d}
 use Rattle.jubjub.specs.Elements.{coordinates, jubjub}
-use Rattle.jubjub.specs.Laws.Points.{neutral_in_subgroup, sum_in_subgroup, negative_in_subgroup}
-use Rattle.jubjub.proofs.GroupLaws.{entry, made_at, made_is, at-identity, at-plus, at-opposite}
+use Rattle.jubjub.specs.Laws.Points.{sum_in_subgroup}
+use Rattle.jubjub.proofs.GroupLaws.{entry, made_at, made_is, at-plus}
 use Rattle.jubjub.proofs.element.Jubjub.add.Goals as goal
 
 pub of-requires : goal.of-requires
@@ -12,7 +12,7 @@ of-requires c =
     let stands = c.plus.ensures a (coordinates c.args.other) c.args.self.in_subgroup.on_curve
     c.args.other.in_subgroup.on_curve c.lifted-a.ensures c.lifted-b.ensures in
     entry c.affine.result.0 c.affine.result.1 (sum p d a (coordinates c.args.other)) (c.affine.ensures.x (sum p d a
-        (coordinates c.args.other)) s.on_curve stands)
+    (coordinates c.args.other)) s.on_curve stands)
     (c.affine.ensures.y (sum p d a (coordinates c.args.other)) s.on_curve stands) s
 
 pub returns-clause-group : goal.returns-clause-group
@@ -22,7 +22,7 @@ returns-clause-group c =
     let stands = c.plus.ensures a (coordinates c.args.other) c.args.self.in_subgroup.on_curve
     c.args.other.in_subgroup.on_curve c.lifted-a.ensures c.lifted-b.ensures in
     made_is c.of.result (jubjub.plus c.args.self c.args.other) c.affine.result.0 c.affine.result.1 (sum p d a
-        (coordinates c.args.other))
+    (coordinates c.args.other))
     (c.affine.ensures.x (sum p d a (coordinates c.args.other)) s.on_curve stands) (c.affine.ensures.y (sum p d a
     (coordinates c.args.other)) s.on_curve stands) c.of.ensures
     (at-plus c.args.self c.args.other)
@@ -34,5 +34,5 @@ returns-clause-coordinates c =
     let stands = c.plus.ensures a (coordinates c.args.other) c.args.self.in_subgroup.on_curve
     c.args.other.in_subgroup.on_curve c.lifted-a.ensures c.lifted-b.ensures in
     made_at c.of.result c.affine.result.0 c.affine.result.1 (sum p d a (coordinates c.args.other)) (c.affine.ensures.x
-        (sum p d a (coordinates c.args.other)) s.on_curve stands)
+    (sum p d a (coordinates c.args.other)) s.on_curve stands)
     (c.affine.ensures.y (sum p d a (coordinates c.args.other)) s.on_curve stands) c.of.ensures

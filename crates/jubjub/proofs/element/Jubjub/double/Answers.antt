@@ -1,8 +1,8 @@
-use Rattle.jubjub.specs.Edwards.{Coordinates, sum, neutral, negative}
+use Rattle.jubjub.specs.Edwards.{sum}
 use Rattle.jubjub.specs.Jubjub.{p, d}
 use Rattle.jubjub.specs.Elements.{coordinates, jubjub}
-use Rattle.jubjub.specs.Laws.Points.{neutral_in_subgroup, sum_in_subgroup, negative_in_subgroup}
-use Rattle.jubjub.proofs.GroupLaws.{entry, made_at, made_is, at-identity, at-plus, at-opposite}
+use Rattle.jubjub.specs.Laws.Points.{sum_in_subgroup}
+use Rattle.jubjub.proofs.GroupLaws.{entry, made_at, made_is, at-plus}
 use Rattle.jubjub.proofs.element.Jubjub.double.Goals as goal
 
 pub of-requires : goal.of-requires
@@ -29,5 +29,5 @@ returns-clause-coordinates c =
     let s = sum_in_subgroup a a c.args.self.in_subgroup c.args.self.in_subgroup in
     let stands = c.doubled.ensures a c.args.self.in_subgroup.on_curve c.lifted.ensures in
     made_at c.of.result c.affine.result.0 c.affine.result.1 (sum p d a a) (c.affine.ensures.x
-        (sum p d a a) s.on_curve stands)
+    (sum p d a a) s.on_curve stands)
     (c.affine.ensures.y (sum p d a a) s.on_curve stands) c.of.ensures

@@ -1,8 +1,6 @@
-use Rattle.std.proofs.Common.{◌≡◌, ℕ, ◌≤◌, List, length, refl, sym, ◌∙◌, ap, subst, arith}
+use Rattle.std.proofs.Common.{◌≡◌, ℕ, List, length, sym, ◌∙◌, ap, subst, arith}
 use Rattle.std.proofs.lemmas.List.{length-take-le}
 use Rattle.std.proofs.lemmas.Option.{IfSome_then}
-use Rattle.jubjub.specs.declared.element.Jubjub.{Jubjub}
-use Rattle.jubjub.specs.Edwards.{Coordinates}
 use Rattle.jubjub.specs.Jubjub.{IsInSubgroup}
 use Rattle.jubjub.specs.Elements.{coordinates}
 use Rattle.jubjub.specs.Spelling.{spelling}

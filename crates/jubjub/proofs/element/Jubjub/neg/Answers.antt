@@ -1,9 +1,9 @@
 use Rattle.std.proofs.Common.{refl}
-use Rattle.jubjub.specs.Edwards.{Coordinates, sum, neutral, negative}
-use Rattle.jubjub.specs.Jubjub.{p, d}
+use Rattle.jubjub.specs.Edwards.{negative}
+use Rattle.jubjub.specs.Jubjub.{p}
 use Rattle.jubjub.specs.Elements.{coordinates, jubjub}
-use Rattle.jubjub.specs.Laws.Points.{neutral_in_subgroup, sum_in_subgroup, negative_in_subgroup}
-use Rattle.jubjub.proofs.GroupLaws.{entry, made_at, made_is, at-identity, at-plus, at-opposite}
+use Rattle.jubjub.specs.Laws.Points.{negative_in_subgroup}
+use Rattle.jubjub.proofs.GroupLaws.{entry, made_at, made_is, at-opposite}
 use Rattle.jubjub.proofs.element.Jubjub.neg.Goals as goal
 
 pub of-requires : goal.of-requires
@@ -19,4 +19,4 @@ returns-clause-group c =
 pub returns-clause-coordinates : goal.returns-clause-coordinates
 returns-clause-coordinates c =
     made_at c.of.result c.neg.result c.args.self.y (negative p
-        (coordinates c.args.self)) c.neg.ensures refl c.of.ensures
+    (coordinates c.args.self)) c.neg.ensures refl c.of.ensures

@@ -1,8 +1,7 @@
-use Rattle.jubjub.specs.Edwards.{Coordinates, sum, neutral, negative}
-use Rattle.jubjub.specs.Jubjub.{p, d}
-use Rattle.jubjub.specs.Elements.{coordinates, jubjub}
-use Rattle.jubjub.specs.Laws.Points.{neutral_in_subgroup, sum_in_subgroup, negative_in_subgroup}
-use Rattle.jubjub.proofs.GroupLaws.{entry, made_at, made_is, at-identity, at-plus, at-opposite}
+use Rattle.jubjub.specs.Edwards.{neutral}
+use Rattle.jubjub.specs.Elements.{jubjub}
+use Rattle.jubjub.specs.Laws.Points.{neutral_in_subgroup}
+use Rattle.jubjub.proofs.GroupLaws.{entry, made_at, made_is, at-identity}
 use Rattle.jubjub.proofs.element.Jubjub.zero.Goals as goal
 
 pub of-requires : goal.of-requires
