@@ -1,0 +1,10 @@
+pub mod ExtendedFacts
+pub mod ExtendedLaws
+pub mod PowerSteps
+pub mod GroupLaws
+pub mod Halves
+pub mod PointTests
+pub mod Ladder
+pub mod Generator
+pub mod OrderPrime
+pub mod Spelled

@@ -1,0 +1,33 @@
+use Rattle.jubjub.specs.Edwards.{sum}
+use Rattle.jubjub.specs.Jubjub.{p, d}
+use Rattle.jubjub.specs.Elements.{coordinates, jubjub}
+use Rattle.jubjub.specs.Laws.Points.{sum_in_subgroup}
+use Rattle.jubjub.proofs.GroupLaws.{entry, made_at, made_is, at-plus}
+use Rattle.jubjub.proofs.element.Jubjub.double.Goals as goal
+
+pub of-requires : goal.of-requires
+of-requires c =
+    let a = coordinates c.args.self in
+    let s = sum_in_subgroup a a c.args.self.in_subgroup c.args.self.in_subgroup in
+    let stands = c.doubled.ensures a c.args.self.in_subgroup.on_curve c.lifted.ensures in
+    entry c.affine.result.0 c.affine.result.1 (sum p d a a) (c.affine.ensures.x (sum p d a a) s.on_curve stands)
+    (c.affine.ensures.y (sum p d a a) s.on_curve stands) s
+
+pub returns-clause-group : goal.returns-clause-group
+returns-clause-group c =
+    let a = coordinates c.args.self in
+    let s = sum_in_subgroup a a c.args.self.in_subgroup c.args.self.in_subgroup in
+    let stands = c.doubled.ensures a c.args.self.in_subgroup.on_curve c.lifted.ensures in
+    made_is c.of.result (jubjub.plus c.args.self c.args.self) c.affine.result.0 c.affine.result.1 (sum p d a a)
+    (c.affine.ensures.x (sum p d a a) s.on_curve stands) (c.affine.ensures.y
+    (sum p d a a) s.on_curve stands) c.of.ensures
+    (at-plus c.args.self c.args.self)
+
+pub returns-clause-coordinates : goal.returns-clause-coordinates
+returns-clause-coordinates c =
+    let a = coordinates c.args.self in
+    let s = sum_in_subgroup a a c.args.self.in_subgroup c.args.self.in_subgroup in
+    let stands = c.doubled.ensures a c.args.self.in_subgroup.on_curve c.lifted.ensures in
+    made_at c.of.result c.affine.result.0 c.affine.result.1 (sum p d a a) (c.affine.ensures.x
+    (sum p d a a) s.on_curve stands)
+    (c.affine.ensures.y (sum p d a a) s.on_curve stands) c.of.ensures

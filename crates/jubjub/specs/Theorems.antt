@@ -1,0 +1,40 @@
+-- What is proved of the curve and of its prime subgroup.
+use Rattle.std.specs.Prelude.{◌≡◌, ℕ, ◌+◌, ◌-◌, ◌*◌, ◌%◌}
+use Rattle.ark_groups.specs.Group.{Group, times}
+use Rattle.jubjub.specs.declared.element.Jubjub.{Jubjub}
+use Rattle.jubjub.specs.Edwards.{Coordinates, cross, over}
+use Rattle.jubjub.specs.Jubjub.{p, d, order, IsOnJubjub, IsInSubgroup}
+use Rattle.jubjub.specs.Elements.{coordinates, jubjub}
+
+-- a quotient times its divisor is the dividend, modulo p, if p does not divide the divisor
+abbrev pub QuotientsAreRight : Type 0
+QuotientsAreRight = (a b : ℕ) → (b % p ≡ 0 → ⊥) → over p a b * b % p ≡ a % p
+
+-- no denominator of a sum of two points of the curve is 0 modulo p
+abbrev pub IsComplete : Type 0
+IsComplete = (a b : Coordinates) → IsOnJubjub a → IsOnJubjub b
+    → ((1 + cross d a b) % p ≡ 0 → ⊥) × ((1 + (p - cross d a b % p)) % p ≡ 0 → ⊥)
+
+-- the elements that satisfy P are a commutative group
+pub record IsCommutativeGroupOn {G : Type 0} (P : G → Type 0) (g : Group G) : Type 0 where
+  pub identity_in : P g.identity
+  pub plus_in : (x y : G) → P x → P y → P (g.plus x y)
+  pub opposite_in : (x : G) → P x → P (g.opposite x)
+  pub assoc : (x y z : G) → P x → P y → P z → g.plus (g.plus x y) z ≡ g.plus x (g.plus y z)
+  pub comm : (x y : G) → P x → P y → g.plus x y ≡ g.plus y x
+  pub left_identity : (x : G) → P x → g.plus g.identity x ≡ x
+  pub left_opposite : (x : G) → P x → g.plus (g.opposite x) x ≡ g.identity
+
+-- an element is its coordinates: these are in the subgroup, each pair in it is one element's, and no other's
+pub record ElementsAreCoordinates : Type 0 where
+  pub inside : (e : Jubjub) → IsInSubgroup (coordinates e)
+  pub made : (a : Coordinates) → IsInSubgroup a → (e : Jubjub) × (coordinates e ≡ a)
+  pub same : (e f : Jubjub) → coordinates e ≡ coordinates f → e ≡ f
+
+-- each element is zero when it is added as often as the order says
+abbrev pub HasOrder : Type 0
+HasOrder = (x : Jubjub) → times jubjub order x ≡ jubjub.identity
+
+-- an element that is zero when it is added n times is zero, or the order divides n
+abbrev pub HasPrimeOrder : Type 0
+HasPrimeOrder = (n : ℕ) (x : Jubjub) → times jubjub n x ≡ jubjub.identity → (n % order ≡ 0 → ⊥) → x ≡ jubjub.identity

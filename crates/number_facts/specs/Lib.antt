@@ -1,0 +1,5 @@
+pub mod Polynomials
+pub mod Congruences
+pub mod Powers
+pub mod Primes
+pub mod Generators
