@@ -30,11 +30,19 @@ pub more-is : (size count more : ℕ) → stored_count size + more ≡ stored_co
 more-is size count more is = omega arith
 
 some-same : {A : Type 0} (x y : A) → Some x ≡ Some y → x ≡ y
-some-same x y is = ap (λ o. held o) is
+some-same {A} x y is = ap (λ o. held o) is
   where
     held : Option A → A
     held None = x
     held (Some z) = z
+
+more-parts : (short : Bool) (part : List ℕ) (rest : Option (List (List ℕ))) (count : ℕ)
+    → ((others : List (List ℕ)) → rest ≡ Some others → length others ≡ count) → (parts : List (List ℕ))
+    → (if short then None else (option_map (λ others. part ∷ others) rest)) ≡ Some parts → length parts ≡ suc count
+more-parts true part rest count so parts told = absurd cc
+more-parts false part None count so parts told = absurd cc
+more-parts false part (Some others) count so parts told =
+    ap length (sym (some-same (part ∷ others) parts told)) ∙ ap suc (so others refl)
 
 -- There are as many parts as lengths.
 length-parts : (bytes lengths : List ℕ) (parts : List (List ℕ)) → parts_by bytes lengths ≡ Some parts → length parts
@@ -44,16 +52,9 @@ length-parts bytes [] parts is = go (nat_lt 0 (length bytes)) is
     go : (left : Bool) → (if left then None else Some []) ≡ Some parts → length parts ≡ 0
     go true told = absurd cc
     go false told = ap length (sym (some-same [] parts told))
-length-parts bytes (len ∷ lengths) parts is =
-    go (nat_lt (length bytes) len) (parts_by (drop len bytes) lengths) refl is
-  where
-    go : (short : Bool) (rest : Option (List (List ℕ))) → parts_by (drop len bytes) lengths ≡ rest
-        → (if short then None else (option_map (λ others. take len bytes ∷ others) rest)) ≡ Some parts
-        → length parts ≡ suc (length lengths)
-    go true rest same told = absurd cc
-    go false None same told = absurd cc
-    go false (Some others) same told = ap length (sym (some-same (take len bytes ∷ others) parts told))
-        ∙ ap suc (length-parts (drop len bytes) lengths others same)
+length-parts bytes (len ∷ lengths) parts is = more-parts (nat_lt (length bytes) len) (take len bytes)
+    (parts_by (drop len bytes) lengths) (length lengths) (λ others same. length-parts (drop len bytes) lengths others
+    same) parts is
 
 -- The entries that have these digests.
 pub record Entries (entries lengths : List ℕ) (digests : List Digest) : Type 0 where
