@@ -15,7 +15,7 @@ ghost use Rattle.paxidore_calls.specs.LogProofs.{proof_digests};
 ghost use Rattle.paxidore_calls.specs.declared.refused.Refused.TheVariants.{Room};
 
 use kept_log::{is_size, stored_count};
-use paxidore_calls::kept_log;
+use paxidore_calls::kept_log as calls;
 use std::alloc::Global;
 
 /// Returns how many digests a log of this size has stored; 0 for a size of 2^63 and above.
@@ -58,7 +58,7 @@ pub extern "C" fn paxidore_log_append(
     ensures kept { result ≢ pos 0 → more.new ≡ more.old }
     ensures uncounted { result ≢ pos 0 → result ≢ refusal_code Room → more_len.new ≡ more_len.old }
 {
-    kept_log::append(alloc, more, more_len, kept, size, entries, lengths)
+    calls::append(alloc, more, more_len, kept, size, entries, lengths)
 }
 
 /// Writes the root of the first `size` entries of a log to `root`: MTH(D[0:size]), and of none the SHA-256 of nothing.
@@ -73,7 +73,7 @@ pub extern "C" fn paxidore_log_root(root: &mut [u8; 32], kept: &[[u8; 32]], size
         → log_root size leaves ≡ Ok root.new }
     ensures kept { result ≢ pos 0 → root.new ≡ root.old }
 {
-    kept_log::root(root, kept, size)
+    calls::root(root, kept, size)
 }
 
 /// Writes the bytes of the path of an index of the first `size` entries to the front of `path`, and their count.
@@ -98,7 +98,7 @@ pub extern "C" fn paxidore_log_inclusion(
     ensures given { (bytes : List ℕ) × (let outcome = if_inside size index kept.now (Ok bytes) in
         Hands outcome path.old path.new path_len.old path_len.new result) }
 {
-    kept_log::inclusion(alloc, path, path_len, kept, size, index)
+    calls::inclusion(alloc, path, path_len, kept, size, index)
 }
 
 /// Writes the bytes of the proof that the first `size` entries continue the first `old_size` ones to the front of `proof`, and
@@ -124,7 +124,7 @@ pub extern "C" fn paxidore_log_consistency(
     ensures given { (bytes : List ℕ) × (let outcome = if_older old_size size kept.now (Ok bytes) in
         Hands outcome proof.old proof.new proof_len.old proof_len.new result) }
 {
-    kept_log::consistency(alloc, proof, proof_len, kept, old_size, size)
+    calls::consistency(alloc, proof, proof_len, kept, old_size, size)
 }
 
 /// Returns whether each stored digest of a pair is the hash of its two.
@@ -141,7 +141,7 @@ pub extern "C" fn paxidore_log_check(kept: &[[u8; 32]], size: usize) -> i32
     ensures damaged { result ≡ pos 1 → (leaves : List Digest) → length leaves ≡ size
         → Keeps leaves kept.now → ⊥ }
 {
-    kept_log::check(kept, size)
+    calls::check(kept, size)
 }
 
 /// Returns whether the bytes of a path show the digest of an entry at an index of a log with this root and size.
@@ -165,5 +165,5 @@ pub extern "C" fn paxidore_log_verify_inclusion_digest(
     ensures shows { let digests = proof_digests (inclusion_length size index) path.now in
         result ≡ pos 0 → ShowsLogLeaf digest_hashes root.now size index digest.now digests }
 {
-    kept_log::verify_inclusion_digest(alloc, root, size, index, digest, path)
+    calls::verify_inclusion_digest(alloc, root, size, index, digest, path)
 }
