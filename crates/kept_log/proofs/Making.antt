@@ -6,7 +6,7 @@ use Rattle.ark_base.specs.Digits.{itself}
 use Rattle.ark_paths.specs.Pair.{Digest}
 use Rattle.ark_trees.specs.Rfc6962.{node_of}
 use Rattle.merkle_log.specs.Append.{Completes}
-use Rattle.merkle_log.specs.Stored.{stored_count, position, row_of}
+use Rattle.merkle_log.specs.Stored.{stored_count, position}
 use Rattle.merkle_log.specs.Walk.{index_up}
 use Rattle.merkle_log.proofs.Completing.{Completing, stored_as, completing-first, completing-place, completing-inside, completing-next, completing-end}
 use Rattle.merkle_log.proofs.Positions.{count-half, count-more, count-rises, length-row_of}

@@ -11,7 +11,7 @@ use Rattle.ark_trees.specs.Rfc6962.{node_of}
 use Rattle.merkle_log.specs.Log.{NodeHash}
 use Rattle.merkle_log.specs.Stored.{stored_count, position, StoredValue, row_of, row_pairs, IsStored}
 use Rattle.merkle_log.specs.Walk.{index_up}
-use Rattle.merkle_log.proofs.Positions.{count-rises, length-row_of, place-within, position-within, up-more}
+use Rattle.merkle_log.proofs.Positions.{length-row_of, place-within, position-within, up-more}
 use Rattle.kept_log.specs.Kept.{front, Keeps}
 
 -- ---- how long they are

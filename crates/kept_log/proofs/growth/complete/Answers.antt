@@ -1,6 +1,5 @@
-use Rattle.std.proofs.Common.{◌+◌, ◌-◌, ◌++◌, [], length, get_or, ap, ◌∙◌, Ok, sym, arith}
+use Rattle.std.proofs.Common.{◌++◌, [], get_or, ap, ◌∙◌, Ok, sym, arith}
 use Rattle.ark_trees.specs.Rfc6962.{node_hash}
-use Rattle.merkle_log.specs.Stored.{position}
 use Rattle.kept_log.proofs.Making.{room-first, making-first, making-room, making-place, making-next, making-end, making-whole}
 use Rattle.kept_log.proofs.growth.complete.Goals as goal
 

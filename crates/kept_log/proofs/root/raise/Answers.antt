@@ -1,4 +1,3 @@
-use Rattle.std.proofs.Common.{arith}
 use Rattle.merkle_log.proofs.Edges.{has-front, whole-raised}
 use Rattle.kept_log.proofs.Rows.{has-up, whole-up}
 use Rattle.kept_log.proofs.root.raise.Goals as goal

@@ -1,5 +1,4 @@
-use Rattle.std.proofs.Common.{◌<◌, length, [], get_or, ap, sym, ◌∙◌, arith}
-use Rattle.merkle_log.specs.Stored.{position}
+use Rattle.std.proofs.Common.{◌<◌, sym, ◌∙◌, arith}
 use Rattle.merkle_log.specs.Walk.{index_up}
 use Rattle.merkle_log.proofs.Positions.{place-within, position-within, level-fits, row_of-at, row-inside}
 use Rattle.kept_log.proofs.kept.Kept.at.Goals as goal

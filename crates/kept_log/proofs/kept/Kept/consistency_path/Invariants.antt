@@ -1,4 +1,4 @@
-use Rattle.std.proofs.Common.{◌≡◌, ◌+◌, ◌-◌, ◌<◌, ◌≤◌, take, Ok}
+use Rattle.std.proofs.Common.{◌+◌, ◌<◌, ◌≤◌, take, Ok}
 use Rattle.ark_base.specs.Digits.{itself}
 use Rattle.ark_paths.specs.Pair.{Digest}
 use Rattle.ark_trees.specs.Rfc6962.{node_of}

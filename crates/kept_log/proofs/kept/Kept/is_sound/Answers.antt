@@ -1,7 +1,7 @@
-use Rattle.std.proofs.Common.{◌≡◌, ◌+◌, ◌<◌, ℕ, Ok, ap, refl, sym, ◌∙◌, inl, inr, arith}
+use Rattle.std.proofs.Common.{◌≡◌, refl, sym, ◌∙◌, inl, inr, arith}
 use Rattle.std.proofs.lemmas.Bool.{cases_lt}
 use Rattle.ark_trees.specs.Rfc6962.{node_of}
-use Rattle.merkle_log.specs.Stored.{row_of, row_pairs}
+use Rattle.merkle_log.specs.Stored.{row_of}
 use Rattle.merkle_log.proofs.Positions.{length-row_of}
 use Rattle.kept_log.proofs.Rows.{length-up, keeps-of}
 use Rattle.kept_log.proofs.Hashed.{stored-all}
