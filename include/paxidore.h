@@ -1,10 +1,10 @@
-/* Paxidore: Merkle trees over byte strings, clients and keepers of transparency logs, SHA-256, BLAKE2s and commitments. The code behind these
- * calls is proved.
+/* Paxidore: Merkle trees over byte strings, clients and keepers of transparency logs, SHA-256, BLAKE2s and commitments. The code
+ * behind these calls is proved.
  *
  * No call keeps memory or a pointer, and each may run in any thread at any time. The calls of trees and logs allocate: they stand on the
  * process's malloc and free, so do not call them in a signal handler, nor in the child of a process with threads between fork
  * and exec. Where malloc returns NULL the answer is PAXIDORE_E_MEMORY; no clause says that enough memory is not answered so.
- * The calls of SHA-256, of BLAKE2s and of commitments allocate nothing.
+ * The calls of SHA-256, of BLAKE2s and of commitments allocate nothing, nor does a kept log's root, its check or its count.
  *
  * size_t has 64 bits. Only inputs may overlap. A pointer to a first byte or number is not NULL and may be read, or written where
  * it is not const, for its length; with length 0 it is not looked at and may be NULL. */
@@ -201,8 +201,7 @@ int32_t paxidore_log_verify_consistency(size_t old_size, const uint8_t old_root[
 size_t paxidore_log_kept(size_t size);
 
 /* Writes the digests to put behind the stored ones of a log of `size` entries for `count` entries more to the front of `more`,
- * which has room for `more_room` digests, and their count to `more_len`: they are fewer than two an entry and one for each
- * bit of a size. The entries are handed over as leaves are: one behind the other, with the length of each. Nothing else is
+ * which has room for `more_room` digests, and their count to `more_len`: at most 2 * count + 62. The entries are handed over as leaves are: one behind the other, with the length of each. Nothing else is
  * written, and `kept` is read alone. Where the room is too short, the answer is E_ROOM, nothing is hashed, and `more_len` is what is
  * needed. E_SIZE for fewer digests than are stored and for a new size of 2^63 and above, E_ROOM, E_LENGTHS, E_MEMORY. */
 PAXIDORE_ANSWERS PAXIDORE_NOT_NULL((3))

@@ -1,4 +1,4 @@
-"""Merkle trees over byte strings, transparency logs and their clients, SHA-256, BLAKE2s and commitments, by the proved code of libpaxidore.
+"""Merkle trees over byte strings, transparency logs, SHA-256, BLAKE2s and commitments, by the proved code of libpaxidore.
 
 A log or a store publishes the root of its leaves and their count, and hands out paths::
 

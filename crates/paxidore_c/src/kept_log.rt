@@ -1,7 +1,8 @@
-//! Keepers of a transparency log of any size (RFC 6962 and RFC 9162, section 2.1), whose stored digests lie in the caller's memory.
+//! Keepers of a transparency log of any size (RFC 6962 and RFC 9162, section 2.1), whose stored digests lie in memory of the
+//! caller's.
 //!
-//! The stored digests are those of the log's complete subtrees, in the order in which they are completed: 2n less the count of ones
-//! of n for n entries. They only grow. Where other digests are kept, each call answers all the same.
+//! The stored digests are those of the log's complete subtrees, in the order in which they are completed: 2n less the count of
+//! ones of n for n entries. They only grow. Where other digests are kept, each call answers all the same.
 
 ghost use Rattle.std.specs.Prelude.{◌≡◌, ◌≢◌, ◌≤◌, ◌++◌, ◌^◌, ℕ, List, Bool, length, map, take, drop, nat_lt, if◌then◌else◌, pos, IfOk, Ok};
 ghost use Rattle.ark_paths.specs.Pair.{Digest};
@@ -29,8 +30,8 @@ pub extern "C" fn paxidore_log_kept(size: usize) -> usize
 /// Writes to the front of `more` the digests to put behind the stored ones of a log of `size` entries for more entries, and how
 /// many to `more_len`.
 ///
-/// Answers: 0; else the first of `E_SIZE` for fewer digests than are stored and for a new size of 2^63 and above, `E_ROOM`, which
-/// alone writes the count that is needed, `E_LENGTHS`; `E_MEMORY` in place of any. Each leaves `more` as before.
+/// Answers: 0; else the first of `E_SIZE` for fewer digests than are stored and for a new size of 2^63 and above, `E_ROOM`,
+/// which alone writes the count that is needed, `E_LENGTHS`; `E_MEMORY` in place of any. Each leaves `more` as before.
 #[unsafe(no_mangle)]
 pub extern "C" fn paxidore_log_append(
     alloc: Global,
@@ -69,8 +70,8 @@ pub extern "C" fn paxidore_log_root(root: &mut [u8; 32], kept: &[[u8; 32]], size
     ensures answer { result ≡ kept_code size kept.now }
 
     // Of a list of at least `size` leaf digests whose stored ones are kept, it is the root of the first.
-    ensures root { result ≡ pos 0 → (leaves : List Digest) → size ≤ length leaves → Keeps leaves kept.now
-        → log_root size leaves ≡ Ok root.new }
+    ensures root { result ≡ pos 0 → (leaves : List Digest) → size ≤ length leaves
+        → Keeps leaves kept.now → log_root size leaves ≡ Ok root.new }
     ensures kept { result ≢ pos 0 → root.new ≡ root.old }
 {
     calls::root(root, kept, size)

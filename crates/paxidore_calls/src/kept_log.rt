@@ -27,8 +27,8 @@ use std::alloc::Global;
 /// Writes the root of a kept log to `root`, and returns the code. The only error is `Size`, which leaves `root` as before.
 pub fn root(root: &mut [u8; 32], kept: &[[u8; 32]], size: usize) -> i32
     ensures answer { result ≡ kept_code size kept.now }
-    ensures root { result ≡ pos 0 → (leaves : List Digest) → size ≤ length leaves → Keeps leaves kept.now
-        → log_root size leaves ≡ Ok root.new }
+    ensures root { result ≡ pos 0 → (leaves : List Digest) → size ≤ length leaves
+        → Keeps leaves kept.now → log_root size leaves ≡ Ok root.new }
     ensures kept { result ≢ pos 0 → root.new ≡ root.old }
 {
     match Kept::of(size, kept) {
