@@ -201,9 +201,9 @@ int32_t paxidore_log_verify_consistency(size_t old_size, const uint8_t old_root[
 size_t paxidore_log_kept(size_t size);
 
 /* Writes the digests to put behind the stored ones of a log of `size` entries for `count` entries more to the front of `more`,
- * which has room for `more_room` digests, and their count to `more_len`: at most 2 * count + 62. The entries are handed over as leaves are: one behind the other, with the length of each. Nothing else is
- * written, and `kept` is read alone. Where the room is too short, the answer is E_ROOM, nothing is hashed, and `more_len` is what is
- * needed. E_SIZE for fewer digests than are stored and for a new size of 2^63 and above, E_ROOM, E_LENGTHS, E_MEMORY. */
+ * which has room for `more_room` digests, and their count to `more_len`: at most 2 * count + 62. The entries are handed over as
+ * leaves are: one behind the other, with the length of each. Nothing else is written. Where the room is too short, the answer is
+ * E_ROOM, nothing is hashed, and `more_len` is what is needed. E_SIZE for fewer digests than are stored and for a new size of 2^63 and above, E_ROOM, E_LENGTHS, E_MEMORY. */
 PAXIDORE_ANSWERS PAXIDORE_NOT_NULL((3))
 int32_t paxidore_log_append(uint8_t *more, size_t more_room, size_t *more_len,
                             const uint8_t *kept, size_t kept_len, size_t size,
