@@ -6,8 +6,8 @@
 
 pub mod blake2s;
 mod hashing;
-pub mod kept_log;
 pub mod log;
+pub mod log_keeper;
 pub mod rfc6962;
 pub mod sha256;
 mod trees;

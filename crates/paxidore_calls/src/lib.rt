@@ -3,7 +3,7 @@
 #![tactic(auto)]
 
 pub mod buffer;
-pub mod kept_log;
 pub mod leaves;
 pub mod log;
+pub mod log_keeper;
 pub mod refused;

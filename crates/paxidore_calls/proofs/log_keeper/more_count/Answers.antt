@@ -1,6 +1,6 @@
 use Rattle.std.proofs.Common.{arith}
 use Rattle.merkle_log.proofs.Positions.{count-rises}
-use Rattle.paxidore_calls.proofs.kept_log.more_count.Goals as goal
+use Rattle.paxidore_calls.proofs.log_keeper.more_count.Goals as goal
 
 pub overflow_sub-result : goal.overflow_sub-result
 overflow_sub-result c =

@@ -16,7 +16,7 @@ ghost use Rattle.paxidore_calls.specs.LogProofs.{proof_digests};
 ghost use Rattle.paxidore_calls.specs.declared.refused.Refused.TheVariants.{Room};
 
 use kept_log::{is_size, stored_count};
-use paxidore_calls::kept_log as calls;
+use paxidore_calls::log_keeper;
 use std::alloc::Global;
 
 /// Returns how many digests a log of this size has stored; 0 for a size of 2^63 and above.
@@ -59,7 +59,7 @@ pub extern "C" fn paxidore_log_append(
     ensures kept { result ≢ pos 0 → more.new ≡ more.old }
     ensures uncounted { result ≢ pos 0 → result ≢ refusal_code Room → more_len.new ≡ more_len.old }
 {
-    calls::append(alloc, more, more_len, kept, size, entries, lengths)
+    log_keeper::append(alloc, more, more_len, kept, size, entries, lengths)
 }
 
 /// Writes the root of the first `size` entries of a log to `root`: MTH(D[0:size]), and of none the SHA-256 of nothing.
@@ -74,7 +74,7 @@ pub extern "C" fn paxidore_log_root(root: &mut [u8; 32], kept: &[[u8; 32]], size
         → Keeps leaves kept.now → log_root size leaves ≡ Ok root.new }
     ensures kept { result ≢ pos 0 → root.new ≡ root.old }
 {
-    calls::root(root, kept, size)
+    log_keeper::root(root, kept, size)
 }
 
 /// Writes the bytes of the path of an index of the first `size` entries to the front of `path`, and their count.
@@ -99,7 +99,7 @@ pub extern "C" fn paxidore_log_inclusion(
     ensures given { (bytes : List ℕ) × (let outcome = if_inside size index kept.now (Ok bytes) in
         Hands outcome path.old path.new path_len.old path_len.new result) }
 {
-    calls::inclusion(alloc, path, path_len, kept, size, index)
+    log_keeper::inclusion(alloc, path, path_len, kept, size, index)
 }
 
 /// Writes the bytes of the proof that the first `size` entries continue the first `old_size` ones to the front of `proof`, and
@@ -125,7 +125,7 @@ pub extern "C" fn paxidore_log_consistency(
     ensures given { (bytes : List ℕ) × (let outcome = if_older old_size size kept.now (Ok bytes) in
         Hands outcome proof.old proof.new proof_len.old proof_len.new result) }
 {
-    calls::consistency(alloc, proof, proof_len, kept, old_size, size)
+    log_keeper::consistency(alloc, proof, proof_len, kept, old_size, size)
 }
 
 /// Returns whether each stored digest of a pair is the hash of its two.
@@ -142,7 +142,7 @@ pub extern "C" fn paxidore_log_check(kept: &[[u8; 32]], size: usize) -> i32
     ensures damaged { result ≡ pos 1 → (leaves : List Digest) → length leaves ≡ size
         → Keeps leaves kept.now → ⊥ }
 {
-    calls::check(kept, size)
+    log_keeper::check(kept, size)
 }
 
 /// Returns whether the bytes of a path show the digest of an entry at an index of a log with this root and size.
@@ -166,5 +166,5 @@ pub extern "C" fn paxidore_log_verify_inclusion_digest(
     ensures shows { let digests = proof_digests (inclusion_length size index) path.now in
         result ≡ pos 0 → ShowsLogLeaf digest_hashes root.now size index digest.now digests }
 {
-    calls::verify_inclusion_digest(alloc, root, size, index, digest, path)
+    log_keeper::verify_inclusion_digest(alloc, root, size, index, digest, path)
 }

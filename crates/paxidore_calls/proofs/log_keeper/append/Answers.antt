@@ -3,7 +3,7 @@ use Rattle.ark_trees.specs.Rfc6962.{entry_hash}
 use Rattle.kept_log.specs.Kept.{Keeps}
 use Rattle.merkle_log.specs.Stored.{stored_count}
 use Rattle.paxidore_calls.proofs.KeptLogs.{room-enough, more-is, entries-of, appended-all}
-use Rattle.paxidore_calls.proofs.kept_log.append.Goals as goal
+use Rattle.paxidore_calls.proofs.log_keeper.append.Goals as goal
 
 pub append-requires-clause-room : goal.append-requires-clause-room
 append-requires-clause-room c =

@@ -1,7 +1,7 @@
 use Rattle.std.specs.List.{flat_map}
 use Rattle.ark_base.specs.Digits.{itself}
 use Rattle.paxidore_calls.proofs.KeptLogs.{given-inside}
-use Rattle.paxidore_calls.proofs.kept_log.inclusion_of.Goals as goal
+use Rattle.paxidore_calls.proofs.log_keeper.inclusion_of.Goals as goal
 
 pub returns-clause-given : goal.returns-clause-given
 returns-clause-given c = (
