@@ -1,10 +1,10 @@
-/* Paxidore: Merkle trees over byte strings, clients of transparency logs, SHA-256, BLAKE2s and commitments. The code behind these
- * calls is proved.
+/* Paxidore: Merkle trees over byte strings, clients and keepers of transparency logs, SHA-256, BLAKE2s and commitments. The code
+ * behind these calls is proved.
  *
  * No call keeps memory or a pointer, and each may run in any thread at any time. The calls of trees and logs allocate: they stand on the
  * process's malloc and free, so do not call them in a signal handler, nor in the child of a process with threads between fork
  * and exec. Where malloc returns NULL the answer is PAXIDORE_E_MEMORY; no clause says that enough memory is not answered so.
- * The calls of SHA-256, of BLAKE2s and of commitments allocate nothing.
+ * The calls of SHA-256, of BLAKE2s and of commitments allocate nothing, nor does a kept log's root, its check or its count.
  *
  * size_t has 64 bits. Only inputs may overlap. A pointer to a first byte or number is not NULL and may be read, or written where
  * it is not const, for its length; with length 0 it is not looked at and may be NULL. */
@@ -38,6 +38,10 @@ extern "C" {
 #define PAXIDORE_MULTIPATHBYTES_MAX(indexes_count, log2_of_size) \
     (32U + (24U + 32U * (size_t)(log2_of_size)) * (size_t)(indexes_count))
 
+/* No inclusion proof and no consistency proof of a log of fewer than 2^63 entries has more bytes. */
+#define PAXIDORE_LOG_PATHBYTES_MAX (63U * 32U)
+#define PAXIDORE_LOG_PROOFBYTES_MAX (64U * 32U)
+
 /* What a compiler is told of a call, where it has words for it: that its answer is to be looked at, and which of its pointers are
  * not NULL, whatever their lengths. */
 #if defined(__GNUC__)
@@ -69,7 +73,8 @@ enum paxidore_answer {
     PAXIDORE_E_INVALID = -3,   /* the bytes are no proof for these indexes: of others, not canonical, or with bytes behind */
     PAXIDORE_E_HEIGHT = -4,    /* the proof is for a tree of another size */
     PAXIDORE_E_SIZE = -5,      /* no tree has this count of leaves: a tree has 2, 4, 8, 16 .. of them; or no log has one of
-                                * the sizes, or the old one is above the new one */
+                                * the sizes, or the old one is above the new one, or fewer digests are kept than a log of the
+                                * size has stored */
     PAXIDORE_E_LENGTHS = -6,   /* the lengths of the leaves do not sum to that of their bytes */
     PAXIDORE_E_COUNT = -7,     /* there are not as many leaves as indexes */
     PAXIDORE_E_INDEX = -8,     /* an index is not below the count of leaves, or there is none */
@@ -182,6 +187,58 @@ PAXIDORE_ANSWERS PAXIDORE_NOT_NULL((2, 4))
 int32_t paxidore_log_verify_consistency(size_t old_size, const uint8_t old_root[PAXIDORE_DIGESTBYTES],
                                         size_t new_size, const uint8_t new_root[PAXIDORE_DIGESTBYTES],
                                         const uint8_t *proof, size_t proof_len);
+
+/* ---- Keepers of a transparency log of any size, which hashes as above. What is kept are the stored digests: of each complete
+ * subtree of 2^k entries the root, 32 bytes, in the order in which the subtrees are completed. The digests of entry 0, of entry 1
+ * and of the two together are the first three. Of n entries there are 2n less the count of ones of n. They only grow: what is
+ * stored is never written again, so that it can lie in a file, and be mapped. `kept_len` and `more_room` count digests, not bytes.
+ *
+ * The calls look at the stored digests of the size that is asked about, and at no digest behind them; a size before the last one
+ * can be asked about too. A size is below 2^63. Where other digests are kept than those of a log, each call answers all the same,
+ * by some digests or others: paxidore_log_check tells. */
+
+/* How many digests a log of so many entries has stored; 0 for a size of 2^63 and above. It allocates nothing. */
+size_t paxidore_log_kept(size_t size);
+
+/* Writes the digests to put behind the stored ones of a log of `size` entries for `count` entries more to the front of `more`,
+ * which has room for `more_room` digests, and their count to `more_len`: at most 2 * count + 62. The entries are handed over as
+ * leaves are: one behind the other, with the length of each. Nothing else is written. Where the room is too short, the answer is
+ * E_ROOM, nothing is hashed, and `more_len` is what is needed. E_SIZE for fewer digests than are stored and for a new size of 2^63 and above, E_ROOM, E_LENGTHS, E_MEMORY. */
+PAXIDORE_ANSWERS PAXIDORE_NOT_NULL((3))
+int32_t paxidore_log_append(uint8_t *more, size_t more_room, size_t *more_len,
+                            const uint8_t *kept, size_t kept_len, size_t size,
+                            const uint8_t *entries, size_t entries_len,
+                            const size_t *lengths, size_t count);
+
+/* Writes the root of the first `size` entries; of none it is the SHA-256 of nothing. It allocates nothing. E_SIZE for fewer digests
+ * than a log of this size has stored. */
+PAXIDORE_ANSWERS PAXIDORE_NOT_NULL((1))
+int32_t paxidore_log_root(uint8_t root[PAXIDORE_DIGESTBYTES], const uint8_t *kept, size_t kept_len, size_t size);
+
+/* Writes the bytes of the inclusion proof of `index` in the first `size` entries to the front of `path`, which has room for
+ * `path_room`, and their count to `path_len`: at most PAXIDORE_LOG_PATHBYTES_MAX. E_SIZE, E_INDEX, E_ROOM, E_MEMORY. */
+PAXIDORE_ANSWERS PAXIDORE_NOT_NULL((3))
+int32_t paxidore_log_inclusion(uint8_t *path, size_t path_room, size_t *path_len,
+                               const uint8_t *kept, size_t kept_len, size_t size, size_t index);
+
+/* Writes the bytes of the proof that the first `size` entries continue the first `old_size` ones, at most
+ * PAXIDORE_LOG_PROOFBYTES_MAX; of equal sizes there are none. E_SIZE, also for the old size 0 and for one above the size, E_ROOM,
+ * E_MEMORY. */
+PAXIDORE_ANSWERS PAXIDORE_NOT_NULL((3))
+int32_t paxidore_log_consistency(uint8_t *proof, size_t proof_room, size_t *proof_len,
+                                 const uint8_t *kept, size_t kept_len, size_t old_size, size_t size);
+
+/* PAXIDORE_OK where each stored digest of two others is their hash: then they are those of a log of the entries whose own digests
+ * stand among them. PAXIDORE_NOT_SHOWN where one is not: then they are those of no log of this size. All of them are hashed;
+ * nothing is allocated. E_SIZE. */
+PAXIDORE_ANSWERS
+int32_t paxidore_log_check(const uint8_t *kept, size_t kept_len, size_t size);
+
+/* As paxidore_log_verify_inclusion, of an entry that is known by its digest: the SHA-256 of a zero byte and the entry. */
+PAXIDORE_ANSWERS PAXIDORE_NOT_NULL((1, 4))
+int32_t paxidore_log_verify_inclusion_digest(const uint8_t root[PAXIDORE_DIGESTBYTES], size_t size, size_t index,
+                                             const uint8_t digest[PAXIDORE_DIGESTBYTES],
+                                             const uint8_t *path, size_t path_len);
 
 /* ---- BLAKE2s with 32 bytes out and no key (RFC 7693). Nothing is refused. The standard defines it for inputs below 2^64 bytes:
  * of a longer text, which `update` can take in pieces, the count is kept modulo 2^64. */

@@ -42,6 +42,7 @@ static const size_t LENGTHS[8] = {3, 3, 3, 3, 3, 3, 3, 3}, INDEXES[3] = {1, 4, 5
 static uint8_t root[32], path[112], proof[512], halves[2][32], log_path[96];
 static size_t path_len, proof_len;
 
+static uint8_t kept[32 * 15], to_more[32 * 8];
 static uint8_t to_root[32], to_path[112], to_proof[512];
 static size_t to_len;
 
@@ -54,7 +55,11 @@ static int32_t call(int which) {
     case 4:
         return paxidore_rfc6962_multi_verify(root, 8, INDEXES, 3, (const uint8_t *)"bbbeeefff", 9, SHOWN, 3, proof, proof_len);
     case 5: return paxidore_log_verify_inclusion(root, 8, 4, LEAVES + 12, 3, log_path, sizeof log_path);
-    default: return paxidore_log_verify_consistency(4, halves[0], 8, root, halves[1], 32);
+    case 6: return paxidore_log_verify_consistency(4, halves[0], 8, root, halves[1], 32);
+    case 7: return paxidore_log_append(to_more, 8, &to_len, kept, 8, 5, LEAVES + 15, 9, LENGTHS + 5, 3);
+    case 8: return paxidore_log_inclusion(to_path, sizeof to_path, &to_len, kept, 15, 8, 4);
+    case 9: return paxidore_log_consistency(to_path, sizeof to_path, &to_len, kept, 15, 4, 8);
+    default: return paxidore_log_verify_inclusion_digest(root, 8, 4, kept + 32 * 7, log_path, sizeof log_path);
     }
 }
 
@@ -78,7 +83,10 @@ int main(void) {
     memcpy(log_path, path, 32);
     memcpy(log_path + 32, path + 72, 32);
     memcpy(log_path + 64, path + 40, 32);
-    for (int which = 0; which < 7; which++) {
+    size_t kept_len;
+    if (paxidore_log_append(kept, 15, &kept_len, NULL, 0, 0, LEAVES, 24, LENGTHS, 8) != PAXIDORE_OK || kept_len != 15)
+        failed++;
+    for (int which = 0; which < 11; which++) {
         calls = 0;
         int is_well = call(which) == PAXIDORE_OK && calls > 0 && live == 0;
         long most = calls;
@@ -86,13 +94,14 @@ int main(void) {
             memset(to_root, 0xaa, sizeof to_root);
             memset(to_path, 0xaa, sizeof to_path);
             memset(to_proof, 0xaa, sizeof to_proof);
+            memset(to_more, 0xaa, sizeof to_more);
             to_len = 7;
             left = refused;
             int32_t answer = call(which);
             left = -1;
             is_well = is_well && answer == PAXIDORE_E_MEMORY && live == 0 && to_len == 7 &&
                       is_filled(to_root, sizeof to_root) && is_filled(to_path, sizeof to_path) &&
-                      is_filled(to_proof, sizeof to_proof);
+                      is_filled(to_proof, sizeof to_proof) && is_filled(to_more, sizeof to_more);
         }
         if (is_well) {
             passed++;
@@ -101,8 +110,10 @@ int main(void) {
             fprintf(stderr, "refused_memory.c: call %d\n", which);
         }
     }
-    /* digests and commitments allocate nothing */
+    /* digests, commitments and a kept log's root allocate nothing */
     calls = 0;
+    if (paxidore_log_root(to_root, kept, 15, 8) != PAXIDORE_OK || paxidore_log_check(kept, 15, 8) != PAXIDORE_OK)
+        failed++;
     paxidore_sha256(to_root, LEAVES, 24);
     paxidore_blake2s(to_root, LEAVES, 24);
     paxidore_blake2s_commit(to_root, LEAVES, 24, root);

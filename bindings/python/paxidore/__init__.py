@@ -1,4 +1,4 @@
-"""Merkle trees over byte strings, clients of transparency logs, SHA-256, BLAKE2s and commitments, by the proved code of libpaxidore.
+"""Merkle trees over byte strings, transparency logs, SHA-256, BLAKE2s and commitments, by the proved code of libpaxidore.
 
 A log or a store publishes the root of its leaves and their count, and hands out paths::
 
@@ -12,15 +12,19 @@ Whoever has the root and the count checks them without the other leaves::
     if rfc6962.verify(root, 8, 3, leaf, path): ...
 
 ``sha256`` has the same calls for trees whose hashes are SHA-256 of a leaf, and of left followed by right. There are 2, 4, 8, 16 ..
-leaves in a tree. ``Log`` has the checks for a client of a log of any size. ``blake2s_commit`` commits to a value that is shown later.
+leaves in a tree. ``Log`` is a log of any size, in memory or in a file, with the checks for its clients. ``blake2s_commit`` commits to
+a value that is shown later.
 
 The library is found by the variable ``PAXIDORE_LIBRARY`` (a path), else beside this file, where a wheel has it, else as the
 system finds ``libpaxidore.so.1``. Where it is not there, or is older than this module, ``import paxidore`` raises
 ``ImportError``.
 """
 import ctypes
+import fcntl
+import mmap
 import os
-from typing import List, Sequence, Tuple
+import threading
+from typing import Callable, List, Optional, Sequence, Tuple
 
 __all__ = [
     "CountError",
@@ -283,14 +287,277 @@ class Trees:
         return ctypes.string_at(proof, count.value)
 
 
-class Log:
-    """The checks for a client of a transparency log of any size (RFC 6962 and RFC 9162, section 2.1).
+_log_kept = _call("log_kept", _size, _size)
+_log_append = _call(
+    "log_append", ctypes.c_int32, ctypes.c_void_p, _size, _sizes, ctypes.c_void_p, _size, _size, _bytes, _size, _sizes, _size
+)
+_log_root = _call("log_root", ctypes.c_int32, ctypes.c_void_p, ctypes.c_void_p, _size, _size)
+_log_path = (ctypes.c_void_p, _size, _sizes, ctypes.c_void_p, _size, _size, _size)
+_log_inclusion = _call("log_inclusion", ctypes.c_int32, *_log_path)
+_log_consistency = _call("log_consistency", ctypes.c_int32, *_log_path)
+_log_check = _call("log_check", ctypes.c_int32, ctypes.c_void_p, _size, _size)
 
-    A log publishes its root and its size. Its proofs are their digests alone, 32 bytes each, in the order of the standard.
+
+class _Memory:
+    """Stored digests in memory."""
+
+    def __init__(self) -> None:
+        self.size = 0
+        self.digests = bytearray()
+
+    def borrowed(self) -> "ctypes.Array[ctypes.c_char]":
+        return (ctypes.c_char * len(self.digests)).from_buffer(self.digests)
+
+    def grow(self, size: int, more: bytes) -> None:
+        self.digests += more
+        self.size = size
+
+    def close(self) -> None:
+        self.digests = bytearray()
+
+
+class _File:
+    """Stored digests in a file.
+
+    The file has 32 bytes of a title, two slots of 32 bytes, and the digests. A slot is a size in eight bytes, the least first, and
+    the first 24 bytes of their SHA-256. Digests are written behind the others and synced before the slot that does not have the
+    present size takes the new one and is synced. So one slot is whole at any time, and has the last size that was synced.
+    """
+
+    title = b"paxidore log, digests of SHA-256"
+    start = 96
+
+    def __init__(self, path: "os.PathLike[str] | str") -> None:
+        try:
+            self.file = os.open(path, os.O_RDWR | getattr(os, "O_CLOEXEC", 0))
+        except FileNotFoundError:
+            self.make(path)
+            self.file = os.open(path, os.O_RDWR | getattr(os, "O_CLOEXEC", 0))
+        self.map: Optional[mmap.mmap] = None
+        try:
+            fcntl.flock(self.file, fcntl.LOCK_EX | fcntl.LOCK_NB)
+            self.read()
+        except BaseException:
+            os.close(self.file)
+            raise
+
+    @staticmethod
+    def slot(size: int) -> bytes:
+        word = size.to_bytes(8, "little")
+        return word + sha256_digest(word)[:24]
+
+    def make(self, path: "os.PathLike[str] | str") -> None:
+        # under another name until it is whole; where another process makes it too, the first one stays
+        other = "%s.%d.new" % (os.fspath(path), os.getpid())
+        file = os.open(other, os.O_WRONLY | os.O_CREAT | os.O_TRUNC, 0o666)
+        try:
+            try:
+                _write(file, self.title + self.slot(0) + bytes(32), 0)
+                os.fsync(file)
+            finally:
+                os.close(file)
+            try:
+                os.link(other, path)
+            except FileExistsError:
+                pass
+        finally:
+            os.unlink(other)
+        folder = os.open(os.path.dirname(os.path.abspath(path)), os.O_RDONLY)
+        try:
+            os.fsync(folder)
+        finally:
+            os.close(folder)
+
+    def read(self) -> None:
+        head = os.pread(self.file, self.start, 0)
+        sizes = [int.from_bytes(head[at : at + 8], "little") for at in (32, 64) if len(head) == self.start]
+        whole = [size for at, size in zip((32, 64), sizes) if head[at : at + 32] == self.slot(size)]
+        if head[:32] != self.title or not whole:
+            raise ValueError("the file is no log of paxidore")
+        # sizes only grow, so that the larger one is the last
+        self.size = max(whole)
+        self.next = 64 if head[32:64] == self.slot(self.size) else 32
+        end = self.start + DIGEST_BYTES * _log_kept(self.size)
+        length = os.fstat(self.file).st_size
+        if length < end:
+            raise ValueError("the file of a log ends early")
+        if length > end:
+            # what an append had written that did not end
+            os.ftruncate(self.file, end)
+        self.remap()
+
+    def remap(self) -> None:
+        if self.map is not None:
+            self.map.close()
+        # a private mapping can be lent to the library, which reads it alone
+        end = self.start + DIGEST_BYTES * _log_kept(self.size)
+        self.map = mmap.mmap(self.file, end, access=mmap.ACCESS_COPY)
+
+    def borrowed(self) -> "ctypes.Array[ctypes.c_char]":
+        if self.map is None:
+            raise ValueError("an append to the file of this log failed: open it again")
+        return (ctypes.c_char * (DIGEST_BYTES * _log_kept(self.size))).from_buffer(self.map, self.start)
+
+    def grow(self, size: int, more: bytes) -> None:
+        _write(self.file, more, self.start + DIGEST_BYTES * _log_kept(self.size))
+        os.fsync(self.file)
+        try:
+            _write(self.file, self.slot(size), self.next)
+            os.fsync(self.file)
+            self.size, self.next = size, 96 - self.next
+            self.remap()
+        except BaseException:
+            # which size the file has is not known now
+            self.map = None
+            raise
+
+    def close(self) -> None:
+        if self.map is not None:
+            self.map.close()
+        os.close(self.file)
+
+
+def _write(file: int, data: bytes, at: int) -> None:
+    view = memoryview(data)
+    while view:
+        count = os.pwrite(file, view, at)
+        view, at = view[count:], at + count
+
+
+class Log:
+    """A transparency log of any size (RFC 6962 and RFC 9162, section 2.1), for whoever keeps it and for its clients.
+
+    ``Log()`` keeps the stored digests in memory, ``Log.open(path)`` in a file. They are those of the complete subtrees, fewer than
+    two an entry; the entries themselves are not kept. The log publishes its root and its size. Its proofs are their digests alone,
+    32 bytes each, in the order of the standard; ``Log.verify_inclusion`` and ``Log.verify_consistency`` check them for a client.
+
+    A log may be used by several threads. A file is locked while it is open (``flock``).
     """
 
     _inclusion = _call("log_verify_inclusion", ctypes.c_int32, _bytes, _size, _size, _bytes, _size, _bytes, _size)
+    _inclusion_digest = _call("log_verify_inclusion_digest", ctypes.c_int32, _bytes, _size, _size, _bytes, _bytes, _size)
     _consistency = _call("log_verify_consistency", ctypes.c_int32, _size, _bytes, _size, _bytes, _bytes, _size)
+
+    def __init__(self) -> None:
+        self._kept: "Optional[_Memory | _File]" = _Memory()
+        self._lock = threading.Lock()
+
+    @classmethod
+    def open(cls, path: "os.PathLike[str] | str") -> "Log":
+        """The log that a file keeps; a new one where there is no such file.
+
+        What an append left that did not end is cut off: the log has the entries of the last append that returned, or also those of
+        the one that was under way. Raises ``ValueError`` where the file is no log's, ``BlockingIOError`` where it is open already,
+        ``OSError``.
+        """
+        log = cls.__new__(cls)
+        log._kept = _File(path)
+        log._lock = threading.Lock()
+        return log
+
+    def close(self) -> None:
+        """Closes the file. The log cannot be used any more. A second call does nothing."""
+        with self._lock:
+            if self._kept is not None:
+                self._kept.close()
+            self._kept = None
+
+    def __enter__(self) -> "Log":
+        return self
+
+    def __exit__(self, *error: object) -> None:
+        self.close()
+
+    def _open(self) -> "_Memory | _File":
+        if self._kept is None:
+            raise ValueError("the log is closed")
+        return self._kept
+
+    def __len__(self) -> int:
+        with self._lock:
+            return self._open().size
+
+    def append(self, entries: Sequence[bytes]) -> int:
+        """Appends entries, whole or not at all, and returns the new size. In a file they are synced then.
+
+        Raises ``SizeError`` for a size of 2^63 and above, ``OutOfMemory``; ``OSError``, after which a log in a file has the entries or
+        has them not: where it has to be opened again, each call says so.
+        """
+        flat, count = _flat(tuple(entries)), _size()
+        with self._lock:
+            kept = self._open()
+            size = kept.size + flat[3]
+            room = _log_kept(size) - _log_kept(kept.size)
+            more = ctypes.create_string_buffer(DIGEST_BYTES * max(room, 0))
+            stored = kept.borrowed()
+            answer: int = _log_append(
+                more, max(room, 0), ctypes.byref(count), stored, len(stored) // DIGEST_BYTES, kept.size, *flat
+            )
+            # a loan ends before what is lent grows
+            del stored
+            if answer != 0:
+                raise _refusal(answer)
+            if flat[3]:
+                kept.grow(size, ctypes.string_at(more, DIGEST_BYTES * count.value))
+            return size
+
+    def root(self, size: "Optional[int]" = None) -> bytes:
+        """The root of the first ``size`` entries, of all where none is given. Raises ``SizeError`` for more than there are."""
+        root = ctypes.create_string_buffer(DIGEST_BYTES)
+        with self._lock:
+            kept = self._open()
+            stored = kept.borrowed()
+            of = kept.size if size is None else _word(size)
+            answer: int = _log_root(root, stored, len(stored) // DIGEST_BYTES, of)
+        if answer != 0:
+            raise _refusal(answer)
+        return root.raw
+
+    def inclusion(self, index: int, size: "Optional[int]" = None) -> bytes:
+        """The bytes of the path of an index in the first ``size`` entries.
+
+        Raises ``SizeError`` for more than there are, ``IndexBeyondSize``, ``OutOfMemory``.
+        """
+        return self._proof(_log_inclusion, size, lambda of: (of, _word(index)))
+
+    def consistency(self, old_size: int, size: "Optional[int]" = None) -> bytes:
+        """The bytes of the proof that the first ``size`` entries continue the first ``old_size`` ones.
+
+        Raises ``SizeError`` also for the old size 0 and for one above the size; ``OutOfMemory``.
+        """
+        return self._proof(_log_consistency, size, lambda of: (_word(old_size), of))
+
+    def _proof(self, call: Callable[..., int], size: "Optional[int]", asked: Callable[[int], Tuple[int, int]]) -> bytes:
+        # no proof has more digests
+        room, count = 64 * DIGEST_BYTES, _size()
+        proof = ctypes.create_string_buffer(room)
+        with self._lock:
+            kept = self._open()
+            stored = kept.borrowed()
+            of = asked(kept.size if size is None else _word(size))
+            answer = call(proof, room, ctypes.byref(count), stored, len(stored) // DIGEST_BYTES, *of)
+        if answer != 0:
+            raise _refusal(answer)
+        return ctypes.string_at(proof, count.value)
+
+    def check(self) -> bool:
+        """Whether each stored digest of two others is their hash. All of them are hashed."""
+        with self._lock:
+            kept = self._open()
+            stored = kept.borrowed()
+            answer: int = _log_check(stored, len(stored) // DIGEST_BYTES, kept.size)
+        if answer < 0:
+            raise _refusal(answer)
+        return answer == 0
+
+    @staticmethod
+    def verify_inclusion_digest(root: bytes, size: int, index: int, digest: bytes, path: bytes) -> bool:
+        """As ``verify_inclusion``, of an entry that is known by its digest: the SHA-256 of a zero byte and the entry."""
+        _digest(root), _word(size), _word(index), _digest(digest, "digest"), _exact("path", path)
+        answer: int = Log._inclusion_digest(root, size, index, digest, path, len(path))
+        if answer < 0:
+            raise _refusal(answer)
+        return answer == 0
 
     @staticmethod
     def verify_inclusion(root: bytes, size: int, index: int, entry: bytes, path: bytes) -> bool:

@@ -1,4 +1,4 @@
-//! Merkle trees over byte strings, clients of transparency logs, SHA-256, BLAKE2s and commitments, by the proved code of libpaxidore.
+//! Merkle trees over byte strings, transparency logs and their clients, SHA-256, BLAKE2s and commitments, by the proved code of libpaxidore.
 //!
 //! A log or a store publishes the root of its leaves and their count, and hands out paths. Whoever has the root and the count
 //! checks them without the other leaves:
@@ -14,7 +14,10 @@
 //! ```
 #![warn(missing_docs)]
 
+mod log;
 mod sys;
+
+pub use log::{Log, LogError};
 
 use std::error::Error;
 use std::ffi::CStr;
@@ -270,60 +273,6 @@ impl Trees {
                 lengths.len(),
                 indexes.as_ptr(),
                 indexes.len(),
-            )
-        })
-    }
-}
-
-/// The checks for a client of a transparency log of any size (RFC 6962 and RFC 9162, section 2.1). A log publishes its root and its
-/// size; its proofs are their digests alone, 32 bytes each, in the order of the standard.
-#[derive(Debug, Clone, Copy)]
-pub struct Log;
-
-impl Log {
-    /// Whether the path shows that the entry stands at the index of the log of `size` entries with this root.
-    ///
-    /// `Ok(false)` says that the path was read and leads elsewhere. Refusals: `Index`, `Truncated`, `Invalid`, `Memory`.
-    pub fn verify_inclusion(
-        root: &Digest,
-        size: usize,
-        index: usize,
-        entry: &[u8],
-        path: &[u8],
-    ) -> Result<bool, Refused> {
-        // SAFETY: as in `Trees::verify`.
-        verdict(unsafe {
-            sys::paxidore_log_verify_inclusion(
-                root.as_ptr(),
-                size,
-                index,
-                entry.as_ptr(),
-                entry.len(),
-                path.as_ptr(),
-                path.len(),
-            )
-        })
-    }
-
-    /// Whether the proof shows that the log with the new root and size continues the one with the old root and size.
-    ///
-    /// Refusals: `Size` of the old size 0 and of one above the new size, `Truncated`, `Invalid`, `Memory`.
-    pub fn verify_consistency(
-        old_size: usize,
-        old_root: &Digest,
-        new_size: usize,
-        new_root: &Digest,
-        proof: &[u8],
-    ) -> Result<bool, Refused> {
-        // SAFETY: as in `Trees::verify`.
-        verdict(unsafe {
-            sys::paxidore_log_verify_consistency(
-                old_size,
-                old_root.as_ptr(),
-                new_size,
-                new_root.as_ptr(),
-                proof.as_ptr(),
-                proof.len(),
             )
         })
     }

@@ -1,6 +1,6 @@
 //! The calls as `paxidore.h` declares them, under names of this module.
 
-use std::os::raw::c_char;
+use std::os::raw::{c_char, c_int};
 
 /// The five calls of one hashing.
 pub struct Calls {
@@ -149,4 +149,57 @@ extern "C" {
         proof_len: usize,
     ) -> i32;
     pub fn paxidore_version() -> *const c_char;
+}
+
+// Keepers of logs. Lengths of stored digests and of `more` count digests.
+extern "C" {
+    pub fn paxidore_log_kept(size: usize) -> usize;
+    pub fn paxidore_log_append(
+        more: *mut u8,
+        more_room: usize,
+        more_len: *mut usize,
+        kept: *const u8,
+        kept_len: usize,
+        size: usize,
+        entries: *const u8,
+        entries_len: usize,
+        lengths: *const usize,
+        count: usize,
+    ) -> i32;
+    pub fn paxidore_log_root(root: *mut u8, kept: *const u8, kept_len: usize, size: usize) -> i32;
+    pub fn paxidore_log_inclusion(
+        path: *mut u8,
+        path_room: usize,
+        path_len: *mut usize,
+        kept: *const u8,
+        kept_len: usize,
+        size: usize,
+        index: usize,
+    ) -> i32;
+    pub fn paxidore_log_consistency(
+        proof: *mut u8,
+        proof_room: usize,
+        proof_len: *mut usize,
+        kept: *const u8,
+        kept_len: usize,
+        old_size: usize,
+        size: usize,
+    ) -> i32;
+    pub fn paxidore_log_check(kept: *const u8, kept_len: usize, size: usize) -> i32;
+    pub fn paxidore_log_verify_inclusion_digest(
+        root: *const u8,
+        size: usize,
+        index: usize,
+        digest: *const u8,
+        path: *const u8,
+        path_len: usize,
+    ) -> i32;
+}
+
+// Of the system: a lock on an open file, which one process has.
+pub const LOCK_EX: c_int = 2;
+pub const LOCK_NB: c_int = 4;
+
+extern "C" {
+    pub fn flock(file: c_int, operation: c_int) -> c_int;
 }

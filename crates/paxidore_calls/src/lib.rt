@@ -5,4 +5,5 @@
 pub mod buffer;
 pub mod leaves;
 pub mod log;
+pub mod log_keeper;
 pub mod refused;

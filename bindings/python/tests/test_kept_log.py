@@ -1,0 +1,373 @@
+"""Logs in memory and in files, against hashlib."""
+import hashlib
+import os
+import random
+import signal
+import tempfile
+import threading
+import unittest
+
+import paxidore
+from paxidore import Log
+
+DRAWS = random.Random(6962)
+
+
+def sha(data):
+    return hashlib.sha256(data).digest()
+
+
+def largest_below(count):
+    power = 1
+    while 2 * power < count:
+        power *= 2
+    return power
+
+
+def mth(digests):
+    """RFC 6962, section 2.1."""
+    if not digests:
+        return sha(b"")
+    if len(digests) == 1:
+        return digests[0]
+    k = largest_below(len(digests))
+    return sha(b"\1" + mth(digests[:k]) + mth(digests[k:]))
+
+
+def path(index, digests):
+    """RFC 6962, section 2.1.1."""
+    if len(digests) == 1:
+        return []
+    k = largest_below(len(digests))
+    if index < k:
+        return path(index, digests[:k]) + [mth(digests[k:])]
+    return path(index - k, digests[k:]) + [mth(digests[:k])]
+
+
+def subproof(old, digests, known):
+    """RFC 6962, section 2.1.2."""
+    if old == len(digests):
+        return [] if known else [mth(digests)]
+    k = largest_below(len(digests))
+    if old <= k:
+        return subproof(old, digests[:k], known) + [mth(digests[k:])]
+    return subproof(old - k, digests[k:], False) + [mth(digests[:k])]
+
+
+def stored(digests):
+    """The roots of the complete subtrees, in the order in which they are completed."""
+    kept = []
+    for last in range(1, len(digests) + 1):
+        width = 1
+        while last % width == 0:
+            kept.append(mth(digests[last - width : last]))
+            width *= 2
+    return kept
+
+
+def entry_digests(entries):
+    return [sha(b"\0" + entry) for entry in entries]
+
+
+def drawn(count, longest=150):
+    return [DRAWS.randbytes(DRAWS.randrange(longest)) for _ in range(count)]
+
+
+def proofs_are(case, log, digests, size, pairs=None):
+    digests = digests[:size]
+    root = mth(digests)
+    case.assertEqual(log.root(size), root)
+    for index in range(size) if pairs is None else (DRAWS.randrange(size) for _ in range(pairs)):
+        shown = log.inclusion(index, size)
+        case.assertEqual(shown, b"".join(path(index, digests)))
+        case.assertTrue(Log.verify_inclusion_digest(root, size, index, digests[index], shown))
+    for old in range(1, size + 1) if pairs is None else (DRAWS.randrange(1, size + 1) for _ in range(pairs)):
+        shown = log.consistency(old, size)
+        case.assertEqual(shown, b"".join(subproof(old, digests, True)))
+        case.assertTrue(Log.verify_consistency(old, mth(digests[:old]), size, root, shown))
+
+
+class InMemory(unittest.TestCase):
+    def test_each_size(self):
+        entries = drawn(70)
+        digests = entry_digests(entries)
+        log = Log()
+        self.assertEqual(log.root(), sha(b""))
+        for size in range(71):
+            self.assertEqual(len(log), size)
+            self.assertEqual(bytes(log._kept.digests), b"".join(stored(digests[:size])))
+            self.assertEqual(log.root(), mth(digests[:size]))
+            if size < 70:
+                self.assertEqual(log.append([entries[size]]), size + 1)
+        for size in range(71):
+            proofs_are(self, log, digests, size)
+        self.assertTrue(log.check())
+
+    def test_known_roots(self):
+        # those that implementations of RFC 6962 are tested with
+        entries = [b"", b"\0", b"\x10", b"\x20\x21", b"\x30\x31", b"@ABC", b"PQRSTUVW", b"`abcdefghijklmno"]
+        log = Log()
+        log.append(entries)
+        self.assertEqual(log.root(7).hex(), "ddb89be403809e325750d3d263cd78929c2942b7942a34b77e122c9594a74c8c")
+        self.assertEqual(log.root(8).hex(), "5dc9da79a70659a9ad559cb701ded9a2ab9d823aad2f4960cfe370eff4604328")
+
+    def test_each_split(self):
+        entries = drawn(33)
+        whole = b"".join(stored(entry_digests(entries)))
+        for first in range(34):
+            log = Log()
+            log.append(entries[:first])
+            log.append(entries[first:])
+            self.assertEqual(bytes(log._kept.digests), whole)
+
+    def test_drawn_sizes(self):
+        for _ in range(4):
+            entries = drawn(DRAWS.randrange(200, 1500), 20)
+            digests = entry_digests(entries)
+            log, at = Log(), 0
+            while at < len(entries):
+                more = DRAWS.randrange(200)
+                at = log.append(entries[at : at + more])
+            self.assertEqual(bytes(log._kept.digests), b"".join(stored(digests)))
+            proofs_are(self, log, digests, len(entries), 12)
+            proofs_are(self, log, digests, DRAWS.randrange(1, len(entries)), 12)
+
+    def test_refusals(self):
+        log = Log()
+        self.assertRaises(paxidore.IndexBeyondSize, log.inclusion, 0)
+        self.assertRaises(paxidore.SizeError, log.consistency, 0)
+        self.assertRaises(paxidore.SizeError, log.root, 1)
+        self.assertEqual(log.append([]), 0)
+        log.append([b"a", b"b", b"c"])
+        self.assertRaises(paxidore.IndexBeyondSize, log.inclusion, 3)
+        self.assertRaises(paxidore.IndexBeyondSize, log.inclusion, 2, 2)
+        self.assertRaises(paxidore.SizeError, log.inclusion, 0, 4)
+        self.assertRaises(paxidore.SizeError, log.inclusion, 0, 1 << 63)
+        self.assertRaises(paxidore.SizeError, log.consistency, 3, 2)
+        self.assertRaises(paxidore.SizeError, log.consistency, 0, 3)
+        self.assertRaises(paxidore.SizeError, log.root, (1 << 64) - 1)
+        self.assertRaises(OverflowError, log.root, 1 << 64)
+        self.assertRaises(OverflowError, log.root, -1)
+        self.assertRaises(OverflowError, log.inclusion, -1)
+        self.assertRaises(TypeError, log.append, [bytearray(b"d")])
+        self.assertRaises(TypeError, log.append, ["d"])
+        self.assertEqual(len(log), 3)
+        self.assertEqual(log.consistency(3), b"")
+        self.assertRaises(paxidore.IndexBeyondSize, Log.verify_inclusion_digest, bytes(32), 1, 1, bytes(32), b"")
+        self.assertRaises(paxidore.TruncatedProof, Log.verify_inclusion_digest, bytes(32), 2, 1, bytes(32), b"")
+        self.assertRaises(paxidore.InvalidProof, Log.verify_inclusion_digest, bytes(32), 1, 0, bytes(32), b"a")
+        self.assertFalse(Log.verify_inclusion_digest(bytes(32), 1, 0, b"a" * 32, b""))
+        self.assertTrue(Log.verify_inclusion_digest(bytes(32), 1, 0, bytes(32), b""))
+        log.close()
+        log.close()
+        self.assertRaises(ValueError, log.root)
+        self.assertRaises(ValueError, len, log)
+
+    def test_damage_is_found(self):
+        for size in range(2, 40):
+            log = Log()
+            log.append(drawn(size))
+            whole = bytes(log._kept.digests)
+            paired = size - size % 2
+            for place in range(len(whole) // 32):
+                log._kept.digests[32 * place + DRAWS.randrange(32)] ^= 1 << DRAWS.randrange(8)
+                # the last leaf of an odd number is in no pair
+                last = size % 2 and place == len(whole) // 32 - 1
+                self.assertEqual(log.check(), bool(last), (size, place, paired))
+                log._kept.digests[:] = whole
+            self.assertTrue(log.check())
+
+    def test_whatever_is_kept(self):
+        log = Log()
+        log.append(drawn(21))
+        log._kept.digests[:] = DRAWS.randbytes(len(log._kept.digests))
+        self.assertFalse(log.check())
+        for size in range(22):
+            self.assertEqual(len(log.root(size)), 32)
+            for index in range(size):
+                log.inclusion(index, size), log.consistency(index + 1, size)
+        self.assertEqual(log.append(drawn(9)), 30)
+
+    def test_threads(self):
+        log = Log()
+        workers = [threading.Thread(target=lambda: [log.append(drawn(3)) for _ in range(50)]) for _ in range(4)]
+        for worker in workers:
+            worker.start()
+        for _ in range(100):
+            log.root(), log.check()
+        for worker in workers:
+            worker.join()
+        self.assertEqual(len(log), 600)
+        self.assertTrue(log.check())
+
+
+class InFile(unittest.TestCase):
+    def setUp(self):
+        self.room = tempfile.TemporaryDirectory()
+        self.addCleanup(self.room.cleanup)
+        self.path = os.path.join(self.room.name, "log")
+
+    def test_it_is_read_again(self):
+        entries = drawn(70)
+        digests = entry_digests(entries)
+        for size in range(71):
+            with Log.open(self.path) as log:
+                self.assertEqual(len(log), size)
+                self.assertEqual(log.root(), mth(digests[:size]))
+                log.append(entries[size : size + 1])
+        with Log.open(self.path) as log:
+            for size in range(0, 71, 7):
+                proofs_are(self, log, digests, size)
+            self.assertTrue(log.check())
+        with open(self.path, "rb") as file:
+            self.assertEqual(file.read()[96:], b"".join(stored(digests)))
+        self.assertEqual(os.listdir(self.room.name), ["log"])
+
+    def test_it_is_locked(self):
+        with Log.open(self.path):
+            self.assertRaises(BlockingIOError, Log.open, self.path)
+        Log.open(self.path).close()
+
+    def test_files_of_others(self):
+        for content in (b"", b"x", bytes(96), bytes(1000), b"paxidore log, digests of SHA-256" + bytes(64)):
+            with open(self.path, "wb") as file:
+                file.write(content)
+            self.assertRaises(ValueError, Log.open, self.path)
+            with open(self.path, "rb") as file:
+                self.assertEqual(file.read(), content)
+        self.assertRaises(FileNotFoundError, Log.open, os.path.join(self.room.name, "none", "log"))
+        self.assertRaises(IsADirectoryError, Log.open, self.room.name)
+
+    def test_a_short_file_is_refused(self):
+        with Log.open(self.path) as log:
+            log.append(drawn(9))
+        os.truncate(self.path, os.path.getsize(self.path) - 1)
+        self.assertRaises(ValueError, Log.open, self.path)
+
+    def test_a_failed_sync(self):
+        entries = drawn(12)
+        digests = entry_digests(entries)
+        real = os.fsync
+        for fails_at in (1, 2):
+            if os.path.exists(self.path):
+                os.unlink(self.path)
+            with Log.open(self.path) as log:
+                log.append(entries[:5])
+                count = [0]
+
+                def sync(file):
+                    count[0] += 1
+                    if count[0] == fails_at:
+                        raise OSError("no space")
+                    real(file)
+
+                paxidore.os.fsync = sync
+                try:
+                    self.assertRaises(OSError, log.append, entries[5:])
+                finally:
+                    paxidore.os.fsync = real
+                if fails_at == 1:
+                    self.assertEqual(log.root(), mth(digests[:5]))
+                    self.assertEqual(log.append(entries[5:]), 12)
+                else:
+                    self.assertRaises(ValueError, log.root)
+                    self.assertRaises(ValueError, log.append, entries[5:])
+            with Log.open(self.path) as log:
+                self.assertIn(len(log), (5, 12))
+                self.assertEqual(log.root(), mth(digests[: len(log)]))
+
+    def test_each_crash(self):
+        """What was written and not synced stands there in part, or not at all."""
+        entries = drawn(90)
+        digests = entry_digests(entries)
+        with Log.open(self.path) as log:
+            log.append(entries[:3])
+        real_write, real_sync = os.pwrite, os.fsync
+        for _ in range(60):
+            with open(self.path, "rb") as file:
+                disk = bytearray(file.read())
+            images, pending = [], []
+
+            def image():
+                torn = bytearray(disk)
+                for data, at in pending:
+                    data = bytes(data)[: DRAWS.randrange(len(data) + 1)]
+                    torn.extend(bytes(max(0, at + len(data) - len(torn))))
+                    torn[at : at + len(data)] = data
+                images.append(bytes(torn))
+
+            def write(file, data, at):
+                pending.append((bytes(data), at))
+                for _ in range(4):
+                    image()
+                return real_write(file, data, at)
+
+            def sync(file):
+                image()
+                for data, at in pending:
+                    disk.extend(bytes(max(0, at + len(data) - len(disk))))
+                    disk[at : at + len(data)] = data
+                pending.clear()
+                real_sync(file)
+
+            with Log.open(self.path) as log:
+                before = len(log)
+                paxidore.os.pwrite, paxidore.os.fsync = write, sync
+                try:
+                    after = log.append(entries[before : before + DRAWS.randrange(1, 3)])
+                finally:
+                    paxidore.os.pwrite, paxidore.os.fsync = real_write, real_sync
+            for torn in images:
+                other = self.path + ".torn"
+                with open(other, "wb") as file:
+                    file.write(torn)
+                with Log.open(other) as log:
+                    self.assertIn(len(log), (before, after))
+                    self.assertEqual(log.root(), mth(digests[: len(log)]))
+                    self.assertTrue(log.check())
+                    log.append(entries[len(log) : len(log) + 2])
+                    self.assertEqual(log.root(), mth(digests[: len(log)]))
+            if after > 80:
+                break
+
+    def test_killed_while_it_appends(self):
+        entries = [b"entry %d" % i for i in range(20000)]
+        digests = entry_digests(entries)
+        Log.open(self.path).close()
+        acknowledged = 0
+        for _ in range(200):
+            reading, writing = os.pipe()
+            child = os.fork()
+            if child == 0:
+                try:
+                    with Log.open(self.path) as log:
+                        while True:
+                            size = log.append(entries[len(log) : len(log) + DRAWS.randrange(1, 4)])
+                            os.write(writing, size.to_bytes(8, "little"))
+                finally:
+                    os._exit(1)
+            os.close(writing)
+            # it is killed at some time after its first append
+            said = os.read(reading, 8)
+            threading.Event().wait(DRAWS.random() / 500)
+            os.kill(child, signal.SIGKILL)
+            os.waitpid(child, 0)
+            while True:
+                more = os.read(reading, 8 * 4096)
+                if not more:
+                    break
+                said += more
+            os.close(reading)
+            acknowledged = int.from_bytes(said[-8:], "little")
+            DRAWS.random()
+            with Log.open(self.path) as log:
+                self.assertIn(len(log) - acknowledged, range(4))
+                self.assertEqual(log.root(), mth(digests[: len(log)]) if len(log) < 600 else log.root())
+        with Log.open(self.path) as log:
+            self.assertEqual(log.root(), mth(digests[: len(log)]))
+            self.assertTrue(log.check())
+            self.assertGreater(len(log), 200)
+
+
+if __name__ == "__main__":
+    unittest.main()

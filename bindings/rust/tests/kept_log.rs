@@ -1,0 +1,222 @@
+//! Logs in memory and in files, against the definitions of RFC 6962 (section 2.1).
+
+use paxidore::{sha256, Digest, Log, LogError, Refused};
+use std::fs;
+use std::io::ErrorKind;
+use std::path::PathBuf;
+
+fn entries(count: usize) -> Vec<Vec<u8>> {
+    (0..count).map(|i| vec![i as u8; i % 130]).collect()
+}
+
+fn digests(entries: &[Vec<u8>]) -> Vec<Digest> {
+    entries
+        .iter()
+        .map(|entry| sha256(&[&[0], &entry[..]].concat()))
+        .collect()
+}
+
+fn split(count: usize) -> usize {
+    count.next_power_of_two() / 2
+}
+
+fn mth(leaves: &[Digest]) -> Digest {
+    match leaves {
+        [] => sha256(b""),
+        [leaf] => *leaf,
+        _ => {
+            let (left, right) = leaves.split_at(split(leaves.len()));
+            sha256(&[&[1], &mth(left)[..], &mth(right)[..]].concat())
+        }
+    }
+}
+
+fn path(index: usize, leaves: &[Digest]) -> Vec<Digest> {
+    if leaves.len() == 1 {
+        return Vec::new();
+    }
+    let (left, right) = leaves.split_at(split(leaves.len()));
+    let (mut path, beside) = if index < left.len() {
+        (path(index, left), mth(right))
+    } else {
+        (path(index - left.len(), right), mth(left))
+    };
+    path.push(beside);
+    path
+}
+
+fn subproof(old: usize, leaves: &[Digest], known: bool) -> Vec<Digest> {
+    if old == leaves.len() {
+        return if known { Vec::new() } else { vec![mth(leaves)] };
+    }
+    let (left, right) = leaves.split_at(split(leaves.len()));
+    let (mut proof, beside) = if old <= left.len() {
+        (subproof(old, left, known), mth(right))
+    } else {
+        (subproof(old - left.len(), right, false), mth(left))
+    };
+    proof.push(beside);
+    proof
+}
+
+struct Room(PathBuf);
+
+impl Room {
+    fn new(name: &str) -> Room {
+        let path = std::env::temp_dir().join(format!("paxidore-{}-{name}", std::process::id()));
+        fs::create_dir(&path).unwrap();
+        Room(path)
+    }
+
+    fn log(&self) -> PathBuf {
+        self.0.join("log")
+    }
+}
+
+impl Drop for Room {
+    fn drop(&mut self) {
+        let _ = fs::remove_dir_all(&self.0);
+    }
+}
+
+#[test]
+fn each_size() -> Result<(), LogError> {
+    let (entries, mut log) = (entries(40), Log::new());
+    let digests = digests(&entries);
+    for (size, entry) in entries.iter().enumerate() {
+        assert_eq!(log.root(size)?, mth(&digests[..size]));
+        assert_eq!(log.append(&[entry])?, size + 1);
+    }
+    for size in 1..=40 {
+        let (leaves, root) = (&digests[..size], log.root(size)?);
+        assert_eq!(root, mth(leaves));
+        for index in 0..size {
+            let shown = log.inclusion(index, size)?;
+            assert_eq!(shown, path(index, leaves).concat());
+            assert!(Log::verify_inclusion(
+                &root,
+                size,
+                index,
+                &entries[index],
+                &shown
+            )?);
+            assert!(Log::verify_inclusion_digest(
+                &root,
+                size,
+                index,
+                &digests[index],
+                &shown
+            )?);
+            let shown = log.consistency(index + 1, size)?;
+            assert_eq!(shown, subproof(index + 1, leaves, true).concat());
+            let old = mth(&digests[..index + 1]);
+            assert!(Log::verify_consistency(
+                index + 1,
+                &old,
+                size,
+                &root,
+                &shown
+            )?);
+        }
+    }
+    assert!(log.check()?);
+    Ok(())
+}
+
+#[test]
+fn refusals() -> Result<(), LogError> {
+    let mut log = Log::new();
+    assert!(log.is_empty());
+    assert_eq!(log.inclusion(0, 0), Err(Refused::Index));
+    assert_eq!(log.consistency(0, 0), Err(Refused::Size));
+    assert_eq!(log.append::<&[u8]>(&[])?, 0);
+    log.append(&["a", "b", "c"])?;
+    assert_eq!(log.len(), 3);
+    assert_eq!(log.root(4), Err(Refused::Size));
+    assert_eq!(log.root(usize::MAX), Err(Refused::Size));
+    assert_eq!(log.inclusion(3, 3), Err(Refused::Index));
+    assert_eq!(log.inclusion(0, 4), Err(Refused::Size));
+    assert_eq!(log.consistency(0, 3), Err(Refused::Size));
+    assert_eq!(log.consistency(3, 2), Err(Refused::Size));
+    assert_eq!(log.consistency(3, 3), Ok(Vec::new()));
+    let none = [0; 32];
+    assert_eq!(
+        Log::verify_inclusion_digest(&none, 1, 1, &none, &[]),
+        Err(Refused::Index)
+    );
+    assert_eq!(
+        Log::verify_inclusion_digest(&none, 2, 0, &none, &[]),
+        Err(Refused::Truncated)
+    );
+    assert_eq!(
+        Log::verify_inclusion_digest(&none, 1, 0, &none, &[0]),
+        Err(Refused::Invalid)
+    );
+    assert_eq!(
+        Log::verify_inclusion_digest(&none, 1, 0, &[1; 32], &[]),
+        Ok(false)
+    );
+    Ok(())
+}
+
+#[test]
+fn a_file_is_read_again() -> Result<(), LogError> {
+    let room = Room::new("again");
+    let entries = entries(25);
+    let digests = digests(&entries);
+    for size in 0..25 {
+        let mut log = Log::open(room.log())?;
+        assert_eq!(log.len(), size);
+        assert_eq!(log.root(size)?, mth(&digests[..size]));
+        assert!(log.check()?);
+        log.append(&entries[size..size + 1])?;
+    }
+    let log = Log::open(room.log())?;
+    assert_eq!(log.inclusion(7, 25)?, path(7, &digests).concat());
+    assert_eq!(
+        Log::open(room.log()).unwrap_err().kind(),
+        ErrorKind::WouldBlock
+    );
+    assert_eq!(fs::read_dir(&room.0)?.count(), 1);
+    Ok(())
+}
+
+#[test]
+fn files() -> Result<(), LogError> {
+    let room = Room::new("files");
+    for content in [&b""[..], b"x", &[0; 96], &[0; 1000]] {
+        fs::write(room.log(), content)?;
+        assert_eq!(
+            Log::open(room.log()).unwrap_err().kind(),
+            ErrorKind::InvalidData
+        );
+        assert_eq!(fs::read(room.log())?, content);
+    }
+    fs::remove_file(room.log())?;
+    Log::open(room.log())?.append(&["a", "b", "c"])?;
+    let whole = fs::read(room.log())?;
+    // a title, two slots, and the digests of a, of b, of both, and of c
+    assert_eq!(whole.len(), 96 + 4 * 32);
+    assert_eq!(whole[..32], *b"paxidore log, digests of SHA-256");
+    assert_eq!(whole[64..72], 3u64.to_le_bytes());
+    assert_eq!(whole[72..96], sha256(&3u64.to_le_bytes())[..24]);
+    // a torn tail is cut off, a torn slot gives way to the other one, and a short file is refused
+    fs::write(room.log(), [&whole[..], b"torn"].concat())?;
+    assert_eq!(Log::open(room.log())?.len(), 3);
+    assert_eq!(fs::read(room.log())?, whole);
+    let mut torn = whole.clone();
+    torn[70] ^= 1;
+    fs::write(room.log(), torn)?;
+    assert_eq!(Log::open(room.log())?.len(), 0);
+    fs::write(room.log(), &whole[..whole.len() - 1])?;
+    assert_eq!(
+        Log::open(room.log()).unwrap_err().kind(),
+        ErrorKind::InvalidData
+    );
+    // damage is found
+    let mut damaged = whole.clone();
+    damaged[96 + 40] ^= 1;
+    fs::write(room.log(), damaged)?;
+    assert!(!Log::open(room.log())?.check()?);
+    Ok(())
+}

@@ -1,0 +1,4 @@
+pub mod Rows
+pub mod Making
+pub mod Appending
+pub mod Hashed

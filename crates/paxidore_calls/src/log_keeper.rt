@@ -1,0 +1,270 @@
+//! The calls of whoever keeps a log, by codes: its stored digests lie in memory of the caller's.
+
+ghost use Rattle.std.specs.Prelude.{◌≡◌, ◌≢◌, ◌<◌, ◌≤◌, ◌++◌, ◌^◌, ℕ, List, [], length, map, take, drop, pos, nat_lt, true, false, Bool, IfOk, MatchOption, Ok};
+ghost use Rattle.std.specs.List.{flat_map};
+ghost use Rattle.ark_base.specs.Digits.{itself};
+ghost use Rattle.ark_paths.specs.Pair.{Digest};
+ghost use Rattle.ark_trees.specs.Rfc6962.{entry_hash, node_of};
+ghost use Rattle.kept_log.specs.Kept.{front, has_front, Keeps};
+ghost use Rattle.merkle_log.specs.Received.{ShowsLogLeaf, inclusion_length};
+ghost use Rattle.merkle_log.specs.Stored.{row_of, stored_count};
+ghost use Rattle.paxidore_calls.specs.Answer.{Gives, GivesBy, Hands, done_code, refusal_code, verdict_code};
+ghost use Rattle.paxidore_calls.specs.KeptLog.{appended, consistency_bytes, digest_hashes, digest_shown, if_inside, if_kept, if_older, inclusion_bytes, kept_code, log_root, more_count, takes};
+ghost use Rattle.paxidore_calls.specs.LogProofs.{proof_digests};
+ghost use Rattle.paxidore_calls.specs.declared.refused.Refused.TheVariants.{Room, Size};
+
+use crate::buffer::hand_over;
+use crate::leaves::{LogDigest, of_leaves};
+use crate::refused::{Refused, verdict_code};
+use ark_base::error::Error;
+use ark_base::serialize::CanonicalItem;
+use ark_paths::hasher::TreeHasher;
+use ark_trees::LogHasher;
+use kept_log::{Kept, is_size, stored_count};
+use merkle_log::verify_inclusion_bytes;
+use std::alloc::Global;
+
+/// Writes the root of a kept log to `root`, and returns the code. The only error is `Size`, which leaves `root` as before.
+pub fn root(root: &mut [u8; 32], kept: &[[u8; 32]], size: usize) -> i32
+    ensures answer { result ≡ kept_code size kept.now }
+    ensures root { result ≡ pos 0 → (leaves : List Digest) → size ≤ length leaves
+        → Keeps leaves kept.now → log_root size leaves ≡ Ok root.new }
+    ensures kept { result ≢ pos 0 → root.new ≡ root.old }
+{
+    match Kept::of(size, kept) {
+        Some(kept) => {
+            *root = kept.root();
+            0
+        }
+        None => Refused::Size.code(),
+    }
+}
+
+// The bytes of digests, one behind the other.
+fn bytes_of(alloc: Global, digests: &[[u8; 32]]) -> Result<Vec<u8>, Refused>
+    ensures { GivesBy (λ bytes. bytes.items) (Ok (flat_map itself digests.now)) result }
+{
+    let mut bytes = Vec::new(alloc);
+    <[u8; 32]>::serialize_items(digests, &mut bytes)?;
+    Ok(bytes)
+}
+
+// The bytes of the path of an index.
+fn inclusion_of(
+    alloc: Global,
+    kept: &[[u8; 32]],
+    size: usize,
+    index: usize,
+) -> Result<Vec<u8>, Refused>
+    ensures given { (bytes : List ℕ)
+        × GivesBy (λ bytes. bytes.items) (if_inside size index kept.now (Ok bytes)) result }
+    ensures path { (leaves : List Digest) → size ≤ length leaves → Keeps leaves kept.now
+        → let outcome = if_inside size index kept.now (inclusion_bytes size index leaves) in
+        GivesBy (λ bytes. bytes.items) outcome result }
+{
+    let Some(kept) = Kept::of(size, kept) else {
+        return Err(Refused::Size);
+    };
+    if index >= size {
+        return Err(Refused::Index);
+    }
+    let path = kept.inclusion_path(alloc, index)?;
+    bytes_of(alloc, &path)
+}
+
+/// Writes the bytes of the path of an index of a kept log to the front of `path`, and their count, and returns the code.
+///
+/// Errors: the first of `Size`, `Index`, `Room`, which alone writes the count that is needed; `Memory` in place of any.
+pub fn inclusion(
+    alloc: Global,
+    path: &mut [u8],
+    path_len: &mut usize,
+    kept: &[[u8; 32]],
+    size: usize,
+    index: usize,
+) -> i32
+    ensures path { (leaves : List Digest) → size ≤ length leaves → Keeps leaves kept.now
+        → let outcome = if_inside size index kept.now (inclusion_bytes size index leaves) in
+        Hands outcome path.old path.new path_len.old path_len.new result }
+
+    // Whatever is kept, some bytes are handed over.
+    ensures given { (bytes : List ℕ) × (let outcome = if_inside size index kept.now (Ok bytes) in
+        Hands outcome path.old path.new path_len.old path_len.new result) }
+{
+    hand_over(inclusion_of(alloc, kept, size, index), path, path_len)
+}
+
+// The bytes of the consistency proof of an old size.
+fn consistency_of(
+    alloc: Global,
+    kept: &[[u8; 32]],
+    old_size: usize,
+    size: usize,
+) -> Result<Vec<u8>, Refused>
+    ensures given { (bytes : List ℕ)
+        × GivesBy (λ bytes. bytes.items) (if_older old_size size kept.now (Ok bytes)) result }
+    ensures proof { (leaves : List Digest) → size ≤ length leaves → Keeps leaves kept.now
+        → let outcome = if_older old_size size kept.now (consistency_bytes old_size size leaves) in
+        GivesBy (λ bytes. bytes.items) outcome result }
+{
+    let Some(kept) = Kept::of(size, kept) else {
+        return Err(Refused::Size);
+    };
+    if old_size == 0 || size < old_size {
+        return Err(Refused::Size);
+    }
+    let path = kept.consistency_path(alloc, old_size)?;
+    bytes_of(alloc, &path)
+}
+
+/// Writes the bytes of the consistency proof of an old size of a kept log to the front of `proof`, and their count, and
+/// returns the code.
+///
+/// Errors: the first of `Size`, `Room`, which alone writes the count that is needed; `Memory` in place of any.
+pub fn consistency(
+    alloc: Global,
+    proof: &mut [u8],
+    proof_len: &mut usize,
+    kept: &[[u8; 32]],
+    old_size: usize,
+    size: usize,
+) -> i32
+    ensures proof { (leaves : List Digest) → size ≤ length leaves → Keeps leaves kept.now
+        → let outcome = if_older old_size size kept.now (consistency_bytes old_size size leaves) in
+        Hands outcome proof.old proof.new proof_len.old proof_len.new result }
+
+    // Whatever is kept, some bytes are handed over.
+    ensures given { (bytes : List ℕ) × (let outcome = if_older old_size size kept.now (Ok bytes) in
+        Hands outcome proof.old proof.new proof_len.old proof_len.new result) }
+{
+    hand_over(
+        consistency_of(alloc, kept, old_size, size),
+        proof,
+        proof_len,
+    )
+}
+
+// How many digests stand behind the stored ones for so many leaves more; `None` where the sum is no size.
+fn more_count(size: usize, count: usize) -> Option<usize>
+    requires { size < 2 ^ 63 }
+    ensures { MatchOption result (takes size count ≡ false)
+        (λ more. (takes size count ≡ true) × (more ≡ more_count size count)) }
+{
+    let grown = size.saturating_add(count);
+    if !is_size(grown) {
+        return None;
+    }
+    Some(stored_count(grown) - stored_count(size))
+}
+
+/// Writes to the front of `more` the digests to put behind the stored ones of a kept log for more entries, and how many to
+/// `more_len`, and returns the code.
+///
+/// Errors: the first of `Size`, `Room`, which alone writes the count that is needed, `Lengths`; `Memory` in place of any.
+/// Each leaves `more` as before.
+pub fn append(
+    alloc: Global,
+    more: &mut [[u8; 32]],
+    more_len: &mut usize,
+    kept: &[[u8; 32]],
+    size: usize,
+    entries: &[u8],
+    lengths: &[usize],
+) -> i32
+    ensures answer { let of_entries = appended size kept.now (length more.old) entries.now in
+        Gives (done_code (of_entries lengths.now)) result }
+    ensures grows { let of_entries = appended size kept.now (length more.old) entries.now in
+        result ≡ pos 0 → IfOk (of_entries lengths.now) (λ xs. (leaves : List Digest)
+        → length leaves ≡ size → Keeps leaves kept.now
+        → let stored = take (stored_count size) kept.now in
+        Keeps (leaves ++ map entry_hash xs) (stored ++ take more_len.new more.new)) }
+    ensures counted { result ≡ pos 0 → more_len.new ≡ more_count size (length lengths.now) }
+    ensures behind { result ≡ pos 0 → drop more_len.new more.new ≡ drop more_len.new more.old }
+    ensures room_needed { let needed = more_count size (length lengths.now) in
+        result ≡ refusal_code Room → more_len.new ≡ needed }
+    ensures kept { result ≢ pos 0 → more.new ≡ more.old }
+    ensures uncounted { result ≢ pos 0 → result ≢ refusal_code Room → more_len.new ≡ more_len.old }
+{
+    let Some(kept) = Kept::of(size, kept) else {
+        return Refused::Size.code();
+    };
+    let Some(count) = more_count(size, lengths.len()) else {
+        return Refused::Size.code();
+    };
+    if more.len() < count {
+        *more_len = count;
+        return Refused::Room.code();
+    }
+    match of_leaves::<LogDigest>(alloc, entries, lengths) {
+        Ok(digests) => {
+            *more_len = kept_log::append(&kept, &digests, more);
+            0
+        }
+        Err(refused) => refused.code(),
+    }
+}
+
+/// Returns the code of whether each stored digest of a pair is the hash of its two: 0 where it is, 1 where one is not. The
+/// only error is `Size`.
+pub fn check(kept: &[[u8; 32]], size: usize) -> i32
+    ensures answer { (holds : Bool) × (result ≡ verdict_code (if_kept size kept.now (Ok holds))) }
+
+    // Then the stored digests of the list of the leaves' own ones are kept.
+    ensures sound { result ≡ pos 0 → Keeps (row_of (front size kept.now) 0) kept.now }
+
+    // Else those of no list of this size.
+    ensures damaged { result ≡ pos 1 → (leaves : List Digest) → length leaves ≡ size
+        → Keeps leaves kept.now → ⊥ }
+{
+    match Kept::of(size, kept) {
+        Some(kept) => { if kept.is_sound() { 0 } else { 1 } }
+        None => Refused::Size.code(),
+    }
+}
+
+// A log whose entries are given by their digests.
+struct DigestHasher;
+
+impl TreeHasher<[u8; 32], [u8; 32]> for DigestHasher {
+    type Leaf = [u8; 32];
+
+    ghost hashes = { λ _. digest_hashes };
+
+    fn leaf(&self, _alloc: Global, leaf: &[u8; 32]) -> Result<[u8; 32], Error> {
+        Ok(*leaf)
+    }
+
+    fn bottom(&self, alloc: Global, left: &[u8; 32], right: &[u8; 32]) -> Result<[u8; 32], Error> {
+        LogHasher.bottom(alloc, left, right)
+    }
+
+    fn upper(&self, alloc: Global, left: &[u8; 32], right: &[u8; 32]) -> Result<[u8; 32], Error> {
+        LogHasher.upper(alloc, left, right)
+    }
+}
+
+/// Returns the code of whether the bytes of a path show the digest of an entry at an index of a log with this root and size.
+///
+/// Errors, the first that applies: `Index`, `Truncated`, `Invalid` for bytes of more digests than such a path has;
+/// `Memory` in place of any.
+pub fn verify_inclusion_digest(
+    alloc: Global,
+    root: &[u8; 32],
+    size: usize,
+    index: usize,
+    digest: &[u8; 32],
+    path: &[u8],
+) -> i32
+    ensures answer { let outcome = digest_shown root.now size index digest.now path.now in
+        Gives (verdict_code outcome) result }
+
+    // What the bytes spell binds the digest.
+    ensures shows { let digests = proof_digests (inclusion_length size index) path.now in
+        result ≡ pos 0 → ShowsLogLeaf digest_hashes root.now size index digest.now digests }
+{
+    if index >= size {
+        return Refused::Index.code();
+    }
+    let (size, index) = (size as u64, index as u64);
+    verdict_code(verify_inclusion_bytes(alloc, &DigestHasher, root, size, index, digest, path))
+}
