@@ -1,0 +1,4 @@
+pub mod Changing
+pub mod HeldTrees
+pub mod Lengths
+pub mod Rehashed
