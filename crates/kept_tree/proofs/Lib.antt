@@ -1,4 +1,6 @@
+pub mod Besides
 pub mod Changing
 pub mod HeldTrees
 pub mod Lengths
 pub mod Rehashed
+pub mod PathWrites

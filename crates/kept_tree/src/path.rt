@@ -7,7 +7,7 @@ ghost use Rattle.ark_paths.specs.Pair.{Digest};
 ghost use Rattle.ark_paths.specs.PathBytes.{way_bytes};
 ghost use Rattle.ark_paths.specs.Root.{root};
 ghost use Rattle.ark_paths.specs.Tree.{own_path};
-ghost use Rattle.kept_tree.specs.KeptTree.{HoldsTree, NodeHash, alike, is_tree_length, kept_way, leaf_count};
+ghost use Rattle.kept_tree.specs.KeptTree.{HoldsTree, NodeHash, alike, is_tree_length, kept_beside, kept_way, leaf_count};
 
 use ark_paths::index::{levels_between, neighbour_of};
 
@@ -23,6 +23,17 @@ pub fn root(memory: &[[u8; 32]]) -> &[u8; 32]
     &memory[0]
 }
 
+// The digest beside the way of an index, so many levels above the leaves.
+fn beside(memory: &[[u8; 32]], index: usize, level: usize) -> &[u8; 32]
+    requires size { is_tree_length (length memory.now) ≡ true }
+    requires index { index < leaf_count (length memory.now) }
+    requires level { level < log2 (leaf_count (length memory.now)) }
+    ensures { result.now ≡ kept_beside memory.now index level }
+{
+    let size = memory.len() / 2 + 1;
+    &memory[neighbour_of((size + index) >> level) - 1]
+}
+
 // Writes bytes to a place of a buffer.
 fn put(buffer: &mut [u8], at: usize, bytes: &[u8])
     requires { at + length bytes.now ≤ length buffer.old }
@@ -30,6 +41,16 @@ fn put(buffer: &mut [u8], at: usize, bytes: &[u8])
         ≡ take at buffer.old ++ (bytes.now ++ drop (at + length bytes.now) buffer.old) }
 {
     buffer[at..at + bytes.len()].copy_from_slice(bytes);
+}
+
+// Writes a digest to a place of a buffer.
+fn put_digest(buffer: &mut [u8], at: usize, digest: &[u8; 32])
+    requires { at + 32 ≤ length buffer.old }
+    ensures bytes { buffer.new
+        ≡ take at buffer.old ++ (digest.now ++ drop (at + 32) buffer.old) }
+    ensures count { length digest.now ≡ 32 }
+{
+    buffer[at..at + 32].copy_from_slice(digest);
 }
 
 /// Writes the canonical bytes of the path of an index to the front of a buffer: the digests beside its way, as they stand
@@ -47,13 +68,11 @@ pub fn write_path(buffer: &mut [u8], memory: &[[u8; 32]], index: usize)
     ensures tree { (node : NodeHash) (leaves : List Digest) → HoldsTree node memory.now leaves
         → own_path (alike node) index leaves ≡ kept_way memory.now index }
 {
-    let size = memory.len() / 2 + 1;
-    let levels = levels_between(size);
-    put(buffer, 0, &memory[neighbour_of(size + index) - 1]);
+    let levels = levels_between(memory.len() / 2 + 1);
+    put_digest(buffer, 0, beside(memory, index, 0));
     put(buffer, 32, &levels.to_le_bytes());
     'levels: for done in 0..levels {
-        let place = neighbour_of((size + index) >> (levels - done));
-        put(buffer, 40 + 32 * done, &memory[place - 1]);
+        put_digest(buffer, 40 + 32 * done, beside(memory, index, levels - done));
     }
     put(buffer, 40 + 32 * levels, &index.to_le_bytes());
 }
