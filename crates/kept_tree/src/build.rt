@@ -1,7 +1,7 @@
 //! Hashes that are written above the leaf digests.
 
-ghost use Rattle.std.specs.Prelude.{◌≡◌, ◌<◌, ◌+◌, ◌*◌, ◌/◌, ◌%◌, length};
-ghost use Rattle.kept_tree.specs.KeptTree.{Rehashes};
+ghost use Rattle.std.specs.Prelude.{◌≡◌, ◌<◌, ◌+◌, ◌*◌, ◌/◌, ◌%◌, length, true};
+ghost use Rattle.kept_tree.specs.KeptTree.{HoldsTree, Rehashes, is_tree_length, kept_leaves};
 
 use crate::hash::PairHash;
 
@@ -39,7 +39,11 @@ fn hash_four_at<H: PairHash>(memory: &mut [[u8; 32]], first: usize)
 /// Writes the hashes above the leaf digests that stand in memory, from the lowest up.
 pub fn rebuild<H: PairHash>(memory: &mut [[u8; 32]])
     requires { length memory.old % 2 ≡ 1 }
-    ensures { Rehashes H.node 0 (length memory.old / 2) memory.old memory.new }
+    ensures hashed { Rehashes H.node 0 (length memory.old / 2) memory.old memory.new }
+
+    // Where a tree has as many digests as memory, that is then the tree above the leaf digests that stand in it.
+    ensures tree { is_tree_length (length memory.old) ≡ true
+        → HoldsTree H.node memory.new (kept_leaves memory.old) }
 {
     let inner = memory.len() / 2;
     let fours = inner.saturating_sub(3) / 4;

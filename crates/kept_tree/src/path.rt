@@ -53,6 +53,16 @@ fn put_digest(buffer: &mut [u8], at: usize, digest: &[u8; 32])
     buffer[at..at + 32].copy_from_slice(digest);
 }
 
+/// Returns the count of the canonical bytes of the path of an index: 16, and 32 for each level below the root.
+pub fn path_len(memory: &[[u8; 32]], index: usize) -> usize
+    requires size { is_tree_length (length memory.now) ≡ true }
+    requires index { index < leaf_count (length memory.now) }
+    ensures count { result ≡ 16 + 32 * log2 (leaf_count (length memory.now)) }
+    ensures bytes { length (way_bytes itself itself (kept_way memory.now index)) ≡ result }
+{
+    48 + 32 * levels_between(memory.len() / 2 + 1)
+}
+
 /// Writes the canonical bytes of the path of an index to the front of a buffer: the digests beside its way, as they stand
 /// in memory.
 pub fn write_path(buffer: &mut [u8], memory: &[[u8; 32]], index: usize)
@@ -61,8 +71,6 @@ pub fn write_path(buffer: &mut [u8], memory: &[[u8; 32]], index: usize)
     requires room { 16 + 32 * log2 (leaf_count (length memory.now)) ≤ length buffer.old }
     ensures bytes { let bytes = way_bytes itself itself (kept_way memory.now index) in
         buffer.new ≡ bytes ++ drop (length bytes) buffer.old }
-    ensures counted { let bytes = way_bytes itself itself (kept_way memory.now index) in
-        length bytes ≡ 16 + 32 * log2 (leaf_count (length memory.now)) }
 
     // Of a tree it is the path of its repeated halving.
     ensures tree { (node : NodeHash) (leaves : List Digest) → HoldsTree node memory.now leaves

@@ -3,7 +3,7 @@ use Rattle.ark_base.specs.Laws.Numbers.{length-word}
 use Rattle.kept_tree.proofs.Besides.{levels-known}
 use Rattle.kept_tree.proofs.HeldTrees.{held-path}
 use Rattle.kept_tree.proofs.Lengths.{tree_length}
-use Rattle.kept_tree.proofs.PathWrites.{path-all, path-counted, path-more, path-none, word-bytes}
+use Rattle.kept_tree.proofs.PathWrites.{path-all, path-more, path-none, word-bytes}
 use Rattle.kept_tree.proofs.path.write_path.Goals as goal
 
 pub levels_between-levels-requires : goal.levels_between-levels-requires
@@ -66,15 +66,6 @@ returns-clause-bytes c =
     path-all c.args.buffer.now c.args.memory.now c.args.index c.levels_between-levels.result (omega (arith, levels))
     c.to_le_bytes-2.result c.levels.buffer c.put-2.new.buffer c.levels.done (omega arith) c.levels.invariant
     (word-bytes c.args.index c.to_le_bytes-2.result c.to_le_bytes-2.ensures) c.put-2.ensures
-
-pub returns-clause-counted : goal.returns-clause-counted
-returns-clause-counted c =
-    let levels = levels-known (length c.args.memory.now) c.levels_between-levels.result c.requires.size
-    c.levels_between-levels.ensures in
-    let counted = path-counted c.args.buffer.now c.args.memory.now c.args.index c.levels_between-levels.result
-    (omega (arith, levels)) c.to_le_bytes-2.result c.levels.buffer c.put-2.new.buffer c.levels.done (omega arith)
-    c.levels.invariant (word-bytes c.args.index c.to_le_bytes-2.result c.to_le_bytes-2.ensures) c.put-2.ensures in
-    omega (arith, levels, counted)
 
 pub returns-clause-tree : goal.returns-clause-tree
 returns-clause-tree c = λ node leaves holds. held-path node c.args.memory.now leaves holds c.args.index
