@@ -1,5 +1,5 @@
 -- Lengths of memory for trees.
-use Rattle.std.proofs.Common.{◌≡◌, ℕ, zero, suc, ◌+◌, ◌*◌, ◌/◌, ◌<◌, ◌^◌, Bool, true, false, ◌&&◌, List, length, nat_lt, refl, arith, nat_eq, pow_pos}
+use Rattle.std.proofs.Common.{◌≡◌, ℕ, zero, suc, ◌+◌, ◌*◌, ◌/◌, ◌<◌, ◌≤◌, ◌^◌, Bool, true, false, ◌&&◌, List, length, nat_lt, refl, arith, nat_eq, pow_pos}
 use Rattle.std.proofs.Math.Nat.{pow-succ'}
 use Rattle.std.proofs.lemmas.Bool.{lt-ltb, ltb-true}
 use Rattle.std.proofs.lemmas.List.{length-drop}
@@ -33,20 +33,23 @@ holds-here node memory is hashed =
     omega (arith, length-drop (length memory / 2) memory, size.1) in
     record { size = (size.0, long); count = omega (arith, long, size.1); last = refl; hashed = hashed }
 
+-- 2 n - 1 is a tree's length where n is a tree's size
+pub sized-length : (count n : ℕ) → IsTreeSize n → count + 1 ≡ 2 * n → is_tree_length count ≡ true
+sized-length count n (m, size) whole =
+    let twice = pow-succ' 2 (suc m) in
+    let power : count + 1 ≡ 2 ^ suc (suc m) = omega (arith, whole, size) in
+    let most : 2 ≤ 2 ^ suc m = omega (arith, pow-succ' 2 m, pow_pos m) in
+    let some : 1 < count + 1 = omega (arith, power, twice) in
+    let more : nat_lt 2 count ≡ true = lt-ltb 2 count (omega (arith, power, twice)) in
+    let two : nat_lt 1 (count + 1) ≡ true = lt-ltb 1 (count + 1) some in
+    let decided : nat_eq (count + 1) (2 ^ log2 (count + 1)) ≡ true =
+    (power_decided (count + 1) some).1 (suc m, power) in
+    rw (more, two, decided) refl
+
 -- memory that holds a tree has a tree's length
 pub held-length : (node : NodeHash) (memory leaves : List Digest) → HoldsTree node memory leaves
     → is_tree_length (length memory) ≡ true
-held-length node memory leaves holds =
-    let m = holds.size.0 in
-    let count = length memory + 1 in
-    let twice = pow-succ' 2 (suc m) in
-    let power : count ≡ 2 ^ suc (suc m) = omega (arith, holds.count, holds.size.1) in
-    let some : 1 < count = omega (arith, power, twice, pow_pos (suc m), pow-succ' 2 m, pow_pos m) in
-    let more : nat_lt 2 (length memory) ≡ true =
-    lt-ltb 2 (length memory) (omega (arith, power, twice, pow-succ' 2 m, pow_pos m)) in
-    let two : nat_lt 1 count ≡ true = lt-ltb 1 count some in
-    let decided : nat_eq count (2 ^ log2 count) ≡ true = (power_decided count some).1 (suc m, power) in
-    rw (more, two, decided) refl
+held-length node memory leaves holds = sized-length (length memory) (length leaves) holds.size holds.count
 
 -- and as many leaves
 pub held-count : (node : NodeHash) (memory leaves : List Digest) → HoldsTree node memory leaves

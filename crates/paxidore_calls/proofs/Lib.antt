@@ -1,2 +1,3 @@
 pub mod Codes
 pub mod Cutting
+pub mod Keeping
