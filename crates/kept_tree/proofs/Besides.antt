@@ -1,8 +1,8 @@
 -- Where the digests beside a way stand.
-use Rattle.std.proofs.Common.{◌≡◌, ℕ, suc, ◌+◌, ◌-◌, ◌*◌, ◌/◌, ◌%◌, ◌<◌, ◌≤◌, ◌^◌, Bool, true, false, if◌then◌else◌, ap, subst, ◌∙◌, inl, inr, arith, pow_pos}
+use Rattle.std.proofs.Common.{◌≡◌, ℕ, suc, ◌+◌, ◌-◌, ◌*◌, ◌/◌, ◌<◌, ◌≤◌, ◌^◌, Bool, true, false, if◌then◌else◌, ap, ◌∙◌, inl, inr, arith, pow_pos}
 use Rattle.std.proofs.lemmas.Bool.{cases_lt}
 use Rattle.std.proofs.lemmas.Nat.{div_below, le-div, pow-add}
-use Rattle.std.proofs.Math.Nat.{pow-le-pow_right, pow-succ'}
+use Rattle.std.proofs.Math.Nat.{pow-le-pow_right}
 use Rattle.ark_paths.specs.Index.{bit_at, log2, neighbour}
 use Rattle.ark_paths.proofs.Logs.{log2-pow}
 use Rattle.ark_paths.proofs.PlaceLemmas.{neighbour-inside}

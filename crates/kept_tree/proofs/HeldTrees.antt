@@ -1,6 +1,6 @@
 -- What memory that holds a tree has: the root and the paths of the repeated halving of its leaf digests.
-use Rattle.std.proofs.Common.{◌≡◌, ℕ, zero, suc, ◌+◌, ◌-◌, ◌*◌, ◌/◌, ◌%◌, ◌<◌, ◌≤◌, ◌^◌, Bool, true, false, List, [], ◌∷◌, length, take, drop, get_or, if◌then◌else◌, Ok, refl, sym, ap, subst, ◌∙◌, arith, pow_pos}
-use Rattle.std.proofs.lemmas.Bool.{eqb-true, eqb-false}
+use Rattle.std.proofs.Common.{◌≡◌, ℕ, zero, suc, ◌+◌, ◌-◌, ◌*◌, ◌/◌, ◌%◌, ◌<◌, ◌≤◌, ◌^◌, Bool, true, false, List, [], length, take, get_or, if◌then◌else◌, Ok, refl, sym, ap, ◌∙◌, arith, pow_pos}
+use Rattle.std.proofs.lemmas.Bool.{eqb-true}
 use Rattle.std.proofs.lemmas.List.{get_or-drop, get_or-take, length-take-le}
 use Rattle.std.proofs.lemmas.Nat.{pow-add}
 use Rattle.std.proofs.Math.Nat.{mul-add-div_right, pow-le-pow_right, pow-succ'}
@@ -15,7 +15,7 @@ use Rattle.ark_paths.proofs.Parts.{get_or-part, part-left, part-right, part-whol
 use Rattle.ark_paths.proofs.PlaceLemmas.{neighbour-inside, place-inside}
 use Rattle.ark_merkle.specs.LevelOrder.{rows_in_order}
 use Rattle.ark_merkle.proofs.LevelOrder.{digest-in_order, length-row, length-rows_in_order}
-use Rattle.kept_tree.specs.KeptTree.{HoldsTree, IsHashed, NodeHash, alike, kept_above, kept_beside, kept_leaves, kept_way, leaf_count}
+use Rattle.kept_tree.specs.KeptTree.{HoldsTree, IsHashed, NodeHash, alike, kept_above, kept_beside, kept_way, leaf_count}
 
 neighbour_by : (b : Bool) (e q : ℕ) → bit_at q 0 ≡ b → bit_at (2 * e + q) 0 ≡ b
     → (if b then 2 * e + q - 1 else 2 * e + q + 1) ≡ 2 * e + (if b then q - 1 else q + 1)

@@ -1,4 +1,4 @@
-use Rattle.std.proofs.Common.{◌≡◌, ◌-◌, ◌≤◌, ◌/◌, ℕ, length, arith}
+use Rattle.std.proofs.Common.{arith}
 use Rattle.kept_tree.proofs.Rehashed.{rehashes-all}
 use Rattle.kept_tree.proofs.build.rebuild.Goals as goal
 

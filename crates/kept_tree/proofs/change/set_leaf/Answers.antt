@@ -1,4 +1,4 @@
-use Rattle.std.proofs.Common.{◌+◌, ◌/◌, ◌<◌, ◌≤◌, arith, length, refl}
+use Rattle.std.proofs.Common.{◌+◌, ◌/◌, arith, length, refl}
 use Rattle.kept_tree.proofs.Changing.{changes-all, changes-more, changes-tree}
 use Rattle.kept_tree.proofs.change.set_leaf.Goals as goal
 

@@ -1,4 +1,4 @@
-use Rattle.std.proofs.Common.{◌<◌, length, refl, arith}
+use Rattle.std.proofs.Common.{length, refl, arith}
 use Rattle.kept_tree.proofs.Lengths.{holds-here, tree_length}
 use Rattle.kept_tree.proofs.check.holds_tree.Goals as goal
 

@@ -1,4 +1,4 @@
-use Rattle.std.proofs.Common.{◌≡◌, ◌<◌, ◌≤◌, ◌+◌, ◌-◌, ◌/◌, ◌^◌, ℕ, [], length, get_or, refl, ap, ◌∙◌, arith}
+use Rattle.std.proofs.Common.{◌≡◌, ◌+◌, ◌-◌, ◌/◌, ◌^◌, ℕ, [], length, get_or, refl, ap, ◌∙◌, arith}
 use Rattle.ark_paths.specs.Index.{neighbour}
 use Rattle.kept_tree.proofs.Besides.{beside-below, beside-some, level-fits, log-is}
 use Rattle.kept_tree.proofs.Lengths.{tree_length}

@@ -1,4 +1,4 @@
-use Rattle.std.proofs.Common.{◌≡◌, ◌<◌, ◌≤◌, ◌+◌, ◌-◌, ◌*◌, ◌/◌, ◌^◌, length, refl, arith}
+use Rattle.std.proofs.Common.{length, refl, arith}
 use Rattle.kept_tree.proofs.Besides.{level-fits, levels-known, log-is}
 use Rattle.kept_tree.proofs.Lengths.{tree_length}
 use Rattle.kept_tree.proofs.PathWrites.{path-long}
@@ -10,8 +10,11 @@ levels_between-requires c =
     let size = tree_length (length c.args.memory.now) c.requires.size in (size.0, omega (arith, size.1))
 
 pub returns-clause-count : goal.returns-clause-count
-returns-clause-count c = omega (arith, levels-known (length c.args.memory.now) c.levels_between.result c.requires.size
-    c.levels_between.ensures)
+returns-clause-count c = omega (
+  arith,
+  levels-known (length c.args.memory.now) c.levels_between.result c.requires.size
+      c.levels_between.ensures,
+)
 
 pub returns-clause-bytes : goal.returns-clause-bytes
 returns-clause-bytes c =

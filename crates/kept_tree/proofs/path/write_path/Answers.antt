@@ -1,4 +1,4 @@
-use Rattle.std.proofs.Common.{◌≡◌, ◌<◌, ◌≤◌, ◌+◌, ◌-◌, ◌*◌, ◌/◌, ◌^◌, ℕ, length, refl, sym, arith}
+use Rattle.std.proofs.Common.{◌≡◌, length, arith}
 use Rattle.ark_base.specs.Laws.Numbers.{length-word}
 use Rattle.kept_tree.proofs.Besides.{levels-known}
 use Rattle.kept_tree.proofs.HeldTrees.{held-path}
@@ -11,12 +11,18 @@ levels_between-levels-requires c =
     let size = tree_length (length c.args.memory.now) c.requires.size in (size.0, omega (arith, size.1))
 
 pub beside-requires-clause-level : goal.beside-requires-clause-level
-beside-requires-clause-level c = omega (arith, levels-known (length c.args.memory.now) c.levels_between-levels.result
-    c.requires.size c.levels_between-levels.ensures)
+beside-requires-clause-level c = omega (
+  arith,
+  levels-known (length c.args.memory.now) c.levels_between-levels.result
+      c.requires.size c.levels_between-levels.ensures,
+)
 
 pub put_digest-requires : goal.put_digest-requires
-put_digest-requires c = omega (arith, levels-known (length c.args.memory.now) c.levels_between-levels.result
-    c.requires.size c.levels_between-levels.ensures)
+put_digest-requires c = omega (
+  arith,
+  levels-known (length c.args.memory.now) c.levels_between-levels.result
+      c.requires.size c.levels_between-levels.ensures,
+)
 
 pub put-requires : goal.put-requires
 put-requires c =
