@@ -200,6 +200,16 @@ PAXIDORE_ANSWERS
 int32_t paxidore_sha256_tree_set(uint8_t *tree, size_t tree_len, size_t index,
                                  const uint8_t *leaf, size_t leaf_len);
 
+/* Changes the leaves at some indexes, one after the other, so that the last of an index counts: writes their digests, and then the
+ * digests above them, level by level, the lowest first and the root last. Where the indexes rise, each of these is hashed once. What
+ * is said of `.._tree_set` and of a crash holds for all of them. E_SIZE, E_COUNT, E_LENGTHS, E_INDEX also where there is no index;
+ * the memory is then as it was. */
+PAXIDORE_ANSWERS
+int32_t paxidore_sha256_tree_set_many(uint8_t *tree, size_t tree_len,
+                                      const size_t *indexes, size_t indexes_count,
+                                      const uint8_t *leaves, size_t leaves_len,
+                                      const size_t *lengths, size_t count);
+
 /* Writes the first digest of the memory, the root of a tree. E_SIZE. */
 PAXIDORE_ANSWERS PAXIDORE_NOT_NULL((1))
 int32_t paxidore_sha256_tree_root(uint8_t root[PAXIDORE_DIGESTBYTES], const uint8_t *tree, size_t tree_len);
@@ -227,6 +237,12 @@ int32_t paxidore_rfc6962_tree_rebuild(uint8_t *tree, size_t tree_len);
 PAXIDORE_ANSWERS
 int32_t paxidore_rfc6962_tree_set(uint8_t *tree, size_t tree_len, size_t index,
                                   const uint8_t *leaf, size_t leaf_len);
+
+PAXIDORE_ANSWERS
+int32_t paxidore_rfc6962_tree_set_many(uint8_t *tree, size_t tree_len,
+                                       const size_t *indexes, size_t indexes_count,
+                                       const uint8_t *leaves, size_t leaves_len,
+                                       const size_t *lengths, size_t count);
 
 PAXIDORE_ANSWERS PAXIDORE_NOT_NULL((1))
 int32_t paxidore_rfc6962_tree_root(uint8_t root[PAXIDORE_DIGESTBYTES], const uint8_t *tree, size_t tree_len);

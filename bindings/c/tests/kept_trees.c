@@ -26,6 +26,7 @@ struct hashing {
     int32_t (*build)(uint8_t *, size_t, const uint8_t *, size_t, const size_t *, size_t);
     int32_t (*rebuild)(uint8_t *, size_t);
     int32_t (*set)(uint8_t *, size_t, size_t, const uint8_t *, size_t);
+    int32_t (*set_many)(uint8_t *, size_t, const size_t *, size_t, const uint8_t *, size_t, const size_t *, size_t);
     int32_t (*root)(uint8_t *, const uint8_t *, size_t);
     int32_t (*path)(uint8_t *, size_t, size_t *, const uint8_t *, size_t, size_t);
     int32_t (*check)(const uint8_t *, size_t);
@@ -35,14 +36,14 @@ struct hashing {
 };
 
 static const struct hashing sha256 = {
-    paxidore_sha256_tree_build, paxidore_sha256_tree_rebuild, paxidore_sha256_tree_set, paxidore_sha256_tree_root,
-    paxidore_sha256_tree_path, paxidore_sha256_tree_check, paxidore_sha256_root, paxidore_sha256_path,
+    paxidore_sha256_tree_build, paxidore_sha256_tree_rebuild, paxidore_sha256_tree_set,
+    paxidore_sha256_tree_set_many, paxidore_sha256_tree_root, paxidore_sha256_tree_path, paxidore_sha256_tree_check, paxidore_sha256_root, paxidore_sha256_path,
     /* by Python's hashlib */
     {[8] = "03b3e0e5b23746036c9c7185c1fc12bc6f8ff41cc2b97b24fb451f2cc291d2b4"}};
 
 static const struct hashing rfc6962 = {
-    paxidore_rfc6962_tree_build, paxidore_rfc6962_tree_rebuild, paxidore_rfc6962_tree_set, paxidore_rfc6962_tree_root,
-    paxidore_rfc6962_tree_path, paxidore_rfc6962_tree_check, paxidore_rfc6962_root, paxidore_rfc6962_path,
+    paxidore_rfc6962_tree_build, paxidore_rfc6962_tree_rebuild, paxidore_rfc6962_tree_set,
+    paxidore_rfc6962_tree_set_many, paxidore_rfc6962_tree_root, paxidore_rfc6962_tree_path, paxidore_rfc6962_tree_check, paxidore_rfc6962_root, paxidore_rfc6962_path,
     /* those that implementations of RFC 6962 are tested with */
     {[2] = "fac54203e7cc696cf0dfcb42c92a1d9dbaf70ad9e621f4bd8d98662f00e3c125",
      [4] = "d37ee418976dd95753c1c73862b9398fa2a2cf9b4ff0fdfe8b30cd95209614b7",
@@ -186,6 +187,26 @@ static void changes(const struct hashing *h) {
     free(other);
 }
 
+/* Several leaves at once: as one after the other. */
+static void several(const struct hashing *h) {
+    uint8_t *tree = filled(32 * DIGESTS), *other = filled(32 * DIGESTS);
+    static const size_t indexes[4] = {6, 1, 6, 7}, lengths[4] = {3, 0, 9, 22}, beyond[4] = {6, 1, SIZE, 7};
+    CHECK(h->build(tree, DIGESTS, LEAVES, LEAVES_LEN, LENGTHS, SIZE) == PAXIDORE_OK);
+    memcpy(other, tree, 32 * DIGESTS);
+    CHECK(h->set_many(tree, DIGESTS, indexes, 4, LEAVES, LEAVES_LEN, lengths, 3) == PAXIDORE_E_COUNT);
+    CHECK(h->set_many(tree, DIGESTS, indexes, 3, LEAVES, LEAVES_LEN, lengths, 3) == PAXIDORE_E_LENGTHS);
+    CHECK(h->set_many(tree, DIGESTS, beyond, 4, LEAVES, LEAVES_LEN, lengths, 4) == PAXIDORE_E_INDEX);
+    CHECK(h->set_many(tree, DIGESTS, NULL, 0, NULL, 0, NULL, 0) == PAXIDORE_E_INDEX);
+    CHECK(h->set_many(tree, DIGESTS - 1, indexes, 4, LEAVES, LEAVES_LEN, lengths, 4) == PAXIDORE_E_SIZE);
+    CHECK(memcmp(tree, other, 32 * DIGESTS) == 0);
+    CHECK(h->set_many(tree, DIGESTS, indexes, 4, LEAVES, LEAVES_LEN, lengths, 4) == PAXIDORE_OK);
+    for (size_t i = 0, at = 0; i < 4; at += lengths[i++])
+        CHECK(h->set(other, DIGESTS, indexes[i], LEAVES + at, lengths[i]) == PAXIDORE_OK);
+    CHECK(memcmp(tree, other, 32 * DIGESTS) == 0 && h->check(tree, DIGESTS) == PAXIDORE_OK);
+    free(tree);
+    free(other);
+}
+
 /* A tree in a file, at an odd place of the mapping. */
 static void files(const struct hashing *h) {
     char name[] = "/tmp/paxidore-XXXXXX";
@@ -210,6 +231,7 @@ int main(void) {
         builds(both[i]);
         sizes(both[i]);
         changes(both[i]);
+        several(both[i]);
         files(both[i]);
     }
     printf("%d passed, %d failed\n", passed, failed);

@@ -19,6 +19,7 @@ from paxidore import (
     _size,
     _sizes,
     _word,
+    _words,
     rfc6962,
 )
 
@@ -34,6 +35,7 @@ class _Calls:
         self.build = call("build", _memory, _size, _bytes, _size, _sizes, _size)
         self.rebuild = call("rebuild", _memory, _size)
         self.set = call("set", _memory, _size, _size, _bytes, _size)
+        self.set_many = call("set_many", _memory, _size, _sizes, _size, _bytes, _size, _sizes, _size)
         self.root = call("root", _memory, _memory, _size)
         self.path = call("path", _memory, _size, _sizes, _memory, _size, _size)
         self.check = call("check", _memory, _size)
@@ -154,6 +156,13 @@ class Tree:
     def set(self, index: int, leaf: bytes) -> None:
         """Changes a leaf: writes its digest and those above it, from the lowest up. Raises ``IndexBeyondSize``."""
         self._done(self._calls.set, given=(_word(index), _exact("leaf", leaf), len(leaf)))
+
+    def set_many(self, indexes: Sequence[int], leaves: Sequence[bytes]) -> None:
+        """Changes leaves, one for each index, one after the other. Where the indexes rise, each digest above them is hashed once.
+
+        Raises ``CountError``, ``IndexBeyondSize``.
+        """
+        self._done(self._calls.set_many, given=(*_words(indexes), *_flat(tuple(leaves))))
 
     def check(self) -> bool:
         """Whether each digest above those of the leaves is the hash of the two below it. It hashes as much as ``rebuild``."""

@@ -124,6 +124,44 @@ class Trees(unittest.TestCase):
                     self.assertEqual(trees.path(leaves, index), tree.path(index))
                     self.assertTrue(trees.verify(root, size, index, leaves[index], tree.path(index)))
 
+    def test_several_changes(self):
+        for trees, leaf, node in HASHINGS:
+            for size in (2, 4, 8, 64, 256):
+                leaves = [drawn_leaf() for _ in range(size)]
+                model = Model(leaf, node, leaves)
+                memory = bytearray(model.bytes())
+                tree = Tree(memory, trees=trees)
+                for count in (1, 2, 3, size // 2, size, 2 * size):
+                    # in any order, and one index more than once: the last counts
+                    indexes = [DRAWS.randrange(size) for _ in range(count)]
+                    for given in (indexes, sorted(set(indexes))):
+                        others = [drawn_leaf() for _ in given]
+                        tree.set_many(given, others)
+                        for index, other in zip(given, others):
+                            model.digests[size - 1 + index] = leaf(other)
+                        model.hash()
+                        self.assertEqual(bytes(memory), model.bytes())
+                self.assertTrue(tree.check())
+
+    def test_several_changes_of_memory_that_holds_no_tree(self):
+        for trees, leaf, node in HASHINGS:
+            for size in (2, 8, 32):
+                memory = bytearray(DRAWS.randbytes(32 * (2 * size - 1)))
+                digests = [bytes(memory[32 * i : 32 * i + 32]) for i in range(2 * size - 1)]
+                indexes = DRAWS.sample(range(size), max(1, size // 4))
+                others = [drawn_leaf() for _ in indexes]
+                above = set()
+                for index, other in zip(indexes, others):
+                    place = size - 1 + index
+                    digests[place] = leaf(other)
+                    while place:
+                        place = (place - 1) // 2
+                        above.add(place)
+                for place in sorted(above, reverse=True):
+                    digests[place] = node(digests[2 * place + 1], digests[2 * place + 2])
+                Tree(memory, trees=trees).set_many(indexes, others)
+                self.assertEqual(bytes(memory), b"".join(digests))
+
     def test_memory_that_holds_no_tree(self):
         # what is written is the leaf's digest and those above it, whatever stood there
         for trees, leaf, node in HASHINGS:
@@ -214,6 +252,11 @@ class Trees(unittest.TestCase):
             (paxidore.IndexBeyondSize, lambda: tree.path(4)),
             (paxidore.IndexBeyondSize, lambda: tree.path((1 << 64) - 1)),
             (paxidore.IndexBeyondSize, lambda: tree.set(4, b"")),
+            (paxidore.IndexBeyondSize, lambda: tree.set_many([0, 4], [b"", b""])),
+            (paxidore.IndexBeyondSize, lambda: tree.set_many([], [])),
+            (paxidore.CountError, lambda: tree.set_many([0, 1], [b""])),
+            (OverflowError, lambda: tree.set_many([-1], [b""])),
+            (TypeError, lambda: tree.set_many([0], [bytearray(1)])),
             (OverflowError, lambda: tree.path(-1)),
             (OverflowError, lambda: tree.set(1 << 64, b"")),
             (TypeError, lambda: tree.set(0, bytearray(1))),
@@ -236,6 +279,7 @@ class Trees(unittest.TestCase):
             lambda: tree.root,
             lambda: tree.path(0),
             lambda: tree.set(0, b""),
+            lambda: tree.set_many([0], [b""]),
             tree.check,
             tree.rebuild,
             tree.flush,

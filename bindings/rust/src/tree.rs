@@ -89,6 +89,32 @@ impl<M: AsRef<[u8]> + AsMut<[u8]>> Tree<M> {
         })
     }
 
+    /// Changes leaves, one for each index, one after the other. Where the indexes rise, each digest above them is hashed once.
+    ///
+    /// Refusals: `Size`, `Count`, `Index` also where there is no index.
+    pub fn set_many<L: AsRef<[u8]>>(
+        &mut self,
+        indexes: &[usize],
+        leaves: &[L],
+    ) -> Result<(), Refused> {
+        let Flat { bytes, lengths } = Flat::of(leaves);
+        let place = self.memory.as_mut();
+        let count = digests(place)?;
+        // SAFETY: as in `build_in`.
+        done(unsafe {
+            (self.trees.calls.tree_set_many)(
+                place.as_mut_ptr(),
+                count,
+                indexes.as_ptr(),
+                indexes.len(),
+                bytes.as_ptr(),
+                bytes.len(),
+                lengths.as_ptr(),
+                lengths.len(),
+            )
+        })
+    }
+
     /// Writes all digests above those of the leaves that stand there. Refusals: `Size`.
     pub fn rebuild(&mut self) -> Result<(), Refused> {
         let place = self.memory.as_mut();

@@ -66,6 +66,28 @@ fn changes() -> Result<(), Refused> {
 }
 
 #[test]
+fn several_changes() -> Result<(), Refused> {
+    for trees in HASHINGS {
+        let mut leaves: Vec<Vec<u8>> = (0..64).map(|i| vec![i as u8; i]).collect();
+        let mut tree = Tree::build(trees, &leaves)?;
+        for indexes in [&[63][..], &[0, 1, 2, 3, 40], &[9, 5, 9, 8, 5, 63]] {
+            let others: Vec<Vec<u8>> = (0..indexes.len()).map(|i| vec![7; 50 + i]).collect();
+            tree.set_many(indexes, &others)?;
+            for (&index, other) in indexes.iter().zip(&others) {
+                leaves[index].clone_from(other);
+            }
+            assert_eq!(tree.memory(), Tree::build(trees, &leaves)?.memory());
+        }
+        let before = tree.memory().clone();
+        assert_eq!(tree.set_many(&[0, 64], &["", ""]), Err(Refused::Index));
+        assert_eq!(tree.set_many::<&[u8]>(&[], &[]), Err(Refused::Index));
+        assert_eq!(tree.set_many(&[0, 1], &[""]), Err(Refused::Count));
+        assert_eq!(tree.memory(), &before);
+    }
+    Ok(())
+}
+
+#[test]
 fn each_byte_that_is_flipped_is_found() -> Result<(), Refused> {
     for trees in HASHINGS {
         let whole = Tree::build(trees, &ENTRIES)?.into_memory();

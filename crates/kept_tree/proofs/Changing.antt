@@ -31,7 +31,7 @@ on_way-low : (from i : ℕ) → IsOnWay from i → i ≤ from
 on_way-low from i (k, is) = let le = div-le_self (from + 1) (2 ^ k) in omega arith
 
 -- the place above one on the way
-on_way-up : (from place : ℕ) → 0 < place → IsOnWay from place → IsOnWay from ((place - 1) / 2)
+pub on_way-up : (from place : ℕ) → 0 < place → IsOnWay from place → IsOnWay from ((place - 1) / 2)
 on_way-up from place some (k, is) = (suc k, let e = half (from + 1) k in omega arith)
 
 -- between it and the one below it there is none
@@ -110,7 +110,7 @@ changes-all node old now from place index digest at top so = record {
 
 -- ---- of a tree
 
-same_or : (a b : Digest) → ((a ≢ b) → ⊥) → a ≡ b
+pub same_or : (a b : Digest) → ((a ≢ b) → ⊥) → a ≡ b
 same_or a b apart = by_test (digest_eq a b) refl
   where
     by_test : (test : Bool) → digest_eq a b ≡ test → a ≡ b

@@ -4,3 +4,4 @@ pub mod HeldTrees
 pub mod Lengths
 pub mod Rehashed
 pub mod PathWrites
+pub mod LevelByLevel

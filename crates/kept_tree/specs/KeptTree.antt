@@ -1,8 +1,10 @@
 -- Trees that are kept in memory: digests in level order, the root first, the leaf digests last.
 use Rattle.std.specs.Prelude.{◌≡◌, ◌⊎◌, ℕ, zero, suc, ◌+◌, ◌-◌, ◌*◌, ◌/◌, ◌<◌, ◌≤◌, ◌^◌, List, [], ◌∷◌, length, drop, get_or, nat_lt, Bool, ◌&&◌, Ok}
+use Rattle.std.specs.List.{zip}
 use Rattle.ark_paths.specs.Index.{IsTreeSize, is_tree_size, log2, neighbour}
 use Rattle.ark_paths.specs.Pair.{Digest, HashPair}
 use Rattle.ark_paths.specs.Path.{Way}
+use Rattle.ark_merkle.specs.Batch.{puts}
 
 -- the digest of two digests, left first
 abbrev pub NodeHash : Type 0
@@ -55,6 +57,41 @@ pub record ChangesLeaf (node : NodeHash) (old new : List Digest) (index : ℕ) (
   pub leaf : get_or new (length old / 2 + index) [] ≡ digest
   pub way : (i : ℕ) → i < length old / 2 → IsOnWay (length old / 2 + index) i → IsHashed node new i
   pub others : (i : ℕ) → (IsOnWay (length old / 2 + index) i → ⊥) → get_or new i [] ≡ get_or old i []
+
+-- A place is on the way from the leaf of one of some indexes: first is the place of the first leaf.
+abbrev pub IsOnWays : ℕ → List ℕ → ℕ → Type 0
+IsOnWays first indexes i = (j : ℕ) × (j < length indexes) × IsOnWay (first + get_or indexes j 0) i
+
+-- the place so many levels above the leaf of an index, or its own: counted from one, the first leaf stands at the count of
+-- leaves, and the place above another is its half
+abbrev pub place_above : ℕ → ℕ → ℕ → ℕ
+place_above count level index = (leaf_count count + index) / 2 ^ level - 1
+
+-- The digests on one level above the leaves of some indexes are hashed from the ones below them; all others are as before.
+pub record LevelHashed (node : NodeHash) (old new : List Digest) (level : ℕ) (indexes : List ℕ) : Type 0 where
+  pub long : length new ≡ length old
+  pub hashed : (j : ℕ) → j < length indexes → IsHashed node new (place_above (length old) level (get_or indexes j 0))
+  pub others : (i : ℕ)
+      → ((j : ℕ) → j < length indexes → i ≡ place_above (length old) level (get_or indexes j 0) → ⊥)
+      → get_or new i [] ≡ get_or old i []
+
+-- The digests above the leaves of some indexes are hashed from the ones below them; all others are as before.
+pub record RehashesAbove (node : NodeHash) (old new : List Digest) (indexes : List ℕ) : Type 0 where
+  pub long : length new ≡ length old
+  pub leaves : kept_leaves new ≡ kept_leaves old
+  pub ways : (i : ℕ) → i < length old / 2 → IsOnWays (length old / 2) indexes i → IsHashed node new i
+  pub others : (i : ℕ) → i < length old / 2 → (IsOnWays (length old / 2) indexes i → ⊥)
+      → get_or new i [] ≡ get_or old i []
+
+-- The leaf digests at some indexes are changed, one after the other, those above them are hashed from the ones below them,
+-- and all others are as before.
+pub record ChangesLeaves (node : NodeHash) (old new : List Digest) (indexes : List ℕ) (digests : List Digest)
+    : Type 0 where
+  pub long : length new ≡ length old
+  pub leaves : kept_leaves new ≡ puts (kept_leaves old) (zip indexes digests)
+  pub ways : (i : ℕ) → i < length old / 2 → IsOnWays (length old / 2) indexes i → IsHashed node new i
+  pub others : (i : ℕ) → i < length old / 2 → (IsOnWays (length old / 2) indexes i → ⊥)
+      → get_or new i [] ≡ get_or old i []
 
 -- ---- paths
 

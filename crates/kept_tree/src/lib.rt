@@ -7,4 +7,5 @@ pub mod build;
 pub mod change;
 pub mod check;
 pub mod hash;
+pub mod many;
 pub mod path;

@@ -1,15 +1,19 @@
 //! Trees whose digests are kept in the caller's memory, in both hashings: the root first, the leaf digests last. No call allocates.
 
-ghost use Rattle.std.specs.Prelude.{◌≡◌, ◌≢◌, ◌⊎◌, ◌+◌, ◌*◌, ◌↔◌, List, [], pos, false, length, map, get_or, set, IfOk, Ok};
+ghost use Rattle.std.specs.Prelude.{◌≡◌, ◌≢◌, ◌⊎◌, ◌+◌, ◌*◌, ◌↔◌, List, [], pos, false, length, map, get_or, set, IfOk, IfSome, Ok};
+ghost use Rattle.std.specs.List.{zip};
+ghost use Rattle.ark_merkle.specs.Batch.{puts};
 ghost use Rattle.ark_paths.specs.Index.{log2};
 ghost use Rattle.ark_paths.specs.Pair.{Digest};
 ghost use Rattle.ark_paths.specs.Tree.{root_in, tree_with};
-ghost use Rattle.kept_tree.specs.KeptTree.{ChangesLeaf, HoldsTree, is_tree_length, kept_leaves, leaf_count};
+ghost use Rattle.kept_tree.specs.KeptTree.{ChangesLeaf, ChangesLeaves, HoldsTree, is_tree_length, kept_leaves, leaf_count};
 ghost use Rattle.paxidore_calls.specs.declared.refused.Refused.TheVariants.{Memory, Size};
 ghost use Rattle.paxidore_calls.specs.Answer.{Hands, done_code, refusal_code, tree_leaves_in};
+ghost use Rattle.paxidore_calls.specs.Cut.{parts_by};
 ghost use Rattle.paxidore_calls.specs.Hashing.{hashes_of, rfc6962_hashing, sha256_hashing};
-ghost use Rattle.paxidore_calls.specs.KeptAnswer.{kept_index, kept_path, kept_root, leaves_to_keep, path_of_digests};
+ghost use Rattle.paxidore_calls.specs.KeptAnswer.{kept_index, kept_path, kept_root, leaves_to_change, leaves_to_keep, path_of_digests};
 
+use paxidore_calls::kept_changes::tree_set_many;
 use paxidore_calls::kept_trees::{
     tree_build, tree_check, tree_path, tree_rebuild, tree_root, tree_set,
 };
@@ -52,11 +56,7 @@ pub extern "C" fn paxidore_sha256_tree_rebuild(tree: &mut [[u8; 32]]) -> i32
 /// Answers: 0; else the first of `E_SIZE`, where no tree has so many digests, and `E_INDEX`, which leave the memory as
 /// before.
 #[unsafe(no_mangle)]
-pub extern "C" fn paxidore_sha256_tree_set(
-    tree: &mut [[u8; 32]],
-    index: usize,
-    leaf: &[u8],
-) -> i32
+pub extern "C" fn paxidore_sha256_tree_set(tree: &mut [[u8; 32]], index: usize, leaf: &[u8]) -> i32
     ensures answer { result ≡ done_code (kept_index (length tree.old) index) }
 
     // Whatever memory holds: the leaf's digest and those above it are written, and no other.
@@ -70,6 +70,36 @@ pub extern "C" fn paxidore_sha256_tree_set(
     ensures kept { result ≢ pos 0 → tree.new ≡ tree.old }
 {
     tree_set::<PlainDigest>(tree, index, leaf)
+}
+
+/// Writes the digests of leaves to the places of their indexes, one after the other, and then the hashes above them, level by
+/// level from the lowest up. Where the indexes rise, each hash is made once.
+///
+/// Answers: 0; else the first of `E_SIZE`, where no tree has so many digests, `E_COUNT`, `E_LENGTHS`, `E_INDEX`, which leave
+/// the memory as before.
+#[unsafe(no_mangle)]
+pub extern "C" fn paxidore_sha256_tree_set_many(
+    tree: &mut [[u8; 32]],
+    indexes: &[usize],
+    leaves: &[u8],
+    lengths: &[usize],
+) -> i32
+    ensures answer { let given = leaves_to_change (length tree.old) indexes.now in
+        result ≡ done_code (given leaves.now lengths.now) }
+
+    // Whatever memory holds: the leaves' digests and those above them are written, and no other.
+    ensures changes { let h = sha256_hashing in
+        result ≡ pos 0 → IfSome (parts_by leaves.now lengths.now)
+        (λ xs. ChangesLeaves h.node tree.old tree.new indexes.now (map h.leaf_hash xs)) }
+
+    // A tree is then that of the changed leaf digests.
+    ensures tree { let h = sha256_hashing in
+        (held : List Digest) → result ≡ pos 0 → HoldsTree h.node tree.old held
+        → IfSome (parts_by leaves.now lengths.now)
+        (λ xs. HoldsTree h.node tree.new (puts held (zip indexes.now (map h.leaf_hash xs)))) }
+    ensures kept { result ≢ pos 0 → tree.new ≡ tree.old }
+{
+    tree_set_many::<PlainDigest>(tree, indexes, leaves, lengths)
 }
 
 /// Writes the digest that stands first to `root`.
@@ -168,11 +198,7 @@ pub extern "C" fn paxidore_rfc6962_tree_rebuild(tree: &mut [[u8; 32]]) -> i32
 /// Answers: 0; else the first of `E_SIZE`, where no tree has so many digests, and `E_INDEX`, which leave the memory as
 /// before.
 #[unsafe(no_mangle)]
-pub extern "C" fn paxidore_rfc6962_tree_set(
-    tree: &mut [[u8; 32]],
-    index: usize,
-    leaf: &[u8],
-) -> i32
+pub extern "C" fn paxidore_rfc6962_tree_set(tree: &mut [[u8; 32]], index: usize, leaf: &[u8]) -> i32
     ensures answer { result ≡ done_code (kept_index (length tree.old) index) }
 
     // Whatever memory holds: the leaf's digest and those above it are written, and no other.
@@ -186,6 +212,36 @@ pub extern "C" fn paxidore_rfc6962_tree_set(
     ensures kept { result ≢ pos 0 → tree.new ≡ tree.old }
 {
     tree_set::<LogDigest>(tree, index, leaf)
+}
+
+/// Writes the digests of leaves to the places of their indexes, one after the other, and then the hashes above them, level by
+/// level from the lowest up. Where the indexes rise, each hash is made once.
+///
+/// Answers: 0; else the first of `E_SIZE`, where no tree has so many digests, `E_COUNT`, `E_LENGTHS`, `E_INDEX`, which leave
+/// the memory as before.
+#[unsafe(no_mangle)]
+pub extern "C" fn paxidore_rfc6962_tree_set_many(
+    tree: &mut [[u8; 32]],
+    indexes: &[usize],
+    leaves: &[u8],
+    lengths: &[usize],
+) -> i32
+    ensures answer { let given = leaves_to_change (length tree.old) indexes.now in
+        result ≡ done_code (given leaves.now lengths.now) }
+
+    // Whatever memory holds: the leaves' digests and those above them are written, and no other.
+    ensures changes { let h = rfc6962_hashing in
+        result ≡ pos 0 → IfSome (parts_by leaves.now lengths.now)
+        (λ xs. ChangesLeaves h.node tree.old tree.new indexes.now (map h.leaf_hash xs)) }
+
+    // A tree is then that of the changed leaf digests.
+    ensures tree { let h = rfc6962_hashing in
+        (held : List Digest) → result ≡ pos 0 → HoldsTree h.node tree.old held
+        → IfSome (parts_by leaves.now lengths.now)
+        (λ xs. HoldsTree h.node tree.new (puts held (zip indexes.now (map h.leaf_hash xs)))) }
+    ensures kept { result ≢ pos 0 → tree.new ≡ tree.old }
+{
+    tree_set_many::<LogDigest>(tree, indexes, leaves, lengths)
 }
 
 /// Writes the digest that stands first to `root`.

@@ -5,11 +5,11 @@ use Rattle.ark_paths.specs.Index.{is_tree_size}
 use Rattle.ark_paths.specs.Pair.{Digest}
 use Rattle.ark_paths.specs.Tree.{path_in, tree_with}
 use Rattle.kept_tree.specs.KeptTree.{is_tree_length, kept_way, leaf_count}
-use Rattle.paxidore_calls.specs.Answer.{leaves_in, only_if}
+use Rattle.paxidore_calls.specs.Answer.{are_indexes, leaves_in, only_if}
 use Rattle.paxidore_calls.specs.Cut.{parts_by}
 use Rattle.paxidore_calls.specs.Hashing.{Hashing, bytes_of_path, hashes_of}
 use Rattle.paxidore_calls.specs.declared.refused.Refused.{Refused}
-use Rattle.paxidore_calls.specs.declared.refused.Refused.TheVariants.{Index, Room, Size}
+use Rattle.paxidore_calls.specs.declared.refused.Refused.TheVariants.{Count, Index, Room, Size}
 
 -- the digest that stands first, where a tree has as many digests as memory
 abbrev pub kept_root : List Digest → Result Digest Refused
@@ -35,3 +35,10 @@ path_of_digests h leaves index =
 abbrev pub leaves_to_keep : ℕ → List ℕ → List ℕ → Result (List (List ℕ)) Refused
 leaves_to_keep count leaves lengths = only_if (is_tree_size (length lengths)) Size
     (only_if (count + 1 == 2 * length lengths) Room (leaves_in (parts_by leaves lengths)))
+
+-- the leaves for as many indexes of a tree that has so many digests
+abbrev pub leaves_to_change : ℕ → List ℕ → List ℕ → List ℕ → Result (List (List ℕ)) Refused
+leaves_to_change count indexes leaves lengths = only_if (is_tree_length count) Size
+    (only_if (length lengths == length indexes) Count (do
+      xs ← leaves_in (parts_by leaves lengths)
+      only_if (are_indexes (leaf_count count) indexes) Index (Ok xs)))

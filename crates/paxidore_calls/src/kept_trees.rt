@@ -31,12 +31,7 @@ pub trait KeptHashing: PairHash {
         ensures { result ≡ hashing.leaf_hash leaf.now };
 
     /// Returns the digests of four leaves, which may be hashed together.
-    fn leaf_four(
-        a: &[u8],
-        b: &[u8],
-        c: &[u8],
-        d: &[u8],
-    ) -> ([u8; 32], [u8; 32], [u8; 32], [u8; 32])
+    fn leaf_four(a: &[u8], b: &[u8], c: &[u8], d: &[u8]) -> ([u8; 32], [u8; 32], [u8; 32], [u8; 32])
         ensures a { result.0 ≡ hashing.leaf_hash a.now }
         ensures b { result.1 ≡ hashing.leaf_hash b.now }
         ensures c { result.2 ≡ hashing.leaf_hash c.now }
@@ -47,7 +42,7 @@ pub trait KeptHashing: PairHash {
 }
 
 // Whether the lengths are those of parts that are all of the bytes.
-fn are_parts(bytes: &[u8], lengths: &[usize]) -> bool
+pub(crate) fn are_parts(bytes: &[u8], lengths: &[usize]) -> bool
     ensures { result ≡ is_some (parts_by bytes.now lengths.now) }
 {
     let mut rest = bytes;
@@ -61,11 +56,7 @@ fn are_parts(bytes: &[u8], lengths: &[usize]) -> bool
 }
 
 // Writes four digests from a place on.
-fn put_four(
-    digests: &mut [[u8; 32]],
-    place: usize,
-    four: ([u8; 32], [u8; 32], [u8; 32], [u8; 32]),
-)
+fn put_four(digests: &mut [[u8; 32]], place: usize, four: ([u8; 32], [u8; 32], [u8; 32], [u8; 32]))
     requires { place + 3 < length digests.old }
     ensures { take (place + 4) digests.new
         ≡ take place digests.old ++ (four.0 ∷ four.1 ∷ four.2 ∷ four.3 ∷ []) }

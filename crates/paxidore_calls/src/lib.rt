@@ -3,6 +3,7 @@
 #![tactic(auto)]
 
 pub mod buffer;
+pub mod kept_changes;
 mod kept_hashing;
 pub mod kept_trees;
 pub mod leaves;

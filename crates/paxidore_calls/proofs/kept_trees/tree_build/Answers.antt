@@ -1,6 +1,5 @@
-use Rattle.std.proofs.Common.{◌≡◌, ◌+◌, ◌*◌, List, length, true, sym, subst, ◌∙◌, arith}
+use Rattle.std.proofs.Common.{◌≡◌, length, true, sym, subst, ◌∙◌, arith}
 use Rattle.ark_paths.specs.Index.{IsTreeSize}
-use Rattle.ark_paths.specs.Pair.{Digest}
 use Rattle.kept_tree.specs.KeptTree.{HoldsTree, NodeHash, is_tree_length, kept_leaves}
 use Rattle.kept_tree.proofs.Lengths.{sized-length}
 use Rattle.paxidore_calls.proofs.Keeping.{held-leaves}

@@ -1,5 +1,4 @@
-use Rattle.std.proofs.Common.{◌≡◌, true, false, length, sym, ◌∙◌}
-use Rattle.kept_tree.specs.KeptTree.{is_tree_length, kept_leaves}
+use Rattle.kept_tree.specs.KeptTree.{kept_leaves}
 use Rattle.kept_tree.proofs.Lengths.{held-length}
 use Rattle.paxidore_calls.proofs.kept_trees.tree_check.Goals as goal
 
