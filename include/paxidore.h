@@ -5,6 +5,7 @@
  * process's malloc and free, so do not call them in a signal handler, nor in the child of a process with threads between fork
  * and exec. Where malloc returns NULL the answer is PAXIDORE_E_MEMORY; no clause says that enough memory is not answered so.
  * The calls of SHA-256, of BLAKE2s and of commitments allocate nothing, nor does a kept log's root, its check or its count.
+ * The calls of kept trees (.._tree_..), of SHA-256, of BLAKE2s and of commitments allocate nothing.
  *
  * size_t has 64 bits. Only inputs may overlap. A pointer to a first byte or number is not NULL and may be read, or written where
  * it is not const, for its length; with length 0 it is not looked at and may be NULL. */
@@ -41,6 +42,9 @@ extern "C" {
 /* No inclusion proof and no consistency proof of a log of fewer than 2^63 entries has more bytes. */
 #define PAXIDORE_LOG_PATHBYTES_MAX (63U * 32U)
 #define PAXIDORE_LOG_PROOFBYTES_MAX (64U * 32U)
+/* The digests of a kept tree of so many leaves, and their bytes. */
+#define PAXIDORE_TREE_DIGESTS(size) (2U * (size_t)(size) - 1U)
+#define PAXIDORE_TREEBYTES(size) (PAXIDORE_DIGESTBYTES * PAXIDORE_TREE_DIGESTS(size))
 
 /* What a compiler is told of a call, where it has words for it: that its answer is to be looked at, and which of its pointers are
  * not NULL, whatever their lengths. */
@@ -78,7 +82,8 @@ enum paxidore_answer {
     PAXIDORE_E_LENGTHS = -6,   /* the lengths of the leaves do not sum to that of their bytes */
     PAXIDORE_E_COUNT = -7,     /* there are not as many leaves as indexes */
     PAXIDORE_E_INDEX = -8,     /* an index is not below the count of leaves, or there is none */
-    PAXIDORE_E_ROOM = -9       /* the buffer is too short; the count that is needed was written */
+    PAXIDORE_E_ROOM = -9       /* the buffer is too short; the count that is needed was written; or the memory of a tree
+                                * has not as many digests as the tree above the leaves */
 };
 
 /* A few words on an answer, for people. Never NULL. */
@@ -166,6 +171,93 @@ int32_t paxidore_rfc6962_multi_path(uint8_t *proof, size_t proof_room, size_t *p
                                     const uint8_t *leaves, size_t leaves_len,
                                     const size_t *lengths, size_t count,
                                     const size_t *indexes, size_t indexes_count);
+
+/* ---- Trees whose digests are kept in memory of the caller's, which may be a mapped file. Nothing is rebuilt: a path is copied out
+ * of memory, a changed leaf writes the digests above it. The calls allocate nothing, and nothing is kept but this memory.
+ *
+ * A tree of `size` leaves is `tree_len` = PAXIDORE_TREE_DIGESTS(size) digests of 32 bytes, one behind the other, in PAXIDORE_TREEBYTES
+ * (size) bytes of any alignment: the root first, then the two below it, and so on, the digests of the leaves last. The two below the
+ * digest at place i stand at 2 i + 1 and 2 i + 2; the digest of leaf j stands at size - 1 + j. Memory says nothing of its hashing: take
+ * the calls of the one that it was built with. E_SIZE where no tree has `tree_len` digests.
+ *
+ * A call reads and writes these digests alone. While one that writes runs, no other may read or write the same memory. What it says
+ * of memory that holds no tree is what it says of the digests that stand there: `.._tree_root` and `.._tree_path` copy them as they
+ * are, without hashing. So ask `.._tree_check` of memory that others may have written, and keep the root elsewhere: whoever writes the
+ * memory can put another whole tree there. */
+
+/* Writes the tree above the leaves: first the digest of each leaf, from the first on, then the digests above them, from the lowest up.
+ * E_SIZE, E_ROOM where the tree has not `tree_len` digests, E_LENGTHS; the memory is then as it was. */
+PAXIDORE_ANSWERS
+int32_t paxidore_sha256_tree_build(uint8_t *tree, size_t tree_len,
+                                   const uint8_t *leaves, size_t leaves_len,
+                                   const size_t *lengths, size_t count);
+
+/* Writes the digests above those of the leaves that stand in memory, from the lowest up: all but the last `size` digests. The memory
+ * then holds the tree above these. E_SIZE. */
+PAXIDORE_ANSWERS
+int32_t paxidore_sha256_tree_rebuild(uint8_t *tree, size_t tree_len);
+
+/* Changes the leaf at `index`: writes its digest, and then each digest above it, the lowest first and the root last, as the hash of the two
+ * below it; no other byte. If memory held a tree, it then holds that of the changed leaves. A crash between these writes leaves a
+ * digest that is not the hash of the two below it: `.._tree_check` finds it and `.._tree_rebuild` mends it, with the old leaf or the
+ * new one, if all 32 bytes of the leaf's digest were written or none. E_SIZE, E_INDEX; the memory is then as it was. */
+PAXIDORE_ANSWERS
+int32_t paxidore_sha256_tree_set(uint8_t *tree, size_t tree_len, size_t index,
+                                 const uint8_t *leaf, size_t leaf_len);
+
+/* Changes the leaves at some indexes, one after the other, so that the last of an index counts: writes their digests, and then the
+ * digests above them, level by level, the lowest first and the root last. Where the indexes rise, each of these is hashed once. What
+ * is said of `.._tree_set` and of a crash holds for all of them. E_SIZE, E_COUNT, E_LENGTHS, E_INDEX also where there is no index;
+ * the memory is then as it was. */
+PAXIDORE_ANSWERS
+int32_t paxidore_sha256_tree_set_many(uint8_t *tree, size_t tree_len,
+                                      const size_t *indexes, size_t indexes_count,
+                                      const uint8_t *leaves, size_t leaves_len,
+                                      const size_t *lengths, size_t count);
+
+/* Writes the first digest of the memory, the root of a tree. E_SIZE. */
+PAXIDORE_ANSWERS PAXIDORE_NOT_NULL((1))
+int32_t paxidore_sha256_tree_root(uint8_t root[PAXIDORE_DIGESTBYTES], const uint8_t *tree, size_t tree_len);
+
+/* Writes the bytes of the path of `index`, as paxidore_sha256_path does for the leaves of the tree. E_SIZE, E_INDEX, E_ROOM. */
+PAXIDORE_ANSWERS PAXIDORE_NOT_NULL((3))
+int32_t paxidore_sha256_tree_path(uint8_t *path, size_t path_room, size_t *path_len,
+                                  const uint8_t *tree, size_t tree_len, size_t index);
+
+/* PAXIDORE_OK where memory holds the tree above the digests of leaves that stand in it: each other digest is the hash of the two below
+ * it; else PAXIDORE_NOT_SHOWN. It hashes as much as `.._tree_rebuild`. E_SIZE. */
+PAXIDORE_ANSWERS
+int32_t paxidore_sha256_tree_check(const uint8_t *tree, size_t tree_len);
+
+/* The same in the hashing of RFC 6962. */
+
+PAXIDORE_ANSWERS
+int32_t paxidore_rfc6962_tree_build(uint8_t *tree, size_t tree_len,
+                                    const uint8_t *leaves, size_t leaves_len,
+                                    const size_t *lengths, size_t count);
+
+PAXIDORE_ANSWERS
+int32_t paxidore_rfc6962_tree_rebuild(uint8_t *tree, size_t tree_len);
+
+PAXIDORE_ANSWERS
+int32_t paxidore_rfc6962_tree_set(uint8_t *tree, size_t tree_len, size_t index,
+                                  const uint8_t *leaf, size_t leaf_len);
+
+PAXIDORE_ANSWERS
+int32_t paxidore_rfc6962_tree_set_many(uint8_t *tree, size_t tree_len,
+                                       const size_t *indexes, size_t indexes_count,
+                                       const uint8_t *leaves, size_t leaves_len,
+                                       const size_t *lengths, size_t count);
+
+PAXIDORE_ANSWERS PAXIDORE_NOT_NULL((1))
+int32_t paxidore_rfc6962_tree_root(uint8_t root[PAXIDORE_DIGESTBYTES], const uint8_t *tree, size_t tree_len);
+
+PAXIDORE_ANSWERS PAXIDORE_NOT_NULL((3))
+int32_t paxidore_rfc6962_tree_path(uint8_t *path, size_t path_room, size_t *path_len,
+                                   const uint8_t *tree, size_t tree_len, size_t index);
+
+PAXIDORE_ANSWERS
+int32_t paxidore_rfc6962_tree_check(const uint8_t *tree, size_t tree_len);
 
 /* ---- Clients of a transparency log of any size (RFC 6962 and RFC 9162, section 2.1), which hashes as the trees above. A log
  * publishes its root and its size. Its proofs are their digests alone, 32 bytes each, in the order of the standard, and no other

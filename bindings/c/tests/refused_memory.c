@@ -121,6 +121,19 @@ int main(void) {
         passed++;
     else
         failed++;
+    /* nor do the calls of kept trees */
+    static uint8_t tree[PAXIDORE_TREEBYTES(8)];
+    calls = 0;
+    if (paxidore_rfc6962_tree_build(tree, 15, LEAVES, 24, LENGTHS, 8) == PAXIDORE_OK &&
+        paxidore_rfc6962_tree_rebuild(tree, 15) == PAXIDORE_OK &&
+        paxidore_rfc6962_tree_set(tree, 15, 4, LEAVES + 12, 3) == PAXIDORE_OK &&
+        paxidore_rfc6962_tree_set_many(tree, 15, INDEXES, 3, (const uint8_t *)"bbbeeefff", 9, SHOWN, 3) == PAXIDORE_OK &&
+        paxidore_rfc6962_tree_root(to_root, tree, 15) == PAXIDORE_OK && memcmp(to_root, root, 32) == 0 &&
+        paxidore_rfc6962_tree_path(to_path, sizeof to_path, &to_len, tree, 15, 4) == PAXIDORE_OK &&
+        memcmp(to_path, path, sizeof path) == 0 && paxidore_rfc6962_tree_check(tree, 15) == PAXIDORE_OK && calls == 0)
+        passed++;
+    else
+        failed++;
     for (long i = 0; i < 1000000; i++)
         call(3);
     if (live == 0)

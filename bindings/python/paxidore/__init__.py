@@ -14,6 +14,8 @@ Whoever has the root and the count checks them without the other leaves::
 ``sha256`` has the same calls for trees whose hashes are SHA-256 of a leaf, and of left followed by right. There are 2, 4, 8, 16 ..
 leaves in a tree. ``Log`` is a log of any size, in memory or in a file, with the checks for its clients. ``blake2s_commit`` commits to
 a value that is shown later.
+leaves in a tree. ``Tree`` keeps the digests of one in memory or in a file. ``Log`` has the checks for a client of a log of any
+size. ``blake2s_commit`` commits to a value that is shown later.
 
 The library is found by the variable ``PAXIDORE_LIBRARY`` (a path), else beside this file, where a wheel has it, else as the
 system finds ``libpaxidore.so.1``. Where it is not there, or is older than this module, ``import paxidore`` raises
@@ -36,6 +38,7 @@ __all__ = [
     "OutOfMemory",
     "Refused",
     "SizeError",
+    "Tree",
     "TruncatedProof",
     "Trees",
     "blake2s",
@@ -626,3 +629,7 @@ def version() -> str:
     """The version of the library that was found."""
     text: bytes = _version()
     return text.decode("ascii")
+
+
+# behind all that it stands on
+from paxidore.tree import Tree  # noqa: E402

@@ -16,6 +16,9 @@
 
 mod log;
 mod sys;
+mod tree;
+
+pub use tree::Tree;
 
 pub use log::{Log, LogError};
 
@@ -49,6 +52,8 @@ pub enum Refused {
     Count,
     /// An index is not below the count of leaves, or there is none.
     Index,
+    /// The memory for a tree has another length than that of the tree.
+    Room,
     /// Another answer of a library that is newer than this crate.
     Other(i32),
 }
@@ -64,6 +69,7 @@ impl Refused {
             -6 => Refused::Lengths,
             -7 => Refused::Count,
             -8 => Refused::Index,
+            -9 => Refused::Room,
             other => Refused::Other(other),
         }
     }
@@ -82,6 +88,7 @@ impl fmt::Display for Refused {
             }
             Refused::Count => f.write_str("there are not as many leaves as indexes"),
             Refused::Index => f.write_str("there is no index, or no leaf at one"),
+            Refused::Room => f.write_str("the memory for a tree has another length"),
             Refused::Other(answer) => write!(f, "unknown answer {answer}"),
         }
     }

@@ -2,7 +2,7 @@
 
 use std::os::raw::{c_char, c_int};
 
-/// The five calls of one hashing.
+/// The calls of one hashing.
 pub struct Calls {
     pub verify:
         unsafe extern "C" fn(*const u8, usize, usize, *const u8, usize, *const u8, usize) -> i32,
@@ -42,10 +42,31 @@ pub struct Calls {
         *const usize,
         usize,
     ) -> i32,
+    pub tree_build:
+        unsafe extern "C" fn(*mut u8, usize, *const u8, usize, *const usize, usize) -> i32,
+    pub tree_rebuild: unsafe extern "C" fn(*mut u8, usize) -> i32,
+    pub tree_set: unsafe extern "C" fn(*mut u8, usize, usize, *const u8, usize) -> i32,
+    #[allow(clippy::type_complexity)]
+    pub tree_set_many: unsafe extern "C" fn(
+        *mut u8,
+        usize,
+        *const usize,
+        usize,
+        *const u8,
+        usize,
+        *const usize,
+        usize,
+    ) -> i32,
+    pub tree_root: unsafe extern "C" fn(*mut u8, *const u8, usize) -> i32,
+    pub tree_path: unsafe extern "C" fn(*mut u8, usize, *mut usize, *const u8, usize, usize) -> i32,
+    pub tree_check: unsafe extern "C" fn(*const u8, usize) -> i32,
 }
 
 macro_rules! calls {
-    ($verify:ident $multi_verify:ident $root:ident $path:ident $multi_path:ident) => {{
+    (
+        $verify:ident $multi_verify:ident $root:ident $path:ident $multi_path:ident
+        $tree_build:ident $tree_rebuild:ident $tree_set:ident $tree_set_many:ident $tree_root:ident $tree_path:ident $tree_check:ident
+    ) => {{
         extern "C" {
             fn $verify(
                 root: *const u8,
@@ -96,6 +117,42 @@ macro_rules! calls {
                 indexes: *const usize,
                 indexes_count: usize,
             ) -> i32;
+            fn $tree_build(
+                tree: *mut u8,
+                tree_len: usize,
+                leaves: *const u8,
+                leaves_len: usize,
+                lengths: *const usize,
+                count: usize,
+            ) -> i32;
+            fn $tree_rebuild(tree: *mut u8, tree_len: usize) -> i32;
+            fn $tree_set(
+                tree: *mut u8,
+                tree_len: usize,
+                index: usize,
+                leaf: *const u8,
+                leaf_len: usize,
+            ) -> i32;
+            fn $tree_set_many(
+                tree: *mut u8,
+                tree_len: usize,
+                indexes: *const usize,
+                indexes_count: usize,
+                leaves: *const u8,
+                leaves_len: usize,
+                lengths: *const usize,
+                count: usize,
+            ) -> i32;
+            fn $tree_root(root: *mut u8, tree: *const u8, tree_len: usize) -> i32;
+            fn $tree_path(
+                path: *mut u8,
+                path_room: usize,
+                path_len: *mut usize,
+                tree: *const u8,
+                tree_len: usize,
+                index: usize,
+            ) -> i32;
+            fn $tree_check(tree: *const u8, tree_len: usize) -> i32;
         }
         Calls {
             verify: $verify,
@@ -103,17 +160,28 @@ macro_rules! calls {
             root: $root,
             path: $path,
             multi_path: $multi_path,
+            tree_build: $tree_build,
+            tree_rebuild: $tree_rebuild,
+            tree_set: $tree_set,
+            tree_set_many: $tree_set_many,
+            tree_root: $tree_root,
+            tree_path: $tree_path,
+            tree_check: $tree_check,
         }
     }};
 }
 
 pub static SHA256: Calls = calls!(
     paxidore_sha256_verify paxidore_sha256_multi_verify paxidore_sha256_root paxidore_sha256_path paxidore_sha256_multi_path
+    paxidore_sha256_tree_build paxidore_sha256_tree_rebuild paxidore_sha256_tree_set paxidore_sha256_tree_set_many
+    paxidore_sha256_tree_root paxidore_sha256_tree_path paxidore_sha256_tree_check
 );
 
 pub static RFC6962: Calls = calls!(
     paxidore_rfc6962_verify paxidore_rfc6962_multi_verify paxidore_rfc6962_root paxidore_rfc6962_path
     paxidore_rfc6962_multi_path
+    paxidore_rfc6962_tree_build paxidore_rfc6962_tree_rebuild paxidore_rfc6962_tree_set paxidore_rfc6962_tree_set_many
+    paxidore_rfc6962_tree_root paxidore_rfc6962_tree_path paxidore_rfc6962_tree_check
 );
 
 extern "C" {

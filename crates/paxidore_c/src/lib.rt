@@ -6,6 +6,7 @@
 
 pub mod blake2s;
 mod hashing;
+pub mod kept_trees;
 pub mod log;
 pub mod log_keeper;
 pub mod rfc6962;

@@ -1,3 +1,5 @@
 pub mod Codes
 pub mod Cutting
 pub mod KeptLogs
+pub mod Keeping
+pub mod Putting

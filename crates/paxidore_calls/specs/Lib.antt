@@ -3,3 +3,4 @@ pub mod Hashing
 pub mod LogProofs
 pub mod Answer
 pub mod KeptLog
+pub mod KeptAnswer

@@ -127,7 +127,11 @@ fn front_of(bytes: &[u8], count: usize) -> &[u8]
 }
 
 // The leaf of the length at a place, and the bytes behind it.
-fn next_leaf<'a>(bytes: &'a [u8], lengths: &[usize], place: usize) -> Option<(&'a [u8], &'a [u8])>
+pub(crate) fn next_leaf<'a>(
+    bytes: &'a [u8],
+    lengths: &[usize],
+    place: usize,
+) -> Option<(&'a [u8], &'a [u8])>
     requires { place < length lengths.now }
     ensures { let parts = parts_by bytes.now (drop place lengths.now) in
         MatchOption result (parts ≡ None)
@@ -142,7 +146,7 @@ fn next_leaf<'a>(bytes: &'a [u8], lengths: &[usize], place: usize) -> Option<(&'
 }
 
 // The leaves of four lengths from a place on, and the bytes behind them.
-fn next_four<'a>(
+pub(crate) fn next_four<'a>(
     bytes: &'a [u8],
     lengths: &[usize],
     place: usize,

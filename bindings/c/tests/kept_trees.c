@@ -1,0 +1,239 @@
+/* The calls of kept trees from C, over both hashings. It prints how many checks passed, and ends with 1 where one failed. */
+#define _DEFAULT_SOURCE
+#include "paxidore.h"
+
+#include <fcntl.h>
+#include <stdio.h>
+#include <stdlib.h>
+#include <string.h>
+#include <sys/mman.h>
+#include <unistd.h>
+
+static int passed, failed;
+
+static void check(int holds, const char *what, int line) {
+    if (holds) {
+        passed++;
+    } else {
+        failed++;
+        fprintf(stderr, "kept_trees.c:%d: %s\n", line, what);
+    }
+}
+#define CHECK(holds) check((holds) != 0, #holds, __LINE__)
+
+/* The calls of one hashing, and those that build a tree at each call. */
+struct hashing {
+    int32_t (*build)(uint8_t *, size_t, const uint8_t *, size_t, const size_t *, size_t);
+    int32_t (*rebuild)(uint8_t *, size_t);
+    int32_t (*set)(uint8_t *, size_t, size_t, const uint8_t *, size_t);
+    int32_t (*set_many)(uint8_t *, size_t, const size_t *, size_t, const uint8_t *, size_t, const size_t *, size_t);
+    int32_t (*root)(uint8_t *, const uint8_t *, size_t);
+    int32_t (*path)(uint8_t *, size_t, size_t *, const uint8_t *, size_t, size_t);
+    int32_t (*check)(const uint8_t *, size_t);
+    int32_t (*root_of)(uint8_t *, const uint8_t *, size_t, const size_t *, size_t);
+    int32_t (*path_of)(uint8_t *, size_t, size_t *, const uint8_t *, size_t, const size_t *, size_t, size_t);
+    const char *roots[9]; /* by the count of leaves */
+};
+
+static const struct hashing sha256 = {
+    paxidore_sha256_tree_build, paxidore_sha256_tree_rebuild, paxidore_sha256_tree_set,
+    paxidore_sha256_tree_set_many, paxidore_sha256_tree_root, paxidore_sha256_tree_path, paxidore_sha256_tree_check, paxidore_sha256_root, paxidore_sha256_path,
+    /* by Python's hashlib */
+    {[8] = "03b3e0e5b23746036c9c7185c1fc12bc6f8ff41cc2b97b24fb451f2cc291d2b4"}};
+
+static const struct hashing rfc6962 = {
+    paxidore_rfc6962_tree_build, paxidore_rfc6962_tree_rebuild, paxidore_rfc6962_tree_set,
+    paxidore_rfc6962_tree_set_many, paxidore_rfc6962_tree_root, paxidore_rfc6962_tree_path, paxidore_rfc6962_tree_check, paxidore_rfc6962_root, paxidore_rfc6962_path,
+    /* those that implementations of RFC 6962 are tested with */
+    {[2] = "fac54203e7cc696cf0dfcb42c92a1d9dbaf70ad9e621f4bd8d98662f00e3c125",
+     [4] = "d37ee418976dd95753c1c73862b9398fa2a2cf9b4ff0fdfe8b30cd95209614b7",
+     [8] = "5dc9da79a70659a9ad559cb701ded9a2ab9d823aad2f4960cfe370eff4604328"}};
+
+/* The entries of those vectors, one behind the other. The first has no bytes. */
+static const uint8_t LEAVES[] = "\x00\x10\x20\x21\x30\x31\x40\x41\x42\x43\x50\x51\x52\x53\x54\x55\x56\x57`abcdefghijklmno";
+static const size_t LENGTHS[8] = {0, 1, 1, 2, 2, 4, 8, 16};
+enum { LEAVES_LEN = 34, SIZE = 8, DIGESTS = 15, PATH = 112 };
+
+static size_t length_of(size_t count) {
+    size_t sum = 0;
+    for (size_t i = 0; i < count; i++)
+        sum += LENGTHS[i];
+    return sum;
+}
+
+static int is_hex(const uint8_t *bytes, const char *hex) {
+    char text[65];
+    for (int i = 0; i < 32; i++)
+        snprintf(text + 2 * i, 3, "%02x", bytes[i]);
+    return strcmp(text, hex) == 0;
+}
+
+static int is_filled(const uint8_t *bytes, size_t len, uint8_t with) {
+    for (size_t i = 0; i < len; i++)
+        if (bytes[i] != with)
+            return 0;
+    return 1;
+}
+
+/* Memory of exactly so many bytes, so that a sanitizer sees what is read or written beside it. */
+static uint8_t *filled(size_t len) {
+    uint8_t *bytes = malloc(len ? len : 1);
+    if (!bytes)
+        exit(2);
+    memset(bytes, 0xaa, len);
+    return bytes;
+}
+
+static void builds(const struct hashing *h) {
+    for (size_t count = 0; count <= SIZE; count++)
+        for (size_t digests = 0; digests <= DIGESTS + 1; digests++) {
+            uint8_t *tree = filled(32 * digests);
+            int32_t answer = h->build(tree, digests, LEAVES, length_of(count), LENGTHS, count);
+            if (count != 2 && count != 4 && count != 8) {
+                CHECK(answer == PAXIDORE_E_SIZE && is_filled(tree, 32 * digests, 0xaa));
+            } else if (digests != PAXIDORE_TREE_DIGESTS(count)) {
+                CHECK(answer == PAXIDORE_E_ROOM && is_filled(tree, 32 * digests, 0xaa));
+            } else {
+                uint8_t root[32];
+                CHECK(answer == PAXIDORE_OK && PAXIDORE_TREEBYTES(count) == 32 * digests);
+                CHECK(h->root(root, tree, digests) == PAXIDORE_OK && memcmp(root, tree, 32) == 0);
+                if (h->roots[count])
+                    CHECK(is_hex(root, h->roots[count]));
+                CHECK(h->check(tree, digests) == PAXIDORE_OK);
+                memset(tree, 0xaa, 32 * (count - 1));
+                CHECK(h->check(tree, digests) == PAXIDORE_NOT_SHOWN);
+                CHECK(h->rebuild(tree, digests) == PAXIDORE_OK && memcmp(root, tree, 32) == 0);
+                CHECK(h->check(tree, digests) == PAXIDORE_OK);
+            }
+            free(tree);
+        }
+    uint8_t *tree = filled(32 * DIGESTS);
+    size_t lengths[8];
+    CHECK(h->build(NULL, 0, NULL, 0, NULL, 0) == PAXIDORE_E_SIZE);
+    CHECK(h->build(tree, DIGESTS, LEAVES, LEAVES_LEN - 1, LENGTHS, SIZE) == PAXIDORE_E_LENGTHS);
+    CHECK(h->build(tree, DIGESTS, LEAVES, LEAVES_LEN + 1, LENGTHS, SIZE) == PAXIDORE_E_LENGTHS);
+    memcpy(lengths, LENGTHS, sizeof lengths);
+    lengths[7] = SIZE_MAX;
+    CHECK(h->build(tree, DIGESTS, LEAVES, LEAVES_LEN, lengths, SIZE) == PAXIDORE_E_LENGTHS);
+    CHECK(is_filled(tree, 32 * DIGESTS, 0xaa));
+    memset(lengths, 0, sizeof lengths);
+    CHECK(h->build(tree, DIGESTS, NULL, 0, lengths, SIZE) == PAXIDORE_OK && h->check(tree, DIGESTS) == PAXIDORE_OK);
+    free(tree);
+}
+
+/* No tree has another count of digests. */
+static void sizes(const struct hashing *h) {
+    for (size_t digests = 0; digests <= 130; digests++) {
+        uint8_t *tree = filled(32 * digests), root[32], path[32 * 8];
+        size_t len = 7, sized = digests > 2 && (digests & (digests + 1)) == 0;
+        memset(root, 0xaa, 32);
+        if (sized) {
+            CHECK(h->rebuild(tree, digests) == PAXIDORE_OK && h->check(tree, digests) == PAXIDORE_OK);
+            CHECK(h->root(root, tree, digests) == PAXIDORE_OK);
+            CHECK(h->set(tree, digests, digests / 2, LEAVES, 3) == PAXIDORE_OK);
+            CHECK(h->path(path, sizeof path, &len, tree, digests, digests / 2) == PAXIDORE_OK);
+            CHECK(h->set(tree, digests, digests / 2 + 1, LEAVES, 3) == PAXIDORE_E_INDEX);
+            CHECK(h->check(tree, digests) == PAXIDORE_OK);
+        } else {
+            uint8_t *at = digests ? tree : NULL;
+            CHECK(h->rebuild(at, digests) == PAXIDORE_E_SIZE && h->check(at, digests) == PAXIDORE_E_SIZE);
+            CHECK(h->root(root, at, digests) == PAXIDORE_E_SIZE && is_filled(root, 32, 0xaa));
+            CHECK(h->set(at, digests, 0, LEAVES, 3) == PAXIDORE_E_SIZE);
+            CHECK(h->path(path, sizeof path, &len, at, digests, 0) == PAXIDORE_E_SIZE && len == 7);
+            CHECK(is_filled(tree, 32 * digests, 0xaa));
+        }
+        free(tree);
+    }
+}
+
+static void changes(const struct hashing *h) {
+    uint8_t *tree = filled(32 * DIGESTS), *path = filled(PATH), *other = filled(PATH), leaves[LEAVES_LEN], root[32];
+    size_t len, other_len, at = 0;
+    memcpy(leaves, LEAVES, LEAVES_LEN);
+    CHECK(h->build(tree, DIGESTS, leaves, LEAVES_LEN, LENGTHS, SIZE) == PAXIDORE_OK);
+    for (size_t index = 0; index < SIZE; at += LENGTHS[index++]) {
+        memset(leaves + at, 'x', LENGTHS[index]);
+        CHECK(h->set(tree, DIGESTS, index, LENGTHS[index] ? leaves + at : NULL, LENGTHS[index]) == PAXIDORE_OK);
+        CHECK(h->root_of(root, leaves, LEAVES_LEN, LENGTHS, SIZE) == PAXIDORE_OK && memcmp(root, tree, 32) == 0);
+        CHECK(h->check(tree, DIGESTS) == PAXIDORE_OK);
+        for (size_t i = 0; i < SIZE; i++) {
+            CHECK(h->path(path, PATH, &len, tree, DIGESTS, i) == PAXIDORE_OK && len == PAXIDORE_PATHBYTES(3));
+            CHECK(h->path_of(other, PATH, &other_len, leaves, LEAVES_LEN, LENGTHS, SIZE, i) == PAXIDORE_OK);
+            CHECK(memcmp(path, other, PATH) == 0);
+        }
+    }
+    memset(path, 0xaa, PATH);
+    len = 7;
+    CHECK(h->path(path, PATH - 1, &len, tree, DIGESTS, 0) == PAXIDORE_E_ROOM && len == PATH);
+    len = 7;
+    CHECK(h->path(NULL, 0, &len, tree, DIGESTS, 0) == PAXIDORE_E_ROOM && len == PATH);
+    len = 7;
+    CHECK(h->path(path, PATH, &len, tree, DIGESTS, SIZE) == PAXIDORE_E_INDEX && len == 7);
+    CHECK(h->path(path, PATH, &len, tree, DIGESTS, SIZE_MAX) == PAXIDORE_E_INDEX && len == 7);
+    CHECK(is_filled(path, PATH, 0xaa));
+    memcpy(root, tree, 32);
+    CHECK(h->set(tree, DIGESTS, SIZE, leaves, 3) == PAXIDORE_E_INDEX);
+    CHECK(h->set(tree, DIGESTS, SIZE_MAX, leaves, 3) == PAXIDORE_E_INDEX);
+    CHECK(memcmp(root, tree, 32) == 0 && h->check(tree, DIGESTS) == PAXIDORE_OK);
+    /* each bit: none may be other */
+    for (size_t bit = 0; bit < 8 * 32 * DIGESTS; bit++) {
+        tree[bit / 8] ^= (uint8_t)(1 << bit % 8);
+        CHECK(h->check(tree, DIGESTS) == PAXIDORE_NOT_SHOWN);
+        tree[bit / 8] ^= (uint8_t)(1 << bit % 8);
+    }
+    CHECK(h->check(tree, DIGESTS) == PAXIDORE_OK);
+    free(tree);
+    free(path);
+    free(other);
+}
+
+/* Several leaves at once: as one after the other. */
+static void several(const struct hashing *h) {
+    uint8_t *tree = filled(32 * DIGESTS), *other = filled(32 * DIGESTS);
+    static const size_t indexes[4] = {6, 1, 6, 7}, lengths[4] = {3, 0, 9, 22}, beyond[4] = {6, 1, SIZE, 7};
+    CHECK(h->build(tree, DIGESTS, LEAVES, LEAVES_LEN, LENGTHS, SIZE) == PAXIDORE_OK);
+    memcpy(other, tree, 32 * DIGESTS);
+    CHECK(h->set_many(tree, DIGESTS, indexes, 4, LEAVES, LEAVES_LEN, lengths, 3) == PAXIDORE_E_COUNT);
+    CHECK(h->set_many(tree, DIGESTS, indexes, 3, LEAVES, LEAVES_LEN, lengths, 3) == PAXIDORE_E_LENGTHS);
+    CHECK(h->set_many(tree, DIGESTS, beyond, 4, LEAVES, LEAVES_LEN, lengths, 4) == PAXIDORE_E_INDEX);
+    CHECK(h->set_many(tree, DIGESTS, NULL, 0, NULL, 0, NULL, 0) == PAXIDORE_E_INDEX);
+    CHECK(h->set_many(tree, DIGESTS - 1, indexes, 4, LEAVES, LEAVES_LEN, lengths, 4) == PAXIDORE_E_SIZE);
+    CHECK(memcmp(tree, other, 32 * DIGESTS) == 0);
+    CHECK(h->set_many(tree, DIGESTS, indexes, 4, LEAVES, LEAVES_LEN, lengths, 4) == PAXIDORE_OK);
+    for (size_t i = 0, at = 0; i < 4; at += lengths[i++])
+        CHECK(h->set(other, DIGESTS, indexes[i], LEAVES + at, lengths[i]) == PAXIDORE_OK);
+    CHECK(memcmp(tree, other, 32 * DIGESTS) == 0 && h->check(tree, DIGESTS) == PAXIDORE_OK);
+    free(tree);
+    free(other);
+}
+
+/* A tree in a file, at an odd place of the mapping. */
+static void files(const struct hashing *h) {
+    char name[] = "/tmp/paxidore-XXXXXX";
+    int file = mkstemp(name);
+    size_t bytes = PAXIDORE_TREEBYTES(SIZE);
+    uint8_t root[32];
+    CHECK(file >= 0 && ftruncate(file, (off_t)(bytes + 1)) == 0);
+    uint8_t *map = mmap(NULL, bytes + 1, PROT_READ | PROT_WRITE, MAP_SHARED, file, 0);
+    CHECK(map != MAP_FAILED);
+    CHECK(h->build(map + 1, DIGESTS, LEAVES, LEAVES_LEN, LENGTHS, SIZE) == PAXIDORE_OK);
+    CHECK(h->set(map + 1, DIGESTS, 5, LEAVES, 9) == PAXIDORE_OK && h->root(root, map + 1, DIGESTS) == PAXIDORE_OK);
+    CHECK(munmap(map, bytes + 1) == 0);
+    const uint8_t *again = mmap(NULL, bytes + 1, PROT_READ, MAP_SHARED, file, 0);
+    CHECK(again != MAP_FAILED && again[0] == 0);
+    CHECK(h->check(again + 1, DIGESTS) == PAXIDORE_OK && memcmp(root, again + 1, 32) == 0);
+    CHECK(munmap((void *)(uintptr_t)again, bytes + 1) == 0 && close(file) == 0 && unlink(name) == 0);
+}
+
+int main(void) {
+    const struct hashing *both[2] = {&sha256, &rfc6962};
+    for (int i = 0; i < 2; i++) {
+        builds(both[i]);
+        sizes(both[i]);
+        changes(both[i]);
+        several(both[i]);
+        files(both[i]);
+    }
+    printf("%d passed, %d failed\n", passed, failed);
+    return failed != 0;
+}

@@ -1,0 +1,209 @@
+"""Trees whose digests are kept in memory or in a file, so that nothing is rebuilt. ``paxidore.Tree`` is the class of this module."""
+import ctypes
+import mmap
+import os
+import threading
+from types import TracebackType
+from typing import Any, Optional, Sequence, Type, Union
+
+from paxidore import (
+    DIGEST_BYTES,
+    SizeError,
+    Trees,
+    _bytes,
+    _call,
+    _exact,
+    _flat,
+    _path_digests,
+    _refusal,
+    _size,
+    _sizes,
+    _word,
+    _words,
+    rfc6962,
+)
+
+_Path = Union[str, "os.PathLike[str]"]
+_memory = ctypes.c_void_p
+
+
+class _Calls:
+    def __init__(self, name: str) -> None:
+        def call(what: str, *types: object):  # type: ignore[no-untyped-def]
+            return _call("%s_tree_%s" % (name, what), ctypes.c_int32, *types)
+
+        self.build = call("build", _memory, _size, _bytes, _size, _sizes, _size)
+        self.rebuild = call("rebuild", _memory, _size)
+        self.set = call("set", _memory, _size, _size, _bytes, _size)
+        self.set_many = call("set_many", _memory, _size, _sizes, _size, _bytes, _size, _sizes, _size)
+        self.root = call("root", _memory, _memory, _size)
+        self.path = call("path", _memory, _size, _sizes, _memory, _size, _size)
+        self.check = call("check", _memory, _size)
+
+
+_CALLS = {name: _Calls(name) for name in ("sha256", "rfc6962")}
+
+
+def _leaf_count(length: int) -> int:
+    # how many leaves the tree has that is so many bytes long
+    size = (length // DIGEST_BYTES + 1) // 2
+    if size < 2 or size & (size - 1) or length != _length(size):
+        raise _refusal(SizeError.code)
+    return size
+
+
+def _length(size: int) -> int:
+    return DIGEST_BYTES * (2 * size - 1)
+
+
+class Tree:
+    """A tree whose digests are kept: 32 bytes each, the root first, those of the leaves last (``paxidore.h`` has the places).
+
+    ``Tree(memory)`` is the tree that stands in a writable buffer, as a ``bytearray``, which is not copied; ``Tree.build`` makes one
+    of leaves, ``Tree.open`` maps a file. ``trees`` is the hashing, ``rfc6962`` or ``sha256``: the digests do not say it. A path or a
+    root is what stands there, without hashing, so ask ``check`` of memory or a file that others may have written.
+
+    Each method raises ``ValueError`` behind ``close``. Threads may share a tree: its calls run one after the other. While a tree
+    is open, a buffer cannot be resized, no other may write its digests, and its file must not be made shorter.
+    """
+
+    def __init__(self, memory: Any, *, trees: Trees = rfc6962) -> None:
+        if not isinstance(trees, Trees):
+            raise TypeError("trees is rfc6962 or sha256, not %s" % type(trees).__name__)
+        length = memoryview(memory).nbytes
+        self._size = _leaf_count(length)
+        self._calls = _CALLS[trees.name]
+        self._trees = trees
+        self._lock = threading.Lock()
+        # it keeps the buffer from being resized or closed
+        self._held: Optional[Any] = (ctypes.c_uint8 * length).from_buffer(memory)
+        self._map: Optional[mmap.mmap] = None
+
+    @classmethod
+    def build(cls, leaves: Sequence[bytes], path: Optional[_Path] = None, *, trees: Trees = rfc6962) -> "Tree":
+        """The tree above the leaves, in memory of its own, or in a file that is made at ``path``.
+
+        Raises ``SizeError``, ``FileExistsError`` where there is a file, ``OSError``, ``MemoryError``. A crash can leave a file that
+        ``check`` does not find to be a tree.
+        """
+        flat = _flat(tuple(leaves))
+        length = _length(_leaf_count(_length(flat[3])))
+        if path is None:
+            tree = cls(bytearray(length), trees=trees)
+            tree._build(flat)
+            return tree
+        file = os.open(path, os.O_RDWR | os.O_CREAT | os.O_EXCL | os.O_CLOEXEC, 0o666)
+        try:
+            try:
+                # a write to a page for which the disk has no room would end the process
+                os.posix_fallocate(file, 0, length)
+                tree = cls._mapped(file, trees)
+            finally:
+                os.close(file)
+            tree._build(flat)
+        except BaseException:
+            os.unlink(path)
+            raise
+        return tree
+
+    @classmethod
+    def open(cls, path: _Path, *, trees: Trees = rfc6962) -> "Tree":
+        """The tree in a file, which is mapped and not read. Raises ``SizeError`` where no tree has so many bytes, ``OSError``."""
+        file = os.open(path, os.O_RDWR | os.O_CLOEXEC)
+        try:
+            return cls._mapped(file, trees)
+        finally:
+            os.close(file)
+
+    @classmethod
+    def _mapped(cls, file: int, trees: Trees) -> "Tree":
+        length = os.fstat(file).st_size
+        _leaf_count(length)
+        mapped = mmap.mmap(file, length)
+        tree = cls(mapped, trees=trees)
+        tree._map = mapped
+        return tree
+
+    def __repr__(self) -> str:
+        return "<paxidore.Tree of %d leaves, %r>" % (self._size, self._trees)
+
+    def __len__(self) -> int:
+        """The count of leaves."""
+        return self._size
+
+    def __enter__(self) -> "Tree":
+        return self
+
+    def __exit__(
+        self, kind: Optional[Type[BaseException]], error: Optional[BaseException], trace: Optional[TracebackType]
+    ) -> None:
+        self.close()
+
+    @property
+    def root(self) -> bytes:
+        """The root: the digest that stands first."""
+        root = ctypes.create_string_buffer(DIGEST_BYTES)
+        self._done(self._calls.root, root, given=())
+        return root.raw
+
+    def path(self, index: int) -> bytes:
+        """The bytes of the path of an index, as it stands there. Raises ``IndexBeyondSize``."""
+        room, count = 16 + _path_digests(self._size), _size()
+        path = ctypes.create_string_buffer(room)
+        self._done(self._calls.path, path, room, ctypes.byref(count), given=(_word(index),))
+        return ctypes.string_at(path, count.value)
+
+    def set(self, index: int, leaf: bytes) -> None:
+        """Changes a leaf: writes its digest and those above it, from the lowest up. Raises ``IndexBeyondSize``."""
+        self._done(self._calls.set, given=(_word(index), _exact("leaf", leaf), len(leaf)))
+
+    def set_many(self, indexes: Sequence[int], leaves: Sequence[bytes]) -> None:
+        """Changes leaves, one for each index, one after the other. Where the indexes rise, each digest above them is hashed once.
+
+        Raises ``CountError``, ``IndexBeyondSize``.
+        """
+        self._done(self._calls.set_many, given=(*_words(indexes), *_flat(tuple(leaves))))
+
+    def check(self) -> bool:
+        """Whether each digest above those of the leaves is the hash of the two below it. It hashes as much as ``rebuild``."""
+        return self._answer(self._calls.check, given=()) == 0
+
+    def rebuild(self) -> None:
+        """Writes all digests above those of the leaves that stand there."""
+        self._done(self._calls.rebuild, given=())
+
+    def flush(self) -> None:
+        """Waits until what was written is on the disk, where the tree is in a file."""
+        with self._lock:
+            self._place()
+            if self._map is not None:
+                self._map.flush()
+
+    def close(self) -> None:
+        """Lets go of the memory or the file. What was written stays."""
+        with self._lock:
+            self._held = None
+            if self._map is not None:
+                self._map.close()
+
+    def _build(self, flat: Any) -> None:
+        try:
+            self._done(self._calls.build, given=flat)
+        except BaseException:
+            self.close()
+            raise
+
+    def _place(self) -> Any:
+        if self._held is None:
+            raise ValueError("the tree is closed")
+        return self._held
+
+    def _answer(self, call: Any, *before: Any, given: Any) -> int:
+        with self._lock:
+            answer: int = call(*before, self._place(), 2 * self._size - 1, *given)
+        if answer < 0:
+            raise _refusal(answer)
+        return answer
+
+    def _done(self, call: Any, *before: Any, given: Any) -> None:
+        self._answer(call, *before, given=given)

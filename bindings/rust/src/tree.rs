@@ -1,0 +1,180 @@
+//! Trees whose digests are kept, so that nothing is rebuilt.
+
+use crate::{written, Digest, Flat, Refused, Trees};
+
+/// A tree whose digests are kept in memory, 32 bytes each: the root first, those of the leaves last (`paxidore.h` has the places).
+///
+/// The memory is a `Vec<u8>`, or anything else that is seen as bytes: that of a mapped file is, as the crate `memmap2` has it. It does
+/// not say its hashing. A path or a root is what stands there, without hashing, so ask [`check`](Tree::check) of memory that others
+/// may have written.
+///
+/// ```
+/// use paxidore::{Tree, Trees};
+///
+/// let mut tree = Tree::build(Trees::RFC6962, &["ann", "bob", "cat", "dan"])?;
+/// tree.set(3, b"eve")?;
+/// assert!(Trees::RFC6962.verify(&tree.root()?, 4, 3, b"eve", &tree.path(3)?)?);
+/// assert!(tree.check()?);
+/// # Ok::<(), paxidore::Refused>(())
+/// ```
+#[derive(Debug, Clone)]
+pub struct Tree<M> {
+    trees: Trees,
+    memory: M,
+}
+
+// What a call did.
+fn done(answer: i32) -> Result<(), Refused> {
+    match answer {
+        0 => Ok(()),
+        refused => Err(Refused::of(refused)),
+    }
+}
+
+// The digests that bytes are. Of no bytes there are none, which no tree has.
+fn digests(bytes: &[u8]) -> Result<usize, Refused> {
+    match bytes.len() % 32 {
+        0 => Ok(bytes.len() / 32),
+        _ => Err(Refused::Size),
+    }
+}
+
+impl Tree<Vec<u8>> {
+    /// The tree above the leaves, in memory of its own. Refusals: `Size`.
+    pub fn build<L: AsRef<[u8]>>(trees: Trees, leaves: &[L]) -> Result<Tree<Vec<u8>>, Refused> {
+        if leaves.len() < 2 || !leaves.len().is_power_of_two() {
+            return Err(Refused::Size);
+        }
+        Tree::build_in(trees, vec![0; Tree::bytes(leaves.len())], leaves)
+    }
+
+    /// How many bytes a tree of so many leaves has.
+    pub const fn bytes(size: usize) -> usize {
+        size.saturating_mul(64).saturating_sub(32)
+    }
+}
+
+impl<M: AsRef<[u8]> + AsMut<[u8]>> Tree<M> {
+    /// The tree above the leaves, in memory of [`Tree::bytes`]. Refusals: `Size`, and `Room` where the memory has another length.
+    pub fn build_in<L: AsRef<[u8]>>(
+        trees: Trees,
+        mut memory: M,
+        leaves: &[L],
+    ) -> Result<Tree<M>, Refused> {
+        let Flat { bytes, lengths } = Flat::of(leaves);
+        let place = memory.as_mut();
+        let count = digests(place).map_err(|_| Refused::Room)?;
+        // SAFETY: each pointer with its length is that of a borrowed slice, of which `place` alone is written, and the call asks for
+        // nothing else.
+        done(unsafe {
+            (trees.calls.tree_build)(
+                place.as_mut_ptr(),
+                count,
+                bytes.as_ptr(),
+                bytes.len(),
+                lengths.as_ptr(),
+                lengths.len(),
+            )
+        })?;
+        Ok(Tree { trees, memory })
+    }
+
+    /// Changes a leaf: writes its digest and those above it, from the lowest up. Refusals: `Size`, `Index`.
+    pub fn set(&mut self, index: usize, leaf: &[u8]) -> Result<(), Refused> {
+        let place = self.memory.as_mut();
+        let count = digests(place)?;
+        // SAFETY: as in `build_in`.
+        done(unsafe {
+            (self.trees.calls.tree_set)(place.as_mut_ptr(), count, index, leaf.as_ptr(), leaf.len())
+        })
+    }
+
+    /// Changes leaves, one for each index, one after the other. Where the indexes rise, each digest above them is hashed once.
+    ///
+    /// Refusals: `Size`, `Count`, `Index` also where there is no index.
+    pub fn set_many<L: AsRef<[u8]>>(
+        &mut self,
+        indexes: &[usize],
+        leaves: &[L],
+    ) -> Result<(), Refused> {
+        let Flat { bytes, lengths } = Flat::of(leaves);
+        let place = self.memory.as_mut();
+        let count = digests(place)?;
+        // SAFETY: as in `build_in`.
+        done(unsafe {
+            (self.trees.calls.tree_set_many)(
+                place.as_mut_ptr(),
+                count,
+                indexes.as_ptr(),
+                indexes.len(),
+                bytes.as_ptr(),
+                bytes.len(),
+                lengths.as_ptr(),
+                lengths.len(),
+            )
+        })
+    }
+
+    /// Writes all digests above those of the leaves that stand there. Refusals: `Size`.
+    pub fn rebuild(&mut self) -> Result<(), Refused> {
+        let place = self.memory.as_mut();
+        let count = digests(place)?;
+        // SAFETY: as in `build_in`.
+        done(unsafe { (self.trees.calls.tree_rebuild)(place.as_mut_ptr(), count) })
+    }
+}
+
+impl<M: AsRef<[u8]>> Tree<M> {
+    /// The tree that stands in this memory. It is not checked: only its length is looked at, by each call. Refusals: `Size`.
+    pub fn over(trees: Trees, memory: M) -> Result<Tree<M>, Refused> {
+        let tree = Tree { trees, memory };
+        tree.root()?;
+        Ok(tree)
+    }
+
+    /// The root: the digest that stands first. Refusals: `Size`.
+    pub fn root(&self) -> Result<Digest, Refused> {
+        let place = self.memory.as_ref();
+        let count = digests(place)?;
+        let mut root = [0; 32];
+        // SAFETY: as in `build_in`, and `root` has room for 32 bytes that nothing else lends.
+        done(unsafe { (self.trees.calls.tree_root)(root.as_mut_ptr(), place.as_ptr(), count) })?;
+        Ok(root)
+    }
+
+    /// The bytes of the path of an index, as it stands there. Refusals: `Size`, `Index`.
+    pub fn path(&self, index: usize) -> Result<Vec<u8>, Refused> {
+        let place = self.memory.as_ref();
+        let count = digests(place)?;
+        let room = 16 + crate::path_digests(count / 2 + 1);
+        // SAFETY: as in `build_in`, and the buffer has room for `room` bytes that nothing else lends.
+        written(room, |path, room, path_len| unsafe {
+            (self.trees.calls.tree_path)(path, room, path_len, place.as_ptr(), count, index)
+        })
+    }
+
+    /// Whether each digest above those of the leaves is the hash of the two below it. It hashes as much as
+    /// [`rebuild`](Tree::rebuild). Refusals: `Size`.
+    pub fn check(&self) -> Result<bool, Refused> {
+        let place = self.memory.as_ref();
+        let count = digests(place)?;
+        // SAFETY: as in `build_in`.
+        crate::verdict(unsafe { (self.trees.calls.tree_check)(place.as_ptr(), count) })
+    }
+
+    /// How many leaves the tree has.
+    #[allow(clippy::len_without_is_empty)]
+    pub fn len(&self) -> usize {
+        self.memory.as_ref().len() / 64 + 1
+    }
+
+    /// The memory.
+    pub fn memory(&self) -> &M {
+        &self.memory
+    }
+
+    /// The memory, with the tree in it.
+    pub fn into_memory(self) -> M {
+        self.memory
+    }
+}

@@ -1,0 +1,406 @@
+-- Digests that are hashed anew level by level, above the leaves of some indexes.
+use Rattle.std.proofs.Common.{◌≡◌, ◌≢◌, ◌⊎◌, ℕ, suc, ◌+◌, ◌-◌, ◌*◌, ◌/◌, ◌<◌, ◌≤◌, ◌^◌, List, [], ◌∷◌, length, drop, get_or, set, nat_eq, Bool, true, false, refl, sym, ap, subst, ◌∙◌, inl, inr, arith, pow_pos}
+use Rattle.std.proofs.lemmas.Bool.{cases_lt, eqb-true, eqb-false}
+use Rattle.std.proofs.lemmas.List.{ext_get_or, get_or-drop, get_or-set_other, length-drop, length-set}
+use Rattle.std.proofs.lemmas.Nat.{div_below, le-div, pow-add}
+use Rattle.std.proofs.Math.Nat.{div-eq_of_lt, pow-le-pow_right, pow-succ'}
+use Rattle.std.specs.List.{zip}
+use Rattle.ark_paths.specs.Pair.{Digest}
+use Rattle.ark_merkle.specs.Batch.{puts}
+use Rattle.kept_tree.proofs.Changing.{on_way-up, same_or}
+use Rattle.kept_tree.proofs.Besides.{leaves-are}
+use Rattle.kept_tree.specs.KeptTree.{ChangesLeaves, HoldsTree, IsHashed, IsOnWay, IsOnWays, LevelHashed, NodeHash, Rehashes, RehashesAbove, kept_leaves, leaf_count, place_above}
+
+-- the first digests of a list of indexes: those on one level are hashed, and this is the last place of them
+pub record LevelUpTo (node : NodeHash) (old now : List Digest) (level : ℕ) (indexes : List ℕ) (count last : ℕ)
+    : Type 0 where
+  pub long : length now ≡ length old
+  pub hashed : (j : ℕ) → j < count → IsHashed node now (place_above (length old) level (get_or indexes j 0))
+  pub others : (i : ℕ) → ((j : ℕ) → j < count → i ≡ place_above (length old) level (get_or indexes j 0) → ⊥)
+      → get_or now i [] ≡ get_or old i []
+  pub known : (last ≡ length old) ⊎ ((j : ℕ) × (j < count) × (last ≡ place_above (length old) level (get_or indexes j 0)))
+
+-- the levels below this one are hashed
+pub record AboveUpTo (node : NodeHash) (old now : List Digest) (levels done : ℕ) (indexes : List ℕ) : Type 0 where
+  pub long : length now ≡ length old
+  pub leaves : kept_leaves now ≡ kept_leaves old
+  pub ways : (i : ℕ) → i < length old / 2 → 2 ^ (levels - done) ≤ i + 1
+      → IsOnWays (length old / 2) indexes i → IsHashed node now i
+  pub others : (i : ℕ) → i < length old / 2 → (IsOnWays (length old / 2) indexes i → ⊥)
+      → get_or now i [] ≡ get_or old i []
+
+-- ---- places of a level
+
+module _ (count m level index : ℕ) (size : count + 1 ≡ 2 * 2 ^ suc m) (inside : index < leaf_count count)
+    (high : level ≤ suc m) where
+  abbrev width : ℕ
+  width = 2 ^ (suc m - level)
+
+  split : 2 ^ suc m ≡ width * 2 ^ level
+  split = let e : suc m ≡ (suc m - level) + level = omega arith in
+      ap (λ (n : ℕ). 2 ^ n) e ∙ pow-add 2 (suc m - level) level
+
+  place-least : width ≤ (leaf_count count + index) / 2 ^ level
+  place-least = le-div width (leaf_count count + index) (2 ^ level) (pow_pos level) (omega (
+    arith,
+    split,
+    leaves-are count m size,
+  ))
+
+  place-below : (leaf_count count + index) / 2 ^ level < 2 * width
+  place-below =
+      let twice : 2 * width * 2 ^ level ≡ 2 * (width * 2 ^ level) = grind arith in
+      div_below (leaf_count count + index) (2 ^ level) (2 * width) (pow_pos level)
+      (omega (arith, twice, split, leaves-are count m size))
+
+  -- what stands below a place of a level
+  pub place-from : width ≤ place_above count level index + 1
+  place-from = omega (arith, place-least, pow_pos (suc m - level))
+
+  pub place-to : place_above count level index + 1 < 2 * width
+  place-to = omega (arith, place-least, place-below, pow_pos (suc m - level))
+
+  pub place-some : 1 ≤ (leaf_count count + index) / 2 ^ level
+  place-some = omega (arith, place-least, pow_pos (suc m - level))
+
+  -- above the leaves it has two below it
+  pub place-room : 0 < level → 2 * place_above count level index + 2 < count
+  place-room low =
+      let two : 0 < 2 = omega arith in
+      let le : 2 ^ suc (suc m - level) ≤ 2 ^ suc m = pow-le-pow_right two (omega arith) in
+      let twice = pow-succ' 2 (suc m - level) in
+      omega (arith, place-to, le)
+
+-- a level's number is one of 64 bits
+pub level-small : (count m level : ℕ) → count + 1 ≡ 2 * 2 ^ suc m → level ≤ suc m → count < 2 ^ 64 → level < 64
+level-small count m level size high fits = elim (cases_lt level 64) [
+  | inl lt ↦ lt
+  | inr ge ↦
+      let two : 0 < 2 = omega arith in
+      let large : 2 ^ 64 ≤ 2 ^ level = pow-le-pow_right two ge in
+      let up : 2 ^ level ≤ 2 ^ suc m = pow-le-pow_right two high in
+      absurd (omega (arith, large, up, pow_pos m, pow-succ' 2 m))
+]
+
+module _ (node : NodeHash) (old : List Digest) (m level : ℕ) (size : length old + 1 ≡ 2 * 2 ^ suc m)
+    (high : level ≤ suc m) (indexes : List ℕ) (inside : (j : ℕ) → j < length indexes
+    → get_or indexes j 0 < leaf_count (length old)) where
+  abbrev place : ℕ → ℕ
+  place j = place_above (length old) level (get_or indexes j 0)
+
+  pub level-none : LevelUpTo node old old level indexes 0 (length old)
+  level-none = record {
+    long = refl;
+    hashed = λ j below. absurd (omega arith);
+    others = λ i apart. refl;
+    known = inl refl;
+  }
+
+  -- a place that is the one before
+  pub level-same : (now : List Digest) (count last : ℕ) → count < length indexes
+      → LevelUpTo node old now level indexes count last → place count ≡ last
+      → LevelUpTo node old now level indexes (count + 1) (place count)
+  level-same now count last below so same = record {
+    long = so.long;
+    hashed = λ j under. elim (cases_lt j count) [
+      | inl lt ↦ so.hashed j lt
+      | inr ge ↦ let e : j ≡ count = omega arith in rw e (rw same (known-hashed so.known))
+    ];
+    others = λ i apart. so.others i (λ j under. apart j (omega arith));
+    known = inr (count, omega arith, refl);
+  }
+    where
+      known-hashed : (last ≡ length old) ⊎ ((j : ℕ) × (j < count) × (last ≡ place j)) → IsHashed node now last
+      known-hashed (inl past) =
+          let to = place-to (length old) m level (get_or indexes count 0) size (inside count below) high in
+          let two : 0 < 2 = omega arith in
+          let le : 2 ^ (suc m - level) ≤ 2 ^ suc m = pow-le-pow_right two (omega arith) in
+          absurd (omega (arith, to, le))
+      known-hashed (inr (j, under, is)) = rw is (so.hashed j under)
+
+  pub level-more : (now new : List Digest) (count last : ℕ) → count < length indexes
+      → LevelUpTo node old now level indexes count last → Rehashes node (place count) 1 now new
+      → LevelUpTo node old new level indexes (count + 1) (place count)
+  level-more now new count last below so step = record {
+    long = step.long ∙ so.long;
+    hashed = λ j under. elim (cases_lt j count) [
+      | inl lt ↦ kept j lt
+      | inr ge ↦ let e : j ≡ count = omega arith in rw e (step.hashed (place count) (omega arith) (omega arith))
+    ];
+    others = λ i apart. apart-from i (apart count (omega arith)) ∙ so.others i (λ j under. apart j (omega arith));
+    known = inr (count, omega arith, refl);
+  }
+    where
+      apart-from : (i : ℕ) → i ≢ place count → get_or new i [] ≡ get_or now i []
+      apart-from i other = elim (cases_lt i (place count)) [
+        | inl lt ↦ step.others i (inl lt)
+        | inr ge ↦ elim (cases_lt (place count) i) [
+          | inl gt ↦ step.others i (inr (omega arith))
+          | inr le ↦ let same : i ≡ place count = omega arith in absurd (other same)
+        ]
+      ]
+
+      -- those on the level stand above no other of them
+      kept : (j : ℕ) → j < count → IsHashed node new (place j)
+      kept j under = by_place (cases_lt (place j) (place count)) (cases_lt (place count) (place j))
+        where
+          to : place count + 1 < 2 * 2 ^ (suc m - level)
+          to = place-to (length old) m level (get_or indexes count 0) size (inside count below) high
+
+          from : 2 ^ (suc m - level) ≤ place j + 1
+          from = place-from (length old) m level (get_or indexes j 0) size (inside j (omega arith)) high
+
+          other : place j ≢ place count → IsHashed node new (place j)
+          other differ =
+              let own = apart-from (place j) differ in
+              let left : get_or new (2 * place j + 1) [] ≡ get_or now (2 * place j + 1) [] =
+              step.others (2 * place j + 1) (inr (omega (arith, to, from))) in
+              let right : get_or new (2 * place j + 2) [] ≡ get_or now (2 * place j + 2) [] =
+              step.others (2 * place j + 2) (inr (omega (arith, to, from))) in
+              own ∙ so.hashed j under ∙ rw (left, right) refl
+
+          by_place : (place j < place count) ⊎ (place count ≤ place j) → (place count < place j)
+              ⊎ (place j ≤ place count) → IsHashed node new (place j)
+          by_place (inl lt) after = other (λ e. absurd (omega arith))
+          by_place (inr ge) (inl gt) = other (λ e. absurd (omega arith))
+          by_place (inr ge) (inr le) =
+              let same : place j ≡ place count = omega arith in
+              rw same (step.hashed (place count) (omega arith) (omega arith))
+
+  -- the next place, which is hashed unless it is the one before
+  pub level-next : (now new : List Digest) (count last : ℕ) → count < length indexes
+      → LevelUpTo node old now level indexes count last → (place count ≡ last → new ≡ now)
+      → (place count ≢ last → Rehashes node (place count) 1 now new)
+      → LevelUpTo node old new level indexes (count + 1) (place count)
+  level-next now new count last below so same other = by_test (nat_eq (place count) last) refl
+    where
+      by_test : (test : Bool) → nat_eq (place count) last ≡ test
+          → LevelUpTo node old new level indexes (count + 1) (place count)
+      by_test true is =
+          let e : place count ≡ last = eqb-true (place count) last is in
+          rw (same e) (level-same now count last below so e)
+      by_test false is = level-more now new count last below so (other (eqb-false (place count) last is))
+
+  pub level-all : (now : List Digest) (count last : ℕ) → count ≡ length indexes
+      → LevelUpTo node old now level indexes count last → LevelHashed node old now level indexes
+  level-all now count last all so = record {
+    long = so.long;
+    hashed = λ j below. so.hashed j (omega arith);
+    others = λ i apart. so.others i (λ j under. apart j (omega arith));
+  }
+
+-- ---- all levels
+
+-- two places of one level and of another
+module _ (node : NodeHash) (old : List Digest) (m : ℕ) (size : length old + 1 ≡ 2 * 2 ^ suc m) (indexes : List ℕ)
+    (inside : (j : ℕ) → j < length indexes → get_or indexes j 0 < leaf_count (length old)) where
+  abbrev inner : ℕ
+  inner = length old / 2
+
+  leaf-place : (j : ℕ) → inner + get_or indexes j 0 + 1 ≡ leaf_count (length old) + get_or indexes j 0
+  leaf-place j = omega (arith, leaves-are (length old) m size)
+
+  pub above-none : AboveUpTo node old old (suc m) 0 indexes
+  above-none = record {
+    long = refl;
+    leaves = refl;
+    ways = λ i below high on.
+        let e : suc m - 0 ≡ suc m = omega arith in
+        let past : 2 ^ suc m ≤ i + 1 = rw e at high in
+        absurd (omega (arith, past, leaves-are (length old) m size));
+    others = λ i below apart. refl;
+  }
+
+  -- a place on the way stands on one level
+  on-level : (i j k level : ℕ) → j < length indexes → level ≤ suc m → k ≤ suc m
+      → i + 1 ≡ (leaf_count (length old) + get_or indexes j 0) / 2 ^ k
+      → 2 ^ (suc m - level) ≤ i + 1 → i + 1 < 2 * 2 ^ (suc m - level) → k ≡ level
+  on-level i j k level below high small at from to =
+      let least = place-from (length old) m k (get_or indexes j 0) size (inside j below) small in
+      let most = place-to (length old) m k (get_or indexes j 0) size (inside j below) small in
+      let two : 0 < 2 = omega arith in
+      elim (cases_lt k level) [
+        | inl lt ↦
+            let le : 2 ^ suc (suc m - level) ≤ 2 ^ (suc m - k) = pow-le-pow_right two (omega arith) in
+            absurd (omega (arith, least, le, pow-succ' 2 (suc m - level)))
+        | inr ge ↦ elim (cases_lt level k) [
+          | inl gt ↦
+              let le : 2 ^ suc (suc m - k) ≤ 2 ^ (suc m - level) = pow-le-pow_right two (omega arith) in
+              absurd (omega (arith, most, le, pow-succ' 2 (suc m - k)))
+          | inr le ↦ omega arith
+        ]
+      ]
+
+  -- no place of a level above the leaves is at or behind this one
+  level-before : (level j : ℕ) → 0 < level → level ≤ suc m → j < length indexes → (i : ℕ)
+      → 2 * 2 ^ (suc m - level) ≤ i + 1 → i ≡ place_above (length old) level (get_or indexes j 0) → ⊥
+  level-before level j low high below i past same =
+      let to = place-to (length old) m level (get_or indexes j 0) size (inside j below) high in
+      absurd (omega (arith, to))
+
+  pub above-more : (now new : List Digest) (done : ℕ) → done < suc m → AboveUpTo node old now (suc m) done indexes
+      → LevelHashed node now new (done + 1) indexes → AboveUpTo node old new (suc m) (done + 1) indexes
+  above-more now new done below so step = record {
+    long = step.long ∙ so.long;
+    leaves = rw (step.long, so.long) (ext_get_or [] (drop inner new) (drop inner now) (omega (
+      arith,
+      length-drop inner new,
+      length-drop inner now,
+      step.long,
+    )) (λ q under. get_or-drop inner new q [] ∙ unchanged (inner + q) (omega (arith, wide, leaves-are (length old) m size))
+        ∙ sym (get_or-drop inner now q []))) ∙ leaves-now;
+    ways = ways;
+    others = λ i under apart. step.others i (λ j within same. apart (
+      j,
+      within,
+      (
+        done + 1,
+        at-level i j within
+            (same ∙ ap (λ (n : ℕ). place_above n (done + 1) (get_or indexes j 0)) so.long),
+      ),
+    )) ∙ so.others i under apart;
+  }
+    where
+      level : ℕ
+      level = done + 1
+
+      leaves-now : drop (length old / 2) now ≡ kept_leaves old
+      leaves-now = rw so.long at so.leaves
+
+      wide : 2 * 2 ^ (suc m - (done + 1)) ≤ 2 ^ suc m
+      wide = let two : 0 < 2 = omega arith in
+          let le : 2 ^ suc (suc m - (done + 1)) ≤ 2 ^ suc m = pow-le-pow_right two (omega arith) in
+          omega (arith, le, pow-succ' 2 (suc m - (done + 1)))
+
+      unchanged : (i : ℕ) → 2 * 2 ^ (suc m - (done + 1)) ≤ i + 1 → get_or new i [] ≡ get_or now i []
+      unchanged i past = step.others i (λ j within same. level-before (done + 1) j (omega arith) (omega arith) within i past
+          (same ∙ ap (λ (n : ℕ). place_above n (done + 1) (get_or indexes j 0)) so.long))
+
+      at-level : (i j : ℕ) → j < length indexes → i ≡ place_above (length old) (done + 1) (get_or indexes j 0)
+          → i + 1 ≡ (inner + get_or indexes j 0 + 1) / 2 ^ (done + 1)
+      at-level i j within same =
+          let some = place-some (length old) m (done + 1) (get_or indexes j 0) size (inside j within) (omega arith) in
+          rw (leaf-place j) (omega (arith, same, some))
+
+      ways : (i : ℕ) → i < length old / 2 → 2 ^ (suc m - (done + 1)) ≤ i + 1 → IsOnWays (length old / 2) indexes i
+          → IsHashed node new i
+      ways i under from (j, within, (k, is)) = elim (cases_lt (i + 1) (2 * 2 ^ (suc m - (done + 1)))) [
+        | inl to ↦
+            let on : i + 1 ≡ (leaf_count (length old) + get_or indexes j 0) / 2 ^ k = rw (leaf-place j) at is in
+            let same : k ≡ done + 1 =
+            on-level i j k (done + 1) within (omega arith) (not-past i j k within on) on from to in
+            let here : i ≡ place_above (length old) (done + 1) (get_or indexes j 0) =
+            omega (arith, subst (λ (n : ℕ). i + 1 ≡ (leaf_count (length old) + get_or indexes j 0) / 2 ^ n) same on) in
+            let hashed = step.hashed j within in
+            rw here (subst (λ (n : ℕ). IsHashed node new (place_above n (done + 1) (get_or indexes j 0))) so.long hashed)
+        | inr past ↦
+            let twice : 2 ^ (suc m - done) ≤ i + 1 =
+            let e : suc m - done ≡ suc (suc m - (done + 1)) = omega arith in
+            rw e (omega (arith, pow-succ' 2 (suc m - (done + 1)))) in
+            let left = unchanged (2 * i + 1) (omega arith) in
+            let right = unchanged (2 * i + 2) (omega arith) in
+            unchanged i past ∙ so.ways i under twice (j, within, (k, is)) ∙ rw (left, right) refl
+      ]
+        where
+          not-past : (i j k : ℕ) → j < length indexes
+              → i + 1 ≡ (leaf_count (length old) + get_or indexes j 0) / 2 ^ k → k ≤ suc m
+          not-past i j k within on = elim (cases_lt (suc m) k) [
+            | inl gt ↦
+                let two : 0 < 2 = omega arith in
+                let le : 2 ^ suc (suc m) ≤ 2 ^ k = pow-le-pow_right two (omega arith) in
+                let small : leaf_count (length old) + get_or indexes j 0 < 2 ^ k =
+                omega (arith, le, pow-succ' 2 (suc m), inside j within, leaves-are (length old) m size) in
+                absurd (omega (arith, on, div-eq_of_lt small))
+            | inr le ↦ le
+          ]
+
+  pub above-all : (now : List Digest) (done : ℕ) → suc m ≤ done → AboveUpTo node old now (suc m) done indexes
+      → RehashesAbove node old now indexes
+  above-all now done all so = record {
+    long = so.long;
+    leaves = so.leaves;
+    ways = λ i below on. so.ways i below (let e : suc m - done ≡ 0 = omega arith in rw e (omega arith)) on;
+    others = so.others;
+  }
+
+-- ---- of a tree
+
+pub length-puts : (changes : List (ℕ × Digest)) (digests : List Digest) → length (puts digests changes)
+    ≡ length digests
+length-puts [] digests = refl
+length-puts (change ∷ others) digests =
+    length-puts others (set digests change.0 change.1) ∙ length-set digests change.0 change.1
+
+-- a digest that no change names is as before
+puts-other : (indexes : List ℕ) (made digests : List Digest) (q : ℕ)
+    → ((j : ℕ) → j < length indexes → get_or indexes j 0 ≡ q → ⊥)
+    → get_or (puts digests (zip indexes made)) q [] ≡ get_or digests q []
+puts-other [] made digests q apart = refl
+puts-other (index ∷ indexes) [] digests q apart = refl
+puts-other (index ∷ indexes) (d ∷ made) digests q apart =
+    puts-other indexes made (set digests index d) q (λ j below. apart (suc j) (omega arith))
+    ∙ get_or-set_other digests index q d [] (λ same. apart 0 (omega arith) (sym same))
+
+-- Leaf digests are put in their places, and then those above them are hashed.
+pub changes-both : (node : NodeHash) (old now new : List Digest) (indexes : List ℕ) (digests : List Digest)
+    → length now ≡ length old → kept_leaves now ≡ puts (kept_leaves old) (zip indexes digests)
+    → ((i : ℕ) → i < length old / 2 → get_or now i [] ≡ get_or old i []) → RehashesAbove node now new indexes
+    → ChangesLeaves node old new indexes digests
+changes-both node old now new indexes digests long put above so =
+    let OnWays : ℕ → ℕ → Type 0 = λ n i. IsOnWays (n / 2) indexes i in
+    record {
+      long = so.long ∙ long;
+      leaves = so.leaves ∙ put;
+      ways = λ i below on. so.ways i (rw long below) (subst (λ (n : ℕ). OnWays n i) (sym long) on);
+      others = λ i below apart. so.others i (rw long below) (λ on. apart (subst (λ (n : ℕ). OnWays n i) long on))
+          ∙ above i below;
+    }
+
+module _ (node : NodeHash) (old new leaves : List Digest) (indexes : List ℕ) (digests : List Digest)
+    (changed : ChangesLeaves node old new indexes digests) (holds : HoldsTree node old leaves) where
+  -- the place above one on a way is on it
+  on_ways-up : (i c : ℕ) → IsOnWays (length old / 2) indexes c → 0 < c → (c - 1) / 2 ≡ i
+      → IsOnWays (length old / 2) indexes i
+  on_ways-up i c (j, below, on) some is = (
+    j,
+    below,
+    subst (IsOnWay (length old / 2 + get_or indexes j 0)) is
+        (on_way-up (length old / 2 + get_or indexes j 0) c some on),
+  )
+
+  pub changes-trees : HoldsTree node new (puts leaves (zip indexes digests))
+  changes-trees = record {
+    size = rw (length-puts (zip indexes digests) leaves) holds.size;
+    count = rw (changed.long, length-puts (zip indexes digests) leaves) holds.count;
+    last = changed.leaves ∙ ap (λ (ds : List Digest). puts ds (zip indexes digests)) holds.last;
+    hashed = λ i below. let under : i < length old / 2 = rw changed.long at below in same_or _ _
+        (λ differ. differ (kept i under (λ on. differ (changed.ways i under on))));
+  }
+    where
+      -- a place beside the ways is as before, a leaf's too
+      below : (c : ℕ) → c < length old → (IsOnWays (length old / 2) indexes c → ⊥)
+          → get_or new c [] ≡ get_or old c []
+      below c inside apart = elim (cases_lt c (length old / 2)) [
+        | inl lt ↦ changed.others c lt apart
+        | inr ge ↦
+            let q = c - length old / 2 in
+            let at : length old / 2 + q ≡ c = omega arith in
+            let now : get_or (drop (length old / 2) new) q [] ≡ get_or new c [] =
+            get_or-drop (length old / 2) new q [] ∙ ap (λ (n : ℕ). get_or new n []) at in
+            let then : get_or (drop (length old / 2) old) q [] ≡ get_or old c [] =
+            get_or-drop (length old / 2) old q [] ∙ ap (λ (n : ℕ). get_or old n []) at in
+            let leaves_are : drop (length old / 2) new ≡ puts (kept_leaves old) (zip indexes digests) =
+            rw changed.long at changed.leaves in
+            let other = puts-other indexes digests (kept_leaves old) q
+            (λ j within same. apart (j, within, (0, omega (arith, same, at)))) in
+            sym now ∙ ap (λ (ds : List Digest). get_or ds q []) leaves_are ∙ other ∙ then
+      ]
+
+      kept : (i : ℕ) → i < length old / 2 → (IsOnWays (length old / 2) indexes i → ⊥) → IsHashed node new i
+      kept i under apart =
+          let own : get_or new i [] ≡ get_or old i [] = changed.others i under apart in
+          let left : get_or new (2 * i + 1) [] ≡ get_or old (2 * i + 1) [] =
+          below (2 * i + 1) (omega (arith, holds.count)) (λ on. apart (on_ways-up i (2 * i + 1) on (omega arith) (omega arith))) in
+          let right : get_or new (2 * i + 2) [] ≡ get_or old (2 * i + 2) [] =
+          below (2 * i + 2) (omega (arith, holds.count)) (λ on. apart (on_ways-up i (2 * i + 2) on (omega arith) (omega arith))) in
+          own ∙ holds.hashed i under ∙ rw (left, right) refl

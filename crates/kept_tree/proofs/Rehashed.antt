@@ -1,0 +1,50 @@
+-- Digests that are hashed anew from those below them.
+use Rattle.std.proofs.Common.{◌≡◌, ℕ, ◌+◌, ◌*◌, ◌/◌, ◌<◌, List, [], length, drop, get_or, true, refl, sym, subst, ◌∙◌, inl, inr, arith}
+use Rattle.std.proofs.lemmas.Bool.{cases_lt}
+use Rattle.std.proofs.lemmas.List.{ext_get_or, get_or-drop, length-drop}
+use Rattle.ark_paths.specs.Pair.{Digest}
+use Rattle.kept_tree.specs.KeptTree.{HoldsTree, NodeHash, Rehashes, is_tree_length, kept_leaves}
+use Rattle.kept_tree.proofs.Lengths.{holds-here}
+
+module _ (node : NodeHash) where
+  pub rehashes-none : (first : ℕ) (memory : List Digest) → Rehashes node first 0 memory memory
+  rehashes-none first memory = record {
+    long = refl;
+    hashed = λ i from below. absurd (omega arith);
+    others = λ i apart. refl;
+  }
+
+  -- places that follow one another: the later ones first
+  pub rehashes-more : (from count first some whole : ℕ) (old now new : List Digest) → from ≡ first + some
+      → whole ≡ some + count → Rehashes node from count old now → Rehashes node first some now new
+      → Rehashes node first whole old new
+  rehashes-more from count first some whole old now new at sum before step = record {
+    long = step.long ∙ before.long;
+    hashed = λ i low high. elim (cases_lt i from) [
+      | inl lt ↦ step.hashed i low (omega arith)
+      | inr ge ↦
+          let own : get_or new i [] ≡ get_or now i [] = step.others i (inr (omega arith)) in
+          let left : get_or new (2 * i + 1) [] ≡ get_or now (2 * i + 1) [] =
+          step.others (2 * i + 1) (inr (omega arith)) in
+          let right : get_or new (2 * i + 2) [] ≡ get_or now (2 * i + 2) [] =
+          step.others (2 * i + 2) (inr (omega arith)) in
+          own ∙ before.hashed i ge (omega arith) ∙ rw (left, right) refl
+    ];
+    others = λ i apart. elim apart [
+      | inl lt ↦ step.others i (inl lt) ∙ before.others i (inl (omega arith))
+      | inr ge ↦ step.others i (inr (omega arith)) ∙ before.others i (inr (omega arith))
+    ];
+  }
+
+  -- all digests above the leaves: then memory holds the tree above the leaf digests in it
+  pub rehashes-all : (first count : ℕ) (old new : List Digest) → first ≡ 0 → count ≡ length old / 2
+      → is_tree_length (length old) ≡ true → Rehashes node first count old new → HoldsTree node new (kept_leaves old)
+  rehashes-all first count old new none whole is all =
+      let same : kept_leaves new ≡ kept_leaves old =
+      rw all.long (ext_get_or [] (drop (length old / 2) new) (drop (length old / 2) old)
+      (omega (arith, length-drop (length old / 2) new, length-drop (length old / 2) old, all.long))
+      (λ i below. get_or-drop (length old / 2) new i [] ∙ all.others (length old / 2 + i) (inr (omega arith))
+      ∙ sym (get_or-drop (length old / 2) old i []))) in
+      let here = holds-here node new (rw all.long is) (λ i below. let under : i < length old / 2 =
+      rw all.long at below in all.hashed i (omega arith) (omega arith)) in
+      subst (HoldsTree node new) same here

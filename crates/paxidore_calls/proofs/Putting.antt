@@ -1,0 +1,88 @@
+-- Digests that are put in the places of their indexes, one after the other.
+use Rattle.std.proofs.Common.{◌≡◌, ℕ, ◌+◌, ◌<◌, ◌≤◌, List, [], ◌∷◌, ◌++◌, length, drop, map, set, get_or, nat_lt, Bool, true, false, if◌then◌else◌, Option, Some, None, IfSome, Ok, Err, refl, sym, ap, ◌∙◌, append-nil, arith}
+use Rattle.std.proofs.lemmas.List.{drop_all, length-append}
+use Rattle.std.specs.List.{zip}
+use Rattle.std.specs.Option.{option_map}
+use Rattle.ark_paths.specs.Pair.{Digest}
+use Rattle.ark_merkle.specs.Batch.{puts}
+use Rattle.paxidore_calls.proofs.Cutting.{IsSoFar, behind, of_parts, so_far-more, so_far-none, so_far-short}
+use Rattle.paxidore_calls.specs.Answer.{leaves_in, results_of}
+use Rattle.paxidore_calls.specs.Cut.{parts_by}
+use Rattle.paxidore_calls.specs.declared.refused.Refused.TheVariants.{Lengths}
+
+-- one more change behind others
+puts-more : (digests : List Digest) (indexes : List ℕ) (front : List Digest) (digest : Digest)
+    → length front < length indexes → puts digests (zip indexes (front ++ digest ∷ []))
+    ≡ set (puts digests (zip indexes front)) (get_or indexes (length front) 0) digest
+puts-more digests [] front digest below = absurd (omega arith)
+puts-more digests (i ∷ indexes) [] digest below = last digests indexes
+  where
+    last : (digests : List Digest) (indexes : List ℕ) → puts (set digests i digest) (zip indexes []) ≡ set digests i digest
+    last digests [] = refl
+    last digests (j ∷ indexes) = refl
+puts-more digests (i ∷ indexes) (d ∷ front) digest below = puts-more (set digests i d) indexes front digest (omega arith)
+
+module _ (made : List ℕ → Digest) (bytes lengths indexes : List ℕ) (old : List Digest) where
+  -- the digests of the first leaves are put
+  pub record PutUpTo (now : List Digest) (i : ℕ) (rest : List ℕ) : Type 0 where
+    pub front : List Digest
+    pub so_far : IsSoFar made bytes lengths i front rest
+    pub count : length front ≡ i
+    pub put : now ≡ puts old (zip indexes front)
+
+  pub put-none : PutUpTo old 0 bytes
+  put-none = record {
+    front = [];
+    so_far = so_far-none made bytes lengths;
+    count = refl;
+    put = none indexes;
+  }
+    where
+      none : (indexes : List ℕ) → old ≡ puts old (zip indexes [])
+      none [] = refl
+      none (i ∷ indexes) = refl
+
+  pub put-more : (now : List Digest) (i : ℕ) (rest next leaf : List ℕ) → i < length indexes → PutUpTo now i rest
+      → parts_by rest (drop i lengths) ≡ option_map (λ others. leaf ∷ others) (parts_by next (drop (i + 1) lengths))
+      → PutUpTo (set now (get_or indexes i 0) (made leaf)) (i + 1) next
+  put-more now i rest next leaf below so parts = record {
+    front = so.front ++ made leaf ∷ [];
+    so_far = so_far-more made bytes lengths i so.front rest so.so_far (i + 1) next (leaf ∷ []) parts;
+    count = omega (arith, length-append so.front (made leaf ∷ []), so.count);
+    put = rw (so.put, ← so.count) (sym (puts-more old indexes so.front (made leaf) (omega (arith, so.count))));
+  }
+
+  pub put-all : (now : List Digest) (i : ℕ) (rest : List ℕ) → length lengths ≤ i → PutUpTo now i rest
+      → IfSome (parts_by bytes lengths) (λ xs. now ≡ puts old (zip indexes (map made xs)))
+  put-all now i rest past so = by_parts (parts_by bytes lengths) refl
+    where
+      given : of_parts made bytes lengths ≡ behind so.front (of_parts made rest [])
+      given = rw (drop_all i lengths past) at so.so_far
+
+      by_rest : (xs : List (List ℕ)) (left : Bool) → Ok (map made xs) ≡ behind so.front (results_of made
+          (leaves_in (if left then None else Some []))) → now ≡ puts old (zip indexes (map made xs))
+      by_rest xs true is = absurd cc
+      by_rest xs false is = let same : map made xs ≡ so.front ++ [] = cc in so.put
+          ∙ ap (λ (ds : List Digest). puts old (zip indexes ds)) (sym (same ∙ append-nil so.front))
+
+      by_parts : (o : Option (List (List ℕ))) → parts_by bytes lengths ≡ o
+          → IfSome o (λ xs. now ≡ puts old (zip indexes (map made xs)))
+      by_parts None is = tt
+      by_parts (Some xs) is = by_rest xs (nat_lt 0 (length rest)) (rw is at given)
+
+  pub put-short : (now : List Digest) (i : ℕ) (rest : List ℕ) → PutUpTo now i rest
+      → parts_by rest (drop i lengths) ≡ None
+      → IfSome (parts_by bytes lengths) (λ xs. now ≡ puts old (zip indexes (map made xs)))
+  put-short now i rest so none = by_parts (parts_by bytes lengths) (so_far-short made bytes lengths i so.front rest so.so_far
+      none)
+    where
+      by_parts : (o : Option (List (List ℕ))) → results_of made (leaves_in o) ≡ Err Lengths
+          → IfSome o (λ xs. now ≡ puts old (zip indexes (map made xs)))
+      by_parts None is = tt
+      by_parts (Some xs) is = absurd cc
+
+-- what follows of the parts
+pub over-parts : (o : Option (List (List ℕ))) (P Q : List (List ℕ) → Type 0) → IfSome o P
+    → ((xs : List (List ℕ)) → P xs → Q xs) → IfSome o Q
+over-parts None P Q holds step = tt
+over-parts (Some xs) P Q holds step = step xs holds

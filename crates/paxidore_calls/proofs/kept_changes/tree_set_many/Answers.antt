@@ -1,0 +1,37 @@
+use Rattle.std.proofs.Common.{◌≡◌, List, ℕ, map, subst}
+use Rattle.std.specs.List.{zip}
+use Rattle.ark_merkle.specs.Batch.{puts}
+use Rattle.kept_tree.specs.KeptTree.{ChangesLeaves, HoldsTree, NodeHash, RehashesAbove, kept_leaves}
+use Rattle.kept_tree.proofs.LevelByLevel.{changes-both, changes-trees}
+use Rattle.paxidore_calls.proofs.Putting.{over-parts}
+use Rattle.paxidore_calls.specs.Cut.{parts_by}
+use Rattle.paxidore_calls.proofs.kept_changes.tree_set_many.Goals as goal
+
+pub returns-clause-changes : goal.returns-clause-changes
+returns-clause-changes g c = λ done.
+    let h = g.H.KeptHashing.hashing in
+    let old = c.args.tree.now in
+    let now = c.put_in_place.new.tree in
+    let new = c.rehash_above.new.memory in
+    let indexes = c.args.indexes.now in
+    let Hashed : NodeHash → Type 0 = λ node. RehashesAbove node now new indexes in
+    let Put : List (List ℕ) → Type 0 = λ xs. kept_leaves now ≡ puts (kept_leaves old) (zip indexes (map h.leaf_hash xs)) in
+    let Changed : List (List ℕ) → Type 0 = λ xs. ChangesLeaves h.node old new indexes (map h.leaf_hash xs) in
+    over-parts (parts_by c.args.leaves.now c.args.lengths.now) Put Changed c.put_in_place.ensures.leaves
+    (λ xs put. changes-both h.node old now new indexes (map h.leaf_hash xs) c.put_in_place.auto.tree put
+    c.put_in_place.ensures.above (subst Hashed g.met.H.KeptHashing.node_is c.rehash_above.ensures))
+
+pub returns-clause-tree : goal.returns-clause-tree
+returns-clause-tree g c = λ held done holds.
+    let h = g.H.KeptHashing.hashing in
+    let old = c.args.tree.now in
+    let now = c.put_in_place.new.tree in
+    let new = c.rehash_above.new.memory in
+    let indexes = c.args.indexes.now in
+    let Hashed : NodeHash → Type 0 = λ node. RehashesAbove node now new indexes in
+    let Put : List (List ℕ) → Type 0 = λ xs. kept_leaves now ≡ puts (kept_leaves old) (zip indexes (map h.leaf_hash xs)) in
+    let Holds : List (List ℕ) → Type 0 = λ xs. HoldsTree h.node new (puts held (zip indexes (map h.leaf_hash xs))) in
+    over-parts (parts_by c.args.leaves.now c.args.lengths.now) Put Holds c.put_in_place.ensures.leaves
+    (λ xs put. changes-trees h.node old new held indexes (map h.leaf_hash xs) (changes-both h.node old now new indexes
+    (map h.leaf_hash xs) c.put_in_place.auto.tree put c.put_in_place.ensures.above (subst Hashed g.met.H.KeptHashing.node_is
+    c.rehash_above.ensures)) holds)
