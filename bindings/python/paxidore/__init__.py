@@ -1,4 +1,5 @@
-"""Merkle trees over byte strings, clients of transparency logs, SHA-256, BLAKE2s and commitments, by the proved code of libpaxidore.
+"""Merkle trees over byte strings, clients of transparency logs, transcripts, SHA-256, BLAKE2s and commitments, by the proved code of
+libpaxidore.
 
 A log or a store publishes the root of its leaves and their count, and hands out paths::
 
@@ -13,6 +14,7 @@ Whoever has the root and the count checks them without the other leaves::
 
 ``sha256`` has the same calls for trees whose hashes are SHA-256 of a leaf, and of left followed by right. There are 2, 4, 8, 16 ..
 leaves in a tree. ``Log`` has the checks for a client of a log of any size. ``blake2s_commit`` commits to a value that is shown later.
+``Transcript`` is Poseidon's duplex sponge over a field.
 
 The library is found by the variable ``PAXIDORE_LIBRARY`` (a path), else beside this file, where a wheel has it, else as the
 system finds ``libpaxidore.so.1``. Where it is not there, or is older than this module, ``import paxidore`` raises
@@ -24,6 +26,7 @@ from typing import List, Sequence, Tuple
 
 __all__ = [
     "CountError",
+    "Field",
     "HeightError",
     "IndexBeyondSize",
     "InvalidProof",
@@ -32,11 +35,14 @@ __all__ = [
     "OutOfMemory",
     "Refused",
     "SizeError",
+    "Transcript",
+    "TranscriptError",
     "TruncatedProof",
     "Trees",
     "blake2s",
     "blake2s_commit",
     "blake2s_opens",
+    "parameters_bytes",
     "rfc6962",
     "sha256",
     "sha256_digest",
@@ -359,3 +365,7 @@ def version() -> str:
     """The version of the library that was found."""
     text: bytes = _version()
     return text.decode("ascii")
+
+
+# behind what it stands on
+from .transcript import Field, Transcript, TranscriptError, parameters_bytes  # noqa: E402

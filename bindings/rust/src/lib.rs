@@ -1,4 +1,5 @@
-//! Merkle trees over byte strings, clients of transparency logs, SHA-256, BLAKE2s and commitments, by the proved code of libpaxidore.
+//! Merkle trees over byte strings, clients of transparency logs, transcripts, SHA-256, BLAKE2s and commitments, by the proved code of
+//! libpaxidore.
 //!
 //! A log or a store publishes the root of its leaves and their count, and hands out paths. Whoever has the root and the count
 //! checks them without the other leaves:
@@ -15,10 +16,12 @@
 #![warn(missing_docs)]
 
 mod sys;
+mod transcript;
 
 use std::error::Error;
 use std::ffi::CStr;
 use std::fmt;
+pub use transcript::{Field, Transcript};
 
 /// A root, a commitment, or another digest.
 pub type Digest = [u8; 32];

@@ -9,4 +9,5 @@ mod hashing;
 pub mod log;
 pub mod rfc6962;
 pub mod sha256;
+pub mod transcript;
 mod trees;
