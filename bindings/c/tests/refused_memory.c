@@ -45,6 +45,11 @@ static size_t path_len, proof_len;
 static uint8_t to_root[32], to_path[112], to_proof[512];
 static size_t to_len;
 
+/* two full rounds and a partial one of a state of two elements; its state after it has absorbed one */
+static const uint64_t PARAMETERS[22] = {2, 1, 5, 3, 2, 5, 6, 2, 7, 8, 2, 9, 10, 2, 2, 1, 2, 2, 3, 4, 1, 1};
+static const uint8_t *const PARAMETER_BYTES = (const uint8_t *)PARAMETERS;
+static uint8_t begun[PAXIDORE_TRANSCRIPTBYTES(1, 1, 8)], to_state[sizeof begun];
+
 static int32_t call(int which) {
     switch (which) {
     case 0: return paxidore_rfc6962_root(to_root, LEAVES, 24, LENGTHS, 8);
@@ -54,7 +59,16 @@ static int32_t call(int which) {
     case 4:
         return paxidore_rfc6962_multi_verify(root, 8, INDEXES, 3, (const uint8_t *)"bbbeeefff", 9, SHOWN, 3, proof, proof_len);
     case 5: return paxidore_log_verify_inclusion(root, 8, 4, LEAVES + 12, 3, log_path, sizeof log_path);
-    default: return paxidore_log_verify_consistency(4, halves[0], 8, root, halves[1], 32);
+    case 6: return paxidore_log_verify_consistency(4, halves[0], 8, root, halves[1], 32);
+    case 7: return paxidore_transcript_init(to_path, sizeof to_path, &to_len, 1, PARAMETER_BYTES, sizeof PARAMETERS);
+    case 8:
+        return paxidore_transcript_absorb(to_state, sizeof to_state, 1, PARAMETER_BYTES, sizeof PARAMETERS, begun, 8);
+    case 9:
+        return paxidore_transcript_absorb_bytes(to_state, sizeof to_state, 1, PARAMETER_BYTES, sizeof PARAMETERS, LEAVES, 24);
+    case 10:
+        return paxidore_transcript_squeeze(to_root, 32, to_state, sizeof to_state, 1, PARAMETER_BYTES, sizeof PARAMETERS);
+    default:
+        return paxidore_transcript_squeeze_bytes(to_root, 32, to_state, sizeof to_state, 1, PARAMETER_BYTES, sizeof PARAMETERS);
     }
 }
 
@@ -78,7 +92,12 @@ int main(void) {
     memcpy(log_path, path, 32);
     memcpy(log_path + 32, path + 72, 32);
     memcpy(log_path + 64, path + 40, 32);
-    for (int which = 0; which < 7; which++) {
+    if (paxidore_transcript_init(begun, sizeof begun, &to_len, 1, PARAMETER_BYTES, sizeof PARAMETERS) != PAXIDORE_OK ||
+        to_len != sizeof begun ||
+        paxidore_transcript_absorb(begun, sizeof begun, 1, PARAMETER_BYTES, sizeof PARAMETERS, LEAVES, 8) != PAXIDORE_OK)
+        failed++;
+    for (int which = 0; which < 12; which++) {
+        memcpy(to_state, begun, sizeof begun);
         calls = 0;
         int is_well = call(which) == PAXIDORE_OK && calls > 0 && live == 0;
         long most = calls;
@@ -86,13 +105,14 @@ int main(void) {
             memset(to_root, 0xaa, sizeof to_root);
             memset(to_path, 0xaa, sizeof to_path);
             memset(to_proof, 0xaa, sizeof to_proof);
+            memcpy(to_state, begun, sizeof begun);
             to_len = 7;
             left = refused;
             int32_t answer = call(which);
             left = -1;
             is_well = is_well && answer == PAXIDORE_E_MEMORY && live == 0 && to_len == 7 &&
                       is_filled(to_root, sizeof to_root) && is_filled(to_path, sizeof to_path) &&
-                      is_filled(to_proof, sizeof to_proof);
+                      is_filled(to_proof, sizeof to_proof) && memcmp(to_state, begun, sizeof begun) == 0;
         }
         if (is_well) {
             passed++;
