@@ -1,12 +1,13 @@
 -- Transcripts: the duplex sponge over a field that a number names, by the bytes of its parameters and of its state.
-use Rattle.std.specs.Prelude.{◌≡◌, ◌≢◌, ℕ, ◌+◌, ◌-◌, ◌/◌, ◌%◌, ◌^◌, ◌==◌, if◌then◌else◌, List, [], ◌∷◌, ◌++◌, length, drop, nat_lt, Bool, true, false, ℤ, pos, Result, Ok, Err, IfOk}
+use Rattle.std.specs.Prelude.{◌≡◌, ◌≢◌, ◌⊎◌, ℕ, ◌+◌, ◌-◌, ◌/◌, ◌%◌, ◌^◌, ◌==◌, if◌then◌else◌, List, [], ◌∷◌, ◌++◌, length, drop, nat_lt, Bool, true, false, ℤ, pos, Result, Ok, Err, IfOk}
 use Rattle.std.specs.List.{flat_map}
 use Rattle.ark_base.specs.Digits.{bytes_of_number, bytes_for, below_at, flag, flag_at}
 use Rattle.ark_base.specs.Outcome.{Outcome, ◌>>=◌}
 use Rattle.ark_base.specs.Reading.{Reading, reading_outcome}
 use Rattle.ark_base.specs.Spelling.{word, word_at, items_at, both_at}
 use Rattle.ark_absorb.specs.Elements.{piece_numbers, text_bytes}
-use Rattle.ark_sponge.specs.ConfigBytes.{parameters_at}
+use Rattle.ark_sponge.specs.ConfigBytes.{parameters_at, parameters_spelling}
+use Rattle.ark_poseidon_parameters.specs.Ready.{AreReady, bls12_381_fr_alpha, bls12_381_fr_rounds, bn254_fr_rounds}
 use Rattle.ark_sponge.specs.Mode.{mode_index}
 use Rattle.ark_sponge.specs.Permutation.{Parameters, width}
 use Rattle.ark_sponge.specs.Sponge.{Sponge, SpongeState, new_sponge, restored_sponge, after_absorbing}
@@ -24,27 +25,25 @@ pub record FieldSize : Type 0 where
   pub modulus : ℕ
   pub bits : ℕ
 
+-- a field of this modulus, which has so many binary digits
+abbrev pub field_size : ℕ → ℕ → FieldSize
+field_size modulus bits = record { modulus = modulus; bits = bits }
+
 -- 2^64 - 2^32 + 1
 abbrev pub goldilocks : FieldSize
-goldilocks = record { modulus = 18446744069414584321; bits = 64 }
+goldilocks = field_size 18446744069414584321 64
 
 -- 15 * 2^27 + 1
 abbrev pub babybear : FieldSize
-babybear = record { modulus = 2013265921; bits = 31 }
+babybear = field_size 2013265921 31
 
 -- the scalar field of the curve BLS12-381
 abbrev pub bls12_381_fr : FieldSize
-bls12_381_fr = record {
-  modulus = 52435875175126190479447740508185965837690552500527637822603658699938581184513;
-  bits = 255;
-}
+bls12_381_fr = field_size 52435875175126190479447740508185965837690552500527637822603658699938581184513 255
 
 -- the scalar field of the curve BN254
 abbrev pub bn254_fr : FieldSize
-bn254_fr = record {
-  modulus = 21888242871839275222246405745257275088548364400416034343698204186575808495617;
-  bits = 254;
-}
+bn254_fr = field_size 21888242871839275222246405745257275088548364400416034343698204186575808495617 254
 
 -- what is said over the field that a number names; no other number names one
 abbrev pub in_field : {A : Type 0} → ℕ → (FieldSize → Result A Refused) → Result A Refused
@@ -165,6 +164,21 @@ bytes_given sbox parameters state count f = do
   s ← sponge_in f parameters state
   let squeezed = bytes_squeezed f.modulus f.bits sbox s count in
       Ok (record { given = squeezed.0; state = state_bytes f squeezed.1 })
+
+-- ---- ready parameters
+
+-- The parameters are the ready ones of a rate, over the field of this number: fields of four words have some for rates
+-- from 2 to 8.
+abbrev pub AreReadyOver : ℕ → ℕ → Parameters → Type 0
+AreReadyOver name rate c =
+    ((name ≡ 3) × AreReady rate (bls12_381_fr_rounds rate) (bls12_381_fr_alpha rate) c)
+    ⊎ ((name ≡ 4) × AreReady rate (bn254_fr_rounds rate) 5 c)
+
+-- the bytes are those of ready parameters
+abbrev pub SpellReady : ℕ → ℕ → List ℕ → Type 0
+SpellReady name rate bytes =
+    (c : Parameters) × AreReadyOver name rate c
+    × (in_field name (λ f. Ok (parameters_spelling f.bits c)) ≡ Ok bytes)
 
 -- ---- what is done to a caller's buffers
 

@@ -1,14 +1,17 @@
 //! The calls of transcripts, by codes, over a field that a number names.
 
-ghost use Rattle.std.specs.Prelude.{◌≡◌, ◌≢◌, ℕ, List, length, pos, Result, Ok, IfOk};
+ghost use Rattle.std.specs.Prelude.{◌≡◌, ◌≢◌, ◌++◌, ℕ, List, length, drop, pos, Result, Ok, IfOk, IfSome, IsSome};
+ghost use Rattle.ark_sponge.specs.ConfigBytes.{parameters_spelling};
 ghost use Rattle.paxidore_calls.specs.Answer.{GivesBy, Hands};
 ghost use Rattle.paxidore_calls.specs.declared.refused.Refused.{Refused as Why};
-ghost use Rattle.paxidore_transcripts.specs.Transcript.{Replaces, begun, bytes_given, elements_squeezed, in_field, left_by, power, with_bytes, with_elements};
+ghost use Rattle.paxidore_transcripts.specs.Transcript.{Replaces, SpellReady, begun, bytes_given, elements_squeezed, in_field, left_by, power, with_bytes, with_elements};
 
 use crate::steps::{Given, begun, bytes_given, elements_squeezed, with_bytes, with_elements};
 use crate::writing::write_over;
-use ark_groups::ff::{BabyBear, Fp, Goldilocks};
-use ark_poseidon_parameters::Power;
+use ark_base::serialize::canonical_bytes;
+use ark_groups::ff::{BabyBear, Field, Fp, Goldilocks};
+use ark_poseidon_parameters::{Power, bls12_381_fr, bn254_fr};
+use ark_sponge::poseidon::PoseidonConfig;
 use ark_wide_fields::{Bls12_381Fr, Bn254Fr};
 use paxidore_calls::buffer::hand_over;
 use paxidore_calls::refused::Refused;
@@ -223,4 +226,47 @@ fn fill(given: Given, out: &mut [u8], state: &mut [u8]) -> i32
     state[..after.len()].copy_from_slice(&after);
     out.copy_from_slice(&bytes);
     0
+}
+
+// Returns the canonical bytes of parameters.
+fn spelled<F: Field>(
+    alloc: Global,
+    found: Option<PoseidonConfig<F>>,
+) -> Result<Vec<u8>, Refused>
+    ensures spelled { IfOk result (λ bytes. IfSome found (λ c.
+        bytes.items ≡ parameters_spelling F.MODULUS_BIT_SIZE c)) }
+    ensures found { IfOk result (λ bytes. IsSome found) }
+{
+    match found {
+        Some(parameters) => Ok(canonical_bytes(alloc, &parameters)?),
+        None => Err(Refused::Invalid),
+    }
+}
+
+// Returns the bytes of ready parameters over a field.
+fn ready_over(alloc: Global, field: u32, rate: usize) -> Result<Vec<u8>, Refused>
+    ensures { IfOk result (λ bytes. SpellReady field rate bytes.items) }
+{
+    match field {
+        3 => spelled(alloc, bls12_381_fr(alloc, rate)?),
+        4 => spelled(alloc, bn254_fr(alloc, rate)?),
+        _ => Err(Refused::Invalid),
+    }
+}
+
+/// Writes the bytes of ready parameters of a rate to the front of `parameters`, and their count to `parameters_len`, and
+/// returns the code.
+pub fn ready(
+    alloc: Global,
+    parameters: &mut [u8],
+    parameters_len: &mut usize,
+    field: u32,
+    rate: usize,
+) -> i32
+    ensures ready { result ≡ pos 0 → (bytes : List ℕ) × SpellReady field rate bytes
+        × (parameters.new ≡ bytes ++ drop (length bytes) parameters.old)
+        × (parameters_len.new ≡ length bytes) }
+    ensures kept { result ≢ pos 0 → parameters.new ≡ parameters.old }
+{
+    hand_over(ready_over(alloc, field, rate), parameters, parameters_len)
 }

@@ -2,7 +2,7 @@
 
 ghost use Rattle.std.specs.Prelude.{◌≡◌, map};
 ghost use Rattle.paxidore_calls.specs.Answer.{GivesBy};
-ghost use Rattle.paxidore_transcripts.specs.Transcript.{elements_in, element_length, mode_of, sponge_in, state_in, whole_of};
+ghost use Rattle.paxidore_transcripts.specs.Transcript.{element_length, elements_in, field_size, mode_of, sponge_in, state_in, whole_of};
 
 use ark_base::error::Error;
 use ark_base::serialize::{CanonicalDeserialize, rest_of};
@@ -25,7 +25,7 @@ pub fn whole<T: CanonicalDeserialize + Drop>(alloc: Global, bytes: &[u8]) -> Res
 
 /// Returns how many bytes an element takes.
 pub fn element_length<F: Field>() -> usize
-    ensures { let f = record { modulus = F.MODULUS; bits = F.MODULUS_BIT_SIZE } in
+    ensures { let f = field_size F.MODULUS F.MODULUS_BIT_SIZE in
         result ≡ element_length f }
 {
     (F::MODULUS_BIT_SIZE as usize).div_ceil(8)
@@ -33,7 +33,7 @@ pub fn element_length<F: Field>() -> usize
 
 /// Returns the elements that fill the bytes.
 pub fn elements_of<F: Field>(alloc: Global, bytes: &[u8]) -> Result<Vec<F>, Refused>
-    ensures { let f = record { modulus = F.MODULUS; bits = F.MODULUS_BIT_SIZE } in
+    ensures { let f = field_size F.MODULUS F.MODULUS_BIT_SIZE in
         GivesBy (λ xs. map F.value xs.items) (elements_in f bytes.now) result }
 {
     let len = element_length::<F>();
@@ -53,7 +53,7 @@ fn state_of<F: Field>(
     width: usize,
     bytes: &[u8],
 ) -> Result<PoseidonSpongeState<F>, Refused>
-    ensures { let f = record { modulus = F.MODULUS; bits = F.MODULUS_BIT_SIZE } in
+    ensures { let f = field_size F.MODULUS F.MODULUS_BIT_SIZE in
         GivesBy (λ state. state) (state_in f width bytes.now) result }
 {
     let (elements, used) = F::read_items(alloc, width as u64, bytes)?;
@@ -83,7 +83,7 @@ pub fn sponge_of<F: Field, S: SBox<F>>(
     parameters: &[u8],
     state: &[u8],
 ) -> Result<PoseidonSponge<F, S>, Refused>
-    ensures { let f = record { modulus = F.MODULUS; bits = F.MODULUS_BIT_SIZE } in
+    ensures { let f = field_size F.MODULUS F.MODULUS_BIT_SIZE in
         GivesBy (λ sponge. sponge) (sponge_in f parameters.now state.now) result }
 {
     let parameters = whole::<PoseidonConfig<F>>(alloc, parameters)?;

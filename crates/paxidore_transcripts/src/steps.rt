@@ -2,7 +2,7 @@
 
 ghost use Rattle.std.specs.Prelude.{◌≡◌, length, IfOk};
 ghost use Rattle.paxidore_calls.specs.Answer.{GivesBy};
-ghost use Rattle.paxidore_transcripts.specs.Transcript.{Squeezed, begun, bytes_given, elements_squeezed, with_bytes, with_elements};
+ghost use Rattle.paxidore_transcripts.specs.Transcript.{begun, bytes_given, elements_squeezed, field_size, Squeezed, with_bytes, with_elements};
 
 use crate::reading::{element_length, elements_of, sponge_of, whole};
 use crate::writing::{bytes_of_elements, state_bytes};
@@ -15,7 +15,7 @@ use std::marker::Model;
 
 /// Returns the state of a sponge that has absorbed nothing.
 pub fn begun<F: Field, S: SBox<F>>(alloc: Global, parameters: &[u8]) -> Result<Vec<u8>, Refused>
-    ensures { let f = record { modulus = F.MODULUS; bits = F.MODULUS_BIT_SIZE } in
+    ensures { let f = field_size F.MODULUS F.MODULUS_BIT_SIZE in
         GivesBy (λ bytes. bytes.items) (begun parameters.now f) result }
 {
     let parameters = whole::<PoseidonConfig<F>>(alloc, parameters)?;
@@ -29,7 +29,7 @@ pub fn with_elements<F: Field, S: SBox<F>>(
     state: &[u8],
     elements: &[u8],
 ) -> Result<Vec<u8>, Refused>
-    ensures { let f = record { modulus = F.MODULUS; bits = F.MODULUS_BIT_SIZE } in
+    ensures { let f = field_size F.MODULUS F.MODULUS_BIT_SIZE in
         let outcome = with_elements S.image parameters.now state.now elements.now f in
         GivesBy (λ bytes. bytes.items) outcome result }
 {
@@ -46,7 +46,7 @@ pub fn with_bytes<F: Field, S: SBox<F>>(
     state: &[u8],
     text: &[u8],
 ) -> Result<Vec<u8>, Refused>
-    ensures { let f = record { modulus = F.MODULUS; bits = F.MODULUS_BIT_SIZE } in
+    ensures { let f = field_size F.MODULUS F.MODULUS_BIT_SIZE in
         let outcome = with_bytes S.image parameters.now state.now text.now f in
         GivesBy (λ bytes. bytes.items) outcome result }
 {
@@ -76,7 +76,7 @@ pub fn elements_squeezed<F: Field, S: SBox<F>>(
     state: &[u8],
     count: usize,
 ) -> Result<Given, Refused>
-    ensures given { let f = record { modulus = F.MODULUS; bits = F.MODULUS_BIT_SIZE } in
+    ensures given { let f = field_size F.MODULUS F.MODULUS_BIT_SIZE in
         let outcome = elements_squeezed S.image parameters.now state.now count f in
         GivesBy (λ given. given) outcome result }
     ensures len { IfOk result (λ given. length given.given ≡ count) }
@@ -100,12 +100,14 @@ pub fn bytes_given<F: Field, S: SBox<F>>(
     state: &[u8],
     count: usize,
 ) -> Result<Given, Refused>
-    ensures given { let f = record { modulus = F.MODULUS; bits = F.MODULUS_BIT_SIZE } in
+    ensures given { let f = field_size F.MODULUS F.MODULUS_BIT_SIZE in
         let outcome = bytes_given S.image parameters.now state.now count f in
         GivesBy (λ given. given) outcome result }
     ensures len { IfOk result (λ given. length given.given ≡ count) }
 {
     let mut sponge = sponge_of::<F, S>(alloc, parameters, state)?;
+    // The call tells the proof that the field has nine bits.
+    let _known = sponge.parameters().rate();
     let bytes = sponge.squeeze_bytes(count)?;
     let state = state_bytes(alloc, &sponge)?;
     Ok(Given { bytes, state })

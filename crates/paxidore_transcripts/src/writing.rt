@@ -1,12 +1,11 @@
 //! The bytes of states and of elements.
 
-ghost use Rattle.std.specs.Prelude.{◌≡◌, ◌++◌, map, Ok, OnOk, length};
+ghost use Rattle.std.specs.Prelude.{◌≡◌, ℕ, List, map, Result, Ok};
+ghost use Rattle.ark_sponge.specs.Mode.{mode_index};
 ghost use Rattle.paxidore_calls.specs.Answer.{GivesBy};
 ghost use Rattle.paxidore_calls.specs.declared.refused.Refused.{Refused as Why};
-ghost use Rattle.paxidore_transcripts.specs.Transcript.{Replaces, elements_bytes, is_squeezing, state_bytes};
-ghost use Rattle.std.specs.Prelude.{ℕ, List, Result};
+ghost use Rattle.paxidore_transcripts.specs.Transcript.{elements_bytes, field_size, is_squeezing, Replaces, state_bytes};
 
-use ark_base::error::Error;
 use ark_base::serialize::CanonicalSerialize;
 use ark_groups::ff::Field;
 use ark_sponge::DuplexSpongeMode;
@@ -15,7 +14,10 @@ use paxidore_calls::refused::Refused;
 use std::alloc::Global;
 
 // Returns the index of a sponge, and whether it squeezes.
-fn next_of(mode: DuplexSpongeMode) -> (usize, bool) {
+fn next_of(mode: DuplexSpongeMode) -> (usize, bool)
+    ensures index { result.0 ≡ mode_index mode }
+    ensures squeezes { result.1 ≡ is_squeezing mode }
+{
     match mode {
         DuplexSpongeMode::Absorbing { next_absorb_index } => (next_absorb_index, false),
         DuplexSpongeMode::Squeezing { next_squeeze_index } => (next_squeeze_index, true),
@@ -24,7 +26,7 @@ fn next_of(mode: DuplexSpongeMode) -> (usize, bool) {
 
 /// Returns the bytes of elements, one behind the other.
 pub fn bytes_of_elements<F: Field>(alloc: Global, elements: &[F]) -> Result<Vec<u8>, Refused>
-    ensures { let f = record { modulus = F.MODULUS; bits = F.MODULUS_BIT_SIZE } in
+    ensures { let f = field_size F.MODULUS F.MODULUS_BIT_SIZE in
         let bytes = elements_bytes f (map F.value elements.now) in
         GivesBy (λ bytes. bytes.items) (Ok bytes) result }
 {
@@ -38,7 +40,7 @@ pub fn state_bytes<F: Field, S: SBox<F>>(
     alloc: Global,
     sponge: &PoseidonSponge<F, S>,
 ) -> Result<Vec<u8>, Refused>
-    ensures { let f = record { modulus = F.MODULUS; bits = F.MODULUS_BIT_SIZE } in
+    ensures { let f = field_size F.MODULUS F.MODULUS_BIT_SIZE in
         GivesBy (λ bytes. bytes.items) (Ok (state_bytes f sponge.now)) result }
 {
     let mut bytes = bytes_of_elements(alloc, sponge.state())?;
