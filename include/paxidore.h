@@ -245,6 +245,13 @@ enum paxidore_field {
 #define PAXIDORE_TRANSCRIPTBYTES(rate, capacity, element_bytes) \
     (((size_t)(rate) + (size_t)(capacity)) * (size_t)(element_bytes) + 9U)
 
+/* Writes the bytes of ready parameters over PAXIDORE_BLS12_381_FR or PAXIDORE_BN254_FR to the front of `parameters`, which has room for
+ * `parameters_room`, and their count to `parameters_len`: those that arkworks and circomlib make by the Grain generator for a `rate`
+ * from 2 to 8, with a capacity of one. E_INVALID where there are none, E_ROOM, E_MEMORY. */
+PAXIDORE_ANSWERS PAXIDORE_NOT_NULL((3))
+int32_t paxidore_transcript_ready_parameters(uint8_t *parameters, size_t parameters_room, size_t *parameters_len,
+                                             uint32_t field, size_t rate);
+
 /* Writes the state that has absorbed nothing to the front of `state`, which has room for `state_room`, and its count of bytes to
  * `state_len`. Where the room is too short, the answer is E_ROOM and `state_len` is what is needed. E_TRUNCATED, E_INVALID, E_ROOM,
  * E_MEMORY. */

@@ -43,6 +43,7 @@ __all__ = [
     "blake2s_commit",
     "blake2s_opens",
     "parameters_bytes",
+    "ready_parameters",
     "rfc6962",
     "sha256",
     "sha256_digest",
@@ -368,4 +369,4 @@ def version() -> str:
 
 
 # behind what it stands on
-from .transcript import Field, Transcript, TranscriptError, parameters_bytes  # noqa: E402
+from .transcript import Field, Transcript, TranscriptError, parameters_bytes, ready_parameters  # noqa: E402

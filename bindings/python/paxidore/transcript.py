@@ -2,13 +2,13 @@
 
 Who proves and who checks absorb the same messages, and squeeze the same challenges::
 
-    from paxidore import Field, Transcript
+    from paxidore import Field, Transcript, ready_parameters
 
-    transcript = Transcript(Field.BLS12_381_FR, parameters)
+    transcript = Transcript(Field.BLS12_381_FR, ready_parameters(Field.BLS12_381_FR, rate=2))
     transcript.absorb_bytes(b"a message")
     challenge, = transcript.squeeze(1)
 
-``parameters`` are the bytes that ``parameters_bytes`` makes of the numbers of a permutation.
+``parameters_bytes`` makes the bytes of parameters out of the numbers of any other permutation.
 """
 import ctypes
 import enum
@@ -19,6 +19,7 @@ from . import Refused, _bytes, _call, _exact, _refusal, _size, _word
 _room = ctypes.c_void_p
 _field = ctypes.c_uint32
 _code = ctypes.c_int32
+_ready = _call("transcript_ready_parameters", _code, _room, _size, ctypes.POINTER(_size), _field, _size)
 _init = _call("transcript_init", _code, _room, _size, ctypes.POINTER(_size), _field, _bytes, _size)
 _absorb = _call("transcript_absorb", _code, _room, _size, _field, _bytes, _size, _bytes, _size)
 _absorb_bytes = _call("transcript_absorb_bytes", _code, _room, _size, _field, _bytes, _size, _bytes, _size)
@@ -100,6 +101,16 @@ def parameters_bytes(
     word = lambda number: _word(number).to_bytes(8, "little")
     numbers = word(full_rounds) + word(partial_rounds) + word(alpha)
     return numbers + _rows(field, tuple(ark)) + _rows(field, tuple(mds)) + word(rate) + word(capacity)
+
+
+def ready_parameters(field: Field, rate: int) -> bytes:
+    """Returns the bytes of ready parameters over ``Field.BLS12_381_FR`` or ``Field.BN254_FR``, for a rate from 2 to 8 and a capacity of
+    one: those that arkworks and circomlib have. ``TranscriptError`` where there are none, ``OutOfMemory``."""
+    size = _size(0)
+    # the longest have 71 rows of constants and 9 of the matrix
+    room = ctypes.create_string_buffer(64 + 80 * (8 + 9 * 32))
+    _done(_ready(room, len(room), ctypes.byref(size), Field(field), _word(rate)))
+    return room.raw[: size.value]
 
 
 class Transcript:

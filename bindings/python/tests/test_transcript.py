@@ -2,7 +2,7 @@
 import random
 import unittest
 
-from paxidore import Field, Transcript, TranscriptError, parameters_bytes
+from paxidore import Field, Transcript, TranscriptError, parameters_bytes, ready_parameters
 
 
 class Model:
@@ -133,6 +133,25 @@ class Transcripts(unittest.TestCase):
             Transcript(9, good)
         with self.assertRaises(TypeError):
             Transcript(field, bytearray(good))
+
+    def test_ready_parameters_are_arkworks(self):
+        # what arkworks' sponge over BLS12-381 gives after 0, 1, 2
+        transcript = Transcript(Field.BLS12_381_FR, ready_parameters(Field.BLS12_381_FR, 2))
+        transcript.absorb([0, 1, 2])
+        self.assertEqual(
+            transcript.squeeze(3),
+            [
+                0x5969CF56A91CE66A4AE36F5797430C7B7848AC9B3BE99D7B4FBDB4E23F7B786C,
+                0x05E3FB856924C80FCF5361FAE4624F2FDBE9CDA86E2B98C132B3C2595B6CA6F5,
+                0x6EF724D6FCAE075D004F1D7C2758AD681AF9B1EAA214C0A3A2BA9D2B108D4A3D,
+            ],
+        )
+        for rate in range(2, 9):
+            for field in (Field.BLS12_381_FR, Field.BN254_FR):
+                Transcript(field, ready_parameters(field, rate)).squeeze(1)
+        for field, rate in ((Field.BN254_FR, 1), (Field.BN254_FR, 9), (Field.GOLDILOCKS, 2)):
+            with self.assertRaises(TranscriptError):
+                ready_parameters(field, rate)
 
     def test_elements_past_the_modulus_are_refused(self):
         _, transcript = drawn(random.Random(4), Field.GOLDILOCKS, 2, 1, 2, 1, 7)

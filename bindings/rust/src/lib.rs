@@ -21,7 +21,7 @@ mod transcript;
 use std::error::Error;
 use std::ffi::CStr;
 use std::fmt;
-pub use transcript::{Field, Transcript};
+pub use transcript::{ready_parameters, Field, Transcript};
 
 /// A root, a commitment, or another digest.
 pub type Digest = [u8; 32];

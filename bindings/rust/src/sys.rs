@@ -148,6 +148,13 @@ extern "C" {
         proof: *const u8,
         proof_len: usize,
     ) -> i32;
+    pub fn paxidore_transcript_ready_parameters(
+        parameters: *mut u8,
+        parameters_room: usize,
+        parameters_len: *mut usize,
+        field: u32,
+        rate: usize,
+    ) -> i32;
     pub fn paxidore_transcript_init(
         state: *mut u8,
         state_room: usize,

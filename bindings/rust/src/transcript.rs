@@ -27,6 +27,28 @@ impl Field {
     }
 }
 
+/// Returns the bytes of ready parameters over `Bls12_381Fr` or `Bn254Fr`, for a rate from 2 to 8 and a capacity of one: those that
+/// arkworks and circomlib have.
+///
+/// Refusals: `Invalid` where there are none, `Memory`.
+pub fn ready_parameters(field: Field, rate: usize) -> Result<Vec<u8>, Refused> {
+    // the longest have 71 rows of constants and 9 of the matrix
+    let mut parameters = vec![0; 64 + 80 * (8 + 9 * 32)];
+    let mut len = 0;
+    // SAFETY: the pointers are those of values that live through the call, with their lengths.
+    done(unsafe {
+        sys::paxidore_transcript_ready_parameters(
+            parameters.as_mut_ptr(),
+            parameters.len(),
+            &mut len,
+            field as u32,
+            rate,
+        )
+    })?;
+    parameters.truncate(len);
+    Ok(parameters)
+}
+
 /// A sponge over a field, with a permutation's parameters as bytes. What is absorbed and squeezed does not depend on how it is cut into
 /// calls, but for bytes, which each call absorbs behind their length.
 ///

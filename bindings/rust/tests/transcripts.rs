@@ -1,6 +1,6 @@
 //! Transcripts. The numbers were computed in plain Python.
 
-use paxidore::{Field, Refused, Transcript};
+use paxidore::{ready_parameters, Field, Refused, Transcript};
 
 // Two full rounds and a partial one of a state of two elements, fifth powers.
 fn parameters() -> Vec<u8> {
@@ -30,6 +30,22 @@ fn a_transcript_is_that_of_python() -> Result<(), Refused> {
     copy.squeeze(&mut squeezed[..8])?;
     copy.squeeze(&mut squeezed[8..])?;
     assert_eq!(squeezed[..], elements([5518910787108351795, 16081646306617943921])[..]);
+    Ok(())
+}
+
+// What arkworks' sponge over BLS12-381 gives first after 0, 1, 2.
+#[test]
+fn ready_parameters_are_arkworks() -> Result<(), Refused> {
+    let parameters = ready_parameters(Field::Bls12_381Fr, 2)?;
+    let mut transcript = Transcript::new(Field::Bls12_381Fr, &parameters)?;
+    let mut elements = [0; 96];
+    (elements[32], elements[64]) = (1, 2);
+    transcript.absorb(&elements)?;
+    let mut out = [0; 32];
+    transcript.squeeze(&mut out)?;
+    assert_eq!(out[..4], [0x6c, 0x78, 0x7b, 0x3f]);
+    assert_eq!(out[28..], [0x56, 0xcf, 0x69, 0x59]);
+    assert_eq!(ready_parameters(Field::BabyBear, 2), Err(Refused::Invalid));
     Ok(())
 }
 

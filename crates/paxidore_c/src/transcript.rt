@@ -1,11 +1,33 @@
 //! Transcripts: Poseidon's duplex sponge over a field that a number names, in memory of the caller's.
 
-ghost use Rattle.std.specs.Prelude.{◌≡◌, ◌≢◌, length, pos, IfOk};
+ghost use Rattle.std.specs.Prelude.{◌≡◌, ◌≢◌, ◌++◌, ℕ, List, length, drop, pos, IfOk};
 ghost use Rattle.paxidore_calls.specs.Answer.{Hands};
-ghost use Rattle.paxidore_transcripts.specs.Transcript.{Replaces, begun, bytes_given, elements_squeezed, in_field, left_by, power, with_bytes, with_elements};
+ghost use Rattle.paxidore_transcripts.specs.Transcript.{Replaces, SpellReady, begun, bytes_given, elements_squeezed, in_field, left_by, power, with_bytes, with_elements};
 
 use paxidore_transcripts::calls;
 use std::alloc::Global;
+
+/// Writes the bytes of ready parameters to the front of `parameters`, and their count to `parameters_len`: those of a rate from
+/// 2 to 8, with a capacity of one element, over a field of four words.
+///
+/// Answers: 0; `E_INVALID` where there are none; `E_ROOM`, where `parameters_len` is what is needed; `E_MEMORY` in place of
+/// any.
+#[unsafe(no_mangle)]
+pub extern "C" fn paxidore_transcript_ready_parameters(
+    alloc: Global,
+    parameters: &mut [u8],
+    parameters_len: &mut usize,
+    field: u32,
+    rate: usize,
+) -> i32
+    // What is written are the bytes of such parameters.
+    ensures ready { result ≡ pos 0 → (bytes : List ℕ) × SpellReady field rate bytes
+        × (parameters.new ≡ bytes ++ drop (length bytes) parameters.old)
+        × (parameters_len.new ≡ length bytes) }
+    ensures kept { result ≢ pos 0 → parameters.new ≡ parameters.old }
+{
+    calls::ready(alloc, parameters, parameters_len, field, rate)
+}
 
 /// Writes the state of a transcript that has absorbed nothing to the front of `state`, and its count of bytes to
 /// `state_len`.
