@@ -1,7 +1,8 @@
 /* Paxidore: Merkle trees over byte strings, clients and keepers of transparency logs, SHA-256, BLAKE2s and commitments. The code
+/* Paxidore: Merkle trees over byte strings, clients of transparency logs, transcripts, SHA-256, BLAKE2s and commitments. The code
  * behind these calls is proved.
  *
- * No call keeps memory or a pointer, and each may run in any thread at any time. The calls of trees and logs allocate: they stand on the
+ * No call keeps memory or a pointer, and each may run in any thread at any time. The calls of trees, logs and transcripts allocate: they stand on the
  * process's malloc and free, so do not call them in a signal handler, nor in the child of a process with threads between fork
  * and exec. Where malloc returns NULL the answer is PAXIDORE_E_MEMORY; no clause says that enough memory is not answered so.
  * The calls of SHA-256, of BLAKE2s and of commitments allocate nothing, nor does a kept log's root, its check or its count.
@@ -368,6 +369,70 @@ void paxidore_blake2s_commit(uint8_t commitment[PAXIDORE_DIGESTBYTES], const uin
 PAXIDORE_ANSWERS PAXIDORE_NOT_NULL((1, 4))
 int32_t paxidore_blake2s_opens(const uint8_t commitment[PAXIDORE_DIGESTBYTES], const uint8_t *value, size_t value_len,
                                const uint8_t nonce[PAXIDORE_NONCEBYTES]);
+
+/* ---- Transcripts: the duplex sponge over Poseidon's permutation, as proof systems make challenges of what they have sent. What is
+ * absorbed and what is squeezed does not depend on how it is cut into calls, but for bytes, which each call absorbs behind
+ * their length.
+ *
+ * A field is named by a number. An element is its canonical bytes, the least first, and below the modulus. */
+enum paxidore_field {
+    PAXIDORE_GOLDILOCKS = 1,   /* 2^64 - 2^32 + 1: 8 bytes an element */
+    PAXIDORE_BABYBEAR = 2,     /* 15 * 2^27 + 1: 4 bytes */
+    PAXIDORE_BLS12_381_FR = 3, /* the scalar field of BLS12-381: 32 bytes */
+    PAXIDORE_BN254_FR = 4      /* the scalar field of BN254: 32 bytes */
+};
+
+/* The parameters of a permutation, as bytes; a count or a number has 8 of them, the least first: the counts of full and of partial
+ * rounds; the exponent of the S-box; the count of all rounds, and of each the count of elements of a state and so many constants;
+ * the count of rows of the matrix, and of each its count and its elements; how many elements are absorbed or squeezed before a
+ * state is permuted, one or more (rate); how many others a state has (capacity).
+ *
+ * The state of a transcript, in memory of the caller's: its elements, the capacity first; how many elements of the rate are used; a
+ * byte that is 1 where it squeezes. It may be copied at any time. Each call takes it with the parameters that it was made with.
+ *
+ * PAXIDORE_E_TRUNCATED and E_INVALID say of a call of transcripts: the number names no field, or the bytes are no parameters, no
+ * state of such a sponge, or no elements. */
+#define PAXIDORE_TRANSCRIPTBYTES(rate, capacity, element_bytes) \
+    (((size_t)(rate) + (size_t)(capacity)) * (size_t)(element_bytes) + 9U)
+
+/* Writes the bytes of ready parameters over PAXIDORE_BLS12_381_FR or PAXIDORE_BN254_FR to the front of `parameters`, which has room for
+ * `parameters_room`, and their count to `parameters_len`: those that arkworks and circomlib make by the Grain generator for a `rate`
+ * from 2 to 8, with a capacity of one. E_INVALID where there are none, E_ROOM, E_MEMORY. */
+PAXIDORE_ANSWERS PAXIDORE_NOT_NULL((3))
+int32_t paxidore_transcript_ready_parameters(uint8_t *parameters, size_t parameters_room, size_t *parameters_len,
+                                             uint32_t field, size_t rate);
+
+/* Writes the state that has absorbed nothing to the front of `state`, which has room for `state_room`, and its count of bytes to
+ * `state_len`. Where the room is too short, the answer is E_ROOM and `state_len` is what is needed. E_TRUNCATED, E_INVALID, E_ROOM,
+ * E_MEMORY. */
+PAXIDORE_ANSWERS PAXIDORE_NOT_NULL((3))
+int32_t paxidore_transcript_init(uint8_t *state, size_t state_room, size_t *state_len,
+                                 uint32_t field, const uint8_t *parameters, size_t parameters_len);
+
+/* Absorbs elements, one behind the other. Absorbing none changes nothing. E_TRUNCATED, E_INVALID, E_MEMORY. */
+PAXIDORE_ANSWERS
+int32_t paxidore_transcript_absorb(uint8_t *state, size_t state_len,
+                                   uint32_t field, const uint8_t *parameters, size_t parameters_len,
+                                   const uint8_t *elements, size_t elements_len);
+
+/* Absorbs bytes: their count in 8 bytes and then the bytes themselves, cut into pieces of as many bytes as always lie below the
+ * modulus, each piece one element. E_TRUNCATED, E_INVALID, E_MEMORY. */
+PAXIDORE_ANSWERS
+int32_t paxidore_transcript_absorb_bytes(uint8_t *state, size_t state_len,
+                                         uint32_t field, const uint8_t *parameters, size_t parameters_len,
+                                         const uint8_t *bytes, size_t bytes_len);
+
+/* Fills `out` with the next elements: `out_len` is a multiple of an element's bytes, else the answer is E_TRUNCATED. E_TRUNCATED,
+ * E_INVALID, E_MEMORY. */
+PAXIDORE_ANSWERS
+int32_t paxidore_transcript_squeeze(uint8_t *out, size_t out_len, uint8_t *state, size_t state_len,
+                                    uint32_t field, const uint8_t *parameters, size_t parameters_len);
+
+/* Fills `out` with the next bytes: of each element the lowest ones, as many as always lie below the modulus. E_TRUNCATED, E_INVALID,
+ * E_MEMORY. */
+PAXIDORE_ANSWERS
+int32_t paxidore_transcript_squeeze_bytes(uint8_t *out, size_t out_len, uint8_t *state, size_t state_len,
+                                          uint32_t field, const uint8_t *parameters, size_t parameters_len);
 
 #ifdef __cplusplus
 }

@@ -46,6 +46,11 @@ static uint8_t kept[32 * 15], to_more[32 * 8];
 static uint8_t to_root[32], to_path[112], to_proof[512];
 static size_t to_len;
 
+/* two full rounds and a partial one of a state of two elements; its state after it has absorbed one */
+static const uint64_t PARAMETERS[22] = {2, 1, 5, 3, 2, 5, 6, 2, 7, 8, 2, 9, 10, 2, 2, 1, 2, 2, 3, 4, 1, 1};
+static const uint8_t *const PARAMETER_BYTES = (const uint8_t *)PARAMETERS;
+static uint8_t begun[PAXIDORE_TRANSCRIPTBYTES(1, 1, 8)], to_state[sizeof begun];
+
 static int32_t call(int which) {
     switch (which) {
     case 0: return paxidore_rfc6962_root(to_root, LEAVES, 24, LENGTHS, 8);
@@ -60,6 +65,15 @@ static int32_t call(int which) {
     case 8: return paxidore_log_inclusion(to_path, sizeof to_path, &to_len, kept, 15, 8, 4);
     case 9: return paxidore_log_consistency(to_path, sizeof to_path, &to_len, kept, 15, 4, 8);
     default: return paxidore_log_verify_inclusion_digest(root, 8, 4, kept + 32 * 7, log_path, sizeof log_path);
+    case 7: return paxidore_transcript_init(to_path, sizeof to_path, &to_len, 1, PARAMETER_BYTES, sizeof PARAMETERS);
+    case 8:
+        return paxidore_transcript_absorb(to_state, sizeof to_state, 1, PARAMETER_BYTES, sizeof PARAMETERS, begun, 8);
+    case 9:
+        return paxidore_transcript_absorb_bytes(to_state, sizeof to_state, 1, PARAMETER_BYTES, sizeof PARAMETERS, LEAVES, 24);
+    case 10:
+        return paxidore_transcript_squeeze(to_root, 32, to_state, sizeof to_state, 1, PARAMETER_BYTES, sizeof PARAMETERS);
+    default:
+        return paxidore_transcript_squeeze_bytes(to_root, 32, to_state, sizeof to_state, 1, PARAMETER_BYTES, sizeof PARAMETERS);
     }
 }
 
@@ -87,6 +101,12 @@ int main(void) {
     if (paxidore_log_append(kept, 15, &kept_len, NULL, 0, 0, LEAVES, 24, LENGTHS, 8) != PAXIDORE_OK || kept_len != 15)
         failed++;
     for (int which = 0; which < 11; which++) {
+    if (paxidore_transcript_init(begun, sizeof begun, &to_len, 1, PARAMETER_BYTES, sizeof PARAMETERS) != PAXIDORE_OK ||
+        to_len != sizeof begun ||
+        paxidore_transcript_absorb(begun, sizeof begun, 1, PARAMETER_BYTES, sizeof PARAMETERS, LEAVES, 8) != PAXIDORE_OK)
+        failed++;
+    for (int which = 0; which < 12; which++) {
+        memcpy(to_state, begun, sizeof begun);
         calls = 0;
         int is_well = call(which) == PAXIDORE_OK && calls > 0 && live == 0;
         long most = calls;
@@ -95,6 +115,7 @@ int main(void) {
             memset(to_path, 0xaa, sizeof to_path);
             memset(to_proof, 0xaa, sizeof to_proof);
             memset(to_more, 0xaa, sizeof to_more);
+            memcpy(to_state, begun, sizeof begun);
             to_len = 7;
             left = refused;
             int32_t answer = call(which);
@@ -102,6 +123,7 @@ int main(void) {
             is_well = is_well && answer == PAXIDORE_E_MEMORY && live == 0 && to_len == 7 &&
                       is_filled(to_root, sizeof to_root) && is_filled(to_path, sizeof to_path) &&
                       is_filled(to_proof, sizeof to_proof) && is_filled(to_more, sizeof to_more);
+                      is_filled(to_proof, sizeof to_proof) && memcmp(to_state, begun, sizeof begun) == 0;
         }
         if (is_well) {
             passed++;

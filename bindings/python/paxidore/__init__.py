@@ -1,4 +1,6 @@
 """Merkle trees over byte strings, transparency logs, SHA-256, BLAKE2s and commitments, by the proved code of libpaxidore.
+"""Merkle trees over byte strings, clients of transparency logs, transcripts, SHA-256, BLAKE2s and commitments, by the proved code of
+libpaxidore.
 
 A log or a store publishes the root of its leaves and their count, and hands out paths::
 
@@ -16,6 +18,8 @@ leaves in a tree. ``Log`` is a log of any size, in memory or in a file, with the
 a value that is shown later.
 leaves in a tree. ``Tree`` keeps the digests of one in memory or in a file. ``Log`` has the checks for a client of a log of any
 size. ``blake2s_commit`` commits to a value that is shown later.
+leaves in a tree. ``Log`` has the checks for a client of a log of any size. ``blake2s_commit`` commits to a value that is shown later.
+``Transcript`` is Poseidon's duplex sponge over a field.
 
 The library is found by the variable ``PAXIDORE_LIBRARY`` (a path), else beside this file, where a wheel has it, else as the
 system finds ``libpaxidore.so.1``. Where it is not there, or is older than this module, ``import paxidore`` raises
@@ -30,6 +34,7 @@ from typing import Callable, List, Optional, Sequence, Tuple
 
 __all__ = [
     "CountError",
+    "Field",
     "HeightError",
     "IndexBeyondSize",
     "InvalidProof",
@@ -39,11 +44,15 @@ __all__ = [
     "Refused",
     "SizeError",
     "Tree",
+    "Transcript",
+    "TranscriptError",
     "TruncatedProof",
     "Trees",
     "blake2s",
     "blake2s_commit",
     "blake2s_opens",
+    "parameters_bytes",
+    "ready_parameters",
     "rfc6962",
     "sha256",
     "sha256_digest",
@@ -633,3 +642,5 @@ def version() -> str:
 
 # behind all that it stands on
 from paxidore.tree import Tree  # noqa: E402
+# behind what it stands on
+from .transcript import Field, Transcript, TranscriptError, parameters_bytes, ready_parameters  # noqa: E402

@@ -216,6 +216,57 @@ extern "C" {
         proof: *const u8,
         proof_len: usize,
     ) -> i32;
+    pub fn paxidore_transcript_ready_parameters(
+        parameters: *mut u8,
+        parameters_room: usize,
+        parameters_len: *mut usize,
+        field: u32,
+        rate: usize,
+    ) -> i32;
+    pub fn paxidore_transcript_init(
+        state: *mut u8,
+        state_room: usize,
+        state_len: *mut usize,
+        field: u32,
+        parameters: *const u8,
+        parameters_len: usize,
+    ) -> i32;
+    pub fn paxidore_transcript_absorb(
+        state: *mut u8,
+        state_len: usize,
+        field: u32,
+        parameters: *const u8,
+        parameters_len: usize,
+        elements: *const u8,
+        elements_len: usize,
+    ) -> i32;
+    pub fn paxidore_transcript_absorb_bytes(
+        state: *mut u8,
+        state_len: usize,
+        field: u32,
+        parameters: *const u8,
+        parameters_len: usize,
+        bytes: *const u8,
+        bytes_len: usize,
+    ) -> i32;
+    pub fn paxidore_transcript_squeeze(
+        out: *mut u8,
+        out_len: usize,
+        state: *mut u8,
+        state_len: usize,
+        field: u32,
+        parameters: *const u8,
+        parameters_len: usize,
+    ) -> i32;
+    pub fn paxidore_transcript_squeeze_bytes(
+        out: *mut u8,
+        out_len: usize,
+        state: *mut u8,
+        state_len: usize,
+        field: u32,
+        parameters: *const u8,
+        parameters_len: usize,
+    ) -> i32;
     pub fn paxidore_version() -> *const c_char;
 }
 

@@ -11,4 +11,5 @@ pub mod log;
 pub mod log_keeper;
 pub mod rfc6962;
 pub mod sha256;
+pub mod transcript;
 mod trees;

@@ -1,0 +1,163 @@
+"""Transcripts: the duplex sponge over Poseidon's permutation.
+
+Who proves and who checks absorb the same messages, and squeeze the same challenges::
+
+    from paxidore import Field, Transcript, ready_parameters
+
+    transcript = Transcript(Field.BLS12_381_FR, ready_parameters(Field.BLS12_381_FR, rate=2))
+    transcript.absorb_bytes(b"a message")
+    challenge, = transcript.squeeze(1)
+
+``parameters_bytes`` makes the bytes of parameters out of the numbers of any other permutation.
+"""
+import ctypes
+import enum
+from typing import List, Sequence
+
+from . import Refused, _bytes, _call, _exact, _refusal, _size, _word
+
+_room = ctypes.c_void_p
+_field = ctypes.c_uint32
+_code = ctypes.c_int32
+_ready = _call("transcript_ready_parameters", _code, _room, _size, ctypes.POINTER(_size), _field, _size)
+_init = _call("transcript_init", _code, _room, _size, ctypes.POINTER(_size), _field, _bytes, _size)
+_absorb = _call("transcript_absorb", _code, _room, _size, _field, _bytes, _size, _bytes, _size)
+_absorb_bytes = _call("transcript_absorb_bytes", _code, _room, _size, _field, _bytes, _size, _bytes, _size)
+_squeeze = _call("transcript_squeeze", _code, _room, _size, _room, _size, _field, _bytes, _size)
+_squeeze_bytes = _call("transcript_squeeze_bytes", _code, _room, _size, _room, _size, _field, _bytes, _size)
+
+OUT_OF_MEMORY = -1
+
+
+class TranscriptError(Refused, ValueError):
+    """The bytes are no parameters of the field, or a number is no element of it."""
+
+    code = -3
+
+
+class Field(enum.IntEnum):
+    """The fields that transcripts have, by the numbers that ``paxidore.h`` gives them."""
+
+    GOLDILOCKS = 1
+    BABYBEAR = 2
+    BLS12_381_FR = 3
+    BN254_FR = 4
+
+    @property
+    def modulus(self) -> int:
+        return _MODULI[self]
+
+    @property
+    def element_bytes(self) -> int:
+        """How many bytes an element takes."""
+        return (self.modulus.bit_length() + 7) // 8
+
+
+_MODULI = {
+    Field.GOLDILOCKS: 2**64 - 2**32 + 1,
+    Field.BABYBEAR: 15 * 2**27 + 1,
+    Field.BLS12_381_FR: 0x73EDA753299D7D483339D80809A1D80553BDA402FFFE5BFEFFFFFFFF00000001,
+    Field.BN254_FR: 0x30644E72E131A029B85045B68181585D2833E84879B9709143E1F593F0000001,
+}
+
+
+def _done(answer: int) -> None:
+    if answer == OUT_OF_MEMORY:
+        raise _refusal(answer)
+    if answer != 0:
+        refused = TranscriptError("no parameters of the field, or no elements of it")
+        refused.code = answer
+        raise refused
+
+
+def _elements(field: Field, numbers: Sequence[int]) -> bytes:
+    each = field.element_bytes
+    for number in numbers:
+        if not 0 <= number < field.modulus:
+            raise TranscriptError("no element of the field: %d" % number)
+    return b"".join(number.to_bytes(each, "little") for number in numbers)
+
+
+def _rows(field: Field, rows: Sequence[Sequence[int]]) -> bytes:
+    words = [len(rows).to_bytes(8, "little")]
+    for row in map(tuple, rows):
+        words += [len(row).to_bytes(8, "little"), _elements(field, row)]
+    return b"".join(words)
+
+
+def parameters_bytes(
+    field: Field,
+    full_rounds: int,
+    partial_rounds: int,
+    alpha: int,
+    rate: int,
+    capacity: int,
+    mds: Sequence[Sequence[int]],
+    ark: Sequence[Sequence[int]],
+) -> bytes:
+    """Returns the canonical bytes of a permutation's parameters: the counts of rounds, the exponent of the S-box, a row of ``ark`` for
+    each round, the matrix ``mds`` by rows, and how a state is parted. ``Transcript`` tests them."""
+    field = Field(field)
+    word = lambda number: _word(number).to_bytes(8, "little")
+    numbers = word(full_rounds) + word(partial_rounds) + word(alpha)
+    return numbers + _rows(field, tuple(ark)) + _rows(field, tuple(mds)) + word(rate) + word(capacity)
+
+
+def ready_parameters(field: Field, rate: int) -> bytes:
+    """Returns the bytes of ready parameters over ``Field.BLS12_381_FR`` or ``Field.BN254_FR``, for a rate from 2 to 8 and a capacity of
+    one: those that arkworks and circomlib have. ``TranscriptError`` where there are none, ``OutOfMemory``."""
+    size = _size(0)
+    # the longest have 71 rows of constants and 9 of the matrix
+    room = ctypes.create_string_buffer(64 + 80 * (8 + 9 * 32))
+    _done(_ready(room, len(room), ctypes.byref(size), Field(field), _word(rate)))
+    return room.raw[: size.value]
+
+
+class Transcript:
+    """A sponge that has absorbed nothing, over a field, with a permutation's parameters as bytes.
+
+    ``TranscriptError`` where the bytes are no parameters of the field, ``OutOfMemory``.
+    """
+
+    def __init__(self, field: Field, parameters: bytes) -> None:
+        self._field = Field(field)
+        self._parameters = _exact("parameters", parameters)
+        size = _size(0)
+        room = ctypes.create_string_buffer(len(parameters))
+        # parameters have a row for each element of the state: its state is the shorter one
+        _done(_init(room, len(room), ctypes.byref(size), self._field, parameters, len(parameters)))
+        self._state = ctypes.create_string_buffer(room.raw[: size.value], size.value)
+
+    def _of(self) -> tuple:
+        return self._state, len(self._state), self._field, self._parameters, len(self._parameters)
+
+    def absorb(self, elements: Sequence[int]) -> None:
+        """Absorbs elements of the field. An error leaves the transcript as before. ``TranscriptError``, ``OutOfMemory``."""
+        given = _elements(self._field, tuple(elements))
+        _done(_absorb(*self._of(), given, len(given)))
+
+    def absorb_bytes(self, data: bytes) -> None:
+        """Absorbs bytes, behind their length. ``OutOfMemory``."""
+        _done(_absorb_bytes(*self._of(), _exact("data", data), len(data)))
+
+    def squeeze(self, count: int) -> List[int]:
+        """Returns the next elements. ``OutOfMemory``."""
+        each = self._field.element_bytes
+        out = self._given(_squeeze, _word(count) * each)
+        return [int.from_bytes(out[i : i + each], "little") for i in range(0, len(out), each)]
+
+    def squeeze_bytes(self, count: int) -> bytes:
+        """Returns the next bytes. ``OutOfMemory``."""
+        return self._given(_squeeze_bytes, _word(count))
+
+    def _given(self, call, count: int) -> bytes:  # type: ignore[no-untyped-def]
+        out = ctypes.create_string_buffer(count) if count else None
+        _done(call(out, count, *self._of()))
+        return out.raw if out else b""
+
+    def copy(self) -> "Transcript":
+        """Returns a transcript that has absorbed and squeezed the same."""
+        other = object.__new__(Transcript)
+        other._field, other._parameters = self._field, self._parameters
+        other._state = ctypes.create_string_buffer(self._state.raw, len(self._state))
+        return other

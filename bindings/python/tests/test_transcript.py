@@ -1,0 +1,164 @@
+"""Transcripts against the duplex sponge as its paper has it, in plain Python."""
+import random
+import unittest
+
+from paxidore import Field, Transcript, TranscriptError, parameters_bytes, ready_parameters
+
+
+class Model:
+    """The sponge over lists of numbers: one element at a time, permuted where a block is full."""
+
+    def __init__(self, p, full, partial, alpha, rate, capacity, mds, ark):
+        self.p, self.full, self.partial, self.alpha = p, full, partial, alpha
+        self.rate, self.capacity, self.mds, self.ark = rate, capacity, mds, ark
+        self.state, self.at, self.squeezing = [0] * (rate + capacity), 0, False
+
+    def permute(self):
+        for number, row in enumerate(self.ark):
+            self.state = [(x + c) % self.p for x, c in zip(self.state, row)]
+            half = self.full // 2
+            whole = number < half or number >= half + self.partial
+            last = len(self.state) if whole else 1
+            self.state = [pow(x, self.alpha, self.p) if i < last else x for i, x in enumerate(self.state)]
+            self.state = [sum(m * x for m, x in zip(line, self.state)) % self.p for line in self.mds]
+
+    def absorb(self, elements):
+        if not elements:
+            return
+        if self.squeezing:
+            self.at, self.squeezing = 0, False
+        for x in elements:
+            if self.at == self.rate:
+                self.permute()
+                self.at = 0
+            place = self.capacity + self.at
+            self.state[place] = (self.state[place] + x) % self.p
+            self.at += 1
+
+    def absorb_bytes(self, data):
+        size = (self.p.bit_length() - 1) // 8
+        text = len(data).to_bytes(8, "little") + data
+        self.absorb([int.from_bytes(text[i : i + size], "little") % self.p for i in range(0, len(text), size)])
+
+    def squeeze(self, count):
+        if not self.squeezing:
+            self.permute()
+            self.at, self.squeezing = 0, True
+        if not count and self.at == self.rate:
+            self.permute()
+            self.at = 0
+        given = []
+        for _ in range(count):
+            if self.at == self.rate:
+                self.permute()
+                self.at = 0
+            given.append(self.state[self.capacity + self.at])
+            self.at += 1
+        return given
+
+    def squeeze_bytes(self, count):
+        size = (self.p.bit_length() - 1) // 8
+        elements = self.squeeze((count + size - 1) // size)
+        mask = (1 << 8 * size) - 1
+        return b"".join((x & mask).to_bytes(size, "little") for x in elements)[:count]
+
+
+def drawn(rng, field, rate, capacity, full, partial, alpha):
+    p, width = field.modulus, rate + capacity
+    mds = [[rng.randrange(p) for _ in range(width)] for _ in range(width)]
+    ark = [[rng.randrange(p) for _ in range(width)] for _ in range(full + partial)]
+    numbers = (full, partial, alpha, rate, capacity, mds, ark)
+    return Model(p, *numbers), Transcript(field, parameters_bytes(field, *numbers))
+
+
+class Transcripts(unittest.TestCase):
+    def test_drawn_transcripts_are_the_models(self):
+        rng = random.Random(9)
+        for field in Field:
+            for rate, capacity, alpha in ((2, 1, 17), (1, 1, 5), (4, 2, 7), (8, 4, 3)):
+                model, transcript = drawn(rng, field, rate, capacity, 4, 5, alpha)
+                for _ in range(30):
+                    self.turn(rng, field, model, transcript)
+
+    def turn(self, rng, field, model, transcript):
+        count = rng.randrange(0, 10)
+        kind = rng.randrange(4)
+        if kind == 0:
+            elements = [rng.randrange(field.modulus) for _ in range(count)]
+            model.absorb(elements)
+            transcript.absorb(elements)
+        elif kind == 1:
+            data = rng.randbytes(7 * count)
+            model.absorb_bytes(data)
+            transcript.absorb_bytes(data)
+        elif kind == 2:
+            self.assertEqual(transcript.squeeze(count), model.squeeze(count))
+        else:
+            self.assertEqual(transcript.squeeze_bytes(3 * count), model.squeeze_bytes(3 * count))
+
+    def test_a_copy_goes_on_alone(self):
+        model, transcript = drawn(random.Random(1), Field.GOLDILOCKS, 3, 1, 8, 22, 7)
+        transcript.absorb([1, 2, 3])
+        copy = transcript.copy()
+        transcript.absorb([4])
+        model.absorb([1, 2, 3])
+        self.assertEqual(copy.squeeze(5), model.squeeze(5))
+
+    def test_how_input_is_cut_does_not_count(self):
+        rng = random.Random(2)
+        _, whole = drawn(random.Random(3), Field.BABYBEAR, 5, 3, 8, 13, 7)
+        _, parts = drawn(random.Random(3), Field.BABYBEAR, 5, 3, 8, 13, 7)
+        elements = [rng.randrange(Field.BABYBEAR.modulus) for _ in range(23)]
+        whole.absorb(elements)
+        parts.absorb(elements[:4])
+        parts.absorb(elements[4:4])
+        parts.absorb(elements[4:])
+        self.assertEqual(parts.squeeze(1) + parts.squeeze(11), whole.squeeze(12))
+
+    def test_what_is_no_parameters_is_refused(self):
+        field = Field.BN254_FR
+        numbers = (2, 1, 5, 1, 1, [[1, 2], [3, 4]], [[5, 6], [7, 8], [9, 10]])
+        good = parameters_bytes(field, *numbers)
+        Transcript(field, good)
+        for wrong in (b"", good[:-1], good + b"\0", good[:24] + b"\xff" * 8 + good[32:]):
+            with self.assertRaises(TranscriptError):
+                Transcript(field, wrong)
+        with self.assertRaises(TranscriptError):
+            Transcript(field, parameters_bytes(field, 2, 1, 5, 0, 2, numbers[5], numbers[6]))
+        with self.assertRaises(TranscriptError):
+            Transcript(field, parameters_bytes(field, 2, 2, 5, 1, 1, numbers[5], numbers[6]))
+        with self.assertRaises(TranscriptError):
+            parameters_bytes(field, 2, 1, 5, 1, 1, [[1, field.modulus], [3, 4]], numbers[6])
+        with self.assertRaises(ValueError):
+            Transcript(9, good)
+        with self.assertRaises(TypeError):
+            Transcript(field, bytearray(good))
+
+    def test_ready_parameters_are_arkworks(self):
+        # what arkworks' sponge over BLS12-381 gives after 0, 1, 2
+        transcript = Transcript(Field.BLS12_381_FR, ready_parameters(Field.BLS12_381_FR, 2))
+        transcript.absorb([0, 1, 2])
+        self.assertEqual(
+            transcript.squeeze(3),
+            [
+                0x5969CF56A91CE66A4AE36F5797430C7B7848AC9B3BE99D7B4FBDB4E23F7B786C,
+                0x05E3FB856924C80FCF5361FAE4624F2FDBE9CDA86E2B98C132B3C2595B6CA6F5,
+                0x6EF724D6FCAE075D004F1D7C2758AD681AF9B1EAA214C0A3A2BA9D2B108D4A3D,
+            ],
+        )
+        for rate in range(2, 9):
+            for field in (Field.BLS12_381_FR, Field.BN254_FR):
+                Transcript(field, ready_parameters(field, rate)).squeeze(1)
+        for field, rate in ((Field.BN254_FR, 1), (Field.BN254_FR, 9), (Field.GOLDILOCKS, 2)):
+            with self.assertRaises(TranscriptError):
+                ready_parameters(field, rate)
+
+    def test_elements_past_the_modulus_are_refused(self):
+        _, transcript = drawn(random.Random(4), Field.GOLDILOCKS, 2, 1, 2, 1, 7)
+        for wrong in (-1, Field.GOLDILOCKS.modulus):
+            with self.assertRaises(TranscriptError):
+                transcript.absorb([0, wrong])
+
+
+if __name__ == "__main__":
+    unittest.main()

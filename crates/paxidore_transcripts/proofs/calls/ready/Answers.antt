@@ -1,0 +1,18 @@
+use Rattle.std.proofs.Common.{w32}
+use Rattle.std.proofs.lemmas.Int.{to_z-of_z}
+use Rattle.paxidore_transcripts.proofs.Written.{gives-itself, handed, seen}
+use Rattle.paxidore_transcripts.specs.Transcript.{SpellReady}
+use Rattle.paxidore_transcripts.proofs.calls.ready.Goals as goal
+
+pub returns-clause-ready : goal.returns-clause-ready
+returns-clause-ready c =
+    let hands = c.hand_over.ensures (seen (λ bytes. bytes.items) c.ready_over.result)
+    (gives-itself (λ bytes. bytes.items) c.ready_over.result) in
+    rw (to_z-of_z w32 c.hand_over.result (record { sfits = c.hand_over.type_inv })) (handed (λ bytes. bytes.items) (SpellReady c.args.field c.args.rate)
+    c.ready_over.result _ _ _ _ c.hand_over.result c.ready_over.ensures hands)
+
+pub returns-clause-kept : goal.returns-clause-kept
+returns-clause-kept c =
+    let hands = c.hand_over.ensures (seen (λ bytes. bytes.items) c.ready_over.result)
+    (gives-itself (λ bytes. bytes.items) c.ready_over.result) in
+    rw (to_z-of_z w32 c.hand_over.result (record { sfits = c.hand_over.type_inv })) hands.kept
