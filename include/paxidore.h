@@ -1,12 +1,11 @@
-/* Paxidore: Merkle trees over byte strings, clients and keepers of transparency logs, SHA-256, BLAKE2s and commitments. The code
-/* Paxidore: Merkle trees over byte strings, clients of transparency logs, transcripts, SHA-256, BLAKE2s and commitments. The code
- * behind these calls is proved.
+/* Paxidore: Merkle trees over byte strings, clients and keepers of transparency logs, transcripts, SHA-256, BLAKE2s and commitments. The
+ * code behind these calls is proved.
  *
- * No call keeps memory or a pointer, and each may run in any thread at any time. The calls of trees, logs and transcripts allocate: they stand on the
- * process's malloc and free, so do not call them in a signal handler, nor in the child of a process with threads between fork
- * and exec. Where malloc returns NULL the answer is PAXIDORE_E_MEMORY; no clause says that enough memory is not answered so.
- * The calls of SHA-256, of BLAKE2s and of commitments allocate nothing, nor does a kept log's root, its check or its count.
- * The calls of kept trees (.._tree_..), of SHA-256, of BLAKE2s and of commitments allocate nothing.
+ * No call keeps memory or a pointer, and each may run in any thread at any time. The calls of trees, logs and transcripts allocate:
+ * they stand on the process's malloc and free, so do not call them in a signal handler, nor in the child of a process with
+ * threads between fork and exec. Where malloc returns NULL the answer is PAXIDORE_E_MEMORY; no clause says that enough memory is
+ * not answered so. The calls of kept trees (.._tree_..), of SHA-256, of BLAKE2s and of commitments allocate nothing, nor does a
+ * kept log's root, its check or its count.
  *
  * size_t has 64 bits. Only inputs may overlap. A pointer to a first byte or number is not NULL and may be read, or written where
  * it is not const, for its length; with length 0 it is not looked at and may be NULL. */

@@ -64,13 +64,13 @@ static int32_t call(int which) {
     case 7: return paxidore_log_append(to_more, 8, &to_len, kept, 8, 5, LEAVES + 15, 9, LENGTHS + 5, 3);
     case 8: return paxidore_log_inclusion(to_path, sizeof to_path, &to_len, kept, 15, 8, 4);
     case 9: return paxidore_log_consistency(to_path, sizeof to_path, &to_len, kept, 15, 4, 8);
-    default: return paxidore_log_verify_inclusion_digest(root, 8, 4, kept + 32 * 7, log_path, sizeof log_path);
-    case 7: return paxidore_transcript_init(to_path, sizeof to_path, &to_len, 1, PARAMETER_BYTES, sizeof PARAMETERS);
-    case 8:
+    case 10: return paxidore_log_verify_inclusion_digest(root, 8, 4, kept + 32 * 7, log_path, sizeof log_path);
+    case 11: return paxidore_transcript_init(to_path, sizeof to_path, &to_len, 1, PARAMETER_BYTES, sizeof PARAMETERS);
+    case 12:
         return paxidore_transcript_absorb(to_state, sizeof to_state, 1, PARAMETER_BYTES, sizeof PARAMETERS, begun, 8);
-    case 9:
+    case 13:
         return paxidore_transcript_absorb_bytes(to_state, sizeof to_state, 1, PARAMETER_BYTES, sizeof PARAMETERS, LEAVES, 24);
-    case 10:
+    case 14:
         return paxidore_transcript_squeeze(to_root, 32, to_state, sizeof to_state, 1, PARAMETER_BYTES, sizeof PARAMETERS);
     default:
         return paxidore_transcript_squeeze_bytes(to_root, 32, to_state, sizeof to_state, 1, PARAMETER_BYTES, sizeof PARAMETERS);
@@ -100,12 +100,11 @@ int main(void) {
     size_t kept_len;
     if (paxidore_log_append(kept, 15, &kept_len, NULL, 0, 0, LEAVES, 24, LENGTHS, 8) != PAXIDORE_OK || kept_len != 15)
         failed++;
-    for (int which = 0; which < 11; which++) {
     if (paxidore_transcript_init(begun, sizeof begun, &to_len, 1, PARAMETER_BYTES, sizeof PARAMETERS) != PAXIDORE_OK ||
         to_len != sizeof begun ||
         paxidore_transcript_absorb(begun, sizeof begun, 1, PARAMETER_BYTES, sizeof PARAMETERS, LEAVES, 8) != PAXIDORE_OK)
         failed++;
-    for (int which = 0; which < 12; which++) {
+    for (int which = 0; which < 16; which++) {
         memcpy(to_state, begun, sizeof begun);
         calls = 0;
         int is_well = call(which) == PAXIDORE_OK && calls > 0 && live == 0;
@@ -122,8 +121,8 @@ int main(void) {
             left = -1;
             is_well = is_well && answer == PAXIDORE_E_MEMORY && live == 0 && to_len == 7 &&
                       is_filled(to_root, sizeof to_root) && is_filled(to_path, sizeof to_path) &&
-                      is_filled(to_proof, sizeof to_proof) && is_filled(to_more, sizeof to_more);
-                      is_filled(to_proof, sizeof to_proof) && memcmp(to_state, begun, sizeof begun) == 0;
+                      is_filled(to_proof, sizeof to_proof) && is_filled(to_more, sizeof to_more) &&
+                      memcmp(to_state, begun, sizeof begun) == 0;
         }
         if (is_well) {
             passed++;

@@ -1,6 +1,4 @@
-"""Merkle trees over byte strings, transparency logs, SHA-256, BLAKE2s and commitments, by the proved code of libpaxidore.
-"""Merkle trees over byte strings, clients of transparency logs, transcripts, SHA-256, BLAKE2s and commitments, by the proved code of
-libpaxidore.
+"""Merkle trees over byte strings, transparency logs, transcripts, SHA-256, BLAKE2s and commitments, by the proved code of libpaxidore.
 
 A log or a store publishes the root of its leaves and their count, and hands out paths::
 
@@ -14,12 +12,9 @@ Whoever has the root and the count checks them without the other leaves::
     if rfc6962.verify(root, 8, 3, leaf, path): ...
 
 ``sha256`` has the same calls for trees whose hashes are SHA-256 of a leaf, and of left followed by right. There are 2, 4, 8, 16 ..
-leaves in a tree. ``Log`` is a log of any size, in memory or in a file, with the checks for its clients. ``blake2s_commit`` commits to
-a value that is shown later.
-leaves in a tree. ``Tree`` keeps the digests of one in memory or in a file. ``Log`` has the checks for a client of a log of any
-size. ``blake2s_commit`` commits to a value that is shown later.
-leaves in a tree. ``Log`` has the checks for a client of a log of any size. ``blake2s_commit`` commits to a value that is shown later.
-``Transcript`` is Poseidon's duplex sponge over a field.
+leaves in a tree. ``Tree`` keeps the digests of one in memory or in a file. ``Log`` is a log of any size, in memory or in a file, with
+the checks for its clients. ``Transcript`` is Poseidon's duplex sponge over a field. ``blake2s_commit`` commits to a value that is
+shown later.
 
 The library is found by the variable ``PAXIDORE_LIBRARY`` (a path), else beside this file, where a wheel has it, else as the
 system finds ``libpaxidore.so.1``. Where it is not there, or is older than this module, ``import paxidore`` raises
@@ -640,7 +635,6 @@ def version() -> str:
     return text.decode("ascii")
 
 
-# behind all that it stands on
-from paxidore.tree import Tree  # noqa: E402
-# behind what it stands on
+# behind all that they stand on
 from .transcript import Field, Transcript, TranscriptError, parameters_bytes, ready_parameters  # noqa: E402
+from .tree import Tree  # noqa: E402

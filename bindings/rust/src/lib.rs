@@ -1,5 +1,4 @@
-//! Merkle trees over byte strings, transparency logs and their clients, SHA-256, BLAKE2s and commitments, by the proved code of libpaxidore.
-//! Merkle trees over byte strings, clients of transparency logs, transcripts, SHA-256, BLAKE2s and commitments, by the proved code of
+//! Merkle trees over byte strings, transparency logs, transcripts, SHA-256, BLAKE2s and commitments, by the proved code of
 //! libpaxidore.
 //!
 //! A log or a store publishes the root of its leaves and their count, and hands out paths. Whoever has the root and the count
@@ -18,17 +17,15 @@
 
 mod log;
 mod sys;
+mod transcript;
 mod tree;
 
-pub use tree::Tree;
-
 pub use log::{Log, LogError};
-mod transcript;
-
 use std::error::Error;
 use std::ffi::CStr;
 use std::fmt;
 pub use transcript::{ready_parameters, Field, Transcript};
+pub use tree::Tree;
 
 /// A root, a commitment, or another digest.
 pub type Digest = [u8; 32];
