@@ -1,5 +1,5 @@
 -- Where the digests of a kept list stand.
-use Rattle.std.proofs.Common.{zero, suc, ◌≡◌, ℕ, ◌+◌, ◌-◌, ◌*◌, ◌/◌, ◌<◌, ◌≤◌, ◌^◌, List, [], length, map, take, drop, get_or, Ok, arith, refl, ap, sym, ◌∙◌, inl, inr}
+use Rattle.std.proofs.Common.{zero, suc, ◌≡◌, ℕ, ◌+◌, ◌*◌, ◌/◌, ◌<◌, ◌≤◌, ◌^◌, List, [], length, map, take, drop, get_or, Ok, arith, refl, ap, sym, ◌∙◌, inl, inr}
 use Rattle.std.proofs.lemmas.Bool.{cases_lt}
 use Rattle.std.proofs.lemmas.List.{get_or-take, length-take-le, take-map, take-take, drop-map, drop-take}
 use Rattle.std.proofs.Math.Nat.{mul-le-mul_right}
@@ -11,7 +11,6 @@ use Rattle.merkle_log.specs.Trees.{node, tree_hash}
 use Rattle.merkle_log.specs.Walk.{joined, index_up}
 use Rattle.merkle_log.proofs.Lasts.{length-row_pairs, node_rows, row_up-front}
 use Rattle.merkle_log.proofs.Positions.{below-up, row_of-at}
-use Rattle.merkle_log.proofs.RowsUp.{twice}
 use Rattle.merkle_log.proofs.TreePairs.{node-up, node-zero}
 use Rattle.kept_log.specs.Kept.{front, Keeps}
 

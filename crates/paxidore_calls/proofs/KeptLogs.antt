@@ -1,12 +1,12 @@
 -- What is given of a kept log.
-use Rattle.std.proofs.Common.{zero, suc, ◌≡◌, ℕ, ◌+◌, ◌-◌, ◌<◌, ◌≤◌, List, [], ◌∷◌, ◌++◌, length, map, take, drop, nat_lt, Bool, true, false, if◌then◌else◌, Option, Some, None, Result, Ok, Err, IfOk, arith, refl, ap, sym, ◌∙◌}
+use Rattle.std.proofs.Common.{suc, ◌≡◌, ℕ, ◌+◌, ◌<◌, ◌≤◌, List, [], ◌∷◌, length, map, take, drop, nat_lt, Bool, true, false, if◌then◌else◌, Option, Some, None, Result, Ok, arith, refl, ap, sym, ◌∙◌}
 use Rattle.std.proofs.lemmas.Bool.{le-ltb, lt-ltb}
 use Rattle.std.proofs.lemmas.List.{length-map, map-id}
 use Rattle.std.specs.Option.{option_map}
 use Rattle.ark_base.specs.Laws.Steps.{done_injective}
 use Rattle.ark_paths.specs.Pair.{Digest}
 use Rattle.ark_trees.specs.Rfc6962.{entry_hash}
-use Rattle.kept_log.specs.Kept.{has_front, Keeps}
+use Rattle.kept_log.specs.Kept.{has_front}
 use Rattle.merkle_log.specs.Stored.{stored_count}
 use Rattle.merkle_log.proofs.Positions.{count-rises}
 use Rattle.paxidore_calls.specs.Answer.{GivesBy, leaves_in, results_of}

@@ -1,7 +1,4 @@
-use Rattle.std.proofs.Common.{◌++◌, ◌≡◌, length, take, map, ap, refl, sym, subst, ◌∙◌, arith, IfOk, Ok}
-use Rattle.ark_trees.specs.Rfc6962.{entry_hash}
-use Rattle.kept_log.specs.Kept.{Keeps}
-use Rattle.merkle_log.specs.Stored.{stored_count}
+use Rattle.std.proofs.Common.{length, ap, arith}
 use Rattle.paxidore_calls.proofs.KeptLogs.{room-enough, more-is, entries-of, appended-all}
 use Rattle.paxidore_calls.proofs.log_keeper.append.Goals as goal
 
