@@ -121,7 +121,8 @@ class HeightError(Refused, ValueError):
 
 
 class SizeError(Refused, ValueError):
-    """No tree has this count of leaves: a tree has 2, 4, 8, 16 .. of them; or no log continues one of the old size."""
+    """No tree has this count of leaves: a tree has 2, 4, 8, 16 .. of them; or no log continues one of the old size, or the log has
+    fewer entries."""
 
     code = -5
 

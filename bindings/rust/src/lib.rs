@@ -45,7 +45,8 @@ pub enum Refused {
     Invalid,
     /// The proof is for a tree of another size.
     Height,
-    /// No tree has this count of leaves: a tree has 2, 4, 8, 16 .. of them; or no log continues one of the old size.
+    /// No tree has this count of leaves: a tree has 2, 4, 8, 16 .. of them; or no log continues one of the old size, or the log
+    /// has fewer entries.
     Size,
     /// The lengths of the leaves do not sum to that of their bytes. No call of this crate gives it.
     Lengths,
