@@ -8,10 +8,10 @@ const char *paxidore_strerror(int32_t answer) {
     case PAXIDORE_OK: return "shown, or done";
     case PAXIDORE_NOT_SHOWN: return "the proof does not lead from the leaves to the root";
     case PAXIDORE_E_MEMORY: return "a request for memory was refused";
-    case PAXIDORE_E_TRUNCATED: return "the bytes of the proof end early";
-    case PAXIDORE_E_INVALID: return "the bytes are no proof for these indexes";
+    case PAXIDORE_E_TRUNCATED: return "the bytes end early";
+    case PAXIDORE_E_INVALID: return "the bytes are not what was asked for";
     case PAXIDORE_E_HEIGHT: return "the proof is for a tree of another size";
-    case PAXIDORE_E_SIZE: return "no tree has this count of leaves";
+    case PAXIDORE_E_SIZE: return "no tree or log has this size";
     case PAXIDORE_E_LENGTHS: return "the lengths of the leaves do not sum to that of their bytes";
     case PAXIDORE_E_COUNT: return "there are not as many leaves as indexes";
     case PAXIDORE_E_INDEX: return "there is no index, or no leaf at one";

@@ -187,7 +187,7 @@ class Calls(unittest.TestCase):
             self.assertRaises(error, call)
         self.assertTrue(trees.multi_verify(root, 4, [0, 3], [b"", b"ccc"], proof))
         self.assertEqual(repr(trees), "paxidore.sha256")
-        self.assertEqual(str(self.refusal(lambda: trees.root([]))), "no tree has this count of leaves")
+        self.assertEqual(str(self.refusal(lambda: trees.root([]))), "no tree or log has this size")
 
     def test_only_bytes_themselves_are_taken(self):
         class Changing(list):

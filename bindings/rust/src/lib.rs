@@ -81,10 +81,10 @@ impl fmt::Display for Refused {
     fn fmt(&self, f: &mut fmt::Formatter<'_>) -> fmt::Result {
         match self {
             Refused::Memory => f.write_str("a request for memory was refused"),
-            Refused::Truncated => f.write_str("the bytes of the proof end early"),
-            Refused::Invalid => f.write_str("the bytes are no proof for these indexes"),
+            Refused::Truncated => f.write_str("the bytes end early"),
+            Refused::Invalid => f.write_str("the bytes are not what was asked for"),
             Refused::Height => f.write_str("the proof is for a tree of another size"),
-            Refused::Size => f.write_str("no tree has this count of leaves"),
+            Refused::Size => f.write_str("no tree or log has this size"),
             Refused::Lengths => {
                 f.write_str("the lengths of the leaves do not sum to that of their bytes")
             }

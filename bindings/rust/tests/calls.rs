@@ -191,6 +191,6 @@ fn others() {
     assert_eq!(version(), "1.0.0");
     assert_eq!(
         Refused::Size.to_string(),
-        "no tree has this count of leaves"
+        "no tree or log has this size"
     );
 }
