@@ -369,9 +369,9 @@ PAXIDORE_ANSWERS PAXIDORE_NOT_NULL((1, 4))
 int32_t paxidore_blake2s_opens(const uint8_t commitment[PAXIDORE_DIGESTBYTES], const uint8_t *value, size_t value_len,
                                const uint8_t nonce[PAXIDORE_NONCEBYTES]);
 
-/* ---- Transcripts: the duplex sponge over Poseidon's permutation, as proof systems make challenges of what they have sent. What is
- * absorbed and what is squeezed does not depend on how it is cut into calls, but for bytes, which each call absorbs behind
- * their length.
+/* ---- Transcripts: the duplex sponge over Poseidon's permutation, as proof systems make challenges of what they have sent. How
+ * elements are cut into calls does not change the result. Bytes are absorbed behind their count, and squeezed out of whole
+ * elements: what is left of the last one is dropped at the end of a call.
  *
  * A field is named by a number. An element is its canonical bytes, the least first, and below the modulus. */
 enum paxidore_field {
@@ -395,8 +395,9 @@ enum paxidore_field {
     (((size_t)(rate) + (size_t)(capacity)) * (size_t)(element_bytes) + 9U)
 
 /* Writes the bytes of ready parameters over PAXIDORE_BLS12_381_FR or PAXIDORE_BN254_FR to the front of `parameters`, which has room for
- * `parameters_room`, and their count to `parameters_len`: those that arkworks and circomlib make by the Grain generator for a `rate`
- * from 2 to 8, with a capacity of one. E_INVALID where there are none, E_ROOM, E_MEMORY. */
+ * `parameters_room`, and their count to `parameters_len`: those that the Grain generator makes, with the counts of rounds of
+ * arkworks over the first and of circomlib over the second, for a `rate` from 2 to 8 and a capacity of one. E_INVALID where there
+ * are none, E_ROOM, E_MEMORY. */
 PAXIDORE_ANSWERS PAXIDORE_NOT_NULL((3))
 int32_t paxidore_transcript_ready_parameters(uint8_t *parameters, size_t parameters_room, size_t *parameters_len,
                                              uint32_t field, size_t rate);

@@ -49,8 +49,8 @@ pub fn ready_parameters(field: Field, rate: usize) -> Result<Vec<u8>, Refused> {
     Ok(parameters)
 }
 
-/// A sponge over a field, with a permutation's parameters as bytes. What is absorbed and squeezed does not depend on how it is cut into
-/// calls, but for bytes, which each call absorbs behind their length.
+/// A sponge over a field, with a permutation's parameters as bytes. How elements are cut into calls does not change the result. Bytes
+/// are absorbed behind their length, and squeezed out of whole elements.
 ///
 /// An element is its canonical bytes, the least first, and below the modulus.
 #[derive(Debug, Clone)]
