@@ -1,5 +1,5 @@
 -- Elements are read and written by their numbers.
-use Rattle.std.proofs.Common.{◌≡◌, ℕ, zero, suc, ◌+◌, ◌*◌, ◌/◌, ◌<◌, List, [], ◌∷◌, ◌++◌, length, map, take, Ok, Err, refl, sym, ap, ◌∙◌, arith}
+use Rattle.std.proofs.Common.{◌≡◌, ℕ, zero, suc, ◌*◌, ◌/◌, ◌<◌, List, [], ◌∷◌, length, map, take, Ok, Err, refl, sym, ap, ◌∙◌, arith}
 use Rattle.std.specs.List.{flat_map}
 use Rattle.std.proofs.lemmas.List.{length-append, length-take-le}
 use Rattle.std.specs.Int.{div_ceil}
@@ -8,7 +8,7 @@ use Rattle.std.proofs.Math.Nat.{suc-mul}
 use Rattle.ark_base.specs.declared.error.Error.{Error}
 use Rattle.ark_base.specs.declared.error.Error.TheVariants.{SerializationError as OfBytes}
 use Rattle.ark_base.specs.Digits.{bytes_of_number, below_at, bytes_for}
-use Rattle.ark_base.specs.Outcome.{Outcome, ◌>>=◌}
+use Rattle.ark_base.specs.Outcome.{◌>>=◌}
 use Rattle.ark_base.specs.Reading.{Reading, reading_outcome}
 use Rattle.ark_base.specs.Spelling.{items_at, made_at}
 use Rattle.ark_groups.specs.Field.{ReadsNumbers}
@@ -96,8 +96,13 @@ length-bytes (suc n) number = ap suc (length-bytes n (number / 256))
 pub length-elements : (n : ℕ) (xs : List ℕ) → length (flat_map (bytes_of_number n) xs) ≡ length xs * n
 length-elements n [] = omega arith
 length-elements n (x ∷ xs) =
-    omega (arith, length-append (bytes_of_number n x) (flat_map (bytes_of_number n) xs), length-bytes n x,
-    length-elements n xs, suc-mul (length xs) n)
+    omega (
+      arith,
+      length-append (bytes_of_number n x) (flat_map (bytes_of_number n) xs),
+      length-bytes n x,
+      length-elements n xs,
+      suc-mul (length xs) n,
+    )
 
 -- of so many bytes a piece, and of as many pieces as hold n bytes, the first n
 pub length-first : (n size : ℕ) (xs : List ℕ) → 0 < size → length xs ≡ div_ceil n size

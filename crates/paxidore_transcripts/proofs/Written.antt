@@ -1,11 +1,10 @@
 -- What is written of sponges, and the lengths of what they give.
-use Rattle.std.proofs.Common.{◌≡◌, ◌⊎◌, ℕ, ◌-◌, ◌*◌, ◌/◌, ◌%◌, ◌<◌, ◌≤◌, List, [], ◌∷◌, ◌++◌, length, drop, map, Bool, ℤ, pos, w32, to_z, of_z, Option, Some, None, Result, Ok, Err, IfOk, IfSome, IsSome, refl, sym, ap, ◌∙◌, inl, inr, arith}
+use Rattle.std.proofs.Common.{◌≡◌, ◌⊎◌, ℕ, ◌-◌, ◌*◌, ◌/◌, ◌%◌, ◌<◌, ◌≤◌, List, ◌++◌, length, drop, map, Bool, ℤ, pos, Option, Some, None, Result, Ok, Err, IfOk, IfSome, IsSome, refl, sym, ap, ◌∙◌, inl, inr, arith}
 use Rattle.std.proofs.lemmas.List.{length-map}
 use Rattle.std.proofs.lemmas.List.FromFn.{length-map-range_with_len}
 use Rattle.std.proofs.lemmas.Nat.{div-add-mod'}
-use Rattle.std.specs.List.{flat_map}
 use Rattle.std.specs.Int.{div_ceil}
-use Rattle.ark_base.specs.Digits.{bytes_of_number, flag}
+use Rattle.ark_base.specs.Digits.{flag}
 use Rattle.ark_base.specs.Spelling.{word}
 use Rattle.ark_sponge.specs.ConfigBytes.{parameters_spelling}
 use Rattle.ark_sponge.specs.Mode.{mode_index}

@@ -1,5 +1,5 @@
 -- Transcripts: the duplex sponge over a field that a number names, by the bytes of its parameters and of its state.
-use Rattle.std.specs.Prelude.{◌≡◌, ◌≢◌, ◌⊎◌, ℕ, ◌+◌, ◌-◌, ◌/◌, ◌%◌, ◌^◌, ◌==◌, if◌then◌else◌, List, [], ◌∷◌, ◌++◌, length, drop, nat_lt, Bool, true, false, ℤ, pos, Result, Ok, Err, IfOk}
+use Rattle.std.specs.Prelude.{◌≡◌, ◌≢◌, ◌⊎◌, ℕ, ◌-◌, ◌/◌, ◌%◌, ◌^◌, ◌==◌, if◌then◌else◌, List, [], ◌∷◌, ◌++◌, length, drop, Bool, true, false, ℤ, pos, Result, Ok, Err, IfOk}
 use Rattle.std.specs.List.{flat_map}
 use Rattle.ark_base.specs.Digits.{bytes_of_number, bytes_for, below_at, flag, flag_at}
 use Rattle.ark_base.specs.Outcome.{Outcome, ◌>>=◌}
@@ -14,9 +14,9 @@ use Rattle.ark_sponge.specs.Sponge.{Sponge, SpongeState, new_sponge, restored_sp
 use Rattle.ark_sponge.specs.Squeezing.{native_squeezed, bytes_squeezed}
 use Rattle.ark_sponge.specs.declared.mode.DuplexSpongeMode.{DuplexSpongeMode}
 use Rattle.ark_sponge.specs.declared.mode.DuplexSpongeMode.TheVariants.{Absorbing, Squeezing}
-use Rattle.paxidore_calls.specs.Answer.{Gives, only_if, refusal_code, refusing, written_code}
+use Rattle.paxidore_calls.specs.Answer.{Gives, only_if, refusing, written_code}
 use Rattle.paxidore_calls.specs.declared.refused.Refused.{Refused}
-use Rattle.paxidore_calls.specs.declared.refused.Refused.TheVariants.{Invalid, Truncated, Room}
+use Rattle.paxidore_calls.specs.declared.refused.Refused.TheVariants.{Invalid, Truncated}
 
 -- ---- fields
 

@@ -219,7 +219,10 @@ fn fill(given: Given, out: &mut [u8], state: &mut [u8]) -> i32
     ensures given { result ≡ pos 0 → out.new ≡ given.given }
     ensures kept { result ≢ pos 0 → out.new ≡ out.old }
 {
-    let Given { bytes, state: after } = given;
+    let Given {
+        bytes,
+        state: after,
+    } = given;
     if state.len() < after.len() {
         return Refused::Room.code();
     }
@@ -229,10 +232,7 @@ fn fill(given: Given, out: &mut [u8], state: &mut [u8]) -> i32
 }
 
 // Returns the canonical bytes of parameters.
-fn spelled<F: Field>(
-    alloc: Global,
-    found: Option<PoseidonConfig<F>>,
-) -> Result<Vec<u8>, Refused>
+fn spelled<F: Field>(alloc: Global, found: Option<PoseidonConfig<F>>) -> Result<Vec<u8>, Refused>
     ensures spelled { IfOk result (λ bytes. IfSome found (λ c.
         bytes.items ≡ parameters_spelling F.MODULUS_BIT_SIZE c)) }
     ensures found { IfOk result (λ bytes. IsSome found) }

@@ -5,7 +5,6 @@
 pub mod calls;
 mod reading;
 mod steps;
-mod writing;
-
 #[cfg(test)]
 mod tests;
+mod writing;

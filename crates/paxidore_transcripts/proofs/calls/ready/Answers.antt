@@ -8,11 +8,13 @@ pub returns-clause-ready : goal.returns-clause-ready
 returns-clause-ready c =
     let hands = c.hand_over.ensures (seen (λ bytes. bytes.items) c.ready_over.result)
     (gives-itself (λ bytes. bytes.items) c.ready_over.result) in
-    rw (to_z-of_z w32 c.hand_over.result (record { sfits = c.hand_over.type_inv })) (handed (λ bytes. bytes.items) (SpellReady c.args.field c.args.rate)
+    let fits = to_z-of_z w32 c.hand_over.result (record { sfits = c.hand_over.type_inv }) in
+    rw fits (handed (λ bytes. bytes.items) (SpellReady c.args.field c.args.rate)
     c.ready_over.result _ _ _ _ c.hand_over.result c.ready_over.ensures hands)
 
 pub returns-clause-kept : goal.returns-clause-kept
 returns-clause-kept c =
     let hands = c.hand_over.ensures (seen (λ bytes. bytes.items) c.ready_over.result)
     (gives-itself (λ bytes. bytes.items) c.ready_over.result) in
-    rw (to_z-of_z w32 c.hand_over.result (record { sfits = c.hand_over.type_inv })) hands.kept
+    let fits = to_z-of_z w32 c.hand_over.result (record { sfits = c.hand_over.type_inv }) in
+    rw fits hands.kept

@@ -5,4 +5,5 @@ use Rattle.paxidore_transcripts.proofs.calls.squeeze_bytes.Goals as goal
 
 pub returns-in-Ok-clause-state : goal.returns-in-Ok-clause-state
 returns-in-Ok-clause-state c =
-    rw (to_z-of_z w32 c.fill.result (record { sfits = c.fill.type_inv })) (c.fill.ensures.state _ (ap left_by c.in-Ok.ensures.given))
+    let fits = to_z-of_z w32 c.fill.result (record { sfits = c.fill.type_inv }) in
+    rw fits (c.fill.ensures.state _ (ap left_by c.in-Ok.ensures.given))

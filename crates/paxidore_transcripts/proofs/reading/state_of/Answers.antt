@@ -1,6 +1,4 @@
-use Rattle.std.proofs.Common.{◌≡◌, drop, Ok}
-use Rattle.ark_base.specs.Reading.{reading_outcome}
-use Rattle.ark_base.specs.Spelling.{items_at}
+use Rattle.std.proofs.Common.{drop}
 use Rattle.paxidore_transcripts.proofs.Numbers.{elements_fault, elements_read}
 use Rattle.paxidore_transcripts.proofs.Whole.{error_passed, next-fault, refusal_passed, state-fault, state-made}
 use Rattle.paxidore_transcripts.specs.Transcript.{field_size, state_in}

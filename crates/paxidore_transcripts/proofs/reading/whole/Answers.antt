@@ -1,4 +1,4 @@
-use Rattle.std.proofs.Common.{drop, length, inr, arith}
+use Rattle.std.proofs.Common.{drop, inr, arith}
 use Rattle.std.proofs.lemmas.List.{length-drop}
 use Rattle.paxidore_transcripts.proofs.Whole.{whole-more}
 use Rattle.paxidore_transcripts.proofs.reading.whole.Goals as goal
