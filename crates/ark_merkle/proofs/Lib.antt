@@ -3,6 +3,7 @@ pub mod ChangedRows
 pub mod LastLeaves
 pub mod ChangedTrees
 pub mod Batches
+pub mod EachIndex
 pub mod ChangesOfFour
 pub mod Bounds
 pub mod Changes

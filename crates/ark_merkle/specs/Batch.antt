@@ -1,9 +1,10 @@
 -- Several changed leaves at once. A change is an index, and the leaf that is to stand there.
-use Rattle.std.specs.Prelude.{ℕ, ◌==◌, nat_lt, List, [], ◌∷◌, set, if◌then◌else◌, Ok}
+use Rattle.std.specs.Prelude.{◌≡◌, ℕ, ◌==◌, ◌<◌, nat_lt, List, [], ◌∷◌, get_or, length, set, if◌then◌else◌, Option, None, Some, Ok}
+use Rattle.std.specs.Option.{option_or}
 use Rattle.ark_base.specs.Outcome.{Outcome, ◌>>=◌}
 use Rattle.ark_paths.specs.Pair.{Digest}
 use Rattle.ark_paths.specs.Root.{leaves_with_root}
-use Rattle.ark_paths.specs.Tree.{HashedTree, with_hashes}
+use Rattle.ark_paths.specs.Tree.{HashedTree, HoldsLeaf, with_hashes}
 use Rattle.ark_merkle.specs.Update.{with_leaf}
 
 -- a change at its place among those by rising index, unless there is one of its index
@@ -49,3 +50,16 @@ with_each_leaf tree [] = Ok tree
 with_each_leaf tree (change ∷ later) = do
   changed ← with_leaf tree change.0 change.1
   with_each_leaf changed later
+
+-- the leaf of the last change of an index, if a change is of it
+abbrev pub last_leaf : {A : Type 0} → ℕ → List (ℕ × A) → Option A
+last_leaf index [] = None
+last_leaf index (change ∷ later) =
+    option_or (last_leaf index later) (if change.0 == index then Some change.1 else None)
+
+-- The last leaf of each changed index stands there, and each other index has the digest that it had.
+pub record HasLastLeaves {A : Type 0} (old : HashedTree A) (changes : List (ℕ × A)) (new : HashedTree A) : Type 0 where
+  pub changed : (index : ℕ) (leaf : A) → index < length old.leaves → last_leaf index changes ≡ Some leaf
+      → HoldsLeaf new index leaf
+  pub others : (index : ℕ) → index < length old.leaves → last_leaf index changes ≡ None
+      → get_or new.leaves index [] ≡ get_or old.leaves index []

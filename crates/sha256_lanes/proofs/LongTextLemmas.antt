@@ -1,5 +1,4 @@
 -- A message of two blocks with its padding, and its digest.
-use borrow.Rule.Slice.PartMut.{put_mid}
 use Rattle.std.specs.Int.{w64, to_be_bytes}
 use Rattle.std.proofs.Math.Seq.{set-append_seam, take-append-add}
 use Rattle.std.proofs.lemmas.Simd.{length-replicate}
@@ -31,7 +30,7 @@ sha256_longs m blocks initial middle last digest size eb ei em el ed =
 -- the bytes of the blocks: the message, a bit 1, zeros, and the length in bits
 pub blocks_are : (m placed t : List ℕ) (n : ℕ) → n ≡ length m → 56 ≤ n → n ≤ 119
     → placed ≡ m ++ drop (length m) (replicate 128 0) → t ≡ to_be_bytes w64 (8 * n)
-    → put_mid 120 8 (slice_set placed n 0x80) t ≡ padded_message m
+    → take 120 (slice_set placed n 0x80) ++ (t ++ drop 8 (drop 120 (slice_set placed n 0x80))) ≡ padded_message m
 blocks_are m placed t n en low high ef et =
     let rest : List ℕ = 0x80 ∷ replicate (127 - n) 0 in
     let fill : ℕ → List ℕ = λ k. replicate k 0 in

@@ -1,5 +1,4 @@
 -- A message of one block with its padding: its words, and its digest.
-use borrow.Rule.Slice.PartMut.{put_mid}
 use Rattle.std.specs.Int.{w64, to_be_bytes}
 use Rattle.std.proofs.Math.Seq.{set-append_seam, take-append_seam, take-append-add, drop-append_seam}
 use Rattle.std.proofs.lemmas.Simd.{length-replicate}
@@ -48,7 +47,9 @@ sha256_shorts m block initial last digest size eb ei el ed =
 
 -- a head and a tail, written to the front of zs
 pub headed : (h m zs front mid : List ℕ) (e : ℕ) → e ≡ length h + length m → front ≡ h → mid ≡ m
-    → put_mid (length h) (e - length h) (front ++ drop (length h) zs) mid ≡ (h ++ m) ++ drop (length (h ++ m)) zs
+    → (let held : List ℕ = front ++ drop (length h) zs in
+    take (length h) held ++ (mid ++ drop (e - length h) (drop (length h) held)))
+    ≡ (h ++ m) ++ drop (length (h ++ m)) zs
 headed h m zs front mid e ee ef em =
     let count : length h + length m - length h ≡ length m = omega arith in
     let size : length (h ++ m) ≡ length h + length m = length-append h m in
@@ -65,7 +66,8 @@ headed h m zs front mid e ee ef em =
 
 -- the bytes of a block: the message, a bit 1, zeros, and the length in bits
 pub block_is : (m placed t : List ℕ) (n : ℕ) → n ≡ length m → n ≤ 55 → placed ≡ m ++ drop (length m) (replicate 64 0)
-    → t ≡ to_be_bytes w64 (8 * n) → put_mid 56 8 (slice_set placed n 0x80) t ≡ padded_message m
+    → t ≡ to_be_bytes w64 (8 * n)
+    → take 56 (slice_set placed n 0x80) ++ (t ++ drop 8 (drop 56 (slice_set placed n 0x80))) ≡ padded_message m
 block_is m placed t n en short ef et =
     let rest : List ℕ = 0x80 ∷ replicate (63 - n) 0 in
     let fill : ℕ → List ℕ = λ k. replicate k 0 in

@@ -8,7 +8,7 @@ ghost use Rattle.ark_paths.specs.Root.{leaves_with_root};
 ghost use Rattle.ark_paths.specs.Rows.{IsTree};
 ghost use Rattle.ark_paths.specs.Tree.{tree_with};
 ghost use Rattle.ark_paths.specs.Above.{count_above};
-ghost use Rattle.ark_merkle.specs.Batch.{with_change, last_changes, hashed_changes, puts, with_leaves, with_each_leaf};
+ghost use Rattle.ark_merkle.specs.Batch.{with_change, last_changes, hashed_changes, puts, with_leaves, with_each_leaf, HasLastLeaves};
 ghost use Rattle.ark_merkle.specs.Changed.{seen_changes, entered, AreChanges, Rise, count_over};
 ghost use Rattle.ark_merkle.specs.Update.{with_leaf};
 
@@ -34,6 +34,10 @@ impl<P: Views> MerkleTree<P> {
         ensures tree { let new = with_leaves (P.tree self.old) changes.now in
             AnswersBy (λ _. P.tree self.new) new result }
         ensures refused { OnErr result (self.new ≡ self.old) }
+
+        // Index by index: the last leaf of each changed one stands there, and all others have what they had.
+        ensures each { let old = P.tree self.old in (new : _) → with_leaves old changes.now ≡ Ok new
+            → HasLastLeaves old changes.now new }
 
         // With one change it is `update`.
         ensures one_change { let old = P.tree self.old in (index : ℕ) (leaf : _) →
