@@ -118,11 +118,12 @@ with_leaves-last {A} tree cs made is =
     let new : HashedTree A = record { hashes = tree.hashes; leaves = puts tree.leaves hashed.0 } in
     let new_is : new ≡ made = ap (λ (ds : List Digest). record { hashes = tree.hashes; leaves = ds }) put
     ∙ done_injective _ made leaves.2 in
+    let last_is : (index : ℕ) (leaf : Option A) → last_leaf index cs ≡ leaf
+    → IsHashed hash leaf (last_leaf index hashed.0) =
+    λ index leaf last. subst (λ (o : Option A). IsHashed hash o (last_leaf index hashed.0))
+    (last-changes index cs ∙ last) (IsHashed-last hash index (last_changes cs) hashed.0 hashed.1) in
     subst (HasLastLeaves tree cs) new_is (record {
-      changed = λ index leaf below last. put-changed hash index tree.leaves hashed.0 below leaf (subst (λ (o : Option A). IsHashed hash o
-          (last_leaf index hashed.0)) (last-changes index cs ∙ last)
-          (IsHashed-last hash index (last_changes cs) hashed.0 hashed.1));
-      others = λ index below last. put-other hash index tree.leaves hashed.0 below (subst (λ (o : Option A). IsHashed hash o
-          (last_leaf index hashed.0)) (last-changes index cs ∙ last)
-          (IsHashed-last hash index (last_changes cs) hashed.0 hashed.1));
+      changed = λ index leaf below last. put-changed hash index tree.leaves hashed.0 below leaf
+          (last_is index (Some leaf) last);
+      others = λ index below last. put-other hash index tree.leaves hashed.0 below (last_is index None last);
     })

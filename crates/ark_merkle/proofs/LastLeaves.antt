@@ -1,9 +1,9 @@
 -- The last change of each index, and a map of them.
-use Rattle.std.proofs.Common.{zero, suc, ◌≡◌, ℕ, ◌+◌, ◌/◌, ◌^◌, ◌<◌, ◌≤◌, Bool, true, false, List, [], ◌∷◌, length, map, get_or, Ok, Err, inl, inr, refl, ap, sym, subst, ◌∙◌, arith, nat_cmp}
+use Rattle.std.proofs.Common.{zero, suc, ◌≡◌, ℕ, ◌+◌, ◌/◌, ◌^◌, ◌<◌, ◌≤◌, Bool, true, false, List, [], ◌∷◌, length, map, drop, ◌-◌, get_or, Ok, Err, inl, inr, refl, ap, sym, subst, ◌∙◌, arith, nat_cmp}
 use Rattle.std.specs.BTreeMap.{is_at, insert_entry}
 use Rattle.std.specs.Cmp.{nat_cmp_is}
 use Rattle.std.specs.List.{All, Contains}
-use Rattle.std.proofs.lemmas.List.{length-map, get_or-map, get_or_default, map-id}
+use Rattle.std.proofs.lemmas.List.{drop_more, length-map, get_or-map, get_or_default, map-id}
 use Rattle.std.specs.Map.{lookup}
 use Rattle.std.specs.Option.{is_some}
 use Rattle.std.specs.declared.cmp.Ordering.TheVariants.{Less, Equal, Greater}
@@ -52,6 +52,31 @@ rise-placed first c (d ∷ cs) le so =
 pub last-rises : {A : Type 0} (cs : List (ℕ × A)) → Rise 0 (last_changes cs)
 last-rises [] = tt
 last-rises (c ∷ cs) = rise-placed 0 c (last_changes cs) (omega arith) (last-rises cs)
+
+-- changes that rise are their own last ones
+pub last-rising : {A : Type 0} (first : ℕ) (cs : List (ℕ × A)) → Rise first cs → last_changes cs ≡ cs
+last-rising first [] so = refl
+last-rising first (c ∷ []) so = refl
+last-rising first (c ∷ d ∷ cs) so =
+    ap (with_change c) (last-rising (suc c.0) (d ∷ cs) so.1) ∙ placed_change-below c d cs so.1.0
+
+-- the last of some changes rises
+pub rise-end : {A : Type 0} (cs : List (ℕ × A)) → Rise 0 (drop (length cs - 1) cs)
+rise-end [] = tt
+rise-end (c ∷ []) = (omega arith, tt)
+rise-end (c ∷ d ∷ cs) =
+    let later : length (c ∷ d ∷ cs) - 1 ≡ suc (length (d ∷ cs) - 1) = omega arith in
+    rw later (rise-end (d ∷ cs))
+
+-- a change before others that rise
+pub rise-before : {A : Type 0} (cs : List (ℕ × A)) (n : ℕ) (c d : ℕ × A) → n + 1 < length cs → c ≡ get_or cs n c
+    → d ≡ get_or cs (n + 1) d → c.0 < d.0 → Rise 0 (drop (n + 1) cs) → Rise 0 (drop n cs)
+rise-before cs n c d inside at_n at_next lt so =
+    let next : drop (n + 1) cs ≡ d ∷ drop (n + 1 + 1) cs =
+    drop_more cs (n + 1) d inside ∙ ap (λ x. x ∷ drop (n + 1 + 1) cs) (sym at_next) in
+    let here : drop n cs ≡ c ∷ d ∷ drop (n + 1 + 1) cs =
+    drop_more cs n c (omega (arith, inside)) ∙ ap (λ x. x ∷ drop (n + 1) cs) (sym at_n) ∙ ap (λ xs. c ∷ xs) next in
+    rw here (omega arith, (lt, (subst (Rise 0) next so).1))
 
 places-placed : {A : Type 0} (c : ℕ × A) (cs : List (ℕ × A)) → places (with_change c cs) ≡ with_number c.0 (places cs)
 places-placed c [] = refl

@@ -7,6 +7,7 @@ pub mod EachIndex
 pub mod ChangesOfFour
 pub mod Bounds
 pub mod Changes
+mod LentChanges
 pub mod LevelOrder
 pub mod Piles
 pub mod PilesOfFour

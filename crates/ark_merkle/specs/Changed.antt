@@ -2,6 +2,7 @@
 use Rattle.std.specs.Prelude.{◌≡◌, ℕ, zero, suc, ◌+◌, ◌*◌, ◌/◌, ◌==◌, ◌<◌, ◌≤◌, List, [], ◌∷◌, length, map, get_or, if◌then◌else◌, Ok}
 use Rattle.std.specs.Borrow.{Bor}
 use Rattle.std.specs.BTreeMap.{BTreeMap}
+use Rattle.std.specs.declared.vec.Vec.{Vec}
 use Rattle.ark_base.specs.Outcome.{Outcome}
 use Rattle.ark_paths.specs.Index.{bit_at}
 use Rattle.ark_paths.specs.Pair.{Digest}
@@ -20,6 +21,10 @@ AreChanges first end (change ∷ others) = (first ≤ change.0) × (change.0 < e
 -- the changes that stand in a map
 abbrev pub entered : {A : Type 0} → BTreeMap ℕ (Bor A) → List (ℕ × A)
 entered last = seen_changes (λ leaf. leaf.now) last.entries
+
+-- the changes that a list lends
+abbrev pub lent_changes : {A Alloc : Type 0} → Vec (ℕ × Bor A) Alloc → List (ℕ × A)
+lent_changes last = seen_changes (λ leaf. leaf.now) last.items
 
 -- The places of the changes rise, from one on.
 abbrev pub Rise : {A : Type 0} → ℕ → List (ℕ × A) → Type 0

@@ -1,6 +1,7 @@
 //! Changes of several leaves at once.
 
-ghost use Rattle.std.specs.Prelude.{◌≡◌, ◌<◌, ℕ, [], ◌∷◌, map, length, IfOk, MatchOption, OnErr, Ok};
+ghost use Rattle.std.specs.Bool.{OnTrue};
+ghost use Rattle.std.specs.Prelude.{◌≡◌, ◌<◌, ℕ, [], ◌∷◌, map, length, IfOk, OnErr, Ok};
 ghost use Rattle.std.specs.List.{All};
 ghost use Rattle.ark_base.specs.Outcome.{AnswersBy};
 ghost use Rattle.ark_paths.specs.Index.{log2};
@@ -9,7 +10,7 @@ ghost use Rattle.ark_paths.specs.Rows.{IsTree};
 ghost use Rattle.ark_paths.specs.Tree.{tree_with};
 ghost use Rattle.ark_paths.specs.Above.{count_above};
 ghost use Rattle.ark_merkle.specs.Batch.{with_change, last_changes, hashed_changes, puts, with_leaves, with_each_leaf, HasLastLeaves};
-ghost use Rattle.ark_merkle.specs.Changed.{seen_changes, entered, AreChanges, Rise, count_over};
+ghost use Rattle.ark_merkle.specs.Changed.{seen_changes, entered, lent_changes, AreChanges, Rise, count_over};
 ghost use Rattle.ark_merkle.specs.Update.{with_leaf};
 
 use crate::tree::MerkleTree;
@@ -21,7 +22,6 @@ use ark_paths::hasher::{ConfigHasher, TreeHasher};
 use ark_paths::views::Views;
 use std::alloc::Global;
 use std::collections::BTreeMap;
-use std::collections::btree_map::Iter;
 
 impl<P: Views> MerkleTree<P> {
     /// Puts leaves in the places of those at indexes below the size. Where an index is changed twice, the last leaf counts,
@@ -147,8 +147,8 @@ fn enter<'a, L>(
     Ok(())
 }
 
-// The last leaf of each changed index: the changes are entered from the last one on.
-fn last_leaves<'a, L>(
+// The last leaf of each changed index, in a map: the changes are entered from the last one on.
+fn enter_all<'a, L>(
     alloc: Global,
     changes: &'a [(usize, L)],
 ) -> Result<BTreeMap<usize, &'a L, Global>, Error>
@@ -162,32 +162,41 @@ fn last_leaves<'a, L>(
     Ok(last)
 }
 
-// A changed index with its last leaf, as a map lends them.
-type Entry<'b, 'a, L> = (&'b usize, &'b &'a L);
-
-// The next four entries, where as many are left.
-fn next_four<'b, 'a, L>(
-    left: &mut Iter<'b, usize, &'a L>,
-) -> Option<
-    (
-        Entry<'b, 'a, L>,
-        Entry<'b, 'a, L>,
-        Entry<'b, 'a, L>,
-        Entry<'b, 'a, L>,
-    ),
->
-    ensures { MatchOption result (left.new ≡ left.old) (λ four. left.old
-        ≡ (four.0.0.now, four.0.1.now) ∷ (four.1.0.now, four.1.1.now)
-        ∷ (four.2.0.now, four.2.1.now) ∷ (four.3.0.now, four.3.1.now) ∷ left.new) }
+// Whether each index is above the one before it.
+fn are_rising<L>(changes: &[(usize, L)]) -> bool
+    ensures { OnTrue result (Rise 0 changes.now) }
 {
-    if left.len() < 4 {
-        return None;
+    for n in 1..changes.len() {
+        let place = changes.len() - 1 - n;
+        if changes[place].0 >= changes[place + 1].0 {
+            return false;
+        }
     }
-    let a = left.next()?;
-    let b = left.next()?;
-    let c = left.next()?;
-    let d = left.next()?;
-    Some((a, b, c, d))
+    true
+}
+
+// The last leaf of each changed index, by rising index.
+fn last_leaves<'a, L>(
+    alloc: Global,
+    changes: &'a [(usize, L)],
+) -> Result<Vec<(usize, &'a L)>, Error>
+    ensures { AnswersBy lent_changes (Ok (last_changes changes.now)) result }
+{
+    // Changes that rise are their own last ones, and need no map.
+    if are_rising(changes) {
+        let mut last = Vec::with_capacity(alloc, changes.len())?;
+        'each: for n in 0..changes.len() {
+            let (index, leaf) = &changes[n];
+            last.push((*index, leaf))?;
+        }
+        return Ok(last);
+    }
+    let map = enter_all(alloc, changes)?;
+    let mut last = Vec::with_capacity(alloc, map.len())?;
+    'entry: for (index, leaf) in map.iter() {
+        last.push((*index, *leaf))?;
+    }
+    Ok(last)
 }
 
 // The digest of the last leaf of each changed index.
@@ -202,13 +211,16 @@ fn hash_last<L: DigestItem, D: DigestItem, T: TreeHasher<L, D>>(
 {
     let last = last_leaves(alloc, changes)?;
     let mut digests = Vec::with_capacity(alloc, last.len())?;
-    let mut left = last.iter();
-    'fours: while let Some((a, b, c, d)) = next_four(&mut left) {
+    let fours = last.len() / 4;
+    'fours: for four in 0..fours {
+        let (a, b) = (last[4 * four], last[4 * four + 1]);
+        let (c, d) = (last[4 * four + 2], last[4 * four + 3]);
         let made = hasher.leaf_four(alloc, a.1, b.1, c.1, d.1)?;
-        push_changes(&mut digests, (*a.0, *b.0, *c.0, *d.0), made)?;
+        push_changes(&mut digests, (a.0, b.0, c.0, d.0), made)?;
     }
-    'rest: for (index, leaf) in left {
-        digests.push((*index, hasher.leaf(alloc, leaf)?))?;
+    'rest: for place in 4 * fours..last.len() {
+        let (index, leaf) = last[place];
+        digests.push((index, hasher.leaf(alloc, leaf)?))?;
     }
     Ok(digests)
 }

@@ -1,7 +1,10 @@
-use Rattle.std.proofs.Common.{◌-◌, length, drop}
-use Rattle.ark_merkle.proofs.LastLeaves.{last-rises}
+use Rattle.std.proofs.Common.{Ok, ap, sym, ◌∙◌}
+use Rattle.std.proofs.lemmas.List.{take_all}
+use Rattle.ark_merkle.proofs.LastLeaves.{last-rising}
 use Rattle.ark_merkle.proofs.tree.batch.last_leaves.Goals as goal
 
-pub enter-requires : goal.enter-requires
-enter-requires g c = rw c.loop-n.invariant (last-rises (drop (length c.args.changes.now - c.loop-n.n)
-    c.args.changes.now))
+pub returns-then-are_rising : goal.returns-then-are_rising
+returns-then-are_rising g c =
+    let rising = rw c.if-are_rising.true at c.are_rising.ensures in
+    ap Ok (last-rising 0 c.args.changes.now rising
+    ∙ sym (c.each.invariant ∙ take_all c.each.n c.args.changes.now c.each-test.false))
