@@ -1,6 +1,8 @@
 //! The paths and consistency proofs of the logs of one to eight entries of RFC 6962's implementations, all of them.
 
 use crate::tests::{is_path, is_proof};
+use ark_base::error::Error;
+use std::alloc::Global;
 
 // The digest of an entry, or of the subtree of the first to the last of several.
 const ENTRY_0: &str = "6e340b9cffb37a989ca544e6bb780a2c78901d3fb33738768511a30617afa01d";
@@ -33,240 +35,102 @@ const ENTRIES_4_6: &str = "837dbb152e9b079010717e84e865da4ebc0fa198a806d59d31bf1
 
 const ENTRIES_4_7: &str = "6b47aaf29ee3c2af9af889bc1fb9254dabd31177f16232dd6aab035ca39bf6e4";
 
-// All paths of the logs of one to four entries.
-#[test]
-fn paths_of_one_to_four(rt: HostRuntime) {
-    let alloc = rt.alloc();
-    assert_eq!(rt; is_path(alloc, 1, 0, &[]), Ok(true));
-    assert_eq!(rt; is_path(alloc, 2, 0, &[ENTRY_1]), Ok(true));
-    assert_eq!(rt; is_path(alloc, 2, 1, &[ENTRY_0]), Ok(true));
-    assert_eq!(rt; is_path(alloc, 3, 0, &[ENTRY_1, ENTRY_2]), Ok(true));
-    assert_eq!(rt; is_path(alloc, 3, 1, &[ENTRY_0, ENTRY_2]), Ok(true));
-    assert_eq!(rt; is_path(alloc, 3, 2, &[ENTRIES_0_1]), Ok(true));
-    assert_eq!(rt; is_path(alloc, 4, 0, &[ENTRY_1, ENTRIES_2_3]), Ok(true));
-    assert_eq!(rt; is_path(alloc, 4, 1, &[ENTRY_0, ENTRIES_2_3]), Ok(true));
-    assert_eq!(rt; is_path(alloc, 4, 2, &[ENTRY_3, ENTRIES_0_1]), Ok(true));
-    assert_eq!(rt; is_path(alloc, 4, 3, &[ENTRY_2, ENTRIES_0_1]), Ok(true));
+// The paths: the size of a log, an index, and the path's digests from the leaf up.
+const PATHS: &[(usize, usize, &[&str])] = &[
+    (1, 0, &[]),
+    (2, 0, &[ENTRY_1]),
+    (2, 1, &[ENTRY_0]),
+    (3, 0, &[ENTRY_1, ENTRY_2]),
+    (3, 1, &[ENTRY_0, ENTRY_2]),
+    (3, 2, &[ENTRIES_0_1]),
+    (4, 0, &[ENTRY_1, ENTRIES_2_3]),
+    (4, 1, &[ENTRY_0, ENTRIES_2_3]),
+    (4, 2, &[ENTRY_3, ENTRIES_0_1]),
+    (4, 3, &[ENTRY_2, ENTRIES_0_1]),
+    (5, 0, &[ENTRY_1, ENTRIES_2_3, ENTRY_4]),
+    (5, 1, &[ENTRY_0, ENTRIES_2_3, ENTRY_4]),
+    (5, 2, &[ENTRY_3, ENTRIES_0_1, ENTRY_4]),
+    (5, 3, &[ENTRY_2, ENTRIES_0_1, ENTRY_4]),
+    (5, 4, &[ENTRIES_0_3]),
+    (6, 0, &[ENTRY_1, ENTRIES_2_3, ENTRIES_4_5]),
+    (6, 1, &[ENTRY_0, ENTRIES_2_3, ENTRIES_4_5]),
+    (6, 2, &[ENTRY_3, ENTRIES_0_1, ENTRIES_4_5]),
+    (6, 3, &[ENTRY_2, ENTRIES_0_1, ENTRIES_4_5]),
+    (6, 4, &[ENTRY_5, ENTRIES_0_3]),
+    (6, 5, &[ENTRY_4, ENTRIES_0_3]),
+    (7, 0, &[ENTRY_1, ENTRIES_2_3, ENTRIES_4_6]),
+    (7, 1, &[ENTRY_0, ENTRIES_2_3, ENTRIES_4_6]),
+    (7, 2, &[ENTRY_3, ENTRIES_0_1, ENTRIES_4_6]),
+    (7, 3, &[ENTRY_2, ENTRIES_0_1, ENTRIES_4_6]),
+    (7, 4, &[ENTRY_5, ENTRY_6, ENTRIES_0_3]),
+    (7, 5, &[ENTRY_4, ENTRY_6, ENTRIES_0_3]),
+    (7, 6, &[ENTRIES_4_5, ENTRIES_0_3]),
+    (8, 0, &[ENTRY_1, ENTRIES_2_3, ENTRIES_4_7]),
+    (8, 1, &[ENTRY_0, ENTRIES_2_3, ENTRIES_4_7]),
+    (8, 2, &[ENTRY_3, ENTRIES_0_1, ENTRIES_4_7]),
+    (8, 3, &[ENTRY_2, ENTRIES_0_1, ENTRIES_4_7]),
+    (8, 4, &[ENTRY_5, ENTRIES_6_7, ENTRIES_0_3]),
+    (8, 5, &[ENTRY_4, ENTRIES_6_7, ENTRIES_0_3]),
+    (8, 6, &[ENTRY_7, ENTRIES_4_5, ENTRIES_0_3]),
+    (8, 7, &[ENTRY_6, ENTRIES_4_5, ENTRIES_0_3]),
+];
+
+// The consistency proofs: the old size, the new size, and the proof's digests.
+const PROOFS: &[(usize, usize, &[&str])] = &[
+    (1, 2, &[ENTRY_1]),
+    (1, 3, &[ENTRY_1, ENTRY_2]),
+    (2, 3, &[ENTRY_2]),
+    (1, 4, &[ENTRY_1, ENTRIES_2_3]),
+    (2, 4, &[ENTRIES_2_3]),
+    (3, 4, &[ENTRY_2, ENTRY_3, ENTRIES_0_1]),
+    (1, 5, &[ENTRY_1, ENTRIES_2_3, ENTRY_4]),
+    (2, 5, &[ENTRIES_2_3, ENTRY_4]),
+    (3, 5, &[ENTRY_2, ENTRY_3, ENTRIES_0_1, ENTRY_4]),
+    (4, 5, &[ENTRY_4]),
+    (1, 6, &[ENTRY_1, ENTRIES_2_3, ENTRIES_4_5]),
+    (2, 6, &[ENTRIES_2_3, ENTRIES_4_5]),
+    (3, 6, &[ENTRY_2, ENTRY_3, ENTRIES_0_1, ENTRIES_4_5]),
+    (4, 6, &[ENTRIES_4_5]),
+    (5, 6, &[ENTRY_4, ENTRY_5, ENTRIES_0_3]),
+    (1, 7, &[ENTRY_1, ENTRIES_2_3, ENTRIES_4_6]),
+    (2, 7, &[ENTRIES_2_3, ENTRIES_4_6]),
+    (3, 7, &[ENTRY_2, ENTRY_3, ENTRIES_0_1, ENTRIES_4_6]),
+    (4, 7, &[ENTRIES_4_6]),
+    (5, 7, &[ENTRY_4, ENTRY_5, ENTRY_6, ENTRIES_0_3]),
+    (6, 7, &[ENTRIES_4_5, ENTRY_6, ENTRIES_0_3]),
+    (1, 8, &[ENTRY_1, ENTRIES_2_3, ENTRIES_4_7]),
+    (2, 8, &[ENTRIES_2_3, ENTRIES_4_7]),
+    (3, 8, &[ENTRY_2, ENTRY_3, ENTRIES_0_1, ENTRIES_4_7]),
+    (4, 8, &[ENTRIES_4_7]),
+    (5, 8, &[ENTRY_4, ENTRY_5, ENTRIES_6_7, ENTRIES_0_3]),
+    (6, 8, &[ENTRIES_4_5, ENTRIES_6_7, ENTRIES_0_3]),
+    (7, 8, &[ENTRY_6, ENTRY_7, ENTRIES_4_5, ENTRIES_0_3]),
+];
+
+fn are_paths(alloc: Global, rows: &[(usize, usize, &[&str])]) -> Result<bool, Error> {
+    for (size, index, digests) in rows {
+        if !is_path(alloc, *size, *index, digests)? {
+            return Ok(false);
+        }
+    }
+    Ok(true)
 }
 
-// Those of five entries.
-#[test]
-fn paths_of_five(rt: HostRuntime) {
-    let alloc = rt.alloc();
-    assert_eq!(rt;
-        is_path(alloc, 5, 0, &[ENTRY_1, ENTRIES_2_3, ENTRY_4]),
-        Ok(true)
-    );
-    assert_eq!(rt;
-        is_path(alloc, 5, 1, &[ENTRY_0, ENTRIES_2_3, ENTRY_4]),
-        Ok(true)
-    );
-    assert_eq!(rt;
-        is_path(alloc, 5, 2, &[ENTRY_3, ENTRIES_0_1, ENTRY_4]),
-        Ok(true)
-    );
-    assert_eq!(rt;
-        is_path(alloc, 5, 3, &[ENTRY_2, ENTRIES_0_1, ENTRY_4]),
-        Ok(true)
-    );
-    assert_eq!(rt; is_path(alloc, 5, 4, &[ENTRIES_0_3]), Ok(true));
+fn are_proofs(alloc: Global, rows: &[(usize, usize, &[&str])]) -> Result<bool, Error> {
+    for (old, new, digests) in rows {
+        if !is_proof(alloc, *old, *new, digests)? {
+            return Ok(false);
+        }
+    }
+    Ok(true)
 }
 
-// Those of six.
 #[test]
-fn paths_of_six(rt: HostRuntime) {
-    let alloc = rt.alloc();
-    assert_eq!(rt;
-        is_path(alloc, 6, 0, &[ENTRY_1, ENTRIES_2_3, ENTRIES_4_5]),
-        Ok(true)
-    );
-    assert_eq!(rt;
-        is_path(alloc, 6, 1, &[ENTRY_0, ENTRIES_2_3, ENTRIES_4_5]),
-        Ok(true)
-    );
-    assert_eq!(rt;
-        is_path(alloc, 6, 2, &[ENTRY_3, ENTRIES_0_1, ENTRIES_4_5]),
-        Ok(true)
-    );
-    assert_eq!(rt;
-        is_path(alloc, 6, 3, &[ENTRY_2, ENTRIES_0_1, ENTRIES_4_5]),
-        Ok(true)
-    );
-    assert_eq!(rt; is_path(alloc, 6, 4, &[ENTRY_5, ENTRIES_0_3]), Ok(true));
-    assert_eq!(rt; is_path(alloc, 6, 5, &[ENTRY_4, ENTRIES_0_3]), Ok(true));
+fn paths_of_one_to_eight(rt: HostRuntime) {
+    assert_eq!(rt; are_paths(rt.alloc(), PATHS), Ok(true));
 }
 
-// Those of seven: the log of section 2.1.3.
 #[test]
-fn paths_of_seven(rt: HostRuntime) {
-    let alloc = rt.alloc();
-    assert_eq!(rt;
-        is_path(alloc, 7, 0, &[ENTRY_1, ENTRIES_2_3, ENTRIES_4_6]),
-        Ok(true)
-    );
-    assert_eq!(rt;
-        is_path(alloc, 7, 1, &[ENTRY_0, ENTRIES_2_3, ENTRIES_4_6]),
-        Ok(true)
-    );
-    assert_eq!(rt;
-        is_path(alloc, 7, 2, &[ENTRY_3, ENTRIES_0_1, ENTRIES_4_6]),
-        Ok(true)
-    );
-    assert_eq!(rt;
-        is_path(alloc, 7, 3, &[ENTRY_2, ENTRIES_0_1, ENTRIES_4_6]),
-        Ok(true)
-    );
-    assert_eq!(rt;
-        is_path(alloc, 7, 4, &[ENTRY_5, ENTRY_6, ENTRIES_0_3]),
-        Ok(true)
-    );
-    assert_eq!(rt;
-        is_path(alloc, 7, 5, &[ENTRY_4, ENTRY_6, ENTRIES_0_3]),
-        Ok(true)
-    );
-    assert_eq!(rt; is_path(alloc, 7, 6, &[ENTRIES_4_5, ENTRIES_0_3]), Ok(true));
-}
-
-// Those of eight.
-#[test]
-fn paths_of_eight(rt: HostRuntime) {
-    let alloc = rt.alloc();
-    assert_eq!(rt;
-        is_path(alloc, 8, 0, &[ENTRY_1, ENTRIES_2_3, ENTRIES_4_7]),
-        Ok(true)
-    );
-    assert_eq!(rt;
-        is_path(alloc, 8, 1, &[ENTRY_0, ENTRIES_2_3, ENTRIES_4_7]),
-        Ok(true)
-    );
-    assert_eq!(rt;
-        is_path(alloc, 8, 2, &[ENTRY_3, ENTRIES_0_1, ENTRIES_4_7]),
-        Ok(true)
-    );
-    assert_eq!(rt;
-        is_path(alloc, 8, 3, &[ENTRY_2, ENTRIES_0_1, ENTRIES_4_7]),
-        Ok(true)
-    );
-    assert_eq!(rt;
-        is_path(alloc, 8, 4, &[ENTRY_5, ENTRIES_6_7, ENTRIES_0_3]),
-        Ok(true)
-    );
-    assert_eq!(rt;
-        is_path(alloc, 8, 5, &[ENTRY_4, ENTRIES_6_7, ENTRIES_0_3]),
-        Ok(true)
-    );
-    assert_eq!(rt;
-        is_path(alloc, 8, 6, &[ENTRY_7, ENTRIES_4_5, ENTRIES_0_3]),
-        Ok(true)
-    );
-    assert_eq!(rt;
-        is_path(alloc, 8, 7, &[ENTRY_6, ENTRIES_4_5, ENTRIES_0_3]),
-        Ok(true)
-    );
-}
-
-// All consistency proofs of the logs of two to five entries.
-#[test]
-fn proofs_of_two_to_five(rt: HostRuntime) {
-    let alloc = rt.alloc();
-    assert_eq!(rt; is_proof(alloc, 1, 2, &[ENTRY_1]), Ok(true));
-    assert_eq!(rt; is_proof(alloc, 1, 3, &[ENTRY_1, ENTRY_2]), Ok(true));
-    assert_eq!(rt; is_proof(alloc, 2, 3, &[ENTRY_2]), Ok(true));
-    assert_eq!(rt; is_proof(alloc, 1, 4, &[ENTRY_1, ENTRIES_2_3]), Ok(true));
-    assert_eq!(rt; is_proof(alloc, 2, 4, &[ENTRIES_2_3]), Ok(true));
-    assert_eq!(rt;
-        is_proof(alloc, 3, 4, &[ENTRY_2, ENTRY_3, ENTRIES_0_1]),
-        Ok(true)
-    );
-    assert_eq!(rt;
-        is_proof(alloc, 1, 5, &[ENTRY_1, ENTRIES_2_3, ENTRY_4]),
-        Ok(true)
-    );
-    assert_eq!(rt; is_proof(alloc, 2, 5, &[ENTRIES_2_3, ENTRY_4]), Ok(true));
-    assert_eq!(rt;
-        is_proof(alloc, 3, 5, &[ENTRY_2, ENTRY_3, ENTRIES_0_1, ENTRY_4]),
-        Ok(true)
-    );
-    assert_eq!(rt; is_proof(alloc, 4, 5, &[ENTRY_4]), Ok(true));
-}
-
-// Those of six.
-#[test]
-fn proofs_of_six(rt: HostRuntime) {
-    let alloc = rt.alloc();
-    assert_eq!(rt;
-        is_proof(alloc, 1, 6, &[ENTRY_1, ENTRIES_2_3, ENTRIES_4_5]),
-        Ok(true)
-    );
-    assert_eq!(rt;
-        is_proof(alloc, 2, 6, &[ENTRIES_2_3, ENTRIES_4_5]),
-        Ok(true)
-    );
-    assert_eq!(rt;
-        is_proof(alloc, 3, 6, &[ENTRY_2, ENTRY_3, ENTRIES_0_1, ENTRIES_4_5]),
-        Ok(true)
-    );
-    assert_eq!(rt; is_proof(alloc, 4, 6, &[ENTRIES_4_5]), Ok(true));
-    assert_eq!(rt;
-        is_proof(alloc, 5, 6, &[ENTRY_4, ENTRY_5, ENTRIES_0_3]),
-        Ok(true)
-    );
-}
-
-// Those of seven: the log of section 2.1.3.
-#[test]
-fn proofs_of_seven(rt: HostRuntime) {
-    let alloc = rt.alloc();
-    assert_eq!(rt;
-        is_proof(alloc, 1, 7, &[ENTRY_1, ENTRIES_2_3, ENTRIES_4_6]),
-        Ok(true)
-    );
-    assert_eq!(rt;
-        is_proof(alloc, 2, 7, &[ENTRIES_2_3, ENTRIES_4_6]),
-        Ok(true)
-    );
-    assert_eq!(rt;
-        is_proof(alloc, 3, 7, &[ENTRY_2, ENTRY_3, ENTRIES_0_1, ENTRIES_4_6]),
-        Ok(true)
-    );
-    assert_eq!(rt; is_proof(alloc, 4, 7, &[ENTRIES_4_6]), Ok(true));
-    assert_eq!(rt;
-        is_proof(alloc, 5, 7, &[ENTRY_4, ENTRY_5, ENTRY_6, ENTRIES_0_3]),
-        Ok(true)
-    );
-    assert_eq!(rt;
-        is_proof(alloc, 6, 7, &[ENTRIES_4_5, ENTRY_6, ENTRIES_0_3]),
-        Ok(true)
-    );
-}
-
-// Those of eight.
-#[test]
-fn proofs_of_eight(rt: HostRuntime) {
-    let alloc = rt.alloc();
-    assert_eq!(rt;
-        is_proof(alloc, 1, 8, &[ENTRY_1, ENTRIES_2_3, ENTRIES_4_7]),
-        Ok(true)
-    );
-    assert_eq!(rt;
-        is_proof(alloc, 2, 8, &[ENTRIES_2_3, ENTRIES_4_7]),
-        Ok(true)
-    );
-    assert_eq!(rt;
-        is_proof(alloc, 3, 8, &[ENTRY_2, ENTRY_3, ENTRIES_0_1, ENTRIES_4_7]),
-        Ok(true)
-    );
-    assert_eq!(rt; is_proof(alloc, 4, 8, &[ENTRIES_4_7]), Ok(true));
-    assert_eq!(rt;
-        is_proof(alloc, 5, 8, &[ENTRY_4, ENTRY_5, ENTRIES_6_7, ENTRIES_0_3]),
-        Ok(true)
-    );
-    assert_eq!(rt;
-        is_proof(alloc, 6, 8, &[ENTRIES_4_5, ENTRIES_6_7, ENTRIES_0_3]),
-        Ok(true)
-    );
-    assert_eq!(rt;
-        is_proof(alloc, 7, 8, &[ENTRY_6, ENTRY_7, ENTRIES_4_5, ENTRIES_0_3]),
-        Ok(true)
-    );
+fn proofs_of_two_to_eight(rt: HostRuntime) {
+    assert_eq!(rt; are_proofs(rt.alloc(), PROOFS), Ok(true));
 }
