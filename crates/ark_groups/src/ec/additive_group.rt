@@ -60,6 +60,13 @@ pub trait AdditiveGroup: Copy + Eq + Debug + Hash + Default + CanonicalItem {
     fn add_sums(a: Self::Sum, b: Self::Sum) -> Self::Sum
         ensures { total result ≡ group.plus (total a) (total b) };
 
+    /// Returns a sum under way with an element added.
+    fn add_to_sum(sum: Self::Sum, element: Self) -> Self::Sum
+        ensures { total result ≡ group.plus (total sum) element }
+    {
+        Self::add_sums(sum, element.to_sum())
+    }
+
     /// Returns a sum under way, added to itself.
     fn double_sum(a: Self::Sum) -> Self::Sum
         ensures { total result ≡ group.plus (total a) (total a) }
@@ -132,6 +139,10 @@ impl<C: CurveGroup> AdditiveGroup for C {
 
     fn add_sums(a: C, b: C) -> C {
         CurveGroup::add(a, b)
+    }
+
+    fn add_to_sum(sum: C, element: C) -> C {
+        CurveGroup::add(sum, element)
     }
 
     fn double_sum(a: C) -> C {
