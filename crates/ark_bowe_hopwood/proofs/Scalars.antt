@@ -47,7 +47,7 @@ digit-within (false, false, false) = record { over = omega (arith, ints); under 
 
 -- ---- scalars
 
-greatest_scalar-suc : (n : ℕ) → greatest_scalar (suc n) ≡ 16 * greatest_scalar n + 4
+pub greatest_scalar-suc : (n : ℕ) → greatest_scalar (suc n) ≡ 16 * greatest_scalar n + 4
 unfolding greatest_scalar
 greatest_scalar-suc n = let whole = sixteenth n in omega (arith, pow-suc 16 n)
   where

@@ -2,6 +2,7 @@
 
 ghost use Rattle.std.specs.Prelude.{◌≡◌, ◌∷◌, [], ℕ, List, IfOk, OnOk, IfErr};
 ghost use Rattle.ark_base.specs.Outcome.{AnswersBy};
+ghost use Rattle.ark_groups.specs.Group.{times};
 ghost use Rattle.ark_pedersen.specs.Pedersen.{lists_in, window_elements, seen_by};
 ghost use Rattle.ark_bowe_hopwood.specs.BoweHopwood.{sixteenfolds, TellsChunksApart};
 ghost use Rattle.ark_bowe_hopwood.specs.BoweHopwood.{AreSegmentsOf, AreDrawnSegments, segments_outcome};
@@ -13,20 +14,20 @@ use crate::sums::hash_bytes;
 use ark_base::error::{Error, Refusal};
 use ark_base::serialize::DigestItem;
 use ark_crh::CRHScheme;
-use ark_groups::ec::{CurveGroup, TECoordinates};
-use ark_groups::ff::PrimeField;
+use ark_groups::ec::{AdditiveGroup, TECoordinates};
+use ark_groups::ff::Field;
 use ark_pedersen::Window;
 use rand::Rng;
 use std::alloc::Global;
 use std::marker::PhantomData;
 
 /// The Bowe-Hopwood hash of one input.
-pub struct CRH<G: CurveGroup + TECoordinates, W: Window> {
+pub struct CRH<G: AdditiveGroup + TECoordinates, W: Window> {
     group: PhantomData<G>,
     window: PhantomData<W>,
 }
 
-impl<G: CurveGroup + TECoordinates, W: Window> CRH<G, W> {
+impl<G: AdditiveGroup + TECoordinates, W: Window> CRH<G, W> {
     /// Returns a list for each window: an element that is drawn, then each sixteen times the one before, as many as the
     /// window has chunks. The only error is `OutOfMemory`.
     pub fn create_generators<R: Rng>(alloc: Global, rng: &mut R) -> Result<Vec<Vec<G>>, Error>
@@ -45,7 +46,7 @@ impl<G: CurveGroup + TECoordinates, W: Window> CRH<G, W> {
 }
 
 // An element, then each sixteen times the one before, `count` in all. The only refusal is `OutOfMemory`.
-fn segment<G: CurveGroup>(alloc: Global, count: usize, element: G) -> Result<Vec<G>, Error>
+fn segment<G: AdditiveGroup>(alloc: Global, count: usize, element: G) -> Result<Vec<G>, Error>
     ensures made { IfOk result (λ list. list.items ≡ sixteenfolds G.group count element) }
     ensures refused { IfErr result (λ error. error ≡ Error.OutOfMemory) }
 {
@@ -53,12 +54,20 @@ fn segment<G: CurveGroup>(alloc: Global, count: usize, element: G) -> Result<Vec
     let mut last = element;
     for _ in 0..count {
         list.push(last)?;
-        last = last.double().double().double().double();
+        last = sixteenfold(last);
     }
     Ok(list)
 }
 
-impl<G: CurveGroup + TECoordinates, W: Window> CRHScheme for CRH<G, W>
+// Sixteen times an element.
+fn sixteenfold<G: AdditiveGroup>(x: G) -> G
+    ensures { result ≡ times G.group 16 x }
+{
+    let fourfold = G::double_sum(G::double_sum(x.to_sum()));
+    G::from_sum(G::double_sum(G::double_sum(fourfold)))
+}
+
+impl<G: AdditiveGroup + TECoordinates, W: Window> CRHScheme for CRH<G, W>
 where
     G::BaseField: DigestItem,
 {
@@ -94,7 +103,7 @@ where
         // Two lists of chunks of one length, at most a window's, are equal where their scalars leave one remainder by the order.
         ensures unique { OnOk result (TellsChunksApart G.ScalarField.MODULUS W.WINDOW_SIZE) }
     {
-        if !is_fitting(G::ScalarField::MODULUS, W::WINDOW_SIZE) {
+        if !is_fitting(G::ScalarField::modulus(), W::WINDOW_SIZE) {
             return Err(Error::GenericError(Refusal::WindowTooLarge));
         }
         Ok(Parameters {

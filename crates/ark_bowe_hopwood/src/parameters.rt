@@ -7,17 +7,17 @@ use ark_base::error::Error;
 use ark_base::serialize::{
     Canonical, CanonicalDeserialize, CanonicalItem, CanonicalSerialize, Duplicate, ReadBack,
 };
-use ark_groups::ec::CurveGroup;
+use ark_groups::ec::AdditiveGroup;
 use std::alloc::Global;
 use std::fmt;
 
 /// The elements of a hash: a list for each window, with an element for each of its chunks.
 #[derive(Drop)]
-pub struct Parameters<G: CurveGroup> {
+pub struct Parameters<G: AdditiveGroup> {
     pub generators: Vec<Vec<G>>,
 }
 
-impl<G: CurveGroup> Duplicate for Parameters<G> {
+impl<G: AdditiveGroup> Duplicate for Parameters<G> {
     ghost Data = { List (List G) };
 
     ghost seen = { λ parameters. lists_in parameters.generators.items };
@@ -28,7 +28,7 @@ impl<G: CurveGroup> Duplicate for Parameters<G> {
     }
 }
 
-impl<G: CurveGroup> Canonical for Parameters<G> {
+impl<G: AdditiveGroup> Canonical for Parameters<G> {
     ghost Value = { ⟦<Vec<Vec<G>> as Canonical>⟧.Value };
 
     ghost view = { λ parameters. ⟦<Vec<Vec<G>> as Canonical>⟧.view parameters.generators };
@@ -42,20 +42,20 @@ impl<G: CurveGroup> Canonical for Parameters<G> {
     ghost laws = { ⟦<Vec<Vec<G>> as Canonical>⟧.laws };
 }
 
-impl<G: CurveGroup> CanonicalSerialize for Parameters<G> {
+impl<G: AdditiveGroup> CanonicalSerialize for Parameters<G> {
     fn serialize(&self, dest: &mut Vec<u8>) -> Result<(), Error> {
         self.generators.serialize(dest)
     }
 }
 
-impl<G: CurveGroup> CanonicalDeserialize for Parameters<G> {
+impl<G: AdditiveGroup> CanonicalDeserialize for Parameters<G> {
     fn read(alloc: Global, bytes: &[u8]) -> Result<(Parameters<G>, usize), Error> {
         let (generators, used) = Vec::read(alloc, bytes)?;
         Ok((Parameters { generators }, used))
     }
 }
 
-impl<G: CurveGroup> CanonicalItem for Parameters<G> {
+impl<G: AdditiveGroup> CanonicalItem for Parameters<G> {
     ghost use Rattle.std.proofs.Common.{lit<};
     ghost use Rattle.ark_base.specs.Laws.Lists.{counted_list_is_long};
 
@@ -68,14 +68,14 @@ impl<G: CurveGroup> CanonicalItem for Parameters<G> {
     ghost at_least = { λ lists fits. counted_list_is_long ⟦<Vec<G> as Canonical>⟧.spelling lists };
 }
 
-impl<G: CurveGroup> ReadBack for Parameters<G> {
+impl<G: AdditiveGroup> ReadBack for Parameters<G> {
     ghost use Rattle.ark_pedersen.specs.Laws.Pedersen.{lists_in-same};
 
     ghost same_seen = { λ p q.
         lists_in-same G.view G.same_view p.generators.items q.generators.items };
 }
 
-impl<G: CurveGroup> fmt::Debug for Parameters<G> {
+impl<G: AdditiveGroup> fmt::Debug for Parameters<G> {
     fn fmt<W: fmt::Write>(&self, f: &mut fmt::Formatter<W>) -> fmt::Result {
         writeln!(f, "Bowe-Hopwood-Pedersen Hash Parameters {{")?;
         for (i, list) in self.generators.iter().enumerate() {

@@ -10,14 +10,14 @@ ghost use Rattle.ark_bowe_hopwood.specs.BoweHopwood.{bowe_hopwood_hash};
 use crate::CHUNK_SIZE;
 use crate::text::number_at;
 use ark_base::error::{Error, Refusal};
-use ark_groups::ec::{CurveGroup, TECoordinates};
+use ark_groups::ec::{AdditiveGroup, TECoordinates};
 use ark_pedersen::{Window, has_shape};
 
 /// Returns the hash of the input. It allocates nothing.
 ///
 /// Errors: `IncorrectInputLength` with the input's bytes, where these have more than three bits for each element;
 /// `ParameterShape`, where the generators are not a list for each window with an element for each of its chunks.
-pub fn hash_bytes<G: CurveGroup + TECoordinates, W: Window>(
+pub fn hash_bytes<G: AdditiveGroup + TECoordinates, W: Window>(
     generators: &[Vec<G>],
     input: &[u8],
 ) -> Result<G::BaseField, Error>
@@ -38,7 +38,7 @@ pub fn hash_bytes<G: CurveGroup + TECoordinates, W: Window>(
 ///
 /// Errors: `IncorrectInputLength` with right's bytes, where left has not as many, and with left's, where these have
 /// more bits than half as many as there are elements; `ParameterShape` as above.
-pub fn hash_halves<G: CurveGroup + TECoordinates, W: Window>(
+pub fn hash_halves<G: AdditiveGroup + TECoordinates, W: Window>(
     generators: &[Vec<G>],
     left: &[u8],
     right: &[u8],
@@ -61,7 +61,7 @@ pub fn hash_halves<G: CurveGroup + TECoordinates, W: Window>(
 }
 
 // The sum of the elements, each as often as the digit of its chunk of left followed by right, and of zeros behind them.
-fn sum_of_text<G: CurveGroup, W: Window>(
+fn sum_of_text<G: AdditiveGroup, W: Window>(
     generators: &[Vec<G>],
     left: &[u8],
     right: &[u8],
@@ -73,7 +73,7 @@ fn sum_of_text<G: CurveGroup, W: Window>(
         let number = number_of_bytes (left.now ++ right.now) in
         result ≡ digits_sum G.group all (chunks_of (bits_of_number (3 * chunks) number)) }
 {
-    let mut sum = G::zero();
+    let mut sum = G::zero().to_sum();
     for group in 0..chunks.div_ceil(8) {
         let first = 8 * group;
         let end = first + (chunks - first).min(8);
@@ -85,27 +85,27 @@ fn sum_of_text<G: CurveGroup, W: Window>(
             number_at(left, right, 3 * group),
         );
     }
-    sum
+    G::from_sum(sum)
 }
 
 // The sum with the elements from one place to another, each as often as the digit of its chunk of a number says.
-fn add_chunks<G: CurveGroup, W: Window>(
-    mut sum: G,
+fn add_chunks<G: AdditiveGroup, W: Window>(
+    mut sum: G::Sum,
     generators: &[Vec<G>],
     first: usize,
     end: usize,
     mut number: u32,
-) -> G
+) -> G::Sum
     requires shape { IsTrue (has_shape W.NUM_WINDOWS W.WINDOW_SIZE (lists_in generators.now)) }
     requires ordered { first ≤ end }
     requires within { end ≤ W.WINDOW_SIZE * W.NUM_WINDOWS }
     ensures { let behind = drop first (concatenation (lists_in generators.now)) in
         let chunks = chunks_of (bits_of_number (3 * (end - first)) number) in
-        result ≡ G.group.plus sum (digits_sum G.group behind chunks) }
+        G.total result ≡ G.group.plus (G.total sum) (digits_sum G.group behind chunks) }
 {
     for place in first..end {
         let x = generators[place / W::WINDOW_SIZE][place % W::WINDOW_SIZE];
-        sum = add_digit(
+        sum = add_digit::<G>(
             sum,
             x,
             number % 2 == 1,
@@ -118,18 +118,18 @@ fn add_chunks<G: CurveGroup, W: Window>(
 }
 
 // The sum with an element as often as the digit of a chunk says.
-fn add_digit<G: CurveGroup>(sum: G, x: G, a: bool, b: bool, is_negative: bool) -> G
+fn add_digit<G: AdditiveGroup>(sum: G::Sum, x: G, a: bool, b: bool, is_negative: bool) -> G::Sum
     ensures { let times = signed_times G.group (digit (a, b, is_negative)) in
-        result ≡ G.group.plus sum (times x) }
+        G.total result ≡ G.group.plus (G.total sum) (times x) }
 {
-    let once = signed(x, is_negative);
-    let twice = once.double();
-    let more = sum.add(if a { twice } else { once });
-    if b { more.add(twice) } else { more }
+    let once = signed(x, is_negative).to_sum();
+    let twice = G::double_sum(once);
+    let more = G::add_sums(sum, if a { twice } else { once });
+    if b { G::add_sums(more, twice) } else { more }
 }
 
 // The element or its opposite.
-fn signed<G: CurveGroup>(x: G, is_negative: bool) -> G
+fn signed<G: AdditiveGroup>(x: G, is_negative: bool) -> G
     ensures { result ≡ (if is_negative then G.group.opposite x else x) }
 {
     if is_negative { x.neg() } else { x }

@@ -12,19 +12,19 @@ use crate::{CRH, Parameters};
 use ark_base::error::Error;
 use ark_base::serialize::{DigestItem, Duplicate, canonical_bytes};
 use ark_crh::{CRHScheme, TwoToOneCRHScheme};
-use ark_groups::ec::{CurveGroup, TECoordinates};
+use ark_groups::ec::{AdditiveGroup, TECoordinates};
 use ark_pedersen::Window;
 use rand::Rng;
 use std::alloc::Global;
 use std::marker::PhantomData;
 
 /// The Bowe-Hopwood hash of two inputs, each of at most half as many bits as there are chunks in all windows.
-pub struct TwoToOneCRH<G: CurveGroup + TECoordinates, W: Window> {
+pub struct TwoToOneCRH<G: AdditiveGroup + TECoordinates, W: Window> {
     group: PhantomData<G>,
     window: PhantomData<W>,
 }
 
-impl<G: CurveGroup + TECoordinates, W: Window> TwoToOneCRH<G, W> {
+impl<G: AdditiveGroup + TECoordinates, W: Window> TwoToOneCRH<G, W> {
     /// Acts as `CRH::create_generators`.
     pub fn create_generators<R: Rng>(alloc: Global, rng: &mut R) -> Result<Vec<Vec<G>>, Error>
         ensures made { let AreMade = AreDrawnSegments G.group G.draw W.Window (R.stream rng.old) in
@@ -37,7 +37,7 @@ impl<G: CurveGroup + TECoordinates, W: Window> TwoToOneCRH<G, W> {
     }
 }
 
-impl<G: CurveGroup + TECoordinates, W: Window> TwoToOneCRHScheme for TwoToOneCRH<G, W>
+impl<G: AdditiveGroup + TECoordinates, W: Window> TwoToOneCRHScheme for TwoToOneCRH<G, W>
 where
     G::BaseField: DigestItem,
 {

@@ -59,7 +59,7 @@ abbrev pub lists_in : {G Z : Type 0} → List (Vec G Z) → List (List G)
 lists_in lists = map (λ list. list.items) lists
 
 -- the generators of parameters: a list for each window
-abbrev pub generators_in : {G S : Type 0} → Parameters G S → List (List G)
+abbrev pub generators_in : {G S T : Type 0} → Parameters G S T → List (List G)
 generators_in parameters = lists_in parameters.generators.items
 
 -- the lists, one behind the other

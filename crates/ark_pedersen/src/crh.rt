@@ -11,18 +11,18 @@ use crate::window::Window;
 use ark_base::error::Error;
 use ark_base::serialize::DigestItem;
 use ark_crh::CRHScheme;
-use ark_groups::ec::CurveGroup;
+use ark_groups::ec::AdditiveGroup;
 use rand::Rng;
 use std::alloc::Global;
 use std::marker::PhantomData;
 
 /// The Pedersen hash of one input.
-pub struct CRH<C: CurveGroup, W: Window> {
+pub struct CRH<C: AdditiveGroup, W: Window> {
     group: PhantomData<C>,
     window: PhantomData<W>,
 }
 
-impl<C: CurveGroup, W: Window> CRH<C, W> {
+impl<C: AdditiveGroup, W: Window> CRH<C, W> {
     /// Returns a list for each window: an element that is drawn, then its doublings. The only error is `OutOfMemory`.
     pub fn create_generators<R: Rng>(alloc: Global, rng: &mut R) -> Result<Vec<Vec<C>>, Error>
         ensures made { let stream = R.stream rng.old in
@@ -59,7 +59,7 @@ impl<C: CurveGroup, W: Window> CRH<C, W> {
     }
 }
 
-impl<C: CurveGroup + DigestItem, W: Window> CRHScheme for CRH<C, W> {
+impl<C: AdditiveGroup + DigestItem, W: Window> CRHScheme for CRH<C, W> {
     ghost use Rattle.std.proofs.Common.{sym, ap, ◌∙◌};
     ghost use Rattle.ark_pedersen.specs.Laws.Pedersen.{seen-decided, pedersen-decided};
 

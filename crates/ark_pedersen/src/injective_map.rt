@@ -10,7 +10,7 @@ use crate::{CRH, Parameters, TwoToOneCRH, Window, hash_bytes, hash_halves};
 use ark_base::error::Error;
 use ark_base::serialize::{CanonicalItem, DigestItem, Duplicate, canonical_bytes};
 use ark_crh::{CRHScheme, TwoToOneCRHScheme};
-use ark_groups::ec::{CurveGroup, TECoordinates};
+use ark_groups::ec::{AdditiveGroup, TECoordinates};
 use rand::Rng;
 use std::alloc::Global;
 use std::fmt::Debug;
@@ -44,7 +44,7 @@ pub trait InjectiveMap<C> {
 /// The first coordinate.
 pub struct TECompressor;
 
-impl<C: CurveGroup + TECoordinates> InjectiveMap<C> for TECompressor {
+impl<C: AdditiveGroup + TECoordinates> InjectiveMap<C> for TECompressor {
     ghost use Rattle.ark_pedersen.specs.Laws.Images.{number_bytes-Decides};
 
     type Output = C::BaseField;
@@ -62,19 +62,19 @@ impl<C: CurveGroup + TECoordinates> InjectiveMap<C> for TECompressor {
 
     ghost equal_if_same = { λ a b.
         number_bytes-Decides C.BaseField.MODULUS C.BaseField.MODULUS_BIT_SIZE
-        C.BaseField.modulus_laws _ _
-        (C.BaseField.PrimeField.laws.below a) (C.BaseField.PrimeField.laws.below b) _ _
+        C.BaseField.modulus_laws.digits _ _
+        (C.BaseField.Field.laws.below a) (C.BaseField.Field.laws.below b) _ _
         (C.BaseField.spelling_is a) (C.BaseField.spelling_is b) _
         (C.BaseField.equal_if_same a b) };
 }
 
 /// The map after the Pedersen hash of one input.
-pub struct PedersenCRHCompressor<C: CurveGroup, I: InjectiveMap<C>, W: Window> {
+pub struct PedersenCRHCompressor<C: AdditiveGroup, I: InjectiveMap<C>, W: Window> {
     compressor: PhantomData<I>,
     crh: PhantomData<CRH<C, W>>,
 }
 
-impl<C: CurveGroup, I: InjectiveMap<C>, W: Window> CRHScheme for PedersenCRHCompressor<C, I, W>
+impl<C: AdditiveGroup, I: InjectiveMap<C>, W: Window> CRHScheme for PedersenCRHCompressor<C, I, W>
 where
     I::Output: DigestItem,
 {
@@ -129,12 +129,12 @@ where
 }
 
 /// The map after the Pedersen hash of two inputs.
-pub struct PedersenTwoToOneCRHCompressor<C: CurveGroup, I: InjectiveMap<C>, W: Window> {
+pub struct PedersenTwoToOneCRHCompressor<C: AdditiveGroup, I: InjectiveMap<C>, W: Window> {
     compressor: PhantomData<I>,
     crh: PhantomData<TwoToOneCRH<C, W>>,
 }
 
-impl<C: CurveGroup, I: InjectiveMap<C>, W: Window> TwoToOneCRHScheme
+impl<C: AdditiveGroup, I: InjectiveMap<C>, W: Window> TwoToOneCRHScheme
     for PedersenTwoToOneCRHCompressor<C, I, W>
 where
     I::Output: DigestItem,

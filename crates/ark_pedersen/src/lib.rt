@@ -12,6 +12,6 @@ mod window;
 pub use bits::bytes_to_bits;
 pub use crh::CRH;
 pub use parameters::Parameters;
-pub use sums::{has_shape, hash_bytes, hash_halves};
+pub use sums::{has_shape, hash_bytes, hash_halves, sum_of_bytes};
 pub use two_to_one::TwoToOneCRH;
 pub use window::Window;

@@ -10,18 +10,18 @@ use crate::{CRH, Parameters, Window, hash_halves};
 use ark_base::error::Error;
 use ark_base::serialize::{DigestItem, Duplicate, canonical_bytes};
 use ark_crh::{CRHScheme, TwoToOneCRHScheme};
-use ark_groups::ec::CurveGroup;
+use ark_groups::ec::AdditiveGroup;
 use rand::Rng;
 use std::alloc::Global;
 use std::marker::PhantomData;
 
 /// The Pedersen hash of two inputs, each of at most half of the windows' bits.
-pub struct TwoToOneCRH<C: CurveGroup, W: Window> {
+pub struct TwoToOneCRH<C: AdditiveGroup, W: Window> {
     group: PhantomData<C>,
     window: PhantomData<W>,
 }
 
-impl<C: CurveGroup, W: Window> TwoToOneCRH<C, W> {
+impl<C: AdditiveGroup, W: Window> TwoToOneCRH<C, W> {
     /// Acts as `CRH::create_generators`.
     pub fn create_generators<R: Rng>(alloc: Global, rng: &mut R) -> Result<Vec<Vec<C>>, Error>
         ensures made { let stream = R.stream rng.old in
@@ -48,7 +48,7 @@ impl<C: CurveGroup, W: Window> TwoToOneCRH<C, W> {
     }
 }
 
-impl<C: CurveGroup + DigestItem, W: Window> TwoToOneCRHScheme for TwoToOneCRH<C, W> {
+impl<C: AdditiveGroup + DigestItem, W: Window> TwoToOneCRHScheme for TwoToOneCRH<C, W> {
     ghost use Rattle.std.proofs.Common.{sym, ap, ◌∙◌};
     ghost use Rattle.ark_pedersen.specs.Laws.Pedersen.{seen-decided, halves-decided};
 

@@ -2,9 +2,9 @@ pub mod ExtendedFacts
 pub mod ExtendedLaws
 pub mod PowerSteps
 pub mod GroupLaws
-pub mod Halves
+pub mod Digits
 pub mod PointTests
-pub mod Ladder
-pub mod Generator
 pub mod OrderPrime
 pub mod Spelled
+pub mod ItemBytes
+pub mod Totals

@@ -2,9 +2,10 @@
 use Rattle.ark_groups.specs.Group.{Group}
 use Rattle.jubjub.specs.declared.element.Jubjub.{Jubjub}
 use Rattle.jubjub.specs.Edwards.{Coordinates, sum, neutral, negative}
-use Rattle.jubjub.specs.Jubjub.{p, d}
+use Rattle.jubjub.specs.Jubjub.{p, d, base_point}
 use Rattle.jubjub.specs.Laws.Points.{neutral_in_subgroup, sum_in_subgroup, negative_in_subgroup}
 use Rattle.jubjub.specs.Laws.Elements.{element, coordinates_of}
+use Rattle.jubjub.specs.Laws.Generator.{generator_in_subgroup}
 
 -- the coordinates of an element
 abbrev pub coordinates : Jubjub → Coordinates
@@ -18,3 +19,7 @@ jubjub = record {
       (sum_in_subgroup (coordinates a) (coordinates b) a.in_subgroup b.in_subgroup);
   opposite = λ a. element (negative p (coordinates a)) (negative_in_subgroup (coordinates a) a.in_subgroup);
 }
+
+-- the generator of the prime subgroup
+unfoldable pub base : Jubjub
+base = element base_point generator_in_subgroup

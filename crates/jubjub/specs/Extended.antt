@@ -1,8 +1,9 @@
 -- Points by four coordinates, whose sums need no division.
-use Rattle.std.specs.Prelude.{◌≡◌, ◌*◌, ◌%◌}
+use Rattle.std.specs.Prelude.{◌≡◌, ℕ, ◌*◌, ◌%◌, ◌<◌, List, get_or}
+use Rattle.ark_groups.specs.Group.{times}
 use Rattle.jubjub.specs.declared.extended.Extended.{Extended}
-use Rattle.jubjub.specs.Edwards.{Coordinates}
-use Rattle.jubjub.specs.Jubjub.{p}
+use Rattle.jubjub.specs.Edwards.{Coordinates, over}
+use Rattle.jubjub.specs.Jubjub.{p, curve, IsInSubgroup}
 use Rattle.jubjub.specs.Values.{value}
 
 -- four coordinates X, Y, Z and T stand for the point with x = X / Z, y = Y / Z and x y = T / Z
@@ -11,3 +12,16 @@ pub record Stands (e : Extended) (a : Coordinates) : Type 0 where
   pub first : value e.x % p ≡ a.x * value e.z % p
   pub second : value e.y % p ≡ a.y * value e.z % p
   pub both : value e.t % p ≡ a.x * a.y * value e.z % p
+
+-- the coordinates X / Z and Y / Z
+abbrev pub affine_at : Extended → Coordinates
+affine_at e = record { x = over p (value e.x) (value e.z); y = over p (value e.y) (value e.z) }
+
+-- four coordinates stand for a point of the prime subgroup
+pub record IsInside (e : Extended) : Type 0 where
+  pub stands : Stands e (affine_at e)
+  pub in_subgroup : IsInSubgroup (affine_at e)
+
+-- the first n of a list stand for the multiples of a point by 0, 1, 2 ..
+abbrev pub AreMultiples : Coordinates → ℕ → List Extended → Type 0
+AreMultiples a n table = (k : ℕ) (e : Extended) → k < n → Stands (get_or table k e) (times curve k a)

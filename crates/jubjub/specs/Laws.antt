@@ -10,3 +10,9 @@ pub mod Points
 pub mod Quotients
 pub mod RootFacts
 pub mod Elements
+pub mod Generator
+pub mod Group
+pub mod Ladder
+pub mod Spelling
+pub mod Extended
+pub mod Digests

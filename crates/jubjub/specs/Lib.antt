@@ -4,5 +4,7 @@ pub mod Values
 pub mod Extended
 pub mod Elements
 pub mod Spelling
+pub mod Sums
+pub mod Draws
 pub mod Theorems
 pub mod Laws

@@ -11,6 +11,12 @@ use crate::multiple::{is_on_curve, multiple, order_of_subgroup};
 use ark_groups::ff::{Field, Words};
 use ark_wide_fields::Bls12_381Fr;
 
+mod digest;
+mod item;
+mod sums;
+
+pub use sums::JubjubSum;
+
 // The coordinates of the generator.
 const GENERATOR_X: Words = Words {
     w0: 4497696437803487787,
@@ -34,6 +40,18 @@ pub struct Jubjub {
     ghost in_subgroup: { IsInSubgroup (record { x = value x; y = value y }) } by { in_subgroup_alike _ },
 }
 
+/// Zero.
+impl Default for Jubjub {
+    ghost use Rattle.std.specs.Prelude.{◌≡◌};
+    ghost use Rattle.jubjub.specs.Elements.{jubjub};
+
+    ghost is_default = { λ x. x ≡ jubjub.identity };
+
+    fn default() -> Jubjub {
+        Jubjub::zero()
+    }
+}
+
 impl Jubjub {
     ghost use Rattle.std.specs.Prelude.{◌≡◌, ◌≢◌, ◌↔◌, IsNone, IfSome};
     ghost use Rattle.ark_groups.specs.Group.{times};
@@ -41,7 +59,7 @@ impl Jubjub {
     ghost use Rattle.jubjub.specs.Edwards.{neutral, negative, sum};
     ghost use Rattle.jubjub.specs.Jubjub.{p, d, curve, base_point};
     ghost use Rattle.jubjub.specs.declared.element.Jubjub.{Jubjub};
-    ghost use Rattle.jubjub.specs.Elements.{coordinates, jubjub};
+    ghost use Rattle.jubjub.specs.Elements.{coordinates, jubjub, base};
     ghost use Rattle.jubjub.specs.Spelling.{spelling};
 
     // The element of coordinates that are known to be in the subgroup.
@@ -62,7 +80,8 @@ impl Jubjub {
 
     /// Returns the generator of the subgroup.
     pub fn generator() -> Jubjub
-        ensures { coordinates result ≡ base_point }
+        ensures element { result ≡ base }
+        ensures coordinates { coordinates result ≡ base_point }
     {
         Jubjub::of(
             Bls12_381Fr::from_words(GENERATOR_X),

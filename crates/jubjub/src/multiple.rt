@@ -1,18 +1,21 @@
 //! Multiples of points, and the tests of a point.
 
-ghost use Rattle.std.specs.Prelude.{◌≡◌};
+ghost use Rattle.std.specs.Prelude.{◌≡◌, ℕ, ◌+◌, ◌*◌, ◌<◌, false};
 ghost use Rattle.std.specs.Bool.{Decides};
 ghost use Rattle.ark_groups.specs.Group.{times};
 ghost use Rattle.ark_groups.specs.Words.{number};
 ghost use Rattle.jubjub.specs.Edwards.{Coordinates, neutral, IsOnCurve};
 ghost use Rattle.jubjub.specs.Jubjub.{p, d, order, curve, IsOnJubjub};
-ghost use Rattle.jubjub.specs.Extended.{Stands};
+ghost use Rattle.jubjub.specs.Extended.{Stands, AreMultiples};
 ghost use Rattle.jubjub.specs.Values.{value};
 
 use crate::extended::{Extended, coefficient, doubled, plus, zero};
-use crate::scalar::{halved, is_nothing, is_odd};
+use crate::scalar::highest_digit;
 use ark_groups::ff::{Field, Words};
 use ark_wide_fields::Bls12_381Fr;
+
+// How many digits to base 16 four words have.
+const DIGITS: u32 = 64;
 
 /// Returns the order of the prime subgroup.
 pub fn order_of_subgroup() -> Words
@@ -26,21 +29,60 @@ pub fn order_of_subgroup() -> Words
     }
 }
 
-/// Returns the point, added as often as the scalar says.
+// The multiples of a point by 0 to 15.
+fn multiples(coefficient: Bls12_381Fr, a: Extended) -> [Extended; 16]
+    requires { value coefficient ≡ d }
+    ensures { (s : Coordinates) → IsOnJubjub s → Stands a s → AreMultiples s 16 result }
+{
+    let mut table = [zero(); 16];
+    for i in 1..16 {
+        table[i] = plus(coefficient, table[i - 1], a);
+    }
+    table
+}
+
+// Sixteen times a multiple of a point, and a digit's multiple more. What has not begun is zero.
+#[inline(always)]
+fn with_digit(
+    coefficient: Bls12_381Fr,
+    table: &[Extended; 16],
+    sum: Extended,
+    begun: bool,
+    digit: usize,
+) -> Extended
+    requires coefficient { value coefficient ≡ d }
+    requires digit { digit < 16 }
+    ensures { (s : Coordinates) (m : ℕ) → IsOnJubjub s → AreMultiples s 16 table.now
+        → Stands sum (times curve m s) → (begun ≡ false → m ≡ 0)
+        → Stands result (times curve (16 * m + digit) s) }
+{
+    let sum = if begun {
+        doubled(doubled(doubled(doubled(sum))))
+    } else {
+        sum
+    };
+    if digit == 0 {
+        sum
+    } else {
+        plus(coefficient, sum, table[digit])
+    }
+}
+
+/// Returns the point, added as often as the scalar says: by the scalar's digits to base 16, from the highest on.
 pub fn multiple(a: Extended, scalar: Words) -> Extended
     ensures { (s : Coordinates) → IsOnJubjub s → Stands a s
         → Stands result (times curve (number scalar) s) }
 {
-    let mut rest = scalar;
-    let d = coefficient();
+    let coefficient = coefficient();
+    let table = multiples(coefficient, a);
     let mut sum = zero();
-    let mut power = a;
-    while !is_nothing(rest) {
-        if is_odd(rest) {
-            sum = plus(d, sum, power);
-        }
-        power = doubled(power);
-        rest = halved(rest);
+    let mut begun = false;
+    let mut rest = scalar;
+    for _ in 0..DIGITS {
+        let (digit, others) = highest_digit(rest);
+        sum = with_digit(coefficient, &table, sum, begun, digit);
+        begun = begun || digit > 0;
+        rest = others;
     }
     sum
 }

@@ -5,8 +5,11 @@ use ark_groups::ff::{Field, Words};
 use ark_wide_fields::Bls12_381Fr;
 use std::alloc::Global;
 
-// Whether an element of the field has this text.
-fn is(alloc: Global, element: Bls12_381Fr, text: &str) -> bool {
+mod bytes;
+mod group;
+
+// Whether an element of a field has this text.
+fn is<F: Field>(alloc: Global, element: F, text: &str) -> bool {
     match format!(in alloc; "{element:?}") {
         Ok(written) => written.as_str() == text,
         Err(_) => false,

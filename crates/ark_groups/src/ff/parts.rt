@@ -5,9 +5,8 @@ ghost use Rattle.std.specs.Bool.{Decides};
 ghost use Rattle.ark_base.specs.Digits.{bytes_of_number};
 ghost use Rattle.ark_groups.specs.Bits.{number_of_bits};
 
-use crate::ff::{Field, PrimeField, is_same_number};
+use crate::ff::{Field, is_same_number};
 use ark_base::error::Error;
-use ark_base::serialize::serialize_number;
 
 /// Returns whether two fields have one modulus.
 pub fn is_same_field<F: Field, G: Field>() -> bool
@@ -27,17 +26,16 @@ pub fn same_element<F: Field, G: Field>(element: G) -> F
 /// Appends the `count` lowest bytes of an element's number, the least first. Bytes past the number's are 0.
 ///
 /// The only error is `OutOfMemory`, and it leaves `dest` as before.
-pub fn push_low_bytes<F: PrimeField>(
-    element: F,
-    count: usize,
-    dest: &mut Vec<u8>,
-) -> Result<(), Error>
-    requires { count ≤ 8 }
+pub fn push_low_bytes<F: Field>(element: F, count: usize, dest: &mut Vec<u8>) -> Result<(), Error>
+    requires { count ≤ 32 }
     ensures { MatchResult result
         (λ _. dest.new.items ≡ dest.old.items ++ bytes_of_number count (F.value element))
         (λ error. (error ≡ Error.OutOfMemory) × (dest.new.items ≡ dest.old.items)) }
 {
-    serialize_number(element.value(), count, dest)
+    let mut bytes = [0; 32];
+    element.write_low_bytes(&mut bytes[..count]);
+    dest.extend_from_slice(&bytes[..count])?;
+    Ok(())
 }
 
 /// Returns the number that bits are, the lowest first, modulo the modulus.

@@ -4,16 +4,16 @@ use Rattle.std.specs.Bool.{Decides}
 use Rattle.ark_base.specs.Digits.{bytes_of_number, bytes_for}
 use Rattle.ark_base.specs.Reading.{Reading, IsCanonical}
 use Rattle.ark_base.specs.Laws.Parts.{spelling-alone}
-use Rattle.ark_groups.specs.Field.{IsModulus}
+use Rattle.ark_groups.specs.Field.{HasBits}
 use Rattle.ark_groups.specs.Laws.Fp.{number-alone}
 
 -- of elements of a field, whose bytes are those of their numbers
-pub number_bytes-Decides : (p bits : ℕ) → IsModulus p bits → (m n : ℕ) → m < p → n < p → (x y : List ℕ)
+pub number_bytes-Decides : (p bits : ℕ) → HasBits p bits → (m n : ℕ) → m < p → n < p → (x y : List ℕ)
     → x ≡ bytes_of_number (bytes_for bits) m → y ≡ bytes_of_number (bytes_for bits) n
     → (equal : Bool) → Decides equal (m ≡ n) → Decides equal (x ≡ y)
-number_bytes-Decides p bits laws m n below_m below_n x y of_m of_n equal decides = (
+number_bytes-Decides p bits has m n below_m below_n x y of_m of_n equal decides = (
   λ t. of_m ∙ ap (bytes_of_number (bytes_for bits)) (decides.0 t) ∙ sym of_n,
-  λ e. decides.1 (number-alone p bits laws m n below_m below_n (sym of_m ∙ e ∙ of_n)),
+  λ e. decides.1 (number-alone p bits has m n below_m below_n (sym of_m ∙ e ∙ of_n)),
 )
 
 -- of values that are known by their canonical values

@@ -1,8 +1,7 @@
 use Rattle.std.proofs.Common.{◌≡◌, ℕ, suc, ◌+◌, ◌-◌, ◌≤◌, ◌++◌, ◌∷◌, List, [], ◌∙◌, sym, ap, append_assoc, arith}
 use Rattle.std.proofs.lemmas.List.{append-nil}
-use Rattle.ark_groups.specs.Group.{Group, IsCommutativeGroup, times}
+use Rattle.ark_groups.specs.Group.{Group, times}
 use Rattle.ark_bowe_hopwood.specs.BoweHopwood.{sixteenfolds}
-use Rattle.ark_bowe_hopwood.proofs.SignedTimes.{sixteen}
 use Rattle.ark_bowe_hopwood.proofs.crh.segment.Goals as goal
 
 step : {G : Type 0} (g : Group G) (front new : List G) (x next : G) (count i : ℕ) (whole : List G) → i + 1 ≤ count → new
@@ -24,21 +23,11 @@ all {G} g front x count i whole done so_far =
     let none : count - i ≡ 0 = omega arith in
     sym (ap (λ (n : ℕ). front ++ sixteenfolds g n x) none ∙ append-nil front) ∙ so_far
 
--- doubled four times
-doubled : {G : Type 0} {g : Group G} (laws : IsCommutativeGroup g) (x a b c d : G) → a ≡ g.plus x x → b ≡ g.plus a a → c
-    ≡ g.plus b b → d ≡ g.plus c c → d ≡ times g 16 x
-doubled {G} {g} laws x a b c d first second third fourth =
-    let twice : G → G = λ y. g.plus y y in
-    fourth ∙ ap twice (third ∙ ap twice (second ∙ ap twice first)) ∙ sixteen laws x
-
 pub loop-preserved : goal.loop-preserved
 loop-preserved g c =
-    step g.G.CurveGroup.group c.loop.list.items c.push.new.self.items c.loop.last c.double-last.result c.args.count
-    c.loop.counter _ (omega arith) c.in_ok-push.ensures.items
-    (doubled g.met.G.CurveGroup.laws c.loop.last c.double.result c.double-in-loop.result c.double-in-loop-2.result
-    c.double-last.result c.double.ensures c.double-in-loop.ensures c.double-in-loop-2.ensures c.double-last.ensures)
-    c.loop.invariant
+    step g.G.AdditiveGroup.group c.loop.list.items c.push.new.self.items c.loop.last c.sixteenfold-last.result
+    c.args.count c.loop.counter _ (omega arith) c.in_ok-push.ensures.items c.sixteenfold-last.ensures c.loop.invariant
 
 pub returns-clause-made : goal.returns-clause-made
-returns-clause-made g c = all g.G.CurveGroup.group c.loop.list.items c.loop.last c.args.count c.loop.counter _
+returns-clause-made g c = all g.G.AdditiveGroup.group c.loop.list.items c.loop.last c.args.count c.loop.counter _
     (omega arith) c.loop.invariant

@@ -7,8 +7,9 @@ use Rattle.ark_bowe_hopwood.proofs.sums.add_chunks.Given as goal
 -- what was added, and what is still to be added, are the whole
 abbrev pub invariant-loop-place : goal.invariant-loop-place
 invariant-loop-place g l =
-    let group = g.G.CurveGroup.group in
+    let group = g.G.AdditiveGroup.group in
+    let total = g.G.AdditiveGroup.total in
     let all = concatenation (lists_in l.generators) in
     let sum = λ (place number : ℕ). digits_sum group (drop place all) (chunks_of (bits_of_number (3 * (l.end - place))
     number)) in
-    group.plus l.sum (sum l.place l.number) ≡ group.plus l.fn.sum (sum l.first l.fn.number)
+    group.plus (total l.sum) (sum l.place l.number) ≡ group.plus (total l.fn.sum) (sum l.first l.fn.number)

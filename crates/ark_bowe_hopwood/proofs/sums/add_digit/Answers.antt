@@ -16,23 +16,31 @@ added {G} {g} laws sum x once twice first a b c is_once is_twice is_first =
 
 pub returns-then-b : goal.returns-then-b
 returns-then-b g c =
-    let group = g.G.CurveGroup.group in
-    let first : c.if-a.add ≡ cond c.args.a c.double-twice.result c.signed-once.result = elim c.if-a.branch
-    [ then-a w ↦ rw (w.add-is, w.if-a.true) refl | else-a w ↦ rw (w.add-is, w.if-a.false) refl ] in
-    c.add.ensures
-    ∙ ap (λ (m : g.row.G.Denot). group.plus m c.double-twice.result) c.add-more.ensures
-    ∙ sym (ap (λ (b : Bool). cond b (group.plus (group.plus c.args.sum c.if-a.add) c.double-twice.result)
-    (group.plus c.args.sum c.if-a.add)) c.if-b.true)
-    ∙ added g.met.G.CurveGroup.laws c.args.sum c.args.x c.signed-once.result c.double-twice.result c.if-a.add c.args.a
-    c.args.b c.args.is_negative c.signed-once.ensures c.double-twice.ensures first
+    let group = g.G.AdditiveGroup.group in
+    let total = g.G.AdditiveGroup.total in
+    let once = total c.to_sum-once.result in
+    let twice = total c.double_sum-twice.result in
+    let sum = total c.args.sum in
+    let first = total c.if-a.add_sums in
+    let is_first : first ≡ cond c.args.a twice once = elim c.if-a.branch
+    [ then-a w ↦ rw (w.add_sums-is, w.if-a.true) refl | else-a w ↦ rw (w.add_sums-is, w.if-a.false) refl ] in
+    c.add_sums.ensures
+    ∙ ap (λ (m : g.row.G.Denot). group.plus m twice) c.add_sums-more.ensures
+    ∙ sym (ap (λ (b : Bool). cond b (group.plus (group.plus sum first) twice) (group.plus sum first)) c.if-b.true)
+    ∙ added g.met.G.AdditiveGroup.laws sum c.args.x once twice first c.args.a c.args.b c.args.is_negative
+    (c.to_sum-once.ensures ∙ c.signed.ensures) c.double_sum-twice.ensures is_first
 
 pub returns-else-b : goal.returns-else-b
 returns-else-b g c =
-    let group = g.G.CurveGroup.group in
-    let first : c.if-a.add ≡ cond c.args.a c.double-twice.result c.signed-once.result = elim c.if-a.branch
-    [ then-a w ↦ rw (w.add-is, w.if-a.true) refl | else-a w ↦ rw (w.add-is, w.if-a.false) refl ] in
-    c.add-more.ensures
-    ∙ sym (ap (λ (b : Bool). cond b (group.plus (group.plus c.args.sum c.if-a.add) c.double-twice.result)
-    (group.plus c.args.sum c.if-a.add)) c.if-b.false)
-    ∙ added g.met.G.CurveGroup.laws c.args.sum c.args.x c.signed-once.result c.double-twice.result c.if-a.add c.args.a
-    c.args.b c.args.is_negative c.signed-once.ensures c.double-twice.ensures first
+    let group = g.G.AdditiveGroup.group in
+    let total = g.G.AdditiveGroup.total in
+    let once = total c.to_sum-once.result in
+    let twice = total c.double_sum-twice.result in
+    let sum = total c.args.sum in
+    let first = total c.if-a.add_sums in
+    let is_first : first ≡ cond c.args.a twice once = elim c.if-a.branch
+    [ then-a w ↦ rw (w.add_sums-is, w.if-a.true) refl | else-a w ↦ rw (w.add_sums-is, w.if-a.false) refl ] in
+    c.add_sums-more.ensures
+    ∙ sym (ap (λ (b : Bool). cond b (group.plus (group.plus sum first) twice) (group.plus sum first)) c.if-b.false)
+    ∙ added g.met.G.AdditiveGroup.laws sum c.args.x once twice first c.args.a c.args.b c.args.is_negative
+    (c.to_sum-once.ensures ∙ c.signed.ensures) c.double_sum-twice.ensures is_first

@@ -47,20 +47,22 @@ step {G} {g} laws all text sum new i m count number fits few is added =
     ∙ sym (ap (λ (n : ℕ). digits_sum g xs (chunks_of (bits_of_number (3 * (m - 8 * i)) n))) (three_bytes t)))
 
 pub loop-group-init : goal.loop-group-init
-loop-group-init g c = rw c.zero-sum.ensures (g.met.G.CurveGroup.laws.left_identity _)
+loop-group-init g c = rw (c.to_sum-sum.ensures, c.zero.ensures) (g.met.G.AdditiveGroup.laws.left_identity _)
 
 pub loop-group-preserved : goal.loop-group-preserved
 loop-group-preserved g c =
-    let group = g.G.CurveGroup.group in
+    let group = g.G.AdditiveGroup.group in
     let all = concatenation (lists_in c.args.generators.now) in
     let text = c.args.left.now ++ c.args.right.now in
     let i = c.loop-group.group in
     let fits : IsBytes text = IsBytes-append c.args.left.now c.args.right.now (λ k. omega (arith, c.type_inv.left k))
     (λ k. omega (arith, c.type_inv.right k)) in
     let count : 8 * i + c.min.result - 8 * i ≡ c.min.result = omega arith in
-    step g.met.G.CurveGroup.laws all text c.loop-group.sum c.add_chunks-sum.result i c.args.chunks c.min.result
+    let sum = g.G.AdditiveGroup.total c.loop-group.sum in
+    step g.met.G.AdditiveGroup.laws all text sum (g.G.AdditiveGroup.total c.add_chunks-sum.result) i c.args.chunks
+    c.min.result
     c.number_at.result fits c.min.ensures c.number_at.ensures
-    (c.add_chunks-sum.ensures ∙ ap (λ (n : ℕ). group.plus c.loop-group.sum (digits_sum group (drop (8 * i) all)
+    (c.add_chunks-sum.ensures ∙ ap (λ (n : ℕ). group.plus sum (digits_sum group (drop (8 * i) all)
     (chunks_of (bits_of_number (3 * n) c.number_at.result)))) count)
     ∙ c.loop-group.invariant
 
@@ -69,7 +71,8 @@ returns g c =
     let none : 3 * (c.args.chunks - 8 * c.loop-group.group) ≡ 0 =
     omega (arith, c.loop-group-test.false, c.div_ceil-group-end.ensures) in
     let all : c.args.chunks - 0 ≡ c.args.chunks = omega arith in
-    digits_sum-done g.met.G.CurveGroup.laws _ c.loop-group.sum _ (3 * (c.args.chunks - 8 * c.loop-group.group)) _ none
+    c.from_sum.ensures
+    ∙ digits_sum-done g.met.G.AdditiveGroup.laws _ (g.G.AdditiveGroup.total c.loop-group.sum) _ (3 * (c.args.chunks - 8 * c.loop-group.group)) _ none
     c.loop-group.invariant
-    ∙ ap (λ (n : ℕ). digits_sum g.G.CurveGroup.group (concatenation (lists_in c.args.generators.now))
+    ∙ ap (λ (n : ℕ). digits_sum g.G.AdditiveGroup.group (concatenation (lists_in c.args.generators.now))
     (chunks_of (bits_of_number (3 * n) (number_of_bytes (c.args.left.now ++ c.args.right.now))))) all

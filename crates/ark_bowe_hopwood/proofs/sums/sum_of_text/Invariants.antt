@@ -8,9 +8,9 @@ use Rattle.ark_bowe_hopwood.proofs.sums.sum_of_text.Given as goal
 -- what was added, and what is still to be added, are the whole
 abbrev pub invariant-loop-group : goal.invariant-loop-group
 invariant-loop-group g l =
-    let group = g.G.CurveGroup.group in
+    let group = g.G.AdditiveGroup.group in
     let all = concatenation (lists_in l.generators) in
     let text = l.left ++ l.right in
     let sum = λ (i : ℕ). digits_sum group (drop (8 * i) all) (chunks_of (bits_of_number (3 * (l.chunks - 8 * i))
     (number_of_bytes (drop (3 * i) text)))) in
-    group.plus l.sum (sum l.group) ≡ sum 0
+    group.plus (g.G.AdditiveGroup.total l.sum) (sum l.group) ≡ sum 0

@@ -64,8 +64,9 @@ add_word-sum-requires-clause-fits g c =
 pub loop-start-preserved : goal.loop-start-preserved
 loop-start-preserved g c =
     let all = concatenation (lists_in c.args.generators.now) in
+    let total = g.C.AdditiveGroup.total in
     let fits : IsBytes c.args.bytes.now = λ i. omega (arith, c.type_inv.bytes i) in (
-      step g.met.C.CurveGroup.laws all c.args.bytes.now c.loop-start.sum c.add_word-sum.result c.args.first
+      step g.met.C.AdditiveGroup.laws all c.args.bytes.now (total c.loop-start.sum) (total c.add_word-sum.result) c.args.first
           c.loop-start.start c.min.result c.number_of-word.result fits (omega (arith, c.min.ensures))
           (omega (arith, c.min.ensures)) c.number_of-word.ensures c.add_word-sum.ensures
           ∙ c.loop-start.invariant.0,
@@ -74,11 +75,12 @@ loop-start-preserved g c =
 
 pub returns : goal.returns
 returns g c =
-    let group = g.C.CurveGroup.group in
+    let group = g.C.AdditiveGroup.group in
+    let sum = g.C.AdditiveGroup.total c.loop-start.sum in
     let xs = drop (c.args.first + 8 * c.loop-start.start) (concatenation (lists_in c.args.generators.now)) in
     let none : drop c.loop-start.start c.args.bytes.now ≡ [] =
     drop_all c.loop-start.start c.args.bytes.now (omega arith) in
-    sym (right_identity g.met.C.CurveGroup.laws c.loop-start.sum)
-    ∙ ap (group.plus c.loop-start.sum) (sym (ap (λ (t : List ℕ). pedersen_sum group xs (bits_of_bytes t)) none
-    ∙ pedersen_sum-none g.met.C.CurveGroup.laws xs))
+    sym (right_identity g.met.C.AdditiveGroup.laws sum)
+    ∙ ap (group.plus sum) (sym (ap (λ (t : List ℕ). pedersen_sum group xs (bits_of_bytes t)) none
+    ∙ pedersen_sum-none g.met.C.AdditiveGroup.laws xs))
     ∙ c.loop-start.invariant.0

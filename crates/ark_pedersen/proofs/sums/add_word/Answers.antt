@@ -68,17 +68,19 @@ loop-word-preserved g c =
     element_at W.NUM_WINDOWS W.WINDOW_SIZE (λ list. list.items) c.args.generators.now c.requires.shape _ within list is
     x ∙ sym (rw c.WINDOW_SIZE-in-loop-word.ensures at c.index.ensures) in
     let long = shape_all W.NUM_WINDOWS W.WINDOW_SIZE lists c.requires.shape in (
-      rw c.add-sum.ensures (step g.met.C.CurveGroup.laws (concatenation lists) c.loop-word.sum x c.args.first
+      rw c.add_to_sum-sum.ensures (step g.met.C.AdditiveGroup.laws (concatenation lists)
+          (g.C.AdditiveGroup.total c.loop-word.sum) x c.args.first
           c.loop-word.word c.loop-word-test.true (omega arith) (omega arith) here ∙ c.loop-word.invariant.0),
       omega (arith, and_le_l c.loop-word.word (c.loop-word.word - 1), c.loop-word.invariant.1),
     )
 
 pub returns : goal.returns
 returns g c =
-    let group = g.C.CurveGroup.group in
+    let group = g.C.AdditiveGroup.group in
+    let sum = g.C.AdditiveGroup.total c.loop-word.sum in
     let behind = drop c.args.first (concatenation (lists_in c.args.generators.now)) in
     let none : c.loop-word.word ≡ 0 = omega arith in
-    sym (right_identity g.met.C.CurveGroup.laws c.loop-word.sum)
-    ∙ ap (group.plus c.loop-word.sum) (sym (ap (λ (n : ℕ). pedersen_sum group behind (bits_of_number 64 n)) none
+    sym (right_identity g.met.C.AdditiveGroup.laws sum)
+    ∙ ap (group.plus sum) (sym (ap (λ (n : ℕ). pedersen_sum group behind (bits_of_number 64 n)) none
     ∙ pedersen_sum-zero group behind 64))
     ∙ c.loop-word.invariant.0

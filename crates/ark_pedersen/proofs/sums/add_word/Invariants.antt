@@ -6,9 +6,10 @@ use Rattle.ark_pedersen.proofs.sums.add_word.Given as goal
 -- what was added, and what is still to be added, are the whole
 abbrev pub invariant-loop-word : goal.invariant-loop-word
 invariant-loop-word g l =
-    let group = g.C.CurveGroup.group in
+    let group = g.C.AdditiveGroup.group in
+    let total = g.C.AdditiveGroup.total in
     let sum = λ (word : ℕ). sum_from group l.first (lists_in l.generators) (bits_of_number 64 word) in
-    (group.plus l.sum (sum l.word) ≡ group.plus l.fn.sum (sum l.fn.word)) × (l.word ≤ l.fn.word)
+    (group.plus (total l.sum) (sum l.word) ≡ group.plus (total l.fn.sum) (sum l.fn.word)) × (l.word ≤ l.fn.word)
 
 abbrev pub decreases-loop-word : goal.decreases-loop-word
 decreases-loop-word g l = l.word

@@ -25,6 +25,8 @@ in_turn {G} {W} {g} laws windows lists left right zero sum whole same short shap
 pub returns : goal.returns
 returns g c =
     let short = rw (c.WINDOW_SIZE.ensures, c.NUM_WINDOWS.ensures) at c.if-left-WINDOW_SIZE.false in
-    in_turn g.met.C.CurveGroup.laws g.W.Window (lists_in c.args.generators.now) c.args.left.now c.args.right.now
-    c.zero.result c.add_bytes-sum.result c.add_bytes.result c.if-left-right.false short
-    (sym c.if-not-has_shape.ensures) c.zero.ensures c.add_bytes-sum.ensures c.add_bytes.ensures
+    let total = g.C.AdditiveGroup.total in
+    in_turn g.met.C.AdditiveGroup.laws g.W.Window (lists_in c.args.generators.now) c.args.left.now c.args.right.now
+    (total c.to_sum.result) (total c.add_bytes-sum.result) c.from_sum.result c.if-left-right.false short
+    (sym c.if-not-has_shape.ensures) (c.to_sum.ensures ∙ c.zero.ensures) c.add_bytes-sum.ensures
+    (c.from_sum.ensures ∙ c.add_bytes-whole.ensures)

@@ -8,6 +8,6 @@ pub returns-clause-segments : goal.returns-clause-segments
 returns-clause-segments g c elements are =
     let lists = lists_in c.args.parameters.now.generators.items in
     let input = c.args.input.now.items in
-    let exact : seen_by g.G.BaseField.Valued.value c.hash_bytes.result ≡ bowe_hopwood_hash g.G.CurveGroup.group
+    let exact : seen_by g.G.BaseField.Valued.value c.hash_bytes.result ≡ bowe_hopwood_hash g.G.AdditiveGroup.group
     g.G.TECoordinates.x g.W.Window lists input = search rules in
-    exact ∙ bowe_hopwood_hash-segments g.met.G.CurveGroup.laws g.G.TECoordinates.x g.W.Window elements lists input are
+    exact ∙ bowe_hopwood_hash-segments g.met.G.AdditiveGroup.laws g.G.TECoordinates.x g.W.Window elements lists input are

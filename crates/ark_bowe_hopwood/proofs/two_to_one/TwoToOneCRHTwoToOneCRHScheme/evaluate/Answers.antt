@@ -6,7 +6,7 @@ use Rattle.ark_bowe_hopwood.proofs.two_to_one.TwoToOneCRHTwoToOneCRHScheme.evalu
 
 pub returns-clause-segments : goal.returns-clause-segments
 returns-clause-segments g c elements are =
-    let group = g.G.CurveGroup.group in
+    let group = g.G.AdditiveGroup.group in
     let x = g.G.TECoordinates.x in
     let windows = g.W.Window in
     let lists = lists_in c.args.parameters.now.generators.items in
@@ -14,5 +14,5 @@ returns-clause-segments g c elements are =
     let right = c.args.right.now.items in
     let exact : seen_by g.G.BaseField.Valued.value c.hash_halves.result ≡ of_halves windows (bowe_hopwood_hash group x
     windows lists) left right = search rules in
-    exact ∙ (λ i. of_halves windows (λ (input : List ℕ). bowe_hopwood_hash-segments g.met.G.CurveGroup.laws x windows
+    exact ∙ (λ i. of_halves windows (λ (input : List ℕ). bowe_hopwood_hash-segments g.met.G.AdditiveGroup.laws x windows
     elements lists input are i) left right)

@@ -6,11 +6,11 @@ use Rattle.ark_pedersen.proofs.crh.CRH.create_generators.Goals as goal
 
 pub loop-init : goal.loop-init
 loop-init g c =
-    no_lists_drawn _ g.C.CurveGroup.draw _ _ _ (ap (λ lists. lists_in lists) c.in_ok-lists.ensures.items)
+    no_lists_drawn _ g.C.AdditiveGroup.draw _ _ _ (ap (λ lists. lists_in lists) c.in_ok-lists.ensures.items)
 
 pub loop-preserved : goal.loop-preserved
 loop-preserved g c =
-    let group = g.C.CurveGroup in
+    let group = g.C.AdditiveGroup in
     let list = c.in_ok-generator_powers.field-0 in
     one_list_drawn (doublings group.group g.W.Window.WINDOW_SIZE) group.draw g.W.Window.NUM_WINDOWS _ c.loop.counter
     (lists_in c.loop.lists.items) _ list.items (g.R.Rng.stream c.loop.rng) _
@@ -24,7 +24,7 @@ loop-preserved g c =
 
 pub returns-clause-made : goal.returns-clause-made
 returns-clause-made g c =
-    let group = g.C.CurveGroup in (
+    let group = g.C.AdditiveGroup in (
       length-drawn_values group.draw _ _,
       (all_lists_drawn _ group.draw _ _ _ _ _ (omega (arith, c.loop-test.false, c.NUM_WINDOWS-end.ensures))
           c.loop.invariant).0,
@@ -32,6 +32,6 @@ returns-clause-made g c =
 
 pub returns-clause-left : goal.returns-clause-left
 returns-clause-left g c =
-    let group = g.C.CurveGroup in
+    let group = g.C.AdditiveGroup in
     (all_lists_drawn _ group.draw _ _ _ _ _ (omega (arith, c.loop-test.false, c.NUM_WINDOWS-end.ensures))
     c.loop.invariant).1

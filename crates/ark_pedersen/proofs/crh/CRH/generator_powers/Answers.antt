@@ -26,13 +26,13 @@ all {G} g front x count i whole done so_far =
 
 pub loop-preserved : goal.loop-preserved
 loop-preserved g c =
-    step g.C.CurveGroup.group c.loop.list.items c.push.new.self.items c.loop.power c.double-power.result c.args.count
+    step g.C.AdditiveGroup.group c.loop.list.items c.push.new.self.items c.loop.power c.double-power.result c.args.count
     c.loop.counter _ (omega arith) c.in_ok-push.ensures.items c.double-power.ensures c.loop.invariant
 
 pub returns-clause-made : goal.returns-clause-made
 returns-clause-made g c =
-    all g.C.CurveGroup.group c.loop.list.items c.loop.power c.args.count c.loop.counter _ (omega arith) c.loop.invariant
-    ∙ ap (λ (drawn : g.row.C.Denot × Stream). doublings g.C.CurveGroup.group c.args.count drawn.0) c.rand-power.ensures
+    all g.C.AdditiveGroup.group c.loop.list.items c.loop.power c.args.count c.loop.counter _ (omega arith) c.loop.invariant
+    ∙ ap (λ (drawn : g.row.C.Denot × Stream). doublings g.C.AdditiveGroup.group c.args.count drawn.0) c.rand-power.ensures
 
 pub returns-clause-left : goal.returns-clause-left
 returns-clause-left g c = ap (λ (drawn : g.row.C.Denot × Stream). drawn.1) c.rand-power.ensures

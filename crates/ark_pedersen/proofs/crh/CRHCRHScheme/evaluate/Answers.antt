@@ -5,9 +5,9 @@ use Rattle.ark_pedersen.proofs.crh.CRHCRHScheme.evaluate.Goals as goal
 
 pub returns-clause-windows : goal.returns-clause-windows
 returns-clause-windows g c elements are =
-    let group = g.C.CurveGroup.group in
+    let group = g.C.AdditiveGroup.group in
     let windows = g.W.Window in
     let lists = generators_in c.args.parameters.now in
     let input = c.args.input.now.items in
     let exact : c.hash_bytes.result ≡ pedersen_hash group windows lists input = search rules in
-    exact ∙ pedersen_hash-windows group windows elements lists input g.met.C.CurveGroup.laws are
+    exact ∙ pedersen_hash-windows group windows elements lists input g.met.C.AdditiveGroup.laws are

@@ -5,7 +5,7 @@ use Rattle.ark_pedersen.proofs.parameters.ParametersDuplicate.duplicate.Goals as
 
 pub returns : goal.returns
 returns g c =
-    let clones = g.met.C.CurveGroup.clones in
+    let clones = g.met.C.AdditiveGroup.clones in
     ap Ok (map-seen (λ list. list.items) _ (λ v w alike. sym (same_from_all_zip g.C.Clone.is_clone v.items w.items
     alike.0 (λ x y clone. sym (clones x y clone)))) c.args.self.now.generators.items
     c.in_ok-generators.generators.items c.in_ok-generators.ensures.cases.0)

@@ -5,7 +5,7 @@ use Rattle.ark_pedersen.proofs.two_to_one.TwoToOneCRHTwoToOneCRHScheme.evaluate.
 
 pub returns-clause-windows : goal.returns-clause-windows
 returns-clause-windows g c elements are =
-    let group = g.C.CurveGroup.group in
+    let group = g.C.AdditiveGroup.group in
     let windows = g.W.Window in
     let lists = generators_in c.args.parameters.now in
     let left = c.args.left.now.items in
@@ -13,4 +13,4 @@ returns-clause-windows g c elements are =
     let exact : c.hash_halves.result ≡ of_halves windows (pedersen_hash group windows lists) left right =
     search rules in
     exact ∙ (λ i. of_halves windows (λ (input : List ℕ). pedersen_hash-windows group windows elements lists input
-    g.met.C.CurveGroup.laws are i) left right)
+    g.met.C.AdditiveGroup.laws are i) left right)

@@ -2,7 +2,8 @@ use Rattle.jubjub.specs.Edwards.{sum}
 use Rattle.jubjub.specs.Jubjub.{p, d}
 use Rattle.jubjub.specs.Elements.{coordinates, jubjub}
 use Rattle.jubjub.specs.Laws.Points.{sum_in_subgroup}
-use Rattle.jubjub.proofs.GroupLaws.{entry, made_at, made_is, at-plus}
+use Rattle.jubjub.proofs.GroupLaws.{entry, made_at, made_is}
+use Rattle.jubjub.specs.Laws.Group.{at-plus}
 use Rattle.jubjub.proofs.element.Jubjub.add.Goals as goal
 
 pub of-requires : goal.of-requires

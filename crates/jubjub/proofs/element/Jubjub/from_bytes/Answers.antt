@@ -5,7 +5,8 @@ use Rattle.jubjub.specs.Jubjub.{IsInSubgroup}
 use Rattle.jubjub.specs.Elements.{coordinates}
 use Rattle.jubjub.specs.Spelling.{spelling}
 use Rattle.jubjub.specs.Laws.Elements.{coordinates_of}
-use Rattle.jubjub.proofs.Spelled.{length-spelling, read_back, they_differ, they_agree}
+use Rattle.jubjub.proofs.Spelled.{they_differ, they_agree}
+use Rattle.jubjub.specs.Laws.Spelling.{length-spelling, read_back}
 use Rattle.jubjub.proofs.element.Jubjub.from_bytes.Goals as goal
 
 pub returns-then-bytes-ne64-clause-none : goal.returns-then-bytes-ne64-clause-none

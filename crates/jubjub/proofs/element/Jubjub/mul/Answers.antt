@@ -2,7 +2,8 @@ use Rattle.ark_groups.specs.Group.{times}
 use Rattle.ark_groups.specs.Words.{number}
 use Rattle.jubjub.specs.Jubjub.{curve}
 use Rattle.jubjub.specs.Elements.{coordinates, jubjub}
-use Rattle.jubjub.proofs.GroupLaws.{entry, made_at, made_is, times_in_subgroup, coordinates-times}
+use Rattle.jubjub.proofs.GroupLaws.{entry, made_at, made_is, times_in_subgroup}
+use Rattle.jubjub.specs.Laws.Group.{coordinates-times}
 use Rattle.jubjub.proofs.element.Jubjub.mul.Goals as goal
 
 pub of-requires : goal.of-requires

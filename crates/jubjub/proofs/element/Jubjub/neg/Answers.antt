@@ -3,7 +3,8 @@ use Rattle.jubjub.specs.Edwards.{negative}
 use Rattle.jubjub.specs.Jubjub.{p}
 use Rattle.jubjub.specs.Elements.{coordinates, jubjub}
 use Rattle.jubjub.specs.Laws.Points.{negative_in_subgroup}
-use Rattle.jubjub.proofs.GroupLaws.{entry, made_at, made_is, at-opposite}
+use Rattle.jubjub.proofs.GroupLaws.{entry, made_at, made_is}
+use Rattle.jubjub.specs.Laws.Group.{at-opposite}
 use Rattle.jubjub.proofs.element.Jubjub.neg.Goals as goal
 
 pub of-requires : goal.of-requires

@@ -1,7 +1,8 @@
 use Rattle.jubjub.specs.Edwards.{neutral}
 use Rattle.jubjub.specs.Elements.{jubjub}
 use Rattle.jubjub.specs.Laws.Points.{neutral_in_subgroup}
-use Rattle.jubjub.proofs.GroupLaws.{entry, made_at, made_is, at-identity}
+use Rattle.jubjub.proofs.GroupLaws.{entry, made_at, made_is}
+use Rattle.jubjub.specs.Laws.Group.{at-identity}
 use Rattle.jubjub.proofs.element.Jubjub.zero.Goals as goal
 
 pub of-requires : goal.of-requires

@@ -2,7 +2,7 @@
 use Rattle.std.proofs.Common.{◌≡◌, ◌^◌, ◌<◌, refl, ◌∙◌, lit<}
 use Rattle.jubjub.specs.Edwards.{neutral}
 use Rattle.jubjub.specs.Jubjub.{order, base_point, IsOnJubjub, IsInSubgroup}
-use Rattle.jubjub.proofs.Ladder.{ladder, multiple_is}
+use Rattle.jubjub.specs.Laws.Ladder.{ladder, multiple_is}
 
 on_curve : IsOnJubjub base_point
 on_curve = record { x_below = lit< tt; y_below = lit< tt; equation = refl }

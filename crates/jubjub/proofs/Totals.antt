@@ -1,0 +1,30 @@
+-- What sums under way stand for.
+use Rattle.std.proofs.Common.{◌≡◌, sym, ◌∙◌, ap, ap₂, subst}
+use Rattle.jubjub.specs.declared.element.Jubjub.{Jubjub}
+use Rattle.jubjub.specs.declared.element.sums.JubjubSum.{JubjubSum}
+use Rattle.jubjub.specs.declared.extended.Extended.{Extended}
+use Rattle.jubjub.specs.Edwards.{sum}
+use Rattle.jubjub.specs.Jubjub.{p, d}
+use Rattle.jubjub.specs.Elements.{coordinates, jubjub}
+use Rattle.jubjub.specs.Extended.{Stands, affine_at, IsInside}
+use Rattle.jubjub.specs.Sums.{total}
+use Rattle.jubjub.specs.Laws.Elements.{kept, same_element}
+use Rattle.jubjub.specs.Laws.Extended.{stands_at, stands_inside}
+use Rattle.jubjub.specs.Laws.Group.{at-plus}
+
+pub at-total : (s : JubjubSum) → coordinates (total s) ≡ affine_at s.point
+at-total s = kept (affine_at s.point) s.inside.in_subgroup
+
+-- four coordinates that stand for an element's
+pub element_inside : (r : Extended) (e : Jubjub) → Stands r (coordinates e) → IsInside r
+element_inside r e of_r = stands_inside r (coordinates e) e.in_subgroup of_r
+
+pub total_is : (s : JubjubSum) (r : Extended) (e : Jubjub) → s.point ≡ r → Stands r (coordinates e) → total s ≡ e
+total_is s r e is of_r = same_element (total s) e
+    (at-total s ∙ ap affine_at is ∙ stands_at r (coordinates e) e.in_subgroup of_r)
+
+-- what stands for the sum of two sums' coordinates stands for their sum
+pub sum_stands : (r : Extended) (a b : JubjubSum) → Stands r (sum p d (affine_at a.point) (affine_at b.point))
+    → Stands r (coordinates (jubjub.plus (total a) (total b)))
+sum_stands r a b of_r =
+    subst (Stands r) (sym (at-plus (total a) (total b) ∙ ap₂ (sum p d) (at-total a) (at-total b))) of_r

@@ -1,0 +1,17 @@
+use Rattle.jubjub.specs.Elements.{jubjub}
+use Rattle.jubjub.specs.Extended.{affine_at}
+use Rattle.jubjub.specs.Sums.{total}
+use Rattle.jubjub.proofs.Totals.{element_inside, total_is, sum_stands}
+use Rattle.jubjub.proofs.element.sums.group.JubjubAdditiveGroup.double_sum.Goals as goal
+
+pub of-requires : goal.of-requires
+of-requires c =
+    let a = c.args.a in
+    element_inside c.doubled.result (jubjub.plus (total a) (total a)) (sum_stands c.doubled.result a a
+    (c.doubled.ensures (affine_at a.point) a.inside.in_subgroup.on_curve a.inside.stands))
+
+pub returns : goal.returns
+returns c =
+    let a = c.args.a in
+    total_is c.of.result c.doubled.result (jubjub.plus (total a) (total a)) c.of.ensures (sum_stands c.doubled.result a a
+    (c.doubled.ensures (affine_at a.point) a.inside.in_subgroup.on_curve a.inside.stands))

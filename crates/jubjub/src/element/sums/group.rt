@@ -1,0 +1,107 @@
+//! The group of the elements, for what is generic over groups.
+
+ghost use Rattle.std.proofs.Common.{sym};
+ghost use Rattle.jubjub.specs.Elements.{coordinates, jubjub};
+ghost use Rattle.jubjub.specs.Draws.{element_draw};
+ghost use Rattle.jubjub.specs.Sums.{total};
+ghost use Rattle.jubjub.specs.Laws.Group.{jubjub_laws, of_modulus, same_if_equal};
+ghost use Rattle.jubjub.specs.Laws.Elements.{same_element};
+
+use crate::element::{Jubjub, JubjubSum};
+use crate::extended::{affine, coefficient, doubled, lifted, plus};
+use crate::fr::JubjubFr;
+use ark_groups::ec::{AdditiveGroup, TECoordinates};
+use ark_groups::ff::{Field, UniformRand};
+use ark_wide_fields::Bls12_381Fr;
+use rand::Rng;
+
+impl AdditiveGroup for Jubjub {
+    type ScalarField = JubjubFr;
+
+    type Sum = JubjubSum;
+
+    ghost group = { jubjub };
+
+    ghost draw = { element_draw };
+
+    ghost total = { total };
+
+    fn zero() -> Jubjub {
+        Jubjub::zero()
+    }
+
+    fn add(self, other: Jubjub) -> Jubjub {
+        Jubjub::add(self, other)
+    }
+
+    fn neg(self) -> Jubjub {
+        Jubjub::neg(self)
+    }
+
+    fn double(self) -> Jubjub {
+        Jubjub::double(self)
+    }
+
+    fn mul(self, s: JubjubFr) -> Jubjub {
+        Jubjub::mul(self, s.words())
+    }
+
+    fn to_sum(self) -> JubjubSum {
+        JubjubSum::of(lifted(self.x, self.y))
+    }
+
+    fn add_sums(a: JubjubSum, b: JubjubSum) -> JubjubSum {
+        JubjubSum::of(plus(coefficient(), a.point, b.point))
+    }
+
+    fn double_sum(a: JubjubSum) -> JubjubSum {
+        JubjubSum::of(doubled(a.point))
+    }
+
+    fn from_sum(sum: JubjubSum) -> Jubjub {
+        let (x, y) = affine(sum.point);
+        Jubjub::of(x, y)
+    }
+
+    /// Takes 48 bytes of the generator's stream: a scalar, times the group's generator.
+    fn rand<R: Rng>(rng: &mut R) -> Jubjub {
+        Jubjub::generator().mul(JubjubFr::rand(rng).words())
+    }
+
+    ghost laws = { jubjub_laws };
+
+    ghost order = { of_modulus };
+
+    ghost equal_if_same = { same_if_equal };
+
+    ghost clones = { λ x y same. sym same };
+
+    ghost clones_always = { λ x. tt };
+
+    ghost default_is_zero = { λ x zero. zero };
+
+    ghost is_spelled = { λ x. x.in_subgroup };
+
+    ghost same_view = { same_element };
+}
+
+/// The coordinates of the point.
+impl TECoordinates for Jubjub {
+    type BaseField = Bls12_381Fr;
+
+    ghost x = { λ element. (coordinates element).x };
+
+    ghost y = { λ element. (coordinates element).y };
+
+    fn x(self) -> Bls12_381Fr {
+        self.x
+    }
+
+    fn y(self) -> Bls12_381Fr {
+        self.y
+    }
+
+    ghost x_below = { λ element. element.in_subgroup.on_curve.x_below };
+
+    ghost y_below = { λ element. element.in_subgroup.on_curve.y_below };
+}

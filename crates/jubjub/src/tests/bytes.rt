@@ -1,0 +1,59 @@
+//! Canonical bytes: what is written is read, and what is no element's is refused.
+
+use crate::element::Jubjub;
+use crate::tests::raised;
+use ark_base::error::{Error, SerializationError};
+use ark_base::serialize::{CanonicalDeserialize, DigestItem, canonical_bytes};
+use std::alloc::Global;
+
+const INVALID: Option<Error> = Some(Error::SerializationError(SerializationError::InvalidData));
+
+const TRUNCATED: Option<Error> = Some(Error::SerializationError(SerializationError::Truncated));
+
+// Whether a digest's bytes are these and are read as it, and a copy and the blank one are what they are.
+fn is_read<D: DigestItem>(alloc: Global, digest: &D, zero: &D, bytes: &[u8]) -> bool {
+    match (
+        canonical_bytes(alloc, digest),
+        D::deserialize(alloc, bytes),
+        digest.duplicate(alloc),
+    ) {
+        (Ok(written), Ok(read), Ok(copy)) => {
+            written.as_slice() == bytes
+                && read.0 == *digest
+                && read.1 == bytes.len()
+                && copy == *digest
+                && D::blank(alloc) == *zero
+        }
+        _ => false,
+    }
+}
+
+fn fault<D: CanonicalDeserialize + Drop>(alloc: Global, bytes: &[u8]) -> Option<Error> {
+    D::deserialize(alloc, bytes).err()
+}
+
+#[test]
+fn reads_what_is_written(rt: HostRuntime) {
+    let alloc = rt.alloc();
+    let generator = Jubjub::generator();
+    assert!(rt; is_read(alloc, &generator, &Jubjub::zero(), &generator.to_bytes()));
+}
+
+// A point of order 8.
+const ORDER_8: [u8; 64] = [
+    67, 13, 32, 39, 121, 106, 46, 217, 130, 133, 174, 61, 196, 26, 164, 122, 209, 24, 102, 161,
+    134, 224, 170, 234, 115, 121, 158, 186, 56, 223, 212, 113, 221, 150, 244, 239, 104, 32, 13,
+    255, 161, 164, 132, 243, 144, 238, 6, 145, 102, 114, 77, 173, 53, 48, 161, 22, 46, 152, 102,
+    25, 178, 189, 88, 73,
+];
+
+#[test]
+fn refuses_what_is_no_element(rt: HostRuntime) {
+    let alloc = rt.alloc();
+    let bytes = Jubjub::generator().to_bytes();
+    assert!(rt; fault::<Jubjub>(alloc, &[0; 63]) == TRUNCATED);
+    assert!(rt; fault::<Jubjub>(alloc, &[1; 64]) == INVALID);
+    assert!(rt; fault::<Jubjub>(alloc, &ORDER_8) == INVALID);
+    assert!(rt; fault::<Jubjub>(alloc, &raised(bytes, false)) == INVALID);
+    assert!(rt; fault::<Jubjub>(alloc, &raised(bytes, true)) == INVALID);
+}

@@ -1,0 +1,82 @@
+//! The group through its trait. What Python computed, `tools/jubjub-model` prints.
+
+use crate::element::Jubjub;
+use crate::fr::JubjubFr;
+use crate::tests::is;
+use ark_groups::ec::{AdditiveGroup, TECoordinates};
+use ark_groups::ff::{Field, UniformRand, Words};
+use rand::rngs::SmallRng;
+use rand::{Rng, SeedableRng};
+use std::alloc::Global;
+
+// 3^200 modulo the order.
+fn power<F: Field>() -> F {
+    let mut power = F::one();
+    for _ in 0..200 {
+        power = power.mul(F::from_u64(3));
+    }
+    power
+}
+
+#[test]
+fn scalars_agree_with_python(rt: HostRuntime) {
+    assert!(rt;
+        power::<JubjubFr>()
+            == JubjubFr::from_words(Words {
+                w0: 17228294555784139472,
+                w1: 14909009392891973728,
+                w2: 15845759212181933668,
+                w3: 221408588483631060,
+            })
+    );
+}
+
+// A multiple's coordinates, as they are printed.
+fn is_at<G: AdditiveGroup + TECoordinates>(
+    alloc: Global,
+    element: G,
+    scalar: G::ScalarField,
+    x: &str,
+    y: &str,
+) -> bool {
+    let multiple = element.mul(scalar);
+    is(alloc, TECoordinates::x(multiple), x) && is(alloc, TECoordinates::y(multiple), y)
+}
+
+#[test]
+fn multiples_by_scalars_agree_with_python(rt: HostRuntime) {
+    assert!(rt;
+        is_at(
+            rt.alloc(),
+            Jubjub::generator(),
+            power(),
+            "0x066f5c87fb5db82902af94a2048fd31539fc5c62fb8f409c0387290a210acee1",
+            "0x55e620340f9965bc0b32c0e11767a523bf11047952178eb6c4ddb9bc7fd9606e",
+        )
+    );
+}
+
+// Whether sums under way lead where sums lead.
+fn sums_agree<G: AdditiveGroup>(a: G, b: G) -> bool {
+    let sum = G::add_sums(a.to_sum(), b.to_sum());
+    G::from_sum(sum) == a.add(b)
+        && G::from_sum(G::double_sum(sum)) == a.add(b).double()
+        && G::from_sum(G::add_to_sum(sum, b.neg())) == a
+        && G::zero() == G::default()
+}
+
+// Whether an element is drawn as the generator times a drawn scalar, and nothing more is drawn.
+fn is_drawn<R: Rng>(rng: &mut R, twin: &mut R) -> bool {
+    let drawn = <Jubjub as AdditiveGroup>::rand(rng);
+    let scalar = JubjubFr::rand(twin);
+    drawn == AdditiveGroup::mul(Jubjub::generator(), scalar) && rng.next_u64() == twin.next_u64()
+}
+
+#[test]
+fn the_group_is_one(rt: HostRuntime) {
+    let mut rng = SmallRng::seed_from_u64(31);
+    let mut twin = SmallRng::seed_from_u64(31);
+    assert!(rt; is_drawn(&mut rng, &mut twin));
+    let element = <Jubjub as AdditiveGroup>::rand(&mut rng);
+    assert!(rt; sums_agree(Jubjub::generator(), element));
+}
