@@ -150,19 +150,19 @@ class Tree:
         """The bytes of the path of an index, as it stands there. Raises ``IndexBeyondSize``."""
         room, count = 16 + _path_digests(self._size), _size()
         path = ctypes.create_string_buffer(room)
-        self._done(self._calls.path, path, room, ctypes.byref(count), given=(_word(index),))
+        self._done(self._calls.path, path, room, ctypes.byref(count), given=(_word("index", index),))
         return ctypes.string_at(path, count.value)
 
     def set(self, index: int, leaf: bytes) -> None:
         """Changes a leaf: writes its digest and those above it, from the lowest up. Raises ``IndexBeyondSize``."""
-        self._done(self._calls.set, given=(_word(index), _exact("leaf", leaf), len(leaf)))
+        self._done(self._calls.set, given=(_word("index", index), _exact("leaf", leaf), len(leaf)))
 
     def set_many(self, indexes: Sequence[int], leaves: Sequence[bytes]) -> None:
         """Changes leaves, one for each index, one after the other. Where the indexes rise, each digest above them is hashed once.
 
         Raises ``CountError``, ``IndexBeyondSize``.
         """
-        self._done(self._calls.set_many, given=(*_words(indexes), *_flat(tuple(leaves))))
+        self._done(self._calls.set_many, given=(*_words("an index", indexes), *_flat(tuple(leaves))))
 
     def check(self) -> bool:
         """Whether each digest above those of the leaves is the hash of the two below it. It hashes as much as ``rebuild``."""

@@ -151,6 +151,15 @@ class InMemory(unittest.TestCase):
         self.assertRaises(OverflowError, log.inclusion, -1)
         self.assertRaises(TypeError, log.append, [bytearray(b"d")])
         self.assertRaises(TypeError, log.append, ["d"])
+        for wrap in (float, str, lambda number: [number]):
+            for name, call in (
+                ("size", lambda: log.root(wrap(3))),
+                ("index", lambda: log.inclusion(wrap(1))),
+                ("size", lambda: log.inclusion(1, wrap(3))),
+                ("old_size", lambda: log.consistency(wrap(1))),
+                ("size", lambda: log.consistency(1, wrap(3))),
+            ):
+                self.assertRaisesRegex(TypeError, "^%s is int, not %s$" % (name, type(wrap(1)).__name__), call)
         self.assertEqual(len(log), 3)
         self.assertEqual(log.consistency(3), b"")
         self.assertRaises(paxidore.IndexBeyondSize, Log.verify_inclusion_digest, bytes(32), 1, 1, bytes(32), b"")

@@ -271,6 +271,13 @@ class Trees(unittest.TestCase):
             self.assertRaises(error, call)
             holder.close()
         held.append(0)
+        for wrap in (float, str, lambda number: None):
+            for name, call in (
+                ("index", lambda: tree.path(wrap(1))),
+                ("index", lambda: tree.set(wrap(1), b"")),
+                ("an index", lambda: tree.set_many([0, wrap(1)], [b"", b""])),
+            ):
+                self.assertRaisesRegex(TypeError, "^%s is int, not %s$" % (name, type(wrap(1)).__name__), call)
         self.assertTrue(tree.check())
         self.assertEqual(tree.root, paxidore.rfc6962.root(leaves))
         tree.close()
