@@ -218,6 +218,11 @@ def _path_digests(size: int) -> int:
     return DIGEST_BYTES * max(size - 1, 0).bit_length()
 
 
+def _multi_path_room(size: int, count: int) -> int:
+    # no multi-proof has more: four counts, and for each index, which is shown once, 24 bytes and a path
+    return 32 + min(count, size) * (24 + _path_digests(size))
+
+
 class Trees:
     """The calls of one hashing: ``sha256`` or ``rfc6962``."""
 
@@ -295,8 +300,7 @@ class Trees:
         Raises as ``path`` does.
         """
         flat, given, count = _flat(tuple(leaves)), _words("an index", indexes), _size()
-        # no proof has more: four counts, and for each index, which is shown once, 24 bytes and a path
-        room = 32 + min(given[1], flat[3]) * (24 + _path_digests(flat[3]))
+        room = _multi_path_room(flat[3], given[1])
         proof = ctypes.create_string_buffer(room)
         answer: int = self._multi_path(proof, room, ctypes.byref(count), *flat, *given)
         if answer != 0:
