@@ -4,8 +4,8 @@
  * No call keeps memory or a pointer, and each may run in any thread at any time. The calls of trees, logs and transcripts allocate:
  * they stand on the process's malloc and free, so do not call them in a signal handler, nor in the child of a process with
  * threads between fork and exec. Where malloc returns NULL the answer is PAXIDORE_E_MEMORY; no clause says that enough memory is
- * not answered so. The calls of kept trees (.._tree_..), of SHA-256, of BLAKE2s and of commitments allocate nothing, nor does a
- * kept log's root, its check or its count.
+ * not answered so. The calls of kept trees (.._tree_..) but .._tree_multi_path, of SHA-256, of BLAKE2s and of commitments allocate
+ * nothing, nor does a kept log's root, its check or its count.
  *
  * size_t has 64 bits. Only inputs may overlap. A pointer to a first byte or number is not NULL and may be read, or written where
  * it is not const, for its length; with length 0 it is not looked at and may be NULL. */
@@ -173,7 +173,8 @@ int32_t paxidore_rfc6962_multi_path(uint8_t *proof, size_t proof_room, size_t *p
                                     const size_t *indexes, size_t indexes_count);
 
 /* ---- Trees whose digests are kept in memory of the caller's, which may be a mapped file. Nothing is rebuilt: a path is copied out
- * of memory, a changed leaf writes the digests above it. The calls allocate nothing, and nothing is kept but this memory.
+ * of memory, a changed leaf writes the digests above it. Nothing is kept but this memory. The calls but
+ * `.._tree_multi_path` allocate nothing.
  *
  * A tree of `size` leaves is `tree_len` = PAXIDORE_TREE_DIGESTS(size) digests of 32 bytes, one behind the other, in PAXIDORE_TREEBYTES
  * (size) bytes of any alignment: the root first, then the two below it, and so on, the digests of the leaves last. The two below the
@@ -181,9 +182,9 @@ int32_t paxidore_rfc6962_multi_path(uint8_t *proof, size_t proof_room, size_t *p
  * the calls of the one that it was built with. E_SIZE where no tree has `tree_len` digests.
  *
  * A call reads and writes these digests alone. While one that writes runs, no other may read or write the same memory. What it says
- * of memory that holds no tree is what it says of the digests that stand there: `.._tree_root` and `.._tree_path` copy them as they
- * are, without hashing. So ask `.._tree_check` of memory that others may have written, and keep the root elsewhere: whoever writes the
- * memory can put another whole tree there. */
+ * of memory that holds no tree is what it says of the digests that stand there: `.._tree_root`, `.._tree_path` and
+ * `.._tree_multi_path` copy them as they are, without hashing. So ask `.._tree_check` of memory that others may have written, and
+ * keep the root elsewhere: whoever writes the memory can put another whole tree there. */
 
 /* Writes the tree above the leaves: first the digest of each leaf, from the first on, then the digests above them, from the lowest up.
  * E_SIZE, E_ROOM where the tree has not `tree_len` digests, E_LENGTHS; the memory is then as it was. */
@@ -224,6 +225,13 @@ PAXIDORE_ANSWERS PAXIDORE_NOT_NULL((3))
 int32_t paxidore_sha256_tree_path(uint8_t *path, size_t path_room, size_t *path_len,
                                   const uint8_t *tree, size_t tree_len, size_t index);
 
+/* Writes the bytes of the multi-proof of some indexes, in any order, as paxidore_sha256_multi_path does for the leaves of the tree.
+ * E_SIZE, E_INDEX also where there is no index, E_MEMORY, E_ROOM. */
+PAXIDORE_ANSWERS PAXIDORE_NOT_NULL((3))
+int32_t paxidore_sha256_tree_multi_path(uint8_t *proof, size_t proof_room, size_t *proof_len,
+                                        const uint8_t *tree, size_t tree_len,
+                                        const size_t *indexes, size_t indexes_count);
+
 /* PAXIDORE_OK where memory holds the tree above the digests of leaves that stand in it: each other digest is the hash of the two below
  * it; else PAXIDORE_NOT_SHOWN. It hashes as much as `.._tree_rebuild`. E_SIZE. */
 PAXIDORE_ANSWERS
@@ -255,6 +263,11 @@ int32_t paxidore_rfc6962_tree_root(uint8_t root[PAXIDORE_DIGESTBYTES], const uin
 PAXIDORE_ANSWERS PAXIDORE_NOT_NULL((3))
 int32_t paxidore_rfc6962_tree_path(uint8_t *path, size_t path_room, size_t *path_len,
                                    const uint8_t *tree, size_t tree_len, size_t index);
+
+PAXIDORE_ANSWERS PAXIDORE_NOT_NULL((3))
+int32_t paxidore_rfc6962_tree_multi_path(uint8_t *proof, size_t proof_room, size_t *proof_len,
+                                         const uint8_t *tree, size_t tree_len,
+                                         const size_t *indexes, size_t indexes_count);
 
 PAXIDORE_ANSWERS
 int32_t paxidore_rfc6962_tree_check(const uint8_t *tree, size_t tree_len);

@@ -29,21 +29,25 @@ struct hashing {
     int32_t (*set_many)(uint8_t *, size_t, const size_t *, size_t, const uint8_t *, size_t, const size_t *, size_t);
     int32_t (*root)(uint8_t *, const uint8_t *, size_t);
     int32_t (*path)(uint8_t *, size_t, size_t *, const uint8_t *, size_t, size_t);
+    int32_t (*multi_path)(uint8_t *, size_t, size_t *, const uint8_t *, size_t, const size_t *, size_t);
     int32_t (*check)(const uint8_t *, size_t);
     int32_t (*root_of)(uint8_t *, const uint8_t *, size_t, const size_t *, size_t);
     int32_t (*path_of)(uint8_t *, size_t, size_t *, const uint8_t *, size_t, const size_t *, size_t, size_t);
+    int32_t (*multi_path_of)(uint8_t *, size_t, size_t *, const uint8_t *, size_t, const size_t *, size_t, const size_t *, size_t);
     const char *roots[9]; /* by the count of leaves */
 };
 
 static const struct hashing sha256 = {
     paxidore_sha256_tree_build, paxidore_sha256_tree_rebuild, paxidore_sha256_tree_set,
-    paxidore_sha256_tree_set_many, paxidore_sha256_tree_root, paxidore_sha256_tree_path, paxidore_sha256_tree_check, paxidore_sha256_root, paxidore_sha256_path,
+    paxidore_sha256_tree_set_many, paxidore_sha256_tree_root, paxidore_sha256_tree_path, paxidore_sha256_tree_multi_path,
+    paxidore_sha256_tree_check, paxidore_sha256_root, paxidore_sha256_path, paxidore_sha256_multi_path,
     /* by Python's hashlib */
     {[8] = "03b3e0e5b23746036c9c7185c1fc12bc6f8ff41cc2b97b24fb451f2cc291d2b4"}};
 
 static const struct hashing rfc6962 = {
     paxidore_rfc6962_tree_build, paxidore_rfc6962_tree_rebuild, paxidore_rfc6962_tree_set,
-    paxidore_rfc6962_tree_set_many, paxidore_rfc6962_tree_root, paxidore_rfc6962_tree_path, paxidore_rfc6962_tree_check, paxidore_rfc6962_root, paxidore_rfc6962_path,
+    paxidore_rfc6962_tree_set_many, paxidore_rfc6962_tree_root, paxidore_rfc6962_tree_path, paxidore_rfc6962_tree_multi_path,
+    paxidore_rfc6962_tree_check, paxidore_rfc6962_root, paxidore_rfc6962_path, paxidore_rfc6962_multi_path,
     /* those that implementations of RFC 6962 are tested with */
     {[2] = "fac54203e7cc696cf0dfcb42c92a1d9dbaf70ad9e621f4bd8d98662f00e3c125",
      [4] = "d37ee418976dd95753c1c73862b9398fa2a2cf9b4ff0fdfe8b30cd95209614b7",
@@ -132,6 +136,9 @@ static void sizes(const struct hashing *h) {
             CHECK(h->root(root, tree, digests) == PAXIDORE_OK);
             CHECK(h->set(tree, digests, digests / 2, LEAVES, 3) == PAXIDORE_OK);
             CHECK(h->path(path, sizeof path, &len, tree, digests, digests / 2) == PAXIDORE_OK);
+            const size_t last = digests / 2, past = last + 1;
+            CHECK(h->multi_path(path, sizeof path, &len, tree, digests, &last, 1) == PAXIDORE_OK);
+            CHECK(h->multi_path(path, sizeof path, &len, tree, digests, &past, 1) == PAXIDORE_E_INDEX);
             CHECK(h->set(tree, digests, digests / 2 + 1, LEAVES, 3) == PAXIDORE_E_INDEX);
             CHECK(h->check(tree, digests) == PAXIDORE_OK);
         } else {
@@ -140,6 +147,7 @@ static void sizes(const struct hashing *h) {
             CHECK(h->root(root, at, digests) == PAXIDORE_E_SIZE && is_filled(root, 32, 0xaa));
             CHECK(h->set(at, digests, 0, LEAVES, 3) == PAXIDORE_E_SIZE);
             CHECK(h->path(path, sizeof path, &len, at, digests, 0) == PAXIDORE_E_SIZE && len == 7);
+            CHECK(h->multi_path(path, sizeof path, &len, at, digests, LENGTHS, 1) == PAXIDORE_E_SIZE && len == 7);
             CHECK(is_filled(tree, 32 * digests, 0xaa));
         }
         free(tree);
@@ -207,6 +215,48 @@ static void several(const struct hashing *h) {
     free(other);
 }
 
+/* The proofs of all sets of indexes: those that the leaves give, in whatever order they are asked for. */
+static void multi_paths(const struct hashing *h) {
+    enum { ROOM = 32 + SIZE * (24 + 32 * 3) };
+    uint8_t *tree = filled(32 * DIGESTS), *proof = filled(ROOM), *other = filled(ROOM);
+    size_t indexes[2 * SIZE], len, other_len;
+    static const size_t past[3] = {2, SIZE, 5}, far[1] = {SIZE_MAX};
+    CHECK(h->build(tree, DIGESTS, LEAVES, LEAVES_LEN, LENGTHS, SIZE) == PAXIDORE_OK);
+    for (unsigned set = 1; set < 1u << SIZE; set++) {
+        size_t count = 0;
+        for (size_t i = 0; i < SIZE; i++)
+            if (set >> i & 1)
+                indexes[count++] = i;
+        CHECK(h->multi_path_of(other, ROOM, &other_len, LEAVES, LEAVES_LEN, LENGTHS, SIZE, indexes, count) == PAXIDORE_OK);
+        memset(proof, 0xaa, ROOM);
+        CHECK(h->multi_path(proof, other_len, &len, tree, DIGESTS, indexes, count) == PAXIDORE_OK && len == other_len);
+        CHECK(memcmp(proof, other, len) == 0 && is_filled(proof + len, ROOM - len, 0xaa));
+        /* falling, and each twice */
+        for (size_t i = 0; i < count; i++)
+            indexes[2 * count - 1 - i] = indexes[i];
+        memset(proof, 0xaa, ROOM);
+        CHECK(h->multi_path(proof, ROOM, &len, tree, DIGESTS, indexes, 2 * count) == PAXIDORE_OK && len == other_len);
+        CHECK(memcmp(proof, other, len) == 0);
+        memset(proof, 0xaa, ROOM);
+        CHECK(h->multi_path(proof, len - 1, &len, tree, DIGESTS, indexes, count) == PAXIDORE_E_ROOM && len == other_len);
+        CHECK(is_filled(proof, ROOM, 0xaa));
+    }
+    len = 7;
+    CHECK(h->multi_path(proof, ROOM, &len, tree, DIGESTS, NULL, 0) == PAXIDORE_E_INDEX && len == 7);
+    CHECK(h->multi_path(proof, ROOM, &len, tree, DIGESTS, past, 3) == PAXIDORE_E_INDEX && len == 7);
+    CHECK(h->multi_path(proof, ROOM, &len, tree, DIGESTS, far, 1) == PAXIDORE_E_INDEX && len == 7);
+    CHECK(h->multi_path(proof, ROOM, &len, tree, DIGESTS - 1, past, 1) == PAXIDORE_E_SIZE && len == 7);
+    CHECK(h->multi_path(NULL, 0, &len, tree, DIGESTS, past, 1) == PAXIDORE_E_ROOM && len == 32 + 24 + 32 * 3);
+    CHECK(is_filled(proof, ROOM, 0xaa));
+    /* whatever memory holds, the same digests are copied */
+    memset(tree, 0x55, 32 * DIGESTS);
+    CHECK(h->multi_path(proof, ROOM, &len, tree, DIGESTS, past, 1) == PAXIDORE_OK && len == 32 + 24 + 32 * 3);
+    CHECK(is_filled(proof + 8, 32, 0x55));
+    free(tree);
+    free(proof);
+    free(other);
+}
+
 /* A tree in a file, at an odd place of the mapping. */
 static void files(const struct hashing *h) {
     char name[] = "/tmp/paxidore-XXXXXX";
@@ -232,6 +282,7 @@ int main(void) {
         sizes(both[i]);
         changes(both[i]);
         several(both[i]);
+        multi_paths(both[i]);
         files(both[i]);
     }
     printf("%d passed, %d failed\n", passed, failed);

@@ -42,7 +42,7 @@ static const size_t LENGTHS[8] = {3, 3, 3, 3, 3, 3, 3, 3}, INDEXES[3] = {1, 4, 5
 static uint8_t root[32], path[112], proof[512], halves[2][32], log_path[96];
 static size_t path_len, proof_len;
 
-static uint8_t kept[32 * 15], to_more[32 * 8];
+static uint8_t kept[32 * 15], to_more[32 * 8], tree[PAXIDORE_TREEBYTES(8)];
 static uint8_t to_root[32], to_path[112], to_proof[512];
 static size_t to_len;
 
@@ -72,6 +72,7 @@ static int32_t call(int which) {
         return paxidore_transcript_absorb_bytes(to_state, sizeof to_state, 1, PARAMETER_BYTES, sizeof PARAMETERS, LEAVES, 24);
     case 14:
         return paxidore_transcript_squeeze(to_root, 32, to_state, sizeof to_state, 1, PARAMETER_BYTES, sizeof PARAMETERS);
+    case 15: return paxidore_rfc6962_tree_multi_path(to_proof, sizeof to_proof, &to_len, tree, 15, INDEXES, 3);
     default:
         return paxidore_transcript_squeeze_bytes(to_root, 32, to_state, sizeof to_state, 1, PARAMETER_BYTES, sizeof PARAMETERS);
     }
@@ -100,11 +101,13 @@ int main(void) {
     size_t kept_len;
     if (paxidore_log_append(kept, 15, &kept_len, NULL, 0, 0, LEAVES, 24, LENGTHS, 8) != PAXIDORE_OK || kept_len != 15)
         failed++;
+    if (paxidore_rfc6962_tree_build(tree, 15, LEAVES, 24, LENGTHS, 8) != PAXIDORE_OK)
+        failed++;
     if (paxidore_transcript_init(begun, sizeof begun, &to_len, 1, PARAMETER_BYTES, sizeof PARAMETERS) != PAXIDORE_OK ||
         to_len != sizeof begun ||
         paxidore_transcript_absorb(begun, sizeof begun, 1, PARAMETER_BYTES, sizeof PARAMETERS, LEAVES, 8) != PAXIDORE_OK)
         failed++;
-    for (int which = 0; which < 16; which++) {
+    for (int which = 0; which < 17; which++) {
         memcpy(to_state, begun, sizeof begun);
         calls = 0;
         int is_well = call(which) == PAXIDORE_OK && calls > 0 && live == 0;
@@ -142,8 +145,7 @@ int main(void) {
         passed++;
     else
         failed++;
-    /* nor do the calls of kept trees */
-    static uint8_t tree[PAXIDORE_TREEBYTES(8)];
+    /* nor do the calls of kept trees, but for several paths */
     calls = 0;
     if (paxidore_rfc6962_tree_build(tree, 15, LEAVES, 24, LENGTHS, 8) == PAXIDORE_OK &&
         paxidore_rfc6962_tree_rebuild(tree, 15) == PAXIDORE_OK &&

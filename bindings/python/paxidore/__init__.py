@@ -185,16 +185,24 @@ def _digest(root: bytes, name: str = "root") -> bytes:
     return root
 
 
-def _word(number: int) -> int:
+def _int(name: str, number: int) -> int:
+    # as int itself, since a subclass may compare in another way than its number does
+    if not isinstance(number, int):
+        raise TypeError("%s is int, not %s" % (name, type(number).__name__))
+    return int.__index__(number)
+
+
+def _word(name: str, number: int) -> int:
     # ctypes would take a number modulo 2^64
-    if not 0 <= number < 1 << 64:
-        raise OverflowError("not a number of 64 bits: %d" % number)
-    return number
+    word = _int(name, number)
+    if not 0 <= word < 1 << 64:
+        raise OverflowError("%s is not a number of 64 bits: %d" % (name, word))
+    return word
 
 
-def _words(numbers: Sequence[int]) -> Tuple["ctypes.Array[ctypes.c_size_t]", int]:
+def _words(name: str, numbers: Sequence[int]) -> Tuple["ctypes.Array[ctypes.c_size_t]", int]:
     # as a tuple, whose length cannot change between two looks at it
-    words = tuple(map(_word, numbers))
+    words = tuple(_word(name, number) for number in numbers)
     return (_size * len(words))(*words), len(words)
 
 
@@ -208,6 +216,11 @@ def _flat(leaves: Tuple[bytes, ...]) -> Tuple[bytes, int, "ctypes.Array[ctypes.c
 def _path_digests(size: int) -> int:
     # how many bytes the digests of a path have in a tree of this size
     return DIGEST_BYTES * max(size - 1, 0).bit_length()
+
+
+def _multi_path_room(size: int, count: int) -> int:
+    # no multi-proof has more: four counts, and for each index, which is shown once, 24 bytes and a path
+    return 32 + min(count, size) * (24 + _path_digests(size))
 
 
 class Trees:
@@ -233,11 +246,12 @@ class Trees:
         """Whether the path shows that the leaf stands at the index of the tree of ``size`` leaves with this root.
 
         ``False`` says that the path was read and leads elsewhere. Raises ``SizeError``, ``TruncatedProof``, ``InvalidProof``,
-        ``HeightError``, ``OutOfMemory``. As all calls do: ``TypeError`` where an argument is not ``bytes`` itself, ``ValueError``
-        where the root has not 32 bytes, ``OverflowError`` where a number has not 64 bits.
+        ``HeightError``, ``OutOfMemory``. As all calls do: ``TypeError`` where an argument is not ``bytes`` itself, or no ``int``,
+        ``ValueError`` where the root has not 32 bytes, ``OverflowError`` where a number has not 64 bits.
         """
-        _digest(root), _word(size), _word(index), _exact("leaf", leaf), _exact("path", path)
-        answer: int = self._verify(root, size, index, leaf, len(leaf), path, len(path))
+        _digest(root), _exact("leaf", leaf), _exact("path", path)
+        place = _word("size", size), _word("index", index)
+        answer: int = self._verify(root, *place, leaf, len(leaf), path, len(path))
         if answer < 0:
             raise _refusal(answer)
         return answer == 0
@@ -251,8 +265,8 @@ class Trees:
         """
         answer: int = self._multi_verify(
             _digest(root),
-            _word(size),
-            *_words(indexes),
+            _word("size", size),
+            *_words("an index", indexes),
             *_flat(tuple(leaves)),
             _exact("proof", proof),
             len(proof),
@@ -275,7 +289,7 @@ class Trees:
         # as many as the path has
         room = 16 + _path_digests(flat[3])
         path = ctypes.create_string_buffer(room)
-        answer: int = self._path(path, room, ctypes.byref(count), *flat, _word(index))
+        answer: int = self._path(path, room, ctypes.byref(count), *flat, _word("index", index))
         if answer != 0:
             raise _refusal(answer)
         return ctypes.string_at(path, count.value)
@@ -285,9 +299,8 @@ class Trees:
 
         Raises as ``path`` does.
         """
-        flat, given, count = _flat(tuple(leaves)), _words(indexes), _size()
-        # no proof has more: four counts, and for each index, which is shown once, 24 bytes and a path
-        room = 32 + min(given[1], flat[3]) * (24 + _path_digests(flat[3]))
+        flat, given, count = _flat(tuple(leaves)), _words("an index", indexes), _size()
+        room = _multi_path_room(flat[3], given[1])
         proof = ctypes.create_string_buffer(room)
         answer: int = self._multi_path(proof, room, ctypes.byref(count), *flat, *given)
         if answer != 0:
@@ -515,7 +528,7 @@ class Log:
         with self._lock:
             kept = self._open()
             stored = kept.borrowed()
-            of = kept.size if size is None else _word(size)
+            of = kept.size if size is None else _word("size", size)
             answer: int = _log_root(root, stored, len(stored) // DIGEST_BYTES, of)
         if answer != 0:
             raise _refusal(answer)
@@ -526,14 +539,14 @@ class Log:
 
         Raises ``SizeError`` for more than there are, ``IndexBeyondSize``, ``OutOfMemory``.
         """
-        return self._proof(_log_inclusion, size, lambda of: (of, _word(index)))
+        return self._proof(_log_inclusion, size, lambda of: (of, _word("index", index)))
 
     def consistency(self, old_size: int, size: "Optional[int]" = None) -> bytes:
         """The bytes of the proof that the first ``size`` entries continue the first ``old_size`` ones.
 
         Raises ``SizeError`` also for the old size 0 and for one above the size; ``OutOfMemory``.
         """
-        return self._proof(_log_consistency, size, lambda of: (_word(old_size), of))
+        return self._proof(_log_consistency, size, lambda of: (_word("old_size", old_size), of))
 
     def _proof(self, call: Callable[..., int], size: "Optional[int]", asked: Callable[[int], Tuple[int, int]]) -> bytes:
         # no proof has more digests
@@ -542,7 +555,7 @@ class Log:
         with self._lock:
             kept = self._open()
             stored = kept.borrowed()
-            of = asked(kept.size if size is None else _word(size))
+            of = asked(kept.size if size is None else _word("size", size))
             answer = call(proof, room, ctypes.byref(count), stored, len(stored) // DIGEST_BYTES, *of)
         if answer != 0:
             raise _refusal(answer)
@@ -561,8 +574,9 @@ class Log:
     @staticmethod
     def verify_inclusion_digest(root: bytes, size: int, index: int, digest: bytes, path: bytes) -> bool:
         """As ``verify_inclusion``, of an entry that is known by its digest: the SHA-256 of a zero byte and the entry."""
-        _digest(root), _word(size), _word(index), _digest(digest, "digest"), _exact("path", path)
-        answer: int = Log._inclusion_digest(root, size, index, digest, path, len(path))
+        _digest(root), _digest(digest, "digest"), _exact("path", path)
+        place = _word("size", size), _word("index", index)
+        answer: int = Log._inclusion_digest(root, *place, digest, path, len(path))
         if answer < 0:
             raise _refusal(answer)
         return answer == 0
@@ -574,8 +588,9 @@ class Log:
         ``False`` says that the path was read and leads elsewhere. Raises ``IndexBeyondSize``, ``TruncatedProof``,
         ``InvalidProof``, ``OutOfMemory``.
         """
-        _digest(root), _word(size), _word(index), _exact("entry", entry), _exact("path", path)
-        answer: int = Log._inclusion(root, size, index, entry, len(entry), path, len(path))
+        _digest(root), _exact("entry", entry), _exact("path", path)
+        place = _word("size", size), _word("index", index)
+        answer: int = Log._inclusion(root, *place, entry, len(entry), path, len(path))
         if answer < 0:
             raise _refusal(answer)
         return answer == 0
@@ -587,8 +602,9 @@ class Log:
         Raises ``SizeError`` for the old size 0 and for one above the new size; ``TruncatedProof``, ``InvalidProof``,
         ``OutOfMemory``.
         """
-        _word(old_size), _digest(old_root, "old_root"), _word(new_size), _digest(new_root, "new_root")
-        answer: int = Log._consistency(old_size, old_root, new_size, new_root, _exact("proof", proof), len(proof))
+        old = _word("old_size", old_size), _digest(old_root, "old_root")
+        new = _word("new_size", new_size), _digest(new_root, "new_root")
+        answer: int = Log._consistency(*old, *new, _exact("proof", proof), len(proof))
         if answer < 0:
             raise _refusal(answer)
         return answer == 0

@@ -14,7 +14,7 @@ import ctypes
 import enum
 from typing import List, Sequence
 
-from . import Refused, _bytes, _call, _exact, _refusal, _size, _word
+from . import Refused, _bytes, _call, _exact, _int, _refusal, _size, _word
 
 _room = ctypes.c_void_p
 _field = ctypes.c_uint32
@@ -72,10 +72,11 @@ def _done(answer: int) -> None:
 
 def _elements(field: Field, numbers: Sequence[int]) -> bytes:
     each = field.element_bytes
-    for number in numbers:
-        if not 0 <= number < field.modulus:
-            raise TranscriptError("no element of the field: %d" % number)
-    return b"".join(number.to_bytes(each, "little") for number in numbers)
+    elements = [_int("an element", number) for number in numbers]
+    for element in elements:
+        if not 0 <= element < field.modulus:
+            raise TranscriptError("no element of the field: %d" % element)
+    return b"".join(element.to_bytes(each, "little") for element in elements)
 
 
 def _rows(field: Field, rows: Sequence[Sequence[int]]) -> bytes:
@@ -98,9 +99,10 @@ def parameters_bytes(
     """Returns the canonical bytes of a permutation's parameters: the counts of rounds, the exponent of the S-box, a row of ``ark`` for
     each round, the matrix ``mds`` by rows, and how a state is parted. ``Transcript`` tests them."""
     field = Field(field)
-    word = lambda number: _word(number).to_bytes(8, "little")
-    numbers = word(full_rounds) + word(partial_rounds) + word(alpha)
-    return numbers + _rows(field, tuple(ark)) + _rows(field, tuple(mds)) + word(rate) + word(capacity)
+    word = lambda name, number: _word(name, number).to_bytes(8, "little")
+    numbers = word("full_rounds", full_rounds) + word("partial_rounds", partial_rounds) + word("alpha", alpha)
+    rows = _rows(field, tuple(ark)) + _rows(field, tuple(mds))
+    return numbers + rows + word("rate", rate) + word("capacity", capacity)
 
 
 def ready_parameters(field: Field, rate: int) -> bytes:
@@ -109,7 +111,7 @@ def ready_parameters(field: Field, rate: int) -> bytes:
     size = _size(0)
     # the longest have 71 rows of constants and 9 of the matrix
     room = ctypes.create_string_buffer(64 + 80 * (8 + 9 * 32))
-    _done(_ready(room, len(room), ctypes.byref(size), Field(field), _word(rate)))
+    _done(_ready(room, len(room), ctypes.byref(size), Field(field), _word("rate", rate)))
     return room.raw[: size.value]
 
 
@@ -143,12 +145,12 @@ class Transcript:
     def squeeze(self, count: int) -> List[int]:
         """Returns the next elements. ``OutOfMemory``."""
         each = self._field.element_bytes
-        out = self._given(_squeeze, _word(count) * each)
+        out = self._given(_squeeze, _word("count", count) * each)
         return [int.from_bytes(out[i : i + each], "little") for i in range(0, len(out), each)]
 
     def squeeze_bytes(self, count: int) -> bytes:
         """Returns the next bytes. ``OutOfMemory``."""
-        return self._given(_squeeze_bytes, _word(count))
+        return self._given(_squeeze_bytes, _word("count", count))
 
     def _given(self, call, count: int) -> bytes:  # type: ignore[no-untyped-def]
         out = ctypes.create_string_buffer(count) if count else None

@@ -14,6 +14,7 @@ from paxidore import (
     _call,
     _exact,
     _flat,
+    _multi_path_room,
     _path_digests,
     _refusal,
     _size,
@@ -38,6 +39,7 @@ class _Calls:
         self.set_many = call("set_many", _memory, _size, _sizes, _size, _bytes, _size, _sizes, _size)
         self.root = call("root", _memory, _memory, _size)
         self.path = call("path", _memory, _size, _sizes, _memory, _size, _size)
+        self.multi_path = call("multi_path", _memory, _size, _sizes, _memory, _size, _sizes, _size)
         self.check = call("check", _memory, _size)
 
 
@@ -150,19 +152,30 @@ class Tree:
         """The bytes of the path of an index, as it stands there. Raises ``IndexBeyondSize``."""
         room, count = 16 + _path_digests(self._size), _size()
         path = ctypes.create_string_buffer(room)
-        self._done(self._calls.path, path, room, ctypes.byref(count), given=(_word(index),))
+        self._done(self._calls.path, path, room, ctypes.byref(count), given=(_word("index", index),))
         return ctypes.string_at(path, count.value)
+
+    def multi_path(self, indexes: Sequence[int]) -> bytes:
+        """The bytes of the multi-proof of some indexes, in any order, as it stands there; it shows them rising and each once.
+
+        Raises ``IndexBeyondSize`` also where there is no index, ``OutOfMemory``.
+        """
+        given, count = _words("an index", indexes), _size()
+        room = _multi_path_room(self._size, given[1])
+        proof = ctypes.create_string_buffer(room)
+        self._done(self._calls.multi_path, proof, room, ctypes.byref(count), given=given)
+        return ctypes.string_at(proof, count.value)
 
     def set(self, index: int, leaf: bytes) -> None:
         """Changes a leaf: writes its digest and those above it, from the lowest up. Raises ``IndexBeyondSize``."""
-        self._done(self._calls.set, given=(_word(index), _exact("leaf", leaf), len(leaf)))
+        self._done(self._calls.set, given=(_word("index", index), _exact("leaf", leaf), len(leaf)))
 
     def set_many(self, indexes: Sequence[int], leaves: Sequence[bytes]) -> None:
         """Changes leaves, one for each index, one after the other. Where the indexes rise, each digest above them is hashed once.
 
         Raises ``CountError``, ``IndexBeyondSize``.
         """
-        self._done(self._calls.set_many, given=(*_words(indexes), *_flat(tuple(leaves))))
+        self._done(self._calls.set_many, given=(*_words("an index", indexes), *_flat(tuple(leaves))))
 
     def check(self) -> bool:
         """Whether each digest above those of the leaves is the hash of the two below it. It hashes as much as ``rebuild``."""

@@ -34,6 +34,42 @@ def mth(digests):
     return sha(b"\1" + mth(digests[:k]) + mth(digests[k:]))
 
 
+def all_roots(digests):
+    """The root of each first part, from complete subtrees that are joined as they come."""
+    roots, subtrees = [mth([])], []
+    for digest in digests:
+        height, node = 0, digest
+        while subtrees and subtrees[-1][0] == height:
+            height, node = height + 1, sha(b"\1" + subtrees.pop()[1] + node)
+        subtrees.append((height, node))
+        for _, left in reversed(subtrees[:-1]):
+            node = sha(b"\1" + left + node)
+        roots.append(node)
+    return roots
+
+
+def end_within(calls):
+    """The process is killed behind so many calls that write and sync, in the middle of the next one."""
+    real_write, real_sync, left = os.pwrite, os.fsync, [calls]
+
+    def is_last():
+        left[0] -= 1
+        return left[0] < 0
+
+    def write(file, data, at):
+        if is_last():
+            real_write(file, bytes(data)[: DRAWS.randrange(len(data) + 1)], at)
+            os.kill(os.getpid(), signal.SIGKILL)
+        return real_write(file, data, at)
+
+    def sync(file):
+        if is_last():
+            os.kill(os.getpid(), signal.SIGKILL)
+        real_sync(file)
+
+    paxidore.os.pwrite, paxidore.os.fsync = write, sync
+
+
 def path(index, digests):
     """RFC 6962, section 2.1.1."""
     if len(digests) == 1:
@@ -151,6 +187,15 @@ class InMemory(unittest.TestCase):
         self.assertRaises(OverflowError, log.inclusion, -1)
         self.assertRaises(TypeError, log.append, [bytearray(b"d")])
         self.assertRaises(TypeError, log.append, ["d"])
+        for wrap in (float, str, lambda number: [number]):
+            for name, call in (
+                ("size", lambda: log.root(wrap(3))),
+                ("index", lambda: log.inclusion(wrap(1))),
+                ("size", lambda: log.inclusion(1, wrap(3))),
+                ("old_size", lambda: log.consistency(wrap(1))),
+                ("size", lambda: log.consistency(1, wrap(3))),
+            ):
+                self.assertRaisesRegex(TypeError, "^%s is int, not %s$" % (name, type(wrap(1)).__name__), call)
         self.assertEqual(len(log), 3)
         self.assertEqual(log.consistency(3), b"")
         self.assertRaises(paxidore.IndexBeyondSize, Log.verify_inclusion_digest, bytes(32), 1, 1, bytes(32), b"")
@@ -203,7 +248,9 @@ class InMemory(unittest.TestCase):
 
 class InFile(unittest.TestCase):
     def setUp(self):
-        self.room = tempfile.TemporaryDirectory()
+        # in memory where there is such a folder, since a thousand processes sync several times each
+        shared = "/dev/shm"
+        self.room = tempfile.TemporaryDirectory(dir=shared if os.access(shared, os.W_OK) else None)
         self.addCleanup(self.room.cleanup)
         self.path = os.path.join(self.room.name, "log")
 
@@ -331,42 +378,89 @@ class InFile(unittest.TestCase):
                 break
 
     def test_killed_while_it_appends(self):
-        entries = [b"entry %d" % i for i in range(20000)]
-        digests = entry_digests(entries)
+        """A thousand times: from outside at a drawn time, or within a write or a sync, of which a part is done."""
+        entries = [b"entry %d" % i for i in range(60000)]
+        roots = all_roots(entry_digests(entries))
         Log.open(self.path).close()
-        acknowledged = 0
-        for _ in range(200):
+        before = within = 0
+        for turn in range(1000):
             reading, writing = os.pipe()
+            calls = DRAWS.randrange(16) if turn % 2 else None
             child = os.fork()
             if child == 0:
                 try:
                     with Log.open(self.path) as log:
+                        if calls is not None:
+                            end_within(calls)
                         while True:
                             size = log.append(entries[len(log) : len(log) + DRAWS.randrange(1, 4)])
                             os.write(writing, size.to_bytes(8, "little"))
                 finally:
                     os._exit(1)
             os.close(writing)
-            # it is killed at some time after its first append
             said = os.read(reading, 8)
-            threading.Event().wait(DRAWS.random() / 500)
-            os.kill(child, signal.SIGKILL)
-            os.waitpid(child, 0)
+            if calls is None:
+                # behind its first append
+                threading.Event().wait(DRAWS.random() / 1000)
+                os.kill(child, signal.SIGKILL)
+            _, status = os.waitpid(child, 0)
+            self.assertEqual(os.WTERMSIG(status), signal.SIGKILL)
             while True:
                 more = os.read(reading, 8 * 4096)
                 if not more:
                     break
                 said += more
             os.close(reading)
-            acknowledged = int.from_bytes(said[-8:], "little")
+            acknowledged = int.from_bytes(said[-8:], "little") if said else before
             DRAWS.random()
             with Log.open(self.path) as log:
+                # what was acknowledged, and of the append that was under way all or nothing
                 self.assertIn(len(log) - acknowledged, range(4))
-                self.assertEqual(log.root(), mth(digests[: len(log)]) if len(log) < 600 else log.root())
+                self.assertEqual(log.root(), roots[len(log)])
+                within += len(log) > acknowledged
+                before = len(log)
+                if turn % 100 == 0:
+                    self.assertTrue(log.check())
         with Log.open(self.path) as log:
-            self.assertEqual(log.root(), mth(digests[: len(log)]))
             self.assertTrue(log.check())
-            self.assertGreater(len(log), 200)
+            self.assertGreater(len(log), 1000)
+        # some of them ended between the sync of a size and its acknowledgement
+        self.assertGreater(within, 0)
+
+    def test_each_bit_that_is_flipped(self):
+        """It is found, or the log is that of an append before, or the root is not the one that was published."""
+        for first, more in ((1, 0), (1, 1), (2, 1), (3, 4), (5, 8)):
+            if os.path.exists(self.path):
+                os.unlink(self.path)
+            entries = drawn(first + more)
+            published = {}
+            with Log.open(self.path) as log:
+                for part in (entries[:0], entries[:first], entries[first:]):
+                    log.append(part)
+                    published[len(log)] = log.root()
+            size = first + more
+            with open(self.path, "rb") as file:
+                whole = file.read()
+            for bit in range(8 * len(whole)):
+                flipped = bytearray(whole)
+                flipped[bit // 8] ^= 1 << bit % 8
+                with open(self.path, "wb") as file:
+                    file.write(flipped)
+                place = bit // 8
+                if place < 32:
+                    self.assertRaises(ValueError, Log.open, self.path)
+                    continue
+                with Log.open(self.path) as log:
+                    if place < 96:
+                        # in a slot: the other one decides
+                        self.assertTrue(log.check())
+                        self.assertEqual(log.root(), published[len(log)])
+                    elif log.check():
+                        # the leaf that is in no pair yet, which stands last
+                        self.assertEqual((size % 2, (place - 96) // 32), (1, len(whole) // 32 - 4))
+                        self.assertNotEqual(log.root(), published[size])
+                    else:
+                        self.assertEqual(len(log), size)
 
 
 if __name__ == "__main__":

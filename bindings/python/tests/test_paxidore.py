@@ -65,6 +65,32 @@ class Longer(bytes):
         return 1 << 32
 
 
+class Lower(int):
+    # it says that it is below each other number
+    def __lt__(self, other):
+        return True
+
+    __le__ = __lt__
+
+    def __gt__(self, other):
+        return False
+
+    __ge__ = __gt__
+
+
+class Index:
+    # it has a number, but is none
+    def __init__(self, number):
+        self.number = number
+
+    def __index__(self):
+        return self.number
+
+
+# what makes of a number something that is no int
+NO_INTS = (float, str, complex, Index, lambda number: None, lambda number: [number])
+
+
 def split(count):
     # the largest power of two below the count
     return 1 << (count - 1).bit_length() - 1
@@ -226,6 +252,34 @@ class Calls(unittest.TestCase):
             self.assertEqual(trees.path(Changing(leaves), 2), path)
             self.assertEqual(trees.multi_path(Changing(leaves), Changing([3, 0])), proof)
             self.assertTrue(trees.multi_verify(root, 4, Changing([0, 3]), Changing([b"", b"ccc"]), proof))
+
+    def test_only_int_is_taken(self):
+        log, zeros = paxidore.Log, bytes(32)
+        for trees, _, _ in HASHINGS:
+            leaves = [b"", b"a", b"bb", b"ccc"]
+            root, path, proof = trees.root(leaves), trees.path(leaves, 2), trees.multi_path(leaves, [0, 3])
+            for wrap in NO_INTS:
+                for name, call in (
+                    ("size", lambda: trees.verify(root, wrap(4), 2, b"bb", path)),
+                    ("index", lambda: trees.verify(root, 4, wrap(2), b"bb", path)),
+                    ("size", lambda: trees.multi_verify(root, wrap(4), [0, 3], [b"", b"ccc"], proof)),
+                    ("an index", lambda: trees.multi_verify(root, 4, [0, wrap(3)], [b"", b"ccc"], proof)),
+                    ("index", lambda: trees.path(leaves, wrap(2))),
+                    ("an index", lambda: trees.multi_path(leaves, [wrap(0), 3])),
+                    ("size", lambda: log.verify_inclusion(zeros, wrap(1), 0, b"", b"")),
+                    ("index", lambda: log.verify_inclusion(zeros, 1, wrap(0), b"", b"")),
+                    ("size", lambda: log.verify_inclusion_digest(zeros, wrap(1), 0, zeros, b"")),
+                    ("index", lambda: log.verify_inclusion_digest(zeros, 1, wrap(0), zeros, b"")),
+                    ("old_size", lambda: log.verify_consistency(wrap(1), zeros, 1, zeros, b"")),
+                    ("new_size", lambda: log.verify_consistency(1, zeros, wrap(1), zeros, b"")),
+                ):
+                    with self.assertRaisesRegex(TypeError, "^%s is int, not %s$" % (name, type(wrap(1)).__name__)):
+                        call()
+            # a subclass counts as the number that it has
+            self.assertTrue(trees.verify(root, Lower(4), Lower(2), b"bb", path))
+            self.assertEqual(trees.path(leaves, Lower(2)), path)
+            self.assertRaises(OverflowError, trees.path, leaves, Lower(2 + (1 << 64)))
+            self.assertRaises(OverflowError, trees.multi_path, leaves, [Lower(2 + (1 << 64))])
 
     def test_logs(self):
         log = paxidore.Log

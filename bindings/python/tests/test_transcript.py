@@ -159,6 +159,28 @@ class Transcripts(unittest.TestCase):
             with self.assertRaises(TranscriptError):
                 transcript.absorb([0, wrong])
 
+    def test_only_int_is_taken(self):
+        field = Field.GOLDILOCKS
+        numbers = {"full_rounds": 2, "partial_rounds": 1, "alpha": 7, "rate": 1, "capacity": 1}
+        rows = {"mds": [[1, 2], [3, 4]], "ark": [[5, 6], [7, 8], [9, 10]]}
+        transcript = Transcript(field, parameters_bytes(field, **numbers, **rows))
+        calls = [
+            (name, lambda wrap, name=name: parameters_bytes(field, **dict(numbers, **{name: wrap(1)}), **rows))
+            for name in numbers
+        ]
+        calls += [
+            ("an element", lambda wrap: parameters_bytes(field, **numbers, **dict(rows, mds=[[1, wrap(2)], [3, 4]]))),
+            ("an element", lambda wrap: parameters_bytes(field, **numbers, **dict(rows, ark=[[wrap(5), 6]] * 3))),
+            ("an element", lambda wrap: transcript.absorb([1, wrap(2)])),
+            ("count", lambda wrap: transcript.squeeze(wrap(1))),
+            ("count", lambda wrap: transcript.squeeze_bytes(wrap(1))),
+            ("rate", lambda wrap: ready_parameters(Field.BN254_FR, wrap(2))),
+        ]
+        for wrap in (float, str, lambda number: [number]):
+            for name, call in calls:
+                with self.assertRaisesRegex(TypeError, "^%s is int, not %s$" % (name, type(wrap(1)).__name__)):
+                    call(wrap)
+
 
 if __name__ == "__main__":
     unittest.main()

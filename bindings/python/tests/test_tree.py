@@ -124,6 +124,24 @@ class Trees(unittest.TestCase):
                     self.assertEqual(trees.path(leaves, index), tree.path(index))
                     self.assertTrue(trees.verify(root, size, index, leaves[index], tree.path(index)))
 
+    def test_multi_paths(self):
+        for trees, _, _ in HASHINGS:
+            for size in (2, 4, 8, 64, 1024):
+                leaves = [drawn_leaf() for _ in range(size)]
+                tree = Tree.build(leaves, trees=trees)
+                for _ in range(30 if size < 1024 else 5):
+                    # in any order, and some of them twice
+                    indexes = [DRAWS.randrange(size) for _ in range(DRAWS.randrange(1, 2 * size))]
+                    proof = tree.multi_path(indexes)
+                    self.assertEqual(proof, trees.multi_path(leaves, indexes))
+                    rising = sorted(set(indexes))
+                    shown = [leaves[index] for index in rising]
+                    self.assertTrue(trees.multi_verify(tree.root, size, rising, shown, proof))
+                # whatever memory holds
+                held = bytearray(DRAWS.randbytes(32 * (2 * size - 1)))
+                proof = Tree(held, trees=trees).multi_path([size - 1, 0])
+                self.assertEqual(proof[8:72], bytes(held[32 * size : 32 * size + 32] + held[-64:-32]))
+
     def test_several_changes(self):
         for trees, leaf, node in HASHINGS:
             for size in (2, 4, 8, 64, 256):
@@ -251,6 +269,9 @@ class Trees(unittest.TestCase):
             (paxidore.SizeError, lambda: Tree(bytearray())),
             (paxidore.IndexBeyondSize, lambda: tree.path(4)),
             (paxidore.IndexBeyondSize, lambda: tree.path((1 << 64) - 1)),
+            (paxidore.IndexBeyondSize, lambda: tree.multi_path([0, 4])),
+            (paxidore.IndexBeyondSize, lambda: tree.multi_path([])),
+            (OverflowError, lambda: tree.multi_path([-1])),
             (paxidore.IndexBeyondSize, lambda: tree.set(4, b"")),
             (paxidore.IndexBeyondSize, lambda: tree.set_many([0, 4], [b"", b""])),
             (paxidore.IndexBeyondSize, lambda: tree.set_many([], [])),
@@ -271,6 +292,14 @@ class Trees(unittest.TestCase):
             self.assertRaises(error, call)
             holder.close()
         held.append(0)
+        for wrap in (float, str, lambda number: None):
+            for name, call in (
+                ("index", lambda: tree.path(wrap(1))),
+                ("an index", lambda: tree.multi_path([0, wrap(1)])),
+                ("index", lambda: tree.set(wrap(1), b"")),
+                ("an index", lambda: tree.set_many([0, wrap(1)], [b"", b""])),
+            ):
+                self.assertRaisesRegex(TypeError, "^%s is int, not %s$" % (name, type(wrap(1)).__name__), call)
         self.assertTrue(tree.check())
         self.assertEqual(tree.root, paxidore.rfc6962.root(leaves))
         tree.close()

@@ -267,9 +267,7 @@ impl Trees {
         indexes: &[usize],
     ) -> Result<Vec<u8>, Refused> {
         let Flat { bytes, lengths } = Flat::of(leaves);
-        // each index is shown once, so that there are no more than leaves
-        let shown = indexes.len().min(lengths.len());
-        let room = 32 + shown * (24 + path_digests(lengths.len()));
+        let room = multi_path_room(lengths.len(), indexes.len());
         // SAFETY: as in `path`.
         written(room, |proof, room, count| unsafe {
             (self.calls.multi_path)(
@@ -290,6 +288,12 @@ impl Trees {
 // How many bytes the digests of a path have in a tree of this size.
 fn path_digests(size: usize) -> usize {
     32 * (usize::BITS - size.saturating_sub(1).leading_zeros()) as usize
+}
+
+// As many bytes as a multi-proof of so many indexes has at most in a tree of this size.
+fn multi_path_room(size: usize, count: usize) -> usize {
+    // each index is shown once, so that there are no more than leaves
+    32 + count.min(size) * (24 + path_digests(size))
 }
 
 /// The SHA-256 of some bytes (FIPS 180-4).

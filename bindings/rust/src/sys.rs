@@ -59,13 +59,23 @@ pub struct Calls {
     ) -> i32,
     pub tree_root: unsafe extern "C" fn(*mut u8, *const u8, usize) -> i32,
     pub tree_path: unsafe extern "C" fn(*mut u8, usize, *mut usize, *const u8, usize, usize) -> i32,
+    pub tree_multi_path: unsafe extern "C" fn(
+        *mut u8,
+        usize,
+        *mut usize,
+        *const u8,
+        usize,
+        *const usize,
+        usize,
+    ) -> i32,
     pub tree_check: unsafe extern "C" fn(*const u8, usize) -> i32,
 }
 
 macro_rules! calls {
     (
         $verify:ident $multi_verify:ident $root:ident $path:ident $multi_path:ident
-        $tree_build:ident $tree_rebuild:ident $tree_set:ident $tree_set_many:ident $tree_root:ident $tree_path:ident $tree_check:ident
+        $tree_build:ident $tree_rebuild:ident $tree_set:ident $tree_set_many:ident $tree_root:ident $tree_path:ident
+        $tree_multi_path:ident $tree_check:ident
     ) => {{
         extern "C" {
             fn $verify(
@@ -152,6 +162,15 @@ macro_rules! calls {
                 tree_len: usize,
                 index: usize,
             ) -> i32;
+            fn $tree_multi_path(
+                proof: *mut u8,
+                proof_room: usize,
+                proof_len: *mut usize,
+                tree: *const u8,
+                tree_len: usize,
+                indexes: *const usize,
+                indexes_count: usize,
+            ) -> i32;
             fn $tree_check(tree: *const u8, tree_len: usize) -> i32;
         }
         Calls {
@@ -166,6 +185,7 @@ macro_rules! calls {
             tree_set_many: $tree_set_many,
             tree_root: $tree_root,
             tree_path: $tree_path,
+            tree_multi_path: $tree_multi_path,
             tree_check: $tree_check,
         }
     }};
@@ -174,14 +194,16 @@ macro_rules! calls {
 pub static SHA256: Calls = calls!(
     paxidore_sha256_verify paxidore_sha256_multi_verify paxidore_sha256_root paxidore_sha256_path paxidore_sha256_multi_path
     paxidore_sha256_tree_build paxidore_sha256_tree_rebuild paxidore_sha256_tree_set paxidore_sha256_tree_set_many
-    paxidore_sha256_tree_root paxidore_sha256_tree_path paxidore_sha256_tree_check
+    paxidore_sha256_tree_root paxidore_sha256_tree_path paxidore_sha256_tree_multi_path
+    paxidore_sha256_tree_check
 );
 
 pub static RFC6962: Calls = calls!(
     paxidore_rfc6962_verify paxidore_rfc6962_multi_verify paxidore_rfc6962_root paxidore_rfc6962_path
     paxidore_rfc6962_multi_path
     paxidore_rfc6962_tree_build paxidore_rfc6962_tree_rebuild paxidore_rfc6962_tree_set paxidore_rfc6962_tree_set_many
-    paxidore_rfc6962_tree_root paxidore_rfc6962_tree_path paxidore_rfc6962_tree_check
+    paxidore_rfc6962_tree_root paxidore_rfc6962_tree_path paxidore_rfc6962_tree_multi_path
+    paxidore_rfc6962_tree_check
 );
 
 extern "C" {

@@ -153,6 +153,28 @@ impl<M: AsRef<[u8]>> Tree<M> {
         })
     }
 
+    /// The bytes of the multi-proof of some indexes, in any order, as it stands there; it shows them rising and each once.
+    ///
+    /// Refusals: `Size`, `Index` also where there is no index, `Memory`.
+    pub fn multi_path(&self, indexes: &[usize]) -> Result<Vec<u8>, Refused> {
+        let place = self.memory.as_ref();
+        let count = digests(place)?;
+        let size = count / 2 + 1;
+        let room = crate::multi_path_room(size, indexes.len());
+        // SAFETY: as in `path`.
+        written(room, |proof, room, proof_len| unsafe {
+            (self.trees.calls.tree_multi_path)(
+                proof,
+                room,
+                proof_len,
+                place.as_ptr(),
+                count,
+                indexes.as_ptr(),
+                indexes.len(),
+            )
+        })
+    }
+
     /// Whether each digest above those of the leaves is the hash of the two below it. It hashes as much as
     /// [`rebuild`](Tree::rebuild). Refusals: `Size`.
     pub fn check(&self) -> Result<bool, Refused> {

@@ -88,6 +88,24 @@ fn several_changes() -> Result<(), Refused> {
 }
 
 #[test]
+fn multi_paths() -> Result<(), Refused> {
+    for trees in HASHINGS {
+        for log2 in 1..9 {
+            let leaves: Vec<Vec<u8>> = (0..1 << log2).map(|i| vec![i as u8; i]).collect();
+            let tree = Tree::build(trees, &leaves)?;
+            let all: Vec<usize> = (0..leaves.len()).rev().collect();
+            for indexes in [&all[..], &all[..1], &[1, 0, 1], &[0; 1000]] {
+                let proof = trees.multi_path(&leaves, indexes)?;
+                assert_eq!(tree.multi_path(indexes)?, proof);
+            }
+            assert_eq!(tree.multi_path(&[]), Err(Refused::Index));
+            assert_eq!(tree.multi_path(&[0, leaves.len()]), Err(Refused::Index));
+        }
+    }
+    Ok(())
+}
+
+#[test]
 fn each_byte_that_is_flipped_is_found() -> Result<(), Refused> {
     for trees in HASHINGS {
         let whole = Tree::build(trees, &ENTRIES)?.into_memory();

@@ -68,6 +68,10 @@ module _ (count m : ℕ) (size : count + 1 ≡ 2 * 2 ^ suc m) where
           absurd (omega (arith, large, up))
     ]
 
+-- a tree has a level below its root
+pub level-some : (count : ℕ) → is_tree_length count ≡ true → 0 < log2 (leaf_count count)
+level-some count is = let size = tree_length count is in omega (arith, log-is count size.0 size.1)
+
 -- the levels between the leaf digests and the root
 pub levels-known : (count levels : ℕ) → is_tree_length count ≡ true → levels ≡ log2 (count / 2 + 1) - 1
     → levels + 1 ≡ log2 (leaf_count count)

@@ -5,3 +5,4 @@ pub mod Lengths
 pub mod Rehashed
 pub mod PathWrites
 pub mod LevelByLevel
+pub mod MultiPaths

@@ -35,7 +35,7 @@ pub word-bytes : (n : ℕ) (bytes : List ℕ) → bytes ≡ to_le_bytes w64 n �
 unfolding word
 word-bytes n bytes is = is
 
-length-above : (memory : List Digest) (index level : ℕ) → length (kept_above memory index level) ≡ level
+pub length-above : (memory : List Digest) (index level : ℕ) → length (kept_above memory index level) ≡ level
 length-above memory index zero = refl
 length-above memory index (suc level) = ap suc (length-above memory index level)
 

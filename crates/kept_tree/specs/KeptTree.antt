@@ -1,9 +1,12 @@
 -- Trees that are kept in memory: digests in level order, the root first, the leaf digests last.
-use Rattle.std.specs.Prelude.{◌≡◌, ◌⊎◌, ℕ, zero, suc, ◌+◌, ◌-◌, ◌*◌, ◌/◌, ◌<◌, ◌≤◌, ◌^◌, List, [], ◌∷◌, length, drop, get_or, nat_lt, Bool, ◌&&◌, Ok}
+use Rattle.std.specs.Prelude.{◌≡◌, ◌⊎◌, ℕ, zero, suc, ◌+◌, ◌-◌, ◌*◌, ◌/◌, ◌<◌, ◌≤◌, ◌^◌, List, [], ◌∷◌, length, map, drop, get_or, nat_lt, Bool, ◌&&◌, Ok}
 use Rattle.std.specs.List.{zip}
 use Rattle.ark_paths.specs.Index.{IsTreeSize, is_tree_size, log2, neighbour}
+use Rattle.ark_paths.specs.MultiPath.{MultiWay}
 use Rattle.ark_paths.specs.Pair.{Digest, HashPair}
 use Rattle.ark_paths.specs.Path.{Way}
+use Rattle.ark_paths.specs.Rising.{rising_set}
+use Rattle.ark_paths.specs.Sharing.{multi_path_of}
 use Rattle.ark_merkle.specs.Batch.{puts}
 
 -- the digest of two digests, left first
@@ -106,10 +109,15 @@ abbrev pub kept_above : List Digest → ℕ → ℕ → List Digest
 kept_above memory index zero = []
 kept_above memory index (suc level) = kept_beside memory index (suc level) ∷ kept_above memory index level
 
+-- the digests of the path of an index, but that of the leaves, from above down
+abbrev pub digests_above : List Digest → ℕ → List Digest
+digests_above memory index = kept_above memory index (log2 (leaf_count (length memory)) - 1)
+
 -- the path of an index, as it stands in memory
 abbrev pub kept_way : List Digest → ℕ → Way
-kept_way memory index = record {
-  sibling = kept_beside memory index 0;
-  above = kept_above memory index (log2 (leaf_count (length memory)) - 1);
-  index = index;
-}
+kept_way memory index =
+    record { sibling = kept_beside memory index 0; above = digests_above memory index; index = index }
+
+-- the multi-proof of some indexes, as it stands in memory: that of their paths, each once, rising
+abbrev pub kept_multi_way : List Digest → List ℕ → MultiWay
+kept_multi_way memory indexes = multi_path_of (map (kept_way memory) (rising_set indexes))

@@ -1,6 +1,7 @@
 //! Merkle trees whose digests are kept in memory of the caller's, in level order: the root first, the leaf digests last.
 //!
-//! Nothing here allocates. Each function says what it reads or writes of any memory, and what that is where it holds a tree.
+//! Each function says what it reads or writes of any memory, and what that is where it holds a tree. A multi-proof is
+//! allocated; nothing else is.
 #![tactic(auto)]
 
 pub mod build;
@@ -8,4 +9,5 @@ pub mod change;
 pub mod check;
 pub mod hash;
 pub mod many;
+pub mod multi_path;
 pub mod path;

@@ -24,7 +24,7 @@ pub fn root(memory: &[[u8; 32]]) -> &[u8; 32]
 }
 
 // The digest beside the way of an index, so many levels above the leaves.
-fn beside(memory: &[[u8; 32]], index: usize, level: usize) -> &[u8; 32]
+pub(crate) fn beside(memory: &[[u8; 32]], index: usize, level: usize) -> &[u8; 32]
     requires size { is_tree_length (length memory.now) ≡ true }
     requires index { index < leaf_count (length memory.now) }
     requires level { level < log2 (leaf_count (length memory.now)) }

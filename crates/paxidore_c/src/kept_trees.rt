@@ -1,4 +1,5 @@
-//! Trees whose digests are kept in the caller's memory, in both hashings: the root first, the leaf digests last. No call allocates.
+//! Trees whose digests are kept in the caller's memory, in both hashings: the root first, the leaf digests last. A
+//! multi-proof is allocated, and freed before the call returns; nothing else is.
 
 ghost use Rattle.std.specs.Prelude.{◌≡◌, ◌≢◌, ◌⊎◌, ◌+◌, ◌*◌, ◌↔◌, List, [], pos, false, length, map, get_or, set, IfOk, IfSome, Ok};
 ghost use Rattle.std.specs.List.{zip};
@@ -11,13 +12,15 @@ ghost use Rattle.paxidore_calls.specs.declared.refused.Refused.TheVariants.{Memo
 ghost use Rattle.paxidore_calls.specs.Answer.{Hands, done_code, refusal_code, tree_leaves_in};
 ghost use Rattle.paxidore_calls.specs.Cut.{parts_by};
 ghost use Rattle.paxidore_calls.specs.Hashing.{hashes_of, rfc6962_hashing, sha256_hashing};
-ghost use Rattle.paxidore_calls.specs.KeptAnswer.{kept_index, kept_path, kept_root, leaves_to_change, leaves_to_keep, path_of_digests};
+ghost use Rattle.paxidore_calls.specs.KeptAnswer.{kept_index, kept_multi_path, kept_path, kept_root, leaves_to_change, leaves_to_keep, multi_path_of_digests, path_of_digests};
 
 use paxidore_calls::kept_changes::tree_set_many;
+use paxidore_calls::kept_proofs::tree_multi_path;
 use paxidore_calls::kept_trees::{
     tree_build, tree_check, tree_path, tree_rebuild, tree_root, tree_set,
 };
 use paxidore_calls::leaves::{LogDigest, PlainDigest};
+use std::alloc::Global;
 
 /// Writes the tree above the leaves to memory of as many digests as it has. An error leaves the memory as before.
 ///
@@ -145,6 +148,31 @@ pub extern "C" fn paxidore_sha256_tree_path(
     ensures no_memory { result ≢ refusal_code Memory }
 {
     tree_path::<PlainDigest>(path, path_len, tree, index)
+}
+
+/// Writes the bytes of the multi-proof of some indexes, in any order, to the front of `proof`, with the digests that stand in
+/// memory, and their count. It shows the indexes rising and each once.
+///
+/// Answers: 0; else the first of `E_SIZE`, where no tree has so many digests, `E_INDEX`, also where there is no index,
+/// `E_MEMORY`, `E_ROOM`, which alone writes the count that is needed. Any other refusal leaves both buffers as before.
+#[unsafe(no_mangle)]
+pub extern "C" fn paxidore_sha256_tree_multi_path(
+    alloc: Global,
+    proof: &mut [u8],
+    proof_len: &mut usize,
+    tree: &[[u8; 32]],
+    indexes: &[usize],
+) -> i32
+    ensures handed { let outcome = kept_multi_path tree.now indexes.now in
+        Hands outcome proof.old proof.new proof_len.old proof_len.new result }
+
+    // Of a tree it is the multi-proof that its leaves give.
+    ensures tree { let h = sha256_hashing in
+        (leaves : List Digest) → HoldsTree h.node tree.now leaves
+        → Hands (multi_path_of_digests h leaves indexes.now)
+        proof.old proof.new proof_len.old proof_len.new result }
+{
+    tree_multi_path::<PlainDigest>(alloc, proof, proof_len, tree, indexes)
 }
 
 /// Returns whether memory holds the tree above the leaf digests that stand in it: whether each other digest is the hash of
@@ -287,6 +315,31 @@ pub extern "C" fn paxidore_rfc6962_tree_path(
     ensures no_memory { result ≢ refusal_code Memory }
 {
     tree_path::<LogDigest>(path, path_len, tree, index)
+}
+
+/// Writes the bytes of the multi-proof of some indexes, in any order, to the front of `proof`, with the digests that stand in
+/// memory, and their count. It shows the indexes rising and each once.
+///
+/// Answers: 0; else the first of `E_SIZE`, where no tree has so many digests, `E_INDEX`, also where there is no index,
+/// `E_MEMORY`, `E_ROOM`, which alone writes the count that is needed. Any other refusal leaves both buffers as before.
+#[unsafe(no_mangle)]
+pub extern "C" fn paxidore_rfc6962_tree_multi_path(
+    alloc: Global,
+    proof: &mut [u8],
+    proof_len: &mut usize,
+    tree: &[[u8; 32]],
+    indexes: &[usize],
+) -> i32
+    ensures handed { let outcome = kept_multi_path tree.now indexes.now in
+        Hands outcome proof.old proof.new proof_len.old proof_len.new result }
+
+    // Of a tree it is the multi-proof that its leaves give.
+    ensures tree { let h = rfc6962_hashing in
+        (leaves : List Digest) → HoldsTree h.node tree.now leaves
+        → Hands (multi_path_of_digests h leaves indexes.now)
+        proof.old proof.new proof_len.old proof_len.new result }
+{
+    tree_multi_path::<LogDigest>(alloc, proof, proof_len, tree, indexes)
 }
 
 /// Returns whether memory holds the tree above the leaf digests that stand in it: whether each other digest is the hash of

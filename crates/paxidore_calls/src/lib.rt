@@ -5,6 +5,7 @@
 pub mod buffer;
 pub mod kept_changes;
 mod kept_hashing;
+pub mod kept_proofs;
 pub mod kept_trees;
 pub mod leaves;
 pub mod log;
