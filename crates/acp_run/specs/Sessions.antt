@@ -47,9 +47,9 @@ abbrev pub Stops : {T : Type 0} → (Option T → List ℕ → Option T → List
     → Option (List ℕ) → Option (List ℕ) → Option (List ℕ) → Type 0
 Stops step = StopsFrom step None
 
--- What the writer holds when a session is cut short and neither the reader nor the writer failed: what it held, then the
--- whole replies to some first lines. Either there was a further line, for whose reply memory lacked, or 2 ^ 64 - 1
--- lines were answered.
+-- What the writer holds when a session is cut short and neither the reader nor the writer failed: what it held, then
+-- the whole replies to some first lines. Either there was a further line, for whose reply memory lacked, or
+-- 2 ^ 64 - 1 lines were answered.
 abbrev pub HaltsFrom : {T : Type 0} → (T → List ℕ → T → List ℕ → Type 0) → T → Type 0
     → Option (List ℕ) → Option (List ℕ) → Option (List ℕ) → Type 0
 HaltsFrom step start lacks input before after =

@@ -68,16 +68,6 @@ rise-end (c ∷ d ∷ cs) =
     let later : length (c ∷ d ∷ cs) - 1 ≡ suc (length (d ∷ cs) - 1) = omega arith in
     rw later (rise-end (d ∷ cs))
 
--- a change before others that rise
-pub rise-before : {A : Type 0} (cs : List (ℕ × A)) (n : ℕ) (c d : ℕ × A) → n + 1 < length cs → c ≡ get_or cs n c
-    → d ≡ get_or cs (n + 1) d → c.0 < d.0 → Rise 0 (drop (n + 1) cs) → Rise 0 (drop n cs)
-rise-before cs n c d inside at_n at_next lt so =
-    let next : drop (n + 1) cs ≡ d ∷ drop (n + 1 + 1) cs =
-    drop_more cs (n + 1) d inside ∙ ap (λ x. x ∷ drop (n + 1 + 1) cs) (sym at_next) in
-    let here : drop n cs ≡ c ∷ d ∷ drop (n + 1 + 1) cs =
-    drop_more cs n c (omega (arith, inside)) ∙ ap (λ x. x ∷ drop (n + 1) cs) (sym at_n) ∙ ap (λ xs. c ∷ xs) next in
-    rw here (omega arith, (lt, (subst (Rise 0) next so).1))
-
 places-placed : {A : Type 0} (c : ℕ × A) (cs : List (ℕ × A)) → places (with_change c cs) ≡ with_number c.0 (places cs)
 places-placed c [] = refl
 places-placed c (d ∷ cs) =

@@ -96,7 +96,8 @@ begins e n a of_e =
     nothing : (n : ℕ) → 0 * 2 ^ 256 + n ≡ n * 16 ^ 0
     nothing n = omega arith
 
-pub counted_more : (n rest others digit m i : ℕ) → digit * 2 ^ 256 + others ≡ rest * 16 → m * 2 ^ 256 + rest ≡ n * 16 ^ i
+pub counted_more : (n rest others digit m i : ℕ) → digit * 2 ^ 256 + others ≡ rest * 16
+    → m * 2 ^ 256 + rest ≡ n * 16 ^ i
     → (16 * m + digit) * 2 ^ 256 + others ≡ n * 16 ^ (i + 1)
 counted_more n rest others digit m i is whole =
     step n rest others digit m (16 ^ i) is whole ∙ ap (λ k. n * k) (sym (pow-suc 16 i) ∙ ap (λ k. 16 ^ k) (after i))

@@ -37,7 +37,10 @@ const GENERATOR_Y: Words = Words {
 pub struct Jubjub {
     x: Bls12_381Fr,
     y: Bls12_381Fr,
-    ghost in_subgroup: { IsInSubgroup (record { x = value x; y = value y }) } by { in_subgroup_alike _ },
+    ghost in_subgroup: { IsInSubgroup (record {
+      x = value x;
+      y = value y;
+    }) } by { in_subgroup_alike _ },
 }
 
 /// Zero.

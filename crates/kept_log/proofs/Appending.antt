@@ -40,7 +40,8 @@ pub appending-next : {stored digests old more next : List Digest} {size place ma
     ≡ get_or digests place [] → Completes node_of (size + place) (items stored made more) digest (items stored after
     next) → length stored + after ≡ stored_count (size + place + 1) → drop after next ≡ drop after more → length next
     ≡ length more → Appending stored size digests old next (place + 1) after
-appending-next {stored} {digests} {old} {more} {next} {size} {place} {made} {after} {digest} at room inside is done whole
+appending-next {stored} {digests} {old} {more} {next} {size} {place} {made} {after} {digest} at room inside is done
+    whole
     behind same =
     let one : size + place + 1 ≡ size + (place + 1) = omega arith in
     let rises = room-first (size + place) in

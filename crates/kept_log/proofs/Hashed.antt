@@ -17,9 +17,6 @@ abbrev pub HashedTo : NodeHash → List Digest → List Digest → ℕ → Type 
 HashedTo hash row next count = (q : ℕ) → q < count → hash (get_or row (2 * q) []) (get_or row (2 * q + 1) [])
     ≡ Ok (get_or next q [])
 
-pub hashed-none : (hash : NodeHash) (row next : List Digest) → HashedTo hash row next 0
-hashed-none hash row next = λ q below. absurd (omega arith)
-
 pub hashed-more : (hash : NodeHash) (row next : List Digest) (count : ℕ) → HashedTo hash row next count
     → hash (get_or row (2 * count) []) (get_or row (2 * count + 1) []) ≡ Ok (get_or next count [])
     → HashedTo hash row next (count + 1)

@@ -55,7 +55,8 @@ read-items kept more at place below = elim (cases_lt place (length kept)) [
 
 -- ---- while they are made
 
--- `at` digests stand in the buffer, of which a leaf made those behind the first `made`, up to a level; `own` is the last.
+-- `at` digests stand in the buffer, of which a leaf made those behind the first `made`, up to a level; `own` is the
+-- last.
 pub record Making (kept : List Digest) (size made : ℕ) (digest : Digest) (old more : List Digest) (at level left : ℕ)
     (own : Digest) : Type 0 where
   pub completing : Completing itself node_of size (items kept made old) digest (items kept at more) level left
@@ -64,7 +65,8 @@ pub record Making (kept : List Digest) (size made : ℕ) (digest : Digest) (old 
   pub behind : drop at more ≡ drop at old
   pub same : length more ≡ length old
 
-items-more : (kept old more : List Digest) (at : ℕ) (digest : Digest) → take (at + 1) more ≡ take at old ++ (digest ∷ [])
+items-more : (kept old more : List Digest) (at : ℕ) (digest : Digest) → take (at + 1) more ≡ take at old ++
+    (digest ∷ [])
     → items kept (at + 1) more ≡ items kept at old ++ (digest ∷ [])
 items-more kept old more at digest is = ap (λ l. kept ++ l) is ∙ sym (append_assoc kept (take at old) (digest ∷ []))
 
@@ -127,7 +129,8 @@ module _ {kept old more : List Digest} {size made at level left : ℕ} {digest o
       let inside = (making-place odd).2 in
       let all = items-more kept more next at up is in
       record {
-        completing = completing-next making.completing (omega arith) odd before (length (items kept at more) - 1) refl up
+        completing = completing-next making.completing (omega arith) odd before (length
+            (items kept at more) - 1) refl up
             (items kept (at + 1) next) all
             (ap (λ l. node_of (get_or l (position level (left - 1)) []) (get_or l (length (items kept at more) - 1) []))
             (map-itself (items kept at more))
@@ -142,7 +145,8 @@ module _ {kept old more : List Digest} {size made at level left : ℕ} {digest o
       }
 
   pub making-end : left % 2 ≡ 0 → Completes node_of size (items kept made old) digest (items kept at more)
-  making-end even = rw (map-itself (items kept made old), map-itself (items kept at more)) at (completing-end making.completing even)
+  making-end even = rw (map-itself (items kept made old), map-itself (items kept at more)) at
+      (completing-end making.completing even)
 
   -- All are made.
   pub making-whole : left % 2 ≡ 0 → length kept + at ≡ stored_count (size + 1)

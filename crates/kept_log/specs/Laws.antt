@@ -25,7 +25,8 @@ rows-node (suc level) hash rows empty place n stored is le =
     let half = (place + 1) * 2 ^ level in
     let two : n ≡ half + half = is ∙ below-up level place in
     node-up (joined hash) (Ok empty) level place (node_rows (take n (rows 0)))
-    ∙ ap (node (joined hash) (Ok empty) level place) (row_up-front hash half n (rows 0) (rows 1) (stored.pairs 0) two le)
+    ∙ ap (node (joined hash) (Ok empty) level place)
+    (row_up-front hash half n (rows 0) (rows 1) (stored.pairs 0) two le)
     ∙ rows-node level hash (λ l. rows (suc l)) empty place half (record { pairs = λ l. stored.pairs (suc l) }) refl
     (omega (arith, length-row_pairs hash (rows 0) (rows 1) (stored.pairs 0)))
 
@@ -50,8 +51,8 @@ inside-up level place n le = elim (cases_lt place (index_up level n)) [
 add_one : (a b : ℕ) → (a + 1) * b ≡ a * b + b
 add_one a b = grind arith
 
--- The digest at the position of a place is the Merkle tree hash of the leaf digests below it: of the 2 ^ level ones from
--- place * 2 ^ level on.
+-- The digest at the position of a place is the Merkle tree hash of the leaf digests below it: of the 2 ^ level ones
+-- from place * 2 ^ level on.
 pub stored-place : (leaves kept : List Digest) (empty : Digest) (level place : ℕ) → Keeps leaves kept
     → (place + 1) * 2 ^ level ≤ length leaves
     → tree_hash (joined node_of) (Ok empty) level (map Ok (take (2 ^ level) (drop (place * 2 ^ level) leaves)))

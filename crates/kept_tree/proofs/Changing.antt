@@ -55,19 +55,6 @@ pub record ChangesUpTo (node : NodeHash) (old now : List Digest) (from place : �
   pub others : (i : ℕ) → (IsOnWay from i → ⊥) → get_or now i [] ≡ get_or old i []
 
 module _ (node : NodeHash) (old : List Digest) (from : ℕ) (digest : Digest) where
-  pub changes-none : from < length old → length old / 2 ≤ from → ChangesUpTo node old (set old from digest) from from
-      digest
-  changes-none inside leaf = record {
-    long = length-set old from digest;
-    leaf = get_or-set_same old from digest [] inside;
-    on_way = on_way-self from;
-    way = λ i below above on. absurd (omega arith);
-    others = λ i apart. get_or-set_other old from i digest [] (λ same. apart (rw same (on_way-self from)));
-  }
-
-  pub changes-low : (now : List Digest) (place : ℕ) → ChangesUpTo node old now from place digest → place ≤ from
-  changes-low now place so = on_way-low from place so.on_way
-
   pub changes-more : (now new : List Digest) (place : ℕ) → 0 < place → ChangesUpTo node old now from place digest
       → Rehashes node ((place - 1) / 2) 1 now new → ChangesUpTo node old new from ((place - 1) / 2) digest
   changes-more now new place some so step =

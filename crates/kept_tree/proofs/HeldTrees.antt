@@ -101,7 +101,8 @@ module _ (node : NodeHash) (memory leaves : List Digest) (holds : HoldsTree node
   wide : (k : ℕ) → k ≤ m → length (get_or rows k []) ≡ 2 ^ (m - k)
   wide k le = let e : suc m - 1 - k ≡ m - k = omega arith in rw e at (length-row (suc m) k above long (omega arith))
 
-  row-read : (k q : ℕ) → k ≤ m → q < 2 ^ (m - k) → get_or (get_or rows k []) q [] ≡ get_or memory (2 ^ (m - k) - 1 + q) []
+  row-read : (k q : ℕ) → k ≤ m → q < 2 ^ (m - k) → get_or (get_or rows k []) q [] ≡ get_or memory (2 ^
+      (m - k) - 1 + q) []
   row-read k q le below =
       let e : suc m - 1 - k ≡ m - k = omega arith in
       let two : 0 < 2 = omega arith in

@@ -18,7 +18,8 @@ pub record LevelUpTo (node : NodeHash) (old now : List Digest) (level : ℕ) (in
   pub hashed : (j : ℕ) → j < count → IsHashed node now (place_above (length old) level (get_or indexes j 0))
   pub others : (i : ℕ) → ((j : ℕ) → j < count → i ≡ place_above (length old) level (get_or indexes j 0) → ⊥)
       → get_or now i [] ≡ get_or old i []
-  pub known : (last ≡ length old) ⊎ ((j : ℕ) × (j < count) × (last ≡ place_above (length old) level (get_or indexes j 0)))
+  pub known : (last ≡ length old) ⊎ ((j : ℕ) × (j < count) × (last ≡ place_above (length old) level
+      (get_or indexes j 0)))
 
 -- the levels below this one are hashed
 pub record AboveUpTo (node : NodeHash) (old now : List Digest) (levels done : ℕ) (indexes : List ℕ) : Type 0 where
@@ -247,7 +248,12 @@ module _ (node : NodeHash) (old : List Digest) (m : ℕ) (size : length old + 1 
       length-drop inner new,
       length-drop inner now,
       step.long,
-    )) (λ q under. get_or-drop inner new q [] ∙ unchanged (inner + q) (omega (arith, wide, leaves-are (length old) m size))
+    )) (λ q under. get_or-drop inner new q [] ∙ unchanged (inner + q) (omega (
+      arith,
+      wide,
+      leaves-are
+          (length old) m size,
+    ))
         ∙ sym (get_or-drop inner now q []))) ∙ leaves-now;
     ways = ways;
     others = λ i under apart. step.others i (λ j within same. apart (
@@ -273,7 +279,8 @@ module _ (node : NodeHash) (old : List Digest) (m : ℕ) (size : length old + 1 
           omega (arith, le, pow-succ' 2 (suc m - (done + 1)))
 
       unchanged : (i : ℕ) → 2 * 2 ^ (suc m - (done + 1)) ≤ i + 1 → get_or new i [] ≡ get_or now i []
-      unchanged i past = step.others i (λ j within same. level-before (done + 1) j (omega arith) (omega arith) within i past
+      unchanged i past = step.others i (λ j within same. level-before (done + 1) j (omega arith)
+          (omega arith) within i past
           (same ∙ ap (λ (n : ℕ). place_above n (done + 1) (get_or indexes j 0)) so.long))
 
       at-level : (i j : ℕ) → j < length indexes → i ≡ place_above (length old) (done + 1) (get_or indexes j 0)
@@ -292,7 +299,8 @@ module _ (node : NodeHash) (old : List Digest) (m : ℕ) (size : length old + 1 
             let here : i ≡ place_above (length old) (done + 1) (get_or indexes j 0) =
             omega (arith, subst (λ (n : ℕ). i + 1 ≡ (leaf_count (length old) + get_or indexes j 0) / 2 ^ n) same on) in
             let hashed = step.hashed j within in
-            rw here (subst (λ (n : ℕ). IsHashed node new (place_above n (done + 1) (get_or indexes j 0))) so.long hashed)
+            rw here (subst (λ (n : ℕ). IsHashed node new (place_above n (done + 1)
+            (get_or indexes j 0))) so.long hashed)
         | inr past ↦
             let twice : 2 ^ (suc m - done) ≤ i + 1 =
             let e : suc m - done ≡ suc (suc m - (done + 1)) = omega arith in
@@ -400,7 +408,9 @@ module _ (node : NodeHash) (old new leaves : List Digest) (indexes : List ℕ) (
       kept i under apart =
           let own : get_or new i [] ≡ get_or old i [] = changed.others i under apart in
           let left : get_or new (2 * i + 1) [] ≡ get_or old (2 * i + 1) [] =
-          below (2 * i + 1) (omega (arith, holds.count)) (λ on. apart (on_ways-up i (2 * i + 1) on (omega arith) (omega arith))) in
+          below (2 * i + 1) (omega (arith, holds.count)) (λ on. apart (on_ways-up i (2 * i + 1) on (omega arith)
+          (omega arith))) in
           let right : get_or new (2 * i + 2) [] ≡ get_or old (2 * i + 2) [] =
-          below (2 * i + 2) (omega (arith, holds.count)) (λ on. apart (on_ways-up i (2 * i + 2) on (omega arith) (omega arith))) in
+          below (2 * i + 2) (omega (arith, holds.count)) (λ on. apart (on_ways-up i (2 * i + 2) on (omega arith)
+          (omega arith))) in
           own ∙ holds.hashed i under ∙ rw (left, right) refl

@@ -81,7 +81,8 @@ module _ (memory : List Digest) (before index levels done : ℕ) where
       let is : shared levels ≡ done + 0 = rw none at so in
       omega (arith, is)
 
-pub shared-below : (memory : List Digest) (before index levels : ℕ) → shared memory before index levels 0 levels ≤ levels
+pub shared-below : (memory : List Digest) (before index levels : ℕ)
+    → shared memory before index levels 0 levels ≤ levels
 shared-below memory before index levels = omega (
   arith,
   shared-le (kept_above memory before levels) (kept_above memory index levels),

@@ -106,7 +106,8 @@ module _ (old : List ℕ) (memory : List Digest) (index levels : ℕ) where
 -- ---- how many bytes
 
 module _ (memory : List Digest) (m : ℕ) (size : length memory + 1 ≡ 2 * 2 ^ suc m) (digests : (i : ℕ)
-    → i < length memory → length (get_or memory i []) ≡ 32) (index : ℕ) (inside : index < leaf_count (length memory)) where
+    → i < length memory → length (get_or memory i []) ≡ 32) (index : ℕ) (inside : index < leaf_count
+    (length memory)) where
   long-beside : (level : ℕ) → level ≤ m → length (kept_beside memory index level) ≡ 32
   long-beside level low =
       let count = length memory in

@@ -65,12 +65,13 @@ pub record ChangesLeaf (node : NodeHash) (old new : List Digest) (index : ℕ) (
 abbrev pub IsOnWays : ℕ → List ℕ → ℕ → Type 0
 IsOnWays first indexes i = (j : ℕ) × (j < length indexes) × IsOnWay (first + get_or indexes j 0) i
 
--- the place so many levels above the leaf of an index, or its own: counted from one, the first leaf stands at the count of
--- leaves, and the place above another is its half
+-- the place so many levels above the leaf of an index, or its own: counted from one, the first leaf stands at the count
+-- of leaves, and the place above another is its half
 abbrev pub place_above : ℕ → ℕ → ℕ → ℕ
 place_above count level index = (leaf_count count + index) / 2 ^ level - 1
 
--- The digests on one level above the leaves of some indexes are hashed from the ones below them; all others are as before.
+-- The digests on one level above the leaves of some indexes are hashed from the ones below them; all others are as
+-- before.
 pub record LevelHashed (node : NodeHash) (old new : List Digest) (level : ℕ) (indexes : List ℕ) : Type 0 where
   pub long : length new ≡ length old
   pub hashed : (j : ℕ) → j < length indexes → IsHashed node new (place_above (length old) level (get_or indexes j 0))
@@ -86,8 +87,8 @@ pub record RehashesAbove (node : NodeHash) (old new : List Digest) (indexes : Li
   pub others : (i : ℕ) → i < length old / 2 → (IsOnWays (length old / 2) indexes i → ⊥)
       → get_or new i [] ≡ get_or old i []
 
--- The leaf digests at some indexes are changed, one after the other, those above them are hashed from the ones below them,
--- and all others are as before.
+-- The leaf digests at some indexes are changed, one after the other, those above them are hashed from the ones below
+-- them, and all others are as before.
 pub record ChangesLeaves (node : NodeHash) (old new : List Digest) (indexes : List ℕ) (digests : List Digest)
     : Type 0 where
   pub long : length new ≡ length old

@@ -17,10 +17,12 @@ puts-more : (digests : List Digest) (indexes : List ℕ) (front : List Digest) (
 puts-more digests [] front digest below = absurd (omega arith)
 puts-more digests (i ∷ indexes) [] digest below = last digests indexes
   where
-    last : (digests : List Digest) (indexes : List ℕ) → puts (set digests i digest) (zip indexes []) ≡ set digests i digest
+    last : (digests : List Digest) (indexes : List ℕ) → puts (set digests i digest)
+        (zip indexes []) ≡ set digests i digest
     last digests [] = refl
     last digests (j ∷ indexes) = refl
-puts-more digests (i ∷ indexes) (d ∷ front) digest below = puts-more (set digests i d) indexes front digest (omega arith)
+puts-more digests (i ∷ indexes) (d ∷ front) digest below = puts-more (set digests i d) indexes front digest
+    (omega arith)
 
 module _ (made : List ℕ → Digest) (bytes lengths indexes : List ℕ) (old : List Digest) where
   -- the digests of the first leaves are put
@@ -51,35 +53,6 @@ module _ (made : List ℕ → Digest) (bytes lengths indexes : List ℕ) (old : 
     count = omega (arith, length-append so.front (made leaf ∷ []), so.count);
     put = rw (so.put, ← so.count) (sym (puts-more old indexes so.front (made leaf) (omega (arith, so.count))));
   }
-
-  pub put-all : (now : List Digest) (i : ℕ) (rest : List ℕ) → length lengths ≤ i → PutUpTo now i rest
-      → IfSome (parts_by bytes lengths) (λ xs. now ≡ puts old (zip indexes (map made xs)))
-  put-all now i rest past so = by_parts (parts_by bytes lengths) refl
-    where
-      given : of_parts made bytes lengths ≡ behind so.front (of_parts made rest [])
-      given = rw (drop_all i lengths past) at so.so_far
-
-      by_rest : (xs : List (List ℕ)) (left : Bool) → Ok (map made xs) ≡ behind so.front (results_of made
-          (leaves_in (if left then None else Some []))) → now ≡ puts old (zip indexes (map made xs))
-      by_rest xs true is = absurd cc
-      by_rest xs false is = let same : map made xs ≡ so.front ++ [] = cc in so.put
-          ∙ ap (λ (ds : List Digest). puts old (zip indexes ds)) (sym (same ∙ append-nil so.front))
-
-      by_parts : (o : Option (List (List ℕ))) → parts_by bytes lengths ≡ o
-          → IfSome o (λ xs. now ≡ puts old (zip indexes (map made xs)))
-      by_parts None is = tt
-      by_parts (Some xs) is = by_rest xs (nat_lt 0 (length rest)) (rw is at given)
-
-  pub put-short : (now : List Digest) (i : ℕ) (rest : List ℕ) → PutUpTo now i rest
-      → parts_by rest (drop i lengths) ≡ None
-      → IfSome (parts_by bytes lengths) (λ xs. now ≡ puts old (zip indexes (map made xs)))
-  put-short now i rest so none = by_parts (parts_by bytes lengths) (so_far-short made bytes lengths i so.front rest so.so_far
-      none)
-    where
-      by_parts : (o : Option (List (List ℕ))) → results_of made (leaves_in o) ≡ Err Lengths
-          → IfSome o (λ xs. now ≡ puts old (zip indexes (map made xs)))
-      by_parts None is = tt
-      by_parts (Some xs) is = absurd cc
 
 -- what follows of the parts
 pub over-parts : (o : Option (List (List ℕ))) (P Q : List (List ℕ) → Type 0) → IfSome o P

@@ -49,7 +49,8 @@ fn put_in_place<H: KeptHashing>(
     requires inside { All (λ index. index < length tree.old / 2 + 1) indexes.now }
     ensures leaves { IfSome (parts_by bytes.now lengths.now) (λ xs. kept_leaves tree.new
         ≡ puts (kept_leaves tree.old) (zip indexes.now (map H.hashing.leaf_hash xs))) }
-    ensures above { (i : ℕ) → i < length tree.old / 2 → get_or tree.new i [] ≡ get_or tree.old i [] }
+    ensures above { (i : ℕ) → i < length tree.old / 2
+        → get_or tree.new i [] ≡ get_or tree.old i [] }
 {
     let first = tree.len() / 2;
     put_leaves::<H>(&mut tree[first..], indexes, bytes, lengths);

@@ -71,7 +71,8 @@ fn put_four(digests: &mut [[u8; 32]], place: usize, four: ([u8; 32], [u8; 32], [
 // Writes the digests of the leaves, where the lengths are those of parts that are all of the bytes.
 fn hash_leaves<H: KeptHashing>(digests: &mut [[u8; 32]], bytes: &[u8], lengths: &[usize])
     requires { length digests.old ≡ length lengths.now }
-    ensures { IfSome (parts_by bytes.now lengths.now) (λ xs. digests.new ≡ map H.hashing.leaf_hash xs) }
+    ensures { IfSome (parts_by bytes.now lengths.now) (λ xs.
+        digests.new ≡ map H.hashing.leaf_hash xs) }
 {
     let mut rest = bytes;
     let fours = lengths.len() / 4;

@@ -32,7 +32,8 @@ module _ {F V : Type 0} (p bits : ℕ) (view : F → V) (reads : List ℕ → Re
   all : (count : ℕ) (bytes : List ℕ) → numbered (items_at reads count bytes) ≡ items_at numbers_at count bytes
   unfolding items_at
   all zero bytes = refl
-  all (suc count) bytes = by_first (all count) (reads bytes) ∙ ap (λ (r : Reading ℕ). r >>= λ x. items_at numbers_at count x.1 >>=
+  all (suc count) bytes = by_first (all count) (reads bytes) ∙ ap (λ
+      (r : Reading ℕ). r >>= λ x. items_at numbers_at count x.1 >>=
       λ others. Ok (x.0 ∷ others.0, others.1)) (one bytes)
     where
       by_others : (v : V) (r : Reading (List V)) → numbered (r >>= λ others. Ok (v ∷ others.0, others.1))
@@ -44,7 +45,8 @@ module _ {F V : Type 0} (p bits : ℕ) (view : F → V) (reads : List ℕ → Re
           → (r : Reading V) → numbered (r >>= λ x. items_at reads count x.1 >>= λ others. Ok
           (x.0 ∷ others.0, others.1)) ≡ (number r >>= λ x. items_at numbers_at count x.1 >>=
           λ others. Ok (x.0 ∷ others.0, others.1))
-      by_first behind (Ok x) = by_others x.0 (items_at reads count x.1) ∙ ap (λ (r : Reading (List ℕ)). r >>= λ others. Ok
+      by_first behind (Ok x) = by_others x.0 (items_at reads count x.1) ∙ ap (λ (r : Reading
+          (List ℕ)). r >>= λ others. Ok
           (is.number x.0 ∷ others.0, others.1)) (behind x.1)
       by_first behind (Err fault) = refl
 

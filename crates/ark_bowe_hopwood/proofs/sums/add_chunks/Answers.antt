@@ -51,11 +51,13 @@ loop-place-preserved g c =
     let long = shape_all W.NUM_WINDOWS W.WINDOW_SIZE lists c.requires.shape in
     let total = g.G.AdditiveGroup.total in
     step g.met.G.AdditiveGroup.laws (concatenation lists) (total c.loop-place.sum) (total c.add_digit-sum.result) x
-    c.loop-place.place c.args.end c.loop-place.number (omega (arith, c.loop-place-test.true)) (omega (arith, c.requires.within)) here
+    c.loop-place.place c.args.end c.loop-place.number (omega (arith, c.loop-place-test.true)) (omega
+    (arith, c.requires.within)) here
     c.add_digit-sum.ensures
     ∙ c.loop-place.invariant
 
 pub returns : goal.returns
 returns g c =
-    digits_sum-done g.met.G.AdditiveGroup.laws _ (g.G.AdditiveGroup.total c.loop-place.sum) _ (3 * (c.args.end - c.loop-place.place))
+    digits_sum-done g.met.G.AdditiveGroup.laws _ (g.G.AdditiveGroup.total c.loop-place.sum) _ (3 *
+    (c.args.end - c.loop-place.place))
     c.loop-place.number (omega (arith, c.loop-place-test.false)) c.loop-place.invariant

@@ -16,6 +16,7 @@ returns g c =
     let bytes : IsBytes (input ++ []) = IsBytes-append input [] (λ k. omega (arith, c.type_inv.input k))
     (λ k. omega arith) in
     ap (λ (n : ℕ). let o : Outcome ℕ = Ok n in o) c.x.ensures
-    ∙ hash_of_text g.G.AdditiveGroup.group g.G.TECoordinates.x windows (lists_in c.args.generators.now) (input ++ []) input
+    ∙ hash_of_text g.G.AdditiveGroup.group g.G.TECoordinates.x windows (lists_in c.args.generators.now)
+    (input ++ []) input
     0 c.div_ceil-chunks.result c.sum_of_text.result bytes (sym (append-nil (input ++ []) ∙ append-nil input)) fits
     (sym c.if-not-has_shape.ensures) c.div_ceil-chunks.ensures c.sum_of_text.ensures

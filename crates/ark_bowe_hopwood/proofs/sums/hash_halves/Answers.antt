@@ -28,8 +28,10 @@ returns g c =
     let bytes : IsBytes (left ++ right) = IsBytes-append left right (λ k. omega (arith, c.type_inv.left k))
     (λ k. omega (arith, c.type_inv.right k)) in
     ap (λ (n : ℕ). let o : Outcome ℕ = Ok n in o) c.x.ensures
-    ∙ hash_of_text g.G.AdditiveGroup.group g.G.TECoordinates.x windows lists (left ++ right) whole (2 * half / 8 - length
+    ∙ hash_of_text g.G.AdditiveGroup.group g.G.TECoordinates.x windows lists (left ++ right) whole
+    (2 * half / 8 - length
     (left ++ right)) c.div_ceil-chunks.result c.sum_of_text.result bytes refl fits (sym c.if-not-has_shape.ensures)
     count c.sum_of_text.ensures
-    ∙ sym (of_halves-full windows (bowe_hopwood_hash g.G.AdditiveGroup.group g.G.TECoordinates.x windows lists) left right
+    ∙ sym (of_halves-full windows (bowe_hopwood_hash g.G.AdditiveGroup.group g.G.TECoordinates.x windows lists) left
+    right
     same short)

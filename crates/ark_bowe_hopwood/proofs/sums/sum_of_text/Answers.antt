@@ -72,7 +72,8 @@ returns g c =
     omega (arith, c.loop-group-test.false, c.div_ceil-group-end.ensures) in
     let all : c.args.chunks - 0 ≡ c.args.chunks = omega arith in
     c.from_sum.ensures
-    ∙ digits_sum-done g.met.G.AdditiveGroup.laws _ (g.G.AdditiveGroup.total c.loop-group.sum) _ (3 * (c.args.chunks - 8 * c.loop-group.group)) _ none
+    ∙ digits_sum-done g.met.G.AdditiveGroup.laws _ (g.G.AdditiveGroup.total c.loop-group.sum) _ (3 *
+    (c.args.chunks - 8 * c.loop-group.group)) _ none
     c.loop-group.invariant
     ∙ ap (λ (n : ℕ). digits_sum g.G.AdditiveGroup.group (concatenation (lists_in c.args.generators.now))
     (chunks_of (bits_of_number (3 * n) (number_of_bytes (c.args.left.now ++ c.args.right.now))))) all

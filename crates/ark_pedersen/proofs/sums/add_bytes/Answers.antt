@@ -66,7 +66,8 @@ loop-start-preserved g c =
     let all = concatenation (lists_in c.args.generators.now) in
     let total = g.C.AdditiveGroup.total in
     let fits : IsBytes c.args.bytes.now = λ i. omega (arith, c.type_inv.bytes i) in (
-      step g.met.C.AdditiveGroup.laws all c.args.bytes.now (total c.loop-start.sum) (total c.add_word-sum.result) c.args.first
+      step g.met.C.AdditiveGroup.laws all c.args.bytes.now (total c.loop-start.sum)
+          (total c.add_word-sum.result) c.args.first
           c.loop-start.start c.min.result c.number_of-word.result fits (omega (arith, c.min.ensures))
           (omega (arith, c.min.ensures)) c.number_of-word.ensures c.add_word-sum.ensures
           ∙ c.loop-start.invariant.0,

@@ -34,5 +34,6 @@ returns-else-digit-eq0 c s m on table of_sum none =
     ] in
     let digit = times curve c.args.digit s in
     more c.plus.result (16 * m) c.args.digit s on
-    (c.plus.ensures (times curve (16 * m) s) digit (multiple_on_curve (16 * m) s on) (multiple_on_curve c.args.digit s on)
+    (c.plus.ensures (times curve (16 * m) s) digit (multiple_on_curve (16 * m) s on)
+    (multiple_on_curve c.args.digit s on)
     grown (table c.args.digit c.index-table-digit.result c.requires.digit))

@@ -12,7 +12,8 @@ levels-init c =
     record {
       count = omega (arith, c.requires, c.size-size.ensures.size);
       has = omega (arith, c.requires, c.size-size.ensures.size);
-      at = λ stored empty. rw (c.size-size.ensures.size) (last-first node_of rows empty c.args.kept.now.size (get_or (rows 0)
+      at = λ stored empty. rw (c.size-size.ensures.size) (last-first node_of rows empty c.args.kept.now.size
+          (get_or (rows 0)
           (c.args.kept.now.size - 1) []) c.requires (omega arith) refl);
     }
 

@@ -17,7 +17,8 @@ overflow_sub-place g c =
     let size = tree_length (length c.args.memory.now) c.requires.size in
     let log = log-is (length c.args.memory.now) size.0 size.1 in
     let half : length c.args.memory.now / 2 + 1 ≡ leaf_count (length c.args.memory.now) = omega (arith, size.1) in
-    rw half (place-some (length c.args.memory.now) size.0 c.args.level (get_or c.args.indexes.now c.indexes.index-index 0)
+    rw half (place-some (length c.args.memory.now) size.0 c.args.level
+    (get_or c.args.indexes.now c.indexes.index-index 0)
     size.1 (c.requires.indexes c.indexes.index-index 0 c.indexes-test.true) (omega (arith, log, c.requires.high)))
 
 pub hash_next-requires : goal.hash_next-requires

@@ -42,13 +42,15 @@ levels-init c = path-none c.args.buffer.now c.args.memory.now c.args.index c.lev
 pub beside-requires-in-levels-clause-level : goal.beside-requires-in-levels-clause-level
 beside-requires-in-levels-clause-level c = omega (
   arith,
-  levels-known (length c.args.memory.now) c.levels_between-levels.result c.requires.size c.levels_between-levels.ensures,
+  levels-known (length c.args.memory.now) c.levels_between-levels.result c.requires.size
+      c.levels_between-levels.ensures,
 )
 
 pub put_digest-requires-in-levels : goal.put_digest-requires-in-levels
 put_digest-requires-in-levels c = omega (
   arith,
-  levels-known (length c.args.memory.now) c.levels_between-levels.result c.requires.size c.levels_between-levels.ensures,
+  levels-known (length c.args.memory.now) c.levels_between-levels.result c.requires.size
+      c.levels_between-levels.ensures,
 )
 
 pub levels-preserved : goal.levels-preserved

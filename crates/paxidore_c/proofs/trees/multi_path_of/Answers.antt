@@ -9,7 +9,8 @@ returns g c =
     let inside : are_indexes (length c.in_ok-tree.tree.leaves) c.args.indexes.now ≡ true =
     rw (← c.size.ensures.size) (sym c.are_indexes.ensures.test ∙ c.if-not-are_indexes.false) in
     multi-made g.H.TreeHashing.hashing _ (ap pair_in g.met.H.TreeHashing.hashes_are) c.args.leaves.now
-    c.args.lengths.now c.args.indexes.now c.in_ok-tree.tree.leaves c.in_ok-tree.ensures inside _ c.in_ok-proof.ensures.proof
+    c.args.lengths.now c.args.indexes.now c.in_ok-tree.tree.leaves c.in_ok-tree.ensures inside _
+    c.in_ok-proof.ensures.proof
     c.in_ok-canonical_bytes.field-0.items
     (c.in_ok-canonical_bytes.ensures.spelled.1 ∙ written-multi proof.leaf_siblings_hashes.items
     proof.auth_paths_prefix_lenghts.items proof.auth_paths_suffixes.items proof.leaf_indexes.items)

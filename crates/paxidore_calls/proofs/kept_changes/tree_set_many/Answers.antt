@@ -15,7 +15,8 @@ returns-clause-changes g c = λ done.
     let new = c.rehash_above.new.memory in
     let indexes = c.args.indexes.now in
     let Hashed : NodeHash → Type 0 = λ node. RehashesAbove node now new indexes in
-    let Put : List (List ℕ) → Type 0 = λ xs. kept_leaves now ≡ puts (kept_leaves old) (zip indexes (map h.leaf_hash xs)) in
+    let Put : List (List ℕ) → Type 0 = λ xs. kept_leaves now ≡ puts (kept_leaves old) (zip indexes
+    (map h.leaf_hash xs)) in
     let Changed : List (List ℕ) → Type 0 = λ xs. ChangesLeaves h.node old new indexes (map h.leaf_hash xs) in
     over-parts (parts_by c.args.leaves.now c.args.lengths.now) Put Changed c.put_in_place.ensures.leaves
     (λ xs put. changes-both h.node old now new indexes (map h.leaf_hash xs) c.put_in_place.auto.tree put
@@ -29,9 +30,11 @@ returns-clause-tree g c = λ held done holds.
     let new = c.rehash_above.new.memory in
     let indexes = c.args.indexes.now in
     let Hashed : NodeHash → Type 0 = λ node. RehashesAbove node now new indexes in
-    let Put : List (List ℕ) → Type 0 = λ xs. kept_leaves now ≡ puts (kept_leaves old) (zip indexes (map h.leaf_hash xs)) in
+    let Put : List (List ℕ) → Type 0 = λ xs. kept_leaves now ≡ puts (kept_leaves old) (zip indexes
+    (map h.leaf_hash xs)) in
     let Holds : List (List ℕ) → Type 0 = λ xs. HoldsTree h.node new (puts held (zip indexes (map h.leaf_hash xs))) in
     over-parts (parts_by c.args.leaves.now c.args.lengths.now) Put Holds c.put_in_place.ensures.leaves
     (λ xs put. changes-trees h.node old new held indexes (map h.leaf_hash xs) (changes-both h.node old now new indexes
-    (map h.leaf_hash xs) c.put_in_place.auto.tree put c.put_in_place.ensures.above (subst Hashed g.met.H.KeptHashing.node_is
+    (map h.leaf_hash xs) c.put_in_place.auto.tree put c.put_in_place.ensures.above
+    (subst Hashed g.met.H.KeptHashing.node_is
     c.rehash_above.ensures)) holds)

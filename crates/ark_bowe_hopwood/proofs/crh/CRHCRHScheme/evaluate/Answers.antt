@@ -10,4 +10,5 @@ returns-clause-segments g c elements are =
     let input = c.args.input.now.items in
     let exact : seen_by g.G.BaseField.Valued.value c.hash_bytes.result ≡ bowe_hopwood_hash g.G.AdditiveGroup.group
     g.G.TECoordinates.x g.W.Window lists input = search rules in
-    exact ∙ bowe_hopwood_hash-segments g.met.G.AdditiveGroup.laws g.G.TECoordinates.x g.W.Window elements lists input are
+    exact ∙ bowe_hopwood_hash-segments g.met.G.AdditiveGroup.laws g.G.TECoordinates.x g.W.Window elements lists input
+    are

@@ -9,5 +9,6 @@ returns-clause-unique g c =
     let order = g.G.ScalarField.Field.MODULUS in
     let size = g.W.Window.WINDOW_SIZE in
     let fits : is_fitting order size ≡ true = ap (λ (o : ℕ). is_fitting o size) (sym c.modulus.ensures)
-    ∙ ap (λ (s : ℕ). is_fitting (number c.modulus.result) s) (sym c.WINDOW_SIZE.ensures) ∙ sym c.if-not-is_fitting.ensures in
+    ∙ ap (λ (s : ℕ). is_fitting (number c.modulus.result) s) (sym c.WINDOW_SIZE.ensures)
+    ∙ sym c.if-not-is_fitting.ensures in
     fitting_tells order size fits (omega (arith, g.G.ScalarField.Field.modulus_laws.at_least_two))

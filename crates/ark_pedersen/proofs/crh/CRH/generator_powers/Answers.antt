@@ -31,8 +31,10 @@ loop-preserved g c =
 
 pub returns-clause-made : goal.returns-clause-made
 returns-clause-made g c =
-    all g.C.AdditiveGroup.group c.loop.list.items c.loop.power c.args.count c.loop.counter _ (omega arith) c.loop.invariant
-    ∙ ap (λ (drawn : g.row.C.Denot × Stream). doublings g.C.AdditiveGroup.group c.args.count drawn.0) c.rand-power.ensures
+    all g.C.AdditiveGroup.group c.loop.list.items c.loop.power c.args.count c.loop.counter _
+    (omega arith) c.loop.invariant
+    ∙ ap (λ (drawn : g.row.C.Denot × Stream). doublings g.C.AdditiveGroup.group c.args.count drawn.0)
+    c.rand-power.ensures
 
 pub returns-clause-left : goal.returns-clause-left
 returns-clause-left g c = ap (λ (drawn : g.row.C.Denot × Stream). drawn.1) c.rand-power.ensures

@@ -13,5 +13,6 @@ of-requires c =
 pub returns : goal.returns
 returns c =
     let a = c.args.a in
-    total_is c.of.result c.doubled.result (jubjub.plus (total a) (total a)) c.of.ensures (sum_stands c.doubled.result a a
+    total_is c.of.result c.doubled.result (jubjub.plus (total a) (total a)) c.of.ensures
+    (sum_stands c.doubled.result a a
     (c.doubled.ensures (affine_at a.point) a.inside.in_subgroup.on_curve a.inside.stands))
