@@ -168,8 +168,12 @@ fn numbers_are_added(rt: HostRuntime) {
     );
 }
 
+fn is_number<F: ark_groups::ff::Field>(element: F, number: u64) -> bool {
+    element == F::from_u64(number)
+}
+
 fn has_coordinates<C: SWCoordinates + Copy>(element: C, x: u64, y: u64, infinity: bool) -> bool {
-    element.x().value() == x && element.y().value() == y && element.infinity() == infinity
+    is_number(element.x(), x) && is_number(element.y(), y) && element.infinity() == infinity
 }
 
 // Whether an element, added so often, has these coordinates.

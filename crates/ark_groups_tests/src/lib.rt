@@ -20,3 +20,5 @@ mod ff;
 mod plain;
 #[cfg(test)]
 mod products;
+#[cfg(test)]
+mod sums;

@@ -2,3 +2,4 @@ pub mod Mixing
 pub mod PedersenCommitments
 pub mod Pieces
 pub mod Texts
+pub mod WordSums

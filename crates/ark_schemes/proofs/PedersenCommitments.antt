@@ -5,7 +5,7 @@ use Rattle.std.proofs.lemmas.Bool.{eq-eqb}
 use Rattle.ark_base.specs.Outcome.{Outcome, ◌>>=◌}
 use Rattle.ark_base.specs.declared.error.Error.TheVariants.{IncorrectInputLength, GenericError}
 use Rattle.ark_base.specs.declared.error.Refusal.TheVariants.{ParameterShape}
-use Rattle.ark_groups.specs.Field.{IsModulus, IsField}
+use Rattle.ark_groups.specs.Field.{IsFieldModulus, IsField}
 use Rattle.ark_groups.specs.Group.{Group, IsCommutativeGroup, times}
 use Rattle.ark_groups.proofs.Multiples.{swap_last, times-add, times-mod}
 use Rattle.ark_groups.specs.Bits.{bits_of_number, number_of_bits}
@@ -34,7 +34,7 @@ number_of_digits (suc k) n fits =
     by_digit (suc (suc d)) more rest = absurd (omega arith)
 
 -- a scalar has no more digits than the modulus
-pub value_fits : {F : Type 0} (p bits : ℕ) (value : F → ℕ) → IsModulus p bits → IsField p value → (x : F)
+pub value_fits : {F : Type 0} (p bits : ℕ) (value : F → ℕ) → IsFieldModulus p bits → IsField p value → (x : F)
     → value x < 2 ^ bits
 value_fits p bits value laws field x = omega (arith, laws.digits.no_more, field.below x)
 
@@ -47,17 +47,17 @@ module _ {G : Type 0} (g : Group G) (bits : ℕ) where
       let sum : Outcome G = Ok (pedersen_sum g elements (bits_of_number bits n)) in
       ap (λ (full : Bool). cond full sum (Err (GenericError ParameterShape))) (eq-eqb _ _ long)
 
-  -- a commitment is a hash with the sum at the digits of a word
-  pub pedersen_commitment-word : {W : Type 0} (windows : Windows W) (lists : Generators G) (input : List ℕ) (n : ℕ)
+  -- a commitment is a hash with the sum at the digits of four words
+  pub pedersen_commitment-words : {W : Type 0} (windows : Windows W) (lists : Generators G) (input : List ℕ) (n : ℕ)
       (hash sum : G)
-      → n < 2 ^ bits → bits ≤ 64 → length lists.randomness ≡ bits → pedersen_hash g windows lists.windows
+      → n < 2 ^ bits → bits ≤ 256 → length lists.randomness ≡ bits → pedersen_hash g windows lists.windows
       input ≡ Ok hash
-      → sum ≡ g.plus hash (pedersen_sum g lists.randomness (bits_of_number 64 n)) → Ok sum ≡ pedersen_commitment g bits
+      → sum ≡ g.plus hash (pedersen_sum g lists.randomness (bits_of_number 256 n)) → Ok sum ≡ pedersen_commitment g bits
       windows lists input n
-  pedersen_commitment-word windows lists input n hash sum fits in_word long hash_is is =
-      let word : 64 ≡ bits + (64 - bits) = omega arith in
-      let digits = ap (λ (k : ℕ). pedersen_sum g lists.randomness (bits_of_number k n)) word ∙ pedersen_sum-more g
-      lists.randomness bits (64 - bits) n fits in
+  pedersen_commitment-words windows lists input n hash sum fits in_words long hash_is is =
+      let words : 256 ≡ bits + (256 - bits) = omega arith in
+      let digits = ap (λ (k : ℕ). pedersen_sum g lists.randomness (bits_of_number k n)) words ∙ pedersen_sum-more g
+      lists.randomness bits (256 - bits) n fits in
       let with_hash : G → Outcome G = λ y. Ok (g.plus hash y) in
       ap (λ (x : G). let o : Outcome G = Ok x in o) (is ∙ ap (g.plus hash) digits)
       ∙ sym (ap (λ (o : Outcome G). o >>= with_hash) (randomness_sum-long lists.randomness n long))

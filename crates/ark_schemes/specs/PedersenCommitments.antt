@@ -19,7 +19,7 @@ pub record Generators (G : Type 0) : Type 0 where
   pub windows : List (List G)
 
 -- the elements for the randomness and for the windows that parameters have
-abbrev pub elements_in : {G S : Type 0} → Parameters G S → Generators G
+abbrev pub elements_in : {G S T : Type 0} → Parameters G S T → Generators G
 elements_in parameters = record {
   randomness = parameters.randomness_generator.items;
   windows = lists_in parameters.generators.items;

@@ -6,7 +6,7 @@ use ark_base::error::Error;
 use ark_base::serialize::DigestItem;
 use ark_crh::{CRHScheme, TwoToOneCRHScheme};
 use ark_groups::ec::{CurveGroup, Small, TECoordinates};
-use ark_groups::ff::{M13, PrimeField};
+use ark_groups::ff::{Field, M13};
 use ark_pedersen::injective_map::{
     InjectiveMap, PedersenCRHCompressor, PedersenTwoToOneCRHCompressor, TECompressor,
 };

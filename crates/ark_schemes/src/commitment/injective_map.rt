@@ -7,19 +7,19 @@ ghost use Rattle.ark_schemes.specs.PedersenCommitments.{elements_in, drawn_eleme
 use crate::commitment::CommitmentScheme;
 use crate::commitment::pedersen::{Commitment, Parameters, Randomness, Window};
 use ark_base::error::Error;
-use ark_groups::ec::CurveGroup;
+use ark_groups::ec::AdditiveGroup;
 pub use ark_pedersen::injective_map::InjectiveMap;
 use rand::Rng;
 use std::alloc::Global;
 use std::marker::PhantomData;
 
 /// The map after the Pedersen commitment.
-pub struct PedersenCommCompressor<C: CurveGroup, I: InjectiveMap<C>, W: Window> {
+pub struct PedersenCommCompressor<C: AdditiveGroup, I: InjectiveMap<C>, W: Window> {
     compressor: PhantomData<I>,
     commitment: PhantomData<Commitment<C, W>>,
 }
 
-impl<C: CurveGroup, I: InjectiveMap<C>, W: Window> CommitmentScheme
+impl<C: AdditiveGroup, I: InjectiveMap<C>, W: Window> CommitmentScheme
     for PedersenCommCompressor<C, I, W> {
     ghost use Rattle.std.proofs.Common.{sym, ap, ◌∙◌};
     ghost use Rattle.ark_groups.specs.Laws.Fp.{number-alone};
@@ -83,8 +83,8 @@ impl<C: CurveGroup, I: InjectiveMap<C>, W: Window> CommitmentScheme
         (pedersen_commitment C.group C.ScalarField.MODULUS_BIT_SIZE W.Window
         (elements_in p) bytes scalar))
         (number-alone C.ScalarField.MODULUS C.ScalarField.MODULUS_BIT_SIZE
-        C.ScalarField.modulus_laws _ _
-        (C.ScalarField.PrimeField.laws.below r.0) (C.ScalarField.PrimeField.laws.below s.0)
+        C.ScalarField.modulus_laws.digits _ _
+        (C.ScalarField.Field.laws.below r.0) (C.ScalarField.Field.laws.below s.0)
         (sym (C.ScalarField.spelling_is r.0) ∙ ap C.ScalarField.spelling same
         ∙ C.ScalarField.spelling_is s.0)) };
 

@@ -1,7 +1,8 @@
 //! The Pedersen commitment.
 
-ghost use Rattle.std.specs.Prelude.{◌≡◌, ℕ, ◌+◌, ◌%◌, ◌<◌, ◌^◌, List, length, Ok};
+ghost use Rattle.std.specs.Prelude.{◌≡◌, ℕ, ◌+◌, ◌-◌, ◌%◌, ◌<◌, ◌^◌, List, length, drop, Ok};
 ghost use Rattle.ark_groups.specs.Bits.{bits_of_number};
+ghost use Rattle.ark_groups.specs.Words.{number};
 ghost use Rattle.ark_pedersen.specs.Pedersen.{pedersen_sum, seen_by};
 ghost use Rattle.ark_schemes.specs.PedersenCommitments.{elements_in, AreOf, AreMade, drawn_elements, AreAllDrawn, pedersen_commitment};
 ghost use Rattle.ark_schemes.specs.PedersenCommitments.{windows_commitment, sum_of, IsUnion};
@@ -12,10 +13,10 @@ mod randomness;
 use crate::commitment::CommitmentScheme;
 use ark_base::error::{Error, Refusal};
 use ark_base::serialize::Canonical;
-use ark_groups::ec::CurveGroup;
-use ark_groups::ff::PrimeField;
+use ark_groups::ec::AdditiveGroup;
+use ark_groups::ff::{Field, Words};
 pub use ark_pedersen::Window;
-use ark_pedersen::{CRH, hash_bytes};
+use ark_pedersen::{CRH, sum_of_bytes};
 pub use parameters::Parameters;
 use rand::Rng;
 pub use randomness::Randomness;
@@ -23,12 +24,12 @@ use std::alloc::Global;
 use std::marker::PhantomData;
 
 /// The Pedersen hash of the input and, added to it, the randomness element as often as the randomness says.
-pub struct Commitment<C: CurveGroup, W: Window> {
+pub struct Commitment<C: AdditiveGroup, W: Window> {
     group: PhantomData<C>,
     window: PhantomData<W>,
 }
 
-impl<C: CurveGroup, W: Window> CommitmentScheme for Commitment<C, W> {
+impl<C: AdditiveGroup, W: Window> CommitmentScheme for Commitment<C, W> {
     ghost use Rattle.std.proofs.Common.{sym, ap, ◌∙◌};
     ghost use Rattle.ark_groups.specs.Laws.Fp.{number-alone};
     ghost use Rattle.ark_pedersen.specs.Laws.Images.{bytes-Decides};
@@ -123,19 +124,19 @@ impl<C: CurveGroup, W: Window> CommitmentScheme for Commitment<C, W> {
         (pedersen_commitment C.group C.ScalarField.MODULUS_BIT_SIZE W.Window
         (elements_in p) bytes scalar))
         (number-alone C.ScalarField.MODULUS C.ScalarField.MODULUS_BIT_SIZE
-        C.ScalarField.modulus_laws _ _
-        (C.ScalarField.PrimeField.laws.below r.0) (C.ScalarField.PrimeField.laws.below s.0)
+        C.ScalarField.modulus_laws.digits _ _
+        (C.ScalarField.Field.laws.below r.0) (C.ScalarField.Field.laws.below s.0)
         (sym (C.ScalarField.spelling_is r.0) ∙ ap C.ScalarField.spelling same
         ∙ C.ScalarField.spelling_is s.0)) };
 
     ghost equal_if_same = { λ a b.
         bytes-Decides C.view C.has_spelling C.spelling C.reads C.Canonical.laws
         C.is_spelled C.same_view
-        a b _ (C.CurveGroup.equal_if_same a b) };
+        a b _ (C.AdditiveGroup.equal_if_same a b) };
 }
 
 // The commitment under a scalar.
-fn commitment_of<C: CurveGroup, W: Window>(
+fn commitment_of<C: AdditiveGroup, W: Window>(
     parameters: &Parameters<C>,
     input: &[u8],
     randomness: C::ScalarField,
@@ -145,22 +146,44 @@ fn commitment_of<C: CurveGroup, W: Window>(
         let scalar = C.ScalarField.value randomness in
         result ≡ commitment (elements_in parameters.now) input.now scalar }
 {
-    let hash = hash_bytes::<C, W>(&parameters.generators, input)?;
+    let hash = sum_of_bytes::<C, W>(&parameters.generators, input)?;
     if parameters.randomness_generator.len() != C::ScalarField::MODULUS_BIT_SIZE as usize {
         return Err(Error::GenericError(Refusal::ParameterShape));
     }
-    Ok(add_set_bits(hash, &parameters.randomness_generator, randomness.value()))
+    let sum = add_number::<C>(hash, &parameters.randomness_generator, randomness.words());
+    Ok(C::from_sum(sum))
 }
 
 // The sum with the elements at the set bits of a number.
-fn add_set_bits<C: CurveGroup>(mut sum: C, elements: &[C], mut number: u64) -> C
-    requires { number < 2 ^ length elements.now }
-    ensures { let more = pedersen_sum C.group elements.now (bits_of_number 64 number) in
-        result ≡ C.group.plus sum more }
+fn add_number<C: AdditiveGroup>(sum: C::Sum, elements: &[C], added: Words) -> C::Sum
+    requires { number added < 2 ^ length elements.now }
+    ensures { let bits = bits_of_number 256 (number added) in
+        C.total result ≡ C.group.plus (C.total sum) (pedersen_sum C.group elements.now bits) }
 {
-    while number > 0 {
-        sum = sum.add(elements[number.trailing_zeros() as usize]);
-        number &= number - 1;
+    let Words { w0, w1, w2, w3 } = added;
+    let sum = add_set_bits::<C>(sum, elements, 0, w0);
+    let sum = add_set_bits::<C>(sum, elements, 64, w1);
+    let sum = add_set_bits::<C>(sum, elements, 128, w2);
+    add_set_bits::<C>(sum, elements, 192, w3)
+}
+
+// The sum with the elements at the set bits of a word, whose lowest bit stands at this place.
+fn add_set_bits<C: AdditiveGroup>(
+    mut sum: C::Sum,
+    elements: &[C],
+    first: u8,
+    mut word: u64,
+) -> C::Sum
+    requires { word < 2 ^ (length elements.now - first) }
+    ensures { let more = pedersen_sum C.group (drop first elements.now) (bits_of_number 64 word) in
+        C.total result ≡ C.group.plus (C.total sum) more }
+{
+    while word > 0 {
+        sum = C::add_to_sum(
+            sum,
+            elements[first as usize + word.trailing_zeros() as usize],
+        );
+        word &= word - 1;
     }
     sum
 }

@@ -11,7 +11,7 @@ use ark_base::serialize::DigestItem;
 use ark_bowe_hopwood::{CRH, Parameters, TwoToOneCRH};
 use ark_crh::{CRHScheme, TwoToOneCRHScheme};
 use ark_groups::ec::{CurveGroup, Small, TECoordinates};
-use ark_groups::ff::{M13, PrimeField};
+use ark_groups::ff::{Field, M13};
 use ark_pedersen::Window;
 use std::alloc::Global;
 

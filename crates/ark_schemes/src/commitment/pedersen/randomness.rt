@@ -2,7 +2,7 @@
 
 use ark_base::error::Error;
 use ark_base::serialize::{Canonical, CanonicalDeserialize, CanonicalItem, CanonicalSerialize};
-use ark_groups::ec::CurveGroup;
+use ark_groups::ec::AdditiveGroup;
 use ark_groups::ff::UniformRand;
 use rand::Rng;
 use std::alloc::Global;
@@ -10,9 +10,9 @@ use std::alloc::Global;
 /// How often the randomness element is added.
 #[derive_where(Clone, PartialEq, Eq, Debug, Default)]
 #[derive(Drop)]
-pub struct Randomness<C: CurveGroup>(pub C::ScalarField);
+pub struct Randomness<C: AdditiveGroup>(pub C::ScalarField);
 
-impl<C: CurveGroup> UniformRand for Randomness<C> {
+impl<C: AdditiveGroup> UniformRand for Randomness<C> {
     ghost draw = { λ stream.
         (record { 0 = (C.ScalarField.draw stream).0 }, (C.ScalarField.draw stream).1) };
 
@@ -21,7 +21,7 @@ impl<C: CurveGroup> UniformRand for Randomness<C> {
     }
 }
 
-impl<C: CurveGroup> Canonical for Randomness<C> {
+impl<C: AdditiveGroup> Canonical for Randomness<C> {
     ghost Value = { ⟦<C::ScalarField as Canonical>⟧.Value };
 
     ghost view = { λ randomness. ⟦<C::ScalarField as Canonical>⟧.view randomness.0 };
@@ -35,20 +35,20 @@ impl<C: CurveGroup> Canonical for Randomness<C> {
     ghost laws = { ⟦<C::ScalarField as Canonical>⟧.laws };
 }
 
-impl<C: CurveGroup> CanonicalSerialize for Randomness<C> {
+impl<C: AdditiveGroup> CanonicalSerialize for Randomness<C> {
     fn serialize(&self, dest: &mut Vec<u8>) -> Result<(), Error> {
         self.0.serialize(dest)
     }
 }
 
-impl<C: CurveGroup> CanonicalDeserialize for Randomness<C> {
+impl<C: AdditiveGroup> CanonicalDeserialize for Randomness<C> {
     fn read(alloc: Global, bytes: &[u8]) -> Result<(Randomness<C>, usize), Error> {
         let (scalar, used) = C::ScalarField::read(alloc, bytes)?;
         Ok((Randomness(scalar), used))
     }
 }
 
-impl<C: CurveGroup> CanonicalItem for Randomness<C> {
+impl<C: AdditiveGroup> CanonicalItem for Randomness<C> {
     ghost LEAST = { ⟦<C::ScalarField as CanonicalItem>⟧.LEAST };
 
     const LEAST: usize = <C::ScalarField as CanonicalItem>::LEAST;

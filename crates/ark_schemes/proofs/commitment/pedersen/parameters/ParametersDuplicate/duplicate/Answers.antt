@@ -9,7 +9,7 @@ generators elements lists = record { randomness = elements; windows = lists }
 
 pub returns : goal.returns
 returns g c =
-    let clones = g.met.C.CurveGroup.clones in
+    let clones = g.met.C.AdditiveGroup.clones in
     let elements = same_from_all_zip g.C.Clone.is_clone _ _ c.in_ok-clone.ensures.cases.0
     (λ x y clone. sym (clones x y clone)) in
     let lists = map-seen (λ list. list.items) _ (λ v w alike. sym (same_from_all_zip g.C.Clone.is_clone v.items w.items
