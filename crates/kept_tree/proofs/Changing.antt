@@ -24,9 +24,6 @@ lower-by : (n k l : ℕ) → k ≤ l → n / 2 ^ l ≤ n / 2 ^ k
 lower-by n k l le = let e : k + (l - k) ≡ l = omega arith in
     subst (λ (j : ℕ). n / 2 ^ j ≤ n / 2 ^ k) e (lower n k (l - k))
 
-on_way-self : (from : ℕ) → IsOnWay from from
-on_way-self from = (0, omega arith)
-
 on_way-low : (from i : ℕ) → IsOnWay from i → i ≤ from
 on_way-low from i (k, is) = let le = div-le_self (from + 1) (2 ^ k) in omega arith
 
