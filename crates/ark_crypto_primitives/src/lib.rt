@@ -26,8 +26,8 @@ pub mod ff {
 /// Groups.
 pub mod ec {
     pub use ark_groups::ec::{
-        Additive, CurveGroup, Residues, SWCoordinates, SWPoint, Small, SmallModulus, TECoordinates,
-        TEPoint,
+        Additive, AdditiveGroup, CurveGroup, Residues, SWCoordinates, SWPoint, Small, SmallModulus,
+        TECoordinates, TEPoint,
     };
 }
 

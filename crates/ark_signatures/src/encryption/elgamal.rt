@@ -6,20 +6,20 @@ ghost use Rattle.ark_signatures.specs.ElGamal.{encrypted, decrypted};
 
 use crate::encryption::AsymmetricEncryptionScheme;
 use ark_base::error::Error;
-use ark_groups::ec::CurveGroup;
+use ark_groups::ec::AdditiveGroup;
 use ark_groups::ff::UniformRand;
 use rand::Rng;
 use std::alloc::Global;
 use std::marker::PhantomData;
 
 /// ElGamal encryption over a group.
-pub struct ElGamal<C: CurveGroup> {
+pub struct ElGamal<C: AdditiveGroup> {
     group: PhantomData<C>,
 }
 
 /// The element that public keys are multiples of.
 #[derive(Drop)]
-pub struct Parameters<C: CurveGroup> {
+pub struct Parameters<C: AdditiveGroup> {
     pub generator: C,
 }
 
@@ -28,11 +28,11 @@ pub type PublicKey<C> = C;
 
 /// How often the generator is added.
 #[derive(Drop)]
-pub struct SecretKey<C: CurveGroup>(pub C::ScalarField);
+pub struct SecretKey<C: AdditiveGroup>(pub C::ScalarField);
 
 /// How often generator and public key are added in a ciphertext.
 #[derive(Drop)]
-pub struct Randomness<C: CurveGroup>(pub C::ScalarField);
+pub struct Randomness<C: AdditiveGroup>(pub C::ScalarField);
 
 /// A message.
 pub type Plaintext<C> = C;
@@ -40,7 +40,7 @@ pub type Plaintext<C> = C;
 /// The generator as often as the randomness says; the message, and to it the public key as often.
 pub type Ciphertext<C> = (C, C);
 
-impl<C: CurveGroup> UniformRand for Randomness<C> {
+impl<C: AdditiveGroup> UniformRand for Randomness<C> {
     ghost draw = { λ stream.
         (record { 0 = (C.ScalarField.draw stream).0 }, (C.ScalarField.draw stream).1) };
 
@@ -49,7 +49,7 @@ impl<C: CurveGroup> UniformRand for Randomness<C> {
     }
 }
 
-impl<C: CurveGroup> AsymmetricEncryptionScheme for ElGamal<C> {
+impl<C: AdditiveGroup> AsymmetricEncryptionScheme for ElGamal<C> {
     type Parameters = Parameters<C>;
 
     type PublicKey = PublicKey<C>;

@@ -1,6 +1,6 @@
 //! Schnorr signatures.
 
-ghost use Rattle.std.specs.Prelude.{◌≡◌, ℕ, List, Option, Ok, IfOk, IsOkAnd};
+ghost use Rattle.std.specs.Prelude.{◌≡◌, ◌==◌, ℕ, List, Option, Ok, IfOk, IsOkAnd};
 ghost use Rattle.ark_base.specs.Outcome.{Outcome, Answers, AnswersBy};
 ghost use Rattle.ark_groups.specs.Group.{times};
 ghost use Rattle.ark_signatures.specs.Schnorr.{signed, numbers_of, verified, IsValid, multiplier};
@@ -13,8 +13,8 @@ mod keys;
 use crate::signature::SignatureScheme;
 use ark_base::error::Error;
 use ark_groups::digest::ByteDigest;
-use ark_groups::ec::CurveGroup;
-use ark_groups::ff::{PrimeField, UniformRand};
+use ark_groups::ec::AdditiveGroup;
+use ark_groups::ff::{Field, UniformRand};
 pub use bits::bytes_to_bits;
 use bits::multiplier;
 pub use challenge::Challenges;
@@ -25,12 +25,12 @@ use std::alloc::Global;
 use std::marker::PhantomData;
 
 /// Schnorr signatures over a group and a digest.
-pub struct Schnorr<C: CurveGroup, D: ByteDigest> {
+pub struct Schnorr<C: AdditiveGroup, D: ByteDigest> {
     group: PhantomData<C>,
     digest: PhantomData<D>,
 }
 
-impl<C: CurveGroup, D: ByteDigest> SignatureScheme for Schnorr<C, D> {
+impl<C: AdditiveGroup, D: ByteDigest> SignatureScheme for Schnorr<C, D> {
     type Parameters = Parameters<C>;
 
     type PublicKey = PublicKey<C>;
@@ -138,7 +138,7 @@ impl<C: CurveGroup, D: ByteDigest> SignatureScheme for Schnorr<C, D> {
         let point = pp.generator.mul(signature.prover_response).add(pk.mul(e));
         Ok(
             match challenge_of::<C, D>(alloc, &pp.salt, &point, message)? {
-                Some(found) => PrimeField::value(found) == PrimeField::value(e),
+                Some(found) => is_same(found, e),
                 None => false,
             },
         )
@@ -187,4 +187,11 @@ impl<C: CurveGroup, D: ByteDigest> SignatureScheme for Schnorr<C, D> {
             verifier_challenge: e,
         })
     }
+}
+
+// Whether two elements are one number.
+fn is_same<F: Field>(x: F, y: F) -> bool
+    ensures { result ≡ (F.value x == F.value y) }
+{
+    x == y
 }

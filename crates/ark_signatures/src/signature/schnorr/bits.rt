@@ -4,7 +4,7 @@ ghost use Rattle.std.specs.Prelude.{◌≡◌, ◌%◌, IfOk, IfErr};
 ghost use Rattle.ark_signatures.specs.Schnorr.{highest_first, multiplier};
 
 use ark_base::error::Error;
-use ark_groups::ff::PrimeField;
+use ark_groups::ff::Field;
 use std::alloc::Global;
 
 /// Returns the bits of the bytes, the highest of each byte first. The only error is `OutOfMemory`.
@@ -22,7 +22,7 @@ pub fn bytes_to_bits(alloc: Global, bytes: &[u8]) -> Result<Vec<bool>, Error>
 }
 
 /// Returns the number that bytes multiply by, modulo the modulus: 2^i for each place i of their bits that is set.
-pub fn multiplier<F: PrimeField>(bytes: &[u8]) -> F
+pub fn multiplier<F: Field>(bytes: &[u8]) -> F
     ensures { F.value result ≡ multiplier bytes.now % F.MODULUS }
 {
     let mut number = F::zero();

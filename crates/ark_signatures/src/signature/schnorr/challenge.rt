@@ -10,8 +10,8 @@ use crate::signature::schnorr::Parameters;
 use ark_base::error::{Error, Refusal};
 use ark_base::serialize::CanonicalSerialize;
 use ark_groups::digest::ByteDigest;
-use ark_groups::ec::CurveGroup;
-use ark_groups::ff::{PrimeField, UniformRand};
+use ark_groups::ec::AdditiveGroup;
+use ark_groups::ff::{Field, UniformRand};
 use rand::Rng;
 use std::alloc::Global;
 
@@ -19,12 +19,12 @@ use std::alloc::Global;
 const DRAWS: u32 = 128;
 
 /// A group whose points have challenges by a digest. Each group is one.
-pub trait Challenges<D: ByteDigest>: CurveGroup {
+pub trait Challenges<D: ByteDigest>: AdditiveGroup {
     // The challenge of a point under a salt and a message: a scalar, or none, or the digest's refusal.
     ghost challenge: { List ℕ → List ℕ → Self → Outcome (Option ℕ) };
 }
 
-impl<C: CurveGroup, D: ByteDigest> Challenges<D> for C {
+impl<C: AdditiveGroup, D: ByteDigest> Challenges<D> for C {
     ghost challenge = { λ salt message point.
         let text = challenge_text salt (C.spelling (C.view point)) message in
         challenge_of C.ScalarField.MODULUS C.ScalarField.MODULUS_BIT_SIZE (D.meaning text) };
@@ -34,7 +34,7 @@ impl<C: CurveGroup, D: ByteDigest> Challenges<D> for C {
 /// message's gives, if it gives one.
 ///
 /// Errors: the digest's; `OutOfMemory`.
-pub fn challenge_of<C: CurveGroup, D: ByteDigest>(
+pub fn challenge_of<C: AdditiveGroup, D: ByteDigest>(
     alloc: Global,
     salt: &[u8; 32],
     point: &C,
@@ -57,7 +57,7 @@ pub fn challenge_of<C: CurveGroup, D: ByteDigest>(
 ///
 /// Errors: the digest's at the first multiple that meets one; `DrawsExhausted` after 128 draws without a challenge;
 /// `OutOfMemory`.
-pub fn draw_nonce<C: CurveGroup, D: ByteDigest, R: Rng>(
+pub fn draw_nonce<C: AdditiveGroup, D: ByteDigest, R: Rng>(
     alloc: Global,
     pp: &Parameters<C>,
     message: &[u8],

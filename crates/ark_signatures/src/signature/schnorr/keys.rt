@@ -2,13 +2,13 @@
 
 use ark_base::error::Error;
 use ark_base::serialize::{Canonical, CanonicalDeserialize, CanonicalItem, CanonicalSerialize};
-use ark_groups::ec::CurveGroup;
+use ark_groups::ec::AdditiveGroup;
 use std::alloc::Global;
 
 /// The element that public keys are multiples of, and what is digested before a point.
 #[derive_where(Clone, Debug)]
 #[derive(Drop)]
-pub struct Parameters<C: CurveGroup> {
+pub struct Parameters<C: AdditiveGroup> {
     pub generator: C,
     pub salt: [u8; 32],
 }
@@ -19,17 +19,17 @@ pub type PublicKey<C> = C;
 /// How often the generator is added. Its canonical bytes are the scalar's.
 #[derive_where(Clone, Debug, Default)]
 #[derive(Drop)]
-pub struct SecretKey<C: CurveGroup>(pub C::ScalarField);
+pub struct SecretKey<C: AdditiveGroup>(pub C::ScalarField);
 
 /// The response k - x e and the challenge e.
 #[derive_where(Clone, Debug, Default)]
 #[derive(Drop)]
-pub struct Signature<C: CurveGroup> {
+pub struct Signature<C: AdditiveGroup> {
     pub prover_response: C::ScalarField,
     pub verifier_challenge: C::ScalarField,
 }
 
-impl<C: CurveGroup> Canonical for SecretKey<C> {
+impl<C: AdditiveGroup> Canonical for SecretKey<C> {
     ghost Value = { ⟦<C::ScalarField as Canonical>⟧.Value };
 
     ghost view = { λ key. ⟦<C::ScalarField as Canonical>⟧.view key.0 };
@@ -43,20 +43,20 @@ impl<C: CurveGroup> Canonical for SecretKey<C> {
     ghost laws = { ⟦<C::ScalarField as Canonical>⟧.laws };
 }
 
-impl<C: CurveGroup> CanonicalSerialize for SecretKey<C> {
+impl<C: AdditiveGroup> CanonicalSerialize for SecretKey<C> {
     fn serialize(&self, dest: &mut Vec<u8>) -> Result<(), Error> {
         self.0.serialize(dest)
     }
 }
 
-impl<C: CurveGroup> CanonicalDeserialize for SecretKey<C> {
+impl<C: AdditiveGroup> CanonicalDeserialize for SecretKey<C> {
     fn read(alloc: Global, bytes: &[u8]) -> Result<(SecretKey<C>, usize), Error> {
         let (scalar, used) = C::ScalarField::read(alloc, bytes)?;
         Ok((SecretKey(scalar), used))
     }
 }
 
-impl<C: CurveGroup> CanonicalItem for SecretKey<C> {
+impl<C: AdditiveGroup> CanonicalItem for SecretKey<C> {
     ghost LEAST = { ⟦<C::ScalarField as CanonicalItem>⟧.LEAST };
 
     const LEAST: usize = <C::ScalarField as CanonicalItem>::LEAST;

@@ -3,5 +3,5 @@ use Rattle.ark_signatures.proofs.encryption.elgamal.ElGamalAsymmetricEncryptionS
 
 pub returns-clause-decrypts : goal.returns-clause-decrypts
 returns-clause-decrypts g c =
-    λ s is_key. rw (c.add.ensures, c.mul-2.ensures, c.mul.ensures) (decrypted-encrypted g.met.C.CurveGroup.laws _ _ _
+    λ s is_key. rw (c.add.ensures, c.mul-2.ensures, c.mul.ensures) (decrypted-encrypted g.met.C.AdditiveGroup.laws _ _ _
     _ s is_key)

@@ -5,7 +5,7 @@ use Rattle.ark_signatures.proofs.signature.schnorr.SchnorrSignatureScheme.random
 
 pub returns-clause-exact : goal.returns-clause-exact
 returns-clause-exact g c =
-    let field = g.C.ScalarField.PrimeField in
+    let field = g.C.ScalarField.Field in
     let s = g.C.ScalarField.Valued.value c.args.signature.now.prover_response in
     let e = g.C.ScalarField.Valued.value c.args.signature.now.verifier_challenge in
     ap (λ new. (new, e))
@@ -15,11 +15,11 @@ returns-clause-exact g c =
 
 pub returns-clause-alike : goal.returns-clause-alike
 returns-clause-alike g c challenge key =
-    let field = g.C.ScalarField.PrimeField in
+    let field = g.C.ScalarField.Field in
     let s = g.C.ScalarField.Valued.value c.args.signature.now.prover_response in
     let e = g.C.ScalarField.Valued.value c.args.signature.now.verifier_challenge in
-    let group = g.met.C.CurveGroup in
-    verified-randomised group.laws field.MODULUS (omega (arith, g.C.ScalarField.PrimeField.modulus_laws.at_least_two))
+    let group = g.met.C.AdditiveGroup in
+    verified-randomised group.laws field.MODULUS (omega (arith, g.C.ScalarField.Field.modulus_laws.at_least_two))
     c.args.pp.now.generator (group.order c.args.pp.now.generator)
     challenge key (multiplier c.args.randomness.now) e s (g.C.ScalarField.Valued.value c.sub.result)
     (c.sub.ensures ∙ ap (λ n. (s + (field.MODULUS - n)) % field.MODULUS) c.mul.ensures

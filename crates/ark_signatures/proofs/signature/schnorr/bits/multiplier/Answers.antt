@@ -7,14 +7,14 @@ use Rattle.ark_signatures.proofs.signature.schnorr.bits.multiplier.Goals as goal
 pub loop-rest-init : goal.loop-rest-init
 loop-rest-init g c =
     record {
-      number = c.zero-number.ensures ∙ multiplier-none c.args.bytes.now g.F.PrimeField.MODULUS;
+      number = c.zero-number.ensures ∙ multiplier-none c.args.bytes.now g.F.Field.MODULUS;
       within =
           omega arith;
     }
 
 pub loop-rest-preserved : goal.loop-rest-preserved
 loop-rest-preserved g c =
-    let p = g.F.PrimeField.MODULUS in
+    let p = g.F.Field.MODULUS in
     let value = g.F.Valued.value in
     let bytes = c.args.bytes.now in
     let i = c.loop-rest.rest in

@@ -6,7 +6,7 @@ use Rattle.ark_signatures.proofs.signature.schnorr.bits.multiplier.Given as goal
 abbrev pub invariant-loop-rest : goal.invariant-loop-rest
 invariant-loop-rest g l =
     record {
-      number : g.F.Valued.value l.number ≡ multiplier (drop l.rest l.bytes) % g.F.PrimeField.MODULUS;
+      number : g.F.Valued.value l.number ≡ multiplier (drop l.rest l.bytes) % g.F.Field.MODULUS;
       within : l.rest ≤ length l.bytes;
     }
 

@@ -8,13 +8,13 @@ use Rattle.ark_signatures.proofs.signature.schnorr.challenge.draw_nonce.Given as
 -- the challenge of a point
 abbrev pub challenge_at : (g : Over) → List ℕ → List ℕ → g.row.C.Denot → Outcome (Option ℕ)
 challenge_at g salt message point =
-    let field = g.C.ScalarField.PrimeField in
+    let field = g.C.ScalarField.Field in
     challenge_of field.MODULUS field.MODULUS_BIT_SIZE
     (g.D.ByteDigest.meaning (challenge_text salt (g.C.Canonical.spelling (g.C.Canonical.view point)) message))
 
 -- that of a multiple of the generator
 abbrev pub challenge_times : (g : Over) → List ℕ → List ℕ → g.row.C.Denot → ℕ → Outcome (Option ℕ)
-challenge_times g salt message generator k = challenge_at g salt message (times g.C.CurveGroup.group k generator)
+challenge_times g salt message generator k = challenge_at g salt message (times g.C.AdditiveGroup.group k generator)
 
 -- what is found from here on is what is found from the start
 abbrev pub invariant-loop : goal.invariant-loop
