@@ -60,7 +60,7 @@ signed draw value challenge modulus x stream =
     Ok ((response modulus x nonce.number nonce.challenge, nonce.challenge), nonce.left)
 
 -- the two numbers that a signature is
-abbrev pub numbers_of : {G F : Type 0} → (F → ℕ) → Signature G F → ℕ × ℕ
+abbrev pub numbers_of : {G F S : Type 0} → (F → ℕ) → Signature G F S → ℕ × ℕ
 numbers_of value signature = (value signature.prover_response, value signature.verifier_challenge)
 
 -- ---- verifying

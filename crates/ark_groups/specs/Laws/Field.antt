@@ -3,7 +3,7 @@ use Rattle.std.specs.Prelude.{◌*◌, T, ltb, leb}
 use Rattle.std.proofs.Common.{ℕ, zero, suc, ◌≤◌, ◌^◌, arith, lit≤, lit<, inl, inr}
 use Rattle.std.proofs.Math.Nat.{pow-le-pow_right}
 use Rattle.std.proofs.lemmas.Bool.{cases_lt}
-use Rattle.ark_groups.specs.Field.{HasBits, IsModulus, IsFieldModulus}
+use Rattle.ark_groups.specs.Field.{IsModulus, IsFieldModulus}
 
 -- a modulus that is written out: its bounds are computed
 pub written_modulus : {p bits : ℕ} → T (leb 2 p) → T (ltb p (2 ^ 64)) → T (ltb p (2 ^ bits))
