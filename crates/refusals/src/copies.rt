@@ -1,11 +1,12 @@
 //! Copies of values that have lists inside.
 
-use crate::hashes::{Group, Single};
 use crate::{Ended, ending, without_value};
 use ark_crypto_primitives::Error;
 use ark_crypto_primitives::commitment::{CommitmentScheme, pedersen as committing};
+use ark_crypto_primitives::crh::pedersen::Window;
 use ark_crypto_primitives::crh::{CRHScheme, bowe_hopwood, pedersen};
-use ark_crypto_primitives::serialize::Duplicate;
+use ark_crypto_primitives::ec::{CurveGroup, TECoordinates};
+use ark_crypto_primitives::serialize::{DigestItem, Duplicate};
 use rand::SeedableRng;
 use rand::rngs::SmallRng;
 use std::alloc::Global;
@@ -36,12 +37,18 @@ where
 }
 
 /// Returns how the copy of what a word names ended.
-pub fn ended_of(alloc: Global, call: &str) -> Result<Option<Ended>, Error> {
+pub fn ended_of<G: CurveGroup + TECoordinates + DigestItem, W: Window>(
+    alloc: Global,
+    call: &str,
+) -> Result<Option<Ended>, Error>
+where
+    G::BaseField: DigestItem,
+{
     let ended = match call {
         "bytes" => bytes_copied(alloc)?,
-        "pedersen" => hash_copied::<pedersen::CRH<Group, Single>>(alloc)?,
-        "bowe_hopwood" => hash_copied::<bowe_hopwood::CRH<Group, Single>>(alloc)?,
-        "commitment" => commitment_copied::<committing::Commitment<Group, Single>>(alloc)?,
+        "pedersen" => hash_copied::<pedersen::CRH<G, W>>(alloc)?,
+        "bowe_hopwood" => hash_copied::<bowe_hopwood::CRH<G, W>>(alloc)?,
+        "commitment" => commitment_copied::<committing::Commitment<G, W>>(alloc)?,
         _ => return Ok(None),
     };
     Ok(Some(ended))

@@ -1,8 +1,8 @@
 //! Reading bytes of a stranger: lists whose counts are far above what their bytes hold.
 
 use crate::Ended;
-use crate::hashes::Group;
 use ark_crypto_primitives::crh::pedersen;
+use ark_crypto_primitives::ec::CurveGroup;
 use ark_crypto_primitives::ff::PrimeField;
 use ark_crypto_primitives::merkle_tree::{MultiPath, Path};
 use ark_crypto_primitives::serialize::CanonicalDeserialize;
@@ -31,7 +31,7 @@ fn read<T: CanonicalDeserialize + Drop>(alloc: Global, zeros: usize) -> Ended {
 }
 
 /// Returns how the reading of what a word names ended.
-pub fn ended_of<F: PrimeField>(alloc: Global, call: &str) -> Option<Ended> {
+pub fn ended_of<F: PrimeField, G: CurveGroup>(alloc: Global, call: &str) -> Option<Ended> {
     match call {
         "bytes" => Some(read::<Vec<u8>>(alloc, 0)),
         "texts" => Some(read::<Vec<Vec<u8>>>(alloc, 0)),
@@ -42,7 +42,7 @@ pub fn ended_of<F: PrimeField>(alloc: Global, call: &str) -> Option<Ended> {
         "prefixes" => Some(read::<MultiPath<Sha256Arrays>>(alloc, 8)),
         "suffixes" => Some(read::<MultiPath<Sha256Arrays>>(alloc, 16)),
         "indexes" => Some(read::<MultiPath<Sha256Arrays>>(alloc, 24)),
-        "generators" => Some(read::<pedersen::Parameters<Group>>(alloc, 0)),
+        "generators" => Some(read::<pedersen::Parameters<G>>(alloc, 0)),
         "matrix" => Some(read::<PoseidonConfig<F>>(alloc, 24)),
         _ => None,
     }

@@ -12,14 +12,15 @@ mod trees;
 use ark_crypto_primitives::Error;
 use ark_crypto_primitives::commitment::blake2s;
 use ark_crypto_primitives::crh::pedersen::Window;
-use ark_crypto_primitives::ec::Residues;
-use ark_crypto_primitives::ff::{Fp, M61};
+use ark_crypto_primitives::ec::{Residues, Small};
+use ark_crypto_primitives::ff::{Fp, M13, M61};
 use ark_crypto_primitives::prf::Blake2s256;
 use ark_crypto_primitives::trees::Sha256Strings;
 use std::alloc::Global;
 use std::process::ExitCode;
 use std::{env, io};
 
+// The windows of commitments.
 struct Two;
 
 impl Window for Two {
@@ -38,7 +39,29 @@ impl Window for Two {
     ghost fits = { lit< tt };
 }
 
+// The windows of hashes.
+struct Single;
+
+impl Window for Single {
+    ghost use Rattle.std.proofs.Common.{lit<};
+
+    ghost WINDOW_SIZE = { 1 };
+
+    const WINDOW_SIZE: usize = 1;
+
+    ghost NUM_WINDOWS = { 4 };
+
+    const NUM_WINDOWS: usize = 4;
+
+    ghost some = { lit< tt };
+
+    ghost fits = { lit< tt };
+}
+
 type Group = Residues<M61>;
+
+// The group of hashes, whose elements have coordinates.
+type Points = Small<M13>;
 
 /// How a call ended.
 #[derive(Clone, Copy)]
@@ -73,9 +96,9 @@ fn ended_of(alloc: Global, word: &str) -> Result<Option<Ended>, Error> {
     };
     match family {
         "sponge" => sponges::ended_of::<Fp<M61>>(alloc, call),
-        "copy" => copies::ended_of(alloc, call),
-        "hash" => Ok(hashes::ended_of(alloc, call)),
-        "read" => Ok(hostile::ended_of::<Fp<M61>>(alloc, call)),
+        "copy" => copies::ended_of::<Points, Single>(alloc, call),
+        "hash" => Ok(hashes::ended_of::<Points, Single>(alloc, call)),
+        "read" => Ok(hostile::ended_of::<Fp<M61>, Points>(alloc, call)),
         "pedersen" => schemes::pedersen_committed::<Group, Two>(alloc, call),
         "blake2s" => schemes::committed::<blake2s::Commitment>(alloc, call),
         "schnorr" => schemes::schnorr_signed::<Group, Blake2s256>(alloc, call),
