@@ -1,0 +1,15 @@
+//! Tests of the schemes over Jubjub. `tools/jubjub-model` prints the numbers that Python computed.
+#![tactic(auto)]
+
+#[cfg(test)]
+mod bowe_hopwood;
+#[cfg(test)]
+mod commitment;
+#[cfg(test)]
+mod elgamal;
+#[cfg(test)]
+mod pedersen;
+#[cfg(test)]
+mod samples;
+#[cfg(test)]
+mod schnorr;
