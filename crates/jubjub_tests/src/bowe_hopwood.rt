@@ -30,11 +30,20 @@ impl Window for Chunks {
 }
 
 // The element, and 16 and 256 times it.
-fn segments<C: AdditiveGroup>(alloc: Global, first: C) -> Result<Vec<Vec<C>>, Error> {
-    let sixteen = first.double().double().double().double();
-    let more = sixteen.double().double().double().double();
+fn segments<C: AdditiveGroup>(alloc: Global, first: C) -> Result<Vec<C>, Error> {
+    let mut segments = Vec::new(alloc);
+    let mut element = first;
+    for _ in 0..3 {
+        segments.push(element)?;
+        element = element.double().double().double().double();
+    }
+    Ok(segments)
+}
+
+// The generators of one window.
+fn window<C: AdditiveGroup>(alloc: Global, generator: C) -> Result<Vec<Vec<C>>, Error> {
     let mut lists = Vec::new(alloc);
-    lists.push(vec![in alloc; first, sixteen, more]?)?;
+    lists.push(segments(alloc, generator)?)?;
     Ok(lists)
 }
 
@@ -44,7 +53,7 @@ where
     C::BaseField: DigestItem,
 {
     let parameters = Parameters {
-        generators: segments(alloc, generator)?,
+        generators: window(alloc, generator)?,
     };
     CRH::<C, Chunks>::evaluate(alloc, &parameters, &vec![in alloc; byte]?)
 }
