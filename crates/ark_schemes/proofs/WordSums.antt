@@ -14,7 +14,10 @@ use Rattle.ark_pedersen.proofs.PedersenSums.{pedersen_sum-behind}
 -- ---- the words of a number with few digits have few digits
 
 one_at_least : (n : ℕ) → 0 < 2 ^ n
-one_at_least n = let from : 0 ≤ n = omega arith in let power : 2 ^ 0 ≤ 2 ^ n = pow-le-pow_right (lit< tt) from in omega arith
+one_at_least n =
+    let from : 0 ≤ n = omega arith in
+    let power : 2 ^ 0 ≤ 2 ^ n = pow-le-pow_right (lit< tt) from in
+    omega arith
 
 high_below : (low high len : ℕ) → low + 2 ^ 64 * high < 2 ^ len → high < 2 ^ (len - 64)
 high_below low high len fits =
