@@ -8,8 +8,8 @@ ghost use Rattle.acp_session.specs.Steps.{Step};
 
 use crate::run::run;
 use crate::streams::{Input, Output};
-use acp_session::sha256::Sha;
-use ark_toy::Toy;
+use ark_trees::Sha256Strings;
+use ark_trees::toy::Toy;
 use std::alloc::Global;
 use std::io;
 
@@ -87,7 +87,7 @@ pub fn command<I: Input, O: Output, E: Output>(
 {
     match configuration_of(words) {
         Some(Configuration::Sha256) => {
-            let ended = run::<Sha, I, O>(alloc, &(), &(), lines, replies);
+            let ended = run::<Sha256Strings, I, O>(alloc, &(), &(), lines, replies);
             status(ended, replies, faults)
         }
         Some(Configuration::Toy) => {

@@ -6,7 +6,7 @@ use Rattle.ark_base.specs.Reading.{Reading}
 use Rattle.ark_paths.specs.MultiPathBytes.{multi_bytes, multi_way_at}
 use Rattle.ark_paths.specs.Pair.{Digest}
 use Rattle.ark_paths.specs.PathBytes.{way_bytes, way_at}
-use Rattle.ark_toy.specs.Toy.{toy_number, toy_leaf, toy_pair}
+use Rattle.ark_trees.specs.Toy.{toy_number, toy_leaf, toy_pair}
 use Rattle.acp_session.specs.Language.{Language}
 use Rattle.acp_session.specs.Tokens.{number_of_token, some_bytes_of}
 

@@ -8,7 +8,7 @@ mod kinds;
 pub mod line;
 mod proofs;
 mod replies;
-pub mod sha256;
+mod sha256;
 pub mod shell;
 pub mod tokens;
 mod toy;

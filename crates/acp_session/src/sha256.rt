@@ -1,4 +1,4 @@
-//! The configuration `sha256`.
+//! Lines over the configuration `sha256`: trees of SHA-256, whose leaves and digests are bytes.
 
 ghost use Rattle.std.specs.Prelude.{◌≡◌, refl};
 ghost use Rattle.acp_session.specs.Laws.Sha256.{path_reading-sha, multi_path_reading-sha};
@@ -7,28 +7,10 @@ ghost use Rattle.acp_session.specs.Sha256.{sha_language};
 use crate::replies::push_hex;
 use crate::shell::Shell;
 use crate::tokens::some_bytes_of;
-use ark_crh::sha256::Sha256;
-use ark_merkle::{Config, IdentityDigestConverter};
+use ark_trees::Sha256Strings;
 use std::alloc::{AllocError, Global};
 
-/// Trees of SHA-256, whose leaves and digests are bytes.
-pub struct Sha;
-
-impl Config for Sha {
-    type Leaf = Vec<u8>;
-
-    type LeafDigest = Vec<u8>;
-
-    type LeafInnerDigestConverter = IdentityDigestConverter<Vec<u8>>;
-
-    type InnerDigest = Vec<u8>;
-
-    type LeafHash = Sha256;
-
-    type TwoToOneHash = Sha256;
-}
-
-impl Shell for Sha {
+impl Shell for Sha256Strings {
     ghost language = { λ _ _. sha_language };
 
     fn read_leaf(alloc: Global, token: &[u8]) -> Result<Option<Vec<u8>>, AllocError> {

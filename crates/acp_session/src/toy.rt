@@ -9,7 +9,7 @@ use crate::tokens::{number_of_token, some_bytes_of};
 use ark_base::error::Error;
 use ark_base::serialize::CanonicalDeserialize;
 use ark_groups::ff::{Fp, M257, PrimeField};
-use ark_toy::Toy;
+use ark_trees::toy::Toy;
 use std::alloc::{AllocError, Global};
 
 impl Shell for Toy {

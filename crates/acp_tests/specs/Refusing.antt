@@ -1,7 +1,7 @@
 -- A pair hash that refuses.
 use Rattle.acp_session.specs.Language.{Language}
 use Rattle.acp_session.specs.Toy.{toy_language}
-use Rattle.ark_toy.specs.Toy.{refusing_pair}
+use Rattle.ark_trees.specs.Toy.{refusing_pair}
 
 -- that of `toy`, but for the pairs
 abbrev pub refusing_language : Language

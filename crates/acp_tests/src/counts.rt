@@ -2,7 +2,7 @@
 
 use crate::commands::answers;
 use ark_base::error::Error;
-use ark_toy::Toy;
+use ark_trees::toy::Toy;
 use std::alloc::Global;
 
 // Trees' own multi-proofs with their leaves: the places above the leaves, each once. Behind the first stands a leaf that nothing asks for.

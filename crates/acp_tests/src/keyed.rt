@@ -11,7 +11,7 @@ use ark_base::error::Error;
 use ark_crh::CRHScheme;
 use ark_groups::ff::{Fp, M257, PrimeField};
 use ark_merkle::{Config, IdentityDigestConverter};
-use ark_toy::{Toy, ToyPairHash};
+use ark_trees::toy::{Toy, ToyPairHash};
 use rand::Rng;
 use std::alloc::{AllocError, Global};
 

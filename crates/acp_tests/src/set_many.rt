@@ -8,7 +8,7 @@ use acp_session::shell::Shell;
 use acp_session::tokens::number_of_token;
 use ark_groups::ff::{Fp, M257};
 use ark_merkle::{Config, IdentityDigestConverter};
-use ark_toy::{RefusingPairHash, Toy, ToyLeafHash};
+use ark_trees::toy::{RefusingPairHash, Toy, ToyLeafHash};
 use std::alloc::{AllocError, Global};
 
 // Sessions and their replies. Over 1 2 3 4 the root is 27; the tree behind a refused line is as before. Of the leaves for one index

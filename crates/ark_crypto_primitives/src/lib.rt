@@ -1,6 +1,8 @@
 //! Cryptographic primitives that proof systems stand on, under the names of the Rust crate ark-crypto-primitives.
 #![tactic(auto)]
 
+mod log_tree;
+
 pub use ark_absorb::{collect_sponge_bytes, collect_sponge_field_elements};
 pub use ark_base::error::{Error, Refusal, SerializationError};
 pub use ark_base::to_uncompressed_bytes;
@@ -162,6 +164,7 @@ pub mod log {
 
 /// Configurations of trees, ready for use.
 pub mod trees {
+    pub use crate::log_tree::log_tree;
     pub use ark_trees::{ArraySha256, LogSha256, Sha256Arrays, Sha256Log, Sha256Strings};
 }
 

@@ -1,7 +1,7 @@
 -- A pair hash with two weights.
 use Rattle.std.specs.Prelude.{ℕ, ◌+◌, ◌*◌, ◌%◌, [], ◌∷◌, Ok}
 use Rattle.ark_paths.specs.Pair.{HashPair}
-use Rattle.ark_toy.specs.Toy.{toy_number}
+use Rattle.ark_trees.specs.Toy.{toy_number}
 
 -- the sum of two numbers, each times its weight, modulo 257
 abbrev pub weighted_sum : ℕ → ℕ → ℕ → ℕ → ℕ

@@ -7,7 +7,7 @@ use crate::samples::{drawn, places_above, proof_of, tree_over};
 use ark_base::error::{Error, Refusal};
 use ark_groups::ff::{Fp, PrimeField};
 use ark_merkle::{Config, LeafParam, MerkleTree, TwoToOneParam};
-use ark_toy::{Refusing, Toy};
+use ark_trees::toy::{Refusing, Toy};
 use rand::SeedableRng;
 use rand::rngs::SmallRng;
 use std::alloc::Global;

@@ -7,7 +7,7 @@ use crate::toy::copies_of_one;
 use ark_base::error::Error;
 use ark_groups::ff::{Fp, M257, PrimeField};
 use ark_merkle::{Binding, Config, DigestConverter, LeafParam, MerkleTree, Path, TwoToOneParam};
-use ark_toy::{ToyLeafHash, ToyPairHash};
+use ark_trees::toy::{ToyLeafHash, ToyPairHash};
 use std::alloc::Global;
 
 // As `Toy`, but its converter gives 0 for every leaf digest.

@@ -4,7 +4,7 @@ use crate::samples::tree_over;
 use ark_base::error::{Error, Refusal};
 use ark_groups::ff::{Fp, M257, PrimeField};
 use ark_merkle::{Config, LeafParam, MerkleTree, Path, TwoToOneParam};
-use ark_toy::{Refusing, Toy};
+use ark_trees::toy::{Refusing, Toy};
 use std::alloc::Global;
 
 // Whether a tree takes a leaf, under the asserted root if there is one.

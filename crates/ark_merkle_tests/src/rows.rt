@@ -6,7 +6,7 @@ use ark_base::error::{Error, SerializationError};
 use ark_base::serialize::{CanonicalDeserialize, Duplicate};
 use ark_groups::ff::{Fp, PrimeField};
 use ark_merkle::{Config, LeafParam, MerkleTree, MultiPath, Path, TwoToOneParam};
-use ark_toy::Toy;
+use ark_trees::toy::Toy;
 use std::alloc::Global;
 
 const TRUNCATED: Error = Error::SerializationError(SerializationError::Truncated);

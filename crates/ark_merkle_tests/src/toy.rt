@@ -6,7 +6,7 @@ use ark_base::serialize::{CanonicalDeserialize, DigestItem};
 use ark_crh::{CRHScheme, TwoToOneCRHScheme};
 use ark_groups::ff::{Fp, PrimeField};
 use ark_merkle::{Config, LeafParam, MerkleTree, Path, TwoToOneParam, is_tree_size};
-use ark_toy::{Refusing, Toy};
+use ark_trees::toy::{Refusing, Toy};
 use rand::rngs::SmallRng;
 use rand::{Rng, SeedableRng};
 use std::alloc::Global;

@@ -1,1 +1,3 @@
+pub mod Laws
 pub mod Rfc6962
+pub mod Toy

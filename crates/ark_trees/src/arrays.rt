@@ -5,7 +5,7 @@ ghost use Rattle.sha2.specs.Sha256.{sha256};
 
 use ark_base::error::Error;
 use ark_crh::{CRHScheme, TwoToOneCRHScheme};
-use ark_merkle::{Config, IdentityDigestConverter};
+use ark_paths::{Config, IdentityDigestConverter};
 use rand::Rng;
 use sha2::{Digest, Sha256};
 use sha256_lanes::{four_messages, four_pairs};

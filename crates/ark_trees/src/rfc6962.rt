@@ -1,16 +1,13 @@
 //! Trees as transparency logs hash them (RFC 6962, section 2.1).
 
-ghost use Rattle.std.specs.Prelude.{◌≡◌, Ok, IfOk, refl, length, map};
-ghost use Rattle.ark_base.specs.Outcome.{AnswersBy};
-ghost use Rattle.ark_paths.specs.Index.{IsTreeSize, log2};
-ghost use Rattle.ark_paths.specs.Tree.{root_in, tree_of};
-ghost use Rattle.ark_trees.specs.Rfc6962.{entry_hash, node_hash, node_of, merkle_tree_hash};
+ghost use Rattle.std.specs.Prelude.{◌≡◌, Ok, refl};
+ghost use Rattle.ark_trees.specs.Rfc6962.{entry_hash, node_hash, node_of};
 
 use crate::arrays::Four;
 use ark_base::error::Error;
 use ark_crh::{CRHScheme, TwoToOneCRHScheme};
-use ark_merkle::hasher::TreeHasher;
-use ark_merkle::{Config, IdentityDigestConverter, MerkleTree, Views};
+use ark_paths::hasher::TreeHasher;
+use ark_paths::{Config, IdentityDigestConverter};
 use rand::Rng;
 use sha2::{Digest, Sha256};
 use sha256_lanes::{four_prefixed, four_prefixed_pairs};
@@ -32,26 +29,6 @@ impl Config for Sha256Log {
     type LeafHash = LogSha256;
 
     type TwoToOneHash = LogSha256;
-}
-
-impl Sha256Log {
-    /// Returns the tree of a log over these entries, of which there are a power of two above one. The only error is
-    /// `OutOfMemory`.
-    pub fn tree(alloc: Global, entries: &[Vec<u8>]) -> Result<MerkleTree<Sha256Log>, Error>
-        requires { IsTreeSize (length entries.now) }
-        ensures tree { let hashes = ⟦<Sha256Log as Views>⟧.hashes tt tt in
-            AnswersBy ⟦<Sha256Log as Views>⟧.tree (tree_of hashes entries.now) result }
-
-        // Its root is the Merkle tree hash of the entries (section 2.1).
-        ensures root { let entries = map (λ entry. entry.items) entries.now in
-            let hash = merkle_tree_hash (log2 (length entries)) entries in
-            IfOk result (λ tree. root_in (⟦<Sha256Log as Views>⟧.tree tree) ≡ Ok hash) }
-    {
-        let tree = MerkleTree::<Sha256Log>::new(alloc, &(), &(), entries)?;
-        // The call tells the proof that the size is a power of two.
-        let _levels = tree.height();
-        Ok(tree)
-    }
 }
 
 /// SHA-256 of a zero byte and a byte string, and of a one byte and two digests.

@@ -1,7 +1,7 @@
 //! Digests as byte strings, as the crate `ark_crh` has them.
 
 use ark_crh::sha256::Sha256;
-use ark_merkle::{Config, IdentityDigestConverter};
+use ark_paths::{Config, IdentityDigestConverter};
 
 /// Trees of byte strings whose digests are byte strings too: the digest of a leaf is its SHA-256, that of a pair the SHA-256
 /// of left followed by right. Digests of any length can be handed in. `Sha256Arrays` has the same roots and needs less

@@ -6,7 +6,7 @@ ghost use Rattle.ark_crypto_primitives.specs.Words.{AnswersBy, IncorrectInputLen
 use ark_crypto_primitives::Error;
 use ark_crypto_primitives::merkle_tree::{MerkleTree, Path, Views, is_tree_size};
 use ark_crypto_primitives::serialize::canonical_bytes;
-use ark_crypto_primitives::trees::Sha256Log;
+use ark_crypto_primitives::trees::{Sha256Log, log_tree};
 use std::alloc::Global;
 
 /// What a log publishes: the root over its entries, and their count.
@@ -34,7 +34,7 @@ pub fn open(alloc: Global, entries: &[Vec<u8>]) -> Result<MerkleTree<Sha256Log>,
     if !is_tree_size(entries.len()) {
         return Err(Error::IncorrectInputLength(entries.len()));
     }
-    Sha256Log::tree(alloc, entries)
+    log_tree(alloc, entries)
 }
 
 /// Returns what the log publishes.

@@ -3,7 +3,7 @@ use Rattle.std.specs.Option.{option_map}
 use Rattle.std.proofs.lemmas.Result.{IfOk-weaker}
 use Rattle.sha2.specs.Sha256.{sha256}
 use Rattle.acp_session.proofs.Values.{option_map-seen}
-use Rattle.acp_session.proofs.sha256.ShaShell.read_leaf.Goals as goal
+use Rattle.acp_session.proofs.sha256.Sha256StringsShell.read_leaf.Goals as goal
 
 pub returns : goal.returns
 returns c = IfOk-weaker c.read_bytes.result _ _ (λ leaf is p q. option_map-seen (λ bytes. bytes.items)

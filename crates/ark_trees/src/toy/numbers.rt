@@ -1,8 +1,8 @@
 //! Trees of numbers below 257.
 
 ghost use Rattle.std.specs.Prelude.{Ok, refl};
-ghost use Rattle.ark_toy.specs.Laws.{toy_leaf-decided};
-ghost use Rattle.ark_toy.specs.Toy.{toy_leaf, toy_pair};
+ghost use Rattle.ark_trees.specs.Laws.Toy.{toy_leaf-decided};
+ghost use Rattle.ark_trees.specs.Toy.{toy_leaf, toy_pair};
 
 use ark_base::error::{Error, Refusal};
 use ark_crh::{CRHScheme, TwoToOneCRHScheme};

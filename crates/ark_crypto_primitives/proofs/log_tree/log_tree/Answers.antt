@@ -1,7 +1,7 @@
 use Rattle.std.proofs.Common.{◌<◌, arith, length, pow_pos}
 use Rattle.std.proofs.Math.Nat.{pow-succ'}
 use Rattle.ark_trees.proofs.TreeHashes.{root-log}
-use Rattle.ark_trees.proofs.rfc6962.Sha256Log.tree.Goals as goal
+use Rattle.ark_crypto_primitives.proofs.log_tree.log_tree.Goals as goal
 
 pub returns-clause-root : goal.returns-clause-root
 returns-clause-root c =

@@ -1,10 +1,10 @@
-//! Trees of such numbers whose pair hash refuses.
+//! Trees of such numbers whose pair hash returns errors.
 
 ghost use Rattle.std.specs.Prelude.{Ok, refl};
-ghost use Rattle.ark_toy.specs.Laws.{refusing_pair-decided};
-ghost use Rattle.ark_toy.specs.Toy.{refusing_pair};
+ghost use Rattle.ark_trees.specs.Laws.Toy.{refusing_pair-decided};
+ghost use Rattle.ark_trees.specs.Toy.{refusing_pair};
 
-use crate::numbers::{ToyLeafHash, ToyPairHash};
+use super::numbers::{ToyLeafHash, ToyPairHash};
 use ark_base::error::{Error, Refusal};
 use ark_crh::TwoToOneCRHScheme;
 use ark_groups::ff::{Fp, M257, PrimeField};
@@ -12,7 +12,7 @@ use ark_paths::{Config, IdentityDigestConverter};
 use rand::Rng;
 use std::alloc::Global;
 
-/// As `Toy`, but its pair hash refuses where the second number is 0.
+/// As `Toy`, but its pair hash returns an error where the second number is 0.
 pub struct Refusing;
 
 impl Config for Refusing {

@@ -1,8 +1,0 @@
-//! Trees of numbers below 257, whose digests can be reckoned by hand, and such trees whose pair hash refuses.
-#![tactic(auto)]
-
-mod numbers;
-mod refusing;
-
-pub use numbers::{Toy, ToyLeafHash, ToyPairHash};
-pub use refusing::{Refusing, RefusingPairHash};
