@@ -22,10 +22,11 @@ system finds ``libpaxidore.so.1``. Where it is not there, or is older than this 
 """
 import ctypes
 import fcntl
+import itertools
 import mmap
 import os
 import threading
-from typing import Callable, List, Optional, Sequence, Tuple
+from typing import Callable, Iterable, List, Optional, Sequence, Tuple
 
 __all__ = [
     "CountError",
@@ -445,6 +446,10 @@ def _write(file: int, data: bytes, at: int) -> None:
         view, at = view[count:], at + count
 
 
+# how many entries `Log.extend` appends at once
+_BATCH = 1024
+
+
 class Log:
     """A transparency log of any size (RFC 6962 and RFC 9162, section 2.1), for whoever keeps it and for its clients.
 
@@ -521,6 +526,18 @@ class Log:
             if flat[3]:
                 kept.grow(size, ctypes.string_at(more, DIGEST_BYTES * count.value))
             return size
+
+    def extend(self, entries: Iterable[bytes], *, progress: Optional[Callable[[int], object]] = None) -> int:
+        """Appends entries as they come, 1,024 at a time, and returns the new size. ``progress`` is called with the size after each append.
+
+        An error, of an append or of what the entries come from, and what ``progress`` raises, leave the entries of the appends before.
+        """
+        left = iter(entries)
+        while batch := list(itertools.islice(left, _BATCH)):
+            size = self.append(batch)
+            if progress is not None:
+                progress(size)
+        return len(self)
 
     def root(self, size: "Optional[int]" = None) -> bytes:
         """The root of the first ``size`` entries, of all where none is given. Raises ``SizeError`` for more than there are."""

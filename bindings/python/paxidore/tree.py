@@ -4,7 +4,7 @@ import mmap
 import os
 import threading
 from types import TracebackType
-from typing import Any, Optional, Sequence, Type, Union
+from typing import Any, Callable, Optional, Sequence, Tuple, Type, Union
 
 from paxidore import (
     DIGEST_BYTES,
@@ -26,6 +26,8 @@ from paxidore import (
 
 _Path = Union[str, "os.PathLike[str]"]
 _memory = ctypes.c_void_p
+# after so many leaves a build reports its progress
+_STEP = 1024
 
 
 class _Calls:
@@ -82,17 +84,27 @@ class Tree:
         self._map: Optional[mmap.mmap] = None
 
     @classmethod
-    def build(cls, leaves: Sequence[bytes], path: Optional[_Path] = None, *, trees: Trees = rfc6962) -> "Tree":
+    def build(
+        cls,
+        leaves: Sequence[bytes],
+        path: Optional[_Path] = None,
+        *,
+        trees: Trees = rfc6962,
+        progress: Optional[Callable[[int], object]] = None,
+    ) -> "Tree":
         """The tree above the leaves, in memory of its own, or in a file that is made at ``path``.
+
+        ``progress`` is called after each 1,024 leaves, and at the end, with the count of leaves that are done. What it raises ends
+        the build, and the file is removed.
 
         Raises ``SizeError``, ``FileExistsError`` where there is a file, ``OSError``, ``MemoryError``. A crash can leave a file that
         ``check`` does not find to be a tree.
         """
-        flat = _flat(tuple(leaves))
-        length = _length(_leaf_count(_length(flat[3])))
+        given = tuple(leaves)
+        length = _length(_leaf_count(_length(len(given))))
         if path is None:
             tree = cls(bytearray(length), trees=trees)
-            tree._build(flat)
+            tree._build(given, progress)
             return tree
         file = os.open(path, os.O_RDWR | os.O_CREAT | os.O_EXCL | os.O_CLOEXEC, 0o666)
         try:
@@ -102,7 +114,7 @@ class Tree:
                 tree = cls._mapped(file, trees)
             finally:
                 os.close(file)
-            tree._build(flat)
+            tree._build(given, progress)
         except BaseException:
             os.unlink(path)
             raise
@@ -199,9 +211,16 @@ class Tree:
             if self._map is not None:
                 self._map.close()
 
-    def _build(self, flat: Any) -> None:
+    def _build(self, leaves: Tuple[bytes, ...], progress: Optional[Callable[[int], object]]) -> None:
         try:
-            self._done(self._calls.build, given=flat)
+            if progress is None:
+                self._done(self._calls.build, given=_flat(leaves))
+                return
+            # each step hashes the places above its leaves; those that later steps lie under are hashed again by these
+            for start in range(0, len(leaves), _STEP):
+                end = min(start + _STEP, len(leaves))
+                self.set_many(range(start, end), leaves[start:end])
+                progress(end)
         except BaseException:
             self.close()
             raise

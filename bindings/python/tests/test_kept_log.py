@@ -139,6 +139,21 @@ class InMemory(unittest.TestCase):
             proofs_are(self, log, digests, size)
         self.assertTrue(log.check())
 
+    def test_entries_as_they_come(self):
+        entries = drawn(2500)
+        digests, log, told = entry_digests(entries), Log(), []
+        self.assertEqual(log.extend(iter(entries[:7])), 7)
+        self.assertEqual(log.extend(iter(entries[7:]), progress=told.append), 2500)
+        self.assertEqual(told, [1031, 2055, 2500])
+        self.assertEqual((log.extend(()), log.root()), (2500, all_roots(digests)[2500]))
+
+        def stops(size):
+            raise InterruptedError
+
+        self.assertRaises(InterruptedError, log.extend, entries[:1030], progress=stops)
+        self.assertRaises(TypeError, log.extend, ["text"])
+        self.assertEqual((len(log), log.root()), (3524, mth(digests + digests[:1024])))
+
     def test_known_roots(self):
         # those that implementations of RFC 6962 are tested with
         entries = [b"", b"\0", b"\x10", b"\x20\x21", b"\x30\x31", b"@ABC", b"PQRSTUVW", b"`abcdefghijklmno"]

@@ -258,6 +258,25 @@ class Trees(unittest.TestCase):
         self.assertRaises(paxidore.SizeError, Tree.build, leaves[:3], self.file + "s")
         self.assertFalse(os.path.exists(self.file + "s"))
 
+    def test_progress(self):
+        leaves = [drawn_leaf() for _ in range(4096)]
+        for trees, leaf, node in HASHINGS:
+            told = []
+            tree = Tree.build(leaves, trees=trees, progress=told.append)
+            self.assertEqual(told, [1024, 2048, 3072, 4096])
+            self.assertEqual(bytes(tree._held), Model(leaf, node, leaves).bytes())
+        told = []
+        Tree.build(leaves[:2], self.file, progress=told.append).close()
+        self.assertEqual(told, [2])
+        os.unlink(self.file)
+
+        def stop(count):
+            if count > 2048:
+                raise InterruptedError
+
+        self.assertRaises(InterruptedError, Tree.build, leaves, self.file, progress=stop)
+        self.assertFalse(os.path.exists(self.file))
+
     def test_refusals(self):
         leaves = [drawn_leaf() for _ in range(4)]
         tree = Tree.build(leaves)

@@ -13,18 +13,32 @@
 //! assert!(Trees::RFC6962.verify(&root, 4, 2, b"cat", &path)?);
 //! # Ok::<(), paxidore::Refused>(())
 //! ```
+//!
+//! Without the feature `std`, which is on by default, the crate is `no_std` and allocates nothing of its own: it has the checks of
+//! proofs, the hashes and the commitments. The library still calls the `malloc`, `realloc` and `free` that are linked.
+#![cfg_attr(not(feature = "std"), no_std)]
 #![warn(missing_docs)]
 
+mod client;
+#[cfg(feature = "std")]
 mod log;
+#[cfg_attr(not(feature = "std"), allow(dead_code))]
 mod sys;
+#[cfg(feature = "std")]
 mod transcript;
+#[cfg(feature = "std")]
 mod tree;
 
+#[cfg(not(feature = "std"))]
+pub use client::Log;
+use core::error::Error;
+use core::ffi::CStr;
+use core::fmt;
+#[cfg(feature = "std")]
 pub use log::{Log, LogError};
-use std::error::Error;
-use std::ffi::CStr;
-use std::fmt;
+#[cfg(feature = "std")]
 pub use transcript::{ready_parameters, Field, Transcript};
+#[cfg(feature = "std")]
 pub use tree::Tree;
 
 /// A root, a commitment, or another digest.
@@ -48,7 +62,7 @@ pub enum Refused {
     /// No tree has this count of leaves: a tree has 2, 4, 8, 16 .. of them; or no log continues one of the old size, or the log
     /// has fewer entries.
     Size,
-    /// The lengths of the leaves do not sum to that of their bytes. No call of this crate gives it.
+    /// The lengths of the leaves do not sum to that of their bytes. Only `multi_verify_flat` gives it.
     Lengths,
     /// There are not as many leaves as indexes.
     Count,
@@ -108,11 +122,13 @@ fn verdict(answer: i32) -> Result<bool, Refused> {
 }
 
 // Leaves one behind the other, and the length of each.
+#[cfg(feature = "std")]
 struct Flat {
     bytes: Vec<u8>,
     lengths: Vec<usize>,
 }
 
+#[cfg(feature = "std")]
 impl Flat {
     fn of<L: AsRef<[u8]>>(leaves: &[L]) -> Flat {
         let mut flat = Flat {
@@ -129,6 +145,7 @@ impl Flat {
 }
 
 // Bytes that a call writes into a buffer which is long enough, with their count.
+#[cfg(feature = "std")]
 fn written(
     room: usize,
     call: impl FnOnce(*mut u8, usize, *mut usize) -> i32,
@@ -192,18 +209,19 @@ impl Trees {
         })
     }
 
-    /// Whether the proof shows each leaf at its index. The indexes rise, and there are as many leaves.
+    /// As [`verify`](Trees::verify), of several leaves, which stand one behind the other in `bytes`. The indexes rise, and there are as
+    /// many lengths. It copies nothing.
     ///
-    /// Refusals: those of `verify`, and `Count`.
-    pub fn multi_verify<L: AsRef<[u8]>>(
+    /// Refusals: those of `verify`, `Count`, and `Lengths` where the lengths do not sum to that of the bytes.
+    pub fn multi_verify_flat(
         self,
         root: &Digest,
         size: usize,
         indexes: &[usize],
-        leaves: &[L],
+        bytes: &[u8],
+        lengths: &[usize],
         proof: &[u8],
     ) -> Result<bool, Refused> {
-        let Flat { bytes, lengths } = Flat::of(leaves);
         // SAFETY: as in `verify`.
         verdict(unsafe {
             (self.calls.multi_verify)(
@@ -219,6 +237,24 @@ impl Trees {
                 proof.len(),
             )
         })
+    }
+}
+
+#[cfg(feature = "std")]
+impl Trees {
+    /// Whether the proof shows each leaf at its index. The indexes rise, and there are as many leaves.
+    ///
+    /// Refusals: those of `verify`, and `Count`.
+    pub fn multi_verify<L: AsRef<[u8]>>(
+        self,
+        root: &Digest,
+        size: usize,
+        indexes: &[usize],
+        leaves: &[L],
+        proof: &[u8],
+    ) -> Result<bool, Refused> {
+        let Flat { bytes, lengths } = Flat::of(leaves);
+        self.multi_verify_flat(root, size, indexes, &bytes, &lengths, proof)
     }
 
     /// The root of the tree above the leaves. Refusals: `Size`, `Memory`.
@@ -286,11 +322,13 @@ impl Trees {
 }
 
 // How many bytes the digests of a path have in a tree of this size.
+#[cfg(feature = "std")]
 fn path_digests(size: usize) -> usize {
     32 * (usize::BITS - size.saturating_sub(1).leading_zeros()) as usize
 }
 
 // As many bytes as a multi-proof of so many indexes has at most in a tree of this size.
+#[cfg(feature = "std")]
 fn multi_path_room(size: usize, count: usize) -> usize {
     // each index is shown once, so that there are no more than leaves
     32 + count.min(size) * (24 + path_digests(size))

@@ -1,4 +1,4 @@
-//! Logs of any size: for whoever keeps one, and for its clients.
+//! Logs of any size, for whoever keeps one.
 
 use crate::{sha256, sys, verdict, written, Digest, Flat, Refused};
 use std::error::Error;
@@ -217,6 +217,9 @@ fn stored_count(size: usize) -> usize {
     unsafe { sys::paxidore_log_kept(size) }
 }
 
+// How many entries `Log::extend` appends at once.
+const BATCH: usize = 1024;
+
 // No proof has more bytes.
 const PROOF_BYTES: usize = 64 * 32;
 
@@ -285,6 +288,24 @@ impl Log {
         Ok(size)
     }
 
+    /// Appends entries as they come, 1,024 at a time, and returns the new size. `progress` is called with the size after each append.
+    ///
+    /// An error leaves the entries of the appends before. Refusals: as [`append`](Log::append).
+    pub fn extend<L: AsRef<[u8]>>(
+        &mut self,
+        entries: impl IntoIterator<Item = L>,
+        mut progress: impl FnMut(usize),
+    ) -> Result<usize, LogError> {
+        let mut entries = entries.into_iter();
+        loop {
+            let batch: Vec<L> = entries.by_ref().take(BATCH).collect();
+            if batch.is_empty() {
+                return Ok(self.size);
+            }
+            progress(self.append(&batch)?);
+        }
+    }
+
     /// The root of the first `size` entries; of none the SHA-256 of nothing. Refusals: `Size` for more than there are.
     pub fn root(&self, size: usize) -> Result<Digest, Refused> {
         let mut root = [0; 32];
@@ -344,74 +365,6 @@ impl Log {
         // SAFETY: as in `Trees::verify`.
         verdict(unsafe {
             sys::paxidore_log_check(self.stored.as_ptr().cast(), self.stored.len(), self.size)
-        })
-    }
-
-    /// As `verify_inclusion`, of an entry that is known by its digest: the SHA-256 of a zero byte and the entry.
-    pub fn verify_inclusion_digest(
-        root: &Digest,
-        size: usize,
-        index: usize,
-        digest: &Digest,
-        path: &[u8],
-    ) -> Result<bool, Refused> {
-        // SAFETY: as in `Trees::verify`.
-        verdict(unsafe {
-            sys::paxidore_log_verify_inclusion_digest(
-                root.as_ptr(),
-                size,
-                index,
-                digest.as_ptr(),
-                path.as_ptr(),
-                path.len(),
-            )
-        })
-    }
-
-    /// Whether the path shows that the entry stands at the index of the log of `size` entries with this root.
-    ///
-    /// `Ok(false)` says that the path was read and leads elsewhere. Refusals: `Index`, `Truncated`, `Invalid`, `Memory`.
-    pub fn verify_inclusion(
-        root: &Digest,
-        size: usize,
-        index: usize,
-        entry: &[u8],
-        path: &[u8],
-    ) -> Result<bool, Refused> {
-        // SAFETY: as in `Trees::verify`.
-        verdict(unsafe {
-            sys::paxidore_log_verify_inclusion(
-                root.as_ptr(),
-                size,
-                index,
-                entry.as_ptr(),
-                entry.len(),
-                path.as_ptr(),
-                path.len(),
-            )
-        })
-    }
-
-    /// Whether the proof shows that the log with the new root and size continues the one with the old root and size.
-    ///
-    /// Refusals: `Size` of the old size 0 and of one above the new size, `Truncated`, `Invalid`, `Memory`.
-    pub fn verify_consistency(
-        old_size: usize,
-        old_root: &Digest,
-        new_size: usize,
-        new_root: &Digest,
-        proof: &[u8],
-    ) -> Result<bool, Refused> {
-        // SAFETY: as in `Trees::verify`.
-        verdict(unsafe {
-            sys::paxidore_log_verify_consistency(
-                old_size,
-                old_root.as_ptr(),
-                new_size,
-                new_root.as_ptr(),
-                proof.as_ptr(),
-                proof.len(),
-            )
         })
     }
 }

@@ -1,6 +1,6 @@
 //! The calls as `paxidore.h` declares them, under names of this module.
 
-use std::os::raw::{c_char, c_int};
+use core::ffi::{c_char, c_int};
 
 /// The calls of one hashing.
 pub struct Calls {

@@ -23,6 +23,9 @@ pub struct Tree<M> {
     memory: M,
 }
 
+// After so many leaves a build reports its progress.
+const STEP: usize = 1024;
+
 // What a call did.
 fn done(answer: i32) -> Result<(), Refused> {
     match answer {
@@ -46,6 +49,27 @@ impl Tree<Vec<u8>> {
             return Err(Refused::Size);
         }
         Tree::build_in(trees, vec![0; Tree::bytes(leaves.len())], leaves)
+    }
+
+    /// As [`build`](Tree::build), calling `progress` after each 1,024 leaves, and at the end, with the count of those that are done.
+    pub fn build_with<L: AsRef<[u8]>>(
+        trees: Trees,
+        leaves: &[L],
+        mut progress: impl FnMut(usize),
+    ) -> Result<Tree<Vec<u8>>, Refused> {
+        if leaves.len() < 2 || !leaves.len().is_power_of_two() {
+            return Err(Refused::Size);
+        }
+        let mut tree = Tree::over(trees, vec![0; Tree::bytes(leaves.len())])?;
+        let mut done = 0;
+        // each step hashes the places above its leaves; those that later steps lie under are hashed again by these
+        for step in leaves.chunks(STEP) {
+            let indexes: Vec<usize> = (done..done + step.len()).collect();
+            tree.set_many(&indexes, step)?;
+            done += step.len();
+            progress(done);
+        }
+        Ok(tree)
     }
 
     /// How many bytes a tree of so many leaves has.

@@ -80,6 +80,19 @@ impl Drop for Room {
 }
 
 #[test]
+fn entries_as_they_come() -> Result<(), LogError> {
+    let entries = entries(2500);
+    let digests = digests(&entries);
+    let (mut log, mut told) = (Log::new(), Vec::new());
+    assert_eq!(log.extend(&entries[..7], |_| ())?, 7);
+    assert_eq!(log.extend(&entries[7..], |size| told.push(size))?, 2500);
+    assert_eq!(told, [1031, 2055, 2500]);
+    assert_eq!(log.extend(&entries[..0], |_| ())?, 2500);
+    assert_eq!(log.root(2500)?, mth(&digests));
+    Ok(())
+}
+
+#[test]
 fn each_size() -> Result<(), LogError> {
     let (entries, mut log) = (entries(40), Log::new());
     let digests = digests(&entries);

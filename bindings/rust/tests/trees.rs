@@ -36,6 +36,20 @@ fn roots_that_are_known() -> Result<(), Refused> {
 }
 
 #[test]
+fn progress() -> Result<(), Refused> {
+    let leaves: Vec<Vec<u8>> = (0..4096).map(|i| vec![i as u8; i % 70]).collect();
+    for trees in HASHINGS {
+        let mut told = Vec::new();
+        let tree = Tree::build_with(trees, &leaves, |done| told.push(done))?;
+        assert_eq!(told, [1024, 2048, 3072, 4096]);
+        assert_eq!(tree.memory(), Tree::build(trees, &leaves)?.memory());
+    }
+    let three = Tree::build_with(Trees::SHA256, &leaves[..3], |_| ()).map(Tree::into_memory);
+    assert_eq!(three, Err(Refused::Size));
+    Ok(())
+}
+
+#[test]
 fn changes() -> Result<(), Refused> {
     for trees in HASHINGS {
         for log2 in 1..9 {

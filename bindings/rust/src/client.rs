@@ -1,0 +1,81 @@
+//! Checks of a log's proofs, for its clients.
+
+#[cfg(feature = "std")]
+use crate::Log;
+use crate::{sys, verdict, Digest, Refused};
+
+/// The checks of the proofs of a transparency log of any size (RFC 6962 and RFC 9162, section 2.1). With the feature `std` it is also
+/// a log that is kept.
+#[cfg(not(feature = "std"))]
+#[derive(Debug)]
+pub enum Log {}
+
+impl Log {
+    /// As `verify_inclusion`, of an entry that is known by its digest: the SHA-256 of a zero byte and the entry.
+    pub fn verify_inclusion_digest(
+        root: &Digest,
+        size: usize,
+        index: usize,
+        digest: &Digest,
+        path: &[u8],
+    ) -> Result<bool, Refused> {
+        // SAFETY: as in `Trees::verify`.
+        verdict(unsafe {
+            sys::paxidore_log_verify_inclusion_digest(
+                root.as_ptr(),
+                size,
+                index,
+                digest.as_ptr(),
+                path.as_ptr(),
+                path.len(),
+            )
+        })
+    }
+
+    /// Whether the path shows that the entry stands at the index of the log of `size` entries with this root.
+    ///
+    /// `Ok(false)` says that the path was read and leads elsewhere. Refusals: `Index`, `Truncated`, `Invalid`, `Memory`.
+    pub fn verify_inclusion(
+        root: &Digest,
+        size: usize,
+        index: usize,
+        entry: &[u8],
+        path: &[u8],
+    ) -> Result<bool, Refused> {
+        // SAFETY: as in `Trees::verify`.
+        verdict(unsafe {
+            sys::paxidore_log_verify_inclusion(
+                root.as_ptr(),
+                size,
+                index,
+                entry.as_ptr(),
+                entry.len(),
+                path.as_ptr(),
+                path.len(),
+            )
+        })
+    }
+
+    /// Whether the proof shows that the log with the new root and size continues the one with the old root and size.
+    ///
+    /// Refusals: `Size` of the old size 0 and of one above the new size, `Truncated`, `Invalid`, `Memory`.
+    pub fn verify_consistency(
+        old_size: usize,
+        old_root: &Digest,
+        new_size: usize,
+        new_root: &Digest,
+        proof: &[u8],
+    ) -> Result<bool, Refused> {
+        // SAFETY: as in `Trees::verify`.
+        verdict(unsafe {
+            sys::paxidore_log_verify_consistency(
+                old_size,
+                old_root.as_ptr(),
+                new_size,
+                new_root.as_ptr(),
+                proof.as_ptr(),
+                proof.len(),
+            )
+        })
+    }
+}
