@@ -2,7 +2,7 @@
 use Rattle.std.proofs.Common.{suc, ◌≡◌, ◌≢◌, ◌⊎◌, ℕ, ◌+◌, ◌-◌, ◌/◌, ◌^◌, ◌<◌, ◌≤◌, ◌&&◌, Bool, true, false, cond, nat_eq, nat_lt, List, [], ◌∷◌, length, map, drop, get_or, Ok, Err, arith, refl, ap, sym, ◌∙◌, subst, inl, inr, length-drop}
 use Rattle.std.proofs.lemmas.Bool.{and_parts, cases_lt, eqb-true, lt-ltb, le-ltb, ltb-true, ne_eqb}
 use Rattle.std.proofs.lemmas.Bool.Decides.{eqb_tells}
-use Rattle.std.proofs.lemmas.List.{drop_more, drop_all, length-map, drop-map}
+use Rattle.std.proofs.lemmas.List.{drop_more, drop_all}
 use Rattle.ark_base.specs.declared.error.Error.{Error}
 use Rattle.ark_base.specs.Laws.Steps.{done_injective}
 use Rattle.ark_base.specs.Outcome.{Outcome, ◌>>=◌}
@@ -12,86 +12,78 @@ use Rattle.ark_paths.specs.Bind.{couple}
 use Rattle.ark_paths.specs.Index.{bit_at}
 use Rattle.ark_paths.specs.Pair.{Digest, HashPair, digest_eq, hash_in_order}
 use Rattle.ark_paths.specs.Path.{Way, climb, path_root, verdict}
-use Rattle.ark_paths.specs.Table.{Extends, HasPairs, HoldsPlaces, HoldsTree, IsTable, IsWalked, is_above, places_above, with_place}
+use Rattle.ark_paths.specs.Table.{Extends, HasPairs, HoldsPlaces, HoldsTree, IsTable, IsWalked, is_above, places_above, walk_of, with_place}
 use Rattle.ark_paths.specs.declared.multi_path.table.Table.{Table}
 use Rattle.ark_paths.proofs.Binds.{hashed-couple}
-use Rattle.ark_paths.proofs.Climbs.{so_far-refused}
+use Rattle.ark_paths.proofs.Climbs.{so_far-refused, so_far-up}
 use Rattle.ark_paths.proofs.CountsAbove.{places_on-more}
 use Rattle.ark_paths.proofs.Tables.{HoldsPlaces-more, HoldsPlaces-same}
 
 -- ---- the path up to a level
 
-module _ {A : Type 0} (h : HashPair) (view : A → Digest) (xs : List A) (sibling : Digest) (index : ℕ)
-    (digest : Digest) where
+module _ (h : HashPair) (way : Way) (digest : Digest) where
   -- the path of the lowest digests
   abbrev pub lower : ℕ → Way
-  lower level = record { sibling = sibling; above = map view (drop (length xs - level) xs); index = index }
-
-  abbrev pub whole : Way
-  whole = record { sibling = sibling; above = map view xs; index = index }
+  lower level =
+      record { sibling = way.sibling; above = drop (length way.above - level) way.above; index = way.index }
 
   same_value : (o : Outcome Digest) → (o >>= λ d. Ok d) ≡ o
   same_value (Ok d) = refl
   same_value (Err e) = refl
 
   -- the lowest pair
-  pub path_root-lowest : path_root h (lower 0) digest ≡ h.bottom (couple (bit_at index 0) digest sibling).0
-      (couple (bit_at index 0) digest sibling).1
+  pub path_root-lowest : path_root h (lower 0) digest ≡ h.bottom (couple (bit_at way.index 0) digest way.sibling).0
+      (couple (bit_at way.index 0) digest way.sibling).1
   path_root-lowest =
-      let none : drop (length xs - 0) xs ≡ [] = drop_all (length xs - 0) xs (omega arith) in
-      rw none (same_value (hash_in_order h.bottom (bit_at index 0) digest sibling))
-      ∙ sym (hashed-couple h.bottom (bit_at index 0) digest sibling)
+      let none : drop (length way.above - 0) way.above ≡ [] =
+      drop_all (length way.above - 0) way.above (omega arith) in
+      rw none (same_value (hash_in_order h.bottom (bit_at way.index 0) digest way.sibling))
+      ∙ sym (hashed-couple h.bottom (bit_at way.index 0) digest way.sibling)
 
-  module _ (level : ℕ) (x : A) (below : level < length xs) (is : x ≡ get_or xs (length xs - suc level) x) where
-    drop-level : drop (length xs - suc level) xs ≡ x ∷ drop (length xs - level) xs
-    drop-level =
-        let next : length xs - suc level + 1 ≡ length xs - level = omega arith in
-        drop_more xs (length xs - suc level) x (omega arith) ∙ (λ i. sym is i ∷ drop (next i) xs)
+  pub path_pair-lowest : (pairs : ℕ × ℕ → Digest × Digest) → HasPairs h way digest pairs → couple (bit_at way.index 0)
+      digest way.sibling ≡ pairs (0, way.index / 2 ^ 1)
+  path_pair-lowest pairs has =
+      let none : drop (length way.above - 0) way.above ≡ [] =
+      drop_all (length way.above - 0) way.above (omega arith) in
+      done_injective _ _ (sym (rw none refl) ∙ has 0 (omega arith))
 
-    long : suc (length (map view (drop (length xs - level) xs))) ≡ suc level
-    long = omega (arith, length-map (drop (length xs - level) xs) view, length-drop (length xs - level) xs)
+  -- an error on the way is that of the whole
+  pub path_root-refused : (level : ℕ) (e : Error) → path_root h (lower level) digest ≡ Err e → path_root h way digest
+      ≡ Err e
+  path_root-refused level e refused =
+      by_lowest (hash_in_order h.bottom (bit_at way.index 0) digest way.sibling) refused
+    where
+      by_lowest : (o : Outcome Digest) → (o >>= λ lowest. climb h.upper way.index (lower level).above lowest) ≡ Err e
+          → (o >>= λ lowest. climb h.upper way.index way.above lowest) ≡ Err e
+      by_lowest (Ok lowest) at = so_far-refused h.upper way.index way.above lowest (length way.above - level) e at
+      by_lowest (Err f) at = at
 
+  module _ (level : ℕ) (x current : Digest) (below : level < length way.above)
+      (is : x ≡ get_or way.above (length way.above - suc level) []) (so : path_root h (lower level) digest
+      ≡ Ok current) where
     -- one level up
-    pub path_root-up : (current : Digest) → path_root h (lower level) digest ≡ Ok current
-        → path_root h (lower (suc level)) digest ≡ h.upper (couple (bit_at index (suc level)) current (view x)).0
-        (couple (bit_at index (suc level)) current (view x)).1
-    path_root-up current so = by_lowest (hash_in_order h.bottom (bit_at index 0) digest sibling) so
-        ∙ sym (hashed-couple h.upper (bit_at index (suc level)) current (view x))
+    pub path_root-up : path_root h (lower (suc level)) digest ≡ h.upper (couple (bit_at way.index (suc level)) current x).0
+        (couple (bit_at way.index (suc level)) current x).1
+    path_root-up = by_lowest (hash_in_order h.bottom (bit_at way.index 0) digest way.sibling) so
+        ∙ sym (hashed-couple h.upper (bit_at way.index (suc level)) current x)
       where
-        by_lowest : (o : Outcome Digest) → (o >>= λ lowest. climb h.upper index (lower level).above lowest) ≡ Ok current
-            → (o >>= λ lowest. climb h.upper index (lower (suc level)).above lowest) ≡ hash_in_order h.upper
-            (bit_at index (suc level)) current (view x)
-        by_lowest (Ok lowest) climbed = rw (drop-level, climbed, long) refl
+        by_lowest : (o : Outcome Digest) → (o >>= λ lowest. climb h.upper way.index (lower level).above lowest)
+            ≡ Ok current → (o >>= λ lowest. climb h.upper way.index (lower (suc level)).above lowest)
+            ≡ hash_in_order h.upper (bit_at way.index (suc level)) current x
+        by_lowest (Ok lowest) climbed = so_far-up h.upper way.index way.above lowest level current x below is climbed
         by_lowest (Err e) climbed = absurd cc
 
     -- the pair there
-    pub path_pair-up : (current : Digest) (pairs : ℕ × ℕ → Digest × Digest) → HasPairs h whole digest pairs
-        → path_root h (lower level) digest ≡ Ok current → couple (bit_at index (suc level)) current (view x)
-        ≡ pairs (suc level, index / 2 ^ suc (suc level))
-    path_pair-up current pairs has so =
-        let at = has (suc level) (omega (arith, length-map xs view)) in
-        let here : drop (length (map view xs) - suc level) (map view xs) ≡ view x ∷ map view (drop (length xs - level)
-        xs) = ap (λ (n : ℕ). drop (n - suc level) (map view xs)) (length-map xs view) ∙ drop-map view
-        (length xs - suc level) xs ∙ ap (map view) drop-level in
-        done_injective _ _ (sym (rw (here, so, long) refl) ∙ at)
-
-  pub path_pair-lowest : (pairs : ℕ × ℕ → Digest × Digest) → HasPairs h whole digest pairs → couple (bit_at index 0)
-      digest sibling ≡ pairs (0, index / 2 ^ 1)
-  path_pair-lowest pairs has =
-      let at = has 0 (omega arith) in
-      let none : drop (length (map view xs) - 0) (map view xs) ≡ [] =
-      drop_all (length (map view xs) - 0) (map view xs) (omega arith) in
-      done_injective _ _ (sym (rw none refl) ∙ at)
-
-  -- a refusal on the way is that of the whole
-  pub path_root-refused : (level : ℕ) (e : Error) → path_root h (lower level) digest ≡ Err e → path_root h whole
-      digest ≡ Err e
-  path_root-refused level e refused = by_lowest (hash_in_order h.bottom (bit_at index 0) digest sibling) refused
-    where
-      by_lowest : (o : Outcome Digest) → (o >>= λ lowest. climb h.upper index (lower level).above lowest) ≡ Err e
-          → (o >>= λ lowest. climb h.upper index (map view xs) lowest) ≡ Err e
-      by_lowest (Ok lowest) at = so_far-refused h.upper index view xs lowest (length xs - level) e at
-      by_lowest (Err f) at = at
+    pub path_pair-up : (pairs : ℕ × ℕ → Digest × Digest) → HasPairs h way digest pairs → couple (bit_at way.index (suc level)) current x
+        ≡ pairs (suc level, way.index / 2 ^ suc (suc level))
+    path_pair-up pairs has =
+        let k = length way.above - suc level in
+        let under : k + 1 ≡ length way.above - level = omega (arith, below) in
+        let here : drop k way.above ≡ x ∷ drop (length way.above - level) way.above =
+        drop_more way.above k [] (omega (arith, below)) ∙ (λ i. sym is i ∷ drop (under i) way.above) in
+        let long : suc (length (drop (length way.above - level) way.above)) ≡ suc level =
+        omega (arith, below, length-drop (length way.above - level) way.above) in
+        done_injective _ _ (sym (rw (here, so, long) refl) ∙ has (suc level) (omega (arith, below)))
 
 -- ---- the places on the way
 
@@ -267,23 +259,26 @@ module _ {L D : Type 0} (leaf : L → Digest) (inner : D → Digest) (h : HashPa
       )
 
 -- the whole way up
-pub IsWalked-top : {L D : Type 0} (leaf : L → Digest) (inner : D → Digest) (h : HashPair) (way : Way) (levels : ℕ)
-    (digest : Digest) (old new : Table L D) (start end level : ℕ) → level ≡ levels → IsTable leaf inner h new
-    → ((pairs : ℕ × ℕ → Digest × Digest) (seen : List ℕ) → HoldsTree leaf inner pairs levels 0 way.index seen old
-    → HasPairs h way digest pairs
-    → HoldsTree leaf inner pairs levels (suc level) way.index seen new × (length new.made.items + count_above
-    (suc level) seen ≡ length old.made.items + count_above (suc level) (way.index ∷ seen)))
+pub IsWalked-top : {L D : Type 0} {leaf : L → Digest} {inner : D → Digest} {h : HashPair} {way : Way}
+    {digest : Digest} {old new : Table L D} {start end : ℕ} (level : ℕ) → level ≡ length way.above
+    → IsTable leaf inner h new
+    → ((pairs : ℕ × ℕ → Digest × Digest) (seen : List ℕ) → HoldsTree leaf inner pairs (length way.above) 0 way.index
+    seen old → HasPairs h way digest pairs
+    → HoldsTree leaf inner pairs (length way.above) (suc level) way.index seen new
+    × (length new.made.items + count_above (suc level) seen ≡ length old.made.items + count_above (suc level)
+    (way.index ∷ seen)))
     → RisesBy (length new.made.items - length old.made.items) start end → length old.made.items ≤ length new.made.items
-    → IsWalked leaf inner h way levels (Ok digest) old new start end
-IsWalked-top leaf inner h way levels digest old new start end level top table holds rises grows = record {
-  table = table;
-  holds = λ pairs seen other before is has.
-      HoldsTree-top leaf inner h pairs levels way.index seen (length old.made.items) level (length new.made.items) new
-      top (holds pairs seen before (subst (λ (d : Digest). HasPairs h way d pairs)
-      (sym (done_injective _ _ is)) has));
-  rises = rises;
-  grows = grows;
-}
+    → IsWalked leaf inner h way (Ok digest) (walk_of old start) (walk_of new end)
+IsWalked-top {leaf = leaf} {inner = inner} {h = h} {way = way} {old = old} {new = new} level top table holds rises grows =
+    record {
+      table = table;
+      holds = λ pairs seen other before is has.
+          HoldsTree-top leaf inner h pairs (length way.above) way.index seen (length old.made.items) level
+          (length new.made.items) new top (holds pairs seen before (subst (λ (d : Digest). HasPairs h way d pairs)
+          (sym (done_injective _ _ is)) has));
+      rises = rises;
+      grows = grows;
+    }
 
 -- what a path says, from what it gives
 pub verdict-by : (h : HashPair) (leaf : Outcome Digest) (way : Way) (root digest given : Digest) (same : Bool) → leaf

@@ -4,14 +4,14 @@ use Rattle.std.proofs.Math.Nat.{div-eq_of_lt, pow-le-pow_right}
 use Rattle.std.specs.BTreeMap.{BTreeMap, get, Updates, is_at}
 use Rattle.std.specs.List.{slice_get}
 use Rattle.std.specs.Option.{is_some}
-use Rattle.std.proofs.lemmas.List.{length-map}
+use Rattle.std.proofs.lemmas.List.{length-map, get_or-map, map-append}
 use Rattle.std.proofs.lemmas.Bool.{and_parts, eqb-true}
 use Rattle.std.proofs.lemmas.Bool.Decides.{eqb_tells, nat_tests}
 use Rattle.ark_base.specs.Outcome.{Outcome}
 use Rattle.ark_paths.specs.Bind.{couple}
 use Rattle.ark_paths.specs.Pair.{Digest}
 use Rattle.ark_paths.specs.Kept.{place_cmp, same_place, put_at, AreKept}
-use Rattle.ark_paths.specs.Table.{pair_seen, IsMade, AllMade, Extends, HoldsPlaces, IsServed, with_place}
+use Rattle.ark_paths.specs.Table.{pair_seen, row_of, IsMade, AllMade, Extends, HoldsPlaces, IsServed, with_place}
 use Rattle.ark_paths.specs.declared.multi_path.table.Entries.{Entries}
 use Rattle.ark_paths.specs.declared.multi_path.table.Entry.{Entry}
 use Rattle.ark_paths.specs.declared.multi_path.table.Pair.{Pair}
@@ -52,12 +52,23 @@ get_or-Extends xs ys k (more, is) below = rw is (at xs more k below)
     at (x ∷ xs) more zero below = refl
     at (x ∷ xs) more (suc k) below = at xs more k (omega arith)
 
-pub get_or-last : (xs ys : List Digest) (x : Digest) → ys ≡ xs ++ x ∷ [] → get_or ys (length xs) [] ≡ x
+get_or-last : (xs ys : List Digest) (x : Digest) → ys ≡ xs ++ x ∷ [] → get_or ys (length xs) [] ≡ x
 get_or-last xs ys x is = rw is (at xs)
   where
     at : (xs : List Digest) → get_or (xs ++ x ∷ []) (length xs) [] ≡ x
     at [] = refl
     at (y ∷ xs) = at xs
+
+-- one item is put behind the others
+pub Extends-push : {A : Type 0} (view : A → Digest) (before after : List A) (x : A) → after ≡ before ++ x ∷ []
+    → Extends (map view before) (map view after)
+Extends-push view before after x is = (view x ∷ [], rw is (map-append view before (x ∷ [])))
+
+pub get_or-push : {A : Type 0} (view : A → Digest) (before after : List A) (x : A) (k : ℕ) → after ≡ before ++ x ∷ []
+    → k ≡ length before → get_or (map view after) k [] ≡ view x
+get_or-push view before after x k is last =
+    let at : k ≡ length (map view before) = omega (arith, last, length-map before view) in
+    rw at (get_or-last (map view before) (map view after) (view x) (rw is (map-append view before (x ∷ []))))
 
 -- ---- places
 
@@ -307,60 +318,72 @@ module _ {X : Type 0} (numbers : X → Digest) where
   HoldsPlaces-same xs pairs asked others entries same holds =
       record { at = λ place. holds.at place ∙ same place; pair = holds.pair }
 
-  -- ---- a pair that is asked
+-- ---- a pair that is asked
 
-  module _ {D : Type 0} (inner : D → Digest) (hash : Digest → Digest → Outcome Digest) (xs : List Digest) (place : ℕ
-      × ℕ) (pair : Pair X) (before : List D) (entries : Entries X) (made : AllMade numbers hash xs (map inner before)
-      entries) (number : ℕ) where
-    -- it is kept
-    module _ (kept : (entry : Entry X) × (get place_cmp entries.all place ≡ Some entry) × (number ≡ entry.digest)
-        × (pair_seen numbers xs entry.pair ≡ pair_seen numbers xs pair)) where
-      pub answer-kept : hash (pair_seen numbers xs pair).0 (pair_seen numbers xs pair).1
-          ≡ Ok (get_or (map inner before) number [])
-      answer-kept = rw (kept.2, ← kept.3) (made.all place kept.0 kept.1).is
+-- the pair that is seen is that of the digests in order
+pub asked-as : {X : Type 0} (numbers : X → Digest) (hash : Digest → Digest → Outcome Digest) (items : List X)
+    (pair : Pair X) (own : X) {left right : Digest} {outcome : Outcome Digest} → pair.own < length items
+    → own ≡ get_or items pair.own own → (left, right) ≡ couple pair.is_right (numbers own) (numbers pair.sibling.now)
+    → hash left right ≡ outcome → hash (pair_seen numbers (map numbers items) pair).0
+    (pair_seen numbers (map numbers items) pair).1 ≡ outcome
+asked-as numbers hash items pair own below is ordered hashed =
+    let at : get_or (map numbers items) pair.own [] ≡ numbers own =
+    get_or-map numbers items pair.own own [] below ∙ ap numbers (sym is) in
+    rw (at, ← ordered) hashed
 
-      pub IsServed-kept : (start : ℕ) → IsServed numbers inner hash xs xs place pair before before entries entries start
-          start number
-      IsServed-kept start = record {
-        below = rw (kept.2, ← length-map before inner) (made.all place kept.0 kept.1).hashed;
-        grows = Extends-itself (map inner before);
-        made = made;
-        holds = λ pairs asked holds is. (
-          HoldsPlaces-kept xs pairs asked entries.all holds place kept.0 kept.1,
-          count-kept (asked place) (length before) (asked-kept xs pairs asked entries.all holds place kept.0 kept.1),
-        );
-        rises = omega arith;
-      }
+module _ {X D : Type 0} {numbers : X → Digest} {hash : Digest → Digest → Outcome Digest} {xs : List Digest}
+    {entries : Entries X} {number : ℕ} (inner : D → Digest) (before : List D) (place : ℕ × ℕ) (pair : Pair X)
+    (made : AllMade numbers hash xs (map inner before) entries) where
+  -- it is kept
+  module _ (kept : (entry : Entry X) × (get place_cmp entries.all place ≡ Some entry) × (number ≡ entry.digest)
+      × (pair_seen numbers xs entry.pair ≡ pair_seen numbers xs pair)) where
+    pub answer-kept : hash (pair_seen numbers xs pair).0 (pair_seen numbers xs pair).1
+        ≡ Ok (get_or (map inner before) number [])
+    answer-kept = rw (kept.2, ← kept.3) (made.all place kept.0 kept.1).is
 
-    -- it is hashed
-    module _ (after : List D) (y : Digest) (hashed : hash (pair_seen numbers xs pair).0 (pair_seen numbers xs pair).1
-        ≡ Ok y) (more : map inner after ≡ map inner before ++ y ∷ []) (last : number ≡ length before) where
-      pub answer-anew : hash (pair_seen numbers xs pair).0 (pair_seen numbers xs pair).1
-          ≡ Ok (get_or (map inner after) number [])
-      answer-anew = made-answer hash (map inner before) (map inner after) (pair_seen numbers xs pair) y number hashed
-          more (last ∙ sym (length-map before inner))
+    pub IsServed-kept : {count : ℕ} → IsServed numbers inner hash place pair (row_of xs before entries count)
+        (row_of xs before entries count) number
+    IsServed-kept = record {
+      below = rw (kept.2, ← length-map before inner) (made.all place kept.0 kept.1).hashed;
+      grows = Extends-itself (map inner before);
+      made = made;
+      holds = λ pairs asked holds is. (
+        HoldsPlaces-kept numbers xs pairs asked entries.all holds place kept.0 kept.1,
+        count-kept (asked place) (length before) (asked-kept numbers xs pairs asked entries.all holds place kept.0
+            kept.1),
+      );
+      rises = omega arith;
+    }
 
-      pub IsServed-anew : (us : List Digest) (next : Entries X) (start end : ℕ) → Extends xs us → pair.own < length xs
-          → AreKept next.all next.last.items → Updates place_cmp entries.all next.all place
-          (Some (record { pair = pair; digest = number }))
-          → ((entry : Entry X) → get place_cmp entries.all place ≡ Some entry → pair_seen numbers xs entry.pair ≢
-          pair_seen numbers xs pair) → end ≡ min (start + 1) 18446744073709551615
-          → IsServed numbers inner hash xs us place pair before after entries next start end number
-      IsServed-anew us next start end digests own kept updates other counted =
-          let one : length after ≡ length before + 1 = count-anew false inner before after y refl more in
-          record {
-            below = omega (arith, last, one);
-            grows = (y ∷ [], more);
-            made = AllMade-kept hash xs us (map inner before) (map inner after) entries next place pair y number made
-                digests own hashed more (last ∙ sym (length-map before inner)) kept updates;
-            holds = λ pairs asked holds is. (
-              HoldsPlaces-anew xs pairs asked entries.all holds place us next.all pair number
-                  (λ q entry at. (made.all q entry at).own) digests own is updates,
-              count-anew (asked place) inner before after y (asked-anew xs pairs asked entries.all holds place
-                  (pair_seen numbers xs pair) is other) more,
-            );
-            rises = omega (arith, counted, one);
-          }
+  -- it is hashed
+  module _ (after : List D) {y : Digest} (hashed : hash (pair_seen numbers xs pair).0 (pair_seen numbers xs pair).1
+      ≡ Ok y) (more : map inner after ≡ map inner before ++ y ∷ []) (last : number ≡ length before) where
+    pub answer-anew : hash (pair_seen numbers xs pair).0 (pair_seen numbers xs pair).1
+        ≡ Ok (get_or (map inner after) number [])
+    answer-anew = made-answer numbers hash (map inner before) (map inner after) (pair_seen numbers xs pair) y number
+        hashed more (last ∙ sym (length-map before inner))
+
+    pub IsServed-anew : {us : List Digest} {next : Entries X} {start end : ℕ} → Extends xs us → pair.own < length xs
+        → AreKept next.all next.last.items → Updates place_cmp entries.all next.all place
+        (Some (record { pair = pair; digest = number }))
+        → ((entry : Entry X) → get place_cmp entries.all place ≡ Some entry → pair_seen numbers xs entry.pair ≢
+        pair_seen numbers xs pair) → end ≡ min (start + 1) 18446744073709551615
+        → IsServed numbers inner hash place pair (row_of xs before entries start) (row_of us after next end) number
+    IsServed-anew {us = us} {next = next} digests own kept updates other counted =
+        let one : length after ≡ length before + 1 = count-anew false inner before after y refl more in
+        record {
+          below = omega (arith, last, one);
+          grows = (y ∷ [], more);
+          made = AllMade-kept numbers hash xs us (map inner before) (map inner after) entries next place pair y number
+              made digests own hashed more (last ∙ sym (length-map before inner)) kept updates;
+          holds = λ pairs asked holds is. (
+            HoldsPlaces-anew numbers xs pairs asked entries.all holds place us next.all pair number
+                (λ q entry at. (made.all q entry at).own) digests own is updates,
+            count-anew (asked place) inner before after y (asked-anew numbers xs pairs asked entries.all holds place
+                (pair_seen numbers xs pair) is other) more,
+          );
+          rises = omega (arith, counted, one);
+        }
 
 -- one more was counted at most
 pub counted-most : (start end : ℕ) → end ≡ min (start + 1) 18446744073709551615 → end ≤ start + 1

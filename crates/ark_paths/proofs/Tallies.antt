@@ -195,16 +195,17 @@ module _ {L D : Type 0} (leaf : L → Digest) (inner : D → Digest) where
 
   module _ {A : Type 0} (h : HashPair) (root : Digest) (m : MultiWay) (view : A → Outcome Digest) where
     Tallied-more : (place : ℕ) (taken : List A) (item : A) (before after : Table L D) (digests_before : List Digest)
-        (index : ℕ) (way : Way) (levels : ℕ) → Tallied leaf inner h root m view place taken before
+        (index : ℕ) (way : Way) → Tallied leaf inner h root m view place taken before
         → Decoded m place digests_before → place < length m.indexes → index ≡ get_or m.indexes place index
-        → decoded_path m place digests_before index ≡ Some way → levels ≡ length way.above
-        → ((pairs : ℕ × ℕ → Digest × Digest) (seen : List ℕ) (digest : Digest) → HoldsTree leaf inner pairs levels 0
-        index seen before → view item ≡ Ok digest → HasPairs h way digest pairs
-        → HoldsTree leaf inner pairs levels 0 index (index ∷ seen) after × (length after.made.items + count_above
-        (suc levels) seen ≡ length before.made.items + count_above (suc levels) (index ∷ seen)))
+        → decoded_path m place digests_before index ≡ Some way
+        → ((pairs : ℕ × ℕ → Digest × Digest) (seen : List ℕ) (digest : Digest)
+        → HoldsTree leaf inner pairs (length way.above) 0 index seen before → view item ≡ Ok digest
+        → HasPairs h way digest pairs → HoldsTree leaf inner pairs (length way.above) 0 index (index ∷ seen) after
+        × (length after.made.items + count_above (suc (length way.above)) seen
+        ≡ length before.made.items + count_above (suc (length way.above)) (index ∷ seen)))
         → Tallied leaf inner h root m view (place + 1) (taken ++ item ∷ []) after
-    Tallied-more place taken item before after digests_before index way levels tallied decoded below is fit long asked
-        digests own same =
+    Tallied-more place taken item before after digests_before index way tallied decoded below is fit asked digests own
+        same =
         let fs = at_indexes digests m in
         let inside_fs : place < length fs = omega (arith, below, length-at digests m) in
         let at : get_or fs place (Ok []) ≡ Ok (get_or digests index []) = get_or-map (λ i. Ok (get_or digests i []))
@@ -212,8 +213,8 @@ module _ {L D : Type 0} (leaf : L → Digest) (inner : D → Digest) where
         let parts = snoc-same (map view taken) (take place fs) (view item) (get_or fs place (Ok []))
         (sym (map-append view taken (item ∷ [])) ∙ same ∙ take_more fs place (Ok []) inside_fs) in
         let mine = own-here m place digests_before decoded index below is way fit h digests root fs own in
-        let levels_are : levels ≡ upper_levels digests = long ∙ ap (λ (w : Way). length w.above) mine ∙ length-own_path
-        h index digests in
+        let levels_are : length way.above ≡ upper_levels digests =
+        ap (λ (w : Way). length w.above) mine ∙ length-own_path h index digests in
         let inside : index < length digests =
         subst (λ (n : ℕ). n < length digests) (sym is) (own.inside place index below) in
         let pairs = subst (λ (w : Way). HasPairs h w (get_or digests index []) (pair_at h digests)) (sym mine)
@@ -269,41 +270,42 @@ module _ {L D : Type 0} (leaf : L → Digest) (inner : D → Digest) where
     }
 
     Counted-more : (here next : S) (place : ℕ) (item : A) (before after : Table L D) (digests_before : List Digest)
-        (index : ℕ) (way : Way) (levels : ℕ) → Counted steps start here leaf inner h root m view place before
+        (index : ℕ) (way : Way) → Counted steps start here leaf inner h root m view place before
         → steps here (Some item) next
         → Decoded m place digests_before → place < length m.indexes → index ≡ get_or m.indexes place index
-        → decoded_path m place digests_before index ≡ Some way → levels ≡ length way.above
-        → ((pairs : ℕ × ℕ → Digest × Digest) (seen : List ℕ) (digest : Digest) → HoldsTree leaf inner pairs levels 0
-        index seen before → view item ≡ Ok digest → HasPairs h way digest pairs
-        → HoldsTree leaf inner pairs levels 0 index (index ∷ seen) after × (length after.made.items + count_above
-        (suc levels) seen ≡ length before.made.items + count_above (suc levels) (index ∷ seen)))
+        → decoded_path m place digests_before index ≡ Some way
+        → ((pairs : ℕ × ℕ → Digest × Digest) (seen : List ℕ) (digest : Digest)
+        → HoldsTree leaf inner pairs (length way.above) 0 index seen before → view item ≡ Ok digest
+        → HasPairs h way digest pairs → HoldsTree leaf inner pairs (length way.above) 0 index (index ∷ seen) after
+        × (length after.made.items + count_above (suc (length way.above)) seen
+        ≡ length before.made.items + count_above (suc (length way.above)) (index ∷ seen)))
         → Counted steps start next leaf inner h root m view (place + 1) after
-    Counted-more here next place item before after digests_before index way levels counted step decoded below is fit
-        long asked = record {
+    Counted-more here next place item before after digests_before index way counted step decoded below is fit asked =
+        record {
           taken = counted.taken ++ item ∷ [];
           gave = Yields-more steps start here next counted.taken item counted.gave step;
           each = length-append counted.taken (item ∷ []) ∙ ap (λ (n : ℕ). n + 1) counted.each;
-          tallied = Tallied-more h root m view place counted.taken item before after digests_before index way levels
-              counted.tallied decoded below is fit long asked;
+          tallied = Tallied-more h root m view place counted.taken item before after digests_before index way
+              counted.tallied decoded below is fit asked;
         }
 
     -- at a place that decodes
     pub Counted-next : (here next : S) (place : ℕ) (item : A) (before after : Table L D) (digests_before : List Digest)
-        (sibling : Digest) (above : List Digest) (levels : ℕ) → Counted steps start here leaf inner h root m view place
-        before → steps here (Some item) next
-        → Decoded m place digests_before → place < length m.indexes → ((index : ℕ) → decoded_path m place digests_before
-        index ≡ Some (record { sibling = sibling; above = above; index = index })) → levels ≡ length above
-        → ((pairs : ℕ × ℕ → Digest × Digest) (seen : List ℕ) (digest : Digest) → HoldsTree leaf inner pairs levels 0
-        (get_or m.indexes place 0) seen before → view item ≡ Ok digest
+        (sibling : Digest) (above : List Digest) → Counted steps start here leaf inner h root m view place before
+        → steps here (Some item) next → Decoded m place digests_before → place < length m.indexes
+        → ((index : ℕ) → decoded_path m place digests_before index
+        ≡ Some (record { sibling = sibling; above = above; index = index }))
+        → ((pairs : ℕ × ℕ → Digest × Digest) (seen : List ℕ) (digest : Digest)
+        → HoldsTree leaf inner pairs (length above) 0 (get_or m.indexes place 0) seen before → view item ≡ Ok digest
         → HasPairs h (record { sibling = sibling; above = above; index = get_or m.indexes place 0 }) digest pairs
-        → HoldsTree leaf inner pairs levels 0 (get_or m.indexes place 0) (get_or m.indexes place 0 ∷ seen) after
-        × (length after.made.items + count_above (suc levels) seen ≡ length before.made.items + count_above
-        (suc levels) (get_or m.indexes place 0 ∷ seen)))
+        → HoldsTree leaf inner pairs (length above) 0 (get_or m.indexes place 0) (get_or m.indexes place 0 ∷ seen) after
+        × (length after.made.items + count_above (suc (length above)) seen ≡ length before.made.items + count_above
+        (suc (length above)) (get_or m.indexes place 0 ∷ seen)))
         → Counted steps start next leaf inner h root m view (place + 1) after
-    Counted-next here next place item before after digests_before sibling above levels counted step decoded below fit =
+    Counted-next here next place item before after digests_before sibling above counted step decoded below fit =
         let index = get_or m.indexes place 0 in
         Counted-more here next place item before after digests_before index
-        (record { sibling = sibling; above = above; index = index }) levels counted step decoded below
+        (record { sibling = sibling; above = above; index = index }) counted step decoded below
         (get_or_default m.indexes place 0 index below) (fit index)
 
     -- at the end

@@ -90,29 +90,48 @@ HasPairs h way digest pairs = (level : ℕ) → level ≤ length way.above
 
 -- ---- what asking leaves
 
+-- a row of the table: the digests that its pairs name, those that were made, its entries, and how many pairs were counted
+pub record Row (X D : Type 0) : Type 0 where
+  pub digests : List Digest
+  pub made : List D
+  pub entries : Entries X
+  pub count : ℕ
+
+abbrev pub row_of : {X D : Type 0} → List Digest → List D → Entries X → ℕ → Row X D
+row_of digests made entries count = record { digests = digests; made = made; entries = entries; count = count }
+
 -- What a pair that was asked at a place leaves: the number of a digest; those that were made before, and at most
 -- one more; their entries, of a tree where they were such; and a count that rose by as many.
 pub record IsServed {X D : Type 0} (numbers : X → Digest) (inner : D → Digest) (hash : Digest → Digest → Outcome Digest)
-    (digests later : List Digest) (place : ℕ × ℕ) (pair : Pair X) (before after : List D) (entries next : Entries X)
-    (start end number : ℕ) : Type 0 where
-  pub below : number < length after
-  pub grows : Extends (map inner before) (map inner after)
-  pub made : AllMade numbers hash later (map inner after) next
+    (place : ℕ × ℕ) (pair : Pair X) (before after : Row X D) (number : ℕ) : Type 0 where
+  pub below : number < length after.made
+  pub grows : Extends (map inner before.made) (map inner after.made)
+  pub made : AllMade numbers hash after.digests (map inner after.made) after.entries
   pub holds : (pairs : ℕ × ℕ → Digest × Digest) (asked : ℕ × ℕ → Bool)
-      → HoldsPlaces numbers digests pairs asked entries.all → pair_seen numbers digests pair ≡ pairs place
-      → HoldsPlaces numbers later pairs (with_place place asked) next.all
-      × (length after ≡ length before + cond (asked place) 0 1)
-  pub rises : RisesBy (length after - length before) start end
+      → HoldsPlaces numbers before.digests pairs asked before.entries.all
+      → pair_seen numbers before.digests pair ≡ pairs place
+      → HoldsPlaces numbers after.digests pairs (with_place place asked) after.entries.all
+      × (length after.made ≡ length before.made + cond (asked place) 0 1)
+  pub rises : RisesBy (length after.made - length before.made) before.count after.count
+
+-- a table, and how many pairs were counted
+pub record Walk (L D : Type 0) : Type 0 where
+  pub table : Table L D
+  pub count : ℕ
+
+abbrev pub walk_of : {L D : Type 0} → Table L D → ℕ → Walk L D
+walk_of table count = record { table = table; count = count }
 
 -- What a way up from a leaf with this digest leaves: a table, of a tree where it was such, with as many digests more as
 -- places are new; and a count that rose by as many.
-pub record IsWalked {L D : Type 0} (leaf : L → Digest) (inner : D → Digest) (h : HashPair) (way : Way) (levels : ℕ)
-    (hashed : Outcome Digest) (before after : Table L D) (start end : ℕ) : Type 0 where
-  pub table : IsTable leaf inner h after
+pub record IsWalked {L D : Type 0} (leaf : L → Digest) (inner : D → Digest) (h : HashPair) (way : Way)
+    (hashed : Outcome Digest) (before after : Walk L D) : Type 0 where
+  pub table : IsTable leaf inner h after.table
   pub holds : (pairs : ℕ × ℕ → Digest × Digest) (seen : List ℕ) (digest : Digest)
-      → HoldsTree leaf inner pairs levels 0 way.index seen before → hashed ≡ Ok digest → HasPairs h way digest pairs
-      → HoldsTree leaf inner pairs levels 0 way.index (way.index ∷ seen) after
-      × (length after.made.items + count_above (suc levels) seen
-      ≡ length before.made.items + count_above (suc levels) (way.index ∷ seen))
-  pub rises : RisesBy (length after.made.items - length before.made.items) start end
-  pub grows : length before.made.items ≤ length after.made.items
+      → HoldsTree leaf inner pairs (length way.above) 0 way.index seen before.table → hashed ≡ Ok digest
+      → HasPairs h way digest pairs
+      → HoldsTree leaf inner pairs (length way.above) 0 way.index (way.index ∷ seen) after.table
+      × (length after.table.made.items + count_above (suc (length way.above)) seen
+      ≡ length before.table.made.items + count_above (suc (length way.above)) (way.index ∷ seen))
+  pub rises : RisesBy (length after.table.made.items - length before.table.made.items) before.count after.count
+  pub grows : length before.table.made.items ≤ length after.table.made.items

@@ -9,7 +9,7 @@ ghost use Rattle.ark_paths.specs.Bind.{couple};
 ghost use Rattle.ark_paths.specs.Kept.{place_cmp, put_at, AreKept};
 ghost use Rattle.ark_paths.specs.declared.multi_path.table.Entry.{Entry as OfEntry};
 ghost use Rattle.ark_paths.specs.Pair.{Digest, HashPair};
-ghost use Rattle.ark_paths.specs.Table.{pair_seen, AllMade, HoldsTree, IsServed, IsTable};
+ghost use Rattle.ark_paths.specs.Table.{pair_seen, row_of, AllMade, HoldsTree, IsServed, IsTable};
 
 use crate::multi_path::hasher::PairHasher;
 use ark_base::error::Error;
@@ -235,9 +235,9 @@ pub fn ask_lowest<'a, L: DigestItem, D: DigestItem, T: PairHasher<L, D>>(
         AnswersBy (λ number. get_or (map D.numbers made.new.items) number [])
         ((T.pair hasher.old).bottom asked.0 asked.1) result }
     ensures served { let digests = map L.numbers leaves.now in
-        IfOk result (IsServed L.numbers D.numbers
-        (T.pair hasher.old).bottom digests digests place pair.entry made.old.items made.new.items
-        entries.old entries.new (T.counted hasher.old) (T.counted hasher.new)) }
+        IfOk result (IsServed L.numbers D.numbers (T.pair hasher.old).bottom place pair.entry
+        (row_of digests made.old.items entries.old (T.counted hasher.old))
+        (row_of digests made.new.items entries.new (T.counted hasher.new))) }
     ensures same { T.pair hasher.new ≡ T.pair hasher.old }
     ensures most { T.counted hasher.new ≤ T.counted hasher.old + 1 }
 {
@@ -269,9 +269,9 @@ pub fn ask_upper<'a, L: DigestItem, D: DigestItem, T: PairHasher<L, D>>(
         ((T.pair hasher.old).upper asked.0 asked.1) result }
     ensures served { let old = map D.numbers made.old.items in
         let new = map D.numbers made.new.items in
-        IfOk result (IsServed D.numbers D.numbers
-        (T.pair hasher.old).upper old new place pair.entry made.old.items made.new.items
-        entries.old entries.new (T.counted hasher.old) (T.counted hasher.new)) }
+        IfOk result (IsServed D.numbers D.numbers (T.pair hasher.old).upper place pair.entry
+        (row_of old made.old.items entries.old (T.counted hasher.old))
+        (row_of new made.new.items entries.new (T.counted hasher.new))) }
     ensures same { T.pair hasher.new ≡ T.pair hasher.old }
     ensures most { T.counted hasher.new ≤ T.counted hasher.old + 1 }
 {

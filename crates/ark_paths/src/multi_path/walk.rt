@@ -6,8 +6,9 @@ ghost use Rattle.ark_paths.specs.Asked.{CountsOwn, most_asked};
 ghost use Rattle.ark_paths.specs.Leaves.{AnswersOver};
 ghost use Rattle.ark_paths.specs.MultiPath.{listed_way, multi_verdict};
 ghost use Rattle.ark_paths.specs.Pair.{Digest, HashPair};
-ghost use Rattle.ark_paths.specs.Path.{Way, path_root, verdict};
-ghost use Rattle.ark_paths.specs.Table.{HoldsTree, IsTable, IsWalked};
+ghost use Rattle.ark_paths.specs.Path.{path_root, verdict};
+ghost use Rattle.ark_paths.specs.PathBytes.{way_of};
+ghost use Rattle.ark_paths.specs.Table.{HoldsTree, IsTable, IsWalked, walk_of};
 
 use crate::index::is_bit_set;
 use crate::multi_path::hasher::PairHasher;
@@ -43,22 +44,15 @@ fn top_of<'a, L: DigestItem, D: DigestItem, T: PairHasher<L, D>>(
     index: usize,
 ) -> Result<usize, Error>
     requires { IsTable L.numbers D.numbers (T.pair hasher.old) table.old }
-    ensures answer { let way : Way = record {
-      sibling = L.numbers sibling.now;
-      above = map (λ x. D.numbers x.now) above.now;
-      index = index;
-    } in
+    ensures answer { let way = way_of L.numbers (λ x. D.numbers x.now)
+        (sibling.now, (above.now, index)) in
         AnswersBy (λ number. get_or (map D.numbers table.new.made.items) number [])
         (path_root (T.pair hasher.old) way (L.numbers digest)) result }
-    ensures walked { let way : Way = record {
-      sibling = L.numbers sibling.now;
-      above = map (λ x. D.numbers x.now) above.now;
-      index = index;
-    } in
+    ensures walked { let way = way_of L.numbers (λ x. D.numbers x.now)
+        (sibling.now, (above.now, index)) in
         IfOk result (λ number. (number < length table.new.made.items)
-        × IsWalked L.numbers D.numbers (T.pair hasher.old) way
-        (length above.now) (Ok (L.numbers digest)) table.old table.new
-        (T.counted hasher.old) (T.counted hasher.new)) }
+        × IsWalked L.numbers D.numbers (T.pair hasher.old) way (Ok (L.numbers digest))
+        (walk_of table.old (T.counted hasher.old)) (walk_of table.new (T.counted hasher.new))) }
     ensures same { T.pair hasher.new ≡ T.pair hasher.old }
     ensures most { T.counted hasher.new ≤ T.counted hasher.old + suc (length above.now) }
 {
@@ -112,23 +106,16 @@ pub fn judge<'a, H: CRHScheme, D: DigestItem, T: PairHasher<H::Output, D>>(
     index: usize,
 ) -> Result<bool, Error>
     requires { IsTable H.Output.numbers D.numbers (T.pair hasher.old) table.old }
-    ensures answer { let way : Way = record {
-      sibling = H.Output.numbers sibling.now;
-      above = map (λ x. D.numbers x.now) above.now;
-      index = index;
-    } in
+    ensures answer { let way = way_of H.Output.numbers (λ x. D.numbers x.now)
+        (sibling.now, (above.now, index)) in
         let given = D.numbers root.now in
         let hashed = H.meaning leaf_parameters.now leaf.now in
         Answers (verdict (T.pair hasher.old) hashed way given) result }
-    ensures walked { let way : Way = record {
-      sibling = H.Output.numbers sibling.now;
-      above = map (λ x. D.numbers x.now) above.now;
-      index = index;
-    } in
+    ensures walked { let way = way_of H.Output.numbers (λ x. D.numbers x.now)
+        (sibling.now, (above.now, index)) in
         let hashed = H.meaning leaf_parameters.now leaf.now in
-        OnOk result (IsWalked H.Output.numbers D.numbers (T.pair hasher.old) way
-        (length above.now) hashed table.old table.new (T.counted hasher.old)
-        (T.counted hasher.new)) }
+        OnOk result (IsWalked H.Output.numbers D.numbers (T.pair hasher.old) way hashed
+        (walk_of table.old (T.counted hasher.old)) (walk_of table.new (T.counted hasher.new))) }
     ensures same { T.pair hasher.new ≡ T.pair hasher.old }
     ensures most { T.counted hasher.new ≤ T.counted hasher.old + suc (length above.now) }
 {

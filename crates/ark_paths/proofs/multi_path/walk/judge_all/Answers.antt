@@ -112,9 +112,7 @@ loop-place-preserved g c =
       counted = Counted-next leaf inner (g.T.PairHasher.pair c.args.hasher.now) (inner c.args.root.now) m
           (λ (l : Bor _). g.H.CRHScheme.meaning c.args.leaf_parameters.now l.now) c.loop-place.leaves
           c.next_place.new.leaves place c.in_ok-next.next.1 c.loop-place.table c.judge.new.table digests sibling judged
-          (length c.deref.result.now)
-          before.counted next.0 before.decoded within (rw c.deref.ensures.value next.1)
-          (sym (length-map c.deref.result.now (λ (x : Bor _). inner x.now))) walked.holds;
+          before.counted next.0 before.decoded within (rw c.deref.ensures.value next.1) walked.holds;
       same = c.judge.ensures.same ∙ before.same;
       rises = RisesBy-more _ _ _ _ _ walked.grows before.rises walked.rises;
       most = most-there m place digests sibling above before.decoded within next.1 _ _ _ before.most more;
