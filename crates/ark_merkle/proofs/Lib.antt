@@ -9,8 +9,8 @@ pub mod Bounds
 pub mod Changes
 mod LentChanges
 pub mod LevelOrder
-pub mod Piles
-pub mod PilesOfFour
+pub mod BuildRows
+pub mod BuildRowsByFour
 pub mod TreeChanges
 pub mod Puts
 pub mod TreeReads

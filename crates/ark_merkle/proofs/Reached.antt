@@ -7,7 +7,7 @@ use Rattle.ark_base.specs.Laws.Steps.{done_injective}
 use Rattle.ark_paths.specs.Index.{bit_at}
 use Rattle.ark_paths.specs.Pair.{Digest}
 use Rattle.ark_paths.specs.Rows.{couples, row_above}
-use Rattle.ark_paths.proofs.Eaches.{each-cons}
+use Rattle.ark_paths.proofs.ListOutcomes.{each-cons}
 use Rattle.ark_merkle.specs.Batch.{hashed_changes, puts}
 use Rattle.ark_merkle.specs.Changed.{seen_changes, AreChanges, couple_of, couples_reached}
 use Rattle.ark_merkle.proofs.Batches.{hashed-cons, AreChanges-later, AreChanges-at}

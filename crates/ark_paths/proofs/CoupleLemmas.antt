@@ -7,7 +7,7 @@ use Rattle.ark_paths.specs.Pair.{Digest}
 use Rattle.ark_crh.specs.Four.{four_in_turn}
 use Rattle.ark_paths.specs.Rows.{couples, row_above}
 use Rattle.ark_paths.proofs.Fours.{IsSoFar-four, IsSoFar-four_refused}
-use Rattle.ark_paths.proofs.Eaches.{each-append, length-each, get_or-each, IsSoFar, IsSoFar-none, IsSoFar-more, IsSoFar-refused, IsSoFar-all}
+use Rattle.ark_paths.proofs.ListOutcomes.{each-append, length-each, get_or-each, IsSoFar, IsSoFar-none, IsSoFar-more, IsSoFar-refused, IsSoFar-all}
 
 pub length-couples : {A : Type 0} (xs : List A) → length (couples xs) ≡ length xs / 2
 length-couples [] = refl

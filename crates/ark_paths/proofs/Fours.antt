@@ -1,11 +1,11 @@
 -- Four steps of hashing at once.
 use Rattle.std.proofs.Common.{◌≡◌, ℕ, zero, suc, ◌+◌, ◌<◌, List, [], ◌∷◌, ◌++◌, length, get_or, Ok, Err, refl, ap, subst, arith, append_assoc, ◌∙◌}
 use Rattle.ark_base.specs.declared.error.Error.{Error}
-use Rattle.ark_base.specs.Outcome.{Outcome, ◌>>=◌}
+use Rattle.ark_base.specs.Outcome.{Outcome}
 use Rattle.ark_crh.specs.Four.{four_in_turn}
 use Rattle.ark_paths.specs.Pair.{Digest}
 use Rattle.ark_paths.specs.Root.{all_hashes}
-use Rattle.ark_paths.proofs.Eaches.{IsSoFar, IsSoFar-more, IsSoFar-refused}
+use Rattle.ark_paths.proofs.ListOutcomes.{IsSoFar, IsSoFar-more, IsSoFar-refused}
 
 -- four outcomes that gave values
 pub four_ok : {A : Type 0} (a b c d : Outcome A) (x y z w : A)

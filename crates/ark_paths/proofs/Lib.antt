@@ -3,7 +3,7 @@ pub mod Binds
 pub mod Collisions
 pub mod Clients
 pub mod Climbs
-pub mod Eaches
+pub mod ListOutcomes
 pub mod Fours
 pub mod CoupleLemmas
 pub mod Logs
@@ -13,7 +13,7 @@ pub mod Parts
 pub mod TreeLemmas
 pub mod PlaceLemmas
 pub mod Readings
-pub mod Receiveds
+pub mod ReceivedProofs
 pub mod OwnPaths
 pub mod SizeLemmas
 pub mod MultiWalks
@@ -22,7 +22,7 @@ pub mod CountsAbove
 pub mod OwnPairs
 pub mod Tables
 pub mod TableWalks
-pub mod Tallies
+pub mod CountSteps
 pub mod MultiShared
 pub mod MultiStrict
 pub mod StrictIndexes

@@ -97,6 +97,7 @@ pub record Row (X D : Type 0) : Type 0 where
   pub entries : Entries X
   pub count : ℕ
 
+-- the row of these
 abbrev pub row_of : {X D : Type 0} → List Digest → List D → Entries X → ℕ → Row X D
 row_of digests made entries count = record { digests = digests; made = made; entries = entries; count = count }
 
@@ -119,6 +120,7 @@ pub record Walk (L D : Type 0) : Type 0 where
   pub table : Table L D
   pub count : ℕ
 
+-- this table with this count
 abbrev pub walk_of : {L D : Type 0} → Table L D → ℕ → Walk L D
 walk_of table count = record { table = table; count = count }
 

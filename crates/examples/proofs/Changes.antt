@@ -10,7 +10,7 @@ use Rattle.ark_merkle.proofs.Changes.{lowest-place, place-up, root-own}
 use Rattle.ark_paths.proofs.Binds.{differs, differs-last, differs-row, first_level-none, path_pair-up, top_from, top_from-last, top_from-up}
 use Rattle.ark_paths.proofs.Clients.{rooted-tree}
 use Rattle.ark_paths.proofs.Collisions.{differing-collides, digest_eq-true}
-use Rattle.ark_paths.proofs.Receiveds.{IsFit, fit, provided-true, size-decided}
+use Rattle.ark_paths.proofs.ReceivedProofs.{IsFit, fit, provided-true, size-decided}
 use Rattle.ark_paths.proofs.StrictReadings.{read_of}
 use Rattle.ark_merkle.specs.Update.{new_root}
 use Rattle.ark_paths.specs.Bind.{CollidesAt, difference, is_other}

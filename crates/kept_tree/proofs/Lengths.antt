@@ -4,7 +4,7 @@ use Rattle.std.proofs.Math.Nat.{pow-succ'}
 use Rattle.std.proofs.lemmas.Bool.{lt-ltb, ltb-true}
 use Rattle.std.proofs.lemmas.List.{length-drop}
 use Rattle.ark_paths.specs.Index.{IsTreeSize, is_tree_size, log2}
-use Rattle.ark_paths.proofs.Receiveds.{size-decided}
+use Rattle.ark_paths.proofs.ReceivedProofs.{size-decided}
 use Rattle.ark_paths.proofs.SizeLemmas.{power_decided}
 use Rattle.ark_paths.specs.Pair.{Digest}
 use Rattle.kept_tree.specs.KeptTree.{HoldsTree, IsHashed, NodeHash, is_tree_length, kept_leaves, leaf_count}

@@ -5,7 +5,7 @@ use Rattle.ark_base.specs.Outcome.{Outcome}
 use Rattle.ark_paths.specs.Pair.{Digest, Hashes}
 use Rattle.ark_paths.specs.Root.{all_hashes}
 use Rattle.ark_base.specs.declared.error.Error.{Error}
-use Rattle.ark_paths.proofs.Eaches.{IsSoFar, IsSoFar-none, IsSoFar-more, IsSoFar-refused, IsSoFar-all}
+use Rattle.ark_paths.proofs.ListOutcomes.{IsSoFar, IsSoFar-none, IsSoFar-more, IsSoFar-refused, IsSoFar-all}
 use Rattle.merkle_log.specs.Log.{NodeHash}
 use Rattle.merkle_log.specs.Stored.{StoredValue, stored_count, row_of, IsStored}
 use Rattle.merkle_log.specs.Append.{Appends, AppendsAll, AppendsLeaves, GrowsTo, IsWhole}

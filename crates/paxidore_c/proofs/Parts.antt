@@ -2,7 +2,7 @@
 use Rattle.std.proofs.Common.{◌≡◌, ℕ, suc, List, [], ◌∷◌, length, take, drop, nat_lt, Bool, true, false, if◌then◌else◌, Option, Some, None, IfOk, refl, sym, ap, subst, ◌∙◌}
 use Rattle.std.specs.Option.{option_map}
 use Rattle.ark_paths.specs.Index.{IsTreeSize, is_tree_size}
-use Rattle.ark_paths.proofs.Receiveds.{size-decided}
+use Rattle.ark_paths.proofs.ReceivedProofs.{size-decided}
 use Rattle.paxidore_calls.specs.Answer.{tree_leaves_in}
 use Rattle.paxidore_calls.specs.Cut.{parts_by}
 

@@ -1,4 +1,4 @@
-use Rattle.std.proofs.Common.{◌≡◌, ◌+◌, ◌-◌, ◌<◌, suc, length, map, arith, ◌∙◌, refl}
+use Rattle.std.proofs.Common.{◌-◌, ◌<◌, suc, length, map, arith, ◌∙◌, add-one}
 use Rattle.std.proofs.lemmas.List.{length-map}
 use Rattle.ark_base.proofs.Refusals.{passed_on}
 use Rattle.ark_paths.proofs.Climbs.{beside-at, so_far-up, so_far-refused}
@@ -17,7 +17,7 @@ returns-in_err-current g c =
     let up = so_far-up hash c.args.index ds lowest level _ _ within beside c.loop-level.invariant in
     passed_on _ _ c.from_residual.result c.in_err-current.field-0.0 c.from_residual.ensures.1 c.in_err-current.ensures
     (λ refused. so_far-refused hash c.args.index ds lowest (length ds - suc level) c.in_err-current.field-0.0
-    (up ∙ (rw c.is_bit_set-is_right.ensures at refused)))
+    (up ∙ (rw (c.is_bit_set-is_right.ensures, add-one level) at refused)))
 
 pub loop-level-preserved : goal.loop-level-preserved
 loop-level-preserved g c =
@@ -26,6 +26,6 @@ loop-level-preserved g c =
     omega (arith, c.loop-level-test.true, length-map c.args.beside.now g.D.Numbered.numbers) in
     let beside = beside-at g.D.Numbered.numbers c.args.beside.now _ c.loop-level.level c.index-beside-beside.result
     c.loop-level-test.true (omega arith) c.index-beside-beside.is in
-    so_far-up (g.T.TreeHasher.hashes c.args.hasher.now).pair.upper c.args.index ds (g.D.Numbered.numbers c.args.current)
-    c.loop-level.level _ _ within beside c.loop-level.invariant
-    ∙ (rw c.is_bit_set-is_right.ensures at c.in_ok-current.ensures)
+    rw (add-one c.loop-level.level) (so_far-up (g.T.TreeHasher.hashes c.args.hasher.now).pair.upper c.args.index ds
+    (g.D.Numbered.numbers c.args.current) c.loop-level.level _ _ within beside c.loop-level.invariant
+    ∙ (rw (c.is_bit_set-is_right.ensures, add-one c.loop-level.level) at c.in_ok-current.ensures))

@@ -1,7 +1,7 @@
 use Rattle.std.proofs.Common.{◌≡◌, ℕ, ◌+◌, ◌*◌, ◌<◌, length, map, arith, subst}
 use Rattle.std.proofs.lemmas.List.{length-map, map_push}
 use Rattle.ark_base.proofs.Refusals.{passed_on}
-use Rattle.ark_paths.proofs.Eaches.{length-each, IsSoFar, IsSoFar-none, IsSoFar-more, IsSoFar-refused, IsSoFar-all}
+use Rattle.ark_paths.proofs.ListOutcomes.{length-each, IsSoFar, IsSoFar-none, IsSoFar-more, IsSoFar-refused, IsSoFar-all}
 use Rattle.ark_paths.proofs.Fours.{IsSoFar-four, IsSoFar-four_refused}
 use Rattle.ark_merkle.proofs.tree.build.hash_all.Goals as goal
 

@@ -1,5 +1,5 @@
 use Rattle.std.proofs.Common.{◌*◌, map}
-use Rattle.ark_paths.proofs.Eaches.{IsSoFar}
+use Rattle.ark_paths.proofs.ListOutcomes.{IsSoFar}
 use Rattle.ark_merkle.proofs.tree.build.hash_all.Given as goal
 
 abbrev pub invariant-fours : goal.invariant-fours

@@ -2,8 +2,8 @@ use Rattle.std.proofs.Common.{◌≡◌, ℕ, ◌∷◌, [], ◌++◌, ◌+◌, 
 use Rattle.std.proofs.lemmas.List.{length-append, length-map, length_push, map_push}
 use Rattle.ark_base.proofs.Refusals.{passed_on}
 use Rattle.ark_paths.specs.Rows.{digests_of}
-use Rattle.ark_merkle.proofs.Piles.{IsPiled, is_piled-none, is_piled-refused, is_piled-more, rows-refused, rows-all, couple_read}
-use Rattle.ark_merkle.proofs.PilesOfFour.{four_read, is_piled-four, is_piled-four_refused}
+use Rattle.ark_merkle.proofs.BuildRows.{IsPiled, is_piled-none, is_piled-refused, is_piled-more, rows-refused, rows-all, couple_read}
+use Rattle.ark_merkle.proofs.BuildRowsByFour.{four_read, is_piled-four, is_piled-four_refused}
 use Rattle.ark_merkle.proofs.tree.build.pair_rows.Goals as goal
 
 pub fours-init : goal.fours-init

@@ -1,6 +1,6 @@
 use Rattle.std.proofs.Common.{◌≡◌, ◌+◌, ◌*◌, length}
 use Rattle.ark_paths.specs.Rows.{digests_of}
-use Rattle.ark_merkle.proofs.Piles.{IsPiled}
+use Rattle.ark_merkle.proofs.BuildRows.{IsPiled}
 use Rattle.ark_merkle.proofs.tree.build.pair_rows.Given as goal
 
 abbrev pub invariant-fours : goal.invariant-fours

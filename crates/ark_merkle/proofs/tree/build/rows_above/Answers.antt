@@ -4,7 +4,7 @@ use Rattle.std.proofs.Math.Nat.{pow-succ'}
 use Rattle.ark_base.proofs.Refusals.{passed_on}
 use Rattle.ark_paths.specs.Rows.{digests_of}
 use Rattle.ark_merkle.specs.LevelOrder.{rows_in_turn}
-use Rattle.ark_merkle.proofs.Piles.{lowest-half, above-lowest, log-size}
+use Rattle.ark_merkle.proofs.BuildRows.{lowest-half, above-lowest, log-size}
 use Rattle.ark_merkle.proofs.tree.build.rows_above.Goals as goal
 
 pub returns-in_err-rows : goal.returns-in_err-rows

@@ -2,7 +2,7 @@ use Rattle.std.proofs.Common.{◌≡◌, ◌∙◌, drop, ap}
 use Rattle.ark_base.proofs.Refusals.{passed_on}
 use Rattle.ark_paths.specs.MultiPathBytes.{multi_way_of}
 use Rattle.ark_paths.specs.MultiPathStrict.{is_strict}
-use Rattle.ark_paths.proofs.Receiveds.{provided-true}
+use Rattle.ark_paths.proofs.ReceivedProofs.{provided-true}
 use Rattle.ark_paths.proofs.StrictLaws.{one_spelling, each_has_one}
 use Rattle.ark_paths.proofs.StrictReadings.{read_of, strict-read, strict-refused, strict-memory, refused_alike, memory_passed}
 use Rattle.ark_paths.proofs.multi_path.MultiPath.read_strict.Goals as goal

@@ -2,7 +2,7 @@ use Rattle.std.proofs.Common.{◌≡◌, ◌∙◌, [], drop, length, map, get_o
 use Rattle.ark_base.proofs.Refusals.{passed_on}
 use Rattle.ark_paths.specs.MultiPath.{path_length}
 use Rattle.ark_paths.proofs.Readings.{first-seen}
-use Rattle.ark_paths.proofs.Receiveds.{received-multi-fault, received-multi-unfit, received-multi-fit}
+use Rattle.ark_paths.proofs.ReceivedProofs.{received-multi-fault, received-multi-unfit, received-multi-fit}
 use Rattle.ark_paths.proofs.multi_path.MultiPath.read_strict_at.Goals as goal
 
 pub returns-in_err-proof : goal.returns-in_err-proof

@@ -2,7 +2,7 @@ use Rattle.std.proofs.lemmas.Fn.{slice_gives}
 use Rattle.std.proofs.lemmas.Result.{IfOk-weaker}
 use Rattle.ark_paths.proofs.Clients.{listed-answer}
 use Rattle.ark_paths.proofs.MultiLists.{answers_over_list}
-use Rattle.ark_paths.proofs.Receiveds.{received-multi-shows}
+use Rattle.ark_paths.proofs.ReceivedProofs.{received-multi-shows}
 use Rattle.ark_paths.proofs.multi_path.MultiPath.verify_bytes.Goals as goal
 
 pub returns-clause-answer : goal.returns-clause-answer

@@ -1,4 +1,4 @@
-use Rattle.std.proofs.Common.{◌≡◌, ◌∷◌, [], map}
+use Rattle.std.proofs.Common.{◌∷◌, []}
 use Rattle.std.proofs.lemmas.List.{length-map}
 use Rattle.ark_base.proofs.Refusals.{passed_on}
 use Rattle.ark_paths.proofs.Tables.{IsServed-kept, IsServed-anew, answer-kept, answer-anew, asked-as, counted-most}

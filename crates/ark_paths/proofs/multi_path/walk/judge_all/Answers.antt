@@ -3,7 +3,7 @@ use Rattle.std.proofs.lemmas.Bool.{eqb-true, eqb-false}
 use Rattle.std.proofs.lemmas.List.{length-map}
 use Rattle.ark_paths.specs.MultiPath.{listed_way, path_length}
 use Rattle.ark_paths.proofs.MultiWalks.{no_index, AtPlace-first, AtPlace-end, AtPlace-untaken, AtPlace-refused, AtPlace-rejected, AtPlace-accepted}
-use Rattle.ark_paths.proofs.Tallies.{Decoded-first, Decoded-next, most-all, most-next, most-there, Counted-all, Counted-first, Counted-next, RisesBy-more}
+use Rattle.ark_paths.proofs.CountSteps.{Decoded-first, Decoded-next, most-all, most-next, most-there, Counted-all, Counted-first, Counted-next, RisesBy-more}
 use Rattle.ark_paths.proofs.multi_path.walk.judge_all.Goals as goal
 
 nonzero : (n : ℕ) → (n ≡ 0 → ⊥) → 0 < n

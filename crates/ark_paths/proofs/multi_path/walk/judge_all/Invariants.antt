@@ -3,7 +3,7 @@ use Rattle.ark_paths.specs.Asked.{RisesBy}
 use Rattle.ark_paths.specs.MultiPath.{listed_way, path_length}
 use Rattle.ark_paths.specs.Table.{IsTable}
 use Rattle.ark_paths.proofs.MultiWalks.{AtPlace}
-use Rattle.ark_paths.proofs.Tallies.{Counted, Decoded}
+use Rattle.ark_paths.proofs.CountSteps.{Counted, Decoded}
 use Rattle.ark_paths.proofs.multi_path.walk.judge_all.Given as goal
 
 -- the places before are accepted with the leaves that were taken

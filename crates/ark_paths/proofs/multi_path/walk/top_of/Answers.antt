@@ -80,8 +80,12 @@ loop-below-preserved g c =
     } in
     let current = get_or (map inner before.made.items) c.loop-below.own [] in
     let x = inner c.index-above-above.result.now in
-    let within : below < length way.above = omega (arith, c.loop-below-test.true, length-map c.args.above.now
-    (λ (x : Bor _). inner x.now)) in
+    let within : below < length way.above = omega (
+      arith,
+      c.loop-below-test.true,
+      length-map c.args.above.now
+          (λ (x : Bor _). inner x.now),
+    ) in
     let beside = beside-at (λ (x : Bor _). inner x.now) c.args.above.now _ below c.index-above-above.result
     c.loop-below-test.true (omega arith) c.index-above-above.is in
     let longer : length before.made.items ≤ length c.ask_upper.new.made.items =
@@ -128,8 +132,12 @@ pub returns-clause-walked : goal.returns-clause-walked
 returns-clause-walked g c =
     let so = c.loop-below.invariant in (
       so.number,
-      IsWalked-top c.loop-below.below (omega (arith, c.loop-below-test.false, length-map c.args.above.now
-          (λ (x : Bor _). g.D.Numbered.numbers x.now))) so.table so.holds so.rises so.grows,
+      IsWalked-top c.loop-below.below (omega (
+        arith,
+        c.loop-below-test.false,
+        length-map c.args.above.now
+            (λ (x : Bor _). g.D.Numbered.numbers x.now),
+      )) so.table so.holds so.rises so.grows,
     )
 
 pub returns-clause-answer : goal.returns-clause-answer

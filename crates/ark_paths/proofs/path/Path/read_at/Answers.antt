@@ -1,7 +1,7 @@
 use Rattle.std.proofs.Common.{◌≡◌, ◌∙◌, drop, length, inr, sym, refl, arith}
 use Rattle.std.proofs.lemmas.List.{length-map}
 use Rattle.ark_base.proofs.Refusals.{passed_on}
-use Rattle.ark_paths.proofs.Receiveds.{refused_alike, received-fault, received-unfit, received-fit}
+use Rattle.ark_paths.proofs.ReceivedProofs.{refused_alike, received-fault, received-unfit, received-fit}
 use Rattle.ark_paths.proofs.StrictReadings.{read_of}
 use Rattle.ark_paths.proofs.path.Path.read_at.Goals as goal
 

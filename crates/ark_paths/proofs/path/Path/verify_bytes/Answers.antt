@@ -1,5 +1,5 @@
 use Rattle.std.proofs.lemmas.Result.{IfOk-weaker}
-use Rattle.ark_paths.proofs.Receiveds.{received-shows}
+use Rattle.ark_paths.proofs.ReceivedProofs.{received-shows}
 use Rattle.ark_paths.proofs.path.Path.verify_bytes.Goals as goal
 
 pub returns-clause-bound : goal.returns-clause-bound

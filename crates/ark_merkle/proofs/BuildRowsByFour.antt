@@ -9,7 +9,7 @@ use Rattle.ark_paths.specs.Pair.{Digest}
 use Rattle.ark_paths.specs.Rows.{digests_of}
 use Rattle.ark_paths.proofs.Fours.{four-more, four-refused}
 use Rattle.ark_paths.proofs.Readings.{digest_read}
-use Rattle.ark_merkle.proofs.Piles.{IsPiled, piled, is_piled-more, is_piled-refused}
+use Rattle.ark_merkle.proofs.BuildRows.{IsPiled, piled, is_piled-more, is_piled-refused}
 
 module _ (hash : Digest → Digest → Outcome Digest) where
   -- the hash of a couple in a list

@@ -10,7 +10,7 @@ use Rattle.ark_paths.specs.Index.{log2}
 use Rattle.ark_paths.specs.Root.{upper_levels}
 use Rattle.ark_paths.specs.Rows.{row_above, rows_from, rows_of, digests_of}
 use Rattle.ark_paths.proofs.CoupleLemmas.{length-paired}
-use Rattle.ark_paths.proofs.Eaches.{begun, begun-nil, begun-more}
+use Rattle.ark_paths.proofs.ListOutcomes.{begun, begun-nil, begun-more}
 use Rattle.ark_paths.proofs.Logs.{log2-between, log2-pow, upper_levels-is}
 use Rattle.ark_paths.proofs.Readings.{digest_read}
 use Rattle.ark_merkle.specs.LevelOrder.{rows_in_turn}
