@@ -47,19 +47,15 @@ pub AreChanges-seen : {A B : Type 0} (view : A → B) (first end : ℕ) (cs : Li
 AreChanges-seen view first end [] so = tt
 AreChanges-seen view first end (c ∷ cs) so = (so.0, so.1, AreChanges-seen view (suc c.0) end cs so.2)
 
--- changes of a list, as its view sees them
-pub AreChanges-of : {A B : Type 0} (view : A → B) (xs : List A) (cs : List (ℕ × A)) → AreChanges 0 (length xs) cs
-    → AreChanges 0 (length (map view xs)) (seen_changes view cs)
-AreChanges-of view xs cs so = rw (length-map xs view) (AreChanges-seen view 0 (length xs) cs so)
+-- changes of a list are changes of its view
+pub AreChanges-inside : {A B C : Type 0} (view : A → B) (xs : List A) (cs : List (ℕ × C)) → AreChanges 0 (length xs) cs
+    → AreChanges 0 (length (map view xs)) cs
+AreChanges-inside view xs cs so = rw (length-map xs view) so
 
 pub AreChanges-unseen : {A B : Type 0} (view : A → B) (first end : ℕ) (cs : List (ℕ × A)) → AreChanges first end
     (seen_changes view cs) → AreChanges first end cs
 AreChanges-unseen view first end [] so = tt
 AreChanges-unseen view first end (c ∷ cs) so = (so.0, so.1, AreChanges-unseen view (suc c.0) end cs so.2)
-
-pub length-seen : {A B : Type 0} (view : A → B) (cs : List (ℕ × A)) → length (seen_changes view cs) ≡ length cs
-length-seen view [] = refl
-length-seen view (c ∷ cs) = ap suc (length-seen view cs)
 
 -- ---- digests that are put in their places
 

@@ -1,6 +1,6 @@
 -- Rows that are hashed one behind the other into one list.
-use Rattle.std.proofs.Common.{zero, suc, ◌≡◌, ℕ, ◌+◌, ◌-◌, ◌*◌, ◌<◌, ◌≤◌, ◌^◌, List, [], ◌∷◌, ◌++◌, length, take, drop, get_or, Ok, Err, refl, ap, sym, ◌∙◌, arith, pow_pos, append_assoc, append-nil, zero-add, add-zero}
-use Rattle.std.proofs.lemmas.List.{length-append, get_or-append-add, take_at, drop_at}
+use Rattle.std.proofs.Common.{zero, suc, ◌≡◌, ℕ, ◌+◌, ◌-◌, ◌*◌, ◌<◌, ◌≤◌, ◌^◌, List, [], ◌∷◌, ◌++◌, length, map, take, drop, get_or, Ok, Err, refl, ap, sym, ◌∙◌, arith, pow_pos, append_assoc, append-nil, zero-add, add-zero}
+use Rattle.std.proofs.lemmas.List.{length-append, length-map, get_or-append-add, take_at, drop_at}
 use Rattle.std.proofs.Math.Nat.{pow-succ'}
 use Rattle.std.specs.declared.vec.Vec.{Vec}
 use Rattle.ark_base.specs.declared.error.Error.{Error}
@@ -202,15 +202,18 @@ couple_read hash numbers digests couple left right inside left_is right_is =
     ) refl
 
 -- the rows above leaf digests, from the lowest one
-module _ (h : HashPair) (leaves row : List Digest) (m : ℕ) (size : length leaves ≡ 2 ^ suc m)
-    (hashed : row_above h.bottom leaves ≡ Ok row) where
+module _ {A : Type 0} (h : HashPair) (numbers : A → Digest) (leaves : List A) (row : List Digest) (m : ℕ)
+    (size : length leaves ≡ 2 ^ suc m) (hashed : row_above h.bottom (map numbers leaves) ≡ Ok row) where
+  long : length (map numbers leaves) ≡ 2 ^ suc m
+  long = length-map leaves numbers ∙ size
+
   pub lowest-half : length row ≡ 2 ^ m
   lowest-half = let twice : 2 ^ suc m ≡ 2 * 2 ^ m =
-      pow-succ' 2 m in omega (arith, length-paired h.bottom leaves row hashed)
+      pow-succ' 2 m in omega (arith, long, length-paired h.bottom (map numbers leaves) row hashed)
 
   pub above-lowest : (o : Outcome (List (List Digest))) → rows_from h.upper m row ≡ o
-      → rows_of h (upper_levels leaves) leaves ≡ o
-  above-lowest o is = rw (upper_levels-is m leaves size, hashed) is
+      → rows_of h (upper_levels (map numbers leaves)) (map numbers leaves) ≡ o
+  above-lowest o is = rw (upper_levels-is m (map numbers leaves) long, hashed) is
 
 -- the logarithm of a size, as it is computed
 pub log-size : (k m n : ℕ) → n ≡ 2 ^ suc m → 2 ^ k ≤ n → n < 2 * 2 ^ k → k ≡ suc m

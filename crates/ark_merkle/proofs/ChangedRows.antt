@@ -1,7 +1,7 @@
 -- Rows above changed digests: what they become, and how many places are hashed.
 use Rattle.std.proofs.Common.{zero, suc, ◌≡◌, ◌≢◌, ◌⊎◌, inl, inr, ℕ, ◌+◌, ◌-◌, ◌*◌, ◌/◌, ◌%◌, ◌<◌, ◌≤◌, ◌^◌, List, [], ◌∷◌, length, map, take, drop, get_or, set, Ok, Err, refl, ap, sym, ◌∙◌, arith}
 use Rattle.std.proofs.lemmas.List.{length-map, drop-set, drop_all, take-set, take-take, get_or-take}
-use Rattle.std.proofs.Math.Nat.{pow-succ'}
+use Rattle.std.proofs.Math.Nat.{pow-succ', pow-le-pow_right}
 use Rattle.ark_base.specs.declared.error.Error.{Error}
 use Rattle.ark_base.specs.Outcome.{Outcome, ◌>>=◌}
 use Rattle.ark_paths.specs.Pair.{Digest}
@@ -10,7 +10,7 @@ use Rattle.ark_paths.proofs.CoupleLemmas.{length-paired}
 use Rattle.ark_merkle.specs.Batch.{hashed_changes, puts}
 use Rattle.ark_merkle.specs.Changed.{seen_changes, AreChanges, AreHashed, couples_reached, count_over}
 use Rattle.ark_paths.specs.Rising.{with_number, rising_set}
-use Rattle.ark_merkle.proofs.Batches.{AreChanges-later, AreChanges-seen}
+use Rattle.ark_merkle.proofs.Batches.{AreChanges-later, AreChanges-seen, AreChanges-unseen}
 use Rattle.ark_paths.proofs.MultiIndexes.{placed-below, placed-same}
 use Rattle.ark_merkle.proofs.Reached.{of_couple, cases_eq, apart_halves, couples-both, couples-apart, couples-rise, hashed-rise, hashed-places, row_above-puts}
 
@@ -132,7 +132,14 @@ module _ (hash : Digest → Digest → Outcome Digest) (rows : List (List Digest
   pub size-above : length (get_or rows (row + 1) []) ≡ 2 ^ above
   size-above = omega (arith, length-paired hash (get_or rows row []) (get_or rows (row + 1) []) next_is, twice)
 
-  module _ (cs : List (ℕ × Digest)) (rise : AreChanges 0 (length (get_or rows row [])) cs) where
+  module _ {D : Type 0} (numbers : D → Digest) (items : List (ℕ × D))
+      (given : AreChanges 0 (length (get_or rows row [])) items) where
+    abbrev cs : List (ℕ × Digest)
+    cs = seen_changes numbers items
+
+    rise : AreChanges 0 (length (get_or rows row [])) cs
+    rise = AreChanges-seen numbers 0 (length (get_or rows row [])) items given
+
     within : AreChanges 0 (2 * 2 ^ above) cs
     within = rw twice at rise
 
@@ -150,26 +157,42 @@ module _ (hash : Digest → Digest → Outcome Digest) (rows : List (List Digest
     pub rows-refused : (e : Error) → reached ≡ Err e → rows_from hash (length rows - 1 - row) new ≡ Err e
     rows-refused e is = from_here ∙ rw is refl
 
-    module _ (ups : List (ℕ × Digest)) (made : reached ≡ Ok ups) where
-      pub changes-above : AreChanges 0 (length (get_or rows (row + 1) [])) ups
-      changes-above = rw size-above (hashed-inside hash (get_or rows row []) cs ups made (2 ^ above) within)
+    -- fewer places are hashed than a count of digests can be
+    pub count_over-few : length rows ≤ 64 → count_over (length rows - 1 - row) (places items) < 2 ^ 63
+    count_over-few most =
+        let fits : count_over (length rows - 1 - row) (places cs) + 1 ≤ 2 ^ (length rows - 1 - row) =
+        count_over-fits (length rows - 1 - row) cs (rw size at rise) in
+        let two : 0 < 2 = omega arith in
+        let levels : length rows - 1 - row ≤ 63 = omega (arith, most) in
+        let few : 2 ^ (length rows - 1 - row) ≤ 2 ^ 63 = pow-le-pow_right two levels in
+        omega (arith, fits, few, ap (count_over (length rows - 1 - row)) (places-seen numbers items))
 
-      pub rows-refused_above : (e : Error) → rows_from hash above (puts (get_or rows (row + 1) []) ups) ≡ Err e
-          → rows_from hash (length rows - 1 - row) new ≡ Err e
+    module _ (ups : List (ℕ × D)) (made : reached ≡ Ok (seen_changes numbers ups)) where
+      raised : AreChanges 0 (length (get_or rows (row + 1) [])) (seen_changes numbers ups)
+      raised = rw size-above (hashed-inside hash (get_or rows row []) cs (seen_changes numbers ups) made (2 ^ above)
+          within)
+
+      pub changes-above : AreChanges 0 (length (get_or rows (row + 1) [])) ups
+      changes-above = AreChanges-unseen numbers 0 (length (get_or rows (row + 1) [])) ups raised
+
+      pub rows-refused_above : (e : Error) → rows_from hash above (puts (get_or rows (row + 1) [])
+          (seen_changes numbers ups)) ≡ Err e → rows_from hash (length rows - 1 - row) new ≡ Err e
       rows-refused_above e is = from_here ∙ rw (made, is) refl
 
       pub rows-changed : (now : List (List Digest)) → length now ≡ length rows → take (row + 1) now ≡ take (row + 1)
-          rows → rows_from hash above (puts (get_or rows (row + 1) []) ups) ≡ Ok (drop (row + 1) now)
+          rows → rows_from hash above (puts (get_or rows (row + 1) []) (seen_changes numbers ups))
+          ≡ Ok (drop (row + 1) now)
           → rows_from hash (length rows - 1 - row) new ≡ Ok (drop row (set now row (puts (get_or now row []) cs)))
       rows-changed now long same is =
           let inside : row < length now = omega (arith, long, below) in
           let old = row-kept rows now row same in
           from_here ∙ rw (made, is, old) (ap Ok (sym (drop-set now row new inside)))
 
-      pub count_over-hashed : count_over (length rows - 1 - row) (places cs) ≡ length ups + count_over above
+      pub count_over-hashed : count_over (length rows - 1 - row) (places items) ≡ length ups + count_over above
           (places ups)
       count_over-hashed =
-          ap (λ (n : ℕ). count_over n (places cs)) here
-          ∙ ap (λ (ps : List ℕ). length ps + count_over above ps) (halves-hashed hash (get_or rows row []) cs ups made
-          (2 ^ above) within)
+          ap (count_over (length rows - 1 - row)) (sym (places-seen numbers items))
+          ∙ ap (λ (n : ℕ). count_over n (places cs)) here
+          ∙ ap (λ (ps : List ℕ). length ps + count_over above ps) (halves-hashed hash (get_or rows row []) cs
+          (seen_changes numbers ups) made (2 ^ above) within ∙ places-seen numbers ups)
           ∙ ap (λ (n : ℕ). n + count_over above (places ups)) (length-map ups (λ c. c.0))

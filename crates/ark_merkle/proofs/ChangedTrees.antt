@@ -13,9 +13,9 @@ use Rattle.ark_paths.proofs.OwnPaths.{bottom-row, upper-row}
 use Rattle.ark_paths.proofs.PlaceLemmas.{row-twice}
 use Rattle.ark_paths.proofs.TreeLemmas.{is_tree, rooted-ok, rooted-refused}
 use Rattle.ark_merkle.specs.Batch.{hashed_changes, puts}
-use Rattle.ark_merkle.specs.Changed.{AreChanges, AreHashed, couples_reached, count_over}
-use Rattle.ark_merkle.proofs.Batches.{length-puts}
-use Rattle.ark_merkle.proofs.ChangedRows.{places, halves-hashed, hashed-inside, count_over-fits}
+use Rattle.ark_merkle.specs.Changed.{seen_changes, AreChanges, AreHashed, couples_reached, count_over}
+use Rattle.ark_merkle.proofs.Batches.{AreChanges-seen, AreChanges-unseen, length-puts}
+use Rattle.ark_merkle.proofs.ChangedRows.{places, places-seen, halves-hashed, hashed-inside, count_over-fits}
 use Rattle.ark_merkle.proofs.Reached.{of_couple, row_above-puts}
 
 same_hash : (hash : Digest → Digest → Outcome Digest) {x y z w : Digest} {o : Outcome Digest} → x ≡ y → z ≡ w → hash x z
@@ -69,7 +69,13 @@ module _ (h : HashPair) (leaves : List Digest) (rows : List (List Digest)) (tree
   rows-hashed k below = row_above-from h.upper (get_or rows k []) (get_or rows (suc k) [])
       (row-twice rows (length leaves) tree.levels k below) (λ q inside. upper-row h leaves rows tree k q below inside)
 
-  module _ (cs : List (ℕ × Digest)) (rise : AreChanges 0 (length leaves) cs) where
+  module _ {L : Type 0} (view : L → Digest) (items : List (ℕ × L)) (given : AreChanges 0 (length leaves) items) where
+    abbrev cs : List (ℕ × Digest)
+    cs = seen_changes view items
+
+    rise : AreChanges 0 (length leaves) cs
+    rise = AreChanges-seen view 0 (length leaves) items given
+
     abbrev new : List Digest
     new = puts leaves cs
 
@@ -97,35 +103,46 @@ module _ (h : HashPair) (leaves : List Digest) (rows : List (List Digest)) (tree
     pub leaves-refused : (e : Error) → reached ≡ Err e → leaves_with_root h new ≡ Err e
     leaves-refused e is = rooted-refused h new e new_size (rows_are ∙ rw is refl)
 
-    module _ (ups : List (ℕ × Digest)) (made : reached ≡ Ok ups) where
-      pub lowest-changes : AreChanges 0 (length (get_or rows 0 [])) ups
-      lowest-changes = rw lowest_size (hashed-inside h.bottom leaves cs ups made (2 ^ m) within)
+    module _ {D : Type 0} (numbers : D → Digest) (ups : List (ℕ × D)) (made : reached ≡ Ok (seen_changes numbers ups))
+      where
+        raised : AreChanges 0 (length (get_or rows 0 [])) (seen_changes numbers ups)
+        raised = rw lowest_size (hashed-inside h.bottom leaves cs (seen_changes numbers ups) made (2 ^ m) within)
 
-      pub leaves-refused_above : (e : Error) → rows_from h.upper (length rows - 1 - 0) (puts (get_or rows 0 []) ups)
-          ≡ Err e → leaves_with_root h new ≡ Err e
-      leaves-refused_above e is = rooted-refused h new e new_size (rows_are ∙ rw (made, is) refl)
+        pub lowest-changes : AreChanges 0 (length (get_or rows 0 [])) ups
+        lowest-changes = AreChanges-unseen numbers 0 (length (get_or rows 0 [])) ups raised
 
-      module _ (now : List (List Digest)) (is : rows_from h.upper (length rows - 1 - 0) (puts (get_or rows 0 []) ups)
-          ≡ Ok now) where
-        rows_now : rows_of h (upper_levels new) new ≡ Ok now
-        rows_now = rows_are ∙ rw (made, is) refl
+        pub leaves-refused_above : (e : Error) → rows_from h.upper (length rows - 1 - 0) (puts (get_or rows 0 [])
+            (seen_changes numbers ups)) ≡ Err e → leaves_with_root h new ≡ Err e
+        leaves-refused_above e is = rooted-refused h new e new_size (rows_are ∙ rw (made, is) refl)
 
-        pub leaves-changed : leaves_with_root h new ≡ Ok new
-        leaves-changed = rooted-ok h new now new_size rows_now
+        module _ (now : List (List Digest)) (is : rows_from h.upper (length rows - 1 - 0) (puts (get_or rows 0 [])
+            (seen_changes numbers ups)) ≡ Ok now) where
+          rows_now : rows_of h (upper_levels new) new ≡ Ok now
+          rows_now = rows_are ∙ rw (made, is) refl
 
-        pub tree-changed : IsTree h new now
-        tree-changed = is_tree h new now new_size rows_now
+          pub leaves-changed : leaves_with_root h new ≡ Ok new
+          leaves-changed = rooted-ok h new now new_size rows_now
 
-      pub count_over-leaves : count_over (length rows) (places cs) ≡ length ups + count_over (length rows - 1 - 0)
-          (places ups)
-      count_over-leaves =
-          ap (λ (n : ℕ). count_over n (places cs)) tree.count
-          ∙ ap (λ (ps : List ℕ). length ps + count_over m ps) (halves-hashed h.bottom leaves cs ups made (2 ^ m) within)
-          ∙ rw (above_m, length-map ups (λ c. c.0)) refl
+          pub tree-changed : IsTree h new now
+          tree-changed = is_tree h new now new_size rows_now
+
+        pub count_over-leaves : count_over (length rows) (places items) ≡ length ups + count_over (length rows - 1 - 0)
+            (places ups)
+        count_over-leaves =
+            ap (count_over (length rows)) (sym (places-seen view items))
+            ∙ ap (λ (n : ℕ). count_over n (places cs)) tree.count
+            ∙ ap (λ (ps : List ℕ). length ps + count_over m ps) (halves-hashed h.bottom leaves cs
+            (seen_changes numbers ups) made (2 ^ m) within ∙ places-seen numbers ups)
+            ∙ rw (above_m, length-map ups (λ c. c.0)) refl
 
     -- fewer places stand above leaves than there are
-    pub count_over-below : count_over (length rows) (places cs) < length leaves
+    pub count_over-below : count_over (length rows) (places items) < length leaves
     count_over-below =
         let whole : AreChanges 0 (2 ^ length rows) cs =
         rw (tree.size ∙ ap (λ (n : ℕ). 2 ^ n) (sym tree.count)) at rise in
-        omega (arith, count_over-fits (length rows) cs whole, tree.size ∙ ap (λ (n : ℕ). 2 ^ n) (sym tree.count))
+        omega (
+          arith,
+          count_over-fits (length rows) cs whole,
+          tree.size ∙ ap (λ (n : ℕ). 2 ^ n) (sym tree.count),
+          ap (count_over (length rows)) (places-seen view items),
+        )

@@ -5,7 +5,8 @@ ghost use Rattle.ark_base.specs.Outcome.{Answers, AnswersBy};
 ghost use Rattle.ark_paths.specs.Bind.{difference, CollidesAt};
 ghost use Rattle.ark_paths.specs.Index.{neighbour};
 ghost use Rattle.ark_paths.specs.Pair.{digest_eq};
-ghost use Rattle.ark_paths.specs.Path.{Way, path_root};
+ghost use Rattle.ark_paths.specs.Path.{path_root};
+ghost use Rattle.ark_paths.specs.PathBytes.{way_of};
 ghost use Rattle.ark_paths.specs.Rows.{IsTree, digests_of};
 ghost use Rattle.ark_paths.specs.Tree.{HoldsLeaf, tree_with};
 ghost use Rattle.ark_merkle.specs.declared.tree.bind.Binding.TheVariants.{Rejected, Stands, Differs};
@@ -86,11 +87,7 @@ fn binding_in<L: DigestItem, D: DigestItem, T: TreeHasher<L, D>>(
         IsTree h (map L.numbers leaves.now) rows.now }
     requires fits { length leaves.now < 2 ^ 64 }
     ensures { let tree = tree_with (T.hashes hasher.now) (map L.numbers leaves.now) in
-        let way : Way = record {
-          sibling = L.numbers sibling.now;
-          above = map D.numbers above.now;
-          index = index;
-        } in
+        let way = way_of L.numbers D.numbers (sibling.now, (above.now, index)) in
         Answers (binding_in tree leaf.now way) result }
 {
     let levels = rows.len() - 1;
@@ -131,18 +128,10 @@ fn compare<L: DigestItem, D: DigestItem, T: TreeHasher<L, D>>(
     requires fits { length leaves.now < 2 ^ 64 }
     requires count { length rows.now ≡ suc (length above.now) }
     ensures top { let h = (T.hashes hasher.now).pair in
-        let way : Way = record {
-          sibling = L.numbers sibling.now;
-          above = map D.numbers above.now;
-          index = path_index;
-        } in
+        let way = way_of L.numbers D.numbers (sibling.now, (above.now, path_index)) in
         AnswersBy (λ r. D.numbers r.0) (path_root h way (L.numbers digest.now)) result }
     ensures differs { let h = (T.hashes hasher.now).pair in
-        let way : Way = record {
-          sibling = L.numbers sibling.now;
-          above = map D.numbers above.now;
-          index = path_index;
-        } in
+        let way = way_of L.numbers D.numbers (sibling.now, (above.now, path_index)) in
         let tree = map L.numbers leaves.now in
         IfOk result (λ r. r.1 ≡ difference h tree way (L.numbers digest.now)) }
 {

@@ -1,4 +1,4 @@
-use Rattle.std.proofs.Common.{◌≡◌, ◌+◌, ◌*◌, ◌<◌, ℕ, length, drop, subst, arith}
+use Rattle.std.proofs.Common.{◌≡◌, ◌+◌, ◌*◌, ℕ, drop, subst, arith}
 use Rattle.std.proofs.lemmas.List.{map_push}
 use Rattle.ark_base.proofs.Refusals.{passed_on}
 use Rattle.ark_merkle.specs.Batch.{last_changes}
@@ -10,46 +10,35 @@ use Rattle.ark_merkle.proofs.tree.batch.hash_last.Goals as goal
 
 pub returns-in_err-made : goal.returns-in_err-made
 returns-in_err-made g c =
-    let hash = (g.T.TreeHasher.hashes c.args.hasher.now).leaf in
-    let e = c.in_err-made.field-0.0 in
-    let inside : 4 * c.fours.four + 3 < length c.in_ok-last.last.items = omega arith in
-    let next = lent-four c.in_ok-last.last.items
-    (4 * c.fours.four) _ _ _ _ inside c.index.ensures c.index-in-fours.ensures c.index-in-fours-2.ensures
-    c.index-in-fours-3.ensures in
-    passed_on _ _ c.from_residual-in_err-made.result e c.from_residual-in_err-made.ensures.1 c.in_err-made.ensures
-    (hashed_so_far-four_refused hash (last_changes c.args.changes.now) _ _ _ _ _ _ (rw next at c.fours.invariant) e)
+    passed_on _ _ c.from_residual-in_err-made.result c.in_err-made.field-0.0 c.from_residual-in_err-made.ensures.1
+    c.in_err-made.ensures
+    (hashed_so_far-four_refused (g.T.TreeHasher.hashes c.args.hasher.now).leaf (last_changes c.args.changes.now)
+    _ _ _ _ _ _ (rw (lent-four c.in_ok-last.last.items (4 * c.fours.four) _ _ _ _ (omega arith) c.index.ensures
+    c.index-in-fours.ensures c.index-in-fours-2.ensures c.index-in-fours-3.ensures) at c.fours.invariant)
+    c.in_err-made.field-0.0)
 
 pub fours-preserved : goal.fours-preserved
 fours-preserved g c =
-    let hash = (g.T.TreeHasher.hashes c.args.hasher.now).leaf in
-    let numbers = g.L.Numbered.numbers in
-    let cs = last_changes c.args.changes.now in
-    let inside : 4 * c.fours.four + 3 < length c.in_ok-last.last.items = omega arith in
-    let next = lent-four c.in_ok-last.last.items
-    (4 * c.fours.four) _ _ _ _ inside c.index.ensures c.index-in-fours.ensures c.index-in-fours-2.ensures
-    c.index-in-fours-3.ensures in
     let behind : 4 * c.fours.four + 4 ≡ 4 * (c.fours.four + 1) = omega arith in
-    subst (λ (n : ℕ). AreHashedSoFar hash cs (seen_changes numbers c.push_changes.new.changes.items)
-    (drop n (lent_changes c.in_ok-last.last))) behind
-    (rw c.in_ok-push_changes.ensures.changes
-    (hashed_so_far-four hash cs _ _ _ _ _ _ (rw next at c.fours.invariant) (numbers c.in_ok-made.made.0)
-    (numbers c.in_ok-made.made.1) (numbers c.in_ok-made.made.2) (numbers c.in_ok-made.made.3) c.in_ok-made.ensures))
+    subst (λ (n : ℕ). AreHashedSoFar (g.T.TreeHasher.hashes c.args.hasher.now).leaf (last_changes c.args.changes.now)
+    (seen_changes g.L.Numbered.numbers c.push_changes.new.changes.items) (drop n (lent_changes c.in_ok-last.last)))
+    behind
+    (rw c.in_ok-push_changes.ensures.changes (hashed_so_far-four (g.T.TreeHasher.hashes c.args.hasher.now).leaf
+    (last_changes c.args.changes.now) _ _ _ _ _ _ (rw (lent-four c.in_ok-last.last.items (4 * c.fours.four) _ _ _ _
+    (omega arith) c.index.ensures c.index-in-fours.ensures c.index-in-fours-2.ensures c.index-in-fours-3.ensures) at
+    c.fours.invariant) _ _ _ _ c.in_ok-made.ensures))
 
 pub returns-in_err-leaf : goal.returns-in_err-leaf
 returns-in_err-leaf g c =
-    let hash = (g.T.TreeHasher.hashes c.args.hasher.now).leaf in
-    let e = c.in_err-leaf.field-0.0 in
-    let next = lent-next c.in_ok-last.last.items
-    c.rest.place _ (omega arith) c.index-in-rest.ensures in
-    passed_on _ _ c.from_residual-in_err-leaf.result e c.from_residual-in_err-leaf.ensures.1 c.in_err-leaf.ensures
-    (hashed_so_far-refused hash (last_changes c.args.changes.now) _ _ _ e (rw next at c.rest.invariant))
+    passed_on _ _ c.from_residual-in_err-leaf.result c.in_err-leaf.field-0.0 c.from_residual-in_err-leaf.ensures.1
+    c.in_err-leaf.ensures
+    (hashed_so_far-refused (g.T.TreeHasher.hashes c.args.hasher.now).leaf (last_changes c.args.changes.now) _ _ _
+    c.in_err-leaf.field-0.0 (rw (lent-next c.in_ok-last.last.items c.rest.place _ (omega arith)
+    c.index-in-rest.ensures) at c.rest.invariant))
 
 pub rest-preserved : goal.rest-preserved
 rest-preserved g c =
-    let hash = (g.T.TreeHasher.hashes c.args.hasher.now).leaf in
-    let numbers = g.L.Numbered.numbers in
-    let next = lent-next c.in_ok-last.last.items
-    c.rest.place _ (omega arith) c.index-in-rest.ensures in
     rw (c.in_ok-push.ensures.items, map_push)
-    (hashed_so_far-more hash (last_changes c.args.changes.now) _ _ _ _ (rw next at c.rest.invariant)
+    (hashed_so_far-more (g.T.TreeHasher.hashes c.args.hasher.now).leaf (last_changes c.args.changes.now) _ _ _ _
+    (rw (lent-next c.in_ok-last.last.items c.rest.place _ (omega arith) c.index-in-rest.ensures) at c.rest.invariant)
     c.in_ok-leaf.ensures)

@@ -1,9 +1,8 @@
-use Rattle.std.proofs.Common.{◌≡◌, ◌∙◌, ℕ, Err, ap, inr, length, map, arith}
+use Rattle.std.proofs.Common.{◌∙◌, ℕ, Err, ap, inr, map, arith}
 use Rattle.ark_base.specs.declared.error.Error.TheVariants.{IncorrectInputLength}
 use Rattle.std.proofs.lemmas.List.{length-map}
 use Rattle.ark_base.proofs.Refusals.{passed_on}
-use Rattle.ark_paths.specs.Path.{Way}
-use Rattle.ark_paths.specs.Root.{upper_levels}
+use Rattle.ark_paths.specs.PathBytes.{way_of}
 use Rattle.ark_paths.specs.Tree.{tree_with}
 use Rattle.ark_paths.proofs.OwnPaths.{root-top}
 use Rattle.ark_merkle.proofs.Bounds.{bound-long, bound-unhashed, bound-refused, bound-ok}
@@ -26,79 +25,57 @@ at-requires g c = record {
 
 pub returns-then-above-levels : goal.returns-then-above-levels
 returns-then-above-levels g c =
-    let above = c.args.above.now in
-    let leaves = map g.L.Numbered.numbers c.args.leaves.now in
-    let way : Way = record {
-      sibling = g.L.Numbered.numbers c.args.sibling.now;
-      above = map g.D.Numbered.numbers above;
-      index = c.args.index;
-    } in
-    let count : length way.above ≡ length above = length-map above g.D.Numbered.numbers in
-    inr (bound-long (tree_with (g.T.TreeHasher.hashes c.args.hasher.now) leaves) c.args.leaf.now way
+    let count = length-map c.args.above.now g.D.Numbered.numbers in
+    inr (bound-long (tree_with (g.T.TreeHasher.hashes c.args.hasher.now) (map g.L.Numbered.numbers c.args.leaves.now))
+    c.args.leaf.now (way_of g.L.Numbered.numbers g.D.Numbered.numbers
+    (c.args.sibling.now, (c.args.above.now, c.args.index)))
     (λ same. c.if-above-levels.true (omega (arith, count, c.len-levels.ensures.count, c.requires.tree.count, same)))
     ∙ ap (λ (n : ℕ). Err (IncorrectInputLength n)) count)
 
 pub returns-in_err-digest : goal.returns-in_err-digest
 returns-in_err-digest g c =
-    let above = c.args.above.now in
-    let leaves = map g.L.Numbered.numbers c.args.leaves.now in
-    let way : Way = record {
-      sibling = g.L.Numbered.numbers c.args.sibling.now;
-      above = map g.D.Numbered.numbers above;
-      index = c.args.index;
-    } in
-    let long : length way.above ≡ upper_levels leaves = omega (
+    passed_on _ _ c.from_residual.result c.in_err-digest.field-0.0 c.from_residual.ensures.1 c.in_err-digest.ensures
+    (bound-unhashed (tree_with (g.T.TreeHasher.hashes c.args.hasher.now) (map g.L.Numbered.numbers c.args.leaves.now))
+    c.args.leaf.now (way_of g.L.Numbered.numbers g.D.Numbered.numbers
+    (c.args.sibling.now, (c.args.above.now, c.args.index)))
+    (omega (
       arith,
-      length-map above g.D.Numbered.numbers,
+      length-map c.args.above.now g.D.Numbered.numbers,
       c.if-above-levels.false,
       c.len-levels.ensures.count,
       c.requires.tree.count,
-    ) in
-    passed_on _ _ c.from_residual.result c.in_err-digest.field-0.0 c.from_residual.ensures.1 c.in_err-digest.ensures
-    (bound-unhashed (tree_with (g.T.TreeHasher.hashes c.args.hasher.now) leaves) c.args.leaf.now way long
-    c.in_err-digest.field-0.0)
+    )) c.in_err-digest.field-0.0)
 
 pub returns-in_err-top : goal.returns-in_err-top
 returns-in_err-top g c =
-    let above = c.args.above.now in
     let hashes = g.T.TreeHasher.hashes c.args.hasher.now in
-    let leaves = map g.L.Numbered.numbers c.args.leaves.now in
-    let way : Way = record {
-      sibling = g.L.Numbered.numbers c.args.sibling.now;
-      above = map g.D.Numbered.numbers above;
-      index = c.args.index;
-    } in
-    let long : length way.above ≡ upper_levels leaves = omega (
+    passed_on _ _ c.from_residual-in_err-top.result c.in_err-top.field-0.0 c.from_residual-in_err-top.ensures.1
+    c.in_err-top.ensures.top
+    (bound-refused (tree_with hashes (map g.L.Numbered.numbers c.args.leaves.now)) c.args.leaf.now
+    (way_of g.L.Numbered.numbers g.D.Numbered.numbers (c.args.sibling.now, (c.args.above.now, c.args.index)))
+    (omega (
       arith,
-      length-map above g.D.Numbered.numbers,
+      length-map c.args.above.now g.D.Numbered.numbers,
       c.if-above-levels.false,
       c.len-levels.ensures.count,
       c.requires.tree.count,
-    ) in
-    passed_on _ _ c.from_residual-in_err-top.result c.in_err-top.field-0.0 c.from_residual-in_err-top.ensures.1
-    c.in_err-top.ensures.top
-    (bound-refused (tree_with hashes leaves) c.args.leaf.now way long (g.L.Numbered.numbers c.in_ok-digest.digest)
-    c.in_ok-digest.ensures _ (root-top hashes.pair leaves c.args.rows.now c.requires.tree) c.in_err-top.field-0.0)
+    )) (g.L.Numbered.numbers c.in_ok-digest.digest) c.in_ok-digest.ensures _
+    (root-top hashes.pair (map g.L.Numbered.numbers c.args.leaves.now) c.args.rows.now c.requires.tree)
+    c.in_err-top.field-0.0)
 
 pub returns : goal.returns
 returns g c =
-    let above = c.args.above.now in
     let hashes = g.T.TreeHasher.hashes c.args.hasher.now in
     let leaves = map g.L.Numbered.numbers c.args.leaves.now in
-    let way : Way = record {
-      sibling = g.L.Numbered.numbers c.args.sibling.now;
-      above = map g.D.Numbered.numbers above;
-      index = c.args.index;
-    } in
-    let long : length way.above ≡ upper_levels leaves = omega (
+    bound-ok (tree_with hashes leaves) c.args.leaf.now
+    (way_of g.L.Numbered.numbers g.D.Numbered.numbers (c.args.sibling.now, (c.args.above.now, c.args.index)))
+    (omega (
       arith,
-      length-map above g.D.Numbered.numbers,
+      length-map c.args.above.now g.D.Numbered.numbers,
       c.if-above-levels.false,
       c.len-levels.ensures.count,
       c.requires.tree.count,
-    ) in
-    bound-ok (tree_with hashes leaves) c.args.leaf.now way long (g.L.Numbered.numbers c.in_ok-digest.digest)
-    c.in_ok-digest.ensures _
+    )) (g.L.Numbered.numbers c.in_ok-digest.digest) c.in_ok-digest.ensures _
     (root-read hashes.pair leaves c.args.rows.now c.requires.tree c.len-levels.result _ c.len-levels.ensures.count
     c.at.ensures)
     (g.D.Numbered.numbers c.in_ok-top.top) c.in_ok-top.ensures.top c.are_same.result c.are_same.ensures

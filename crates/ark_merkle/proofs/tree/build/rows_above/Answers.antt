@@ -1,4 +1,4 @@
-use Rattle.std.proofs.Common.{◌≡◌, ◌^◌, ◌∙◌, suc, ℕ, length, map, Ok, ap, sym, pow_pos, arith}
+use Rattle.std.proofs.Common.{◌≡◌, ◌∙◌, suc, ℕ, length, Ok, ap, sym, pow_pos, arith}
 use Rattle.std.proofs.lemmas.List.{length-map}
 use Rattle.std.proofs.Math.Nat.{pow-succ'}
 use Rattle.ark_base.proofs.Refusals.{passed_on}
@@ -10,44 +10,32 @@ use Rattle.ark_merkle.proofs.tree.build.rows_above.Goals as goal
 pub returns-in_err-rows : goal.returns-in_err-rows
 returns-in_err-rows g c =
     let h = (g.T.TreeHasher.hashes c.args.hasher.now).pair in
-    let leaves = map g.L.Numbered.numbers c.args.digests.now in
-    let row = digests_of g.D.Numbered.numbers c.in_ok-row.row in
-    let m = c.requires.0 in
-    let long : length leaves ≡ 2 ^ suc m = length-map c.args.digests.now g.L.Numbered.numbers ∙ c.requires.1 in
     passed_on _ _ c.from_residual-in_err-rows.result c.in_err-rows.field-0.0 c.from_residual-in_err-rows.ensures.1
-    (c.in_err-rows.ensures.rows m (lowest-half h leaves row m long c.in_ok-row.ensures))
-    (above-lowest h leaves row m long c.in_ok-row.ensures _)
+    (c.in_err-rows.ensures.rows c.requires.0
+    (lowest-half h _ c.args.digests.now _ c.requires.0 c.requires.1 c.in_ok-row.ensures))
+    (above-lowest h _ c.args.digests.now _ c.requires.0 c.requires.1 c.in_ok-row.ensures _)
 
 pub of_rows-requires : goal.of_rows-requires
 of_rows-requires g c =
-    let h = (g.T.TreeHasher.hashes c.args.hasher.now).pair in
-    let numbers = g.D.Numbered.numbers in
-    let leaves = map g.L.Numbered.numbers c.args.digests.now in
-    let m = c.requires.0 in
-    let long : length leaves ≡ 2 ^ suc m = length-map c.args.digests.now g.L.Numbered.numbers ∙ c.requires.1 in
-    let count : c.ilog2.result ≡ suc m = log-size c.ilog2.result m (length c.args.digests.now) c.requires.1
-    c.ilog2.ensures.power_le c.ilog2.ensures.next_power_gt in
-    let half = lowest-half h leaves (digests_of numbers c.in_ok-row.row) m long c.in_ok-row.ensures in
+    let count : c.ilog2.result ≡ suc c.requires.0 = log-size c.ilog2.result c.requires.0 (length c.args.digests.now)
+    c.requires.1 c.ilog2.ensures.power_le c.ilog2.ensures.next_power_gt in
     rw count (omega (
       arith,
-      half,
-      length-map c.in_ok-row.row.items numbers,
+      lowest-half (g.T.TreeHasher.hashes c.args.hasher.now).pair _ c.args.digests.now _ c.requires.0 c.requires.1
+          c.in_ok-row.ensures,
+      length-map c.in_ok-row.row.items g.D.Numbered.numbers,
       c.in_ok-rows.ensures.whole,
-      pow-succ' 2 m,
-      pow_pos m,
+      pow-succ' 2 c.requires.0,
+      pow_pos c.requires.0,
     ))
 
 pub returns : goal.returns
 returns g c =
     let h = (g.T.TreeHasher.hashes c.args.hasher.now).pair in
-    let numbers = g.D.Numbered.numbers in
-    let leaves = map g.L.Numbered.numbers c.args.digests.now in
-    let row = digests_of numbers c.in_ok-row.row in
-    let m = c.requires.0 in
-    let long : length leaves ≡ 2 ^ suc m = length-map c.args.digests.now g.L.Numbered.numbers ∙ c.requires.1 in
-    let count : c.ilog2.result ≡ suc m = log-size c.ilog2.result m (length c.args.digests.now) c.requires.1
-    c.ilog2.ensures.power_le c.ilog2.ensures.next_power_gt in
-    let made = c.in_ok-rows.ensures.rows m (lowest-half h leaves row m long c.in_ok-row.ensures) in
-    above-lowest h leaves row m long c.in_ok-row.ensures _ (made
-    ∙ ap (λ (n : ℕ). Ok (rows_in_turn n (digests_of numbers c.in_ok-rows.rows))) (sym count)
+    let count : c.ilog2.result ≡ suc c.requires.0 = log-size c.ilog2.result c.requires.0 (length c.args.digests.now)
+    c.requires.1 c.ilog2.ensures.power_le c.ilog2.ensures.next_power_gt in
+    above-lowest h _ c.args.digests.now _ c.requires.0 c.requires.1 c.in_ok-row.ensures _
+    (c.in_ok-rows.ensures.rows c.requires.0
+    (lowest-half h _ c.args.digests.now _ c.requires.0 c.requires.1 c.in_ok-row.ensures)
+    ∙ ap (λ (n : ℕ). Ok (rows_in_turn n (digests_of g.D.Numbered.numbers c.in_ok-rows.rows))) (sym count)
     ∙ ap Ok (sym c.of_rows.ensures))
