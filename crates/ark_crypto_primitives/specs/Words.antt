@@ -1,5 +1,6 @@
 -- The words that the contracts of this crate use, so that a contract over it needs one import. Where two crates have a
--- word of one name, `merkle_tree_hash` is that of logs, and `tree_hash_of_entries` that of trees.
+-- word of one name, `merkle_tree_hash` is that of logs, and `tree_hash_of_entries` that of trees. Words of Jubjub that
+-- are short there begin with `jubjub_`.
 
 -- results and errors
 pub use Rattle.ark_base.specs.Outcome.{Answers, AnswersBy, IsDecided, IsMemory, LacksMemoryOnly, Outcome}
@@ -14,6 +15,13 @@ pub use Rattle.ark_groups.specs.Bits.{bits_of_number}
 pub use Rattle.ark_groups.specs.Words.{number}
 pub use Rattle.ark_groups.specs.Group.{Group, IsCommutativeGroup, times}
 pub use Rattle.ark_wide_fields.specs.Moduli.{AreFourWords, IsWide, value_of}
+-- Jubjub
+pub use Rattle.jubjub.specs.Edwards.{Coordinates, IsOnCurve, edwards}
+pub use Rattle.jubjub.specs.Jubjub.{IsInSubgroup, IsOnJubjub, base_point, curve as jubjub_curve, order as jubjub_order}
+pub use Rattle.jubjub.specs.Elements.{base as jubjub_generator, coordinates as jubjub_coordinates, jubjub}
+pub use Rattle.jubjub.specs.Spelling.{spelling as jubjub_spelling}
+pub use Rattle.jubjub.specs.Theorems.{ElementsAreCoordinates, HasOrder, HasPrimeOrder, IsCommutativeGroupOn, IsComplete}
+pub use Rattle.jubjub.specs.Theorems.{QuotientsAreRight}
 -- what a sponge absorbs, and sponges
 pub use Rattle.ark_absorb.specs.Appending.{AppendsBytes, AppendsElements}
 pub use Rattle.ark_absorb.specs.Elements.{AreShort, Elements, packed_elements, text_bytes}

@@ -31,6 +31,7 @@ pub mod ec {
         Additive, AdditiveGroup, CurveGroup, Residues, SWCoordinates, SWPoint, Small, SmallModulus,
         TECoordinates, TEPoint,
     };
+    pub use jubjub;
 }
 
 /// Digests of bytes.

@@ -1,6 +1,6 @@
 //! Works on Bowe-Hopwood hashes: 22 windows of four chunks, over the small group of order 13.
 
-use crate::pedersen::{Number, hashes};
+use crate::pedersen::{INPUT, Number, hashes};
 use ark_crypto_primitives::Error;
 use ark_crypto_primitives::crh::bowe_hopwood::{CRH, Parameters};
 use ark_crypto_primitives::crh::pedersen::Window;
@@ -49,5 +49,5 @@ where
     let parameters = Parameters {
         generators: CRH::<G, W>::create_generators(alloc, &mut rng)?,
     };
-    hashes::<CRH<G, W>>(alloc, &parameters, count)
+    hashes::<CRH<G, W>>(alloc, &parameters, &INPUT[..32], count)
 }

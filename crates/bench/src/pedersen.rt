@@ -1,12 +1,13 @@
-//! Works on Pedersen hashes and commitments: 256 windows of four bits, over the residues modulo 2^61 - 1.
+//! Works on Pedersen hashes and commitments: 256 windows of four bits, over the residues modulo 2^61 - 1 and over Jubjub.
 
 use ark_crypto_primitives::Error;
 use ark_crypto_primitives::commitment::CommitmentScheme;
 use ark_crypto_primitives::commitment::pedersen::{Commitment, Randomness};
 use ark_crypto_primitives::crh::CRHScheme;
 use ark_crypto_primitives::crh::pedersen::{CRH, Window};
-use ark_crypto_primitives::ec::{CurveGroup, Residues};
-use ark_crypto_primitives::ff::{Fp, M61, Modulus, PrimeField};
+use ark_crypto_primitives::ec::jubjub::Jubjub;
+use ark_crypto_primitives::ec::{AdditiveGroup, Residues};
+use ark_crypto_primitives::ff::{Field, Fp, M61, Modulus, PrimeField};
 use ark_crypto_primitives::serialize::DigestItem;
 use rand::SeedableRng;
 use rand::rngs::SmallRng;
@@ -30,8 +31,8 @@ impl Window for Wide {
     ghost fits = { lit< tt };
 }
 
-// The bytes of the first input, of which each work changes the first.
-const INPUT: [u8; 32] = [0xa5; 32];
+/// The bytes of the first input, of which each work changes the first.
+pub const INPUT: [u8; 64] = [0xa5; 64];
 
 /// A hash that is a number.
 pub trait Number {
@@ -50,26 +51,47 @@ impl<M: Modulus> Number for Residues<M> {
     }
 }
 
-/// Does the work that a word names, `count` times.
+impl Number for Jubjub {
+    fn number(&self) -> u64 {
+        self.x().words().w0
+    }
+}
+
+/// Does the work on inputs of 32 bytes that a word names, `count` times.
 pub fn checksum(alloc: Global, work: &str, count: u64) -> Result<Option<u64>, Error> {
+    checksum_over::<Residues<M61>>(alloc, work, &INPUT[..32], count)
+}
+
+/// Does the work on inputs of 64 bytes over Jubjub that a word names, `count` times.
+pub fn jubjub_checksum(alloc: Global, work: &str, count: u64) -> Result<Option<u64>, Error> {
+    checksum_over::<Jubjub>(alloc, work, &INPUT, count)
+}
+
+fn checksum_over<C: AdditiveGroup + DigestItem + Number>(
+    alloc: Global,
+    work: &str,
+    input: &[u8],
+    count: u64,
+) -> Result<Option<u64>, Error> {
     let sum = match work {
-        "hash" => pedersen_hashes::<Residues<M61>, Wide>(alloc, count),
-        "commitment" => commitments::<M61, Wide>(alloc, count),
+        "hash" => pedersen_hashes::<C, Wide>(alloc, input, count),
+        "commitment" => commitments::<C, Wide>(alloc, input, count),
         _ => return Ok(None),
     };
     Ok(Some(sum?))
 }
 
-/// Hashes of 32 bytes, `count` times, the first byte being that of the hash before.
+/// Hashes of an input, `count` times, the first byte being that of the hash before.
 pub fn hashes<H: CRHScheme<Input = Vec<u8>>>(
     alloc: Global,
     parameters: &H::Parameters,
+    input: &[u8],
     count: u64,
 ) -> Result<u64, Error>
 where
     H::Output: Number,
 {
-    let mut input = Vec::from_array(alloc, INPUT)?;
+    let mut input = input.to_vec(alloc)?;
     let mut value = 0;
     for _ in 0..count {
         value = H::evaluate(alloc, parameters, &input)?.number();
@@ -80,28 +102,32 @@ where
     Ok(value)
 }
 
-fn pedersen_hashes<C: CurveGroup + DigestItem + Number, W: Window>(
+fn pedersen_hashes<C: AdditiveGroup + DigestItem + Number, W: Window>(
     alloc: Global,
+    input: &[u8],
     count: u64,
 ) -> Result<u64, Error> {
     let mut rng = SmallRng::seed_from_u64(4);
     let parameters = CRH::<C, W>::setup(alloc, &mut rng)?;
-    hashes::<CRH<C, W>>(alloc, &parameters, count)
+    hashes::<CRH<C, W>>(alloc, &parameters, input, count)
 }
 
-// Commitments to 32 bytes, `count` times, each under the one before.
-fn commitments<M: Modulus, W: Window>(alloc: Global, count: u64) -> Result<u64, Error> {
+// Commitments to an input, `count` times, the first byte being that of the commitment before.
+fn commitments<C: AdditiveGroup + Number, W: Window>(
+    alloc: Global,
+    input: &[u8],
+    count: u64,
+) -> Result<u64, Error> {
     let mut rng = SmallRng::seed_from_u64(4);
-    let parameters = Commitment::<Residues<M>, W>::setup(alloc, &mut rng)?;
-    let mut randomness = Randomness::<Residues<M>>::default();
+    let parameters = Commitment::<C, W>::setup(alloc, &mut rng)?;
+    let randomness = Randomness(C::ScalarField::from_le_bytes_mod_order(&INPUT));
+    let mut input = input.to_vec(alloc)?;
+    let mut value = 0;
     for _ in 0..count {
-        let commitment = Commitment::<Residues<M>, W>::commit(
-            alloc,
-            &parameters,
-            &INPUT,
-            &randomness,
-        )?;
-        randomness = Randomness(commitment.0);
+        value = Commitment::<C, W>::commit(alloc, &parameters, &input, &randomness)?.number();
+        if let Some(first) = input.first_mut() {
+            *first = (value % 256) as u8;
+        }
     }
-    Ok(randomness.0.value())
+    Ok(value)
 }

@@ -3,7 +3,7 @@
 use crate::sums::sum_of_value;
 use ark_crypto_primitives::Error;
 use ark_crypto_primitives::digest::ByteDigest;
-use ark_crypto_primitives::ec::CurveGroup;
+use ark_crypto_primitives::ec::{AdditiveGroup, CurveGroup};
 use ark_crypto_primitives::encryption::AsymmetricEncryptionScheme;
 use ark_crypto_primitives::encryption::elgamal::{ElGamal, Randomness};
 use ark_crypto_primitives::ff::PrimeField;
@@ -16,7 +16,7 @@ use std::alloc::Global;
 const MESSAGE: &[u8] = &[0xa5; 32];
 
 /// Does the work on signatures that a word names, `count` times.
-pub fn signing<G: CurveGroup, D: ByteDigest>(
+pub fn signing<G: AdditiveGroup, D: ByteDigest>(
     alloc: Global,
     work: &str,
     count: u64,

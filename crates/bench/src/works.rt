@@ -7,6 +7,7 @@ use crate::{
 };
 use ark_crypto_primitives::Error;
 use ark_crypto_primitives::ec::Residues;
+use ark_crypto_primitives::ec::jubjub::Jubjub;
 use ark_crypto_primitives::ff::{BabyBear, Bls12_381Fr, Fp, Goldilocks, M61};
 use ark_crypto_primitives::prf::Blake2s256;
 use ark_crypto_primitives::sponge::poseidon::parameters::{Power, bls12_381_fr};
@@ -38,10 +39,19 @@ pub fn checksum(alloc: Global, words: &[String]) -> Result<Option<u64>, Error> {
         "poseidon" => poseidon_checksum(alloc, work, count),
         "schnorr" => signatures::signing::<Group, Blake2s256>(alloc, work, count),
         "elgamal" => signatures::encryption::<Group>(alloc, work, count),
+        "jubjub" => jubjub_checksum(alloc, work, count),
         "array" => trees::checksum::<Sha256Arrays>(alloc, &(), &(), work, count),
         "rfc6962" => trees::checksum::<Sha256Log>(alloc, &(), &(), work, count),
         "single" => single_checksum(alloc, work, count),
         _ => trees::checksum::<Sha256Strings>(alloc, &(), &(), name.as_str(), count),
+    }
+}
+
+// Works over Jubjub.
+fn jubjub_checksum(alloc: Global, work: &str, count: u64) -> Result<Option<u64>, Error> {
+    match work {
+        "hash" | "commitment" => pedersen::jubjub_checksum(alloc, work, count),
+        _ => signatures::signing::<Jubjub, Blake2s256>(alloc, work, count),
     }
 }
 

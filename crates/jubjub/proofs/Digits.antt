@@ -29,7 +29,7 @@ multiples_add m n a on =
 abbrev pub Doubles : Extended → Extended → Type 0
 Doubles e r = (t : Coordinates) → IsOnJubjub t → Stands e t → Stands r (sum p d t t)
 
-twice : (e r : Extended) (m : ℕ) (a : Coordinates) → IsOnJubjub a → Doubles e r → Stands e (times curve m a)
+pub twice : (e r : Extended) (m : ℕ) (a : Coordinates) → IsOnJubjub a → Doubles e r → Stands e (times curve m a)
     → Stands r (times curve (m + m) a)
 twice e r m a on doubles of_e =
     subst (Stands r) (multiples_add m m a on) (doubles (times curve m a) (multiple_on_curve m a on) of_e)

@@ -1,7 +1,6 @@
 -- Sums in extended coordinates stand for sums.
 use Rattle.std.proofs.Common.{◌≡◌, ℕ, ◌+◌, ◌-◌, ◌*◌, ◌%◌, ◌<◌, refl, sym, ◌∙◌, ap, arith}
 use Rattle.std.proofs.Common.{mod-lt, mul_comm}
-use Rattle.std.proofs.Math.Nat.{mod-mod, mod-add-mod, add-mul-mod_self_right}
 use Rattle.std.proofs.lemmas.Nat.{mul-mod_first}
 use Rattle.number_facts.proofs.CongruenceLaws.{sums, multiples}
 use Rattle.jubjub.specs.declared.extended.Extended.{Extended}
@@ -13,19 +12,9 @@ use Rattle.jubjub.specs.Laws.Quotients.{some_modulus, product_some, less}
 use Rattle.jubjub.specs.Laws.CurveLaws.{above_some, below_some, x_of, y_of}
 use Rattle.jubjub.specs.Laws.Modulus.{has_inverses}
 use Rattle.jubjub.specs.Laws.Completeness.{complete}
+use Rattle.jubjub.proofs.CrossedProducts.{reduced, taken_back}
 use Rattle.jubjub.proofs.ExtendedFacts.{first_numerator, second_numerator, first_denominator, second_denominator}
 use Rattle.jubjub.proofs.ExtendedFacts.{double_denominator, double_other, joined_first, joined_second, joined_both}
-
--- a difference modulo m and what was taken away
-pub taken_back : (m a b : ℕ) → b < m → ((a + (m - b)) % m + b) % m ≡ a % m
-taken_back m a b below =
-    mod-add-mod (a + (m - b)) m b ∙ ap (λ t. t % m) (turn m a b below) ∙ add-mul-mod_self_right a 1 m
-  where
-    turn : (m a b : ℕ) → b < m → a + (m - b) + b ≡ a + 1 * m
-    turn m a b l = omega arith
-
-reduced : (m n a : ℕ) → n ≡ a % m → n % m ≡ a % m
-reduced m n a e = ap (λ t. t % m) e ∙ mod-mod a m
 
 abbrev above : Coordinates → Coordinates → ℕ
 above s t = 1 + cross d s t
@@ -61,38 +50,108 @@ joined_stands r E F G H z s t on_s on_t some rx ry rz rt hE hH hG hF =
           ∙ joined_both p E H F G u v (above s t * z) (below s t * z) pos hE hH hF hG ∙ times (u * v);
     }
 
+-- numbers X, Y, Z and T stand for the point with x = X / Z, y = Y / Z and x y = T / Z
+pub record StandFor (X Y Z T : ℕ) (a : Coordinates) : Type 0 where
+  pub some : Z % p ≡ 0 → ⊥
+  pub first : X % p ≡ a.x * Z % p
+  pub second : Y % p ≡ a.y * Z % p
+  pub both : T % p ≡ a.x * a.y * Z % p
+
+single : (a : ℕ) → a ≡ a * 1
+single a = omega arith
+
 -- the sum of two points
-pub plus_stands : (r a b : Extended) (E F G H crossed scale : ℕ) → scale ≡ value a.z * value b.z % p
-    → crossed ≡ (d * value a.t % p) * value b.t % p → E ≡ (value a.x * value b.y + value a.y * value b.x) % p
-    → F ≡ (scale + (p - crossed)) % p → G ≡ (scale + crossed) % p
-    → H ≡ (value a.y * value b.y + value a.x * value b.x) % p
-    → value r.x ≡ E * F % p → value r.y ≡ G * H % p → value r.z ≡ F * G % p → value r.t ≡ E * H % p
-    → (s t : Coordinates) → IsOnJubjub s → IsOnJubjub t → Stands a s → Stands b t → Stands r (sum p d s t)
-plus_stands r a b E F G H crossed scale is_scale is_crossed is_e is_f is_g is_h rx ry rz rt s t on_s on_t of_a of_b =
-    let z : ℕ = value a.z * value b.z in
-    let k : ℕ = d * value a.t * value b.t in
-    let crossed_mod : crossed % p ≡ k % p =
-    reduced p crossed (d * value a.t % p * value b.t) is_crossed ∙ mul-mod_first (d * value a.t) (value b.t) p in
-    let scale_mod : scale % p ≡ z % p = reduced p scale z is_scale in
-    let small : crossed < p = below_p crossed (d * value a.t % p * value b.t) is_crossed in
-    joined_stands r E F G H z s t on_s on_t
-    (product_some p has_inverses (value a.z) (value b.z) of_a.some of_b.some) rx ry rz rt
-    (reduced p E (value a.x * value b.y + value a.y * value b.x) is_e
-    ∙ first_numerator p (value a.x) (value a.y) (value b.x) (value b.y) (value a.z) (value b.z) (sum p d s t).x
-    (above s t)
-    s.x s.y t.x t.y pos of_a.first of_a.second of_b.first of_b.second (x_of p d has_inverses complete s t on_s on_t))
-    (reduced p H (value a.y * value b.y + value a.x * value b.x) is_h
-    ∙ second_numerator p (value a.x) (value a.y) (value b.x) (value b.y) (value a.z) (value b.z) (sum p d s t).y
-    (below s t) s.x s.y t.x t.y pos of_a.first of_a.second of_b.first of_b.second
-    (y_of p d has_inverses complete s t on_s on_t))
-    (reduced p G (scale + crossed) is_g ∙ sums p scale z crossed k scale_mod crossed_mod
-    ∙ first_denominator p (value a.t) (value b.t) (value a.z) (value b.z) s.x s.y t.x t.y d pos of_a.both of_b.both)
-    (second_denominator p F (below s t) (value a.t) (value b.t) (value a.z) (value b.z) s.x s.y t.x t.y d pos
-    (sums p F F k crossed refl (sym crossed_mod) ∙ ap (λ n. (n + crossed) % p) is_f ∙ taken_back p scale crossed small
-    ∙ scale_mod) of_a.both of_b.both (less p (cross d s t) pos))
+sum_stands : (r : Extended) (X Y Z T X' Y' Z' T' E F G H crossed scale : ℕ) → scale % p ≡ Z * Z' % p → crossed < p
+    → crossed % p ≡ d * T * T' % p → E % p ≡ (X * Y' + Y * X') % p → F ≡ (scale + (p - crossed)) % p
+    → G ≡ (scale + crossed) % p → H % p ≡ (Y * Y' + X * X') % p → value r.x ≡ E * F % p → value r.y ≡ G * H % p
+    → value r.z ≡ F * G % p → value r.t ≡ E * H % p → (s t : Coordinates) → IsOnJubjub s → IsOnJubjub t
+    → StandFor X Y Z T s → StandFor X' Y' Z' T' t → Stands r (sum p d s t)
+sum_stands r X Y Z T X' Y' Z' T' E F G H crossed scale scale_mod small crossed_mod e_mod is_f is_g h_mod rx ry rz rt s t
+    on_s on_t of_a of_b =
+    joined_stands r E F G H (Z * Z') s t on_s on_t (product_some p has_inverses Z Z' of_a.some of_b.some) rx ry rz rt
+    (e_mod ∙ first_numerator p X Y X' Y' Z Z' (sum p d s t).x (above s t) s.x s.y t.x t.y pos of_a.first of_a.second
+    of_b.first of_b.second (x_of p d has_inverses complete s t on_s on_t))
+    (h_mod ∙ second_numerator p X Y X' Y' Z Z' (sum p d s t).y (below s t) s.x s.y t.x t.y pos of_a.first of_a.second
+    of_b.first of_b.second (y_of p d has_inverses complete s t on_s on_t))
+    (reduced p G (scale + crossed) is_g ∙ sums p scale (Z * Z') crossed (d * T * T') scale_mod crossed_mod
+    ∙ first_denominator p T T' Z Z' s.x s.y t.x t.y d pos of_a.both of_b.both)
+    (second_denominator p F (below s t) T T' Z Z' s.x s.y t.x t.y d pos
+    (sums p F F (d * T * T') crossed refl (sym crossed_mod) ∙ ap (λ n. (n + crossed) % p) is_f
+    ∙ taken_back p scale crossed small ∙ scale_mod) of_a.both of_b.both (less p (cross d s t) pos))
+
+twice_mod : (m a b c : ℕ) → a % m ≡ b * c % m → 2 * a % m ≡ b * (2 * c) % m
+twice_mod m a b c e =
+    ap (λ n. n % m) (mul_comm 2 a) ∙ multiples m a (b * c) 2 e ∙ ap (λ n. n % m) (turn b c)
+  where
+    turn : (b c : ℕ) → b * c * 2 ≡ b * (2 * c)
+    turn b c = omega arith
+
+-- twice all four numbers stand for the same point
+twice_all : (e : Extended) (s : Coordinates) → Stands e s
+    → StandFor (2 * value e.x) (2 * value e.y) (2 * value e.z) (2 * value e.t) s
+twice_all e s of_e = record {
+  some = product_some p has_inverses 2 (value e.z) (λ none. absurd (omega (arith, none))) of_e.some;
+  first = twice_mod p (value e.x) s.x (value e.z) of_e.first;
+  second = twice_mod p (value e.y) s.y (value e.z) of_e.second;
+  both = twice_mod p (value e.t) (s.x * s.y) (value e.z) of_e.both;
+}
+
+-- the product of the curve's coefficient, doubled, and of two numbers
+crossed_mod : (m k a b c n : ℕ) → k ≡ 2 * c % m → n ≡ k * a % m * b % m → n % m ≡ c * (2 * a) * b % m
+crossed_mod m k a b c n is_k is_n =
+    reduced m n (k * a % m * b) is_n ∙ mul-mod_first (k * a) b m ∙ ap (λ n. n % m) (apart k a b)
+    ∙ ap (λ k. k * (a * b) % m) is_k ∙ mul-mod_first (2 * c) (a * b) m ∙ ap (λ n. n % m) (turn c a b)
+  where
+    apart : (k a b : ℕ) → k * a * b ≡ k * (a * b)
+    apart k a b = omega arith
+
+    turn : (c a b : ℕ) → 2 * c * (a * b) ≡ c * (2 * a) * b
+    turn c a b = omega arith
+
+-- the sum of a point by four coordinates and of one by numbers, all doubled
+pub plus_stands : (r a : Extended) (X Y Z T k E F G H crossed scale : ℕ) → k ≡ 2 * d % p
+    → scale % p ≡ 2 * value a.z * Z % p → crossed ≡ k * value a.t % p * T % p
+    → E ≡ 2 * (value a.x * Y + value a.y * X) % p → F ≡ (scale + (p - crossed)) % p → G ≡ (scale + crossed) % p
+    → H ≡ 2 * (value a.y * Y + value a.x * X) % p → value r.x ≡ E * F % p → value r.y ≡ G * H % p
+    → value r.z ≡ F * G % p → value r.t ≡ E * H % p → (s t : Coordinates) → IsOnJubjub s → IsOnJubjub t → Stands a s
+    → StandFor X Y Z T t → Stands r (sum p d s t)
+plus_stands r a X Y Z T k E F G H crossed scale is_k scale_mod is_crossed is_e is_f is_g is_h rx ry rz rt s t on_s on_t
+    of_a of_b =
+    let x = value a.x in
+    let y = value a.y in
+    sum_stands r (2 * x) (2 * y) (2 * value a.z) (2 * value a.t) X Y Z T E F G H crossed scale scale_mod
+    (below_p crossed (k * value a.t % p * T) is_crossed)
+    (crossed_mod p k (value a.t) T d crossed is_k is_crossed)
+    (reduced p E (2 * (x * Y + y * X)) is_e ∙ ap (λ n. n % p) (spread x Y y X)) is_f is_g
+    (reduced p H (2 * (y * Y + x * X)) is_h ∙ ap (λ n. n % p) (spread y Y x X)) rx ry rz rt s t on_s on_t
+    (twice_all a s of_a) of_b
   where
     below_p : (n a : ℕ) → n ≡ a % p → n < p
     below_p n a e = let l : a % p < p = mod-lt a pos in omega (arith, e, l)
+
+    spread : (a b c e : ℕ) → 2 * (a * b + c * e) ≡ 2 * a * b + 2 * c * e
+    spread a b c e = omega arith
+
+-- the product of the third coordinates, doubled
+pub scale_is : (m a b n scale : ℕ) → n ≡ a * b % m → scale ≡ 2 * n % m → scale % m ≡ 2 * a * b % m
+scale_is m a b n scale is_n is_scale =
+    reduced m scale (2 * n) is_scale ∙ twice_mod m n a b (reduced m n (a * b) is_n) ∙ ap (λ n. n % m) (turn a b)
+  where
+    turn : (a b : ℕ) → a * (2 * b) ≡ 2 * a * b
+    turn a b = omega arith
+
+-- the same where one of them is 1
+pub single_scale : (m a scale : ℕ) → scale ≡ 2 * a % m → scale % m ≡ 2 * a * 1 % m
+single_scale m a scale is_scale = reduced m scale (2 * a) is_scale ∙ ap (λ n. n % m) (single (2 * a))
+
+-- a point's own coordinates, with 1 and their product
+pub point_stands : (x y product : ℕ) → product ≡ x * y % p → StandFor x y 1 product (record { x = x; y = y })
+point_stands x y product is_product = record {
+  some = λ none. absurd (omega (arith, none));
+  first = ap (λ n. n % p) (single x);
+  second = ap (λ n. n % p) (single y);
+  both = reduced p product (x * y) is_product ∙ ap (λ n. n % p) (single (x * y));
+}
 
 -- the double of a point
 pub double_stands : (r a : Extended) (E F G H x y z zz : ℕ) → x ≡ value a.x * value a.x % p

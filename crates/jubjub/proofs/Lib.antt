@@ -1,8 +1,10 @@
+pub mod CrossedProducts
 pub mod ExtendedFacts
 pub mod ExtendedLaws
 pub mod PowerSteps
 pub mod GroupLaws
 pub mod Digits
+pub mod Bits
 pub mod PointTests
 pub mod OrderPrime
 pub mod Spelled

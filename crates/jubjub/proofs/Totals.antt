@@ -1,5 +1,5 @@
 -- What sums under way stand for.
-use Rattle.std.proofs.Common.{◌≡◌, sym, ◌∙◌, ap, ap₂, subst}
+use Rattle.std.proofs.Common.{◌≡◌, sym, ◌∙◌, ap, subst}
 use Rattle.jubjub.specs.declared.element.Jubjub.{Jubjub}
 use Rattle.jubjub.specs.declared.element.sums.JubjubSum.{JubjubSum}
 use Rattle.jubjub.specs.declared.extended.Extended.{Extended}
@@ -23,8 +23,14 @@ pub total_is : (s : JubjubSum) (r : Extended) (e : Jubjub) → s.point ≡ r →
 total_is s r e is of_r = same_element (total s) e
     (at-total s ∙ ap affine_at is ∙ stands_at r (coordinates e) e.in_subgroup of_r)
 
--- what stands for the sum of two sums' coordinates stands for their sum
+-- what stands for the sum of a sum's coordinates and of an element's stands for their sum
+pub sum_with : (r : Extended) (a : JubjubSum) (e : Jubjub) → Stands r (sum p d (affine_at a.point) (coordinates e))
+    → Stands r (coordinates (jubjub.plus (total a) e))
+sum_with r a e of_r =
+    subst (Stands r) (sym (at-plus (total a) e ∙ ap (λ t. sum p d t (coordinates e)) (at-total a))) of_r
+
+-- the same of two sums
 pub sum_stands : (r : Extended) (a b : JubjubSum) → Stands r (sum p d (affine_at a.point) (affine_at b.point))
     → Stands r (coordinates (jubjub.plus (total a) (total b)))
 sum_stands r a b of_r =
-    subst (Stands r) (sym (at-plus (total a) (total b) ∙ ap₂ (sum p d) (at-total a) (at-total b))) of_r
+    sum_with r a (total b) (subst (λ t. Stands r (sum p d (affine_at a.point) t)) (sym (at-total b)) of_r)

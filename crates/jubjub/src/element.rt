@@ -6,7 +6,7 @@ ghost use Rattle.jubjub.specs.Values.{value};
 ghost use Rattle.jubjub.specs.Laws.Points.{in_subgroup_alike};
 
 use crate::bytes::spelled;
-use crate::extended::{affine, coefficient, doubled, is_neutral, lifted, plus};
+use crate::extended::{affine, doubled, is_neutral, lifted, plus_point, twice_coefficient};
 use crate::multiple::{is_on_curve, multiple, order_of_subgroup};
 use ark_groups::ff::{Field, Words};
 use ark_wide_fields::Bls12_381Fr;
@@ -112,8 +112,7 @@ impl Jubjub {
         ensures coordinates { coordinates result ≡ sum p d (coordinates self) (coordinates other) }
     {
         let a = lifted(self.x, self.y);
-        let b = lifted(other.x, other.y);
-        let (x, y) = affine(plus(coefficient(), a, b));
+        let (x, y) = affine(plus_point(twice_coefficient(), a, other.x, other.y));
         Jubjub::of(x, y)
     }
 

@@ -7,7 +7,7 @@ ghost use Rattle.jubjub.specs.Jubjub.{p, d, IsOnJubjub};
 ghost use Rattle.jubjub.specs.Extended.{Stands};
 ghost use Rattle.jubjub.specs.Values.{value};
 
-use crate::field::{inverse, two_products};
+use crate::field::{crossed_products, inverse};
 use ark_groups::ff::{Field, Words};
 use ark_wide_fields::Bls12_381Fr;
 
@@ -33,6 +33,13 @@ pub fn coefficient() -> Bls12_381Fr
     ensures { value result ≡ d }
 {
     Bls12_381Fr::from_words(D)
+}
+
+/// Returns twice the curve's coefficient.
+pub fn twice_coefficient() -> Bls12_381Fr
+    ensures { value result ≡ 2 * d % p }
+{
+    coefficient().double()
 }
 
 /// Returns the four coordinates of the neutral point.
@@ -75,20 +82,29 @@ fn joined(e: Bls12_381Fr, f: Bls12_381Fr, g: Bls12_381Fr, h: Bls12_381Fr) -> Ext
     }
 }
 
-/// Returns the sum of two points of the curve.
-pub fn plus(coefficient: Bls12_381Fr, a: Extended, b: Extended) -> Extended
-    requires { value coefficient ≡ d }
+/// Returns the sum of two points of the curve, by twice the curve's coefficient.
+pub fn plus(twice: Bls12_381Fr, a: Extended, b: Extended) -> Extended
+    requires { value twice ≡ 2 * d % p }
     ensures { (s t : Coordinates) → IsOnJubjub s → IsOnJubjub t → Stands a s → Stands b t
         → Stands result (sum p d s t) }
 {
-    let cross = coefficient.mul(a.t).mul(b.t);
-    let scale = a.z.mul(b.z);
-    joined(
-        two_products(a.x, b.y, a.y, b.x),
-        scale.sub(cross),
-        scale.add(cross),
-        two_products(a.y, b.y, a.x, b.x),
-    )
+    let cross = twice.mul(a.t).mul(b.t);
+    let scale = a.z.mul(b.z).double();
+    let (e, h) = crossed_products(a.x, a.y, b.x, b.y);
+    joined(e, scale.sub(cross), scale.add(cross), h)
+}
+
+/// Returns the sum of a point of the curve and of one by its coordinates, by twice the curve's coefficient.
+pub fn plus_point(twice: Bls12_381Fr, a: Extended, x: Bls12_381Fr, y: Bls12_381Fr) -> Extended
+    requires { value twice ≡ 2 * d % p }
+    ensures { let t : Coordinates = record { x = value x; y = value y } in
+        (s : Coordinates) → IsOnJubjub s → IsOnJubjub t → Stands a s
+        → Stands result (sum p d s t) }
+{
+    let cross = twice.mul(a.t).mul(x.mul(y));
+    let scale = a.z.double();
+    let (e, h) = crossed_products(a.x, a.y, x, y);
+    joined(e, scale.sub(cross), scale.add(cross), h)
 }
 
 /// Returns the double of a point of the curve.

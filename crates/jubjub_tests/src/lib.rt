@@ -13,3 +13,5 @@ mod pedersen;
 mod samples;
 #[cfg(test)]
 mod schnorr;
+#[cfg(test)]
+mod tree;

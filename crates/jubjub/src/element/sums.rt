@@ -1,10 +1,13 @@
 //! Sums under way of elements.
 
-ghost use Rattle.std.specs.Prelude.{◌≡◌};
+ghost use Rattle.std.specs.Prelude.{◌≡◌, ◌*◌, ◌%◌};
+ghost use Rattle.jubjub.specs.Jubjub.{p, d};
 ghost use Rattle.jubjub.specs.Extended.{IsInside};
+ghost use Rattle.jubjub.specs.Values.{value};
 ghost use Rattle.jubjub.specs.Laws.Extended.{inside_alike};
 
 use crate::extended::Extended;
+use ark_wide_fields::Bls12_381Fr;
 
 mod group;
 
@@ -12,15 +15,19 @@ mod group;
 #[derive(Clone, Copy)]
 pub struct JubjubSum {
     point: Extended,
+    // Twice the curve's coefficient: a sum takes it along, since to make it costs a product.
+    twice: Bls12_381Fr,
     ghost inside: { IsInside point } by { inside_alike _ },
+    ghost twice_is: { value twice ≡ 2 * d % p },
 }
 
 impl JubjubSum {
     // The sum under way of four coordinates that are known to stand for an element.
-    fn of(point: Extended) -> JubjubSum
-        requires { IsInside point }
+    fn of(twice: Bls12_381Fr, point: Extended) -> JubjubSum
+        requires twice { value twice ≡ 2 * d % p }
+        requires point { IsInside point }
         ensures { result.point ≡ point }
     {
-        JubjubSum { point }
+        JubjubSum { point, twice }
     }
 }

@@ -8,7 +8,7 @@ ghost use Rattle.jubjub.specs.Laws.Group.{jubjub_laws, of_modulus, same_if_equal
 ghost use Rattle.jubjub.specs.Laws.Elements.{same_element};
 
 use crate::element::{Jubjub, JubjubSum};
-use crate::extended::{affine, coefficient, doubled, lifted, plus};
+use crate::extended::{affine, doubled, lifted, plus, plus_point, twice_coefficient};
 use crate::fr::JubjubFr;
 use ark_groups::ec::{AdditiveGroup, TECoordinates};
 use ark_groups::ff::{Field, UniformRand};
@@ -47,15 +47,20 @@ impl AdditiveGroup for Jubjub {
     }
 
     fn to_sum(self) -> JubjubSum {
-        JubjubSum::of(lifted(self.x, self.y))
+        JubjubSum::of(twice_coefficient(), lifted(self.x, self.y))
     }
 
     fn add_sums(a: JubjubSum, b: JubjubSum) -> JubjubSum {
-        JubjubSum::of(plus(coefficient(), a.point, b.point))
+        JubjubSum::of(a.twice, plus(a.twice, a.point, b.point))
+    }
+
+    fn add_to_sum(sum: JubjubSum, element: Jubjub) -> JubjubSum {
+        let point = plus_point(sum.twice, sum.point, element.x, element.y);
+        JubjubSum::of(sum.twice, point)
     }
 
     fn double_sum(a: JubjubSum) -> JubjubSum {
-        JubjubSum::of(doubled(a.point))
+        JubjubSum::of(a.twice, doubled(a.point))
     }
 
     fn from_sum(sum: JubjubSum) -> Jubjub {

@@ -10,8 +10,8 @@ pub of-requires : goal.of-requires
 of-requires c =
     let a = coordinates c.args.self in
     let s = sum_in_subgroup a (coordinates c.args.other) c.args.self.in_subgroup c.args.other.in_subgroup in
-    let stands = c.plus.ensures a (coordinates c.args.other) c.args.self.in_subgroup.on_curve
-    c.args.other.in_subgroup.on_curve c.lifted-a.ensures c.lifted-b.ensures in
+    let stands = c.plus_point.ensures a c.args.self.in_subgroup.on_curve
+    c.args.other.in_subgroup.on_curve c.lifted-a.ensures in
     entry c.affine.result.0 c.affine.result.1 (sum p d a (coordinates c.args.other)) (c.affine.ensures.x (sum p d a
     (coordinates c.args.other)) s.on_curve stands)
     (c.affine.ensures.y (sum p d a (coordinates c.args.other)) s.on_curve stands) s
@@ -20,8 +20,8 @@ pub returns-clause-group : goal.returns-clause-group
 returns-clause-group c =
     let a = coordinates c.args.self in
     let s = sum_in_subgroup a (coordinates c.args.other) c.args.self.in_subgroup c.args.other.in_subgroup in
-    let stands = c.plus.ensures a (coordinates c.args.other) c.args.self.in_subgroup.on_curve
-    c.args.other.in_subgroup.on_curve c.lifted-a.ensures c.lifted-b.ensures in
+    let stands = c.plus_point.ensures a c.args.self.in_subgroup.on_curve
+    c.args.other.in_subgroup.on_curve c.lifted-a.ensures in
     made_is c.of.result (jubjub.plus c.args.self c.args.other) c.affine.result.0 c.affine.result.1 (sum p d a
     (coordinates c.args.other))
     (c.affine.ensures.x (sum p d a (coordinates c.args.other)) s.on_curve stands) (c.affine.ensures.y (sum p d a
@@ -32,8 +32,8 @@ pub returns-clause-coordinates : goal.returns-clause-coordinates
 returns-clause-coordinates c =
     let a = coordinates c.args.self in
     let s = sum_in_subgroup a (coordinates c.args.other) c.args.self.in_subgroup c.args.other.in_subgroup in
-    let stands = c.plus.ensures a (coordinates c.args.other) c.args.self.in_subgroup.on_curve
-    c.args.other.in_subgroup.on_curve c.lifted-a.ensures c.lifted-b.ensures in
+    let stands = c.plus_point.ensures a c.args.self.in_subgroup.on_curve
+    c.args.other.in_subgroup.on_curve c.lifted-a.ensures in
     made_at c.of.result c.affine.result.0 c.affine.result.1 (sum p d a (coordinates c.args.other)) (c.affine.ensures.x
     (sum p d a (coordinates c.args.other)) s.on_curve stands)
     (c.affine.ensures.y (sum p d a (coordinates c.args.other)) s.on_curve stands) c.of.ensures

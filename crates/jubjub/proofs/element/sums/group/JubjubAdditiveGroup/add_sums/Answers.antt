@@ -4,8 +4,8 @@ use Rattle.jubjub.specs.Sums.{total}
 use Rattle.jubjub.proofs.Totals.{element_inside, total_is, sum_stands}
 use Rattle.jubjub.proofs.element.sums.group.JubjubAdditiveGroup.add_sums.Goals as goal
 
-pub of-requires : goal.of-requires
-of-requires c =
+pub of-requires-clause-point : goal.of-requires-clause-point
+of-requires-clause-point c =
     let a = c.args.a in
     let b = c.args.b in
     element_inside c.plus.result (jubjub.plus (total a) (total b)) (sum_stands c.plus.result a b

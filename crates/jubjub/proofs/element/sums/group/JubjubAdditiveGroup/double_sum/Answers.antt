@@ -4,8 +4,8 @@ use Rattle.jubjub.specs.Sums.{total}
 use Rattle.jubjub.proofs.Totals.{element_inside, total_is, sum_stands}
 use Rattle.jubjub.proofs.element.sums.group.JubjubAdditiveGroup.double_sum.Goals as goal
 
-pub of-requires : goal.of-requires
-of-requires c =
+pub of-requires-clause-point : goal.of-requires-clause-point
+of-requires-clause-point c =
     let a = c.args.a in
     element_inside c.doubled.result (jubjub.plus (total a) (total a)) (sum_stands c.doubled.result a a
     (c.doubled.ensures (affine_at a.point) a.inside.in_subgroup.on_curve a.inside.stands))

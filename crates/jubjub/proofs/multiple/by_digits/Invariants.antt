@@ -3,7 +3,7 @@ use Rattle.jubjub.specs.Edwards.{Coordinates}
 use Rattle.jubjub.specs.Jubjub.{IsOnJubjub}
 use Rattle.jubjub.specs.Extended.{Stands}
 use Rattle.jubjub.proofs.Digits.{Counted}
-use Rattle.jubjub.proofs.multiple.multiple.Given as goal
+use Rattle.jubjub.proofs.multiple.by_digits.Given as goal
 
 -- whatever point the argument stands for, the digits so far were added
 abbrev pub invariant-loop : goal.invariant-loop
