@@ -1,0 +1,89 @@
+//! What an append writes to the file of a log.
+
+ghost use Rattle.std.specs.Prelude.{◌≡◌, ◌<◌, ◌+◌, ◌^◌, ◌++◌, List, length, IfOk, IsOkUnless};
+ghost use Rattle.std.specs.List.{flat_map, AllByRecursion};
+ghost use Rattle.ark_base.specs.Digits.{itself, AreBytes};
+ghost use Rattle.ark_paths.specs.Pair.{Digest};
+ghost use Rattle.kept_log.specs.Kept.{Keeps};
+ghost use Rattle.merkle_log.specs.Stored.{stored_count};
+ghost use Rattle.paxlog_run.specs.Append.{appended_size, Appends};
+ghost use Rattle.paxlog_run.specs.Faults.{GivesBy};
+ghost use Rattle.paxlog_run.specs.LogFile.{IsLogFile};
+ghost use Rattle.paxlog_run.specs.declared.fault.Fault.TheVariants.{Memory};
+
+use crate::fault::Fault;
+use crate::file::{LogFile, log_in};
+use crate::head::{START, slot_of};
+use ark_base::serialize::CanonicalItem;
+use kept_log::{Kept, is_size, stored_count};
+use std::alloc::Global;
+
+/// What an append writes: first the digests, and once they are on the disk the slot.
+#[derive(Drop)]
+pub struct Growth {
+    /// The size of the log then.
+    pub size: usize,
+    /// Where the new digests begin in the file. What stood there and behind does not count, and is cut off before.
+    pub place: usize,
+    /// The new digests, one behind the other.
+    pub digests: Vec<u8>,
+    /// Where the slot stands that takes the new size.
+    pub slot_place: usize,
+    /// The slot of the new size.
+    pub slot: [u8; 32],
+}
+
+// The bytes of the digests to put behind the stored ones of a log for more leaves.
+fn bytes_behind(alloc: Global, log: LogFile<'_>, digests: &[[u8; 32]]) -> Result<Vec<u8>, Fault>
+    requires whole { length log.digests.now ≡ stored_count log.head.size }
+    requires fits { log.head.size + length digests.now < 2 ^ 63 }
+    ensures bytes { (leaves : List Digest) → length leaves ≡ log.head.size
+        → Keeps leaves log.digests.now
+        → IfOk result (λ bytes. (more : List Digest) × AllByRecursion (AreBytes 32) more
+        × (bytes.items ≡ flat_map itself more)
+        × (length log.digests.now + length more ≡ stored_count (log.head.size + length digests.now))
+        × Keeps (leaves ++ digests.now) (log.digests.now ++ more)) }
+    ensures memory { IsOkUnless result Memory }
+{
+    let Some(kept) = Kept::of(log.head.size, log.digests) else {
+        return Err(Fault::Memory);
+    };
+    let size = log.head.size + digests.len();
+    let mut more = Vec::new(alloc);
+    more.resize(stored_count(size) - log.digests.len(), [0u8; 32])?;
+    let count = kept_log::append(&kept, digests, &mut more);
+    let mut bytes = Vec::new(alloc);
+    <[u8; 32]>::serialize_items(&more[..count], &mut bytes)?;
+    Ok(bytes)
+}
+
+/// Returns what an append of entries with these digests writes to the file of a log.
+///
+/// Errors, the first that applies: `NoLog`, `Short`, `Size` for a new size of over 63 bits; `Memory` in place of any.
+pub fn grow(alloc: Global, file: &[u8], digests: &[[u8; 32]]) -> Result<Growth, Fault>
+    ensures size { let size = appended_size file.now (length digests.now) in
+        GivesBy (λ growth. growth.size) size result }
+
+    // Whatever of it is written, the file has the log as it was, or with these entries.
+    ensures appends { (leaves : List Digest) → IsLogFile leaves file.now
+        → IfOk result (λ growth. let place = growth.place in
+        Appends leaves digests.now file.now place growth.digests.items
+        growth.slot_place growth.slot) }
+{
+    let log = match log_in(file) {
+        Ok(log) => log,
+        Err(fault) => return Err(fault),
+    };
+    let size = log.head.size.saturating_add(digests.len());
+    if !is_size(size) {
+        return Err(Fault::Size);
+    }
+    let more = bytes_behind(alloc, log, digests)?;
+    Ok(Growth {
+        size,
+        place: START + 32 * log.digests.len(),
+        digests: more,
+        slot_place: log.head.next_slot(),
+        slot: slot_of(size),
+    })
+}
