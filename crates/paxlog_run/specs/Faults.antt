@@ -1,5 +1,5 @@
 -- Why there is no answer.
-use Rattle.std.specs.Prelude.{◌≡◌, ◌⊎◌, ℕ, nat_lt, not, Bool, if◌then◌else◌, List, Option, Some, None, unwrap_or, Result, Ok, Err, MatchResult}
+use Rattle.std.specs.Prelude.{◌≡◌, ◌⊎◌, ℕ, nat_lt, not, ◌&&◌, Bool, if◌then◌else◌, List, Option, Some, None, unwrap_or, Result, Ok, Err, IsOk, MatchResult}
 use Rattle.ark_base.specs.Outcome.{◌>>=◌}
 use Rattle.kept_log.specs.Kept.{has_front}
 use Rattle.paxlog_run.specs.LogFile.{digest_count, file_head}
@@ -11,9 +11,18 @@ abbrev pub GivesBy : {A B : Type 0} → (A → B) → Result B Fault → Result 
 GivesBy view outcome result =
     MatchResult result (λ value. outcome ≡ Ok (view value)) (λ fault. (fault ≡ Memory) ⊎ (outcome ≡ Err fault))
 
+-- The call gives a value where the outcome is one, or a request for memory was refused; else the outcome's fault.
+abbrev pub GivesWhere : {A B : Type 0} → Result B Fault → Result A Fault → Type 0
+GivesWhere outcome result =
+    MatchResult result (λ value. IsOk outcome) (λ fault. (fault ≡ Memory) ⊎ (outcome ≡ Err fault))
+
 -- goes on where a condition holds; else the fault
 abbrev pub only_if : {A : Type 0} → Bool → Fault → Result A Fault → Result A Fault
 only_if holds fault next = if holds then next else Err fault
+
+-- whether a log of some size has a proof that it continues one of an old size
+abbrev pub is_older : ℕ → ℕ → Bool
+is_older old_size size = nat_lt 0 old_size && not (nat_lt size old_size)
 
 -- a size, where there are as many digests as its log has stored
 abbrev pub size_with : Option (ℕ × Bool) → ℕ → Result ℕ Fault

@@ -1,5 +1,5 @@
 -- What proofs show that stand in hexadecimal.
-use Rattle.std.specs.Prelude.{ℕ, nat_lt, List, not, ◌&&◌, Bool, Result, Ok, Err}
+use Rattle.std.specs.Prelude.{ℕ, nat_lt, List, Bool, Result, Ok, Err}
 use Rattle.hex.specs.Hex.{decode_of}
 use Rattle.hex.specs.declared.error.FromHexError.{FromHexError}
 use Rattle.ark_base.specs.declared.error.Error.{Error}
@@ -9,7 +9,7 @@ use Rattle.ark_base.specs.Outcome.{Outcome, ◌>>=◌}
 use Rattle.ark_paths.specs.Pair.{Digest}
 use Rattle.ark_trees.specs.Rfc6962.{log_hashes, node_of}
 use Rattle.merkle_log.specs.Received.{digests_in, inclusion_length, consistency_length, received_inclusion, received_consistency}
-use Rattle.paxlog_run.specs.Faults.{only_if}
+use Rattle.paxlog_run.specs.Faults.{is_older, only_if}
 use Rattle.paxlog_run.specs.declared.fault.Fault.{Fault}
 use Rattle.paxlog_run.specs.declared.fault.Fault.TheVariants.{Memory, Index, Size, Length, Word}
 
@@ -47,7 +47,7 @@ entry_shown_by root size index entry word = spelled (decode_of word) >>= entry_s
 
 -- whether the bytes of a consistency proof show that the log with one root and size continues another
 abbrev pub continuing_shown : ℕ → Digest → ℕ → Digest → List ℕ → Result Bool Fault
-continuing_shown old_size old size new proof = only_if (nat_lt 0 old_size && not (nat_lt size old_size)) Size
+continuing_shown old_size old size new proof = only_if (is_older old_size size) Size
     (with_fault (received_consistency node_of old_size old size new
     (proof_digests (consistency_length old_size size) proof)))
 

@@ -25,7 +25,7 @@ fn next_line(bytes: &[u8]) -> Option<(&[u8], &[u8])>
         (λ found. (lines_of bytes.now ≡ found.0.now ∷ lines_of found.1.now)
         × (length found.1.now < length bytes.now)) }
 {
-    if bytes.is_empty() {
+    if bytes.len() == 0 {
         return None;
     }
     match memchr(b'\n', bytes) {

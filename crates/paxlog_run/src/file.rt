@@ -1,11 +1,12 @@
 //! A log, as the bytes of its file say it.
 
-ghost use Rattle.std.specs.Prelude.{◌≡◌, ◌≤◌, Some, Ok, Err, length, List, IfOk, IfErr, unwrap_or};
+ghost use Rattle.std.specs.Prelude.{◌≡◌, ◌≤◌, ◌<◌, ◌+◌, ◌*◌, ◌^◌, drop, Some, Ok, Err, length, List, IfOk, IfErr, unwrap_or};
+ghost use Rattle.std.specs.Simd.{first_chunks};
 ghost use Rattle.ark_paths.specs.Pair.{Digest};
-ghost use Rattle.kept_log.specs.Kept.{front, Keeps};
+ghost use Rattle.kept_log.specs.Kept.{Keeps};
 ghost use Rattle.merkle_log.specs.Stored.{stored_count};
 ghost use Rattle.paxlog_run.specs.Faults.{log_size, of_first};
-ghost use Rattle.paxlog_run.specs.LogFile.{digest_count, file_end, file_head, stored_in, IsLogFile};
+ghost use Rattle.paxlog_run.specs.LogFile.{file_end, file_head, stored_in, IsLogFile};
 
 use crate::fault::Fault;
 use crate::head::{Head, START, head_in};
@@ -18,6 +19,16 @@ pub struct LogFile<'a> {
     pub digests: &'a [[u8; 32]],
 }
 
+// The first digests behind the head.
+fn stored_in(bytes: &[u8], count: usize) -> &[[u8; 32]]
+    requires { 96 + 32 * count ≤ length bytes.now }
+    ensures digests { result.now ≡ first_chunks 32 count (drop 96 bytes.now) }
+    ensures count { length result.now ≡ count }
+{
+    let (digests, _) = bytes[START..START + 32 * count].as_chunks::<32>();
+    digests
+}
+
 /// Returns the log that the bytes of a file are. What stands behind the digests of its size does not count.
 ///
 /// Errors: `NoLog`; `Short`, also for a size of over 63 bits.
@@ -27,19 +38,23 @@ pub fn log_in(bytes: &[u8]) -> Result<LogFile<'_>, Fault>
         file_head bytes.now ≡ Some (log.head.size, log.head.is_second_next)) }
     ensures digests { IfOk result (λ log. log.digests.now ≡ stored_in log.head.size bytes.now) }
     ensures count { IfOk result (λ log. length log.digests.now ≡ stored_count log.head.size) }
+    ensures fits { IfOk result (λ log. log.head.size < 2 ^ 63) }
     ensures inside { IfOk result (λ log. file_end log.head.size ≤ length bytes.now) }
     ensures refused { IfErr result (λ fault. log_size bytes.now ≡ Err fault) }
 {
     let Some(head) = head_in(bytes) else {
         return Err(Fault::NoLog);
     };
-    let (digests, _) = bytes[START..].as_chunks::<32>();
-    if !is_size(head.size) || digests.len() < stored_count(head.size) {
+    if !is_size(head.size) {
+        return Err(Fault::Short);
+    }
+    let count = stored_count(head.size);
+    if bytes.len().saturating_sub(START) / 32 < count {
         return Err(Fault::Short);
     }
     Ok(LogFile {
         head,
-        digests: &digests[..stored_count(head.size)],
+        digests: stored_in(bytes, count),
     })
 }
 
@@ -59,10 +74,7 @@ pub fn first_of(bytes: &[u8], named: Option<usize>) -> Result<Kept<'_>, Fault>
         Ok(log) => log,
         Err(fault) => return Err(fault),
     };
-    let size = match named {
-        Some(size) => size,
-        None => log.head.size,
-    };
+    let size = named.unwrap_or(log.head.size);
     if size > log.head.size {
         return Err(Fault::Size);
     }

@@ -1,18 +1,16 @@
 //! What an append writes to the file of a log.
 
-ghost use Rattle.std.specs.Prelude.{◌≡◌, ◌<◌, ◌+◌, ◌^◌, ◌++◌, List, length, IfOk, IsOkUnless};
-ghost use Rattle.std.specs.List.{flat_map, AllByRecursion};
-ghost use Rattle.ark_base.specs.Digits.{itself, AreBytes};
+ghost use Rattle.std.specs.Prelude.{◌≡◌, ◌<◌, ◌+◌, ◌≤◌, ◌^◌, List, length, take, IfOk, IsOkUnless};
 ghost use Rattle.ark_paths.specs.Pair.{Digest};
 ghost use Rattle.kept_log.specs.Kept.{Keeps};
 ghost use Rattle.merkle_log.specs.Stored.{stored_count};
-ghost use Rattle.paxlog_run.specs.Append.{appended_size, Appends};
+ghost use Rattle.paxlog_run.specs.Append.{appended_size, Appends, HasBehind};
 ghost use Rattle.paxlog_run.specs.Faults.{GivesBy};
 ghost use Rattle.paxlog_run.specs.LogFile.{IsLogFile};
 ghost use Rattle.paxlog_run.specs.declared.fault.Fault.TheVariants.{Memory};
 
 use crate::fault::Fault;
-use crate::file::{LogFile, log_in};
+use crate::file::log_in;
 use crate::head::{START, slot_of};
 use ark_base::serialize::CanonicalItem;
 use kept_log::{Kept, is_size, stored_count};
@@ -33,28 +31,48 @@ pub struct Growth {
     pub slot: [u8; 32],
 }
 
-// The bytes of the digests to put behind the stored ones of a log for more leaves.
-fn bytes_behind(alloc: Global, log: LogFile<'_>, digests: &[[u8; 32]]) -> Result<Vec<u8>, Fault>
-    requires whole { length log.digests.now ≡ stored_count log.head.size }
-    requires fits { log.head.size + length digests.now < 2 ^ 63 }
-    ensures bytes { (leaves : List Digest) → length leaves ≡ log.head.size
-        → Keeps leaves log.digests.now
-        → IfOk result (λ bytes. (more : List Digest) × AllByRecursion (AreBytes 32) more
-        × (bytes.items ≡ flat_map itself more)
-        × (length log.digests.now + length more ≡ stored_count (log.head.size + length digests.now))
-        × Keeps (leaves ++ digests.now) (log.digests.now ++ more)) }
+// The bytes of the digests to put behind the stored ones of a log for more leaves. They are made in a buffer.
+fn bytes_made(
+    alloc: Global,
+    kept: &Kept,
+    digests: &[[u8; 32]],
+    more: &mut [[u8; 32]],
+) -> Result<Vec<u8>, Fault>
+    requires fits { kept.now.size + length digests.now < 2 ^ 63 }
+    requires room { let size = kept.now.size in
+        stored_count (size + length digests.now) ≤ stored_count size + length more.old }
+    ensures bytes { (leaves : List Digest) → length leaves ≡ kept.now.size
+        → Keeps leaves kept.now.digests
+        → let stored = take (stored_count kept.now.size) kept.now.digests in
+        IfOk result (λ bytes. HasBehind leaves stored digests.now bytes.items) }
     ensures memory { IsOkUnless result Memory }
 {
-    let Some(kept) = Kept::of(log.head.size, log.digests) else {
+    let made = kept_log::append(kept, digests, more);
+    let mut bytes = Vec::new(alloc);
+    <[u8; 32]>::serialize_items(&more[..made], &mut bytes)?;
+    Ok(bytes)
+}
+
+// The same, of stored digests.
+fn bytes_behind(
+    alloc: Global,
+    size: usize,
+    stored: &[[u8; 32]],
+    digests: &[[u8; 32]],
+) -> Result<Vec<u8>, Fault>
+    requires whole { length stored.now ≡ stored_count size }
+    requires fits { size + length digests.now < 2 ^ 63 }
+    ensures bytes { (leaves : List Digest) → length leaves ≡ size → Keeps leaves stored.now
+        → IfOk result (λ bytes. HasBehind leaves stored.now digests.now bytes.items) }
+    ensures memory { IsOkUnless result Memory }
+{
+    let Some(kept) = Kept::of(size, stored) else {
         return Err(Fault::Memory);
     };
-    let size = log.head.size + digests.len();
+    let count = stored_count(size + digests.len()) - stored.len();
     let mut more = Vec::new(alloc);
-    more.resize(stored_count(size) - log.digests.len(), [0u8; 32])?;
-    let count = kept_log::append(&kept, digests, &mut more);
-    let mut bytes = Vec::new(alloc);
-    <[u8; 32]>::serialize_items(&more[..count], &mut bytes)?;
-    Ok(bytes)
+    more.resize(count, [0u8; 32])?;
+    bytes_made(alloc, &kept, digests, &mut more)
 }
 
 /// Returns what an append of entries with these digests writes to the file of a log.
@@ -78,7 +96,7 @@ pub fn grow(alloc: Global, file: &[u8], digests: &[[u8; 32]]) -> Result<Growth, 
     if !is_size(size) {
         return Err(Fault::Size);
     }
-    let more = bytes_behind(alloc, log, digests)?;
+    let more = bytes_behind(alloc, log.head.size, log.digests, digests)?;
     Ok(Growth {
         size,
         place: START + 32 * log.digests.len(),

@@ -2,7 +2,8 @@
 
 ghost use Rattle.std.specs.Prelude.{◌≡◌, ◌+◌, ◌≤◌, Option, length, take, drop};
 ghost use Rattle.std.specs.Option.{option_map};
-ghost use Rattle.paxlog_run.specs.LogFile.{file_head, first_word, larger, next_slot, slot, slot_size};
+ghost use Rattle.std.specs.Str.{bytes_eq};
+ghost use Rattle.paxlog_run.specs.LogFile.{file_head, first_word, larger, next_slot, slot, slot_size, title};
 
 use sha2::{Digest, Sha256};
 
@@ -80,13 +81,24 @@ fn piece(bytes: &[u8], at: usize) -> [u8; 32]
     piece
 }
 
+// Whether the first 32 bytes are those of a log's file.
+fn has_title(bytes: &[u8]) -> bool
+    requires { 32 ≤ length bytes.now }
+    ensures { result ≡ bytes_eq (take 32 bytes.now) title }
+{
+    piece(bytes, 0) == TITLE
+}
+
 /// Returns the head of a log's file; `None` where the bytes are those of no log's. The larger size of the slots that are
 /// whole is the log's.
 pub fn head_in(bytes: &[u8]) -> Option<Head>
     ensures { let seen = option_map (λ head. (head.size, head.is_second_next)) result in
         seen ≡ file_head bytes.now }
 {
-    if bytes.len() < START || piece(bytes, 0) != TITLE {
+    if bytes.len() < START {
+        return None;
+    }
+    if !has_title(bytes) {
         return None;
     }
     larger(size_in(&piece(bytes, 32)), size_in(&piece(bytes, 64)))

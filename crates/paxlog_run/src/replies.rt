@@ -1,17 +1,18 @@
 //! What is said of the log of a file, line by line.
 
-ghost use Rattle.std.specs.Prelude.{◌≡◌, ℕ, ◌++◌, ◌∷◌, [], nat_lt, not, ◌&&◌, true, false, List, length, IfOk, IfErr, IsErrOf, Ok, Err, unwrap_or};
+ghost use Rattle.std.specs.Prelude.{◌≡◌, ℕ, nat_lt, true, false, List, length, IfOk, IfErr, Ok, Err, unwrap_or};
 ghost use Rattle.std.specs.List.{flat_map};
 ghost use Rattle.ark_base.specs.Digits.{itself};
 ghost use Rattle.ark_paths.specs.Pair.{Digest};
-ghost use Rattle.paxlog_run.specs.Faults.{GivesBy, log_size, of_first, only_if};
+ghost use Rattle.paxlog_run.specs.Faults.{GivesBy, GivesWhere, is_older, log_size, of_first, only_if};
 ghost use Rattle.paxlog_run.specs.LogFile.{IsLogFile};
 ghost use Rattle.paxlog_run.specs.Replies.{hex_line, SaysConsistency, SaysInclusion, SaysRoot};
 ghost use Rattle.paxlog_run.specs.declared.fault.Fault.TheVariants.{Index, Size};
 
 use crate::fault::Fault;
-use crate::file::first_of;
+use crate::file::{first_of, log_in};
 use ark_base::serialize::CanonicalItem;
+use kept_log::Kept;
 use std::alloc::Global;
 
 /// Returns the line of the root of the first entries of the log of a file, of as many as are named, or else of all: their
@@ -19,8 +20,7 @@ use std::alloc::Global;
 ///
 /// Errors, the first that applies: `NoLog`, `Short`, `Size` for more than there are; `Memory` in place of any.
 pub fn root_line(alloc: Global, file: &[u8], named: Option<usize>) -> Result<Vec<u8>, Fault>
-    ensures given { (line : List ℕ)
-        × GivesBy (λ line. line.items) (of_first file.now named (λ size. Ok line)) result }
+    ensures given { GivesWhere (of_first file.now named Ok) result }
     ensures root { (leaves : List Digest) → IsLogFile leaves file.now
         → let size = unwrap_or named (length leaves) in
         IfOk result (λ line. SaysRoot leaves size line.items) }
@@ -64,8 +64,8 @@ pub fn inclusion_line(
     index: usize,
     named: Option<usize>,
 ) -> Result<Vec<u8>, Fault>
-    ensures given { (line : List ℕ) × GivesBy (λ line. line.items)
-        (of_first file.now named (λ size. only_if (nat_lt index size) Index (Ok line))) result }
+    ensures given { let outcome = of_first file.now named in
+        GivesWhere (outcome (λ size. only_if (nat_lt index size) Index (Ok size))) result }
     ensures proof { (leaves : List Digest) → IsLogFile leaves file.now
         → let size = unwrap_or named (length leaves) in
         IfOk result (λ line. SaysInclusion leaves size index line.items) }
@@ -92,10 +92,8 @@ pub fn consistency_line(
     old_size: usize,
     named: Option<usize>,
 ) -> Result<Vec<u8>, Fault>
-    ensures given { (line : List ℕ)
-        × (let older = λ size. nat_lt 0 old_size && not (nat_lt size old_size) in
-        GivesBy (λ line. line.items)
-        (of_first file.now named (λ size. only_if (older size) Size (Ok line))) result) }
+    ensures given { let outcome = of_first file.now named in
+        GivesWhere (outcome (λ size. only_if (is_older old_size size) Size (Ok size))) result }
     ensures proof { (leaves : List Digest) → IsLogFile leaves file.now
         → let size = unwrap_or named (length leaves) in
         IfOk result (λ line. SaysConsistency leaves size old_size line.items) }
@@ -104,7 +102,10 @@ pub fn consistency_line(
         Ok(kept) => kept,
         Err(fault) => return Err(fault),
     };
-    if old_size == 0 || kept.size() < old_size {
+    if old_size == 0 {
+        return Err(Fault::Size);
+    }
+    if kept.size() < old_size {
         return Err(Fault::Size);
     }
     let path = kept.consistency_path(alloc, old_size)?;
@@ -124,8 +125,12 @@ pub fn is_sound(file: &[u8]) -> Result<bool, Fault>
     // Else it is that of none.
     ensures damaged { result ≡ Ok false → (leaves : List Digest) → IsLogFile leaves file.now → ⊥ }
 {
-    match first_of(file, None) {
-        Ok(kept) => Ok(kept.is_sound()),
-        Err(fault) => Err(fault),
+    let log = match log_in(file) {
+        Ok(log) => log,
+        Err(fault) => return Err(fault),
+    };
+    match Kept::of(log.head.size, log.digests) {
+        Some(kept) => Ok(kept.is_sound()),
+        None => Err(Fault::Short),
     }
 }
