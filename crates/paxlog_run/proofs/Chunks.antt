@@ -19,8 +19,10 @@ chunks-take (suc k) xs =
 pub chunks-flat : (chunks : List (List ℕ)) → AllByRecursion (AreBytes 32) chunks
     → first_chunks 32 (length chunks) (flat_map itself chunks) ≡ chunks
 chunks-flat [] all = refl
-chunks-flat (chunk ∷ chunks) all = rw (take_at chunk (flat_map itself chunks) 32 all.0.0,
-    drop_at chunk (flat_map itself chunks) 32 all.0.0) (ap (λ more. chunk ∷ more) (chunks-flat chunks all.1))
+chunks-flat (chunk ∷ chunks) all = rw (
+  take_at chunk (flat_map itself chunks) 32 all.0.0,
+  drop_at chunk (flat_map itself chunks) 32 all.0.0,
+) (ap (λ more. chunk ∷ more) (chunks-flat chunks all.1))
 
 pub length-flat : (chunks : List (List ℕ)) → AllByRecursion (AreBytes 32) chunks → length (flat_map itself chunks)
     ≡ 32 * length chunks
@@ -38,9 +40,20 @@ chunks-append zero m [] ys long = rw (add_zero m) refl
 chunks-append zero m (x ∷ xs) ys long = absurd (omega arith)
 chunks-append (suc k) m xs ys long =
     let more : suc k + m ≡ suc (k + m) = omega arith in
-    rw (more, take-append-le 32 xs ys (omega (arith, step k, long)), drop-append-le 32 xs ys (omega (arith, step k,
-    long))) (ap (λ rest. take 32 xs ∷ rest) (chunks-append k m (drop 32 xs) ys (omega (arith, step k, long,
-    length-drop 32 xs))))
+    rw (
+      more,
+      take-append-le 32 xs ys (omega (arith, step k, long)),
+      drop-append-le 32 xs ys (omega (
+        arith,
+        step k,
+        long,
+      )),
+    ) (ap (λ rest. take 32 xs ∷ rest) (chunks-append k m (drop 32 xs) ys (omega (
+      arith,
+      step k,
+      long,
+      length-drop 32 xs,
+    ))))
 
 -- the chunks of a part
 pub chunks-part : (k n : ℕ) (xs : List ℕ) → n ≡ 32 * k → 32 * k ≤ length xs

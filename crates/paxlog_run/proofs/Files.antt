@@ -110,9 +110,13 @@ module _ (leaves : List Digest) (file rest : List ℕ) (log : Known leaves file)
   stored-kept : (other : List ℕ) → drop 96 other ≡ take (32 * stored_count (length leaves)) (drop 96 file) ++ rest
       → stored_in (length leaves) other ≡ stored_in (length leaves) file
   stored-kept other is = stored-same (length leaves) file other
-      (rw (is, take-append-le (32 * stored_count (length leaves)) (take (32 * stored_count (length leaves))
-      (drop 96 file)) rest (omega (arith, stored-length)), take-take (32 * stored_count (length leaves))
-      (32 * stored_count (length leaves)) (drop 96 file) (omega arith)) refl)
+      (rw (
+        is,
+        take-append-le (32 * stored_count (length leaves)) (take (32 * stored_count (length leaves))
+            (drop 96 file)) rest (omega (arith, stored-length)),
+        take-take (32 * stored_count (length leaves))
+            (32 * stored_count (length leaves)) (drop 96 file) (omega arith),
+      ) refl)
 
   -- whatever stands behind the cut, the log is the same
   pub stays : IsLogFile leaves (take (file_end (length leaves)) file ++ rest)
@@ -175,8 +179,13 @@ grown leaves more file log new all fits count keeps =
     ∙ ap (λ xs. xs ++ first_chunks 32 (length new) rest) (chunks-take (stored_count (length leaves)) (drop 96 file))
     ∙ ap (λ xs. stored_in (length leaves) file ++ xs) (chunks-flat new all) in
     log-of (leaves ++ more) after next.0 next.1 fits
-    (omega (arith, slot-length before (slot size) log.second head.long long, length-cut leaves file rest log,
-    length-flat new all, count))
+    (omega (
+      arith,
+      slot-length before (slot size) log.second head.long long,
+      length-cut leaves file rest log,
+      length-flat new all,
+      count,
+    ))
     (subst (Keeps (leaves ++ more)) (sym stored) keeps)
 
 -- ---- what a check of the stored digests says
@@ -201,10 +210,12 @@ module _ (file : List ℕ) (size : ℕ) (second : Bool) (kept : StoredValue) (di
       let leaves = row_of kept 0 in
       let long : length leaves ≡ size = length-row_of kept 0 ∙ ap (λ k. k.size) is in
       let seen : kept.digests ≡ stored_in (length leaves) file =
-      ap (λ k. k.digests) kept-is ∙ ap (λ n. stored_in n file) (sym long) in
-      (leaves, log-of leaves file second
-          (head-parts file (length leaves) second (head ∙ ap (λ n. Some (n, second)) (sym long)))
-          (omega (arith, long, fits)) (rw long inside) (subst (Keeps leaves) seen keeps))
+      ap (λ k. k.digests) kept-is ∙ ap (λ n. stored_in n file) (sym long) in (
+        leaves,
+        log-of leaves file second
+            (head-parts file (length leaves) second (head ∙ ap (λ n. Some (n, second)) (sym long)))
+            (omega (arith, long, fits)) (rw long inside) (subst (Keeps leaves) seen keeps),
+      )
 
   pub damaged-file : (IsStored node_of (row_of kept) → ⊥) → (leaves : List Digest) → IsLogFile leaves file → ⊥
   damaged-file damaged leaves log =

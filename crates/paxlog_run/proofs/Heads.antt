@@ -1,8 +1,8 @@
 -- The head of a log's file, and what a slot that is written makes of it.
-use Rattle.std.proofs.Common.{◌≡◌, ℕ, ◌+◌, ◌<◌, ◌≤◌, ◌^◌, nat_lt, Bool, true, false, if◌then◌else◌, List, ◌++◌, length, take, drop, Option, Some, None, refl, ap, sym, ◌∙◌, arith}
+use Rattle.std.proofs.Common.{◌≡◌, ℕ, ◌+◌, ◌<◌, ◌≤◌, ◌^◌, nat_lt, Bool, true, false, if◌then◌else◌, List, length, take, drop, Option, Some, None, refl, ap, ◌∙◌, arith}
 use Rattle.std.specs.Int.{w64, to_le_bytes}
 use Rattle.std.specs.Str.{bytes_eq}
-use Rattle.std.proofs.lemmas.Bool.{cases_lt, le-ltb, lt-ltb, ltb-false}
+use Rattle.std.proofs.lemmas.Bool.{le-ltb, ltb-false}
 use Rattle.std.proofs.lemmas.List.{length-append, length-take-le}
 use Rattle.std.proofs.lemmas.Nat.{from_le_bytes-to_le_bytes_8}
 use Rattle.std.proofs.lemmas.Slice.Eq.{bytes_eq-Decides}
@@ -127,12 +127,14 @@ head-written file part size new true head long is =
     let begins : take 32 (written file 64 part) ≡ take 32 file =
     piece-before file part 64 0 32 (omega arith) (omega (arith, head.long)) in
     let found = larger-first size new (slot_size part) is in
-    let has = first-has (slot_size (take 32 (drop 32 file))) (slot_size (take 32 (drop 64 file))) size head.slots in
-    (found.0, record {
-      long = omega (arith, head.long, length-written file part 64 inside);
-      begins = rw begins head.begins;
-      slots = rw (first, other, has) found.1;
-    })
+    let has = first-has (slot_size (take 32 (drop 32 file))) (slot_size (take 32 (drop 64 file))) size head.slots in (
+      found.0,
+      record {
+        long = omega (arith, head.long, length-written file part 64 inside);
+        begins = rw begins head.begins;
+        slots = rw (first, other, has) found.1;
+      },
+    )
 head-written file part size new false head long is =
     let inside : 32 + length part ≤ length file = omega (arith, head.long, long) in
     let begins : take 32 (written file 32 part) ≡ take 32 file =
@@ -142,12 +144,14 @@ head-written file part size new false head long is =
     let behind : drop 64 (written file 32 part) ≡ drop 64 file =
     behind-written file part 32 64 (omega (arith, long)) (omega (arith, head.long)) in
     let found = larger-second size new (slot_size part) is in
-    let has = second-has (slot_size (take 32 (drop 32 file))) (slot_size (take 32 (drop 64 file))) size head.slots in
-    (found.0, record {
-      long = omega (arith, head.long, length-written file part 32 inside);
-      begins = rw begins head.begins;
-      slots = rw (first, behind, has) found.1;
-    })
+    let has = second-has (slot_size (take 32 (drop 32 file))) (slot_size (take 32 (drop 64 file))) size head.slots in (
+      found.0,
+      record {
+        long = omega (arith, head.long, length-written file part 32 inside);
+        begins = rw begins head.begins;
+        slots = rw (first, behind, has) found.1;
+      },
+    )
 
 -- ---- a slot
 

@@ -1,6 +1,6 @@
 -- The pieces of a file that was cut, and of one that was written to.
 use Rattle.std.proofs.Common.{◌≡◌, ℕ, ◌+◌, ◌-◌, ◌≤◌, List, ◌++◌, length, take, drop, refl, ap, sym, ◌∙◌, append_assoc, arith}
-use Rattle.std.proofs.lemmas.List.{length-append, length-drop, length-take-le, take-take, take-append-le, drop-append-le, drop-take, drop-drop, take_at, drop_at}
+use Rattle.std.proofs.lemmas.List.{length-append, length-drop, length-take-le, take-take, take-append-le, drop-append-le, drop-take, take_at, drop_at}
 use Rattle.paxlog_run.specs.LogFile.{written}
 
 -- a piece that ends where the file was cut, or before
@@ -10,8 +10,13 @@ piece-at file rest at m n le inside =
     let long : length (take (at + m) file) ≡ at + m = length-take-le (at + m) file inside in
     let some : length (take m (drop at file)) ≡ m =
     length-take-le m (drop at file) (omega (arith, length-drop at file)) in
-    rw (drop-append-le at (take (at + m) file) rest (omega (arith, long)), drop-take at m file, take-append-le n
-    (take m (drop at file)) rest (omega (arith, some)), take-take n m (drop at file) le) refl
+    rw (
+      drop-append-le at (take (at + m) file) rest (omega (arith, long)),
+      drop-take at m file,
+      take-append-le n
+          (take m (drop at file)) rest (omega (arith, some)),
+      take-take n m (drop at file) le,
+    ) refl
 
 pub piece-cut : (file rest : List ℕ) (at n end : ℕ) → at + n ≤ end → end ≤ length file → take n (drop at
     (take end file ++ rest)) ≡ take n (drop at file)
@@ -38,9 +43,13 @@ piece-before file part place at n le inside =
 pub piece-written : (file part : List ℕ) (place n : ℕ) → length part ≡ n → place ≤ length file → take n (drop place
     (written file place part)) ≡ part
 piece-written file part place n long inside =
-    rw (append_assoc (take place file) part (drop (place + length part) file), drop_at (take place file)
-    (part ++ drop (place + length part) file) place (length-take-le place file inside), take_at part
-    (drop (place + length part) file) n long) refl
+    rw (
+      append_assoc (take place file) part (drop (place + length part) file),
+      drop_at (take place file)
+          (part ++ drop (place + length part) file) place (length-take-le place file inside),
+      take_at part
+          (drop (place + length part) file) n long,
+    ) refl
 
 -- what stands behind what was written
 pub behind-written : (file part : List ℕ) (place end : ℕ) → place + length part ≡ end → place ≤ length file → drop end

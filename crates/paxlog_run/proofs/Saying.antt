@@ -1,6 +1,6 @@
 -- The lines that are said of a log, and the faults in their place.
-use Rattle.std.proofs.Common.{◌≡◌, ℕ, ◌<◌, ◌≤◌, nat_lt, Bool, true, false, List, Option, Result, Ok, Err, refl, ap, sym, ◌∙◌, subst, inl, inr, arith}
-use Rattle.std.specs.Prelude.{◌⊎◌, not, IfOk, IsOk}
+use Rattle.std.proofs.Common.{◌≡◌, ℕ, ◌<◌, ◌≤◌, nat_lt, Bool, true, false, List, Option, Result, Ok, Err, refl, ap, sym, ◌∙◌, inl, inr, arith}
+use Rattle.std.specs.Prelude.{IfOk}
 use Rattle.std.specs.List.{flat_map}
 use Rattle.std.proofs.lemmas.Bool.{le-ltb, lt-ltb}
 use Rattle.ark_base.specs.Digits.{itself}
@@ -9,7 +9,7 @@ use Rattle.ark_paths.specs.Pair.{Digest}
 use Rattle.paxlog_run.specs.Faults.{GivesBy, GivesWhere, is_older, of_first, only_if}
 use Rattle.paxlog_run.specs.Replies.{hex_line}
 use Rattle.paxlog_run.specs.declared.fault.Fault.{Fault}
-use Rattle.paxlog_run.specs.declared.fault.Fault.TheVariants.{Memory, Index, Size}
+use Rattle.paxlog_run.specs.declared.fault.Fault.TheVariants.{Index, Size}
 use Rattle.paxlog_run.proofs.Sizes.{given-of}
 
 -- a value is given where the outcome is one

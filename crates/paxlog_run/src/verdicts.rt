@@ -88,9 +88,7 @@ fn shows_continuing(
         return Err(Fault::Size);
     }
     let (old_size, size) = (old_size as u64, size as u64);
-    Ok(verify_consistency_bytes(
-        alloc, &LogHasher, old_size, old_root, size, root, proof,
-    )?)
+    Ok(verify_consistency_bytes(alloc, &LogHasher, old_size, old_root, size, root, proof)?)
 }
 
 /// Returns whether the consistency proof that a word spells shows that the log with one root and size continues another.

@@ -1,5 +1,4 @@
-use Rattle.std.proofs.Common.{Bool, true, false, length, ◌≡◌, ◌∙◌, sym, arith}
-use Rattle.kept_log.specs.Kept.{has_front}
+use Rattle.std.proofs.Common.{true, false, length, ◌≡◌, ◌∙◌, sym, arith}
 use Rattle.merkle_log.proofs.Positions.{count-rises}
 use Rattle.paxlog_run.proofs.Files.{front-whole}
 use Rattle.paxlog_run.proofs.Sizes.{size-above, size-kept}
@@ -19,6 +18,9 @@ returns-in-None-clause-refused c =
     let size = c.unwrap_or-size.result in
     let all = c.in-Ok.log.head.size in
     let rises = count-rises size all c.if-size-log.false in
-    let whole = front-whole size (length c.in-Ok.log.digests.now) (omega (arith, c.if-size-log.false,
-    c.in-Ok.ensures.fits)) (omega (arith, rises, c.in-Ok.ensures.count)) in
+    let whole = front-whole size (length c.in-Ok.log.digests.now) (omega (
+      arith,
+      c.if-size-log.false,
+      c.in-Ok.ensures.fits,
+    )) (omega (arith, rises, c.in-Ok.ensures.count)) in
     let no : true ≡ false = sym whole ∙ c.in-None.ensures in absurd (cc)

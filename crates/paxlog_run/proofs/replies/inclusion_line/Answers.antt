@@ -1,4 +1,4 @@
-use Rattle.std.proofs.Common.{◌≤◌, ◌<◌, nat_lt, List, [], length, Ok, inr, take, subst}
+use Rattle.std.proofs.Common.{◌≤◌, ◌<◌, nat_lt, [], length, Ok, inr, take, subst}
 use Rattle.std.specs.Prelude.{unwrap_or}
 use Rattle.std.specs.List.{flat_map}
 use Rattle.sha2.specs.Sha256.{sha256}

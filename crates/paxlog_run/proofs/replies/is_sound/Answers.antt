@@ -17,6 +17,8 @@ returns-in-Some-clause-damaged c = λ damaged. damaged-file c.args.file.now c.in
 
 pub returns-in-None-clause-refused : goal.returns-in-None-clause-refused
 returns-in-None-clause-refused c =
-    let whole = front-whole c.in-Ok.log.head.size (length c.in-Ok.log.digests.now) c.in-Ok.ensures.fits (omega (arith,
-    c.in-Ok.ensures.count)) in
+    let whole = front-whole c.in-Ok.log.head.size (length c.in-Ok.log.digests.now) c.in-Ok.ensures.fits (omega (
+      arith,
+      c.in-Ok.ensures.count,
+    )) in
     let no : true ≡ false = sym whole ∙ c.in-None.ensures in absurd (cc)
