@@ -105,7 +105,10 @@ fn answer(rt: &HostRuntime, request: Request, words: &[Vec<u8>]) -> Result<u8, S
         Request::Verify { root, size, index } => {
             let entry = bytes_of(rt, words, 4)?;
             let proof = word(words, 5);
-            say_verdict(rt, verify_inclusion(rt.alloc(), &root, size, index, &entry, proof)?)
+            say_verdict(
+                rt,
+                verify_inclusion(rt.alloc(), &root, size, index, &entry, proof)?,
+            )
         }
         Request::VerifyConsistency {
             old_size,

@@ -1,12 +1,13 @@
 //! The digests of entries that are lines.
 
-ghost use Rattle.std.specs.Prelude.{◌≡◌, ◌<◌, ◌∷◌, [], List, length, map, MatchOption, Ok};
+ghost use Rattle.std.specs.Prelude.{◌≡◌, ◌<◌, ◌∷◌, ◌++◌, [], List, length, map, IfSome, IsOkUnless, OnOk, MatchOption, Ok};
 ghost use Rattle.ark_trees.specs.Rfc6962.{entry_hash};
 ghost use Rattle.paxlog_run.specs.Entries.{lines_of};
 ghost use Rattle.paxlog_run.specs.Faults.{GivesBy};
+ghost use Rattle.paxlog_run.specs.declared.fault.Fault.TheVariants.{Memory};
 
 use crate::fault::Fault;
-use ark_trees::digest_of_entry;
+use ark_trees::{digest_of_entry, digests_of_entries};
 use memchr::memchr;
 use std::alloc::Global;
 
@@ -16,7 +17,7 @@ pub trait Progress {
     fn show(&mut self, done: usize, all: usize);
 }
 
-// How many lines are hashed between two times that progress is shown.
+// How many lines are hashed between two times that progress is shown: a multiple of four.
 const BETWEEN: usize = 65536;
 
 /// Returns the first line, without its line feed, and what stands behind that; nothing where there is no byte.
@@ -34,6 +35,39 @@ fn next_line(bytes: &[u8]) -> Option<(&[u8], &[u8])>
     }
 }
 
+// Returns the first four lines, and what stands behind them; nothing where there are fewer.
+fn next_four(bytes: &[u8]) -> Option<(&[u8], &[u8], &[u8], &[u8], &[u8])>
+    ensures { IfSome result (λ found. (lines_of bytes.now
+        ≡ found.0.now ∷ found.1.now ∷ found.2.now ∷ found.3.now ∷ lines_of found.4.now)
+        × (length found.4.now < length bytes.now)) }
+{
+    let (first, rest) = next_line(bytes)?;
+    let (second, rest) = next_line(rest)?;
+    let (third, rest) = next_line(rest)?;
+    let (fourth, rest) = next_line(rest)?;
+    Some((first, second, third, fourth, rest))
+}
+
+// Puts the digests of four entries behind others.
+fn push_four(
+    digests: &mut Vec<[u8; 32]>,
+    a: &[u8],
+    b: &[u8],
+    c: &[u8],
+    d: &[u8],
+) -> Result<(), Fault>
+    ensures pushed { let four = a.now ∷ b.now ∷ c.now ∷ d.now ∷ [] in
+        OnOk result (digests.new.items ≡ digests.old.items ++ map entry_hash four) }
+    ensures memory { IsOkUnless result Memory }
+{
+    let (first, second, third, fourth) = digests_of_entries(a, b, c, d);
+    digests.push(first)?;
+    digests.push(second)?;
+    digests.push(third)?;
+    digests.push(fourth)?;
+    Ok(())
+}
+
 /// Returns the digests of the entries that the lines of some bytes are, in their order.
 ///
 /// A line ends before its line feed, the last perhaps with the bytes. The only error is `Memory`.
@@ -47,12 +81,16 @@ pub fn digests_of_lines<P: Progress>(
 {
     let mut digests = Vec::new(alloc);
     let mut rest = bytes;
-    'lines: while let Some((line, behind)) = next_line(rest) {
-        digests.push(digest_of_entry(line))?;
+    'fours: while let Some((a, b, c, d, behind)) = next_four(rest) {
+        push_four(&mut digests, a, b, c, d)?;
         rest = behind;
         if digests.len() % BETWEEN == 0 {
             progress.show(bytes.len().saturating_sub(rest.len()), bytes.len());
         }
+    }
+    'others: while let Some((line, behind)) = next_line(rest) {
+        digests.push(digest_of_entry(line))?;
+        rest = behind;
     }
     Ok(digests)
 }
