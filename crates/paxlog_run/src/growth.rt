@@ -1,12 +1,12 @@
 //! What an append writes to the file of a log.
 
-ghost use Rattle.std.specs.Prelude.{◌≡◌, ◌<◌, ◌+◌, ◌≤◌, ◌^◌, List, length, take, IfOk, IsOkUnless};
+ghost use Rattle.std.specs.Prelude.{◌≡◌, ℕ, ◌<◌, ◌+◌, ◌≤◌, ◌^◌, Bool, List, length, take, Some, IfOk, IsOkUnless};
 ghost use Rattle.ark_paths.specs.Pair.{Digest};
 ghost use Rattle.kept_log.specs.Kept.{Keeps};
 ghost use Rattle.merkle_log.specs.Stored.{stored_count};
 ghost use Rattle.paxlog_run.specs.Append.{appended_size, Appends, HasBehind};
 ghost use Rattle.paxlog_run.specs.Faults.{GivesBy};
-ghost use Rattle.paxlog_run.specs.LogFile.{IsLogFile};
+ghost use Rattle.paxlog_run.specs.LogFile.{file_end, file_head, next_slot, slot, IsLogFile};
 ghost use Rattle.paxlog_run.specs.declared.fault.Fault.TheVariants.{Memory};
 
 use crate::fault::Fault;
@@ -81,6 +81,12 @@ fn bytes_behind(
 pub fn grow(alloc: Global, file: &[u8], digests: &[[u8; 32]]) -> Result<Growth, Fault>
     ensures size { let size = appended_size file.now (length digests.now) in
         GivesBy (λ growth. growth.size) size result }
+
+    // Of a file whose digests are damaged, too, no other slot is written, and nothing before the end of the digests.
+    ensures places { IfOk result (λ growth. (size : ℕ) × (second : Bool)
+        × (file_head file.now ≡ Some (size, second)) × (growth.place ≡ file_end size)
+        × (growth.slot_place ≡ next_slot second)) }
+    ensures slot { IfOk result (λ growth. growth.slot ≡ slot growth.size) }
 
     // Whatever of it is written, the file has the log as it was, or with these entries.
     ensures appends { (leaves : List Digest) → IsLogFile leaves file.now

@@ -1,4 +1,4 @@
-use Rattle.std.proofs.Common.{arith}
+use Rattle.std.proofs.Common.{◌+◌, ◌*◌, ap, arith}
 use Rattle.paxlog_run.proofs.Files.{appends-of}
 use Rattle.paxlog_run.proofs.growth.grow.Goals as goal
 
@@ -10,3 +10,12 @@ returns-clause-appends c = λ leaves log. appends-of leaves c.args.digests.now c
       arith,
       c.if-not-is_size.ensures.fits,
     )) (c.in_ok-more.ensures.bytes leaves) c.next_slot.ensures c.slot_of.ensures
+
+pub returns-clause-places : goal.returns-clause-places
+returns-clause-places c = (
+  c.in-Ok.log.head.size,
+  c.in-Ok.log.head.is_second_next,
+  c.in-Ok.ensures.head,
+  ap (λ n. 96 + 32 * n) c.in-Ok.ensures.count,
+  c.next_slot.ensures,
+)
