@@ -1,0 +1,9 @@
+pub mod Chunks
+pub mod Files
+pub mod Growing
+pub mod Heads
+pub mod Lines
+pub mod Numerals
+pub mod Pieces
+pub mod Saying
+pub mod Sizes

@@ -1,0 +1,7 @@
+pub mod Append
+pub mod Entries
+pub mod Faults
+pub mod LogFile
+pub mod Replies
+pub mod Requests
+pub mod Verdicts

@@ -1,0 +1,57 @@
+-- What proofs show that stand in hexadecimal.
+use Rattle.std.specs.Prelude.{ℕ, nat_lt, List, Bool, Result, Ok, Err}
+use Rattle.hex.specs.Hex.{decode_of}
+use Rattle.hex.specs.declared.error.FromHexError.{FromHexError}
+use Rattle.ark_base.specs.declared.error.Error.{Error}
+use Rattle.ark_base.specs.declared.error.Error.TheVariants.{OutOfMemory, IncorrectInputLength, NotPrimeOrder, GenericError, SerializationError}
+use Rattle.ark_base.specs.Digits.{itself, bytes_at}
+use Rattle.ark_base.specs.Outcome.{Outcome, ◌>>=◌}
+use Rattle.ark_paths.specs.Pair.{Digest}
+use Rattle.ark_trees.specs.Rfc6962.{log_hashes, node_of}
+use Rattle.merkle_log.specs.Received.{digests_in, inclusion_length, consistency_length, received_inclusion, received_consistency}
+use Rattle.paxlog_run.specs.Faults.{is_older, only_if}
+use Rattle.paxlog_run.specs.declared.fault.Fault.{Fault}
+use Rattle.paxlog_run.specs.declared.fault.Fault.TheVariants.{Memory, Index, Size, Length, Word}
+
+-- the digests of 32 bytes that bytes are, so many of them and nothing else
+abbrev pub proof_digests : ℕ → List ℕ → Outcome (List Digest)
+proof_digests count bytes = digests_in (bytes_at 32) itself count bytes
+
+-- an error of a check, where index and sizes are good: the proof has another length
+abbrev pub fault_of : Error → Fault
+fault_of OutOfMemory = Memory
+fault_of (SerializationError error) = Length
+fault_of (IncorrectInputLength n) = Length
+fault_of (GenericError refusal) = Length
+fault_of NotPrimeOrder = Length
+
+-- a verdict with such faults
+abbrev pub with_fault : Outcome Bool → Result Bool Fault
+with_fault (Ok holds) = Ok holds
+with_fault (Err error) = Err (fault_of error)
+
+-- the bytes that a word spells in hexadecimal
+abbrev pub spelled : Result (List ℕ) FromHexError → Result (List ℕ) Fault
+spelled (Ok bytes) = Ok bytes
+spelled (Err error) = Err Word
+
+-- whether the bytes of a path show an entry at an index of the log with this root and size
+abbrev pub entry_shown : Digest → ℕ → ℕ → List ℕ → List ℕ → Result Bool Fault
+entry_shown root size index entry path = only_if (nat_lt index size) Index
+    (with_fault (received_inclusion (log_hashes (λ bytes. bytes)) root size index entry
+    (proof_digests (inclusion_length size index) path)))
+
+-- the same of the word that spells the path
+abbrev pub entry_shown_by : Digest → ℕ → ℕ → List ℕ → List ℕ → Result Bool Fault
+entry_shown_by root size index entry word = spelled (decode_of word) >>= entry_shown root size index entry
+
+-- whether the bytes of a consistency proof show that the log with one root and size continues another
+abbrev pub continuing_shown : ℕ → Digest → ℕ → Digest → List ℕ → Result Bool Fault
+continuing_shown old_size old size new proof = only_if (is_older old_size size) Size
+    (with_fault (received_consistency node_of old_size old size new
+    (proof_digests (consistency_length old_size size) proof)))
+
+-- the same of the word that spells the proof
+abbrev pub continuing_shown_by : ℕ → Digest → ℕ → Digest → List ℕ → Result Bool Fault
+continuing_shown_by old_size old size new word =
+    spelled (decode_of word) >>= continuing_shown old_size old size new
