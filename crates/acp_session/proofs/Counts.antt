@@ -64,7 +64,8 @@ may_count view o x reading found is h k same digests r rooted leaves pairs hashe
 -- ---- the reply
 
 -- what is counted of a multi-proof that is not checked
-pub may_count-none : (h : HashPair) (digests : List Digest) (leaves : List (Outcome Digest)) (reading : Reading MultiWay)
+may_count-none : (h : HashPair) (digests : List Digest) (leaves : List (Outcome Digest))
+    (reading : Reading MultiWay)
     (told : Bool → Finding) (pairs : ℕ) → pairs ≡ 0
     → ((holds : Bool) → about (held_by_multi told h digests leaves) reading ≡ Ok (told holds) → ⊥)
     → MayCount h digests leaves reading pairs

@@ -160,7 +160,8 @@ accepted_by h digests leaves proof = do
   multi_verdict h leaves proof r
 
 -- that verdict, as it is told
-abbrev pub held_by_multi : (Bool → Finding) → HashPair → List Digest → List (Outcome Digest) → MultiWay → Outcome Finding
+abbrev pub held_by_multi : (Bool → Finding) → HashPair → List Digest → List (Outcome Digest) → MultiWay → Outcome
+    Finding
 held_by_multi verdict h digests leaves proof = do
   holds ← accepted_by h digests leaves proof
   Ok (verdict holds)
@@ -213,7 +214,8 @@ TakesTurn l before (NewLeaf index leaf) =
     Takes before (on_tree before (λ digests. set_turn l.pair_hashes digests index leaf))
 TakesTurn l before (NewLeaves changes) =
     Takes before (on_tree before (λ digests. set_many_turn l.pair_hashes digests changes))
-TakesTurn l before ShowRoot = Takes before (in_tree before (λ digests. shown_root l.root_bytes (root l.pair_hashes digests)))
+TakesTurn l before ShowRoot = Takes before (in_tree before (λ digests. shown_root l.root_bytes
+    (root l.pair_hashes digests)))
 TakesTurn l before (ShowProof index) =
     Takes before (in_tree before (λ digests.
     proof_reply (l.path_bytes (own_path l.pair_hashes index digests)) digests index))

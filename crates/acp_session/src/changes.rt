@@ -23,7 +23,8 @@ pub fn new_tree<C: Shell>(
     requires { ⟦<C as Hashing>⟧.has_hashes leaf_parameters.now pair_parameters.now tree.old }
     ensures turn { IfOk result (λ reply.
         let hashed = map (C.LeafHash.meaning leaf_parameters.now) leaves.now in
-        let exact = tree_turn (⟦<C as Views>⟧.pair pair_parameters.now) (state_of tree.old) hashed in
+        let pair = ⟦<C as Views>⟧.pair pair_parameters.now in
+        let exact = tree_turn pair (state_of tree.old) hashed in
         Takes (state_of tree.old) exact (state_of tree.new) reply.items) }
     ensures hashes { ⟦<C as Hashing>⟧.has_hashes leaf_parameters.now pair_parameters.now tree.new }
     ensures refused { OnErr result (tree.new ≡ tree.old) }

@@ -44,7 +44,8 @@ pub fn proof<C: Shell>(
     tree: &MerkleTree<C>,
     index: usize,
 ) -> Result<Vec<u8>, AllocError>
-    ensures { let bytes = ⟦<C as Views>⟧.path_bytes (path_in (⟦<C as Views>⟧.tree tree.now) index) in
+    ensures { let path = path_in (⟦<C as Views>⟧.tree tree.now) index in
+        let bytes = ⟦<C as Views>⟧.path_bytes path in
         IfOk result (λ reply. Tells (proof_reply bytes tree.now.leaves index) reply.items) }
 {
     if index >= tree.size() {
