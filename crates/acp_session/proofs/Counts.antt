@@ -1,22 +1,22 @@
 -- How many pairs are told of a check of a multi-proof.
-use Rattle.std.proofs.Common.{◌≡◌, ℕ, ◌≤◌, List, [], ◌∷◌, ◌++◌, length, map, take, Bool, true, Option, Some, None, Ok, Err, refl, sym, ap, ◌∙◌, inl, inr, arith, zero-add}
+use Rattle.std.proofs.Common.{◌≡◌, ℕ, ◌≤◌, List, [], ◌∷◌, ◌++◌, length, map, take, Bool, true, false, Option, Some, Ok, Err, refl, sym, ap, ◌∙◌, inl, inr, arith, zero-add}
 use Rattle.std.specs.Iterator.{AlwaysYields}
-use Rattle.std.specs.Prelude.{IfOk, IfSome}
+use Rattle.std.specs.Prelude.{IsOk}
 use Rattle.std.specs.Option.{option_map}
-use Rattle.std.specs.Result.{result_map_both}
 use Rattle.std.proofs.iter.Yields.{gives_left}
 use Rattle.std.proofs.Math.Nat.{min-eq_left}
 use Rattle.std.proofs.Math.Seq.{take-append_seam}
 use Rattle.std.proofs.lemmas.List.{take-map, length-map}
-use Rattle.ark_base.specs.Outcome.{Outcome, Answers, AnswersBy}
+use Rattle.ark_base.specs.Outcome.{Outcome, Answers}
 use Rattle.ark_base.specs.Reading.{Reading}
 use Rattle.ark_paths.specs.MultiPath.{MultiWay, multi_verdict}
 use Rattle.ark_paths.specs.Pair.{Digest, HashPair}
 use Rattle.ark_paths.specs.Root.{root}
 use Rattle.ark_paths.specs.Asked.{CountsOwn, most_asked}
-use Rattle.acp_session.specs.Language.{Language}
-use Rattle.acp_session.specs.Replies.{Counted, Refused, text}
-use Rattle.acp_session.specs.Steps.{State, MayHash, MayCount, TellsCount, alone_of, finding, finding_reply, multi_path_holds}
+use Rattle.acp_session.specs.declared.replies.Finding.{Finding}
+use Rattle.acp_session.specs.declared.replies.Finding.TheVariants.{Counted}
+use Rattle.acp_session.specs.Replies.{Refused, found, pairs_of, text, verdict_with}
+use Rattle.acp_session.specs.Steps.{MayHash, MayCount, TellsCount, about, alone_of, held_by_multi}
 
 -- ---- leaves that are given in turn from a list
 
@@ -63,36 +63,36 @@ may_count view o x reading found is h k same digests r rooted leaves pairs hashe
 
 -- ---- the reply
 
-module _ (h : HashPair) (digests : List Digest) (leaves : List (Outcome Digest)) (reading : Reading MultiWay) where
-  -- none is told where no verdict is
-  may_count-none : (finding (multi_path_holds h digests leaves) reading ≡ Ok (Some true) → ⊥) → MayCount h digests
-      leaves reading 0
-  may_count-none not_so = λ r rooted m alone. record {
-    most = omega arith;
-    exact = λ accepted. absurd
-        (not_so (rw (alone, rooted, accepted) refl));
-  }
+-- what is counted of a multi-proof that is not checked
+may_count-none : (h : HashPair) (digests : List Digest) (leaves : List (Outcome Digest))
+    (reading : Reading MultiWay)
+    (told : Bool → Finding) (pairs : ℕ) → pairs ≡ 0
+    → ((holds : Bool) → about (held_by_multi told h digests leaves) reading ≡ Ok (told holds) → ⊥)
+    → MayCount h digests leaves reading pairs
+may_count-none h digests leaves reading told pairs none not_so = λ r rooted m alone. record {
+  most = rw none (omega arith);
+  exact = λ accepted. absurd (not_so true (rw (alone, rooted, accepted) refl));
+}
 
--- the verdict without the pairs
-pub answers_alone : (o : Outcome (Option Bool)) (found : Outcome (Option (Bool × ℕ))) (alone : Outcome (Option Bool))
-    → AnswersBy (option_map (λ x. x.0)) o found → alone ≡ result_map_both (option_map (λ x. x.0)) (λ error. error) found
-    → Answers o alone
-answers_alone o (Ok x) alone answer is = rw is answer
-answers_alone o (Err e) alone answer is = rw is answer
+-- a verdict has the number of pairs that is told of it
+pub verdict_with-pairs : (with_pairs : Bool) (pairs : ℕ) (holds : Bool)
+    → verdict_with with_pairs (pairs_of (Ok (verdict_with with_pairs pairs holds))) holds
+    ≡ verdict_with with_pairs pairs holds
+verdict_with-pairs true pairs holds = refl
+verdict_with-pairs false pairs holds = refl
 
 -- what a call found is told, or that memory lacks
-pub tells_count : (l : Language) (before : State) (digests : List Digest) → before ≡ Some digests → (h : HashPair) → h
-    ≡ l.pair_hashes → (at : List ℕ → Reading MultiWay) → at ≡ l.multi_path_reading → (proof : List ℕ)
-    (leaves : List (Outcome Digest))
-    (found : Outcome (Option (Bool × ℕ))) (bytes : List ℕ) → AnswersBy (option_map (λ x. x.0))
-    (finding (multi_path_holds h digests leaves) (at proof)) found
-    → IfOk found (λ x. IfSome x (λ x. MayCount h digests leaves (at proof) x.1))
-    → bytes ≡ text (finding_reply (λ x. Counted x.0 x.1) found) → TellsCount l before proof leaves bytes
-tells_count l before digests was h same at read proof leaves (Ok (Some x)) bytes answer may told =
-    rw (was, ← same, ← read) (inl (x.1, may, rw answer told))
-tells_count l before digests was h same at read proof leaves (Ok None) bytes answer may told =
-    rw (was, ← same, ← read) (inl (0, may_count-none h digests leaves (at proof) (λ some. cc), rw answer told))
-tells_count l before digests was h same at read proof leaves (Err e) bytes (inl memory) may told =
-    rw (was, ← same, ← read) (inr (told ∙ ap (λ e. text (Refused e)) memory))
-tells_count l before digests was h same at read proof leaves (Err e) bytes (inr refused) may told =
-    rw (was, ← same, ← read) (inl (0, may_count-none h digests leaves (at proof) (λ some. cc), rw refused told))
+pub tells_count : (h : HashPair) (digests : List Digest) (reading : Reading MultiWay) (leaves : List (Outcome Digest))
+    (result : Outcome Finding) (bytes : List ℕ)
+    → Answers (about (held_by_multi (λ holds. Counted holds (pairs_of result)) h digests leaves) reading) result
+    → (IsOk result → MayCount h digests leaves reading (pairs_of result))
+    → bytes ≡ text (found result) → TellsCount h reading (Some digests) leaves bytes
+tells_count h digests reading leaves (Ok f) bytes answer may told =
+    inl (pairs_of (Ok f), may refl, told ∙ ap (λ o. text (found o)) (sym answer))
+tells_count h digests reading leaves (Err e) bytes (inl memory) may told =
+    inr (told ∙ ap (λ e. text (Refused e)) memory)
+tells_count h digests reading leaves (Err e) bytes (inr refused) may told = inl (
+  0,
+  may_count-none h digests leaves reading (λ holds. Counted holds 0) 0 refl (λ holds accepted. absurd cc),
+  told ∙ ap (λ o. text (found o)) (sym refused),
+)

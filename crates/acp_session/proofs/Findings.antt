@@ -6,12 +6,11 @@ use Rattle.ark_base.specs.Outcome.{Outcome, Answers}
 use Rattle.ark_base.specs.Reading.{Reading, reading_outcome}
 use Rattle.ark_paths.specs.MultiPath.{MultiWay, multi_verdict}
 use Rattle.ark_paths.specs.Pair.{Digest, HashPair}
-use Rattle.ark_paths.specs.Path.{Way}
 use Rattle.ark_paths.specs.Root.{root}
-use Rattle.ark_merkle.specs.Binding.{path_binding}
-use Rattle.acp_session.specs.Language.{Language}
-use Rattle.acp_session.specs.Replies.{Reply, Refused, Verdict, Bound, MayLackMemory, Tells, text}
-use Rattle.acp_session.specs.Steps.{State, alone, alone_of, finding, finding_reply, path_holds, multi_path_holds, check_reply, bind_reply, mcheck_reply}
+use Rattle.acp_session.specs.declared.replies.Finding.{Finding}
+use Rattle.acp_session.specs.declared.replies.Finding.TheVariants.{Trailing}
+use Rattle.acp_session.specs.Replies.{Refused, Tells, found, text}
+use Rattle.acp_session.specs.Steps.{alone, alone_of, about, held_by_multi}
 
 -- ---- proofs as bytes
 
@@ -30,51 +29,41 @@ alone_of-more r s v w rest same read some = rw (same (read_told r (v, rest) read
 
 -- ---- what is said of them
 
--- what is said of a multi-proof that is whole, where the root is known
+-- a verdict on a multi-proof that stands alone, where the root is known
 module _ {X : Type 0} (view : X → MultiWay) (o : Option X) (x : X) (reading : Reading MultiWay)
-    (found : alone_of reading ≡ Ok (option_map view o)) (is : o ≡ Some x)
+    (read : alone_of reading ≡ Ok (option_map view o)) (is : o ≡ Some x)
     (h k : HashPair) (same : h ≡ k) (digests : List Digest) (r : Digest) (rooted : root h digests ≡ Ok r)
     (leaves : List (Outcome Digest)) where
   rooted-k : root k digests ≡ Ok r
   rooted-k = rw (← same) rooted
 
-  pub multi_finding-refused : (e : Error) → multi_verdict k leaves (view x) r ≡ Err e
-      → finding (multi_path_holds k digests leaves) reading ≡ Err e
-  multi_finding-refused e refused = rw (found, is, rooted-k, refused) refl
+  pub multi-refused : (told : Bool → Finding) (e : Error) → multi_verdict k leaves (view x) r ≡ Err e
+      → about (held_by_multi told k digests leaves) reading ≡ Err e
+  multi-refused told e refused = rw (read, is, rooted-k, refused) refl
 
-  pub multi_finding-said : (v : Bool) → multi_verdict k leaves (view x) r ≡ Ok v → finding (multi_path_holds k digests
-      leaves) reading ≡ Ok (Some v)
-  multi_finding-said v said = rw (found, is, rooted-k, said) refl
+  pub multi-said : (told : Bool → Finding) (v : Bool) → multi_verdict k leaves (view x) r ≡ Ok v
+      → about (held_by_multi told k digests leaves) reading ≡ Ok (told v)
+  multi-said told v said = rw (read, is, rooted-k, said) refl
 
-module _ {V : Type 0} (reply : V → Reply) (may : (v : V) → MayLackMemory (reply v)) where
-  MayLackMemory-finding : (o : Outcome (Option V)) → MayLackMemory (finding_reply reply o)
-  MayLackMemory-finding (Ok (Some v)) = may v
-  MayLackMemory-finding (Ok None) = tt
-  MayLackMemory-finding (Err error) = tt
+-- what is said of a value that was read
+pub about-refused : {W : Type 0} (say : W → Outcome Finding) (reading : Reading W) (e : Error)
+    → reading_outcome reading ≡ Err e → about say reading ≡ Err e
+about-refused say reading e refused = rw refused refl
 
-  -- what a call answered is told, or that memory lacks
-  pub tells_finding : (o result : Outcome (Option V)) (bytes : List ℕ) → Answers o result → bytes
-      ≡ text (finding_reply reply result) → Tells (finding_reply reply o) bytes
-  tells_finding o (Ok value) bytes is reading_outcome =
-      inl (reading_outcome ∙ ap (λ o. text (finding_reply reply o)) (sym is))
-  tells_finding o (Err e) bytes (inl memory) reading_outcome =
-      inr (reading_outcome ∙ ap (λ e. text (Refused e)) memory, MayLackMemory-finding o)
-  tells_finding o (Err e) bytes (inr refused) reading_outcome =
-      inl (reading_outcome ∙ ap (λ o. text (finding_reply reply o)) (sym refused))
+pub about-more : {W : Type 0} (say : W → Outcome Finding) (reading : Reading W) (w : W) (rest : List ℕ)
+    → reading_outcome reading ≡ Ok (w, rest) → 0 < length rest → about say reading ≡ Ok Trailing
+about-more say reading w [] read some = absurd (omega arith)
+about-more say reading w (b ∷ bs) read some = rw read refl
 
--- ---- the replies where there is a tree
+pub about-said : {W : Type 0} (say : W → Outcome Finding) (reading : Reading W) (w : W) (rest : List ℕ)
+    → reading_outcome reading ≡ Ok (w, rest) → length rest ≡ 0 → about say reading ≡ say w
+about-said say reading w [] read none = rw read refl
+about-said say reading w (b ∷ bs) read none = absurd (omega arith)
 
-module _ (l : Language) (before : State) (digests : List Digest) (was : before ≡ Some digests) (h : HashPair) (same : h
-    ≡ l.pair_hashes) (bytes : List ℕ) where
-  pub check_reply-in : (leaf : Outcome Digest) (at : List ℕ → Reading Way) → at ≡ l.path_reading → check_reply l before
-      bytes leaf ≡ finding_reply Verdict (finding (path_holds h digests leaf) (at bytes))
-  check_reply-in leaf at read = rw (was, same, read) refl
-
-  pub bind_reply-in : (leaf hashed : Outcome Digest) (at : List ℕ → Reading Way) → hashed ≡ leaf → at ≡ l.path_reading
-      → bind_reply l before bytes leaf ≡ finding_reply Bound (finding (path_binding h digests hashed) (at bytes))
-  bind_reply-in leaf hashed at hash read = rw (was, same, hash, read) refl
-
-  pub mcheck_reply-in : (leaves : List (Outcome Digest)) (at : List ℕ → Reading MultiWay) → at ≡ l.multi_path_reading
-      → mcheck_reply l before bytes leaves ≡ finding_reply Verdict (finding (multi_path_holds h digests leaves)
-      (at bytes))
-  mcheck_reply-in leaves at read = rw (was, same, read) refl
+-- what a call found is told, or that memory lacks
+pub tells_found : (o result : Outcome Finding) (bytes : List ℕ) → Answers o result → bytes ≡ text (found result)
+    → Tells (found o) bytes
+tells_found o (Ok finding) bytes is told = inl (told ∙ ap (λ o. text (found o)) (sym is))
+tells_found (Ok finding) (Err e) bytes (inl memory) told = inr (told ∙ ap (λ e. text (Refused e)) memory, tt)
+tells_found (Err error) (Err e) bytes (inl memory) told = inr (told ∙ ap (λ e. text (Refused e)) memory, tt)
+tells_found o (Err e) bytes (inr refused) told = inl (told ∙ ap (λ o. text (found o)) (sym refused))

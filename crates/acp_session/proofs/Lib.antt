@@ -1,11 +1,9 @@
-pub mod Changes
+pub mod LeafChanges
 pub mod Counts
 pub mod Cutting
 pub mod Findings
-pub mod StrictFindings
-pub mod Indexes
 pub mod Numerals
 pub mod ToyLemmas
 pub mod Trees
 pub mod Values
-pub mod Told
+pub mod Turns

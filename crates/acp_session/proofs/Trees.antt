@@ -1,16 +1,16 @@
 -- New trees.
-use Rattle.std.proofs.Common.{◌≡◌, ℕ, List, [], ◌∷◌, length, map, true, Option, Result, Ok, Err, refl, sym, ap, ◌∙◌, inl, inr}
+use Rattle.std.proofs.Common.{◌≡◌, ◌⊎◌, ℕ, List, [], ◌∷◌, length, map, true, Option, Result, Ok, Err, refl, sym, ap, ◌∙◌, inl, inr}
 use Rattle.std.specs.Prelude.{IfOk, OnErr}
 use Rattle.std.proofs.lemmas.List.{length-map}
 use Rattle.ark_base.specs.declared.error.Error.{Error}
+use Rattle.ark_base.specs.declared.error.Error.TheVariants.{OutOfMemory}
 use Rattle.ark_base.specs.Outcome.{Outcome, AnswersBy}
 use Rattle.ark_paths.specs.Index.{is_tree_size}
 use Rattle.ark_paths.specs.Pair.{Digest, HashPair, Hashes}
 use Rattle.ark_paths.specs.Root.{all_hashes, leaves_with_root, tree_leaves}
 use Rattle.ark_paths.specs.Tree.{Tree, HashedTree, with_hashes}
-use Rattle.acp_session.specs.Language.{Language}
-use Rattle.acp_session.specs.Replies.{Refused, MayLackMemory, text}
-use Rattle.acp_session.specs.Steps.{State, state_of, Turn, Takes, Settles, HasHashes, new_tree_turn, tree_turn, digests_turn}
+use Rattle.acp_session.specs.Replies.{Reply, Refused, Built, MayLackMemory, text}
+use Rattle.acp_session.specs.Steps.{State, state_of, Turn, Takes, Settles, HasHashes, settled, tree_turn, digests_turn}
 
 all_hashes-map : {A : Type 0} (hash : A → Outcome Digest) (xs : List A) → all_hashes (λ digest. digest) (map hash xs)
     ≡ all_hashes hash xs
@@ -18,37 +18,36 @@ all_hashes-map hash [] = refl
 all_hashes-map hash (x ∷ xs) = rw (all_hashes-map hash xs) refl
 
 -- the turn of leaves that fit, by the hash of each
-pub tree_turn-built : {A : Type 0} (l : Language) (before : State) (hash : A → Outcome Digest) (leaves : List A)
-    (h : HashPair) → h ≡ l.pair_hashes → is_tree_size (length leaves) ≡ true → tree_turn l before (map hash leaves)
-    ≡ new_tree_turn before (tree_leaves h hash leaves)
-tree_turn-built l before hash leaves h same fits =
-    rw (length-map leaves hash, fits, all_hashes-map hash leaves, same) refl
+pub tree_turn-built : {A : Type 0} (h : HashPair) (before : State) (hash : A → Outcome Digest) (leaves : List A)
+    → is_tree_size (length leaves) ≡ true
+    → tree_turn h before (map hash leaves) ≡ settled (λ new. Built (length new)) before (tree_leaves h hash leaves)
+tree_turn-built h before hash leaves fits = rw (length-map leaves hash, fits, all_hashes-map hash leaves) refl
 
-pub digests_turn-built : {A : Type 0} (l : Language) (before : State) (numbers : A → Digest) (digests : List A)
-    (h : HashPair) → h ≡ l.pair_hashes → is_tree_size (length digests) ≡ true → digests_turn l before
-    (map numbers digests) ≡ new_tree_turn before (leaves_with_root h (map numbers digests))
-digests_turn-built l before numbers digests h same fits = rw (length-map digests numbers, fits, same) refl
+pub digests_turn-built : {A : Type 0} (h : HashPair) (before : State) (numbers : A → Digest) (digests : List A)
+    → is_tree_size (length digests) ≡ true → digests_turn h before (map numbers digests)
+    ≡ settled (λ new. Built (length new)) before (leaves_with_root h (map numbers digests))
+digests_turn-built h before numbers digests fits = rw (length-map digests numbers, fits) refl
 
-MayLackMemory-new_tree : (before : State) (o : Outcome (List Digest)) → MayLackMemory (new_tree_turn before o).0
-MayLackMemory-new_tree before (Ok digests) = tt
-MayLackMemory-new_tree before (Err error) = tt
+-- a refusal of new leaf digests, as it is told
+pub refused_settled : (reply : List Digest → Reply) → ((new : List Digest) → MayLackMemory (reply new))
+    → (before after : State) (o : Outcome (List Digest)) (e : Error) (bytes : List ℕ)
+    → (e ≡ OutOfMemory) ⊎ (o ≡ Err e) → after ≡ before → bytes ≡ text (Refused e)
+    → Takes before (settled reply before o) after bytes
+refused_settled reply may before after (Ok new) e bytes (inl memory) kept told =
+    inr (told ∙ ap (λ e. text (Refused e)) memory, kept, may new)
+refused_settled reply may before after (Err error) e bytes (inl memory) kept told =
+    inr (told ∙ ap (λ e. text (Refused e)) memory, kept, tt)
+refused_settled reply may before after o e bytes (inr refused) kept told = rw refused (inl (told, kept))
 
 -- a tree that takes the place of the one before, or its refusal, as it is told
 pub takes_settled : {L T : Type 0} (before after : Option (Tree L T)) (exact : Turn) (o : Outcome (List Digest))
-    (made : Outcome (Tree L T)) (bytes : List ℕ) → exact ≡ new_tree_turn (state_of before) o
-    → AnswersBy (λ tree. tree.leaves) o made → Settles before made after bytes → Takes (state_of before) exact
-    (state_of after) bytes
-takes_settled before after exact o (Ok new) bytes same is settled =
-    rw (same, is) (inl (settled.1, ap state_of settled.0))
-takes_settled before after exact o (Err error) bytes same (inl memory) settled =
-    rw same (inr (
-      settled.1 ∙ ap (λ e. text (Refused e)) memory,
-      ap state_of settled.0,
-      MayLackMemory-new_tree
-          (state_of before) o,
-    ))
-takes_settled before after exact o (Err error) bytes same (inr refused) settled =
-    rw (same, refused) (inl (settled.1, ap state_of settled.0))
+    (made : Outcome (Tree L T)) (bytes : List ℕ) → exact ≡ settled (λ new. Built (length new)) (state_of before) o
+    → AnswersBy (λ tree. tree.leaves) o made → Settles before made after bytes
+    → Takes (state_of before) exact (state_of after) bytes
+takes_settled before after exact o (Ok new) bytes same is told = rw (same, is) (inl (told.1, ap state_of told.0))
+takes_settled before after exact o (Err error) bytes same refused told = rw same (refused_settled
+    (λ new. Built (length new)) (λ _. tt) (state_of before) (state_of after) o error bytes refused
+    (ap state_of told.0) told.1)
 
 -- ---- a tree that was made, as callers see it
 
@@ -94,6 +93,6 @@ pub hashes_settled : {L T X A E : Type 0} (meaning : L → X → Outcome Digest)
     × (pair t.pair_parameters ≡ pair q))
     → IfOk result (λ reply. Settles before made after (items reply)) → OnErr result (after ≡ before) → HasHashes meaning
     pair p q after
-hashes_settled meaning pair p q items before after (Ok t) (Ok reply) has new settled kept = rw settled.0 (new t refl)
-hashes_settled meaning pair p q items before after (Err e) (Ok reply) has new settled kept = rw settled.0 has
-hashes_settled meaning pair p q items before after made (Err e) has new settled kept = rw kept has
+hashes_settled meaning pair p q items before after (Ok t) (Ok reply) has new told kept = rw told.0 (new t refl)
+hashes_settled meaning pair p q items before after (Err e) (Ok reply) has new told kept = rw told.0 has
+hashes_settled meaning pair p q items before after made (Err e) has new told kept = rw kept has

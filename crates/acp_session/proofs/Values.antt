@@ -1,11 +1,10 @@
 -- What tokens say, one after the other.
 use Rattle.std.proofs.Common.{◌≡◌, Bor, true, ℕ, ◌+◌, List, [], ◌∷◌, ◌++◌, length, Option, Some, None, refl, sym, ap, ◌∙◌, append_assoc, append-nil}
-use Rattle.std.specs.Option.{option_map, option_copied, is_some}
-use Rattle.acp_session.specs.Arguments.{onto_all}
-use Rattle.acp_session.specs.declared.keyword.ShowWord.TheVariants.{Root}
-use Rattle.acp_session.specs.Language.{Language}
+use Rattle.std.specs.Option.{option_map, option_and, option_copied}
+use Rattle.std.specs.Str.{bytes_eq}
+use Rattle.std.proofs.lemmas.Slice.Eq.{bytes_eq-Decides}
+use Rattle.acp_session.specs.Arguments.{none_left, onto_all, some}
 use Rattle.acp_session.specs.Lines.{tokens_of, tokens_left}
-use Rattle.acp_session.specs.Requests.{show_by}
 use Rattle.acp_session.proofs.Cutting.{tokens_of-some}
 
 -- some values before others, where those are there
@@ -39,15 +38,17 @@ module _ {A : Type 0} where
   behind-all whole front so = so ∙ ap (λ (xs : List A). Some xs) (append-nil front)
 
 -- what is left of a line has a token
-pub all_left : {A : Type 0} (said told : List (List ℕ) → A) → ((token : List ℕ) (tokens : List (List ℕ))
-    → said (token ∷ tokens) ≡ told (token ∷ tokens)) → (left : Option (Bor (List ℕ))) → is_some left ≡ true
-    → said (tokens_left (option_copied left)) ≡ told (tokens_left (option_copied left))
-all_left said told same None some = absurd cc
-all_left said told same (Some line) some = by_tokens (tokens_of line.now) (tokens_of-some line.now)
-  where
-    by_tokens : (tokens : List (List ℕ)) → (tokens ≡ [] → ⊥) → said tokens ≡ told tokens
-    by_tokens [] none = absurd (none refl)
-    by_tokens (token ∷ tokens) none = same token tokens
+left-some : {A : Type 0} (tokens : List (List ℕ)) (x : Option A) → (tokens ≡ [] → ⊥) → x ≡ some tokens x
+left-some [] x some = absurd (some refl)
+left-some (token ∷ tokens) x some = refl
+
+-- a value where something is left of a line, as it is seen
+pub some_left : {X Y : Type 0} (view : X → Y) (left : Option (Bor (List ℕ))) (o x : Option X) (seen : Option Y)
+    → o ≡ option_and left x → option_map view x ≡ seen
+    → option_map view o ≡ some (tokens_left (option_copied left)) seen
+some_left view None o x seen is same = ap (option_map view) is
+some_left view (Some line) o x seen is same =
+    ap (option_map view) is ∙ same ∙ left-some (tokens_of line.now) seen (tokens_of-some line.now)
 
 -- what is seen of what is seen
 pub option_map-seen : {A B C : Type 0} (seen : A → B) (more : B → C) (x : Option A) → option_map (λ a. more (seen a)) x
@@ -64,7 +65,14 @@ module _ {X Y Z : Type 0} (view : X → Y) (make : Y → Z) (o : Option X) where
   pub made-none : (seen : Option Y) → o ≡ None → option_map view o ≡ seen → None ≡ option_map make seen
   made-none seen is same = ap (option_map make) (sym (ap (option_map view) is) ∙ same)
 
--- nothing stands behind `root`
-pub root-more : (l : Language) (tokens : List (List ℕ)) → (tokens ≡ [] → ⊥) → None ≡ show_by l Root tokens
-root-more l [] some = absurd (some refl)
-root-more l (token ∷ tokens) some = refl
+-- a token that equals a word
+pub is_word : (token word spelled : List ℕ) → true ≡ bytes_eq token word → word ≡ spelled → token ≡ spelled
+is_word token word spelled same is = (bytes_eq-Decides token word).0 (sym same) ∙ is
+
+-- nothing is left behind a word alone
+pub none_left-more : {A : Type 0} (x : A) (line : List ℕ) → None ≡ none_left x (tokens_of line)
+none_left-more x line = by_tokens (tokens_of line) (tokens_of-some line)
+  where
+    by_tokens : (tokens : List (List ℕ)) → (tokens ≡ [] → ⊥) → None ≡ none_left x tokens
+    by_tokens [] some = absurd (some refl)
+    by_tokens (token ∷ tokens) some = refl

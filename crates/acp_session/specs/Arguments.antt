@@ -1,6 +1,16 @@
 -- What the tokens behind a word say, each told by a function of its bytes.
 use Rattle.std.specs.Prelude.{ℕ, List, [], ◌∷◌, Option, Some, None}
 
+-- a value, where a token is left
+abbrev pub some : {A : Type 0} → List (List ℕ) → Option A → Option A
+some [] x = None
+some (token ∷ tokens) x = x
+
+-- a value, where no token is left
+abbrev pub none_left : {A : Type 0} → A → List (List ℕ) → Option A
+none_left x [] = Some x
+none_left x (token ∷ tokens) = None
+
 -- two values, where both are there
 abbrev pub both_values : {A B : Type 0} → Option A → Option B → Option (A × B)
 both_values (Some x) (Some y) = Some (x, y)
@@ -17,11 +27,6 @@ onto_all None others = None
 abbrev pub values : {A : Type 0} → (List ℕ → Option A) → List (List ℕ) → Option (List A)
 values value [] = Some []
 values value (token ∷ tokens) = onto_all (value token) (values value tokens)
-
--- the values of one token or more
-abbrev pub some_values : {A : Type 0} → (List ℕ → Option A) → List (List ℕ) → Option (List A)
-some_values value [] = None
-some_values value (token ∷ tokens) = values value (token ∷ tokens)
 
 -- the value of one token alone
 abbrev pub only_value : {A : Type 0} → (List ℕ → Option A) → List (List ℕ) → Option A
@@ -42,12 +47,6 @@ pairs value other [] = Some []
 pairs value other (first ∷ []) = None
 pairs value other (first ∷ second ∷ tokens) =
     onto_all (both_values (value first) (other second)) (pairs value other tokens)
-
--- the values of two tokens or more
-abbrev pub some_pairs : {A B : Type 0} → (List ℕ → Option A) → (List ℕ → Option B) → List (List ℕ)
-    → Option (List (A × B))
-some_pairs value other [] = None
-some_pairs value other (token ∷ tokens) = pairs value other (token ∷ tokens)
 
 -- the value of a first token, and those of the others
 abbrev pub value_and_others : {A B : Type 0} → (List ℕ → Option A) → (List ℕ → Option B) → List (List ℕ)

@@ -1,5 +1,6 @@
 -- What a line does to the tree, and the reply to it.
-use Rattle.std.specs.Prelude.{◌≡◌, ◌≤◌, ◌⊎◌, ℕ, nat_lt, min, length, map, take, List, [], ◌∷◌, Bool, true, ◌&&◌, if◌then◌else◌, Option, Some, None, Ok, Err}
+use Rattle.std.specs.Prelude.{◌≡◌, ◌≤◌, ◌⊎◌, ℕ, nat_lt, min, length, take, List, [], ◌∷◌, Bool, true, if◌then◌else◌, Option, Some, None, Ok, Err}
+use Rattle.std.specs.List.{list_all}
 use Rattle.std.specs.Option.{option_map}
 use Rattle.ark_base.specs.declared.error.Error.TheVariants.{OutOfMemory}
 use Rattle.ark_base.specs.Outcome.{Outcome, ◌>>=◌}
@@ -19,7 +20,9 @@ use Rattle.ark_merkle.specs.MultiProof.{own_multi_path}
 use Rattle.ark_merkle.specs.Update.{changed_leaves}
 use Rattle.acp_session.specs.Language.{Language}
 use Rattle.acp_session.specs.Lines.{tokens_of}
-use Rattle.acp_session.specs.Replies.{Reply, BadLine, NoTree, NotLeaves, NoIndex, Trailing, Refused, Built, Root, Proof, Verdict, Counted, Changed, Bound, MultiProof, Strict, MayLackMemory, text}
+use Rattle.acp_session.specs.declared.replies.Finding.{Finding}
+use Rattle.acp_session.specs.declared.replies.Finding.TheVariants.{Trailing, Verdict, Counted, Bound, Strict}
+use Rattle.acp_session.specs.Replies.{Reply, BadLine, NoTree, NotLeaves, NoIndex, Refused, Built, Changed, Root, Proof, MultiProof, MayLackMemory, found, text}
 use Rattle.acp_session.specs.Requests.{Request, NewTree, NewTreeOfDigests, NewLeaf, NewLeaves, ShowRoot, ShowProof, CheckPath, BindPath, ShowMultiProof, CheckMultiProof, CountMultiProof, ReadStrictly, request_of}
 
 -- the tree's leaf digests, or no tree yet
@@ -40,25 +43,34 @@ HasHashes meaning pair p q (Some tree) =
 abbrev pub Turn : Type 0
 Turn = Reply × State
 
+-- new leaf digests take the place of those before; a refusal leaves them
+abbrev pub settled : (List Digest → Reply) → State → Outcome (List Digest) → Turn
+settled reply before (Ok digests) = (reply digests, Some digests)
+settled reply before (Err error) = (Refused error, before)
+
+-- a turn on a tree; nothing but a refusal where there is none
+abbrev pub on_tree : State → (List Digest → Turn) → Turn
+on_tree None turn = (NoTree, None)
+on_tree (Some digests) turn = turn digests
+
+-- a turn that leaves the tree
+abbrev pub in_tree : State → (List Digest → Reply) → Turn
+in_tree before reply = on_tree before (λ digests. (reply digests, Some digests))
+
 -- ---- new trees
 
--- A new tree takes the place of the one before; a refused one leaves it.
-abbrev pub new_tree_turn : State → Outcome (List Digest) → Turn
-new_tree_turn before (Ok digests) = (Built (length digests), Some digests)
-new_tree_turn before (Err error) = (Refused error, before)
-
 -- the exact reply to `tree`, and the tree afterwards
-abbrev pub tree_turn : Language → State → List (Outcome Digest) → Turn
-tree_turn l before leaves =
+abbrev pub tree_turn : HashPair → State → List (Outcome Digest) → Turn
+tree_turn h before leaves =
     if is_tree_size (length leaves)
-    then new_tree_turn before (tree_leaves l.pair_hashes (λ digest. digest) leaves)
+    then settled (λ new. Built (length new)) before (tree_leaves h (λ digest. digest) leaves)
     else ((NotLeaves, before))
 
 -- the exact reply to `digests`, and the tree afterwards
-abbrev pub digests_turn : Language → State → List Digest → Turn
-digests_turn l before digests =
+abbrev pub digests_turn : HashPair → State → List Digest → Turn
+digests_turn h before digests =
     if is_tree_size (length digests)
-    then new_tree_turn before (leaves_with_root l.pair_hashes digests)
+    then settled (λ new. Built (length new)) before (leaves_with_root h digests)
     else ((NotLeaves, before))
 
 -- The tree before, a tree that was made or its refusal, the tree after and the bytes of the reply: a new tree takes the
@@ -69,22 +81,12 @@ Settles before (Err error) after bytes = (after ≡ before) × (bytes ≡ text (
 
 -- ---- new leaves
 
-abbrev pub new_leaf_turn : State → Outcome (List Digest) → Turn
-new_leaf_turn before (Ok digests) = (Changed, Some digests)
-new_leaf_turn before (Err error) = (Refused error, before)
-
 -- the exact reply to `set`, and the tree afterwards
-abbrev pub set_turn : Language → State → ℕ → Outcome Digest → Turn
-set_turn l None index leaf = (NoTree, None)
-set_turn l (Some digests) index leaf =
+abbrev pub set_turn : HashPair → List Digest → ℕ → Outcome Digest → Turn
+set_turn h digests index leaf =
     if nat_lt index (length digests)
-    then new_leaf_turn (Some digests) (changed_leaves l.pair_hashes leaf index digests)
+    then settled (λ _. Changed) (Some digests) (changed_leaves h leaf index digests)
     else ((NoIndex, Some digests))
-
--- whether each index is below a size
-abbrev pub all_below : ℕ → List ℕ → Bool
-all_below size [] = true
-all_below size (index ∷ indexes) = nat_lt index size && all_below size indexes
 
 -- the leaf digests with those of some leaves, of each index the last, where they have a root
 abbrev pub many_changed_leaves : HashPair → List (ℕ × Outcome Digest) → List Digest → Outcome (List Digest)
@@ -93,39 +95,29 @@ many_changed_leaves h changes digests = do
   leaves_with_root h new
 
 -- the exact reply to `setmany`, and the tree afterwards
-abbrev pub set_many_turn : Language → State → List (ℕ × Outcome Digest) → Turn
-set_many_turn l None changes = (NoTree, None)
-set_many_turn l (Some digests) changes =
-    if all_below (length digests) (map (λ change. change.0) changes)
-    then new_leaf_turn (Some digests) (many_changed_leaves l.pair_hashes changes digests)
+abbrev pub set_many_turn : HashPair → List Digest → List (ℕ × Outcome Digest) → Turn
+set_many_turn h digests changes =
+    if list_all (λ change. nat_lt change.0 (length digests)) changes
+    then settled (λ _. Changed) (Some digests) (many_changed_leaves h changes digests)
     else ((NoIndex, Some digests))
 
 -- ---- what a tree shows
 
-abbrev pub shown_root : Language → Outcome Digest → Reply
-shown_root l (Ok digest) = Root (l.root_bytes digest)
-shown_root l (Err error) = Refused error
+-- the reply to `root`: the root, or the error of its hashes
+abbrev pub shown_root : (Digest → List ℕ) → Outcome Digest → Reply
+shown_root root_bytes (Ok digest) = Root (root_bytes digest)
+shown_root root_bytes (Err error) = Refused error
 
--- the exact reply to `root`
-abbrev pub root_reply : Language → State → Reply
-root_reply l None = NoTree
-root_reply l (Some digests) = shown_root l (root l.pair_hashes digests)
+-- the exact reply to `proof`, by the bytes of the path
+abbrev pub proof_reply : List ℕ → List Digest → ℕ → Reply
+proof_reply bytes digests index = if nat_lt index (length digests) then Proof bytes else NoIndex
 
--- the exact reply to `proof`
-abbrev pub proof_reply : Language → State → ℕ → Reply
-proof_reply l None index = NoTree
-proof_reply l (Some digests) index =
-    if nat_lt index (length digests) then Proof (l.path_bytes (own_path l.pair_hashes index digests)) else NoIndex
+-- the exact reply to `multi`, by the bytes of the multi-proof
+abbrev pub multi_reply : List ℕ → List Digest → List ℕ → Reply
+multi_reply bytes digests indexes =
+    if list_all (λ index. nat_lt index (length digests)) indexes then MultiProof bytes else NoIndex
 
--- the exact reply to `multi`
-abbrev pub multi_reply : Language → State → List ℕ → Reply
-multi_reply l None indexes = NoTree
-multi_reply l (Some digests) indexes =
-    if all_below (length digests) indexes
-    then MultiProof (l.multi_path_bytes (own_multi_path l.pair_hashes indexes digests))
-    else NoIndex
-
--- ---- what a tree says of bytes
+-- ---- what bytes say
 
 -- a value, where no bytes are left behind it
 abbrev pub alone : {W : Type 0} → W × List ℕ → Outcome (Option W)
@@ -138,55 +130,46 @@ alone_of reading = do
   x ← reading_outcome reading
   alone x
 
--- what is said of a value that is there
-abbrev pub about : {W V : Type 0} → (W → Outcome V) → Option W → Outcome (Option V)
-about say None = Ok None
-about say (Some w) = do
-  v ← say w
-  Ok (Some v)
+-- what is said of a value that stands alone
+abbrev pub said : {W : Type 0} → (W → Outcome Finding) → Option W → Outcome Finding
+said say None = Ok Trailing
+said say (Some w) = say w
 
--- what is said of what some bytes spell: their fault, nothing where bytes are left behind it, else a verdict or its
--- refusal
-abbrev pub finding : {W V : Type 0} → (W → Outcome V) → Reading W → Outcome (Option V)
-finding say reading = do
+-- what is said of what some bytes spell, or their fault
+abbrev pub about : {W : Type 0} → (W → Outcome Finding) → Reading W → Outcome Finding
+about say reading = do
   w ← alone_of reading
-  about say w
-
--- the reply to what is said of what bytes spell
-abbrev pub finding_reply : {V : Type 0} → (V → Reply) → Outcome (Option V) → Reply
-finding_reply reply (Ok (Some v)) = reply v
-finding_reply reply (Ok None) = Trailing
-finding_reply reply (Err error) = Refused error
+  said say w
 
 -- whether a path gives the tree's root for a leaf
-abbrev pub path_holds : HashPair → List Digest → Outcome Digest → Way → Outcome Bool
-path_holds h digests leaf way = do
+abbrev pub held_by : HashPair → List Digest → Outcome Digest → Way → Outcome Finding
+held_by h digests leaf way = do
   r ← root h digests
-  verdict h leaf way r
+  holds ← verdict h leaf way r
+  Ok (Verdict holds)
+
+-- what a path says of a leaf
+abbrev pub bound_by : HashPair → List Digest → Outcome Digest → Way → Outcome Finding
+bound_by h digests leaf way = do
+  binding ← path_binding h digests leaf way
+  Ok (Bound binding)
 
 -- whether a multi-proof is accepted with some leaves under the tree's root
-abbrev pub multi_path_holds : HashPair → List Digest → List (Outcome Digest) → MultiWay → Outcome Bool
-multi_path_holds h digests leaves proof = do
+abbrev pub accepted_by : HashPair → List Digest → List (Outcome Digest) → MultiWay → Outcome Bool
+accepted_by h digests leaves proof = do
   r ← root h digests
   multi_verdict h leaves proof r
 
--- the exact reply to `check`
-abbrev pub check_reply : Language → State → List ℕ → Outcome Digest → Reply
-check_reply l None bytes leaf = NoTree
-check_reply l (Some digests) bytes leaf =
-    finding_reply Verdict (finding (path_holds l.pair_hashes digests leaf) (l.path_reading bytes))
+-- that verdict, as it is told
+abbrev pub held_by_multi : (Bool → Finding) → HashPair → List Digest → List (Outcome Digest) → MultiWay → Outcome
+    Finding
+held_by_multi verdict h digests leaves proof = do
+  holds ← accepted_by h digests leaves proof
+  Ok (verdict holds)
 
--- the exact reply to `bind`
-abbrev pub bind_reply : Language → State → List ℕ → Outcome Digest → Reply
-bind_reply l None bytes leaf = NoTree
-bind_reply l (Some digests) bytes leaf =
-    finding_reply Bound (finding (path_binding l.pair_hashes digests leaf) (l.path_reading bytes))
-
--- the exact reply to `mcheck`
-abbrev pub mcheck_reply : Language → State → List ℕ → List (Outcome Digest) → Reply
-mcheck_reply l None bytes leaves = NoTree
-mcheck_reply l (Some digests) bytes leaves =
-    finding_reply Verdict (finding (multi_path_holds l.pair_hashes digests leaves) (l.multi_path_reading bytes))
+-- how many indexes a multi-proof has
+abbrev pub count_of : MultiWay → Outcome Finding
+count_of proof = Ok (Strict (length proof.indexes))
 
 -- ---- how many pairs a check hashes
 
@@ -205,29 +188,14 @@ abbrev pub MayCount : HashPair → List Digest → List (Outcome Digest) → Rea
 MayCount h digests leaves reading pairs = (r : Digest) → root h digests ≡ Ok r
     → (m : MultiWay) → alone_of reading ≡ Ok (Some m) → MayHash h r leaves m pairs
 
--- the reply to `mcheck`, with a number of pairs behind the verdict
-abbrev pub mcount_reply : Language → List Digest → List ℕ → List (Outcome Digest) → ℕ → Reply
-mcount_reply l digests bytes leaves pairs = finding_reply (λ holds. Counted holds pairs)
-    (finding (multi_path_holds l.pair_hashes digests leaves) (l.multi_path_reading bytes))
-
--- The bytes are those of that reply with a number of pairs that the check may hash, or say in its place that memory
--- lacks.
-abbrev pub TellsCount : Language → State → List ℕ → List (Outcome Digest) → List ℕ → Type 0
-TellsCount l None proof leaves bytes = bytes ≡ text NoTree
-TellsCount l (Some digests) proof leaves bytes =
-    ((pairs : ℕ) × MayCount l.pair_hashes digests leaves (l.multi_path_reading proof) pairs
-    × (bytes ≡ text (mcount_reply l digests proof leaves pairs)))
+-- The bytes are the verdict on a multi-proof with a number of pairs that the check may hash, or say in its place that
+-- memory lacks.
+abbrev pub TellsCount : HashPair → Reading MultiWay → State → List (Outcome Digest) → List ℕ → Type 0
+TellsCount h reading None leaves bytes = bytes ≡ text NoTree
+TellsCount h reading (Some digests) leaves bytes =
+    ((pairs : ℕ) × MayCount h digests leaves reading pairs
+    × (bytes ≡ text (found (about (held_by_multi (λ holds. Counted holds pairs) h digests leaves) reading))))
     ⊎ (bytes ≡ text (Refused OutOfMemory))
-
--- ---- what bytes say by themselves
-
--- how many indexes a multi-proof has
-abbrev pub count_of : MultiWay → Outcome ℕ
-count_of proof = Ok (length proof.indexes)
-
--- the exact reply to `strict`
-abbrev pub strict_reply : Language → List ℕ → Reply
-strict_reply l bytes = finding_reply Strict (finding count_of (strict_reading (l.multi_path_reading bytes)))
 
 -- ---- lines
 
@@ -241,19 +209,30 @@ Takes before exact after bytes =
 -- The tree before, what is asked, the tree after it and the bytes of the reply: as its one turn has them, but for a
 -- count of pairs, which leaves the tree and has no one reply.
 abbrev pub TakesTurn : Language → State → Request → State → List ℕ → Type 0
-TakesTurn l before (NewTree leaves) = Takes before (tree_turn l before leaves)
-TakesTurn l before (NewTreeOfDigests digests) = Takes before (digests_turn l before digests)
-TakesTurn l before (NewLeaf index leaf) = Takes before (set_turn l before index leaf)
-TakesTurn l before (NewLeaves changes) = Takes before (set_many_turn l before changes)
-TakesTurn l before ShowRoot = Takes before (root_reply l before, before)
-TakesTurn l before (ShowProof index) = Takes before (proof_reply l before index, before)
-TakesTurn l before (CheckPath path leaf) = Takes before (check_reply l before path leaf, before)
-TakesTurn l before (BindPath path leaf) = Takes before (bind_reply l before path leaf, before)
-TakesTurn l before (ShowMultiProof indexes) = Takes before (multi_reply l before indexes, before)
-TakesTurn l before (CheckMultiProof proof leaves) = Takes before (mcheck_reply l before proof leaves, before)
+TakesTurn l before (NewTree leaves) = Takes before (tree_turn l.pair_hashes before leaves)
+TakesTurn l before (NewTreeOfDigests digests) = Takes before (digests_turn l.pair_hashes before digests)
+TakesTurn l before (NewLeaf index leaf) =
+    Takes before (on_tree before (λ digests. set_turn l.pair_hashes digests index leaf))
+TakesTurn l before (NewLeaves changes) =
+    Takes before (on_tree before (λ digests. set_many_turn l.pair_hashes digests changes))
+TakesTurn l before ShowRoot = Takes before (in_tree before (λ digests. shown_root l.root_bytes
+    (root l.pair_hashes digests)))
+TakesTurn l before (ShowProof index) =
+    Takes before (in_tree before (λ digests.
+    proof_reply (l.path_bytes (own_path l.pair_hashes index digests)) digests index))
+TakesTurn l before (ShowMultiProof indexes) =
+    Takes before (in_tree before (λ digests.
+    multi_reply (l.multi_path_bytes (own_multi_path l.pair_hashes indexes digests)) digests indexes))
+TakesTurn l before (CheckPath path leaf) =
+    Takes before (in_tree before (λ digests. found (about (held_by l.pair_hashes digests leaf) (l.path_reading path))))
+TakesTurn l before (BindPath path leaf) =
+    Takes before (in_tree before (λ digests. found (about (bound_by l.pair_hashes digests leaf) (l.path_reading path))))
+TakesTurn l before (CheckMultiProof proof leaves) = Takes before (in_tree before (λ digests.
+    found (about (held_by_multi Verdict l.pair_hashes digests leaves) (l.multi_path_reading proof))))
 TakesTurn l before (CountMultiProof proof leaves) = λ after bytes.
-    TellsCount l before proof leaves bytes × (after ≡ before)
-TakesTurn l before (ReadStrictly proof) = Takes before (strict_reply l proof, before)
+    TellsCount l.pair_hashes (l.multi_path_reading proof) before leaves bytes × (after ≡ before)
+TakesTurn l before (ReadStrictly proof) =
+    Takes before (found (about count_of (strict_reading (l.multi_path_reading proof))), before)
 
 -- the same where perhaps nothing is asked
 abbrev pub TakesAny : Language → State → Option Request → State → List ℕ → Type 0

@@ -2,11 +2,15 @@
 
 ghost use Rattle.std.specs.Prelude.{◌≡◌, ℕ, List, Option, map, IfOk};
 ghost use Rattle.std.specs.Option.{option_map, option_copied};
-ghost use Rattle.acp_session.specs.Arguments.{values, some_values, only_value, both_values, two_values, pairs, some_pairs, value_and_others};
+ghost use Rattle.acp_session.specs.Arguments.{values, only_value, both_values, two_values, pairs, value_and_others};
 ghost use Rattle.acp_session.specs.Lines.{tokens_left};
 
-use crate::tokens::{first_token, first_two_tokens, only_token, two_tokens};
+use crate::shell::Shell;
+use crate::tokens::{first_token, first_two_tokens, index_of, only_token, two_tokens};
+use ark_base::serialize::Numbered;
+use ark_crh::CRHScheme;
 use std::alloc::{AllocError, Global};
+use std::marker::PhantomData;
 
 /// A kind of token: what tokens of it say.
 pub trait Argument {
@@ -29,6 +33,98 @@ pub trait Argument {
             → option_map (seen p) x ≡ value_of p token.now) };
 }
 
+/// Tokens that say an index.
+pub struct Index;
+
+/// Tokens that say bytes.
+pub struct Bytes<C> {
+    configuration: PhantomData<C>,
+}
+
+/// Tokens that say a leaf.
+pub struct Leaf<C> {
+    configuration: PhantomData<C>,
+}
+
+/// Tokens that say a digest.
+pub struct Digest<C> {
+    configuration: PhantomData<C>,
+}
+
+impl Argument for Index {
+    ghost use Rattle.std.specs.Prelude.{ℕ};
+    ghost use Rattle.acp_session.specs.Tokens.{index_of};
+
+    type Value = usize;
+
+    ghost Seen = { ℕ };
+
+    ghost Parameters = { Unit {0} };
+
+    ghost seen = { λ _ index. index };
+
+    ghost value_of = { λ _. index_of };
+
+    fn read(_alloc: Global, token: &[u8]) -> Result<Option<usize>, AllocError> {
+        Ok(index_of(token))
+    }
+}
+
+impl<C: Shell> Argument for Bytes<C> {
+    ghost use Rattle.std.specs.Prelude.{ℕ, List};
+
+    type Value = Vec<u8>;
+
+    ghost Seen = { List ℕ };
+
+    ghost Parameters = { C.LeafHash.Parameters × C.TwoToOneHash.Parameters };
+
+    ghost seen = { λ _ bytes. bytes.items };
+
+    ghost value_of = { λ p. (C.language p.0 p.1).bytes };
+
+    fn read(alloc: Global, token: &[u8]) -> Result<Option<Vec<u8>>, AllocError> {
+        C::read_bytes(alloc, token)
+    }
+}
+
+impl<C: Shell> Argument for Leaf<C> {
+    ghost use Rattle.ark_base.specs.Outcome.{Outcome};
+    ghost use Rattle.ark_paths.specs.Pair.{Digest as Numbers};
+
+    type Value = C::Leaf;
+
+    ghost Seen = { Outcome Numbers };
+
+    ghost Parameters = { C.LeafHash.Parameters × C.TwoToOneHash.Parameters };
+
+    ghost seen = { λ p. C.LeafHash.meaning p.0 };
+
+    ghost value_of = { λ p. (C.language p.0 p.1).leaf_outcome };
+
+    fn read(alloc: Global, token: &[u8]) -> Result<Option<C::Leaf>, AllocError> {
+        C::read_leaf(alloc, token)
+    }
+}
+
+impl<C: Shell> Argument for Digest<C> {
+    ghost use Rattle.ark_paths.specs.Pair.{Digest as Numbers};
+
+    type Value = C::LeafDigest;
+
+    ghost Seen = { Numbers };
+
+    ghost Parameters = { C.LeafHash.Parameters × C.TwoToOneHash.Parameters };
+
+    ghost seen = { λ _. C.LeafDigest.numbers };
+
+    ghost value_of = { λ p. (C.language p.0 p.1).digest };
+
+    fn read(alloc: Global, token: &[u8]) -> Result<Option<C::LeafDigest>, AllocError> {
+        C::read_digest(alloc, token)
+    }
+}
+
 /// Returns the values of all tokens, where each says one.
 pub fn values<A: Argument>(
     alloc: Global,
@@ -48,20 +144,6 @@ pub fn values<A: Argument>(
         left = rest;
     }
     Ok(Some(values))
-}
-
-/// Returns the values of one token or more, where each says one.
-pub fn some_values<A: Argument>(
-    alloc: Global,
-    left: Option<&[u8]>,
-) -> Result<Option<Vec<A::Value>>, AllocError>
-    ensures { IfOk result (λ xs. (p : A.Parameters) → option_map (λ xs. map (A.seen p) xs.items) xs
-        ≡ some_values (A.value_of p) (tokens_left (option_copied left.entry))) }
-{
-    if left.is_none() {
-        return Ok(None);
-    }
-    values::<A>(alloc, left)
 }
 
 /// Returns the value of one token alone, if it says one.
@@ -112,8 +194,8 @@ fn both_values<A: Argument, B: Argument>(
     Ok(Some((first, second)))
 }
 
-// The values of all tokens two by two, where their number is even and each says one.
-fn pairs<A: Argument, B: Argument>(
+/// Returns the values of all tokens two by two, where their number is even and each says one.
+pub fn pairs<A: Argument, B: Argument>(
     alloc: Global,
     left: Option<&[u8]>,
 ) -> Result<Option<Vec<(A::Value, B::Value)>>, AllocError>
@@ -134,21 +216,6 @@ fn pairs<A: Argument, B: Argument>(
         left = rest;
     }
     Ok(Some(pairs))
-}
-
-/// Returns the values of two tokens or more, two by two, where their number is even and each says one.
-pub fn some_pairs<A: Argument, B: Argument>(
-    alloc: Global,
-    left: Option<&[u8]>,
-) -> Result<Option<Vec<(A::Value, B::Value)>>, AllocError>
-    ensures { IfOk result (λ xs. (p : A.Parameters) (q : B.Parameters)
-        → option_map (λ xs. map (λ x. (A.seen p x.0, B.seen q x.1)) xs.items) xs
-        ≡ some_pairs (A.value_of p) (B.value_of q) (tokens_left (option_copied left.entry))) }
-{
-    if left.is_none() {
-        return Ok(None);
-    }
-    pairs::<A, B>(alloc, left)
 }
 
 /// Returns the value of a first token and those of the others, where each says one.

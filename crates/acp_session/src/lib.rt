@@ -3,13 +3,13 @@
 
 pub mod answer;
 mod arguments;
-mod keyword;
-mod kinds;
-pub mod line;
+mod changes;
+mod checks;
 mod proofs;
 mod replies;
+mod request;
 mod sha256;
 pub mod shell;
+mod shows;
 pub mod tokens;
 mod toy;
-mod words;

@@ -3,10 +3,21 @@
 ghost use Rattle.std.specs.Prelude.{◌≡◌, ◌++◌, ◌+◌, IfOk, OnOk, codes};
 ghost use Rattle.std.specs.Fmt.{decimal};
 ghost use Rattle.hex.specs.Hex.{encode_lower};
-ghost use Rattle.acp_session.specs.Replies.{Refused, text};
+ghost use Rattle.acp_session.specs.Replies.{Refused, found, text};
 
 use ark_base::error::Error;
+use ark_merkle::Binding;
 use std::alloc::{AllocError, Global};
+
+/// What bytes say that spell a path or a multi-proof.
+#[derive(Drop)]
+pub enum Finding {
+    Trailing,
+    Verdict(bool),
+    Counted(bool, usize),
+    Bound(Binding),
+    Strict(usize),
+}
 
 /// Returns a reply of fixed text.
 pub fn plain(alloc: Global, text: &[u8]) -> Result<Vec<u8>, AllocError>
@@ -27,6 +38,23 @@ pub fn refused(alloc: Global, error: Error) -> Result<Vec<u8>, AllocError>
         Error::GenericError(refusal) => format!(in alloc; "refused {refusal}")?,
         Error::SerializationError(fault) => format!(in alloc; "refused {fault}")?,
         Error::OutOfMemory => format!(in alloc; "refused memory")?,
+    };
+    Ok(reply.into_bytes())
+}
+
+/// Returns what was found, or why it was not.
+pub fn finding_bytes(alloc: Global, finding: Result<Finding, Error>) -> Result<Vec<u8>, AllocError>
+    ensures { IfOk result (λ reply. reply.items ≡ text (found finding)) }
+{
+    let reply = match finding {
+        Ok(Finding::Trailing) => format!(in alloc; "refused trailing")?,
+        Ok(Finding::Verdict(holds)) => format!(in alloc; "{holds}")?,
+        Ok(Finding::Counted(holds, pairs)) => format!(in alloc; "{holds} {pairs}")?,
+        Ok(Finding::Bound(Binding::Rejected)) => format!(in alloc; "rejected")?,
+        Ok(Finding::Bound(Binding::Stands)) => format!(in alloc; "stands")?,
+        Ok(Finding::Bound(Binding::Differs { level })) => format!(in alloc; "differs {level}")?,
+        Ok(Finding::Strict(indexes)) => format!(in alloc; "strict {indexes}")?,
+        Err(error) => return refused(alloc, error),
     };
     Ok(reply.into_bytes())
 }

@@ -1,7 +1,7 @@
 //! Lines over the configuration `sha256`: trees of SHA-256, whose leaves and digests are bytes.
 
-ghost use Rattle.std.specs.Prelude.{◌≡◌, refl};
-ghost use Rattle.acp_session.specs.Laws.Sha256.{path_reading-sha, multi_path_reading-sha};
+ghost use Rattle.std.specs.Prelude.{◌≡◌};
+ghost use Rattle.acp_session.specs.Laws.Sha256.{language-sha};
 ghost use Rattle.acp_session.specs.Sha256.{sha_language};
 
 use crate::replies::push_hex;
@@ -32,13 +32,5 @@ impl Shell for Sha256Strings {
         push_hex(reply, root)
     }
 
-    ghost pair_is = { λ p q. refl };
-
-    ghost path_bytes_are = { λ p q. refl };
-
-    ghost path_reading_is = { λ p q. path_reading-sha };
-
-    ghost multi_path_bytes_are = { λ p q. refl };
-
-    ghost multi_path_reading_is = { λ p q. multi_path_reading-sha };
+    ghost language_is = { λ p q. language-sha };
 }

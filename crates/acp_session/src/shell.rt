@@ -49,20 +49,15 @@ pub trait Shell: Config {
             → reply.new.items ≡ reply.old.items
             ++ encode_lower ((language p q).root_bytes (Self.InnerDigest.numbers root.now))) };
 
-    ghost pair_is: { (p : Self.LeafHash.Parameters) (q : Self.TwoToOneHash.Parameters)
-        → ⟦<Self as Views>⟧.pair q ≡ (language p q).pair_hashes };
-
-    ghost path_bytes_are: { (p : Self.LeafHash.Parameters) (q : Self.TwoToOneHash.Parameters)
-        → ⟦<Self as Views>⟧.path_bytes ≡ (language p q).path_bytes };
-
-    ghost path_reading_is: { (p : Self.LeafHash.Parameters) (q : Self.TwoToOneHash.Parameters)
-        → ⟦<Self as Views>⟧.path_reading ≡ (language p q).path_reading };
-
-    ghost multi_path_bytes_are: { (p : Self.LeafHash.Parameters) (q : Self.TwoToOneHash.Parameters)
-        → ⟦<Self as Views>⟧.multi_path_bytes ≡ (language p q).multi_path_bytes };
-
-    ghost multi_path_reading_is: { (p : Self.LeafHash.Parameters) (q : Self.TwoToOneHash.Parameters)
-        → ⟦<Self as Views>⟧.multi_path_reading ≡ (language p q).multi_path_reading };
+    // Pairs, paths and multi-proofs are those of the configuration.
+    ghost language_is: { (p : Self.LeafHash.Parameters) (q : Self.TwoToOneHash.Parameters)
+        → language p q ≡ record (language p q) {
+          pair_hashes = ⟦<Self as Views>⟧.pair q;
+          path_bytes = ⟦<Self as Views>⟧.path_bytes;
+          path_reading = ⟦<Self as Views>⟧.path_reading;
+          multi_path_bytes = ⟦<Self as Views>⟧.multi_path_bytes;
+          multi_path_reading = ⟦<Self as Views>⟧.multi_path_reading;
+        } };
 }
 
 /// What contracts see of the hashes of a tree. Each configuration has it.

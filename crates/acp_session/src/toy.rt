@@ -44,13 +44,5 @@ impl Shell for Toy {
         push_hex(reply, &[(value % 256) as u8, (value / 256 % 256) as u8])
     }
 
-    ghost pair_is = { λ p q. refl };
-
-    ghost path_bytes_are = { λ p q. refl };
-
-    ghost path_reading_is = { λ p q. refl };
-
-    ghost multi_path_bytes_are = { λ p q. refl };
-
-    ghost multi_path_reading_is = { λ p q. refl };
+    ghost language_is = { λ p q. refl };
 }

@@ -84,15 +84,7 @@ impl Shell for Keyed {
         Toy::show_root(root, reply)
     }
 
-    ghost pair_is = { λ p q. refl };
-
-    ghost path_bytes_are = { λ p q. refl };
-
-    ghost path_reading_is = { λ p q. refl };
-
-    ghost multi_path_bytes_are = { λ p q. refl };
-
-    ghost multi_path_reading_is = { λ p q. refl };
+    ghost language_is = { λ p q. refl };
 }
 
 // Under the key 10 the leaves 1 and 2 have the digests 11 and 12, and 11 + 2 * 12 is 35.

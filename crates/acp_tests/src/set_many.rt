@@ -79,15 +79,7 @@ impl Shell for Refusing {
         Toy::show_root(root, reply)
     }
 
-    ghost pair_is = { λ p q. refl };
-
-    ghost path_bytes_are = { λ p q. refl };
-
-    ghost path_reading_is = { λ p q. refl };
-
-    ghost multi_path_bytes_are = { λ p q. refl };
-
-    ghost multi_path_reading_is = { λ p q. refl };
+    ghost language_is = { λ p q. refl };
 }
 
 // A leaf's refusal comes before that of a pair. Of the pairs that refuse, the lowest decides, the leftmost of its row: 249 and 4 make

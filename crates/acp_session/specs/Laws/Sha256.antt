@@ -1,5 +1,6 @@
--- How the paths and multi-proofs of `sha256` are read.
+-- The language of `sha256` is that of its digests.
 use Rattle.std.specs.Prelude.{◌≡◌, ℕ, List, drop}
+use Rattle.std.proofs.Common.{sym}
 use Rattle.ark_base.specs.Spelling.{byte, byte_at, counted_list, counted_list_at}
 use Rattle.ark_base.specs.Laws.Lists.{drop-counted_list}
 use Rattle.ark_paths.specs.MultiPathBytes.{multi_way_at}
@@ -10,13 +11,13 @@ use Rattle.acp_session.specs.Sha256.{sha_language}
 abbrev behind_count : List ℕ → List ℕ
 behind_count bytes = drop 8 (counted_list byte bytes)
 
-pub path_reading-sha :
-    way_at behind_count behind_count (counted_list_at byte_at) (counted_list_at byte_at) ≡ sha_language.path_reading
-path_reading-sha = λ i. way_at (λ bytes. drop-counted_list bytes i) (λ bytes. drop-counted_list bytes i)
-    (counted_list_at byte_at) (counted_list_at byte_at)
-
-pub multi_path_reading-sha :
-    multi_way_at behind_count behind_count (counted_list_at byte_at) (counted_list_at byte_at)
-    ≡ sha_language.multi_path_reading
-multi_path_reading-sha = λ i. multi_way_at (λ bytes. drop-counted_list bytes i) (λ bytes. drop-counted_list bytes i)
-    (counted_list_at byte_at) (counted_list_at byte_at)
+pub language-sha : sha_language ≡ record sha_language {
+  path_reading = way_at behind_count behind_count (counted_list_at byte_at) (counted_list_at byte_at);
+  multi_path_reading = multi_way_at behind_count behind_count (counted_list_at byte_at) (counted_list_at byte_at);
+}
+language-sha = sym (λ i. record sha_language {
+  path_reading = way_at (λ bytes. drop-counted_list bytes i) (λ bytes. drop-counted_list bytes i)
+      (counted_list_at byte_at) (counted_list_at byte_at);
+  multi_path_reading = multi_way_at (λ bytes. drop-counted_list bytes i) (λ bytes. drop-counted_list bytes i)
+      (counted_list_at byte_at) (counted_list_at byte_at);
+})
