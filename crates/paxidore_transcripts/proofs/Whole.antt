@@ -51,25 +51,25 @@ refusal_passed view outcome result d is_err refused known =
 -- ---- elements that fill the bytes
 
 module _ (f : FieldSize) (bytes : List ℕ) (len : ℕ) (long : len ≡ element_length f) (whole : length bytes % len ≡ 0)
-    where
-  filled : elements_in f bytes ≡ whole_of (items_at (element_at f) (length bytes / len) bytes)
-  filled = let is : length bytes % element_length f ≡ 0 = rw long at whole in rw long (rw is refl)
+  where
+    filled : elements_in f bytes ≡ whole_of (items_at (element_at f) (length bytes / len) bytes)
+    filled = let is : length bytes % element_length f ≡ 0 = rw long at whole in rw long (rw is refl)
 
-  pub elements-fault : (e : Error) → reading_outcome (items_at (element_at f) (length bytes / len) bytes) ≡ Err e
-      → elements_in f bytes ≡ Err (refused_of e)
-  elements-fault e h = rw (filled, h) refl
+    pub elements-fault : (e : Error) → reading_outcome (items_at (element_at f) (length bytes / len) bytes) ≡ Err e
+        → elements_in f bytes ≡ Err (refused_of e)
+    elements-fault e h = rw (filled, h) refl
 
-  pub elements-more : (xs rest : List ℕ)
-      → reading_outcome (items_at (element_at f) (length bytes / len) bytes) ≡ Ok (xs, rest)
-      → 0 < length rest → elements_in f bytes ≡ Err Invalid
-  elements-more xs rest h some =
-      rw filled (whole-more (items_at (element_at f) (length bytes / len) bytes) xs rest h some)
+    pub elements-more : (xs rest : List ℕ)
+        → reading_outcome (items_at (element_at f) (length bytes / len) bytes) ≡ Ok (xs, rest)
+        → 0 < length rest → elements_in f bytes ≡ Err Invalid
+    elements-more xs rest h some =
+        rw filled (whole-more (items_at (element_at f) (length bytes / len) bytes) xs rest h some)
 
-  pub elements-alone : (xs rest : List ℕ)
-      → reading_outcome (items_at (element_at f) (length bytes / len) bytes) ≡ Ok (xs, rest)
-      → length rest ≡ 0 → elements_in f bytes ≡ Ok xs
-  elements-alone xs rest h none =
-      rw filled (whole-alone (items_at (element_at f) (length bytes / len) bytes) xs rest h none)
+    pub elements-alone : (xs rest : List ℕ)
+        → reading_outcome (items_at (element_at f) (length bytes / len) bytes) ≡ Ok (xs, rest)
+        → length rest ≡ 0 → elements_in f bytes ≡ Ok xs
+    elements-alone xs rest h none =
+        rw filled (whole-alone (items_at (element_at f) (length bytes / len) bytes) xs rest h none)
 
 -- ---- states
 

@@ -23,10 +23,6 @@ module _ (file : List ℕ) (named : Option ℕ) (all size : ℕ) (is : log_size 
       → of_first file named Ok ≡ Ok kept.size
   size-kept kept digests same inside = rw same (size-inside inside)
 
-pub size-refused : (file : List ℕ) (named : Option ℕ) (fault : Fault) → log_size file ≡ Err fault
-    → of_first file named Ok ≡ Err fault
-size-refused file named fault is = rw is refl
-
 abbrev fault_in : Result ℕ Fault → Fault
 fault_in (Ok n) = Size
 fault_in (Err fault) = fault
