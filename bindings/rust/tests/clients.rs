@@ -42,7 +42,7 @@ fn trees() {
     assert_eq!((of(b"cat"), of(b"dog")), (Ok(true), Ok(false)));
     let wide = Trees::RFC6962.verify(&root, 8, 2, b"cat", &path);
     assert_eq!(wide, Err(Refused::Height));
-    let proof: [u8; 128] = joined(&[
+    let proof: [u8; 120] = joined(&[
         &word(1),
         &dan,
         &word(1),
