@@ -1,18 +1,14 @@
-use Rattle.std.proofs.Common.{◌≡◌, ◌<◌, ◌+◌, ◌-◌, ◌∙◌, min, map, ap, sym, length, arith, rules}
+use Rattle.std.proofs.Common.{◌≡◌, ◌+◌, ◌-◌, ◌∙◌, min, map, ap, sym, length, arith, rules}
 use Rattle.std.proofs.lemmas.Grind.{common_steps}
 use Rattle.std.proofs.Math.ListN.{length-map}
-use Rattle.ark_sponge.specs.Permutation.{permutation}
 use Rattle.ark_sponge.proofs.Blocks.{blocks_left-nil, elements_left-first, elements_left-next}
 use Rattle.ark_sponge.proofs.poseidon.duplex.absorb_blocks.Goals as goal
 
 pub loop-index-init : goal.loop-index-init
 loop-index-init g c =
-    let f = g.F.Field in
-    let q = c.args.parameters.now in
-    let pos : 0 < q.rate = omega (arith, c.rate-rate.ensures.positive, c.rate-rate.ensures.value) in
     record {
-      so_far = elements_left-first g.F.Valued.value f.MODULUS q.rate q.capacity (permutation f.MODULUS g.S.SBox.image q)
-          pos c.args.state.now c.args.elements.now c.add_row_at.new.state
+      so_far = elements_left-first g.F.Valued.value _ _ _ _
+          (omega (arith, c.rate-rate.ensures.positive, c.rate-rate.ensures.value)) c.args.state.now c.args.elements.now c.add_row_at.new.state
           c.split_at.result.0.now c.split_at.result.1.now c.args.start c.min.result (c.capacity-capacity.result
           + c.args.start) g.met.F.Field.laws.below
           c.requires.width c.requires.start c.requires.some (c.min.ensures
@@ -26,12 +22,9 @@ loop-index-init g c =
 
 pub loop-index-preserved : goal.loop-index-preserved
 loop-index-preserved g c =
-    let f = g.F.Field in
-    let q = c.args.parameters.now in
-    let pos : 0 < q.rate = omega (arith, c.rate-rate.ensures.positive, c.rate-rate.ensures.value) in
     record {
-      so_far = elements_left-next g.F.Valued.value f.MODULUS q.rate q.capacity (permutation f.MODULUS g.S.SBox.image q)
-          pos c.loop-index.state c.permute.new.state
+      so_far = elements_left-next g.F.Valued.value _ _ _ _
+          (omega (arith, c.rate-rate.ensures.positive, c.rate-rate.ensures.value)) c.loop-index.state c.permute.new.state
           c.add_row_at-in-loop-index.new.state c.loop-index.rest.now c.split_at-in-loop-index.result.0.now
           c.split_at-in-loop-index.result.1.now c.loop-index.index
           c.min-in-loop-index.result (search (rules, common_steps)) (c.min-in-loop-index.ensures
@@ -51,11 +44,7 @@ loop-index-preserved g c =
 
 pub returns-clause-state : goal.returns-clause-state
 returns-clause-state g c =
-    let f = g.F.Field in
-    let q = c.args.parameters.now in
-    let permute = permutation f.MODULUS g.S.SBox.image q in
     let none : length (map g.F.Valued.value c.loop-index.rest.now) ≡ 0 =
     length-map c.loop-index.rest.now g.F.Valued.value ∙ search (rules, common_steps) in
-    sym (blocks_left-nil f.MODULUS q.rate q.capacity permute (map g.F.Valued.value c.loop-index.state)
-    c.loop-index.index (map g.F.Valued.value c.loop-index.rest.now) none)
+    sym (blocks_left-nil _ _ _ _ _ c.loop-index.index (map g.F.Valued.value c.loop-index.rest.now) none)
     ∙ c.loop-index.invariant.so_far

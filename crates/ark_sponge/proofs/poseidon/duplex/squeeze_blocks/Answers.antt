@@ -1,8 +1,8 @@
-use Rattle.std.proofs.Common.{◌≡◌, ◌<◌, ◌≤◌, ◌+◌, ◌-◌, ◌∙◌, map, take, drop, ap, sym, length, arith, refl, length-drop}
+use Rattle.std.proofs.Common.{◌≡◌, ◌<◌, ◌≤◌, ◌+◌, ◌∙◌, map, take, drop, ap, sym, length, arith, refl, length-drop}
 use Rattle.std.proofs.lemmas.List.{take_all, length-take, length-take-le}
 use Rattle.ark_sponge.specs.Permutation.{permutation}
 use Rattle.ark_sponge.specs.Duplex.{numbers_from_place}
-use Rattle.ark_sponge.proofs.Squeezes.{at_turn, at_end, given_block}
+use Rattle.ark_sponge.proofs.Squeezes.{at_turn, at_last, given_block}
 use Rattle.ark_sponge.proofs.poseidon.duplex.squeeze_blocks.Goals as goal
 
 pub loop-given-init : goal.loop-given-init
@@ -65,40 +65,27 @@ loop-given-preserved g c =
 
 pub returns-clause-numbers : goal.returns-clause-numbers
 returns-clause-numbers g c =
-    let f = g.F.Field in
-    let q = c.args.parameters.now in
     let kept = c.loop-given.invariant in
     let all : take c.loop-given.given c.loop-given.out ≡ c.loop-given.out =
     take_all c.loop-given.given c.loop-given.out c.loop-given-test.false in
-    let count : c.loop-given.given ≡ length c.args.out.now =
-    omega (arith, c.loop-given-test.false, kept.within, kept.out) in
     ap (map g.F.Valued.value) (sym all) ∙ kept.numbers
-    ∙ ap (numbers_from_place q.rate q.capacity (permutation f.MODULUS g.S.SBox.image q)
-    (map g.F.Valued.value c.args.state.now) c.args.start) count
+    ∙ ap (numbers_from_place c.args.parameters.now.rate c.args.parameters.now.capacity
+    (permutation g.F.Field.MODULUS g.S.SBox.image c.args.parameters.now) (map g.F.Valued.value c.args.state.now)
+    c.args.start) (omega (arith, c.loop-given-test.false, kept.within, kept.out))
 
 pub returns-clause-index : goal.returns-clause-index
 returns-clause-index g c =
-    let f = g.F.Field in
-    let q = c.args.parameters.now in
-    let kept = c.loop-given.invariant in
-    let some : 0 < c.loop-given.given = omega (arith, c.loop-given-test.false, kept.out, c.requires.some) in
-    let whole : c.args.start + c.loop-given.given ≡ (c.args.start + (length c.args.out.now - 1)) + 1 =
-    omega (arith, c.loop-given-test.false, kept.within, kept.out, c.requires.some) in
-    (at_end q.rate (permutation f.MODULUS g.S.SBox.image q) (map g.F.Valued.value c.args.state.now)
-    (c.args.start + (length c.args.out.now - 1)) (c.args.start + c.loop-given.given)
-    c.loop-given.index (map g.F.Valued.value c.loop-given.state) whole kept.at (kept.begun some)).1
+    (at_last _ _ _ c.args.start (length c.args.out.now) c.loop-given.given _ _ c.requires.some
+    (omega (arith, c.loop-given-test.false, c.loop-given.invariant.out))
+    (omega (arith, c.loop-given.invariant.within, c.loop-given.invariant.out)) c.loop-given.invariant.at
+    c.loop-given.invariant.begun).1
 
 pub returns-clause-state : goal.returns-clause-state
 returns-clause-state g c =
-    let f = g.F.Field in
-    let q = c.args.parameters.now in
-    let kept = c.loop-given.invariant in
-    let some : 0 < c.loop-given.given = omega (arith, c.loop-given-test.false, kept.out, c.requires.some) in
-    let whole : c.args.start + c.loop-given.given ≡ (c.args.start + (length c.args.out.now - 1)) + 1 =
-    omega (arith, c.loop-given-test.false, kept.within, kept.out, c.requires.some) in
-    (at_end q.rate (permutation f.MODULUS g.S.SBox.image q) (map g.F.Valued.value c.args.state.now)
-    (c.args.start + (length c.args.out.now - 1)) (c.args.start + c.loop-given.given)
-    c.loop-given.index (map g.F.Valued.value c.loop-given.state) whole kept.at (kept.begun some)).0
+    (at_last _ _ _ c.args.start (length c.args.out.now) c.loop-given.given _ _ c.requires.some
+    (omega (arith, c.loop-given-test.false, c.loop-given.invariant.out))
+    (omega (arith, c.loop-given.invariant.within, c.loop-given.invariant.out)) c.loop-given.invariant.at
+    c.loop-given.invariant.begun).0
 
 pub split_at-requires : goal.split_at-requires
 split_at-requires g c =
