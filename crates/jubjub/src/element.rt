@@ -6,7 +6,9 @@ ghost use Rattle.jubjub.specs.Values.{value};
 ghost use Rattle.jubjub.specs.Laws.Points.{in_subgroup_alike};
 
 use crate::bytes::spelled;
-use crate::extended::{affine, doubled, is_neutral, lifted, plus_point, twice_coefficient};
+use crate::extended::{
+    Extended, affine, doubled, is_neutral, lifted, plus_point, twice_coefficient,
+};
 use crate::multiple::{is_on_curve, multiple, order_of_subgroup};
 use ark_groups::ff::{Field, Words};
 use ark_wide_fields::Bls12_381Fr;
@@ -60,6 +62,7 @@ impl Jubjub {
     ghost use Rattle.ark_groups.specs.Group.{times};
     ghost use Rattle.ark_groups.specs.Words.{number};
     ghost use Rattle.jubjub.specs.Edwards.{neutral, negative, sum};
+    ghost use Rattle.jubjub.specs.Extended.{Stands};
     ghost use Rattle.jubjub.specs.Jubjub.{p, d, curve, base_point};
     ghost use Rattle.jubjub.specs.declared.element.Jubjub.{Jubjub};
     ghost use Rattle.jubjub.specs.Elements.{coordinates, jubjub, base};
@@ -71,6 +74,15 @@ impl Jubjub {
         ensures { coordinates result ≡ record { x = value x; y = value y } }
     {
         Jubjub { x, y }
+    }
+
+    // The element of a point that is known to be in the subgroup, by its extended coordinates.
+    fn of_extended(point: Extended) -> Jubjub
+        requires { (a : Coordinates) × IsInSubgroup a × Stands point a }
+        ensures { (a : Coordinates) → IsInSubgroup a → Stands point a → coordinates result ≡ a }
+    {
+        let (x, y) = affine(point);
+        Jubjub::of(x, y)
     }
 
     /// Returns the element that adds nothing.
@@ -112,8 +124,7 @@ impl Jubjub {
         ensures coordinates { coordinates result ≡ sum p d (coordinates self) (coordinates other) }
     {
         let a = lifted(self.x, self.y);
-        let (x, y) = affine(plus_point(twice_coefficient(), a, other.x, other.y));
-        Jubjub::of(x, y)
+        Jubjub::of_extended(plus_point(twice_coefficient(), a, other.x, other.y))
     }
 
     /// Returns the negative.
@@ -129,8 +140,7 @@ impl Jubjub {
         ensures group { result ≡ jubjub.plus self self }
         ensures coordinates { coordinates result ≡ sum p d (coordinates self) (coordinates self) }
     {
-        let (x, y) = affine(doubled(lifted(self.x, self.y)));
-        Jubjub::of(x, y)
+        Jubjub::of_extended(doubled(lifted(self.x, self.y)))
     }
 
     /// Returns the element, added as often as the scalar says. The scalar may be any number of four words.
@@ -138,8 +148,7 @@ impl Jubjub {
         ensures group { result ≡ times jubjub (number scalar) self }
         ensures coordinates { coordinates result ≡ times curve (number scalar) (coordinates self) }
     {
-        let (x, y) = affine(multiple(lifted(self.x, self.y), scalar));
-        Jubjub::of(x, y)
+        Jubjub::of_extended(multiple(lifted(self.x, self.y), scalar))
     }
 
     /// Returns the element with these coordinates. `None` where they are not in the prime subgroup.

@@ -8,7 +8,7 @@ ghost use Rattle.jubjub.specs.Laws.Group.{jubjub_laws, of_modulus, same_if_equal
 ghost use Rattle.jubjub.specs.Laws.Elements.{same_element};
 
 use crate::element::{Jubjub, JubjubSum};
-use crate::extended::{affine, doubled, lifted, plus, plus_point, twice_coefficient};
+use crate::extended::{doubled, lifted, plus, plus_point, twice_coefficient};
 use crate::fr::JubjubFr;
 use ark_groups::ec::{AdditiveGroup, TECoordinates};
 use ark_groups::ff::{Field, UniformRand};
@@ -64,8 +64,7 @@ impl AdditiveGroup for Jubjub {
     }
 
     fn from_sum(sum: JubjubSum) -> Jubjub {
-        let (x, y) = affine(sum.point);
-        Jubjub::of(x, y)
+        Jubjub::of_extended(sum.point)
     }
 
     /// Takes 48 bytes of the generator's stream: a scalar, times the group's generator.
