@@ -6,12 +6,15 @@ use Rattle.std.specs.Prelude.{slice_index_or, slice_range}
 use Rattle.std.proofs.lemmas.List.{append_assoc, get_or_append_left, get_or-take, get_or-drop, take_all, take_at}
 use Rattle.std.proofs.lemmas.List.{drop_at, drop-replicate, drop-append-le, drop-drop, length-take-le}
 use Rattle.std.proofs.Math.Seq.{take-append-add, drop-append-add}
-use borrow.Rule.Slice.PartMut.{put_mid}
 use Rattle.ark_schemes.specs.Blake2s.{compression, words_from, full_block, block_count, blocks, first_state}
 use Rattle.ark_schemes.specs.Blake2s.{state_after, state_bytes, blake2s_with}
 use Rattle.ark_schemes.specs.Hashers.{hasher_of, bytes_before_last}
 use Rattle.ark_schemes.specs.declared.prf.blake2s.hasher.Hasher.{Hasher}
 use Rattle.ark_schemes.proofs.Texts.{words_from-same, full_block-at, block_at, state_after-more, last_state-block}
+
+-- a list with others in the place of so many of its numbers, from a place on
+abbrev pub written_over : ℕ → ℕ → List ℕ → List ℕ → List ℕ
+written_over place count xs ys = take place xs ++ (ys ++ drop count (drop place xs))
 
 -- the first blocks of a text that grows stay as they are
 pub state_after-append : (h text more : List ℕ) (n : ℕ) → 64 * n ≤ length text
@@ -29,7 +32,7 @@ state_after-append h text more (suc n) whole =
 
 -- bytes written behind those of a block
 pub full_block-put : (a b block : List ℕ) (k j : ℕ) → block ≡ full_block a → k ≡ length a → j ≡ length b
-    → length a + length b ≤ 64 → put_mid k j block b ≡ full_block (a ++ b)
+    → length a + length b ≤ 64 → written_over k j block b ≡ full_block (a ++ b)
 full_block-put a b block k j held at size room =
     let front : take k block ≡ a = rw held (take_at a (replicate (64 - length a) 0) k (sym at)) in
     let behind : drop k block ≡ replicate (64 - length a) 0 =
@@ -99,7 +102,7 @@ pub hasher_of-append : (salt person text input : List ℕ) (s n : Hasher) (used 
     → s ≡ hasher_of salt person text
     → used ≡ length text - bytes_before_last (length text) → used + length input ≤ 64 → j ≡ length input
     → length text + length input < 2 ^ 64
-    → n.state ≡ s.state → n.block ≡ put_mid used j s.block input → n.len ≡ (s.len + length input) % 2 ^ 64
+    → n.state ≡ s.state → n.block ≡ written_over used j s.block input → n.len ≡ (s.len + length input) % 2 ^ 64
     → n ≡ hasher_of salt person (text ++ input)
 hasher_of-append salt person text input s n used j held at room width fits state block count_kept =
     let i : ℕ = block_count (length text) - 1 in
@@ -124,7 +127,7 @@ pub state_after-filled : (salt person text input block words after : List ℕ) (
     → s ≡ hasher_of salt person text
     → used ≡ length text - bytes_before_last (length text) → used + room ≡ 64 → 0 < used → room < length input
     → j ≡ room → length text + length input < 2 ^ 64
-    → block ≡ put_mid used j s.block (take room input) → words ≡ words_from block 0 → t ≡ (s.len + room) % 2 ^ 64
+    → block ≡ written_over used j s.block (take room input) → words ≡ words_from block 0 → t ≡ (s.len + room) % 2 ^ 64
     → after ≡ compression s.state words t false
     → after ≡ state_after (first_state salt person) (blocks (text ++ input)) ((length text + (64 - used) % 64) / 64)
 state_after-filled salt person text input block words after s used room j t held at full some more width fits put read

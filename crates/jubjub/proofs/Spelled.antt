@@ -7,14 +7,13 @@ use Rattle.std.proofs.lemmas.Slice.{take-put_mid, drop-put_mid}
 use Rattle.std.proofs.lemmas.Slice.Eq.{bytes_eq-Decides}
 use Rattle.std.proofs.Math.Seq.{take-append_seam}
 use Rattle.std.specs.Str.{bytes_eq}
-use borrow.Rule.Slice.PartMut.{put_mid}
 
 -- the second half of 64 bytes is written behind the first
 pub both_halves : (a b rest : List ℕ) → length a ≡ 32 → length b ≡ 32 → length rest ≡ 32
-    → put_mid 32 32 (a ++ rest) b ≡ a ++ b
+    → take 32 (a ++ rest) ++ (b ++ drop 32 (drop 32 (a ++ rest))) ≡ a ++ b
 both_halves a b rest long_a long_b long_rest =
     let xs : List ℕ = a ++ rest in
-    let whole : List ℕ = put_mid 32 32 xs b in
+    let whole : List ℕ = take 32 xs ++ (b ++ drop 32 (drop 32 xs)) in
     let long : length xs ≡ 64 = length-append a rest ∙ ap₂ (λ m n. m + n) long_a long_rest in
     sym (take-append-drop 64 whole) ∙ ap₂ (λ s t. s ++ t)
     (take-put_mid 32 32 xs b 64 (omega (arith, long_b)) (omega (arith, long))
