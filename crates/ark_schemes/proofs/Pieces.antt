@@ -97,6 +97,19 @@ pub hasher_by : (salt person text : List ℕ) (s : Hasher)
 unfolding hasher_of
 hasher_by salt person text s state block len = λ i. record { state = state i; block = block i; len = len i }
 
+-- how many blocks stand in front of a text's last one, and the bytes of that
+abbrev last_block : List ℕ → ℕ
+last_block text = block_count (length text) - 1
+
+abbrev last_bytes : List ℕ → List ℕ
+last_bytes text = drop (64 * last_block text) text
+
+length-last : (text : List ℕ) → length (last_bytes text) ≡ length text - 64 * last_block text
+length-last text = length-drop (64 * last_block text) text
+
+last-grown : (text input : List ℕ) → drop (64 * last_block text) (text ++ input) ≡ last_bytes text ++ input
+last-grown text input = drop-append-le (64 * last_block text) text input (omega arith)
+
 -- bytes for which the block has room
 pub hasher_of-append : (salt person text input : List ℕ) (s n : Hasher) (used j : ℕ)
     → s ≡ hasher_of salt person text
@@ -105,21 +118,16 @@ pub hasher_of-append : (salt person text input : List ℕ) (s n : Hasher) (used 
     → n.state ≡ s.state → n.block ≡ written_over used j s.block input → n.len ≡ (s.len + length input) % 2 ^ 64
     → n ≡ hasher_of salt person (text ++ input)
 hasher_of-append salt person text input s n used j held at room width fits state block count_kept =
-    let i : ℕ = block_count (length text) - 1 in
-    let first : List ℕ = first_state salt person in
-    let behind : List ℕ = drop (64 * i) text in
     let size = length-append text input in
-    let size_behind : length behind ≡ length text - 64 * i = length-drop (64 * i) text in
-    let before = len_of salt person text s held in
-    let len : n.len ≡ length (text ++ input) = omega arith in
-    let count : block_count (length (text ++ input)) - 1 ≡ i = omega arith in
-    let grown : drop (64 * i) (text ++ input) ≡ behind ++ input = drop-append-le (64 * i) text input (omega arith) in
-    let kept = state_of salt person text s held in
-    let put =
-    full_block-put behind input s.block used j (block_of salt person text s held) (omega arith) width (omega arith) in
+    let size_behind = length-last text in
+    let len : n.len ≡ length (text ++ input) = omega (arith, len_of salt person text s held) in
+    let count : last_block (text ++ input) ≡ last_block text = omega arith in
+    let put = full_block-put (last_bytes text) input s.block used j (block_of salt person text s held) (omega arith)
+    width (omega arith) in
     hasher_by salt person (text ++ input) n
-    (rw count (state ∙ kept ∙ sym (state_after-append first text input i (omega arith))))
-    (rw (count, grown) (block ∙ put))
+    (rw count (state ∙ state_of salt person text s held
+    ∙ sym (state_after-append (first_state salt person) text input (last_block text) (omega arith))))
+    (rw (count, last-grown text input) (block ∙ put))
     len
 
 -- a block that was begun is full, and a further byte follows
@@ -132,26 +140,23 @@ pub state_after-filled : (salt person text input block words after : List ℕ) (
     → after ≡ state_after (first_state salt person) (blocks (text ++ input)) ((length text + (64 - used) % 64) / 64)
 state_after-filled salt person text input block words after s used room j t held at full some more width fits put read
     count e =
-    let i : ℕ = block_count (length text) - 1 in
-    let first : List ℕ = first_state salt person in
-    let behind : List ℕ = drop (64 * i) text in
+    let i : ℕ = last_block text in
+    let behind : List ℕ = last_bytes text in
     let size = length-append text input in
-    let size_behind : length behind ≡ length text - 64 * i = length-drop (64 * i) text in
+    let size_behind = length-last text in
     let size_front : length (take room input) ≡ room = length-take-le room input (omega arith) in
-    let grown : drop (64 * i) (text ++ input) ≡ behind ++ input = drop-append-le (64 * i) text input (omega arith) in
     let ends : 64 ≡ length behind + room = omega arith in
     let front : take 64 (behind ++ input) ≡ behind ++ take room input =
     ap (λ (n : ℕ). take n (behind ++ input)) ends ∙ take-append-add behind input room in
     let written : block ≡ full_block (behind ++ take room input) =
     put ∙ full_block-put behind (take room input) s.block used j (block_of salt person text s held) (omega arith)
     (omega arith) (omega arith) in
-    let before = len_of salt person text s held in
     let of_text : words ≡ words_from (text ++ input) (64 * i) =
-    read ∙ words_of_full (text ++ input) block (64 * i) (rw (grown, front) written) in
+    read ∙ words_of_full (text ++ input) block (64 * i) (rw (last-grown text input, front) written) in
     let next : (length text + (64 - used) % 64) / 64 ≡ i + 1 = omega arith in
-    rw next (state_after-more first (text ++ input) i s.state words after t (omega arith)
-    (state_of salt person text s held ∙ sym (state_after-append first text input i (omega arith))) of_text
-    (omega arith) e)
+    rw next (state_after-more (first_state salt person) (text ++ input) i s.state words after t (omega arith)
+    (state_of salt person text s held ∙ sym (state_after-append (first_state salt person) text input i (omega arith)))
+    of_text (omega (arith, len_of salt person text s held)) e)
 
 -- a block that holds nothing
 pub state_after-unfilled : (salt person text input : List ℕ) (s : Hasher) (used : ℕ)
@@ -159,10 +164,9 @@ pub state_after-unfilled : (salt person text input : List ℕ) (s : Hasher) (use
     → used ≡ length text - bytes_before_last (length text) → used ≡ 0
     → s.state ≡ state_after (first_state salt person) (blocks (text ++ input)) ((length text + (64 - used) % 64) / 64)
 state_after-unfilled salt person text input s used held at none =
-    let i : ℕ = block_count (length text) - 1 in
-    let same : (length text + (64 - used) % 64) / 64 ≡ i = omega arith in
+    let same : (length text + (64 - used) % 64) / 64 ≡ last_block text = omega arith in
     rw same (state_of salt person text s held
-    ∙ sym (state_after-append (first_state salt person) text input i (omega arith)))
+    ∙ sym (state_after-append (first_state salt person) text input (last_block text) (omega arith)))
 
 -- what stands behind all blocks but the last
 pub hasher_of-behind : (salt person text input : List ℕ) (n : Hasher) (start taken : ℕ) → start < length input
@@ -186,9 +190,9 @@ pub blake2s_with-hasher : (salt person text words after : List ℕ) (s : Hasher)
     → after ≡ compression s.state words s.len true → state_bytes after ≡ blake2s_with salt person text
 unfolding blake2s_with
 blake2s_with-hasher salt person text words after s held read e =
-    let i : ℕ = block_count (length text) - 1 in
-    let last : List ℕ = drop (64 * i) text in
-    let all : take 64 last ≡ last = take_all 64 last (omega (arith, length-drop (64 * i) text)) in
+    let i : ℕ = last_block text in
+    let all : take 64 (last_bytes text) ≡ last_bytes text =
+    take_all 64 (last_bytes text) (omega (arith, length-last text)) in
     let of_text : words ≡ words_from text (64 * i) =
     read ∙ words_of_full text s.block (64 * i) (rw all (block_of salt person text s held)) in
     ap state_bytes (last_state-block (first_state salt person) text i (64 * i) s.state words after s.len (omega arith)
