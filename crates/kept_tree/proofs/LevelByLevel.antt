@@ -8,7 +8,7 @@ use Rattle.std.specs.List.{zip}
 use Rattle.ark_paths.specs.Pair.{Digest}
 use Rattle.ark_merkle.specs.Batch.{puts}
 use Rattle.kept_tree.proofs.Changing.{on_way-up, same_or}
-use Rattle.kept_tree.proofs.Besides.{leaves-are}
+use Rattle.kept_tree.proofs.Besides.{HasLevels}
 use Rattle.kept_tree.specs.KeptTree.{ChangesLeaves, HoldsTree, IsHashed, IsOnWay, IsOnWays, LevelHashed, NodeHash, Rehashes, RehashesAbove, kept_leaves, leaf_count, place_above}
 
 -- the first digests of a list of indexes: those on one level are hashed, and this is the last place of them
@@ -32,59 +32,44 @@ pub record AboveUpTo (node : NodeHash) (old now : List Digest) (levels done : �
 
 -- ---- places of a level
 
-module _ (count m level index : ℕ) (size : count + 1 ≡ 2 * 2 ^ suc m) (inside : index < leaf_count count)
-    (high : level ≤ suc m) where
+module _ {count levels level index : ℕ} (tree : HasLevels count levels) (inside : index < leaf_count count)
+    (high : level ≤ levels) where
   abbrev width : ℕ
-  width = 2 ^ (suc m - level)
+  width = 2 ^ (levels - level)
 
-  split : 2 ^ suc m ≡ width * 2 ^ level
-  split = let e : suc m ≡ (suc m - level) + level = omega arith in
-      ap (λ (n : ℕ). 2 ^ n) e ∙ pow-add 2 (suc m - level) level
+  split : 2 ^ levels ≡ width * 2 ^ level
+  split = let e : levels ≡ (levels - level) + level = omega arith in
+      ap (λ (n : ℕ). 2 ^ n) e ∙ pow-add 2 (levels - level) level
 
   place-least : width ≤ (leaf_count count + index) / 2 ^ level
-  place-least = le-div width (leaf_count count + index) (2 ^ level) (pow_pos level) (omega (
-    arith,
-    split,
-    leaves-are count m size,
-  ))
+  place-least =
+      le-div width (leaf_count count + index) (2 ^ level) (pow_pos level) (omega (arith, split, tree.leaves))
 
   place-below : (leaf_count count + index) / 2 ^ level < 2 * width
   place-below =
       let twice : 2 * width * 2 ^ level ≡ 2 * (width * 2 ^ level) = grind arith in
       div_below (leaf_count count + index) (2 ^ level) (2 * width) (pow_pos level)
-      (omega (arith, twice, split, leaves-are count m size))
+      (omega (arith, twice, split, tree.leaves))
 
   -- what stands below a place of a level
   pub place-from : width ≤ place_above count level index + 1
-  place-from = omega (arith, place-least, pow_pos (suc m - level))
+  place-from = omega (arith, place-least, pow_pos (levels - level))
 
   pub place-to : place_above count level index + 1 < 2 * width
-  place-to = omega (arith, place-least, place-below, pow_pos (suc m - level))
+  place-to = omega (arith, place-least, place-below, pow_pos (levels - level))
 
   pub place-some : 1 ≤ (leaf_count count + index) / 2 ^ level
-  place-some = omega (arith, place-least, pow_pos (suc m - level))
+  place-some = omega (arith, place-least, pow_pos (levels - level))
 
   -- above the leaves it has two below it
   pub place-room : 0 < level → 2 * place_above count level index + 2 < count
   place-room low =
       let two : 0 < 2 = omega arith in
-      let le : 2 ^ suc (suc m - level) ≤ 2 ^ suc m = pow-le-pow_right two (omega arith) in
-      let twice = pow-succ' 2 (suc m - level) in
-      omega (arith, place-to, le)
+      let le : 2 ^ suc (levels - level) ≤ 2 ^ levels = pow-le-pow_right two (omega arith) in
+      omega (arith, place-to, le, pow-succ' 2 (levels - level), tree.size)
 
--- a level's number is one of 64 bits
-pub level-small : (count m level : ℕ) → count + 1 ≡ 2 * 2 ^ suc m → level ≤ suc m → count < 2 ^ 64 → level < 64
-level-small count m level size high fits = elim (cases_lt level 64) [
-  | inl lt ↦ lt
-  | inr ge ↦
-      let two : 0 < 2 = omega arith in
-      let large : 2 ^ 64 ≤ 2 ^ level = pow-le-pow_right two ge in
-      let up : 2 ^ level ≤ 2 ^ suc m = pow-le-pow_right two high in
-      absurd (omega (arith, large, up, pow_pos m, pow-succ' 2 m))
-]
-
-module _ (node : NodeHash) (old : List Digest) (m level : ℕ) (size : length old + 1 ≡ 2 * 2 ^ suc m)
-    (high : level ≤ suc m) (indexes : List ℕ) (inside : (j : ℕ) → j < length indexes
+module _ {levels level : ℕ} (node : NodeHash) (old : List Digest) (tree : HasLevels (length old) levels)
+    (high : level ≤ levels) (indexes : List ℕ) (inside : (j : ℕ) → j < length indexes
     → get_or indexes j 0 < leaf_count (length old)) where
   abbrev place : ℕ → ℕ
   place j = place_above (length old) level (get_or indexes j 0)
@@ -113,10 +98,9 @@ module _ (node : NodeHash) (old : List Digest) (m level : ℕ) (size : length ol
     where
       known-hashed : (last ≡ length old) ⊎ ((j : ℕ) × (j < count) × (last ≡ place j)) → IsHashed node now last
       known-hashed (inl past) =
-          let to = place-to (length old) m level (get_or indexes count 0) size (inside count below) high in
           let two : 0 < 2 = omega arith in
-          let le : 2 ^ (suc m - level) ≤ 2 ^ suc m = pow-le-pow_right two (omega arith) in
-          absurd (omega (arith, to, le))
+          let le : 2 ^ (levels - level) ≤ 2 ^ levels = pow-le-pow_right two (omega arith) in
+          absurd (omega (arith, place-to tree (inside count below) high, le, tree.size))
       known-hashed (inr (j, under, is)) = rw is (so.hashed j under)
 
   pub level-more : (now new : List Digest) (count last : ℕ) → count < length indexes
@@ -145,11 +129,11 @@ module _ (node : NodeHash) (old : List Digest) (m level : ℕ) (size : length ol
       kept : (j : ℕ) → j < count → IsHashed node new (place j)
       kept j under = by_place (cases_lt (place j) (place count)) (cases_lt (place count) (place j))
         where
-          to : place count + 1 < 2 * 2 ^ (suc m - level)
-          to = place-to (length old) m level (get_or indexes count 0) size (inside count below) high
+          to : place count + 1 < 2 * 2 ^ (levels - level)
+          to = place-to tree (inside count below) high
 
-          from : 2 ^ (suc m - level) ≤ place j + 1
-          from = place-from (length old) m level (get_or indexes j 0) size (inside j (omega arith)) high
+          from : 2 ^ (levels - level) ≤ place j + 1
+          from = place-from tree (inside j (omega arith)) high
 
           other : place j ≢ place count → IsHashed node new (place j)
           other differ =
@@ -193,67 +177,58 @@ module _ (node : NodeHash) (old : List Digest) (m level : ℕ) (size : length ol
 -- ---- all levels
 
 -- two places of one level and of another
-module _ (node : NodeHash) (old : List Digest) (m : ℕ) (size : length old + 1 ≡ 2 * 2 ^ suc m) (indexes : List ℕ)
+module _ {levels : ℕ} (node : NodeHash) (old : List Digest) (tree : HasLevels (length old) levels) (indexes : List ℕ)
     (inside : (j : ℕ) → j < length indexes → get_or indexes j 0 < leaf_count (length old)) where
   abbrev inner : ℕ
   inner = length old / 2
 
   leaf-place : (j : ℕ) → inner + get_or indexes j 0 + 1 ≡ leaf_count (length old) + get_or indexes j 0
-  leaf-place j = omega (arith, leaves-are (length old) m size)
+  leaf-place j = omega (arith, tree.half)
 
-  pub above-none : AboveUpTo node old old (suc m) 0 indexes
+  pub above-none : AboveUpTo node old old levels 0 indexes
   above-none = record {
     long = refl;
     leaves = refl;
     ways = λ i below high on.
-        let e : suc m - 0 ≡ suc m = omega arith in
-        let past : 2 ^ suc m ≤ i + 1 = rw e at high in
-        absurd (omega (arith, past, leaves-are (length old) m size));
+        let e : levels - 0 ≡ levels = omega arith in
+        let past : 2 ^ levels ≤ i + 1 = rw e at high in
+        absurd (omega (arith, past, tree.leaves, tree.half));
     others = λ i below apart. refl;
   }
 
   -- a place on the way stands on one level
-  on-level : (i j k level : ℕ) → j < length indexes → level ≤ suc m → k ≤ suc m
+  on-level : (i j k level : ℕ) → j < length indexes → level ≤ levels → k ≤ levels
       → i + 1 ≡ (leaf_count (length old) + get_or indexes j 0) / 2 ^ k
-      → 2 ^ (suc m - level) ≤ i + 1 → i + 1 < 2 * 2 ^ (suc m - level) → k ≡ level
+      → 2 ^ (levels - level) ≤ i + 1 → i + 1 < 2 * 2 ^ (levels - level) → k ≡ level
   on-level i j k level below high small at from to =
-      let least = place-from (length old) m k (get_or indexes j 0) size (inside j below) small in
-      let most = place-to (length old) m k (get_or indexes j 0) size (inside j below) small in
+      let least = place-from tree (inside j below) small in
+      let most = place-to tree (inside j below) small in
       let two : 0 < 2 = omega arith in
       elim (cases_lt k level) [
         | inl lt ↦
-            let le : 2 ^ suc (suc m - level) ≤ 2 ^ (suc m - k) = pow-le-pow_right two (omega arith) in
-            absurd (omega (arith, least, le, pow-succ' 2 (suc m - level)))
+            let le : 2 ^ suc (levels - level) ≤ 2 ^ (levels - k) = pow-le-pow_right two (omega arith) in
+            absurd (omega (arith, least, le, pow-succ' 2 (levels - level)))
         | inr ge ↦ elim (cases_lt level k) [
           | inl gt ↦
-              let le : 2 ^ suc (suc m - k) ≤ 2 ^ (suc m - level) = pow-le-pow_right two (omega arith) in
-              absurd (omega (arith, most, le, pow-succ' 2 (suc m - k)))
+              let le : 2 ^ suc (levels - k) ≤ 2 ^ (levels - level) = pow-le-pow_right two (omega arith) in
+              absurd (omega (arith, most, le, pow-succ' 2 (levels - k)))
           | inr le ↦ omega arith
         ]
       ]
 
   -- no place of a level above the leaves is at or behind this one
-  level-before : (level j : ℕ) → 0 < level → level ≤ suc m → j < length indexes → (i : ℕ)
-      → 2 * 2 ^ (suc m - level) ≤ i + 1 → i ≡ place_above (length old) level (get_or indexes j 0) → ⊥
-  level-before level j low high below i past same =
-      let to = place-to (length old) m level (get_or indexes j 0) size (inside j below) high in
-      absurd (omega (arith, to))
+  level-before : (level j : ℕ) → 0 < level → level ≤ levels → j < length indexes → (i : ℕ)
+      → 2 * 2 ^ (levels - level) ≤ i + 1 → i ≡ place_above (length old) level (get_or indexes j 0) → ⊥
+  level-before level j low high below i past same = absurd (omega (arith, place-to tree (inside j below) high))
 
-  pub above-more : (now new : List Digest) (done : ℕ) → done < suc m → AboveUpTo node old now (suc m) done indexes
-      → LevelHashed node now new (done + 1) indexes → AboveUpTo node old new (suc m) (done + 1) indexes
+  pub above-more : (now new : List Digest) (done : ℕ) → done < levels → AboveUpTo node old now levels done indexes
+      → LevelHashed node now new (done + 1) indexes → AboveUpTo node old new levels (done + 1) indexes
   above-more now new done below so step = record {
     long = step.long ∙ so.long;
-    leaves = rw (step.long, so.long) (ext_get_or [] (drop inner new) (drop inner now) (omega (
-      arith,
-      length-drop inner new,
-      length-drop inner now,
-      step.long,
-    )) (λ q under. get_or-drop inner new q [] ∙ unchanged (inner + q) (omega (
-      arith,
-      wide,
-      leaves-are
-          (length old) m size,
-    ))
+    leaves = rw (step.long, so.long) (ext_get_or [] (drop inner new) (drop inner now)
+        (omega (arith, length-drop inner new, length-drop inner now, step.long))
+        (λ q under. get_or-drop inner new q []
+        ∙ unchanged (inner + q) (omega (arith, wide, tree.leaves, tree.half))
         ∙ sym (get_or-drop inner now q []))) ∙ leaves-now;
     ways = ways;
     others = λ i under apart. step.others i (λ j within same. apart (
@@ -273,12 +248,12 @@ module _ (node : NodeHash) (old : List Digest) (m : ℕ) (size : length old + 1 
       leaves-now : drop (length old / 2) now ≡ kept_leaves old
       leaves-now = rw so.long at so.leaves
 
-      wide : 2 * 2 ^ (suc m - (done + 1)) ≤ 2 ^ suc m
+      wide : 2 * 2 ^ (levels - (done + 1)) ≤ 2 ^ levels
       wide = let two : 0 < 2 = omega arith in
-          let le : 2 ^ suc (suc m - (done + 1)) ≤ 2 ^ suc m = pow-le-pow_right two (omega arith) in
-          omega (arith, le, pow-succ' 2 (suc m - (done + 1)))
+          let le : 2 ^ suc (levels - (done + 1)) ≤ 2 ^ levels = pow-le-pow_right two (omega arith) in
+          omega (arith, le, pow-succ' 2 (levels - (done + 1)))
 
-      unchanged : (i : ℕ) → 2 * 2 ^ (suc m - (done + 1)) ≤ i + 1 → get_or new i [] ≡ get_or now i []
+      unchanged : (i : ℕ) → 2 * 2 ^ (levels - (done + 1)) ≤ i + 1 → get_or new i [] ≡ get_or now i []
       unchanged i past = step.others i (λ j within same. level-before (done + 1) j (omega arith)
           (omega arith) within i past
           (same ∙ ap (λ (n : ℕ). place_above n (done + 1) (get_or indexes j 0)) so.long))
@@ -286,12 +261,11 @@ module _ (node : NodeHash) (old : List Digest) (m : ℕ) (size : length old + 1 
       at-level : (i j : ℕ) → j < length indexes → i ≡ place_above (length old) (done + 1) (get_or indexes j 0)
           → i + 1 ≡ (inner + get_or indexes j 0 + 1) / 2 ^ (done + 1)
       at-level i j within same =
-          let some = place-some (length old) m (done + 1) (get_or indexes j 0) size (inside j within) (omega arith) in
-          rw (leaf-place j) (omega (arith, same, some))
+          rw (leaf-place j) (omega (arith, same, place-some {level = done + 1} tree (inside j within) (omega arith)))
 
-      ways : (i : ℕ) → i < length old / 2 → 2 ^ (suc m - (done + 1)) ≤ i + 1 → IsOnWays (length old / 2) indexes i
+      ways : (i : ℕ) → i < length old / 2 → 2 ^ (levels - (done + 1)) ≤ i + 1 → IsOnWays (length old / 2) indexes i
           → IsHashed node new i
-      ways i under from (j, within, (k, is)) = elim (cases_lt (i + 1) (2 * 2 ^ (suc m - (done + 1)))) [
+      ways i under from (j, within, (k, is)) = elim (cases_lt (i + 1) (2 * 2 ^ (levels - (done + 1)))) [
         | inl to ↦
             let on : i + 1 ≡ (leaf_count (length old) + get_or indexes j 0) / 2 ^ k = rw (leaf-place j) at is in
             let same : k ≡ done + 1 =
@@ -302,32 +276,32 @@ module _ (node : NodeHash) (old : List Digest) (m : ℕ) (size : length old + 1 
             rw here (subst (λ (n : ℕ). IsHashed node new (place_above n (done + 1)
             (get_or indexes j 0))) so.long hashed)
         | inr past ↦
-            let twice : 2 ^ (suc m - done) ≤ i + 1 =
-            let e : suc m - done ≡ suc (suc m - (done + 1)) = omega arith in
-            rw e (omega (arith, pow-succ' 2 (suc m - (done + 1)))) in
+            let twice : 2 ^ (levels - done) ≤ i + 1 =
+            let e : levels - done ≡ suc (levels - (done + 1)) = omega arith in
+            rw e (omega (arith, pow-succ' 2 (levels - (done + 1)))) in
             let left = unchanged (2 * i + 1) (omega arith) in
             let right = unchanged (2 * i + 2) (omega arith) in
             unchanged i past ∙ so.ways i under twice (j, within, (k, is)) ∙ rw (left, right) refl
       ]
         where
           not-past : (i j k : ℕ) → j < length indexes
-              → i + 1 ≡ (leaf_count (length old) + get_or indexes j 0) / 2 ^ k → k ≤ suc m
-          not-past i j k within on = elim (cases_lt (suc m) k) [
+              → i + 1 ≡ (leaf_count (length old) + get_or indexes j 0) / 2 ^ k → k ≤ levels
+          not-past i j k within on = elim (cases_lt levels k) [
             | inl gt ↦
                 let two : 0 < 2 = omega arith in
-                let le : 2 ^ suc (suc m) ≤ 2 ^ k = pow-le-pow_right two (omega arith) in
+                let le : 2 ^ suc levels ≤ 2 ^ k = pow-le-pow_right two (omega arith) in
                 let small : leaf_count (length old) + get_or indexes j 0 < 2 ^ k =
-                omega (arith, le, pow-succ' 2 (suc m), inside j within, leaves-are (length old) m size) in
+                omega (arith, le, pow-succ' 2 levels, inside j within, tree.leaves) in
                 absurd (omega (arith, on, div-eq_of_lt small))
             | inr le ↦ le
           ]
 
-  pub above-all : (now : List Digest) (done : ℕ) → suc m ≤ done → AboveUpTo node old now (suc m) done indexes
+  pub above-all : (now : List Digest) (done : ℕ) → levels ≤ done → AboveUpTo node old now levels done indexes
       → RehashesAbove node old now indexes
   above-all now done all so = record {
     long = so.long;
     leaves = so.leaves;
-    ways = λ i below on. so.ways i below (let e : suc m - done ≡ 0 = omega arith in rw e (omega arith)) on;
+    ways = λ i below on. so.ways i below (let e : levels - done ≡ 0 = omega arith in rw e (omega arith)) on;
     others = so.others;
   }
 

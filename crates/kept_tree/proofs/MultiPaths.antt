@@ -59,20 +59,20 @@ module _ (memory : List Digest) (before index levels done : ℕ) where
     next : levels - done ≡ suc level
     next = omega arith
 
-    pub shared-more : digest_eq (kept_beside memory before (levels - done)) (kept_beside memory index (levels - done))
-        ≡ true → shared levels ≡ done + 1 + shared level
-    shared-more same =
+    pub shared-more : (a b : Digest) → a ≡ kept_beside memory before (levels - done)
+        → b ≡ kept_beside memory index (levels - done) → digest_eq a b ≡ true → shared levels ≡ done + 1 + shared level
+    shared-more a b a_is b_is same =
         let step : shared (levels - done) ≡ suc (shared level) =
         rw next (shared-same (kept_beside memory before (suc level)) (kept_beside memory index (suc level))
-        (kept_above memory before level) (kept_above memory index level) (rw next at same)) in
+        (kept_above memory before level) (kept_above memory index level) (rw (a_is, b_is, next) at same)) in
         omega (arith, so, step)
 
-    pub shared-stop : digest_eq (kept_beside memory before (levels - done)) (kept_beside memory index (levels - done))
-        ≡ false → shared levels ≡ done
-    shared-stop other =
+    pub shared-stop : (a b : Digest) → a ≡ kept_beside memory before (levels - done)
+        → b ≡ kept_beside memory index (levels - done) → digest_eq a b ≡ false → shared levels ≡ done
+    shared-stop a b a_is b_is other =
         let step : shared (levels - done) ≡ 0 =
         rw next (shared-other (kept_beside memory before (suc level)) (kept_beside memory index (suc level))
-        (kept_above memory before level) (kept_above memory index level) (rw next at other)) in
+        (kept_above memory before level) (kept_above memory index level) (rw (a_is, b_is, next) at other)) in
         omega (arith, so, step)
 
   pub shared-all : levels ≤ done → done ≤ levels → AreShared → shared levels ≡ levels

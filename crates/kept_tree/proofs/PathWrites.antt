@@ -1,5 +1,5 @@
 -- The bytes of a path, as they are written to the front of a buffer.
-use Rattle.std.proofs.Common.{◌≡◌, ℕ, zero, suc, ◌+◌, ◌-◌, ◌*◌, ◌/◌, ◌<◌, ◌≤◌, ◌^◌, List, [], ◌++◌, length, take, drop, get_or, refl, sym, ap, ◌∙◌, append_assoc, append-nil, arith}
+use Rattle.std.proofs.Common.{◌≡◌, true, ℕ, zero, suc, ◌+◌, ◌-◌, ◌*◌, ◌/◌, ◌<◌, ◌^◌, List, [], ◌++◌, length, take, drop, get_or, refl, sym, ap, ◌∙◌, append_assoc, append-nil, arith}
 use Rattle.std.proofs.lemmas.List.{drop-drop, length-append}
 use Rattle.std.proofs.Math.Seq.{drop-append-add, take-append_seam}
 use Rattle.std.specs.Int.{w64, to_le_bytes}
@@ -10,8 +10,8 @@ use Rattle.ark_base.specs.Spelling.{word}
 use Rattle.ark_paths.specs.Index.{log2, neighbour}
 use Rattle.ark_paths.specs.Pair.{Digest}
 use Rattle.ark_paths.specs.PathBytes.{way_bytes}
-use Rattle.kept_tree.proofs.Besides.{beside-below, beside-some, log-is}
-use Rattle.kept_tree.specs.KeptTree.{kept_above, kept_beside, kept_way, leaf_count}
+use Rattle.kept_tree.proofs.Besides.{beside-below, beside-some, has_levels}
+use Rattle.kept_tree.specs.KeptTree.{is_tree_length, kept_above, kept_beside, kept_way, leaf_count}
 
 -- bytes stand in front of a buffer, and behind them all is as before
 abbrev pub StandInFront : List ℕ → List ℕ → List ℕ → Type 0
@@ -105,19 +105,19 @@ module _ (old : List ℕ) (memory : List Digest) (index levels : ℕ) where
 
 -- ---- how many bytes
 
-module _ (memory : List Digest) (m : ℕ) (size : length memory + 1 ≡ 2 * 2 ^ suc m) (digests : (i : ℕ)
+module _ (memory : List Digest) (is : is_tree_length (length memory) ≡ true) (digests : (i : ℕ)
     → i < length memory → length (get_or memory i []) ≡ 32) (index : ℕ) (inside : index < leaf_count
     (length memory)) where
-  long-beside : (level : ℕ) → level ≤ m → length (kept_beside memory index level) ≡ 32
-  long-beside level low =
-      let count = length memory in
-      digests (neighbour ((leaf_count count + index) / 2 ^ level) - 1) (omega (
-        arith,
-        beside-below count m size (leaf_count count) index level refl inside low,
-        beside-some count m size (leaf_count count) index level refl inside low,
-      ))
+  abbrev height : ℕ
+  height = log2 (leaf_count (length memory))
 
-  long-above : (level : ℕ) → level ≤ m → length (flat_map itself (kept_above memory index level)) ≡ 32 * level
+  long-beside : (level : ℕ) → level < height → length (kept_beside memory index level) ≡ 32
+  long-beside level low =
+      let tree = has_levels (length memory) is in
+      digests (neighbour ((leaf_count (length memory) + index) / 2 ^ level) - 1)
+      (omega (arith, beside-below tree refl inside low, beside-some tree refl inside low))
+
+  long-above : (level : ℕ) → level < height → length (flat_map itself (kept_above memory index level)) ≡ 32 * level
   long-above zero low = refl
   long-above (suc level) low = omega (
     arith,
@@ -126,18 +126,19 @@ module _ (memory : List Digest) (m : ℕ) (size : length memory + 1 ≡ 2 * 2 ^ 
     long-above level (omega arith),
   )
 
-  pub path-long : length (way_bytes itself itself (kept_way memory index)) ≡ 48 + 32 * m
+  pub path-long : length (way_bytes itself itself (kept_way memory index)) ≡ 16 + 32 * height
   path-long =
-      let levels : log2 (leaf_count (length memory)) - 1 ≡ m = omega (arith, log-is (length memory) m size) in
-      let above = kept_above memory index m in
+      let some = (has_levels (length memory) is).some in
+      let above = kept_above memory index (height - 1) in
       let list = word (length above) ++ flat_map itself above in
-      rw levels (omega (
+      omega (
         arith,
         length-append (kept_beside memory index 0) (list ++ word index),
         length-append list (word index),
         length-append (word (length above)) (flat_map itself above),
         length-word (length above),
         length-word index,
-        long-beside 0 (omega arith),
-        long-above m (omega arith),
-      ))
+        long-beside 0 some,
+        long-above (height - 1) (omega (arith, some)),
+        some,
+      )

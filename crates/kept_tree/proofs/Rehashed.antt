@@ -1,6 +1,5 @@
 -- Digests that are hashed anew from those below them.
-use Rattle.std.proofs.Common.{◌≡◌, ℕ, ◌+◌, ◌*◌, ◌/◌, ◌<◌, List, [], length, drop, get_or, true, refl, sym, subst, ◌∙◌, inl, inr, arith}
-use Rattle.std.proofs.lemmas.Bool.{cases_lt}
+use Rattle.std.proofs.Common.{◌≡◌, ℕ, ◌+◌, ◌/◌, ◌<◌, List, [], length, drop, true, sym, subst, ◌∙◌, inr, arith}
 use Rattle.std.proofs.lemmas.List.{ext_get_or, get_or-drop, length-drop}
 use Rattle.ark_paths.specs.Pair.{Digest}
 use Rattle.kept_tree.specs.KeptTree.{HoldsTree, NodeHash, Rehashes, is_tree_length, kept_leaves}

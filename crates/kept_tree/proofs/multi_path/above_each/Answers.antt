@@ -1,17 +1,14 @@
-use Rattle.std.proofs.Common.{◌≡◌, ◌∙◌, ◌-◌, ◌++◌, ℕ, List, [], ◌∷◌, length, drop, get_or, sym, ap, arith}
+use Rattle.std.proofs.Common.{◌≡◌, ◌∙◌, ◌++◌, ℕ, List, [], ◌∷◌, length, drop, get_or, sym, ap, arith}
 use Rattle.std.proofs.lemmas.List.{map_push}
 use Rattle.ark_base.specs.Laws.Steps.{done_injective}
-use Rattle.ark_paths.specs.Index.{log2}
 use Rattle.ark_paths.specs.Pair.{Digest}
-use Rattle.kept_tree.proofs.Besides.{levels-known}
-use Rattle.kept_tree.proofs.Lengths.{tree_length}
+use Rattle.kept_tree.proofs.Besides.{half-size, levels-above, levels-known}
 use Rattle.kept_tree.proofs.MultiPaths.{drop-above}
-use Rattle.kept_tree.specs.KeptTree.{digests_above, leaf_count}
+use Rattle.kept_tree.specs.KeptTree.{digests_above}
 use Rattle.kept_tree.proofs.multi_path.above_each.Goals as goal
 
 pub levels_between-levels-requires : goal.levels_between-levels-requires
-levels_between-levels-requires c =
-    let size = tree_length (length c.args.memory.now) c.requires.size in (size.0, omega (arith, size.1))
+levels_between-levels-requires c = half-size (length c.args.memory.now) c.requires.size
 
 pub overflow_sub-levels : goal.overflow_sub-levels
 overflow_sub-levels c = omega (
@@ -30,16 +27,13 @@ above_from-requires-clause-levels c = omega (
 
 pub places-preserved : goal.places-preserved
 places-preserved c =
-    let memory = c.args.memory.now in
-    let levels = c.levels_between-levels.result in
     let prefix = c.prefix_at-prefix.result in
     let made = c.in_ok-above_from.field-0 in
     let index = get_or c.args.indexes.now c.places.place 0 in
-    let known = levels-known (length c.args.memory.now) c.levels_between-levels.result c.requires.size
-    c.levels_between-levels.ensures in
-    let is : log2 (leaf_count (length memory)) - 1 ≡ levels = omega (arith, known) in
-    let rest : drop prefix (digests_above memory index) ≡ made.items =
-    rw is (drop-above memory index prefix levels (omega (arith, known, c.prefix_at-prefix.ensures.within)))
+    let levels = levels-above (length c.args.memory.now) _ c.requires.size c.levels_between-levels.ensures in
+    let rest : drop prefix (digests_above c.args.memory.now index) ≡ made.items =
+    rw levels (drop-above c.args.memory.now index prefix c.levels_between-levels.result
+    (omega (arith, levels, c.prefix_at-prefix.ensures.within)))
     ∙ done_injective _ _ c.in_ok-above_from.ensures in
     record {
       prefixes = c.in_ok-push.ensures.items ∙ ap (λ (ns : List ℕ). ns ++ prefix ∷ []) c.places.invariant.prefixes

@@ -1,13 +1,13 @@
 use Rattle.std.proofs.Common.{◌-◌, length, get_or, arith}
 use Rattle.ark_merkle.proofs.MultiCommon.{NextParts-next}
 use Rattle.ark_paths.specs.Index.{log2}
-use Rattle.kept_tree.proofs.Besides.{level-some}
+use Rattle.kept_tree.proofs.Besides.{has_levels}
 use Rattle.kept_tree.proofs.MultiPaths.{shared-below}
 use Rattle.kept_tree.specs.KeptTree.{digests_above, leaf_count}
 use Rattle.kept_tree.proofs.multi_path.prefix_at.Goals as goal
 
 pub returns-then-place-eq0-clause-within : goal.returns-then-place-eq0-clause-within
-returns-then-place-eq0-clause-within c = level-some (length c.args.memory.now) c.requires.size
+returns-then-place-eq0-clause-within c = (has_levels (length c.args.memory.now) c.requires.size).some
 
 pub returns-else-place-eq0-clause-within : goal.returns-else-place-eq0-clause-within
 returns-else-place-eq0-clause-within c =
@@ -16,7 +16,7 @@ returns-else-place-eq0-clause-within c =
     omega (
       arith,
       c.shared_above.ensures,
-      level-some (length c.args.memory.now) c.requires.size,
+      (has_levels (length c.args.memory.now) c.requires.size).some,
       shared-below c.args.memory.now (get_or indexes (c.args.place - 1) 0) (get_or indexes c.args.place 0) levels,
     )
 

@@ -1,14 +1,12 @@
 use Rattle.std.proofs.Common.{◌≡◌, length, arith}
 use Rattle.ark_base.specs.Laws.Numbers.{length-word}
-use Rattle.kept_tree.proofs.Besides.{levels-known}
+use Rattle.kept_tree.proofs.Besides.{half-size, levels-known}
 use Rattle.kept_tree.proofs.HeldTrees.{held-path}
-use Rattle.kept_tree.proofs.Lengths.{tree_length}
 use Rattle.kept_tree.proofs.PathWrites.{path-all, path-more, path-none, word-bytes}
 use Rattle.kept_tree.proofs.path.write_path.Goals as goal
 
 pub levels_between-levels-requires : goal.levels_between-levels-requires
-levels_between-levels-requires c =
-    let size = tree_length (length c.args.memory.now) c.requires.size in (size.0, omega (arith, size.1))
+levels_between-levels-requires c = half-size (length c.args.memory.now) c.requires.size
 
 pub beside-requires-clause-level : goal.beside-requires-clause-level
 beside-requires-clause-level c = omega (
