@@ -2,7 +2,6 @@ pub mod LeafChanges
 pub mod Counts
 pub mod Cutting
 pub mod Findings
-pub mod Numerals
 pub mod ToyLemmas
 pub mod Trees
 pub mod Values

@@ -1,21 +1,9 @@
 -- What tokens say.
-use Rattle.std.specs.Prelude.{ℕ, ◌^◌, ◌==◌, ◌&&◌, not, nat_lt, length, get_or, List, [], Bool, if◌then◌else◌, Option, Some, None, codes}
-use Rattle.std.specs.Str.{bytes_eq, all_ascii_digits}
-use Rattle.std.specs.Str.Parse.{digits_value}
+use Rattle.std.specs.Prelude.{ℕ, nat_lt, length, List, [], if◌then◌else◌, Option, Some, None, codes}
+use Rattle.std.specs.Str.{bytes_eq}
 use Rattle.std.specs.Result.{result_ok}
 use Rattle.hex.specs.Hex.{decode_of}
 use Rattle.ark_base.specs.Digits.{number_of_bytes}
-
--- digits, of which the first is no zero where more follow, and a number below 2 ^ 64
-abbrev pub is_index : List ℕ → Bool
-is_index token =
-    nat_lt 0 (length token)
-    && (all_ascii_digits token
-    && (not (nat_lt 1 (length token) && (get_or token 0 0 == 48)) && nat_lt (digits_value 10 token) (2 ^ 64)))
-
--- the number that a token spells in decimal
-abbrev pub index_of : List ℕ → Option ℕ
-index_of token = if is_index token then Some (digits_value 10 token) else None
 
 -- the bytes that a token spells in hexadecimal, one or more
 abbrev pub some_bytes_of : List ℕ → Option (List ℕ)

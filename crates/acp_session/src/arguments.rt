@@ -6,9 +6,10 @@ ghost use Rattle.acp_session.specs.Arguments.{values, only_value, both_values, t
 ghost use Rattle.acp_session.specs.Lines.{tokens_left};
 
 use crate::shell::Shell;
-use crate::tokens::{first_token, first_two_tokens, index_of, only_token, two_tokens};
+use crate::tokens::{first_token, first_two_tokens, only_token, two_tokens};
 use ark_base::serialize::Numbered;
 use ark_crh::CRHScheme;
+use decimals::number_of;
 use std::alloc::{AllocError, Global};
 use std::marker::PhantomData;
 
@@ -53,7 +54,7 @@ pub struct Digest<C> {
 
 impl Argument for Index {
     ghost use Rattle.std.specs.Prelude.{ℕ};
-    ghost use Rattle.acp_session.specs.Tokens.{index_of};
+    ghost use Rattle.decimals.specs.Decimals.{number_of};
 
     type Value = usize;
 
@@ -63,10 +64,10 @@ impl Argument for Index {
 
     ghost seen = { λ _ index. index };
 
-    ghost value_of = { λ _. index_of };
+    ghost value_of = { λ _. number_of };
 
     fn read(_alloc: Global, token: &[u8]) -> Result<Option<usize>, AllocError> {
-        Ok(index_of(token))
+        Ok(number_of(token))
     }
 }
 

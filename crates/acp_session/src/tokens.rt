@@ -3,7 +3,7 @@
 ghost use Rattle.std.specs.Prelude.{◌≡◌, ◌<◌, ◌∷◌, [], ℕ, List, length, Option, IfOk, IfSome, IfNone};
 ghost use Rattle.std.specs.Option.{option_map, option_copied};
 ghost use Rattle.acp_session.specs.Lines.{tokens_of, tokens_left};
-ghost use Rattle.acp_session.specs.Tokens.{index_of, number_of_token, some_bytes_of};
+ghost use Rattle.acp_session.specs.Tokens.{number_of_token, some_bytes_of};
 
 use ark_base::serialize::number_of;
 use hex::FromHexError;
@@ -32,17 +32,6 @@ pub fn first_two_tokens(line: &[u8]) -> Option<(&[u8], &[u8], Option<&[u8]>)>
     let (first, rest) = first_token(line);
     let (second, rest) = first_token(rest?);
     Some((first, second, rest))
-}
-
-/// Returns the number that a token spells in decimal without leading zeros, below 2^64.
-pub fn index_of(token: &[u8]) -> Option<usize>
-    ensures { result ≡ index_of token.now }
-{
-    let first = *token.first()?;
-    if first == b'+' || first == b'0' && token.len() > 1 {
-        return None;
-    }
-    str::from_utf8(token).ok()?.parse().ok()
 }
 
 /// Returns the bytes that a token spells in hexadecimal, one or more.

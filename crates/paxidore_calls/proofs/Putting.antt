@@ -1,14 +1,12 @@
 -- Digests that are put in the places of their indexes, one after the other.
-use Rattle.std.proofs.Common.{◌≡◌, ℕ, ◌+◌, ◌<◌, ◌≤◌, List, [], ◌∷◌, ◌++◌, length, drop, map, set, get_or, nat_lt, Bool, true, false, if◌then◌else◌, Option, Some, None, IfSome, Ok, Err, refl, sym, ap, ◌∙◌, append-nil, arith}
-use Rattle.std.proofs.lemmas.List.{drop_all, length-append}
+use Rattle.std.proofs.Common.{◌≡◌, ℕ, ◌+◌, ◌<◌, List, [], ◌∷◌, ◌++◌, length, drop, set, get_or, Option, Some, None, IfSome, refl, sym, arith}
+use Rattle.std.proofs.lemmas.List.{length-append}
 use Rattle.std.specs.List.{zip}
 use Rattle.std.specs.Option.{option_map}
 use Rattle.ark_paths.specs.Pair.{Digest}
 use Rattle.ark_merkle.specs.Batch.{puts}
-use Rattle.paxidore_calls.proofs.Cutting.{IsSoFar, behind, of_parts, so_far-more, so_far-none, so_far-short}
-use Rattle.paxidore_calls.specs.Answer.{leaves_in, results_of}
+use Rattle.paxidore_calls.proofs.Cutting.{IsSoFar, so_far-more, so_far-none}
 use Rattle.paxidore_calls.specs.Cut.{parts_by}
-use Rattle.paxidore_calls.specs.declared.refused.Refused.TheVariants.{Lengths}
 
 -- one more change behind others
 puts-more : (digests : List Digest) (indexes : List ℕ) (front : List Digest) (digest : Digest)

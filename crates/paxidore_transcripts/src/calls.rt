@@ -17,17 +17,24 @@ use paxidore_calls::buffer::hand_over;
 use paxidore_calls::refused::Refused;
 use std::alloc::Global;
 
+// Calls a function over the field that a number names; `Invalid` where it names none.
+macro_rules! in_field {
+    ($field:expr, $call:ident($($argument:expr),+)) => {
+        match $field {
+            1 => $call::<Fp<Goldilocks>, Power>($($argument),+),
+            2 => $call::<Fp<BabyBear>, Power>($($argument),+),
+            3 => $call::<Bls12_381Fr, Power>($($argument),+),
+            4 => $call::<Bn254Fr, Power>($($argument),+),
+            _ => Err(Refused::Invalid),
+        }
+    };
+}
+
 // Returns the state of a transcript that has absorbed nothing.
 fn begun_over(alloc: Global, field: u32, parameters: &[u8]) -> Result<Vec<u8>, Refused>
     ensures { GivesBy (λ bytes. bytes.items) (in_field field (begun parameters.now)) result }
 {
-    match field {
-        1 => begun::<Fp<Goldilocks>, Power>(alloc, parameters),
-        2 => begun::<Fp<BabyBear>, Power>(alloc, parameters),
-        3 => begun::<Bls12_381Fr, Power>(alloc, parameters),
-        4 => begun::<Bn254Fr, Power>(alloc, parameters),
-        _ => Err(Refused::Invalid),
-    }
+    in_field!(field, begun(alloc, parameters))
 }
 
 /// Writes the state of a transcript that has absorbed nothing to the front of `state`, and its count of bytes to
@@ -57,13 +64,7 @@ fn with_elements_over(
         with_elements (power f) parameters.now state.now elements.now f) in
         GivesBy (λ bytes. bytes.items) outcome result }
 {
-    match field {
-        1 => with_elements::<Fp<Goldilocks>, Power>(alloc, parameters, state, elements),
-        2 => with_elements::<Fp<BabyBear>, Power>(alloc, parameters, state, elements),
-        3 => with_elements::<Bls12_381Fr, Power>(alloc, parameters, state, elements),
-        4 => with_elements::<Bn254Fr, Power>(alloc, parameters, state, elements),
-        _ => Err(Refused::Invalid),
-    }
+    in_field!(field, with_elements(alloc, parameters, state, elements))
 }
 
 /// Absorbs elements, and returns the code.
@@ -96,13 +97,7 @@ fn with_bytes_over(
         with_bytes (power f) parameters.now state.now text.now f) in
         GivesBy (λ bytes. bytes.items) outcome result }
 {
-    match field {
-        1 => with_bytes::<Fp<Goldilocks>, Power>(alloc, parameters, state, text),
-        2 => with_bytes::<Fp<BabyBear>, Power>(alloc, parameters, state, text),
-        3 => with_bytes::<Bls12_381Fr, Power>(alloc, parameters, state, text),
-        4 => with_bytes::<Bn254Fr, Power>(alloc, parameters, state, text),
-        _ => Err(Refused::Invalid),
-    }
+    in_field!(field, with_bytes(alloc, parameters, state, text))
 }
 
 /// Absorbs bytes, and returns the code.
@@ -136,13 +131,7 @@ fn elements_over(
         GivesBy (λ given. given) outcome result }
     ensures len { IfOk result (λ given. length given.given ≡ count) }
 {
-    match field {
-        1 => elements_squeezed::<Fp<Goldilocks>, Power>(alloc, parameters, state, count),
-        2 => elements_squeezed::<Fp<BabyBear>, Power>(alloc, parameters, state, count),
-        3 => elements_squeezed::<Bls12_381Fr, Power>(alloc, parameters, state, count),
-        4 => elements_squeezed::<Bn254Fr, Power>(alloc, parameters, state, count),
-        _ => Err(Refused::Invalid),
-    }
+    in_field!(field, elements_squeezed(alloc, parameters, state, count))
 }
 
 /// Fills `out` with the bytes of the next elements, and returns the code.
@@ -180,13 +169,7 @@ fn bytes_over(
         GivesBy (λ given. given) outcome result }
     ensures len { IfOk result (λ given. length given.given ≡ count) }
 {
-    match field {
-        1 => bytes_given::<Fp<Goldilocks>, Power>(alloc, parameters, state, count),
-        2 => bytes_given::<Fp<BabyBear>, Power>(alloc, parameters, state, count),
-        3 => bytes_given::<Bls12_381Fr, Power>(alloc, parameters, state, count),
-        4 => bytes_given::<Bn254Fr, Power>(alloc, parameters, state, count),
-        _ => Err(Refused::Invalid),
-    }
+    in_field!(field, bytes_given(alloc, parameters, state, count))
 }
 
 /// Fills `out` with the next bytes, and returns the code.

@@ -3,7 +3,6 @@ pub mod Files
 pub mod Growing
 pub mod Heads
 pub mod Lines
-pub mod Numerals
 pub mod Pieces
 pub mod Saying
 pub mod Sizes

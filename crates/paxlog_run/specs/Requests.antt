@@ -1,25 +1,14 @@
 -- The words behind the command's name.
-use Rattle.std.specs.Prelude.{ℕ, ◌^◌, ◌==◌, ◌&&◌, ◌||◌, nat_lt, not, get_or, length, List, [], ◌∷◌, Bool, if◌then◌else◌, Option, Some, None, codes}
+use Rattle.std.specs.Prelude.{ℕ, ◌==◌, ◌||◌, nat_lt, get_or, length, List, [], ◌∷◌, Bool, if◌then◌else◌, Option, Some, None, codes}
 use Rattle.std.specs.Result.{result_ok}
-use Rattle.std.specs.Str.{bytes_eq, all_ascii_digits}
-use Rattle.std.specs.Str.Parse.{digits_value}
+use Rattle.std.specs.Str.{bytes_eq}
 use Rattle.hex.specs.Hex.{decode_sized}
+use Rattle.decimals.specs.Decimals.{number_of}
 use Rattle.ark_paths.specs.Pair.{Digest}
 use Rattle.paxlog_run.specs.declared.task.Task.{Task}
 use Rattle.paxlog_run.specs.declared.task.Task.TheVariants.{Append as TaskAppend, AppendLines as TaskAppendLines, Root as TaskRoot, Prove as TaskProve, Consistency as TaskConsistency, Check as TaskCheck, Verify as TaskVerify, VerifyConsistency as TaskVerifyConsistency, Help as TaskHelp}
 use Rattle.paxlog_run.specs.declared.request.Request.{Request}
 use Rattle.paxlog_run.specs.declared.request.Request.TheVariants.{Append, AppendLines, Root, Prove, Consistency, Check, Verify, VerifyConsistency, Help}
-
--- digits, of which the first is no zero where more follow, and a number below 2 ^ 64
-abbrev pub is_number : List ℕ → Bool
-is_number word =
-    nat_lt 0 (length word)
-    && (all_ascii_digits word
-    && (not (nat_lt 1 (length word) && (get_or word 0 0 == 48)) && nat_lt (digits_value 10 word) (2 ^ 64)))
-
--- the number that a word spells in decimal
-abbrev pub number_of : List ℕ → Option ℕ
-number_of word = if is_number word then Some (digits_value 10 word) else None
 
 -- the digest that a word spells in hexadecimal
 abbrev pub digest_of : List ℕ → Option Digest

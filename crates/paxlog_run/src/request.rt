@@ -1,9 +1,10 @@
 //! What the words behind the command's name ask for.
 
 ghost use Rattle.std.specs.Prelude.{◌≡◌, List, [], map, get_or, vec_items};
-ghost use Rattle.paxlog_run.specs.Requests.{asked, digest_at, digest_of, number_at, number_of, request_of, size_at};
+ghost use Rattle.paxlog_run.specs.Requests.{asked, digest_at, digest_of, number_at, request_of, size_at};
 
 use crate::task::{Task, task_of};
+use decimals::number_of;
 
 /// What is asked for. The names of files and a proof's word stay among the words: LOG behind the first word, FILE behind it
 /// or, of `Verify`, at place 4; PROOF at place 5.
@@ -35,17 +36,6 @@ pub enum Request {
         root: [u8; 32],
     },
     Help,
-}
-
-// The number that a word spells in decimal without leading zeros, below 2^64.
-fn number_of(word: &[u8]) -> Option<usize>
-    ensures { result ≡ number_of word.now }
-{
-    let first = *word.first()?;
-    if first == b'+' || first == b'0' && word.len() > 1 {
-        return None;
-    }
-    str::from_utf8(word).ok()?.parse().ok()
 }
 
 // The digest that a word spells in hexadecimal.

@@ -25,16 +25,10 @@ returns-clause-changes g c = λ done.
 pub returns-clause-tree : goal.returns-clause-tree
 returns-clause-tree g c = λ held done holds.
     let h = g.H.KeptHashing.hashing in
-    let old = c.args.tree.now in
-    let now = c.put_in_place.new.tree in
-    let new = c.rehash_above.new.memory in
-    let indexes = c.args.indexes.now in
-    let Hashed : NodeHash → Type 0 = λ node. RehashesAbove node now new indexes in
-    let Put : List (List ℕ) → Type 0 = λ xs. kept_leaves now ≡ puts (kept_leaves old) (zip indexes
-    (map h.leaf_hash xs)) in
-    let Holds : List (List ℕ) → Type 0 = λ xs. HoldsTree h.node new (puts held (zip indexes (map h.leaf_hash xs))) in
-    over-parts (parts_by c.args.leaves.now c.args.lengths.now) Put Holds c.put_in_place.ensures.leaves
-    (λ xs put. changes-trees h.node old new held indexes (map h.leaf_hash xs) (changes-both h.node old now new indexes
-    (map h.leaf_hash xs) c.put_in_place.auto.tree put c.put_in_place.ensures.above
-    (subst Hashed g.met.H.KeptHashing.node_is
-    c.rehash_above.ensures)) holds)
+    let made = c.rehash_above.new.memory in
+    let Holds : List (List ℕ) → Type 0 = λ xs. HoldsTree h.node made (puts held (zip c.args.indexes.now
+    (map h.leaf_hash xs))) in
+    over-parts (parts_by c.args.leaves.now c.args.lengths.now)
+    (λ xs. ChangesLeaves h.node c.args.tree.now made c.args.indexes.now (map h.leaf_hash xs)) Holds
+    (returns-clause-changes g c done)
+    (λ xs changed. changes-trees h.node c.args.tree.now made held c.args.indexes.now (map h.leaf_hash xs) changed holds)
