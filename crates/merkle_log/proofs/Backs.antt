@@ -6,7 +6,7 @@ use Rattle.std.proofs.lemmas.Nat.{ones_le_self}
 use Rattle.std.specs.Prelude.{Option, Some, None}
 use Rattle.merkle_log.specs.Edge.{back_leaves, beside_left, beside_pairs, pairs_left, root_pairs, Tallies}
 use Rattle.merkle_log.proofs.Positions.{half_ones}
-use Rattle.merkle_log.proofs.RowsUp.{twice}
+use Rattle.merkle_log.proofs.Tests.{twice}
 use Rattle.merkle_log.proofs.Tallied.{left-end}
 use Rattle.merkle_log.proofs.Verdicts.{pow_above}
 

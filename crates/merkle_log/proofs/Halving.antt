@@ -8,7 +8,7 @@ use Rattle.ark_paths.specs.Root.{Root, place, place_at, outcome_of, root_of}
 use Rattle.merkle_log.specs.Log.{NodeHash, merkle_tree_hash, both_levels}
 use Rattle.merkle_log.specs.Trees.{tree_hash}
 use Rattle.merkle_log.specs.Walk.{joined}
-use Rattle.merkle_log.proofs.RowsUp.{twice}
+use Rattle.merkle_log.proofs.Tests.{twice}
 use Rattle.merkle_log.proofs.Above.{there, joined-ok}
 use Rattle.merkle_log.proofs.Verdicts.{pow_above, tree_hash-levels}
 

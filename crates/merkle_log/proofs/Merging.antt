@@ -10,7 +10,7 @@ use Rattle.ark_paths.specs.Pair.{Digest}
 use Rattle.merkle_log.specs.Log.{NodeHash}
 use Rattle.merkle_log.specs.Log.{merkle_tree_hash}
 use Rattle.merkle_log.specs.Frontier.{complete_pairs, frontier, IsFrontier}
-use Rattle.merkle_log.proofs.RowsUp.{twice}
+use Rattle.merkle_log.proofs.Tests.{twice}
 use Rattle.merkle_log.proofs.Verdicts.{pow_above}
 use Rattle.merkle_log.proofs.Lasts.{Node, node_rows}
 use Rattle.merkle_log.proofs.Peaks.{length-complete_pairs, frontier-odd, frontier-push_even, frontier-push_odd, frontier-levels, folded, folded-push, root-folded}

@@ -5,7 +5,8 @@ use Rattle.std.proofs.lemmas.Bool.Decides.{nat_tests}
 use Rattle.std.proofs.lemmas.List.{length-append, length-take-le, append-nil, take_more, take_all, same_from_push, get_or_push}
 use Rattle.merkle_log.specs.Trees.{tree_hash}
 use Rattle.merkle_log.specs.Frontier.{complete_pairs, frontier}
-use Rattle.merkle_log.proofs.RowsUp.{row_up, twice, tree_hash-up}
+use Rattle.merkle_log.proofs.RowsUp.{row_up, tree_hash-up}
+use Rattle.merkle_log.proofs.Tests.{twice}
 
 pub length-complete_pairs : {A : Type 0} (join : A → A → A) (xs : List A) → length (complete_pairs join xs)
     ≡ length xs / 2

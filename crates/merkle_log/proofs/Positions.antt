@@ -12,7 +12,7 @@ use Rattle.ark_paths.specs.Pair.{Digest}
 use Rattle.merkle_log.specs.Walk.{index_up}
 use Rattle.merkle_log.specs.Stored.{stored_count, position, StoredValue, row_of}
 use Rattle.merkle_log.specs.Append.{pushed_row}
-use Rattle.merkle_log.proofs.RowsUp.{twice}
+use Rattle.merkle_log.proofs.Tests.{twice}
 use Rattle.merkle_log.proofs.Verdicts.{pow_above}
 
 -- the ones of half a number

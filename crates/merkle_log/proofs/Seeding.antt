@@ -12,11 +12,12 @@ use Rattle.merkle_log.specs.Log.{NodeHash}
 use Rattle.merkle_log.specs.Log.{inclusion_path, consistency_path}
 use Rattle.merkle_log.specs.Stored.{IsStored}
 use Rattle.merkle_log.specs.Edge.{last_raised, all_of, behind, row_with, path_with, seed_digests}
-use Rattle.merkle_log.proofs.RowsUp.{row_up, twice}
+use Rattle.merkle_log.proofs.RowsUp.{row_up}
+use Rattle.merkle_log.proofs.Tests.{twice}
 use Rattle.merkle_log.proofs.SubproofRows.{seed, seed-more, subproof-up, subproof-odd}
 use Rattle.merkle_log.proofs.Verdicts.{pow_above}
-use Rattle.merkle_log.proofs.Lasts.{Node, node_rows, raised, raised-err, whole_front}
-use Rattle.merkle_log.proofs.Going.{length-row_with, row_with-own, all_of-behind, long, above_with, path-refused}
+use Rattle.merkle_log.proofs.Lasts.{Node, node_rows, length-row_with, raised, raised-err, whole_front}
+use Rattle.merkle_log.proofs.Going.{row_with-own, all_of-behind, long, above_with, path-refused}
 
 -- From an index of a row with a last value on, with some levels left, the proof is this.
 pub record Seeding (hash : NodeHash) (rows : ℕ → List Digest) (empty : Digest) (level i s : ℕ) (x : Node)

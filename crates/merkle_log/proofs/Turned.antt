@@ -17,7 +17,7 @@ use Rattle.merkle_log.specs.Edge.{all_of}
 use Rattle.merkle_log.specs.Log.{NodeHash, both_levels, inclusion_path}
 use Rattle.merkle_log.specs.Trees.{path, tree_hash}
 use Rattle.merkle_log.specs.Walk.{joined}
-use Rattle.merkle_log.proofs.RowsUp.{twice}
+use Rattle.merkle_log.proofs.Tests.{twice}
 use Rattle.merkle_log.proofs.Above.{there}
 use Rattle.merkle_log.proofs.Halving.{halved}
 use Rattle.merkle_log.proofs.Verdicts.{pow_above}

@@ -15,7 +15,7 @@ use Rattle.merkle_log.specs.Log.{NodeHash, merkle_tree_hash}
 use Rattle.merkle_log.specs.Verdict.{ends_at, ends_at_both, is_empty, inclusion_verdict, consistency_verdict, leaf_verdict}
 use Rattle.merkle_log.specs.Bind.{BindsDigest, BindsLogLeaf, BindsFront, IsInclusion, IsLeafInclusion, IsConsistency}
 use Rattle.merkle_log.specs.Collision.{InTrees}
-use Rattle.merkle_log.proofs.RowsUp.{twice}
+use Rattle.merkle_log.proofs.Tests.{twice}
 use Rattle.merkle_log.proofs.Above.{there}
 use Rattle.merkle_log.proofs.Sound.{walk-binds}
 use Rattle.merkle_log.proofs.Agree.{both_roots-agree, same_root}

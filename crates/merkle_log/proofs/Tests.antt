@@ -1,0 +1,49 @@
+-- What tests of an index and a size say, and the tests of their halves.
+use Rattle.std.proofs.Common.{zero, suc, ◌≡◌, ℕ, ◌+◌, ◌-◌, ◌*◌, ◌/◌, ◌%◌, ◌<◌, ◌≤◌, ◌^◌, true, false, nat_lt, ◌==◌, if◌then◌else◌, arith, refl, ap, ◌∙◌}
+use Rattle.std.proofs.lemmas.Bool.Decides.{nat_tests}
+use Rattle.std.proofs.Math.Nat.{mul-add, pow-suc}
+
+pub odd_test : (i : ℕ) → i % 2 ≡ 1 → (i % 2 == 1) ≡ true
+odd_test i odd = grind (arith, nat_tests)
+
+pub even_test : (i : ℕ) → i % 2 ≡ 0 → (i % 2 == 1) ≡ false
+even_test i even = grind (arith, nat_tests)
+
+pub if_odd : {A : Type 0} (i : ℕ) (x y : A) → i % 2 ≡ 1 → (if i % 2 == 1 then x else y) ≡ x
+if_odd i x y odd = rw (odd_test i odd) refl
+
+pub if_even : {A : Type 0} (i : ℕ) (x y : A) → i % 2 ≡ 0 → (if i % 2 == 1 then x else y) ≡ y
+if_even i x y even = rw (even_test i even) refl
+
+-- half a power of two
+pub twice : (j : ℕ) → 2 ^ suc j ≡ 2 ^ j + 2 ^ j
+twice j = omega (arith, pow-suc 2 j)
+
+pub mul-twice : (j n : ℕ) → n * 2 ^ suc j ≡ n * 2 ^ j + n * 2 ^ j
+mul-twice j n = ap (λ m. n * m) (twice j) ∙ mul-add n (2 ^ j) (2 ^ j)
+
+pub half_below : (j i : ℕ) → nat_lt (i / 2) (2 ^ j) ≡ nat_lt i (2 ^ suc j)
+half_below j i = let two = twice j in grind (arith, nat_tests)
+
+pub half_above : (j n : ℕ) → nat_lt (2 ^ j) ((n + 1) / 2) ≡ nat_lt (2 ^ suc j) n
+half_above j n = let two = twice j in grind (arith, nat_tests)
+
+pub half_beyond : (j m : ℕ) → m % 2 ≡ 0 → nat_lt (2 ^ j) (m / 2) ≡ nat_lt (2 ^ suc j) m
+half_beyond j m even = let two = twice j in grind (arith, nat_tests)
+
+pub half_same : (m n : ℕ) → m % 2 ≡ 0 → m ≤ n → (m / 2 == (n + 1) / 2) ≡ (m == n)
+half_same m n even le = grind (arith, nat_tests)
+
+pub half_behind : (j m : ℕ) → (m - 2 ^ suc j) / 2 ≡ m / 2 - 2 ^ j
+half_behind j m = omega (arith, twice j)
+
+-- Of a row with last index s some levels are left, and this holds at so many; one row up it is one fewer.
+pub record Fewer (s : ℕ) (P : ℕ → Type 0) : Type 0 where
+  pub levels : ℕ
+  pub high : s / 2 < 2 ^ levels
+  pub at : P levels
+
+pub fewer : {s : ℕ} (P Q : ℕ → Type 0) (k : ℕ) → 0 < s → s < 2 ^ k → P k → ((j : ℕ) → s < 2 ^ suc j → P (suc j) → Q j)
+    → Fewer s Q
+fewer P Q zero some high at up = absurd (omega arith)
+fewer P Q (suc k) some high at up = let two = twice k in record { levels = k; high = omega arith; at = up k high at }
