@@ -64,6 +64,31 @@ higher {D} {E} hash none k xs root le e =
       hashed = rw (← ds.1) hashed;
     }
 
+-- The same of a row with last index s.
+pub record RowAbove {D E : Type 0} (hash : D → D → Result D E) (none : Result D E) (k s : ℕ) (xs : List D) (root : D) :
+    Type 0 where
+  pub row : List D
+  pub above : IsAbove hash xs row
+  pub size : length row ≡ (length xs + 1) / 2
+  pub long : length row ≡ s / 2 + 1
+  pub low : s / 2 < 2 ^ k
+  pub hashed : tree_hash (joined hash) none k (there row) ≡ Ok root
+
+pub row_above : {D E : Type 0} (hash : D → D → Result D E) (none : Result D E) (k s : ℕ) (xs : List D) (root : D)
+    → length xs ≡ s + 1 → s < 2 ^ suc k → tree_hash (joined hash) none (suc k) (there xs) ≡ Ok root
+    → RowAbove hash none k s xs root
+row_above hash none k s xs root long low tree =
+    let two = twice k in
+    let up = higher hash none k xs root (omega arith) tree in
+    record {
+      row = up.row;
+      above = up.above;
+      size = up.size;
+      long = omega (arith, up.size);
+      low = omega arith;
+      hashed = up.hashed;
+    }
+
 -- ---- what stands above what
 
 above-at : {D E : Type 0} (hash : D → D → Result D E) (none : D) (xs ys : List D) → IsAbove hash xs ys → (q i j : ℕ)

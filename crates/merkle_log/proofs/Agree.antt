@@ -7,7 +7,7 @@ use Rattle.ark_base.specs.Laws.Steps.{bind_ok, done_injective}
 use Rattle.merkle_log.specs.Trees.{tree_hash}
 use Rattle.merkle_log.specs.Collision.{IsSeed, IsTreePair, OldCollidesAt, NewCollidesAt, TreesCollideAt, HistoriesCollide, InOld, InNew, InTrees}
 use Rattle.merkle_log.specs.Walk.{joined, walk, both_left, new_right, from_shared, from_seed, both_roots, has_beside, index_up, in_order, Meets}
-use Rattle.merkle_log.proofs.Above.{there, IsAbove, higher, above-pair, above-last}
+use Rattle.merkle_log.proofs.Above.{there, IsAbove, higher, row_above, above-pair, above-last}
 use Rattle.merkle_log.proofs.Sound.{turn, walk-alone, stepped, had_next, ended, meets-zero, meets-up, moves-beside, moves-alone, beside-inside, alone-last}
 use Rattle.merkle_log.proofs.Tests.{twice, odd_test, even_test, if_even}
 use Rattle.merkle_log.proofs.TreePairs.{pair_of, own_of, tree_pair-up, tree_pair-zero, same_pairs}
@@ -202,26 +202,19 @@ module _ {D E : Type 0} (same : (x y : D) → (x ≡ y) ⊎ (x ≢ y)) (hash : D
       let e1 : own ≡ new = ap (λ p. p.1) e.1 in
       inl (record { old_is = cc; is = cc; before = refl })
   walk-agrees (suc k) i s old_own own path old new old_xs xs old_long long inside low old_tree tree way =
-      let two = twice k in
-      let old_up = higher hash empty k old_xs old (omega arith) old_tree in
-      let up = higher hash empty k xs new (omega arith) tree in
-      let old_size = old_up.size in
-      let size = up.size in
-      let half : i / 2 ≤ s / 2 = omega arith in
-      let low_up : s / 2 < 2 ^ k = omega arith in
-      let old_long_up : length old_up.row ≡ i / 2 + 1 = omega arith in
-      let long_up : length up.row ≡ s / 2 + 1 = omega arith in
+      let old_up = row_above hash empty k i old_xs old old_long (omega arith) old_tree in
+      let up = row_above hash empty k s xs new long low tree in
       let left = both_left hash in
       let right = new_right hash in
       let above = λ (next : D × D) (rest : List D). walk-agrees k (i / 2) (s / 2) next.0 next.1 rest old new old_up.row
-      up.row old_long_up long_up half low_up old_up.hashed up.hashed in
+      up.row old_up.long up.long (omega arith) up.low old_up.hashed up.hashed in
       elim (cases_Bool (has_beside i s)) [
         | inl beside ↦
             let n = stepped left right k i s (old_own, own) path (old, new) beside way in
             let steps = both_stepped hash i old_own own n.digest n.state n.stepped in
             let less = beside-inside i s inside beside in
             elim (above n.state n.rest n.went) [
-              | inr found ↦ inr (clash_higher hash empty old_up.above up.above old_size size (λ level. meets-up left right
+              | inr found ↦ inr (clash_higher hash empty old_up.above up.above old_up.size up.size (λ level. meets-up left right
                   i s (old_own, own) path (moves-beside left right i s (old_own, own) path beside n.is n.stepped level))
                   found)
               | inl here ↦ elim (same_pairs same hash (in_order i own n.digest) (pair_of none xs (i / 2)) n.state.1
@@ -279,7 +272,7 @@ module _ {D E : Type 0} (same : (x y : D) → (x ≡ y) ⊎ (x ≢ y)) (hash : D
         | inr alone ↦
             let last = alone-last i s inside alone in
             elim (above (old_own, own) path (sym (walk-alone left right k i s (old_own, own) path alone) ∙ way)) [
-              | inr found ↦ inr (clash_higher hash empty old_up.above up.above old_size size (λ level. meets-up left right
+              | inr found ↦ inr (clash_higher hash empty old_up.above up.above old_up.size up.size (λ level. meets-up left right
                   i s (old_own, own) path (moves-alone left right i s (old_own, own) path alone level)) found)
               | inl here ↦ elim (same_below (i / 2) i xs up.row old_xs old_up.row old_up.above up.above last.1
                   (omega arith) (omega arith) here.before) [
@@ -370,23 +363,20 @@ module _ {D E : Type 0} (same : (x y : D) → (x ≡ y) ⊎ (x ≢ y)) (hash : D
   both_roots-agree zero i s old path new old_xs xs old_long long inside low old_tree tree way =
       shared-agrees zero i s old path new old_xs xs (omega arith) old_long long inside low old_tree tree way
   both_roots-agree (suc k) i s old path new old_xs xs old_long long inside low old_tree tree way =
-      let two = twice k in
       elim (cases_lt (i % 2) 1) [
         | inl even ↦
             shared-agrees (suc k) i s old path new old_xs xs (omega arith) old_long long inside low old_tree tree
             (sym (both_roots-even hash k i s old path (omega arith)) ∙ way)
         | inr odd ↦
             let is_odd : i % 2 ≡ 1 = omega arith in
-            let old_up = higher hash empty k old_xs old (omega arith) old_tree in
-            let up = higher hash empty k xs new (omega arith) tree in
-            let old_size = old_up.size in
-            let size = up.size in
-            elim (both_roots-agree k (i / 2) (s / 2) old path new old_up.row up.row (omega arith) (omega arith) (omega arith)
+            let old_up = row_above hash empty k i old_xs old old_long (omega arith) old_tree in
+            let up = row_above hash empty k s xs new long low tree in
+            elim (both_roots-agree k (i / 2) (s / 2) old path new old_up.row up.row old_up.long up.long (omega arith)
             (omega arith) old_up.hashed up.hashed (sym (both_roots-odd hash k i s old path is_odd) ∙ way)) [
-              | inr found ↦ inr (histories_higher hash empty old_up.above up.above old_size size is_odd found)
+              | inr found ↦ inr (histories_higher hash empty old_up.above up.above old_up.size up.size is_odd found)
               | inl rows ↦
                   let here : take (i / 2 + 1) old_up.row ≡ take (i / 2 + 1) up.row =
-                  take_all (i / 2 + 1) old_up.row (omega arith) ∙ rows in
+                  take_all (i / 2 + 1) old_up.row (omega (arith, old_up.long)) ∙ rows in
                   elim (same_below (i / 2 + 1) (i + 1) xs up.row old_xs old_up.row old_up.above up.above (omega arith)
                   (omega arith) (omega arith) here) [
                     | inr found ↦ inr (InTrees 0 found.0 found.1)

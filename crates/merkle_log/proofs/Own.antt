@@ -6,11 +6,11 @@ use Rattle.ark_base.specs.Outcome.{◌>>=◌}
 use Rattle.ark_base.specs.Laws.Steps.{done, done_injective}
 use Rattle.merkle_log.specs.Trees.{tree_hash, path, subproof}
 use Rattle.merkle_log.specs.Walk.{joined, with_next, walk, on_left, on_right, both_left, new_right, from_shared, from_seed, both_roots, has_beside, in_order}
-use Rattle.merkle_log.proofs.RowsUp.{row_up, tree_hash-up}
-use Rattle.merkle_log.proofs.Tests.{twice, odd_test, even_test, if_even}
+use Rattle.merkle_log.proofs.RowsUp.{row_up}
+use Rattle.merkle_log.proofs.Tests.{odd_test, even_test, if_even, twice}
 use Rattle.merkle_log.proofs.PathRows.{Right, Left, Alone, side, beside, beside-odd, beside-even, beside-last, path-up}
 use Rattle.merkle_log.proofs.SubproofRows.{seed, seed-more, subproof-up, subproof-odd, tree_hash-one}
-use Rattle.merkle_log.proofs.Above.{there, IsAbove, higher, above-pair, above-last, above-take, row_up-cut}
+use Rattle.merkle_log.proofs.Above.{there, IsAbove, row_above, above-pair, above-last, above-take, row_up-cut}
 use Rattle.merkle_log.proofs.TreePairs.{get_or-there, pair_of, pair_same}
 use Rattle.merkle_log.proofs.Sound.{turn, turned, walk-next, walk-alone, beside-inside, beside-none, alone-last}
 use Rattle.merkle_log.proofs.Agree.{both_roots-odd, both_roots-even}
@@ -50,10 +50,12 @@ module _ {D E : Type 0} (hash : D → D → Result D E) (none : D) (empty : Resu
     pub is : p ≡ sibling ∷ rest
     pub path_is : path (joined hash) empty k (i / 2) (there ys) ≡ there rest
     pub pair_is : in_order i (get_or xs i none) sibling ≡ pair_of none xs (i / 2)
+    pub hashed : hash (in_order i (get_or xs i none) sibling).0 (in_order i (get_or xs i none) sibling).1
+        ≡ Ok (get_or ys (i / 2) none)
 
   -- a level up of the path of an index
   module _ (k i s : ℕ) (xs ys p : List D) (up : IsAbove hash xs ys) (long : length xs ≡ s + 1) (inside : i ≤ s)
-      (high : length xs ≤ 2 ^ suc k) (is : path (joined hash) empty (suc k) i (there xs) ≡ there p) where
+      (low : s < 2 ^ suc k) (is : path (joined hash) empty (suc k) i (there xs) ≡ there p) where
     all : length (there {E = E} xs) ≡ length xs
     all = length-map xs Ok
 
@@ -61,25 +63,33 @@ module _ {D E : Type 0} (hash : D → D → Result D E) (none : D) (empty : Resu
     parts = ap (λ r. beside empty i (there xs) ++ path (joined hash) empty k (i / 2) r) (sym up.is)
         ∙ sym (path-up (joined hash) empty k i (there xs) (omega (arith, all)) (omega (arith, all))) ∙ is
 
-    next_of : (sibling : D) → beside empty i (there xs) ≡ Ok sibling ∷ []
+    next_of : has_beside i s ≡ true → (sibling : D) → beside empty i (there xs) ≡ Ok sibling ∷ []
         → in_order i (get_or xs i none) sibling ≡ pair_of none xs (i / 2) → Next k i xs ys p
-    next_of sibling stands pair_is =
+    next_of inside_it sibling stands pair_is =
         let n = there-cons sibling _ p (ap (λ l. l ++ path (joined hash) empty k (i / 2) (there ys)) (sym stands)
         ∙ parts) in
-        record { sibling = sibling; rest = n.0; is = n.1; path_is = n.2; pair_is = pair_is }
+        record {
+          sibling = sibling;
+          rest = n.0;
+          is = n.1;
+          path_is = n.2;
+          pair_is = pair_is;
+          hashed = ap (λ q. hash q.0 q.1) pair_is ∙ above-pair hash none xs ys up (i / 2)
+              (omega (arith, beside-inside i s inside inside_it));
+        }
 
     own_next : has_beside i s ≡ true → Next k i xs ys p
     own_next stands = elim (side i (length xs)) [
       | Right odd ↦
           let left : i - 1 ≡ i / 2 + i / 2 = omega arith in
           let right : i ≡ i / 2 + i / 2 + 1 = omega arith in
-          next_of (get_or xs (i - 1) none) (beside-odd empty i (there xs) odd
+          next_of stands (get_or xs (i - 1) none) (beside-odd empty i (there xs) odd
           ∙ ap (λ x. x ∷ []) (get_or-there none empty xs (i - 1) (omega arith))) (rw (odd_test i odd)
           (pair_same _ _ (ap (λ n. get_or xs n none) left) (ap (λ n. get_or xs n none) right)))
       | Left even more ↦
           let left : i ≡ i / 2 + i / 2 = omega arith in
           let right : i + 1 ≡ i / 2 + i / 2 + 1 = omega arith in
-          next_of (get_or xs (i + 1) none) (beside-even empty i (there xs) even (omega (arith, all))
+          next_of stands (get_or xs (i + 1) none) (beside-even empty i (there xs) even (omega (arith, all))
           ∙ ap (λ x. x ∷ []) (get_or-there none empty xs (i + 1) more)) (rw (even_test i even)
           (pair_same _ _ (ap (λ n. get_or xs n none) left) (ap (λ n. get_or xs n none) right)))
       | Alone even last ↦ absurd (false≢true (sym (beside-none i s even (omega arith)) ∙ stands))
@@ -87,9 +97,8 @@ module _ {D E : Type 0} (hash : D → D → Result D E) (none : D) (empty : Resu
 
     own_alone : has_beside i s ≡ false → path (joined hash) empty k (i / 2) (there ys) ≡ there p
     own_alone alone =
-        let last = alone-last i s inside alone in
-        ap (λ l. l ++ path (joined hash) empty k (i / 2) (there ys)) (sym (beside-last empty i (there xs) (omega arith)
-        (omega (arith, all)))) ∙ parts
+        ap (λ l. l ++ path (joined hash) empty k (i / 2) (there ys)) (sym (beside-last empty i (there xs)
+        (omega (arith, alone-last i s inside alone)) (omega (arith, alone-last i s inside alone, all)))) ∙ parts
 
   -- ---- inclusion
 
@@ -100,25 +109,19 @@ module _ {D E : Type 0} (hash : D → D → Result D E) (none : D) (empty : Resu
   walk-own zero zero s (x ∷ xs) [] root long inside low tree is = ap (λ (r : Result D E). r >>= λ d. Ok (Some d)) tree
   walk-own zero zero s (x ∷ xs) (c ∷ p) root long inside low tree is = absurd cc
   walk-own (suc k) i s xs p root long inside low tree is =
-      let two = twice k in
-      let high : length xs ≤ 2 ^ suc k = omega arith in
-      let up = higher hash empty k xs root high tree in
-      let size = up.size in
-      let half : i / 2 ≤ s / 2 = omega arith in
-      let ih = λ (q : List D). walk-own k (i / 2) (s / 2) up.row q root (omega arith) half (omega arith) up.hashed in
+      let up = row_above hash empty k s xs root long low tree in
+      let ih = λ (q : List D). walk-own k (i / 2) (s / 2) up.row q root up.long (omega arith) up.low up.hashed in
       elim (cases_Bool (has_beside i s)) [
         | inl beside ↦
-            let n = own_next k i s xs up.row p up.above long inside high is beside in
-            let less = beside-inside i s inside beside in
+            let n = own_next k i s xs up.row p up.above long inside low is beside in
             walk-next (on_left hash) (on_right hash) k i s (get_or xs i none) p beside n.is
-            (turned hash i (get_or xs i none) n.sibling ∙ ap (λ q. hash q.0 q.1) n.pair_is
-            ∙ above-pair hash none xs up.row up.above (i / 2) (omega arith)) ∙ ih n.rest n.path_is
+            (turned hash i (get_or xs i none) n.sibling ∙ n.hashed) ∙ ih n.rest n.path_is
         | inr alone ↦
             let last = alone-last i s inside alone in
             walk-alone (on_left hash) (on_right hash) k i s (get_or xs i none) p alone
             ∙ ap (λ d. walk (on_left hash) (on_right hash) k (i / 2) (s / 2) d p)
             (sym (above-last hash none xs up.row up.above (i / 2) i last.1 (omega arith)))
-            ∙ ih p (own_alone k i s xs up.row p up.above long inside high is alone)
+            ∙ ih p (own_alone k i s xs up.row p up.above long inside low is alone)
       ]
   walk-own zero i s xs p root long inside low tree is = absurd (omega arith)
 
@@ -153,29 +156,24 @@ module _ {D E : Type 0} (hash : D → D → Result D E) (none : D) (empty : Resu
       Ok (Some (old, d))) tree
   walk-own_two zero zero s (x ∷ xs) old_own (c ∷ p) old new long inside low old_tree tree is = absurd cc
   walk-own_two (suc k) i s xs old_own p old new long inside low old_tree tree is =
-      let two = twice k in
-      let high : length xs ≤ 2 ^ suc k = omega arith in
-      let up = higher hash empty k xs new high tree in
-      let size = up.size in
-      let half : i / 2 ≤ s / 2 = omega arith in
-      let old_up = higher hash empty k (take i xs ++ (old_own ∷ [])) old
-      (omega (arith, length-append (take i xs) (old_own ∷ []), length-take-le i xs (omega arith))) old_tree in
+      let up = row_above hash empty k s xs new long low tree in
+      let old_up = row_above hash empty k i (take i xs ++ (old_own ∷ [])) old
+      (omega (arith, length-append (take i xs) (old_own ∷ []), length-take-le i xs (omega arith))) (omega arith)
+      old_tree in
       let last = there-push (take (i / 2) up.row) old_up.row _ (sym old_up.above.is
       ∙ ap (row_up (joined hash)) (map-append Ok (take i xs) (old_own ∷ []))
       ∙ row_up-cut hash none i xs up.row (Ok old_own) (λ c d two le. above-take hash c d xs up.row up.above two)
       (omega arith)) in
-      let ih = λ (q : List D). walk-own_two k (i / 2) (s / 2) up.row last.0 q old new (omega arith) half (omega arith)
+      let ih = λ (q : List D). walk-own_two k (i / 2) (s / 2) up.row last.0 q old new up.long (omega arith) up.low
       (ap (λ l. tree_hash (joined hash) empty k (there l)) (sym last.2) ∙ old_up.hashed) up.hashed in
       elim (cases_Bool (has_beside i s)) [
         | inl beside ↦
-            let n = own_next k i s xs up.row p up.above long inside high is beside in
-            let less = beside-inside i s inside beside in
+            let n = own_next k i s xs up.row p up.above long inside low is beside in
             let sibling_is = λ (odd : i % 2 ≡ 1). let e : i / 2 + i / 2 ≡ i - 1 = omega arith in
             ap (λ q. q.0) (rw (odd_test i odd) at n.pair_is) ∙ ap (λ n. get_or xs n none) e in
             walk-next (both_left hash) (new_right hash) k i s (old_own, get_or xs i none) p beside n.is
             (both_turned i old_own (get_or xs i none) n.sibling (get_or xs (i - 1) none) last.0
-            (get_or up.row (i / 2) none) sibling_is last.1 (ap (λ q. hash q.0 q.1) n.pair_is
-            ∙ above-pair hash none xs up.row up.above (i / 2) (omega arith))) ∙ ih n.rest n.path_is
+            (get_or up.row (i / 2) none) sibling_is last.1 n.hashed) ∙ ih n.rest n.path_is
         | inr alone ↦
             let end = alone-last i s inside alone in
             let kept = done_injective {E = E} old_own last.0 (sym (if_even i _ _ (omega arith)) ∙ last.1) in
@@ -183,7 +181,7 @@ module _ {D E : Type 0} (hash : D → D → Result D E) (none : D) (empty : Resu
             ∙ ap (λ e. walk (both_left hash) (new_right hash) k (i / 2) (s / 2) e p)
             (pair_same (old_own, get_or xs i none) (last.0, get_or up.row (i / 2) none) kept
             (sym (above-last hash none xs up.row up.above (i / 2) i end.1 (omega arith))))
-            ∙ ih p (own_alone k i s xs up.row p up.above long inside high is alone)
+            ∙ ih p (own_alone k i s xs up.row p up.above long inside low is alone)
       ]
   walk-own_two zero i s xs old_own p old new long inside low old_tree tree is = absurd (omega arith)
 
@@ -225,28 +223,23 @@ module _ {D E : Type 0} (hash : D → D → Result D E) (none : D) (empty : Resu
       ≡ Ok (Some (old, new))
   both_roots-own zero i s xs p old new long inside low old_tree tree is = absurd (omega arith)
   both_roots-own (suc k) i s xs p old new long inside low old_tree tree is =
-      let two = twice k in
-      let all : length (there {E = E} xs) ≡ length xs = length-map xs Ok in
       elim (cases_lt (i % 2) 1) [
         | inl even ↦ both_roots-even hash k i s old p (omega arith) ∙ seeded-own (suc k) i s xs p old new (omega arith)
             long inside low old_tree tree is
         | inr odd ↦
-            let up = higher hash empty k xs new (omega arith) tree in
-            let size = up.size in
+            let up = row_above hash empty k s xs new long low tree in
+            let old_up = row_above hash empty k i (take (i + 1) xs) old (length-take-le (i + 1) xs (omega arith))
+            (omega arith) old_tree in
             let c = i / 2 + 1 in
             let pre : i + 1 ≡ c + c = omega arith in
             let half : (i + 1) / 2 ≡ c = omega arith in
-            let front = above-take hash c (i + 1) xs up.row up.above pre in
-            let short : length (there {E = E} (take (i + 1) xs)) ≡ i + 1 =
-            length-map (take (i + 1) xs) Ok ∙ length-take-le (i + 1) xs (omega arith) in
-            let old_up : tree_hash (joined hash) empty k (there (take c up.row)) ≡ Ok old =
-            ap (tree_hash (joined hash) empty k) (sym front) ∙ sym (tree_hash-up (joined hash) empty k
-            (there (take (i + 1) xs)) (omega arith)) ∙ old_tree in
+            let size : length (there {E = E} xs) ≡ s + 1 = length-map xs Ok ∙ long in
             let is_up : subproof (joined hash) empty k c (there up.row) true ≡ there p =
             ap (λ r. subproof (joined hash) empty k c r true) (sym up.above.is)
             ∙ ap (λ n. subproof (joined hash) empty k n (row_up (joined hash) (there xs)) true) (sym half)
             ∙ sym (subproof-up (joined hash) empty k (i + 1) (there xs) true (omega arith) (omega arith) (omega arith)
             (omega arith)) ∙ is in
             both_roots-odd hash k i s old p (omega arith) ∙ both_roots-own k (i / 2) (s / 2) up.row p old new
-            (omega arith) (omega arith) (omega arith) old_up up.hashed is_up
+            up.long (omega arith) up.low (ap (tree_hash (joined hash) empty k)
+            (sym (above-take hash c (i + 1) xs up.row up.above pre) ∙ old_up.above.is) ∙ old_up.hashed) up.hashed is_up
       ]

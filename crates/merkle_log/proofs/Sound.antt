@@ -6,8 +6,8 @@ use Rattle.ark_base.specs.Outcome.{◌>>=◌}
 use Rattle.merkle_log.specs.Trees.{tree_hash}
 use Rattle.merkle_log.specs.Collision.{Collide, PathCollidesAt, IsTreePair}
 use Rattle.merkle_log.specs.Walk.{joined, finish, with_next, walk, on_left, on_right, has_beside, used_below, index_up, in_order, Meets}
-use Rattle.merkle_log.proofs.Above.{there, IsAbove, higher, above-pair, above-last}
-use Rattle.merkle_log.proofs.Tests.{twice, odd_test, even_test}
+use Rattle.merkle_log.proofs.Above.{there, IsAbove, row_above, above-pair, above-last}
+use Rattle.merkle_log.proofs.Tests.{odd_test, even_test}
 use Rattle.merkle_log.proofs.TreePairs.{pair_of, own_of, tree_pair-up, tree_pair-zero, same_pairs}
 
 -- ---- whether a digest stands beside
@@ -220,14 +220,9 @@ module _ {D E : Type 0} (same : (x y : D) → (x ≡ y) ⊎ (x ≢ y)) (hash : D
   walk-binds none empty zero zero s own path root (x ∷ xs) long inside low tree way =
       let e = ended {E = E} own path root way in inl cc
   walk-binds none empty (suc k) i s own path root xs long inside low tree way =
-      let two = twice k in
-      let up = higher hash empty k xs root (omega arith) tree in
-      let size = up.size in
-      let half : i / 2 ≤ s / 2 = omega arith in
-      let low_up : s / 2 < 2 ^ k = omega arith in
-      let long_up : length up.row ≡ s / 2 + 1 = omega arith in
-      let above = λ (next : D) (rest : List D). walk-binds none empty k (i / 2) (s / 2) next rest root up.row long_up
-      half low_up up.hashed in
+      let up = row_above hash empty k s xs root long low tree in
+      let above = λ (next : D) (rest : List D). walk-binds none empty k (i / 2) (s / 2) next rest root up.row up.long
+      (omega arith) up.low up.hashed in
       elim (cases_Bool (has_beside i s)) [
         | inl beside ↦
             let n = stepped (on_left hash) (on_right hash) k i s own path root beside way in
@@ -235,7 +230,7 @@ module _ {D E : Type 0} (same : (x y : D) → (x ≡ y) ⊎ (x ≢ y)) (hash : D
             elim (above n.state n.rest n.went) [
               | inr found ↦ inr (
                 suc found.0,
-                higher_collision n.state n.rest found.0 up.above size (meets-up _ _ i s
+                higher_collision n.state n.rest found.0 up.above up.size (meets-up _ _ i s
                     own path (moves-beside _ _ i s own path beside n.is n.stepped found.0)) found.1,
               )
               | inl here ↦ elim (same_pairs same hash (in_order i own n.digest) (pair_of none xs (i / 2)) n.state
@@ -250,7 +245,7 @@ module _ {D E : Type 0} (same : (x y : D) → (x ≡ y) ⊎ (x ≢ y)) (hash : D
             elim (above own path (sym (walk-alone (on_left hash) (on_right hash) k i s own path alone) ∙ way)) [
               | inr found ↦ inr (
                 suc found.0,
-                higher_collision own path found.0 up.above size (meets-up _ _ i s own path
+                higher_collision own path found.0 up.above up.size (meets-up _ _ i s own path
                     (moves-alone _ _ i s own path alone found.0)) found.1,
               )
               | inl here ↦ inl (sym (above-last hash none xs up.row up.above (i / 2) i last.1 (omega arith)) ∙ here)

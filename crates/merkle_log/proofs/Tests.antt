@@ -1,7 +1,8 @@
 -- What tests of an index and a size say, and the tests of their halves.
-use Rattle.std.proofs.Common.{zero, suc, ◌≡◌, ℕ, ◌+◌, ◌-◌, ◌*◌, ◌/◌, ◌%◌, ◌<◌, ◌≤◌, ◌^◌, true, false, nat_lt, ◌==◌, if◌then◌else◌, arith, refl, ap, ◌∙◌}
+use Rattle.std.proofs.Common.{zero, suc, ◌≡◌, ℕ, ◌+◌, ◌-◌, ◌*◌, ◌/◌, ◌%◌, ◌<◌, ◌≤◌, ◌^◌, true, false, nat_lt, ◌==◌, if◌then◌else◌, arith, refl, ap, ◌∙◌, inl, inr}
+use Rattle.std.proofs.lemmas.Bool.{cases_lt}
 use Rattle.std.proofs.lemmas.Bool.Decides.{nat_tests}
-use Rattle.std.proofs.Math.Nat.{mul-add, pow-suc}
+use Rattle.std.proofs.Math.Nat.{mul-add, pow-suc, pow-le-pow_right}
 
 pub odd_test : (i : ℕ) → i % 2 ≡ 1 → (i % 2 == 1) ≡ true
 odd_test i odd = grind (arith, nat_tests)
@@ -18,6 +19,9 @@ if_even i x y even = rw (even_test i even) refl
 -- half a power of two
 pub twice : (j : ℕ) → 2 ^ suc j ≡ 2 ^ j + 2 ^ j
 twice j = omega (arith, pow-suc 2 j)
+
+pub power-rises : (a b : ℕ) → a ≤ b → 2 ^ a ≤ 2 ^ b
+power-rises a b le = pow-le-pow_right (omega arith) le
 
 pub mul-twice : (j n : ℕ) → n * 2 ^ suc j ≡ n * 2 ^ j + n * 2 ^ j
 mul-twice j n = ap (λ m. n * m) (twice j) ∙ mul-add n (2 ^ j) (2 ^ j)
@@ -47,3 +51,11 @@ pub fewer : {s : ℕ} (P Q : ℕ → Type 0) (k : ℕ) → 0 < s → s < 2 ^ k �
     → Fewer s Q
 fewer P Q zero some high at up = absurd (omega arith)
 fewer P Q (suc k) some high at up = let two = twice k in record { levels = k; high = omega arith; at = up k high at }
+
+-- What a level more leaves as it is, from one on, is the same at each level above.
+pub stays : {B : Type 0} (f : ℕ → B) (k n : ℕ) → k ≤ n → ((m : ℕ) → k ≤ m → f (suc m) ≡ f m) → f n ≡ f k
+stays f k zero le same = let e : 0 ≡ k = omega arith in ap f e
+stays f k (suc n) le same = elim (cases_lt k (suc n)) [
+  | inl less ↦ same n (omega arith) ∙ stays f k n (omega arith) same
+  | inr ge ↦ let e : suc n ≡ k = omega arith in ap f e
+]

@@ -70,8 +70,7 @@ overflow_add-used g c =
 
 pub overflow_add-level : goal.overflow_add-level
 overflow_add-level g c =
-    let count = c.levels.invariant.count in
-    omega arith
+    omega (arith, c.levels.invariant.count)
 
 pub levels-preserved : goal.levels-preserved
 levels-preserved g c =
