@@ -1,5 +1,5 @@
 -- What a consistency proof that is accepted says of two trees.
-use Rattle.std.proofs.Common.{zero, suc, ◌≡◌, ◌≢◌, ℕ, ◌+◌, ◌-◌, ◌/◌, ◌%◌, ◌<◌, ◌≤◌, ◌^◌, ◌⊎◌, Bool, true, false, ◌==◌, if◌then◌else◌, List, [], ◌∷◌, length, take, get_or, Result, Ok, Some, arith, refl, ap, sym, ◌∙◌, inl, inr}
+use Rattle.std.proofs.Common.{zero, suc, ◌≡◌, ◌≢◌, ℕ, ◌+◌, ◌/◌, ◌%◌, ◌<◌, ◌≤◌, ◌^◌, ◌⊎◌, Bool, true, false, ◌==◌, if◌then◌else◌, List, [], ◌∷◌, length, take, get_or, Result, Ok, Some, arith, refl, ap, sym, ◌∙◌, inl, inr}
 use Rattle.std.proofs.lemmas.Bool.{cases_lt, cases_eq, cases_Bool, eq-eqb, ne_eqb}
 use Rattle.std.proofs.lemmas.List.{take_more, take_all, take-take, get_or-take}
 use Rattle.ark_base.specs.Outcome.{◌>>=◌}
@@ -76,10 +76,11 @@ module _ {D E : Type 0} (hash : D → D → Result D E) (empty : Result D E) whe
     NewPair : (level : ℕ) → NewCollidesAt hash empty xs start i s ends path level → Clash old_xs xs start i s ends path
     OwnPairs : (level place : ℕ) → TreesCollideAt hash empty old_xs xs level place → Clash old_xs xs start i s ends path
 
-  -- the place of a pair on another level
-  at_level : {xs : List D} {a b place : ℕ} {pair : D × D} → a ≡ b → IsTreePair hash empty xs a place pair
-      → IsTreePair hash empty xs b place pair
-  at_level e tree = rw (← e) tree
+  -- a pair of the row above, at the level that is one more
+  higher_pair : {xs ys : List D} {a b place : ℕ} {pair : D × D} → IsAbove hash xs ys → length ys ≡ (length xs + 1) / 2
+      → b ≡ suc a → IsTreePair hash empty ys a place pair → IsTreePair hash empty xs b place pair
+  higher_pair {xs} {ys} {a} {b} {place} {pair} up size e tree =
+      rw (e) (tree_pair-up empty xs ys a place pair up size tree)
 
   -- rows and those above them
   module _ {old_xs xs old_ys ys : List D} (old_up : IsAbove hash old_xs old_ys) (up : IsAbove hash xs ys)
@@ -88,9 +89,9 @@ module _ {D E : Type 0} (hash : D → D → Result D E) (empty : Result D E) whe
         xs (suc level) place
     own_higher level place found = record {
       old_pair = found.old_pair;
-      old_tree = tree_pair-up empty old_xs old_ys level place found.old_pair old_up old_size found.old_tree;
+      old_tree = higher_pair old_up old_size refl found.old_tree;
       new_pair = found.new_pair;
-      new_tree = tree_pair-up empty xs ys level place found.new_pair up size found.new_tree;
+      new_tree = higher_pair up size refl found.new_tree;
       collide = found.collide;
     }
 
@@ -106,8 +107,7 @@ module _ {D E : Type 0} (hash : D → D → Result D E) (empty : Result D E) whe
       met = met level found.reached found.sibling found.met;
       odd = found.odd;
       pair = found.pair;
-      tree = at_level (omega arith) (tree_pair-up empty old_xs old_ys (0 + level) (index_up (suc level) (i / 2))
-          found.pair old_up old_size found.tree);
+      tree = higher_pair old_up old_size (omega arith) found.tree;
       collide = found.collide;
     })
     clash_higher {i} {s} met (NewPair level found) = NewPair (suc level) (record {
@@ -115,8 +115,7 @@ module _ {D E : Type 0} (hash : D → D → Result D E) (empty : Result D E) whe
       sibling = found.sibling;
       met = met level found.reached found.sibling found.met;
       pair = found.pair;
-      tree = at_level (omega arith) (tree_pair-up empty xs ys (0 + level) (index_up (suc level) (i / 2)) found.pair up
-          size found.tree);
+      tree = higher_pair up size (omega arith) found.tree;
       collide = found.collide;
     })
     clash_higher met (OwnPairs level place found) = OwnPairs (suc level) place (own_higher level place found)
@@ -131,8 +130,7 @@ module _ {D E : Type 0} (hash : D → D → Result D E) (empty : Result D E) whe
           met = found.met;
           odd = found.odd;
           pair = found.pair;
-          tree = at_level (omega arith) (tree_pair-up empty old_xs old_ys (start + level)
-              (index_up (suc level) (index_up start (i / 2))) found.pair old_up old_size found.tree);
+          tree = higher_pair old_up old_size (omega arith) found.tree;
           collide = found.collide;
         })
     histories_higher {i} odd (InNew start seed rest is level found) = InNew (suc start) seed rest (seed_higher odd is)
@@ -141,8 +139,7 @@ module _ {D E : Type 0} (hash : D → D → Result D E) (empty : Result D E) whe
           sibling = found.sibling;
           met = found.met;
           pair = found.pair;
-          tree = at_level (omega arith) (tree_pair-up empty xs ys (start + level)
-              (index_up (suc level) (index_up start (i / 2))) found.pair up size found.tree);
+          tree = higher_pair up size (omega arith) found.tree;
           collide = found.collide;
         })
     histories_higher odd (InTrees level place found) = InTrees (suc level) place (own_higher level place found)
@@ -214,7 +211,8 @@ module _ {D E : Type 0} (same : (x y : D) → (x ≡ y) ⊎ (x ≢ y)) (hash : D
             let steps = both_stepped hash i old_own own n.digest n.state n.stepped in
             let less = beside-inside i s inside beside in
             elim (above n.state n.rest n.went) [
-              | inr found ↦ inr (clash_higher hash empty old_up.above up.above old_up.size up.size (λ level. meets-up left right
+              | inr found ↦ inr (clash_higher hash empty old_up.above up.above old_up.size up.size
+                  (λ level. meets-up left right
                   i s (old_own, own) path (moves-beside left right i s (old_own, own) path beside n.is n.stepped level))
                   found)
               | inl here ↦ elim (same_pairs same hash (in_order i own n.digest) (pair_of none xs (i / 2)) n.state.1
@@ -272,7 +270,8 @@ module _ {D E : Type 0} (same : (x y : D) → (x ≡ y) ⊎ (x ≢ y)) (hash : D
         | inr alone ↦
             let last = alone-last i s inside alone in
             elim (above (old_own, own) path (sym (walk-alone left right k i s (old_own, own) path alone) ∙ way)) [
-              | inr found ↦ inr (clash_higher hash empty old_up.above up.above old_up.size up.size (λ level. meets-up left right
+              | inr found ↦ inr (clash_higher hash empty old_up.above up.above old_up.size up.size
+                  (λ level. meets-up left right
                   i s (old_own, own) path (moves-alone left right i s (old_own, own) path alone level)) found)
               | inl here ↦ elim (same_below (i / 2) i xs up.row old_xs old_up.row old_up.above up.above last.1
                   (omega arith) (omega arith) here.before) [

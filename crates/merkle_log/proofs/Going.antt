@@ -1,7 +1,7 @@
 -- A path that is made level by level.
-use Rattle.std.proofs.Common.{zero, suc, ◌≡◌, ℕ, ◌+◌, ◌-◌, ◌/◌, ◌%◌, ◌<◌, ◌≤◌, ◌^◌, true, false, nat_lt, ◌==◌, List, [], ◌∷◌, ◌++◌, length, take, get_or, Ok, Err, arith, refl, ap, sym, ◌∙◌, inl, inr}
+use Rattle.std.proofs.Common.{zero, suc, ◌≡◌, ℕ, ◌+◌, ◌-◌, ◌/◌, ◌%◌, ◌<◌, ◌≤◌, ◌^◌, List, [], ◌∷◌, ◌++◌, length, take, get_or, Ok, Err, arith, refl, ap, sym, ◌∙◌, inl, inr}
 use Rattle.std.proofs.lemmas.Bool.{cases_lt, lt-ltb, le-ltb}
-use Rattle.std.proofs.lemmas.List.{length-take-le, length-map, length-append, get_or_append_left, get_or_at, get_or-take, append_assoc, append-nil}
+use Rattle.std.proofs.lemmas.List.{length-take-le, length-map, get_or_append_left, get_or_at, get_or-take, append_assoc, append-nil}
 use Rattle.ark_base.specs.declared.error.Error.{Error}
 use Rattle.ark_base.specs.Outcome.{Outcome, ◌>>=◌}
 use Rattle.merkle_log.specs.Trees.{path}
@@ -131,17 +131,6 @@ module _ {hash : NodeHash} {rows : ℕ → List Digest} (empty : Digest) (stored
         is = up.at;
       }
 
-  pub going-end : {level i s : ℕ} {last : Digest} {sofar : List Digest} {answer : Outcome (List Digest)}
-      → Going hash rows empty level i s last sofar answer → s ≡ 0 → answer ≡ Ok sofar
-  going-end {level} {i} {s} {last} {sofar} {answer} going top =
-      let in_it = going.goes.inside in
-      let first : i ≡ 0 = omega arith in
-      sym going.goes.is
-      ∙ ap (λ n. all_of (way going.goes.levels level i n going.x) >>= behind sofar) top
-      ∙ ap (λ n. all_of (path (joined hash) (Ok empty) going.goes.levels n (going.x ∷ [])) >>= behind sofar) first
-      ∙ ap (λ l. all_of l >>= behind sofar) (path-one (joined hash) (Ok empty) going.goes.levels going.x)
-      ∙ ap Ok (append-nil sofar)
-
   -- A refusal of the last value, which the path needs, is that of the path.
   pub path-refused : (k level i s : ℕ) (e : Error) → s < 2 ^ k → s ≤ length (rows level) → i < s
       → all_of (way k level i s (Err e)) ≡ Err e
@@ -172,32 +161,40 @@ module _ {hash : NodeHash} {rows : ℕ → List Digest} (empty : Digest) (stored
       → last_raised hash (rows level) s last ≡ y → i / 2 < s / 2 → raised hash (rows level) s x ≡ y
   needed-known level i s x last y known is under = ap (raised hash (rows level) s) (known (omega arith)) ∙ is
 
-  pub going-next : {level i s : ℕ} {last : Digest} {sofar : List Digest} {answer : Outcome (List Digest)}
-      → Going hash rows empty level i s last sofar answer → 0 < s → (next : Digest)
-      → (i / 2 < s / 2 → last_raised hash (rows level) s last ≡ Ok next)
-      → Going hash rows empty (suc level) (i / 2) (s / 2) next (sofar ++ digests_beside (rows level) i s last) answer
-  going-next {level} {i} {s} {last} going some next is = record {
-    x = raised hash (rows level) s going.x;
-    known = λ under. needed-known level i s going.x last (Ok next) going.known (is under) under;
-    goes = goes-up going.goes some last going.known;
-  }
+  module _ {level i s : ℕ} {last : Digest} {sofar : List Digest} {answer : Outcome (List Digest)}
+      (going : Going hash rows empty level i s last sofar answer) where
+    -- at the root
+    pub going-end : s ≡ 0 → answer ≡ Ok sofar
+    going-end top =
+        let first : i ≡ 0 = omega (arith, going.goes.inside) in
+        sym going.goes.is
+        ∙ ap (λ n. all_of (way going.goes.levels level i n going.x) >>= behind sofar) top
+        ∙ ap (λ n. all_of (path (joined hash) (Ok empty) going.goes.levels n (going.x ∷ [])) >>= behind sofar) first
+        ∙ ap (λ l. all_of l >>= behind sofar) (path-one (joined hash) (Ok empty) going.goes.levels going.x)
+        ∙ ap Ok (append-nil sofar)
 
-  pub going-refused : {level i s : ℕ} {last : Digest} {sofar : List Digest} {answer : Outcome (List Digest)}
-      → Going hash rows empty level i s last sofar answer → 0 < s → (e : Error) → i / 2 < s / 2 → last_raised hash
-      (rows level) s last ≡ Err e → answer ≡ Err e
-  going-refused {level} {i} {s} {last} {sofar} {answer} going some e under is =
-      let up = goes-up going.goes some last going.known in
-      sym up.is ∙ ap (λ z. all_of (way up.levels (suc level) (i / 2) (s / 2) z) >>= behind (sofar ++ digests_beside (rows level) i s last)) (needed-known level i s going.x last (Err e)
-      going.known is under)
-      ∙ ap (λ o. o >>= behind (sofar ++ digests_beside (rows level) i s last)) (path-refused up.levels (suc level)
-      (i / 2) (s / 2) e up.high up.within under)
+    going-next : 0 < s → (next : Digest) → (i / 2 < s / 2 → last_raised hash (rows level) s last ≡ Ok next)
+        → Going hash rows empty (suc level) (i / 2) (s / 2) next (sofar ++ digests_beside (rows level) i s last) answer
+    going-next some next is = record {
+      x = raised hash (rows level) s going.x;
+      known = λ under. needed-known level i s going.x last (Ok next) going.known (is under) under;
+      goes = goes-up going.goes some last going.known;
+    }
 
-  -- the same, at a next level and with the path so far as the code has them
-  pub going-step : {level i s : ℕ} {last : Digest} {sofar : List Digest} {answer : Outcome (List Digest)}
-      → Going hash rows empty level i s last sofar answer → 0 < s → (up : ℕ) → up ≡ level + 1 → (next : Digest)
-      → (i / 2 < s / 2 → last_raised hash (rows level) s last ≡ Ok next)
-      → (more : List Digest) → sofar ++ digests_beside (rows level) i s last ≡ more → Going hash rows empty up (i / 2)
-      (s / 2) next more answer
-  going-step {level} {i} {s} {last} {sofar} {answer} going some up is next raised_is more path_is =
-      let e : suc level ≡ up = omega arith in
-      rw (← e, ← path_is) (going-next going some next raised_is)
+    pub going-refused : 0 < s → (e : Error) → i / 2 < s / 2 → last_raised hash (rows level) s last ≡ Err e
+        → answer ≡ Err e
+    going-refused some e under is =
+        let up = goes-up going.goes some last going.known in
+        let more = sofar ++ digests_beside (rows level) i s last in
+        sym up.is ∙ ap (λ z. all_of (way up.levels (suc level) (i / 2) (s / 2) z) >>= behind more)
+        (needed-known level i s going.x last (Err e) going.known is under)
+        ∙ ap (λ o. o >>= behind more) (path-refused up.levels (suc level) (i / 2) (s / 2) e up.high up.within under)
+
+    -- the same, at a next level and with the path so far as the code has them
+    pub going-step : 0 < s → (up : ℕ) → up ≡ level + 1 → (next : Digest)
+        → (i / 2 < s / 2 → last_raised hash (rows level) s last ≡ Ok next)
+        → (more : List Digest) → sofar ++ digests_beside (rows level) i s last ≡ more → Going hash rows empty up (i / 2)
+        (s / 2) next more answer
+    going-step some up is next raised_is more path_is =
+        let e : suc level ≡ up = omega arith in
+        rw (← e, ← path_is) (going-next some next raised_is)

@@ -1,5 +1,5 @@
 -- The root of a power of two of digests, by repeated halving.
-use Rattle.std.proofs.Common.{zero, suc, ◌≡◌, ℕ, ◌+◌, ◌-◌, ◌<◌, ◌^◌, true, nat_lt, List, [], ◌∷◌, length, map, take, drop, Ok, arith, ap, sym, ◌∙◌, pow_pos}
+use Rattle.std.proofs.Common.{zero, suc, ◌≡◌, ℕ, ◌<◌, ◌^◌, List, [], ◌∷◌, length, map, take, drop, Ok, arith, ap, sym, ◌∙◌, pow_pos}
 use Rattle.std.proofs.lemmas.Bool.{lt-ltb}
 use Rattle.std.proofs.lemmas.List.{length-map, length-take-le, length-drop, take-map, drop-map}
 use Rattle.ark_base.specs.Outcome.{Outcome}
@@ -19,7 +19,8 @@ halved hash none zero (a ∷ b ∷ []) root long is = ap (place_at 0) is
 halved hash none (suc m) xs root long is =
     let half = 2 ^ suc m in
     let two = twice (suc m) in
-    let more : half < length (map {B = Outcome Digest} Ok xs) = omega (arith, length-map {B = Outcome Digest} xs Ok, pow_pos (suc m)) in
+    let more : half < length (map {B = Outcome Digest} Ok xs) = omega
+    (arith, length-map {B = Outcome Digest} xs Ok, pow_pos (suc m)) in
     let both = joined-ok hash (tree_hash (joined hash) none (suc m) (take half (there xs)))
     (tree_hash (joined hash) none (suc m) (drop half (there xs))) root
     (rw (lt-ltb half (length (map {B = Outcome Digest} Ok xs)) more) at is) in

@@ -1,5 +1,5 @@
 -- How a digest is put behind a frontier.
-use Rattle.std.proofs.Common.{zero, suc, ◌≡◌, ℕ, ◌+◌, ◌-◌, ◌/◌, ◌%◌, ◌<◌, ◌≤◌, ◌^◌, List, [], ◌∷◌, ◌++◌, length, map, take, get_or, Ok, Err, arith, refl, ap, sym, ◌∙◌}
+use Rattle.std.proofs.Common.{suc, ◌≡◌, ℕ, ◌+◌, ◌-◌, ◌/◌, ◌%◌, ◌<◌, ◌≤◌, ◌^◌, List, [], ◌∷◌, ◌++◌, length, map, take, get_or, Ok, Err, arith, refl, ap, sym, ◌∙◌}
 use Rattle.std.proofs.lemmas.List.{length-append, length-map, map-append, take_more, take_all, same_from_push}
 use Rattle.std.proofs.lemmas.Nat.{zero_from_ones}
 use Rattle.std.specs.Prelude.{count_ones}
@@ -45,10 +45,12 @@ merging-first {hash} empty {digests} {size} {left} {peaks} {digest} left_is own 
     }
 
 pub merging-next : {A : Type 0} (numbers : A → Digest) (items : List A) {hash : NodeHash} {empty : Digest}
-    {count left : ℕ} {last next : Digest} {goal : List Node} → Merging hash empty (map numbers items) count left last goal
+    {count left : ℕ} {last next : Digest} {goal : List Node} → Merging hash empty
+    (map numbers items) count left last goal
     → count % 2 ≡ 1 → (up : ℕ) → left ≡ up + 1 → left ≤ length items → (peak : A) → peak ≡ get_or items up peak
     → hash (numbers peak) last ≡ Ok next → Merging hash empty (map numbers items) (count / 2) up next goal
-merging-next numbers items {hash} {empty} {count} {left} {last} {next} {goal} at odd up left_is within peak read hashed =
+merging-next numbers items {hash} {empty} {count} {left} {last} {next} {goal} at odd up left_is within peak
+    read hashed =
     let own = digest-read numbers items up peak (omega arith) read in
     let level = fewer (λ k. (frontier (joined hash) (Ok empty) k at.row ≡ node_rows (take left peaks))
     × (frontier (joined hash) (Ok empty) (suc k) (at.row ++ (Ok last ∷ [])) ≡ goal))

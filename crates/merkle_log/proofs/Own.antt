@@ -1,5 +1,5 @@
 -- A tree's own proofs lead to its root.
-use Rattle.std.proofs.Common.{zero, suc, ◌≡◌, ℕ, ◌+◌, ◌-◌, ◌/◌, ◌%◌, ◌<◌, ◌≤◌, ◌^◌, true, false, ◌==◌, if◌then◌else◌, List, [], ◌∷◌, ◌++◌, length, take, get_or, Result, Ok, Option, Some, arith, refl, ap, sym, ◌∙◌, inl, inr}
+use Rattle.std.proofs.Common.{zero, suc, ◌≡◌, ℕ, ◌+◌, ◌-◌, ◌/◌, ◌%◌, ◌<◌, ◌≤◌, ◌^◌, true, false, ◌==◌, if◌then◌else◌, List, [], ◌∷◌, ◌++◌, length, take, get_or, Result, Ok, Some, arith, refl, ap, sym, ◌∙◌, inl, inr}
 use Rattle.std.proofs.lemmas.Bool.{cases_lt, cases_Bool, ne_eqb, false≢true}
 use Rattle.std.proofs.lemmas.List.{length-take-le, length-map, length-append, map-append, take_more}
 use Rattle.ark_base.specs.Outcome.{◌>>=◌}
@@ -7,7 +7,7 @@ use Rattle.ark_base.specs.Laws.Steps.{done, done_injective}
 use Rattle.merkle_log.specs.Trees.{tree_hash, path, subproof}
 use Rattle.merkle_log.specs.Walk.{joined, with_next, walk, on_left, on_right, both_left, new_right, from_shared, from_seed, both_roots, has_beside, in_order}
 use Rattle.merkle_log.proofs.RowsUp.{row_up}
-use Rattle.merkle_log.proofs.Tests.{odd_test, even_test, if_even, twice}
+use Rattle.merkle_log.proofs.Tests.{odd_test, even_test, if_even}
 use Rattle.merkle_log.proofs.PathRows.{Right, Left, Alone, side, beside, beside-odd, beside-even, beside-last, path-up}
 use Rattle.merkle_log.proofs.SubproofRows.{seed, seed-more, subproof-up, subproof-odd, tree_hash-one}
 use Rattle.merkle_log.proofs.Above.{there, IsAbove, row_above, above-pair, above-last, above-take, row_up-cut}

@@ -1,5 +1,5 @@
 -- Frontiers against trees.
-use Rattle.std.proofs.Common.{zero, suc, ◌≡◌, ℕ, ◌+◌, ◌-◌, ◌/◌, ◌%◌, ◌<◌, ◌^◌, true, false, ◌==◌, if◌then◌else◌, List, [], ◌∷◌, ◌++◌, length, take, get_or, arith, refl, ap, sym, ◌∙◌, inl, inr}
+use Rattle.std.proofs.Common.{zero, suc, ◌≡◌, ℕ, ◌+◌, ◌-◌, ◌/◌, ◌%◌, ◌<◌, ◌^◌, ◌==◌, if◌then◌else◌, List, [], ◌∷◌, ◌++◌, length, take, get_or, arith, refl, ap, sym, ◌∙◌, inl, inr}
 use Rattle.std.proofs.lemmas.Bool.{cases_lt}
 use Rattle.std.proofs.lemmas.List.{length-append, length-take-le, append-nil, take_more, take_all, same_from_push, get_or_push}
 use Rattle.merkle_log.specs.Trees.{tree_hash}
@@ -75,7 +75,8 @@ pub frontier-push_odd : {A : Type 0} (join : A → A → A) (none : A) (k : ℕ)
     → frontier join none (suc k) (xs ++ (x ∷ [])) ≡ frontier join none k
     (complete_pairs join xs ++ (join (get_or xs (length xs - 1) none) x ∷ []))
 frontier-push_odd join none k xs x odd =
-    frontier-even join none k (xs ++ (x ∷ [])) (omega (arith, length-append xs (x ∷ []))) ∙ ap (frontier join none k) (pairs-odd join none xs x odd)
+    frontier-even join none k (xs ++ (x ∷ [])) (omega (arith, length-append xs (x ∷ [])))
+    ∙ ap (frontier join none k) (pairs-odd join none xs x odd)
 
 fewer_pairs : {A : Type 0} (join : A → A → A) (k : ℕ) (xs : List A) → length xs < 2 ^ suc k
     → length (complete_pairs join xs) < 2 ^ k
@@ -107,7 +108,8 @@ pub tree_hash-folded : {A : Type 0} (join : A → A → A) (none : A) (k : ℕ) 
 tree_hash-folded join none zero [] x high = refl
 tree_hash-folded join none zero (a ∷ xs) x high = absurd (omega arith)
 tree_hash-folded join none (suc k) xs x high =
-    tree_hash-up join none k (xs ++ (x ∷ [])) (omega (arith, length-append xs (x ∷ []))) ∙ elim (cases_lt (length xs % 2) 1) [
+    tree_hash-up join none k (xs ++ (x ∷ [])) (omega (arith, length-append xs (x ∷ [])))
+    ∙ elim (cases_lt (length xs % 2) 1) [
       | inl even ↦
           ap (tree_hash join none k) (row_up-even join xs x (omega arith)) ∙ tree_hash-folded join none k
           (complete_pairs join xs) x (fewer_pairs join k xs high)

@@ -1,5 +1,5 @@
 -- Where the digests of complete places stand in a log's list.
-use Rattle.std.proofs.Common.{zero, suc, ◌≡◌, ℕ, ◌+◌, ◌-◌, ◌*◌, ◌/◌, ◌%◌, ◌<◌, ◌≤◌, ◌^◌, true, false, nat_lt, List, [], ◌∷◌, ◌++◌, length, map, get_or, arith, refl, ap, sym, ◌∙◌, inl, inr}
+use Rattle.std.proofs.Common.{zero, suc, ◌≡◌, ℕ, ◌+◌, ◌-◌, ◌*◌, ◌/◌, ◌%◌, ◌<◌, ◌≤◌, ◌^◌, List, [], ◌∷◌, ◌++◌, length, map, get_or, arith, refl, ap, sym, ◌∙◌, inl, inr}
 use Rattle.std.proofs.lemmas.Bool.{cases_lt, lt-ltb, le-ltb}
 use Rattle.std.proofs.lemmas.List.{get_or_append_left, get_or-append_right}
 use Rattle.std.proofs.lemmas.List.FromFn.{length-map-range_with_len, get_or-map-range_with_len, map-range_with_len_more}
@@ -98,7 +98,8 @@ pub up-carry : (level n : ℕ) → ((l : ℕ) → l < level → index_up l n % 2
     ≡ index_up level n + 1
 up-carry zero n odd = refl
 up-carry (suc level) n odd =
-    ap (index_up level) (half-odd n (odd 0 (omega arith))) ∙ up-carry level (n / 2) (λ l below. odd (suc l) (omega arith))
+    ap (index_up level) (half-odd n (odd 0 (omega arith))) ∙ up-carry level (n / 2) (λ l below. odd (suc l)
+    (omega arith))
 
 pub up-times_all : (level n : ℕ) → ((l : ℕ) → l < level → index_up l n % 2 ≡ 1) → (index_up level n + 1) * 2
     ^ level ≡ n + 1
@@ -116,7 +117,8 @@ pub up-same : (level last n : ℕ) → last < level → ((l : ℕ) → l < last 
 up-same zero last n less odd even = absurd (omega arith)
 up-same (suc level) zero n less odd even = ap (index_up level) (half-even n even)
 up-same (suc level) (suc last) n less odd even =
-    ap (index_up level) (half-odd n (odd 0 (omega arith))) ∙ up-same level last (n / 2) (omega arith) (λ l below. odd (suc l) (omega arith)) even
+    ap (index_up level) (half-odd n (odd 0 (omega arith))) ∙ up-same level last (n / 2) (omega arith) (λ l below. odd
+    (suc l) (omega arith)) even
 
 -- ---- rows
 
@@ -154,7 +156,8 @@ rows-more stored made count some odd even level = elim (cases_lt level (length m
       let last : (n + 1) * 2 ^ level - 1 ≡ stored.size = omega arith in
       let own = ap (λ p. get_or (stored.digests ++ made) p []) (ap (λ m. stored_count m + level) last
       ∙ ap (λ m. m + level) (sym count)) ∙ get_or-append_right stored.digests made (length stored.digests)
-      (length stored.digests + level) [] refl (omega arith) ∙ ap (λ p. get_or made p []) (past (length stored.digests)) in
+      (length stored.digests + level) [] refl (omega arith) ∙ ap (λ p. get_or made p []) (past
+      (length stored.digests)) in
       rw (lt-ltb level (length made) in_made) (ap (λ c. map at_place (range_with_len 0 c))
       (up-carry level stored.size below) ∙ map-range_with_len_more at_place 0 n n (omega arith)
       ∙ both _ _ _ _ (same_places _ _ 0 n (λ place less. before place (omega arith))) own)

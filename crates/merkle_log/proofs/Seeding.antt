@@ -1,5 +1,5 @@
 -- A consistency proof that is made level by level.
-use Rattle.std.proofs.Common.{zero, suc, ◌≡◌, ℕ, ◌+◌, ◌-◌, ◌/◌, ◌%◌, ◌<◌, ◌≤◌, ◌^◌, true, false, ◌==◌, List, [], ◌∷◌, ◌++◌, length, take, get_or, Ok, Err, arith, refl, ap, subst, sym, ◌∙◌, inl, inr}
+use Rattle.std.proofs.Common.{zero, suc, ◌≡◌, ℕ, ◌+◌, ◌-◌, ◌/◌, ◌%◌, ◌<◌, ◌≤◌, ◌^◌, true, List, [], ◌∷◌, ◌++◌, length, take, get_or, Ok, Err, arith, refl, ap, subst, sym, ◌∙◌, inl, inr}
 use Rattle.std.proofs.lemmas.Bool.{cases_lt, ne_eqb}
 use Rattle.std.proofs.lemmas.List.{length-take-le}
 use Rattle.ark_base.specs.declared.error.Error.{Error}
@@ -43,7 +43,8 @@ module _ {hash : NodeHash} {rows : ℕ → List Digest} (empty : Digest) (stored
       let under : i < s = at.inside in
       let up = fewer (λ k. all_of (proof k level i s x) ≡ answer)
       (λ k. all_of (proof k (suc level) (i / 2) (s / 2) (raised hash (rows level) s x)) ≡ answer) at.levels
-      (omega arith) at.high at.is (λ k high is. ap (λ l. all_of (subproof (joined hash) (Ok empty) k (i / 2 + 1) l true))
+      (omega arith) at.high at.is (λ k high is. ap (λ l. all_of (subproof (joined hash) (Ok empty) k
+      (i / 2 + 1) l true))
       (sym (above_with empty stored level s x at.within))
       ∙ ap (λ m. all_of (subproof (joined hash) (Ok empty) k m (row_up (joined hash) (row_with (rows level) s x)) true))
       (sym half)
@@ -62,7 +63,8 @@ module _ {hash : NodeHash} {rows : ℕ → List Digest} (empty : Digest) (stored
   seed-there row zero s x le under = refl
   seed-there row (suc j) s x le under =
       let one : suc j + 1 - 1 ≡ suc j = omega arith in
-      rw (ne_eqb (suc j) 0 (λ none. omega arith)) (seed-more (Ok empty) true (suc j + 1) (row_with row s x) (omega arith)
+      rw (ne_eqb (suc j) 0 (λ none. omega arith)) (seed-more (Ok empty) true (suc j + 1) (row_with row s x)
+      (omega arith)
       ∙ ap (λ n. get_or (row_with row s x) n (Ok empty) ∷ []) one ∙ ap (λ z. z ∷ []) (row_with-own row s x (Ok empty)
       (suc j) le under))
 

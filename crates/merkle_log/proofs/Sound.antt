@@ -1,10 +1,10 @@
 -- What a way that ends at the root says of a tree with that root.
-use Rattle.std.proofs.Common.{zero, suc, ◌≡◌, ◌≢◌, ℕ, ◌+◌, ◌-◌, ◌/◌, ◌%◌, ◌<◌, ◌≤◌, ◌^◌, ◌⊎◌, Bool, true, false, nat_lt, ◌==◌, ◌||◌, if◌then◌else◌, List, [], ◌∷◌, length, take, drop, get_or, Result, Ok, Option, Some, arith, refl, ap, sym, ◌∙◌, inl, inr}
+use Rattle.std.proofs.Common.{zero, suc, ◌≡◌, ◌≢◌, ℕ, ◌+◌, ◌/◌, ◌%◌, ◌<◌, ◌≤◌, ◌^◌, ◌⊎◌, Bool, true, false, nat_lt, ◌==◌, ◌||◌, if◌then◌else◌, List, [], ◌∷◌, length, take, drop, get_or, Result, Ok, Option, Some, arith, refl, ap, sym, ◌∙◌, inl, inr}
 use Rattle.std.proofs.lemmas.Bool.{cases_lt, cases_Bool, lt-ltb, le-ltb, or_parts, or_right, false≢true}
 use Rattle.ark_base.specs.Laws.Steps.{bind_ok}
 use Rattle.ark_base.specs.Outcome.{◌>>=◌}
 use Rattle.merkle_log.specs.Trees.{tree_hash}
-use Rattle.merkle_log.specs.Collision.{Collide, PathCollidesAt, IsTreePair}
+use Rattle.merkle_log.specs.Collision.{Collide, PathCollidesAt}
 use Rattle.merkle_log.specs.Walk.{joined, finish, with_next, walk, on_left, on_right, has_beside, used_below, index_up, in_order, Meets}
 use Rattle.merkle_log.proofs.Above.{there, IsAbove, row_above, above-pair, above-last}
 use Rattle.merkle_log.proofs.Tests.{odd_test, even_test}

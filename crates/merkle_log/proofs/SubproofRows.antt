@@ -1,5 +1,5 @@
 -- Consistency proofs row by row.
-use Rattle.std.proofs.Common.{zero, suc, ◌≡◌, ℕ, ◌+◌, ◌-◌, ◌/◌, ◌%◌, ◌<◌, ◌≤◌, ◌^◌, ◌⊎◌, Bool, true, false, nat_lt, ◌==◌, ◌&&◌, if◌then◌else◌, List, [], ◌∷◌, ◌++◌, length, take, drop, get_or, arith, refl, ap, ◌∙◌, inl, inr, pow_pos}
+use Rattle.std.proofs.Common.{zero, suc, ◌≡◌, ℕ, ◌+◌, ◌-◌, ◌/◌, ◌%◌, ◌<◌, ◌≤◌, ◌^◌, ◌⊎◌, Bool, true, false, ◌==◌, ◌&&◌, if◌then◌else◌, List, [], ◌∷◌, ◌++◌, length, take, drop, get_or, arith, refl, ◌∙◌, inl, inr, pow_pos}
 use Rattle.std.proofs.lemmas.Bool.{cases_lt, lt-ltb, le-ltb, eq-eqb, ne_eqb}
 use Rattle.std.proofs.lemmas.List.{length-drop, length-take-le, get_or-take, get_or-drop, append_assoc}
 use Rattle.merkle_log.specs.Trees.{tree_hash, path, subproof}
@@ -46,7 +46,8 @@ subproof-up join none (suc j) m xs known even some below le =
                 ]
             | inr ge ↦
                 rw (le-ltb (2 ^ suc j) (length xs) ge)
-                (rw (ne_eqb m (length xs) (λ e. omega arith)) at (subproof-up join none j m xs known even some below ge))
+                (rw (ne_eqb m (length xs) (λ e. omega arith)) at
+                (subproof-up join none j m xs known even some below ge))
           ]))
     ]
 subproof-up join none zero m xs known even some below le = absurd (omega arith)

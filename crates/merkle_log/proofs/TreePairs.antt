@@ -103,7 +103,8 @@ pair_order none xs i = elim (cases_lt (i % 2) 1) [
   | inl even ↦
       let left : i ≡ i / 2 + i / 2 = omega arith in
       let right : i + 1 ≡ i / 2 + i / 2 + 1 = omega arith in
-      rw (even_test i (omega arith)) (pair_same _ _ (ap (λ n. get_or xs n none) left) (ap (λ n. get_or xs n none) right))
+      rw (even_test i (omega arith)) (pair_same _ _ (ap (λ n. get_or xs n none) left) (ap
+      (λ n. get_or xs n none) right))
   | inr odd ↦
       let left : i - 1 ≡ i / 2 + i / 2 = omega arith in
       let right : i ≡ i / 2 + i / 2 + 1 = omega arith in

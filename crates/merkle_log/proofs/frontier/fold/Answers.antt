@@ -34,4 +34,5 @@ left-preserved g c = record {
 }
 
 pub returns : goal.returns
-returns g c = λ empty digests size frontier. folding-last (c.left.invariant.at empty digests size frontier) (omega arith)
+returns g c = λ empty digests size frontier. folding-last (c.left.invariant.at empty digests size frontier)
+    (omega arith)

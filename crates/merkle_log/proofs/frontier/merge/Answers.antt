@@ -34,7 +34,8 @@ odd-preserved g c =
 
 pub returns-clause-merged : goal.returns-clause-merged
 returns-clause-merged g c = λ digests frontier.
-    frontier-more (g.D.Numbered.numbers c.args.digest) frontier (λ empty. merging-end (c.odd.invariant.at empty digests frontier) (omega arith))
+    frontier-more (g.D.Numbered.numbers c.args.digest) frontier (λ empty. merging-end
+    (c.odd.invariant.at empty digests frontier) (omega arith))
 
 pub returns-clause-count : goal.returns-clause-count
 returns-clause-count g c =

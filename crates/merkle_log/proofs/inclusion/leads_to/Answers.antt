@@ -1,4 +1,4 @@
-use Rattle.std.proofs.Common.{◌==◌, length, ap, sym, ◌∙◌, arith, Ok}
+use Rattle.std.proofs.Common.{length, ap, sym, ◌∙◌, arith, Ok}
 use Rattle.std.proofs.lemmas.Bool.{ne_eqb}
 use Rattle.ark_base.specs.Outcome.{◌>>=◌}
 use Rattle.ark_base.proofs.Refusals.{passed_on}
@@ -17,7 +17,8 @@ pub returns-in_err-own : goal.returns-in_err-own
 returns-in_err-own g c = λ k high.
     passed_on _ _ c.from_residual.result c.in_err-own.field-0.0 c.from_residual.ensures.1 c.in_err-own.ensures
     (λ refused. ap (λ o. o >>= ends_at (g.D.Numbered.numbers c.args.root.now))
-    (slice-refused g.D.Numbered.numbers c.args.path.now c.levels.used (c.levels.invariant.along k high) c.levels-test.true
+    (slice-refused g.D.Numbered.numbers c.args.path.now c.levels.used
+    (c.levels.invariant.along k high) c.levels-test.true
     (sym c.has_beside.ensures ∙ c.if-has_beside.true) (omega (arith, c.levels.invariant.used)) c.index-path-used.is
     refused))
 
@@ -25,7 +26,8 @@ pub levels-preserved : goal.levels-preserved
 levels-preserved g c = elim c.if-has_beside.branch [
   | then-has_beside+else-used-path+in_ok-own w ↦ record {
     used = omega (arith, c.levels.invariant.used);
-    along = λ k high. rw (w.own-is, w.used-is) (slice-next g.D.Numbered.numbers c.args.path.now c.levels.used (c.levels.invariant.along k high)
+    along = λ k high. rw (w.own-is, w.used-is) (slice-next g.D.Numbered.numbers c.args.path.now c.levels.used
+        (c.levels.invariant.along k high)
         c.levels-test.true (sym c.has_beside.ensures ∙ w.if-has_beside.true)
         (omega (arith, c.levels.invariant.used)) w.index-path-used.is w.in_ok-own.ensures);
   }
@@ -40,9 +42,11 @@ pub returns : goal.returns
 returns g c = λ k high.
     elim c.if-used-path-2.branch [
       | then-used-path-2 w ↦ ap (λ o. o >>= ends_at (g.D.Numbered.numbers c.args.root.now))
-          (slice-all g.D.Numbered.numbers c.args.path.now c.levels.used (c.levels.invariant.along k high) (omega arith) (omega arith))
+          (slice-all g.D.Numbered.numbers c.args.path.now c.levels.used (c.levels.invariant.along k high)
+          (omega arith) (omega arith))
           ∙ ap Ok (sym w.are_same.ensures ∙ sym w.result-is)
       | else-used-path-2 w ↦ ap (λ o. o >>= ends_at (g.D.Numbered.numbers c.args.root.now))
-          (slice-left g.D.Numbered.numbers c.args.path.now c.levels.used (c.levels.invariant.along k high) (omega arith) (omega (arith, c.levels.invariant.used)))
+          (slice-left g.D.Numbered.numbers c.args.path.now c.levels.used (c.levels.invariant.along k high)
+          (omega arith) (omega (arith, c.levels.invariant.used)))
           ∙ ap Ok (sym (ne_eqb c.levels.used (length c.args.path.now) (λ e. omega arith)) ∙ sym w.result-is)
     ]

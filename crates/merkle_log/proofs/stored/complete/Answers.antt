@@ -1,4 +1,4 @@
-use Rattle.std.proofs.Common.{◌≡◌, ◌<◌, ◌-◌, length, map, get_or, refl, ap, ◌∙◌, inl, inr, arith, take, []}
+use Rattle.std.proofs.Common.{◌≡◌, ◌-◌, length, map, get_or, refl, ap, ◌∙◌, inl, inr, arith, take, []}
 use Rattle.std.proofs.lemmas.Result.{err_from_is_err_and}
 use Rattle.merkle_log.proofs.Completing.{completing-first, completing-long, completing-front, completing-place, completing-inside, completing-next, completing-end, completing-pairs, digest-read}
 use Rattle.merkle_log.specs.Append.{counted_after}

@@ -10,5 +10,6 @@ invariant_of-self g c =
 
 pub returns-in-Ok-clause-appended : goal.returns-in-Ok-clause-appended
 returns-in-Ok-clause-appended g c =
-    rw (← c.self.view_is) (completes-appends c.in-Ok.ensures.completed (length-map c.self.inside.digests.items g.D.Numbered.numbers
+    rw (← c.self.view_is) (completes-appends c.in-Ok.ensures.completed
+    (length-map c.self.inside.digests.items g.D.Numbered.numbers
     ∙ c.self.invariant))
