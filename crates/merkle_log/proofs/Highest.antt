@@ -34,7 +34,6 @@ found_over-up below level other (Some up) = let e : level + suc up ≡ level + 1
 
 -- ---- the pair at the lowest level
 
--- The pairs differ where the level says so, and only there.
 both_known : (a b c : Bool) → (a && not (b && c)) ≡ true → b ≡ true → c ≡ true → ⊥
 both_known true b c e f g = absurd cc
 both_known false b c e f g = absurd cc
@@ -43,6 +42,7 @@ both_same : (a b c : Bool) → (a && not (b && c)) ≡ false → a ≡ true → 
 both_same true true true e f = (refl, refl)
 both_same a b c e f = absurd cc
 
+-- The pairs differ exactly where the level says so.
 other-differs : (xs : List Digest) (i s : ℕ) (own sibling : Digest) → is_other_pair xs i s own sibling ≡ true
     → in_order i own sibling ≡ pair_of [] xs (i / 2) → ⊥
 other-differs xs i s own sibling other same =

@@ -26,6 +26,7 @@ power-rises a b le = pow-le-pow_right (omega arith) le
 pub mul-twice : (j n : ℕ) → n * 2 ^ suc j ≡ n * 2 ^ j + n * 2 ^ j
 mul-twice j n = ap (λ m. n * m) (twice j) ∙ mul-add n (2 ^ j) (2 ^ j)
 
+-- A test of halves is that of the whole: of an index, of a size, of an even number.
 pub half_below : (j i : ℕ) → nat_lt (i / 2) (2 ^ j) ≡ nat_lt i (2 ^ suc j)
 half_below j i = let two = twice j in grind (arith, nat_tests)
 
@@ -41,7 +42,7 @@ half_same m n even le = grind (arith, nat_tests)
 pub half_behind : (j m : ℕ) → (m - 2 ^ suc j) / 2 ≡ m / 2 - 2 ^ j
 half_behind j m = omega (arith, twice j)
 
--- Of a row with last index s some levels are left, and this holds at so many; one row up it is one fewer.
+-- Above a row with last index s, where some levels are left: one row up it is one fewer, and this holds at so many.
 pub record Fewer (s : ℕ) (P : ℕ → Type 0) : Type 0 where
   pub levels : ℕ
   pub high : s / 2 < 2 ^ levels
