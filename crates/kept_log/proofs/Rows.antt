@@ -70,27 +70,25 @@ rows-fewer fewer size xs le level =
     sym (take-map-range_with_len (λ place. get_or xs (position level place) []) 0 (index_up level size)
     (index_up level fewer) (up-rises level fewer size le))
 
+half-more : (n : ℕ) → suc (suc n) / 2 ≡ suc (n / 2)
+half-more n = omega arith
+
 row_pairs-front : (hash : NodeHash) (n : ℕ) (row next : List Digest) → row_pairs hash row ≡ Ok next
     → row_pairs hash (take n row) ≡ Ok (take (n / 2) next)
 row_pairs-front hash zero row next is = refl
 row_pairs-front hash (suc zero) [] next is = refl
 row_pairs-front hash (suc zero) (a ∷ row) next is = refl
 row_pairs-front hash (suc (suc n)) [] next is =
-    let none = done_injective {E = Error} [] next is in
-    let half : suc (suc n) / 2 ≡ suc (n / 2) = omega arith in
-    rw (← none, half) refl
+    rw (← done_injective {E = Error} [] next is, half-more n) refl
 row_pairs-front hash (suc (suc n)) (a ∷ []) next is =
-    let none = done_injective {E = Error} [] next is in
-    let half : suc (suc n) / 2 ≡ suc (n / 2) = omega arith in
-    rw (← none, half) refl
+    rw (← done_injective {E = Error} [] next is, half-more n) refl
 row_pairs-front hash (suc (suc n)) (a ∷ b ∷ row) next is =
     let h = bind_ok (hash a b) (λ c. row_pairs hash row >>= λ next. Ok (c ∷ next)) next is in
     let more = bind_ok (row_pairs hash row) (λ next. Ok (h.0 ∷ next)) next h.2 in
     let e : h.0 ∷ more.0 ≡ next = done_injective {E = Error} (h.0 ∷ more.0) next more.2 in
-    let half : suc (suc n) / 2 ≡ suc (n / 2) = omega arith in
     ap (λ o. o >>= λ c. row_pairs hash (take n row) >>= λ next. Ok (c ∷ next)) h.1
     ∙ ap (λ o. o >>= λ next. Ok (h.0 ∷ next)) (row_pairs-front hash n row more.0 more.1)
-    ∙ ap (λ l. Ok (take (suc (n / 2)) l)) e ∙ ap (λ k. Ok (take k next)) (sym half)
+    ∙ ap (λ l. Ok (take (suc (n / 2)) l)) e ∙ ap (λ k. Ok (take k next)) (sym (half-more n))
 
 pub stored-fewer : (hash : NodeHash) (fewer size : ℕ) (xs : List Digest) → fewer ≤ size
     → IsStored hash (row_of (front size xs)) → IsStored hash (row_of (front fewer xs))

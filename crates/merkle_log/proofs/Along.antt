@@ -1,13 +1,10 @@
 -- A way that a loop goes, level by level.
-use Rattle.std.proofs.Common.{zero, suc, ◌≡◌, ℕ, ◌+◌, ◌/◌, ◌%◌, ◌<◌, ◌≤◌, ◌^◌, Bool, true, false, nat_lt, ◌==◌, ◌||◌, if◌then◌else◌, List, [], ◌∷◌, length, map, drop, get_or, Result, Ok, Err, Option, Some, None, arith, refl, ap, sym, ◌∙◌}
+use Rattle.std.proofs.Common.{zero, suc, ◌≡◌, ℕ, ◌+◌, ◌/◌, ◌%◌, ◌<◌, ◌≤◌, ◌^◌, true, false, ◌==◌, List, [], ◌∷◌, length, map, drop, get_or, Result, Ok, Err, Option, Some, None, arith, refl, ap, sym, ◌∙◌}
 use Rattle.std.proofs.lemmas.List.{drop_more, drop_all, length-map, length-drop}
 use Rattle.ark_base.specs.Outcome.{◌>>=◌}
 use Rattle.merkle_log.specs.Walk.{finish, with_next, walk, has_beside}
-use Rattle.merkle_log.proofs.RowsUp.{twice}
-
--- the step at a level: left at an odd index
-abbrev pub turn : {D S E : Type 0} → (D → S → Result S E) → (D → S → Result S E) → Bool → S → D → Result S E
-turn left right is_right state digest = if is_right then (left digest state) else (right digest state)
+use Rattle.merkle_log.proofs.Sound.{turn, walk-beside, walk-alone, walk-next, beside-none}
+use Rattle.merkle_log.proofs.Tests.{Fewer, fewer}
 
 -- From here, with some levels left, the way has this answer.
 pub record Along {D S E : Type 0} (left right : D → S → Result S E) (i s : ℕ) (state : S) (path : List D)
@@ -21,115 +18,52 @@ module _ {D S E : Type 0} {left right : D → S → Result S E} {i s : ℕ} {sta
     {answer : Result (Option S) E} (along : Along left right i s state path answer) where
   -- the last row
   pub along-end : s ≡ 0 → answer ≡ finish state path
-  along-end top = sym along.is ∙ go along.levels i s (along_first along.inside) top
+  along-end top = sym along.is ∙ go along.levels i s (omega (arith, along.inside)) top
     where
-      along_first : i ≤ s → i ≡ 0
-      along_first le = omega arith
-
       go : (k i s : ℕ) → i ≡ 0 → s ≡ 0 → walk left right k i s state path ≡ finish state path
       go zero i s e f = refl
-      go (suc k) i s e f =
-          let t : (i % 2 == 1) ≡ false = rw (e) refl in
-          let u : nat_lt i s ≡ false = rw (e, f) refl in
-          step t u ∙ go k (i / 2) (s / 2) (omega arith) (omega arith)
-        where
-          step : (i % 2 == 1) ≡ false → nat_lt i s ≡ false → walk left right (suc k) i s state path ≡ walk left right k
-              (i / 2) (s / 2) state path
-          step t u = rw (t, u) refl
+      go (suc k) i s e f = walk-alone left right k i s state path (beside-none i s (omega arith) (omega arith))
+          ∙ go k (i / 2) (s / 2) (omega arith) (omega arith)
 
-  -- one level up
-  record Level (goal : (ℕ → Type 0)) : Type 0 where
-    levels : ℕ
-    high : s / 2 < 2 ^ levels
-    half : i / 2 ≤ s / 2
-    found : goal levels
+  abbrev Answers : (ℕ → Result (Option S) E) → ℕ → Type 0
+  Answers way k = way k ≡ answer
 
-  below : 0 < s → (goal : ℕ → Type 0) → ((k : ℕ) → walk left right (suc k) i s state path ≡ answer → goal k)
-      → Level goal
-  below some goal next = go along.levels along.high along.is
-    where
-      halves : i ≤ s → i / 2 ≤ s / 2
-      halves le = omega arith
-
-      go : (k : ℕ) → s < 2 ^ k → walk left right k i s state path ≡ answer → Level goal
-      go zero high is = absurd (omega arith)
-      go (suc k) high is = let two = twice k in record {
-        levels = k;
-        high = omega arith;
-        half = halves along.inside;
-        found = next k is;
-      }
-
-  neither : (a b : Bool) → (a || b) ≡ false → (a ≡ false) × (b ≡ false)
-  neither true b e = absurd cc
-  neither false b e = (refl, e)
-
-  second : (a b : Bool) → a ≡ false → (a || b) ≡ true → b ≡ true
-  second true b e f = absurd cc
-  second false b e f = f
-
-  -- without a digest
+  -- one level up, without a digest
   pub along-alone : 0 < s → has_beside i s ≡ false → Along left right (i / 2) (s / 2) state path answer
   along-alone some alone =
-      let both = neither (i % 2 == 1) (nat_lt i s) alone in
-      let t = both.0 in
-      let u = both.1 in
-      let level = below some (λ k. walk left right k (i / 2) (s / 2) state path ≡ answer)
-      (λ k is. sym (step k t u) ∙ is) in
-      record { levels = level.levels; high = level.high; inside = level.half; is = level.found }
-    where
-      step : (k : ℕ) → (i % 2 == 1) ≡ false → nat_lt i s ≡ false → walk left right (suc k) i s state path
-          ≡ walk left right k (i / 2) (s / 2) state path
-      step k t u = rw (t, u) refl
+      let up = fewer (Answers (λ k. walk left right k i s state path))
+      (Answers (λ k. walk left right k (i / 2) (s / 2) state path)) along.levels some along.high along.is
+      (λ k high is. sym (walk-alone left right k i s state path alone) ∙ is) in
+      record { levels = up.levels; high = up.high; inside = omega (arith, along.inside); is = up.at }
 
   -- with a digest, which stands left where the index is odd
-  nexts : (is_right : Bool) → 0 < s → (i % 2 == 1) ≡ is_right → has_beside i s ≡ true
-      → Level (λ k. with_next (turn left right is_right state) (walk left right k (i / 2) (s / 2)) path ≡ answer)
-  nexts true some t more = below some (λ k. with_next (turn left right true state) (walk left right k (i / 2) (s / 2))
-      path ≡ answer) (λ k is. sym (step k t) ∙ is)
-    where
-      step : (k : ℕ) → (i % 2 == 1) ≡ true → walk left right (suc k) i s state path
-          ≡ with_next (turn left right true state) (walk left right k (i / 2) (s / 2)) path
-      step k t = rw (t) refl
-  nexts false some t more =
-      let u = second (i % 2 == 1) (nat_lt i s) t more in
-      below some (λ k. with_next (turn left right false state) (walk left right k (i / 2) (s / 2)) path ≡ answer)
-      (λ k is. sym (step k t u) ∙ is)
-    where
-      step : (k : ℕ) → (i % 2 == 1) ≡ false → nat_lt i s ≡ true → walk left right (suc k) i s state path
-          ≡ with_next (turn left right false state) (walk left right k (i / 2) (s / 2)) path
-      step k t u = rw (t, u) refl
+  nexts : 0 < s → has_beside i s ≡ true → Fewer s (Answers (λ k. with_next (turn left right (i % 2 == 1) state)
+      (walk left right k (i / 2) (s / 2)) path))
+  nexts some beside = fewer (Answers (λ k. walk left right k i s state path)) _ along.levels some along.high along.is
+      (λ k high is. sym (walk-beside left right k i s state path beside) ∙ is)
 
   -- no digest is left
-  pub along-short : (is_right : Bool) → 0 < s → (i % 2 == 1) ≡ is_right → has_beside i s ≡ true → path ≡ []
-      → answer ≡ Ok None
-  along-short is_right some t more none =
-      let level = nexts is_right some t more in
-      sym level.found ∙ ap (with_next (turn left right is_right state) (walk left right level.levels (i / 2) (s / 2)))
-      none
+  pub along-short : 0 < s → has_beside i s ≡ true → path ≡ [] → answer ≡ Ok None
+  along-short some beside none =
+      let up = nexts some beside in
+      sym up.at ∙ ap (with_next (turn left right (i % 2 == 1) state) (walk left right up.levels (i / 2) (s / 2))) none
 
   -- the step is refused
-  pub along-refused : (is_right : Bool) → 0 < s → (i % 2 == 1) ≡ is_right → has_beside i s ≡ true → (digest : D)
-      (rest : List D) (e : E) → path ≡ digest ∷ rest → turn left right is_right state digest ≡ Err e → answer ≡ Err e
-  along-refused is_right some t more digest rest e is stepped =
-      let level = nexts is_right some t more in
-      sym level.found ∙ ap (with_next (turn left right is_right state) (walk left right level.levels (i / 2) (s / 2)))
-      is ∙ ap (λ r. r >>= λ next. walk left right level.levels (i / 2) (s / 2) next rest) stepped
+  pub along-refused : 0 < s → has_beside i s ≡ true → {digest : D} {rest : List D} {e : E} → path ≡ digest ∷ rest
+      → turn left right (i % 2 == 1) state digest ≡ Err e → answer ≡ Err e
+  along-refused some beside {digest} {rest} {e} is stepped =
+      let up = nexts some beside in
+      sym up.at ∙ ap (with_next (turn left right (i % 2 == 1) state) (walk left right up.levels (i / 2) (s / 2))) is
+      ∙ ap (λ r. r >>= λ next. walk left right up.levels (i / 2) (s / 2) next rest) stepped
 
   -- a step
-  pub along-next : (is_right : Bool) → 0 < s → (i % 2 == 1) ≡ is_right → has_beside i s ≡ true → (digest : D)
-      (rest : List D) (next : S) → path ≡ digest ∷ rest → turn left right is_right state digest ≡ Ok next
-      → Along left right (i / 2) (s / 2) next rest answer
-  along-next is_right some t more digest rest next is stepped =
-      let level = nexts is_right some t more in
-      record {
-        levels = level.levels;
-        high = level.high;
-        inside = level.half;
-        is = ap (λ r. r >>= λ next. walk left right level.levels (i / 2) (s / 2) next rest) (sym stepped)
-            ∙ ap (with_next (turn left right is_right state) (walk left right level.levels (i / 2) (s / 2))) (sym is)
-            ∙ level.found;
-      }
+  pub along-next : 0 < s → has_beside i s ≡ true → {digest : D} {rest : List D} {next : S} → path ≡ digest ∷ rest
+      → turn left right (i % 2 == 1) state digest ≡ Ok next → Along left right (i / 2) (s / 2) next rest answer
+  along-next some beside {digest} {rest} {next} is step =
+      let up = fewer (Answers (λ k. walk left right k i s state path))
+      (Answers (λ k. walk left right k (i / 2) (s / 2) next rest)) along.levels some along.high along.is
+      (λ k high so. sym (walk-next left right k i s state path beside is step) ∙ so) in
+      record { levels = up.levels; high = up.high; inside = omega (arith, along.inside); is = up.at }
 
 -- ---- with the digests of a slice
 
@@ -143,16 +77,31 @@ pub all_used : {A D : Type 0} (numbers : A → D) (xs : List A) (used : ℕ) →
     → map numbers (drop used xs) ≡ []
 all_used numbers xs used le = ap (map numbers) (drop_all used xs le)
 
--- the end of a way where digests are left
-pub finish-left : {A D S E : Type 0} (numbers : A → D) (xs : List A) (used : ℕ) (state : S) → used < length xs
-    → finish {E = E} state (map numbers (drop used xs)) ≡ Ok None
-finish-left {A} {D} {S} {E} numbers xs used state below =
-    by_list (map numbers (drop used xs)) (omega (arith, length-map (drop used xs) numbers, length-drop used xs))
-  where
-    by_list : (ds : List D) → 0 < length ds → finish {E = E} state ds ≡ Ok None
-    by_list [] some = absurd (omega arith)
-    by_list (d ∷ ds) some = refl
+module _ {A D S E : Type 0} {left right : D → S → Result S E} {i s : ℕ} {state : S} {answer : Result (Option S) E}
+    (numbers : A → D) (xs : List A) (used : ℕ)
+    (along : Along left right i s state (map numbers (drop used xs)) answer) where
+  pub slice-short : 0 < s → has_beside i s ≡ true → length xs ≤ used → answer ≡ Ok None
+  slice-short some beside le = along-short along some beside (all_used numbers xs used le)
 
-pub finish-all : {A D S E : Type 0} (numbers : A → D) (xs : List A) (used : ℕ) (state : S) → length xs ≤ used
-    → finish {E = E} state (map numbers (drop used xs)) ≡ Ok (Some state)
-finish-all numbers xs used state le = rw (all_used numbers xs used le) refl
+  pub slice-refused : 0 < s → has_beside i s ≡ true → {x : A} {e : E} → used < length xs → x ≡ get_or xs used x
+      → turn left right (i % 2 == 1) state (numbers x) ≡ Err e → answer ≡ Err e
+  slice-refused some beside {x} below is step =
+      along-refused along some beside (next_used numbers xs used x below is) step
+
+  pub slice-next : 0 < s → has_beside i s ≡ true → {x : A} {next : S} → used < length xs → x ≡ get_or xs used x
+      → turn left right (i % 2 == 1) state (numbers x) ≡ Ok next
+      → Along left right (i / 2) (s / 2) next (map numbers (drop (used + 1) xs)) answer
+  slice-next some beside {x} below is step =
+      along-next along some beside (next_used numbers xs used x below is) step
+
+  -- at the end, with all digests used, and with some left
+  pub slice-all : s ≡ 0 → length xs ≤ used → answer ≡ Ok (Some state)
+  slice-all top le = along-end along top ∙ ap (finish state) (all_used numbers xs used le)
+
+  pub slice-left : s ≡ 0 → used < length xs → answer ≡ Ok None
+  slice-left top below = along-end along top ∙ by_list (map numbers (drop used xs))
+      (omega (arith, length-map (drop used xs) numbers, length-drop used xs))
+    where
+      by_list : (ds : List D) → 0 < length ds → finish {E = E} state ds ≡ Ok None
+      by_list [] some = absurd (omega arith)
+      by_list (d ∷ ds) some = refl

@@ -1,12 +1,11 @@
 -- How many leaves the incomplete subtree beside a way has, and how many pairs are hashed for the digests beside it.
-use Rattle.std.proofs.Common.{zero, suc, ◌≡◌, ℕ, ◌+◌, ◌-◌, ◌/◌, ◌%◌, ◌<◌, ◌≤◌, ◌^◌, true, false, nat_lt, arith, refl, ap, sym, ◌∙◌, inl, inr}
-use Rattle.std.proofs.lemmas.Bool.{cases_lt}
-use Rattle.std.proofs.lemmas.Bool.Decides.{nat_tests}
+use Rattle.std.proofs.Common.{zero, suc, ◌≡◌, ℕ, ◌+◌, ◌-◌, ◌/◌, ◌%◌, ◌<◌, ◌≤◌, ◌^◌, arith, refl, ap, sym, ◌∙◌, inl, inr}
+use Rattle.std.proofs.lemmas.Bool.{cases_lt, lt-ltb, le-ltb}
 use Rattle.std.proofs.lemmas.Nat.{ones_le_self}
 use Rattle.std.specs.Prelude.{Option, Some, None}
 use Rattle.merkle_log.specs.Edge.{back_leaves, beside_left, beside_pairs, pairs_left, root_pairs, Tallies}
 use Rattle.merkle_log.proofs.Positions.{half_ones}
-use Rattle.merkle_log.proofs.RowsUp.{twice}
+use Rattle.merkle_log.proofs.Tests.{twice, half_above, half_below, half_behind, fewer}
 use Rattle.merkle_log.proofs.Tallied.{left-end}
 use Rattle.merkle_log.proofs.Verdicts.{pow_above}
 
@@ -21,68 +20,40 @@ pub back-up : (k i n : ℕ) → i / 2 < (n - 1) / 2 → n ≤ 2 ^ suc k
     → IsHalved (back_leaves (suc k) i n) (back_leaves k (i / 2) ((n + 1) / 2)) n
 back-up zero i n under high = absurd (omega arith)
 back-up (suc j) i n under high =
-    let two : 2 ^ suc j ≡ 2 ^ j + 2 ^ j = twice j in
-    let four : 2 ^ suc (suc j) ≡ 2 ^ suc j + 2 ^ suc j = twice (suc j) in
-    elim (cases_lt (2 ^ suc j) n) [
-      | inl lt ↦
-          let here : nat_lt (2 ^ suc j) n ≡ true = grind (arith, nat_tests) in
-          let above : nat_lt (2 ^ j) ((n + 1) / 2) ≡ true = let l : 2 ^ j < (n + 1) / 2 =
-          omega arith in grind (arith, nat_tests) in
-          elim (cases_lt i (2 ^ suc j)) [
-            | inl left ↦
-                let low : nat_lt i (2 ^ suc j) ≡ true = grind (arith, nat_tests) in
-                let low_up : nat_lt (i / 2) (2 ^ j) ≡ true = let l : i / 2 < 2 ^ j =
-                omega arith in grind (arith, nat_tests) in
-                rw (here, low, above, low_up) (record { some = omega arith; parity = omega arith; half = omega arith })
-            | inr right ↦
-                let low : nat_lt i (2 ^ suc j) ≡ false = grind (arith, nat_tests) in
-                let low_up : nat_lt (i / 2) (2 ^ j) ≡ false = let l : 2 ^ j ≤ i / 2 =
-                omega arith in grind (arith, nat_tests) in
-                let half : (i - 2 ^ suc j) / 2 ≡ i / 2 - 2 ^ j = omega arith in
-                let half_n : (n - 2 ^ suc j + 1) / 2 ≡ (n + 1) / 2 - 2 ^ j = omega arith in
-                let same : (n - 2 ^ suc j) % 2 ≡ n % 2 = omega arith in
-                let next = back-up j (i - 2 ^ suc j) (n - 2 ^ suc j) (omega arith) (omega arith) in
-                rw (here, low, above, low_up, ← half, ← half_n) (record {
-                  some = next.some;
-                  parity = next.parity ∙ same;
-                  half = next.half;
-                })
-          ]
-      | inr ge ↦
-          let here : nat_lt (2 ^ suc j) n ≡ false = grind (arith, nat_tests) in
-          let above : nat_lt (2 ^ j) ((n + 1) / 2) ≡ false = let l : (n + 1) / 2 ≤ 2 ^ j =
-          omega arith in grind (arith, nat_tests) in
-          rw (here, above) (back-up j i n under ge)
-    ]
+    let two = twice j in
+    let four = twice (suc j) in
+    rw (half_above j n, half_below j i) (elim (cases_lt (2 ^ suc j) n) [
+      | inl lt ↦ rw (lt-ltb (2 ^ suc j) n lt) (elim (cases_lt i (2 ^ suc j)) [
+        | inl left ↦
+            rw (lt-ltb i (2 ^ suc j) left) (record { some = omega arith; parity = omega arith; half = omega arith })
+        | inr right ↦
+            let half_n : (n + 1) / 2 - 2 ^ j ≡ (n - 2 ^ suc j + 1) / 2 = omega arith in
+            let next = back-up j (i - 2 ^ suc j) (n - 2 ^ suc j) (omega arith) (omega arith) in
+            rw (le-ltb i (2 ^ suc j) right, ← half_behind j i, half_n)
+            (record { some = next.some; parity = omega (arith, next.parity); half = next.half })
+      ])
+      | inr ge ↦ rw (le-ltb (2 ^ suc j) n ge) (back-up j i n under ge)
+    ])
 
 -- Beside the last value, or at it, there is at most one.
 pub back-near : (k i n : ℕ) → i < n → (n - 1) / 2 ≤ i / 2 → back_leaves k i n ≤ 1
 back-near zero i n inside near = omega arith
 back-near (suc zero) i n inside near = elim (cases_lt 1 n) [
-  | inl lt ↦
-      let here : nat_lt 1 n ≡ true = grind (arith, nat_tests) in
-      elim (cases_lt i 1) [
-        | inl left ↦ let low : nat_lt i 1 ≡ true = grind (arith, nat_tests) in rw (here, low) (omega arith)
-        | inr right ↦ let low : nat_lt i 1 ≡ false = grind (arith, nat_tests) in rw (here, low) (omega arith)
-      ]
-  | inr ge ↦ let here : nat_lt 1 n ≡ false = grind (arith, nat_tests) in rw (here) (omega arith)
+  | inl lt ↦ rw (lt-ltb 1 n lt) (elim (cases_lt i 1) [
+    | inl left ↦ rw (lt-ltb i 1 left) (omega arith)
+    | inr right ↦ rw (le-ltb i 1 right) (omega arith)
+  ])
+  | inr ge ↦ rw (le-ltb 1 n ge) (omega arith)
 ]
 back-near (suc (suc j)) i n inside near =
-    let two : 2 ^ suc j ≡ 2 ^ j + 2 ^ j = twice j in
+    let two = twice j in
     elim (cases_lt (2 ^ suc j) n) [
-      | inl lt ↦
-          let here : nat_lt (2 ^ suc j) n ≡ true = grind (arith, nat_tests) in
-          elim (cases_lt i (2 ^ suc j)) [
-            | inl left ↦
-                let low : nat_lt i (2 ^ suc j) ≡ true = grind (arith, nat_tests) in
-                rw (here, low) (omega arith)
-            | inr right ↦
-                let low : nat_lt i (2 ^ suc j) ≡ false = grind (arith, nat_tests) in
-                rw (here, low) (back-near (suc j) (i - 2 ^ suc j) (n - 2 ^ suc j) (omega arith) (omega arith))
-          ]
-      | inr ge ↦
-          let here : nat_lt (2 ^ suc j) n ≡ false = grind (arith, nat_tests) in
-          rw (here) (back-near (suc j) i n inside near)
+      | inl lt ↦ rw (lt-ltb (2 ^ suc j) n lt) (elim (cases_lt i (2 ^ suc j)) [
+        | inl left ↦ rw (lt-ltb i (2 ^ suc j) left) (omega arith)
+        | inr right ↦ rw (le-ltb i (2 ^ suc j) right)
+            (back-near (suc j) (i - 2 ^ suc j) (n - 2 ^ suc j) (omega arith) (omega arith))
+      ])
+      | inr ge ↦ rw (le-ltb (2 ^ suc j) n ge) (back-near (suc j) i n inside near)
     ]
 
 -- From an index of a row on, with so many pairs hashed, all in all it is so many.
@@ -121,35 +92,24 @@ tallying-first {A} {c} old_size size none some more =
 pub tallying-next : {A : Type 0} {c i s total : ℕ} {last : Option A} → Tallying c i s last total → 0 < s → (d : ℕ)
     (up : Option A) → (i / 2 < s / 2 → Tallies c d s last up) → (s / 2 ≤ i / 2 → d ≡ c)
     → Tallying d (i / 2) (s / 2) up total
-tallying-next {A} {c} {i} {s} {total} {last} at some d up more none = go at.levels at.high at.inside at.is
-  where
-    go : (k : ℕ) → s < 2 ^ k → i ≤ s → c + beside_left k i s last ≡ total → Tallying d (i / 2) (s / 2) up total
-    go zero high inside is = absurd (omega arith)
-    go (suc k) high inside is =
-        let two = twice k in
-        let e : (s + 1 + 1) / 2 ≡ s / 2 + 1 = omega arith in
-        record {
-          levels = k;
-          high = omega arith;
-          inside = omega arith;
-          is = elim (cases_lt (i / 2) (s / 2)) [
-            | inl under ↦
-                let halved = back-up k i (s + 1) (omega arith) (omega arith) in
-                let here = back_leaves (suc k) i (s + 1) in
-                let some = halved.some in
-                let parity = halved.parity in
-                let half : back_leaves k (i / 2) (s / 2 + 1) ≡ (here + 1) / 2 =
-                ap (λ n. back_leaves k (i / 2) n) (sym e) ∙ halved.half in
-                let edge : back_leaves k (i / 2) (s / 2 + 1) - 1 ≡ (here - 1) / 2 = omega arith in
-                ap (λ n. d + pairs_left n up) edge ∙ more under (here - 1) (omega arith) ∙ is
-            | inr near ↦
-                let one = back-near (suc k) i (s + 1) (omega arith) (omega arith) in
-                let one_up = back-near k (i / 2) (s / 2 + 1) (omega arith) (omega arith) in
-                sym (left-end d (d + beside_left k (i / 2) (s / 2) up) (back_leaves k (i / 2) (s / 2 + 1) - 1) up
-                (omega arith) refl) ∙ none near
-                ∙ left-end c total (back_leaves (suc k) i (s + 1) - 1) last (omega arith) is
-          ];
-        }
+tallying-next {A} {c} {i} {s} {total} {last} at some d up more none =
+    let e : (s + 1 + 1) / 2 ≡ s / 2 + 1 = omega arith in
+    let level = fewer (λ k. c + beside_left k i s last ≡ total) (λ k. d + beside_left k (i / 2) (s / 2) up ≡ total)
+    at.levels some at.high at.is (λ k high is. elim (cases_lt (i / 2) (s / 2)) [
+      | inl under ↦
+          let halved = back-up k i (s + 1) (omega arith) (omega arith) in
+          let here = back_leaves (suc k) i (s + 1) in
+          let edge : back_leaves k (i / 2) (s / 2 + 1) - 1 ≡ (here - 1) / 2 =
+          omega (arith, halved.some, ap (back_leaves k (i / 2)) e, halved.half) in
+          ap (λ n. d + pairs_left n up) edge ∙ more under (here - 1) (omega (arith, halved.some, halved.parity)) ∙ is
+      | inr near ↦
+          let one = back-near (suc k) i (s + 1) (omega (arith, at.inside)) (omega arith) in
+          let one_up = back-near k (i / 2) (s / 2 + 1) (omega (arith, at.inside)) (omega arith) in
+          sym (left-end d (d + beside_left k (i / 2) (s / 2) up) (back_leaves k (i / 2) (s / 2 + 1) - 1) up
+          (omega arith) refl) ∙ none near
+          ∙ left-end c total (back_leaves (suc k) i (s + 1) - 1) last (omega arith) is
+    ]) in
+    record { levels = level.levels; high = level.high; inside = omega (arith, at.inside); is = level.at }
 
 -- at the root
 pub tallying-end : {A : Type 0} {c i s total : ℕ} {last : Option A} → Tallying c i s last total → s ≡ 0 → c ≡ total

@@ -1,15 +1,14 @@
 -- The digests that an appended one makes.
-use Rattle.std.proofs.Common.{suc, ◌≡◌, ℕ, ◌+◌, ◌-◌, ◌%◌, ◌<◌, ◌≤◌, true, false, nat_lt, List, [], ◌∷◌, ◌++◌, length, get_or, Ok, arith, refl, ap, sym, ◌∙◌, inl, inr}
-use Rattle.std.proofs.lemmas.Bool.{cases_lt}
-use Rattle.std.proofs.lemmas.Bool.Decides.{nat_tests}
+use Rattle.std.proofs.Common.{suc, ◌≡◌, ℕ, ◌+◌, ◌-◌, ◌%◌, ◌<◌, ◌≤◌, List, [], ◌∷◌, ◌++◌, length, get_or, Ok, arith, refl, ap, sym, ◌∙◌, inl, inr}
+use Rattle.std.proofs.lemmas.Bool.{cases_lt, lt-ltb, le-ltb}
 use Rattle.std.proofs.lemmas.List.{get_or_append_left, get_or_push}
 use Rattle.ark_base.specs.declared.error.Error.{Error}
-use Rattle.ark_base.specs.Outcome.{◌>>=◌}
-use Rattle.ark_base.specs.Laws.Steps.{bind_ok, done_injective}
+use Rattle.ark_base.specs.Laws.Steps.{done_injective}
 use Rattle.ark_paths.specs.Pair.{Digest}
 use Rattle.merkle_log.specs.Log.{NodeHash}
 use Rattle.merkle_log.specs.Stored.{row_pairs, IsStored}
 use Rattle.merkle_log.specs.Append.{IsCarried, pushed_row}
+use Rattle.merkle_log.proofs.Lasts.{pairs_parts}
 
 -- those of the levels so far
 pub record CarriesTo (hash : NodeHash) (rows : ℕ → List Digest) (digest : Digest) (level : ℕ) (made : List Digest) :
@@ -74,37 +73,28 @@ row_pairs-odd hash (a ∷ []) next digest up is odd hashed =
     let none = done_injective {E = Error} [] next is in
     rw (hashed, ← none) refl
 row_pairs-odd hash (a ∷ b ∷ row) next digest up is odd hashed =
-    let h = bind_ok (hash a b) (λ c. row_pairs hash row >>= λ next. Ok (c ∷ next)) next is in
-    let more = bind_ok (row_pairs hash row) (λ next. Ok (h.0 ∷ next)) next h.2 in
-    let e = done_injective {E = Error} (h.0 ∷ more.0) next more.2 in
-    let at : get_or (a ∷ b ∷ row) (length (a ∷ b ∷ row) - 1) [] ≡ get_or row (length row - 1) [] =
-    let p : length (a ∷ b ∷ row) - 1 ≡ suc (suc (length row - 1)) =
-    omega arith in ap (λ n. get_or (a ∷ b ∷ row) n []) p in
-    let rest = row_pairs-odd hash row more.0 digest up more.1 (omega arith) (ap (λ d. hash d digest) (sym at)
-    ∙ hashed) in
-    ap (λ o. o >>= λ c. row_pairs hash (row ++ (digest ∷ [])) >>= λ next. Ok (c ∷ next)) h.1
-    ∙ ap (λ o. o >>= λ next. Ok (h.0 ∷ next)) rest ∙ ap (λ l. Ok (l ++ (up ∷ []))) e
+    let p = pairs_parts hash a b row next is in
+    let at : length (a ∷ b ∷ row) - 1 ≡ suc (suc (length row - 1)) = omega arith in
+    rw (p.2, row_pairs-odd hash row p.1 digest up p.3 (omega arith) (rw (at) at hashed)) (ap (λ l. Ok (l ++ (up ∷ [])))
+    p.4)
 
 pub row_pairs-even : (hash : NodeHash) (row next : List Digest) (digest : Digest) → row_pairs hash row ≡ Ok next
     → length row % 2 ≡ 0 → row_pairs hash (row ++ (digest ∷ [])) ≡ Ok next
 row_pairs-even hash [] next digest is even = is
 row_pairs-even hash (a ∷ []) next digest is even = absurd (omega arith)
 row_pairs-even hash (a ∷ b ∷ row) next digest is even =
-    let h = bind_ok (hash a b) (λ c. row_pairs hash row >>= λ next. Ok (c ∷ next)) next is in
-    let more = bind_ok (row_pairs hash row) (λ next. Ok (h.0 ∷ next)) next h.2 in
-    let rest = row_pairs-even hash row more.0 digest more.1 (omega arith) in
-    ap (λ o. o >>= λ c. row_pairs hash (row ++ (digest ∷ [])) >>= λ next. Ok (c ∷ next)) h.1
-    ∙ ap (λ o. o >>= λ next. Ok (h.0 ∷ next)) rest ∙ more.2
+    let p = pairs_parts hash a b row next is in
+    rw (p.2, row_pairs-even hash row p.1 digest p.3 (omega arith), p.4) refl
 
 -- ---- rows with one more each
 
 pushed-in : (rows : ℕ → List Digest) (made : List Digest) (level : ℕ) → level < length made → pushed_row rows made level
     ≡ rows level ++ (get_or made level [] ∷ [])
-pushed-in rows made level under = let t : nat_lt level (length made) ≡ true = grind (arith, nat_tests) in rw (t) refl
+pushed-in rows made level under = rw (lt-ltb level (length made) under) refl
 
 pushed-out : (rows : ℕ → List Digest) (made : List Digest) (level : ℕ) → length made ≤ level → pushed_row rows made
     level ≡ rows level
-pushed-out rows made level over = let t : nat_lt level (length made) ≡ false = grind (arith, nat_tests) in rw (t) refl
+pushed-out rows made level over = rw (le-ltb level (length made) over) refl
 
 pub stored-pushed : (hash : NodeHash) (rows new : ℕ → List Digest) (digest : Digest) (made : List Digest)
     → IsStored hash rows → IsCarried hash rows digest made → ((level : ℕ) → new level ≡ pushed_row rows made level)

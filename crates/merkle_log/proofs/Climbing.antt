@@ -1,5 +1,5 @@
 -- A loop that follows a path and a log's own rows up to the root.
-use Rattle.std.proofs.Common.{suc, ◌≡◌, ◌⊎◌, ℕ, ◌+◌, ◌-◌, ◌/◌, ◌%◌, ◌<◌, ◌≤◌, Bool, true, false, ◌==◌, List, [], ◌∷◌, ◌++◌, length, map, take, drop, get_or, Ok, Err, Option, Some, None, arith, refl, ap, sym, ◌∙◌, inl, inr}
+use Rattle.std.proofs.Common.{suc, ◌≡◌, ◌⊎◌, ℕ, ◌+◌, ◌-◌, ◌/◌, ◌%◌, ◌<◌, ◌≤◌, true, false, ◌==◌, List, [], ◌∷◌, ◌++◌, length, map, take, drop, get_or, Ok, Err, Option, Some, None, arith, refl, ap, sym, ◌∙◌, inl, inr}
 use Rattle.std.proofs.lemmas.Bool.{cases_lt}
 use Rattle.std.proofs.lemmas.List.{length-take-le, length-append, map-append, take_more}
 use Rattle.std.proofs.lemmas.Result.{err_from_is_err_and}
@@ -20,7 +20,7 @@ use Rattle.merkle_log.specs.Stored.{IsStored}
 use Rattle.merkle_log.specs.Walk.{joined, walk, on_left, on_right, has_beside, hash_beside, index_up}
 use Rattle.merkle_log.proofs.RowsUp.{row_up}
 use Rattle.merkle_log.proofs.Above.{there, IsAbove}
-use Rattle.merkle_log.proofs.Along.{Along, turn, along-end, along-alone, along-next, along-refused, along-short, all_used}
+use Rattle.merkle_log.proofs.Along.{Along, along-end, along-alone, along-next, along-refused, along-short, all_used, next_used}
 use Rattle.merkle_log.proofs.Highest.{found_up, found_over, found_over-up, highest-next, highest-alone}
 use Rattle.merkle_log.proofs.Lasts.{LastAt, last-first, last-next, last-refused, last-end, row_up-last, length-row_pairs}
 use Rattle.merkle_log.proofs.Positions.{some-below}
@@ -58,82 +58,74 @@ module _ {hash : NodeHash} {rows : ℕ → List Digest} (stored : IsStored hash 
   module _ {empty root : Digest} {level i s : ℕ} {last own : Digest} {path : List Digest} {below : Option ℕ}
       {goal : Option ℕ → Type 0}
       (at : Climbing hash rows empty root level i s last own path below goal) where
-    -- a level with a digest beside
-    pub climbing-next : 0 < s → (up : ℕ) → up ≡ level + 1 → has_beside i s ≡ true → (sibling : Digest)
-        (rest : List Digest) (next last_up : Digest) (here : Option ℕ) → path ≡ sibling ∷ rest
-        → hash_beside hash (i % 2 == 1) own sibling ≡ Ok next → last_raised hash (rows level) s last ≡ Ok last_up
+    -- a level up, from what the way does there
+    climbed : 0 < s → {next : Digest} {rest : List Digest} (sibling last_up : Digest) (here : Option ℕ)
+        → Along (on_left hash) (on_right hash) (i / 2) (s / 2) next rest (Ok (Some root))
+        → last_raised hash (rows level) s last ≡ Ok last_up
         → here ≡ found_at (is_other_pair (edge_of (rows level) s last) i s own sibling) level below
-        → Climbing hash rows empty root up (i / 2) (s / 2) last_up next rest here goal
-    climbing-next some up up_is beside sibling rest next last_up here is stepped raised here_is =
-        let e : suc level ≡ up = omega arith in
-        let inside = at.along.inside in
-        let within = at.last_at.inside in
-        let xs = edge_of (rows level) s last in
+        → ((found : Option ℕ) → IsHighest hash empty (edge_of (rows (suc level)) (s / 2) last_up) (i / 2) (s / 2) next
+        rest found → IsHighest hash empty (edge_of (rows level) s last) i s own path (found_up found
+        (is_other_pair (edge_of (rows level) s last) i s own sibling)))
+        → Climbing hash rows empty root (level + 1) (i / 2) (s / 2) last_up next rest here goal
+    climbed some {next} {rest} sibling last_up here along raised here_is lift =
+        let e : suc level ≡ level + 1 = omega arith in
+        let other = is_other_pair (edge_of (rows level) s last) i s own sibling in
         record {
-          last_at = last-next stored at.last_at some up up_is (Ok last_up) raised;
-          along = along-next at.along (i % 2 == 1) some refl beside sibling rest next is (turned (i % 2 == 1) stepped);
-          known = λ found highest.
-              rw (here_is, up_is) (rw (found_over-up below level (is_other_pair xs i s own sibling) found) at (at.known
-              (found_up found (is_other_pair xs i s own sibling)) (highest-next hash empty xs
-              (edge_of (rows (suc level)) (s / 2) last_up) i s own path (edge-above level s last last_up within raised)
-              (edge-size level s last last_up within) (length-edge (rows level) s last within) inside beside
-              sibling rest next is stepped found (rw (← e) at highest))));
+          last_at = last-next stored at.last_at some (level + 1) refl (Ok last_up) raised;
+          along = along;
+          known = λ found highest. rw (here_is) (rw (found_over-up below level other found) at (at.known
+              (found_up found other) (lift found (rw (← e) at highest))));
         }
-      where
-        turned : (b : Bool) → hash_beside hash b own sibling ≡ Ok next → turn (on_left hash) (on_right hash) b own
-            sibling ≡ Ok next
-        turned true e = e
-        turned false e = e
 
-    -- a level without
-    pub climbing-alone : 0 < s → (up : ℕ) → up ≡ level + 1 → has_beside i s ≡ false → (sibling last_up : Digest)
-        (here : Option ℕ) → last_raised hash (rows level) s last ≡ Ok last_up
+    -- with a digest beside
+    pub climbing-next : 0 < s → has_beside i s ≡ true → {sibling : Digest} {rest : List Digest} {next last_up : Digest}
+        (here : Option ℕ) → path ≡ sibling ∷ rest → hash_beside hash (i % 2 == 1) own sibling ≡ Ok next
+        → last_raised hash (rows level) s last ≡ Ok last_up
         → here ≡ found_at (is_other_pair (edge_of (rows level) s last) i s own sibling) level below
-        → Climbing hash rows empty root up (i / 2) (s / 2) last_up own path here goal
-    climbing-alone some up up_is alone sibling last_up here raised here_is =
-        let e : suc level ≡ up = omega arith in
-        let inside = at.along.inside in
+        → Climbing hash rows empty root (level + 1) (i / 2) (s / 2) last_up next rest here goal
+    climbing-next some beside {sibling} {rest} {next} {last_up} here is step raised here_is =
         let within = at.last_at.inside in
-        let xs = edge_of (rows level) s last in
-        record {
-          last_at = last-next stored at.last_at some up up_is (Ok last_up) raised;
-          along = along-alone at.along some alone;
-          known = λ found highest.
-              rw (here_is, up_is) (rw (found_over-up below level (is_other_pair xs i s own sibling) found) at (at.known
-              (found_up found (is_other_pair xs i s own sibling)) (highest-alone hash empty xs
-              (edge_of (rows (suc level)) (s / 2) last_up) i s own path (edge-above level s last last_up within raised)
-              (edge-size level s last last_up within) (length-edge (rows level) s last within) inside alone
-              sibling found (rw (← e) at highest))));
-        }
+        climbed some sibling last_up here (along-next at.along some beside is step) raised here_is
+        (highest-next hash empty _ _ i s own path (edge-above level s last last_up within raised)
+        (edge-size level s last last_up within) (length-edge (rows level) s last within) at.along.inside beside is step)
+
+    -- and without
+    pub climbing-alone : 0 < s → has_beside i s ≡ false → (sibling : Digest) {last_up : Digest} (here : Option ℕ)
+        → last_raised hash (rows level) s last ≡ Ok last_up
+        → here ≡ found_at (is_other_pair (edge_of (rows level) s last) i s own sibling) level below
+        → Climbing hash rows empty root (level + 1) (i / 2) (s / 2) last_up own path here goal
+    climbing-alone some alone sibling {last_up} here raised here_is =
+        let within = at.last_at.inside in
+        climbed some sibling last_up here (along-alone at.along some alone) raised here_is
+        (highest-alone hash empty _ _ i s own path (edge-above level s last last_up within raised)
+        (edge-size level s last last_up within) (length-edge (rows level) s last within) at.along.inside alone sibling)
 
     -- the path has a digest where one is needed, and no hash is refused
-    pub climbing-some : 0 < s → has_beside i s ≡ true → path ≡ [] → ⊥
-    climbing-some some beside none = let e = along-short at.along (i % 2 == 1) some refl beside none in
-        absurd (let f : Path (Outcome (Option Digest)) (Ok (Some root)) (Ok None) = e in cc)
-
     pub climbing-inside : {A : Type 0} (numbers : A → Digest) (xs : List A) (used : ℕ) → path
         ≡ map numbers (drop used xs) → 0 < s → has_beside i s ≡ true → used < length xs
     climbing-inside numbers xs used is some beside = elim (cases_lt used (length xs)) [
       | inl less ↦ less
-      | inr all ↦ absurd (climbing-some some beside (is ∙ all_used numbers xs used all))
+      | inr all ↦
+          let none : Path (Outcome (Option Digest)) (Ok (Some root)) (Ok None) =
+          along-short at.along some beside (is ∙ all_used numbers xs used all) in absurd cc
     ]
 
-    pub climbing-hashed : 0 < s → has_beside i s ≡ true → (sibling : Digest) (rest : List Digest) (e : Error)
-        → path ≡ sibling ∷ rest → hash_beside hash (i % 2 == 1) own sibling ≡ Err e → ⊥
-    climbing-hashed some beside sibling rest e is refused =
-        let f = along-refused at.along (i % 2 == 1) some refl beside sibling rest e is (turned (i % 2 == 1) refused) in
-        absurd (let g : Path (Outcome (Option Digest)) (Ok (Some root)) (Err e) = f in cc)
-      where
-        turned : (b : Bool) → hash_beside hash b own sibling ≡ Err e → turn (on_left hash) (on_right hash) b own
-            sibling ≡ Err e
-        turned true f = f
-        turned false f = f
+    pub climbing-read : {A : Type 0} (numbers : A → Digest) (xs : List A) (used : ℕ) → path ≡ map numbers (drop used xs)
+        → 0 < s → has_beside i s ≡ true → (x : A) → x ≡ get_or xs used x
+        → path ≡ numbers x ∷ map numbers (drop (used + 1) xs)
+    climbing-read numbers xs used is some beside x read =
+        is ∙ next_used numbers xs used x (climbing-inside numbers xs used is some beside) read
 
-    pub climbing-raised : 0 < s → (e : Error) → last_raised hash (rows level) s last ≡ Err e → ⊥
-    climbing-raised some e refused =
+    pub climbing-hashed : 0 < s → has_beside i s ≡ true → {sibling : Digest} {rest : List Digest} {e : Error}
+        → path ≡ sibling ∷ rest → hash_beside hash (i % 2 == 1) own sibling ≡ Err e → ⊥
+    climbing-hashed some beside {sibling} {rest} {e} is refused =
+        let none : Path (Outcome (Option Digest)) (Ok (Some root)) (Err e) =
+        along-refused at.along some beside is refused in absurd cc
+
+    pub climbing-raised : 0 < s → {e : Error} → last_raised hash (rows level) s last ≡ Err e → ⊥
+    climbing-raised some {e} refused =
         let up = last-next stored at.last_at some (level + 1) refl (Err e) refused in
-        let f = last-refused stored up.levels up.high up in
-        absurd (let g : Path (Outcome Digest) (Ok root) (Err e) = f in cc)
+        let none : Path (Outcome Digest) (Ok root) (Err e) = last-refused stored up.levels up.high up in absurd cc
 
     pub climbing-end : s ≡ 0 → goal below
     climbing-end top =

@@ -1,41 +1,21 @@
 -- The last digests of a log's rows, one level up.
-use Rattle.std.proofs.Common.{zero, suc, ◌≡◌, ℕ, ◌+◌, ◌-◌, ◌/◌, ◌%◌, ◌<◌, ◌≤◌, true, ◌==◌, List, [], ◌∷◌, length, get_or, Ok, Option, Some, None, arith, refl, ap, ◌∙◌}
-use Rattle.std.proofs.lemmas.Bool.Decides.{nat_tests}
-use Rattle.ark_base.specs.declared.error.Error.{Error}
-use Rattle.ark_base.specs.Outcome.{◌>>=◌}
-use Rattle.ark_base.specs.Laws.Steps.{bind_ok, done_injective}
+use Rattle.std.proofs.Common.{zero, suc, ◌≡◌, ℕ, ◌+◌, ◌-◌, ◌/◌, ◌%◌, ◌<◌, ◌≤◌, List, [], ◌∷◌, length, get_or, Ok, Option, Some, None, arith, ap, ◌∙◌}
 use Rattle.ark_paths.specs.Pair.{Digest}
 use Rattle.merkle_log.specs.Log.{NodeHash}
 use Rattle.merkle_log.specs.Stored.{row_pairs, IsStored}
 use Rattle.merkle_log.specs.Edge.{HasLast, last_raised}
-use Rattle.merkle_log.proofs.Lasts.{length-row_pairs}
-
--- the first pair of a row, and the others
-pairs_parts : (hash : NodeHash) (a b : Digest) (row next : List Digest) → row_pairs hash (a ∷ b ∷ row) ≡ Ok next
-    → (first : Digest) × (rest : List Digest) × (hash a b ≡ Ok first) × (row_pairs hash row ≡ Ok rest)
-    × (first ∷ rest ≡ next)
-pairs_parts hash a b row next is =
-    let h = bind_ok (hash a b) (λ c. row_pairs hash row >>= λ next. Ok (c ∷ next)) next is in
-    let more = bind_ok (row_pairs hash row) (λ next. Ok (h.0 ∷ next)) next h.2 in
-    (h.0, more.0, h.1, more.1, done_injective {E = Error} (h.0 ∷ more.0) next more.2)
+use Rattle.merkle_log.proofs.Lasts.{length-row_pairs, pairs_parts}
+use Rattle.merkle_log.proofs.Tests.{if_odd}
 
 -- a pair of a row
 pub row_pair : (hash : NodeHash) (row next : List Digest) → row_pairs hash row ≡ Ok next → (q i j : ℕ) → i ≡ q + q → j
     ≡ i + 1 → j < length row → hash (get_or row i []) (get_or row j []) ≡ Ok (get_or next q [])
-row_pair hash [] next is q i j two one below = absurd (omega arith)
-row_pair hash (a ∷ []) next is q i j two one below = absurd (omega arith)
-row_pair hash (a ∷ b ∷ row) next is zero zero zero two one below = absurd (omega arith)
 row_pair hash (a ∷ b ∷ row) next is zero zero (suc zero) two one below =
     let p = pairs_parts hash a b row next is in p.2 ∙ ap (λ l. Ok (get_or l 0 [])) p.4
-row_pair hash (a ∷ b ∷ row) next is zero zero (suc (suc j)) two one below = absurd (omega arith)
-row_pair hash (a ∷ b ∷ row) next is zero (suc i) j two one below = absurd (omega arith)
-row_pair hash (a ∷ b ∷ row) next is (suc q) zero j two one below = absurd (omega arith)
-row_pair hash (a ∷ b ∷ row) next is (suc q) (suc zero) j two one below = absurd (omega arith)
-row_pair hash (a ∷ b ∷ row) next is (suc q) (suc (suc i)) zero two one below = absurd (omega arith)
-row_pair hash (a ∷ b ∷ row) next is (suc q) (suc (suc i)) (suc zero) two one below = absurd (omega arith)
 row_pair hash (a ∷ b ∷ row) next is (suc q) (suc (suc i)) (suc (suc j)) two one below =
     let p = pairs_parts hash a b row next is in row_pair hash row p.1 p.3 q i j (omega arith) (omega arith)
     (omega arith) ∙ ap (λ l. Ok (get_or l (suc q) [])) p.4
+row_pair hash row next is q i j two one below = absurd (omega arith)
 
 -- the digests in front of a last one
 pub has-front : {A : Type 0} (row : List Digest) (s : ℕ) (last : Option A) → HasLast row s last → s ≤ length row
@@ -58,11 +38,6 @@ module _ {hash : NodeHash} {rows : ℕ → List Digest} (stored : IsStored hash 
   pub whole-raised : s % 2 ≡ 1 → s < length (rows level) → last_raised hash (rows level) s (get_or (rows level) s [])
       ≡ Ok (get_or (rows (level + 1)) (s / 2) [])
   whole-raised odd below =
-      let t : (s % 2 == 1) ≡ true = grind (arith, nat_tests) in
       let e : suc level ≡ level + 1 = omega arith in
-      chosen t ∙ row_pair hash (rows level) (rows (suc level)) (stored.pairs level) (s / 2) (s - 1) s (omega arith)
-      (omega arith) below ∙ ap (λ l. Ok (get_or (rows l) (s / 2) [])) e
-    where
-      chosen : (s % 2 == 1) ≡ true → last_raised hash (rows level) s (get_or (rows level) s [])
-          ≡ hash (get_or (rows level) (s - 1) []) (get_or (rows level) s [])
-      chosen t = rw (t) refl
+      if_odd s _ _ odd ∙ row_pair hash (rows level) (rows (suc level)) (stored.pairs level) (s / 2) (s - 1) s
+      (omega arith) (omega arith) below ∙ ap (λ l. Ok (get_or (rows l) (s / 2) [])) e

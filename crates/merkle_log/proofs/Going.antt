@@ -1,8 +1,7 @@
 -- A path that is made level by level.
-use Rattle.std.proofs.Common.{zero, suc, ◌≡◌, ℕ, ◌+◌, ◌-◌, ◌/◌, ◌%◌, ◌<◌, ◌≤◌, ◌^◌, true, false, nat_lt, ◌==◌, List, [], ◌∷◌, ◌++◌, length, take, get_or, Ok, Err, arith, refl, ap, sym, ◌∙◌, inl, inr}
-use Rattle.std.proofs.lemmas.Bool.{cases_lt}
-use Rattle.std.proofs.lemmas.Bool.Decides.{nat_tests}
-use Rattle.std.proofs.lemmas.List.{length-take-le, length-map, length-append, get_or_append_left, get_or_at, get_or-take, append_assoc, append-nil}
+use Rattle.std.proofs.Common.{zero, suc, ◌≡◌, ℕ, ◌+◌, ◌-◌, ◌/◌, ◌%◌, ◌<◌, ◌≤◌, ◌^◌, List, [], ◌∷◌, ◌++◌, length, take, get_or, Ok, Err, arith, refl, ap, sym, ◌∙◌, inl, inr}
+use Rattle.std.proofs.lemmas.Bool.{cases_lt, lt-ltb, le-ltb}
+use Rattle.std.proofs.lemmas.List.{length-take-le, length-map, get_or_append_left, get_or_at, get_or-take, append_assoc, append-nil}
 use Rattle.ark_base.specs.declared.error.Error.{Error}
 use Rattle.ark_base.specs.Outcome.{Outcome, ◌>>=◌}
 use Rattle.merkle_log.specs.Trees.{path}
@@ -11,15 +10,12 @@ use Rattle.ark_paths.specs.Pair.{Digest}
 use Rattle.merkle_log.specs.Log.{NodeHash}
 use Rattle.merkle_log.specs.Stored.{IsStored}
 use Rattle.merkle_log.specs.Edge.{last_raised, all_of, digests_beside, behind, row_with}
-use Rattle.merkle_log.proofs.RowsUp.{row_up, twice}
-use Rattle.merkle_log.proofs.PathRows.{Right, Left, Alone, side, beside, beside-odd, beside-even, beside-last, path-up}
+use Rattle.merkle_log.proofs.RowsUp.{row_up}
+use Rattle.merkle_log.proofs.Tests.{twice, odd_test, even_test, fewer}
+use Rattle.merkle_log.proofs.PathRows.{Right, Left, Alone, side, beside, beside-even, path-up}
 use Rattle.merkle_log.proofs.SubproofRows.{path-one}
 use Rattle.merkle_log.proofs.TreePairs.{get_or-there}
-use Rattle.merkle_log.proofs.Lasts.{Node, node_rows, length-row_pairs, raised, raised-err, row_up-last}
-
-pub length-row_with : (row : List Digest) (s : ℕ) (x : Node) → s ≤ length row → length (row_with row s x) ≡ s + 1
-length-row_with row s x le = length-append (node_rows (take s row)) (x ∷ []) ∙ ap (λ n. n + 1) (length-map (take s row)
-    Ok ∙ length-take-le s row le)
+use Rattle.merkle_log.proofs.Lasts.{Node, node_rows, length-row_pairs, length-row_with, raised, raised-err, row_up-last}
 
 pub row_with-own : (row : List Digest) (s : ℕ) (x : Node) (none : Node) (j : ℕ) → s ≤ length row → j < s
     → get_or (row_with row s x) j none ≡ Ok (get_or row j [])
@@ -36,45 +32,24 @@ row_with-last row s x none le = get_or_at (node_rows (take s row)) x [] none s (
 -- ---- what stands beside
 
 beside-there : (row : List Digest) (i s : ℕ) (x : Node) (none : Node) (last : Digest) → s ≤ length row → i ≤ s
-    → (i < s → x ≡ Ok last) → beside none i (row_with row s x) ≡ node_rows (digests_beside row i s last)
-beside-there row i s x none last le inside known = elim (side i (s + 1)) [
-  | Right odd ↦
-      let t : (i % 2 == 1) ≡ true = grind (arith, nat_tests) in
-      beside-odd none i (row_with row s x) odd ∙ ap (λ z. z ∷ []) (row_with-own row s x none (i - 1) le (omega arith))
-      ∙ right t
-  | Left even more ↦
-      let t : (i % 2 == 1) ≡ false = grind (arith, nat_tests) in
-      let u : nat_lt i s ≡ true = let l : i < s = omega arith in grind (arith, nat_tests) in
-      let n = length-row_with row s x le in
-      beside-even none i (row_with row s x) even (omega arith) ∙ elim (cases_lt (i + 1) s) [
-        | inl own ↦ let v : nat_lt (i + 1) s ≡ true =
-            grind (arith, nat_tests) in ap (λ z. z ∷ []) (row_with-own row s x none (i + 1) le own) ∙ left t u v
-        | inr end ↦
-            let v : nat_lt (i + 1) s ≡ false = grind (arith, nat_tests) in
-            let e : i + 1 ≡ s = omega arith in
-            ap (λ z. z ∷ []) (ap (λ n. get_or (row_with row s x) n none) e ∙ row_with-last row s x none le
-            ∙ known (omega arith)) ∙ left_last t u v
-      ]
-  | Alone even end ↦
-      let t : (i % 2 == 1) ≡ false = grind (arith, nat_tests) in
-      let u : nat_lt i s ≡ false = let l : s ≤ i = omega arith in grind (arith, nat_tests) in
-      let n = length-row_with row s x le in
-      beside-last none i (row_with row s x) even (omega arith) ∙ alone t u
-]
-  where
-    right : (i % 2 == 1) ≡ true → Ok (get_or row (i - 1) []) ∷ [] ≡ node_rows (digests_beside row i s last)
-    right t = rw (t) refl
-
-    left : (i % 2 == 1) ≡ false → nat_lt i s ≡ true → nat_lt (i + 1) s ≡ true → Ok (get_or row (i + 1) []) ∷ []
-        ≡ node_rows (digests_beside row i s last)
-    left t u v = rw (t, u, v) refl
-
-    left_last : (i % 2 == 1) ≡ false → nat_lt i s ≡ true → nat_lt (i + 1) s ≡ false → Ok last ∷ []
-        ≡ node_rows (digests_beside row i s last)
-    left_last t u v = rw (t, u, v) refl
-
-    alone : (i % 2 == 1) ≡ false → nat_lt i s ≡ false → [] ≡ node_rows (digests_beside row i s last)
-    alone t u = rw (t, u) refl
+    → (i % 2 ≡ 0 → i + 1 ≡ s → x ≡ Ok last) → beside none i (row_with row s x)
+    ≡ node_rows (digests_beside row i s last)
+beside-there row i s x none last le inside known =
+    let n = length-row_with row s x le in
+    elim (side i (s + 1)) [
+      | Right odd ↦ rw (odd_test i odd) (ap (λ z. z ∷ []) (row_with-own row s x none (i - 1) le (omega arith)))
+      | Left even more ↦
+          rw (even_test i even, lt-ltb i s (omega arith), lt-ltb (i + 1) (length (row_with row s x)) (omega arith))
+          (elim (cases_lt (i + 1) s) [
+            | inl own ↦ rw (lt-ltb (i + 1) s own) (ap (λ z. z ∷ []) (row_with-own row s x none (i + 1) le own))
+            | inr end ↦
+                let e : i + 1 ≡ s = omega arith in
+                rw (le-ltb (i + 1) s end) (ap (λ z. z ∷ []) (ap (λ n. get_or (row_with row s x) n none) e
+                ∙ row_with-last row s x none le ∙ known even e))
+          ])
+      | Alone even end ↦
+          rw (even_test i even, le-ltb i s (omega arith), le-ltb (i + 1) (length (row_with row s x)) (omega arith)) refl
+    ]
 
 -- digests that are there, in front of others
 pub all_of-behind : (sofar ds : List Digest) (rest : List Node) → (all_of (node_rows ds ++ rest) >>= behind sofar)
@@ -87,6 +62,12 @@ all_of-behind sofar (d ∷ ds) rest = one (all_of (node_rows ds ++ rest)) ∙ al
         ≡ (o >>= behind (sofar ++ (d ∷ [])))
     one (Ok more) = ap Ok (sym (append_assoc sofar (d ∷ []) more))
     one (Err e) = refl
+
+-- and in front of an error
+all_of-refused : (ds : List Digest) (rest : List Node) (e : Error) → all_of rest ≡ Err e
+    → all_of (node_rows ds ++ rest) ≡ Err e
+all_of-refused [] rest e is = is
+all_of-refused (d ∷ ds) rest e is = ap (λ o. o >>= λ more. Ok (d ∷ more)) (all_of-refused ds rest e is)
 
 -- ---- the path of an index of the first digests of a log
 
@@ -110,18 +91,18 @@ module _ {hash : NodeHash} {rows : ℕ → List Digest} (empty : Digest) (stored
   pub long : (level s : ℕ) → s ≤ length (rows level) → s / 2 ≤ length (rows (suc level))
   long level s le = omega (arith, length-row_pairs hash (rows level) (rows (suc level)) (stored.pairs level))
 
-  halves : (i s : ℕ) → i ≤ s → i / 2 ≤ s / 2
-  halves i s le = omega arith
-
   -- the row above
   pub above_with : (level s : ℕ) (x : Node) → s ≤ length (rows level) → row_up (joined hash) (row_with (rows level) s x)
       ≡ row_with (rows (suc level)) (s / 2) (raised hash (rows level) s x)
   above_with level s x le = row_up-last hash (rows level) (rows (suc level)) s x (stored.pairs level) le
 
-  path-with : (k level i s : ℕ) (x : Node) → s ≤ length (rows level) → i ≤ s → s < 2 ^ suc k → path (joined hash)
-      (Ok empty) (suc k) i (row_with (rows level) s x)
-      ≡ beside (Ok empty) i (row_with (rows level) s x) ++ path (joined hash) (Ok empty) k (i / 2)
-      (row_with (rows (suc level)) (s / 2) (raised hash (rows level) s x))
+  -- the path of an index of such a row, some levels up
+  abbrev way : ℕ → ℕ → ℕ → ℕ → Node → List Node
+  way k level i s x = path (joined hash) (Ok empty) k i (row_with (rows level) s x)
+
+  path-with : (k level i s : ℕ) (x : Node) → s ≤ length (rows level) → i ≤ s → s < 2 ^ suc k → way (suc k) level i s x
+      ≡ beside (Ok empty) i (row_with (rows level) s x) ++ way k (suc level) (i / 2) (s / 2) (raised hash (rows level)
+      s x)
   path-with k level i s x le in_it high =
       let n = length-row_with (rows level) s x le in
       path-up (joined hash) (Ok empty) k i (row_with (rows level) s x) (omega arith) (omega arith)
@@ -133,79 +114,45 @@ module _ {hash : NodeHash} {rows : ℕ → List Digest} (empty : Digest) (stored
       level i s x sofar answer → 0 < s → (last : Digest) → (i < s → x ≡ Ok last)
       → Goes hash rows empty (suc level) (i / 2) (s / 2) (raised hash (rows level) s x) (sofar ++ digests_beside
       (rows level) i s last) answer
-  goes-up {level} {i} {s} {x} {sofar} {answer} at some last known = go at.levels at.high at.is
-    where
-      y : Node
-      y = raised hash (rows level) s x
-
-      ds : List Digest
-      ds = digests_beside (rows level) i s last
-
-      go : (k : ℕ) → s < 2 ^ k → (all_of (path (joined hash) (Ok empty) k i (row_with (rows level) s x)) >>= behind
-          sofar) ≡ answer
-          → Goes hash rows empty (suc level) (i / 2) (s / 2) (raised hash (rows level) s x) (sofar ++ digests_beside
-          (rows level) i s last) answer
-      go zero high is = absurd (omega arith)
-      go (suc k) high is =
-          let two = twice k in
-          let rest = path (joined hash) (Ok empty) k (i / 2) (row_with (rows (suc level)) (s / 2)
-          (raised hash (rows level) s x)) in
-          record {
-            levels = k;
-            high = omega arith;
-            within = long level s at.within;
-            inside = halves i s at.inside;
-            is = sym (all_of-behind sofar (digests_beside (rows level) i s last) rest)
-                ∙ ap (λ l. all_of (l ++ rest) >>= behind sofar) (sym (beside-there (rows level) i s x (Ok empty) last
-                at.within at.inside known))
-                ∙ ap (λ l. all_of l >>= behind sofar) (sym (path-with k level i s x at.within at.inside high)) ∙ is;
-          }
-
-  pub going-end : {level i s : ℕ} {last : Digest} {sofar : List Digest} {answer : Outcome (List Digest)}
-      → Going hash rows empty level i s last sofar answer → s ≡ 0 → answer ≡ Ok sofar
-  going-end {level} {i} {s} {last} {sofar} {answer} going top =
-      let in_it = going.goes.inside in
-      let first : i ≡ 0 = omega arith in
-      sym going.goes.is
-      ∙ ap (λ n. all_of (path (joined hash) (Ok empty) going.goes.levels i (row_with (rows level) n going.x)) >>=
-      behind sofar) top
-      ∙ ap (λ n. all_of (path (joined hash) (Ok empty) going.goes.levels n (going.x ∷ [])) >>= behind sofar) first
-      ∙ ap (λ l. all_of l >>= behind sofar) (path-one (joined hash) (Ok empty) going.goes.levels going.x)
-      ∙ ap Ok (append-nil sofar)
+  goes-up {level} {i} {s} {x} {sofar} {answer} at some last known =
+      let ds = digests_beside (rows level) i s last in
+      let y = raised hash (rows level) s x in
+      let up = fewer (λ k. (all_of (way k level i s x) >>= behind sofar) ≡ answer)
+      (λ k. (all_of (way k (suc level) (i / 2) (s / 2) y) >>= behind (sofar ++ ds)) ≡ answer) at.levels some at.high
+      at.is (λ k high is. sym (all_of-behind sofar ds (way k (suc level) (i / 2) (s / 2) y))
+      ∙ ap (λ l. all_of (l ++ way k (suc level) (i / 2) (s / 2) y) >>= behind sofar) (sym (beside-there (rows level) i s
+      x (Ok empty) last at.within at.inside (λ even end. known (omega arith))))
+      ∙ ap (λ l. all_of l >>= behind sofar) (sym (path-with k level i s x at.within at.inside high)) ∙ is) in
+      record {
+        levels = up.levels;
+        high = up.high;
+        within = long level s at.within;
+        inside = omega (arith, at.inside);
+        is = up.at;
+      }
 
   -- A refusal of the last value, which the path needs, is that of the path.
   pub path-refused : (k level i s : ℕ) (e : Error) → s < 2 ^ k → s ≤ length (rows level) → i < s
-      → all_of (path (joined hash) (Ok empty) k i (row_with (rows level) s (Err e))) ≡ Err e
+      → all_of (way k level i s (Err e)) ≡ Err e
   path-refused zero level i s e high le under = absurd (omega arith)
   path-refused (suc k) level i s e high le under =
       let two = twice k in
-      let row = rows level in
-      let n = length-row_with (rows level) s (Err e) le in
-      let rest = path (joined hash) (Ok empty) k (i / 2) (row_with (rows (suc level)) (s / 2) (Err e)) in
-      let here : path (joined hash) (Ok empty) (suc k) i (row_with (rows level) s (Err e)) ≡ beside (Ok empty) i
-      (row_with (rows level) s (Err e)) ++ rest =
-      path-with k level i s (Err e) le (omega arith) high
-      ∙ ap (λ z. beside (Ok empty) i (row_with (rows level) s (Err e)) ++ path (joined hash) (Ok empty) k (i / 2)
-      (row_with (rows (suc level)) (s / 2) z)) (raised-err hash (rows level) s e) in
-      ap all_of here ∙ elim (side i (s + 1)) [
-        | Right odd ↦
-            ap (λ l. all_of (l ++ rest)) (beside-odd (Ok empty) i (row_with (rows level) s (Err e)) odd
-            ∙ ap (λ z. z ∷ []) (row_with-own (rows level) s (Err e) (Ok empty) (i - 1) le (omega arith)))
-            ∙ ap (λ o. o >>= λ more. Ok (get_or (rows level) (i - 1) [] ∷ more)) (path-refused k (suc level) (i / 2)
-            (s / 2) e (omega arith) (long level s le) (omega arith))
-        | Left even more ↦ elim (cases_lt (i + 1) s) [
-          | inl own ↦
-              ap (λ l. all_of (l ++ rest)) (beside-even (Ok empty) i (row_with (rows level) s (Err e)) even
-              (omega arith) ∙ ap (λ z. z ∷ []) (row_with-own (rows level) s (Err e) (Ok empty) (i + 1) le own))
-              ∙ ap (λ o. o >>= λ more. Ok (get_or (rows level) (i + 1) [] ∷ more)) (path-refused k (suc level) (i / 2)
-              (s / 2) e (omega arith) (long level s le) (omega arith))
-          | inr end ↦
-              let last : i + 1 ≡ s = omega arith in
-              ap (λ l. all_of (l ++ rest)) (beside-even (Ok empty) i (row_with (rows level) s (Err e)) even
-              (omega arith) ∙ ap (λ z. z ∷ []) (ap (λ n. get_or (row_with (rows level) s (Err e)) n (Ok empty)) last
-              ∙ row_with-last (rows level) s (Err e) (Ok empty) le))
-        ]
-        | Alone even end ↦ absurd (omega arith)
+      let row = row_with (rows level) s (Err e) in
+      let rest = way k (suc level) (i / 2) (s / 2) (Err e) in
+      ap all_of (path-with k level i s (Err e) le (omega arith) high
+      ∙ ap (λ z. beside (Ok empty) i row ++ way k (suc level) (i / 2) (s / 2) z) (raised-err hash (rows level) s e))
+      ∙ elim (cases_lt (i / 2) (s / 2)) [
+        | inl less ↦
+            ap (λ l. all_of (l ++ rest)) (beside-there (rows level) i s (Err e) (Ok empty) [] le (omega arith)
+            (λ even end. absurd (omega arith)))
+            ∙ all_of-refused (digests_beside (rows level) i s []) rest e (path-refused k (suc level) (i / 2) (s / 2) e
+            (omega arith) (long level s le) less)
+        | inr near ↦
+            let last : i + 1 ≡ s = omega arith in
+            ap (λ l. all_of (l ++ rest)) (beside-even (Ok empty) i row (omega arith)
+            (omega (arith, length-row_with (rows level) s (Err e) le))
+            ∙ ap (λ z. z ∷ []) (ap (λ n. get_or row n (Ok empty)) last ∙ row_with-last (rows level) s (Err e) (Ok empty)
+            le))
       ]
 
   -- ---- what a loop does at a level
@@ -214,33 +161,40 @@ module _ {hash : NodeHash} {rows : ℕ → List Digest} (empty : Digest) (stored
       → last_raised hash (rows level) s last ≡ y → i / 2 < s / 2 → raised hash (rows level) s x ≡ y
   needed-known level i s x last y known is under = ap (raised hash (rows level) s) (known (omega arith)) ∙ is
 
-  pub going-next : {level i s : ℕ} {last : Digest} {sofar : List Digest} {answer : Outcome (List Digest)}
-      → Going hash rows empty level i s last sofar answer → 0 < s → (next : Digest)
-      → (i / 2 < s / 2 → last_raised hash (rows level) s last ≡ Ok next)
-      → Going hash rows empty (suc level) (i / 2) (s / 2) next (sofar ++ digests_beside (rows level) i s last) answer
-  going-next {level} {i} {s} {last} going some next is = record {
-    x = raised hash (rows level) s going.x;
-    known = λ under. needed-known level i s going.x last (Ok next) going.known (is under) under;
-    goes = goes-up going.goes some last going.known;
-  }
+  module _ {level i s : ℕ} {last : Digest} {sofar : List Digest} {answer : Outcome (List Digest)}
+      (going : Going hash rows empty level i s last sofar answer) where
+    -- at the root
+    pub going-end : s ≡ 0 → answer ≡ Ok sofar
+    going-end top =
+        let first : i ≡ 0 = omega (arith, going.goes.inside) in
+        sym going.goes.is
+        ∙ ap (λ n. all_of (way going.goes.levels level i n going.x) >>= behind sofar) top
+        ∙ ap (λ n. all_of (path (joined hash) (Ok empty) going.goes.levels n (going.x ∷ [])) >>= behind sofar) first
+        ∙ ap (λ l. all_of l >>= behind sofar) (path-one (joined hash) (Ok empty) going.goes.levels going.x)
+        ∙ ap Ok (append-nil sofar)
 
-  pub going-refused : {level i s : ℕ} {last : Digest} {sofar : List Digest} {answer : Outcome (List Digest)}
-      → Going hash rows empty level i s last sofar answer → 0 < s → (e : Error) → i / 2 < s / 2 → last_raised hash
-      (rows level) s last ≡ Err e → answer ≡ Err e
-  going-refused {level} {i} {s} {last} {sofar} {answer} going some e under is =
-      let up = goes-up going.goes some last going.known in
-      sym up.is ∙ ap (λ z. all_of (path (joined hash) (Ok empty) up.levels (i / 2) (row_with (rows (suc level)) (s / 2)
-      z)) >>= behind (sofar ++ digests_beside (rows level) i s last)) (needed-known level i s going.x last (Err e)
-      going.known is under)
-      ∙ ap (λ o. o >>= behind (sofar ++ digests_beside (rows level) i s last)) (path-refused up.levels (suc level)
-      (i / 2) (s / 2) e up.high up.within under)
+    going-next : 0 < s → (next : Digest) → (i / 2 < s / 2 → last_raised hash (rows level) s last ≡ Ok next)
+        → Going hash rows empty (suc level) (i / 2) (s / 2) next (sofar ++ digests_beside (rows level) i s last) answer
+    going-next some next is = record {
+      x = raised hash (rows level) s going.x;
+      known = λ under. needed-known level i s going.x last (Ok next) going.known (is under) under;
+      goes = goes-up going.goes some last going.known;
+    }
 
-  -- the same, at a next level and with the path so far as the code has them
-  pub going-step : {level i s : ℕ} {last : Digest} {sofar : List Digest} {answer : Outcome (List Digest)}
-      → Going hash rows empty level i s last sofar answer → 0 < s → (up : ℕ) → up ≡ level + 1 → (next : Digest)
-      → (i / 2 < s / 2 → last_raised hash (rows level) s last ≡ Ok next)
-      → (more : List Digest) → sofar ++ digests_beside (rows level) i s last ≡ more → Going hash rows empty up (i / 2)
-      (s / 2) next more answer
-  going-step {level} {i} {s} {last} {sofar} {answer} going some up is next raised_is more path_is =
-      let e : suc level ≡ up = omega arith in
-      rw (← e, ← path_is) (going-next going some next raised_is)
+    pub going-refused : 0 < s → (e : Error) → i / 2 < s / 2 → last_raised hash (rows level) s last ≡ Err e
+        → answer ≡ Err e
+    going-refused some e under is =
+        let up = goes-up going.goes some last going.known in
+        let more = sofar ++ digests_beside (rows level) i s last in
+        sym up.is ∙ ap (λ z. all_of (way up.levels (suc level) (i / 2) (s / 2) z) >>= behind more)
+        (needed-known level i s going.x last (Err e) going.known is under)
+        ∙ ap (λ o. o >>= behind more) (path-refused up.levels (suc level) (i / 2) (s / 2) e up.high up.within under)
+
+    -- the same, at a next level and with the path so far as the code has them
+    pub going-step : 0 < s → (up : ℕ) → up ≡ level + 1 → (next : Digest)
+        → (i / 2 < s / 2 → last_raised hash (rows level) s last ≡ Ok next)
+        → (more : List Digest) → sofar ++ digests_beside (rows level) i s last ≡ more → Going hash rows empty up (i / 2)
+        (s / 2) next more answer
+    going-step some up is next raised_is more path_is =
+        let e : suc level ≡ up = omega arith in
+        rw (← e, ← path_is) (going-next some next raised_is)

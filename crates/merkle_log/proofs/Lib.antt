@@ -1,3 +1,4 @@
+pub mod Tests
 pub mod RowsUp
 pub mod PathRows
 pub mod SubproofRows

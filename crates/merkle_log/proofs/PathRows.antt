@@ -1,10 +1,10 @@
 -- Paths row by row.
-use Rattle.std.proofs.Common.{zero, suc, ◌≡◌, ℕ, ◌+◌, ◌-◌, ◌/◌, ◌%◌, ◌<◌, ◌≤◌, ◌^◌, true, false, nat_lt, ◌==◌, if◌then◌else◌, List, [], ◌∷◌, ◌++◌, length, take, drop, get_or, arith, refl, ap, ◌∙◌, inl, inr}
-use Rattle.std.proofs.lemmas.Bool.{cases_lt}
-use Rattle.std.proofs.lemmas.Bool.Decides.{nat_tests}
+use Rattle.std.proofs.Common.{zero, suc, ◌≡◌, ℕ, ◌+◌, ◌-◌, ◌/◌, ◌%◌, ◌<◌, ◌≤◌, ◌^◌, nat_lt, ◌==◌, if◌then◌else◌, List, [], ◌∷◌, ◌++◌, length, take, drop, get_or, arith, refl, ap, ◌∙◌, inl, inr}
+use Rattle.std.proofs.lemmas.Bool.{cases_lt, lt-ltb, le-ltb}
 use Rattle.std.proofs.lemmas.List.{length-drop, length-take-le, get_or-take, get_or-drop, append_assoc}
 use Rattle.merkle_log.specs.Trees.{path}
-use Rattle.merkle_log.proofs.RowsUp.{row_up, length-row_up, take-row_up, drop-row_up, twice, tree_hash-up}
+use Rattle.merkle_log.proofs.RowsUp.{row_up, length-row_up, take-half, drop-half, length-take_half, length-drop_half, tree_hash-up}
+use Rattle.merkle_log.proofs.Tests.{twice, odd_test, even_test, half_above, half_below, half_behind}
 
 -- what stands beside an index of a row
 abbrev pub beside : {A : Type 0} → A → ℕ → List A → List A
@@ -14,18 +14,14 @@ beside none i xs =
 
 pub beside-odd : {A : Type 0} (none : A) (i : ℕ) (xs : List A) → i % 2 ≡ 1 → beside none i xs
     ≡ get_or xs (i - 1) none ∷ []
-beside-odd none i xs odd = let t : (i % 2 == 1) ≡ true = grind (arith, nat_tests) in rw (t) refl
+beside-odd none i xs odd = rw (odd_test i odd) refl
 
 pub beside-even : {A : Type 0} (none : A) (i : ℕ) (xs : List A) → i % 2 ≡ 0 → i + 1 < length xs → beside none i xs
     ≡ get_or xs (i + 1) none ∷ []
-beside-even none i xs even more =
-    let t : (i % 2 == 1) ≡ false = grind (arith, nat_tests) in
-    let u : nat_lt (i + 1) (length xs) ≡ true = grind (arith, nat_tests) in rw (t, u) refl
+beside-even none i xs even more = rw (even_test i even, lt-ltb (i + 1) (length xs) more) refl
 
 pub beside-last : {A : Type 0} (none : A) (i : ℕ) (xs : List A) → i % 2 ≡ 0 → length xs ≤ i + 1 → beside none i xs ≡ []
-beside-last none i xs even last =
-    let t : (i % 2 == 1) ≡ false = grind (arith, nat_tests) in
-    let u : nat_lt (i + 1) (length xs) ≡ false = grind (arith, nat_tests) in rw (t, u) refl
+beside-last none i xs even last = rw (even_test i even, le-ltb (i + 1) (length xs) last) refl
 
 -- odd, even with a value behind it, or even and last
 pub data Side (i n : ℕ) : Type 0 where
@@ -82,63 +78,32 @@ beside-drop none i c d xs two below more =
 -- A path is what stands beside the index, and the path in the row above.
 pub path-up : {A : Type 0} (join : A → A → A) (none : A) (k i : ℕ) (xs : List A) → i < length xs → length xs ≤ 2 ^ suc k
     → path join none (suc k) i xs ≡ beside none i xs ++ path join none k (i / 2) (row_up join xs)
-path-up join none zero i [] below le = absurd (omega arith)
 path-up join none zero zero (a ∷ []) below le = refl
-path-up join none zero (suc i) (a ∷ []) below le = absurd (omega arith)
 path-up join none zero zero (a ∷ b ∷ []) below le = refl
 path-up join none zero (suc zero) (a ∷ b ∷ []) below le = refl
-path-up join none zero (suc (suc i)) (a ∷ b ∷ []) below le = absurd (omega arith)
-path-up join none zero i (a ∷ b ∷ c ∷ rest) below le = absurd (omega arith)
 path-up join none (suc j) i xs below le =
-    let two : 2 ^ suc j ≡ 2 ^ j + 2 ^ j = twice j in
-    let four : 2 ^ suc (suc j) ≡ 2 ^ suc j + 2 ^ suc j = twice (suc j) in
-    let high : length (row_up join xs) ≡ (length xs + 1) / 2 = length-row_up join xs in
-    elim (cases_lt (2 ^ suc j) (length xs)) [
-      | inl lt ↦
-          let here : nat_lt (2 ^ suc j) (length xs) ≡ true = grind (arith, nat_tests) in
-          let above : nat_lt (2 ^ j) (length (row_up join xs)) ≡ true = let l : 2 ^ j < length (row_up join xs) =
-          omega arith in grind (arith, nat_tests) in
-          let lf : length (take (2 ^ suc j) xs) ≡ 2 ^ suc j = length-take-le (2 ^ suc j) xs (omega arith) in
-          let lb : length (drop (2 ^ suc j) xs) ≡ length xs - 2 ^ suc j = length-drop (2 ^ suc j) xs in
-          elim (cases_lt i (2 ^ suc j)) [
-            | inl left ↦
-                let low : nat_lt i (2 ^ suc j) ≡ true = grind (arith, nat_tests) in
-                let low_up : nat_lt (i / 2) (2 ^ j) ≡ true = let l : i / 2 < 2 ^ j =
-                omega arith in grind (arith, nat_tests) in
-                rw (
-                  here,
-                  low,
-                  above,
-                  low_up,
-                  take-row_up join (2 ^ j) (2 ^ suc j) xs two,
-                  drop-row_up join (2 ^ j) (2 ^ suc j) xs two,
-                  path-up join none j i (take (2 ^ suc j) xs) (omega arith) (omega arith),
-                  tree_hash-up join none j (drop (2 ^ suc j) xs) (omega arith),
-                  beside-take none i (2 ^ j) (2 ^ suc j) xs two left lt,
-                )
-                (append_assoc (beside none i xs) _ _)
-            | inr right ↦
-                let low : nat_lt i (2 ^ suc j) ≡ false = grind (arith, nat_tests) in
-                let low_up : nat_lt (i / 2) (2 ^ j) ≡ false = let l : 2 ^ j ≤ i / 2 =
-                omega arith in grind (arith, nat_tests) in
-                let half : (i - 2 ^ suc j) / 2 ≡ i / 2 - 2 ^ j = omega arith in
-                rw (
-                  here,
-                  low,
-                  above,
-                  low_up,
-                  take-row_up join (2 ^ j) (2 ^ suc j) xs two,
-                  drop-row_up join (2 ^ j) (2 ^ suc j) xs two,
-                  path-up join none j (i - 2 ^ suc j) (drop (2 ^ suc j) xs) (omega arith) (omega arith),
-                  tree_hash-up join none j (take (2 ^ suc j) xs) (omega arith),
-                  half,
-                  beside-drop none i (2 ^ j) (2 ^ suc j) xs two right below,
-                )
-                (append_assoc (beside none i xs) _ _)
-          ]
-      | inr ge ↦
-          let here : nat_lt (2 ^ suc j) (length xs) ≡ false = grind (arith, nat_tests) in
-          let above : nat_lt (2 ^ j) (length (row_up join xs)) ≡ false = let l : length (row_up join xs) ≤ 2 ^ j =
-          omega arith in grind (arith, nat_tests) in
-          rw (here, above) (path-up join none j i xs below ge)
-    ]
+    let two = twice (suc j) in
+    rw (length-row_up join xs, half_above j (length xs), half_below j i, take-half join j xs, drop-half join j xs)
+    (elim (cases_lt (2 ^ suc j) (length xs)) [
+      | inl lt ↦ elim (cases_lt i (2 ^ suc j)) [
+        | inl left ↦ rw (
+          lt-ltb (2 ^ suc j) (length xs) lt,
+          lt-ltb i (2 ^ suc j) left,
+          path-up join none j i (take (2 ^ suc j) xs) (omega (arith, length-take-le (2 ^ suc j) xs))
+              (length-take_half (suc j) xs),
+          tree_hash-up join none j (drop (2 ^ suc j) xs) (length-drop_half (suc j) xs le),
+          beside-take none i (2 ^ j) (2 ^ suc j) xs (twice j) left lt,
+        ) (append_assoc (beside none i xs) _ _)
+        | inr right ↦ rw (
+          lt-ltb (2 ^ suc j) (length xs) lt,
+          le-ltb i (2 ^ suc j) right,
+          path-up join none j (i - 2 ^ suc j) (drop (2 ^ suc j) xs) (omega (arith, length-drop (2 ^ suc j) xs))
+              (length-drop_half (suc j) xs le),
+          tree_hash-up join none j (take (2 ^ suc j) xs) (length-take_half (suc j) xs),
+          half_behind j i,
+          beside-drop none i (2 ^ j) (2 ^ suc j) xs (twice j) right below,
+        ) (append_assoc (beside none i xs) _ _)
+      ]
+      | inr ge ↦ rw (le-ltb (2 ^ suc j) (length xs) ge) (path-up join none j i xs below ge)
+    ])
+path-up join none zero i xs below le = absurd (omega arith)

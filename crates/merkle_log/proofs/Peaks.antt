@@ -1,11 +1,11 @@
 -- Frontiers against trees.
-use Rattle.std.proofs.Common.{zero, suc, ◌≡◌, ℕ, ◌+◌, ◌-◌, ◌/◌, ◌%◌, ◌<◌, ◌^◌, true, false, ◌==◌, if◌then◌else◌, List, [], ◌∷◌, ◌++◌, length, take, get_or, arith, refl, ap, sym, ◌∙◌, inl, inr}
+use Rattle.std.proofs.Common.{zero, suc, ◌≡◌, ℕ, ◌+◌, ◌-◌, ◌/◌, ◌%◌, ◌<◌, ◌^◌, ◌==◌, if◌then◌else◌, List, [], ◌∷◌, ◌++◌, length, take, get_or, arith, refl, ap, sym, ◌∙◌, inl, inr}
 use Rattle.std.proofs.lemmas.Bool.{cases_lt}
-use Rattle.std.proofs.lemmas.Bool.Decides.{nat_tests}
 use Rattle.std.proofs.lemmas.List.{length-append, length-take-le, append-nil, take_more, take_all, same_from_push, get_or_push}
 use Rattle.merkle_log.specs.Trees.{tree_hash}
 use Rattle.merkle_log.specs.Frontier.{complete_pairs, frontier}
-use Rattle.merkle_log.proofs.RowsUp.{row_up, twice, tree_hash-up}
+use Rattle.merkle_log.proofs.RowsUp.{row_up, tree_hash-up}
+use Rattle.merkle_log.proofs.Tests.{twice, odd_test, even_test}
 
 pub length-complete_pairs : {A : Type 0} (join : A → A → A) (xs : List A) → length (complete_pairs join xs)
     ≡ length xs / 2
@@ -36,44 +36,34 @@ row_up-even join [] x even = refl
 row_up-even join (a ∷ []) x even = absurd (omega arith)
 row_up-even join (a ∷ b ∷ rest) x even = ap (λ l. join a b ∷ l) (row_up-even join rest x (omega arith))
 
-row_up-odd : {A : Type 0} (join : A → A → A) (none : A) (xs : List A) (x : A) → length xs % 2 ≡ 1
-    → row_up join (xs ++ (x ∷ [])) ≡ complete_pairs join xs ++ (join (get_or xs (length xs - 1) none) x ∷ [])
-row_up-odd join none [] x odd = absurd (omega arith)
-row_up-odd join none (a ∷ []) x odd = refl
-row_up-odd join none (a ∷ b ∷ rest) x odd =
-    let at : length (a ∷ b ∷ rest) - 1 ≡ suc (suc (length rest - 1)) = omega arith in
-    ap (λ l. join a b ∷ l) (row_up-odd join none rest x (omega arith))
-    ∙ ap (λ n. join a b ∷ (complete_pairs join rest ++ (join (get_or (a ∷ b ∷ rest) n none) x ∷ []))) (sym at)
-
 row_up-whole : {A : Type 0} (join : A → A → A) (xs : List A) → length xs % 2 ≡ 0 → row_up join xs
     ≡ complete_pairs join xs
 row_up-whole join [] even = refl
 row_up-whole join (a ∷ []) even = absurd (omega arith)
 row_up-whole join (a ∷ b ∷ rest) even = ap (λ l. join a b ∷ l) (row_up-whole join rest (omega arith))
 
+row_up-odd : {A : Type 0} (join : A → A → A) (none : A) (xs : List A) (x : A) → length xs % 2 ≡ 1
+    → row_up join (xs ++ (x ∷ [])) ≡ complete_pairs join xs ++ (join (get_or xs (length xs - 1) none) x ∷ [])
+row_up-odd join none xs x odd =
+    row_up-whole join (xs ++ (x ∷ [])) (omega (arith, length-append xs (x ∷ []))) ∙ pairs-odd join none xs x odd
+
 -- ---- frontiers by levels
 
 pub frontier-odd : {A : Type 0} (join : A → A → A) (none : A) (k : ℕ) (xs : List A) → length xs % 2 ≡ 1 → frontier join
     none (suc k) xs ≡ frontier join none k (complete_pairs join xs) ++ (get_or xs (length xs - 1) none ∷ [])
-frontier-odd join none k xs odd = let t : (length xs % 2 == 1) ≡ true = grind (arith, nat_tests) in rw (t) refl
+frontier-odd join none k xs odd = rw (odd_test (length xs) odd) refl
 
 pub frontier-even : {A : Type 0} (join : A → A → A) (none : A) (k : ℕ) (xs : List A) → length xs % 2 ≡ 0 → frontier join
     none (suc k) xs ≡ frontier join none k (complete_pairs join xs)
 frontier-even join none k xs even =
-    let t : (length xs % 2 == 1) ≡ false = grind (arith, nat_tests) in
-    opened t ∙ append-nil (frontier join none k (complete_pairs join xs))
-  where
-    opened : (length xs % 2 == 1) ≡ false → frontier join none (suc k) xs ≡ frontier join none k
-        (complete_pairs join xs) ++ []
-    opened t = rw (t) refl
+    rw (even_test (length xs) even) (append-nil (frontier join none k (complete_pairs join xs)))
 
 -- with one value more: an even number has it behind
 pub frontier-push_even : {A : Type 0} (join : A → A → A) (none : A) (k : ℕ) (xs : List A) (x : A) → length xs % 2 ≡ 0
     → frontier join none (suc k) (xs ++ (x ∷ [])) ≡ frontier join none (suc k) xs ++ (x ∷ [])
 frontier-push_even join none k xs x even =
-    let more : length (xs ++ (x ∷ [])) ≡ length xs + 1 = length-append xs (x ∷ []) in
-    let at : length (xs ++ (x ∷ [])) - 1 ≡ length xs = omega arith in
-    frontier-odd join none k (xs ++ (x ∷ [])) (omega arith)
+    let at : length (xs ++ (x ∷ [])) - 1 ≡ length xs = omega (arith, length-append xs (x ∷ [])) in
+    frontier-odd join none k (xs ++ (x ∷ [])) (omega (arith, length-append xs (x ∷ [])))
     ∙ ap (λ l. frontier join none k l ++ (get_or (xs ++ (x ∷ [])) (length (xs ++ (x ∷ [])) - 1) none ∷ []))
     (pairs-even join xs x even)
     ∙ ap (λ z. frontier join none k (complete_pairs join xs) ++ (z ∷ [])) (ap (λ n. get_or (xs ++ (x ∷ [])) n none) at
@@ -85,18 +75,20 @@ pub frontier-push_odd : {A : Type 0} (join : A → A → A) (none : A) (k : ℕ)
     → frontier join none (suc k) (xs ++ (x ∷ [])) ≡ frontier join none k
     (complete_pairs join xs ++ (join (get_or xs (length xs - 1) none) x ∷ []))
 frontier-push_odd join none k xs x odd =
-    let more : length (xs ++ (x ∷ [])) ≡ length xs + 1 = length-append xs (x ∷ []) in
-    frontier-even join none k (xs ++ (x ∷ [])) (omega arith) ∙ ap (frontier join none k) (pairs-odd join none xs x odd)
+    frontier-even join none k (xs ++ (x ∷ [])) (omega (arith, length-append xs (x ∷ [])))
+    ∙ ap (frontier join none k) (pairs-odd join none xs x odd)
+
+fewer_pairs : {A : Type 0} (join : A → A → A) (k : ℕ) (xs : List A) → length xs < 2 ^ suc k
+    → length (complete_pairs join xs) < 2 ^ k
+fewer_pairs join k xs high = omega (arith, twice k, length-complete_pairs join xs)
 
 pub frontier-levels : {A : Type 0} (join : A → A → A) (none : A) (k : ℕ) (xs : List A) → length xs < 2 ^ k
     → frontier join none (suc k) xs ≡ frontier join none k xs
 frontier-levels join none zero [] high = refl
 frontier-levels join none zero (x ∷ xs) high = absurd (omega arith)
 frontier-levels join none (suc k) xs high =
-    let two = twice k in
-    let half = length-complete_pairs join xs in
     ap (λ l. l ++ (if length xs % 2 == 1 then (get_or xs (length xs - 1) none ∷ []) else [])) (frontier-levels join none
-    k (complete_pairs join xs) (omega arith))
+    k (complete_pairs join xs) (fewer_pairs join k xs high))
 
 -- ---- the root of a frontier
 
@@ -116,18 +108,16 @@ pub tree_hash-folded : {A : Type 0} (join : A → A → A) (none : A) (k : ℕ) 
 tree_hash-folded join none zero [] x high = refl
 tree_hash-folded join none zero (a ∷ xs) x high = absurd (omega arith)
 tree_hash-folded join none (suc k) xs x high =
-    let two = twice k in
-    let half = length-complete_pairs join xs in
-    let more : length (xs ++ (x ∷ [])) ≡ length xs + 1 = length-append xs (x ∷ []) in
-    tree_hash-up join none k (xs ++ (x ∷ [])) (omega arith) ∙ elim (cases_lt (length xs % 2) 1) [
+    tree_hash-up join none k (xs ++ (x ∷ [])) (omega (arith, length-append xs (x ∷ [])))
+    ∙ elim (cases_lt (length xs % 2) 1) [
       | inl even ↦
           ap (tree_hash join none k) (row_up-even join xs x (omega arith)) ∙ tree_hash-folded join none k
-          (complete_pairs join xs) x (omega arith)
+          (complete_pairs join xs) x (fewer_pairs join k xs high)
           ∙ ap (λ l. folded join l x) (sym (frontier-even join none k xs (omega arith)))
       | inr odd ↦
           let last = get_or xs (length xs - 1) none in
           ap (tree_hash join none k) (row_up-odd join none xs x (omega arith)) ∙ tree_hash-folded join none k
-          (complete_pairs join xs) (join last x) (omega arith)
+          (complete_pairs join xs) (join last x) (fewer_pairs join k xs high)
           ∙ sym (folded-push join (frontier join none k (complete_pairs join xs)) last x) ∙ ap (λ l. folded join l x)
           (sym (frontier-odd join none k xs (omega arith)))
     ]
@@ -138,12 +128,10 @@ pub root-folded : {A : Type 0} (join : A → A → A) (none : A) (k : ℕ) (xs :
 root-folded join none zero xs [] p high is = absurd cc
 root-folded join none zero xs (q ∷ ps) p high is = absurd cc
 root-folded join none (suc k) xs ps p high is =
-    let two = twice k in
-    let half = length-complete_pairs join xs in
     elim (cases_lt (length xs % 2) 1) [
       | inl even ↦
           tree_hash-up join none k xs (omega arith) ∙ ap (tree_hash join none k) (row_up-whole join xs (omega arith))
-          ∙ root-folded join none k (complete_pairs join xs) ps p (omega arith)
+          ∙ root-folded join none k (complete_pairs join xs) ps p (fewer_pairs join k xs high)
           (sym (frontier-even join none k xs (omega arith)) ∙ is)
       | inr odd ↦
           let last = get_or xs (length xs - 1) none in

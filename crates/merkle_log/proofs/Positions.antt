@@ -1,18 +1,17 @@
 -- Where the digests of complete places stand in a log's list.
-use Rattle.std.proofs.Common.{zero, suc, ◌≡◌, ℕ, ◌+◌, ◌-◌, ◌*◌, ◌/◌, ◌%◌, ◌<◌, ◌≤◌, ◌^◌, true, false, nat_lt, List, [], ◌∷◌, ◌++◌, length, map, get_or, arith, refl, ap, sym, ◌∙◌, inl, inr}
-use Rattle.std.proofs.lemmas.Bool.{cases_lt}
-use Rattle.std.proofs.lemmas.Bool.Decides.{nat_tests}
+use Rattle.std.proofs.Common.{zero, suc, ◌≡◌, ℕ, ◌+◌, ◌-◌, ◌*◌, ◌/◌, ◌%◌, ◌<◌, ◌≤◌, ◌^◌, List, [], ◌∷◌, ◌++◌, length, map, get_or, arith, refl, ap, sym, ◌∙◌, inl, inr}
+use Rattle.std.proofs.lemmas.Bool.{cases_lt, lt-ltb, le-ltb}
 use Rattle.std.proofs.lemmas.List.{get_or_append_left, get_or-append_right}
 use Rattle.std.proofs.lemmas.List.FromFn.{length-map-range_with_len, get_or-map-range_with_len, map-range_with_len_more}
 use Rattle.std.proofs.lemmas.Nat.{ones_cat, ones_le_self}
-use Rattle.std.proofs.Math.Nat.{mul-add, mul-le-mul_right, pow-le-pow_right}
+use Rattle.std.proofs.Math.Nat.{mul-le-mul_right}
 use Rattle.std.specs.Prelude.{count_ones}
 use Rattle.std.specs.List.{range_with_len}
 use Rattle.ark_paths.specs.Pair.{Digest}
 use Rattle.merkle_log.specs.Walk.{index_up}
 use Rattle.merkle_log.specs.Stored.{stored_count, position, StoredValue, row_of}
 use Rattle.merkle_log.specs.Append.{pushed_row}
-use Rattle.merkle_log.proofs.RowsUp.{twice}
+use Rattle.merkle_log.proofs.Tests.{twice, mul-twice, power-rises}
 use Rattle.merkle_log.proofs.Verdicts.{pow_above}
 
 -- the ones of half a number
@@ -37,15 +36,14 @@ count-rises_below : (k a b : ℕ) → b < 2 ^ k → a ≤ b → stored_count a �
 count-rises_below zero a b low le = let e : a ≡ b = omega arith in rw (e) (omega arith)
 count-rises_below (suc k) a b low le =
     let two = twice k in
-    let halves = count-rises_below k (a / 2) (b / 2) (omega arith) (omega arith) in
-    omega (arith, count-half a, count-half b)
+    omega (arith, count-rises_below k (a / 2) (b / 2) (omega arith) (omega arith), count-half a, count-half b)
 
 pub count-rises : (a b : ℕ) → a ≤ b → stored_count a ≤ stored_count b
 count-rises a b le = count-rises_below b a b (pow_above b) le
 
 -- the leaves below the places up to one
 pub below-up : (level place : ℕ) → (place + 1) * 2 ^ suc level ≡ (place + 1) * 2 ^ level + (place + 1) * 2 ^ level
-below-up level place = ap (λ n. (place + 1) * n) (twice level) ∙ mul-add (place + 1) (2 ^ level) (2 ^ level)
+below-up level place = mul-twice level (place + 1)
 
 pub some-below : (level place : ℕ) → 0 < (place + 1) * 2 ^ level
 some-below zero place = omega arith
@@ -56,16 +54,14 @@ position-next : (level place : ℕ) → position level place < stored_count ((pl
 position-next zero place =
     let e : (place + 1) * 2 ^ 0 ≡ place + 1 = omega arith in
     let f : place + 1 - 1 ≡ place = omega arith in
-    rw (e, f) (let rises = count-rises (place / 2) ((place + 1) / 2) (omega arith) in omega (
+    rw (e, f) (omega (
       arith,
       count-half place,
       count-half (place + 1),
+      count-rises (place / 2) ((place + 1) / 2) (omega arith),
     ))
-position-next (suc level) place =
-    let m = (place + 1) * 2 ^ level in
-    let some : 0 < m = some-below level place in
-    let ih = position-next level place in
-    rw (below-up level place) (by_half m some ih)
+position-next (suc level) place = rw (below-up level place) (by_half ((place + 1) * 2 ^ level) (some-below level place)
+    (position-next level place))
   where
     by_half : (m : ℕ) → 0 < m → stored_count (m - 1) + level < stored_count m → stored_count (m + m - 1) + suc level
         < stored_count (m + m)
@@ -75,57 +71,54 @@ position-next (suc level) place =
         omega (arith, count-half (m + m - 1), count-half (m + m), ap stored_count a, ap stored_count b)
 
 pub position-within : (level place size : ℕ) → (place + 1) * 2 ^ level ≤ size → position level place < stored_count size
-position-within level place size le = let next =
-    position-next level place in omega (arith, count-rises ((place + 1) * 2 ^ level) size le)
+position-within level place size le =
+    omega (arith, position-next level place, count-rises ((place + 1) * 2 ^ level) size le)
 
 -- ---- how many places a level has
 
 -- the leaves below the places of a level
 pub up-times : (level n : ℕ) → index_up level n * 2 ^ level ≤ n
 up-times zero n = omega arith
-up-times (suc level) n =
-    let ih = up-times level (n / 2) in
-    omega (
-      arith,
-      ap (λ m. index_up level (n / 2) * m) (twice level) ∙ mul-add (index_up level (n / 2)) (2 ^ level)
-          (2 ^ level),
-    )
+up-times (suc level) n = omega (arith, up-times level (n / 2), mul-twice level (index_up level (n / 2)))
 
 pub place-within : (level place n : ℕ) → place < index_up level n → (place + 1) * 2 ^ level ≤ n
-place-within level place n below =
-    let times = up-times level n in
-    let split = mul_le (place + 1) (index_up level n) (2 ^ level) (omega arith) in
-    omega arith
+place-within level place n below = omega (arith, up-times level n, times (place + 1) (index_up level n) (omega arith))
   where
-    mul_le : (a b c : ℕ) → a ≤ b → a * c ≤ b * c
-    mul_le a b c le = mul-le-mul_right c le
+    times : (a b : ℕ) → a ≤ b → a * 2 ^ level ≤ b * 2 ^ level
+    times a b le = mul-le-mul_right (2 ^ level) le
 
 -- one leaf more, where some lowest levels have an odd number of places
+half-odd : (n : ℕ) → n % 2 ≡ 1 → (n + 1) / 2 ≡ n / 2 + 1
+half-odd n odd = omega arith
+
+half-even : (n : ℕ) → n % 2 ≡ 0 → (n + 1) / 2 ≡ n / 2
+half-even n even = omega arith
+
 pub up-carry : (level n : ℕ) → ((l : ℕ) → l < level → index_up l n % 2 ≡ 1) → index_up level (n + 1)
     ≡ index_up level n + 1
 up-carry zero n odd = refl
 up-carry (suc level) n odd =
-    let first = odd 0 (omega arith) in
-    let e : (n + 1) / 2 ≡ n / 2 + 1 = omega arith in
-    ap (index_up level) e ∙ up-carry level (n / 2) (λ l below. odd (suc l) (omega arith))
+    ap (index_up level) (half-odd n (odd 0 (omega arith))) ∙ up-carry level (n / 2) (λ l below. odd (suc l)
+    (omega arith))
 
 pub up-times_all : (level n : ℕ) → ((l : ℕ) → l < level → index_up l n % 2 ≡ 1) → (index_up level n + 1) * 2
     ^ level ≡ n + 1
 up-times_all zero n odd = omega arith
-up-times_all (suc level) n odd =
-    let first = odd 0 (omega arith) in
-    let ih = up-times_all level (n / 2) (λ l below. odd (suc l) (omega arith)) in
-    omega (arith, below-up level (index_up level (n / 2)))
+up-times_all (suc level) n odd = omega (
+  arith,
+  odd 0 (omega arith),
+  up-times_all level (n / 2) (λ l below. odd (suc l) (omega arith)),
+  below-up level (index_up level (n / 2)),
+)
 
 -- and above the lowest level that has an even number
 pub up-same : (level last n : ℕ) → last < level → ((l : ℕ) → l < last → index_up l n % 2 ≡ 1) → index_up last n % 2 ≡ 0
     → index_up level (n + 1) ≡ index_up level n
 up-same zero last n less odd even = absurd (omega arith)
-up-same (suc level) zero n less odd even = let e : (n + 1) / 2 ≡ n / 2 = omega arith in ap (index_up level) e
+up-same (suc level) zero n less odd even = ap (index_up level) (half-even n even)
 up-same (suc level) (suc last) n less odd even =
-    let first = odd 0 (omega arith) in
-    let e : (n + 1) / 2 ≡ n / 2 + 1 = omega arith in
-    ap (index_up level) e ∙ up-same level last (n / 2) (omega arith) (λ l below. odd (suc l) (omega arith)) even
+    ap (index_up level) (half-odd n (odd 0 (omega arith))) ∙ up-same level last (n / 2) (omega arith) (λ l below. odd
+    (suc l) (omega arith)) even
 
 -- ---- rows
 
@@ -157,48 +150,36 @@ pub rows-more : (stored : StoredValue) (made : List Digest) → length stored.di
     ≡ pushed_row (row_of stored) made level
 rows-more stored made count some odd even level = elim (cases_lt level (length made)) [
   | inl in_made ↦
-      let t : nat_lt level (length made) ≡ true = grind (arith, nat_tests) in
       let below : (l : ℕ) → l < level → index_up l stored.size % 2 ≡ 1 = λ l less. odd l (omega arith) in
       let n = index_up level stored.size in
       let all = up-times_all level stored.size below in
       let last : (n + 1) * 2 ^ level - 1 ≡ stored.size = omega arith in
-      let at : position level n ≡ length stored.digests + level =
-      ap (λ m. stored_count m + level) last ∙ ap (λ m. m + level) (sym count) in
-      let own : get_or (stored.digests ++ made) (position level n) [] ≡ get_or made level [] =
-      ap (λ p. get_or (stored.digests ++ made) p []) at ∙ get_or-append_right stored.digests made
-      (length stored.digests) (length stored.digests + level) [] refl (omega arith) ∙ ap (λ p. get_or made p [])
-      (past (length stored.digests)) in
-      ap (λ c. map (λ place. get_or (stored.digests ++ made) (position level place) []) (range_with_len 0 c))
-      (up-carry level stored.size below)
-      ∙ map-range_with_len_more (λ place. get_or (stored.digests ++ made) (position level place) []) 0 n n (omega arith)
-      ∙ both _ _ _ _ (same_places _ _ 0 n (λ place less. before place (omega arith))) own
-      ∙ sym (pushed t)
+      let own = ap (λ p. get_or (stored.digests ++ made) p []) (ap (λ m. stored_count m + level) last
+      ∙ ap (λ m. m + level) (sym count)) ∙ get_or-append_right stored.digests made (length stored.digests)
+      (length stored.digests + level) [] refl (omega arith) ∙ ap (λ p. get_or made p []) (past
+      (length stored.digests)) in
+      rw (lt-ltb level (length made) in_made) (ap (λ c. map at_place (range_with_len 0 c))
+      (up-carry level stored.size below) ∙ map-range_with_len_more at_place 0 n n (omega arith)
+      ∙ both _ _ _ _ (same_places _ _ 0 n (λ place less. before place (omega arith))) own)
   | inr above ↦
-      let t : nat_lt level (length made) ≡ false = grind (arith, nat_tests) in
-      ap (λ c. map (λ place. get_or (stored.digests ++ made) (position level place) []) (range_with_len 0 c))
+      rw (le-ltb level (length made) above) (ap (λ c. map at_place (range_with_len 0 c))
       (up-same level (length made - 1) stored.size (omega arith) (λ l less. odd l (omega arith)) even)
-      ∙ same_places _ _ 0 (index_up level stored.size) (λ place less. before place (omega arith))
-      ∙ sym (whole t)
+      ∙ same_places _ _ 0 (index_up level stored.size) (λ place less. before place (omega arith)))
 ]
   where
+    at_place : ℕ → Digest
+    at_place place = get_or (stored.digests ++ made) (position level place) []
+
     both : (xs ys : List Digest) (x y : Digest) → xs ≡ ys → x ≡ y → xs ++ (x ∷ []) ≡ ys ++ (y ∷ [])
     both xs ys x y p q = rw (p, q) refl
 
     past : (n : ℕ) → n + level - n ≡ level
     past n = omega arith
 
-    before : (place : ℕ) → place < index_up level stored.size → get_or (stored.digests ++ made) (position level place)
-        [] ≡ get_or stored.digests (position level place) []
-    before place less =
-        let within = position-within level place stored.size (place-within level place stored.size less) in
-        get_or_append_left stored.digests made [] (position level place) (omega arith)
-
-    pushed : nat_lt level (length made) ≡ true → pushed_row (row_of stored) made level ≡ row_of stored level
-        ++ (get_or made level [] ∷ [])
-    pushed t = rw (t) refl
-
-    whole : nat_lt level (length made) ≡ false → pushed_row (row_of stored) made level ≡ row_of stored level
-    whole t = rw (t) refl
+    before : (place : ℕ) → place < index_up level stored.size → at_place place ≡ get_or stored.digests
+        (position level place) []
+    before place less = get_or_append_left stored.digests made [] (position level place)
+        (omega (arith, position-within level place stored.size (place-within level place stored.size less)))
 
 -- ---- while a leaf completes places
 
@@ -210,46 +191,34 @@ up-more level n = let e : level + 1 ≡ suc level = omega arith in ap (λ l. ind
     go zero n = refl
     go (suc level) n = go level (n / 2)
 
-pub power-rises : (a b : ℕ) → a ≤ b → 2 ^ a ≤ 2 ^ b
-power-rises a b le = pow-le-pow_right (omega arith) le
-
 -- the place left of the last one that was completed
 pub record Neighbour (size level : ℕ) : Type 0 where
   pub level_fits : level < 64
   pub within : (index_up level size - 1 + 1) * 2 ^ level ≤ size
 
+-- a level below which a place stands that the size has
+level_low : (level n : ℕ) → 1 ≤ n → n * 2 ^ level < 2 ^ 64 → level < 64
+level_low level n some fits = elim (cases_lt level 64) [
+  | inl low ↦ low
+  | inr high ↦ absurd (omega (arith, power-rises 64 level high, times))
+]
+  where
+    times : 1 * 2 ^ level ≤ n * 2 ^ level
+    times = mul-le-mul_right (2 ^ level) some
+
 pub left_neighbour : (size level : ℕ) → size < 2 ^ 64 → ((l : ℕ) → l < level → index_up l size % 2 ≡ 1) → index_up level
     size % 2 ≡ 1 → Neighbour size level
 left_neighbour size level fits odd own =
-    let all = up-times_all level size odd in
     let n = index_up level size in
     let one : n - 1 + 1 ≡ n = omega arith in
     record {
-      level_fits = elim (cases_lt level 64) [
-        | inl low ↦ low
-        | inr high ↦
-            let big = power-rises 64 level high in
-            let more = mul-le-mul_right (2 ^ level) (at_least_two n own) in
-            absurd (omega arith)
-      ];
+      level_fits = level_low level n (omega arith) (omega (arith, up-times level size));
       within = rw (one) (up-times level size);
     }
-  where
-    at_least_two : (n : ℕ) → n % 2 ≡ 1 → 2 ≤ n + 1
-    at_least_two n odd = omega arith
 
 -- a level that has a place
 pub level-fits : (level place : ℕ) → (place + 1) * 2 ^ level < 2 ^ 64 → level < 64
-level-fits level place fits = elim (cases_lt level 64) [
-  | inl low ↦ low
-  | inr high ↦
-      let big = power-rises 64 level high in
-      let one = mul-le-mul_right (2 ^ level) (first_place place) in
-      absurd (omega arith)
-]
-  where
-    first_place : (n : ℕ) → 1 ≤ n + 1
-    first_place n = omega arith
+level-fits level place fits = level_low level (place + 1) (omega arith) fits
 
 pub size-within : (size : ℕ) → size ≤ stored_count size
 size-within size = omega (arith, ones_le_self size)
@@ -257,14 +226,14 @@ size-within size = omega (arith, ones_le_self size)
 -- what one leaf completes
 pub count-more : (last n : ℕ) → ((l : ℕ) → l < last → index_up l n % 2 ≡ 1) → index_up last n % 2 ≡ 0 → stored_count
     (n + 1) ≡ stored_count n + (last + 1)
-count-more zero n odd even =
-    let e : (n + 1) / 2 ≡ n / 2 = omega arith in
-    omega (arith, count-half n, count-half (n + 1), ap stored_count e)
-count-more (suc last) n odd even =
-    let first = odd 0 (omega arith) in
-    let e : (n + 1) / 2 ≡ n / 2 + 1 = omega arith in
-    let ih = count-more last (n / 2) (λ l below. odd (suc l) (omega arith)) even in
-    omega (arith, count-half n, count-half (n + 1), ap stored_count e)
+count-more zero n odd even = omega (arith, count-half n, count-half (n + 1), ap stored_count (half-even n even))
+count-more (suc last) n odd even = omega (
+  arith,
+  count-half n,
+  count-half (n + 1),
+  ap stored_count (half-odd n (odd 0 (omega arith))),
+  count-more last (n / 2) (λ l below. odd (suc l) (omega arith)) even,
+)
 
 -- a place of a row
 pub row-inside : (own seen : StoredValue) (level place : ℕ) → own ≡ seen → place < length (row_of seen level)

@@ -1,7 +1,7 @@
 -- The levels where an old log is complete.
 use Rattle.std.proofs.Common.{zero, suc, ◌≡◌, ℕ, ◌/◌, ◌%◌, ◌<◌, ◌≤◌, ◌^◌, List, Result, Option, arith, sym, ◌∙◌}
 use Rattle.merkle_log.specs.Walk.{from_seed, both_roots}
-use Rattle.merkle_log.proofs.RowsUp.{twice}
+use Rattle.merkle_log.proofs.Tests.{fewer}
 use Rattle.merkle_log.proofs.Agree.{both_roots-odd, both_roots-even}
 
 -- From here, with some levels left, both roots are this.
@@ -15,22 +15,11 @@ pub record Raised {D E : Type 0} (hash : D → D → Result D E) (i s : ℕ) (ol
 module _ {D E : Type 0} {hash : D → D → Result D E} {i s : ℕ} {old : D} {path : List D}
     {answer : Result (Option (D × D)) E} (raised : Raised hash i s old path answer) where
   pub raised-odd : i % 2 ≡ 1 → Raised hash (i / 2) (s / 2) old path answer
-  raised-odd odd = go raised.levels raised.high raised.is
-    where
-      halves : i ≤ s → i / 2 ≤ s / 2
-      halves le = omega arith
-
-      some : i ≤ s → 0 < s
-      some le = omega arith
-
-      go : (k : ℕ) → s < 2 ^ k → both_roots hash k i s old path ≡ answer → Raised hash (i / 2) (s / 2) old path answer
-      go zero high is = let more = some raised.inside in absurd (omega arith)
-      go (suc k) high is = let two = twice k in record {
-        levels = k;
-        high = omega arith;
-        inside = halves raised.inside;
-        is = sym (both_roots-odd hash k i s old path odd) ∙ is;
-      }
+  raised-odd odd =
+      let up = fewer (λ k. both_roots hash k i s old path ≡ answer)
+      (λ k. both_roots hash k (i / 2) (s / 2) old path ≡ answer) raised.levels (omega (arith, raised.inside))
+      raised.high raised.is (λ k high is. sym (both_roots-odd hash k i s old path odd) ∙ is) in
+      record { levels = up.levels; high = up.high; inside = omega (arith, raised.inside); is = up.at }
 
   pub record Seeded : Type 0 where
     pub levels : ℕ

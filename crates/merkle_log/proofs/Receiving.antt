@@ -1,17 +1,17 @@
 -- What is read of a proof's bytes.
 use Rattle.std.proofs.Common.{◌≡◌, ℕ, ◌<◌, ◌≤◌, ◌==◌, ◌||◌, true, false, nat_lt, Bool, if◌then◌else◌, List, [], ◌∷◌, length, map, drop, Ok, Err, arith, refl, ap, sym, ◌∙◌, inl, inr}
-use Rattle.std.proofs.lemmas.Bool.{cases_lt}
-use Rattle.std.proofs.lemmas.Bool.Decides.{nat_tests}
+use Rattle.std.proofs.lemmas.Bool.{cases_lt, lt-ltb, le-ltb, ne_eqb}
 use Rattle.std.proofs.lemmas.List.{length-drop, drop_all}
 use Rattle.ark_base.specs.declared.error.Error.{Error}
 use Rattle.ark_base.specs.declared.error.Error.TheVariants.{SerializationError}
 use Rattle.ark_base.specs.declared.error.SerializationError.TheVariants.{InvalidData}
 use Rattle.ark_base.specs.Outcome.{Outcome, ◌>>=◌}
+use Rattle.ark_base.specs.Reading.{Reading}
 use Rattle.ark_base.specs.Laws.Steps.{bind_ok}
 use Rattle.ark_paths.specs.Pair.{Digest, Hashes}
 use Rattle.merkle_log.specs.Log.{NodeHash}
 use Rattle.merkle_log.specs.Verdict.{leaf_verdict, consistency_verdict}
-use Rattle.merkle_log.specs.Received.{whole_read, received_inclusion, received_consistency, ShowsLogLeaf, ShowsFront}
+use Rattle.merkle_log.specs.Received.{whole_read, digests_in, received_inclusion, received_consistency, ShowsLogLeaf, ShowsFront}
 use Rattle.merkle_log.proofs.Verdicts.{leaf-bound, consistency-bound}
 
 -- bytes are left
@@ -38,10 +38,8 @@ pub numbers-read : {A V : Type 0} (numbers : A → Digest) (view : A → V) (dig
     ≡ digest (view a)) → (items : List A) → map digest (map view items) ≡ map numbers items
 numbers-read numbers view digest same [] = refl
 numbers-read numbers view digest same (a ∷ items) =
-    heads (digest (view a)) (numbers a) _ _ (sym (same a)) (numbers-read numbers view digest same items)
-  where
-    heads : (x y : Digest) (xs ys : List Digest) → x ≡ y → xs ≡ ys → x ∷ xs ≡ y ∷ ys
-    heads x y xs ys p q = cc
+    ap (λ d. d ∷ map digest (map view items)) (sym (same a)) ∙ ap (λ l. numbers a ∷ l) (numbers-read numbers view digest
+    same items)
 
 -- a refusal is no verdict
 refused : (error : Error) (o : Outcome Bool) → o ≡ Err error → o ≡ Ok true → ⊥
@@ -51,18 +49,11 @@ module _ {A : Type 0} (hashes : Hashes A) (root : Digest) (size index : ℕ) (le
     (path : Outcome (List Digest)) where
   pub received-inside : index < size → received_inclusion hashes root size index leaf path
       ≡ (path >>= leaf_verdict hashes root size index leaf)
-  received-inside inside = let t : nat_lt index size ≡ true = grind (arith, nat_tests) in step (nat_lt index size) t _ _
-    where
-      step : (b : Bool) → b ≡ true → (x y : Outcome Bool) → (if b then x else y) ≡ x
-      step b t x y = rw (t) refl
+  received-inside inside = rw (lt-ltb index size inside) refl
 
   pub received-outside : size ≤ index → received_inclusion hashes root size index leaf path
       ≡ Err (SerializationError InvalidData)
-  received-outside outside = let t : nat_lt index size ≡ false =
-      grind (arith, nat_tests) in step (nat_lt index size) t _ _
-    where
-      step : (b : Bool) → b ≡ false → (x y : Outcome Bool) → (if b then x else y) ≡ y
-      step b t x y = rw (t) refl
+  received-outside outside = rw (le-ltb index size outside) refl
 
   pub received-leaf : received_inclusion hashes root size index leaf path ≡ Ok true → ShowsLogLeaf hashes root size
       index leaf path
@@ -76,13 +67,7 @@ module _ {A : Type 0} (hashes : Hashes A) (root : Digest) (size index : ℕ) (le
 module _ (hash : NodeHash) (old_size : ℕ) (old : Digest) (size : ℕ) (new : Digest) (path : Outcome (List Digest)) where
   pub received-sizes : 0 < old_size → old_size ≤ size → received_consistency hash old_size old size new path
       ≡ (path >>= consistency_verdict hash old_size old size new)
-  received-sizes some le =
-      let t : (old_size == 0) ≡ false = grind (arith, nat_tests) in
-      let u : nat_lt size old_size ≡ false =
-      grind (arith, nat_tests) in step (old_size == 0) (nat_lt size old_size) t u _ _
-    where
-      step : (a b : Bool) → a ≡ false → b ≡ false → (x y : Outcome Bool) → (if (a || b) then x else y) ≡ y
-      step a b t u x y = rw (t, u) refl
+  received-sizes some le = rw (ne_eqb old_size 0 (λ none. omega arith), le-ltb size old_size le) refl
 
   pub received-front : received_consistency hash old_size old size new path ≡ Ok true → ShowsFront hash old_size old
       size new path
@@ -94,3 +79,24 @@ module _ (hash : NodeHash) (old_size : ℕ) (old : Digest) (size : ℕ) (new : D
       by_test false is =
           let read = bind_ok path (consistency_verdict hash old_size old size new) true is in
           (read.0, read.1, consistency-bound hash old_size old size new read.0 read.2)
+
+-- ---- the verdict on what was read, under a count by another name
+
+module _ {V : Type 0} (reads : List ℕ → Reading V) (digest : V → Digest) (bytes : List ℕ) {count real : ℕ}
+    {path : Outcome (List Digest)} (same : count ≡ real) (read : digests_in reads digest count bytes ≡ path) where
+  read_is : digests_in reads digest real bytes ≡ path
+  read_is = ap (λ n. digests_in reads digest n bytes) (sym same) ∙ read
+
+  pub inclusion-read : {A : Type 0} (hashes : Hashes A) (root : Digest) (size index : ℕ) (leaf : A) → index < size
+      → received_inclusion hashes root size index leaf (digests_in reads digest real bytes)
+      ≡ (path >>= leaf_verdict hashes root size index leaf)
+  inclusion-read hashes root size index leaf inside =
+      received-inside hashes root size index leaf _ inside ∙ ap (λ o. o >>= leaf_verdict hashes root size index leaf)
+      read_is
+
+  pub consistency-read : (hash : NodeHash) (old_size : ℕ) (old : Digest) (size : ℕ) (new : Digest) → 0 < old_size
+      → old_size ≤ size → received_consistency hash old_size old size new (digests_in reads digest real bytes)
+      ≡ (path >>= consistency_verdict hash old_size old size new)
+  consistency-read hash old_size old size new some le =
+      received-sizes hash old_size old size new _ some le ∙ ap (λ o. o >>= consistency_verdict hash old_size old size
+      new) read_is

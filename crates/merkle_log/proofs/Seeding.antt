@@ -1,22 +1,21 @@
 -- A consistency proof that is made level by level.
-use Rattle.std.proofs.Common.{zero, suc, ◌≡◌, ℕ, ◌+◌, ◌-◌, ◌/◌, ◌%◌, ◌<◌, ◌≤◌, ◌^◌, true, false, ◌==◌, List, [], ◌∷◌, ◌++◌, length, take, get_or, Ok, Err, arith, refl, ap, sym, ◌∙◌, inl, inr}
-use Rattle.std.proofs.lemmas.Bool.{cases_lt}
-use Rattle.std.proofs.lemmas.Bool.Decides.{nat_tests}
+use Rattle.std.proofs.Common.{zero, suc, ◌≡◌, ℕ, ◌+◌, ◌-◌, ◌/◌, ◌%◌, ◌<◌, ◌≤◌, ◌^◌, true, List, [], ◌∷◌, ◌++◌, length, take, get_or, Ok, Err, arith, refl, ap, subst, sym, ◌∙◌, inl, inr}
+use Rattle.std.proofs.lemmas.Bool.{cases_lt, ne_eqb}
 use Rattle.std.proofs.lemmas.List.{length-take-le}
 use Rattle.ark_base.specs.declared.error.Error.{Error}
 use Rattle.ark_base.specs.Outcome.{Outcome, ◌>>=◌}
 use Rattle.merkle_log.specs.Trees.{path, subproof}
 use Rattle.merkle_log.specs.Walk.{joined}
 use Rattle.ark_paths.specs.Pair.{Digest}
-use Rattle.merkle_log.specs.Log.{NodeHash}
-use Rattle.merkle_log.specs.Log.{inclusion_path, consistency_path}
+use Rattle.merkle_log.specs.Log.{NodeHash, inclusion_path, consistency_path}
 use Rattle.merkle_log.specs.Stored.{IsStored}
 use Rattle.merkle_log.specs.Edge.{last_raised, all_of, behind, row_with, path_with, seed_digests}
-use Rattle.merkle_log.proofs.RowsUp.{row_up, twice}
+use Rattle.merkle_log.proofs.RowsUp.{row_up}
+use Rattle.merkle_log.proofs.Tests.{twice, fewer}
 use Rattle.merkle_log.proofs.SubproofRows.{seed, seed-more, subproof-up, subproof-odd}
 use Rattle.merkle_log.proofs.Verdicts.{pow_above}
-use Rattle.merkle_log.proofs.Lasts.{Node, node_rows, raised, raised-err, whole_front}
-use Rattle.merkle_log.proofs.Going.{length-row_with, row_with-own, all_of-behind, long, above_with, path-refused}
+use Rattle.merkle_log.proofs.Lasts.{Node, node_rows, length-row_with, raised, raised-err, whole_front}
+use Rattle.merkle_log.proofs.Going.{row_with-own, all_of-behind, long, above_with, path-refused}
 
 -- From an index of a row with a last value on, with some levels left, the proof is this.
 pub record Seeding (hash : NodeHash) (rows : ℕ → List Digest) (empty : Digest) (level i s : ℕ) (x : Node)
@@ -32,49 +31,42 @@ behind-none (Ok ds) = refl
 behind-none (Err e) = refl
 
 module _ {hash : NodeHash} {rows : ℕ → List Digest} (empty : Digest) (stored : IsStored hash rows) where
+  -- the proof of such a row, some levels up
+  abbrev proof : ℕ → ℕ → ℕ → ℕ → Node → List Node
+  proof k level i s x = subproof (joined hash) (Ok empty) k (i + 1) (row_with (rows level) s x) true
+
   pub seeding-up : {level i s : ℕ} {x : Node} {answer : Outcome (List Digest)} → Seeding hash rows empty level i s x
       answer → i % 2 ≡ 1 → Seeding hash rows empty (suc level) (i / 2) (s / 2) (raised hash (rows level) s x) answer
-  seeding-up {level} {i} {s} {x} {answer} at odd = go at.levels at.high at.is
-    where
-      up : i < s → i % 2 ≡ 1 → i / 2 < s / 2
-      up under o = omega arith
-
-      some : i < s → 0 < s
-      some under = omega arith
-
-      go : (k : ℕ) → s < 2 ^ k → all_of (subproof (joined hash) (Ok empty) k (i + 1) (row_with (rows level) s x) true)
-          ≡ answer → Seeding hash rows empty (suc level) (i / 2) (s / 2) (raised hash (rows level) s x) answer
-      go zero high is = let more = some at.inside in absurd (omega arith)
-      go (suc k) high is =
-          let two = twice k in
-          let n = length-row_with (rows level) s x at.within in
-          let under = at.inside in
-          let half : (i + 1) / 2 ≡ i / 2 + 1 = omega arith in
-          record {
-            levels = k;
-            high = omega arith;
-            within = long empty stored level s at.within;
-            inside = up at.inside odd;
-            is = ap (λ l. all_of (subproof (joined hash) (Ok empty) k (i / 2 + 1) l true))
-                (sym (above_with empty stored level s x at.within))
-                ∙ ap (λ m. all_of (subproof (joined hash) (Ok empty) k m (row_up (joined hash) (row_with (rows level) s
-                x)) true)) (sym half)
-                ∙ ap all_of (sym (subproof-up (joined hash) (Ok empty) k (i + 1) (row_with (rows level) s x) true
-                (omega arith) (omega arith) (omega arith) (omega arith))) ∙ is;
-          }
+  seeding-up {level} {i} {s} {x} {answer} at odd =
+      let half : (i + 1) / 2 ≡ i / 2 + 1 = omega arith in
+      let n = length-row_with (rows level) s x at.within in
+      let under : i < s = at.inside in
+      let up = fewer (λ k. all_of (proof k level i s x) ≡ answer)
+      (λ k. all_of (proof k (suc level) (i / 2) (s / 2) (raised hash (rows level) s x)) ≡ answer) at.levels
+      (omega arith) at.high at.is (λ k high is. ap (λ l. all_of (subproof (joined hash) (Ok empty) k
+      (i / 2 + 1) l true))
+      (sym (above_with empty stored level s x at.within))
+      ∙ ap (λ m. all_of (subproof (joined hash) (Ok empty) k m (row_up (joined hash) (row_with (rows level) s x)) true))
+      (sym half)
+      ∙ ap all_of (sym (subproof-up (joined hash) (Ok empty) k (i + 1) (row_with (rows level) s x) true (omega arith)
+      (omega arith) (omega arith) (omega arith))) ∙ is) in
+      record {
+        levels = up.levels;
+        high = up.high;
+        within = long empty stored level s at.within;
+        inside = omega arith;
+        is = up.at;
+      }
 
   seed-there : (row : List Digest) (i s : ℕ) (x : Node) → s ≤ length row → i < s → seed (Ok empty) true (i + 1)
       (row_with row s x) ≡ node_rows (seed_digests row i)
   seed-there row zero s x le under = refl
   seed-there row (suc j) s x le under =
-      let t : (suc j == 0) ≡ false = grind (arith, nat_tests) in
       let one : suc j + 1 - 1 ≡ suc j = omega arith in
-      seed-more (Ok empty) true (suc j + 1) (row_with row s x) (omega arith)
+      rw (ne_eqb (suc j) 0 (λ none. omega arith)) (seed-more (Ok empty) true (suc j + 1) (row_with row s x)
+      (omega arith)
       ∙ ap (λ n. get_or (row_with row s x) n (Ok empty) ∷ []) one ∙ ap (λ z. z ∷ []) (row_with-own row s x (Ok empty)
-      (suc j) le under) ∙ kept t
-    where
-      kept : (suc j == 0) ≡ false → Ok (get_or row (suc j) []) ∷ [] ≡ node_rows (seed_digests row (suc j))
-      kept t = rw (t) refl
+      (suc j) le under))
 
   -- at an even index
   seeded : (k level i s : ℕ) (x : Node) → s < 2 ^ k → s ≤ length (rows level) → i < s → i % 2 ≡ 0
@@ -109,18 +101,6 @@ module _ {hash : NodeHash} {rows : ℕ → List Digest} (empty : Digest) (stored
         ∙ seeded at.levels level i s (Ok last) at.high at.within at.inside even;
   }
 
-  rewritten : {x y : Node} {a b c : ℕ} {answer : Outcome (List Digest)} → x ≡ y → Seeding hash rows empty a b c x answer
-      → Seeding hash rows empty a b c y answer
-  rewritten {x} {y} {a} {b} {c} same up = record {
-    levels = up.levels;
-    high = up.high;
-    within = up.within;
-    inside =
-        up.inside;
-    is = ap (λ z. all_of (subproof (joined hash) (Ok empty) up.levels (b + 1) (row_with (rows a) c z) true))
-        (sym same) ∙ up.is;
-  }
-
   stopped : {level i s : ℕ} {e : Error} {answer : Outcome (List Digest)} → Seeding hash rows empty level i s (Err e)
       answer → i % 2 ≡ 0 → answer ≡ Err e
   stopped {level} {i} {s} {e} at even =
@@ -132,25 +112,20 @@ module _ {hash : NodeHash} {rows : ℕ → List Digest} (empty : Digest) (stored
   pub seeding-refused : (k : ℕ) {level i s : ℕ} {e : Error} {answer : Outcome (List Digest)} → s < 2 ^ k → Seeding hash
       rows empty level i s (Err e) answer → answer ≡ Err e
   seeding-refused zero {level} {i} {s} {e} high at = let under = at.inside in absurd (omega arith)
-  seeding-refused (suc k) {level} {i} {s} {e} high at = elim (cases_lt (i % 2) 1) [
+  seeding-refused (suc k) {level} {i} {s} {e} {answer} high at = elim (cases_lt (i % 2) 1) [
     | inl even ↦ stopped at (omega arith)
     | inr odd ↦
         let two = twice k in
-        let up = seeding-up at (omega arith) in
-        seeding-refused k (omega arith) (rewritten (raised-err hash (rows level) s e) up)
+        seeding-refused k (omega arith) (subst (λ y. Seeding hash rows empty (suc level) (i / 2) (s / 2) y answer)
+        (raised-err hash (rows level) s e) (seeding-up at (omega arith)))
   ]
 
   pub seeding-next : {level i s : ℕ} {last : Digest} {answer : Outcome (List Digest)} → Seeding hash rows empty level i
       s (Ok last) answer → i % 2 ≡ 1 → (next : ℕ) → next ≡ level + 1 → (y : Node) → last_raised hash (rows level) s last
       ≡ y → Seeding hash rows empty next (i / 2) (s / 2) y answer
   seeding-next {level} {i} {s} {last} {answer} at odd next is y raised_is =
-      let up = seeding-up at odd in
       let e : suc level ≡ next = omega arith in
-      moved e raised_is up
-    where
-      moved : {a b : ℕ} {x z : Node} → a ≡ b → x ≡ z → Seeding hash rows empty a (i / 2) (s / 2) x answer → Seeding hash
-          rows empty b (i / 2) (s / 2) z answer
-      moved {a} {b} {x} {z} e f up = rw (← e, ← f) up
+      rw (← e, ← raised_is) (seeding-up at odd)
 
   pub seeding-first : (old_size size : ℕ) (last : Digest) → 0 < old_size → old_size < size → size ≤ length (rows 0)
       → last ≡ get_or (rows 0) (size - 1) []

@@ -1,7 +1,6 @@
 -- The path of an index of a power of two of digests, by repeated halving.
 use Rattle.std.proofs.Common.{zero, suc, ◌≡◌, ℕ, ◌+◌, ◌-◌, ◌*◌, ◌/◌, ◌%◌, ◌<◌, ◌≤◌, ◌^◌, true, false, ◌==◌, nat_lt, List, [], ◌∷◌, ◌++◌, length, map, take, drop, get_or, Ok, arith, refl, ap, sym, ◌∙◌, pow_pos, inl, inr}
-use Rattle.std.proofs.lemmas.Bool.{cases_lt}
-use Rattle.std.proofs.lemmas.Bool.Decides.{nat_tests}
+use Rattle.std.proofs.lemmas.Bool.{cases_lt, lt-ltb, le-ltb}
 use Rattle.std.proofs.lemmas.Nat.{div-mul-add}
 use Rattle.std.proofs.Math.Nat.{add-mul, mul-add}
 use Rattle.std.proofs.lemmas.List.{length-map, length-take-le, length-drop, take-map, drop-map, get_or-take, get_or-drop, reverse-append}
@@ -17,7 +16,7 @@ use Rattle.merkle_log.specs.Edge.{all_of}
 use Rattle.merkle_log.specs.Log.{NodeHash, both_levels, inclusion_path}
 use Rattle.merkle_log.specs.Trees.{path, tree_hash}
 use Rattle.merkle_log.specs.Walk.{joined}
-use Rattle.merkle_log.proofs.RowsUp.{twice}
+use Rattle.merkle_log.proofs.Tests.{twice, odd_test, even_test, stays, power-rises}
 use Rattle.merkle_log.proofs.Above.{there}
 use Rattle.merkle_log.proofs.Halving.{halved}
 use Rattle.merkle_log.proofs.Verdicts.{pow_above}
@@ -71,13 +70,11 @@ bit_zero i = let one : i / 2 ^ 0 ≡ i = omega arith in rw (one) refl
 
 odd-before : (i : ℕ) → i % 2 ≡ 1 → neighbour i ≡ i - 1
 odd-before i odd =
-    let t : (i % 2 == 1) ≡ true = grind (arith, nat_tests) in
-    rw (bit_zero i, t) refl
+    rw (bit_zero i, odd_test i odd) refl
 
 even-behind : (i : ℕ) → i % 2 ≡ 0 → neighbour i ≡ i + 1
 even-behind i even =
-    let t : (i % 2 == 1) ≡ false = grind (arith, nat_tests) in
-    rw (bit_zero i, t) refl
+    rw (bit_zero i, even_test i even) refl
 
 inside-half : (i n : ℕ) → i < n + n → neighbour i < n + n
 inside-half i n low = elim (cases_lt (i % 2) 1) [
@@ -106,15 +103,12 @@ index-right q half i high = omega (arith, mul-add q half half, add-mul (q + q) 1
 bit-left : (q m i : ℕ) → i < 2 ^ suc m → bit_at ((q + q) * 2 ^ suc m + i) (suc m) ≡ false
 bit-left q m i low =
     let up : ((q + q) * 2 ^ suc m + i) / 2 ^ suc m ≡ q + q = div-mul-add (q + q) (2 ^ suc m) i low in
-    let t : ((q + q) % 2 == 1) ≡ false = let even : (q + q) % 2 ≡ 0 = omega arith in grind (arith, nat_tests) in
-    rw (up, t) refl
+    rw (up, even_test (q + q) (omega arith)) refl
 
 bit-right : (q m i : ℕ) → i < 2 ^ suc m → bit_at ((q + q + 1) * 2 ^ suc m + i) (suc m) ≡ true
 bit-right q m i low =
     let up : ((q + q + 1) * 2 ^ suc m + i) / 2 ^ suc m ≡ q + q + 1 = div-mul-add (q + q + 1) (2 ^ suc m) i low in
-    let t : ((q + q + 1) % 2 == 1) ≡ true =
-    let odd : (q + q + 1) % 2 ≡ 1 = omega arith in grind (arith, nat_tests) in
-    rw (up, t) refl
+    rw (up, odd_test (q + q + 1) (omega arith)) refl
 
 module _ (hash : NodeHash) where
   halves-left : (m index : ℕ) (xs : List Digest) (d : Digest) → bit_at index (suc m) ≡ false
@@ -140,25 +134,19 @@ module _ (hash : NodeHash) where
   turn : (none : Outcome Digest) (m i q : ℕ) (xs ds : List Digest) → length xs ≡ 2 ^ suc m → i < 2 ^ suc m
       → all_of (path (joined hash) none (suc m) i (there xs)) ≡ Ok ds
       → ds ≡ turned hash m i (q * 2 ^ suc m + i) xs
-  turn none zero i q [] ds long low is = absurd (omega arith)
-  turn none zero i q (a ∷ []) ds long low is = absurd (omega arith)
   turn none zero zero q (a ∷ b ∷ []) ds long low is = sym (done_injective {E = Error} (b ∷ []) ds is)
   turn none zero (suc zero) q (a ∷ b ∷ []) ds long low is = sym (done_injective {E = Error} (a ∷ []) ds is)
-  turn none zero (suc (suc i)) q (a ∷ b ∷ []) ds long low is = absurd (omega arith)
-  turn none zero i q (a ∷ b ∷ c ∷ xs) ds long low is = absurd (omega arith)
   turn none (suc m) i q xs ds long low is =
       let half = 2 ^ suc m in
       let two : 2 ^ suc (suc m) ≡ 2 ^ suc m + 2 ^ suc m = twice (suc m) in
       let four : 2 ^ suc m ≡ 2 ^ m + 2 ^ m = twice m in
       let some : 0 < 2 ^ suc m = pow_pos (suc m) in
-      let all : length (map {B = Outcome Digest} Ok xs) ≡ length xs = length-map xs Ok in
-      let t : nat_lt (2 ^ suc m) (length (map {B = Outcome Digest} Ok xs)) ≡ true =
-      let less : 2 ^ suc m < length (map {B = Outcome Digest} Ok xs) = omega arith in grind (arith, nat_tests) in
+      let all = length-map {B = Outcome Digest} xs Ok in
+      let t : nat_lt (2 ^ suc m) (length (map {B = Outcome Digest} Ok xs)) ≡ true = lt-ltb _ _ (omega arith) in
       elim (cases_lt i (2 ^ suc m)) [
         | inl left ↦
-            let u : nat_lt i (2 ^ suc m) ≡ true = grind (arith, nat_tests) in
             let one = all-and-one (path (joined hash) none (suc m) i (take half (there xs)))
-            (tree_hash (joined hash) none (suc m) (drop half (there xs))) ds (rw (t, u) at is) in
+            (tree_hash (joined hash) none (suc m) (drop half (there xs))) ds (rw (t, lt-ltb i half left) at is) in
             let front = turn none m i (q + q) (take half xs) one.front (length-take-le half xs (omega arith)) left
             (ap (λ l. all_of (path (joined hash) none (suc m) i l)) (sym (take-map Ok half xs)) ∙ one.front_is) in
             let back = halved hash none m (drop half xs) one.last (omega (arith, length-drop half xs))
@@ -170,9 +158,8 @@ module _ (hash : NodeHash) where
             (ap (λ n. halves_beside (both_levels hash) (suc m) n xs) index
             ∙ halves-left m ((q + q) * half + i) xs one.last (bit-left q m i left) back)
         | inr right ↦
-            let u : nat_lt i (2 ^ suc m) ≡ false = grind (arith, nat_tests) in
             let one = all-and-one (path (joined hash) none (suc m) (i - half) (drop half (there xs)))
-            (tree_hash (joined hash) none (suc m) (take half (there xs))) ds (rw (t, u) at is) in
+            (tree_hash (joined hash) none (suc m) (take half (there xs))) ds (rw (t, le-ltb i half right) at is) in
             let low_back : i - half < half = omega arith in
             let back = turn none m (i - half) (q + q + 1) (drop half xs) one.front (omega (arith, length-drop half xs))
             low_back
@@ -189,35 +176,20 @@ module _ (hash : NodeHash) where
             (ap (λ n. halves_beside (both_levels hash) (suc m) n xs) index
             ∙ halves-right m ((q + q + 1) * half + (i - half)) xs one.last (bit-right q m (i - half) low_back) front)
       ]
+  turn none zero i q xs ds long low is = absurd (omega arith)
 
 -- Levels above a whole tree change nothing.
-path-levels : {A : Type 0} (join : A → A → A) (none : A) (k d i : ℕ) (xs : List A) → length xs ≤ 2 ^ k
-    → path join none (d + k) i xs ≡ path join none k i xs
-path-levels join none k zero i xs le = let e : 0 + k ≡ k = omega arith in rw (e) refl
-path-levels join none k (suc d) i xs le =
-    let e : suc d + k ≡ suc (d + k) = omega arith in
-    let wide : 2 ^ k ≤ 2 ^ (d + k) = grows k d in
-    let t : nat_lt (2 ^ (d + k)) (length xs) ≡ false = let l : length xs ≤ 2 ^ (d + k) =
-    omega arith in grind (arith, nat_tests) in
-    ap (λ n. path join none n i xs) e ∙ one_level (d + k) t ∙ path-levels join none k d i xs le
-  where
-    grows : (k d : ℕ) → 2 ^ k ≤ 2 ^ (d + k)
-    grows k zero = let e : 0 + k ≡ k = omega arith in rw (e) (omega arith)
-    grows k (suc d) = let e : suc d + k ≡ suc (d + k) = omega arith in let t = twice (d + k) in let h =
-        grows k d in rw (e) (omega arith)
-
-    one_level : (j : ℕ) → nat_lt (2 ^ j) (length xs) ≡ false → path join none (suc j) i xs ≡ path join none j i xs
-    one_level j t = rw (t) refl
+path-levels : {A : Type 0} (join : A → A → A) (none : A) (k n i : ℕ) (xs : List A) → length xs ≤ 2 ^ k → k ≤ n
+    → path join none n i xs ≡ path join none k i xs
+path-levels join none k n i xs long le = stays (λ n. path join none n i xs) k n le (λ m more.
+    rw (le-ltb (2 ^ m) (length xs) (omega (arith, power-rises k m more))) refl)
 
 pub path-turned : (hash : NodeHash) (empty : Digest) (digests : List Digest) (m index : ℕ) (ds : List Digest)
     → length digests ≡ 2 ^ suc m → index < 2 ^ suc m → all_of (inclusion_path hash empty index digests) ≡ Ok ds
     → ds ≡ get_or digests (neighbour index) [] ∷ reverse (halves_beside (both_levels hash) m index digests)
 path-turned hash empty digests m index ds long inside is =
-    let high = pow_above (suc m) in
-    let sum : length digests - suc m + suc m ≡ length digests = omega arith in
-    let all : length (map {B = Outcome Digest} Ok digests) ≡ length digests = length-map digests Ok in
     let none : 0 * 2 ^ suc m + index ≡ index = omega arith in
-    let low = ap all_of (sym (path-levels (joined hash) (Ok empty) (suc m) (length digests - suc m) index
-    (there digests) (omega arith)) ∙ ap (λ n. path (joined hash) (Ok empty) n index (there digests)) sum) ∙ is in
-    turn hash (Ok empty) m index 0 digests ds long inside low
+    turn hash (Ok empty) m index 0 digests ds long inside (ap all_of (sym (path-levels (joined hash) (Ok empty) (suc m)
+    (length digests) index (there digests) (omega (arith, length-map {B = Outcome Digest} digests Ok))
+    (omega (arith, pow_above (suc m))))) ∙ is)
     ∙ ap (λ n. turned hash m index n digests) none

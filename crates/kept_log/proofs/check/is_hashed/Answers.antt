@@ -40,10 +40,11 @@ returns-clause-hashed c = λ yes.
 
 pub returns-then-ne-clause-damaged : goal.returns-then-ne-clause-damaged
 returns-then-ne-clause-damaged c = λ no.
-    let row = row_of c.args.kept.now c.args.level in
-    hashed-not row (row_of c.args.kept.now (c.args.level + 1)) c.places.place (length-up c.args.kept.now c.args.level)
+    hashed-not (row_of c.args.kept.now c.args.level) (row_of c.args.kept.now (c.args.level + 1)) c.places.place
+    (length-up c.args.kept.now c.args.level)
     (omega (arith, c.requires.count, c.places-test.true)) (λ same. other-says c.node-own.result
     c.at-in-places-2.result.now c.ne.result c.ne.ensures c.if-ne.true
     (c.node-own.ensures ∙ ap (λ d. node_hash d c.at-in-places.result.now) c.at.ensures
-    ∙ ap (node_hash (get_or row (2 * c.places.place) [])) c.at-in-places.ensures ∙ same
+    ∙ ap (node_hash (get_or (row_of c.args.kept.now c.args.level) (2 * c.places.place) [])) c.at-in-places.ensures
+    ∙ same
     ∙ sym c.at-in-places-2.ensures))

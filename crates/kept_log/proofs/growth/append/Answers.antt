@@ -20,16 +20,15 @@ complete-made-requires-clause-room c =
 
 pub leaves-preserved : goal.leaves-preserved
 leaves-preserved c =
-    let rises = count-rises (c.args.kept.now.size + c.leaves.place) (c.args.kept.now.size + length c.args.digests.now)
-    (omega (arith, c.leaves-test.true)) in
-    let room : c.leaves.made ≤ length c.leaves.more = omega (
+    appending-next c.leaves.invariant (omega (
       arith,
+      count-rises (c.args.kept.now.size + c.leaves.place) (c.args.kept.now.size + length c.args.digests.now)
+          (omega (arith, c.leaves-test.true)),
       c.stored-stored.ensures.count,
       c.requires.room,
       c.leaves.invariant.same,
       rw (c.size-size.ensures.size) at c.leaves.invariant.count,
-    ) in
-    appending-next c.leaves.invariant room (omega (arith, c.leaves-test.true)) refl c.complete-made.ensures.completed
+    )) (omega (arith, c.leaves-test.true)) refl c.complete-made.ensures.completed
     c.complete-made.ensures.whole c.complete-made.ensures.behind c.complete-made.ensures.same
 
 pub returns-clause-grows : goal.returns-clause-grows

@@ -18,9 +18,11 @@ position_of-requires-clause-below c =
     (making-place c.odd.invariant c.requires.whole c.requires.fits c.requires.room c.odd-test.true).1
 
 pub position_of-requires-clause-fits : goal.position_of-requires-clause-fits
-position_of-requires-clause-fits c =
-    let place = (making-place c.odd.invariant c.requires.whole c.requires.fits c.requires.room c.odd-test.true).2 in
-    omega (arith, c.requires.whole)
+position_of-requires-clause-fits c = omega (
+  arith,
+  c.requires.whole,
+  (making-place c.odd.invariant c.requires.whole c.requires.fits c.requires.room c.odd-test.true).2,
+)
 
 pub digest_in-requires : goal.digest_in-requires
 digest_in-requires c =

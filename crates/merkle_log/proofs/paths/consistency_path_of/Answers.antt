@@ -11,16 +11,14 @@ use Rattle.merkle_log.proofs.paths.consistency_path_of.Goals as goal
 pub complete-init : goal.complete-init
 complete-init g c =
     let rows = row_of c.args.rows.now in
-    let inside = c.requires.inside in
-    let within = c.requires.within in
     record {
       count = omega arith;
-      has = omega arith;
+      has = omega (arith, c.requires.inside, c.requires.within);
       at = λ empty. seeding-first empty c.requires.stored c.args.old_size c.args.size (get_or (rows 0) (c.args.size - 1)
           []) c.requires.some c.requires.inside c.requires.within refl;
       same = refl;
       low = omega (arith, c.requires.none);
-      tally = tallying-first c.args.old_size c.args.size c.requires.none c.requires.some inside;
+      tally = tallying-first c.args.old_size c.args.size c.requires.none c.requires.some c.requires.inside;
     }
 
 pub raise_counted-requires-clause-stored : goal.raise_counted-requires-clause-stored
@@ -31,10 +29,7 @@ raise_counted-requires-clause-last g c = c.complete.invariant.has
 
 pub raise_counted-requires-clause-counted : goal.raise_counted-requires-clause-counted
 raise_counted-requires-clause-counted g c =
-    let low = c.complete.invariant.low in
-    let count = c.complete.invariant.count in
-    let under = (c.complete.invariant.at []).inside in
-    omega arith
+    omega (arith, c.complete.invariant.low, c.complete.invariant.count, (c.complete.invariant.at []).inside)
 
 pub returns-in_err-last-clause-path : goal.returns-in_err-last-clause-path
 returns-in_err-last-clause-path g c = λ empty.
@@ -45,17 +40,14 @@ returns-in_err-last-clause-path g c = λ empty.
 
 pub overflow_add-level : goal.overflow_add-level
 overflow_add-level g c =
-    let under = (c.complete.invariant.at []).inside in
-    let count = c.complete.invariant.count in
-    omega arith
+    omega (arith, c.complete.invariant.count, (c.complete.invariant.at []).inside)
 
 pub complete-preserved : goal.complete-preserved
 complete-preserved g c =
     let made = c.in_ok-last.ensures in
-    let count = c.complete.invariant.count in
     let under = (c.complete.invariant.at []).inside in
     record {
-      count = omega arith;
+      count = omega (arith, c.complete.invariant.count);
       has = made.has;
       at = λ empty. seeding-next empty c.requires.stored (c.complete.invariant.at empty) (omega arith)
           (c.complete.level + 1) refl _ (rw (c.complete.invariant.same) at made.raised);
@@ -67,15 +59,10 @@ complete-preserved g c =
     }
 
 pub seed_path-requires : goal.seed_path-requires
-seed_path-requires g c =
-    let under = (c.complete.invariant.at []).inside in
-    let within = (c.complete.invariant.at []).within in
-    omega arith
+seed_path-requires g c = omega (arith, (c.complete.invariant.at []).inside, (c.complete.invariant.at []).within)
 
 pub path_from-requires-clause-inside : goal.path_from-requires-clause-inside
-path_from-requires-clause-inside g c =
-    let under = (c.complete.invariant.at []).inside in
-    omega arith
+path_from-requires-clause-inside g c = omega (arith, (c.complete.invariant.at []).inside)
 
 pub path_from-requires-clause-within : goal.path_from-requires-clause-within
 path_from-requires-clause-within g c = (c.complete.invariant.at []).within

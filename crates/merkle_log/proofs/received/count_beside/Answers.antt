@@ -16,21 +16,18 @@ levels-init c = record {
 }
 
 pub overflow_add-used : goal.overflow_add-used
-overflow_add-used c =
-    let most = c.levels.invariant.most in
-    omega (arith, c.ranges.last.fits)
+overflow_add-used c = omega (arith, c.levels.invariant.most, c.ranges.last.fits)
 
 pub levels-preserved : goal.levels-preserved
 levels-preserved c =
-    let most = c.levels.invariant.most in
     elim c.if-has_beside.branch [
       | then-has_beside w ↦ record {
-        most = omega (arith, w.used-is);
+        most = omega (arith, c.levels.invariant.most, w.used-is);
         at = λ k high. rw (w.used-is) (counts-right (c.levels.invariant.at k high) c.levels-test.true
             (sym c.has_beside.ensures ∙ w.if-has_beside.true));
       }
       | else-has_beside w ↦ record {
-        most = omega (arith, w.used-is);
+        most = omega (arith, c.levels.invariant.most, w.used-is);
         at = λ k high. rw (w.used-is) (counts-alone (c.levels.invariant.at k high) c.levels-test.true
             (sym c.has_beside.ensures ∙ w.if-has_beside.false));
       }
@@ -40,4 +37,4 @@ pub returns-clause-count : goal.returns-clause-count
 returns-clause-count c = λ k high. counts-end (c.levels.invariant.at k high) (omega arith)
 
 pub returns-clause-most : goal.returns-clause-most
-returns-clause-most c = let most = c.levels.invariant.most in omega arith
+returns-clause-most c = omega (arith, c.levels.invariant.most)

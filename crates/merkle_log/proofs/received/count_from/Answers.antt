@@ -4,27 +4,18 @@ use Rattle.merkle_log.proofs.received.count_from.Goals as goal
 
 pub complete-init : goal.complete-init
 complete-init c =
-    let inside = c.requires.inside in
     record {
-      most = omega arith;
-      inside = inside;
-      at = λ k high. record {
-        levels = k;
-        high = high;
-        inside = inside;
-        is = refl;
-      };
+      most = omega (arith, c.requires.inside);
+      inside = c.requires.inside;
+      at = λ k high. record { levels = k; high = high; inside = c.requires.inside; is = refl };
     }
 
 pub complete-preserved : goal.complete-preserved
 complete-preserved c =
-    let most = c.complete.invariant.most in
-    let inside = c.complete.invariant.inside in
     record {
-      most = omega arith;
-      inside = omega arith;
-      at = λ k high. leads-odd (c.complete.invariant.at k high)
-          (omega arith);
+      most = omega (arith, c.complete.invariant.most);
+      inside = omega (arith, c.complete.invariant.inside);
+      at = λ k high. leads-odd (c.complete.invariant.at k high) (omega arith);
     }
 
 pub returns-then-index-eq0 : goal.returns-then-index-eq0

@@ -26,9 +26,7 @@ raise_needed-requires-clause-stored g c = rw (c.levels.invariant.same) c.require
 
 pub raise_needed-requires-clause-counted : goal.raise_needed-requires-clause-counted
 raise_needed-requires-clause-counted g c =
-    let low = c.levels.invariant.low in
-    let count = c.levels.invariant.count in
-    omega arith
+    omega (arith, c.levels.invariant.low, c.levels.invariant.count)
 
 pub returns-in_err-last-clause-path : goal.returns-in_err-last-clause-path
 returns-in_err-last-clause-path g c = λ empty k high.
@@ -39,10 +37,9 @@ returns-in_err-last-clause-path g c = λ empty k high.
 
 pub levels-preserved : goal.levels-preserved
 levels-preserved g c =
-    let count = c.levels.invariant.count in
     let made = c.in_ok-last.ensures in
     record {
-      count = omega arith;
+      count = omega (arith, c.levels.invariant.count);
       has = made.has;
       going = λ empty k high. going-step empty c.requires.stored (c.levels.invariant.going empty k high)
           c.levels-test.true (c.levels.level + 1) refl _ (rw (c.levels.invariant.same) at made.raised) _

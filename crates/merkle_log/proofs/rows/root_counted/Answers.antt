@@ -37,9 +37,8 @@ returns-in_err-last-clause-root g c = λ empty.
 
 pub levels-preserved : goal.levels-preserved
 levels-preserved g c =
-    let count = c.levels.invariant.count in
     record {
-      count = omega arith;
+      count = omega (arith, c.levels.invariant.count);
       has = c.in_ok-last.ensures.has;
       at = λ empty. last-next c.requires.stored (c.levels.invariant.at empty) c.levels-test.true (c.levels.level + 1)
           refl _ (rw (c.levels.invariant.same) at c.in_ok-last.ensures.raised);

@@ -1,4 +1,4 @@
-use Rattle.std.proofs.Common.{◌≡◌, ◌<◌, ◌-◌, length, map, get_or, refl, ap, ◌∙◌, inl, inr, arith, take, []}
+use Rattle.std.proofs.Common.{◌≡◌, ◌-◌, length, map, get_or, refl, ap, ◌∙◌, inl, inr, arith, take, []}
 use Rattle.std.proofs.lemmas.Result.{err_from_is_err_and}
 use Rattle.merkle_log.proofs.Completing.{completing-first, completing-long, completing-front, completing-place, completing-inside, completing-next, completing-end, completing-pairs, digest-read}
 use Rattle.merkle_log.specs.Append.{counted_after}
@@ -15,28 +15,27 @@ odd-init g c = record {
 
 pub overflow_sub-last : goal.overflow_sub-last
 overflow_sub-last g c =
-    let long = completing-long c.odd.invariant.at in
-    omega (arith, c.len-last.ensures, c.odd.digests.ok.0)
+    omega (arith, completing-long c.odd.invariant.at, c.len-last.ensures, c.odd.digests.ok.0)
 
 pub digest_at-requires-clause-level : goal.digest_at-requires-clause-level
 digest_at-requires-clause-level g c = (completing-place c.odd.invariant.at c.ranges.size.fits c.odd-test.true).0
 
 pub digest_at-requires-clause-below : goal.digest_at-requires-clause-below
 digest_at-requires-clause-below g c =
-    let place = (completing-place c.odd.invariant.at c.ranges.size.fits c.odd-test.true).1 in
-    let fits = c.ranges.size.fits in
-    omega arith
+    omega (arith, (completing-place c.odd.invariant.at c.ranges.size.fits c.odd-test.true).1, c.ranges.size.fits)
 
 pub digest_at-requires-clause-inside : goal.digest_at-requires-clause-inside
 digest_at-requires-clause-inside g c =
-    let inside = completing-inside c.odd.invariant.at c.ranges.size.fits c.odd-test.true c.requires.whole in
-    let long = completing-long c.odd.invariant.at in
-    omega (arith, ap length c.deref.ensures.value)
+    omega (
+      arith,
+      completing-inside c.odd.invariant.at c.ranges.size.fits c.odd-test.true c.requires.whole,
+      completing-long c.odd.invariant.at,
+      ap length c.deref.ensures.value,
+    )
 
 pub index-requires : goal.index-requires
 index-requires g c =
-    let long = completing-long c.odd.invariant.at in
-    omega (arith, c.len-last.ensures, c.odd.digests.ok.0)
+    omega (arith, completing-long c.odd.invariant.at, c.len-last.ensures, c.odd.digests.ok.0)
 
 pub returns-in_err-up-clause-front : goal.returns-in_err-up-clause-front
 returns-in_err-up-clause-front g c = completing-front c.odd.invariant.at
@@ -67,21 +66,17 @@ returns-in_err-push-2-clause-same g c = c.upper.ensures.same ∙ c.odd.invariant
 
 pub overflow_add-level : goal.overflow_add-level
 overflow_add-level g c =
-    let low = (completing-place c.odd.invariant.at c.ranges.size.fits c.odd-test.true).0 in
-    omega arith
+    omega (arith, (completing-place c.odd.invariant.at c.ranges.size.fits c.odd-test.true).0)
 
 pub odd-preserved : goal.odd-preserved
 odd-preserved g c =
     let numbers = g.D.Numbered.numbers in
-    let long = completing-long c.odd.invariant.at in
     let last : c.len-last.result - 1 ≡ length c.odd.digests.items - 1 =
-    omega (arith, c.len-last.ensures, c.odd.digests.ok.0) in
-    let below : c.len-last.result - 1 < length c.odd.digests.items =
     omega (arith, c.len-last.ensures, c.odd.digests.ok.0) in
     let left : numbers c.digest_at.result.now ≡ get_or (map numbers c.odd.digests.items) _ [] =
     rw (c.deref.ensures.value) at c.digest_at.ensures in
-    let right = digest-read numbers c.odd.digests.items (c.len-last.result - 1) c.index.result.now below
-    c.index.ensures in
+    let right = digest-read numbers c.odd.digests.items (c.len-last.result - 1) c.index.result.now
+    (omega (arith, last, completing-long c.odd.invariant.at)) c.index.ensures in
     record {
       same = c.upper.ensures.same ∙ c.odd.invariant.same;
       counted = counted-next _ _ c.odd.level _ c.odd.invariant.counted c.upper.ensures.counts;

@@ -4,10 +4,12 @@ use Rattle.merkle_log.proofs.Positions.{place-within, position-within, level-fit
 use Rattle.kept_log.proofs.kept.Kept.at.Goals as goal
 
 pub digest_at-requires-clause-below : goal.digest_at-requires-clause-below
-digest_at-requires-clause-below c =
-    let within = place-within c.args.level c.args.place c.self.inside.size (row-inside _ _ c.args.level c.args.place
-    c.self.view_is c.requires) in
-    omega (arith, c.self.invariant.0)
+digest_at-requires-clause-below c = omega (
+  arith,
+  place-within c.args.level c.args.place c.self.inside.size (row-inside _ _ c.args.level c.args.place c.self.view_is
+      c.requires),
+  c.self.invariant.0,
+)
 
 pub digest_at-requires-clause-level : goal.digest_at-requires-clause-level
 digest_at-requires-clause-level c = level-fits c.args.level c.args.place (digest_at-requires-clause-below c)

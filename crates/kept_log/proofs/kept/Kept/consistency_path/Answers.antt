@@ -12,15 +12,14 @@ use Rattle.kept_log.proofs.kept.Kept.consistency_path.Goals as goal
 
 pub complete-init : goal.complete-init
 complete-init c =
-    let size = c.args.self.now.size in
-    let rows = row_of c.args.self.now in
     let long = length-row_of c.args.self.now 0 in
     rw (c.size-size.ensures.size) (record {
       count = omega (arith, c.size-size.ensures.size);
       inside = omega (arith, c.requires.some, c.requires.inside, c.size-size.ensures.size);
       has = omega (arith, c.requires.some, c.requires.inside, c.size-size.ensures.size);
-      at = λ stored empty. seeding-first empty stored c.args.old_size size (get_or (rows 0) (size - 1) [])
-          c.requires.some (omega (arith, c.requires.inside, c.size-size.ensures.size)) (omega arith) refl;
+      at = λ stored empty. seeding-first empty stored c.args.old_size c.args.self.now.size
+          (get_or (row_of c.args.self.now 0) (c.args.self.now.size - 1) []) c.requires.some
+          (omega (arith, c.requires.inside, c.size-size.ensures.size)) (omega arith) refl;
     })
 
 pub complete-preserved : goal.complete-preserved

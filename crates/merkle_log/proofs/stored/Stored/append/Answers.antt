@@ -5,12 +5,11 @@ use Rattle.merkle_log.proofs.stored.Stored.append.Goals as goal
 
 pub invariant_of-self : goal.invariant_of-self
 invariant_of-self g c =
-    let numbers = g.D.Numbered.numbers in
-    sym (length-map c.complete.new.digests.items numbers) ∙ completes-count c.in-Ok.ensures.completed
-    (length-map c.self.inside.digests.items numbers ∙ c.self.invariant)
+    sym (length-map c.complete.new.digests.items g.D.Numbered.numbers) ∙ completes-count c.in-Ok.ensures.completed
+    (length-map c.self.inside.digests.items g.D.Numbered.numbers ∙ c.self.invariant)
 
 pub returns-in-Ok-clause-appended : goal.returns-in-Ok-clause-appended
 returns-in-Ok-clause-appended g c =
-    let numbers = g.D.Numbered.numbers in
-    rw (← c.self.view_is) (completes-appends c.in-Ok.ensures.completed (length-map c.self.inside.digests.items numbers
+    rw (← c.self.view_is) (completes-appends c.in-Ok.ensures.completed
+    (length-map c.self.inside.digests.items g.D.Numbered.numbers
     ∙ c.self.invariant))

@@ -6,10 +6,14 @@ use Rattle.merkle_log.proofs.stored.Stored.at.Goals as goal
 
 pub digest_at-requires-clause-below : goal.digest_at-requires-clause-below
 digest_at-requires-clause-below g c =
-    let within = place-within c.args.level c.args.place c.self.inside.size (row-inside _ _ c.args.level c.args.place
-    c.self.view_is c.requires) in
-    let size = size-within c.self.inside.size in
-    omega (arith, c.self.invariant, c.self.inside.digests.ok.0)
+    omega (
+      arith,
+      place-within c.args.level c.args.place c.self.inside.size (row-inside _ _ c.args.level c.args.place c.self.view_is
+          c.requires),
+      size-within c.self.inside.size,
+      c.self.invariant,
+      c.self.inside.digests.ok.0,
+    )
 
 pub digest_at-requires-clause-level : goal.digest_at-requires-clause-level
 digest_at-requires-clause-level g c = level-fits c.args.level c.args.place (digest_at-requires-clause-below g c)

@@ -6,9 +6,12 @@ use Rattle.merkle_log.proofs.Positions.{count-rises}
 use Rattle.merkle_log.proofs.stored.Stored.cut.Goals as goal
 
 pub overflow_add-count : goal.overflow_add-count
-overflow_add-count g c =
-    let less = count-rises c.args.size c.self.inside.size (rw (← c.self.view_is) at c.requires) in
-    omega (arith, c.self.invariant, c.self.inside.digests.ok.0)
+overflow_add-count g c = omega (
+  arith,
+  count-rises c.args.size c.self.inside.size (rw (← c.self.view_is) at c.requires),
+  c.self.invariant,
+  c.self.inside.digests.ok.0,
+)
 
 pub invariant_of-self : goal.invariant_of-self
 invariant_of-self g c =
