@@ -179,7 +179,7 @@ pub path_pair-last : (h : HashPair) (way : Way) (digest : Digest) (level : ℕ) 
 path_pair-last h way digest level last = let none : drop level way.above ≡ [] =
     drop_all level way.above (omega arith) in rw (none) refl
 
-bound_alone : (o : Outcome Digest) → (o >>= λ digest. Ok digest) ≡ o
+pub bound_alone : (o : Outcome Digest) → (o >>= λ digest. Ok digest) ≡ o
 bound_alone (Ok digest) = refl
 bound_alone (Err e) = refl
 

@@ -1,8 +1,10 @@
 -- What bytes that were read whole show of a tree.
-use Rattle.std.proofs.Common.{◌≡◌, ℕ, suc, ◌+◌, ◌-◌, ◌<◌, ◌%◌, ◌^◌, nat_lt, ◌==◌, ◌&&◌, Bool, true, false, if◌then◌else◌, Some, List, [], ◌∷◌, length, map, Ok, Err, refl, ap, sym, subst, ◌∙◌, arith}
+use Rattle.std.proofs.Common.{◌≡◌, ℕ, suc, ◌+◌, ◌-◌, ◌<◌, ◌%◌, ◌^◌, nat_lt, ◌==◌, ◌&&◌, Bool, true, false, if◌then◌else◌, Some, List, [], ◌∷◌, length, map, get_or, Ok, Err, refl, ap, sym, subst, ◌∙◌, arith}
 use Rattle.std.specs.List.{AllByRecursion, list_all}
 use Rattle.std.specs.Str.{bytes_eq}
-use Rattle.std.proofs.lemmas.Bool.{eqb-true, ltb-true}
+use Rattle.std.proofs.lemmas.Bool.{and_parts, eqb-true, ltb-true}
+use Rattle.std.proofs.lemmas.List.{length-map, nil_from_length}
+use Rattle.std.specs.declared.vec.Vec.{Vec}
 use Rattle.std.proofs.lemmas.Slice.Eq.{bytes_eq-Decides}
 use Rattle.std.proofs.Math.Nat.{mod-eq_of_lt}
 use Rattle.ark_base.specs.declared.error.Error.{Error}
@@ -10,16 +12,17 @@ use Rattle.ark_base.specs.declared.error.Error.TheVariants.{IncorrectInputLength
 use Rattle.ark_base.specs.declared.error.SerializationError.{SerializationError}
 use Rattle.ark_base.specs.declared.error.SerializationError.TheVariants.{InvalidData}
 use Rattle.ark_base.specs.Laws.Steps.{bind_ok, done_injective}
-use Rattle.ark_base.specs.Outcome.{◌>>=◌}
+use Rattle.ark_base.specs.Outcome.{Outcome, ◌>>=◌}
 use Rattle.ark_base.specs.Reading.{Reading, reading_outcome}
 use Rattle.ark_paths.specs.Bind.{StandsOrCollides, BindsLeaf, BindsLeaves}
 use Rattle.ark_paths.specs.Index.{IsTreeSize, log2, is_tree_size}
-use Rattle.ark_paths.specs.MultiPath.{MultiWay, path_length, decoded_paths}
+use Rattle.ark_paths.specs.MultiPath.{MultiWay, listed_way, path_length, decoded_paths}
 use Rattle.ark_paths.specs.MultiPathStrict.{is_strict, strict_reading}
 use Rattle.ark_paths.specs.Pair.{Digest, Hashes}
 use Rattle.ark_paths.specs.Path.{Way}
 use Rattle.ark_paths.specs.Received.{provided, is_fit, fit_path, received_path, fit_multi_path, received_multi_path, StandsAt, StandInTurn, ShowsLeaf, ShowsLeaves}
 use Rattle.ark_paths.proofs.Logs.{log2-pow}
+use Rattle.ark_paths.proofs.Readings.{first-seen}
 use Rattle.ark_paths.proofs.SizeLemmas.{power_decided}
 use Rattle.ark_paths.proofs.StrictLaws.{made_of, within_tree}
 use Rattle.ark_paths.proofs.StrictReadings.{read_of, fault_of}
@@ -34,29 +37,28 @@ module _ (size index : ℕ) (reading : Reading Way) (sized : is_tree_size size �
   pub received-fault : (e : Error) → reading_outcome reading ≡ Err e → received_path size index reading ≡ Err e
   received-fault e refused = rw (sized, refused) refl
 
-  module _ (way : Way) (rest : List ℕ) (read : reading ≡ Ok (way, rest)) (above own : ℕ) (asked : Bool)
-      (long : length way.above ≡ above) (at : way.index ≡ own) (is : asked
-      ≡ ((own == index) && nat_lt index size)) where
-    pub received-unfit : (e : Error) → is_fit size rest above asked ≡ Err e → received_path size index reading ≡ Err e
-    received-unfit e refused = rw (sized, read, long, at, ← is, refused) refl
-
-    pub received-fit : is_fit size rest above asked ≡ Ok tt → received_path size index reading ≡ Ok way
-    received-fit fits = rw (sized, read, long, at, ← is, fits) refl
+  -- what is said of a path that was read, by its parts
+  pub received-read : {U : Type 0} (inner : U → Digest) (items : List U) {way : Way} {rest : List ℕ} {sibling : Digest}
+      {own count : ℕ} {asked : Bool} {fits : Outcome (Unit {0})} → reading ≡ Ok (way, rest)
+      → way ≡ record { sibling = sibling; above = map inner items; index = own } → count ≡ length items
+      → asked ≡ ((own == index) && nat_lt index size) → fits ≡ is_fit size rest count asked
+      → received_path size index reading ≡ (fits >>= λ _. Ok way)
+  received-read inner items read is long asked_is fits_are = rw (
+    sized,
+    read,
+    ap (λ (w : Way). length w.above) is,
+    length-map items inner,
+    ap (λ (w : Way). w.index) is,
+    ← long,
+    ← asked_is,
+    ← fits_are,
+  ) refl
 
 -- ---- what is shown
 
 pub provided-true : (holds : Bool) (error : Error) → provided holds error ≡ Ok tt → holds ≡ true
 provided-true true error is = refl
 provided-true false error is = absurd cc
-
-both_true : (a b : Bool) → (a && b) ≡ true → (a ≡ true) × (b ≡ true)
-both_true true true is = (refl, refl)
-both_true true false is = absurd cc
-both_true false b is = absurd cc
-
-none-left : (bytes : List ℕ) → length bytes ≡ 0 → bytes ≡ []
-none-left [] none = refl
-none-left (byte ∷ bytes) none = absurd (omega arith)
 
 -- a proof that is fit has no bytes behind it, the length of the tree's paths, and what was asked for
 pub record IsFit (size : ℕ) (behind : List ℕ) (above : ℕ) (asked : Bool) : Type 0 where
@@ -72,7 +74,7 @@ fit size behind above asked is =
     let second = bind_ok (provided (above == log2 size - 1) (IncorrectInputLength above))
     (λ _. provided asked (OfBytes InvalidData)) tt first.2 in
     record {
-      none_behind = none-left behind (eqb-true (length behind) 0 (provided-true (length behind == 0)
+      none_behind = nil_from_length behind (eqb-true (length behind) 0 (provided-true (length behind == 0)
           (OfBytes InvalidData) first.1));
       long = eqb-true above (log2 size - 1) (provided-true (above == log2 size - 1)
           (IncorrectInputLength above) second.1);
@@ -80,7 +82,7 @@ fit size behind above asked is =
     }
 
 pub size-decided : (size : ℕ) → is_tree_size size ≡ true → IsTreeSize size
-size-decided size is = let both = both_true (nat_lt 1 size) (size == 2 ^ log2 size) is in
+size-decided size is = let both = and_parts (nat_lt 1 size) (size == 2 ^ log2 size) is in
     (power_decided size (ltb-true 1 size both.0)).0 both.1
 
 -- a path of the tree's length, at its index, shows what it binds
@@ -112,7 +114,7 @@ module _ {A : Type 0} (hashes : Hashes A) (r : Digest) (size index : ℕ) (leaf 
           r size index
           leaf reading
       by_parts sized own rest read same fits =
-          let asked = both_true (own.index == index) (nat_lt index size) fits.is_asked in
+          let asked = and_parts (own.index == index) (nat_lt index size) fits.is_asked in
           let below = ltb-true index size asked.1 in
           let at = eqb-true own.index index asked.0 in (
             way,
@@ -129,15 +131,21 @@ module _ (size : ℕ) (indexes : List ℕ) (reading : Reading MultiWay) (sized :
       indexes reading ≡ Err e
   received-multi-fault e refused = rw (sized, refused) refl
 
-  module _ (m : MultiWay) (rest : List ℕ) (read : reading_outcome (strict_reading reading) ≡ Ok (m, rest)) (above : ℕ)
-      (own : List ℕ) (asked : Bool) (long : path_length m ≡ above) (at : m.indexes ≡ own) (is : asked ≡ bytes_eq own
-      indexes) where
-    pub received-multi-unfit : (e : Error) → is_fit size rest above asked ≡ Err e → received_multi_path size indexes
-        reading ≡ Err e
-    received-multi-unfit e refused = rw (sized, read, long, at, ← is, refused) refl
-
-    pub received-multi-fit : is_fit size rest above asked ≡ Ok tt → received_multi_path size indexes reading ≡ Ok m
-    received-multi-fit fits = rw (sized, read, long, at, ← is, fits) refl
+  -- what is said of a multi-proof that was read, by its lists
+  pub received-multi-read : {S D Z : Type 0} (leaf : S → Digest) (inner : D → Digest) (siblings : List S)
+      (rows : List (Vec D Z)) {m : MultiWay} {rest : List ℕ} {prefixes own : List ℕ} {asked : Bool} {fits : Outcome (Unit {0})} → reading_outcome (strict_reading reading) ≡ Ok (m, rest)
+      → m ≡ listed_way leaf inner siblings prefixes rows own → asked ≡ bytes_eq own indexes
+      → fits ≡ is_fit size rest (length (get_or (map (λ (row : Vec D Z). row.items) rows) 0 [])) asked
+      → received_multi_path size indexes reading ≡ (fits >>= λ _. Ok m)
+  received-multi-read leaf inner siblings rows read is asked_is fits_are = rw (
+    sized,
+    read,
+    ap path_length is,
+    first-seen inner rows,
+    ap (λ (w : MultiWay). w.indexes) is,
+    ← asked_is,
+    ← fits_are,
+  ) refl
 
 -- what is read strictly is strict
 strict-of : (reading : Reading MultiWay) (m : MultiWay) (rest : List ℕ) → strict_reading reading ≡ Ok (m, rest)
@@ -168,7 +176,7 @@ module _ {A : Type 0} (hashes : Hashes A) (r : Digest) (size : ℕ) (sized : IsT
 all-below : (bound : ℕ) (ways : List Way) → list_all (λ index. nat_lt index bound) (map (λ way. way.index) ways) ≡ true
     → AllByRecursion (λ (way : Way). way.index < bound) ways
 all-below bound [] all = tt
-all-below bound (way ∷ ways) all = let both = both_true (nat_lt way.index bound) (list_all (λ index. nat_lt index bound)
+all-below bound (way ∷ ways) all = let both = and_parts (nat_lt way.index bound) (list_all (λ index. nat_lt index bound)
     (map (λ way. way.index) ways)) all in (ltb-true way.index bound both.0, all-below bound ways both.1)
 
 size-power : (size : ℕ) → IsTreeSize size → size ≡ 2 ^ (log2 size - 1 + 1)

@@ -5,12 +5,13 @@ use Rattle.std.specs.List.Sorted.{IsStrictlyIncreasing}
 use Rattle.std.proofs.Math.Seq.{drop-append_seam}
 use Rattle.std.proofs.lemmas.Bool.{lt-ltb, eq-eqb, eqb-true}
 use Rattle.std.proofs.lemmas.List.{drop_more, drop_all, length-append, length-map, length-take-le}
+use Rattle.std.proofs.lemmas.Option.{slice_get-get_or}
 use Rattle.ark_paths.specs.MultiPath.{MultiWay, path_length, decoded_path, decoded_paths_from, decoded_paths}
 use Rattle.ark_paths.specs.MultiPathStrict.{AreInOrder, are_rising, are_longest, is_strict}
 use Rattle.ark_paths.specs.Sharing.{shared_count, prefixes_of, suffixes_of, multi_path_of}
 use Rattle.ark_paths.specs.Pair.{Digest}
 use Rattle.ark_paths.specs.Path.{Way}
-use Rattle.ark_paths.proofs.MultiShared.{HasParts, above_of, slice_get-drop, decoded-merged}
+use Rattle.ark_paths.proofs.MultiShared.{HasParts, above_of, decoded-merged}
 use Rattle.ark_paths.proofs.MultiStrict.{all_shared, longest_left, longest_left-next, shared-le_before}
 
 -- ---- a strict multi-proof is made of its paths
@@ -41,19 +42,14 @@ module _ (m : MultiWay) (siblings : length m.siblings ≡ length m.indexes) (pre
       index = get_or m.indexes i 0;
     }
 
-    step : (fits : Bool) → nat_eq (get_or m.prefixes i 0 + length (get_or m.suffixes i [])) (path_length m) ≡ fits
-        → fits ≡ true → decoded_path m i before (get_or m.indexes i 0) ≡ Some here
-    step fits e holds =
-        let sums : nat_eq (get_or m.prefixes i 0 + length (get_or m.suffixes i [])) (path_length m) ≡ true =
-        e ∙ holds in
-        rw (
-          slice_get-drop m.siblings i _ _ (drop_more m.siblings i [] (omega (arith, siblings))),
-          slice_get-drop
-              m.prefixes i _ _ (drop_more m.prefixes i 0 (omega (arith, prefixes))),
-          slice_get-drop m.suffixes i _ _
-              (drop_more m.suffixes i [] (omega (arith, suffixes))),
-          sums,
-        ) refl
+    step : nat_eq (get_or m.prefixes i 0 + length (get_or m.suffixes i [])) (path_length m) ≡ true
+        → decoded_path m i before (get_or m.indexes i 0) ≡ Some here
+    step sums = rw (
+      slice_get-get_or m.siblings i [] (omega (arith, siblings)),
+      slice_get-get_or m.prefixes i 0 (omega (arith, prefixes)),
+      slice_get-get_or m.suffixes i [] (omega (arith, suffixes)),
+      sums,
+    ) refl
 
     IsMadeOf-more : nat_eq (get_or m.prefixes i 0 + length (get_or m.suffixes i [])) (path_length m) ≡ true
         → all_shared before (get_or m.prefixes i 0) (get_or m.suffixes i []) ≡ true → IsMadeOf m (suc i) here.above
@@ -67,7 +63,7 @@ module _ (m : MultiWay) (siblings : length m.siblings ≡ length m.indexes) (pre
         (sym (length-take-le prefix before within)) ∙ drop-append_seam (take prefix before) suffix) in
         record {
           ways = here ∷ rest.ways;
-          decoded = rw (next-is m.indexes i 0 below, step _ refl sums) (ap (λ (ways : List (Option Way)). Some here
+          decoded = rw (next-is m.indexes i 0 below, step sums) (ap (λ (ways : List (Option Way)). Some here
               ∷ ways) rest.decoded);
           parts = record {
             siblings = next-is m.siblings i [] (omega (arith, siblings)) ∙ ap (λ (ds : List Digest). here.sibling ∷ ds)
@@ -110,9 +106,7 @@ module _ (m : MultiWay) (siblings : length m.siblings ≡ length m.indexes) (pre
       let prefix = get_or m.prefixes i 0 in
       let suffix = get_or m.suffixes i [] in
       let below : i < length m.indexes = omega arith in
-      let next = longest_left-next m i before (get_or m.indexes i 0) prefix (get_or m.siblings i []) suffix _ _
-      (drop_more m.indexes i 0 below) (drop_more m.prefixes i 0 (omega (arith, prefixes))) (drop_more m.siblings i
-      [] (omega (arith, siblings))) (drop_more m.suffixes i [] (omega (arith, suffixes))) _ refl in
+      let next = longest_left-next m i before suffix (path_length m) below prefixes siblings suffixes refl refl in
       let split = both_hold (nat_eq (prefix + length suffix) (path_length m) && all_shared before prefix suffix) _
       (sym next ∙ holds) in
       let tests = both_hold (nat_eq (prefix + length suffix) (path_length m)) _ split.0 in
