@@ -12,8 +12,8 @@ use Rattle.ark_paths.specs.Pair.{Digest, HashPair, digest_eq}
 use Rattle.ark_paths.specs.Path.{Way, path_root}
 use Rattle.ark_paths.specs.Root.{root, upper_levels}
 use Rattle.ark_paths.specs.Rows.{IsTree}
-use Rattle.ark_paths.proofs.Binds.{hashed-couple, first_level-none, first_level-some, IsFirst, top_from, top_from-up, top_from-last, path_pair-up, path_pair-is, path_pair-last, own-inside, tree-hash-last, tree-hash-row, differs, differs-last, differs-row}
-use Rattle.ark_paths.proofs.OwnPaths.{root-top}
+use Rattle.ark_paths.proofs.Binds.{first_level-none, first_level-some, IsFirst, top_from, top_from-up, top_from-last, path_pair-up, path_pair-is, path_pair-last, own-inside, tree-hash-last, tree-hash-row, differs, differs-last, differs-row}
+use Rattle.ark_paths.proofs.OwnPaths.{hashed-couple, root-top}
 
 pub digest_eq-true : (a b : Digest) → digest_eq a b ≡ true → a ≡ b
 digest_eq-true a b = (bytes_eq-Decides a b).0

@@ -1,7 +1,7 @@
 -- The way up from a leaf, over a table of hashed pairs.
 use Rattle.std.proofs.Common.{suc, ◌≡◌, ◌≢◌, ◌⊎◌, ℕ, ◌+◌, ◌-◌, ◌/◌, ◌^◌, ◌<◌, ◌≤◌, ◌++◌, ◌&&◌, Bool, true, false, cond, nat_eq, nat_lt, List, [], ◌∷◌, length, map, drop, get_or, Ok, Err, arith, refl, ap, sym, ◌∙◌, subst, inl, inr, length-drop, add-one}
-use Rattle.std.proofs.lemmas.Bool.{and_parts, cases_lt, eqb-true, lt-ltb, le-ltb, ltb-true, ne_eqb}
-use Rattle.std.proofs.lemmas.Bool.Decides.{eqb_tells}
+use Rattle.std.proofs.lemmas.Bool.{and_parts, eq-eqb, eqb-true, lt-ltb, le-ltb, ltb-true, ne_eqb}
+use Rattle.std.proofs.lemmas.Bool.Decides.{eqb_tells, nat_tests}
 use Rattle.std.proofs.lemmas.List.{drop_more, drop_all}
 use Rattle.ark_base.specs.declared.error.Error.{Error}
 use Rattle.ark_base.specs.Laws.Steps.{done_injective}
@@ -15,9 +15,10 @@ use Rattle.ark_paths.specs.Path.{Way, climb, path_root, verdict}
 use Rattle.ark_paths.specs.Table.{Extends, HasPairs, HoldsTree, IsServed, IsTable, IsWalked, Walk, is_above, pair_seen, places_above, row_of, walk_of, with_place}
 use Rattle.ark_paths.specs.declared.multi_path.table.Pair.{Pair}
 use Rattle.ark_paths.specs.declared.multi_path.table.Table.{Table}
-use Rattle.ark_paths.proofs.Binds.{bound_alone, hashed-couple}
+use Rattle.ark_paths.proofs.Binds.{bound_alone}
 use Rattle.ark_paths.proofs.Climbs.{beside-at, so_far-refused, so_far-up}
 use Rattle.ark_paths.proofs.CountsAbove.{places_on-more}
+use Rattle.ark_paths.proofs.OwnPaths.{hashed-couple}
 use Rattle.ark_paths.proofs.Tables.{AllMade-more, Extends-itself, get_or-push, length-Extends, HoldsPlaces-more, HoldsPlaces-same}
 
 -- ---- the path up to a level
@@ -108,67 +109,44 @@ seen-upper view items index k level is_right x current below at is turned = rw (
 
 -- ---- the places on the way
 
-nat_past : (n m : ℕ) → n ≤ m → n ≢ m → suc n ≤ m
-nat_past n m le other = elim (cases_lt n m) [ inl lt ↦ lt | inr ge ↦ absurd (other (omega arith)) ]
-
 lt-itself : (n : ℕ) → nat_lt n n ≡ false
 lt-itself n = le-ltb n n (omega arith)
 
 module _ (picks : ℕ → Bool) (level index : ℕ) (seen : List ℕ) where
-  pub asked-here : picks level ≡ true → places_above picks level index seen (level, index / 2 ^ suc level)
+  asked-here : picks level ≡ true → places_above picks level index seen (level, index / 2 ^ suc level)
       ≡ is_above level seen (index / 2 ^ suc level)
   asked-here is = rw (is, lt-itself level) refl
 
   -- on another level nothing changes
   lt-other : (l : ℕ) → level ≢ l → nat_lt l (suc level) ≡ nat_lt l level
-  lt-other l other = elim (cases_lt l level) [
-    | inl lt ↦ lt-ltb l (suc level) (omega arith) ∙ sym (lt-ltb l level lt)
-    | inr ge ↦
-        let past : suc level ≤ l = nat_past level l ge other in
-        le-ltb l (suc level) past ∙ sym (le-ltb l level ge)
-  ]
+  lt-other l other = grind (arith, nat_tests)
 
   -- one more place
-  pub placed-here : picks level ≡ true → (place : ℕ × ℕ) → with_place (level, index / 2 ^ suc level)
+  placed-here : picks level ≡ true → (place : ℕ × ℕ) → with_place (level, index / 2 ^ suc level)
       (places_above picks level index seen) place ≡ places_above picks (suc level) index seen place
-  placed-here is (l, n) = by_level (eqb_tells level l)
-    where
-      here : level ≡ l → nat_lt l (suc level) ≡ true
-      here same = lt-ltb l (suc level) (omega arith)
-
-      same_level : (nat_eq level l ≡ true) → level ≡ l → with_place (level, index / 2 ^ suc level)
-          (places_above picks level index seen) (l, n) ≡ places_above picks (suc level) index seen (l, n)
-      same_level e same =
-          let lt : nat_lt level (suc level) ≡ true = lt-ltb level (suc level) (omega arith) in
-          let e_self : nat_eq level level ≡ true = ap (nat_eq level) same ∙ e in
-          subst (λ (k : ℕ). with_place (level, index / 2 ^ suc level) (places_above picks level index seen) (k, n)
-          ≡ places_above picks (suc level) index seen (k, n)) same (rw (e_self, is, lt-itself level, lt) refl)
-
-      by_level : ((nat_eq level l ≡ true) × (level ≡ l)) ⊎ ((nat_eq level l ≡ false) × (level ≢ l))
-          → with_place (level, index / 2 ^ suc level) (places_above picks level index seen) (l, n) ≡ places_above picks
-          (suc level) index seen (l, n)
-      by_level (inl (e, same)) = same_level e same
-      by_level (inr (e, other)) = rw (e, lt-other l other) refl
+  placed-here is (l, n) = elim (eqb_tells level l) [
+    | inl (e, same) ↦
+        let more : nat_lt level (suc level) ≡ true = lt-ltb level (suc level) (omega arith) in
+        rw (← same, eq-eqb level level refl, is, lt-itself level, more) refl
+    | inr (e, other) ↦ rw (e, lt-other l other) refl
+  ]
 
   -- a level that is not picked
-  pub placed-nowhere : picks level ≡ false → (place : ℕ × ℕ) → places_above picks level index seen place ≡ places_above
+  placed-nowhere : picks level ≡ false → (place : ℕ × ℕ) → places_above picks level index seen place ≡ places_above
       picks (suc level) index seen place
-  placed-nowhere is (l, n) = by_level (eqb_tells level l)
-    where
-      by_level : ((nat_eq level l ≡ true) × (level ≡ l)) ⊎ ((nat_eq level l ≡ false) × (level ≢ l)) → places_above picks
-          level index seen (l, n) ≡ places_above picks (suc level) index seen (l, n)
-      by_level (inl (e, same)) = rw (← same, is) refl
-      by_level (inr (e, other)) = rw (lt-other l other) refl
+  placed-nowhere is (l, n) = elim (eqb_tells level l) [
+    | inl (e, same) ↦ rw (← same, is) refl
+    | inr (e, other) ↦ rw (lt-other l other) refl
+  ]
 
   -- past all levels that are picked the leaf is one of those seen
-  pub placed-all : ((l : ℕ) → picks l ≡ true → l < level) → (place : ℕ × ℕ) → places_above picks level index seen place
+  placed-all : ((l : ℕ) → picks l ≡ true → l < level) → (place : ℕ × ℕ) → places_above picks level index seen place
       ≡ places_above picks 0 index (index ∷ seen) place
   placed-all below (l, n) = by_pick (picks l) refl
     where
       by_pick : (pick : Bool) → picks l ≡ pick → places_above picks level index seen (l, n) ≡ places_above picks 0 index
           (index ∷ seen) (l, n)
-      by_pick true is = let none : nat_lt l 0 ≡ false =
-          le-ltb l 0 (omega arith) in rw (is, lt-ltb l level (below l is), none) refl
+      by_pick true is = rw (is, lt-ltb l level (below l is), le-ltb l 0 (omega arith)) refl
       by_pick false is = rw is refl
 
 -- as many are made as there are new places
