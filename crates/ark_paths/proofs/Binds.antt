@@ -13,7 +13,7 @@ use Rattle.ark_paths.specs.Index.{bit_at, neighbour}
 use Rattle.ark_paths.specs.Pair.{Digest, HashPair, hash_in_order, digest_eq}
 use Rattle.ark_paths.specs.Path.{Way, climb, path_root}
 use Rattle.ark_paths.specs.Root.{upper_levels}
-use Rattle.ark_paths.specs.Rows.{IsTree, part}
+use Rattle.ark_paths.specs.Rows.{IsTree}
 use Rattle.ark_paths.proofs.OwnPaths.{bit_at-level, couple-neighbour, place-above, bottom-row, halves-row, upper-row}
 use Rattle.ark_paths.proofs.Parts.{part-pair, pair_in}
 use Rattle.ark_paths.proofs.PlaceLemmas.{place-inside}
@@ -105,12 +105,8 @@ first_level-some other from (suc count) level some =
 
 -- from a level down
 abbrev pub top_from : HashPair → Way → Digest → ℕ → Outcome Digest
-top_from h way digest level = path_root h (record {
-  sibling = way.sibling;
-  above = drop level way.above;
-  index =
-      way.index;
-}) digest
+top_from h way digest level =
+    path_root h (record { sibling = way.sibling; above = drop level way.above; index = way.index }) digest
 
 climbed-refused : (hash : Digest → Digest → Outcome Digest) (index : ℕ) (ds : List Digest) (lowest : Digest) (level : ℕ)
     (e : Error) → climb hash index (drop level ds) lowest ≡ Err e → climb hash index ds lowest ≡ Err e

@@ -121,8 +121,8 @@ module _ {m : MultiWay} {place : ℕ} {before : List Digest} (decoded : Decoded 
   }
 
   -- a tree's own path
-  own-here : {h : HashPair} {digests : List Digest} {root : Digest} {leaves : List (Outcome Digest)} → IsOwn h digests root leaves m
-      → way ≡ own_path h index digests
+  own-here : {h : HashPair} {digests : List Digest} {root : Digest} {leaves : List (Outcome Digest)}
+      → IsOwn h digests root leaves m → way ≡ own_path h index digests
   own-here {h = h} {digests = digests} own =
       let at = λ (ways : List (Option Way)). get_or ways place None in
       let one : at (decoded_paths m) ≡ Some way = ap at from_here
@@ -140,13 +140,10 @@ module _ {m : MultiWay} {place : ℕ} {before : List Digest} (decoded : Decoded 
           (path_length m) ≡ fits
           → (if fits then Some (record { sibling = sibling; above = take prefix before ++ suffix; index = index }) else
           None) ≡ Some way → length above ≤ path_length m
-      by_count sibling prefix suffix true e found = omega (
-        arith,
-        ap (λ (w : Way). length w.above) (some_same _ way found),
-        eqb-true (prefix + length suffix) (path_length m) e,
-        length-append (take prefix before) suffix,
-        length-take prefix before,
-      )
+      by_count sibling prefix suffix true e found =
+          let same = ap (λ (w : Way). length w.above) (some_same _ way found) in
+          let sum = eqb-true (prefix + length suffix) (path_length m) e in
+          omega (arith, same, sum, length-append (take prefix before) suffix, length-take prefix before)
       by_count sibling prefix suffix false e found = absurd cc
 
       by_parts : (sibling : Option Digest) (prefix : Option ℕ) (suffix : Option (List Digest)) → path_of_parts
@@ -156,16 +153,15 @@ module _ {m : MultiWay} {place : ℕ} {before : List Digest} (decoded : Decoded 
       by_parts (Some sibling) (Some prefix) None found = absurd cc
       by_parts (Some sibling) (Some prefix) (Some suffix) found = by_count sibling prefix suffix _ refl found
 
-  pub most-there : (start now later : ℕ) → now ≤ start + place * suc (path_length m) → later ≤ now + suc (length above)
-      → later ≤ start + (place + 1) * suc (path_length m)
-  most-there start now later so more =
-      let one : (place + 1) * suc (path_length m) ≡ place * suc (path_length m) + suc (path_length m) = grind arith in
-      omega (arith, one, decoded-short, so, more)
+  module _ (start now later count : ℕ) (long : length above ≡ count) (so : now ≤ start + place * suc (path_length m))
+      (more : later ≤ now + suc count) where
+    pub most-there : later ≤ start + (place + 1) * suc (path_length m)
+    most-there =
+        let one : (place + 1) * suc (path_length m) ≡ place * suc (path_length m) + suc (path_length m) = grind arith in
+        omega (arith, one, decoded-short, long, so, more)
 
-  pub most-next : (start now later : ℕ) → now ≤ start + place * suc (path_length m) → later ≤ now + suc (length above)
-      → later ≤ start + length m.indexes * suc (path_length m)
-  most-next start now later so more = most-all start later (place + 1) (length m.indexes) (path_length m)
-      (omega (arith, below)) (most-there start now later so more)
+    pub most-next : later ≤ start + length m.indexes * suc (path_length m)
+    most-next = most-all start later (place + 1) (length m.indexes) (path_length m) (omega (arith, below)) most-there
 
   pub Counted-next : {S A L D : Type 0} {steps : S → Option A → S → Type 0} {start here next : S} {leaf : L → Digest}
       {inner : D → Digest} {h : HashPair} {root : Digest} {view : A → Outcome Digest} {item : A} {old new : Walk L D}

@@ -1,5 +1,5 @@
 -- Strict multi-proofs, place by place.
-use Rattle.std.proofs.Common.{◌≡◌, ℕ, suc, ◌+◌, ◌<◌, ◌≤◌, ◌^◌, Bool, true, false, not, ◌&&◌, ◌==◌, if◌then◌else◌, nat_eq, nat_lt, Option, Some, None, List, [], ◌∷◌, ◌++◌, length, map, take, drop, get_or, inl, inr, refl, ap, sym, subst, ◌∙◌, arith, add-one}
+use Rattle.std.proofs.Common.{◌≡◌, ℕ, suc, ◌+◌, ◌<◌, ◌≤◌, ◌^◌, Bool, true, false, not, ◌&&◌, ◌==◌, if◌then◌else◌, nat_eq, nat_lt, Option, Some, None, List, [], ◌∷◌, ◌++◌, length, map, take, drop, get_or, inl, inr, refl, ap, sym, ◌∙◌, arith, add-one}
 use Rattle.std.specs.Bool.{Decides, one_answer}
 use Rattle.std.specs.List.{list_all}
 use Rattle.std.specs.declared.vec.Vec.{Vec}
@@ -26,12 +26,9 @@ shared-nothing (x ∷ xs) (y ∷ ys) none = absurd (omega arith)
 shared-front : (front xs ys : List Digest) → shared_count (front ++ xs) (front ++ ys)
     ≡ length front + shared_count xs ys
 shared-front [] xs ys = omega arith
-shared-front (d ∷ front) xs ys = omega (
-  arith,
-  shared-same d d (front ++ xs) (front ++ ys) ((bytes_eq-Decides d d).1
-      refl),
-  shared-front front xs ys,
-)
+shared-front (d ∷ front) xs ys =
+    let same = shared-same d d (front ++ xs) (front ++ ys) ((bytes_eq-Decides d d).1 refl) in
+    omega (arith, same, shared-front front xs ys)
 
 shared-le_by : (x y : Digest) (xs ys : List Digest) (b : Bool) → digest_eq x y ≡ b → shared_count xs ys ≤ length xs
     → shared_count (x ∷ xs) (y ∷ ys) ≤ suc (length xs)
@@ -85,13 +82,8 @@ module _ (before suffix : List Digest) (prefix : ℕ) where
     all_shared-other other = all_shared-none within (heads ∙ shared-other x y xs ys other)
 
     pub all_shared-same : digest_eq x y ≡ true → all_shared before prefix suffix ≡ false
-    all_shared-same same = ne_eqb prefix _ (λ is. omega (
-      arith,
-      shared-behind within,
-      heads,
-      shared-same x y
-          xs ys same,
-    ))
+    all_shared-same same = ne_eqb prefix _ (λ is.
+        omega (arith, shared-behind within, heads, shared-same x y xs ys same))
 
 -- whether some first digests and a suffix make a path of this length, and are all that the path before has in common
 -- with it

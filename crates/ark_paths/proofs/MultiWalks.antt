@@ -1,13 +1,12 @@
 -- The way through a multi-proof, place by place, with the leaves that an iterator gives.
-use Rattle.std.proofs.Common.{◌≡◌, ◌⊎◌, ℕ, suc, ◌+◌, ◌<◌, ◌≤◌, List, [], ◌∷◌, ◌++◌, length, map, take, drop, get_or, Bool, true, false, if◌then◌else◌, nat_eq, Option, Some, None, Ok, Err, inl, inr, refl, ap, sym, ◌∙◌, subst, arith, add-one, append_assoc, append-nil, length-append}
+use Rattle.std.proofs.Common.{◌≡◌, ◌⊎◌, ℕ, suc, ◌+◌, ◌<◌, ◌≤◌, List, [], ◌∷◌, ◌++◌, length, map, take, drop, get_or, Bool, true, false, if◌then◌else◌, Option, Some, None, Ok, Err, inl, inr, refl, ap, sym, ◌∙◌, subst, arith, add-one, append_assoc, append-nil, length-append}
 use Rattle.std.specs.Iterator.{Yields}
 use Rattle.std.specs.Result.{IsErrAnd}
 use Rattle.std.proofs.lemmas.Bool.{cases_lt, ne_eqb}
-use Rattle.std.proofs.lemmas.List.{map-append, length-map, take-append-le, take_all, drop_more, drop_all, get_or_default}
+use Rattle.std.proofs.lemmas.List.{map-append, length-map, take-append-le, take_all, drop_more, drop_all}
 use Rattle.std.proofs.lemmas.Result.{err_from_is_err_and}
 use Rattle.ark_base.specs.declared.error.Error.{Error}
-use Rattle.ark_base.specs.declared.error.Error.TheVariants.{IncorrectInputLength, GenericError, OutOfMemory}
-use Rattle.ark_base.specs.declared.error.Refusal.TheVariants.{NoIndex}
+use Rattle.ark_base.specs.declared.error.Error.TheVariants.{IncorrectInputLength, OutOfMemory}
 use Rattle.ark_base.specs.Outcome.{Outcome, Answers, ◌>>=◌}
 use Rattle.ark_base.proofs.Refusals.{passed_on}
 use Rattle.ark_paths.specs.Leaves.{AnswersOver, TakesNone}
@@ -93,9 +92,9 @@ module _ {S A B C : Type 0} {steps : S → Option A → S → Type 0} {view : A 
       }
 
 -- the answer is decided before any item is taken
-pub decided_at_once : {S A B C : Type 0} {steps : S → Option A → S → Type 0} {view : A → B} {start : S} {outcome : List B
-    → Outcome C} {result : Outcome C} → ((more : List B) → Answers (outcome more) result) → AnswersOver steps view
-    start start outcome result
+pub decided_at_once : {S A B C : Type 0} {steps : S → Option A → S → Type 0} {view : A → B} {start : S}
+    {outcome : List B → Outcome C} {result : Outcome C} → ((more : List B) → Answers (outcome more) result)
+    → AnswersOver steps view start start outcome result
 decided_at_once {outcome = outcome} = Walked-decided (Walked-begin {left = outcome} (λ more. refl))
 
 -- ---- a walk that stands at a place

@@ -1,5 +1,5 @@
 -- The pairs of a tree's own paths.
-use Rattle.std.proofs.Common.{zero, suc, ◌≡◌, ℕ, ◌+◌, ◌-◌, ◌*◌, ◌/◌, ◌<◌, ◌≤◌, ◌^◌, Bool, true, false, if◌then◌else◌, List, [], length, take, drop, get_or, Ok, arith, refl, ap, sym, ◌∙◌}
+use Rattle.std.proofs.Common.{zero, suc, ◌≡◌, ℕ, ◌-◌, ◌/◌, ◌<◌, ◌≤◌, ◌^◌, Bool, true, false, List, [], length, take, drop, get_or, Ok, arith, refl, ap, sym, ◌∙◌}
 use Rattle.ark_paths.specs.Bind.{couple, halves, pair_beside, path_pair}
 use Rattle.ark_paths.specs.Index.{IsTreeSize, bit_at, neighbour, log2}
 use Rattle.ark_paths.specs.Pair.{Digest, HashPair}

@@ -18,7 +18,7 @@ at_level-root : (level : ℕ) (o : Outcome Digest) (digest : Digest) → place_a
 at_level-root level (Ok d) digest e = let same : d ≡ digest = cc in ap Ok same
 at_level-root level (Err f) digest e = absurd cc
 
-digest_eq-same : (digest : Digest) → digest_eq digest digest ≡ true
+pub digest_eq-same : (digest : Digest) → digest_eq digest digest ≡ true
 digest_eq-same digest = (bytes_eq-Decides digest digest).1 refl
 
 -- ---- neighbours
@@ -172,14 +172,8 @@ module _ (h : HashPair) (leaves : List Digest) (rows : List (List Digest)) (tree
         let under : climb h.upper index (beside_in rows k index) lowest ≡ Ok (get_or (get_or rows k []) p []) =
         climbed-own k (omega arith) lowest is in
         let hashed = upper-row k (p / 2) below (omega arith) in
-        rw (
-          under,
-          length-beside_in rows k index,
-          half,
-          ← bit_at-level index (suc k),
-          ordered-neighbour h.upper
-              (get_or rows k []) p,
-        ) hashed
+        rw (under, length-beside_in rows k index, half, ← bit_at-level index (suc k))
+        (ordered-neighbour h.upper (get_or rows k []) p ∙ hashed)
 
     own_path-top : path_root h (own_path h index leaves) (get_or leaves index []) ≡ root h leaves
     own_path-top =
@@ -188,14 +182,10 @@ module _ (h : HashPair) (leaves : List Digest) (rows : List (List Digest)) (tree
         place-inside rows (length leaves) tree.levels 0 index (omega (arith, tree.count)) inside in
         let lowest = bottom-row (index / 2) (omega arith) in
         let own = own_path-rows (beside_in rows top index) refl in
-        let up = climbed-own top (omega (arith, tree.count)) (get_or (get_or rows 0 []) (index / 2) []) (rw half refl) in
-        ap (λ (way : Way). path_root h way (get_or leaves index [])) own ∙ rw (
-          ordered-neighbour h.bottom leaves index,
-          lowest,
-          up,
-          first_place,
-          root-top,
-        ) refl
+        let up = climbed-own top (omega (arith, tree.count)) (get_or (get_or rows 0 []) (index / 2) [])
+        (rw half refl) in
+        ap (λ (way : Way). path_root h way (get_or leaves index [])) own
+        ∙ rw (ordered-neighbour h.bottom leaves index, lowest, up, first_place, root-top) refl
 
     -- beside a leaf stands another
     pub leaf-neighbour : neighbour index < length leaves

@@ -20,7 +20,7 @@ use Rattle.ark_paths.specs.MultiPath.{MultiWay, listed_way, path_length, decoded
 use Rattle.ark_paths.specs.MultiPathStrict.{is_strict, strict_reading}
 use Rattle.ark_paths.specs.Pair.{Digest, Hashes}
 use Rattle.ark_paths.specs.Path.{Way}
-use Rattle.ark_paths.specs.Received.{provided, is_fit, fit_path, received_path, fit_multi_path, received_multi_path, StandsAt, StandInTurn, ShowsLeaf, ShowsLeaves}
+use Rattle.ark_paths.specs.Received.{provided, is_fit, received_path, received_multi_path, StandsAt, StandInTurn, ShowsLeaf, ShowsLeaves}
 use Rattle.ark_paths.proofs.Logs.{log2-pow}
 use Rattle.ark_paths.proofs.Readings.{first-seen}
 use Rattle.ark_paths.proofs.SizeLemmas.{power_decided}
@@ -43,16 +43,9 @@ module _ (size index : ℕ) (reading : Reading Way) (sized : is_tree_size size �
       → way ≡ record { sibling = sibling; above = map inner items; index = own } → count ≡ length items
       → asked ≡ ((own == index) && nat_lt index size) → fits ≡ is_fit size rest count asked
       → received_path size index reading ≡ (fits >>= λ _. Ok way)
-  received-read inner items read is long asked_is fits_are = rw (
-    sized,
-    read,
-    ap (λ (w : Way). length w.above) is,
-    length-map items inner,
-    ap (λ (w : Way). w.index) is,
-    ← long,
-    ← asked_is,
-    ← fits_are,
-  ) refl
+  received-read inner items read is long asked_is fits_are =
+      rw (sized, read, ap (λ (w : Way). length w.above) is, length-map items inner, ap (λ (w : Way). w.index) is)
+      (rw (← long, ← asked_is, ← fits_are) refl)
 
 -- ---- what is shown
 
@@ -85,6 +78,25 @@ pub size-decided : (size : ℕ) → is_tree_size size ≡ true → IsTreeSize si
 size-decided size is = let both = and_parts (nat_lt 1 size) (size == 2 ^ log2 size) is in
     (power_decided size (ltb-true 1 size both.0)).0 both.1
 
+-- what a proof that was received was found to be
+received-parts : {W : Type 0} (size : ℕ) (outcome : Outcome (W × List ℕ)) (above : W → ℕ) (asked : W → Bool) (w : W)
+    → (provided (is_tree_size size) (IncorrectInputLength size) >>= λ _. outcome >>= λ read.
+    is_fit size read.1 (above read.0) (asked read.0) >>= λ _. Ok read.0) ≡ Ok w
+    → IsTreeSize size × (outcome ≡ Ok (w, [])) × (above w ≡ log2 size - 1) × (asked w ≡ true)
+received-parts size outcome above asked w is =
+    let sized = bind_ok (provided (is_tree_size size) (IncorrectInputLength size)) (λ _. outcome >>= λ read.
+    is_fit size read.1 (above read.0) (asked read.0) >>= λ _. Ok read.0) w is in
+    let read = bind_ok outcome (λ read. is_fit size read.1 (above read.0) (asked read.0) >>= λ _. Ok read.0) w
+    sized.2 in
+    let fits = bind_ok (is_fit size read.0.1 (above read.0.0) (asked read.0.0)) (λ _. Ok read.0.0) w read.2 in
+    let parts = fit size read.0.1 (above read.0.0) (asked read.0.0) fits.1 in
+    let same = done_injective read.0.0 w fits.2 in (
+      size-decided size (provided-true (is_tree_size size) (IncorrectInputLength size) sized.1),
+      read.1 ∙ (λ i. Ok (same i, parts.none_behind i)),
+      ap above (sym same) ∙ parts.long,
+      ap asked (sym same) ∙ parts.is_asked,
+    )
+
 -- a path of the tree's length, at its index, shows what it binds
 module _ {A : Type 0} (hashes : Hashes A) (r : Digest) (size index : ℕ) (leaf : A) (way : Way) where
   pub bound-stands-at : IsTreeSize size → length way.above ≡ log2 size - 1 → way.index ≡ index → index < size
@@ -100,29 +112,13 @@ module _ {A : Type 0} (hashes : Hashes A) (r : Digest) (size index : ℕ) (leaf 
   pub received-shows : (reading : Reading Way) → received_path size index reading ≡ Ok way → BindsLeaf hashes r leaf way
       → ShowsLeaf hashes r size index leaf reading
   received-shows reading received bound =
-      let sized = bind_ok (provided (is_tree_size size) (IncorrectInputLength size)) (λ _. reading_outcome reading >>=
-      fit_path size index) way received in
-      let read = bind_ok (reading_outcome reading) (fit_path size index) way sized.2 in
-      let asked = ((read.0.0.index == index) && nat_lt index size) in
-      let fits = bind_ok (is_fit size read.0.1 (length read.0.0.above) asked) (λ _. Ok read.0.0) way read.2 in
-      by_parts (provided-true (is_tree_size size) (IncorrectInputLength size) sized.1) read.0.0 read.0.1
-      (read_of reading read.0 read.1) (done_injective _ _ fits.2) (fit size read.0.1 (length read.0.0.above)
-      asked fits.1)
-    where
-      by_parts : is_tree_size size ≡ true → (own : Way) (rest : List ℕ) → reading ≡ Ok (own, rest) → own ≡ way
-          → IsFit size rest (length own.above) ((own.index == index) && nat_lt index size) → ShowsLeaf hashes
-          r size index
-          leaf reading
-      by_parts sized own rest read same fits =
-          let asked = and_parts (own.index == index) (nat_lt index size) fits.is_asked in
-          let below = ltb-true index size asked.1 in
-          let at = eqb-true own.index index asked.0 in (
-            way,
-            read ∙ (λ i. Ok (same i, fits.none_behind i)),
-            bound-stands-at (size-decided size sized)
-                (ap (λ (w : Way). length w.above) (sym same) ∙ fits.long) (ap (λ (w : Way). w.index) (sym same) ∙ at)
-                below bound,
-          )
+      let (sized, read, long, is_asked) = received-parts size (reading_outcome reading) (λ w. length w.above)
+      (λ w. (w.index == index) && nat_lt index size) way received in
+      let asked = and_parts (way.index == index) _ is_asked in (
+        way,
+        read_of reading (way, []) read,
+        bound-stands-at sized long (eqb-true way.index index asked.0) (ltb-true index size asked.1) bound,
+      )
 
 -- ---- strict multi-proofs
 
@@ -133,19 +129,14 @@ module _ (size : ℕ) (indexes : List ℕ) (reading : Reading MultiWay) (sized :
 
   -- what is said of a multi-proof that was read, by its lists
   pub received-multi-read : {S D Z : Type 0} (leaf : S → Digest) (inner : D → Digest) (siblings : List S)
-      (rows : List (Vec D Z)) {m : MultiWay} {rest : List ℕ} {prefixes own : List ℕ} {asked : Bool} {fits : Outcome (Unit {0})} → reading_outcome (strict_reading reading) ≡ Ok (m, rest)
+      (rows : List (Vec D Z)) {m : MultiWay} {rest : List ℕ} {prefixes own : List ℕ} {asked : Bool}
+      {fits : Outcome (Unit {0})} → reading_outcome (strict_reading reading) ≡ Ok (m, rest)
       → m ≡ listed_way leaf inner siblings prefixes rows own → asked ≡ bytes_eq own indexes
       → fits ≡ is_fit size rest (length (get_or (map (λ (row : Vec D Z). row.items) rows) 0 [])) asked
       → received_multi_path size indexes reading ≡ (fits >>= λ _. Ok m)
-  received-multi-read leaf inner siblings rows read is asked_is fits_are = rw (
-    sized,
-    read,
-    ap path_length is,
-    first-seen inner rows,
-    ap (λ (w : MultiWay). w.indexes) is,
-    ← asked_is,
-    ← fits_are,
-  ) refl
+  received-multi-read leaf inner siblings rows read is asked_is fits_are =
+      rw (sized, read, ap path_length is, first-seen inner rows, ap (λ (w : MultiWay). w.indexes) is)
+      (rw (← asked_is, ← fits_are) refl)
 
 -- what is read strictly is strict
 strict-of : (reading : Reading MultiWay) (m : MultiWay) (rest : List ℕ) → strict_reading reading ≡ Ok (m, rest)
@@ -190,34 +181,21 @@ module _ {A : Type 0} (hashes : Hashes A) (r : Digest) (size : ℕ) (indexes : L
   pub received-multi-shows : (reading : Reading MultiWay) → received_multi_path size indexes reading ≡ Ok m
       → BindsLeaves hashes r leaves (decoded_paths m) → ShowsLeaves hashes r size indexes leaves reading
   received-multi-shows reading received bound =
-      let sized = bind_ok (provided (is_tree_size size) (IncorrectInputLength size))
-      (λ _. reading_outcome (strict_reading reading) >>= fit_multi_path size indexes) m received in
-      let read = bind_ok (reading_outcome (strict_reading reading)) (fit_multi_path size indexes) m sized.2 in
-      let asked = bytes_eq read.0.0.indexes indexes in
-      let fits = bind_ok (is_fit size read.0.1 (path_length read.0.0) asked) (λ _. Ok read.0.0) m read.2 in
-      by_parts (provided-true (is_tree_size size) (IncorrectInputLength size) sized.1) read.0.0 read.0.1
-      (read_of (strict_reading reading) read.0 read.1) (done_injective _ _ fits.2)
-      (fit size read.0.1 (path_length read.0.0) asked fits.1)
-    where
-      by_parts : is_tree_size size ≡ true → (own : MultiWay) (rest : List ℕ) → strict_reading reading ≡ Ok (own, rest)
-          → own ≡ m → IsFit size rest (path_length own) (bytes_eq own.indexes indexes) → ShowsLeaves hashes r
-          size indexes
-          leaves reading
-      by_parts sized own rest read same fits =
-          let strict = strict-of reading own rest read in
-          let made = made_of own strict in
-          let power : 2 ^ (path_length own + 1) ≡ size =
-          ap (λ (n : ℕ). 2 ^ (n + 1)) fits.long ∙ sym (size-power size (size-decided size sized)) in
-          let below = all-below (2 ^ (path_length own + 1)) made.ways (rw made.indexes at (within_tree own strict)) in
-          let paths : decoded_paths m ≡ map Some made.ways = ap decoded_paths (sym same) ∙ made.decoded in
-          record {
-            proof = own;
-            read = read ∙ (λ i. Ok (own, fits.none_behind i));
-            ways = made.ways;
-            decoded = made.decoded;
-            places = sym made.indexes ∙ (bytes_eq-Decides own.indexes indexes).0 fits.is_asked;
-            stand = stand-bound hashes r size (size-decided size sized) made.ways leaves
-                (subst (λ (n : ℕ). AllByRecursion (λ (way : Way). length way.above ≡ n) made.ways) fits.long made.long)
-                (subst (λ (n : ℕ). AllByRecursion (λ (way : Way). way.index < n) made.ways) power below)
-                (subst (BindsLeaves hashes r leaves) paths bound);
-          }
+      let (sized, read, long, is_asked) = received-parts size (reading_outcome (strict_reading reading)) path_length
+      (λ w. bytes_eq w.indexes indexes) m received in
+      let reads = read_of (strict_reading reading) (m, []) read in
+      let strict = strict-of reading m [] reads in
+      let made = made_of m strict in
+      let power : 2 ^ (path_length m + 1) ≡ size = ap (λ (n : ℕ). 2 ^ (n + 1)) long ∙ sym (size-power size sized) in
+      let below = all-below (2 ^ (path_length m + 1)) made.ways (rw made.indexes at (within_tree m strict)) in
+      record {
+        proof = m;
+        read = reads;
+        ways = made.ways;
+        decoded = made.decoded;
+        places = sym made.indexes ∙ (bytes_eq-Decides m.indexes indexes).0 is_asked;
+        stand = stand-bound hashes r size sized made.ways leaves
+            (subst (λ (n : ℕ). AllByRecursion (λ (way : Way). length way.above ≡ n) made.ways) long made.long)
+            (subst (λ (n : ℕ). AllByRecursion (λ (way : Way). way.index < n) made.ways) power below)
+            (subst (BindsLeaves hashes r leaves) made.decoded bound);
+      }

@@ -6,6 +6,8 @@ use Rattle.std.proofs.Math.Seq.{drop-append_seam}
 use Rattle.std.proofs.lemmas.Bool.{lt-ltb, eq-eqb, eqb-true}
 use Rattle.std.proofs.lemmas.List.{drop_more, drop_all, length-append, length-map, length-take-le}
 use Rattle.std.proofs.lemmas.Option.{slice_get-get_or}
+use Rattle.std.proofs.lemmas.List.Elements.{All-map, recursion_from_All}
+use Rattle.std.proofs.lemmas.List.Sums.{list_all-from_AllPass}
 use Rattle.ark_paths.specs.MultiPath.{MultiWay, path_length, decoded_path, decoded_paths_from, decoded_paths}
 use Rattle.ark_paths.specs.MultiPathStrict.{AreInOrder, are_rising, are_longest, is_strict}
 use Rattle.ark_paths.specs.Sharing.{shared_count, prefixes_of, suffixes_of, multi_path_of}
@@ -59,6 +61,7 @@ module _ (m : MultiWay) (siblings : length m.siblings ≡ length m.indexes) (pre
         let suffix = get_or m.suffixes i [] in
         let longest : prefix ≡ shared_count before here.above = eqb-true prefix _ shared in
         let within : prefix ≤ length before = omega (arith, longest, shared-le_before before here.above) in
+        let sum = eqb-true (prefix + length suffix) (path_length m) sums in
         let others : suffix ≡ drop prefix here.above = sym (ap (λ (n : ℕ). drop n here.above)
         (sym (length-take-le prefix before within)) ∙ drop-append_seam (take prefix before) suffix) in
         record {
@@ -76,12 +79,7 @@ module _ (m : MultiWay) (siblings : length m.siblings ≡ length m.indexes) (pre
           };
           indexes = next-is m.indexes i 0 below ∙ ap (λ (ns : List ℕ). here.index ∷ ns) rest.indexes;
           long = (
-            omega (
-              arith,
-              length-append (take prefix before) suffix,
-              length-take-le prefix before within,
-              eqb-true (prefix + length suffix) (path_length m) sums,
-            ),
+            omega (arith, length-append (take prefix before) suffix, length-take-le prefix before within, sum),
             rest.long,
           );
         }
@@ -189,14 +187,6 @@ longest-from before [] = refl
 longest-from before (way ∷ ways) = rw (eq-eqb (shared_count before way.above) (shared_count before way.above) refl)
     (longest-from way.above ways)
 
-by_recursion : {X : Type 0} (P : X → Type 0) (xs : List X) → All P xs → AllByRecursion P xs
-by_recursion P [] all = tt
-by_recursion P (x ∷ xs) all = (
-  all 0 x (omega arith),
-  by_recursion P xs (λ k d below. all (suc k) d
-      (omega (arith, below))),
-)
-
 module _ (k : ℕ) (ways : List Way) (order : AreInOrder k ways) where
   first-long : (ways : List Way) → 0 < length ways → All (λ way. length way.above ≡ k) ways
       → path_length (multi_path_of ways) ≡ k
@@ -205,13 +195,13 @@ module _ (k : ℕ) (ways : List Way) (order : AreInOrder k ways) where
 
   all-inside : (len : ℕ) → len ≡ k → (ways : List Way) → All (λ way. way.index < 2 ^ (k + 1)) ways
       → list_all (λ index. nat_lt index (2 ^ (len + 1))) (map (λ way. way.index) ways) ≡ true
-  all-inside len same [] inside = refl
-  all-inside len same (way ∷ ways) inside =
-      let first : nat_lt way.index (2 ^ (len + 1)) ≡ true = rw same (lt-ltb _ _ (inside 0 way (omega arith))) in
-      rw first (all-inside len same ways (λ i d below. inside (suc i) d (omega (arith, below))))
+  all-inside len same ways inside =
+      list_all-from_AllPass (λ index. nat_lt index (2 ^ (len + 1))) _
+      (All-map (λ index. nat_lt index (2 ^ (len + 1)) ≡ true) (λ way. way.index) ways
+      (λ i d below. rw same (lt-ltb _ _ (inside i d below))))
 
   pub decoded-in_order : decoded_paths (multi_path_of ways) ≡ map Some ways
-  decoded-in_order = decoded-merged k ways (by_recursion (λ way. length way.above ≡ k) ways order.same_length)
+  decoded-in_order = decoded-merged k ways (recursion_from_All (λ way. length way.above ≡ k) ways order.same_length)
 
   pub strict-in_order : is_strict (multi_path_of ways) ≡ true
   strict-in_order =
@@ -224,16 +214,9 @@ module _ (k : ℕ) (ways : List Way) (order : AreInOrder k ways) where
       ∙ length-map ways (λ way. way.above) ∙ sym indexes) in
       let suffixes = eq-eqb (length m.suffixes) (length m.indexes) (length-suffixes_of [] (above_of ways)
       ∙ length-map ways (λ way. way.above) ∙ sym indexes) in
-      rw (
-        count,
-        siblings,
-        prefixes,
-        suffixes,
-        rising-from m.indexes order.rising,
-        all-inside (path_length m)
-            (first-long ways order.some order.same_length) ways order.within_tree,
-        decoded-in_order,
-      ) (longest-from [] ways)
+      let inside = all-inside (path_length m) (first-long ways order.some order.same_length) ways order.within_tree in
+      rw (count, siblings, prefixes, suffixes, rising-from m.indexes order.rising, inside, decoded-in_order)
+      (longest-from [] ways)
 
 -- ---- as contracts say it
 

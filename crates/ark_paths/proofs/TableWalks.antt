@@ -1,5 +1,5 @@
 -- The way up from a leaf, over a table of hashed pairs.
-use Rattle.std.proofs.Common.{suc, ◌≡◌, ◌≢◌, ◌⊎◌, ℕ, ◌+◌, ◌-◌, ◌/◌, ◌^◌, ◌<◌, ◌≤◌, ◌++◌, ◌&&◌, Bool, true, false, cond, nat_eq, nat_lt, List, [], ◌∷◌, length, map, drop, get_or, Ok, Err, arith, refl, ap, sym, ◌∙◌, subst, inl, inr, length-drop, add-one}
+use Rattle.std.proofs.Common.{suc, ◌≡◌, ◌≢◌, ℕ, ◌+◌, ◌-◌, ◌/◌, ◌^◌, ◌<◌, ◌≤◌, ◌++◌, ◌&&◌, Bool, true, false, cond, nat_eq, nat_lt, List, [], ◌∷◌, length, map, drop, get_or, Ok, Err, arith, refl, ap, sym, ◌∙◌, subst, inl, inr, length-drop, add-one}
 use Rattle.std.proofs.lemmas.Bool.{and_parts, eq-eqb, eqb-true, lt-ltb, le-ltb, ltb-true, ne_eqb}
 use Rattle.std.proofs.lemmas.Bool.Decides.{eqb_tells, nat_tests}
 use Rattle.std.proofs.lemmas.List.{drop_more, drop_all}
@@ -243,12 +243,13 @@ module _ {L D : Type 0} {leaf : L → Digest} {inner : D → Digest} {h : HashPa
         so_far = path_root-up h way digest so.so_far below is ∙ answer;
         holds = λ pairs seen holds has. (
             let (tree, count) = so.holds pairs seen holds has in
-            let here = served.holds pairs (places_above (upper_to (length way.above)) (suc level) way.index seen) tree.upper
-            (path_pair-up h way digest so.so_far below is pairs has) in (
+            let here = served.holds pairs (places_above (upper_to (length way.above)) (suc level) way.index seen)
+            tree.upper (path_pair-up h way digest so.so_far below is pairs has) in (
               record {
-                lowest = rw (same_leaves, same) (HoldsPlaces-same (placed-nowhere lowest_level (suc level) way.index seen
-                    (ne_eqb (suc level) 0 (λ none. omega arith))) tree.lowest);
-                upper = HoldsPlaces-same (placed-here (upper_to (length way.above)) (suc level) way.index seen picked) here.0;
+                lowest = rw (same_leaves, same) (HoldsPlaces-same (placed-nowhere lowest_level (suc level) way.index
+                    seen (ne_eqb (suc level) 0 (λ none. omega arith))) tree.lowest);
+                upper = HoldsPlaces-same (placed-here (upper_to (length way.above)) (suc level) way.index seen picked)
+                    here.0;
               },
               count-level (suc level) way.index seen (length start.table.made.items) (length old.made.items)
                   (length new.made.items) (here.1 ∙ ap (λ (b : Bool). length old.made.items + cond b 0 1)
@@ -278,7 +279,8 @@ module _ {L D : Type 0} {leaf : L → Digest} {inner : D → Digest} {h : HashPa
             (sym (done_injective _ _ is)) has) in (
               record {
                 lowest = HoldsPlaces-same (placed-all lowest_level (suc level) way.index seen lowest) tree.lowest;
-                upper = HoldsPlaces-same (placed-all (upper_to (length way.above)) (suc level) way.index seen upper) tree.upper;
+                upper = HoldsPlaces-same (placed-all (upper_to (length way.above)) (suc level) way.index seen upper)
+                    tree.upper;
               },
               subst (λ (n : ℕ). length now.table.made.items + count_above (suc n) seen ≡ length start.table.made.items
                   + count_above (suc n) (way.index ∷ seen)) top count,

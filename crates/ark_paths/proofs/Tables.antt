@@ -12,7 +12,7 @@ use Rattle.ark_base.specs.Outcome.{Outcome}
 use Rattle.ark_paths.specs.Bind.{couple}
 use Rattle.ark_paths.specs.Pair.{Digest}
 use Rattle.ark_paths.specs.Kept.{place_cmp, same_place, put_at, AreKept}
-use Rattle.ark_paths.specs.Table.{pair_seen, row_of, IsMade, AllMade, Extends, HoldsPlaces, IsServed, with_place}
+use Rattle.ark_paths.specs.Table.{pair_seen, row_of, IsMade, AllMade, Extends, HoldsPlaces, IsServed}
 use Rattle.ark_paths.specs.declared.multi_path.table.Entries.{Entries}
 use Rattle.ark_paths.specs.declared.multi_path.table.Entry.{Entry}
 use Rattle.ark_paths.specs.declared.multi_path.table.Pair.{Pair}
@@ -37,13 +37,8 @@ Extends-below xs ys k (more, is) below = rw (is, length-append xs more) (omega (
 
 pub length-Extends : {A : Type 0} (view : A → Digest) (before after : List A) → Extends (map view before)
     (map view after) → length before ≤ length after
-length-Extends view before after (more, is) = omega (
-  arith,
-  length-map before view,
-  length-map after view,
-  ap length is,
-  length-append (map view before) more,
-)
+length-Extends view before after (more, is) =
+    omega (arith, length-map before view, length-map after view, ap length is, length-append (map view before) more)
 
 get_or-Extends : (xs ys : List Digest) (k : ℕ) → Extends xs ys → k < length xs → get_or ys k [] ≡ get_or xs k []
 get_or-Extends xs ys k (more, is) below = rw is (get_or_append_left xs more [] k below)
@@ -155,7 +150,10 @@ module _ {X : Type 0} {numbers : X → Digest} where
         record {
           own = Extends-below xs us entry.pair.own digests m.own;
           hashed = Extends-below ys vs entry.digest made m.hashed;
-          is = rw (pair_seen-more numbers xs us entry.pair digests m.own, get_or-Extends ys vs entry.digest made m.hashed) m.is;
+          is = rw (
+            pair_seen-more numbers xs us entry.pair digests m.own,
+            get_or-Extends ys vs entry.digest made m.hashed,
+          ) m.is;
         }
         );
   }
@@ -197,11 +195,12 @@ module _ {X D : Type 0} {numbers : X → Digest} {hash : Digest → Digest → O
   -- it is kept
   module _ (kept : (entry : Entry X) × (get place_cmp entries.all place ≡ Some entry) × (number ≡ entry.digest)
       × (pair_seen numbers (map numbers items) entry.pair ≡ seen_in numbers items pair)) where
-    pub answer-kept : hash (seen_in numbers items pair).0 (seen_in numbers items pair).1 ≡ Ok (get_or (map inner before) number [])
+    pub answer-kept : hash (seen_in numbers items pair).0 (seen_in numbers items pair).1
+        ≡ Ok (get_or (map inner before) number [])
     answer-kept = rw (kept.2, ← kept.3) (made.all place kept.0 kept.1).is
 
-    pub IsServed-kept : {count : ℕ} → IsServed numbers inner hash place pair (row_of (map numbers items) before entries count)
-        (row_of (map numbers items) before entries count) number
+    pub IsServed-kept : {count : ℕ} → IsServed numbers inner hash place pair
+        (row_of (map numbers items) before entries count) (row_of (map numbers items) before entries count) number
     IsServed-kept = record {
       below = rw (kept.2, ← length-map before inner) (made.all place kept.0 kept.1).hashed;
       grows = Extends-itself (map inner before);
@@ -225,16 +224,18 @@ module _ {X D : Type 0} {numbers : X → Digest} {hash : Digest → Digest → O
       (ordered : (left, right) ≡ couple pair.is_right (numbers own) (numbers pair.sibling.now)) (after : List D)
       {y : Digest} (hashed : hash left right ≡ Ok y) (more : map inner after ≡ map inner before ++ y ∷ [])
       (last : number ≡ length before) where
-    pub answer-anew : hash (seen_in numbers items pair).0 (seen_in numbers items pair).1 ≡ Ok (get_or (map inner after) number [])
+    pub answer-anew : hash (seen_in numbers items pair).0 (seen_in numbers items pair).1
+        ≡ Ok (get_or (map inner after) number [])
     answer-anew = asked-as numbers hash items pair inside at ordered hashed ∙ ap Ok (sym (get_or-last (map inner before)
         (map inner after) y number more (last ∙ sym (length-map before inner))))
 
     pub IsServed-anew : {us : List Digest} {next : Entries X} {start end : ℕ} → Extends (map numbers items) us
         → AreKept next.all next.last.items → Updates place_cmp entries.all next.all place
         (Some (record { pair = pair; digest = number }))
-        → ((entry : Entry X) → get place_cmp entries.all place ≡ Some entry → pair_seen numbers (map numbers items) entry.pair ≢
-        seen_in numbers items pair) → end ≡ min (start + 1) 18446744073709551615
-        → IsServed numbers inner hash place pair (row_of (map numbers items) before entries start) (row_of us after next end) number
+        → ((entry : Entry X) → get place_cmp entries.all place ≡ Some entry → pair_seen numbers (map numbers items)
+        entry.pair ≢ seen_in numbers items pair) → end ≡ min (start + 1) 18446744073709551615
+        → IsServed numbers inner hash place pair (row_of (map numbers items) before entries start)
+        (row_of us after next end) number
     IsServed-anew {us = us} {next = next} digests kept updates other counted =
         record {
           below = omega (arith, last, one);
@@ -291,9 +292,9 @@ module _ {X D : Type 0} {numbers : X → Digest} {hash : Digest → Digest → O
         some false o = refl
 
         -- a place with no such pair was not asked before
-        not_asked : (pairs : ℕ × ℕ → Digest × Digest) (asked : ℕ × ℕ → Bool) (holds : HoldsPlaces numbers (map numbers items) pairs asked
-            entries.all) → seen_in numbers items pair ≡ pairs place → (o : Option (Entry X)) → get place_cmp entries.all place ≡ o
-            → asked place ≡ false
+        not_asked : (pairs : ℕ × ℕ → Digest × Digest) (asked : ℕ × ℕ → Bool) (holds : HoldsPlaces numbers
+            (map numbers items) pairs asked entries.all) → seen_in numbers items pair ≡ pairs place
+            → (o : Option (Entry X)) → get place_cmp entries.all place ≡ o → asked place ≡ false
         not_asked pairs asked holds is None found = sym (holds.at place) ∙ ap is_some found
         not_asked pairs asked holds is (Some entry) found =
             absurd (other entry found (holds.pair place entry found ∙ sym is))

@@ -25,11 +25,8 @@ module _ (h : HashPair) (leaves : List Digest) (rows : List (List Digest)) where
   roots_of m row lowest r zero q le below =
       let first : get_or rows 0 [] ≡ row = r.first in
       let here : q < length row = omega (arith, ap length first) in
-      let hashed = get_or-paired h.bottom leaves row q lowest (omega (
-        arith,
-        length-paired h.bottom leaves row
-            lowest,
-      )) in
+      let long = length-paired h.bottom leaves row lowest in
+      let hashed = get_or-paired h.bottom leaves row q lowest (omega (arith, long)) in
       ap (λ (p : Digest × Digest). place_at 0 (h.bottom p.0 p.1)) (part-pair q leaves) ∙ rw (hashed, first)
   roots_of m row lowest r (suc k) q le below =
       let above = r.above k (omega arith) in

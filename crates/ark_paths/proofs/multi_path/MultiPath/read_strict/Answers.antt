@@ -1,4 +1,4 @@
-use Rattle.std.proofs.Common.{◌≡◌, ◌∙◌, drop, ap}
+use Rattle.std.proofs.Common.{◌≡◌, ◌∙◌, ap}
 use Rattle.ark_base.proofs.Refusals.{passed_on}
 use Rattle.ark_paths.specs.MultiPathBytes.{multi_way_of}
 use Rattle.ark_paths.specs.MultiPathStrict.{is_strict}

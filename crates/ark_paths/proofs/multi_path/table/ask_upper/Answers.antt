@@ -5,15 +5,18 @@ use Rattle.ark_paths.proofs.multi_path.table.ask_upper.Goals as goal
 
 pub find-requires-clause-entries : goal.find-requires-clause-entries
 find-requires-clause-entries g c = λ place entry at.
-    rw (c.deref.ensures.value, ← length-map c.args.made.now.items g.D.Numbered.numbers) (c.requires.made.all place entry at).own
+    rw (c.deref.ensures.value, ← length-map c.args.made.now.items g.D.Numbered.numbers)
+    (c.requires.made.all place entry at).own
 
 pub returns-in-Some-clause-answer : goal.returns-in-Some-clause-answer
 returns-in-Some-clause-answer g c =
-    answer-kept _ _ c.args.made.now.items c.args.place c.args.pair c.requires.made (rw c.deref.ensures.value at c.in-Some.ensures)
+    answer-kept _ _ c.args.made.now.items c.args.place c.args.pair c.requires.made
+    (rw c.deref.ensures.value at c.in-Some.ensures)
 
 pub returns-in-Some-clause-served : goal.returns-in-Some-clause-served
 returns-in-Some-clause-served g c =
-    IsServed-kept _ _ c.args.made.now.items c.args.place c.args.pair c.requires.made (rw c.deref.ensures.value at c.in-Some.ensures)
+    IsServed-kept _ _ c.args.made.now.items c.args.place c.args.pair c.requires.made
+    (rw c.deref.ensures.value at c.in-Some.ensures)
 
 pub returns-in_err-digest-clause-answer : goal.returns-in_err-digest-clause-answer
 returns-in_err-digest-clause-answer g c =
@@ -40,5 +43,5 @@ pub returns-clause-served : goal.returns-clause-served
 returns-clause-served g c =
     IsServed-anew _ _ c.args.made.now.items c.args.place c.args.pair c.requires.made c.requires.own c.index.ensures
     c.in_order.ensures _ c.in_ok-digest.ensures.answer c.in_ok-number.ensures.made c.in_ok-number.ensures.number
-    (_, c.in_ok-number.ensures.made) c.in_ok-number.ensures.kept c.in_ok-number.ensures.entries (rw c.deref.ensures.value at c.in_default.ensures)
-    c.upper.ensures.counts
+    (_, c.in_ok-number.ensures.made) c.in_ok-number.ensures.kept c.in_ok-number.ensures.entries
+    (rw c.deref.ensures.value at c.in_default.ensures) c.upper.ensures.counts

@@ -1,4 +1,4 @@
-use Rattle.std.proofs.Common.{◌≡◌, ◌∙◌, Bor, rules, length, map, true, false, sym, refl, arith, inr}
+use Rattle.std.proofs.Common.{◌≡◌, ◌∙◌, Bor, rules, length, true, false, sym, refl, arith, inr}
 use Rattle.std.proofs.lemmas.Bool.{eqb-true, eqb-false}
 use Rattle.std.proofs.lemmas.List.{length-map}
 use Rattle.ark_paths.proofs.MultiWalks.{decided_at_once, AtPlace-first, AtPlace-end, AtPlace-untaken, AtPlace-refused, AtPlace-rejected, AtPlace-accepted}
@@ -43,11 +43,8 @@ returns-in_err-accepted-clause-answer g c =
 pub returns-in_err-accepted-clause-most : goal.returns-in_err-accepted-clause-most
 returns-in_err-accepted-clause-most g c =
     most-next c.loop-place.invariant.decoded c.loop-place-test.true c.in_ok-next.ensures.next.1
-    _ _ _ c.loop-place.invariant.most (rw (
-      c.deref.ensures.value,
-      ← length-map c.next_place.new.above.items
-          (λ (x : Bor _). g.D.Numbered.numbers x.now),
-    ) at c.judge.ensures.most)
+    _ _ _ _ (length-map c.next_place.new.above.items (λ (x : Bor _). g.D.Numbered.numbers x.now))
+    c.loop-place.invariant.most (rw c.deref.ensures.value at c.judge.ensures.most)
 
 pub returns-then-not-accepted-clause-answer : goal.returns-then-not-accepted-clause-answer
 returns-then-not-accepted-clause-answer g c =
@@ -59,11 +56,8 @@ returns-then-not-accepted-clause-answer g c =
 pub returns-then-not-accepted-clause-most : goal.returns-then-not-accepted-clause-most
 returns-then-not-accepted-clause-most g c =
     most-next c.loop-place.invariant.decoded c.loop-place-test.true c.in_ok-next.ensures.next.1
-    _ _ _ c.loop-place.invariant.most (rw (
-      c.deref.ensures.value,
-      ← length-map c.next_place.new.above.items
-          (λ (x : Bor _). g.D.Numbered.numbers x.now),
-    ) at c.judge.ensures.most)
+    _ _ _ _ (length-map c.next_place.new.above.items (λ (x : Bor _). g.D.Numbered.numbers x.now))
+    c.loop-place.invariant.most (rw c.deref.ensures.value at c.judge.ensures.most)
 
 pub loop-place-preserved : goal.loop-place-preserved
 loop-place-preserved g c =
@@ -81,11 +75,8 @@ loop-place-preserved g c =
       counted = Counted-next before.decoded below fit before.counted step walked;
       same = c.judge.ensures.same ∙ before.same;
       rises = RisesBy-more _ _ _ _ _ walked.grows before.rises walked.rises;
-      most = most-there before.decoded below fit _ _ _ before.most (rw (
-        c.deref.ensures.value,
-        ← length-map
-            c.next_place.new.above.items (λ (x : Bor _). g.D.Numbered.numbers x.now),
-      ) at c.judge.ensures.most);
+      most = most-there before.decoded below fit _ _ _ _ (length-map c.next_place.new.above.items (λ (x : Bor _).
+          g.D.Numbered.numbers x.now)) before.most (rw c.deref.ensures.value at c.judge.ensures.most);
     }
 
 pub returns-clause-answer : goal.returns-clause-answer

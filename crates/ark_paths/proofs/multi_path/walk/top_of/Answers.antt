@@ -15,8 +15,8 @@ loop-below-init g c = record {
   climbed = Climbed-lowest c.requires (Extends-push g.L.Numbered.numbers c.args.table.now.leaves.items _ c.args.digest
       c.in_ok-push.ensures.items) refl
       (rw (c.deref.ensures.value, c.place_above-place.ensures) at c.in_ok-own.ensures.served)
-      (seen-lowest g.L.Numbered.numbers _ _ _ c.len-own.result _ _ _ c.in_ok-push.ensures.items (omega arith) c.is_bit_set.ensures)
-      (rw c.deref.ensures.value at c.in_ok-own.ensures.answer) c.ask_lowest.ensures.most;
+      (seen-lowest g.L.Numbered.numbers _ _ _ c.len-own.result _ _ _ c.in_ok-push.ensures.items (omega arith)
+      c.is_bit_set.ensures) (rw c.deref.ensures.value at c.in_ok-own.ensures.answer) c.ask_lowest.ensures.most;
   same = c.ask_lowest.ensures.same;
 }
 
@@ -34,36 +34,29 @@ ask_upper-requires-clause-made g c = rw c.loop-below.invariant.same c.loop-below
 
 pub loop-below-preserved : goal.loop-below-preserved
 loop-below-preserved g c =
-    let view = λ (x : Bor _). g.D.Numbered.numbers x.now in
     let same = c.loop-below.invariant.same in
     let step = add-one c.loop-below.below in
     record {
-      climbed = rw step (Climbed-upper c.loop-below.invariant.climbed
-          (omega (arith, c.loop-below-test.true, length-map c.args.above.now view)) refl refl
+      climbed = rw step (Climbed-upper c.loop-below.invariant.climbed (rw length-map c.loop-below-test.true) refl refl
           (rw (same, c.place_above-place-in-loop-below.ensures, step) at c.in_ok-own-2.ensures.served)
-          (seen-upper view c.args.above.now _ _ _ _ _ _ c.loop-below-test.true (omega arith) c.index-above-above.is
-          c.is_bit_set-in-loop-below.ensures) (rw same at c.in_ok-own-2.ensures.answer) c.ask_upper.ensures.most);
+          (seen-upper (λ (x : Bor _). g.D.Numbered.numbers x.now) c.args.above.now _ _ _ _ _ _ c.loop-below-test.true
+          (omega arith) c.index-above-above.is c.is_bit_set-in-loop-below.ensures)
+          (rw same at c.in_ok-own-2.ensures.answer) c.ask_upper.ensures.most);
       same = c.ask_upper.ensures.same ∙ same;
     }
 
 pub returns-in_err-own-2-clause-answer : goal.returns-in_err-own-2-clause-answer
 returns-in_err-own-2-clause-answer g c =
-    let view = λ (x : Bor _). g.D.Numbered.numbers x.now in
     passed_on _ _ c.from_residual-in_err-own-2.result c.in_err-own-2.field-0.0 c.from_residual-in_err-own-2.ensures.1
     (rw c.loop-below.invariant.same at c.in_err-own-2.ensures.answer)
-    (Climbed-refused c.in_err-own-2.field-0.0 c.loop-below.invariant.climbed
-    (omega (arith, c.loop-below-test.true, length-map c.args.above.now view)) (seen-upper view c.args.above.now _ _ _ _ _ _
-    c.loop-below-test.true (omega arith) c.index-above-above.is c.is_bit_set-in-loop-below.ensures))
+    (Climbed-refused c.in_err-own-2.field-0.0 c.loop-below.invariant.climbed (rw length-map c.loop-below-test.true)
+    (seen-upper (λ (x : Bor _). g.D.Numbered.numbers x.now) c.args.above.now _ _ _ _ _ _ c.loop-below-test.true
+    (omega arith) c.index-above-above.is c.is_bit_set-in-loop-below.ensures))
 
 pub returns-clause-walked : goal.returns-clause-walked
 returns-clause-walked g c = (
   c.loop-below.invariant.climbed.number,
-  Climbed-top c.loop-below.invariant.climbed (omega (
-    arith,
-    c.loop-below-test.false,
-    length-map c.args.above.now
-        (λ (x : Bor _). g.D.Numbered.numbers x.now),
-  )),
+  Climbed-top c.loop-below.invariant.climbed (rw length-map (omega (arith, c.loop-below-test.false))),
 )
 
 pub returns-clause-answer : goal.returns-clause-answer
@@ -77,12 +70,8 @@ pub returns-clause-most : goal.returns-clause-most
 returns-clause-most g c = omega (arith, c.loop-below-test.false, c.loop-below.invariant.climbed.most)
 
 pub returns-in_err-own-2-clause-most : goal.returns-in_err-own-2-clause-most
-returns-in_err-own-2-clause-most g c = omega (
-  arith,
-  c.loop-below-test.true,
-  c.loop-below.invariant.climbed.most,
-  c.ask_upper.ensures.most,
-)
+returns-in_err-own-2-clause-most g c =
+    omega (arith, c.loop-below-test.true, c.loop-below.invariant.climbed.most, c.ask_upper.ensures.most)
 
 pub returns-in_err-own-clause-most : goal.returns-in_err-own-clause-most
 returns-in_err-own-clause-most g c = omega (arith, c.ask_lowest.ensures.most)
