@@ -1,5 +1,5 @@
 -- The pairs of a path against those of a tree.
-use Rattle.std.proofs.Common.{zero, suc, ◌≡◌, ℕ, ◌+◌, ◌-◌, ◌*◌, ◌/◌, ◌%◌, ◌<◌, ◌≤◌, ◌^◌, Bool, true, false, nat_lt, not, ◌&&◌, if◌then◌else◌, Option, Some, None, List, [], ◌∷◌, length, drop, get_or, Ok, Err, arith, refl, ap, sym, ◌∙◌, inl, inr, pow_pos}
+use Rattle.std.proofs.Common.{zero, suc, ◌≡◌, ℕ, ◌+◌, ◌-◌, ◌*◌, ◌/◌, ◌%◌, ◌<◌, ◌≤◌, ◌^◌, Bool, true, false, nat_lt, not, ◌&&◌, if◌then◌else◌, Option, Some, None, List, [], ◌∷◌, length, drop, get_or, Ok, Err, arith, refl, ap, sym, ◌∙◌, inl, inr, pow_pos, add-one}
 use Rattle.std.proofs.lemmas.Bool.{cases_lt}
 use Rattle.std.proofs.lemmas.Bool.Decides.{nat_tests}
 use Rattle.std.proofs.lemmas.List.{drop_more, drop_all, length-drop}
@@ -13,10 +13,10 @@ use Rattle.ark_paths.specs.Index.{bit_at, neighbour}
 use Rattle.ark_paths.specs.Pair.{Digest, HashPair, hash_in_order, digest_eq}
 use Rattle.ark_paths.specs.Path.{Way, climb, path_root}
 use Rattle.ark_paths.specs.Root.{upper_levels}
-use Rattle.ark_paths.specs.Rows.{IsTree, part}
-use Rattle.ark_paths.proofs.OwnPaths.{IsCouple, is_couple, bit_at-level, place-above, bottom-row, upper-row}
-use Rattle.ark_paths.proofs.Parts.{part-left, part-right, get_or-part}
-use Rattle.ark_paths.proofs.PlaceLemmas.{row-twice, place-inside}
+use Rattle.ark_paths.specs.Rows.{IsTree}
+use Rattle.ark_paths.proofs.OwnPaths.{bit_at-level, couple-neighbour, place-above, bottom-row, halves-row, upper-row}
+use Rattle.ark_paths.proofs.Parts.{part-pair, pair_in}
+use Rattle.ark_paths.proofs.PlaceLemmas.{place-inside}
 
 -- the bits below the height are those of the index modulo the size
 pub bit_at-mod : (n m k : ℕ) → k ≤ m → bit_at (n % 2 ^ suc m) k ≡ bit_at n k
@@ -33,25 +33,17 @@ bit_at-mod n m k le =
 
 -- ---- couples
 
--- a couple of a row, whichever of the two comes first
-is_other-couple : (row : List Digest) (i : ℕ) (b : Bool) (x y : Digest) → IsCouple b i → is_other (Ok (couple b x y))
-    (get_or row (2 * (i / 2)) [], get_or row (2 * (i / 2) + 1) []) ≡ not (digest_eq x (get_or row i []) && digest_eq y
-    (get_or row (if b then i - 1 else i + 1) []))
-is_other-couple row i true x y c =
-    let own : get_or row (2 * (i / 2) + 1) [] ≡ get_or row i [] = ap (λ (n : ℕ). get_or row n []) (sym c.place_is) in
-    let beside : get_or row (2 * (i / 2)) [] ≡ get_or row (i - 1) [] =
-    ap (λ (n : ℕ). get_or row n []) (sym c.neighbour_is) in
-    rw (own, beside) (ap not (and_comm (digest_eq y (get_or row (i - 1) [])) (digest_eq x (get_or row i []))))
-is_other-couple row i false x y c =
-    let own : get_or row (2 * (i / 2)) [] ≡ get_or row i [] = ap (λ (n : ℕ). get_or row n []) (sym c.place_is) in
-    let beside : get_or row (2 * (i / 2) + 1) [] ≡ get_or row (i + 1) [] =
-    ap (λ (n : ℕ). get_or row n []) (sym c.neighbour_is) in
-    rw (own, beside) refl
+is_other-couple : (b : Bool) (x y u v : Digest) → is_other (Ok (couple b x y)) (couple b u v)
+    ≡ not (digest_eq x u && digest_eq y v)
+is_other-couple true x y u v = ap not (and_comm (digest_eq y v) (digest_eq x u))
+is_other-couple false x y u v = refl
 
-pub hashed-couple : (hash : Digest → Digest → Outcome Digest) (b : Bool) (x y : Digest) → hash (couple b x y).0
-    (couple b x y).1 ≡ hash_in_order hash b x y
-hashed-couple hash true x y = refl
-hashed-couple hash false x y = refl
+-- a couple of a row, whichever of the two comes first
+other-pair : (row : List Digest) (i : ℕ) (b : Bool) (x y : Digest) → b ≡ bit_at i 0 → is_other (Ok (couple b x y))
+    (pair_in row (i / 2)) ≡ not (digest_eq x (get_or row i []) && digest_eq y
+    (get_or row (neighbour i) []))
+other-pair row i b x y bit = ap (is_other (Ok (couple b x y))) (sym (couple-neighbour row i))
+    ∙ rw bit (is_other-couple (bit_at i 0) x y (get_or row i []) (get_or row (neighbour i) []))
 
 -- ---- levels
 
@@ -113,12 +105,8 @@ first_level-some other from (suc count) level some =
 
 -- from a level down
 abbrev pub top_from : HashPair → Way → Digest → ℕ → Outcome Digest
-top_from h way digest level = path_root h (record {
-  sibling = way.sibling;
-  above = drop level way.above;
-  index =
-      way.index;
-}) digest
+top_from h way digest level =
+    path_root h (record { sibling = way.sibling; above = drop level way.above; index = way.index }) digest
 
 climbed-refused : (hash : Digest → Digest → Outcome Digest) (index : ℕ) (ds : List Digest) (lowest : Digest) (level : ℕ)
     (e : Error) → climb hash index (drop level ds) lowest ≡ Err e → climb hash index ds lowest ≡ Err e
@@ -138,34 +126,28 @@ top_from-refused h way digest level e refused =
     by_lowest (Ok lowest) r = climbed-refused h.upper way.index way.above lowest level e r
     by_lowest (Err f) r = r
 
+-- the digests from a level down
+from-level : (ds : List Digest) (level : ℕ) → level < length ds → (drop level ds ≡ get_or ds level []
+    ∷ drop (suc level) ds) × (suc (length (drop (suc level) ds)) ≡ length ds - level)
+from-level ds level under =
+    (rw add-one at (drop_more ds level [] under), omega (arith, under, length-drop (suc level) ds))
+
 -- one level up
 pub top_from-up : (h : HashPair) (way : Way) (digest : Digest) (level : ℕ) → level < length way.above → top_from h way
     digest level ≡ (top_from h way digest (suc level) >>= λ below. hash_in_order h.upper
     (bit_at way.index (length way.above - level)) below (get_or way.above level []))
-top_from-up h way digest level under =
-    let cut : drop level way.above ≡ get_or way.above level [] ∷ drop (suc level) way.above =
-    let one : level + 1 ≡ suc level = omega arith in rw (one) at (drop_more way.above level [] under) in
-    let long : suc (length (drop (suc level) way.above)) ≡ length way.above - level =
-    omega (arith, length-drop (suc level) way.above) in
-    by_lowest (hash_in_order h.bottom (bit_at way.index 0) digest way.sibling) (drop level way.above) cut long
+top_from-up h way digest level under = by_lowest (hash_in_order h.bottom (bit_at way.index 0) digest way.sibling)
   where
-    by_lowest : (o : Outcome Digest) (ds : List Digest) → ds ≡ get_or way.above level [] ∷ drop (suc level) way.above
-        → suc (length (drop (suc level) way.above)) ≡ length way.above - level
-        → (o >>= climb h.upper way.index ds) ≡ ((o >>= climb h.upper way.index (drop (suc level) way.above)) >>=
-        λ below. hash_in_order h.upper (bit_at way.index (length way.above - level)) below
-        (get_or way.above level []))
-    by_lowest (Ok lowest) ds cut long = rw (cut, long) refl
-    by_lowest (Err e) ds cut long = refl
+    by_lowest : (o : Outcome Digest) → (o >>= climb h.upper way.index (drop level way.above))
+        ≡ ((o >>= climb h.upper way.index (drop (suc level) way.above)) >>=
+        λ below. hash_in_order h.upper (bit_at way.index (length way.above - level)) below (get_or way.above level []))
+    by_lowest (Ok lowest) = let from = from-level way.above level under in rw (from.0, from.1) refl
+    by_lowest (Err e) = refl
 
 pub path_pair-up : (h : HashPair) (way : Way) (digest : Digest) (level : ℕ) → level < length way.above → path_pair h way
     digest level ≡ (top_from h way digest (suc level) >>= λ below.
     Ok (couple (bit_at way.index (length way.above - level)) below (get_or way.above level [])))
-path_pair-up h way digest level under =
-    let cut : drop level way.above ≡ get_or way.above level [] ∷ drop (suc level) way.above =
-    let one : level + 1 ≡ suc level = omega arith in rw (one) at (drop_more way.above level [] under) in
-    let long : suc (length (drop (suc level) way.above)) ≡ length way.above - level =
-    omega (arith, length-drop (suc level) way.above) in
-    rw (cut, long) refl
+path_pair-up h way digest level under = let from = from-level way.above level under in rw (from.0, from.1) refl
 
 pub path_pair-is : (h : HashPair) (way : Way) (digest : Digest) (level : ℕ) → level < length way.above
     → (below : Digest) → top_from h way digest (suc level) ≡ Ok below → path_pair h way digest level
@@ -179,7 +161,7 @@ pub path_pair-last : (h : HashPair) (way : Way) (digest : Digest) (level : ℕ) 
 path_pair-last h way digest level last = let none : drop level way.above ≡ [] =
     drop_all level way.above (omega arith) in rw (none) refl
 
-bound_alone : (o : Outcome Digest) → (o >>= λ digest. Ok digest) ≡ o
+pub bound_alone : (o : Outcome Digest) → (o >>= λ digest. Ok digest) ≡ o
 bound_alone (Ok digest) = refl
 bound_alone (Err e) = refl
 
@@ -203,36 +185,25 @@ module _ (h : HashPair) (leaves : List Digest) (rows : List (List Digest)) (tree
 
   -- the leaf digests' pair
   tree_pair-last : (level : ℕ) → level ≡ upper_levels leaves → tree_pair h leaves index level
-      ≡ (get_or leaves (2 * (own_index / 2)) [], get_or leaves (2 * (own_index / 2) + 1) [])
+      ≡ pair_in leaves (own_index / 2)
   tree_pair-last level last =
       let none : upper_levels leaves - level ≡ 0 = omega arith in
       let half : own_index / 2 ^ 1 ≡ own_index / 2 = omega arith in
-      let q = own_index / 2 in
-      let left : get_or (part 0 q leaves) 0 [] ≡ get_or leaves (2 * q) [] =
-      get_or-part q 0 leaves (omega arith) ∙ ap (λ (n : ℕ). get_or leaves n []) (omega arith) in
-      let right : get_or (part 0 q leaves) 1 [] ≡ get_or leaves (2 * q + 1) [] = get_or-part q 1 leaves (omega arith) in
-      rw (none, half, left, right) refl
+      rw (none, half) (part-pair (own_index / 2) leaves)
 
   pub other-last : (level : ℕ) → level ≡ upper_levels leaves → (x y : Digest)
       → is_other (Ok (couple (bit_at index 0) x y)) (tree_pair h leaves index level)
       ≡ not (digest_eq x (get_or leaves own_index []) && digest_eq y (get_or leaves (neighbour own_index) []))
-  other-last level last x y =
-      ap (is_other (Ok (couple (bit_at index 0) x y))) (tree_pair-last level last)
-      ∙ ap (λ b. is_other (Ok (couple b x y)) (
-        get_or leaves (2 * (own_index / 2)) [],
-        get_or leaves
-            (2 * (own_index / 2) + 1) [],
-      )) (sym (own-bit 0 (omega arith)))
-      ∙ is_other-couple leaves own_index (bit_at own_index 0) x y (is_couple own_index (bit_at own_index 0) refl)
+  other-last level last x y = ap (is_other (Ok (couple (bit_at index 0) x y))) (tree_pair-last level last)
+      ∙ other-pair leaves own_index (bit_at index 0) x y (sym (own-bit 0 (omega arith)))
 
   pub tree-hash-last : (level : ℕ) → level ≡ upper_levels leaves → hash_at h (upper_levels leaves) level
       (tree_pair h leaves index level) ≡ Ok (get_or (get_or rows 0 []) (own_index / 2 ^ 1) [])
   tree-hash-last level last =
-      let m = upper_levels leaves in
       let half : own_index / 2 ^ 1 ≡ own_index / 2 = omega arith in
       let here : own_index / 2 ^ 1 < length (get_or rows 0 []) =
       place-inside rows (length leaves) tree.levels 0 own_index (omega (arith, tree.count)) own-inside in
-      let bottom : nat_lt level m ≡ false = grind (arith, nat_tests) in
+      let bottom : nat_lt level (upper_levels leaves) ≡ false = grind (arith, nat_tests) in
       rw (tree_pair-last level last, bottom, half) (bottom-row h leaves rows tree (own_index / 2) (omega arith))
 
   -- the pair of a row
@@ -240,44 +211,32 @@ module _ (h : HashPair) (leaves : List Digest) (rows : List (List Digest)) (tree
     abbrev pub at : ℕ
     at = own_index / 2 ^ suc k
 
-    tree_pair-row : tree_pair h leaves index level ≡ (
-      get_or (get_or rows k []) (2 * (at / 2)) [],
-      get_or (get_or rows k []) (2 * (at / 2) + 1) [],
-    )
+    inside : suc k < length rows
+    inside = omega (arith, tree.count, is)
+
+    above : own_index / 2 ^ suc (suc k) < length (get_or rows (suc k) [])
+    above = place-inside rows (length leaves) tree.levels (suc k) own_index inside own-inside
+
+    half : own_index / 2 ^ suc (suc k) ≡ at / 2
+    half = place-above own_index (suc k)
+
+    tree_pair-row : tree_pair h leaves index level ≡ pair_in (get_or rows k []) (at / 2)
     tree_pair-row =
-        let row = get_or rows k [] in
-        let q = own_index / 2 ^ suc (suc k) in
         let up : upper_levels leaves - level ≡ suc k = omega arith in
-        let half : q ≡ at / 2 = place-above own_index (suc k) in
-        let inside : suc k < length rows = omega (arith, tree.count) in
-        let twice : length row ≡ 2 * length (get_or rows (suc k) []) =
-        row-twice rows (length leaves) tree.levels k inside in
-        let above : q < length (get_or rows (suc k) []) =
-        place-inside rows (length leaves) tree.levels (suc k) own_index inside own-inside in
-        let left = tree.roots k (2 * q) (omega arith) (omega arith) in
-        let right = tree.roots k (2 * q + 1) (omega arith) (omega arith) in
-        rw (up, part-left k q leaves, part-right k q leaves, left, right, half) refl
+        rw (up, ← half) (halves-row h leaves rows tree k (own_index / 2 ^ suc (suc k)) inside above)
 
     pub other-row : (x y : Digest) → is_other (Ok (couple (bit_at index (suc k)) x y)) (tree_pair h leaves index level)
         ≡ not (digest_eq x (get_or (get_or rows k []) at []) && digest_eq y (get_or (get_or rows k [])
         (neighbour at) []))
-    other-row x y =
-        let row = get_or rows k [] in
-        let bit : bit_at index (suc k) ≡ bit_at at 0 =
-        sym (own-bit (suc k) (omega arith)) ∙ sym (bit_at-level own_index (suc k)) in
-        ap (is_other (Ok (couple (bit_at index (suc k)) x y))) tree_pair-row
-        ∙ ap (λ b. is_other (Ok (couple b x y)) (get_or row (2 * (at / 2)) [], get_or row (2 * (at / 2) + 1) [])) bit
-        ∙ is_other-couple row at (bit_at at 0) x y (is_couple at (bit_at at 0) refl)
+    other-row x y = ap (is_other (Ok (couple (bit_at index (suc k)) x y))) tree_pair-row
+        ∙ other-pair (get_or rows k []) at (bit_at index (suc k)) x y (sym (own-bit (suc k) (omega (arith, is)))
+        ∙ sym (bit_at-level own_index (suc k)))
 
     pub tree-hash-row : hash_at h (upper_levels leaves) level (tree_pair h leaves index level)
         ≡ Ok (get_or (get_or rows (suc k) []) (own_index / 2 ^ suc (suc k)) [])
     tree-hash-row =
-        let inside : suc k < length rows = omega (arith, tree.count) in
-        let above : own_index / 2 ^ suc (suc k) < length (get_or rows (suc k) []) =
-        place-inside rows (length leaves) tree.levels (suc k) own_index inside own-inside in
-        let half : own_index / 2 ^ suc (suc k) ≡ at / 2 = place-above own_index (suc k) in
         let upper : nat_lt level (upper_levels leaves) ≡ true = grind (arith, nat_tests) in
-        rw (tree_pair-row, upper, half) (upper-row h leaves rows tree k (at / 2) inside (rw (half) at above))
+        rw (tree_pair-row, upper, ← half) (upper-row h leaves rows tree k (own_index / 2 ^ suc (suc k)) inside above)
 
 module _ (h : HashPair) (leaves : List Digest) (rows : List (List Digest)) (tree : IsTree h leaves rows) (way : Way)
     (digest : Digest) (long : length way.above ≡ upper_levels leaves) where

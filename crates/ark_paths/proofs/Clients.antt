@@ -1,6 +1,5 @@
 -- What an accepted path says to whoever has a root alone.
-use Rattle.std.proofs.Common.{◌≡◌, ℕ, suc, ◌%◌, Bool, true, false, if◌then◌else◌, ◌==◌, Option, Some, None, List, [], ◌∷◌, ◌++◌, length, map, ◌⊎◌, Ok, Err, refl, ap, sym, ◌∙◌, inl, inr}
-use Rattle.std.specs.Iterator.{Yields}
+use Rattle.std.proofs.Common.{◌≡◌, ℕ, suc, ◌%◌, Bool, true, false, if◌then◌else◌, ◌==◌, Option, Some, None, List, [], ◌∷◌, length, map, Ok, Err, refl, ap, sym, ◌∙◌, inl, inr}
 use Rattle.std.specs.Result.{IfOk}
 use Rattle.std.proofs.lemmas.List.{append-nil}
 use Rattle.ark_base.specs.declared.error.Error.TheVariants.{GenericError}
@@ -102,28 +101,17 @@ module _ {A : Type 0} (hashes : Hashes A) (r : Digest) where
         (λ digests. multi_verdict hashes.pair digests m r) result → IfOk result (λ accepted. accepted ≡ true
         → BindsGiven steps view start hashes r (decoded_paths m))
     given-bound (Err e) over = tt
-    given-bound (Ok accepted) over = λ is. by_end is over.answered
-      where
-        by_end : accepted ≡ true
-            → (((last : S) × Yields steps start over.taken last × steps last None behind
-            × (multi_verdict hashes.pair (map (λ x. hashes.leaf (view x)) over.taken) m r ≡ Ok accepted))
-            ⊎ (Yields steps start over.taken behind × ((more : List (Outcome Digest)) → multi_verdict hashes.pair
-            (map (λ x. hashes.leaf (view x)) over.taken ++ more) m r ≡ Ok accepted))) → BindsGiven steps view start
-            hashes r (decoded_paths m)
-        by_end is (inl ended) = record {
-          taken = over.taken;
-          after = ended.0;
-          gave = ended.1;
-          bound = taken-bound
-              over.taken (ended.3 ∙ ap Ok is);
-        }
-        by_end is (inr went) =
-            let all = append-nil (map (λ x. hashes.leaf (view x)) over.taken) in
-            record {
-              taken = over.taken;
-              after = behind;
-              gave = went.0;
-              bound = taken-bound over.taken
-                  (ap (λ (leaves : List (Outcome Digest)). multi_verdict hashes.pair leaves m r) (sym all) ∙ went.1 []
-                  ∙ ap Ok is);
-            }
+    given-bound (Ok accepted) over = λ is. elim over.answered [
+      | inl (last, gave, none, said) ↦ record {
+        taken = over.taken;
+        after = last;
+        gave = gave;
+        bound = taken-bound over.taken (said ∙ ap Ok is);
+      }
+      | inr (gave, said) ↦ record {
+        taken = over.taken;
+        after = behind;
+        gave = gave;
+        bound = taken-bound over.taken (rw append-nil at (said [] ∙ ap Ok is));
+      }
+    ]

@@ -1,28 +1,22 @@
 -- Where the pairs of a path and of a tree agree, and where they collide.
 use Rattle.std.proofs.Common.{zero, suc, ◌≡◌, ℕ, ◌+◌, ◌-◌, ◌/◌, ◌%◌, ◌<◌, ◌^◌, Bool, true, false, nat_lt, not, ◌&&◌, Some, None, List, [], length, get_or, Ok, Err, arith, refl, ap, sym, subst, ◌∙◌, inl, inr}
-use Rattle.std.proofs.lemmas.Bool.{cases_lt}
+use Rattle.std.proofs.lemmas.Bool.{cases_lt, false≢true}
 use Rattle.std.proofs.lemmas.Bool.Decides.{nat_tests}
 use Rattle.std.proofs.lemmas.Slice.Eq.{bytes_eq-Decides}
 use Rattle.std.proofs.Math.Nat.{div-eq_of_lt}
 use Rattle.ark_base.specs.Outcome.{Outcome}
 use Rattle.ark_base.specs.Laws.Steps.{bind_ok}
-use Rattle.ark_paths.specs.Bind.{couple, tree_pair, path_pair, is_other, difference, Collides}
+use Rattle.ark_paths.specs.Bind.{tree_pair, path_pair, hash_at, is_other, difference, Collides}
 use Rattle.ark_paths.specs.Index.{bit_at}
 use Rattle.ark_paths.specs.Pair.{Digest, HashPair, digest_eq}
 use Rattle.ark_paths.specs.Path.{Way, path_root}
 use Rattle.ark_paths.specs.Root.{root, upper_levels}
 use Rattle.ark_paths.specs.Rows.{IsTree}
-use Rattle.ark_paths.proofs.Binds.{hashed-couple, first_level-none, first_level-some, IsFirst, top_from, top_from-up, top_from-last, path_pair-up, path_pair-is, path_pair-last, own-inside, tree-hash-last, tree-hash-row, differs, differs-last, differs-row}
-use Rattle.ark_paths.proofs.OwnPaths.{root-top}
+use Rattle.ark_paths.proofs.Binds.{first_level-none, first_level-some, IsFirst, top_from, top_from-up, top_from-last, path_pair-up, path_pair-is, path_pair-last, own-inside, tree-hash-last, tree-hash-row, differs, differs-last, differs-row}
+use Rattle.ark_paths.proofs.OwnPaths.{digest_eq-same, hashed-couple, root-top}
 
 pub digest_eq-true : (a b : Digest) → digest_eq a b ≡ true → a ≡ b
 digest_eq-true a b = (bytes_eq-Decides a b).0
-
-digest_eq-same : (a : Digest) → digest_eq a a ≡ true
-digest_eq-same a = (bytes_eq-Decides a a).1 refl
-
-true_false : true ≡ false → ⊥
-true_false e = absurd cc
 
 -- both of two tests
 both_true : (a b : Bool) → not (a && b) ≡ false → (a ≡ true) × (b ≡ true)
@@ -85,53 +79,42 @@ module _ (h : HashPair) (leaves : List Digest) (rows : List (List Digest)) (tree
   collides level first whole =
       let m = upper_levels leaves in
       let before : (l : ℕ) → l < level → other l ≡ false = λ l under. first.before l (omega arith) under in
-      let agree : (l : ℕ) → l < level → path_pair h way digest l ≡ Ok (tree_pair h leaves way.index l) =
-      λ l under. is_other-false _ _ (before l under) in
       elim (cases_lt level m) [
         | inl lt ↦
             let k = m - suc level in
             let at : level + suc k ≡ m = omega arith in
             let under : level < length way.above = omega (arith, long) in
-            let bit = bit_at way.index (length way.above - level) in
-            let beside = get_or way.above level [] in
             let step = bind_ok (top_from h way digest (suc level)) _ _ (sym (top_from-up h way digest level under)
             ∙ top-own level (suc k) at before whole) in
-            let pair_is : path_pair h way digest level ≡ Ok (couple bit step.0 beside) =
-            path_pair-is h way digest level under step.0 step.1 in
             let upper : nat_lt level m ≡ true = grind (arith, nat_tests) in
-            record {
-              in_range = omega arith;
-              given = couple bit step.0 beside;
-              given_is = pair_is;
-              differ = λ same. absurd (true_false (sym first.holds
-                  ∙ ap (λ o. is_other o (tree_pair h leaves way.index level)) pair_is ∙ is_other-same
-                  (couple bit step.0 beside) (tree_pair h leaves way.index level) same));
-              common = own (suc k);
-              given_hash = rw (upper) (hashed-couple h.upper bit step.0 beside ∙ step.2);
-              tree_hash = tree-hash-row h leaves rows tree way.index level k at;
-              agree_above = agree;
-            }
+            colliding _ (own (suc k)) (path_pair-is h way digest level under step.0 step.1)
+            (rw (upper) (hashed-couple h.upper (bit_at way.index (length way.above - level)) step.0
+            (get_or way.above level []) ∙ step.2)) (tree-hash-row h leaves rows tree way.index level k at)
         | inr ge ↦
             let last : level ≡ m = omega (arith, first.high) in
-            let bit = bit_at way.index 0 in
-            let pair_is : path_pair h way digest level ≡ Ok (couple bit digest way.sibling) =
-            path_pair-last h way digest level (omega (arith, long, last)) in
             let bottom : nat_lt level m ≡ false = grind (arith, nat_tests) in
-            record {
-              in_range = omega (arith, last);
-              given = couple bit digest way.sibling;
-              given_is = pair_is;
-              differ = λ same. absurd (true_false (sym first.holds
-                  ∙ ap (λ o. is_other o (tree_pair h leaves way.index level)) pair_is ∙ is_other-same
-                  (couple bit digest way.sibling) (tree_pair h leaves way.index level) same));
-              common = own 0;
-              given_hash = rw (bottom) (hashed-couple h.bottom bit digest way.sibling
-                  ∙ sym (top_from-last h way digest level (omega (arith, long, last))) ∙ top-own level 0
-                  (omega (arith, last)) before whole);
-              tree_hash = tree-hash-last h leaves rows tree way.index level last;
-              agree_above = agree;
-            }
+            colliding _ (own 0) (path_pair-last h way digest level (omega (arith, long, last)))
+            (rw (bottom) (hashed-couple h.bottom (bit_at way.index 0) digest way.sibling
+            ∙ sym (top_from-last h way digest level (omega (arith, long, last)))
+            ∙ top-own level 0 (omega (arith, last)) before whole))
+            (tree-hash-last h leaves rows tree way.index level last)
       ]
+    where
+      colliding : (given : Digest × Digest) (common : Digest) → path_pair h way digest level ≡ Ok given
+          → hash_at h (upper_levels leaves) level given ≡ Ok common
+          → hash_at h (upper_levels leaves) level (tree_pair h leaves way.index level) ≡ Ok common
+          → Collides h leaves way digest level
+      colliding given common is hashed tree_hashed = record {
+        in_range = omega (arith, first.high);
+        given = given;
+        given_is = is;
+        differ = λ same. false≢true (sym (is_other-same given (tree_pair h leaves way.index level) same)
+            ∙ ap (λ o. is_other o (tree_pair h leaves way.index level)) (sym is) ∙ first.holds);
+        common = common;
+        given_hash = hashed;
+        tree_hash = tree_hashed;
+        agree_above = λ l under. is_other-false _ _ (first.before l (omega arith) under);
+      }
 
   -- where no level differs, the leaf's digest stands at its place
   pub agreed-leaf : difference h leaves way digest ≡ None → digest ≡ get_or leaves index []

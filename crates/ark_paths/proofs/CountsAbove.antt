@@ -1,7 +1,9 @@
 -- How many places stand above leaves.
-use Rattle.std.proofs.Common.{zero, suc, ◌≡◌, ℕ, ◌+◌, ◌/◌, ◌^◌, ◌==◌, Bool, true, false, cond, ◌||◌, List, [], ◌∷◌, length, map, reverse, arith, refl, ap, sym, ◌∙◌, inl, inr}
+use Rattle.std.proofs.Common.{zero, suc, ◌≡◌, ℕ, ◌+◌, ◌/◌, ◌^◌, ◌<◌, ◌==◌, Bool, true, false, cond, List, [], ◌∷◌, length, map, reverse, arith, refl, ap, sym, ◌∙◌, inl, inr}
 use Rattle.std.specs.List.{Contains, list_any}
 use Rattle.std.proofs.lemmas.Bool.{eqb-true, eq-eqb}
+use Rattle.std.proofs.lemmas.List.{get_or-map, length-map}
+use Rattle.std.proofs.lemmas.List.Folds.{Any-from_list_any, list_any_at}
 use Rattle.std.proofs.lemmas.List.Sorted.{IsPermutation-reverse, list_any-IsPermutation}
 use Rattle.ark_paths.specs.Above.{places_on, count_above}
 use Rattle.ark_paths.specs.Rising.{with_number, rising_set}
@@ -11,22 +13,14 @@ use Rattle.ark_paths.proofs.MultiIndexes.{trichotomy, placed-below, placed-past,
 
 module _ (f : ℕ → ℕ) (n : ℕ) where
   found-contains : (xs : List ℕ) → list_any (λ i. f i == n) xs ≡ true → Contains (map f xs) n
-  found-contains [] e = absurd cc
-  found-contains (x ∷ xs) e = by_first (f x == n) refl e (found-contains xs)
-    where
-      by_first : (t : Bool) → (f x == n) ≡ t → (t || list_any (λ i. f i == n) xs) ≡ true → (list_any (λ i. f i == n) xs
-          ≡ true → Contains (map f xs) n) → Contains (map f (x ∷ xs)) n
-      by_first true is some later = (0, omega arith, eqb-true (f x) n is)
-      by_first false is some later = let c = later some in (suc c.0, omega (arith, c.1), c.2)
+  found-contains xs e =
+      let (k, x, below, at, is) = Any-from_list_any (λ i. f i == n) xs e in
+      (k, omega (arith, below, length-map xs f), get_or-map f xs k x n below ∙ ap f at ∙ eqb-true (f x) n is)
 
   contains-found : (xs : List ℕ) → Contains (map f xs) n → list_any (λ i. f i == n) xs ≡ true
-  contains-found [] c = absurd (omega (arith, c.1))
-  contains-found (x ∷ xs) (zero, below, is) = let e : (f x == n) ≡ true = eq-eqb (f x) n is in rw e refl
-  contains-found (x ∷ xs) (suc k, below, is) = by_first (f x == n) (contains-found xs (k, omega arith, is))
-    where
-      by_first : (t : Bool) → list_any (λ i. f i == n) xs ≡ true → (t || list_any (λ i. f i == n) xs) ≡ true
-      by_first true some = refl
-      by_first false some = some
+  contains-found xs (k, below, is) =
+      let inside : k < length xs = omega (arith, below, length-map xs f) in
+      list_any_at (λ i. f i == n) xs k 0 inside (eq-eqb _ n (sym (get_or-map f xs k 0 n inside) ∙ is))
 
 -- ---- a number more
 

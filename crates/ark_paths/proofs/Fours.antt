@@ -61,18 +61,13 @@ module _ (SoFar : ℕ → List Digest → Type 0) (hashed : ℕ → Outcome Dige
         by_first : (p q r s : Outcome Digest) → hashed 0 ≡ p → hashed 1 ≡ q → hashed 2 ≡ r → hashed 3 ≡ s
             → four_in_turn p q r s ≡ Err e → Whole e
         by_first (Err f) q r s first second third fourth is =
-            let same : f ≡ e = cc in
-            refused 0 done e (omega arith) (subst (λ (m : ℕ). SoFar m done) none so) (first ∙ ap Err same)
+            refused 0 done e (omega arith) (subst (λ (m : ℕ). SoFar m done) none so) (first ∙ cc)
         by_first (Ok a) (Err f) r s first second third fourth is =
-            let same : f ≡ e = cc in
-            refused 1 (done ++ a ∷ []) e (omega arith) (one a first) (second ∙ ap Err same)
+            refused 1 (done ++ a ∷ []) e (omega arith) (one a first) (second ∙ cc)
         by_first (Ok a) (Ok b) (Err f) s first second third fourth is =
-            let same : f ≡ e = cc in
-            refused 2 ((done ++ a ∷ []) ++ b ∷ []) e (omega arith) (two a b first second) (third ∙ ap Err same)
-        by_first (Ok a) (Ok b) (Ok c) (Err f) first second third fourth is =
-            let same : f ≡ e = cc in
-            refused 3 (((done ++ a ∷ []) ++ b ∷ []) ++ c ∷ []) e (omega arith) (three a b c first second third)
-            (fourth ∙ ap Err same)
+            refused 2 ((done ++ a ∷ []) ++ b ∷ []) e (omega arith) (two a b first second) (third ∙ cc)
+        by_first (Ok a) (Ok b) (Ok c) (Err f) first second third fourth is = refused 3
+            (((done ++ a ∷ []) ++ b ∷ []) ++ c ∷ []) e (omega arith) (three a b c first second third) (fourth ∙ cc)
         by_first (Ok a) (Ok b) (Ok c) (Ok d) first second third fourth is = absurd cc
 
 -- Four items of a list, from a place on, are hashed after those before them.

@@ -53,13 +53,9 @@ each-append_step (Ok c) (Err e) q = refl
 each-append_step (Ok c) (Ok cs) (Err e) = refl
 each-append_step (Ok c) (Ok cs) (Ok ds) = refl
 
-append_none : (o : Outcome (List Digest)) → o ≡ (o >>= λ ds. Ok ([] ++ ds))
-append_none (Ok ds) = refl
-append_none (Err e) = refl
-
 pub each-append : {A : Type 0} (hash : A → Outcome Digest) (xs ys : List A) → all_hashes hash (xs ++ ys)
     ≡ (all_hashes hash xs >>= λ cs. all_hashes hash ys >>= λ ds. Ok (cs ++ ds))
-each-append hash [] ys = append_none (all_hashes hash ys)
+each-append hash [] ys = begun-nil (all_hashes hash ys)
 each-append hash (x ∷ xs) ys = rw (each-append hash xs ys) (each-append_step (hash x) (all_hashes hash xs)
     (all_hashes hash ys))
 

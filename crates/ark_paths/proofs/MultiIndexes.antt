@@ -117,19 +117,13 @@ module _ (n : ℕ) where
   placed-holds (x ∷ xs) k h =
       elim (trichotomy n x) [
         | inl lt ↦ rw (placed-below n x xs lt) h
-        | inr (inl same) ↦ rw (placed-same n x xs same) (at_same same h)
-        | inr (inr gt) ↦ rw (placed-past n x xs gt) (at_past (λ more. placed-holds xs k more) h)
+        | inr (inl same) ↦ rw (placed-same n x xs same) (elim h [ inl is ↦ inl (is ∙ same) | inr more ↦ more ])
+        | inr (inr gt) ↦ rw (placed-past n x xs gt) (elim h [
+          | inl is ↦ inr (placed-holds xs k (inl is))
+          | inr (inl first) ↦ inl first
+          | inr (inr more) ↦ inr (placed-holds xs k (inr more))
+        ])
       ]
-    where
-      at_same : n ≡ x → (k ≡ n) ⊎ IsAmong k (x ∷ xs) → IsAmong k (x ∷ xs)
-      at_same same (inl is) = inl (is ∙ same)
-      at_same same (inr more) = more
-
-      at_past : ((k ≡ n) ⊎ IsAmong k xs → IsAmong k (with_number n xs)) → (k ≡ n) ⊎ IsAmong k (x ∷ xs)
-          → IsAmong k (x ∷ with_number n xs)
-      at_past further (inl is) = inr (further (inl is))
-      at_past further (inr (inl first)) = inl first
-      at_past further (inr (inr more)) = inr (further (inr more))
 
   placed-adds : (xs : List ℕ) (k : ℕ) → IsAmong k (with_number n xs) → (k ≡ n) ⊎ IsAmong k xs
   placed-adds [] k h = h
@@ -137,41 +131,29 @@ module _ (n : ℕ) where
       elim (trichotomy n x) [
         | inl lt ↦ (rw (placed-below n x xs lt) at h)
         | inr (inl same) ↦ inr (rw (placed-same n x xs same) at h)
-        | inr (inr gt) ↦ at_past (λ more. placed-adds xs k more) (rw (placed-past n x xs gt) at h)
+        | inr (inr gt) ↦ elim (rw (placed-past n x xs gt) at h) [
+          | inl first ↦ inr (inl first)
+          | inr more ↦ elim (placed-adds xs k more) [ inl is ↦ inl is | inr old ↦ inr (inr old) ]
+        ]
       ]
-    where
-      regroup : (k ≡ n) ⊎ IsAmong k xs → (k ≡ n) ⊎ IsAmong k (x ∷ xs)
-      regroup (inl is) = inl is
-      regroup (inr more) = inr (inr more)
-
-      at_past : (IsAmong k (with_number n xs) → (k ≡ n) ⊎ IsAmong k xs) → IsAmong k (x ∷ with_number n xs) → (k ≡ n)
-          ⊎ IsAmong k (x ∷ xs)
-      at_past further (inl first) = inr (inl first)
-      at_past further (inr more) = regroup (further more)
 
   placed-rises : (xs : List ℕ) → Rise xs → Rise (with_number n xs)
   placed-rises [] r = (tt, tt)
   placed-rises (x ∷ xs) r =
       elim (trichotomy n x) [
         | inl lt ↦ rw (placed-below n x xs lt) (
-          (
-            lt,
-            AreAbove-by n xs (λ k more. let above = AreAbove-among x xs k r.0
-                more in omega arith),
-          ),
+          (lt, AreAbove-by n xs (λ k more. let above = AreAbove-among x xs k r.0 more in omega arith)),
           r,
         )
         | inr (inl same) ↦ rw (placed-same n x xs same) r
         | inr (inr gt) ↦ rw (placed-past n x xs gt) (
-          AreAbove-by x (with_number n xs) (λ k more. higher gt k
-              (placed-adds xs k more)),
+          AreAbove-by x (with_number n xs) (λ k more. elim (placed-adds xs k more) [
+            | inl is ↦ omega arith
+            | inr old ↦ AreAbove-among x xs k r.0 old
+          ]),
           placed-rises xs r.1,
         )
       ]
-    where
-      higher : x < n → (k : ℕ) → (k ≡ n) ⊎ IsAmong k xs → x < k
-      higher gt k (inl is) = omega arith
-      higher gt k (inr more) = AreAbove-among x xs k r.0 more
 
 rising-rises : (xs : List ℕ) → Rise (rising_set xs)
 rising-rises [] = tt

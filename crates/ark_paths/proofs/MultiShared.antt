@@ -1,8 +1,8 @@
 -- Paths of which each takes from the one before what they have in common.
-use Rattle.std.proofs.Common.{◌≡◌, ℕ, zero, suc, ◌+◌, ◌≤◌, Bool, true, false, nat_eq, List, [], ◌∷◌, ◌++◌, length, map, take, drop, slice_get, Option, Some, refl, ap, sym, ◌∙◌, arith, length-drop}
+use Rattle.std.proofs.Common.{◌≡◌, ℕ, zero, suc, ◌+◌, ◌≤◌, Bool, true, false, nat_eq, List, [], ◌∷◌, ◌++◌, length, map, take, drop, slice_get, Option, Some, refl, ap, sym, ◌∙◌, arith, length-drop, add-one, subst}
 use Rattle.std.specs.List.{AllByRecursion}
 use Rattle.std.proofs.lemmas.Bool.{eq-eqb}
-use Rattle.std.proofs.lemmas.List.{take-append-drop}
+use Rattle.std.proofs.lemmas.List.{drop-drop, take-append-drop}
 use Rattle.std.proofs.lemmas.Slice.Eq.{bytes_eq-Decides}
 use Rattle.ark_paths.specs.MultiPath.{MultiWay, path_length, decoded_path, decoded_paths_from, decoded_paths}
 use Rattle.ark_paths.specs.Sharing.{shared_count, prefixes_of, suffixes_of, multi_path_of}
@@ -77,10 +77,7 @@ slice_get-drop (y ∷ xs) zero x rest e = let same : y ≡ x = cc in ap Some sam
 slice_get-drop (y ∷ xs) (suc i) x rest e = slice_get-drop xs i x rest e
 
 drop-next : {X : Type 0} (xs : List X) (i : ℕ) (x : X) (rest : List X) → drop i xs ≡ x ∷ rest → drop (suc i) xs ≡ rest
-drop-next [] zero x rest e = absurd cc
-drop-next [] (suc i) x rest e = absurd cc
-drop-next (y ∷ xs) zero x rest e = cc
-drop-next (y ∷ xs) (suc i) x rest e = drop-next xs i x rest e
+drop-next xs i x rest e = rw (← add-one i) (sym (drop-drop 1 i xs) ∙ ap (drop 1) e)
 
 abbrev pub above_of : List Way → List (List Digest)
 above_of ways = map (λ way. way.above) ways
@@ -120,15 +117,10 @@ decoded_from-parts m i before (way ∷ ways) parts long =
     rw (decoded_at-part m i before way ways parts long.0) (ap (λ (os : List (Option Way)). Some way ∷ os)
     (decoded_from-parts m (suc i) way.above ways next long.1))
 
-as_long : (k n : ℕ) (ways : List Way) → k ≡ n → AllByRecursion (λ way. length way.above ≡ k) ways → AllByRecursion
-    (λ way. length way.above ≡ n) ways
-as_long k n [] same long = tt
-as_long k n (way ∷ ways) same long = (long.0 ∙ same, as_long k n ways same long.1)
-
 -- paths of one length are decoded from what they are merged to
 pub decoded-merged : (k : ℕ) (ways : List Way) → AllByRecursion (λ way. length way.above ≡ k) ways → decoded_paths
     (multi_path_of ways) ≡ map Some ways
 decoded-merged k [] long = refl
 decoded-merged k (way ∷ ways) long = decoded_from-parts (multi_path_of (way ∷ ways)) 0 [] (way ∷ ways)
-    (record { siblings = refl; prefixes = refl; suffixes = refl }) (as_long k (length way.above) (way ∷ ways)
-    (sym long.0) long)
+    (record { siblings = refl; prefixes = refl; suffixes = refl }) (subst (λ (n : ℕ). AllByRecursion
+    (λ (way : Way). length way.above ≡ n) (way ∷ ways)) (sym long.0) long)

@@ -1,18 +1,20 @@
 -- Strict multi-proofs, place by place.
-use Rattle.std.proofs.Common.{◌≡◌, ℕ, suc, ◌+◌, ◌<◌, ◌≤◌, ◌^◌, Bool, true, false, not, ◌&&◌, ◌==◌, nat_eq, nat_lt, List, [], ◌∷◌, ◌++◌, length, map, take, drop, get_or, inl, inr, refl, ap, sym, subst, ◌∙◌, arith, add-one}
+use Rattle.std.proofs.Common.{◌≡◌, ℕ, suc, ◌+◌, ◌<◌, ◌≤◌, ◌^◌, Bool, true, false, not, ◌&&◌, ◌==◌, if◌then◌else◌, nat_eq, nat_lt, Option, Some, None, List, [], ◌∷◌, ◌++◌, length, map, take, drop, get_or, inl, inr, refl, ap, sym, ◌∙◌, arith, add-one}
 use Rattle.std.specs.Bool.{Decides, one_answer}
 use Rattle.std.specs.List.{list_all}
 use Rattle.std.specs.declared.vec.Vec.{Vec}
 use Rattle.std.proofs.lemmas.Bool.{and_parts, cases_lt, eq-eqb, eqb-true, ne_eqb}
 use Rattle.std.proofs.lemmas.List.{take-append-drop, length-take-le, drop_more, drop_all, length-map, get_or-map}
+use Rattle.std.proofs.lemmas.Option.{slice_get-get_or}
 use Rattle.std.proofs.lemmas.Slice.Eq.{bytes_eq-Decides}
-use Rattle.ark_paths.specs.MultiPath.{MultiWay, listed_way, path_length, decoded_paths, decoded_paths_from}
+use Rattle.ark_paths.specs.MultiPath.{MultiWay, listed_way, path_and_rest, path_length, decoded_paths, decoded_paths_from}
 use Rattle.ark_paths.specs.MultiPathStrict.{are_rising, are_longest, is_strict}
 use Rattle.ark_paths.specs.Sharing.{shared_count}
 use Rattle.ark_paths.specs.Pair.{Digest, digest_eq}
+use Rattle.ark_paths.specs.Path.{Way}
 use Rattle.ark_paths.specs.Rows.{digests_of}
-use Rattle.ark_paths.proofs.Readings.{first-seen}
-use Rattle.ark_paths.proofs.MultiShared.{shared-same, shared-other, slice_get-drop}
+use Rattle.ark_paths.proofs.Readings.{first-seen, row_read}
+use Rattle.ark_paths.proofs.MultiShared.{shared-same, shared-other}
 
 -- ---- digests in common
 
@@ -24,12 +26,9 @@ shared-nothing (x ∷ xs) (y ∷ ys) none = absurd (omega arith)
 shared-front : (front xs ys : List Digest) → shared_count (front ++ xs) (front ++ ys)
     ≡ length front + shared_count xs ys
 shared-front [] xs ys = omega arith
-shared-front (d ∷ front) xs ys = omega (
-  arith,
-  shared-same d d (front ++ xs) (front ++ ys) ((bytes_eq-Decides d d).1
-      refl),
-  shared-front front xs ys,
-)
+shared-front (d ∷ front) xs ys =
+    let same = shared-same d d (front ++ xs) (front ++ ys) ((bytes_eq-Decides d d).1 refl) in
+    omega (arith, same, shared-front front xs ys)
 
 shared-le_by : (x y : Digest) (xs ys : List Digest) (b : Bool) → digest_eq x y ≡ b → shared_count xs ys ≤ length xs
     → shared_count (x ∷ xs) (y ∷ ys) ≤ suc (length xs)
@@ -83,40 +82,53 @@ module _ (before suffix : List Digest) (prefix : ℕ) where
     all_shared-other other = all_shared-none within (heads ∙ shared-other x y xs ys other)
 
     pub all_shared-same : digest_eq x y ≡ true → all_shared before prefix suffix ≡ false
-    all_shared-same same = ne_eqb prefix _ (λ is. omega (
-      arith,
-      shared-behind within,
-      heads,
-      shared-same x y
-          xs ys same,
-    ))
+    all_shared-same same = ne_eqb prefix _ (λ is.
+        omega (arith, shared-behind within, heads, shared-same x y xs ys same))
 
-  -- some first digests and a suffix make a path of this length, and they are all that the path before has in common
-  -- with it
-  pub longest-by : (b : Bool) (len long : ℕ) → nat_eq (prefix + long) len ≡ true → long ≡ length suffix → b
-      ≡ all_shared before prefix suffix → b ≡ nat_eq (prefix + length suffix) len && all_shared before prefix suffix
-  longest-by b len long fits same is = let sums : nat_eq (prefix + length suffix) len ≡ true =
-      rw same at fits in rw sums is
+-- whether some first digests and a suffix make a path of this length, and are all that the path before has in common
+-- with it
+abbrev pub is_longest : List Digest → ℕ → List Digest → ℕ → Bool
+is_longest before prefix suffix len = nat_eq (prefix + length suffix) len && all_shared before prefix suffix
 
-module _ {A B : Type 0} (f : A → Digest) (g : B → Digest) (before : List A) (suffix : List B) (prefix : ℕ) (x : A)
-    (y : B) (below : prefix < length before) (some : 0 < length suffix) (is : y ≡ get_or suffix 0 y) where
-  -- the first digest that is not taken is compared with the suffix's first
-  pub all_shared-compared : (same : Bool) → Decides same (f (get_or before prefix x) ≡ g y) → not same
-      ≡ all_shared (map f before) prefix (map g suffix)
-  all_shared-compared same decides =
-      let there = drop_more (map f before) prefix (f x) (omega (arith, length-map before f)) ∙ ap (λ (d : Digest). d
-      ∷ drop (prefix + 1) (map f before)) (get_or-map f before prefix x (f x) below) in
-      let here = drop_more (map g suffix) 0 (g y) (omega (arith, length-map suffix g)) ∙ ap (λ (d : Digest). d
-      ∷ drop 1 (map g suffix)) (get_or-map g suffix 0 y (g y) some ∙ ap g (sym is)) in
-      by_answer same (one_answer _ same (bytes_eq-Decides (f (get_or before prefix x)) (g y)) decides) there here
-    where
-      by_answer : (same : Bool) → digest_eq (f (get_or before prefix x)) (g y) ≡ same → drop prefix (map f before)
-          ≡ f (get_or before prefix x) ∷ drop (prefix + 1) (map f before) → map g suffix ≡ g y ∷ drop 1 (map g suffix)
-          → not same ≡ all_shared (map f before) prefix (map g suffix)
-      by_answer true e there here = sym (all_shared-same (map f before) (map g suffix) prefix _ _ _ _ there here
-          (omega (arith, length-map before f)) e)
-      by_answer false e there here = sym (all_shared-other (map f before) (map g suffix) prefix _ _ _ _ there here
-          (omega (arith, length-map before f)) e)
+module _ {A B : Type 0} (f : A → Digest) (g : B → Digest) (before : List A) (suffix : List B) (prefix len : ℕ)
+    (fits : nat_eq (prefix + length suffix) len ≡ true) where
+  longest-by : (b : Bool) → b ≡ all_shared (map f before) prefix (map g suffix)
+      → b ≡ is_longest (map f before) prefix (map g suffix) len
+  longest-by b is = let sums : nat_eq (prefix + length (map g suffix)) len ≡ true = rw (length-map suffix g) fits in
+      rw sums is
+
+  pub longest-end : length before ≤ prefix → nat_eq prefix (length before)
+      ≡ is_longest (map f before) prefix (map g suffix) len
+  longest-end past = longest-by _ (sym (rw (length-map before f) at (all_shared-end (map f before) (map g suffix) prefix
+      (rw (length-map before f) past))))
+
+  module _ (below : prefix < length before) where
+    pub longest-nothing : length suffix ≡ 0 → true ≡ is_longest (map f before) prefix (map g suffix) len
+    longest-nothing none = longest-by true (sym (all_shared-nothing (map f before) (map g suffix) prefix
+        (omega (arith, below, length-map before f)) (omega (arith, none, length-map suffix g))))
+
+    -- the first digest that is not taken is compared with the suffix's first
+    pub longest-compared : (x : A) (y : B) → 0 < length suffix → y ≡ get_or suffix 0 y → (same : Bool)
+        → Decides same (f (get_or before prefix x) ≡ g y) → not same
+        ≡ is_longest (map f before) prefix (map g suffix) len
+    longest-compared x y some is same decides =
+        longest-by (not same) (by_answer same (one_answer _ same (bytes_eq-Decides (f (get_or before prefix x)) (g y))
+        decides))
+      where
+        there : drop prefix (map f before) ≡ f (get_or before prefix x) ∷ drop (prefix + 1) (map f before)
+        there = drop_more (map f before) prefix (f x) (omega (arith, below, length-map before f))
+            ∙ rw (get_or-map f before prefix x (f x) below) refl
+
+        here : map g suffix ≡ g y ∷ drop 1 (map g suffix)
+        here = drop_more (map g suffix) 0 (g y) (omega (arith, some, length-map suffix g))
+            ∙ rw (get_or-map g suffix 0 y (g y) some, ← is) refl
+
+        by_answer : (same : Bool) → digest_eq (f (get_or before prefix x)) (g y) ≡ same → not same
+            ≡ all_shared (map f before) prefix (map g suffix)
+        by_answer true e = sym (all_shared-same (map f before) (map g suffix) prefix _ _ _ _ there here
+            (omega (arith, below, length-map before f)) e)
+        by_answer false e = sym (all_shared-other (map f before) (map g suffix) prefix _ _ _ _ there here
+            (omega (arith, below, length-map before f)) e)
 
 -- ---- places
 
@@ -124,107 +136,81 @@ module _ {A B : Type 0} (f : A → Digest) (g : B → Digest) (before : List A) 
 abbrev pub longest_left : MultiWay → ℕ → List Digest → Bool
 longest_left m i before = are_longest before (drop i m.prefixes) (decoded_paths_from m i before (drop i m.indexes))
 
-module _ (m : MultiWay) (i : ℕ) (before : List Digest) where
-  longest_left-end : length m.indexes ≤ i → longest_left m i before ≡ true
-  longest_left-end past = rw (drop_all i m.indexes past) refl
+longest-first : (fits : Bool) (before : List Digest) (prefix : ℕ) (prefixes : List ℕ) (way : Way) (next : Way → List
+    (Option Way)) → are_longest before (prefix ∷ prefixes) (path_and_rest (if fits then Some way else None) next)
+    ≡ fits && nat_eq prefix (shared_count before way.above) && are_longest way.above prefixes (next way)
+longest-first true before prefix prefixes way next = refl
+longest-first false before prefix prefixes way next = refl
 
-  pub longest_left-next : (index prefix : ℕ) (sibling : Digest) (suffix siblings : List Digest)
-      (suffixes : List (List Digest))
-      → drop i m.indexes ≡ index ∷ drop (i + 1) m.indexes → drop i m.prefixes ≡ prefix ∷ drop (i + 1) m.prefixes
-      → drop i m.siblings ≡ sibling ∷ siblings → drop i m.suffixes ≡ suffix ∷ suffixes
-      → (fits : Bool) → nat_eq (prefix + length suffix) (path_length m) ≡ fits → longest_left m i before
-      ≡ fits && all_shared before prefix suffix && longest_left m (i + 1) (take prefix before ++ suffix)
-  longest_left-next index prefix sibling suffix siblings suffixes indexes_are prefixes_are siblings_are
-      suffixes_are true e =
-      rw (
-        indexes_are,
-        prefixes_are,
-        slice_get-drop m.siblings i sibling _ siblings_are,
-        slice_get-drop m.prefixes i
-            prefix _ prefixes_are,
-        slice_get-drop m.suffixes i suffix _ suffixes_are,
-        e,
-        add-one i,
-      ) refl
-  longest_left-next index prefix sibling suffix siblings suffixes indexes_are prefixes_are siblings_are
-      suffixes_are false e =
-      rw (
-        indexes_are,
-        prefixes_are,
-        slice_get-drop m.siblings i sibling _ siblings_are,
-        slice_get-drop m.prefixes i
-            prefix _ prefixes_are,
-        slice_get-drop m.suffixes i suffix _ suffixes_are,
-        e,
-      ) refl
+pub longest_left-next : (m : MultiWay) (i : ℕ) (before : List Digest) (suffix : List Digest) (len : ℕ)
+    → i < length m.indexes → length m.prefixes ≡ length m.indexes → length m.siblings ≡ length m.indexes
+    → length m.suffixes ≡ length m.indexes → get_or m.suffixes i [] ≡ suffix → path_length m ≡ len
+    → longest_left m i before ≡ is_longest before (get_or m.prefixes i 0) suffix len && longest_left m (i + 1)
+    (take (get_or m.prefixes i 0) before ++ suffix)
+longest_left-next m i before suffix len below prefixes siblings suffixes suffix_is len_is =
+    rw (
+      drop_more m.indexes i 0 below,
+      drop_more m.prefixes i 0 (omega (arith, below, prefixes)),
+      slice_get-get_or m.siblings i [] (omega (arith, below, siblings)),
+      slice_get-get_or m.prefixes i 0 (omega (arith, below, prefixes)),
+      slice_get-get_or m.suffixes i [] (omega (arith, below, suffixes)),
+      suffix_is,
+      len_is,
+      add-one i,
+    ) (longest-first (nat_eq (get_or m.prefixes i 0 + length suffix) len) before (get_or m.prefixes i 0) _
+    (record {
+      sibling = get_or m.siblings i [];
+      above = take (get_or m.prefixes i 0) before ++ suffix;
+      index = get_or m.indexes i 0;
+    }) (λ way. decoded_paths_from m (suc i) way.above (drop (suc i) m.indexes)))
 
-module _ (prefixes : List ℕ) (suffixes : List (List Digest)) where
-  -- the multi-proof with these two lists among its four
-  abbrev pub with_lists : List Digest → List ℕ → MultiWay
-  with_lists siblings indexes = record {
-    siblings = siblings;
-    prefixes = prefixes;
-    suffixes = suffixes;
-    indexes = indexes;
-  }
+-- the multi-proof with these two lists among its four
+abbrev pub with_lists : List ℕ → List (List Digest) → List Digest → List ℕ → MultiWay
+with_lists prefixes suffixes siblings indexes =
+    record { siblings = siblings; prefixes = prefixes; suffixes = suffixes; indexes = indexes }
 
-  -- the places before i are as they should be, whatever stands in the two other lists, and the last of them has these
-  -- digests
-  pub record LongestTo (i : ℕ) (before : List Digest) : Type 0 where
-    pub same : (siblings : List Digest) (indexes : List ℕ) → length siblings ≡ length suffixes → length indexes
-        ≡ length suffixes → longest_left (with_lists siblings indexes) 0 [] ≡ longest_left
-        (with_lists siblings indexes) i before
+-- the places before i are as they should be, whatever stands in the two other lists, and the last of them has these
+-- digests
+pub record LongestTo (prefixes : List ℕ) (suffixes : List (List Digest)) (i : ℕ) (before : List Digest)
+    : Type 0 where
+  pub same : (siblings : List Digest) (indexes : List ℕ) → length siblings ≡ length suffixes → length indexes
+      ≡ length suffixes → longest_left (with_lists prefixes suffixes siblings indexes) 0 []
+      ≡ longest_left (with_lists prefixes suffixes siblings indexes) i before
 
-  pub LongestTo-first : LongestTo 0 []
-  LongestTo-first = record { same = λ siblings indexes long as_long. refl }
+-- one more place
+module _ {D Z : Type 0} (numbers : D → Digest) (prefixes : List ℕ) (rows : List (Vec D Z)) {i : ℕ}
+    {before : List Digest} (so_far : LongestTo prefixes (map (digests_of numbers) rows) i before)
+    (below : i < length rows) (all : length prefixes ≡ length rows) (suffix first : Vec D Z)
+    (suffix_is : suffix ≡ get_or rows i suffix) (first_is : first ≡ get_or rows 0 first) (len : ℕ)
+    (len_is : len ≡ first.len) where
+  LongestTo-next : (siblings : List Digest) (indexes : List ℕ) → length siblings ≡ length rows → length indexes
+      ≡ length rows → longest_left (with_lists prefixes (map (digests_of numbers) rows) siblings indexes) 0 []
+      ≡ is_longest before (get_or prefixes i 0) (digests_of numbers suffix) len
+      && longest_left (with_lists prefixes (map (digests_of numbers) rows) siblings indexes) (i + 1)
+      (take (get_or prefixes i 0) before ++ digests_of numbers suffix)
+  LongestTo-next siblings indexes long as_long =
+      let many = length-map rows (digests_of numbers) in
+      so_far.same siblings indexes (long ∙ sym many) (as_long ∙ sym many)
+      ∙ longest_left-next (with_lists prefixes (map (digests_of numbers) rows) siblings indexes) i before
+      (digests_of numbers suffix) len (omega (arith, below, as_long)) (all ∙ sym as_long) (long ∙ sym as_long)
+      (many ∙ sym as_long) (row_read numbers rows i suffix below suffix_is)
+      (ap length (row_read numbers rows 0 first (omega (arith, below)) first_is) ∙ length-map first.items numbers
+      ∙ omega (arith, len_is, first.ok.0))
 
-  module _ (i : ℕ) (before : List Digest) (so_far : LongestTo i before) (siblings : List Digest) (indexes : List ℕ)
-      (long : length siblings ≡ length suffixes) (as_long : length indexes ≡ length suffixes) where
-    pub LongestTo-end : length suffixes ≤ i → longest_left (with_lists siblings indexes) 0 [] ≡ true
-    LongestTo-end past = so_far.same siblings indexes long as_long ∙ longest_left-end (with_lists siblings indexes) i
-        before (omega (arith, as_long))
+  -- a place that does not decode, or takes less or more than it should
+  pub LongestTo-refused : is_longest before (get_or prefixes i 0) (digests_of numbers suffix) len ≡ false
+      → (siblings : List Digest) (indexes : List ℕ) → length siblings ≡ length rows → length indexes ≡ length rows
+      → longest_left (with_lists prefixes (map (digests_of numbers) rows) siblings indexes) 0 [] ≡ false
+  LongestTo-refused bad siblings indexes long as_long =
+      LongestTo-next siblings indexes long as_long ∙ rw bad refl
 
-    module _ (prefix len : ℕ) (suffix first : List Digest) (below : i < length suffixes) (all : length prefixes
-        ≡ length suffixes) (prefix_is : prefix ≡ get_or prefixes i 0) (suffix_is : get_or suffixes i [] ≡ suffix)
-        (first_is : get_or suffixes 0 [] ≡ first) (len_is : len ≡ length first) where
-      LongestTo-next : longest_left (with_lists siblings indexes) 0 [] ≡ nat_eq (prefix + length suffix) len &&
-          all_shared before prefix suffix && longest_left (with_lists siblings indexes) (i + 1)
-          (take prefix before ++ suffix)
-      LongestTo-next =
-          let here = drop_more prefixes i 0 (omega (arith, all)) ∙ ap (λ (n : ℕ). n ∷ drop (i + 1) prefixes)
-          (sym prefix_is) in
-          let rest = drop_more suffixes i [] below ∙ ap (λ (ds : List Digest). ds ∷ drop (i + 1) suffixes) suffix_is in
-          let as_first : nat_eq (prefix + length suffix) (length (get_or suffixes 0 []))
-          ≡ nat_eq (prefix + length suffix) len =
-          ap (nat_eq (prefix + length suffix)) (ap length first_is ∙ sym len_is) in
-          so_far.same siblings indexes long as_long
-          ∙ longest_left-next (with_lists siblings indexes) i before (get_or indexes i 0) prefix (get_or siblings i [])
-          suffix _ _ (drop_more indexes i 0 (omega (arith, as_long))) here (drop_more siblings i []
-          (omega (arith, long))) rest _ as_first
-
-      -- a place that does not decode, or takes less or more than it should
-      pub LongestTo-refused : false ≡ nat_eq (prefix + length suffix) len && all_shared before prefix suffix
-          → longest_left (with_lists siblings indexes) 0 [] ≡ false
-      LongestTo-refused bad = LongestTo-next ∙ ap (λ (b : Bool). b && longest_left (with_lists siblings indexes) (i + 1)
-          (take prefix before ++ suffix)) (sym bad)
-
-      taken : true ≡ nat_eq (prefix + length suffix) len && all_shared before prefix suffix → longest_left
-          (with_lists siblings indexes) 0 [] ≡ longest_left (with_lists siblings indexes) (i + 1)
-          (take prefix before ++ suffix)
-      taken good = LongestTo-next ∙ ap (λ (b : Bool). b && longest_left (with_lists siblings indexes) (i + 1)
-          (take prefix before ++ suffix)) (sym good)
-
-  pub LongestTo-more : (i : ℕ) (before next : List Digest) → LongestTo i before → (prefix len : ℕ)
-      (suffix first : List Digest) → i < length suffixes → length prefixes ≡ length suffixes → prefix ≡ get_or prefixes
-      i 0 → get_or suffixes i [] ≡ suffix → get_or suffixes 0 [] ≡ first → len ≡ length first
-      → true ≡ nat_eq (prefix + length suffix) len && all_shared before prefix suffix → next ≡ take prefix before
-      ++ suffix → LongestTo (i + 1) next
-  LongestTo-more i before next so_far prefix len suffix first below all prefix_is suffix_is first_is len_is
-      good next_is =
-      subst (LongestTo (i + 1)) (sym next_is) (record {
-        same = λ siblings indexes long as_long. taken i before so_far
-            siblings indexes long as_long prefix len suffix first below all prefix_is suffix_is first_is len_is good;
-      })
+  pub LongestTo-more : is_longest before (get_or prefixes i 0) (digests_of numbers suffix) len ≡ true
+      → {next : List Digest} → next ≡ take (get_or prefixes i 0) before ++ digests_of numbers suffix
+      → LongestTo prefixes (map (digests_of numbers) rows) (i + 1) next
+  LongestTo-more good next_is = rw next_is (record {
+    same = λ siblings indexes long as_long. LongestTo-next siblings indexes (rw length-map at long)
+        (rw length-map at as_long) ∙ rw good refl;
+  })
 
 -- ---- all tests
 
@@ -249,14 +235,11 @@ module _ {S D Z : Type 0} (leaf : S → Digest) (inner : D → Digest) (siblings
       × (length indexes ≡ length suffixes)
   as_long is =
       let rows = and_parts (nat_lt 0 (length indexes) && (length siblings == length indexes) &&
-      (length prefixes == length indexes)) (length suffixes == length indexes) is in
-      let numbers = and_parts (nat_lt 0 (length indexes) && (length siblings == length indexes))
-      (length prefixes == length indexes) rows.0 in
-      let beside = and_parts (nat_lt 0 (length indexes)) (length siblings == length indexes) numbers.0 in
+      (length prefixes == length indexes)) _ is in
+      let numbers = and_parts (nat_lt 0 (length indexes) && (length siblings == length indexes)) _ rows.0 in
       let last = sym (eqb-true (length suffixes) (length indexes) rows.1) in (
-        eqb-true (length siblings) (length indexes) beside.1 ∙ last,
-        eqb-true (length prefixes) (length indexes)
-            numbers.1 ∙ last,
+        eqb-true (length siblings) (length indexes) (and_parts (nat_lt 0 (length indexes)) _ numbers.0).1 ∙ last,
+        eqb-true (length prefixes) (length indexes) numbers.1 ∙ last,
         last,
       )
 

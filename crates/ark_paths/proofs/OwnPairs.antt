@@ -1,5 +1,5 @@
 -- The pairs of a tree's own paths.
-use Rattle.std.proofs.Common.{zero, suc, ◌≡◌, ℕ, ◌+◌, ◌-◌, ◌*◌, ◌/◌, ◌<◌, ◌≤◌, ◌^◌, Bool, true, false, if◌then◌else◌, List, [], length, take, drop, get_or, Ok, arith, refl, ap, sym, ◌∙◌}
+use Rattle.std.proofs.Common.{zero, suc, ◌≡◌, ℕ, ◌-◌, ◌/◌, ◌<◌, ◌≤◌, ◌^◌, Bool, true, false, List, [], length, take, drop, get_or, Ok, arith, refl, ap, sym, ◌∙◌}
 use Rattle.ark_paths.specs.Bind.{couple, halves, pair_beside, path_pair}
 use Rattle.ark_paths.specs.Index.{IsTreeSize, bit_at, neighbour, log2}
 use Rattle.ark_paths.specs.Pair.{Digest, HashPair}
@@ -9,10 +9,9 @@ use Rattle.ark_paths.specs.Rows.{IsTree, part, beside_in}
 use Rattle.ark_paths.specs.Tree.{halves_beside, own_path}
 use Rattle.ark_paths.proofs.Clients.{rooted-tree}
 use Rattle.ark_paths.proofs.Logs.{log2-pow}
-use Rattle.ark_paths.proofs.OwnPaths.{drop-beside_in}
-use Rattle.ark_paths.proofs.OwnPaths.{IsCouple, is_couple, bit_at-level, place-above, ordered-neighbour, length-beside_in, bottom-row, own_path-rows, climbed-own}
-use Rattle.ark_paths.proofs.Parts.{part-left, part-right, get_or-part}
-use Rattle.ark_paths.proofs.PlaceLemmas.{row-twice, place-inside}
+use Rattle.ark_paths.proofs.OwnPaths.{bit_at-level, couple-neighbour, drop-beside_in, halves-row, place-above, ordered-neighbour, length-beside_in, bottom-row, own_path-rows, climbed-own}
+use Rattle.ark_paths.proofs.Parts.{part-pair}
+use Rattle.ark_paths.proofs.PlaceLemmas.{place-inside}
 
 -- ---- the height
 
@@ -39,17 +38,6 @@ pub length-own_path : (h : HashPair) (index : ℕ) (digests : List Digest) → l
     ≡ upper_levels digests
 length-own_path h index digests = length-halves_beside h (upper_levels digests) index digests
 
--- ---- a place and its neighbour
-
-couple-own : (row : List Digest) (i : ℕ) (b : Bool) → IsCouple b i → couple b (get_or row i [])
-    (get_or row (if b then i - 1 else i + 1) []) ≡ (get_or row (2 * (i / 2)) [], get_or row (2 * (i / 2) + 1) [])
-couple-own row i true c = rw (c.neighbour_is, ← c.place_is) refl
-couple-own row i false c = rw (c.neighbour_is, ← c.place_is) refl
-
-couple-neighbour : (row : List Digest) (i : ℕ) → couple (bit_at i 0) (get_or row i []) (get_or row (neighbour i) [])
-    ≡ (get_or row (2 * (i / 2)) [], get_or row (2 * (i / 2) + 1) [])
-couple-neighbour row i = couple-own row i (bit_at i 0) (is_couple i (bit_at i 0) refl)
-
 -- ---- the pairs
 
 module _ (h : HashPair) (leaves : List Digest) (rows : List (List Digest)) (tree : IsTree h leaves rows) (index : ℕ)
@@ -65,21 +53,15 @@ module _ (h : HashPair) (leaves : List Digest) (rows : List (List Digest)) (tree
   pair-lowest : couple (bit_at index 0) (get_or leaves index []) (get_or leaves (neighbour index) [])
       ≡ halves h 0 (part 0 (index / 2 ^ 1) leaves)
   pair-lowest =
-      let q = index / 2 in
-      let half : index / 2 ^ 1 ≡ q = omega arith in
-      let left : get_or (part 0 q leaves) 0 [] ≡ get_or leaves (2 * q) [] =
-      get_or-part q 0 leaves (omega arith) ∙ ap (λ (n : ℕ). get_or leaves n []) (omega arith) in
-      let right : get_or (part 0 q leaves) 1 [] ≡ get_or leaves (2 * q + 1) [] = get_or-part q 1 leaves (omega arith) in
-      couple-neighbour leaves index ∙ rw (half, left, right) refl
+      let half : index / 2 ^ 1 ≡ index / 2 = omega arith in
+      couple-neighbour leaves index ∙ rw half (sym (part-pair (index / 2) leaves))
 
   -- what the path makes of the digests below a row
   below-row : (k : ℕ) → k < length rows → path_root h (record {
     sibling = get_or leaves (neighbour index) [];
-    above =
-        beside_in rows k index;
+    above = beside_in rows k index;
     index = index;
-  }) (get_or leaves index [])
-      ≡ Ok (get_or (get_or rows k []) (index / 2 ^ suc k) [])
+  }) (get_or leaves index []) ≡ Ok (get_or (get_or rows k []) (index / 2 ^ suc k) [])
   below-row k under =
       let half : index / 2 ^ 1 ≡ index / 2 = omega arith in
       let here : index / 2 ^ 1 < length (get_or rows 0 []) =
@@ -96,17 +78,10 @@ module _ (h : HashPair) (leaves : List Digest) (rows : List (List Digest)) (tree
   pair-row k under =
       let row = get_or rows k [] in
       let at = index / 2 ^ suc k in
-      let q = index / 2 ^ suc (suc k) in
-      let half : q ≡ at / 2 = place-above index (suc k) in
       let within : suc k < length rows = omega (arith, tree.count) in
-      let twice : length row ≡ 2 * length (get_or rows (suc k) []) =
-      row-twice rows (length leaves) tree.levels k within in
-      let above : q < length (get_or rows (suc k) []) =
-      place-inside rows (length leaves) tree.levels (suc k) index within inside in
-      let left = tree.roots k (2 * q) (omega arith) (omega arith) in
-      let right = tree.roots k (2 * q + 1) (omega arith) (omega arith) in
       ap (λ b. couple b (get_or row at []) (get_or row (neighbour at) [])) (sym (bit_at-level index (suc k)))
-      ∙ couple-neighbour row at ∙ rw (part-left k q leaves, part-right k q leaves, left, right, half) refl
+      ∙ couple-neighbour row at ∙ rw (← place-above index (suc k)) (sym (halves-row h leaves rows tree k
+      (index / 2 ^ suc (suc k)) within (place-inside rows (length leaves) tree.levels (suc k) index within inside)))
 
   -- the pair below whose digest the digests beside the way below a row stand
   pair-at : (level : ℕ) → level ≤ upper_levels leaves → pair_beside h own (get_or leaves index [])

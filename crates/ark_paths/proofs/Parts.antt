@@ -1,5 +1,5 @@
 -- Parts of a list of leaf digests.
-use Rattle.std.proofs.Common.{suc, ◌≡◌, ℕ, ◌+◌, ◌*◌, ◌<◌, ◌^◌, List, [], length, take, drop, get_or, arith, ap, ◌∙◌}
+use Rattle.std.proofs.Common.{suc, ◌≡◌, ℕ, ◌+◌, ◌*◌, ◌<◌, ◌^◌, List, [], length, take, drop, get_or, arith, refl, ap, ◌∙◌}
 use Rattle.std.proofs.lemmas.List.{take-take, drop-drop, drop-take, get_or-take, get_or-drop, take_all}
 use Rattle.std.proofs.Math.Nat.{pow-succ'}
 use Rattle.ark_paths.specs.Pair.{Digest}
@@ -31,3 +31,13 @@ get_or-part q i digests below =
 
 pub part-whole : (m : ℕ) (digests : List Digest) → length digests ≡ 2 ^ suc m → part m 0 digests ≡ digests
 part-whole m digests size = let z : 0 * 2 ^ suc m ≡ 0 = omega arith in rw z (take_all (2 ^ suc m) digests (omega arith))
+
+-- the digests number 2 i and 2 i + 1
+abbrev pub pair_in : List Digest → ℕ → Digest × Digest
+pair_in digests i = (get_or digests (2 * i) [], get_or digests (2 * i + 1) [])
+
+-- the two leaf digests of a part
+pub part-pair : (q : ℕ) (digests : List Digest) → pair_in (part 0 q digests) 0 ≡ pair_in digests q
+part-pair q digests =
+    let even : 2 * q + 0 ≡ 2 * q = omega arith in
+    rw (get_or-part q 0 digests (omega arith), get_or-part q 1 digests (omega arith), even) refl

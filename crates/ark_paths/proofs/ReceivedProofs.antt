@@ -1,8 +1,10 @@
 -- What bytes that were read whole show of a tree.
-use Rattle.std.proofs.Common.{◌≡◌, ℕ, suc, ◌+◌, ◌-◌, ◌<◌, ◌%◌, ◌^◌, nat_lt, ◌==◌, ◌&&◌, Bool, true, false, if◌then◌else◌, Some, List, [], ◌∷◌, length, map, Ok, Err, refl, ap, sym, subst, ◌∙◌, arith}
+use Rattle.std.proofs.Common.{◌≡◌, ℕ, suc, ◌+◌, ◌-◌, ◌<◌, ◌%◌, ◌^◌, nat_lt, ◌==◌, ◌&&◌, Bool, true, false, if◌then◌else◌, Some, List, [], ◌∷◌, length, map, get_or, Ok, Err, refl, ap, sym, subst, ◌∙◌, arith}
 use Rattle.std.specs.List.{AllByRecursion, list_all}
 use Rattle.std.specs.Str.{bytes_eq}
-use Rattle.std.proofs.lemmas.Bool.{eqb-true, ltb-true}
+use Rattle.std.proofs.lemmas.Bool.{and_parts, eqb-true, ltb-true}
+use Rattle.std.proofs.lemmas.List.{length-map, nil_from_length}
+use Rattle.std.specs.declared.vec.Vec.{Vec}
 use Rattle.std.proofs.lemmas.Slice.Eq.{bytes_eq-Decides}
 use Rattle.std.proofs.Math.Nat.{mod-eq_of_lt}
 use Rattle.ark_base.specs.declared.error.Error.{Error}
@@ -10,16 +12,17 @@ use Rattle.ark_base.specs.declared.error.Error.TheVariants.{IncorrectInputLength
 use Rattle.ark_base.specs.declared.error.SerializationError.{SerializationError}
 use Rattle.ark_base.specs.declared.error.SerializationError.TheVariants.{InvalidData}
 use Rattle.ark_base.specs.Laws.Steps.{bind_ok, done_injective}
-use Rattle.ark_base.specs.Outcome.{◌>>=◌}
+use Rattle.ark_base.specs.Outcome.{Outcome, ◌>>=◌}
 use Rattle.ark_base.specs.Reading.{Reading, reading_outcome}
 use Rattle.ark_paths.specs.Bind.{StandsOrCollides, BindsLeaf, BindsLeaves}
 use Rattle.ark_paths.specs.Index.{IsTreeSize, log2, is_tree_size}
-use Rattle.ark_paths.specs.MultiPath.{MultiWay, path_length, decoded_paths}
+use Rattle.ark_paths.specs.MultiPath.{MultiWay, listed_way, path_length, decoded_paths}
 use Rattle.ark_paths.specs.MultiPathStrict.{is_strict, strict_reading}
 use Rattle.ark_paths.specs.Pair.{Digest, Hashes}
 use Rattle.ark_paths.specs.Path.{Way}
-use Rattle.ark_paths.specs.Received.{provided, is_fit, fit_path, received_path, fit_multi_path, received_multi_path, StandsAt, StandInTurn, ShowsLeaf, ShowsLeaves}
+use Rattle.ark_paths.specs.Received.{provided, is_fit, received_path, received_multi_path, StandsAt, StandInTurn, ShowsLeaf, ShowsLeaves}
 use Rattle.ark_paths.proofs.Logs.{log2-pow}
+use Rattle.ark_paths.proofs.Readings.{first-seen}
 use Rattle.ark_paths.proofs.SizeLemmas.{power_decided}
 use Rattle.ark_paths.proofs.StrictLaws.{made_of, within_tree}
 use Rattle.ark_paths.proofs.StrictReadings.{read_of, fault_of}
@@ -34,29 +37,21 @@ module _ (size index : ℕ) (reading : Reading Way) (sized : is_tree_size size �
   pub received-fault : (e : Error) → reading_outcome reading ≡ Err e → received_path size index reading ≡ Err e
   received-fault e refused = rw (sized, refused) refl
 
-  module _ (way : Way) (rest : List ℕ) (read : reading ≡ Ok (way, rest)) (above own : ℕ) (asked : Bool)
-      (long : length way.above ≡ above) (at : way.index ≡ own) (is : asked
-      ≡ ((own == index) && nat_lt index size)) where
-    pub received-unfit : (e : Error) → is_fit size rest above asked ≡ Err e → received_path size index reading ≡ Err e
-    received-unfit e refused = rw (sized, read, long, at, ← is, refused) refl
-
-    pub received-fit : is_fit size rest above asked ≡ Ok tt → received_path size index reading ≡ Ok way
-    received-fit fits = rw (sized, read, long, at, ← is, fits) refl
+  -- what is said of a path that was read, by its parts
+  pub received-read : {U : Type 0} (inner : U → Digest) (items : List U) {way : Way} {rest : List ℕ} {sibling : Digest}
+      {own count : ℕ} {asked : Bool} {fits : Outcome (Unit {0})} → reading ≡ Ok (way, rest)
+      → way ≡ record { sibling = sibling; above = map inner items; index = own } → count ≡ length items
+      → asked ≡ ((own == index) && nat_lt index size) → fits ≡ is_fit size rest count asked
+      → received_path size index reading ≡ (fits >>= λ _. Ok way)
+  received-read inner items read is long asked_is fits_are =
+      rw (sized, read, ap (λ (w : Way). length w.above) is, length-map items inner, ap (λ (w : Way). w.index) is)
+      (rw (← long, ← asked_is, ← fits_are) refl)
 
 -- ---- what is shown
 
 pub provided-true : (holds : Bool) (error : Error) → provided holds error ≡ Ok tt → holds ≡ true
 provided-true true error is = refl
 provided-true false error is = absurd cc
-
-both_true : (a b : Bool) → (a && b) ≡ true → (a ≡ true) × (b ≡ true)
-both_true true true is = (refl, refl)
-both_true true false is = absurd cc
-both_true false b is = absurd cc
-
-none-left : (bytes : List ℕ) → length bytes ≡ 0 → bytes ≡ []
-none-left [] none = refl
-none-left (byte ∷ bytes) none = absurd (omega arith)
 
 -- a proof that is fit has no bytes behind it, the length of the tree's paths, and what was asked for
 pub record IsFit (size : ℕ) (behind : List ℕ) (above : ℕ) (asked : Bool) : Type 0 where
@@ -72,7 +67,7 @@ fit size behind above asked is =
     let second = bind_ok (provided (above == log2 size - 1) (IncorrectInputLength above))
     (λ _. provided asked (OfBytes InvalidData)) tt first.2 in
     record {
-      none_behind = none-left behind (eqb-true (length behind) 0 (provided-true (length behind == 0)
+      none_behind = nil_from_length behind (eqb-true (length behind) 0 (provided-true (length behind == 0)
           (OfBytes InvalidData) first.1));
       long = eqb-true above (log2 size - 1) (provided-true (above == log2 size - 1)
           (IncorrectInputLength above) second.1);
@@ -80,8 +75,27 @@ fit size behind above asked is =
     }
 
 pub size-decided : (size : ℕ) → is_tree_size size ≡ true → IsTreeSize size
-size-decided size is = let both = both_true (nat_lt 1 size) (size == 2 ^ log2 size) is in
+size-decided size is = let both = and_parts (nat_lt 1 size) (size == 2 ^ log2 size) is in
     (power_decided size (ltb-true 1 size both.0)).0 both.1
+
+-- what a proof that was received was found to be
+received-parts : {W : Type 0} (size : ℕ) (outcome : Outcome (W × List ℕ)) (above : W → ℕ) (asked : W → Bool) (w : W)
+    → (provided (is_tree_size size) (IncorrectInputLength size) >>= λ _. outcome >>= λ read.
+    is_fit size read.1 (above read.0) (asked read.0) >>= λ _. Ok read.0) ≡ Ok w
+    → IsTreeSize size × (outcome ≡ Ok (w, [])) × (above w ≡ log2 size - 1) × (asked w ≡ true)
+received-parts size outcome above asked w is =
+    let sized = bind_ok (provided (is_tree_size size) (IncorrectInputLength size)) (λ _. outcome >>= λ read.
+    is_fit size read.1 (above read.0) (asked read.0) >>= λ _. Ok read.0) w is in
+    let read = bind_ok outcome (λ read. is_fit size read.1 (above read.0) (asked read.0) >>= λ _. Ok read.0) w
+    sized.2 in
+    let fits = bind_ok (is_fit size read.0.1 (above read.0.0) (asked read.0.0)) (λ _. Ok read.0.0) w read.2 in
+    let parts = fit size read.0.1 (above read.0.0) (asked read.0.0) fits.1 in
+    let same = done_injective read.0.0 w fits.2 in (
+      size-decided size (provided-true (is_tree_size size) (IncorrectInputLength size) sized.1),
+      read.1 ∙ (λ i. Ok (same i, parts.none_behind i)),
+      ap above (sym same) ∙ parts.long,
+      ap asked (sym same) ∙ parts.is_asked,
+    )
 
 -- a path of the tree's length, at its index, shows what it binds
 module _ {A : Type 0} (hashes : Hashes A) (r : Digest) (size index : ℕ) (leaf : A) (way : Way) where
@@ -98,29 +112,13 @@ module _ {A : Type 0} (hashes : Hashes A) (r : Digest) (size index : ℕ) (leaf 
   pub received-shows : (reading : Reading Way) → received_path size index reading ≡ Ok way → BindsLeaf hashes r leaf way
       → ShowsLeaf hashes r size index leaf reading
   received-shows reading received bound =
-      let sized = bind_ok (provided (is_tree_size size) (IncorrectInputLength size)) (λ _. reading_outcome reading >>=
-      fit_path size index) way received in
-      let read = bind_ok (reading_outcome reading) (fit_path size index) way sized.2 in
-      let asked = ((read.0.0.index == index) && nat_lt index size) in
-      let fits = bind_ok (is_fit size read.0.1 (length read.0.0.above) asked) (λ _. Ok read.0.0) way read.2 in
-      by_parts (provided-true (is_tree_size size) (IncorrectInputLength size) sized.1) read.0.0 read.0.1
-      (read_of reading read.0 read.1) (done_injective _ _ fits.2) (fit size read.0.1 (length read.0.0.above)
-      asked fits.1)
-    where
-      by_parts : is_tree_size size ≡ true → (own : Way) (rest : List ℕ) → reading ≡ Ok (own, rest) → own ≡ way
-          → IsFit size rest (length own.above) ((own.index == index) && nat_lt index size) → ShowsLeaf hashes
-          r size index
-          leaf reading
-      by_parts sized own rest read same fits =
-          let asked = both_true (own.index == index) (nat_lt index size) fits.is_asked in
-          let below = ltb-true index size asked.1 in
-          let at = eqb-true own.index index asked.0 in (
-            way,
-            read ∙ (λ i. Ok (same i, fits.none_behind i)),
-            bound-stands-at (size-decided size sized)
-                (ap (λ (w : Way). length w.above) (sym same) ∙ fits.long) (ap (λ (w : Way). w.index) (sym same) ∙ at)
-                below bound,
-          )
+      let (sized, read, long, is_asked) = received-parts size (reading_outcome reading) (λ w. length w.above)
+      (λ w. (w.index == index) && nat_lt index size) way received in
+      let asked = and_parts (way.index == index) _ is_asked in (
+        way,
+        read_of reading (way, []) read,
+        bound-stands-at sized long (eqb-true way.index index asked.0) (ltb-true index size asked.1) bound,
+      )
 
 -- ---- strict multi-proofs
 
@@ -129,15 +127,16 @@ module _ (size : ℕ) (indexes : List ℕ) (reading : Reading MultiWay) (sized :
       indexes reading ≡ Err e
   received-multi-fault e refused = rw (sized, refused) refl
 
-  module _ (m : MultiWay) (rest : List ℕ) (read : reading_outcome (strict_reading reading) ≡ Ok (m, rest)) (above : ℕ)
-      (own : List ℕ) (asked : Bool) (long : path_length m ≡ above) (at : m.indexes ≡ own) (is : asked ≡ bytes_eq own
-      indexes) where
-    pub received-multi-unfit : (e : Error) → is_fit size rest above asked ≡ Err e → received_multi_path size indexes
-        reading ≡ Err e
-    received-multi-unfit e refused = rw (sized, read, long, at, ← is, refused) refl
-
-    pub received-multi-fit : is_fit size rest above asked ≡ Ok tt → received_multi_path size indexes reading ≡ Ok m
-    received-multi-fit fits = rw (sized, read, long, at, ← is, fits) refl
+  -- what is said of a multi-proof that was read, by its lists
+  pub received-multi-read : {S D Z : Type 0} (leaf : S → Digest) (inner : D → Digest) (siblings : List S)
+      (rows : List (Vec D Z)) {m : MultiWay} {rest : List ℕ} {prefixes own : List ℕ} {asked : Bool}
+      {fits : Outcome (Unit {0})} → reading_outcome (strict_reading reading) ≡ Ok (m, rest)
+      → m ≡ listed_way leaf inner siblings prefixes rows own → asked ≡ bytes_eq own indexes
+      → fits ≡ is_fit size rest (length (get_or (map (λ (row : Vec D Z). row.items) rows) 0 [])) asked
+      → received_multi_path size indexes reading ≡ (fits >>= λ _. Ok m)
+  received-multi-read leaf inner siblings rows read is asked_is fits_are =
+      rw (sized, read, ap path_length is, first-seen inner rows, ap (λ (w : MultiWay). w.indexes) is)
+      (rw (← asked_is, ← fits_are) refl)
 
 -- what is read strictly is strict
 strict-of : (reading : Reading MultiWay) (m : MultiWay) (rest : List ℕ) → strict_reading reading ≡ Ok (m, rest)
@@ -168,7 +167,7 @@ module _ {A : Type 0} (hashes : Hashes A) (r : Digest) (size : ℕ) (sized : IsT
 all-below : (bound : ℕ) (ways : List Way) → list_all (λ index. nat_lt index bound) (map (λ way. way.index) ways) ≡ true
     → AllByRecursion (λ (way : Way). way.index < bound) ways
 all-below bound [] all = tt
-all-below bound (way ∷ ways) all = let both = both_true (nat_lt way.index bound) (list_all (λ index. nat_lt index bound)
+all-below bound (way ∷ ways) all = let both = and_parts (nat_lt way.index bound) (list_all (λ index. nat_lt index bound)
     (map (λ way. way.index) ways)) all in (ltb-true way.index bound both.0, all-below bound ways both.1)
 
 size-power : (size : ℕ) → IsTreeSize size → size ≡ 2 ^ (log2 size - 1 + 1)
@@ -182,34 +181,21 @@ module _ {A : Type 0} (hashes : Hashes A) (r : Digest) (size : ℕ) (indexes : L
   pub received-multi-shows : (reading : Reading MultiWay) → received_multi_path size indexes reading ≡ Ok m
       → BindsLeaves hashes r leaves (decoded_paths m) → ShowsLeaves hashes r size indexes leaves reading
   received-multi-shows reading received bound =
-      let sized = bind_ok (provided (is_tree_size size) (IncorrectInputLength size))
-      (λ _. reading_outcome (strict_reading reading) >>= fit_multi_path size indexes) m received in
-      let read = bind_ok (reading_outcome (strict_reading reading)) (fit_multi_path size indexes) m sized.2 in
-      let asked = bytes_eq read.0.0.indexes indexes in
-      let fits = bind_ok (is_fit size read.0.1 (path_length read.0.0) asked) (λ _. Ok read.0.0) m read.2 in
-      by_parts (provided-true (is_tree_size size) (IncorrectInputLength size) sized.1) read.0.0 read.0.1
-      (read_of (strict_reading reading) read.0 read.1) (done_injective _ _ fits.2)
-      (fit size read.0.1 (path_length read.0.0) asked fits.1)
-    where
-      by_parts : is_tree_size size ≡ true → (own : MultiWay) (rest : List ℕ) → strict_reading reading ≡ Ok (own, rest)
-          → own ≡ m → IsFit size rest (path_length own) (bytes_eq own.indexes indexes) → ShowsLeaves hashes r
-          size indexes
-          leaves reading
-      by_parts sized own rest read same fits =
-          let strict = strict-of reading own rest read in
-          let made = made_of own strict in
-          let power : 2 ^ (path_length own + 1) ≡ size =
-          ap (λ (n : ℕ). 2 ^ (n + 1)) fits.long ∙ sym (size-power size (size-decided size sized)) in
-          let below = all-below (2 ^ (path_length own + 1)) made.ways (rw made.indexes at (within_tree own strict)) in
-          let paths : decoded_paths m ≡ map Some made.ways = ap decoded_paths (sym same) ∙ made.decoded in
-          record {
-            proof = own;
-            read = read ∙ (λ i. Ok (own, fits.none_behind i));
-            ways = made.ways;
-            decoded = made.decoded;
-            places = sym made.indexes ∙ (bytes_eq-Decides own.indexes indexes).0 fits.is_asked;
-            stand = stand-bound hashes r size (size-decided size sized) made.ways leaves
-                (subst (λ (n : ℕ). AllByRecursion (λ (way : Way). length way.above ≡ n) made.ways) fits.long made.long)
-                (subst (λ (n : ℕ). AllByRecursion (λ (way : Way). way.index < n) made.ways) power below)
-                (subst (BindsLeaves hashes r leaves) paths bound);
-          }
+      let (sized, read, long, is_asked) = received-parts size (reading_outcome (strict_reading reading)) path_length
+      (λ w. bytes_eq w.indexes indexes) m received in
+      let reads = read_of (strict_reading reading) (m, []) read in
+      let strict = strict-of reading m [] reads in
+      let made = made_of m strict in
+      let power : 2 ^ (path_length m + 1) ≡ size = ap (λ (n : ℕ). 2 ^ (n + 1)) long ∙ sym (size-power size sized) in
+      let below = all-below (2 ^ (path_length m + 1)) made.ways (rw made.indexes at (within_tree m strict)) in
+      record {
+        proof = m;
+        read = reads;
+        ways = made.ways;
+        decoded = made.decoded;
+        places = sym made.indexes ∙ (bytes_eq-Decides m.indexes indexes).0 is_asked;
+        stand = stand-bound hashes r size sized made.ways leaves
+            (subst (λ (n : ℕ). AllByRecursion (λ (way : Way). length way.above ≡ n) made.ways) long made.long)
+            (subst (λ (n : ℕ). AllByRecursion (λ (way : Way). way.index < n) made.ways) power below)
+            (subst (BindsLeaves hashes r leaves) made.decoded bound);
+      }

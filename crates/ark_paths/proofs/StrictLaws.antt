@@ -5,12 +5,15 @@ use Rattle.std.specs.List.Sorted.{IsStrictlyIncreasing}
 use Rattle.std.proofs.Math.Seq.{drop-append_seam}
 use Rattle.std.proofs.lemmas.Bool.{lt-ltb, eq-eqb, eqb-true}
 use Rattle.std.proofs.lemmas.List.{drop_more, drop_all, length-append, length-map, length-take-le}
+use Rattle.std.proofs.lemmas.Option.{slice_get-get_or}
+use Rattle.std.proofs.lemmas.List.Elements.{All-map, recursion_from_All}
+use Rattle.std.proofs.lemmas.List.Sums.{list_all-from_AllPass}
 use Rattle.ark_paths.specs.MultiPath.{MultiWay, path_length, decoded_path, decoded_paths_from, decoded_paths}
 use Rattle.ark_paths.specs.MultiPathStrict.{AreInOrder, are_rising, are_longest, is_strict}
 use Rattle.ark_paths.specs.Sharing.{shared_count, prefixes_of, suffixes_of, multi_path_of}
 use Rattle.ark_paths.specs.Pair.{Digest}
 use Rattle.ark_paths.specs.Path.{Way}
-use Rattle.ark_paths.proofs.MultiShared.{HasParts, above_of, slice_get-drop, decoded-merged}
+use Rattle.ark_paths.proofs.MultiShared.{HasParts, above_of, decoded-merged}
 use Rattle.ark_paths.proofs.MultiStrict.{all_shared, longest_left, longest_left-next, shared-le_before}
 
 -- ---- a strict multi-proof is made of its paths
@@ -41,19 +44,14 @@ module _ (m : MultiWay) (siblings : length m.siblings ≡ length m.indexes) (pre
       index = get_or m.indexes i 0;
     }
 
-    step : (fits : Bool) → nat_eq (get_or m.prefixes i 0 + length (get_or m.suffixes i [])) (path_length m) ≡ fits
-        → fits ≡ true → decoded_path m i before (get_or m.indexes i 0) ≡ Some here
-    step fits e holds =
-        let sums : nat_eq (get_or m.prefixes i 0 + length (get_or m.suffixes i [])) (path_length m) ≡ true =
-        e ∙ holds in
-        rw (
-          slice_get-drop m.siblings i _ _ (drop_more m.siblings i [] (omega (arith, siblings))),
-          slice_get-drop
-              m.prefixes i _ _ (drop_more m.prefixes i 0 (omega (arith, prefixes))),
-          slice_get-drop m.suffixes i _ _
-              (drop_more m.suffixes i [] (omega (arith, suffixes))),
-          sums,
-        ) refl
+    step : nat_eq (get_or m.prefixes i 0 + length (get_or m.suffixes i [])) (path_length m) ≡ true
+        → decoded_path m i before (get_or m.indexes i 0) ≡ Some here
+    step sums = rw (
+      slice_get-get_or m.siblings i [] (omega (arith, siblings)),
+      slice_get-get_or m.prefixes i 0 (omega (arith, prefixes)),
+      slice_get-get_or m.suffixes i [] (omega (arith, suffixes)),
+      sums,
+    ) refl
 
     IsMadeOf-more : nat_eq (get_or m.prefixes i 0 + length (get_or m.suffixes i [])) (path_length m) ≡ true
         → all_shared before (get_or m.prefixes i 0) (get_or m.suffixes i []) ≡ true → IsMadeOf m (suc i) here.above
@@ -63,11 +61,12 @@ module _ (m : MultiWay) (siblings : length m.siblings ≡ length m.indexes) (pre
         let suffix = get_or m.suffixes i [] in
         let longest : prefix ≡ shared_count before here.above = eqb-true prefix _ shared in
         let within : prefix ≤ length before = omega (arith, longest, shared-le_before before here.above) in
+        let sum = eqb-true (prefix + length suffix) (path_length m) sums in
         let others : suffix ≡ drop prefix here.above = sym (ap (λ (n : ℕ). drop n here.above)
         (sym (length-take-le prefix before within)) ∙ drop-append_seam (take prefix before) suffix) in
         record {
           ways = here ∷ rest.ways;
-          decoded = rw (next-is m.indexes i 0 below, step _ refl sums) (ap (λ (ways : List (Option Way)). Some here
+          decoded = rw (next-is m.indexes i 0 below, step sums) (ap (λ (ways : List (Option Way)). Some here
               ∷ ways) rest.decoded);
           parts = record {
             siblings = next-is m.siblings i [] (omega (arith, siblings)) ∙ ap (λ (ds : List Digest). here.sibling ∷ ds)
@@ -80,12 +79,7 @@ module _ (m : MultiWay) (siblings : length m.siblings ≡ length m.indexes) (pre
           };
           indexes = next-is m.indexes i 0 below ∙ ap (λ (ns : List ℕ). here.index ∷ ns) rest.indexes;
           long = (
-            omega (
-              arith,
-              length-append (take prefix before) suffix,
-              length-take-le prefix before within,
-              eqb-true (prefix + length suffix) (path_length m) sums,
-            ),
+            omega (arith, length-append (take prefix before) suffix, length-take-le prefix before within, sum),
             rest.long,
           );
         }
@@ -110,9 +104,7 @@ module _ (m : MultiWay) (siblings : length m.siblings ≡ length m.indexes) (pre
       let prefix = get_or m.prefixes i 0 in
       let suffix = get_or m.suffixes i [] in
       let below : i < length m.indexes = omega arith in
-      let next = longest_left-next m i before (get_or m.indexes i 0) prefix (get_or m.siblings i []) suffix _ _
-      (drop_more m.indexes i 0 below) (drop_more m.prefixes i 0 (omega (arith, prefixes))) (drop_more m.siblings i
-      [] (omega (arith, siblings))) (drop_more m.suffixes i [] (omega (arith, suffixes))) _ refl in
+      let next = longest_left-next m i before suffix (path_length m) below prefixes siblings suffixes refl refl in
       let split = both_hold (nat_eq (prefix + length suffix) (path_length m) && all_shared before prefix suffix) _
       (sym next ∙ holds) in
       let tests = both_hold (nat_eq (prefix + length suffix) (path_length m)) _ split.0 in
@@ -195,14 +187,6 @@ longest-from before [] = refl
 longest-from before (way ∷ ways) = rw (eq-eqb (shared_count before way.above) (shared_count before way.above) refl)
     (longest-from way.above ways)
 
-by_recursion : {X : Type 0} (P : X → Type 0) (xs : List X) → All P xs → AllByRecursion P xs
-by_recursion P [] all = tt
-by_recursion P (x ∷ xs) all = (
-  all 0 x (omega arith),
-  by_recursion P xs (λ k d below. all (suc k) d
-      (omega (arith, below))),
-)
-
 module _ (k : ℕ) (ways : List Way) (order : AreInOrder k ways) where
   first-long : (ways : List Way) → 0 < length ways → All (λ way. length way.above ≡ k) ways
       → path_length (multi_path_of ways) ≡ k
@@ -211,13 +195,13 @@ module _ (k : ℕ) (ways : List Way) (order : AreInOrder k ways) where
 
   all-inside : (len : ℕ) → len ≡ k → (ways : List Way) → All (λ way. way.index < 2 ^ (k + 1)) ways
       → list_all (λ index. nat_lt index (2 ^ (len + 1))) (map (λ way. way.index) ways) ≡ true
-  all-inside len same [] inside = refl
-  all-inside len same (way ∷ ways) inside =
-      let first : nat_lt way.index (2 ^ (len + 1)) ≡ true = rw same (lt-ltb _ _ (inside 0 way (omega arith))) in
-      rw first (all-inside len same ways (λ i d below. inside (suc i) d (omega (arith, below))))
+  all-inside len same ways inside =
+      list_all-from_AllPass (λ index. nat_lt index (2 ^ (len + 1))) _
+      (All-map (λ index. nat_lt index (2 ^ (len + 1)) ≡ true) (λ way. way.index) ways
+      (λ i d below. rw same (lt-ltb _ _ (inside i d below))))
 
   pub decoded-in_order : decoded_paths (multi_path_of ways) ≡ map Some ways
-  decoded-in_order = decoded-merged k ways (by_recursion (λ way. length way.above ≡ k) ways order.same_length)
+  decoded-in_order = decoded-merged k ways (recursion_from_All (λ way. length way.above ≡ k) ways order.same_length)
 
   pub strict-in_order : is_strict (multi_path_of ways) ≡ true
   strict-in_order =
@@ -230,16 +214,9 @@ module _ (k : ℕ) (ways : List Way) (order : AreInOrder k ways) where
       ∙ length-map ways (λ way. way.above) ∙ sym indexes) in
       let suffixes = eq-eqb (length m.suffixes) (length m.indexes) (length-suffixes_of [] (above_of ways)
       ∙ length-map ways (λ way. way.above) ∙ sym indexes) in
-      rw (
-        count,
-        siblings,
-        prefixes,
-        suffixes,
-        rising-from m.indexes order.rising,
-        all-inside (path_length m)
-            (first-long ways order.some order.same_length) ways order.within_tree,
-        decoded-in_order,
-      ) (longest-from [] ways)
+      let inside = all-inside (path_length m) (first-long ways order.some order.same_length) ways order.within_tree in
+      rw (count, siblings, prefixes, suffixes, rising-from m.indexes order.rising, inside, decoded-in_order)
+      (longest-from [] ways)
 
 -- ---- as contracts say it
 

@@ -4,14 +4,15 @@ use Rattle.std.proofs.Math.Nat.{div-eq_of_lt, pow-le-pow_right}
 use Rattle.std.specs.BTreeMap.{BTreeMap, get, Updates, is_at}
 use Rattle.std.specs.List.{slice_get}
 use Rattle.std.specs.Option.{is_some}
-use Rattle.std.proofs.lemmas.List.{length-map, get_or-map, map-append}
-use Rattle.std.proofs.lemmas.Bool.{and_parts, eqb-true}
+use Rattle.std.proofs.lemmas.List.{length-map, get_or-map, get_or_append_left, map-append}
+use Rattle.std.proofs.Math.Seq.{get_or-append_seam}
+use Rattle.std.proofs.lemmas.Bool.{and_parts, eq-eqb, eqb-true, ne_eqb}
 use Rattle.std.proofs.lemmas.Bool.Decides.{eqb_tells, nat_tests}
 use Rattle.ark_base.specs.Outcome.{Outcome}
 use Rattle.ark_paths.specs.Bind.{couple}
 use Rattle.ark_paths.specs.Pair.{Digest}
 use Rattle.ark_paths.specs.Kept.{place_cmp, same_place, put_at, AreKept}
-use Rattle.ark_paths.specs.Table.{pair_seen, row_of, IsMade, AllMade, Extends, HoldsPlaces, IsServed, with_place}
+use Rattle.ark_paths.specs.Table.{pair_seen, row_of, IsMade, AllMade, Extends, HoldsPlaces, IsServed}
 use Rattle.ark_paths.specs.declared.multi_path.table.Entries.{Entries}
 use Rattle.ark_paths.specs.declared.multi_path.table.Entry.{Entry}
 use Rattle.ark_paths.specs.declared.multi_path.table.Pair.{Pair}
@@ -36,28 +37,14 @@ Extends-below xs ys k (more, is) below = rw (is, length-append xs more) (omega (
 
 pub length-Extends : {A : Type 0} (view : A → Digest) (before after : List A) → Extends (map view before)
     (map view after) → length before ≤ length after
-length-Extends view before after (more, is) = omega (
-  arith,
-  length-map before view,
-  length-map after view,
-  ap length is,
-  length-append (map view before) more,
-)
+length-Extends view before after (more, is) =
+    omega (arith, length-map before view, length-map after view, ap length is, length-append (map view before) more)
 
 get_or-Extends : (xs ys : List Digest) (k : ℕ) → Extends xs ys → k < length xs → get_or ys k [] ≡ get_or xs k []
-get_or-Extends xs ys k (more, is) below = rw is (at xs more k below)
-  where
-    at : (xs more : List Digest) (k : ℕ) → k < length xs → get_or (xs ++ more) k [] ≡ get_or xs k []
-    at [] more k below = absurd (omega arith)
-    at (x ∷ xs) more zero below = refl
-    at (x ∷ xs) more (suc k) below = at xs more k (omega arith)
+get_or-Extends xs ys k (more, is) below = rw is (get_or_append_left xs more [] k below)
 
-get_or-last : (xs ys : List Digest) (x : Digest) → ys ≡ xs ++ x ∷ [] → get_or ys (length xs) [] ≡ x
-get_or-last xs ys x is = rw is (at xs)
-  where
-    at : (xs : List Digest) → get_or (xs ++ x ∷ []) (length xs) [] ≡ x
-    at [] = refl
-    at (y ∷ xs) = at xs
+get_or-last : (xs ys : List Digest) (x : Digest) (k : ℕ) → ys ≡ xs ++ x ∷ [] → k ≡ length xs → get_or ys k [] ≡ x
+get_or-last xs ys x k is last = rw (is, last) (get_or-append_seam xs x [] [])
 
 -- one item is put behind the others
 pub Extends-push : {A : Type 0} (view : A → Digest) (before after : List A) (x : A) → after ≡ before ++ x ∷ []
@@ -66,9 +53,8 @@ Extends-push view before after x is = (view x ∷ [], rw is (map-append view bef
 
 pub get_or-push : {A : Type 0} (view : A → Digest) (before after : List A) (x : A) (k : ℕ) → after ≡ before ++ x ∷ []
     → k ≡ length before → get_or (map view after) k [] ≡ view x
-get_or-push view before after x k is last =
-    let at : k ≡ length (map view before) = omega (arith, last, length-map before view) in
-    rw at (get_or-last (map view before) (map view after) (view x) (rw is (map-append view before (x ∷ []))))
+get_or-push view before after x k is last = get_or-last (map view before) (map view after) (view x) k
+    (rw is (map-append view before (x ∷ []))) (last ∙ sym (length-map before view))
 
 -- ---- places
 
@@ -81,21 +67,25 @@ same_place-true (x, y) (u, v) is =
 
 -- the order finds a place exactly where it is the same
 is_at-place : (a b : ℕ × ℕ) → is_at (place_cmp a) b ≡ same_place a b
-is_at-place a b = by_parts (eqb_tells a.0 b.0) (eqb_tells a.1 b.1)
-  where
-    by_parts : ((nat_eq a.0 b.0 ≡ true) × (a.0 ≡ b.0)) ⊎ ((nat_eq a.0 b.0 ≡ false) × (a.0 ≢ b.0))
-        → ((nat_eq a.1 b.1 ≡ true) × (a.1 ≡ b.1)) ⊎ ((nat_eq a.1 b.1 ≡ false) × (a.1 ≢ b.1)) → is_at (place_cmp a) b
-        ≡ same_place a b
-    by_parts x y = grind (arith, nat_tests)
+is_at-place a b =
+    let first = eqb_tells a.0 b.0 in
+    let second = eqb_tells a.1 b.1 in
+    grind (arith, nat_tests)
 
-cond_cases : {A : Type 0} (b : Bool) (x e : A) (o : Option A) → cond b (Some x) o ≡ Some e → (o ≡ Some e) ⊎ (x ≡ e)
-cond_cases true x e o is = inr cc
-cond_cases false x e o is = inl is
+-- what stands at a place after one was updated
+updated-cases : {X : Type 0} (entries after : BTreeMap (ℕ × ℕ) X) (place : ℕ × ℕ) (new : X)
+    → Updates place_cmp entries after place (Some new) → (q : ℕ × ℕ) (entry : X) → get place_cmp after q ≡ Some entry
+    → ((place ≡ q) × (new ≡ entry)) ⊎ (get place_cmp entries q ≡ Some entry)
+updated-cases entries after place new updates q entry at =
+    by_place (same_place place q) refl (ap (λ (b : Bool). cond b (Some new) (get place_cmp entries q))
+    (sym (is_at-place place q)) ∙ sym (updates.0 q) ∙ at)
+  where
+    by_place : (here : Bool) → same_place place q ≡ here → cond here (Some new) (get place_cmp entries q) ≡ Some entry
+        → ((place ≡ q) × (new ≡ entry)) ⊎ (get place_cmp entries q ≡ Some entry)
+    by_place true same is = inl (same_place-true place q same, cc)
+    by_place false same is = inr is
 
 -- ---- entries at hand
-
-cond_none : {A : Type 0} (b : Bool) (x : A) (o : Option A) → b ≡ false → cond b (Some x) o ≡ o
-cond_none b x o is = rw is refl
 
 pub put_at-within : {A : Type 0} (xs : List A) (i : ℕ) (x : A) → i < length xs → slice_set xs i x ≡ put_at xs i x
 put_at-within [] i x below = absurd (omega arith)
@@ -127,263 +117,187 @@ slice_get-put_at (z ∷ xs) (suc i) (suc j) x y at = elim (slice_get-put_at xs i
   | inr (other, old) ↦ inr ((λ is. other (omega (arith, is))), old)
 ]
 
--- on another level stands another place
-is_at-other : (a b : ℕ × ℕ) → a.0 - 1 ≢ b.0 - 1 → is_at (place_cmp a) b ≡ false
-is_at-other a b other = is_at-place a b ∙ by_parts (eqb_tells a.0 b.0)
-  where
-    by_parts : ((nat_eq a.0 b.0 ≡ true) × (a.0 ≡ b.0)) ⊎ ((nat_eq a.0 b.0 ≡ false) × (a.0 ≢ b.0))
-        → same_place a b ≡ false
-    by_parts (inl (is, same)) = absurd (other (ap (λ (n : ℕ). n - 1) same))
-    by_parts (inr (is, differ)) = rw is refl
-
-is_at-itself : (a : ℕ × ℕ) → is_at (place_cmp a) a ≡ true
-is_at-itself a = is_at-place a a ∙ by_parts (eqb_tells a.0 a.0) (eqb_tells a.1 a.1)
-  where
-    by_parts : ((nat_eq a.0 a.0 ≡ true) × (a.0 ≡ a.0)) ⊎ ((nat_eq a.0 a.0 ≡ false) × (a.0 ≢ a.0))
-        → ((nat_eq a.1 a.1 ≡ true) × (a.1 ≡ a.1)) ⊎ ((nat_eq a.1 a.1 ≡ false) × (a.1 ≢ a.1)) → same_place a a ≡ true
-    by_parts (inl (one, _)) (inl (two, _)) = rw (one, two) refl
-    by_parts (inr (_, other)) y = absurd (other refl)
-    by_parts x (inr (_, other)) = absurd (other refl)
-
 pub AreKept-put : {X : Type 0} (all after : BTreeMap (ℕ × ℕ) (Entry X)) (last next : List (Slot X)) (slot : Slot X)
     → AreKept all last → Updates place_cmp all after slot.place (Some slot.entry) → next
     ≡ put_at last (slot.place.0 - 1) slot → AreKept after next
 AreKept-put all after last next slot kept updates is level other at =
     elim (slice_get-put_at last (slot.place.0 - 1) level slot other (sym (ap (λ l. slice_get l level) is) ∙ at)) [
-      | inl (here, same) ↦ subst (λ (s : Slot _). (s.place.0 - 1 ≡ level) × (get place_cmp after s.place
-          ≡ Some s.entry)) same (
-            here,
-            updates.0 slot.place ∙ ap (λ (b : Bool). cond b (Some slot.entry) (get place_cmp all slot.place))
-                (is_at-itself slot.place),
-          )
+      | inl (here, same) ↦
+          let itself = eq-eqb slot.place.0 slot.place.0 refl in
+          let too = eq-eqb slot.place.1 slot.place.1 refl in
+          rw (← same) (here, updates.0 slot.place ∙ rw (is_at-place slot.place slot.place, itself, too) refl)
       | inr (differ, old) ↦
-          let before = kept level other old in (
-            before.0,
-            updates.0 other.place ∙ cond_none _ slot.entry _ (is_at-other slot.place other.place
-                (λ is. differ (is ∙ before.0))) ∙ before.1,
-          )
+          let before = kept level other old in
+          let apart = ne_eqb slot.place.0 other.place.0 (λ same. differ (ap (λ (n : ℕ). n - 1) same ∙ before.0)) in
+          (before.0, updates.0 other.place ∙ rw (is_at-place slot.place other.place, apart) refl ∙ before.1)
     ]
 
 -- ---- entries
 
-count-kept : (here : Bool) (n : ℕ) → here ≡ true → n ≡ n + cond here 0 1
-count-kept here n is = rw is (omega arith)
+-- a pair is the same when more digests stand behind
+pair_seen-more : {X : Type 0} (numbers : X → Digest) (xs ys : List Digest) (pair : Pair X) → Extends xs ys → pair.own
+    < length xs → pair_seen numbers ys pair ≡ pair_seen numbers xs pair
+pair_seen-more numbers xs ys pair more below =
+    ap (λ (d : Digest). couple pair.is_right d (numbers pair.sibling.now)) (get_or-Extends xs ys pair.own more below)
 
-count-anew : {A : Type 0} (here : Bool) (view : A → Digest) (before after : List A) (y : Digest) → here ≡ false
-    → map view after ≡ map view before ++ y ∷ [] → length after ≡ length before + cond here 0 1
-count-anew here view before after y is more = rw is (omega (
-  arith,
-  length-map after view,
-  length-map before view,
-  ap length more,
-  length-append (map view before) (y ∷ []),
-))
-
-module _ {X : Type 0} (numbers : X → Digest) where
-  -- a pair is the same when more digests stand behind
-  pair_seen-more : (xs ys : List Digest) (pair : Pair X) → Extends xs ys → pair.own < length xs → pair_seen numbers ys
-      pair ≡ pair_seen numbers xs pair
-  pair_seen-more xs ys pair more below = ap (λ (d : Digest). couple pair.is_right d (numbers pair.sibling.now))
-      (get_or-Extends xs ys pair.own more below)
-
-  module _ (hash : Digest → Digest → Outcome Digest) where
-    IsMade-more : (xs ys us vs : List Digest) (entry : Entry X) → Extends xs us → Extends ys vs → IsMade numbers hash xs
-        ys entry → IsMade numbers hash us vs entry
-    IsMade-more xs ys us vs entry digests made m = record {
-      own = Extends-below xs us entry.pair.own digests m.own;
-      hashed = Extends-below ys vs entry.digest made m.hashed;
-      is = rw (pair_seen-more xs us entry.pair digests m.own, get_or-Extends ys vs entry.digest made m.hashed) m.is;
-    }
-
-    pub AllMade-more : (xs ys us vs : List Digest) (entries : Entries X) → Extends xs us → Extends ys vs
-        → AllMade numbers hash xs ys entries → AllMade numbers hash us vs entries
-    AllMade-more xs ys us vs entries digests made before =
+module _ {X : Type 0} {numbers : X → Digest} where
+  pub AllMade-more : {hash : Digest → Digest → Outcome Digest} {xs ys us vs : List Digest} {entries : Entries X}
+      → Extends xs us → Extends ys vs → AllMade numbers hash xs ys entries → AllMade numbers hash us vs entries
+  AllMade-more {xs = xs} {ys = ys} {us = us} {vs = vs} digests made before = record {
+    kept = before.kept;
+    all = λ place entry at. (
+        let m = before.all place entry at in
         record {
-          kept = before.kept;
-          all = λ place entry at. IsMade-more xs ys us vs entry digests made
-              (before.all place entry at);
+          own = Extends-below xs us entry.pair.own digests m.own;
+          hashed = Extends-below ys vs entry.digest made m.hashed;
+          is = rw (
+            pair_seen-more numbers xs us entry.pair digests m.own,
+            get_or-Extends ys vs entry.digest made m.hashed,
+          ) m.is;
         }
+        );
+  }
 
-    -- a digest that was made last, of a pair that was hashed
-    made-answer : (ys vs : List Digest) (given : Digest × Digest) (y : Digest) (number : ℕ) → hash given.0 given.1
-        ≡ Ok y → vs ≡ ys ++ y ∷ [] → number ≡ length ys → hash given.0 given.1 ≡ Ok (get_or vs number [])
-    made-answer ys vs given y number hashed is last =
-        hashed ∙ ap Ok (sym (ap (λ (n : ℕ). get_or vs n []) last ∙ get_or-last ys vs y is))
-
-    -- a made pair is kept
-    AllMade-kept : (xs us ys vs : List Digest) (entries after : Entries X) (place : ℕ × ℕ) (pair : Pair X) (y : Digest)
-        (number : ℕ) → AllMade numbers hash xs ys entries → Extends xs us → pair.own < length xs
-        → hash (pair_seen numbers xs pair).0 (pair_seen numbers xs pair).1 ≡ Ok y → vs ≡ ys ++ y ∷ [] → number
-        ≡ length ys → AreKept after.all after.last.items → Updates place_cmp entries.all after.all place
-        (Some (record { pair = pair; digest = number })) → AllMade numbers hash us vs after
-    AllMade-kept xs us ys vs entries after place pair y number before digests own hashed is last kept updates = record {
-      kept = kept;
-      all = λ q entry at.
-          elim
-          (cond_cases (is_at (place_cmp place) q) new entry (get place_cmp entries.all q) (sym (updates.0 q) ∙ at)) [
-            | inl old ↦ IsMade-more xs ys us vs entry digests (y ∷ [], is) (before.all q entry old)
-            | inr same ↦ subst (IsMade numbers hash us vs) same fresh
-          ];
-    }
-      where
-        new : Entry X
-        new = record { pair = pair; digest = number }
-
-        fresh : IsMade numbers hash us vs new
-        fresh = record {
-          own = Extends-below xs us pair.own digests own;
-          hashed = rw (is, last, length-append ys (y ∷ [])) (omega arith);
-          is = rw (pair_seen-more xs us pair digests own) (made-answer ys vs (pair_seen numbers xs pair) y number
-              hashed is last);
-        }
-
-  -- ---- places of a tree
-
-  module _ (xs : List Digest) (pairs : ℕ × ℕ → Digest × Digest) (asked : ℕ × ℕ → Bool) (entries : BTreeMap (ℕ × ℕ)
-      (Entry X)) (holds : HoldsPlaces numbers xs pairs asked entries) (place : ℕ × ℕ) where
-    -- a place that is kept was asked before
-    asked-kept : (entry : Entry X) → get place_cmp entries place ≡ Some entry → asked place ≡ true
-    asked-kept entry at = sym (holds.at place) ∙ ap is_some at
-
-    HoldsPlaces-kept : (entry : Entry X) → get place_cmp entries place ≡ Some entry → HoldsPlaces numbers xs pairs
-        (with_place place asked) entries
-    HoldsPlaces-kept entry at = record {
-      at = λ q. holds.at q ∙ by_place q (same_place place q) refl;
-      pair =
-          holds.pair;
-    }
-      where
-        by_place : (q : ℕ × ℕ) (here : Bool) → same_place place q ≡ here → asked q ≡ (here || asked q)
-        by_place q true is = ap asked (sym (same_place-true place q is)) ∙ asked-kept entry at
-        by_place q false is = refl
-
-    module _ (given : Digest × Digest) (is : given ≡ pairs place) (other : (entry : Entry X) → get place_cmp entries
-        place ≡ Some entry → pair_seen numbers xs entry.pair ≢ given) where
-      -- a place with no such pair was not asked before
-      asked-anew : asked place ≡ false
-      asked-anew = by_entry (get place_cmp entries place) refl
-        where
-          by_entry : (o : Option (Entry X)) → get place_cmp entries place ≡ o → asked place ≡ false
-          by_entry None at = sym (holds.at place) ∙ ap is_some at
-          by_entry (Some entry) at = absurd (other entry at (holds.pair place entry at ∙ sym is))
-
-    HoldsPlaces-anew : (us : List Digest) (after : BTreeMap (ℕ × ℕ) (Entry X)) (pair : Pair X) (number : ℕ)
-        → ((q : ℕ × ℕ) (entry : Entry X) → get place_cmp entries q ≡ Some entry → entry.pair.own < length xs)
-        → Extends xs us → pair.own < length xs
-        → pair_seen numbers xs pair ≡ pairs place → Updates place_cmp entries after place
-        (Some (record { pair = pair; digest = number })) → HoldsPlaces numbers us pairs (with_place place asked) after
-    HoldsPlaces-anew us after pair number below digests own is updates = record { at = at; pair = seen }
-      where
-        new : Entry X
-        new = record { pair = pair; digest = number }
-
-        some : (b : Bool) (o : Option (Entry X)) → is_some (cond b (Some new) o) ≡ (b || is_some o)
-        some true o = refl
-        some false o = refl
-
-        at : (q : ℕ × ℕ) → is_some (get place_cmp after q) ≡ with_place place asked q
-        at q = ap is_some (updates.0 q) ∙ some (is_at (place_cmp place) q) (get place_cmp entries q)
-            ∙ rw (is_at-place place q, holds.at q) refl
-
-        by_place : (q : ℕ × ℕ) (entry : Entry X) (here : Bool) → same_place place q ≡ here → cond here (Some new)
-            (get place_cmp entries q) ≡ Some entry → pair_seen numbers us entry.pair ≡ pairs q
-        by_place q entry true same kept =
-            let e : new ≡ entry = cc in
-            ap (λ (n : Entry X). pair_seen numbers us n.pair) (sym e) ∙ pair_seen-more xs us pair digests own ∙ is
-            ∙ ap pairs (same_place-true place q same)
-        by_place q entry false same kept = pair_seen-more xs us entry.pair digests (below q entry kept)
-            ∙ holds.pair q entry kept
-
-        seen : (q : ℕ × ℕ) (entry : Entry X) → get place_cmp after q ≡ Some entry → pair_seen numbers us
-            entry.pair ≡ pairs q
-        seen q entry kept = by_place q entry (same_place place q) refl
-            (ap (λ (b : Bool). cond b (Some new) (get place_cmp entries q)) (sym (is_at-place place q))
-            ∙ sym (updates.0 q) ∙ kept)
-
-  -- ---- the same, of other digests or another test
-
-  pub HoldsPlaces-more : (hash : Digest → Digest → Outcome Digest) (xs us ys : List Digest) (pairs : ℕ × ℕ → Digest
-      × Digest) (asked : ℕ × ℕ → Bool) (entries : Entries X) → Extends xs us → AllMade numbers hash xs ys entries
+  pub HoldsPlaces-more : {hash : Digest → Digest → Outcome Digest} {xs us ys : List Digest} {pairs : ℕ × ℕ → Digest
+      × Digest} {asked : ℕ × ℕ → Bool} {entries : Entries X} → Extends xs us → AllMade numbers hash xs ys entries
       → HoldsPlaces numbers xs pairs asked entries.all → HoldsPlaces numbers us pairs asked entries.all
-  HoldsPlaces-more hash xs us ys pairs asked entries digests made holds =
-      record {
-        at = holds.at;
-        pair = λ place entry at. pair_seen-more xs us entry.pair digests
-            (made.all place entry at).own ∙ holds.pair place entry at;
-      }
+  HoldsPlaces-more {xs = xs} {us = us} digests made holds = record {
+    at = holds.at;
+    pair = λ place entry at. pair_seen-more numbers xs us entry.pair digests (made.all place entry at).own
+        ∙ holds.pair place entry at;
+  }
 
-  pub HoldsPlaces-same : (xs : List Digest) (pairs : ℕ × ℕ → Digest × Digest) (asked others : ℕ × ℕ → Bool)
-      (entries : BTreeMap (ℕ × ℕ) (Entry X)) → ((place : ℕ × ℕ) → asked place ≡ others place) → HoldsPlaces numbers xs
+  -- the same of another test
+  pub HoldsPlaces-same : {xs : List Digest} {pairs : ℕ × ℕ → Digest × Digest} {asked others : ℕ × ℕ → Bool}
+      {entries : BTreeMap (ℕ × ℕ) (Entry X)} → ((place : ℕ × ℕ) → asked place ≡ others place) → HoldsPlaces numbers xs
       pairs asked entries → HoldsPlaces numbers xs pairs others entries
-  HoldsPlaces-same xs pairs asked others entries same holds =
-      record { at = λ place. holds.at place ∙ same place; pair = holds.pair }
+  HoldsPlaces-same same holds = record { at = λ place. holds.at place ∙ same place; pair = holds.pair }
 
 -- ---- a pair that is asked
 
+-- a pair, left first, as some items show it
+abbrev seen_in : {X : Type 0} → (X → Digest) → List X → Pair X → Digest × Digest
+seen_in numbers items pair = pair_seen numbers (map numbers items) pair
+
 -- the pair that is seen is that of the digests in order
 pub asked-as : {X : Type 0} (numbers : X → Digest) (hash : Digest → Digest → Outcome Digest) (items : List X)
-    (pair : Pair X) (own : X) {left right : Digest} {outcome : Outcome Digest} → pair.own < length items
+    (pair : Pair X) {own : X} {left right : Digest} {outcome : Outcome Digest} → pair.own < length items
     → own ≡ get_or items pair.own own → (left, right) ≡ couple pair.is_right (numbers own) (numbers pair.sibling.now)
-    → hash left right ≡ outcome → hash (pair_seen numbers (map numbers items) pair).0
-    (pair_seen numbers (map numbers items) pair).1 ≡ outcome
-asked-as numbers hash items pair own below is ordered hashed =
+    → hash left right ≡ outcome → hash (seen_in numbers items pair).0 (seen_in numbers items pair).1 ≡ outcome
+asked-as numbers hash items pair {own = own} below is ordered hashed =
     let at : get_or (map numbers items) pair.own [] ≡ numbers own =
     get_or-map numbers items pair.own own [] below ∙ ap numbers (sym is) in
     rw (at, ← ordered) hashed
 
-module _ {X D : Type 0} {numbers : X → Digest} {hash : Digest → Digest → Outcome Digest} {xs : List Digest}
-    {entries : Entries X} {number : ℕ} (inner : D → Digest) (before : List D) (place : ℕ × ℕ) (pair : Pair X)
-    (made : AllMade numbers hash xs (map inner before) entries) where
+module _ {X D : Type 0} {numbers : X → Digest} {hash : Digest → Digest → Outcome Digest} {entries : Entries X}
+    {number : ℕ} (inner : D → Digest) (before : List D) (items : List X) (place : ℕ × ℕ) (pair : Pair X)
+    (made : AllMade numbers hash (map numbers items) (map inner before) entries) where
   -- it is kept
   module _ (kept : (entry : Entry X) × (get place_cmp entries.all place ≡ Some entry) × (number ≡ entry.digest)
-      × (pair_seen numbers xs entry.pair ≡ pair_seen numbers xs pair)) where
-    pub answer-kept : hash (pair_seen numbers xs pair).0 (pair_seen numbers xs pair).1
+      × (pair_seen numbers (map numbers items) entry.pair ≡ seen_in numbers items pair)) where
+    pub answer-kept : hash (seen_in numbers items pair).0 (seen_in numbers items pair).1
         ≡ Ok (get_or (map inner before) number [])
     answer-kept = rw (kept.2, ← kept.3) (made.all place kept.0 kept.1).is
 
-    pub IsServed-kept : {count : ℕ} → IsServed numbers inner hash place pair (row_of xs before entries count)
-        (row_of xs before entries count) number
+    pub IsServed-kept : {count : ℕ} → IsServed numbers inner hash place pair
+        (row_of (map numbers items) before entries count) (row_of (map numbers items) before entries count) number
     IsServed-kept = record {
       below = rw (kept.2, ← length-map before inner) (made.all place kept.0 kept.1).hashed;
       grows = Extends-itself (map inner before);
       made = made;
       holds = λ pairs asked holds is. (
-        HoldsPlaces-kept numbers xs pairs asked entries.all holds place kept.0 kept.1,
-        count-kept (asked place) (length before) (asked-kept numbers xs pairs asked entries.all holds place kept.0
-            kept.1),
-      );
+          let old : asked place ≡ true = sym (holds.at place) ∙ ap is_some kept.1 in (
+            record { at = λ q. holds.at q ∙ with_old asked old q (same_place place q) refl; pair = holds.pair },
+            rw old (omega arith),
+          )
+          );
       rises = omega arith;
     }
+      where
+        with_old : (asked : ℕ × ℕ → Bool) → asked place ≡ true → (q : ℕ × ℕ) (here : Bool) → same_place place q ≡ here
+            → asked q ≡ (here || asked q)
+        with_old asked old q true is = ap asked (sym (same_place-true place q is)) ∙ old
+        with_old asked old q false is = refl
 
   -- it is hashed
-  module _ (after : List D) {y : Digest} (hashed : hash (pair_seen numbers xs pair).0 (pair_seen numbers xs pair).1
-      ≡ Ok y) (more : map inner after ≡ map inner before ++ y ∷ []) (last : number ≡ length before) where
-    pub answer-anew : hash (pair_seen numbers xs pair).0 (pair_seen numbers xs pair).1
+  module _ {own : X} {left right : Digest} (inside : pair.own < length items) (at : own ≡ get_or items pair.own own)
+      (ordered : (left, right) ≡ couple pair.is_right (numbers own) (numbers pair.sibling.now)) (after : List D)
+      {y : Digest} (hashed : hash left right ≡ Ok y) (more : map inner after ≡ map inner before ++ y ∷ [])
+      (last : number ≡ length before) where
+    pub answer-anew : hash (seen_in numbers items pair).0 (seen_in numbers items pair).1
         ≡ Ok (get_or (map inner after) number [])
-    answer-anew = made-answer numbers hash (map inner before) (map inner after) (pair_seen numbers xs pair) y number
-        hashed more (last ∙ sym (length-map before inner))
+    answer-anew = asked-as numbers hash items pair inside at ordered hashed ∙ ap Ok (sym (get_or-last (map inner before)
+        (map inner after) y number more (last ∙ sym (length-map before inner))))
 
-    pub IsServed-anew : {us : List Digest} {next : Entries X} {start end : ℕ} → Extends xs us → pair.own < length xs
+    pub IsServed-anew : {us : List Digest} {next : Entries X} {start end : ℕ} → Extends (map numbers items) us
         → AreKept next.all next.last.items → Updates place_cmp entries.all next.all place
         (Some (record { pair = pair; digest = number }))
-        → ((entry : Entry X) → get place_cmp entries.all place ≡ Some entry → pair_seen numbers xs entry.pair ≢
-        pair_seen numbers xs pair) → end ≡ min (start + 1) 18446744073709551615
-        → IsServed numbers inner hash place pair (row_of xs before entries start) (row_of us after next end) number
-    IsServed-anew {us = us} {next = next} digests own kept updates other counted =
-        let one : length after ≡ length before + 1 = count-anew false inner before after y refl more in
+        → ((entry : Entry X) → get place_cmp entries.all place ≡ Some entry → pair_seen numbers (map numbers items)
+        entry.pair ≢ seen_in numbers items pair) → end ≡ min (start + 1) 18446744073709551615
+        → IsServed numbers inner hash place pair (row_of (map numbers items) before entries start)
+        (row_of us after next end) number
+    IsServed-anew {us = us} {next = next} digests kept updates other counted =
         record {
           below = omega (arith, last, one);
-          grows = (y ∷ [], more);
-          made = AllMade-kept numbers hash xs us (map inner before) (map inner after) entries next place pair y number
-              made digests own hashed more (last ∙ sym (length-map before inner)) kept updates;
+          grows = grows;
+          made = record {
+            kept = kept;
+            all = λ q entry found. elim (updated-cases entries.all next.all place new updates q entry found) [
+              | inl (same, is) ↦ subst (IsMade numbers hash us (map inner after)) is fresh
+              | inr old ↦ (AllMade-more digests grows made).all q entry old
+            ];
+          };
           holds = λ pairs asked holds is. (
-            HoldsPlaces-anew numbers xs pairs asked entries.all holds place us next.all pair number
-                (λ q entry at. (made.all q entry at).own) digests own is updates,
-            count-anew (asked place) inner before after y (asked-anew numbers xs pairs asked entries.all holds place
-                (pair_seen numbers xs pair) is other) more,
+            record {
+              at = λ q. ap is_some (updates.0 q) ∙ some (is_at (place_cmp place) q) (get place_cmp entries.all q)
+                  ∙ rw (is_at-place place q, holds.at q) refl;
+              pair = λ q entry found. elim (updated-cases entries.all next.all place new updates q entry found) [
+                | inl (same, e) ↦ ap (λ (n : Entry X). pair_seen numbers us n.pair) (sym e)
+                    ∙ pair_seen-more numbers (map numbers items) us pair digests below ∙ is ∙ ap pairs same
+                | inr old ↦ (HoldsPlaces-more digests made holds).pair q entry old
+              ];
+            },
+            rw (not_asked pairs asked holds is (get place_cmp entries.all place) refl) (omega (arith, one)),
           );
           rises = omega (arith, counted, one);
         }
+      where
+        below : pair.own < length (map numbers items)
+        below = rw length-map inside
+
+        one : length after ≡ length before + 1
+        one = omega (
+          arith,
+          length-map after inner,
+          length-map before inner,
+          ap length more,
+          length-append (map inner before) (y ∷ []),
+        )
+
+        grows : Extends (map inner before) (map inner after)
+        grows = (y ∷ [], more)
+
+        new : Entry X
+        new = record { pair = pair; digest = number }
+
+        fresh : IsMade numbers hash us (map inner after) new
+        fresh = record {
+          own = Extends-below (map numbers items) us pair.own digests below;
+          hashed = rw length-map (omega (arith, last, one));
+          is = rw (pair_seen-more numbers (map numbers items) us pair digests below) answer-anew;
+        }
+
+        some : (b : Bool) (o : Option (Entry X)) → is_some (cond b (Some new) o) ≡ (b || is_some o)
+        some true o = refl
+        some false o = refl
+
+        -- a place with no such pair was not asked before
+        not_asked : (pairs : ℕ × ℕ → Digest × Digest) (asked : ℕ × ℕ → Bool) (holds : HoldsPlaces numbers
+            (map numbers items) pairs asked entries.all) → seen_in numbers items pair ≡ pairs place
+            → (o : Option (Entry X)) → get place_cmp entries.all place ≡ o → asked place ≡ false
+        not_asked pairs asked holds is None found = sym (holds.at place) ∙ ap is_some found
+        not_asked pairs asked holds is (Some entry) found =
+            absurd (other entry found (holds.pair place entry found ∙ sym is))
 
 -- one more was counted at most
 pub counted-most : (start end : ℕ) → end ≡ min (start + 1) 18446744073709551615 → end ≤ start + 1

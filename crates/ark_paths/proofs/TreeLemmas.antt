@@ -6,12 +6,12 @@ use Rattle.ark_base.specs.Outcome.{Outcome, ◌>>=◌}
 use Rattle.ark_base.specs.Laws.Steps.{bind_ok}
 use Rattle.ark_paths.specs.Index.{IsTreeSize}
 use Rattle.ark_paths.specs.Pair.{Digest, HashPair, bottom_pair, pair_of}
-use Rattle.ark_paths.specs.Root.{Root, place, leaves_with_root, upper_levels}
+use Rattle.ark_paths.specs.Root.{Root, place, place_at, leaves_with_root, upper_levels}
 use Rattle.ark_paths.specs.Rows.{part, row_above, rows_from, rows_of, IsTree}
 use Rattle.ark_paths.proofs.CoupleLemmas.{length-paired, get_or-paired}
 use Rattle.ark_paths.proofs.Logs.{upper_levels-is}
 use Rattle.ark_paths.proofs.Levels.{root_of-rows}
-use Rattle.ark_paths.proofs.Parts.{part-left, part-right, get_or-part}
+use Rattle.ark_paths.proofs.Parts.{part-left, part-right, part-pair}
 use Rattle.ark_paths.proofs.RowLemmas.{AreRows, are_rows}
 
 pub upper_levels-size : (leaves : List Digest) → IsTreeSize (length leaves) → length leaves
@@ -25,15 +25,9 @@ module _ (h : HashPair) (leaves : List Digest) (rows : List (List Digest)) where
   roots_of m row lowest r zero q le below =
       let first : get_or rows 0 [] ≡ row = r.first in
       let here : q < length row = omega (arith, ap length first) in
-      let hashed = get_or-paired h.bottom leaves row q lowest (omega (
-        arith,
-        length-paired h.bottom leaves row
-            lowest,
-      )) in
-      let left : get_or (part 0 q leaves) 0 [] ≡ get_or leaves (2 * q) [] =
-      get_or-part q 0 leaves (omega arith) ∙ ap (λ (n : ℕ). get_or leaves n []) (omega arith) in
-      let right : get_or (part 0 q leaves) 1 [] ≡ get_or leaves (2 * q + 1) [] = get_or-part q 1 leaves (omega arith) in
-      rw (left, right, hashed, first)
+      let long = length-paired h.bottom leaves row lowest in
+      let hashed = get_or-paired h.bottom leaves row q lowest (omega (arith, long)) in
+      ap (λ (p : Digest × Digest). place_at 0 (h.bottom p.0 p.1)) (part-pair q leaves) ∙ rw (hashed, first)
   roots_of m row lowest r (suc k) q le below =
       let above = r.above k (omega arith) in
       let half : length (get_or rows (suc k) []) ≡ length (get_or rows k []) / 2 =

@@ -90,7 +90,8 @@ HasPairs h way digest pairs = (level : ℕ) → level ≤ length way.above
 
 -- ---- what asking leaves
 
--- a row of the table: the digests that its pairs name, those that were made, its entries, and how many pairs were counted
+-- a row of the table: the digests that its pairs name, those that were made, its entries, and how many pairs were
+-- counted
 pub record Row (X D : Type 0) : Type 0 where
   pub digests : List Digest
   pub made : List D

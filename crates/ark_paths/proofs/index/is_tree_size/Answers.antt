@@ -11,8 +11,6 @@ returns-then-size-gt1-clause-decides c =
 pub returns-then-size-gt1-clause-test : goal.returns-then-size-gt1-clause-test
 returns-then-size-gt1-clause-test c =
     let some : ltb 1 c.args.size ≡ true = lt-ltb _ _ c.if-size-gt1.true in
-    rw (
-      power_shifted c.args.size c.ilog2.result c.ranges.size.fits c.ilog2.ensures.power_le
-          c.ilog2.ensures.next_power_gt,
-      some,
-    ) refl
+    let power = power_shifted c.args.size c.ilog2.result c.ranges.size.fits c.ilog2.ensures.power_le
+    c.ilog2.ensures.next_power_gt in
+    rw (power, some) refl

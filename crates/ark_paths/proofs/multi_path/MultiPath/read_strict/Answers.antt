@@ -1,4 +1,4 @@
-use Rattle.std.proofs.Common.{◌≡◌, ◌∙◌, drop, ap}
+use Rattle.std.proofs.Common.{◌≡◌, ◌∙◌, ap}
 use Rattle.ark_base.proofs.Refusals.{passed_on}
 use Rattle.ark_paths.specs.MultiPathBytes.{multi_way_of}
 use Rattle.ark_paths.specs.MultiPathStrict.{is_strict}
@@ -14,19 +14,15 @@ returns-in_err-proof-clause-exact g c =
 
 pub returns-in_err-check_strict-clause-exact : goal.returns-in_err-check_strict-clause-exact
 returns-in_err-check_strict-clause-exact g c =
-    let rest = drop c.in_ok-proof.used c.args.bytes.now in
-    let read = g.met.P.Values.multi_path_is_read c.args.bytes.now rest c.in_ok-proof.proof
-    (read_of _ _ c.in_ok-proof.ensures.exact) in
-    let error = c.in_err-check_strict.field-0.0 in
-    passed_on _ _ c.from_residual-in_err-check_strict.result error c.from_residual-in_err-check_strict.ensures.1
-    c.in_err-check_strict.ensures (strict-refused _ _ rest read error)
+    passed_on _ _ c.from_residual-in_err-check_strict.result c.in_err-check_strict.field-0.0
+    c.from_residual-in_err-check_strict.ensures.1 c.in_err-check_strict.ensures
+    (strict-refused _ _ _ (g.met.P.Values.multi_path_is_read c.args.bytes.now _ c.in_ok-proof.proof
+    (read_of _ _ c.in_ok-proof.ensures.exact)) c.in_err-check_strict.field-0.0)
 
 pub returns-clause-exact : goal.returns-clause-exact
 returns-clause-exact g c =
-    let rest = drop c.in_ok-proof.used c.args.bytes.now in
-    let read = g.met.P.Values.multi_path_is_read c.args.bytes.now rest c.in_ok-proof.proof
-    (read_of _ _ c.in_ok-proof.ensures.exact) in
-    strict-read _ _ rest read (provided-true _ _ c.in_ok-check_strict.ensures)
+    strict-read _ _ _ (g.met.P.Values.multi_path_is_read c.args.bytes.now _ c.in_ok-proof.proof
+    (read_of _ _ c.in_ok-proof.ensures.exact)) (provided-true _ _ c.in_ok-check_strict.ensures)
 
 pub returns-clause-within : goal.returns-clause-within
 returns-clause-within g c = c.in_ok-proof.ensures.within
@@ -46,13 +42,9 @@ returns-in_err-proof-clause-only g c = λ proof n holds within spelled.
 
 pub returns-in_err-check_strict-clause-only : goal.returns-in_err-check_strict-clause-only
 returns-in_err-check_strict-clause-only g c = λ proof n holds within spelled.
-    let only = c.in_ok-proof.ensures.only _ n within spelled in
-    let leaf = λ (digest : g.P.LeafDigest.Canonical.Value). g.P.LeafDigest.DigestItem.numbers_of
-    (g.P.LeafDigest.Canonical.spelling digest) in
-    let inner = λ (digest : g.P.InnerDigest.Canonical.Value). g.P.InnerDigest.DigestItem.numbers_of
-    (g.P.InnerDigest.Canonical.spelling digest) in
     let same : g.P.Views.multi_way c.in_ok-proof.proof ≡ g.P.Views.multi_way proof =
-    rw g.met.P.Values.multi_path_value_is (ap (multi_way_of leaf inner) only.0) in
+    rw g.met.P.Values.multi_path_value_is
+    (ap (multi_way_of _ _) (c.in_ok-proof.ensures.only _ n within spelled).0) in
     memory_passed _ _ c.from_residual-in_err-check_strict.result c.in_err-check_strict.field-0.0
     c.from_residual-in_err-check_strict.ensures.1 (strict-memory (g.P.Views.multi_way c.in_ok-proof.proof)
     c.in_err-check_strict.field-0.0 (ap is_strict same ∙ holds) c.in_err-check_strict.ensures)
@@ -60,13 +52,7 @@ returns-in_err-check_strict-clause-only g c = λ proof n holds within spelled.
 pub returns-clause-only : goal.returns-clause-only
 returns-clause-only g c = λ proof n holds within spelled.
     let only = c.in_ok-proof.ensures.only _ n within spelled in
-    let leaf = λ (digest : g.P.LeafDigest.Canonical.Value). g.P.LeafDigest.DigestItem.numbers_of
-    (g.P.LeafDigest.Canonical.spelling digest) in
-    let inner = λ (digest : g.P.InnerDigest.Canonical.Value). g.P.InnerDigest.DigestItem.numbers_of
-    (g.P.InnerDigest.Canonical.spelling digest) in
-    let same : g.P.Views.multi_way c.in_ok-proof.proof ≡ g.P.Views.multi_way proof =
-    rw g.met.P.Values.multi_path_value_is (ap (multi_way_of leaf inner) only.0) in
-    (same, only.1)
+    (rw g.met.P.Values.multi_path_value_is (ap (multi_way_of _ _) only.0), only.1)
 
 -- the laws, at each exit
 

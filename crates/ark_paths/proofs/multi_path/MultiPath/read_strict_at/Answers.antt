@@ -1,8 +1,6 @@
-use Rattle.std.proofs.Common.{◌≡◌, ◌∙◌, [], drop, length, map, get_or, inr, sym, refl}
+use Rattle.std.proofs.Common.{◌∙◌, inr, sym, refl}
 use Rattle.ark_base.proofs.Refusals.{passed_on}
-use Rattle.ark_paths.specs.MultiPath.{path_length}
-use Rattle.ark_paths.proofs.Readings.{first-seen}
-use Rattle.ark_paths.proofs.ReceivedProofs.{received-multi-fault, received-multi-unfit, received-multi-fit}
+use Rattle.ark_paths.proofs.ReceivedProofs.{received-multi-fault, received-multi-read}
 use Rattle.ark_paths.proofs.multi_path.MultiPath.read_strict_at.Goals as goal
 
 pub returns-in_err-proof : goal.returns-in_err-proof
@@ -14,28 +12,20 @@ returns-in_err-proof g c =
 
 pub returns-in_err-is_fit_for : goal.returns-in_err-is_fit_for
 returns-in_err-is_fit_for g c =
-    let proof = c.in_ok-proof.proof in
-    let error = c.in_err-is_fit_for.field-0.0 in
-    let above = length (get_or (map (λ row. row.items) proof.auth_paths_suffixes.items) 0 []) in
-    let long : path_length (g.P.Views.multi_way proof) ≡ above =
-    rw g.met.P.Views.multi_way_is (first-seen g.P.InnerDigest.Numbered.numbers proof.auth_paths_suffixes.items) in
-    passed_on _ _ c.from_residual-in_err-is_fit_for.result error c.from_residual-in_err-is_fit_for.ensures.1
-    (inr (rw (c.rest_of.ensures, c.deref.ensures.value, c.deref-2.ensures.value) at (sym c.is_fit_for.ensures
-    ∙ c.in_err-is_fit_for.was)))
-    (received-multi-unfit c.args.size c.args.indexes.now (g.P.Views.multi_path_reading c.args.bytes.now)
-    (sym c.is_tree_size.ensures.test ∙ c.if-not-is_tree_size.false) (g.P.Views.multi_way proof)
-    (drop c.in_ok-proof.used c.args.bytes.now) c.in_ok-proof.ensures.exact above proof.leaf_indexes.items _ long
-    (rw g.met.P.Views.multi_way_is refl) refl error)
+    passed_on _ _ c.from_residual-in_err-is_fit_for.result c.in_err-is_fit_for.field-0.0
+    c.from_residual-in_err-is_fit_for.ensures.1
+    (inr (received-multi-read c.args.size c.args.indexes.now (g.P.Views.multi_path_reading c.args.bytes.now)
+    (sym c.is_tree_size.ensures.test ∙ c.if-not-is_tree_size.false) g.P.LeafDigest.Numbered.numbers
+    g.P.InnerDigest.Numbered.numbers c.in_ok-proof.proof.leaf_siblings_hashes.items
+    c.in_ok-proof.proof.auth_paths_suffixes.items c.in_ok-proof.ensures.exact
+    (λ i. g.met.P.Views.multi_way_is i c.in_ok-proof.proof) refl (sym c.in_err-is_fit_for.was
+    ∙ (rw (c.rest_of.ensures, c.deref.ensures.value, c.deref-2.ensures.value) at c.is_fit_for.ensures)))) (λ is. is)
 
 pub returns : goal.returns
 returns g c =
-    let proof = c.in_ok-proof.proof in
-    let above = length (get_or (map (λ row. row.items) proof.auth_paths_suffixes.items) 0 []) in
-    let long : path_length (g.P.Views.multi_way proof) ≡ above =
-    rw g.met.P.Views.multi_way_is (first-seen g.P.InnerDigest.Numbered.numbers proof.auth_paths_suffixes.items) in
-    received-multi-fit c.args.size c.args.indexes.now (g.P.Views.multi_path_reading c.args.bytes.now)
-    (sym c.is_tree_size.ensures.test ∙ c.if-not-is_tree_size.false) (g.P.Views.multi_way proof)
-    (drop c.in_ok-proof.used c.args.bytes.now) c.in_ok-proof.ensures.exact above proof.leaf_indexes.items _ long
-    (rw g.met.P.Views.multi_way_is refl) refl
-    (rw (c.rest_of.ensures, c.deref.ensures.value, c.deref-2.ensures.value) at (sym c.is_fit_for.ensures
-    ∙ c.in_ok-is_fit_for.was))
+    received-multi-read c.args.size c.args.indexes.now (g.P.Views.multi_path_reading c.args.bytes.now)
+    (sym c.is_tree_size.ensures.test ∙ c.if-not-is_tree_size.false) g.P.LeafDigest.Numbered.numbers
+    g.P.InnerDigest.Numbered.numbers c.in_ok-proof.proof.leaf_siblings_hashes.items
+    c.in_ok-proof.proof.auth_paths_suffixes.items c.in_ok-proof.ensures.exact
+    (λ i. g.met.P.Views.multi_way_is i c.in_ok-proof.proof) refl (sym c.in_ok-is_fit_for.was
+    ∙ (rw (c.rest_of.ensures, c.deref.ensures.value, c.deref-2.ensures.value) at c.is_fit_for.ensures))

@@ -6,11 +6,9 @@ use Rattle.ark_paths.proofs.ReceivedProofs.{received-multi-shows}
 use Rattle.ark_paths.proofs.multi_path.MultiPath.verify_bytes.Goals as goal
 
 pub returns-clause-answer : goal.returns-clause-answer
-returns-clause-answer g c =
-    let hashes = g.P.Views.hashes c.args.leaf_parameters.now c.args.pair_parameters.now in
-    let over = answers_over_list _ (λ item. item.now) hashes.leaf _ _ c.iter.result _ (slice_gives c.iter.result)
-    c.verify.ensures.answer in
-    rw c.in_ok-proof.ensures (rw c.iter.ensures.rest at over)
+returns-clause-answer g c = rw c.in_ok-proof.ensures (rw c.iter.ensures.rest at (answers_over_list _ (λ item. item.now)
+    (g.P.Views.hashes c.args.leaf_parameters.now c.args.pair_parameters.now).leaf _ _ c.iter.result _
+    (slice_gives c.iter.result) c.verify.ensures.answer))
 
 pub returns-clause-bound : goal.returns-clause-bound
 returns-clause-bound g c =

@@ -8,16 +8,19 @@ find-requires-clause-entries g c = λ place entry at. rw (← length-map c.args.
     (c.requires.made.all place entry at).own
 
 pub returns-in-Some-clause-answer : goal.returns-in-Some-clause-answer
-returns-in-Some-clause-answer g c = answer-kept _ _ c.args.place c.args.pair c.requires.made c.in-Some.ensures
+returns-in-Some-clause-answer g c =
+    answer-kept _ _ c.args.leaves.now c.args.place c.args.pair c.requires.made c.in-Some.ensures
 
 pub returns-in-Some-clause-served : goal.returns-in-Some-clause-served
-returns-in-Some-clause-served g c = IsServed-kept _ _ c.args.place c.args.pair c.requires.made c.in-Some.ensures
+returns-in-Some-clause-served g c =
+    IsServed-kept _ _ c.args.leaves.now c.args.place c.args.pair c.requires.made c.in-Some.ensures
 
 pub returns-in_err-digest-clause-answer : goal.returns-in_err-digest-clause-answer
 returns-in_err-digest-clause-answer g c =
     passed_on _ _ c.from_residual.result c.in_err-digest.field-0.0 c.from_residual.ensures.1
     c.in_err-digest.ensures.answer
-    (λ refused. asked-as g.L.Numbered.numbers (g.T.PairHasher.pair c.args.hasher.now).bottom c.args.leaves.now c.args.pair _ c.requires.own c.index-leaves-pair.is c.in_order.ensures refused)
+    (asked-as g.L.Numbered.numbers (g.T.PairHasher.pair c.args.hasher.now).bottom c.args.leaves.now c.args.pair
+    c.requires.own c.index-leaves-pair.is c.in_order.ensures)
 
 pub returns-in_err-digest-clause-most : goal.returns-in_err-digest-clause-most
 returns-in_err-digest-clause-most g c = counted-most _ _ c.bottom.ensures.counts
@@ -30,15 +33,12 @@ returns-clause-most g c = counted-most _ _ c.bottom.ensures.counts
 
 pub returns-clause-answer : goal.returns-clause-answer
 returns-clause-answer g c =
-    answer-anew _ _ c.args.place c.args.pair c.requires.made _
-    (asked-as g.L.Numbered.numbers (g.T.PairHasher.pair c.args.hasher.now).bottom c.args.leaves.now c.args.pair _ c.requires.own c.index-leaves-pair.is c.in_order.ensures c.in_ok-digest.ensures.answer)
-    c.in_ok-number.ensures.made c.in_ok-number.ensures.number
+    answer-anew _ _ c.args.leaves.now c.args.place c.args.pair c.requires.made c.requires.own c.index-leaves-pair.is
+    c.in_order.ensures _ c.in_ok-digest.ensures.answer c.in_ok-number.ensures.made c.in_ok-number.ensures.number
 
 pub returns-clause-served : goal.returns-clause-served
 returns-clause-served g c =
-    IsServed-anew _ _ c.args.place c.args.pair c.requires.made _
-    (asked-as g.L.Numbered.numbers (g.T.PairHasher.pair c.args.hasher.now).bottom c.args.leaves.now c.args.pair _ c.requires.own c.index-leaves-pair.is c.in_order.ensures c.in_ok-digest.ensures.answer)
-    c.in_ok-number.ensures.made c.in_ok-number.ensures.number
-    (Extends-itself _) (rw length-map c.requires.own)
-    c.in_ok-number.ensures.kept c.in_ok-number.ensures.entries c.in_default.ensures
+    IsServed-anew _ _ c.args.leaves.now c.args.place c.args.pair c.requires.made c.requires.own c.index-leaves-pair.is
+    c.in_order.ensures _ c.in_ok-digest.ensures.answer c.in_ok-number.ensures.made c.in_ok-number.ensures.number
+    (Extends-itself _) c.in_ok-number.ensures.kept c.in_ok-number.ensures.entries c.in_default.ensures
     c.bottom.ensures.counts

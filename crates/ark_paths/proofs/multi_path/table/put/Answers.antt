@@ -11,12 +11,5 @@ returns-in_ok-push-clause-items g c = c.in_ok-push.ensures.items ∙ put_at-end 
     c.args.item (omega (arith, c.if-place-len-2.true, c.len-else-place-len.ensures))
 
 pub returns-else-place-len-2-clause-items : goal.returns-else-place-len-2-clause-items
-returns-else-place-len-2-clause-items g c =
-    let other = c.if-place-len-2.false in
-    put_at-past c.args.items.now.items c.args.place c.args.item (omega (
-      arith,
-      other,
-      c.if-place-len.false,
-      c.len.ensures,
-      c.len-else-place-len.ensures,
-    ))
+returns-else-place-len-2-clause-items g c = put_at-past c.args.items.now.items c.args.place c.args.item
+    (omega (arith, c.if-place-len-2.false, c.if-place-len.false, c.len.ensures, c.len-else-place-len.ensures))

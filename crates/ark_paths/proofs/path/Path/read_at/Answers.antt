@@ -1,7 +1,6 @@
-use Rattle.std.proofs.Common.{◌≡◌, ◌∙◌, drop, length, inr, sym, refl, arith}
-use Rattle.std.proofs.lemmas.List.{length-map}
+use Rattle.std.proofs.Common.{◌∙◌, inr, sym, arith}
 use Rattle.ark_base.proofs.Refusals.{passed_on}
-use Rattle.ark_paths.proofs.ReceivedProofs.{refused_alike, received-fault, received-unfit, received-fit}
+use Rattle.ark_paths.proofs.ReceivedProofs.{refused_alike, received-fault, received-read}
 use Rattle.ark_paths.proofs.StrictReadings.{read_of}
 use Rattle.ark_paths.proofs.path.Path.read_at.Goals as goal
 
@@ -16,37 +15,20 @@ returns-in_err-path g c =
 
 pub returns-in_err-is_fit : goal.returns-in_err-is_fit
 returns-in_err-is_fit g c =
-    let path = c.in_ok-path.path in
-    let rest = drop c.in_ok-path.used c.args.bytes.now in
-    let error = c.in_err-is_fit.field-0.0 in
-    let read = g.met.P.Values.path_is_read c.args.bytes.now rest path (read_of _ _ c.in_ok-path.ensures.exact) in
-    let long : length (g.P.Views.way path).above ≡ c.len.result = rw g.met.P.Views.way_is
-    (omega (
-      arith,
-      length-map path.auth_path.items g.P.InnerDigest.Numbered.numbers,
-      path.auth_path.ok.0,
-      c.len.ensures,
-    )) in
-    passed_on _ _ c.from_residual-in_err-is_fit.result error c.from_residual-in_err-is_fit.ensures.1
-    (inr (rw c.rest_of.ensures at (sym c.is_fit.ensures ∙ c.in_err-is_fit.was)))
-    (λ refused. received-unfit c.args.size c.args.index (g.P.Views.path_reading c.args.bytes.now)
-    (sym c.is_tree_size.ensures.test ∙ c.if-not-is_tree_size.false) (g.P.Views.way path) rest read c.len.result
-    path.leaf_index c.is_asked-is_asked.result long (rw g.met.P.Views.way_is refl) c.is_asked-is_asked.ensures
-    error refused)
+    passed_on _ _ c.from_residual-in_err-is_fit.result c.in_err-is_fit.field-0.0
+    c.from_residual-in_err-is_fit.ensures.1
+    (inr (received-read c.args.size c.args.index (g.P.Views.path_reading c.args.bytes.now)
+    (sym c.is_tree_size.ensures.test ∙ c.if-not-is_tree_size.false) g.P.InnerDigest.Numbered.numbers
+    c.in_ok-path.path.auth_path.items
+    (g.met.P.Values.path_is_read c.args.bytes.now _ c.in_ok-path.path (read_of _ _ c.in_ok-path.ensures.exact))
+    (λ i. g.met.P.Views.way_is i c.in_ok-path.path) (omega (arith, c.in_ok-path.path.auth_path.ok.0, c.len.ensures))
+    c.is_asked-is_asked.ensures (sym c.in_err-is_fit.was ∙ (rw c.rest_of.ensures at c.is_fit.ensures)))) (λ is. is)
 
 pub returns : goal.returns
 returns g c =
-    let path = c.in_ok-path.path in
-    let rest = drop c.in_ok-path.used c.args.bytes.now in
-    let read = g.met.P.Values.path_is_read c.args.bytes.now rest path (read_of _ _ c.in_ok-path.ensures.exact) in
-    let long : length (g.P.Views.way path).above ≡ c.len.result = rw g.met.P.Views.way_is
-    (omega (
-      arith,
-      length-map path.auth_path.items g.P.InnerDigest.Numbered.numbers,
-      path.auth_path.ok.0,
-      c.len.ensures,
-    )) in
-    received-fit c.args.size c.args.index (g.P.Views.path_reading c.args.bytes.now) (sym c.is_tree_size.ensures.test
-    ∙ c.if-not-is_tree_size.false) (g.P.Views.way path) rest read c.len.result path.leaf_index
-    c.is_asked-is_asked.result long (rw g.met.P.Views.way_is refl) c.is_asked-is_asked.ensures
-    (rw c.rest_of.ensures at (sym c.is_fit.ensures ∙ c.in_ok-is_fit.was))
+    received-read c.args.size c.args.index (g.P.Views.path_reading c.args.bytes.now)
+    (sym c.is_tree_size.ensures.test ∙ c.if-not-is_tree_size.false) g.P.InnerDigest.Numbered.numbers
+    c.in_ok-path.path.auth_path.items
+    (g.met.P.Values.path_is_read c.args.bytes.now _ c.in_ok-path.path (read_of _ _ c.in_ok-path.ensures.exact))
+    (λ i. g.met.P.Views.way_is i c.in_ok-path.path) (omega (arith, c.in_ok-path.path.auth_path.ok.0, c.len.ensures))
+    c.is_asked-is_asked.ensures (sym c.in_ok-is_fit.was ∙ (rw c.rest_of.ensures at c.is_fit.ensures))
