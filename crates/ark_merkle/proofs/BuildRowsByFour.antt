@@ -11,6 +11,9 @@ use Rattle.ark_paths.proofs.Fours.{four-more, four-refused}
 use Rattle.ark_paths.proofs.Readings.{digest_read}
 use Rattle.ark_merkle.proofs.BuildRows.{IsPiled, piled, is_piled-more, is_piled-refused, rows-refused, couple_read}
 
+pub next_four : (f : ℕ) → 4 * f + 4 ≡ 4 * (f + 1)
+next_four f = omega arith
+
 module _ (hash : Digest → Digest → Outcome Digest) where
   -- the hash of a couple in a list
   abbrev pub couple_hash : List Digest → ℕ → Outcome Digest
@@ -173,10 +176,6 @@ module _ {A Z : Type 0} (hash : Digest → Digest → Outcome Digest) (numbers :
         ap length more,
         length-append (map numbers now.items) (numbers p ∷ numbers q ∷ numbers r ∷ numbers s ∷ []),
       ),
-      subst (λ (n : ℕ). IsPiled hash (digests_of numbers first) n (map numbers after.items)) next
-          (rw more (is_piled-four hash (digests_of numbers first) (4 * f) (digests_of numbers now) so.1 few_fours
-          inside_fours (numbers p) (numbers q) (numbers r) (numbers s) (read_fours ∙ hashed))),
+      rw (more, ← next_four f) (is_piled-four hash (digests_of numbers first) (4 * f) (digests_of numbers now) so.1
+          few_fours inside_fours _ _ _ _ (read_fours ∙ hashed)),
     )
-      where
-        next : 4 * f + 4 ≡ 4 * (f + 1)
-        next = omega arith

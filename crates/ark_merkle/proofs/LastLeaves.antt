@@ -11,12 +11,11 @@ use Rattle.std.specs.Prelude.{IfOk, OnErr}
 use Rattle.std.proofs.Math.Logic.{⊎_map}
 use Rattle.ark_base.specs.declared.error.Error.{Error}
 use Rattle.ark_base.specs.Outcome.{Outcome, AnswersBy}
-use Rattle.ark_paths.specs.Pair.{Digest, HashPair, Hashes}
+use Rattle.ark_paths.specs.Pair.{Digest, Hashes}
 use Rattle.ark_paths.specs.Root.{leaves_with_root}
-use Rattle.ark_paths.specs.Tree.{Tree, HashedTree, tree_with, with_hashes}
+use Rattle.ark_paths.specs.Tree.{HashedTree, tree_with, with_hashes}
 use Rattle.ark_paths.proofs.OwnPaths.{place-above}
-use Rattle.ark_merkle.proofs.TreeReads.{seen_by}
-use Rattle.ark_merkle.specs.Batch.{with_change, last_changes, hashed_changes, puts, with_leaves}
+use Rattle.ark_merkle.specs.Batch.{with_change, last_changes, hashed_changes, puts, with_leaves, with_each_leaf}
 use Rattle.ark_paths.specs.Above.{count_above}
 use Rattle.ark_merkle.specs.Changed.{seen_changes, AreChanges, Rise, count_over}
 use Rattle.ark_paths.specs.Rising.{with_number, rising_set}
@@ -237,22 +236,19 @@ batch-answered {A = A} {B = B} hashes leaves cs hs hashed made result answers =
     (leaves_with_root hashes.pair (puts leaves hs)) (with_leaves (tree_with hashes leaves) cs) result answers
     (λ a ok. batch ∙ ap (with_hashes hashes) ok) (λ e bad. batch ∙ ap (with_hashes hashes) bad)
 
--- The batch of a tree, as contracts see it, is that of its fields.
-pub batch-seen : {L T A B : Type 0} (meaning : L → A → Outcome Digest) (pair : T → HashPair) (view now : Tree L T)
-    → view ≡ now → (own : Hashes A) → own ≡ (seen_by meaning pair view).hashes → (cs : List (ℕ × A))
-    (made new : List Digest) (result : Outcome B)
-    → AnswersBy (λ _. tree_with own made) (with_leaves (tree_with own view.leaves) cs) result → made ≡ new
-    → AnswersBy (λ _. tree_with (seen_by meaning pair view).hashes new) (with_leaves (seen_by meaning pair now) cs)
-    result
-batch-seen {A = A} {B = B} meaning pair view now same own is cs made new result answers items =
-    let seen = (seen_by meaning pair view).hashes in
-    subst (λ t. AnswersBy {A = B} (λ _. tree_with seen new) (with_leaves (seen_by meaning pair t) cs) result) same
-    (subst (λ (ds : List Digest). AnswersBy {A = B} (λ _. tree_with seen ds)
-    (with_leaves (seen_by meaning pair view) cs)
-    result) items
-    (subst (λ (h : Hashes A). AnswersBy {A = B} (λ _. tree_with h made) (with_leaves (tree_with h view.leaves)
-    cs) result)
-    is answers))
+-- Equal hashes make equal batches.
+pub batch-of : {A B : Type 0} {own hashes : Hashes A} → own ≡ hashes → (leaves made : List Digest) (cs : List (ℕ × A))
+    (result : Outcome B)
+    → AnswersBy (λ _. tree_with own made) (with_leaves (tree_with own leaves) cs) result
+    → AnswersBy (λ _. tree_with hashes made) (with_leaves (tree_with hashes leaves) cs) result
+batch-of same leaves made cs result answers = rw (← same) answers
+
+pub each-of : {A : Type 0} {own hashes : Hashes A} → own ≡ hashes → (leaves : List Digest) (cs : List (ℕ × A))
+    → ((made : _) → with_each_leaf (tree_with own leaves) cs ≡ Ok made
+    → with_leaves (tree_with own leaves) cs ≡ Ok made)
+    → (made : _) → with_each_leaf (tree_with hashes leaves) cs ≡ Ok made
+    → with_leaves (tree_with hashes leaves) cs ≡ Ok made
+each-of same leaves cs one_by_one = rw (← same) one_by_one
 
 -- The count of a batch is that of the places above the changed indexes.
 pub batch-counted : {A B : Type 0} (hash : A → Outcome Digest) (view : B → Digest) (rows : ℕ) (cs : List (ℕ × A))

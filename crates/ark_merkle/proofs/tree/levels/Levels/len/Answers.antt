@@ -6,7 +6,6 @@ pub returns : goal.returns
 returns g c =
     let digests = c.self.inside.digests in
     record {
-      count = length-seen g.D.Numbered.numbers digests c.self.inside.count c.args.self.now c.self.view_is
-          c.self.invariant;
-      most = count-fits c.self.inside.count (length digests.items) c.self.invariant (omega (arith, digests.ok.0));
+      count = length-seen g.D.Numbered.numbers digests _ _ c.self.view_is c.self.invariant;
+      most = count-fits _ (length digests.items) c.self.invariant (omega (arith, digests.ok.0));
     }
