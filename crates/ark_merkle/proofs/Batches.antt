@@ -168,31 +168,11 @@ module _ {A : Type 0} (hash : A → Outcome Digest) where
   hashed-placed c d (e ∷ cs) hs is all =
       let f = hashed-cons e cs hs all in
       elim (trichotomy c.0 e.0) [
-        | inl lt ↦ rw (
-          placed_change-below c e cs lt,
-          ← f.whole,
-          placed_change-below (c.0, d) (e.0, f.digest) f.others
-              lt,
-          is,
-          f.digest_is,
-          f.others_are,
-        ) refl
-        | inr (inl same) ↦ rw (
-          placed_change-same c e cs same,
-          ← f.whole,
-          placed_change-same (c.0, d) (e.0, f.digest)
-              f.others same,
-          f.digest_is,
-          f.others_are,
-        ) refl
-        | inr (inr gt) ↦ rw (
-          placed_change-past c e cs gt,
-          ← f.whole,
-          placed_change-past (c.0, d) (e.0, f.digest)
-              f.others gt,
-          f.digest_is,
-          hashed-placed c d cs f.others is f.others_are,
-        ) refl
+        | inl lt ↦ rw (placed_change-below, ← f.whole, placed_change-below, is, f.digest_is, f.others_are) refl
+        | inr (inl same) ↦ rw (placed_change-same, ← f.whole, placed_change-same, f.digest_is, f.others_are) refl
+        | inr (inr gt) ↦
+            let rest = hashed-placed c d cs f.others is f.others_are in
+            rw (placed_change-past, ← f.whole, placed_change-past, f.digest_is, rest) refl
       ]
 
   hashed-last : (cs : List (ℕ × A)) (hs : List (ℕ × Digest)) → hashed_changes hash cs ≡ Ok hs → hashed_changes hash

@@ -56,10 +56,9 @@ module _ (n row : ℕ) (digests : List Digest) (long : length digests + 1 ≡ 2 
 rows_in_order-past : (n i : ℕ) (digests : List Digest) (digest : Digest) → 2 ^ n - 1 ≤ i → rows_in_order n
     (set digests i digest) ≡ rows_in_order n digests
 rows_in_order-past zero i digests digest past = refl
-rows_in_order-past (suc n) i digests digest past = rw (
-  part-set_past (2 ^ n) (2 ^ n - 1) i digests digest (omega (arith, pow_pos n)),
-  rows_in_order-past n i digests digest (omega arith),
-) refl
+rows_in_order-past (suc n) i digests digest past =
+    let own = part-set_past (2 ^ n) (2 ^ n - 1) i digests digest (omega (arith, pow_pos n)) in
+    rw (own, rows_in_order-past n i digests digest (omega arith)) refl
 
 rows_in_order-set : (n row k place : ℕ) (digests : List Digest) (digest : Digest) → row + suc k ≡ n → place < 2 ^ k
     → rows_in_order n (set digests (2 ^ k - 1 + place) digest)
@@ -67,17 +66,12 @@ rows_in_order-set : (n row k place : ℕ) (digests : List Digest) (digest : Dige
 rows_in_order-set zero row k place digests digest at inside = absurd (omega arith)
 rows_in_order-set (suc n) zero k place digests digest at inside =
     let e : n ≡ k = omega arith in
-    rw (
-      e,
-      drop-set-add (2 ^ k - 1) digests place digest,
-      take-set-lt (2 ^ k) (drop (2 ^ k - 1) digests) place digest inside,
-      rows_in_order-past k (2 ^ k - 1 + place) digests digest (omega arith),
-    ) refl
-rows_in_order-set (suc n) (suc row) k place digests digest at inside = rw (
-  drop-set-lt (2 ^ n - 1) digests (2 ^ k - 1 + place) digest
-      (omega (arith, level-inside n k (omega arith), pow_pos k)),
-  rows_in_order-set n row k place digests digest (omega arith) inside,
-) refl
+    let others = rows_in_order-past k (2 ^ k - 1 + place) digests digest (omega arith) in
+    rw (e, drop-set-add, take-set-lt (2 ^ k) (drop (2 ^ k - 1) digests) place digest inside, others) refl
+rows_in_order-set (suc n) (suc row) k place digests digest at inside =
+    let room = level-inside n k (omega arith) in
+    let own = drop-set-lt (2 ^ n - 1) digests (2 ^ k - 1 + place) digest (omega (arith, pow_pos k)) in
+    rw (own, rows_in_order-set n row k place digests digest (omega arith) inside) refl
 
 -- ---- as a list of digests is read and written
 
@@ -117,23 +111,19 @@ module _ {A Z : Type 0} (numbers : A → Digest) (digests : Vec A Z) (count : �
 
       module _ (at : ℕ) (at_is : at ≡ 2 ^ (count - 1 - row) - 1 + place) where
         inside : at < length digests.items
-        inside = omega (
-          arith,
-          position-inside count row (digests_of numbers digests) long_seen row-below place place-below,
-          length-map digests.items numbers,
-        )
+        inside =
+            let seen_inside = position-inside count row (digests_of numbers digests) long_seen row-below place
+            place-below in
+            omega (arith, length-map digests.items numbers)
 
         pub at-inside : at < digests.len
         at-inside = omega (arith, digests.ok.0, inside)
 
         pub at-read : (digest : A) → digest ≡ get_or digests.items at digest → numbers digest
             ≡ get_or (get_or rows row []) place []
-        at-read digest is = rw (
-          ← seen,
-          digest-in_order count row (digests_of numbers digests) long_seen row-below place
-              place-below,
-          ← at_is,
-        ) (sym (digest_read numbers digests at digest inside is))
+        at-read digest is =
+            let own = digest-in_order count row (digests_of numbers digests) long_seen row-below place place-below in
+            rw (← seen, own, ← at_is) (sym (digest_read numbers digests at digest inside is))
 
         pub at-written : (digest : A) → rows_in_order count (digests_of numbers (with_item digests at digest))
             ≡ set rows row (set (get_or rows row []) place (numbers digest))
@@ -147,12 +137,10 @@ module _ {A Z : Type 0} (numbers : A → Digest) (digests : Vec A Z) (count : �
       some_first = omega (arith, pow_pos (count - 1 - row))
 
       pub row-ends : first + (first + 1) ≤ length digests.items
-      row-ends = omega (
-        arith,
-        position-inside count row (digests_of numbers digests) long_seen row-below first (omega (arith, some_first)),
-        some_first,
-        length-map digests.items numbers,
-      )
+      row-ends =
+          let end = position-inside count row (digests_of numbers digests) long_seen row-below first
+          (omega (arith, some_first)) in
+          omega (arith, some_first, length-map digests.items numbers)
 
       pub row-read : (given part : List A) → given ≡ digests.items → part ≡ take (first + 1) (drop first given)
           → map numbers part ≡ get_or rows row []
@@ -185,11 +173,11 @@ length-highest_row_first (suc n) digests long =
 rows_in_order-append : (n : ℕ) (digests more : List Digest) → 2 ^ n ≤ length digests + 1 → rows_in_order n
     (digests ++ more) ≡ rows_in_order n digests
 rows_in_order-append zero digests more long = refl
-rows_in_order-append (suc n) digests more long = rw (
-  drop-append-le (2 ^ n - 1) digests more (omega (arith, pow_pos n)),
-  take-append-le (2 ^ n) (drop (2 ^ n - 1) digests) more (omega (arith, length-drop (2 ^ n - 1) digests, pow_pos n)),
-  rows_in_order-append n digests more (omega arith),
-) refl
+rows_in_order-append (suc n) digests more long =
+    let behind = drop-append-le (2 ^ n - 1) digests more (omega (arith, pow_pos n)) in
+    let own = take-append-le (2 ^ n) (drop (2 ^ n - 1) digests) more
+    (omega (arith, length-drop (2 ^ n - 1) digests, pow_pos n)) in
+    rw (behind, own, rows_in_order-append n digests more (omega arith)) refl
 
 rows-highest_row_first : (n : ℕ) (digests : List Digest) → length digests + 1 ≡ 2 ^ n → rows_in_order n
     (highest_row_first n digests) ≡ rows_in_turn n digests
@@ -229,15 +217,9 @@ part-turned : {A : Type 0} (high own low now row : List A) (m w : ℕ) → lengt
 part-turned high own low now row m w tall wide is row_is =
     let back = reverse own in
     let size : length back ≡ w = length-reverse own ∙ wide in
-    rw (
-      row_is,
-      is,
-      take_at high (back ++ reverse low) m tall,
-      drop_at high (back ++ reverse low) m tall,
-      take_at back (reverse low) w size,
-      drop_at back (reverse low) w size,
-      reverse-reverse own,
-    ) (sym (append_assoc high own (reverse low)))
+    let behind = drop_at high (back ++ reverse low) m tall in
+    rw (row_is, is, behind, take_at high (back ++ reverse low) m tall, take_at back (reverse low) w size)
+    (rw (drop_at back (reverse low) w size, reverse-reverse own) (sym (append_assoc high own (reverse low))))
 
 -- one row is turned back
 pub turned-more : {A : Type 0} (digests now : List A) (level count : ℕ) → length digests + 1 ≡ 2 ^ count → level < count
@@ -269,8 +251,7 @@ pub rows-put : {A Z : Type 0} (numbers : A → Digest) (count : ℕ) (digests : 
 rows-put numbers count digests given made same is long =
     let made_is : made ≡ highest_row_first count digests.items = is ∙ ap (highest_row_first count) same in
     let size = ap length made_is ∙ length-highest_row_first count digests.items long in
-    let items = with_items_is digests made (size ∙ sym digests.ok.0) in (
-      rw (items, made_is, map-highest_row_first numbers count digests.items) (rows-highest_row_first count
-          (map numbers digests.items) (omega (arith, length-map digests.items numbers))),
-      rw items (omega arith),
-    )
+    let items = with_items_is digests made (size ∙ sym digests.ok.0) in
+    let put = rows-highest_row_first count (map numbers digests.items)
+    (omega (arith, length-map digests.items numbers)) in
+    (rw (items, made_is, map-highest_row_first numbers count digests.items) put, rw items (omega arith))

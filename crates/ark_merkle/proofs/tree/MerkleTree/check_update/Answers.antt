@@ -16,12 +16,8 @@ agrees g c =
 
 pub overflow_sub-len : goal.overflow_sub-len
 overflow_sub-len g c =
-    omega (
-      arith,
-      c.in_ok-digest.ensures.way.whole,
-      length-map c.in_ok-digest.on_way.items
-          g.P.InnerDigest.Numbered.numbers,
-    )
+    let long = length-map c.in_ok-digest.on_way.items g.P.InnerDigest.Numbered.numbers in
+    omega (arith, c.in_ok-digest.ensures.way.whole)
 
 pub index-requires : goal.index-requires
 index-requires g c = omega (arith, overflow_sub-len g c, c.len.ensures)

@@ -1,4 +1,4 @@
-use Rattle.std.proofs.Common.{arith, refl}
+use Rattle.std.proofs.Common.{sym, ◌∙◌, arith, refl}
 use Rattle.std.proofs.lemmas.List.{length-map, map-set}
 use Rattle.ark_merkle.proofs.TreeChanges.{is_tree-put}
 use Rattle.ark_merkle.proofs.TreeReads.{holds-index}
@@ -12,12 +12,8 @@ put_way-requires g c =
       holds = holds-index _ _ _ c.self.invariant c.args.index
           (omega (arith, length-map leaves.items g.P.LeafDigest.Numbered.numbers, leaves.ok.0))
           (rw (← c.self.view_is) at c.requires.index);
-      count = omega (
-        arith,
-        changes.whole,
-        c.self.invariant.count,
-        length-map c.args.way.items g.P.InnerDigest.Numbered.numbers,
-      );
+      count = sym (length-map c.args.way.items g.P.InnerDigest.Numbered.numbers) ∙ changes.whole
+          ∙ sym c.self.invariant.count;
     }
 
 pub invariant_of-self : goal.invariant_of-self
@@ -29,9 +25,5 @@ invariant_of-self g c =
 
 pub returns : goal.returns
 returns g c =
-    rw (
-      g.met.P.Views.tree_is,
-      map-set g.P.LeafDigest.Numbered.numbers c.self.inside.leaves.items c.args.index
-          c.args.digest,
-      ← c.self.view_is,
-    ) refl
+    let leaves = map-set g.P.LeafDigest.Numbered.numbers c.self.inside.leaves.items c.args.index c.args.digest in
+    rw (g.met.P.Views.tree_is, leaves, ← c.self.view_is) refl

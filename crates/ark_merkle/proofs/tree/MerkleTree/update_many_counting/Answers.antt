@@ -19,11 +19,8 @@ update_leaves-requires-clause-changes g c =
 
 pub update_leaves-requires-clause-tree : goal.update_leaves-requires-clause-tree
 update_leaves-requires-clause-tree g c =
-    rw (
-      c.deref_mut.ensures.value,
-      ap (λ (h : Hashes _). h.pair) c.new-hasher.ensures,
-      g.met.P.Views.hashes_are,
-    ) c.self.invariant
+    let pairs = ap (λ (h : Hashes _). h.pair) (rw g.met.P.Views.hashes_are at c.new-hasher.ensures) in
+    rw (c.deref_mut.ensures.value, pairs) c.self.invariant
 
 pub invariant_of-self : goal.invariant_of-self
 invariant_of-self g c =

@@ -22,13 +22,8 @@ exchange-requires g c =
 
 pub loop-level-preserved : goal.loop-level-preserved
 loop-level-preserved g c =
-    let here : c.loop-level.level < length c.loop-level.way.items = omega (
-      arith,
-      c.loop-level.invariant.long,
-      length-map c.loop-level.way.items g.D.Numbered.numbers,
-      length-map c.args.way.items g.D.Numbered.numbers,
-      c.args.way.ok.0,
-    ) in
+    let long = rw (length-map, length-map) at c.loop-level.invariant.long in
+    let here : c.loop-level.level < length c.loop-level.way.items = omega (arith, c.args.way.ok.0) in
     let read = digest_read g.D.Numbered.numbers c.loop-level.way c.loop-level.level c.index_mut.result.now here
     c.index_mut.ensures.value in
     rw (c.exchange.ensures, map-set) (are_put-more _ _ _ _ _ _ c.loop-level.invariant _ _
