@@ -1,6 +1,6 @@
 -- A leaf digest is changed: what the places on its way become.
 use Rattle.std.proofs.Common.{zero, suc, ◌≡◌, ◌≢◌, ℕ, ◌+◌, ◌-◌, ◌*◌, ◌/◌, ◌<◌, ◌^◌, Bool, true, false, if◌then◌else◌, List, [], ◌∷◌, ◌++◌, length, take, get_or, set, Ok, Err, arith, refl, ap, sym, subst, ◌∙◌, inl, inr}
-use Rattle.std.proofs.lemmas.Bool.{cases_lt}
+use Rattle.std.proofs.lemmas.Bool.{cases_lt, cases_eq}
 use Rattle.std.proofs.lemmas.List.{length-set, length-append, get_or_append_left, get_or-set_same, get_or-set_other, drop-set-lt}
 use Rattle.std.proofs.Math.Seq.{get_or-append_seam}
 use Rattle.std.proofs.Math.Nat.{div-eq_of_lt-le}
@@ -14,7 +14,6 @@ use Rattle.ark_paths.proofs.Parts.{part-left, part-right, get_or-part, part-whol
 use Rattle.ark_paths.proofs.PlaceLemmas.{row-twice, place-inside, neighbour-inside}
 use Rattle.ark_merkle.specs.Update.{AreOnWay}
 use Rattle.ark_merkle.proofs.ListParts.{part-set_past}
-use Rattle.ark_merkle.proofs.Reached.{cases_eq}
 
 -- a part that does not hold the index is as before
 pub part-set_other : (k q index : ℕ) (digests : List Digest) (digest : Digest) → q ≢ index / 2 ^ suc k
@@ -119,10 +118,8 @@ module _ (h : HashPair) (leaves : List Digest) (rows : List (List Digest)) (tree
 
   pub root-own : root h new ≡ outcome_of (place h (upper_levels leaves) (own (upper_levels leaves)))
   root-own =
-      let m = upper_levels leaves in
-      let long : length new ≡ 2 ^ suc m = length-set leaves index digest ∙ tree.size in
-      ap (λ (k : ℕ). outcome_of (place h k new)) same_levels ∙ ap (λ (ds : List Digest). outcome_of (place h m ds))
-      (sym (rw (first_place h leaves rows tree index inside) (part-whole m new long)))
+      let whole = part-whole (upper_levels leaves) new (length-set leaves index digest ∙ tree.size) in
+      rw (same_levels, first_place h leaves rows tree index inside, whole) refl
 
   -- a refusal on the way is that of the whole
   pub root-refused : (k l : ℕ) (e : Error) → k < length rows → place h k (own k) ≡ Refused l e → root h new ≡ Err e

@@ -10,10 +10,7 @@ use Rattle.ark_merkle.proofs.Batches.{AreHashedSoFar, hashed_so_far-more, hashed
 
 four-behind : {A : Type 0} (done : List A) (a b c d : A) → (((done ++ a ∷ []) ++ b ∷ []) ++ c ∷ []) ++ d ∷ []
     ≡ done ++ a ∷ b ∷ c ∷ d ∷ []
-four-behind done a b c d =
-    append_assoc ((done ++ a ∷ []) ++ b ∷ []) (c ∷ []) (d ∷ []) ∙ append_assoc (done ++ a ∷ []) (b ∷ [])
-    (c ∷ d ∷ [])
-    ∙ append_assoc done (a ∷ []) (b ∷ c ∷ d ∷ [])
+four-behind done a b c d = simp append_assoc
 
 -- The first four of the changes that are left, after those that are hashed.
 module _ {A : Type 0} (hash : A → Outcome Digest) (cs : List (ℕ × A)) (done : List (ℕ × Digest)) (a b c d : ℕ × A)

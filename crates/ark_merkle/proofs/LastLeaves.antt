@@ -15,6 +15,7 @@ use Rattle.ark_paths.specs.Pair.{Digest, Hashes}
 use Rattle.ark_paths.specs.Root.{leaves_with_root}
 use Rattle.ark_paths.specs.Tree.{HashedTree, tree_with, with_hashes}
 use Rattle.ark_paths.proofs.OwnPaths.{place-above}
+use Rattle.ark_merkle.proofs.ListParts.{map-twice}
 use Rattle.ark_merkle.specs.Batch.{with_change, last_changes, hashed_changes, puts, with_leaves, with_each_leaf}
 use Rattle.ark_paths.specs.Above.{count_above}
 use Rattle.ark_merkle.specs.Changed.{seen_changes, AreChanges, Rise, count_over}
@@ -85,18 +86,9 @@ last-places (c ∷ cs) = places-placed c (last_changes cs) ∙ ap (with_number c
 -- ---- a map of changes
 
 module _ {A B : Type 0} (view : A → B) (k : ℕ) (x : A) where
-  test_below : (n : ℕ) → k < n → is_at (nat_cmp k) n ≡ false
-  test_below n lt = rw (← nat_cmp_is k n Less lt) refl
-
-  test_same : (n : ℕ) → k ≡ n → is_at (nat_cmp k) n ≡ true
-  test_same n same = rw (← nat_cmp_is k n Equal same) refl
-
-  test_past : (n : ℕ) → n < k → is_at (nat_cmp k) n ≡ false
-  test_past n gt = rw (← nat_cmp_is k n Greater gt) refl
-
   found_none : (es : List (ℕ × A)) → Rise (suc k) es → is_some (lookup (is_at (nat_cmp k)) es) ≡ false
   found_none [] so = refl
-  found_none (e ∷ es) so = rw (test_below e.0 (so.0)) (found_none es (rise-later (suc k) (suc e.0) es
+  found_none (e ∷ es) so = rw (← nat_cmp_is k e.0 Less so.0) (found_none es (rise-later (suc k) (suc e.0) es
       (omega (arith, so.0)) so.1))
 
   -- a change of an index that is there is not entered
@@ -105,11 +97,12 @@ module _ {A B : Type 0} (view : A → B) (k : ℕ) (x : A) where
   entered-again first [] so found = absurd cc
   entered-again first (e ∷ es) so found =
       elim (trichotomy k e.0) [
-        | inl lt ↦ absurd (no_both (rw (test_below e.0 lt) at found) (found_none es (rise-later (suc k) (suc e.0) es
-            (omega arith) so.1)))
+        | inl lt ↦ absurd (no_both (rw (← nat_cmp_is k e.0 Less lt) at found) (found_none es (rise-later (suc k)
+            (suc e.0) es (omega arith) so.1)))
         | inr (inl same) ↦ sym (placed_change-same (k, view x) (e.0, view e.1) (seen_changes view es) same)
-        | inr (inr gt) ↦ ap (λ cs. (e.0, view e.1) ∷ cs) (entered-again (suc e.0) es so.1 (rw (test_past e.0 gt) at
-            found)) ∙ sym (placed_change-past (k, view x) (e.0, view e.1) (seen_changes view es) gt)
+        | inr (inr gt) ↦ ap (λ cs. (e.0, view e.1) ∷ cs) (entered-again (suc e.0) es so.1
+            (rw (← nat_cmp_is k e.0 Greater gt) at found))
+            ∙ sym (placed_change-past (k, view x) (e.0, view e.1) (seen_changes view es) gt)
       ]
 
   -- another one is
@@ -120,10 +113,10 @@ module _ {A B : Type 0} (view : A → B) (k : ℕ) (x : A) where
       elim (trichotomy k e.0) [
         | inl lt ↦ rw (← nat_cmp_is k e.0 Less lt) (sym (placed_change-below (k, view x) (e.0, view e.1)
             (seen_changes view es) lt))
-        | inr (inl same) ↦ absurd (no_both (rw (test_same e.0 same) refl) none)
+        | inr (inl same) ↦ absurd (no_both (rw (← nat_cmp_is k e.0 Equal same) refl) none)
         | inr (inr gt) ↦ rw (← nat_cmp_is k e.0 Greater gt) (ap (λ cs. (e.0, view e.1) ∷ cs)
-            (entered-new es (rw (test_past e.0 gt) at none)) ∙ sym (placed_change-past (k, view x) (e.0, view e.1)
-            (seen_changes view es) gt))
+            (entered-new es (rw (← nat_cmp_is k e.0 Greater gt) at none))
+            ∙ sym (placed_change-past (k, view x) (e.0, view e.1) (seen_changes view es) gt))
       ]
 
 -- ---- changes of a tree's leaves
@@ -157,11 +150,6 @@ Contains-mapped f xs m c =
       sym (get_or-map f xs c.0 m m below)
           ∙ c.2,
     )
-
-map-twice : (f g h : ℕ → ℕ) (xs : List ℕ) → ((n : ℕ) → g (f n) ≡ h n) → map g (map f xs) ≡ map h xs
-map-twice f g h [] same = refl
-map-twice f g h (x ∷ xs) same = ap (λ (ns : List ℕ). g (f x) ∷ ns) (map-twice f g h xs same)
-    ∙ ap (λ (n : ℕ). n ∷ map h xs) (same x)
 
 rising-mapped : (f : ℕ → ℕ) (xs : List ℕ) → rising_set (map f (rising_set xs)) ≡ rising_set (map f xs)
 rising-mapped f xs =

@@ -1,6 +1,7 @@
 -- What the ways of two indexes have in common, row by row.
 use Rattle.std.proofs.Common.{◌≡◌, ℕ, suc, ◌+◌, ◌-◌, ◌/◌, ◌<◌, ◌≤◌, ◌^◌, Bool, true, false, List, [], ◌∷◌, ◌++◌, length, map, take, drop, get_or, refl, ap, sym, ◌∙◌, add-one, arith}
 use Rattle.std.specs.Bool.{Decides}
+use Rattle.std.specs.Prelude.{◌↔◌}
 use Rattle.std.proofs.lemmas.List.{map-append, take_more}
 use Rattle.std.proofs.lemmas.Slice.Eq.{bytes_eq-Decides}
 use Rattle.ark_paths.specs.Index.{neighbour}
@@ -52,11 +53,9 @@ module _ (rows : List (List Digest)) (before index k n above : ℕ) (level : k +
       so ∙ rw (here, step) (omega arith)
 
 pub common-le : (rows : List (List Digest)) (k before index : ℕ) → common rows k before index ≤ k
-common-le rows k before index = omega (
-  arith,
-  shared-le (beside_in rows k before) (beside_in rows k index),
-  length-beside_in rows k index,
-)
+common-le rows k before index =
+    let most = shared-le (beside_in rows k before) (beside_in rows k index) in
+    omega (arith, length-beside_in rows k index)
 
 -- ---- one index more
 
@@ -112,3 +111,13 @@ module _ (rows : List (List Digest)) (k index : ℕ) (holds : HoldsIndex rows in
 
     pub beside-read : (digest : Digest) → digest ≡ get_or (get_or rows k []) place [] → beside_at rows k index ≡ digest
     beside-read digest found = rw (← rw add-one at at) (sym found)
+
+-- two digests that are read beside two ways are the same exactly where those beside the ways are
+pub beside-alike : (rows : List (List Digest)) (k before index : ℕ) → HoldsIndex rows before → HoldsIndex rows index
+    → k + 1 < length rows → {there here : ℕ} → there ≡ neighbour (before / 2 ^ (k + 1))
+    → here ≡ neighbour (index / 2 ^ (k + 1)) → {x y : Digest} → x ≡ get_or (get_or rows k []) there []
+    → y ≡ get_or (get_or rows k []) here [] → (x ≡ y) ↔ (beside_at rows k before ≡ beside_at rows k index)
+beside-alike rows k before index held holds below at_there at_here x_is y_is =
+    let there = beside-read rows k before held below _ at_there _ x_is in
+    let here = beside-read rows k index holds below _ at_here _ y_is in
+    (λ same. there ∙ same ∙ sym here, λ same. sym there ∙ same ∙ here)

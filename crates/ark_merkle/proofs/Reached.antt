@@ -1,6 +1,6 @@
 -- The couples that changed digests of a row reach, and what they change in the row above.
 use Rattle.std.proofs.Common.{suc, ◌≡◌, ◌≢◌, ◌⊎◌, ℕ, ◌+◌, ◌-◌, ◌*◌, ◌/◌, ◌%◌, ◌<◌, ◌≤◌, ◌^◌, true, false, cond, eqb, List, [], ◌∷◌, length, map, drop, get_or, set, Ok, Err, inl, inr, refl, ap, sym, ◌∙◌, arith}
-use Rattle.std.proofs.lemmas.Bool.{cases_lt, eq-eqb, ne_eqb}
+use Rattle.std.proofs.lemmas.Bool.{cases_lt, cases_eq, eq-eqb, ne_eqb}
 use Rattle.std.proofs.lemmas.List.{get_or-map, drop_more, drop_all}
 use Rattle.ark_base.specs.Outcome.{Outcome, ◌>>=◌}
 use Rattle.ark_base.specs.Laws.Steps.{done_injective}
@@ -58,13 +58,6 @@ puts-merged end row (c ∷ cs) so =
     ∙ sym (merged-put 0 end row c cs so ∙ rw none refl)
 
 -- ---- the couples that are reached
-
-pub cases_eq : (a b : ℕ) → (a ≡ b) ⊎ (a ≢ b)
-cases_eq a b = elim (cases_lt a b) [
-  | inl lt ↦ inr (λ same. absurd (omega arith))
-  | inr ge ↦ elim (cases_lt b a)
-      [ inl gt ↦ inr (λ same. absurd (omega arith)) | inr le ↦ inl (omega arith) ]
-]
 
 pub apart_halves : (a b : ℕ) → a < b → a / 2 ≢ b / 2 → suc (a / 2) ≤ b / 2
 apart_halves a b lt other = elim (cases_lt (a / 2) (b / 2)) [ inl less ↦ less | inr ge ↦ absurd (other (omega arith)) ]

@@ -35,9 +35,8 @@ returns g c =
     c.deref.ensures.value _ _ _ _ c.deref-2.ensures.value (done_injective _ _ c.in_ok-leaf_siblings_hashes.ensures)
     (done_injective _ _ c.in_ok-auth_paths_prefix_lenghts.ensures.prefixes)
     (done_injective _ _ c.in_ok-auth_paths_prefix_lenghts.ensures.suffixes) in
-    let numbers = g.P.LeafDigest.Numbered.numbers in
     let seen : MultiWay = record {
-      siblings = digests_of numbers c.in_ok-leaf_siblings_hashes.leaf_siblings_hashes;
+      siblings = digests_of g.P.LeafDigest.Numbered.numbers c.in_ok-leaf_siblings_hashes.leaf_siblings_hashes;
       prefixes = c.in_ok-auth_paths_prefix_lenghts.auth_paths_prefix_lenghts.items;
       suffixes = rows_seen g.P.InnerDigest.Numbered.numbers c.in_ok-auth_paths_prefix_lenghts.auth_paths_suffixes;
       indexes = c.in_ok-leaf_indexes.leaf_indexes.items;
@@ -55,16 +54,16 @@ returns g c =
     }
 
 pub returns-in_err-leaf_indexes-clause-proof : goal.returns-in_err-leaf_indexes-clause-proof
-returns-in_err-leaf_indexes-clause-proof g c = passed_on _ _ c.from_residual.result c.in_err-leaf_indexes.field-0.0
-    c.from_residual.ensures.1 c.in_err-leaf_indexes.ensures (λ refused. absurd cc)
+returns-in_err-leaf_indexes-clause-proof g c = passed_on _ _ c.from_residual.result _ c.from_residual.ensures.1
+    c.in_err-leaf_indexes.ensures (λ refused. absurd cc)
 
 pub returns-in_err-leaf_siblings_hashes-clause-proof : goal.returns-in_err-leaf_siblings_hashes-clause-proof
-returns-in_err-leaf_siblings_hashes-clause-proof g c = passed_on _ _ c.from_residual-in_err-leaf_siblings_hashes.result
-    c.in_err-leaf_siblings_hashes.field-0.0 c.from_residual-in_err-leaf_siblings_hashes.ensures.1
-    c.in_err-leaf_siblings_hashes.ensures (λ refused. absurd cc)
+returns-in_err-leaf_siblings_hashes-clause-proof g c =
+    passed_on _ _ c.from_residual-in_err-leaf_siblings_hashes.result _
+    c.from_residual-in_err-leaf_siblings_hashes.ensures.1 c.in_err-leaf_siblings_hashes.ensures (λ refused. absurd cc)
 
 pub returns-in_err-auth_paths_prefix_lenghts-clause-proof : goal.returns-in_err-auth_paths_prefix_lenghts-clause-proof
-returns-in_err-auth_paths_prefix_lenghts-clause-proof g c = passed_on _ _
-    c.from_residual-in_err-auth_paths_prefix_lenghts.result c.in_err-auth_paths_prefix_lenghts.field-0.0
-    c.from_residual-in_err-auth_paths_prefix_lenghts.ensures.1 c.in_err-auth_paths_prefix_lenghts.ensures.prefixes
-    (λ refused. absurd cc)
+returns-in_err-auth_paths_prefix_lenghts-clause-proof g c =
+    passed_on _ _ c.from_residual-in_err-auth_paths_prefix_lenghts.result _
+    c.from_residual-in_err-auth_paths_prefix_lenghts.ensures.1
+    c.in_err-auth_paths_prefix_lenghts.ensures.prefixes (λ refused. absurd cc)

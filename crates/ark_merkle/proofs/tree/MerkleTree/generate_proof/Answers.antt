@@ -1,4 +1,4 @@
-use Rattle.std.proofs.Common.{◌≡◌, ◌∙◌, ◌<◌, ◌^◌, Ok, ap, arith, length, map, sym, subst}
+use Rattle.std.proofs.Common.{◌≡◌, ◌∙◌, Ok, ap, map, sym, subst}
 use Rattle.std.proofs.lemmas.List.{length-map}
 use Rattle.ark_base.specs.Laws.Steps.{done_injective}
 use Rattle.ark_paths.specs.Path.{Way}
@@ -8,11 +8,8 @@ use Rattle.ark_merkle.proofs.TreeReads.{is_tree-seen, holds-index, own_path-read
 use Rattle.ark_merkle.proofs.tree.MerkleTree.generate_proof.Goals as goal
 
 pub digests_beside-requires-clause-holds : goal.digests_beside-requires-clause-holds
-digests_beside-requires-clause-holds g c =
-    let leaves = c.parts.result.1.now in
-    let numbers = g.P.LeafDigest.Numbered.numbers in
-    let fits : length (map numbers leaves) < 2 ^ 64 = omega (arith, length-map leaves numbers, c.parts.ensures.fits) in
-    holds-index _ _ _ c.parts.ensures.tree c.args.index fits (rw c.parts.ensures.leaves c.requires)
+digests_beside-requires-clause-holds g c = holds-index _ _ _ c.parts.ensures.tree c.args.index
+    (rw length-map c.parts.ensures.fits) (rw c.parts.ensures.leaves c.requires)
 
 pub returns : goal.returns
 returns g c =

@@ -50,13 +50,11 @@ returns-in_err-digest g c =
 
 pub returns-in_err-top : goal.returns-in_err-top
 returns-in_err-top g c =
-    passed_on _ _ c.from_residual-in_err-top.result c.in_err-top.field-0.0 c.from_residual-in_err-top.ensures.1
-    c.in_err-top.ensures.top
+    passed_on _ _ c.from_residual-in_err-top.result _ c.from_residual-in_err-top.ensures.1 c.in_err-top.ensures.top
     (bound-refused (tree_with (g.T.TreeHasher.hashes c.args.hasher.now) (map g.L.Numbered.numbers c.args.leaves.now))
     c.args.leaf.now (way_of g.L.Numbered.numbers g.D.Numbered.numbers
-    (c.args.sibling.now, (c.args.above.now, c.args.index))) (long g (goal.at.returns-in_err-top g c).Else-above-levels) (g.L.Numbered.numbers c.in_ok-digest.digest) c.in_ok-digest.ensures _
-    (root-top _ _ _ c.requires.tree)
-    c.in_err-top.field-0.0)
+    (c.args.sibling.now, (c.args.above.now, c.args.index))) (long g (goal.at.returns-in_err-top g c).Else-above-levels)
+    _ c.in_ok-digest.ensures _ (root-top _ _ _ c.requires.tree) c.in_err-top.field-0.0)
 
 pub returns : goal.returns
 returns g c =
