@@ -26,6 +26,5 @@ loop-index-preserved g c =
 
 pub returns : goal.returns
 returns g c =
-    let all : take c.loop-index.index-index c.args.indexes.now ≡ c.args.indexes.now =
-    take_all c.loop-index.index-index c.args.indexes.now c.loop-index-test.false in
+    let all = take_all c.loop-index.index-index c.args.indexes.now c.loop-index-test.false in
     ap Ok (sym (rw all at c.loop-index.invariant))
