@@ -5,7 +5,7 @@ use Rattle.std.proofs.lemmas.List.{length-map, set-set, length-set, drop_more, d
 use Rattle.ark_base.specs.declared.error.Error.{Error}
 use Rattle.ark_base.specs.Outcome.{Outcome, ◌>>=◌}
 use Rattle.ark_base.specs.Laws.Steps.{bind_ok, done_injective}
-use Rattle.ark_paths.specs.Pair.{Digest, HashPair}
+use Rattle.ark_paths.specs.Pair.{Digest}
 use Rattle.ark_paths.specs.Root.{root, leaves_with_root}
 use Rattle.ark_paths.specs.Tree.{HashedTree}
 use Rattle.ark_paths.proofs.ListOutcomes.{begun, begun-more}
@@ -158,7 +158,7 @@ module _ {A : Type 0} (hash : A → Outcome Digest) where
             ((c.0, first.0) ∷ others.0) hs others.2;
       }
 
-  pub hashed-first : (c : ℕ × A) (d : Digest) (cs : List (ℕ × A)) (hs : List (ℕ × Digest)) → hash c.1 ≡ Ok d
+  hashed-first : (c : ℕ × A) (d : Digest) (cs : List (ℕ × A)) (hs : List (ℕ × Digest)) → hash c.1 ≡ Ok d
       → hashed_changes hash cs ≡ Ok hs → hashed_changes hash (c ∷ cs) ≡ Ok ((c.0, d) ∷ hs)
   hashed-first c d cs hs is all = rw (is, all) refl
 
@@ -168,31 +168,11 @@ module _ {A : Type 0} (hash : A → Outcome Digest) where
   hashed-placed c d (e ∷ cs) hs is all =
       let f = hashed-cons e cs hs all in
       elim (trichotomy c.0 e.0) [
-        | inl lt ↦ rw (
-          placed_change-below c e cs lt,
-          ← f.whole,
-          placed_change-below (c.0, d) (e.0, f.digest) f.others
-              lt,
-          is,
-          f.digest_is,
-          f.others_are,
-        ) refl
-        | inr (inl same) ↦ rw (
-          placed_change-same c e cs same,
-          ← f.whole,
-          placed_change-same (c.0, d) (e.0, f.digest)
-              f.others same,
-          f.digest_is,
-          f.others_are,
-        ) refl
-        | inr (inr gt) ↦ rw (
-          placed_change-past c e cs gt,
-          ← f.whole,
-          placed_change-past (c.0, d) (e.0, f.digest)
-              f.others gt,
-          f.digest_is,
-          hashed-placed c d cs f.others is f.others_are,
-        ) refl
+        | inl lt ↦ rw (placed_change-below, ← f.whole, placed_change-below, is, f.digest_is, f.others_are) refl
+        | inr (inl same) ↦ rw (placed_change-same, ← f.whole, placed_change-same, f.digest_is, f.others_are) refl
+        | inr (inr gt) ↦
+            let rest = hashed-placed c d cs f.others is f.others_are in
+            rw (placed_change-past, ← f.whole, placed_change-past, f.digest_is, rest) refl
       ]
 
   hashed-last : (cs : List (ℕ × A)) (hs : List (ℕ × Digest)) → hashed_changes hash cs ≡ Ok hs → hashed_changes hash
@@ -222,10 +202,6 @@ hashed_so_far-all hash cs done so = so ∙ ap Ok (append-nil done)
 
 -- ---- one change after the other
 
-rooted-by : (h : HashPair) (digests : List Digest) (r : Digest) → root h digests ≡ Ok r → leaves_with_root h digests
-    ≡ Ok digests
-rooted-by h digests r is = rw is refl
-
 -- the digests of changes one after the other, each of which left a tree
 record EachMade {A : Type 0} (tree : HashedTree A) (cs : List (ℕ × A)) (made : HashedTree A) : Type 0 where
   pub digests : List (ℕ × Digest)
@@ -250,15 +226,14 @@ each_made {A} tree (c ∷ cs) made rooted is =
     let new = set tree.leaves c.0 hashed.0 in
     let root = bind_ok (root h new) (λ _. Ok new) leaves.0 hashed.2 in
     let same : new ≡ leaves.0 = done_injective new leaves.0 root.2 in
-    let there = rooted-by h new root.0 root.1 in
+    let there = ap (λ (o : Outcome Digest). o >>= λ _. Ok new) root.1 in
     let changed : HashedTree A = record { hashes = tree.hashes; leaves = new } in
     let changed_is : changed ≡ one.0 = ap (λ (ds : List Digest). record { hashes = tree.hashes; leaves = ds }) same
     ∙ done_injective _ one.0 leaves.2 in
     let more = each_made changed cs made there (rw changed_is one.2) in
     record {
       digests = (c.0, hashed.0) ∷ more.digests;
-      hashed = hashed-first tree.hashes.leaf c hashed.0 cs more.digests
-          hashed.1 more.hashed;
+      hashed = hashed-first tree.hashes.leaf c hashed.0 cs more.digests hashed.1 more.hashed;
       made_is = more.made_is;
       rooted = more.rooted;
     }

@@ -2,17 +2,15 @@
 use Rattle.std.proofs.Common.{zero, suc, ◌≡◌, ℕ, ◌+◌, ◌-◌, ◌*◌, ◌<◌, ◌≤◌, ◌^◌, List, [], ◌∷◌, ◌++◌, length, map, take, drop, get_or, Ok, Err, refl, ap, sym, ◌∙◌, arith, pow_pos, append_assoc, append-nil, zero-add, add-zero}
 use Rattle.std.proofs.lemmas.List.{length-append, length-map, get_or-append-add, take_at, drop_at}
 use Rattle.std.proofs.Math.Nat.{pow-succ'}
-use Rattle.std.specs.declared.vec.Vec.{Vec}
 use Rattle.ark_base.specs.declared.error.Error.{Error}
 use Rattle.ark_base.specs.Outcome.{Outcome, ◌>>=◌}
 use Rattle.ark_paths.specs.Pair.{Digest, HashPair}
 use Rattle.ark_paths.specs.Index.{log2}
 use Rattle.ark_paths.specs.Root.{upper_levels}
-use Rattle.ark_paths.specs.Rows.{row_above, rows_from, rows_of, digests_of}
+use Rattle.ark_paths.specs.Rows.{row_above, rows_from, rows_of}
 use Rattle.ark_paths.proofs.CoupleLemmas.{length-paired}
 use Rattle.ark_paths.proofs.ListOutcomes.{begun, begun-nil, begun-more}
 use Rattle.ark_paths.proofs.Logs.{log2-between, log2-pow, upper_levels-is}
-use Rattle.ark_paths.proofs.Readings.{digest_read}
 use Rattle.ark_merkle.specs.LevelOrder.{rows_in_turn}
 
 module _ (hash : Digest → Digest → Outcome Digest) where
@@ -34,9 +32,7 @@ module _ (hash : Digest → Digest → Outcome Digest) where
 
   moved : (before row done : List Digest) (a b d : Digest) → (before ++ (a ∷ b ∷ (row ++ done))) ++ d ∷ []
       ≡ (before ++ a ∷ b ∷ []) ++ (row ++ (done ++ d ∷ []))
-  moved before row done a b d = append_assoc before (a ∷ b ∷ (row ++ done)) (d ∷ [])
-      ∙ ap (λ (ds : List Digest). before ++ (a ∷ b ∷ ds)) (append_assoc row done (d ∷ []))
-      ∙ sym (append_assoc before (a ∷ b ∷ []) (row ++ (done ++ d ∷ [])))
+  moved before row done a b d = simp append_assoc
 
   begun-cons : (d : Digest) (next : List Digest) (rest : Outcome (List Digest)) → (begun next rest >>= λ more.
       Ok (d ∷ more)) ≡ begun (d ∷ next) rest
@@ -68,9 +64,7 @@ module _ (hash : Digest → Digest → Outcome Digest) where
       let next_couple : suc couple + count ≡ couple + suc count = omega arith in
       let further : length (before ++ a ∷ b ∷ []) ≡ 2 * suc couple = omega (arith, length-append before (a ∷ b ∷ [])) in
       let lists : (d : Digest) (next : List Digest) → (before ++ a ∷ b ∷ []) ++ (row ++ ((done ++ d ∷ []) ++ next))
-      ≡ before ++ (a ∷ b ∷ (row ++ (done ++ d ∷ next))) = λ d next. append_assoc before (a ∷ b ∷ [])
-      (row ++ ((done ++ d ∷ []) ++ next)) ∙ ap (λ (ds : List Digest). before ++ (a ∷ b ∷ (row ++ ds)))
-      (append_assoc done (d ∷ []) next) in
+      ≡ before ++ (a ∷ b ∷ (row ++ (done ++ d ∷ next))) = λ d next. simp append_assoc in
       let behind : (d : Digest) → piled (count + left) (suc couple) ((before ++ (a ∷ b ∷ (row ++ done))) ++ d ∷ [])
       ≡ (row_above hash row >>= λ next. begun next (piled left (couple + suc count)
       (before ++ (a ∷ b ∷ (row ++ (done ++ d ∷ next)))))) =
@@ -187,19 +181,6 @@ module _ (hash : Digest → Digest → Outcome Digest) where
           let own : take (2 ^ k) now ≡ row = rw so.now_is (take_at row so.done (2 ^ k) size) in
           let above : drop (2 ^ k) now ≡ so.done = rw so.now_is (drop_at row so.done (2 ^ k) size) in
           piled-rows k 0 [] row refl size ∙ rw (own, above, ← size, made) refl
-
--- what two reads of the list give
-pub couple_read : {A Z : Type 0} (hash : Digest → Digest → Outcome Digest) (numbers : A → Digest) (digests : Vec A Z)
-    (couple : ℕ) (left right : A) → 2 * couple + 1 < length digests.items
-    → left ≡ get_or digests.items (2 * couple) left → right ≡ get_or digests.items (2 * couple + 1) right
-    → hash (get_or (digests_of numbers digests) (2 * couple) []) (get_or (digests_of numbers digests) (2 * couple + 1)
-    []) ≡ hash (numbers left) (numbers right)
-couple_read hash numbers digests couple left right inside left_is right_is =
-    rw (
-      digest_read numbers digests (2 * couple) left (omega arith) left_is,
-      digest_read numbers digests
-          (2 * couple + 1) right inside right_is,
-    ) refl
 
 -- the rows above leaf digests, from the lowest one
 module _ {A : Type 0} (h : HashPair) (numbers : A → Digest) (leaves : List A) (row : List Digest) (m : ℕ)

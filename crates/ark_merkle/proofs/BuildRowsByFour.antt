@@ -9,7 +9,10 @@ use Rattle.ark_paths.specs.Pair.{Digest}
 use Rattle.ark_paths.specs.Rows.{digests_of, rows_from}
 use Rattle.ark_paths.proofs.Fours.{four-more, four-refused}
 use Rattle.ark_paths.proofs.Readings.{digest_read}
-use Rattle.ark_merkle.proofs.BuildRows.{IsPiled, piled, is_piled-more, is_piled-refused, rows-refused, couple_read}
+use Rattle.ark_merkle.proofs.BuildRows.{IsPiled, piled, is_piled-more, is_piled-refused, rows-refused}
+
+pub next_four : (f : ℕ) → 4 * f + 4 ≡ 4 * (f + 1)
+next_four f = omega arith
 
 module _ (hash : Digest → Digest → Outcome Digest) where
   -- the hash of a couple in a list
@@ -67,7 +70,7 @@ module _ (hash : Digest → Digest → Outcome Digest) where
         (λ k made e small held refused. is_piled-refused hash row (couple + k) made held.piled_so (omega arith) e
         (same_hash k made small held ∙ refused)) e (rw none is)
 
-  -- what the eight reads of a list give
+  -- what two reads of a list give
   module _ {A Z : Type 0} (numbers : A → Digest) (digests : Vec A Z) where
     read : (i : ℕ) (p q : ℕ) (x y : A) → p ≡ 2 * i → q ≡ 2 * i + 1 → q < length digests.items
         → x ≡ get_or digests.items p x → y ≡ get_or digests.items q y
@@ -80,103 +83,84 @@ module _ (hash : Digest → Digest → Outcome Digest) where
         ap (λ (n : ℕ). get_or seen n []) (sym right) ∙ digest_read numbers digests q y inside y_is in
         rw (first, second) refl
 
-    pub four_read : (f : ℕ) (a ar b br c cr d dr : A) → 8 * f + 7 < length digests.items
-        → a ≡ get_or digests.items (8 * f) a → ar ≡ get_or digests.items (8 * f + 1) ar
-        → b ≡ get_or digests.items (8 * f + 2) b → br ≡ get_or digests.items (8 * f + 3) br
-        → c ≡ get_or digests.items (8 * f + 4) c → cr ≡ get_or digests.items (8 * f + 5) cr
-        → d ≡ get_or digests.items (8 * f + 6) d → dr ≡ get_or digests.items (8 * f + 7) dr
-        → four_in_turn (couple_hash (digests_of numbers digests) (4 * f))
-        (couple_hash (digests_of numbers digests) (4 * f + 1)) (couple_hash (digests_of numbers digests) (4 * f + 2))
-        (couple_hash (digests_of numbers digests) (4 * f + 3))
-        ≡ four_in_turn (hash (numbers a) (numbers ar)) (hash (numbers b) (numbers br)) (hash (numbers c) (numbers cr))
-        (hash (numbers d) (numbers dr))
-    four_read f a ar b br c cr d dr inside h0 h1 h2 h3 h4 h5 h6 h7 =
-        rw (
-          read (4 * f) (8 * f) (8 * f + 1) a ar (omega arith) (omega arith) (omega arith) h0 h1,
-          read (4 * f + 1) (8 * f + 2) (8 * f + 3) b br (omega arith) (omega arith) (omega arith) h2 h3,
-          read (4 * f + 2) (8 * f + 4) (8 * f + 5) c cr (omega arith) (omega arith) (omega arith) h4 h5,
-          read (4 * f + 3) (8 * f + 6) (8 * f + 7) d dr (omega arith) (omega arith) (omega arith) h6 h7,
-        ) refl
-
 -- ---- a list of digests that is such a pile
 
--- the digests of a list, and behind them the hashes of its first couples
-abbrev pub IsPile : {A Z : Type 0} → (Digest → Digest → Outcome Digest) → (A → Digest) → Vec A Z → ℕ → Vec A Z → Type 0
-IsPile hash numbers first couple now = (length now.items ≡ length first.items + couple)
-    × IsPiled hash (digests_of numbers first) couple (digests_of numbers now)
+-- The digests of a list, and behind them the hashes of its first couples.
+pub record IsPile {A Z : Type 0} (hash : Digest → Digest → Outcome Digest) (numbers : A → Digest) (first : Vec A Z)
+    (couple : ℕ) (now : Vec A Z) : Type 0 where
+  pub long : length now.items ≡ length first.items + couple
+  pub so_far : IsPiled hash (digests_of numbers first) couple (digests_of numbers now)
 
-module _ {A Z : Type 0} (hash : Digest → Digest → Outcome Digest) (numbers : A → Digest) (first now : Vec A Z) where
-  -- the couple of a pile that is hashed next
-  module _ (couple : ℕ) (so : IsPile hash numbers first couple now) (below : couple < length first.items - 1)
-      (left right : A) (left_is : left ≡ get_or now.items (2 * couple) left)
-      (right_is : right ≡ get_or now.items (2 * couple + 1) right) where
-    inside : 2 * couple + 1 < length now.items
-    inside = omega (arith, so.0, below)
+-- the couple of a pile that is hashed next
+module _ {A Z : Type 0} {hash : Digest → Digest → Outcome Digest} {numbers : A → Digest} {first now : Vec A Z}
+    {couple : ℕ} (so : IsPile hash numbers first couple now) (below : couple < length first.items - 1)
+    {left right : A} (left_is : left ≡ get_or now.items (2 * couple) left)
+    (right_is : right ≡ get_or now.items (2 * couple + 1) right) where
+  few : couple < length (digests_of numbers first) - 1
+  few = omega (arith, below, length-map first.items numbers)
 
-    few : couple < length (digests_of numbers first) - 1
-    few = omega (arith, below, length-map first.items numbers)
+  abbrev read_couple : couple_hash hash (digests_of numbers now) couple ≡ hash (numbers left) (numbers right)
+  read_couple = read hash numbers now couple (2 * couple) (2 * couple + 1) left right refl refl
+      (omega (arith, so.long, below)) left_is right_is
 
-    pub pile-refused : (e : Error) → hash (numbers left) (numbers right) ≡ Err e → (k : ℕ)
-        → length (digests_of numbers first) ≡ 2 ^ k → rows_from hash k (digests_of numbers first) ≡ Err e
-    pile-refused e refused k size =
-        rows-refused hash (digests_of numbers first) k size e
-        (is_piled-refused hash (digests_of numbers first) couple (digests_of numbers now) so.1 few e
-        (couple_read hash numbers now couple left right inside left_is right_is ∙ refused))
+  pub pile-refused : (k : ℕ) → length (digests_of numbers first) ≡ 2 ^ k → (e : Error)
+      → hash (numbers left) (numbers right) ≡ Err e → rows_from hash k (digests_of numbers first) ≡ Err e
+  pile-refused k size e refused =
+      rows-refused hash (digests_of numbers first) k size e
+      (is_piled-refused hash (digests_of numbers first) couple (digests_of numbers now) so.so_far few e
+      (read_couple ∙ refused))
 
-    pub pile-more : (after : Vec A Z) (d : A) → hash (numbers left) (numbers right) ≡ Ok (numbers d)
-        → after.items ≡ now.items ++ d ∷ [] → IsPile hash numbers first (couple + 1) after
-    pile-more after d hashed more = (
-      omega (arith, so.0, ap length more, length-append now.items (d ∷ [])),
-      rw (more, map-append numbers now.items (d ∷ []))
-          (is_piled-more hash (digests_of numbers first) couple (digests_of numbers now) so.1 few (numbers d)
-          (couple_read hash numbers now couple left right inside left_is right_is ∙ hashed)),
-    )
+  pub pile-more : {after : Vec A Z} {d : A} → hash (numbers left) (numbers right) ≡ Ok (numbers d)
+      → after.items ≡ now.items ++ d ∷ [] → IsPile hash numbers first (couple + 1) after
+  pile-more {d = d} hashed more = record {
+    long = omega (arith, so.long, ap length more, length-append now.items (d ∷ []));
+    so_far = rw (more, map-append numbers now.items (d ∷ [])) (is_piled-more hash (digests_of numbers first) couple
+        (digests_of numbers now) so.so_far few (numbers d) (read_couple ∙ hashed));
+  }
 
-  -- the four couples that are hashed next
-  module _ (f : ℕ) (so : IsPile hash numbers first (4 * f) now) (below : 4 * f + 7 < length first.items)
-      (a ar b br c cr d dr : A) (h0 : a ≡ get_or now.items (8 * f) a) (h1 : ar ≡ get_or now.items (8 * f + 1) ar)
-      (h2 : b ≡ get_or now.items (8 * f + 2) b) (h3 : br ≡ get_or now.items (8 * f + 3) br)
-      (h4 : c ≡ get_or now.items (8 * f + 4) c) (h5 : cr ≡ get_or now.items (8 * f + 5) cr)
-      (h6 : d ≡ get_or now.items (8 * f + 6) d) (h7 : dr ≡ get_or now.items (8 * f + 7) dr) where
-    abbrev outcomes : Outcome (List Digest)
-    outcomes =
-        four_in_turn (hash (numbers a) (numbers ar)) (hash (numbers b) (numbers br)) (hash (numbers c) (numbers cr))
-        (hash (numbers d) (numbers dr))
+-- the four couples that are hashed next
+module _ {A Z : Type 0} {hash : Digest → Digest → Outcome Digest} {numbers : A → Digest} {first now : Vec A Z}
+    (f : ℕ) (so : IsPile hash numbers first (4 * f) now) (below : 4 * f + 7 < length first.items)
+    {a ar b br c cr d dr : A} (h0 : a ≡ get_or now.items (8 * f) a) (h1 : ar ≡ get_or now.items (8 * f + 1) ar)
+    (h2 : b ≡ get_or now.items (8 * f + 2) b) (h3 : br ≡ get_or now.items (8 * f + 3) br)
+    (h4 : c ≡ get_or now.items (8 * f + 4) c) (h5 : cr ≡ get_or now.items (8 * f + 5) cr)
+    (h6 : d ≡ get_or now.items (8 * f + 6) d) (h7 : dr ≡ get_or now.items (8 * f + 7) dr) where
+  abbrev outcomes : Outcome (List Digest)
+  outcomes =
+      four_in_turn (hash (numbers a) (numbers ar)) (hash (numbers b) (numbers br)) (hash (numbers c) (numbers cr))
+      (hash (numbers d) (numbers dr))
 
-    few_fours : 4 * f + 3 < length (digests_of numbers first) - 1
-    few_fours = omega (arith, below, length-map first.items numbers)
+  few_fours : 4 * f + 3 < length (digests_of numbers first) - 1
+  few_fours = omega (arith, below, length-map first.items numbers)
 
-    inside_fours : 2 * (4 * f) + 7 < length (digests_of numbers now)
-    inside_fours = omega (arith, so.0, below, length-map now.items numbers)
+  inside_fours : 2 * (4 * f) + 7 < length (digests_of numbers now)
+  inside_fours = omega (arith, so.long, below, length-map now.items numbers)
 
-    abbrev read_fours : four_hashes hash (digests_of numbers first) (4 * f) (digests_of numbers now) so.1 few_fours
-        inside_fours ≡ outcomes
-    read_fours = four_read hash numbers now f a ar b br c cr d dr (omega (arith, so.0, below)) h0 h1 h2 h3 h4 h5 h6 h7
+  abbrev read_fours : four_hashes hash (digests_of numbers first) (4 * f) (digests_of numbers now) so.so_far few_fours
+      inside_fours ≡ outcomes
+  read_fours =
+      let inside : 8 * f + 7 < length now.items = omega (arith, so.long, below) in
+      rw (
+        read hash numbers now (4 * f) (8 * f) (8 * f + 1) a ar (omega arith) (omega arith) (omega arith) h0 h1,
+        read hash numbers now (4 * f + 1) (8 * f + 2) (8 * f + 3) b br (omega arith) (omega arith) (omega arith) h2 h3,
+        read hash numbers now (4 * f + 2) (8 * f + 4) (8 * f + 5) c cr (omega arith) (omega arith) (omega arith) h4 h5,
+        read hash numbers now (4 * f + 3) (8 * f + 6) (8 * f + 7) d dr (omega arith) (omega arith) (omega arith) h6 h7,
+      ) refl
 
-    pub pile-four_refused : (e : Error) → outcomes ≡ Err e → (k : ℕ) → length (digests_of numbers first) ≡ 2 ^ k
-        → rows_from hash k (digests_of numbers first) ≡ Err e
-    pile-four_refused e refused k size =
-        rows-refused hash (digests_of numbers first) k size e
-        (is_piled-four_refused hash (digests_of numbers first) (4 * f) (digests_of numbers now) so.1 few_fours
-        inside_fours e (read_fours ∙ refused))
+  pub pile-four_refused : (k : ℕ) → length (digests_of numbers first) ≡ 2 ^ k → (e : Error) → outcomes ≡ Err e
+      → rows_from hash k (digests_of numbers first) ≡ Err e
+  pile-four_refused k size e refused =
+      rows-refused hash (digests_of numbers first) k size e
+      (is_piled-four_refused hash (digests_of numbers first) (4 * f) (digests_of numbers now) so.so_far few_fours
+      inside_fours e (read_fours ∙ refused))
 
-    pub pile-four : (after : Vec A Z) (p q r s : A)
-        → outcomes ≡ Ok (numbers p ∷ numbers q ∷ numbers r ∷ numbers s ∷ [])
-        → map numbers after.items ≡ map numbers now.items ++ numbers p ∷ numbers q ∷ numbers r ∷ numbers s ∷ []
-        → IsPile hash numbers first (4 * (f + 1)) after
-    pile-four after p q r s hashed more = (
-      omega (
-        arith,
-        so.0,
-        length-map after.items numbers,
-        length-map now.items numbers,
-        ap length more,
-        length-append (map numbers now.items) (numbers p ∷ numbers q ∷ numbers r ∷ numbers s ∷ []),
-      ),
-      subst (λ (n : ℕ). IsPiled hash (digests_of numbers first) n (map numbers after.items)) next
-          (rw more (is_piled-four hash (digests_of numbers first) (4 * f) (digests_of numbers now) so.1 few_fours
-          inside_fours (numbers p) (numbers q) (numbers r) (numbers s) (read_fours ∙ hashed))),
-    )
-      where
-        next : 4 * f + 4 ≡ 4 * (f + 1)
-        next = omega arith
+  pub pile-four : {after : Vec A Z} {p q r s : Digest} → outcomes ≡ Ok (p ∷ q ∷ r ∷ s ∷ [])
+      → map numbers after.items ≡ map numbers now.items ++ p ∷ q ∷ r ∷ s ∷ []
+      → IsPile hash numbers first (4 * (f + 1)) after
+  pile-four {after = after} {p = p} {q = q} {r = r} {s = s} hashed more =
+      let seen = ap length more ∙ length-append (map numbers now.items) (p ∷ q ∷ r ∷ s ∷ []) in
+      record {
+        long = omega (arith, so.long, length-map after.items numbers, length-map now.items numbers);
+        so_far = rw (more, ← next_four f) (is_piled-four hash (digests_of numbers first) (4 * f)
+            (digests_of numbers now) so.so_far few_fours inside_fours _ _ _ _ (read_fours ∙ hashed));
+      }

@@ -1,5 +1,6 @@
 -- Rows above changed digests: what they become, and how many places are hashed.
 use Rattle.std.proofs.Common.{zero, suc, ◌≡◌, ◌≢◌, ◌⊎◌, inl, inr, ℕ, ◌+◌, ◌-◌, ◌*◌, ◌/◌, ◌%◌, ◌<◌, ◌≤◌, ◌^◌, List, [], ◌∷◌, length, map, take, drop, get_or, set, Ok, Err, refl, ap, sym, ◌∙◌, arith}
+use Rattle.std.proofs.lemmas.Bool.{cases_eq}
 use Rattle.std.proofs.lemmas.List.{length-map, drop-set, drop_all, take-set, take-take, get_or-take}
 use Rattle.std.proofs.Math.Nat.{pow-succ', pow-le-pow_right}
 use Rattle.ark_base.specs.declared.error.Error.{Error}
@@ -7,12 +8,13 @@ use Rattle.ark_base.specs.Outcome.{Outcome, ◌>>=◌}
 use Rattle.ark_paths.specs.Pair.{Digest}
 use Rattle.ark_paths.specs.Rows.{row_above, rows_from}
 use Rattle.ark_paths.proofs.CoupleLemmas.{length-paired}
+use Rattle.ark_merkle.proofs.ListParts.{map-twice}
 use Rattle.ark_merkle.specs.Batch.{hashed_changes, puts}
 use Rattle.ark_merkle.specs.Changed.{seen_changes, AreChanges, AreHashed, couples_reached, count_over}
 use Rattle.ark_paths.specs.Rising.{with_number, rising_set}
 use Rattle.ark_merkle.proofs.Batches.{AreChanges-later, AreChanges-seen, AreChanges-unseen}
 use Rattle.ark_paths.proofs.MultiIndexes.{placed-below, placed-same}
-use Rattle.ark_merkle.proofs.Reached.{of_couple, cases_eq, apart_halves, couples-both, couples-apart, couples-rise, hashed-rise, hashed-places, row_above-puts}
+use Rattle.ark_merkle.proofs.Reached.{of_couple, apart_halves, couples-both, couples-apart, couples-rise, hashed-rise, hashed-places, row_above-puts}
 
 -- ---- places
 
@@ -20,8 +22,7 @@ abbrev pub places : {A : Type 0} → List (ℕ × A) → List ℕ
 places cs = map (λ c. c.0) cs
 
 pub places-seen : {A B : Type 0} (view : A → B) (cs : List (ℕ × A)) → places (seen_changes view cs) ≡ places cs
-places-seen view [] = refl
-places-seen view (c ∷ cs) = ap (λ (ns : List ℕ). c.0 ∷ ns) (places-seen view cs)
+places-seen view cs = map-twice (λ c. (c.0, view c.1)) (λ c. c.0) (λ c. c.0) cs (λ c. refl)
 
 placed-first : {A : Type 0} (n end : ℕ) (cs : List (ℕ × A)) → AreChanges (suc n) end cs → with_number n (places cs) ≡ n
     ∷ places cs
@@ -162,9 +163,8 @@ module _ (hash : Digest → Digest → Outcome Digest) (rows : List (List Digest
     count_over-few most =
         let fits : count_over (length rows - 1 - row) (places cs) + 1 ≤ 2 ^ (length rows - 1 - row) =
         count_over-fits (length rows - 1 - row) cs (rw size at rise) in
-        let two : 0 < 2 = omega arith in
         let levels : length rows - 1 - row ≤ 63 = omega (arith, most) in
-        let few : 2 ^ (length rows - 1 - row) ≤ 2 ^ 63 = pow-le-pow_right two levels in
+        let few = pow-le-pow_right {n = 2} (omega arith) levels in
         omega (arith, fits, few, ap (count_over (length rows - 1 - row)) (places-seen numbers items))
 
     module _ (ups : List (ℕ × D)) (made : reached ≡ Ok (seen_changes numbers ups)) where

@@ -1,5 +1,5 @@
 -- A tree whose leaf digests change in a batch.
-use Rattle.std.proofs.Common.{suc, ◌≡◌, ℕ, ◌+◌, ◌-◌, ◌*◌, ◌%◌, ◌<◌, ◌^◌, List, [], ◌∷◌, length, get_or, Ok, Err, refl, ap, sym, ◌∙◌, arith}
+use Rattle.std.proofs.Common.{suc, ◌≡◌, ℕ, ◌+◌, ◌-◌, ◌*◌, ◌%◌, ◌<◌, ◌^◌, List, [], ◌∷◌, length, map, get_or, Ok, Err, refl, ap, sym, ◌∙◌, arith}
 use Rattle.std.proofs.lemmas.List.{length-map}
 use Rattle.std.proofs.Math.Nat.{pow-succ'}
 use Rattle.ark_base.specs.declared.error.Error.{Error}
@@ -14,7 +14,7 @@ use Rattle.ark_paths.proofs.PlaceLemmas.{row-twice}
 use Rattle.ark_paths.proofs.TreeLemmas.{is_tree, rooted-ok, rooted-refused}
 use Rattle.ark_merkle.specs.Batch.{hashed_changes, puts}
 use Rattle.ark_merkle.specs.Changed.{seen_changes, AreChanges, AreHashed, couples_reached, count_over}
-use Rattle.ark_merkle.proofs.Batches.{AreChanges-seen, AreChanges-unseen, length-puts}
+use Rattle.ark_merkle.proofs.Batches.{AreChanges-inside, AreChanges-seen, AreChanges-unseen, length-puts}
 use Rattle.ark_merkle.proofs.ChangedRows.{places, places-seen, halves-hashed, hashed-inside, count_over-fits}
 use Rattle.ark_merkle.proofs.Reached.{of_couple, row_above-puts}
 
@@ -42,7 +42,11 @@ row_above-from hash (a ∷ b ∷ rest) (x ∷ above) long each =
         same_hash hash (ap (λ (n : ℕ). get_or (a ∷ b ∷ rest) n []) left)
         (ap (λ (n : ℕ). get_or (a ∷ b ∷ rest) n []) right) e
 
-module _ (h : HashPair) (leaves : List Digest) (rows : List (List Digest)) (tree : IsTree h leaves rows) where
+module _ {L : Type 0} (view : L → Digest) (h : HashPair) (xs : List L) (rows : List (List Digest))
+    (tree : IsTree h (map view xs) rows) where
+  abbrev leaves : List Digest
+  leaves = map view xs
+
   abbrev m : ℕ
   m = upper_levels leaves
 
@@ -50,8 +54,7 @@ module _ (h : HashPair) (leaves : List Digest) (rows : List (List Digest)) (tree
   double = pow-succ' 2 m
 
   lowest_long : length leaves ≡ 2 * length (get_or rows 0 [])
-  lowest_long = let one : 2 ^ suc 0 ≡ 2 = omega arith in let level = tree.levels 0 (omega (arith, tree.count)) in
-      omega (arith, level, one)
+  lowest_long = omega (arith, tree.levels 0 (omega (arith, tree.count)))
 
   lowest_size : length (get_or rows 0 []) ≡ 2 ^ m
   lowest_size = omega (arith, lowest_long, tree.size, double)
@@ -69,12 +72,12 @@ module _ (h : HashPair) (leaves : List Digest) (rows : List (List Digest)) (tree
   rows-hashed k below = row_above-from h.upper (get_or rows k []) (get_or rows (suc k) [])
       (row-twice rows (length leaves) tree.levels k below) (λ q inside. upper-row h leaves rows tree k q below inside)
 
-  module _ {L : Type 0} (view : L → Digest) (items : List (ℕ × L)) (given : AreChanges 0 (length leaves) items) where
+  module _ (items : List (ℕ × L)) (given : AreChanges 0 (length xs) items) where
     abbrev cs : List (ℕ × Digest)
     cs = seen_changes view items
 
     rise : AreChanges 0 (length leaves) cs
-    rise = AreChanges-seen view 0 (length leaves) items given
+    rise = AreChanges-seen view 0 (length leaves) items (AreChanges-inside view xs items given)
 
     abbrev new : List Digest
     new = puts leaves cs
@@ -136,13 +139,9 @@ module _ (h : HashPair) (leaves : List Digest) (rows : List (List Digest)) (tree
             ∙ rw (above_m, length-map ups (λ c. c.0)) refl
 
     -- fewer places stand above leaves than there are
-    pub count_over-below : count_over (length rows) (places items) < length leaves
+    pub count_over-below : count_over (length rows) (places items) < length xs
     count_over-below =
-        let whole : AreChanges 0 (2 ^ length rows) cs =
-        rw (tree.size ∙ ap (λ (n : ℕ). 2 ^ n) (sym tree.count)) at rise in
-        omega (
-          arith,
-          count_over-fits (length rows) cs whole,
-          tree.size ∙ ap (λ (n : ℕ). 2 ^ n) (sym tree.count),
-          ap (count_over (length rows)) (places-seen view items),
-        )
+        let wide : length leaves ≡ 2 ^ length rows = tree.size ∙ ap (λ (n : ℕ). 2 ^ n) (sym tree.count) in
+        let fits = count_over-fits (length rows) cs (rw wide at rise) in
+        let seen = ap (count_over (length rows)) (places-seen view items) in
+        omega (arith, length-map xs view)

@@ -1,7 +1,7 @@
 -- A leaf digest is changed: what the places on its way become.
-use Rattle.std.proofs.Common.{zero, suc, ◌≡◌, ◌≢◌, ℕ, ◌+◌, ◌-◌, ◌*◌, ◌/◌, ◌<◌, ◌≤◌, ◌^◌, Bool, true, false, if◌then◌else◌, List, [], ◌∷◌, ◌++◌, length, take, drop, get_or, set, Ok, Err, arith, refl, ap, sym, subst, ◌∙◌, inl, inr}
-use Rattle.std.proofs.lemmas.Bool.{cases_lt}
-use Rattle.std.proofs.lemmas.List.{length-set, length-append, get_or_append_left, get_or-set_same, get_or-set_other, drop-set-lt, drop-set-add, take-set-le}
+use Rattle.std.proofs.Common.{zero, suc, ◌≡◌, ◌≢◌, ℕ, ◌+◌, ◌-◌, ◌*◌, ◌/◌, ◌<◌, ◌^◌, Bool, true, false, if◌then◌else◌, List, [], ◌∷◌, ◌++◌, length, take, get_or, set, Ok, Err, arith, refl, ap, sym, subst, ◌∙◌, inl, inr}
+use Rattle.std.proofs.lemmas.Bool.{cases_lt, cases_eq}
+use Rattle.std.proofs.lemmas.List.{length-set, length-append, get_or_append_left, get_or-set_same, get_or-set_other, drop-set-lt}
 use Rattle.std.proofs.Math.Seq.{get_or-append_seam}
 use Rattle.std.proofs.Math.Nat.{div-eq_of_lt-le}
 use Rattle.ark_base.specs.declared.error.Error.{Error}
@@ -13,6 +13,7 @@ use Rattle.ark_paths.proofs.OwnPaths.{IsCouple, is_couple, ordered-neighbour, bi
 use Rattle.ark_paths.proofs.Parts.{part-left, part-right, get_or-part, part-whole}
 use Rattle.ark_paths.proofs.PlaceLemmas.{row-twice, place-inside, neighbour-inside}
 use Rattle.ark_merkle.specs.Update.{AreOnWay}
+use Rattle.ark_merkle.proofs.ListParts.{part-set_past}
 
 -- a part that does not hold the index is as before
 pub part-set_other : (k q index : ℕ) (digests : List Digest) (digest : Digest) → q ≢ index / 2 ^ suc k
@@ -24,43 +25,36 @@ part-set_other k q index digests digest other =
       | inr from ↦ elim (cases_lt index ((q + 1) * w)) [
         | inl within ↦ absurd (other (sym (div-eq_of_lt-le w from within)))
         | inr past ↦
-            let i = index - q * w in
-            let far : w ≤ i = let more : (q + 1) * w ≡ q * w + w = grind arith in omega arith in
-            let at : q * w + i ≡ index = omega arith in
-            ap (λ (n : ℕ). take w (drop (q * w) (set digests n digest))) (sym at)
-            ∙ ap (take w) (drop-set-add (q * w) digests i digest) ∙ take-set-le w (drop (q * w) digests) i digest far
+            let more : (q + 1) * w ≡ q * w + w = grind arith in
+            part-set_past w (q * w) index digests digest (omega arith)
       ]
     ]
 
--- two places make the one above them, in the order that the place's bit says
-joined-couple : (h : HashPair) (level : ℕ) (places : ℕ → Place) (p : ℕ) (b : Bool) (own beside : Digest) → IsCouple b p
-    → places p ≡ Root own → places (if b then p - 1 else p + 1) ≡ Root beside
-    → place_of_halves h level (places (2 * (p / 2))) (places (2 * (p / 2) + 1)) ≡ place_at level (hash_in_order h.upper
-    b own beside)
-joined-couple h level places p true own beside c is other =
-    let right : places (2 * (p / 2) + 1) ≡ Root own = rw (← c.place_is) is in
-    let left : places (2 * (p / 2)) ≡ Root beside = rw (c.neighbour_is) at other in
-    rw (left, right) refl
-joined-couple h level places p false own beside c is other =
-    let left : places (2 * (p / 2)) ≡ Root own = rw (← c.place_is) is in
-    let right : places (2 * (p / 2) + 1) ≡ Root beside = rw (c.neighbour_is) at other in
-    rw (left, right) refl
+-- a place and the one beside it, from the left
+from_left : (places : ℕ → Place) (p : ℕ) (b : Bool) (own beside : Place) → IsCouple b p → places p ≡ own
+    → places (if b then p - 1 else p + 1) ≡ beside
+    → (places (2 * (p / 2)) ≡ (if b then beside else own)) × (places (2 * (p / 2) + 1) ≡ (if b then own else beside))
+from_left places p true own beside c is other = (rw (c.neighbour_is) at other, rw (← c.place_is) is)
+from_left places p false own beside c is other = (rw (← c.place_is) is, rw (c.neighbour_is) at other)
 
-joined-refused : (h : HashPair) (level : ℕ) (places : ℕ → Place) (p : ℕ) (b : Bool) (l : ℕ) (e : Error)
-    (beside : Digest) → IsCouple b p → places p ≡ Refused l e → places (if b then p - 1 else p + 1) ≡ Root beside
-    → place_of_halves h level (places (2 * (p / 2))) (places (2 * (p / 2) + 1)) ≡ Refused l e
-joined-refused h level places p true l e beside c is other =
-    let right : places (2 * (p / 2) + 1) ≡ Refused l e = rw (← c.place_is) is in
-    let left : places (2 * (p / 2)) ≡ Root beside = rw (c.neighbour_is) at other in
-    rw (left, right) refl
-joined-refused h level places p false l e beside c is other =
-    let left : places (2 * (p / 2)) ≡ Refused l e = rw (← c.place_is) is in
-    let right : places (2 * (p / 2) + 1) ≡ Root beside = rw (c.neighbour_is) at other in
-    rw (left, right) refl
+-- what a place makes of the one above it, with the digest beside it
+abbrev place_up : HashPair → ℕ → Bool → Place → Digest → Place
+place_up h level b (Root own) beside = place_at level (hash_in_order h.upper b own beside)
+place_up h level b (Refused l e) beside = Refused l e
+
+halves-up : (h : HashPair) (level : ℕ) (b : Bool) (own : Place) (beside : Digest) → place_of_halves h level
+    (if b then Root beside else own) (if b then own else Root beside) ≡ place_up h level b own beside
+halves-up h level true (Root own) beside = refl
+halves-up h level false (Root own) beside = refl
+halves-up h level true (Refused l e) beside = refl
+halves-up h level false (Refused l e) beside = refl
 
 neighbour-other : (b : Bool) (p : ℕ) → IsCouple b p → (if b then p - 1 else p + 1) ≢ p
 neighbour-other true p c = λ e. absurd (omega (arith, c.place_is))
 neighbour-other false p c = λ e. absurd (omega arith)
+
+other : (p : ℕ) → neighbour p ≢ p
+other p = neighbour-other (bit_at p 0) p (is_couple p (bit_at p 0) refl)
 
 module _ (h : HashPair) (leaves : List Digest) (rows : List (List Digest)) (tree : IsTree h leaves rows) (index : ℕ)
     (inside : index < length leaves) (digest : Digest) where
@@ -74,19 +68,13 @@ module _ (h : HashPair) (leaves : List Digest) (rows : List (List Digest)) (tree
   pub lowest-place : place h 0 (own 0) ≡ place_at 0 (hash_in_order h.bottom (bit_at index 0) digest
       (get_or leaves (neighbour index) []))
   lowest-place =
-      let half : index / 2 ^ 1 ≡ index / 2 = omega arith in
       let q = index / 2 in
-      let left : get_or (part 0 q new) 0 [] ≡ get_or new (2 * q) [] =
-      get_or-part q 0 new (omega arith) ∙ ap (λ (n : ℕ). get_or new n []) (omega arith) in
-      let right : get_or (part 0 q new) 1 [] ≡ get_or new (2 * q + 1) [] = get_or-part q 1 new (omega arith) in
-      let here : get_or new index [] ≡ digest = get_or-set_same leaves index digest [] inside in
-      let beside : get_or new (neighbour index) [] ≡ get_or leaves (neighbour index) [] = get_or-set_other leaves index
-      (neighbour index) digest [] (neighbour-other (bit_at index 0) index
-      (is_couple index (bit_at index 0) refl)) in
-      let couple : hash_in_order h.bottom (bit_at index 0) digest (get_or leaves (neighbour index) [])
-      ≡ h.bottom (get_or new (2 * q) []) (get_or new (2 * q + 1) []) =
-      rw (here, beside) at (ordered-neighbour h.bottom new index) in
-      ap (λ (n : ℕ). place h 0 (part 0 n new)) half ∙ ap (place_at 0) (rw (left, right) (sym couple))
+      let half : index / 2 ^ 1 ≡ q = omega arith in
+      let first : 2 * q + 0 ≡ 2 * q = omega arith in
+      let here = get_or-set_same leaves index digest [] inside in
+      let beside = get_or-set_other leaves index (neighbour index) digest [] (other index) in
+      rw (half, get_or-part q 0 new (omega arith), first, get_or-part q 1 new (omega arith)) (ap (place_at 0)
+      (sym (rw (here, beside) at (ordered-neighbour h.bottom new index))))
 
   -- beside the way nothing changes
   place-beside : (k : ℕ) → suc k < length rows → place h k (part k (neighbour (index / 2 ^ suc k)) new)
@@ -97,51 +85,41 @@ module _ (h : HashPair) (leaves : List Digest) (rows : List (List Digest)) (tree
       let here = place-inside rows (length leaves) tree.levels k index (omega arith) inside in
       let next : neighbour p < 2 * length (get_or rows (suc k) []) =
       neighbour-inside p (length (get_or rows (suc k) [])) (omega arith) in
-      ap (place h k) (part-set_other k (neighbour p) index leaves digest (neighbour-other (bit_at p 0) p
-      (is_couple p (bit_at p 0) refl))) ∙ tree.roots k (neighbour p) (omega arith) (rw twice next)
+      ap (place h k) (part-set_other k (neighbour p) index leaves digest (other p))
+      ∙ tree.roots k (neighbour p) (omega arith) (rw twice next)
 
-  place-joined : (k : ℕ) → place h (suc k) (own (suc k)) ≡ place_of_halves h (suc k)
-      (place h k (part k (2 * (index / 2 ^ suc k / 2)) new)) (place h k (part k (2 * (index / 2 ^ suc k / 2) + 1) new))
-  place-joined k = let q = index / 2 ^ suc (suc k) in rw (
-    part-left k q new,
-    part-right k q new,
-    place-above index
-        (suc k),
-  ) refl
+  place-above_own : (k : ℕ) → suc k < length rows → (o : Place) → place h k (own k) ≡ o → place h (suc k)
+      (own (suc k)) ≡ place_up h (suc k) (bit_at index (suc k)) o (get_or (get_or rows k []) (neighbour (index
+      / 2 ^ suc k)) [])
+  place-above_own k below o is =
+      let p = index / 2 ^ suc k in
+      let q = index / 2 ^ suc (suc k) in
+      let beside = get_or (get_or rows k []) (neighbour p) [] in
+      let two = from_left (λ n. place h k (part k n new)) p (bit_at p 0) o (Root beside)
+      (is_couple p (bit_at p 0) refl) is (place-beside k below) in
+      rw (part-left k q new, part-right k q new, place-above index (suc k), two.0, two.1)
+      (halves-up h (suc k) (bit_at p 0) o beside)
+      ∙ ap (λ b. place_up h (suc k) b o beside) (bit_at-level index (suc k))
 
   pub place-up : (k : ℕ) → suc k < length rows → (d : Digest) → place h k (own k) ≡ Root d → place h (suc k)
       (own (suc k)) ≡ place_at (suc k) (hash_in_order h.upper (bit_at index (suc k)) d (get_or (get_or rows k [])
       (neighbour (index / 2 ^ suc k)) []))
-  place-up k below d is =
-      let p = index / 2 ^ suc k in
-      let beside = get_or (get_or rows k []) (neighbour p) [] in
-      place-joined k ∙ joined-couple h (suc k) (λ n. place h k (part k n new)) p (bit_at p 0) d beside
-      (is_couple p (bit_at p 0) refl) is (place-beside k below)
-      ∙ ap (λ b. place_at (suc k) (hash_in_order h.upper b d beside)) (bit_at-level index (suc k))
-
-  refused-up : (l : ℕ) (e : Error) (k : ℕ) → suc k < length rows → place h k (own k) ≡ Refused l e → place h (suc k)
-      (own (suc k)) ≡ Refused l e
-  refused-up l e k below is =
-      let p = index / 2 ^ suc k in
-      place-joined k ∙ joined-refused h (suc k) (λ n. place h k (part k n new)) p (bit_at p 0) l e
-      (get_or (get_or rows k []) (neighbour p) []) (is_couple p (bit_at p 0) refl) is (place-beside k below)
+  place-up k below d is = place-above_own k below (Root d) is
 
   refused-on : (l : ℕ) (e : Error) (n k : ℕ) → suc (k + n) ≡ length rows → place h k (own k) ≡ Refused l e
       → place h (k + n) (own (k + n)) ≡ Refused l e
   refused-on l e zero k last is = let same : k + 0 ≡ k = omega arith in rw same is
   refused-on l e (suc n) k last is =
       let next : suc k + n ≡ k + suc n = omega arith in
-      rw next at (refused-on l e n (suc k) (omega arith) (refused-up l e k (omega arith) is))
+      rw next at (refused-on l e n (suc k) (omega arith) (place-above_own k (omega arith) (Refused l e) is))
 
   same_levels : upper_levels new ≡ upper_levels leaves
   same_levels = rw (length-set leaves index digest) refl
 
   pub root-own : root h new ≡ outcome_of (place h (upper_levels leaves) (own (upper_levels leaves)))
   root-own =
-      let m = upper_levels leaves in
-      let long : length new ≡ 2 ^ suc m = length-set leaves index digest ∙ tree.size in
-      ap (λ (k : ℕ). outcome_of (place h k new)) same_levels ∙ ap (λ (ds : List Digest). outcome_of (place h m ds))
-      (sym (rw (first_place h leaves rows tree index inside) (part-whole m new long)))
+      let whole = part-whole (upper_levels leaves) new (length-set leaves index digest ∙ tree.size) in
+      rw (same_levels, first_place h leaves rows tree index inside, whole) refl
 
   -- a refusal on the way is that of the whole
   pub root-refused : (k l : ℕ) (e : Error) → k < length rows → place h k (own k) ≡ Refused l e → root h new ≡ Err e
@@ -207,20 +185,13 @@ module _ (h : HashPair) (leaves : List Digest) (rows : List (List Digest)) (tree
       roots-put k q below within =
           let p = index / 2 ^ suc k in
           let d = get_or way k [] in
-          let other : q ≢ p → place h k (part k q new) ≡ Root (get_or (get_or put k []) q []) = λ apart. ap (place h k)
-          (part-set_other k q index leaves digest apart) ∙ tree.roots k q below within
-          ∙ ap Root (sym (ap (λ row. get_or row q []) (puts k below) ∙ get_or-set_other (get_or rows k []) p q d
-          [] apart)) in
-          elim (cases_lt q p) [
-            | inl lt ↦ other (λ e. absurd (omega arith))
-            | inr ge ↦ elim (cases_lt p q) [
-              | inl gt ↦ other (λ e. absurd (omega arith))
-              | inr le ↦
-                  let same : q ≡ p = omega arith in
-                  let read : get_or (get_or put k []) p [] ≡ d = ap (λ row. get_or row p []) (puts k below)
-                  ∙ get_or-set_same (get_or rows k []) p d [] (rw (← same) within) in
-                  rw (same, read) (on_way k (omega (arith, long)))
-            ]
+          elim (cases_eq q p) [
+            | inl same ↦
+                let read = get_or-set_same (get_or rows k []) p d [] (rw (← same) within) in
+                rw (same, puts k below, read) (on_way k (omega (arith, long)))
+            | inr apart ↦
+                ap (place h k) (part-set_other k q index leaves digest apart) ∙ tree.roots k q below within
+                ∙ rw (puts k below, get_or-set_other (get_or rows k []) p q d [] apart) refl
           ]
 
       -- the rows with the digests of the way are those of the changed tree

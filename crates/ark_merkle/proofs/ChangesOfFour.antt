@@ -10,10 +10,7 @@ use Rattle.ark_merkle.proofs.Batches.{AreHashedSoFar, hashed_so_far-more, hashed
 
 four-behind : {A : Type 0} (done : List A) (a b c d : A) → (((done ++ a ∷ []) ++ b ∷ []) ++ c ∷ []) ++ d ∷ []
     ≡ done ++ a ∷ b ∷ c ∷ d ∷ []
-four-behind done a b c d =
-    append_assoc ((done ++ a ∷ []) ++ b ∷ []) (c ∷ []) (d ∷ []) ∙ append_assoc (done ++ a ∷ []) (b ∷ [])
-    (c ∷ d ∷ [])
-    ∙ append_assoc done (a ∷ []) (b ∷ c ∷ d ∷ [])
+four-behind done a b c d = simp append_assoc
 
 -- The first four of the changes that are left, after those that are hashed.
 module _ {A : Type 0} (hash : A → Outcome Digest) (cs : List (ℕ × A)) (done : List (ℕ × Digest)) (a b c d : ℕ × A)
@@ -50,18 +47,13 @@ module _ {A : Type 0} (hash : A → Outcome Digest) (cs : List (ℕ × A)) (done
       by_first : (p q r s : Outcome Digest) → hash a.1 ≡ p → hash b.1 ≡ q → hash c.1 ≡ r → hash d.1 ≡ s
           → four_in_turn p q r s ≡ Err e → hashed_changes hash cs ≡ Err e
       by_first (Err f) q r s first second third fourth is =
-          let same : f ≡ e = cc in
-          hashed_so_far-refused hash cs done a (b ∷ c ∷ d ∷ others) e so (first ∙ ap Err same)
+          hashed_so_far-refused hash cs done a (b ∷ c ∷ d ∷ others) e so (first ∙ ap Err cc)
       by_first (Ok w) (Err f) r s first second third fourth is =
-          let same : f ≡ e = cc in
-          hashed_so_far-refused hash cs (done ++ (a.0, w) ∷ []) b (c ∷ d ∷ others) e (one w first)
-          (second ∙ ap Err same)
+          hashed_so_far-refused hash cs (done ++ (a.0, w) ∷ []) b (c ∷ d ∷ others) e (one w first) (second ∙ ap Err cc)
       by_first (Ok w) (Ok x) (Err f) s first second third fourth is =
-          let same : f ≡ e = cc in
           hashed_so_far-refused hash cs ((done ++ (a.0, w) ∷ []) ++ (b.0, x) ∷ []) c (d ∷ others) e
-          (two w x first second) (third ∙ ap Err same)
+          (two w x first second) (third ∙ ap Err cc)
       by_first (Ok w) (Ok x) (Ok y) (Err f) first second third fourth is =
-          let same : f ≡ e = cc in
           hashed_so_far-refused hash cs (((done ++ (a.0, w) ∷ []) ++ (b.0, x) ∷ []) ++ (c.0, y) ∷ []) d others e
-          (three w x y first second third) (fourth ∙ ap Err same)
+          (three w x y first second third) (fourth ∙ ap Err cc)
       by_first (Ok w) (Ok x) (Ok y) (Ok z) first second third fourth is = absurd cc

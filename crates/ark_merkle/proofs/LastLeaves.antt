@@ -11,12 +11,12 @@ use Rattle.std.specs.Prelude.{IfOk, OnErr}
 use Rattle.std.proofs.Math.Logic.{⊎_map}
 use Rattle.ark_base.specs.declared.error.Error.{Error}
 use Rattle.ark_base.specs.Outcome.{Outcome, AnswersBy}
-use Rattle.ark_paths.specs.Pair.{Digest, HashPair, Hashes}
+use Rattle.ark_paths.specs.Pair.{Digest, Hashes}
 use Rattle.ark_paths.specs.Root.{leaves_with_root}
-use Rattle.ark_paths.specs.Tree.{Tree, HashedTree, tree_with, with_hashes}
+use Rattle.ark_paths.specs.Tree.{HashedTree, tree_with, with_hashes}
 use Rattle.ark_paths.proofs.OwnPaths.{place-above}
-use Rattle.ark_merkle.proofs.TreeReads.{seen_by}
-use Rattle.ark_merkle.specs.Batch.{with_change, last_changes, hashed_changes, puts, with_leaves}
+use Rattle.ark_merkle.proofs.ListParts.{map-twice}
+use Rattle.ark_merkle.specs.Batch.{with_change, last_changes, hashed_changes, puts, with_leaves, with_each_leaf}
 use Rattle.ark_paths.specs.Above.{count_above}
 use Rattle.ark_merkle.specs.Changed.{seen_changes, AreChanges, Rise, count_over}
 use Rattle.ark_paths.specs.Rising.{with_number, rising_set}
@@ -86,18 +86,9 @@ last-places (c ∷ cs) = places-placed c (last_changes cs) ∙ ap (with_number c
 -- ---- a map of changes
 
 module _ {A B : Type 0} (view : A → B) (k : ℕ) (x : A) where
-  test_below : (n : ℕ) → k < n → is_at (nat_cmp k) n ≡ false
-  test_below n lt = rw (← nat_cmp_is k n Less lt) refl
-
-  test_same : (n : ℕ) → k ≡ n → is_at (nat_cmp k) n ≡ true
-  test_same n same = rw (← nat_cmp_is k n Equal same) refl
-
-  test_past : (n : ℕ) → n < k → is_at (nat_cmp k) n ≡ false
-  test_past n gt = rw (← nat_cmp_is k n Greater gt) refl
-
   found_none : (es : List (ℕ × A)) → Rise (suc k) es → is_some (lookup (is_at (nat_cmp k)) es) ≡ false
   found_none [] so = refl
-  found_none (e ∷ es) so = rw (test_below e.0 (so.0)) (found_none es (rise-later (suc k) (suc e.0) es
+  found_none (e ∷ es) so = rw (← nat_cmp_is k e.0 Less so.0) (found_none es (rise-later (suc k) (suc e.0) es
       (omega (arith, so.0)) so.1))
 
   -- a change of an index that is there is not entered
@@ -106,11 +97,12 @@ module _ {A B : Type 0} (view : A → B) (k : ℕ) (x : A) where
   entered-again first [] so found = absurd cc
   entered-again first (e ∷ es) so found =
       elim (trichotomy k e.0) [
-        | inl lt ↦ absurd (no_both (rw (test_below e.0 lt) at found) (found_none es (rise-later (suc k) (suc e.0) es
-            (omega arith) so.1)))
+        | inl lt ↦ absurd (no_both (rw (← nat_cmp_is k e.0 Less lt) at found) (found_none es (rise-later (suc k)
+            (suc e.0) es (omega arith) so.1)))
         | inr (inl same) ↦ sym (placed_change-same (k, view x) (e.0, view e.1) (seen_changes view es) same)
-        | inr (inr gt) ↦ ap (λ cs. (e.0, view e.1) ∷ cs) (entered-again (suc e.0) es so.1 (rw (test_past e.0 gt) at
-            found)) ∙ sym (placed_change-past (k, view x) (e.0, view e.1) (seen_changes view es) gt)
+        | inr (inr gt) ↦ ap (λ cs. (e.0, view e.1) ∷ cs) (entered-again (suc e.0) es so.1
+            (rw (← nat_cmp_is k e.0 Greater gt) at found))
+            ∙ sym (placed_change-past (k, view x) (e.0, view e.1) (seen_changes view es) gt)
       ]
 
   -- another one is
@@ -121,10 +113,10 @@ module _ {A B : Type 0} (view : A → B) (k : ℕ) (x : A) where
       elim (trichotomy k e.0) [
         | inl lt ↦ rw (← nat_cmp_is k e.0 Less lt) (sym (placed_change-below (k, view x) (e.0, view e.1)
             (seen_changes view es) lt))
-        | inr (inl same) ↦ absurd (no_both (rw (test_same e.0 same) refl) none)
+        | inr (inl same) ↦ absurd (no_both (rw (← nat_cmp_is k e.0 Equal same) refl) none)
         | inr (inr gt) ↦ rw (← nat_cmp_is k e.0 Greater gt) (ap (λ cs. (e.0, view e.1) ∷ cs)
-            (entered-new es (rw (test_past e.0 gt) at none)) ∙ sym (placed_change-past (k, view x) (e.0, view e.1)
-            (seen_changes view es) gt))
+            (entered-new es (rw (← nat_cmp_is k e.0 Greater gt) at none))
+            ∙ sym (placed_change-past (k, view x) (e.0, view e.1) (seen_changes view es) gt))
       ]
 
 -- ---- changes of a tree's leaves
@@ -158,11 +150,6 @@ Contains-mapped f xs m c =
       sym (get_or-map f xs c.0 m m below)
           ∙ c.2,
     )
-
-map-twice : (f g h : ℕ → ℕ) (xs : List ℕ) → ((n : ℕ) → g (f n) ≡ h n) → map g (map f xs) ≡ map h xs
-map-twice f g h [] same = refl
-map-twice f g h (x ∷ xs) same = ap (λ (ns : List ℕ). g (f x) ∷ ns) (map-twice f g h xs same)
-    ∙ ap (λ (n : ℕ). n ∷ map h xs) (same x)
 
 rising-mapped : (f : ℕ → ℕ) (xs : List ℕ) → rising_set (map f (rising_set xs)) ≡ rising_set (map f xs)
 rising-mapped f xs =
@@ -237,22 +224,19 @@ batch-answered {A = A} {B = B} hashes leaves cs hs hashed made result answers =
     (leaves_with_root hashes.pair (puts leaves hs)) (with_leaves (tree_with hashes leaves) cs) result answers
     (λ a ok. batch ∙ ap (with_hashes hashes) ok) (λ e bad. batch ∙ ap (with_hashes hashes) bad)
 
--- The batch of a tree, as contracts see it, is that of its fields.
-pub batch-seen : {L T A B : Type 0} (meaning : L → A → Outcome Digest) (pair : T → HashPair) (view now : Tree L T)
-    → view ≡ now → (own : Hashes A) → own ≡ (seen_by meaning pair view).hashes → (cs : List (ℕ × A))
-    (made new : List Digest) (result : Outcome B)
-    → AnswersBy (λ _. tree_with own made) (with_leaves (tree_with own view.leaves) cs) result → made ≡ new
-    → AnswersBy (λ _. tree_with (seen_by meaning pair view).hashes new) (with_leaves (seen_by meaning pair now) cs)
-    result
-batch-seen {A = A} {B = B} meaning pair view now same own is cs made new result answers items =
-    let seen = (seen_by meaning pair view).hashes in
-    subst (λ t. AnswersBy {A = B} (λ _. tree_with seen new) (with_leaves (seen_by meaning pair t) cs) result) same
-    (subst (λ (ds : List Digest). AnswersBy {A = B} (λ _. tree_with seen ds)
-    (with_leaves (seen_by meaning pair view) cs)
-    result) items
-    (subst (λ (h : Hashes A). AnswersBy {A = B} (λ _. tree_with h made) (with_leaves (tree_with h view.leaves)
-    cs) result)
-    is answers))
+-- Equal hashes make equal batches.
+pub batch-of : {A B : Type 0} {own hashes : Hashes A} → own ≡ hashes → (leaves made : List Digest) (cs : List (ℕ × A))
+    (result : Outcome B)
+    → AnswersBy (λ _. tree_with own made) (with_leaves (tree_with own leaves) cs) result
+    → AnswersBy (λ _. tree_with hashes made) (with_leaves (tree_with hashes leaves) cs) result
+batch-of same leaves made cs result answers = rw (← same) answers
+
+pub each-of : {A : Type 0} {own hashes : Hashes A} → own ≡ hashes → (leaves : List Digest) (cs : List (ℕ × A))
+    → ((made : _) → with_each_leaf (tree_with own leaves) cs ≡ Ok made
+    → with_leaves (tree_with own leaves) cs ≡ Ok made)
+    → (made : _) → with_each_leaf (tree_with hashes leaves) cs ≡ Ok made
+    → with_leaves (tree_with hashes leaves) cs ≡ Ok made
+each-of same leaves cs one_by_one = rw (← same) one_by_one
 
 -- The count of a batch is that of the places above the changed indexes.
 pub batch-counted : {A B : Type 0} (hash : A → Outcome Digest) (view : B → Digest) (rows : ℕ) (cs : List (ℕ × A))

@@ -19,3 +19,5 @@ pub mod MultiCommon
 pub mod MultiOwn
 pub mod Compares
 pub mod NewWays
+mod ListParts
+pub mod HashedCouples

@@ -1,6 +1,7 @@
 -- What the ways of two indexes have in common, row by row.
-use Rattle.std.proofs.Common.{◌≡◌, ℕ, suc, ◌+◌, ◌-◌, ◌/◌, ◌<◌, ◌≤◌, ◌^◌, Bool, true, false, List, [], ◌∷◌, ◌++◌, length, map, take, drop, get_or, refl, ap, sym, ◌∙◌, arith}
+use Rattle.std.proofs.Common.{◌≡◌, ℕ, suc, ◌+◌, ◌-◌, ◌/◌, ◌<◌, ◌≤◌, ◌^◌, Bool, true, false, List, [], ◌∷◌, ◌++◌, length, map, take, drop, get_or, refl, ap, sym, ◌∙◌, add-one, arith}
 use Rattle.std.specs.Bool.{Decides}
+use Rattle.std.specs.Prelude.{◌↔◌}
 use Rattle.std.proofs.lemmas.List.{map-append, take_more}
 use Rattle.std.proofs.lemmas.Slice.Eq.{bytes_eq-Decides}
 use Rattle.ark_paths.specs.Index.{neighbour}
@@ -18,8 +19,7 @@ beside_at rows k index = get_or (get_or rows k []) (neighbour (index / 2 ^ suc k
 -- two ways at one place of a row
 pub beside_at-place : (rows : List (List Digest)) (k before index : ℕ) → neighbour (before / 2 ^ (k + 1))
     ≡ neighbour (index / 2 ^ (k + 1)) → beside_at rows k before ≡ beside_at rows k index
-beside_at-place rows k before index same = let one : k + 1 ≡ suc k =
-    omega arith in ap (λ (place : ℕ). get_or (get_or rows k []) place []) (rw one at same)
+beside_at-place rows k before index same = ap (λ (place : ℕ). get_or (get_or rows k []) place []) (rw add-one at same)
 
 -- how many digests two ways have in common below row k
 abbrev pub common : List (List Digest) → ℕ → ℕ → ℕ → ℕ
@@ -30,35 +30,32 @@ not_decided true P d denied = absurd (denied (d.0 refl))
 not_decided false P d denied = refl
 
 module _ (rows : List (List Digest)) (before index k n above : ℕ) (level : k + above + 1 ≡ n) (some : 0 < above) where
+  here : n - above ≡ suc k
+  here = omega arith
+
   -- the digests in a row are the same
   pub common-same : common rows (n - 1) before index ≡ above - 1 + common rows (n - above) before index → beside_at rows
       k before ≡ beside_at rows k index
       → common rows (n - 1) before index ≡ above + 1 - 1 + common rows (n - (above + 1)) before index
   common-same so same =
-      let here : n - above ≡ suc k = omega arith in
       let next : n - (above + 1) ≡ k = omega arith in
-      let step : common rows (n - above) before index ≡ suc (common rows k before index) =
-      rw here (shared-same (beside_at rows k before) (beside_at rows k index) (beside_in rows k before)
-      (beside_in rows k index) ((bytes_eq-Decides (beside_at rows k before) (beside_at rows k index)).1 same)) in
-      so ∙ rw (step, next) (omega arith)
+      let step = shared-same (beside_at rows k before) (beside_at rows k index) (beside_in rows k before)
+      (beside_in rows k index) ((bytes_eq-Decides (beside_at rows k before) (beside_at rows k index)).1 same) in
+      so ∙ rw (here, step, next) (omega arith)
 
   -- they differ
   pub common-other : common rows (n - 1) before index ≡ above - 1 + common rows (n - above) before index
       → (beside_at rows k before ≡ beside_at rows k index → ⊥) → common rows (n - 1) before index ≡ above - 1
   common-other so other =
-      let here : n - above ≡ suc k = omega arith in
-      let step : common rows (n - above) before index ≡ 0 = rw here (shared-other (beside_at rows k before)
-      (beside_at rows k index) (beside_in rows k before) (beside_in rows k index)
-      (not_decided (digest_eq (beside_at rows k before) (beside_at rows k index)) _
-      (bytes_eq-Decides (beside_at rows k before) (beside_at rows k index)) other)) in
-      so ∙ rw step (omega arith)
+      let step = shared-other (beside_at rows k before) (beside_at rows k index) (beside_in rows k before)
+      (beside_in rows k index) (not_decided (digest_eq (beside_at rows k before) (beside_at rows k index)) _
+      (bytes_eq-Decides (beside_at rows k before) (beside_at rows k index)) other) in
+      so ∙ rw (here, step) (omega arith)
 
 pub common-le : (rows : List (List Digest)) (k before index : ℕ) → common rows k before index ≤ k
-common-le rows k before index = omega (
-  arith,
-  shared-le (beside_in rows k before) (beside_in rows k index),
-  length-beside_in rows k index,
-)
+common-le rows k before index =
+    let most = shared-le (beside_in rows k before) (beside_in rows k index) in
+    omega (arith, length-beside_in rows k index)
 
 -- ---- one index more
 
@@ -110,9 +107,17 @@ module _ (rows : List (List Digest)) (k index : ℕ) (holds : HoldsIndex rows in
 
   module _ (place : ℕ) (at : place ≡ neighbour (index / 2 ^ (k + 1))) where
     pub beside-bound : place < length (get_or rows k [])
-    beside-bound = let one : k + 1 ≡ suc k =
-        omega arith in rw (at, one) (beside-inside rows index holds k (omega arith))
+    beside-bound = rw (at, add-one) (beside-inside rows index holds k (omega arith))
 
     pub beside-read : (digest : Digest) → digest ≡ get_or (get_or rows k []) place [] → beside_at rows k index ≡ digest
-    beside-read digest found = let one : k + 1 ≡ suc k =
-        omega arith in let there : place ≡ neighbour (index / 2 ^ suc k) = rw one at at in rw (← there) (sym found)
+    beside-read digest found = rw (← rw add-one at at) (sym found)
+
+-- two digests that are read beside two ways are the same exactly where those beside the ways are
+pub beside-alike : (rows : List (List Digest)) (k before index : ℕ) → HoldsIndex rows before → HoldsIndex rows index
+    → k + 1 < length rows → {there here : ℕ} → there ≡ neighbour (before / 2 ^ (k + 1))
+    → here ≡ neighbour (index / 2 ^ (k + 1)) → {x y : Digest} → x ≡ get_or (get_or rows k []) there []
+    → y ≡ get_or (get_or rows k []) here [] → (x ≡ y) ↔ (beside_at rows k before ≡ beside_at rows k index)
+beside-alike rows k before index held holds below at_there at_here x_is y_is =
+    let there = beside-read rows k before held below _ at_there _ x_is in
+    let here = beside-read rows k index holds below _ at_here _ y_is in
+    (λ same. there ∙ same ∙ sym here, λ same. sym there ∙ same ∙ here)

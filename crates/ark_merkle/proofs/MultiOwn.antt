@@ -1,8 +1,9 @@
 -- A tree's own multi-proofs.
-use Rattle.std.proofs.Common.{◌≡◌, ℕ, suc, ◌-◌, ◌<◌, ◌^◌, true, false, nat_eq, List, [], ◌∷◌, length, map, get_or, Option, Some, Ok, refl, ap, sym, ◌∙◌, arith}
+use Rattle.std.proofs.Common.{◌≡◌, ℕ, suc, ◌-◌, ◌<◌, ◌^◌, true, false, nat_eq, List, [], ◌∷◌, length, map, get_or, Some, Ok, refl, ap, sym, ◌∙◌, arith}
 use Rattle.std.specs.List.{All, AllByRecursion}
 use Rattle.std.proofs.lemmas.Bool.{ne_eqb}
-use Rattle.std.proofs.lemmas.List.{length-map}
+use Rattle.std.proofs.lemmas.List.{length-map, map-id}
+use Rattle.std.proofs.lemmas.List.Elements.{All-head, All-tail}
 use Rattle.ark_base.specs.Outcome.{Outcome}
 use Rattle.ark_paths.specs.Index.{neighbour}
 use Rattle.ark_paths.specs.MultiPath.{MultiWay, decoded_paths, multi_verdict_from, multi_verdict}
@@ -17,13 +18,8 @@ use Rattle.ark_paths.proofs.OwnPaths.{length-beside_in, own_path-rows, own_path-
 use Rattle.ark_paths.specs.Rising.{rising_set}
 use Rattle.ark_merkle.specs.MultiProof.{own_multi_path}
 use Rattle.ark_paths.proofs.MultiIndexes.{All-rising, rising-some}
+use Rattle.ark_merkle.proofs.ListParts.{map-twice}
 use Rattle.ark_merkle.proofs.TreeReads.{holds-index}
-
-rest_of : {X : Type 0} (P : X → Type 0) (x : X) (xs : List X) → All P (x ∷ xs) → All P xs
-rest_of P x xs h k d below = h (suc k) d (omega arith)
-
-first_of : {X : Type 0} (P : X → Type 0) (x : X) (xs : List X) → All P (x ∷ xs) → P x
-first_of P x xs h = h 0 x (omega arith)
 
 module _ (h : HashPair) (leaves : List Digest) (rows : List (List Digest)) (tree : IsTree h leaves rows) where
   abbrev pub own : ℕ → Way
@@ -38,41 +34,36 @@ module _ (h : HashPair) (leaves : List Digest) (rows : List (List Digest)) (tree
 
   own-siblings : (indexes : List ℕ) → map (λ way. way.sibling) (map own indexes) ≡ map (λ i. get_or leaves (neighbour i)
       []) indexes
-  own-siblings [] = refl
-  own-siblings (i ∷ indexes) = ap (λ (ds : List Digest). get_or leaves (neighbour i) [] ∷ ds) (own-siblings indexes)
+  own-siblings indexes = map-twice own (λ way. way.sibling) _ indexes (λ i. refl)
 
   pub own-indexes : (indexes : List ℕ) → map (λ way. way.index) (map own indexes) ≡ indexes
-  own-indexes [] = refl
-  own-indexes (i ∷ indexes) = ap (λ (ns : List ℕ). i ∷ ns) (own-indexes indexes)
+  own-indexes indexes = map-twice own (λ way. way.index) (λ i. i) indexes (λ i. refl) ∙ map-id indexes
 
   own-aboves : (indexes : List ℕ) → All IsInside indexes → map (λ way. way.above) (map own indexes)
       ≡ map (beside_in rows (upper_levels leaves)) indexes
   own-aboves [] inside = refl
   own-aboves (i ∷ indexes) inside =
       ap (λ (ds : List Digest). ds ∷ map (λ way. way.above) (map own indexes))
-      (own-above i (first_of IsInside i indexes inside)) ∙ ap (λ (lists : List (List Digest)). beside_in rows
-      (upper_levels leaves) i ∷ lists) (own-aboves indexes (rest_of IsInside i indexes inside))
+      (own-above i (All-head IsInside i indexes inside)) ∙ ap (λ (lists : List (List Digest)). beside_in rows
+      (upper_levels leaves) i ∷ lists) (own-aboves indexes (All-tail IsInside i indexes inside))
 
   pub own-long : (indexes : List ℕ) → All IsInside indexes → AllByRecursion (λ way. length way.above ≡ upper_levels
       leaves) (map own indexes)
   own-long [] inside = tt
-  own-long (i ∷ indexes) inside = (
-    ap length (own-above i (first_of IsInside i indexes inside)) ∙ length-beside_in rows
-        (upper_levels leaves) i,
-    own-long indexes (rest_of IsInside i indexes inside),
-  )
+  own-long (i ∷ indexes) inside =
+      let above = ap length (own-above i (All-head IsInside i indexes inside)) in
+      (above ∙ length-beside_in rows (upper_levels leaves) i, own-long indexes (All-tail IsInside i indexes inside))
 
   own-some : (indexes : List ℕ) → map Some (map own indexes) ≡ map (λ i. Some (own_path h i leaves)) indexes
-  own-some [] = refl
-  own-some (i ∷ indexes) = ap (λ (ways : List (Option Way)). Some (own i) ∷ ways) (own-some indexes)
+  own-some indexes = map-twice own Some _ indexes (λ i. refl)
 
   own-verified : (r : Digest) (place : ℕ) (indexes : List ℕ) → All IsInside indexes → root h leaves ≡ Ok r
       → multi_verdict_from h r place (map (λ i. Some (own_path h i leaves)) indexes) (map (λ i. Ok (get_or leaves i []))
       indexes) ≡ Ok true
   own-verified r place [] inside rooted = refl
   own-verified r place (i ∷ indexes) inside rooted =
-      rw (own_path-accepted h leaves rows tree i (first_of IsInside i indexes inside) (own i) (Ok (get_or leaves i []))
-      r refl refl rooted) (own-verified r (suc place) indexes (rest_of IsInside i indexes inside) rooted)
+      rw (own_path-accepted h leaves rows tree i (All-head IsInside i indexes inside) (own i) (Ok (get_or leaves i []))
+      r refl refl rooted) (own-verified r (suc place) indexes (All-tail IsInside i indexes inside) rooted)
 
   module _ (asked : List ℕ) (inside : All IsInside asked) where
     pub within : All IsInside (rising_set asked)

@@ -13,15 +13,10 @@ use Rattle.ark_paths.proofs.Readings.{digest_read}
 use Rattle.ark_merkle.specs.Update.{AreOnWay, ChangesWay}
 use Rattle.ark_merkle.proofs.Changes.{lowest-on_way, lowest-refused, next-on_way, next-refused, root-way}
 
-module _ {A B : Type 0} (leaf_numbers : A → Digest) (numbers : B → Digest) (h : HashPair) (leaves_in : List A)
-    (rows : List (List Digest))
-    (tree : IsTree h (map leaf_numbers leaves_in) rows) (index : ℕ) (within : index < length leaves_in)
-    (digest : Digest) where
+module _ {A : Type 0} (leaf_numbers : A → Digest) (h : HashPair) (leaves_in : List A) (rows : List (List Digest))
+    (tree : IsTree h (map leaf_numbers leaves_in) rows) (index : ℕ) (within : index < length leaves_in) where
   abbrev leaves : List Digest
   leaves = map leaf_numbers leaves_in
-
-  abbrev new : List Digest
-  new = set leaves index digest
 
   inside : index < length leaves
   inside = omega (arith, length-map leaves_in leaf_numbers, within)
@@ -34,19 +29,19 @@ module _ {A B : Type 0} (leaf_numbers : A → Digest) (numbers : B → Digest) (
 
   -- ---- the leaf digests
 
-  module _ (place : ℕ) (place_is : place ≡ neighbour index) (sibling : A) (read : sibling ≡ get_or leaves_in place
-      sibling) (is_right : Bool) (side : is_right ≡ bit_at index 0) where
+  module _ (digest : Digest) (place : ℕ) (place_is : place ≡ neighbour index) (sibling : A)
+      (read : sibling ≡ get_or leaves_in place sibling) (is_right : Bool) (side : is_right ≡ bit_at index 0) where
     beside : get_or leaves (neighbour index) [] ≡ leaf_numbers sibling
     beside = get_or-map leaf_numbers leaves_in (neighbour index) sibling [] beside-here ∙ ap leaf_numbers
         (sym (rw place_is at read))
 
-    pub way-first : (d : Digest) → hash_in_order h.bottom is_right digest (leaf_numbers sibling) ≡ Ok d → AreOnWay h new
-        index (d ∷ [])
+    pub way-first : (d : Digest) → hash_in_order h.bottom is_right digest (leaf_numbers sibling) ≡ Ok d → AreOnWay h
+        (set leaves index digest) index (d ∷ [])
     way-first d hashed = lowest-on_way h leaves rows tree index inside digest (leaf_numbers sibling) beside d
         (rw side at hashed)
 
     pub way-first-refused : (e : Error) → hash_in_order h.bottom is_right digest (leaf_numbers sibling) ≡ Err e
-        → root h new ≡ Err e
+        → root h (set leaves index digest) ≡ Err e
     way-first-refused e refused = lowest-refused h leaves rows tree index inside digest (leaf_numbers sibling) beside e
         (rw side at refused)
 
@@ -60,7 +55,8 @@ module _ {A B : Type 0} (leaf_numbers : A → Digest) (numbers : B → Digest) (
     pub beside-inside_row : neighbour (index / 2 ^ level) < length (get_or rows (level - 1) [])
     beside-inside_row = way-neighbour rows (length leaves) tree.levels index inside level some under
 
-    module _ {Y : Type 0} (way : Vec B Y) (on_way : AreOnWay h new index (digests_of numbers way))
+    module _ {B Y : Type 0} (numbers : B → Digest) (digest : Digest) (way : Vec B Y)
+        (on_way : AreOnWay h (set leaves index digest) index (digests_of numbers way))
         (long : length way.items ≡ level) (lower : B) (lower_read : lower ≡ get_or way.items (level - 1) lower)
         (place : ℕ) (place_is : place ≡ neighbour (index / 2 ^ level)) (sibling : Digest) (read : sibling
         ≡ get_or (get_or rows (level - 1) []) place []) (is_right : Bool) (side : is_right ≡ bit_at index level) where
@@ -70,15 +66,15 @@ module _ {A B : Type 0} (leaf_numbers : A → Digest) (numbers : B → Digest) (
       beside_row : get_or (get_or rows (level - 1) []) (neighbour (index / 2 ^ level)) [] ≡ sibling
       beside_row = sym (rw place_is at read)
 
-      pub way-more : (d : Digest) → hash_in_order h.upper is_right (numbers lower) sibling ≡ Ok d → AreOnWay h new index
-          (digests_of numbers way ++ d ∷ [])
+      pub way-more : (d : Digest) → hash_in_order h.upper is_right (numbers lower) sibling ≡ Ok d → AreOnWay h
+          (set leaves index digest) index (digests_of numbers way ++ d ∷ [])
       way-more d hashed =
           next-on_way h leaves rows tree index inside digest (digests_of numbers way) on_way level
           (length-map way.items numbers ∙ long) some under (numbers lower) sibling lower_is beside_row d
           (rw side at hashed)
 
       pub way-more-refused : (e : Error) → hash_in_order h.upper is_right (numbers lower) sibling ≡ Err e
-          → root h new ≡ Err e
+          → root h (set leaves index digest) ≡ Err e
       way-more-refused e refused =
           next-refused h leaves rows tree index inside digest (digests_of numbers way) on_way level
           (length-map way.items numbers ∙ long) some under (numbers lower) sibling lower_is beside_row e
@@ -86,7 +82,8 @@ module _ {A B : Type 0} (leaf_numbers : A → Digest) (numbers : B → Digest) (
 
   -- ---- the whole way
 
-  module _ {Y : Type 0} (way : Vec B Y) (on_way : AreOnWay h new index (digests_of numbers way))
+  module _ {B Y : Type 0} (numbers : B → Digest) (digest : Digest) (way : Vec B Y)
+      (on_way : AreOnWay h (set leaves index digest) index (digests_of numbers way))
       (long : length way.items ≡ length rows) where
     whole : length (digests_of numbers way) ≡ length rows
     whole = length-map way.items numbers ∙ long
@@ -94,5 +91,5 @@ module _ {A B : Type 0} (leaf_numbers : A → Digest) (numbers : B → Digest) (
     pub way-whole : ChangesWay h leaves index digest (digests_of numbers way)
     way-whole = record { whole = whole ∙ tree.count; on_way = on_way }
 
-    pub way-root : root h new ≡ Ok (get_or (digests_of numbers way) (upper_levels leaves) [])
+    pub way-root : root h (set leaves index digest) ≡ Ok (get_or (digests_of numbers way) (upper_levels leaves) [])
     way-root = root-way h leaves rows tree index inside digest (digests_of numbers way) on_way whole

@@ -1,5 +1,5 @@
 -- Digests that are put into rows, on the way of an index.
-use Rattle.std.proofs.Common.{suc, ◌≡◌, ◌≢◌, ℕ, ◌+◌, ◌/◌, ◌<◌, ◌≤◌, ◌^◌, List, [], length, get_or, set, arith, ◌∙◌, inl, inr}
+use Rattle.std.proofs.Common.{suc, ◌≡◌, ℕ, ◌+◌, ◌/◌, ◌<◌, ◌≤◌, ◌^◌, List, [], length, get_or, set, add-one, arith, ◌∙◌, inl, inr}
 use Rattle.std.proofs.lemmas.List.{length-set, get_or-set_same, get_or-set_other}
 use Rattle.std.proofs.lemmas.Bool.{cases_lt}
 use Rattle.ark_paths.specs.Pair.{Digest}
@@ -22,27 +22,22 @@ module _ (before : List (List Digest)) (index : ℕ) (way : List Digest) where
         (index / 2 ^ (level + 1)) (get_or left level []) → ArePut before index way (level + 1) (set rows level row)
         (set left level gone)
     are_put-more row gone below is =
-        let one : level + 1 ≡ suc level = omega arith in
-        let here : row ≡ set (get_or before level []) (index / 2 ^ suc level) (get_or way level []) =
-        rw (one, so.above level (omega arith), so.to_put level (omega arith)) at is in
+        let here = rw (add-one, so.above level (omega arith), so.to_put level (omega arith)) at is in
         record {
           count = length-set rows level row ∙ so.count;
           long = length-set left level gone ∙ so.long;
           put = λ k under. elim (cases_lt k level) [
-            | inl lt ↦ let other : k ≢ level = λ e. absurd (omega arith) in get_or-set_other rows level k row [] other
-                ∙ so.put k lt
+            | inl lt ↦ get_or-set_other rows level k row [] (λ e. absurd (omega arith)) ∙ so.put k lt
             | inr ge ↦ let same : k ≡ level = omega arith in rw same (get_or-set_same rows level row [] below ∙ here)
           ];
-          above = λ k from. let other : k ≢ level = λ e. absurd (omega arith) in get_or-set_other rows level k row []
-              other ∙ so.above k (omega arith);
-          to_put = λ k from. let other : k ≢ level = λ e. absurd (omega arith) in get_or-set_other left level k gone []
-              other ∙ so.to_put k (omega arith);
+          above = λ k from. get_or-set_other rows level k row [] (λ e. absurd (omega arith)) ∙ so.above k (omega arith);
+          to_put = λ k from.
+              get_or-set_other left level k gone [] (λ e. absurd (omega arith)) ∙ so.to_put k (omega arith);
         }
 
     -- the row of the level still has the place of the index
     pub place-to_put : HoldsIndex before index → level < length rows → index / 2 ^ (level + 1) < length
         (get_or rows level [])
     place-to_put holds below =
-        let one : level + 1 ≡ suc level = omega arith in
-        rw (one, so.above level (omega arith)) (place-inside before holds.size holds.levels level index
+        rw (add-one, so.above level (omega arith)) (place-inside before holds.size holds.levels level index
         (omega (arith, so.count)) holds.inside)

@@ -1,6 +1,6 @@
 -- The couples that changed digests of a row reach, and what they change in the row above.
 use Rattle.std.proofs.Common.{suc, ◌≡◌, ◌≢◌, ◌⊎◌, ℕ, ◌+◌, ◌-◌, ◌*◌, ◌/◌, ◌%◌, ◌<◌, ◌≤◌, ◌^◌, true, false, cond, eqb, List, [], ◌∷◌, length, map, drop, get_or, set, Ok, Err, inl, inr, refl, ap, sym, ◌∙◌, arith}
-use Rattle.std.proofs.lemmas.Bool.{cases_lt, eq-eqb, ne_eqb}
+use Rattle.std.proofs.lemmas.Bool.{cases_lt, cases_eq, eq-eqb, ne_eqb}
 use Rattle.std.proofs.lemmas.List.{get_or-map, drop_more, drop_all}
 use Rattle.ark_base.specs.Outcome.{Outcome, ◌>>=◌}
 use Rattle.ark_base.specs.Laws.Steps.{done_injective}
@@ -26,13 +26,12 @@ merged-none from (x ∷ xs) = refl
 
 merged-here : (from : ℕ) (x : Digest) (xs : List Digest) (c : ℕ × Digest) (cs : List (ℕ × Digest)) → c.0 ≡ from
     → merged from (x ∷ xs) (c ∷ cs) ≡ c.1 ∷ merged (suc from) xs cs
-merged-here from x xs c cs same = let e : eqb c.0 from ≡ true = eq-eqb c.0 from same in rw e refl
+merged-here from x xs c cs same = rw (eq-eqb c.0 from same) refl
 
 merged-past : (from end : ℕ) (x : Digest) (xs : List Digest) (cs : List (ℕ × Digest)) → AreChanges (suc from) end cs
     → merged from (x ∷ xs) cs ≡ x ∷ merged (suc from) xs cs
 merged-past from end x xs [] so = ap (λ (ds : List Digest). x ∷ ds) (sym (merged-none (suc from) xs))
-merged-past from end x xs (c ∷ cs) so = let e : eqb c.0 from ≡ false =
-    ne_eqb c.0 from (λ same. omega (arith, so.0)) in rw e refl
+merged-past from end x xs (c ∷ cs) so = rw (ne_eqb c.0 from (λ same. omega (arith, so.0))) refl
 
 merged-put : (from end : ℕ) (row : List Digest) (c : ℕ × Digest) (cs : List (ℕ × Digest)) → AreChanges from end (c ∷ cs)
     → merged from row (c ∷ cs) ≡ merged from (set row (c.0 - from) c.1) cs
@@ -60,40 +59,29 @@ puts-merged end row (c ∷ cs) so =
 
 -- ---- the couples that are reached
 
-pub cases_eq : (a b : ℕ) → (a ≡ b) ⊎ (a ≢ b)
-cases_eq a b = elim (cases_lt a b) [
-  | inl lt ↦ inr (λ same. absurd (omega arith))
-  | inr ge ↦ elim (cases_lt b a)
-      [ inl gt ↦ inr (λ same. absurd (omega arith)) | inr le ↦ inl (omega arith) ]
-]
-
 pub apart_halves : (a b : ℕ) → a < b → a / 2 ≢ b / 2 → suc (a / 2) ≤ b / 2
 apart_halves a b lt other = elim (cases_lt (a / 2) (b / 2)) [ inl less ↦ less | inr ge ↦ absurd (other (omega arith)) ]
 
 module _ (row : List Digest) where
   pub couples-both : (c d : ℕ × Digest) (others : List (ℕ × Digest)) → c.0 / 2 ≡ d.0 / 2 → couples_reached row
       (c ∷ d ∷ others) ≡ (c.0 / 2, (c.1, d.1)) ∷ couples_reached row others
-  couples-both c d others same = let e : eqb (c.0 / 2) (d.0 / 2) ≡ true = eq-eqb _ _ same in rw e refl
+  couples-both c d others same = rw (eq-eqb (c.0 / 2) (d.0 / 2) same) refl
 
   pub couples-apart : (c d : ℕ × Digest) (others : List (ℕ × Digest)) → c.0 / 2 ≢ d.0 / 2 → couples_reached row
       (c ∷ d ∷ others) ≡ (c.0 / 2, couple_of row c) ∷ couples_reached row (d ∷ others)
-  couples-apart c d others other = let e : eqb (c.0 / 2) (d.0 / 2) ≡ false = ne_eqb _ _ other in rw e refl
+  couples-apart c d others other = rw (ne_eqb (c.0 / 2) (d.0 / 2) other) refl
 
-  couple_of-left : (c : ℕ × Digest) (t : ℕ) → c.0 ≡ 2 * t → couple_of row c ≡ (c.1, get_or row (2 * t + 1) [])
-  couple_of-left c t is =
+  couple_of-left : (c : ℕ × Digest) (t : ℕ) (b : Digest) → c.0 ≡ 2 * t → get_or row (2 * t + 1) [] ≡ b
+      → couple_of row c ≡ (c.1, b)
+  couple_of-left c t b is b_is =
       let half : c.0 / 2 ≡ t = omega arith in
-      let z : c.0 / 2 ^ 0 ≡ c.0 = omega arith in
-      let even : c.0 % 2 ≢ 1 = λ odd. absurd (omega arith) in
-      let e : bit_at c.0 0 ≡ false = rw z (ne_eqb (c.0 % 2) 1 even) in
-      rw (e, half) refl
+      rw (ne_eqb (c.0 / 2 ^ 0 % 2) 1 (λ odd. absurd (omega arith)), half, b_is) refl
 
-  couple_of-right : (c : ℕ × Digest) (t : ℕ) → c.0 ≡ 2 * t + 1 → couple_of row c ≡ (get_or row (2 * t) [], c.1)
-  couple_of-right c t is =
+  couple_of-right : (c : ℕ × Digest) (t : ℕ) (a : Digest) → c.0 ≡ 2 * t + 1 → get_or row (2 * t) [] ≡ a
+      → couple_of row c ≡ (a, c.1)
+  couple_of-right c t a is a_is =
       let half : c.0 / 2 ≡ t = omega arith in
-      let z : c.0 / 2 ^ 0 ≡ c.0 = omega arith in
-      let odd : c.0 % 2 ≡ 1 = omega arith in
-      let e : bit_at c.0 0 ≡ true = rw z (eq-eqb (c.0 % 2) 1 odd) in
-      rw (e, half) refl
+      rw (eq-eqb (c.0 / 2 ^ 0 % 2) 1 (omega arith), half, a_is) refl
 
   -- the places of the couples rise as those of the changes do
   pub couples-rise : (first end : ℕ) (cs : List (ℕ × Digest)) → AreChanges first (2 * end) cs → AreChanges (first / 2)
@@ -103,29 +91,20 @@ module _ (row : List Digest) where
   couples-rise first end (c ∷ d ∷ others) so =
       elim (cases_eq (c.0 / 2) (d.0 / 2)) [
         | inl same ↦
-            let rest = couples-rise (suc d.0) end others so.2.2 in
-            rw (couples-both c d others same) (
-              omega (arith, so.0),
-              omega (arith, so.1),
-              AreChanges-later
-                  (suc (c.0 / 2)) (suc d.0 / 2) end (couples_reached row others) (omega (arith, so.2.0)) rest,
-            )
+            let rest = AreChanges-later (suc (c.0 / 2)) (suc d.0 / 2) end (couples_reached row others)
+            (omega (arith, so.2.0)) (couples-rise (suc d.0) end others so.2.2) in
+            rw (couples-both c d others same) (omega (arith, so.0), omega (arith, so.1), rest)
         | inr other ↦
-            let rest = couples-rise d.0 end (d ∷ others) (omega arith, so.2.1, so.2.2) in
-            let apart : suc (c.0 / 2) ≤ d.0 / 2 = apart_halves c.0 d.0 so.2.0 other in
-            rw (couples-apart c d others other) (
-              omega (arith, so.0),
-              omega (arith, so.1),
-              AreChanges-later
-                  (suc (c.0 / 2)) (d.0 / 2) end (couples_reached row (d ∷ others)) apart rest,
-            )
+            let rest = AreChanges-later (suc (c.0 / 2)) (d.0 / 2) end (couples_reached row (d ∷ others))
+            (apart_halves c.0 d.0 so.2.0 other) (couples-rise d.0 end (d ∷ others) (omega arith, so.2.1, so.2.2)) in
+            rw (couples-apart c d others other) (omega (arith, so.0), omega (arith, so.1), rest)
       ]
 
   -- a change whose neighbour stays makes a couple of its own
-  couples-alone : (end : ℕ) (c : ℕ × Digest) (cs : List (ℕ × Digest)) → AreChanges (2 * suc (c.0 / 2)) end cs
-      → couples_reached row (c ∷ cs) ≡ (c.0 / 2, couple_of row c) ∷ couples_reached row cs
-  couples-alone end c [] so = refl
-  couples-alone end c (d ∷ cs) so = couples-apart c d cs (λ same. absurd (omega (arith, so.0)))
+  couples-alone : (t end : ℕ) (c : ℕ × Digest) (cs : List (ℕ × Digest)) → c.0 / 2 ≡ t → AreChanges (2 * suc t) end cs
+      → couples_reached row (c ∷ cs) ≡ (t, couple_of row c) ∷ couples_reached row cs
+  couples-alone t end c [] half so = rw half refl
+  couples-alone t end c (d ∷ cs) half so = couples-apart c d cs (λ same. absurd (omega (arith, so.0))) ∙ rw half refl
 
 -- ---- the next two digests of a row
 
@@ -148,10 +127,6 @@ module _ (row : List Digest) (t end : ℕ) (a b : Digest) (rest : List Digest) (
   up : suc (suc (2 * t)) ≡ 2 * suc t
   up = omega arith
 
-  first_couple : {q : ℕ} (p now : Digest × Digest) (others : List (ℕ × (Digest × Digest))) → q ≡ t → p ≡ now → (q, p)
-      ∷ others ≡ (t, now) ∷ others
-  first_couple p now others place couple = rw (place, couple) refl
-
   both_stay : (cs : List (ℕ × Digest)) → AreChanges (2 * suc t) end cs → merged (2 * t) (a ∷ b ∷ rest) cs ≡ a ∷ b
       ∷ merged (2 * suc t) rest cs
   both_stay cs later =
@@ -162,8 +137,6 @@ module _ (row : List Digest) (t end : ℕ) (a b : Digest) (rest : List Digest) (
   right_changes : (c : ℕ × Digest) (cs : List (ℕ × Digest)) → c.0 ≡ 2 * t + 1 → c.0 < end → AreChanges (suc c.0) end cs
       → Hits row t end a b rest (c ∷ cs)
   right_changes c cs is below so =
-      let half : c.0 / 2 ≡ t = omega arith in
-      let here : c.0 ≡ suc (2 * t) = omega arith in
       let next : suc c.0 ≡ 2 * suc t = omega arith in
       let later : AreChanges (2 * suc t) end cs = rw next at so in
       record {
@@ -171,42 +144,35 @@ module _ (row : List Digest) (t end : ℕ) (a b : Digest) (rest : List Digest) (
         right = c.1;
         others = cs;
         merged_is = merged-past (2 * t) end a (b ∷ rest) (c ∷ cs) (omega arith, below, so) ∙ ap (λ (ds : List Digest). a
-            ∷ ds) (merged-here (suc (2 * t)) b rest c cs here) ∙ ap (λ (n : ℕ). a ∷ c.1 ∷ merged n rest cs) up;
-        couples_are = couples-alone row end c cs (rw half later) ∙ first_couple (couple_of row c) (a, c.1)
-            (couples_reached row cs) half (couple_of-right row c t is ∙ ap (λ (d : Digest). (d, c.1)) a_is);
+            ∷ ds) (merged-here (suc (2 * t)) b rest c cs (omega arith) ∙ ap (λ (n : ℕ). c.1 ∷ merged n rest cs) up);
+        couples_are = rw (couples-alone row t end c cs (omega arith) later, couple_of-right row c t a is a_is) refl;
         later = later;
       }
 
   left_changes : (c : ℕ × Digest) (cs : List (ℕ × Digest)) → c.0 ≡ 2 * t → AreChanges (2 * suc t) end cs
       → Hits row t end a b rest (c ∷ cs)
-  left_changes c cs is later =
-      let half : c.0 / 2 ≡ t = omega arith in
-      record {
-        left = c.1;
-        right = b;
-        others = cs;
-        merged_is = merged-here (2 * t) a (b ∷ rest) c cs is ∙ ap (λ (ds : List Digest). c.1 ∷ ds)
-            (merged-past (suc (2 * t)) end b rest cs (rw up later)) ∙ ap (λ (n : ℕ). c.1 ∷ b ∷ merged n rest cs) up;
-        couples_are = couples-alone row end c cs (rw half later) ∙ first_couple (couple_of row c) (c.1, b)
-            (couples_reached row cs) half (couple_of-left row c t is ∙ ap (λ (d : Digest). (c.1, d)) b_is);
-        later = later;
-      }
+  left_changes c cs is later = record {
+    left = c.1;
+    right = b;
+    others = cs;
+    merged_is = merged-here (2 * t) a (b ∷ rest) c cs is ∙ ap (λ (ds : List Digest). c.1 ∷ ds)
+        (merged-past (suc (2 * t)) end b rest cs (rw up later) ∙ ap (λ (n : ℕ). b ∷ merged n rest cs) up);
+    couples_are = rw (couples-alone row t end c cs (omega arith) later, couple_of-left row c t b is b_is) refl;
+    later = later;
+  }
 
   both_change : (c d : ℕ × Digest) (cs : List (ℕ × Digest)) → c.0 ≡ 2 * t → d.0 ≡ 2 * t + 1 → AreChanges (suc d.0) end
       cs → Hits row t end a b rest (c ∷ d ∷ cs)
   both_change c d cs is and so =
       let half : c.0 / 2 ≡ t = omega arith in
-      let here : d.0 ≡ suc (2 * t) = omega arith in
-      let next : suc d.0 ≡ 2 * suc t = omega arith in
       record {
         left = c.1;
         right = d.1;
         others = cs;
         merged_is = merged-here (2 * t) a (b ∷ rest) c (d ∷ cs) is ∙ ap (λ (ds : List Digest). c.1 ∷ ds)
-            (merged-here (suc (2 * t)) b rest d cs here) ∙ ap (λ (n : ℕ). c.1 ∷ d.1 ∷ merged n rest cs) up;
-        couples_are = couples-both row c d cs (omega arith) ∙ first_couple (c.1, d.1) (c.1, d.1)
-            (couples_reached row cs) half refl;
-        later = rw next at so;
+            (merged-here (suc (2 * t)) b rest d cs (omega arith) ∙ ap (λ (n : ℕ). d.1 ∷ merged n rest cs) up);
+        couples_are = rw (couples-both row c d cs (omega arith), half) refl;
+        later = AreChanges-later (2 * suc t) (suc d.0) end cs (omega arith) so;
       }
 
   left_first : (c : ℕ × Digest) (cs : List (ℕ × Digest)) → c.0 ≡ 2 * t → AreChanges (suc c.0) end cs → Hits row t end a
@@ -329,28 +295,27 @@ module _ (hash : Digest → Digest → Outcome Digest) where
 
 -- ---- the couples from one of the changes on
 
-module _ {A : Type 0} (numbers : A → Digest) (row : List Digest) (changes : List (ℕ × A)) (n : ℕ) (c : ℕ × A)
-    (below : n < length changes) (is : c ≡ get_or changes n c) where
-  abbrev from : ℕ → List (ℕ × (Digest × Digest))
-  from k = couples_reached row (seen_changes numbers (drop k changes))
+-- its couple has no other change
+abbrev pub IsAlone : {A : Type 0} → (A → Digest) → List Digest → List (ℕ × A) → ℕ → ℕ × A → Type 0
+IsAlone numbers row changes n c =
+    let from = λ (k : ℕ). couples_reached row (seen_changes numbers (drop k changes)) in
+    from n ≡ (c.0 / 2, couple_of row (c.0, numbers c.1)) ∷ from (n + 1)
 
+module _ {A : Type 0} (changes : List (ℕ × A)) (n : ℕ) (c : ℕ × A) (below : n < length changes)
+    (is : c ≡ get_or changes n c) where
   here : drop n changes ≡ c ∷ drop (n + 1) changes
   here = drop_more changes n c below ∙ ap (λ (d : ℕ × A). d ∷ drop (n + 1) changes) (sym is)
 
-  -- its couple has no other change
-  abbrev pub IsAlone : Type 0
-  IsAlone = from n ≡ (c.0 / 2, couple_of row (c.0, numbers c.1)) ∷ from (n + 1)
+  pub reached-last : (numbers : A → Digest) (row : List Digest) → length changes ≤ n + 1
+      → IsAlone numbers row changes n c
+  reached-last numbers row last = rw (here, drop_all (n + 1) changes last) refl
 
-  pub reached-last : length changes ≤ n + 1 → IsAlone
-  reached-last last = rw (here, drop_all (n + 1) changes last) refl
-
-  module _ (d : ℕ × A) (next : n + 1 < length changes) (d_is : d ≡ get_or changes (n + 1) d) where
-    there : drop (n + 1) changes ≡ d ∷ drop (n + 2) changes
-    there = let e : n + 1 + 1 ≡ n + 2 = omega arith in drop_more changes (n + 1) d next ∙ rw (← d_is, e) refl
-
-    pub reached-apart : (get_or changes (n + 1) d).0 / 2 ≢ c.0 / 2 → IsAlone
-    reached-apart other = rw (here, there) (couples-apart row (c.0, numbers c.1) (d.0, numbers d.1)
-        (seen_changes numbers (drop (n + 2) changes)) (λ same. other (rw (← d_is) (sym same))))
+  pub reached-apart : (numbers : A → Digest) (row : List Digest) (d : ℕ × A) → n + 1 < length changes
+      → d ≡ get_or changes (n + 1) d → (get_or changes (n + 1) d).0 / 2 ≢ c.0 / 2 → IsAlone numbers row changes n c
+  reached-apart numbers row d next d_is other =
+      let there = drop_more changes (n + 1) d next in
+      rw (here, there, ← d_is) (couples-apart row (c.0, numbers c.1) (d.0, numbers d.1)
+      (seen_changes numbers (drop (n + 1 + 1) changes)) (λ same. other (rw (← d_is) (sym same))))
 
   -- both digests of its couple stand in the row
   pub couple-inside : (end : ℕ) → end % 2 ≡ 0 → AreChanges 0 end changes → 2 * (c.0 / 2) + 1 < end
@@ -360,14 +325,12 @@ module _ {A : Type 0} (numbers : A → Digest) (row : List Digest) (changes : Li
 
 -- the digest beside a changed one
 module _ {A : Type 0} (numbers : A → Digest) (row : List A) (place : ℕ) (digest beside : A) where
-  pub couple-right : (left : ℕ) → left ≡ 2 * (place / 2) → bit_at place 0 ≡ true → left < length row → beside
-      ≡ get_or row left beside → couple_of (map numbers row) (place, numbers digest) ≡ (numbers beside, numbers digest)
-  couple-right left at bit inside is =
-      rw (bit, ← at) (ap (λ (d : Digest). (d, numbers digest)) (get_or-map numbers row left beside [] inside
-      ∙ ap numbers (sym is)))
+  pub couple-right : 2 * (place / 2) < length row → beside ≡ get_or row (2 * (place / 2)) beside → bit_at place 0 ≡ true
+      → couple_of (map numbers row) (place, numbers digest) ≡ (numbers beside, numbers digest)
+  couple-right inside is bit =
+      rw (bit, get_or-map numbers row (2 * (place / 2)) beside [] inside, ← is) refl
 
-  pub couple-left : (right : ℕ) → right ≡ 2 * (place / 2) + 1 → bit_at place 0 ≡ false → right < length row → beside
-      ≡ get_or row right beside → couple_of (map numbers row) (place, numbers digest) ≡ (numbers digest, numbers beside)
-  couple-left right at bit inside is =
-      rw (bit, ← at) (ap (λ (d : Digest). (numbers digest, d)) (get_or-map numbers row right beside [] inside
-      ∙ ap numbers (sym is)))
+  pub couple-left : 2 * (place / 2) + 1 < length row → beside ≡ get_or row (2 * (place / 2) + 1) beside
+      → bit_at place 0 ≡ false → couple_of (map numbers row) (place, numbers digest) ≡ (numbers digest, numbers beside)
+  couple-left inside is bit =
+      rw (bit, get_or-map numbers row (2 * (place / 2) + 1) beside [] inside, ← is) refl

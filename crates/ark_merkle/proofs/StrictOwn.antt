@@ -1,8 +1,9 @@
 -- A tree's own multi-proofs are strict.
-use Rattle.std.proofs.Common.{◌≡◌, ℕ, zero, suc, ◌+◌, ◌<◌, ◌^◌, true, List, [], ◌∷◌, length, map, ap, sym, ◌∙◌, arith, subst}
+use Rattle.std.proofs.Common.{◌≡◌, ℕ, suc, ◌+◌, ◌<◌, ◌^◌, true, List, [], ◌∷◌, length, map, ap, sym, ◌∙◌, arith, subst}
 use Rattle.std.specs.List.{All, AllByRecursion}
 use Rattle.std.specs.List.Sorted.{IsStrictlyIncreasing}
 use Rattle.std.proofs.lemmas.List.{length-map}
+use Rattle.std.proofs.lemmas.List.Elements.{All-from_recursion}
 use Rattle.ark_paths.specs.MultiPath.{MultiWay}
 use Rattle.ark_paths.specs.MultiPathStrict.{is_strict}
 use Rattle.ark_paths.specs.Pair.{Digest, HashPair}
@@ -13,11 +14,6 @@ use Rattle.ark_paths.specs.Rising.{rising_set}
 use Rattle.ark_merkle.specs.MultiProof.{own_multi_path}
 use Rattle.ark_paths.proofs.MultiIndexes.{rising-increases, rising-some}
 use Rattle.ark_merkle.proofs.MultiOwn.{own, own-indexes, own-long, within}
-
-from_recursion : {X : Type 0} (P : X → Type 0) (xs : List X) → AllByRecursion P xs → All P xs
-from_recursion P [] all k d below = absurd (omega arith)
-from_recursion P (x ∷ xs) all zero d below = all.0
-from_recursion P (x ∷ xs) all (suc k) d below = from_recursion P xs all.1 k d (omega (arith, below))
 
 module _ (h : HashPair) (leaves : List Digest) (rows : List (List Digest)) (tree : IsTree h leaves rows) where
   inside-by : (indexes : List ℕ) → All (λ i. i < length leaves) indexes → AllByRecursion
@@ -36,8 +32,9 @@ module _ (h : HashPair) (leaves : List Digest) (rows : List (List Digest)) (tree
       let ways = map (own h leaves rows tree) indexes in
       ap is_strict (sym is) ∙ strict-in_order (upper_levels leaves) ways (record {
         some = omega (arith, length-map indexes (own h leaves rows tree), rising-some asked some);
-        same_length = from_recursion (λ way. length way.above ≡ upper_levels leaves) ways (own-long h leaves rows tree
-            indexes all);
+        same_length = All-from_recursion (λ way. length way.above ≡ upper_levels leaves) ways
+            (own-long h leaves rows tree indexes all);
         rising = subst IsStrictlyIncreasing (sym (own-indexes h leaves rows tree indexes)) (rising-increases asked);
-        within_tree = from_recursion (λ way. way.index < 2 ^ (upper_levels leaves + 1)) ways (inside-by indexes all);
+        within_tree = All-from_recursion (λ way. way.index < 2 ^ (upper_levels leaves + 1)) ways
+            (inside-by indexes all);
       })

@@ -1,42 +1,52 @@
 -- What the calls of a tree read from its rows.
-use Rattle.std.proofs.Common.{◌≡◌, ℕ, ◌-◌, ◌<◌, ◌^◌, suc, List, [], length, get_or, Ok, Err, arith, refl, ap, sym, ◌∙◌}
+use Rattle.std.proofs.Common.{◌≡◌, ℕ, ◌-◌, ◌<◌, ◌^◌, suc, List, [], length, map, get_or, Ok, Err, arith, refl, ap, sym, subst, ◌∙◌}
+use Rattle.std.proofs.lemmas.List.{length-map}
 use Rattle.ark_base.specs.declared.error.Error.{Error}
 use Rattle.ark_base.specs.Outcome.{Outcome}
 use Rattle.ark_paths.specs.Index.{IsTreeSize, log2, neighbour}
 use Rattle.ark_paths.specs.Pair.{Digest, HashPair, Hashes}
 use Rattle.ark_paths.specs.Root.{root, leaves_with_root, upper_levels}
 use Rattle.ark_paths.specs.Rows.{IsTree, HoldsIndex, beside_in, rows_of}
-use Rattle.ark_paths.specs.Tree.{Tree, HashedTree, tree_above, tree_with, with_hashes, own_path}
+use Rattle.ark_paths.specs.Tree.{HashedTree, tree_above, tree_with, with_hashes, own_path}
 use Rattle.ark_paths.proofs.Logs.{log2-pow}
-use Rattle.ark_paths.proofs.TreeLemmas.{rooted-ok, rooted-refused}
+use Rattle.ark_paths.proofs.TreeLemmas.{is_tree, rooted-ok, rooted-refused}
 use Rattle.ark_paths.proofs.OwnPaths.{root-top, top-row-some, own_path-rows}
 
 -- what an equation has on its left
 abbrev pub left_of : {A : Type 0} {a b : A} → a ≡ b → A
 left_of {a = a} e = a
 
--- what contracts see of a tree, by what its hashes answer at its parameters
-abbrev pub seen_by : {L T A : Type 0} → (L → A → Outcome Digest) → (T → HashPair) → Tree L T → HashedTree A
-seen_by meaning pair t =
-    record { hashes = record { leaf = meaning t.leaf_parameters; pair = pair t.pair_parameters }; leaves = t.leaves }
+-- the rows of a tree, as contracts see it
+pub is_tree-seen : {A : Type 0} {hashes : Hashes A} {leaves : List Digest} {tree : HashedTree A}
+    {rows : List (List Digest)} → tree_with hashes leaves ≡ tree → IsTree hashes.pair leaves rows
+    → IsTree tree.hashes.pair tree.leaves rows
+is_tree-seen {rows = rows} seen is = subst (λ (t : HashedTree _). IsTree t.hashes.pair t.leaves rows) seen is
 
--- what contracts see of a tree is what its fields make
-pub seen-tree : {L T A : Type 0} (view now : Tree L T) → view ≡ now → (meaning : L → A → Outcome Digest)
-    (pair : T → HashPair) (tree : Tree L T → HashedTree A) → tree ≡ seen_by meaning pair
-    → seen_by meaning pair view ≡ tree now
-seen-tree {A = A} view now same meaning pair tree is =
-    ap (seen_by meaning pair) same ∙ ap (λ (f : Tree _ _ → HashedTree A). f now) (sym is)
+-- equal hashes of leaves and of pairs
+pub same_hashes : {A : Type 0} {l m : A → Outcome Digest} {p q : HashPair} → l ≡ m → p ≡ q
+    → ◌≡◌ {A = Hashes A} (record { leaf = l; pair = p }) (record { leaf = m; pair = q })
+same_hashes leaf pair = λ i. record { leaf = leaf i; pair = pair i }
 
 -- the tree above leaf digests, or the refusal in its place, from the rows that are made of them
-module _ {A : Type 0} (hashes : Hashes A) (leaves : List Digest) where
-  pub made-refused : (e : Error) → IsTreeSize (length leaves)
-      → rows_of hashes.pair (upper_levels leaves) leaves ≡ Err e → tree_above hashes leaves ≡ Err e
-  made-refused e size refused = ap (with_hashes hashes) (rooted-refused hashes.pair leaves e size refused)
+module _ {A L : Type 0} {own hashes : Hashes A} (same : own ≡ hashes) (numbers : L → Digest) (xs : List L)
+    (size : IsTreeSize (length xs)) where
+  abbrev leaves : List Digest
+  leaves = map numbers xs
 
-  pub made-ok : (rows : List (List Digest)) → IsTreeSize (length leaves)
-      → rows_of hashes.pair (upper_levels leaves) leaves ≡ Ok rows
-      → tree_above hashes leaves ≡ Ok (tree_with hashes leaves)
-  made-ok rows size is = ap (with_hashes hashes) (rooted-ok hashes.pair leaves rows size is)
+  seen_size : IsTreeSize (length leaves)
+  seen_size = (size.0, length-map xs numbers ∙ size.1)
+
+  pub made-refused : (e : Error) → rows_of own.pair (upper_levels leaves) leaves ≡ Err e
+      → tree_above hashes leaves ≡ Err e
+  made-refused e refused =
+      rw (← same) (ap (with_hashes own) (rooted-refused own.pair leaves e seen_size refused))
+
+  module _ (rows : List (List Digest)) (is : rows_of own.pair (upper_levels leaves) leaves ≡ Ok rows) where
+    pub made-ok : tree_above hashes leaves ≡ Ok (tree_with hashes leaves)
+    made-ok = rw (← same) (ap (with_hashes own) (rooted-ok own.pair leaves rows seen_size is))
+
+    pub made-tree : IsTree hashes.pair leaves rows
+    made-tree = rw (← same) (is_tree own.pair leaves rows seen_size is)
 
 -- a tree has as many levels as its rows say
 pub log2-leaves : (h : HashPair) (leaves : List Digest) (rows : List (List Digest)) → IsTree h leaves rows

@@ -1,11 +1,10 @@
 use Rattle.std.proofs.Common.{◌≡◌, ◌%◌, ◌∙◌, List, length, map, Ok, ap, refl, subst, sym}
 use Rattle.ark_base.specs.Outcome.{Answers}
 use Rattle.ark_paths.specs.Path.{Way}
-use Rattle.ark_paths.specs.Rows.{IsTree}
 use Rattle.ark_paths.specs.Tree.{HashedTree}
 use Rattle.ark_merkle.specs.Binding.{binding_in}
 use Rattle.ark_merkle.proofs.Bounds.{answered-each, bound-accepted, bound-stands, bound-differs}
-use Rattle.ark_merkle.proofs.TreeReads.{left_of}
+use Rattle.ark_merkle.proofs.TreeReads.{left_of, is_tree-seen}
 use Rattle.ark_merkle.proofs.tree.MerkleTree.bind.Goals as goal
 
 pub returns : goal.returns
@@ -19,9 +18,7 @@ returns g c =
     } in
     let way = g.P.Views.way path in
     let now = g.P.Views.tree c.args.self.now in
-    let tree : IsTree now.hashes.pair now.leaves c.parts.result.2.now =
-    subst (λ (t : HashedTree _). IsTree t.hashes.pair t.leaves c.parts.result.2.now) c.parts.ensures.seen
-    c.parts.ensures.tree in
+    let tree = is_tree-seen c.parts.ensures.seen c.parts.ensures.tree in
     let told : Answers (binding_in (left_of c.parts.ensures.seen) leaf seen) c.binding_in.result =
     subst (λ (above : List _). Answers (binding_in (left_of c.parts.ensures.seen) leaf (record {
       sibling = seen.sibling;
@@ -39,9 +36,7 @@ returns g c =
       accepted = answered-each _ _ c.binding_in.result answer (λ binding is.
           bound-accepted now.hashes.pair now.leaves (now.hashes.leaf leaf) way binding is);
       stands = answered-each _ _ c.binding_in.result answer (λ binding is same.
-          rw (← place) (bound-stands now.hashes.pair now.leaves c.parts.result.2.now tree (now.hashes.leaf leaf) way
-          (is ∙ ap Ok same)));
+          rw (← place) (bound-stands _ _ _ tree (now.hashes.leaf leaf) way (is ∙ ap Ok same)));
       differs = answered-each _ _ c.binding_in.result answer (λ binding is level same.
-          bound-differs now.hashes.pair now.leaves c.parts.result.2.now tree (now.hashes.leaf leaf) way level
-          (is ∙ ap Ok same));
+          bound-differs _ _ _ tree (now.hashes.leaf leaf) way level (is ∙ ap Ok same));
     }

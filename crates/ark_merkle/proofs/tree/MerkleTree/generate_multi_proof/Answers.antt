@@ -3,12 +3,13 @@ use Rattle.std.proofs.Common.{◌≡◌, ◌<◌, Ok, ap, length, subst}
 use Rattle.std.specs.List.{All}
 use Rattle.ark_base.specs.Laws.Steps.{done_injective}
 use Rattle.ark_paths.specs.MultiPath.{MultiWay}
-use Rattle.ark_paths.specs.Rows.{IsTree, digests_of, rows_seen}
+use Rattle.ark_paths.specs.Rows.{digests_of, rows_seen}
 use Rattle.ark_paths.specs.Tree.{HashedTree}
 use Rattle.ark_paths.specs.Rising.{rising_set}
 use Rattle.ark_merkle.specs.MultiProof.{multi_path_in}
 use Rattle.ark_paths.proofs.MultiIndexes.{rising-increases, rising-elements}
 use Rattle.ark_merkle.proofs.MultiOwn.{neighbours-inside, hold-indexes, own_multi_path-read, own_multi_path-decoded, own_multi_path-accepted}
+use Rattle.ark_merkle.proofs.TreeReads.{is_tree-seen}
 use Rattle.ark_merkle.proofs.StrictOwn.{own_multi_path-strict}
 use Rattle.ark_merkle.proofs.tree.MerkleTree.generate_multi_proof.Goals as goal
 
@@ -29,16 +30,13 @@ returns g c =
     let once : rising_set asked ≡ c.in_ok-leaf_indexes.leaf_indexes.items =
     done_injective _ _ c.in_ok-leaf_indexes.ensures in
     let inside : All (λ i. i < length now.leaves) asked = rw g.met.P.Views.tree_is c.requires in
-    let tree : IsTree now.hashes.pair now.leaves c.parts.result.2.now =
-    subst (λ (t : HashedTree _). IsTree t.hashes.pair t.leaves c.parts.result.2.now) c.parts.ensures.seen
-    c.parts.ensures.tree in
+    let tree = is_tree-seen c.parts.ensures.seen c.parts.ensures.tree in
     let read = own_multi_path-read _ _ _ _ c.parts.ensures.tree asked _ (rw c.parts.ensures.leaves c.requires) once _
     c.deref.ensures.value _ _ _ _ c.deref-2.ensures.value (done_injective _ _ c.in_ok-leaf_siblings_hashes.ensures)
     (done_injective _ _ c.in_ok-auth_paths_prefix_lenghts.ensures.prefixes)
     (done_injective _ _ c.in_ok-auth_paths_prefix_lenghts.ensures.suffixes) in
-    let numbers = g.P.LeafDigest.Numbered.numbers in
     let seen : MultiWay = record {
-      siblings = digests_of numbers c.in_ok-leaf_siblings_hashes.leaf_siblings_hashes;
+      siblings = digests_of g.P.LeafDigest.Numbered.numbers c.in_ok-leaf_siblings_hashes.leaf_siblings_hashes;
       prefixes = c.in_ok-auth_paths_prefix_lenghts.auth_paths_prefix_lenghts.items;
       suffixes = rows_seen g.P.InnerDigest.Numbered.numbers c.in_ok-auth_paths_prefix_lenghts.auth_paths_suffixes;
       indexes = c.in_ok-leaf_indexes.leaf_indexes.items;
@@ -49,26 +47,23 @@ returns g c =
       rising = rw (← once) (rising-increases asked);
       same = rw (← once) (rising-elements asked);
       proof = rw g.met.P.Views.multi_way_is (ap Ok own);
-      strict = rw g.met.P.Views.multi_way_is (λ some. own_multi_path-strict now.hashes.pair now.leaves
-          c.parts.result.2.now tree asked inside some seen own);
-      decoded = rw g.met.P.Views.multi_way_is (own_multi_path-decoded now.hashes.pair now.leaves c.parts.result.2.now
-          tree asked inside seen _ own once);
+      strict = rw g.met.P.Views.multi_way_is (λ some. own_multi_path-strict _ _ _ tree asked inside some seen own);
+      decoded = rw g.met.P.Views.multi_way_is (own_multi_path-decoded _ _ _ tree asked inside seen _ own once);
       accepted = rw g.met.P.Views.multi_way_is (λ some leaves r hashed rooted.
-          own_multi_path-accepted now.hashes.pair now.leaves c.parts.result.2.now tree asked inside seen _ own once _ r
-          some hashed rooted);
+          own_multi_path-accepted _ _ _ tree asked inside seen _ own once _ r some hashed rooted);
     }
 
 pub returns-in_err-leaf_indexes-clause-proof : goal.returns-in_err-leaf_indexes-clause-proof
-returns-in_err-leaf_indexes-clause-proof g c = passed_on _ _ c.from_residual.result c.in_err-leaf_indexes.field-0.0
-    c.from_residual.ensures.1 c.in_err-leaf_indexes.ensures (λ refused. absurd cc)
+returns-in_err-leaf_indexes-clause-proof g c = passed_on _ _ c.from_residual.result _ c.from_residual.ensures.1
+    c.in_err-leaf_indexes.ensures (λ refused. absurd cc)
 
 pub returns-in_err-leaf_siblings_hashes-clause-proof : goal.returns-in_err-leaf_siblings_hashes-clause-proof
-returns-in_err-leaf_siblings_hashes-clause-proof g c = passed_on _ _ c.from_residual-in_err-leaf_siblings_hashes.result
-    c.in_err-leaf_siblings_hashes.field-0.0 c.from_residual-in_err-leaf_siblings_hashes.ensures.1
-    c.in_err-leaf_siblings_hashes.ensures (λ refused. absurd cc)
+returns-in_err-leaf_siblings_hashes-clause-proof g c =
+    passed_on _ _ c.from_residual-in_err-leaf_siblings_hashes.result _
+    c.from_residual-in_err-leaf_siblings_hashes.ensures.1 c.in_err-leaf_siblings_hashes.ensures (λ refused. absurd cc)
 
 pub returns-in_err-auth_paths_prefix_lenghts-clause-proof : goal.returns-in_err-auth_paths_prefix_lenghts-clause-proof
-returns-in_err-auth_paths_prefix_lenghts-clause-proof g c = passed_on _ _
-    c.from_residual-in_err-auth_paths_prefix_lenghts.result c.in_err-auth_paths_prefix_lenghts.field-0.0
-    c.from_residual-in_err-auth_paths_prefix_lenghts.ensures.1 c.in_err-auth_paths_prefix_lenghts.ensures.prefixes
-    (λ refused. absurd cc)
+returns-in_err-auth_paths_prefix_lenghts-clause-proof g c =
+    passed_on _ _ c.from_residual-in_err-auth_paths_prefix_lenghts.result _
+    c.from_residual-in_err-auth_paths_prefix_lenghts.ensures.1
+    c.in_err-auth_paths_prefix_lenghts.ensures.prefixes (λ refused. absurd cc)

@@ -1,78 +1,45 @@
-use Rattle.std.proofs.Common.{◌≡◌, ◌∙◌, length, Err, Ok, ap, subst}
-use Rattle.std.proofs.lemmas.List.{length-map}
+use Rattle.std.proofs.Common.{◌≡◌, ◌∙◌, Ok, ap, subst}
 use Rattle.ark_base.specs.Laws.Steps.{done_injective}
 use Rattle.ark_base.proofs.Refusals.{passed_on}
-use Rattle.ark_paths.specs.Index.{IsTreeSize}
 use Rattle.ark_paths.specs.Pair.{HashPair, Hashes, pair_of}
 use Rattle.ark_paths.specs.Rows.{IsTree, digests_of}
-use Rattle.ark_paths.specs.Tree.{tree_above, tree_with}
-use Rattle.ark_paths.proofs.TreeLemmas.{is_tree, pair_of-same}
-use Rattle.ark_merkle.proofs.TreeReads.{left_of, made-refused, made-ok}
+use Rattle.ark_paths.specs.Tree.{tree_with}
+use Rattle.ark_paths.proofs.TreeLemmas.{pair_of-same}
+use Rattle.ark_merkle.proofs.TreeReads.{same_hashes, made-refused, made-ok, made-tree}
+use Rattle.ark_merkle.proofs.tree.MerkleTree.new_with_leaf_digest.Goals.{In_ok-pair_parameters}
 use Rattle.ark_merkle.proofs.tree.MerkleTree.new_with_leaf_digest.Goals as goal
 
+-- the copy of the pair hash's parameters makes the same pairs
+pairs : (g : _) (c : In_ok-pair_parameters g) →
+    let pair = pair_of g.P.LeafInnerDigestConverter.DigestConverter.conversion
+    g.P.TwoToOneHash.TwoToOneCRHScheme.evaluated g.P.TwoToOneHash.TwoToOneCRHScheme.compressed in
+    pair c.args.pair_parameters.now ≡ pair c.in_ok-pair_parameters.pair_parameters
+pairs g c =
+    let two = g.P.TwoToOneHash.TwoToOneCRHScheme in
+    let laws = g.met.P.TwoToOneHash.TwoToOneCRHScheme in
+    let given = c.args.pair_parameters.now in
+    let copy = c.in_ok-pair_parameters.pair_parameters in
+    let alike = done_injective _ _ c.in_ok-pair_parameters.ensures in
+    pair_of-same g.P.LeafInnerDigestConverter.DigestConverter.conversion two.evaluated two.compressed given copy
+    (laws.evaluated_same given copy alike) (laws.compressed_same given copy alike)
+
 pub returns-in_err-rows : goal.returns-in_err-rows
-returns-in_err-rows g c =
-    let numbers = g.P.LeafDigest.Numbered.numbers in
-    let leaves = digests_of numbers c.args.leaves in
-    let e = c.in_err-rows.field-0.0 in
-    let own = left_of c.new-hasher.ensures in
-    let size : IsTreeSize (length leaves) =
-    (c.requires.0, length-map c.args.leaves.items numbers ∙ c.requires.1) in
-    passed_on _ _ c.from_residual.result e c.from_residual.ensures.1 (rw c.deref.ensures.value at c.in_err-rows.ensures)
-    (λ refused. subst (λ (h : Hashes _). tree_above h leaves ≡ Err e) c.new-hasher.ensures
-    (made-refused own leaves e size refused))
+returns-in_err-rows g c = passed_on _ _ c.from_residual.result _ c.from_residual.ensures.1
+    (rw c.deref.ensures.value at c.in_err-rows.ensures)
+    (made-refused c.new-hasher.ensures _ c.args.leaves.items c.requires c.in_err-rows.field-0.0)
 
 pub invariant_of-result : goal.invariant_of-result
 invariant_of-result g c =
-    let two = g.P.TwoToOneHash.TwoToOneCRHScheme in
-    let conversion = g.P.LeafInnerDigestConverter.DigestConverter.conversion in
-    let leaf_given = c.args.leaf_parameters.now in
-    let given = c.args.pair_parameters.now in
-    let copy = c.in_ok-pair_parameters.pair_parameters in
-    let alike = done_injective _ _ c.in_ok-pair_parameters.ensures in
-    let laws = g.met.P.TwoToOneHash.TwoToOneCRHScheme in
-    let pairs = pair_of-same conversion two.evaluated two.compressed given copy (laws.evaluated_same given copy alike)
-    (laws.compressed_same given copy alike) in
-    let own = c.new-hasher.ensures
-    ∙ ap (λ (f : _ → _ → Hashes _). f leaf_given given) g.met.P.Views.hashes_are in
-    let numbers = g.P.LeafDigest.Numbered.numbers in
-    let leaves = digests_of numbers c.args.leaves in
-    let size : IsTreeSize (length leaves) =
-    (c.requires.0, length-map c.args.leaves.items numbers ∙ c.requires.1) in
-    subst (λ (h : HashPair). IsTree h leaves c.in_ok-rows.rows) (ap (λ (h : Hashes _). h.pair) own ∙ pairs)
-    (is_tree (left_of own).pair leaves c.in_ok-rows.rows size (rw c.deref.ensures.value at c.in_ok-rows.ensures))
+    let made = made-tree c.new-hasher.ensures _ c.args.leaves.items c.requires c.in_ok-rows.rows
+    (rw c.deref.ensures.value at c.in_ok-rows.ensures) in
+    subst (λ (h : HashPair). IsTree h (digests_of g.P.LeafDigest.Numbered.numbers c.args.leaves) c.in_ok-rows.rows)
+    (pairs g c) (rw g.met.P.Views.hashes_are at made)
 
 pub returns : goal.returns
 returns g c =
-    let two = g.P.TwoToOneHash.TwoToOneCRHScheme in
-    let conversion = g.P.LeafInnerDigestConverter.DigestConverter.conversion in
-    let leaf_given = c.args.leaf_parameters.now in
-    let leaf_alike = done_injective _ _ c.in_ok-leaf_parameters.ensures in
-    let hash = g.met.P.LeafHash.CRHScheme.same_parameters leaf_given c.in_ok-leaf_parameters.leaf_parameters
-    leaf_alike in
-    let given = c.args.pair_parameters.now in
-    let copy = c.in_ok-pair_parameters.pair_parameters in
-    let alike = done_injective _ _ c.in_ok-pair_parameters.ensures in
-    let laws = g.met.P.TwoToOneHash.TwoToOneCRHScheme in
-    let pairs = pair_of-same conversion two.evaluated two.compressed given copy (laws.evaluated_same given copy alike)
-    (laws.compressed_same given copy alike) in
-    let numbers = g.P.LeafDigest.Numbered.numbers in
-    let leaves = digests_of numbers c.args.leaves in
-    let size : IsTreeSize (length leaves) =
-    (c.requires.0, length-map c.args.leaves.items numbers ∙ c.requires.1) in
-    let made = made-ok (left_of c.new-hasher.ensures) leaves c.in_ok-rows.rows size
+    let leaves = digests_of g.P.LeafDigest.Numbered.numbers c.args.leaves in
+    let made = made-ok c.new-hasher.ensures _ c.args.leaves.items c.requires c.in_ok-rows.rows
     (rw c.deref.ensures.value at c.in_ok-rows.ensures) in
-    let own = subst (λ (h : Hashes _). tree_above h leaves ≡ Ok (tree_with h leaves)) c.new-hasher.ensures made in
-    let seen = ap (λ (f : _ → _ → Hashes _). f leaf_given given) g.met.P.Views.hashes_are in
-    let copied : record {
-      leaf = g.P.LeafHash.CRHScheme.meaning leaf_given;
-      pair = pair_of conversion two.evaluated
-          two.compressed given;
-    }
-    ≡ record {
-      leaf = g.P.LeafHash.CRHScheme.meaning c.in_ok-leaf_parameters.leaf_parameters;
-      pair = pair_of conversion
-          two.evaluated two.compressed copy;
-    } =
-    λ i. record { leaf = hash i; pair = pairs i } in
-    rw g.met.P.Views.tree_is (own ∙ ap (λ (h : Hashes _). Ok (tree_with h leaves)) (seen ∙ copied))
+    let hash = g.met.P.LeafHash.CRHScheme.same_parameters _ _ (done_injective _ _ c.in_ok-leaf_parameters.ensures) in
+    rw (g.met.P.Views.tree_is, g.met.P.Views.hashes_are) (rw g.met.P.Views.hashes_are at made
+    ∙ ap (λ (h : Hashes _). Ok (tree_with h leaves)) (same_hashes hash (pairs g c)))

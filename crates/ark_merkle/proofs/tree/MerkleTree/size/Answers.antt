@@ -6,9 +6,6 @@ use Rattle.ark_merkle.proofs.tree.MerkleTree.size.Goals as goal
 
 pub returns-clause-power : goal.returns-clause-power
 returns-clause-power g c =
-    let numbers = g.P.LeafDigest.Numbered.numbers in
-    let leaves = c.self.inside.leaves in (
-      upper_levels (digests_of numbers leaves),
-      c.len.ensures ∙ leaves.ok.0 ∙ sym (length-map leaves.items numbers)
-          ∙ c.self.invariant.size,
-    )
+    let leaves = c.self.inside.leaves in
+    let long = c.len.ensures ∙ leaves.ok.0 ∙ sym (length-map leaves.items g.P.LeafDigest.Numbered.numbers) in
+    (upper_levels (digests_of g.P.LeafDigest.Numbered.numbers leaves), long ∙ c.self.invariant.size)

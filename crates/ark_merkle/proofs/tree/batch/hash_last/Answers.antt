@@ -1,9 +1,9 @@
-use Rattle.std.proofs.Common.{◌≡◌, ◌+◌, ◌*◌, ℕ, drop, subst, arith}
+use Rattle.std.proofs.Common.{◌*◌, arith}
 use Rattle.std.proofs.lemmas.List.{map_push}
 use Rattle.ark_base.proofs.Refusals.{passed_on}
 use Rattle.ark_merkle.specs.Batch.{last_changes}
-use Rattle.ark_merkle.specs.Changed.{lent_changes, seen_changes}
-use Rattle.ark_merkle.proofs.Batches.{AreHashedSoFar, hashed_so_far-more, hashed_so_far-refused}
+use Rattle.ark_merkle.proofs.Batches.{hashed_so_far-more, hashed_so_far-refused}
+use Rattle.ark_merkle.proofs.BuildRowsByFour.{next_four}
 use Rattle.ark_merkle.proofs.ChangesOfFour.{hashed_so_far-four, hashed_so_far-four_refused}
 use Rattle.ark_merkle.proofs.LentChanges.{lent-next, lent-four}
 use Rattle.ark_merkle.proofs.tree.batch.hash_last.Goals as goal
@@ -19,14 +19,11 @@ returns-in_err-made g c =
 
 pub fours-preserved : goal.fours-preserved
 fours-preserved g c =
-    let behind : 4 * c.fours.four + 4 ≡ 4 * (c.fours.four + 1) = omega arith in
-    subst (λ (n : ℕ). AreHashedSoFar (g.T.TreeHasher.hashes c.args.hasher.now).leaf (last_changes c.args.changes.now)
-    (seen_changes g.L.Numbered.numbers c.push_changes.new.changes.items) (drop n (lent_changes c.in_ok-last.last)))
-    behind
-    (rw c.in_ok-push_changes.ensures.changes (hashed_so_far-four (g.T.TreeHasher.hashes c.args.hasher.now).leaf
-    (last_changes c.args.changes.now) _ _ _ _ _ _ (rw (lent-four c.in_ok-last.last.items (4 * c.fours.four) _ _ _ _
-    (omega arith) c.index.ensures c.index-in-fours.ensures c.index-in-fours-2.ensures c.index-in-fours-3.ensures) at
-    c.fours.invariant) _ _ _ _ c.in_ok-made.ensures))
+    rw c.in_ok-push_changes.ensures.changes (rw (next_four c.fours.four) at (hashed_so_far-four
+    (g.T.TreeHasher.hashes c.args.hasher.now).leaf (last_changes c.args.changes.now) _ _ _ _ _ _
+    (rw (lent-four c.in_ok-last.last.items (4 * c.fours.four) _ _ _ _ (omega arith) c.index.ensures
+    c.index-in-fours.ensures c.index-in-fours-2.ensures c.index-in-fours-3.ensures) at c.fours.invariant)
+    _ _ _ _ c.in_ok-made.ensures))
 
 pub returns-in_err-leaf : goal.returns-in_err-leaf
 returns-in_err-leaf g c =

@@ -1,13 +1,22 @@
-use Rattle.std.proofs.Common.{◌∙◌, ℕ, Err, ap, inr, map, arith}
+use Rattle.std.proofs.Common.{◌≡◌, ◌∙◌, ℕ, Err, ap, inr, length, map, arith}
 use Rattle.ark_base.specs.declared.error.Error.TheVariants.{IncorrectInputLength}
 use Rattle.std.proofs.lemmas.List.{length-map}
 use Rattle.ark_base.proofs.Refusals.{passed_on}
 use Rattle.ark_paths.specs.PathBytes.{way_of}
+use Rattle.ark_paths.specs.Root.{upper_levels}
 use Rattle.ark_paths.specs.Tree.{tree_with}
 use Rattle.ark_paths.proofs.OwnPaths.{root-top}
 use Rattle.ark_merkle.proofs.Bounds.{bound-long, bound-unhashed, bound-refused, bound-ok}
 use Rattle.ark_merkle.proofs.TreeReads.{root-read, top-inside}
+use Rattle.ark_merkle.proofs.tree.bind.binding_in.Goals.{Else-above-levels}
 use Rattle.ark_merkle.proofs.tree.bind.binding_in.Goals as goal
+
+-- the path has a digest for each level above the lowest one
+long : (g : _) (c : Else-above-levels g)
+    → length (map g.D.Numbered.numbers c.args.above.now) ≡ upper_levels (map g.L.Numbered.numbers c.args.leaves.now)
+long g c =
+    let count = length-map c.args.above.now g.D.Numbered.numbers in
+    omega (arith, c.if-above-levels.false, c.len-levels.ensures.count, c.requires.tree.count)
 
 pub overflow_sub-levels : goal.overflow_sub-levels
 overflow_sub-levels g c = omega (arith, c.len-levels.ensures.count, c.requires.tree.count)
@@ -19,8 +28,7 @@ compare-requires-clause-count g c =
 pub at-requires : goal.at-requires
 at-requires g c = record {
   row = omega (arith, c.len-levels.ensures.count, c.requires.tree.count);
-  place = top-inside (g.T.TreeHasher.hashes c.args.hasher.now).pair (map g.L.Numbered.numbers c.args.leaves.now)
-      c.args.rows.now c.requires.tree c.len-levels.result c.len-levels.ensures.count;
+  place = top-inside _ _ _ c.requires.tree c.len-levels.result c.len-levels.ensures.count;
 }
 
 pub returns-then-above-levels : goal.returns-then-above-levels
@@ -38,45 +46,21 @@ returns-in_err-digest g c =
     (bound-unhashed (tree_with (g.T.TreeHasher.hashes c.args.hasher.now) (map g.L.Numbered.numbers c.args.leaves.now))
     c.args.leaf.now (way_of g.L.Numbered.numbers g.D.Numbered.numbers
     (c.args.sibling.now, (c.args.above.now, c.args.index)))
-    (omega (
-      arith,
-      length-map c.args.above.now g.D.Numbered.numbers,
-      c.if-above-levels.false,
-      c.len-levels.ensures.count,
-      c.requires.tree.count,
-    )) c.in_err-digest.field-0.0)
+    (long g (goal.at.returns-in_err-digest g c).Else-above-levels) c.in_err-digest.field-0.0)
 
 pub returns-in_err-top : goal.returns-in_err-top
 returns-in_err-top g c =
-    let hashes = g.T.TreeHasher.hashes c.args.hasher.now in
-    passed_on _ _ c.from_residual-in_err-top.result c.in_err-top.field-0.0 c.from_residual-in_err-top.ensures.1
-    c.in_err-top.ensures.top
-    (bound-refused (tree_with hashes (map g.L.Numbered.numbers c.args.leaves.now)) c.args.leaf.now
-    (way_of g.L.Numbered.numbers g.D.Numbered.numbers (c.args.sibling.now, (c.args.above.now, c.args.index)))
-    (omega (
-      arith,
-      length-map c.args.above.now g.D.Numbered.numbers,
-      c.if-above-levels.false,
-      c.len-levels.ensures.count,
-      c.requires.tree.count,
-    )) (g.L.Numbered.numbers c.in_ok-digest.digest) c.in_ok-digest.ensures _
-    (root-top hashes.pair (map g.L.Numbered.numbers c.args.leaves.now) c.args.rows.now c.requires.tree)
-    c.in_err-top.field-0.0)
+    passed_on _ _ c.from_residual-in_err-top.result _ c.from_residual-in_err-top.ensures.1 c.in_err-top.ensures.top
+    (bound-refused (tree_with (g.T.TreeHasher.hashes c.args.hasher.now) (map g.L.Numbered.numbers c.args.leaves.now))
+    c.args.leaf.now (way_of g.L.Numbered.numbers g.D.Numbered.numbers
+    (c.args.sibling.now, (c.args.above.now, c.args.index))) (long g (goal.at.returns-in_err-top g c).Else-above-levels)
+    _ c.in_ok-digest.ensures _ (root-top _ _ _ c.requires.tree) c.in_err-top.field-0.0)
 
 pub returns : goal.returns
 returns g c =
-    let hashes = g.T.TreeHasher.hashes c.args.hasher.now in
-    let leaves = map g.L.Numbered.numbers c.args.leaves.now in
-    bound-ok (tree_with hashes leaves) c.args.leaf.now
-    (way_of g.L.Numbered.numbers g.D.Numbered.numbers (c.args.sibling.now, (c.args.above.now, c.args.index)))
-    (omega (
-      arith,
-      length-map c.args.above.now g.D.Numbered.numbers,
-      c.if-above-levels.false,
-      c.len-levels.ensures.count,
-      c.requires.tree.count,
-    )) (g.L.Numbered.numbers c.in_ok-digest.digest) c.in_ok-digest.ensures _
-    (root-read hashes.pair leaves c.args.rows.now c.requires.tree c.len-levels.result _ c.len-levels.ensures.count
-    c.at.ensures)
-    (g.D.Numbered.numbers c.in_ok-top.top) c.in_ok-top.ensures.top c.are_same.result c.are_same.ensures
-    c.in_ok-top.difference c.in_ok-top.ensures.differs c.binding_of.result c.binding_of.ensures
+    bound-ok (tree_with (g.T.TreeHasher.hashes c.args.hasher.now) (map g.L.Numbered.numbers c.args.leaves.now))
+    c.args.leaf.now (way_of g.L.Numbered.numbers g.D.Numbered.numbers
+    (c.args.sibling.now, (c.args.above.now, c.args.index))) (long g (goal.at.returns g c).Else-above-levels) _
+    c.in_ok-digest.ensures _ (root-read _ _ _ c.requires.tree c.len-levels.result _ c.len-levels.ensures.count
+    c.at.ensures) _ c.in_ok-top.ensures.top c.are_same.result c.are_same.ensures c.in_ok-top.difference
+    c.in_ok-top.ensures.differs c.binding_of.result c.binding_of.ensures

@@ -1,7 +1,8 @@
-use Rattle.std.proofs.Common.{◌≡◌, ℕ, ◌+◌, ◌*◌, ◌/◌, ◌<◌, length, map, arith, subst}
+use Rattle.std.proofs.Common.{arith}
 use Rattle.std.proofs.lemmas.List.{map_push}
 use Rattle.ark_base.proofs.Refusals.{passed_on}
-use Rattle.ark_paths.proofs.CoupleLemmas.{ArePaired, ArePaired-none, ArePaired-more, ArePaired-refused, ArePaired-all, ArePaired-four, ArePaired-four_refused}
+use Rattle.ark_paths.proofs.CoupleLemmas.{ArePaired-none, ArePaired-more, ArePaired-refused, ArePaired-all, ArePaired-four, ArePaired-four_refused}
+use Rattle.ark_merkle.proofs.BuildRowsByFour.{next_four}
 use Rattle.ark_merkle.proofs.tree.build.pair_leaves.Goals as goal
 
 pub fours-init : goal.fours-init
@@ -11,38 +12,28 @@ fours-init g c =
 
 pub returns-in_err-made : goal.returns-in_err-made
 returns-in_err-made g c =
-    let e = c.in_err-made.field-0.0 in
-    let digests = c.args.digests.now in
-    let inside : 4 * c.fours.four + 3 < length digests / 2 = omega arith in
-    passed_on _ _ c.from_residual-in_err-made.result e c.from_residual-in_err-made.ensures.1 c.in_err-made.ensures
-    (ArePaired-four_refused (g.T.TreeHasher.hashes c.args.hasher.now).pair.bottom g.L.Numbered.numbers digests
-    c.fours.four
-    _ _ _ _ _ _ _ _ inside c.index-digests-four.is c.index-digests-four-in-fours.is c.index-digests-four-in-fours-2.is
-    c.index-digests-four-in-fours-3.is c.index-digests-four-in-fours-4.is c.index-digests-four-in-fours-5.is
-    c.index-digests-four-in-fours-6.is c.index-digests-four-in-fours-7.is (map g.D.Numbered.numbers c.fours.row.items)
-    c.fours.invariant e)
+    passed_on _ _ c.from_residual-in_err-made.result _ c.from_residual-in_err-made.ensures.1 c.in_err-made.ensures
+    (ArePaired-four_refused (g.T.TreeHasher.hashes c.args.hasher.now).pair.bottom g.L.Numbered.numbers
+    c.args.digests.now c.fours.four _ _ _ _ _ _ _ _ (omega arith) c.index-digests-four.is
+    c.index-digests-four-in-fours.is c.index-digests-four-in-fours-2.is c.index-digests-four-in-fours-3.is
+    c.index-digests-four-in-fours-4.is c.index-digests-four-in-fours-5.is c.index-digests-four-in-fours-6.is
+    c.index-digests-four-in-fours-7.is _ c.fours.invariant c.in_err-made.field-0.0)
 
 pub fours-preserved : goal.fours-preserved
 fours-preserved g c =
-    let hash = (g.T.TreeHasher.hashes c.args.hasher.now).pair.bottom in
-    let inner = g.D.Numbered.numbers in
-    let digests = c.args.digests.now in
-    let inside : 4 * c.fours.four + 3 < length digests / 2 = omega arith in
-    let next : 4 * c.fours.four + 4 ≡ 4 * (c.fours.four + 1) = omega arith in
-    subst (λ (n : ℕ). ArePaired hash g.L.Numbered.numbers digests n (map inner c.push_four.new.digests.items)) next
-    (rw c.in_ok-push_four.ensures.digests
-    (ArePaired-four hash g.L.Numbered.numbers digests c.fours.four _ _ _ _ _ _ _ _ inside c.index-digests-four.is
-    c.index-digests-four-in-fours.is c.index-digests-four-in-fours-2.is c.index-digests-four-in-fours-3.is
-    c.index-digests-four-in-fours-4.is c.index-digests-four-in-fours-5.is c.index-digests-four-in-fours-6.is
-    c.index-digests-four-in-fours-7.is (map inner c.fours.row.items) c.fours.invariant (inner c.in_ok-made.made.0)
-    (inner c.in_ok-made.made.1) (inner c.in_ok-made.made.2) (inner c.in_ok-made.made.3) c.in_ok-made.ensures))
+    rw c.in_ok-push_four.ensures.digests (rw (next_four c.fours.four) at
+    (ArePaired-four (g.T.TreeHasher.hashes c.args.hasher.now).pair.bottom g.L.Numbered.numbers c.args.digests.now
+    c.fours.four _ _ _ _ _ _ _ _ (omega arith) c.index-digests-four.is c.index-digests-four-in-fours.is
+    c.index-digests-four-in-fours-2.is c.index-digests-four-in-fours-3.is c.index-digests-four-in-fours-4.is
+    c.index-digests-four-in-fours-5.is c.index-digests-four-in-fours-6.is c.index-digests-four-in-fours-7.is _
+    c.fours.invariant _ _ _ _ c.in_ok-made.ensures))
 
 pub returns-in_err-next : goal.returns-in_err-next
 returns-in_err-next g c =
-    let e = c.in_err-next.field-0.0 in
-    passed_on _ _ c.from_residual-in_err-next.result e c.from_residual-in_err-next.ensures.1 c.in_err-next.ensures
+    passed_on _ _ c.from_residual-in_err-next.result _ c.from_residual-in_err-next.ensures.1 c.in_err-next.ensures
     (ArePaired-refused (g.T.TreeHasher.hashes c.args.hasher.now).pair.bottom g.L.Numbered.numbers c.args.digests.now
-    c.rest.couple _ _ _ e c.rest-test.true c.index-digests-couple.is c.index-digests-couple-in-rest.is c.rest.invariant)
+    c.rest.couple _ _ _ c.in_err-next.field-0.0 c.rest-test.true c.index-digests-couple.is
+    c.index-digests-couple-in-rest.is c.rest.invariant)
 
 pub rest-preserved : goal.rest-preserved
 rest-preserved g c =

@@ -5,13 +5,10 @@ use Rattle.ark_merkle.proofs.ChangedRows.{row-even, size-above, rows-refused, ro
 use Rattle.ark_merkle.proofs.tree.changes.+change_rows.Goals as goal
 
 pub hash_reached-requires-clause-even : goal.hash_reached-requires-clause-even
-hash_reached-requires-clause-even g t c = omega (
-  arith,
-  length-map c.row.result.now g.D.Numbered.numbers,
-  ap length c.row.ensures,
-  row-even _ c.args.rows.now c.args.row c.requires.size c.requires.hashed
-      (omega (arith, c.requires.row, c.len.ensures.count, c.if-len-row.false)),
-)
+hash_reached-requires-clause-even g t c =
+    let even = row-even _ c.args.rows.now c.args.row c.requires.size c.requires.hashed
+    (omega (arith, c.requires.row, c.len.ensures.count, c.if-len-row.false)) in
+    omega (arith, length-map c.row.result.now g.D.Numbered.numbers, ap length c.row.ensures)
 
 pub returns-in_err-above-clause-rows : goal.returns-in_err-above-clause-rows
 returns-in_err-above-clause-rows g t c =
@@ -27,28 +24,10 @@ change_rows-requires g t c =
     let rise = changes-above _ c.args.rows.now c.args.row c.requires.size c.requires.hashed below _ c.args.changes.items
     c.requires.changes c.in_ok-above.above.items
     (rw (c.row.ensures, c.deref.ensures.value) at c.in_ok-above.ensures) in
+    let size = size-above _ c.args.rows.now c.args.row c.requires.size c.requires.hashed below in
     λ κs within. (
       omega (arith, c.decreases, below),
-      (
-        within.0,
-        (
-          within.1.0,
-          (
-            within.1.1.0,
-            (
-              within.1.1.1,
-              (
-                below,
-                (
-                  size-above _ c.args.rows.now c.args.row c.requires.size
-                      c.requires.hashed below,
-                  (c.requires.hashed, rise),
-                ),
-              ),
-            ),
-          ),
-        ),
-      ),
+      (within.0, (within.1.0, (within.1.1.0, (within.1.1.1, (below, (size, (c.requires.hashed, rise))))))),
     )
 
 pub returns-in_err-more-clause-rows : goal.returns-in_err-more-clause-rows
@@ -61,19 +40,14 @@ returns-in_err-more-clause-rows g t c =
 
 pub overflow_add-result : goal.overflow_add-result
 overflow_add-result g t c =
-    let below : c.args.row + 1 < length c.args.rows.now =
+    let under : c.args.row + 1 < length c.args.rows.now =
     omega (arith, c.requires.row, c.len.ensures.count, c.if-len-row.false) in
-    omega (
-      arith,
-      count_over-hashed _ c.args.rows.now c.args.row c.requires.size c.requires.hashed below g.D.Numbered.numbers
-          c.args.changes.items c.requires.changes c.in_ok-above.above.items
-          (rw (c.row.ensures, c.deref.ensures.value) at c.in_ok-above.ensures),
-      count_over-few _ c.args.rows.now c.args.row c.requires.size c.requires.hashed below g.D.Numbered.numbers
-          c.args.changes.items c.requires.changes (omega (arith, c.len.ensures.most, c.len.ensures.count)),
-      c.len-hashed.ensures,
-      c.in_ok-above.above.ok.0,
-      c.in_ok-more.ensures.count,
-    )
+    let few = count_over-few _ c.args.rows.now c.args.row c.requires.size c.requires.hashed under g.D.Numbered.numbers
+    c.args.changes.items c.requires.changes (omega (arith, c.len.ensures.most, c.len.ensures.count)) in
+    let counted = count_over-hashed _ c.args.rows.now c.args.row c.requires.size c.requires.hashed under
+    g.D.Numbered.numbers c.args.changes.items c.requires.changes c.in_ok-above.above.items
+    (rw (c.row.ensures, c.deref.ensures.value) at c.in_ok-above.ensures) in
+    omega (arith, c.len-hashed.ensures, c.in_ok-above.above.ok.0, c.in_ok-more.ensures.count)
 
 pub returns-clause-rows : goal.returns-clause-rows
 returns-clause-rows g t c = rw c.put_in_row-2.ensures
@@ -83,16 +57,12 @@ returns-clause-rows g t c = rw c.put_in_row-2.ensures
     c.in_ok-more.ensures.length c.in_ok-more.ensures.below c.in_ok-more.ensures.rows)
 
 pub returns-clause-count : goal.returns-clause-count
-returns-clause-count g t c = omega (
-  arith,
-  count_over-hashed _ c.args.rows.now c.args.row c.requires.size c.requires.hashed
-      (omega (arith, c.requires.row, c.len.ensures.count, c.if-len-row.false)) g.D.Numbered.numbers
-      c.args.changes.items c.requires.changes c.in_ok-above.above.items
-      (rw (c.row.ensures, c.deref.ensures.value) at c.in_ok-above.ensures),
-  c.len-hashed.ensures,
-  c.in_ok-above.above.ok.0,
-  c.in_ok-more.ensures.count,
-)
+returns-clause-count g t c =
+    let counted = count_over-hashed _ c.args.rows.now c.args.row c.requires.size c.requires.hashed
+    (omega (arith, c.requires.row, c.len.ensures.count, c.if-len-row.false)) g.D.Numbered.numbers
+    c.args.changes.items c.requires.changes c.in_ok-above.above.items
+    (rw (c.row.ensures, c.deref.ensures.value) at c.in_ok-above.ensures) in
+    omega (arith, c.len-hashed.ensures, c.in_ok-above.above.ok.0, c.in_ok-more.ensures.count)
 
 pub hash_reached-requires-clause-changes : goal.hash_reached-requires-clause-changes
 hash_reached-requires-clause-changes g t c =

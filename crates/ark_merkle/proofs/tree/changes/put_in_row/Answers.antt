@@ -20,13 +20,8 @@ loop-n-preserved g c =
     let rows = c.loop-n.rows in
     let change = c.index_mut.result.now in
     let new = set (get_or rows row []) change.0 (numbers change.1) in
-    let inside : row < length rows = omega (
-      arith,
-      ap length c.loop-n.invariant.1,
-      length-set initial row
-          (get_or rows row []),
-      c.requires.row,
-    ) in
+    let same = ap length c.loop-n.invariant.1 in
+    let inside : row < length rows = omega (arith, length-set initial row (get_or rows row []), c.requires.row) in
     let is : get_or c.exchange.new.self row [] ≡ new = ap (λ (rs : List (List Digest)). get_or rs row [])
     c.exchange.ensures ∙ get_or-set_same rows row new [] inside in
     rw is (

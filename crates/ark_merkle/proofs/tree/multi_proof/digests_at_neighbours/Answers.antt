@@ -1,4 +1,4 @@
-use Rattle.std.proofs.Common.{◌≡◌, ◌<◌, ◌∙◌, [], length, map, take, get_or, Ok, ap, sym, refl}
+use Rattle.std.proofs.Common.{◌≡◌, ◌<◌, ◌∙◌, [], length, map, get_or, Ok, ap, sym, refl}
 use Rattle.std.proofs.lemmas.List.{get_or-map, map_push, take_all, take_more}
 use Rattle.ark_base.specs.Laws.Steps.{done_injective}
 use Rattle.ark_paths.specs.Index.{neighbour}
@@ -11,29 +11,20 @@ bounds-leaves-neighbour_of g c = rw c.neighbour_of.ensures (c.requires c.loop-in
 pub loop-index-preserved : goal.loop-index-preserved
 loop-index-preserved g c =
     let numbers = g.D.Numbered.numbers in
-    let leaves = c.args.leaves.now in
     let indexes = c.args.indexes.now in
     let at = c.loop-index.index-index in
-    let place = c.neighbour_of.result in
     let digest = c.index-leaves-neighbour_of.result in
     let copy = c.in_ok-duplicate.field-0 in
-    let copied : numbers digest ≡ numbers copy =
-    (g.met.D.DigestItem.seen_alike digest copy).0 (done_injective _ _ c.in_ok-duplicate.ensures) in
-    let within : place < length leaves = rw c.neighbour_of.ensures (c.requires at 0 c.loop-index-test.true) in
-    let read : get_or (map numbers leaves) (neighbour (get_or indexes at 0)) [] ≡ numbers copy =
-    rw (← c.neighbour_of.ensures) (get_or-map numbers leaves place digest [] within
+    let copied = (g.met.D.DigestItem.seen_alike digest copy).0 (done_injective _ _ c.in_ok-duplicate.ensures) in
+    let within : c.neighbour_of.result < length c.args.leaves.now =
+    rw c.neighbour_of.ensures (c.requires at 0 c.loop-index-test.true) in
+    let read : get_or (map numbers c.args.leaves.now) (neighbour (get_or indexes at 0)) [] ≡ numbers copy =
+    rw (← c.neighbour_of.ensures) (get_or-map numbers c.args.leaves.now c.neighbour_of.result digest [] within
     ∙ ap numbers (sym c.index-leaves-neighbour_of.is) ∙ copied) in
-    rw (
-      c.in_ok-push.ensures.items,
-      map_push,
-      c.loop-index.invariant,
-      take_more indexes at 0 c.loop-index-test.true,
-      map_push,
-      read,
-    ) refl
+    rw (c.in_ok-push.ensures.items, map_push, c.loop-index.invariant, take_more indexes at 0 c.loop-index-test.true)
+    (rw (map_push, read) refl)
 
 pub returns : goal.returns
 returns g c =
-    let all : take c.loop-index.index-index c.args.indexes.now ≡ c.args.indexes.now =
-    take_all c.loop-index.index-index c.args.indexes.now c.loop-index-test.false in
+    let all = take_all c.loop-index.index-index c.args.indexes.now c.loop-index-test.false in
     ap Ok (sym (rw all at c.loop-index.invariant))

@@ -3,10 +3,7 @@ use Rattle.ark_merkle.proofs.LevelOrder.{count-fits, length-seen}
 use Rattle.ark_merkle.proofs.tree.levels.Levels.len.Goals as goal
 
 pub returns : goal.returns
-returns g c =
-    let digests = c.self.inside.digests in
-    record {
-      count = length-seen g.D.Numbered.numbers digests c.self.inside.count c.args.self.now c.self.view_is
-          c.self.invariant;
-      most = count-fits c.self.inside.count (length digests.items) c.self.invariant (omega (arith, digests.ok.0));
-    }
+returns g c = record {
+  count = length-seen g.D.Numbered.numbers c.self.inside.digests _ _ c.self.view_is c.self.invariant;
+  most = count-fits _ (length c.self.inside.digests.items) c.self.invariant (omega (arith, c.self.inside.digests.ok.0));
+}
