@@ -47,7 +47,8 @@ module _ (bs : List ℕ) (first : ℕ) (first_is : first ≡ get_or bs 0 0) (som
 
   pub number_of-parsed : {E : Type 0} (r : Result ℕ E) → first ≢ 43 → ParsesUnsigned 64 10 bs r → result_ok r
       ≡ number_of bs
-  number_of-parsed r no_plus read = number_of-by r (parse_plain numerals 64 bs r read (λ plus. no_plus (first_is ∙ plus)))
+  number_of-parsed r no_plus read =
+      number_of-by r (parse_plain numerals 64 bs r read (λ plus. no_plus (first_is ∙ plus)))
 
   pub number_of-no_text : (IsUtf8 bs → ⊥) → None ≡ number_of bs
   number_of-no_text foreign =

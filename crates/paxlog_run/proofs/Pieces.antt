@@ -25,8 +25,8 @@ piece-cut file rest at n end le inside =
     rw (sym two) (piece-at file rest at (end - at) n (omega arith) (omega (arith, two)))
 
 -- what stands behind the head of a file that was cut
-pub behind-cut : (file rest : List ℕ) (at m end : ℕ) → end ≡ at + m → end ≤ length file → drop at (take end file ++ rest)
-    ≡ take m (drop at file) ++ rest
+pub behind-cut : (file rest : List ℕ) (at m end : ℕ) → end ≡ at + m → end ≤ length file
+    → drop at (take end file ++ rest) ≡ take m (drop at file) ++ rest
 behind-cut file rest at m end is inside =
     let inside' : at + m ≤ length file = omega (arith, is) in
     let long : length (take (at + m) file) ≡ at + m = length-take-le (at + m) file inside' in

@@ -50,7 +50,8 @@ module _ (file : List ℕ) (named : Option ℕ) (size : ℕ) (is : of_first file
   -- an old size
   pub old-inside : (old_size : ℕ) → 0 < old_size → old_size ≤ size → of_first file named (λ size. only_if
       (is_older old_size size) Size (Ok size)) ≡ Ok size
-  old-inside old_size some inside = given-of (λ size. only_if (is_older old_size size) Size (Ok size)) named file size is
+  old-inside old_size some inside =
+      given-of (λ size. only_if (is_older old_size size) Size (Ok size)) named file size is
       ∙ rw (lt-ltb 0 old_size some, le-ltb size old_size inside) refl
 
   pub old-none : (old_size : ℕ) → old_size ≡ 0 → of_first file named (λ size. only_if (is_older old_size size) Size

@@ -9,7 +9,9 @@ levels_between-levels-requires g c = half-size (length c.args.memory.now) c.requ
 pub overflow_add-levels : goal.overflow_add-levels
 overflow_add-levels g c =
     let tree = levels-found (length c.args.memory.now) _ c.requires.size c.levels_between-levels.ensures in
-    omega (arith, level-small {level = c.levels_between-levels.result + 1} tree (omega arith) (omega (arith, c.well_formed)))
+    let small = level-small {level = c.levels_between-levels.result + 1} tree (omega arith)
+    (omega (arith, c.well_formed)) in
+    omega (arith, small)
 
 pub levels-init : goal.levels-init
 levels-init g c =

@@ -17,8 +17,8 @@ returns-clause-bytes c = λ leaves is keeps.
     ) in
     let long = length-take-le made c.append-made.new.more inside in
     let appended = rw (c.new-bytes.ensures.items) at c.in_ok-serialize_items.ensures.appended in
-    behind-of leaves (take (stored_count kept.size) kept.digests) c.args.digests.now new c.serialize_items.new.dest.items
-    kept.size is c.in_ok-serialize_items.ensures.spelled appended (omega (
+    behind-of leaves (take (stored_count kept.size) kept.digests) c.args.digests.now new
+    c.serialize_items.new.dest.items kept.size is c.in_ok-serialize_items.ensures.spelled appended (omega (
       arith,
       long,
       c.append-made.ensures.count,
