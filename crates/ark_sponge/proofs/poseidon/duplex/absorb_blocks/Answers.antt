@@ -9,7 +9,8 @@ loop-index-init g c =
     record {
       so_far = elements_left-first g.F.Valued.value _ _ _ _
           (omega (arith, c.rate-rate.ensures.positive, c.rate-rate.ensures.value)) c.args.state.now
-          c.args.elements.now c.add_row_at.new.state c.split_at.result.0.now c.split_at.result.1.now c.args.start c.min.result (c.capacity-capacity.result
+          c.args.elements.now c.add_row_at.new.state c.split_at.result.0.now c.split_at.result.1.now c.args.start
+          c.min.result (c.capacity-capacity.result
           + c.args.start) g.met.F.Field.laws.below
           c.requires.width c.requires.start c.requires.some (c.min.ensures
           ∙ ap (λ r. min (r - c.args.start) (length c.args.elements.now)) c.rate-rate.ensures.value)
@@ -25,7 +26,8 @@ loop-index-preserved g c =
     record {
       so_far = elements_left-next g.F.Valued.value _ _ _ _
           (omega (arith, c.rate-rate.ensures.positive, c.rate-rate.ensures.value)) c.loop-index.state
-          c.permute.new.state c.add_row_at-in-loop-index.new.state c.loop-index.rest.now c.split_at-in-loop-index.result.0.now
+          c.permute.new.state c.add_row_at-in-loop-index.new.state c.loop-index.rest.now
+          c.split_at-in-loop-index.result.0.now
           c.split_at-in-loop-index.result.1.now c.loop-index.index
           c.min-in-loop-index.result (search (rules, common_steps)) (c.min-in-loop-index.ensures
           ∙ ap (λ r. min r (length c.loop-index.rest.now)) c.rate-rate.ensures.value)
