@@ -76,6 +76,8 @@ class Tree:
             raise TypeError("trees is rfc6962 or sha256, not %s" % type(trees).__name__)
         length = memoryview(memory).nbytes
         self._size = _leaf_count(length)
+        self._length = 2 * self._size - 1
+        self._path_bytes = ctypes.c_char * (16 + _path_digests(self._size))
         self._calls = _CALLS[trees.name]
         self._trees = trees
         self._lock = threading.Lock()
@@ -162,10 +164,13 @@ class Tree:
 
     def path(self, index: int) -> bytes:
         """The bytes of the path of an index, as it stands there. Raises ``IndexBeyondSize``."""
-        room, count = 16 + _path_digests(self._size), _size()
-        path = ctypes.create_string_buffer(room)
-        self._done(self._calls.path, path, room, ctypes.byref(count), given=(_word("index", index),))
-        return ctypes.string_at(path, count.value)
+        word, path = _word("index", index), self._path_bytes()
+        # as _answer, with fewer calls: a path is copied in less than a microsecond
+        with self._lock:
+            answer = self._calls.path(path, len(path), _size(), self._place(), self._length, word)
+        if answer < 0:
+            raise _refusal(answer)
+        return path.raw
 
     def multi_path(self, indexes: Sequence[int]) -> bytes:
         """The bytes of the multi-proof of some indexes, in any order, as it stands there; it shows them rising and each once.
@@ -232,7 +237,7 @@ class Tree:
 
     def _answer(self, call: Any, *before: Any, given: Any) -> int:
         with self._lock:
-            answer: int = call(*before, self._place(), 2 * self._size - 1, *given)
+            answer: int = call(*before, self._place(), self._length, *given)
         if answer < 0:
             raise _refusal(answer)
         return answer
