@@ -2,10 +2,10 @@
  * code behind these calls is proved.
  *
  * No call keeps memory or a pointer, and each may run in any thread at any time. The calls of trees, logs and transcripts allocate:
- * they stand on the process's malloc and free, so do not call them in a signal handler, nor in the child of a process with
+ * they stand on the process's malloc, realloc and free, so do not call them in a signal handler, nor in the child of a process with
  * threads between fork and exec. Where malloc returns NULL the answer is PAXIDORE_E_MEMORY; no clause says that enough memory is
- * not answered so. The calls of kept trees (.._tree_..) but .._tree_multi_path, of SHA-256, of BLAKE2s and of commitments allocate
- * nothing, nor does a kept log's root, its check or its count.
+ * not answered so. The calls of kept trees (paxidore_tree_..) but paxidore_tree_multi_path, of SHA-256, of BLAKE2s and of commitments
+ * allocate nothing, nor does a kept log's root, its check or its count.
  *
  * size_t has 64 bits. Only inputs may overlap. A pointer to a first byte or number is not NULL and may be read, or written where
  * it is not const, for its length; with length 0 it is not looked at and may be NULL. */
@@ -24,6 +24,9 @@ extern "C" {
 #endif
 
 #define PAXIDORE_VERSION_STRING "1.0.0"
+#define PAXIDORE_VERSION_MAJOR 1
+#define PAXIDORE_VERSION_MINOR 0
+#define PAXIDORE_VERSION_PATCH 0
 
 /* Roots, digests, commitments, and the digests in proofs. */
 #define PAXIDORE_DIGESTBYTES 32U
@@ -45,6 +48,12 @@ extern "C" {
 /* The digests of a kept tree of so many leaves, and their bytes. */
 #define PAXIDORE_TREE_DIGESTS(size) (2U * (size_t)(size) - 1U)
 #define PAXIDORE_TREEBYTES(size) (PAXIDORE_DIGESTBYTES * PAXIDORE_TREE_DIGESTS(size))
+
+/* How trees are hashed. No other number names a hashing. */
+enum paxidore_hashing {
+    PAXIDORE_PLAIN = 1,  /* SHA-256 of a leaf, and of left followed by right */
+    PAXIDORE_RFC6962 = 2 /* as transparency logs do (RFC 6962, section 2.1): a zero byte stands before a leaf, a one byte before a pair */
+};
 
 /* What a compiler is told of a call, where it has words for it: that its answer is to be looked at, and which of its pointers are
  * not NULL, whatever their lengths. */
@@ -68,13 +77,15 @@ extern "C" {
  * An inclusion proof of a log: the digests beside the way, from the entry up (RFC 9162, section 2.1.3). A consistency proof of a log:
  * the digests in the order of its section 2.1.4. No count stands before them: the index and the sizes say how many there are. */
 
-/* What a call answers. Only 0 is a yes: compare with PAXIDORE_OK. After another answer each buffer is as it was. */
+/* What a call answers. Only 0 is a yes: compare with PAXIDORE_OK. After another answer each buffer is as it was. Where several refusals
+ * apply, the answer is the first of those that the comment of the call names, in its order; E_MEMORY may come in place of any. */
 enum paxidore_answer {
     PAXIDORE_OK = 0,           /* shown, or done */
     PAXIDORE_NOT_SHOWN = 1,    /* a proof was read, and it does not lead from the leaves to the root */
     PAXIDORE_E_MEMORY = -1,    /* a request for memory was refused */
     PAXIDORE_E_TRUNCATED = -2, /* the bytes of the proof end early */
-    PAXIDORE_E_INVALID = -3,   /* the bytes are no proof for these indexes: of others, not canonical, or with bytes behind */
+    PAXIDORE_E_INVALID = -3,   /* the bytes are no proof for these indexes: of others, not canonical, or with bytes behind; or a
+                                * number names no hashing, or no field */
     PAXIDORE_E_HEIGHT = -4,    /* the proof is for a tree of another size */
     PAXIDORE_E_SIZE = -5,      /* no tree has this count of leaves: a tree has 2, 4, 8, 16 .. of them; or no log has one of
                                 * the sizes, or the old one is above the new one, or fewer digests are kept than a log of the
@@ -97,180 +108,115 @@ const char *paxidore_version(void);
 PAXIDORE_NOT_NULL((1))
 void paxidore_sha256(uint8_t digest[PAXIDORE_DIGESTBYTES], const uint8_t *input, size_t input_len);
 
-/* ---- Trees whose hashes are SHA-256 of a leaf, and of left followed by right.
+/* ---- Trees of leaves that are handed over, in the hashing that a number names. E_INVALID says of a call with such a number that it
+ * names none, before anything else is looked at.
  *
- * Leaves are handed over one behind the other, with the length of each: `leaves_len` is the sum of the `count` lengths. A
- * pair can be taken for a leaf of 64 bytes in these trees: where leaves may be strangers' bytes of any length, take the trees
- * of RFC 6962 below. */
+ * Leaves are handed over one behind the other, with the length of each: `leaves_len` is the sum of the `count` lengths. In the
+ * plain hashing a pair can be taken for a leaf of 64 bytes: where leaves may be strangers' bytes of any length, take that of
+ * RFC 6962, in which no pair is taken for a leaf. */
 
 /* PAXIDORE_OK where the bytes of a path show that `leaf` stands at `index` in the tree of `size` leaves with this root: then it
  * does, or two different inputs with one SHA-256 are at hand. Bytes of another path, of another tree, or with anything
- * behind them are refused. PAXIDORE_NOT_SHOWN, E_SIZE, E_TRUNCATED, E_INVALID, E_HEIGHT, E_MEMORY. */
-PAXIDORE_ANSWERS PAXIDORE_NOT_NULL((1))
-int32_t paxidore_sha256_verify(const uint8_t root[PAXIDORE_DIGESTBYTES], size_t size, size_t index,
-                               const uint8_t *leaf, size_t leaf_len,
-                               const uint8_t *path, size_t path_len);
+ * behind them are refused. PAXIDORE_NOT_SHOWN, E_INVALID, E_SIZE, E_TRUNCATED, E_HEIGHT, E_MEMORY. */
+PAXIDORE_ANSWERS PAXIDORE_NOT_NULL((2))
+int32_t paxidore_verify(uint32_t hashing, const uint8_t root[PAXIDORE_DIGESTBYTES], size_t size, size_t index,
+                        const uint8_t *leaf, size_t leaf_len,
+                        const uint8_t *path, size_t path_len);
 
 /* The same of several leaves at once, one for each index; the indexes rise. Also E_COUNT and E_LENGTHS, before the bytes of
  * the proof are looked at. */
-PAXIDORE_ANSWERS PAXIDORE_NOT_NULL((1))
-int32_t paxidore_sha256_multi_verify(const uint8_t root[PAXIDORE_DIGESTBYTES], size_t size,
-                                     const size_t *indexes, size_t indexes_count,
-                                     const uint8_t *leaves, size_t leaves_len,
-                                     const size_t *lengths, size_t count,
-                                     const uint8_t *proof, size_t proof_len);
+PAXIDORE_ANSWERS PAXIDORE_NOT_NULL((2))
+int32_t paxidore_multi_verify(uint32_t hashing, const uint8_t root[PAXIDORE_DIGESTBYTES], size_t size,
+                              const size_t *indexes, size_t indexes_count,
+                              const uint8_t *leaves, size_t leaves_len,
+                              const size_t *lengths, size_t count,
+                              const uint8_t *proof, size_t proof_len);
 
-/* Writes the root of the tree above the leaves. E_SIZE, E_LENGTHS, E_MEMORY. */
+/* Writes the root of the tree above the leaves. E_INVALID, E_SIZE, E_LENGTHS, E_MEMORY. */
 PAXIDORE_ANSWERS PAXIDORE_NOT_NULL((1))
-int32_t paxidore_sha256_root(uint8_t root[PAXIDORE_DIGESTBYTES],
-                             const uint8_t *leaves, size_t leaves_len,
-                             const size_t *lengths, size_t count);
+int32_t paxidore_root(uint8_t root[PAXIDORE_DIGESTBYTES], uint32_t hashing,
+                      const uint8_t *leaves, size_t leaves_len,
+                      const size_t *lengths, size_t count);
 
 /* Builds the tree above the leaves, and writes the bytes of the path of `index` to the front of `path`, which has room for
  * `path_room`, and their count to `path_len`. Where the room is too short, the answer is E_ROOM and `path_len` is what is
- * needed: PAXIDORE_PATHBYTES. E_SIZE, E_LENGTHS, E_INDEX, E_ROOM, E_MEMORY. */
+ * needed: PAXIDORE_PATHBYTES. E_INVALID, E_SIZE, E_LENGTHS, E_INDEX, E_ROOM, E_MEMORY. */
 PAXIDORE_ANSWERS PAXIDORE_NOT_NULL((3))
-int32_t paxidore_sha256_path(uint8_t *path, size_t path_room, size_t *path_len,
-                             const uint8_t *leaves, size_t leaves_len,
-                             const size_t *lengths, size_t count, size_t index);
+int32_t paxidore_path(uint8_t *path, size_t path_room, size_t *path_len, uint32_t hashing,
+                      const uint8_t *leaves, size_t leaves_len,
+                      const size_t *lengths, size_t count, size_t index);
 
 /* Writes the bytes of the multi-proof of some indexes, in any order, which shows them rising and each once. As above. */
 PAXIDORE_ANSWERS PAXIDORE_NOT_NULL((3))
-int32_t paxidore_sha256_multi_path(uint8_t *proof, size_t proof_room, size_t *proof_len,
-                                   const uint8_t *leaves, size_t leaves_len,
-                                   const size_t *lengths, size_t count,
-                                   const size_t *indexes, size_t indexes_count);
-
-/* ---- Trees as transparency logs hash them (RFC 6962, section 2.1): a zero byte stands before a leaf, a one byte before a
- * pair, so that no pair is taken for a leaf. The calls are those above. */
-
-PAXIDORE_ANSWERS PAXIDORE_NOT_NULL((1))
-int32_t paxidore_rfc6962_verify(const uint8_t root[PAXIDORE_DIGESTBYTES], size_t size, size_t index,
-                                const uint8_t *leaf, size_t leaf_len,
-                                const uint8_t *path, size_t path_len);
-
-PAXIDORE_ANSWERS PAXIDORE_NOT_NULL((1))
-int32_t paxidore_rfc6962_multi_verify(const uint8_t root[PAXIDORE_DIGESTBYTES], size_t size,
-                                      const size_t *indexes, size_t indexes_count,
-                                      const uint8_t *leaves, size_t leaves_len,
-                                      const size_t *lengths, size_t count,
-                                      const uint8_t *proof, size_t proof_len);
-
-PAXIDORE_ANSWERS PAXIDORE_NOT_NULL((1))
-int32_t paxidore_rfc6962_root(uint8_t root[PAXIDORE_DIGESTBYTES],
-                              const uint8_t *leaves, size_t leaves_len,
-                              const size_t *lengths, size_t count);
-
-PAXIDORE_ANSWERS PAXIDORE_NOT_NULL((3))
-int32_t paxidore_rfc6962_path(uint8_t *path, size_t path_room, size_t *path_len,
-                              const uint8_t *leaves, size_t leaves_len,
-                              const size_t *lengths, size_t count, size_t index);
-
-PAXIDORE_ANSWERS PAXIDORE_NOT_NULL((3))
-int32_t paxidore_rfc6962_multi_path(uint8_t *proof, size_t proof_room, size_t *proof_len,
-                                    const uint8_t *leaves, size_t leaves_len,
-                                    const size_t *lengths, size_t count,
-                                    const size_t *indexes, size_t indexes_count);
+int32_t paxidore_multi_path(uint8_t *proof, size_t proof_room, size_t *proof_len, uint32_t hashing,
+                            const uint8_t *leaves, size_t leaves_len,
+                            const size_t *lengths, size_t count,
+                            const size_t *indexes, size_t indexes_count);
 
 /* ---- Trees whose digests are kept in memory of the caller's, which may be a mapped file. Nothing is rebuilt: a path is copied out
- * of memory, a changed leaf writes the digests above it. Nothing is kept but this memory. The calls but
- * `.._tree_multi_path` allocate nothing.
+ * of memory, a changed leaf writes the digests above it. Nothing is kept but this memory. The calls but paxidore_tree_multi_path
+ * allocate nothing.
  *
  * A tree of `size` leaves is `tree_len` = PAXIDORE_TREE_DIGESTS(size) digests of 32 bytes, one behind the other, in PAXIDORE_TREEBYTES
  * (size) bytes of any alignment: the root first, then the two below it, and so on, the digests of the leaves last. The two below the
- * digest at place i stand at 2 i + 1 and 2 i + 2; the digest of leaf j stands at size - 1 + j. Memory says nothing of its hashing: take
- * the calls of the one that it was built with. E_SIZE where no tree has `tree_len` digests.
+ * digest at place i stand at 2 i + 1 and 2 i + 2; the digest of leaf j stands at size - 1 + j. Memory says nothing of its hashing:
+ * name the one that it was built in. E_INVALID where the number names no hashing, E_SIZE where no tree has `tree_len` digests.
  *
- * A call reads and writes these digests alone. While one that writes runs, no other may read or write the same memory. What it says
- * of memory that holds no tree is what it says of the digests that stand there: `.._tree_root`, `.._tree_path` and
- * `.._tree_multi_path` copy them as they are, without hashing. So ask `.._tree_check` of memory that others may have written, and
- * keep the root elsewhere: whoever writes the memory can put another whole tree there. */
+ * A call reads and writes these digests alone. While one that writes runs, no other may read or write the same memory. If the
+ * memory holds no tree, the calls copy or hash whatever digests are there: paxidore_tree_root, paxidore_tree_path and
+ * paxidore_tree_multi_path copy them, without hashing, in either hashing. So ask paxidore_tree_check of memory that others may have
+ * written, and keep the root elsewhere: whoever writes the memory can put another whole tree there. */
 
 /* Writes the tree above the leaves: first the digest of each leaf, from the first on, then the digests above them, from the lowest up.
- * E_SIZE, E_ROOM where the tree has not `tree_len` digests, E_LENGTHS; the memory is then as it was. */
+ * E_INVALID, E_SIZE, E_ROOM where the tree has not `tree_len` digests, E_LENGTHS; the memory is then as it was. */
 PAXIDORE_ANSWERS
-int32_t paxidore_sha256_tree_build(uint8_t *tree, size_t tree_len,
-                                   const uint8_t *leaves, size_t leaves_len,
-                                   const size_t *lengths, size_t count);
+int32_t paxidore_tree_build(uint8_t *tree, size_t tree_len, uint32_t hashing,
+                            const uint8_t *leaves, size_t leaves_len,
+                            const size_t *lengths, size_t count);
 
 /* Writes the digests above those of the leaves that stand in memory, from the lowest up: all but the last `size` digests. The memory
- * then holds the tree above these. E_SIZE. */
+ * then holds the tree above these. E_INVALID, E_SIZE. */
 PAXIDORE_ANSWERS
-int32_t paxidore_sha256_tree_rebuild(uint8_t *tree, size_t tree_len);
+int32_t paxidore_tree_rebuild(uint8_t *tree, size_t tree_len, uint32_t hashing);
 
 /* Changes the leaf at `index`: writes its digest, and then each digest above it, the lowest first and the root last, as the hash of the two
  * below it; no other byte. If memory held a tree, it then holds that of the changed leaves. A crash between these writes leaves a
- * digest that is not the hash of the two below it: `.._tree_check` finds it and `.._tree_rebuild` mends it, with the old leaf or the
- * new one, if all 32 bytes of the leaf's digest were written or none. E_SIZE, E_INDEX; the memory is then as it was. */
+ * digest that is not the hash of the two below it: paxidore_tree_check finds it and paxidore_tree_rebuild mends it, with the old leaf
+ * or the new one, if all 32 bytes of the leaf's digest were written or none. E_INVALID, E_SIZE, E_INDEX; the memory is then as it was. */
 PAXIDORE_ANSWERS
-int32_t paxidore_sha256_tree_set(uint8_t *tree, size_t tree_len, size_t index,
-                                 const uint8_t *leaf, size_t leaf_len);
+int32_t paxidore_tree_set(uint8_t *tree, size_t tree_len, uint32_t hashing, size_t index,
+                          const uint8_t *leaf, size_t leaf_len);
 
 /* Changes the leaves at some indexes, one after the other, so that the last of an index counts: writes their digests, and then the
  * digests above them, level by level, the lowest first and the root last. Where the indexes rise, each of these is hashed once. What
- * is said of `.._tree_set` and of a crash holds for all of them. E_SIZE, E_COUNT, E_LENGTHS, E_INDEX also where there is no index;
- * the memory is then as it was. */
+ * is said of paxidore_tree_set and of a crash holds for all of them. E_INVALID, E_SIZE, E_COUNT, E_LENGTHS, E_INDEX also where there is
+ * no index; the memory is then as it was. */
 PAXIDORE_ANSWERS
-int32_t paxidore_sha256_tree_set_many(uint8_t *tree, size_t tree_len,
-                                      const size_t *indexes, size_t indexes_count,
-                                      const uint8_t *leaves, size_t leaves_len,
-                                      const size_t *lengths, size_t count);
+int32_t paxidore_tree_set_many(uint8_t *tree, size_t tree_len, uint32_t hashing,
+                               const size_t *indexes, size_t indexes_count,
+                               const uint8_t *leaves, size_t leaves_len,
+                               const size_t *lengths, size_t count);
 
 /* Writes the first digest of the memory, the root of a tree. E_SIZE. */
 PAXIDORE_ANSWERS PAXIDORE_NOT_NULL((1))
-int32_t paxidore_sha256_tree_root(uint8_t root[PAXIDORE_DIGESTBYTES], const uint8_t *tree, size_t tree_len);
+int32_t paxidore_tree_root(uint8_t root[PAXIDORE_DIGESTBYTES], const uint8_t *tree, size_t tree_len);
 
-/* Writes the bytes of the path of `index`, as paxidore_sha256_path does for the leaves of the tree. E_SIZE, E_INDEX, E_ROOM. */
+/* Writes the bytes of the path of `index`, as paxidore_path does for the leaves of the tree. E_SIZE, E_INDEX, E_ROOM. */
 PAXIDORE_ANSWERS PAXIDORE_NOT_NULL((3))
-int32_t paxidore_sha256_tree_path(uint8_t *path, size_t path_room, size_t *path_len,
-                                  const uint8_t *tree, size_t tree_len, size_t index);
+int32_t paxidore_tree_path(uint8_t *path, size_t path_room, size_t *path_len,
+                           const uint8_t *tree, size_t tree_len, size_t index);
 
-/* Writes the bytes of the multi-proof of some indexes, in any order, as paxidore_sha256_multi_path does for the leaves of the tree.
+/* Writes the bytes of the multi-proof of some indexes, in any order, as paxidore_multi_path does for the leaves of the tree.
  * E_SIZE, E_INDEX also where there is no index, E_MEMORY, E_ROOM. */
 PAXIDORE_ANSWERS PAXIDORE_NOT_NULL((3))
-int32_t paxidore_sha256_tree_multi_path(uint8_t *proof, size_t proof_room, size_t *proof_len,
-                                        const uint8_t *tree, size_t tree_len,
-                                        const size_t *indexes, size_t indexes_count);
+int32_t paxidore_tree_multi_path(uint8_t *proof, size_t proof_room, size_t *proof_len,
+                                 const uint8_t *tree, size_t tree_len,
+                                 const size_t *indexes, size_t indexes_count);
 
 /* PAXIDORE_OK where memory holds the tree above the digests of leaves that stand in it: each other digest is the hash of the two below
- * it; else PAXIDORE_NOT_SHOWN. It hashes as much as `.._tree_rebuild`. E_SIZE. */
+ * it; else PAXIDORE_NOT_SHOWN. It hashes as much as paxidore_tree_rebuild. E_INVALID, E_SIZE. */
 PAXIDORE_ANSWERS
-int32_t paxidore_sha256_tree_check(const uint8_t *tree, size_t tree_len);
-
-/* The same in the hashing of RFC 6962. */
-
-PAXIDORE_ANSWERS
-int32_t paxidore_rfc6962_tree_build(uint8_t *tree, size_t tree_len,
-                                    const uint8_t *leaves, size_t leaves_len,
-                                    const size_t *lengths, size_t count);
-
-PAXIDORE_ANSWERS
-int32_t paxidore_rfc6962_tree_rebuild(uint8_t *tree, size_t tree_len);
-
-PAXIDORE_ANSWERS
-int32_t paxidore_rfc6962_tree_set(uint8_t *tree, size_t tree_len, size_t index,
-                                  const uint8_t *leaf, size_t leaf_len);
-
-PAXIDORE_ANSWERS
-int32_t paxidore_rfc6962_tree_set_many(uint8_t *tree, size_t tree_len,
-                                       const size_t *indexes, size_t indexes_count,
-                                       const uint8_t *leaves, size_t leaves_len,
-                                       const size_t *lengths, size_t count);
-
-PAXIDORE_ANSWERS PAXIDORE_NOT_NULL((1))
-int32_t paxidore_rfc6962_tree_root(uint8_t root[PAXIDORE_DIGESTBYTES], const uint8_t *tree, size_t tree_len);
-
-PAXIDORE_ANSWERS PAXIDORE_NOT_NULL((3))
-int32_t paxidore_rfc6962_tree_path(uint8_t *path, size_t path_room, size_t *path_len,
-                                   const uint8_t *tree, size_t tree_len, size_t index);
-
-PAXIDORE_ANSWERS PAXIDORE_NOT_NULL((3))
-int32_t paxidore_rfc6962_tree_multi_path(uint8_t *proof, size_t proof_room, size_t *proof_len,
-                                         const uint8_t *tree, size_t tree_len,
-                                         const size_t *indexes, size_t indexes_count);
-
-PAXIDORE_ANSWERS
-int32_t paxidore_rfc6962_tree_check(const uint8_t *tree, size_t tree_len);
+int32_t paxidore_tree_check(const uint8_t *tree, size_t tree_len, uint32_t hashing);
 
 /* ---- Clients of a transparency log of any size (RFC 6962 and RFC 9162, section 2.1), which hashes as the trees above. A log
  * publishes its root and its size. Its proofs are their digests alone, 32 bytes each, in the order of the standard, and no other
@@ -446,6 +392,78 @@ int32_t paxidore_transcript_squeeze(uint8_t *out, size_t out_len, uint8_t *state
 PAXIDORE_ANSWERS
 int32_t paxidore_transcript_squeeze_bytes(uint8_t *out, size_t out_len, uint8_t *state, size_t state_len,
                                           uint32_t field, const uint8_t *parameters, size_t parameters_len);
+
+/* ---- Earlier names of the calls of trees: paxidore_sha256_.. is the plain hashing, paxidore_rfc6962_.. that of RFC 6962. */
+
+#define PAXIDORE_TREES_IN(name, hashing) \
+    PAXIDORE_ANSWERS static inline int32_t paxidore_##name##_verify( \
+        const uint8_t root[PAXIDORE_DIGESTBYTES], size_t size, size_t index, \
+        const uint8_t *leaf, size_t leaf_len, const uint8_t *path, size_t path_len) { \
+        return paxidore_verify(hashing, root, size, index, leaf, leaf_len, path, path_len); \
+    } \
+    PAXIDORE_ANSWERS static inline int32_t paxidore_##name##_multi_verify( \
+        const uint8_t root[PAXIDORE_DIGESTBYTES], size_t size, const size_t *indexes, size_t indexes_count, \
+        const uint8_t *leaves, size_t leaves_len, const size_t *lengths, size_t count, \
+        const uint8_t *proof, size_t proof_len) { \
+        return paxidore_multi_verify(hashing, root, size, indexes, indexes_count, \
+                                     leaves, leaves_len, lengths, count, proof, proof_len); \
+    } \
+    PAXIDORE_ANSWERS static inline int32_t paxidore_##name##_root( \
+        uint8_t root[PAXIDORE_DIGESTBYTES], \
+        const uint8_t *leaves, size_t leaves_len, const size_t *lengths, size_t count) { \
+        return paxidore_root(root, hashing, leaves, leaves_len, lengths, count); \
+    } \
+    PAXIDORE_ANSWERS static inline int32_t paxidore_##name##_path( \
+        uint8_t *path, size_t path_room, size_t *path_len, \
+        const uint8_t *leaves, size_t leaves_len, const size_t *lengths, size_t count, size_t index) { \
+        return paxidore_path(path, path_room, path_len, hashing, leaves, leaves_len, lengths, count, index); \
+    } \
+    PAXIDORE_ANSWERS static inline int32_t paxidore_##name##_multi_path( \
+        uint8_t *proof, size_t proof_room, size_t *proof_len, \
+        const uint8_t *leaves, size_t leaves_len, const size_t *lengths, size_t count, \
+        const size_t *indexes, size_t indexes_count) { \
+        return paxidore_multi_path(proof, proof_room, proof_len, hashing, leaves, leaves_len, lengths, count, \
+                                   indexes, indexes_count); \
+    } \
+    PAXIDORE_ANSWERS static inline int32_t paxidore_##name##_tree_build( \
+        uint8_t *tree, size_t tree_len, \
+        const uint8_t *leaves, size_t leaves_len, const size_t *lengths, size_t count) { \
+        return paxidore_tree_build(tree, tree_len, hashing, leaves, leaves_len, lengths, count); \
+    } \
+    PAXIDORE_ANSWERS static inline int32_t paxidore_##name##_tree_rebuild(uint8_t *tree, size_t tree_len) { \
+        return paxidore_tree_rebuild(tree, tree_len, hashing); \
+    } \
+    PAXIDORE_ANSWERS static inline int32_t paxidore_##name##_tree_set( \
+        uint8_t *tree, size_t tree_len, size_t index, const uint8_t *leaf, size_t leaf_len) { \
+        return paxidore_tree_set(tree, tree_len, hashing, index, leaf, leaf_len); \
+    } \
+    PAXIDORE_ANSWERS static inline int32_t paxidore_##name##_tree_set_many( \
+        uint8_t *tree, size_t tree_len, const size_t *indexes, size_t indexes_count, \
+        const uint8_t *leaves, size_t leaves_len, const size_t *lengths, size_t count) { \
+        return paxidore_tree_set_many(tree, tree_len, hashing, indexes, indexes_count, \
+                                      leaves, leaves_len, lengths, count); \
+    } \
+    PAXIDORE_ANSWERS static inline int32_t paxidore_##name##_tree_root( \
+        uint8_t root[PAXIDORE_DIGESTBYTES], const uint8_t *tree, size_t tree_len) { \
+        return paxidore_tree_root(root, tree, tree_len); \
+    } \
+    PAXIDORE_ANSWERS static inline int32_t paxidore_##name##_tree_path( \
+        uint8_t *path, size_t path_room, size_t *path_len, const uint8_t *tree, size_t tree_len, size_t index) { \
+        return paxidore_tree_path(path, path_room, path_len, tree, tree_len, index); \
+    } \
+    PAXIDORE_ANSWERS static inline int32_t paxidore_##name##_tree_multi_path( \
+        uint8_t *proof, size_t proof_room, size_t *proof_len, const uint8_t *tree, size_t tree_len, \
+        const size_t *indexes, size_t indexes_count) { \
+        return paxidore_tree_multi_path(proof, proof_room, proof_len, tree, tree_len, indexes, indexes_count); \
+    } \
+    PAXIDORE_ANSWERS static inline int32_t paxidore_##name##_tree_check(const uint8_t *tree, size_t tree_len) { \
+        return paxidore_tree_check(tree, tree_len, hashing); \
+    }
+
+PAXIDORE_TREES_IN(sha256, PAXIDORE_PLAIN)
+PAXIDORE_TREES_IN(rfc6962, PAXIDORE_RFC6962)
+
+#undef PAXIDORE_TREES_IN
 
 #ifdef __cplusplus
 }

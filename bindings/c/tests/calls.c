@@ -330,6 +330,63 @@ static void commitments(void) {
     CHECK(paxidore_blake2s_opens(once, nonce, 32, nonce) == PAXIDORE_OK);
 }
 
+/* A number that names no hashing is refused before anything else is looked at. */
+static void hashings(void) {
+    uint8_t root[32], kept[32] = {7}, path[PATH], tree[32 * 15];
+    const size_t indexes[1] = {0};
+    size_t len = 7;
+    memcpy(root, kept, 32);
+    memset(path, 7, sizeof path);
+    memset(tree, 7, sizeof tree);
+    const uint32_t numbers[] = {0, 3, 1u << 31, UINT32_MAX};
+    for (size_t i = 0; i < sizeof numbers / sizeof *numbers; i++) {
+        uint32_t none = numbers[i];
+        CHECK(paxidore_verify(none, root, SIZE, 0, LEAVES, 0, path, PATH) == PAXIDORE_E_INVALID);
+        CHECK(paxidore_verify(none, root, 3, 9, LEAVES, 0, path, 1) == PAXIDORE_E_INVALID);
+        CHECK(paxidore_multi_verify(none, root, SIZE, indexes, 1, LEAVES, 0, LENGTHS, 1, path, PATH) == PAXIDORE_E_INVALID);
+        CHECK(paxidore_root(root, none, LEAVES, LEAVES_LEN, LENGTHS, SIZE) == PAXIDORE_E_INVALID);
+        CHECK(paxidore_path(path, PATH, &len, none, LEAVES, LEAVES_LEN, LENGTHS, SIZE, 0) == PAXIDORE_E_INVALID);
+        CHECK(paxidore_multi_path(path, PATH, &len, none, LEAVES, LEAVES_LEN, LENGTHS, SIZE, indexes, 1) == PAXIDORE_E_INVALID);
+        CHECK(paxidore_tree_build(tree, 15, none, LEAVES, LEAVES_LEN, LENGTHS, SIZE) == PAXIDORE_E_INVALID);
+        CHECK(paxidore_tree_rebuild(tree, 15, none) == PAXIDORE_E_INVALID);
+        CHECK(paxidore_tree_set(tree, 15, none, 0, LEAVES, 1) == PAXIDORE_E_INVALID);
+        CHECK(paxidore_tree_set_many(tree, 15, none, indexes, 1, LEAVES, 0, LENGTHS, 1) == PAXIDORE_E_INVALID);
+        CHECK(paxidore_tree_check(tree, 15, none) == PAXIDORE_E_INVALID);
+    }
+    CHECK(memcmp(root, kept, 32) == 0);
+    CHECK(len == 7 && path[0] == 7 && path[PATH - 1] == 7 && tree[0] == 7 && tree[sizeof tree - 1] == 7);
+}
+
+/* Transcripts over 2^64 - 2^32 + 1: two full rounds and a partial one of a state of two elements, fifth powers. The values were computed
+ * in plain Python. */
+static void transcripts(void) {
+    static const uint64_t words[22] = {2, 1, 5, 3, 2, 5, 6, 2, 7, 8, 2, 9, 10, 2, 2, 1, 2, 2, 3, 4, 1, 1};
+    static const uint64_t elements[2] = {11, 12};
+    static const uint64_t squeezed[2] = {5518910787108351795u, 16081646306617943921u};
+    static const uint8_t next[9] = {0xb3, 0x05, 0x99, 0x98, 0x39, 0x91, 0x76, 0x5a, 0x6e}, all_ones[8] = {255, 255, 255, 255, 255, 255, 255, 255};
+    static uint8_t ready[4424];
+    const uint8_t *parameters = (const uint8_t *)words;
+    uint8_t state[25], out[16], bytes[9];
+    size_t len = 7;
+    CHECK(paxidore_transcript_init(state, 25, &len, 0, parameters, sizeof words) == PAXIDORE_E_INVALID);
+    CHECK(paxidore_transcript_init(state, 25, &len, 4, parameters, sizeof words) == PAXIDORE_E_TRUNCATED);
+    CHECK(paxidore_transcript_init(state, 24, &len, 1, parameters, sizeof words) == PAXIDORE_E_ROOM && len == 25);
+    CHECK(paxidore_transcript_init(state, 25, &len, 1, parameters, sizeof words) == PAXIDORE_OK && len == 25);
+    CHECK(paxidore_transcript_absorb(state, 25, 1, parameters, sizeof words, (const uint8_t *)elements, 16) == PAXIDORE_OK);
+    CHECK(paxidore_transcript_absorb_bytes(state, 25, 1, parameters, sizeof words, (const uint8_t *)"a message", 9) == PAXIDORE_OK);
+    CHECK(paxidore_transcript_absorb(state, 25, 1, parameters, sizeof words, all_ones, 7) == PAXIDORE_E_TRUNCATED);
+    CHECK(paxidore_transcript_absorb(state, 25, 1, parameters, sizeof words, all_ones, 8) == PAXIDORE_E_INVALID);
+    CHECK(paxidore_transcript_absorb(state, 24, 1, parameters, sizeof words, NULL, 0) == PAXIDORE_E_TRUNCATED);
+    CHECK(paxidore_transcript_squeeze(out, 16, state, 25, 1, parameters, sizeof words) == PAXIDORE_OK);
+    CHECK(memcmp(out, squeezed, 16) == 0);
+    CHECK(paxidore_transcript_squeeze_bytes(bytes, 9, state, 25, 1, parameters, sizeof words) == PAXIDORE_OK);
+    CHECK(memcmp(bytes, next, 9) == 0);
+    CHECK(paxidore_transcript_ready_parameters(ready, sizeof ready, &len, 3, 2) == PAXIDORE_OK && len == sizeof ready);
+    CHECK(paxidore_transcript_ready_parameters(ready, sizeof ready, &len, 4, 8) == PAXIDORE_E_ROOM);
+    CHECK(paxidore_transcript_ready_parameters(ready, sizeof ready, &len, 4, 1) == PAXIDORE_E_INVALID);
+    CHECK(paxidore_transcript_ready_parameters(ready, sizeof ready, &len, 1, 2) == PAXIDORE_E_INVALID);
+}
+
 int main(void) {
     const struct hashing *all[2] = {&sha256, &rfc6962};
     for (int i = 0; i < 2; i++) {
@@ -341,7 +398,12 @@ int main(void) {
     digests();
     blake2s();
     commitments();
+    hashings();
+    transcripts();
     CHECK(strcmp(paxidore_version(), PAXIDORE_VERSION_STRING) == 0);
+    char version[32];
+    snprintf(version, sizeof version, "%d.%d.%d", PAXIDORE_VERSION_MAJOR, PAXIDORE_VERSION_MINOR, PAXIDORE_VERSION_PATCH);
+    CHECK(strcmp(version, PAXIDORE_VERSION_STRING) == 0);
     for (int32_t answer = -11; answer <= 2; answer++)
         CHECK((strcmp(paxidore_strerror(answer), "unknown answer") == 0) == (answer < -9 || answer > 1));
     printf("%d passed, %d failed\n", passed, failed);

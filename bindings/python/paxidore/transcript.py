@@ -12,9 +12,10 @@ Who proves and who checks absorb the same messages, and squeeze the same challen
 """
 import ctypes
 import enum
-from typing import List, Sequence
+from typing import Any, List, Sequence, Tuple
 
-from . import Refused, _bytes, _call, _exact, _int, _refusal, _size, _word
+from ._library import Refused, _bytes, _call, _exact, _int, _refusal, _size, _word
+from ._turn import Turn
 
 _room = ctypes.c_void_p
 _field = ctypes.c_uint32
@@ -75,13 +76,14 @@ def _elements(field: Field, numbers: Sequence[int]) -> bytes:
     elements = [_int("an element", number) for number in numbers]
     for element in elements:
         if not 0 <= element < field.modulus:
-            raise TranscriptError("no element of the field: %d" % element)
+            raise TranscriptError("a number is no element of the field")
     return b"".join(element.to_bytes(each, "little") for element in elements)
 
 
 def _rows(field: Field, rows: Sequence[Sequence[int]]) -> bytes:
     words = [len(rows).to_bytes(8, "little")]
-    for row in map(tuple, rows):
+    for given in rows:
+        row = tuple(given)
         words += [len(row).to_bytes(8, "little"), _elements(field, row)]
     return b"".join(words)
 
@@ -99,7 +101,10 @@ def parameters_bytes(
     """Returns the canonical bytes of a permutation's parameters: the counts of rounds, the exponent of the S-box, a row of ``ark`` for
     each round, the matrix ``mds`` by rows, and how a state is parted. ``Transcript`` tests them."""
     field = Field(field)
-    word = lambda name, number: _word(name, number).to_bytes(8, "little")
+
+    def word(name: str, number: int) -> bytes:
+        return _word(name, number).to_bytes(8, "little")
+
     numbers = word("full_rounds", full_rounds) + word("partial_rounds", partial_rounds) + word("alpha", alpha)
     rows = _rows(field, tuple(ark)) + _rows(field, tuple(mds))
     return numbers + rows + word("rate", rate) + word("capacity", capacity)
@@ -119,6 +124,8 @@ class Transcript:
     """A sponge that has absorbed nothing, over a field, with a permutation's parameters as bytes.
 
     ``TranscriptError`` where the bytes are no parameters of the field, ``OutOfMemory``.
+
+    Threads may share a transcript: its calls run one after the other. ``copy.copy`` is ``copy``.
     """
 
     def __init__(self, field: Field, parameters: bytes) -> None:
@@ -129,18 +136,24 @@ class Transcript:
         # parameters have a row for each element of the state: its state is the shorter one
         _done(_init(room, len(room), ctypes.byref(size), self._field, parameters, len(parameters)))
         self._state = ctypes.create_string_buffer(room.raw[: size.value], size.value)
+        self._turn = Turn()
 
-    def _of(self) -> tuple:
+    def __repr__(self) -> str:
+        return "<paxidore.Transcript over %s>" % self._field.name
+
+    def _of(self) -> Tuple[Any, ...]:
         return self._state, len(self._state), self._field, self._parameters, len(self._parameters)
 
     def absorb(self, elements: Sequence[int]) -> None:
         """Absorbs elements of the field. An error leaves the transcript as before. ``TranscriptError``, ``OutOfMemory``."""
         given = _elements(self._field, tuple(elements))
-        _done(_absorb(*self._of(), given, len(given)))
+        with self._turn:
+            _done(_absorb(*self._of(), given, len(given)))
 
     def absorb_bytes(self, data: bytes) -> None:
         """Absorbs bytes, behind their length. ``OutOfMemory``."""
-        _done(_absorb_bytes(*self._of(), _exact("data", data), len(data)))
+        with self._turn:
+            _done(_absorb_bytes(*self._of(), _exact("data", data), len(data)))
 
     def squeeze(self, count: int) -> List[int]:
         """Returns the next elements. ``OutOfMemory``."""
@@ -152,14 +165,25 @@ class Transcript:
         """Returns the next bytes. ``OutOfMemory``."""
         return self._given(_squeeze_bytes, _word("count", count))
 
-    def _given(self, call, count: int) -> bytes:  # type: ignore[no-untyped-def]
+    def _given(self, call: Any, count: int) -> bytes:
         out = ctypes.create_string_buffer(count) if count else None
-        _done(call(out, count, *self._of()))
+        with self._turn:
+            _done(call(out, count, *self._of()))
         return out.raw if out else b""
 
     def copy(self) -> "Transcript":
         """Returns a transcript that has absorbed and squeezed the same."""
         other = object.__new__(Transcript)
         other._field, other._parameters = self._field, self._parameters
-        other._state = ctypes.create_string_buffer(self._state.raw, len(self._state))
+        other._turn = Turn()
+        with self._turn:
+            other._state = ctypes.create_string_buffer(self._state.raw, len(self._state))
         return other
+
+    __copy__ = copy
+
+    def __deepcopy__(self, memo: object) -> "Transcript":
+        return self.copy()
+
+    def __reduce__(self) -> str:
+        raise TypeError("a Transcript is not pickled")

@@ -2,18 +2,17 @@
 import ctypes
 import mmap
 import os
-import threading
 from types import TracebackType
 from typing import Any, Callable, Optional, Sequence, Tuple, Type, Union
 
-from paxidore import (
+from ._library import (
     DIGEST_BYTES,
     SizeError,
-    Trees,
     _bytes,
     _call,
     _exact,
     _flat,
+    _hashing,
     _multi_path_room,
     _path_digests,
     _refusal,
@@ -21,8 +20,9 @@ from paxidore import (
     _sizes,
     _word,
     _words,
-    rfc6962,
 )
+from ._turn import Turn
+from .trees import Trees, rfc6962
 
 _Path = Union[str, "os.PathLike[str]"]
 _memory = ctypes.c_void_p
@@ -30,22 +30,14 @@ _memory = ctypes.c_void_p
 _STEP = 1024
 
 
-class _Calls:
-    def __init__(self, name: str) -> None:
-        def call(what: str, *types: object):  # type: ignore[no-untyped-def]
-            return _call("%s_tree_%s" % (name, what), ctypes.c_int32, *types)
-
-        self.build = call("build", _memory, _size, _bytes, _size, _sizes, _size)
-        self.rebuild = call("rebuild", _memory, _size)
-        self.set = call("set", _memory, _size, _size, _bytes, _size)
-        self.set_many = call("set_many", _memory, _size, _sizes, _size, _bytes, _size, _sizes, _size)
-        self.root = call("root", _memory, _memory, _size)
-        self.path = call("path", _memory, _size, _sizes, _memory, _size, _size)
-        self.multi_path = call("multi_path", _memory, _size, _sizes, _memory, _size, _sizes, _size)
-        self.check = call("check", _memory, _size)
-
-
-_CALLS = {name: _Calls(name) for name in ("sha256", "rfc6962")}
+_build = _call("tree_build", ctypes.c_int32, _memory, _size, _hashing, _bytes, _size, _sizes, _size)
+_rebuild = _call("tree_rebuild", ctypes.c_int32, _memory, _size, _hashing)
+_set = _call("tree_set", ctypes.c_int32, _memory, _size, _hashing, _size, _bytes, _size)
+_set_many = _call("tree_set_many", ctypes.c_int32, _memory, _size, _hashing, _sizes, _size, _bytes, _size, _sizes, _size)
+_root = _call("tree_root", ctypes.c_int32, _memory, _memory, _size)
+_path = _call("tree_path", ctypes.c_int32, _memory, _size, _sizes, _memory, _size, _size)
+_multi_path = _call("tree_multi_path", ctypes.c_int32, _memory, _size, _sizes, _memory, _size, _sizes, _size)
+_check = _call("tree_check", ctypes.c_int32, _memory, _size, _hashing)
 
 
 def _leaf_count(length: int) -> int:
@@ -78,9 +70,8 @@ class Tree:
         self._size = _leaf_count(length)
         self._length = 2 * self._size - 1
         self._path_bytes = ctypes.c_char * (16 + _path_digests(self._size))
-        self._calls = _CALLS[trees.name]
         self._trees = trees
-        self._lock = threading.Lock()
+        self._turn = Turn()
         # it keeps the buffer from being resized or closed
         self._held: Optional[Any] = (ctypes.c_uint8 * length).from_buffer(memory)
         self._map: Optional[mmap.mmap] = None
@@ -159,15 +150,15 @@ class Tree:
     def root(self) -> bytes:
         """The root: the digest that stands first."""
         root = ctypes.create_string_buffer(DIGEST_BYTES)
-        self._done(self._calls.root, root, given=())
+        self._done(_root, root, given=())
         return root.raw
 
     def path(self, index: int) -> bytes:
         """The bytes of the path of an index, as it stands there. Raises ``IndexBeyondSize``."""
         word, path = _word("index", index), self._path_bytes()
         # as _answer, with fewer calls: a path is copied in less than a microsecond
-        with self._lock:
-            answer = self._calls.path(path, len(path), _size(), self._place(), self._length, word)
+        with self._turn:
+            answer = _path(path, len(path), _size(), self._place(), self._length, word)
         if answer < 0:
             raise _refusal(answer)
         return path.raw
@@ -180,38 +171,38 @@ class Tree:
         given, count = _words("an index", indexes), _size()
         room = _multi_path_room(self._size, given[1])
         proof = ctypes.create_string_buffer(room)
-        self._done(self._calls.multi_path, proof, room, ctypes.byref(count), given=given)
+        self._done(_multi_path, proof, room, ctypes.byref(count), given=given)
         return ctypes.string_at(proof, count.value)
 
     def set(self, index: int, leaf: bytes) -> None:
         """Changes a leaf: writes its digest and those above it, from the lowest up. Raises ``IndexBeyondSize``."""
-        self._done(self._calls.set, given=(_word("index", index), _exact("leaf", leaf), len(leaf)))
+        self._done(_set, given=(self._trees._hashing, _word("index", index), _exact("leaf", leaf), len(leaf)))
 
     def set_many(self, indexes: Sequence[int], leaves: Sequence[bytes]) -> None:
         """Changes leaves, one for each index, one after the other. Where the indexes rise, each digest above them is hashed once.
 
         Raises ``CountError``, ``IndexBeyondSize``.
         """
-        self._done(self._calls.set_many, given=(*_words("an index", indexes), *_flat(tuple(leaves))))
+        self._done(_set_many, given=(self._trees._hashing, *_words("an index", indexes), *_flat(tuple(leaves))))
 
     def check(self) -> bool:
         """Whether each digest above those of the leaves is the hash of the two below it. It hashes as much as ``rebuild``."""
-        return self._answer(self._calls.check, given=()) == 0
+        return self._answer(_check, given=(self._trees._hashing,)) == 0
 
     def rebuild(self) -> None:
         """Writes all digests above those of the leaves that stand there."""
-        self._done(self._calls.rebuild, given=())
+        self._done(_rebuild, given=(self._trees._hashing,))
 
     def flush(self) -> None:
         """Waits until what was written is on the disk, where the tree is in a file."""
-        with self._lock:
+        with self._turn:
             self._place()
             if self._map is not None:
                 self._map.flush()
 
     def close(self) -> None:
         """Lets go of the memory or the file. What was written stays."""
-        with self._lock:
+        with self._turn:
             self._held = None
             if self._map is not None:
                 self._map.close()
@@ -219,7 +210,7 @@ class Tree:
     def _build(self, leaves: Tuple[bytes, ...], progress: Optional[Callable[[int], object]]) -> None:
         try:
             if progress is None:
-                self._done(self._calls.build, given=_flat(leaves))
+                self._done(_build, given=(self._trees._hashing, *_flat(leaves)))
                 return
             # each step hashes the places above its leaves; those that later steps lie under are hashed again by these
             for start in range(0, len(leaves), _STEP):
@@ -236,7 +227,7 @@ class Tree:
         return self._held
 
     def _answer(self, call: Any, *before: Any, given: Any) -> int:
-        with self._lock:
+        with self._turn:
             answer: int = call(*before, self._place(), self._length, *given)
         if answer < 0:
             raise _refusal(answer)

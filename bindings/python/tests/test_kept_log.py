@@ -1,8 +1,11 @@
 """Logs in memory and in files, against hashlib."""
+import copy
+import fcntl
 import hashlib
 import os
 import random
 import signal
+import sys
 import tempfile
 import threading
 import unittest
@@ -67,7 +70,7 @@ def end_within(calls):
             os.kill(os.getpid(), signal.SIGKILL)
         real_sync(file)
 
-    paxidore.os.pwrite, paxidore.os.fsync = write, sync
+    os.pwrite, os.fsync = write, sync
 
 
 def path(index, digests):
@@ -124,6 +127,14 @@ def proofs_are(case, log, digests, size, pairs=None):
 
 
 class InMemory(unittest.TestCase):
+    def test_how_it_is_shown(self):
+        log = Log()
+        log.append([b"one", b"two"])
+        self.assertEqual(repr(log), "<paxidore.Log of 2 entries>")
+        log.close()
+        self.assertEqual(repr(log), "<paxidore.Log, closed>")
+        self.assertRaises(TypeError, copy.copy, log)
+
     def test_each_size(self):
         entries = drawn(70)
         digests = entry_digests(entries)
@@ -291,7 +302,7 @@ class InFile(unittest.TestCase):
         Log.open(self.path).close()
 
     def test_files_of_others(self):
-        for content in (b"", b"x", bytes(96), bytes(1000), b"paxidore log, digests of SHA-256" + bytes(64)):
+        for content in (b"x", bytes(97), bytes(1000), b"paxidore log, digests of SHA-256" + bytes(63) + b"x"):
             with open(self.path, "wb") as file:
                 file.write(content)
             self.assertRaises(ValueError, Log.open, self.path)
@@ -299,6 +310,169 @@ class InFile(unittest.TestCase):
                 self.assertEqual(file.read(), content)
         self.assertRaises(FileNotFoundError, Log.open, os.path.join(self.room.name, "none", "log"))
         self.assertRaises(IsADirectoryError, Log.open, self.room.name)
+
+    def test_a_head_that_a_crash_left(self):
+        """Of a new log's head any part may be written: it has no entries, since none is appended before the head is synced."""
+        Log.open(self.path).close()
+        with open(self.path, "rb") as file:
+            head = file.read()
+        self.assertEqual(len(head), 96)
+        for end in range(97):
+            for content in (head[:end], bytes(end), head[:end] + bytes(96 - end), bytes(end) + head[end:]):
+                with open(self.path, "wb") as file:
+                    file.write(content)
+                with Log.open(self.path) as log:
+                    self.assertEqual((len(log), log.append([b"an entry"])), (0, 1))
+
+    def test_a_new_log_of_several_threads(self):
+        """What an append returned is in the file, whoever makes it."""
+        interval = sys.getswitchinterval()
+        self.addCleanup(sys.setswitchinterval, interval)
+        sys.setswitchinterval(1e-6)
+        for turn in range(300):
+            path, done = "%s%d" % (self.path, turn), []
+
+            def opens():
+                try:
+                    with Log.open(path) as log:
+                        log.append([b"one", b"two"])
+                        done.append(log.root())
+                except BlockingIOError:
+                    pass
+
+            threads = [threading.Thread(target=opens) for _ in range(3)]
+            for thread in threads:
+                thread.start()
+            for thread in threads:
+                thread.join()
+            self.assertGreater(len(done), 0)
+            with Log.open(path) as log:
+                self.assertEqual(len(log), 2 * len(done))
+            os.unlink(path)
+        self.assertEqual(os.listdir(self.room.name), [])
+
+    def test_a_file_that_is_replaced(self):
+        """A log that was opened under a name that another file has now is none."""
+        real = fcntl.flock
+        other = self.path + ".other"
+        Log.open(other).close()
+
+        def flock(file, operation):
+            real(file, operation)
+            if os.path.exists(other):
+                os.rename(other, self.path)
+
+        fcntl.flock = flock
+        try:
+            with Log.open(self.path) as log:
+                log.append([b"an entry"])
+        finally:
+            fcntl.flock = real
+        with Log.open(self.path) as log:
+            self.assertEqual(len(log), 1)
+
+    def test_a_kept_exception(self):
+        """It holds neither the file nor what was lent, and the log goes on."""
+        for log in (Log(), Log.open(self.path)):
+            log.append([b"one", b"two"])
+            kept = []
+            for call in (
+                lambda: log.root(99),
+                lambda: log.inclusion(7),
+                lambda: log.consistency(9),
+                lambda: log.root("3"),
+                lambda: log.inclusion("1"),
+            ):
+                try:
+                    call()
+                except (paxidore.Refused, TypeError) as error:
+                    kept.append(error)
+            self.assertEqual((len(kept), log.append([b"three"])), (5, 3))
+            self.assertEqual(log.root(), mth(entry_digests([b"one", b"two", b"three"])))
+            log.close()
+        with Log.open(self.path) as log:
+            self.assertEqual(len(log), 3)
+        self.assertEqual(len(kept), 5)
+
+    def test_a_size_that_is_none(self):
+        """A head with a right sum and a size that no log has is damaged. Opening a log changes none of its bytes."""
+        with Log.open(self.path) as log:
+            log.append(drawn(5))
+        with open(self.path, "rb") as file:
+            whole = file.read()
+        for size in (1 << 63, (1 << 64) - 1, 1 << 62, 1 << 59, 1 << 58, 6):
+            word = size.to_bytes(8, "little")
+            for at in (32, 64):
+                content = whole[:at] + word + sha(word)[:24] + whole[at + 32 :]
+                with open(self.path, "wb") as file:
+                    file.write(content)
+                self.assertRaises(ValueError, Log.open, self.path)
+                with open(self.path, "rb") as file:
+                    self.assertEqual(file.read(), content)
+        for content in (whole + b"the rest of an append", whole[:64] + bytes(32) + whole[96:]):
+            with open(self.path, "wb") as file:
+                file.write(content)
+            with Log.open(self.path) as log:
+                log.root()
+            with open(self.path, "rb") as file:
+                self.assertEqual(file.read(), content)
+
+    def test_a_forked_process(self):
+        """It does not have the log of its parent, nor its lock."""
+        with Log.open(self.path) as log:
+            log.append([b"one"])
+            child = os.fork()
+            if child == 0:
+                refused = 0
+                for call in (lambda: log.append([b"two"]), log.root, lambda: log.inclusion(0), log.check):
+                    try:
+                        call()
+                    except ValueError:
+                        refused += 1
+                log.close()
+                try:
+                    Log.open(self.path)
+                except BlockingIOError:
+                    refused += 1
+                os._exit(refused)
+            self.assertEqual(os.waitstatus_to_exitcode(os.waitpid(child, 0)[1]), 5)
+            self.assertEqual(log.append([b"two"]), 2)
+            reading, writing = os.pipe()
+            lives, alive = os.pipe()
+            child = os.fork()
+            if child == 0:
+                os.write(alive, b"x")
+                os.read(reading, 1)
+                os._exit(0)
+            os.read(lives, 1)
+        # the child that lives does not hold the lock
+        with Log.open(self.path) as log:
+            self.assertEqual(len(log), 2)
+        os.write(writing, b"x")
+        os.waitpid(child, 0)
+        for end in (reading, writing, lives, alive):
+            os.close(end)
+
+    def test_a_call_within_a_call(self):
+        """A signal's handler that asks the log does not wait for the call that it interrupts."""
+        log, seen = Log(), []
+
+        def handler(number, frame):
+            try:
+                seen.append(len(log))
+            except RuntimeError:
+                seen.append(None)
+
+        before = signal.signal(signal.SIGALRM, handler)
+        try:
+            signal.setitimer(signal.ITIMER_REAL, 0.0005, 0.0005)
+            for size in range(2000):
+                log.append([b"entry"])
+        finally:
+            signal.setitimer(signal.ITIMER_REAL, 0)
+            signal.signal(signal.SIGALRM, before)
+        self.assertEqual(len(log), 2000)
+        self.assertGreater(len(seen), 0)
 
     def test_a_short_file_is_refused(self):
         with Log.open(self.path) as log:
@@ -323,11 +497,11 @@ class InFile(unittest.TestCase):
                         raise OSError("no space")
                     real(file)
 
-                paxidore.os.fsync = sync
+                os.fsync = sync
                 try:
                     self.assertRaises(OSError, log.append, entries[5:])
                 finally:
-                    paxidore.os.fsync = real
+                    os.fsync = real
                 if fails_at == 1:
                     self.assertEqual(log.root(), mth(digests[:5]))
                     self.assertEqual(log.append(entries[5:]), 12)
@@ -374,11 +548,11 @@ class InFile(unittest.TestCase):
 
             with Log.open(self.path) as log:
                 before = len(log)
-                paxidore.os.pwrite, paxidore.os.fsync = write, sync
+                os.pwrite, os.fsync = write, sync
                 try:
                     after = log.append(entries[before : before + DRAWS.randrange(1, 3)])
                 finally:
-                    paxidore.os.pwrite, paxidore.os.fsync = real_write, real_sync
+                    os.pwrite, os.fsync = real_write, real_sync
             for torn in images:
                 other = self.path + ".torn"
                 with open(other, "wb") as file:

@@ -1,6 +1,8 @@
 """Every call, against trees that hashlib makes."""
+import copy
 import hashlib
 import os
+import pickle
 import random
 import resource
 import struct
@@ -9,6 +11,7 @@ import sys
 import unittest
 
 import paxidore
+from paxidore import _library
 
 DRAWS = random.Random(20)
 
@@ -279,6 +282,8 @@ class Calls(unittest.TestCase):
             self.assertTrue(trees.verify(root, Lower(4), Lower(2), b"bb", path))
             self.assertEqual(trees.path(leaves, Lower(2)), path)
             self.assertRaises(OverflowError, trees.path, leaves, Lower(2 + (1 << 64)))
+            # more digits than Python prints
+            self.assertRaises(OverflowError, trees.path, leaves, 10**5000)
             self.assertRaises(OverflowError, trees.multi_path, leaves, [Lower(2 + (1 << 64))])
 
     def test_logs(self):
@@ -334,13 +339,13 @@ class Calls(unittest.TestCase):
             return refused
 
     def test_refusals_have_their_codes(self):
-        codes = [kind.code for kind in paxidore._KINDS.values()]
+        codes = [kind.code for kind in _library._KINDS.values()]
         self.assertEqual(sorted(codes), list(range(-8, 0)))
         for code in codes + [-9, -10, -99]:
-            self.assertEqual(paxidore._refusal(code).code, code)
+            self.assertEqual(_library._refusal(code).code, code)
         for code in (-9, -10, -99):
-            self.assertIs(type(paxidore._refusal(code)), paxidore.Refused)
-        self.assertEqual(str(paxidore._refusal(-9)), "the buffer is too short")
+            self.assertIs(type(_library._refusal(code)), paxidore.Refused)
+        self.assertEqual(str(_library._refusal(-9)), "the buffer is too short")
         self.assertEqual(paxidore.Refused.code, 0)
 
     def test_a_library_that_is_not_there(self):
@@ -359,6 +364,21 @@ class Calls(unittest.TestCase):
             data = DRAWS.randbytes(length)
             self.assertEqual(paxidore.blake2s(data), hashlib.blake2s(data).digest())
             self.assertEqual(paxidore.sha256_digest(data), sha(data))
+
+    def test_a_digest_piece_by_piece(self):
+        text = DRAWS.randbytes(1000)
+        for cuts in ([], [0], [1], [63, 64, 65], [128, 129], sorted(DRAWS.sample(range(1000), 20))):
+            ours = paxidore.Blake2s()
+            for start, end in zip([0, *cuts], [*cuts, 1000]):
+                ours.update(text[start:end])
+            self.assertEqual(ours.digest(), hashlib.blake2s(text).digest())
+        begun = paxidore.Blake2s(b"ab")
+        other = copy.copy(begun)
+        other.update(b"c")
+        self.assertEqual(begun.digest(), hashlib.blake2s(b"ab").digest())
+        self.assertEqual(other.copy().digest(), hashlib.blake2s(b"abc").digest())
+        self.assertRaises(TypeError, begun.update, bytearray(b"c"))
+        self.assertRaises(TypeError, pickle.dumps, begun)
 
     def test_commitments(self):
         for length in list(range(200)) + [1 << 16]:
@@ -390,6 +410,7 @@ class Calls(unittest.TestCase):
 
     def test_version(self):
         self.assertEqual(paxidore.version(), "1.0.0")
+        self.assertEqual(paxidore.__version__, "1.0.0")
 
 
 if __name__ == "__main__":

@@ -1,5 +1,9 @@
 """Transcripts against the duplex sponge as its paper has it, in plain Python."""
+import copy
+import pickle
 import random
+import sys
+import threading
 import unittest
 
 from paxidore import Field, Transcript, TranscriptError, parameters_bytes, ready_parameters
@@ -103,6 +107,36 @@ class Transcripts(unittest.TestCase):
         transcript.absorb([4])
         model.absorb([1, 2, 3])
         self.assertEqual(copy.squeeze(5), model.squeeze(5))
+
+    def test_threads_share_a_transcript(self):
+        """No absorb is lost: four threads absorb as one."""
+        interval = sys.getswitchinterval()
+        self.addCleanup(sys.setswitchinterval, interval)
+        sys.setswitchinterval(1e-6)
+        model, transcript = drawn(random.Random(1), Field.GOLDILOCKS, 3, 1, 8, 22, 7)
+        threads = [threading.Thread(target=lambda: [transcript.absorb([5]) for _ in range(100)]) for _ in range(4)]
+        for thread in threads:
+            thread.start()
+        for thread in threads:
+            thread.join()
+        model.absorb([5] * 400)
+        self.assertEqual(transcript.squeeze(2), model.squeeze(2))
+
+    def test_a_number_that_is_too_long_to_print(self):
+        _, transcript = drawn(random.Random(1), Field.GOLDILOCKS, 3, 1, 8, 22, 7)
+        self.assertRaises(TranscriptError, transcript.absorb, [10**5000])
+        self.assertEqual(repr(transcript), "<paxidore.Transcript over GOLDILOCKS>")
+
+    def test_copies_share_nothing(self):
+        model, transcript = drawn(random.Random(1), Field.GOLDILOCKS, 3, 1, 8, 22, 7)
+        copies = [copy.copy(transcript), copy.deepcopy(transcript)]
+        transcript.absorb([4])
+        model.absorb([1])
+        wanted = model.squeeze(3)
+        for other in copies:
+            other.absorb([1])
+            self.assertEqual(other.squeeze(3), wanted)
+        self.assertRaises(TypeError, pickle.dumps, transcript)
 
     def test_how_input_is_cut_does_not_count(self):
         rng = random.Random(2)

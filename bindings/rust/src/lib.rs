@@ -105,7 +105,12 @@ impl fmt::Display for Refused {
             Refused::Count => f.write_str("there are not as many leaves as indexes"),
             Refused::Index => f.write_str("there is no index, or no leaf at one"),
             Refused::Room => f.write_str("the memory for a tree has another length"),
-            Refused::Other(answer) => write!(f, "unknown answer {answer}"),
+            // a newer library has words for it
+            Refused::Other(answer) => {
+                // SAFETY: the library answers a text of its own for each number, which ends with a zero byte and never changes.
+                let text = unsafe { CStr::from_ptr(sys::paxidore_strerror(*answer)) };
+                write!(f, "answer {answer}: {}", text.to_str().unwrap_or(""))
+            }
         }
     }
 }
@@ -164,7 +169,7 @@ fn written(
 /// are Rust's `Vec`s, which end the process where there is no room for them.
 #[derive(Clone, Copy)]
 pub struct Trees {
-    calls: &'static sys::Calls,
+    hashing: u32,
 }
 
 impl fmt::Debug for Trees {
@@ -176,12 +181,12 @@ impl fmt::Debug for Trees {
 impl Trees {
     /// SHA-256 of a leaf, and of left followed by right. A pair can be taken for a leaf of 64 bytes.
     pub const SHA256: Trees = Trees {
-        calls: &sys::SHA256,
+        hashing: sys::PLAIN,
     };
 
     /// As transparency logs hash (RFC 6962, section 2.1): no pair is taken for a leaf.
     pub const RFC6962: Trees = Trees {
-        calls: &sys::RFC6962,
+        hashing: sys::RFC6962,
     };
 
     /// Whether the path shows that the leaf stands at the index of the tree of `size` leaves with this root.
@@ -197,7 +202,8 @@ impl Trees {
     ) -> Result<bool, Refused> {
         // SAFETY: each pointer with its length is that of a borrowed slice, and the call asks for nothing else.
         verdict(unsafe {
-            (self.calls.verify)(
+            sys::paxidore_verify(
+                self.hashing,
                 root.as_ptr(),
                 size,
                 index,
@@ -224,7 +230,8 @@ impl Trees {
     ) -> Result<bool, Refused> {
         // SAFETY: as in `verify`.
         verdict(unsafe {
-            (self.calls.multi_verify)(
+            sys::paxidore_multi_verify(
+                self.hashing,
                 root.as_ptr(),
                 size,
                 indexes.as_ptr(),
@@ -263,8 +270,9 @@ impl Trees {
         let mut root = [0; 32];
         // SAFETY: as in `verify`, and `root` has room for 32 bytes that nothing else lends.
         let answer = unsafe {
-            (self.calls.root)(
+            sys::paxidore_root(
                 root.as_mut_ptr(),
+                self.hashing,
                 bytes.as_ptr(),
                 bytes.len(),
                 lengths.as_ptr(),
@@ -283,10 +291,11 @@ impl Trees {
         let room = 16 + path_digests(lengths.len());
         // SAFETY: as in `verify`, and the buffer has room for `room` bytes that nothing else lends.
         written(room, |path, room, count| unsafe {
-            (self.calls.path)(
+            sys::paxidore_path(
                 path,
                 room,
                 count,
+                self.hashing,
                 bytes.as_ptr(),
                 bytes.len(),
                 lengths.as_ptr(),
@@ -306,10 +315,11 @@ impl Trees {
         let room = multi_path_room(lengths.len(), indexes.len());
         // SAFETY: as in `path`.
         written(room, |proof, room, count| unsafe {
-            (self.calls.multi_path)(
+            sys::paxidore_multi_path(
                 proof,
                 room,
                 count,
+                self.hashing,
                 bytes.as_ptr(),
                 bytes.len(),
                 lengths.as_ptr(),
@@ -348,6 +358,52 @@ pub fn blake2s(input: &[u8]) -> Digest {
     // SAFETY: as in `Trees::root`.
     unsafe { sys::paxidore_blake2s(digest.as_mut_ptr(), input.as_ptr(), input.len()) };
     digest
+}
+
+/// A BLAKE2s of a text that comes piece by piece, with no key (RFC 7693).
+#[derive(Clone)]
+pub struct Blake2s {
+    state: sys::Blake2sState,
+}
+
+impl fmt::Debug for Blake2s {
+    fn fmt(&self, f: &mut fmt::Formatter<'_>) -> fmt::Result {
+        f.debug_struct("Blake2s").finish_non_exhaustive()
+    }
+}
+
+impl Default for Blake2s {
+    fn default() -> Blake2s {
+        Blake2s::new()
+    }
+}
+
+impl Blake2s {
+    /// The state of no bytes.
+    pub fn new() -> Blake2s {
+        let mut state = core::mem::MaybeUninit::uninit();
+        // SAFETY: the call writes each member of the state.
+        unsafe {
+            sys::paxidore_blake2s_init(state.as_mut_ptr());
+            Blake2s {
+                state: state.assume_init(),
+            }
+        }
+    }
+
+    /// Takes the next bytes of the text.
+    pub fn update(&mut self, input: &[u8]) {
+        // SAFETY: the state is borrowed for the call alone, and the pointer with its length is that of a slice.
+        unsafe { sys::paxidore_blake2s_update(&mut self.state, input.as_ptr(), input.len()) };
+    }
+
+    /// The digest of the text.
+    pub fn finalize(mut self) -> Digest {
+        let mut digest = [0; 32];
+        // SAFETY: as in `update`, and `digest` has room for 32 bytes.
+        unsafe { sys::paxidore_blake2s_final(&mut self.state, digest.as_mut_ptr()) };
+        digest
+    }
 }
 
 /// The commitment to a value: the BLAKE2s of the value followed by the nonce.

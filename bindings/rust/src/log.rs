@@ -2,11 +2,10 @@
 
 use crate::{sha256, sys, verdict, written, Digest, Flat, Refused};
 use std::error::Error;
-use std::ffi::OsString;
 use std::fmt;
 use std::fs::{self, File, OpenOptions};
 use std::io;
-use std::os::unix::fs::FileExt;
+use std::os::unix::fs::{FileExt, MetadataExt};
 use std::os::unix::io::AsRawFd;
 use std::path::Path;
 
@@ -87,6 +86,8 @@ const START: u64 = 96;
 struct Keeper {
     file: File,
     next: u64,
+    // that opened the file: a forked one has its lock as well
+    process: u32,
     // a size was written, and whether it is in the file is not known
     unknown: bool,
 }
@@ -103,23 +104,42 @@ fn no_log(why: &str) -> io::Error {
     io::Error::new(io::ErrorKind::InvalidData, why)
 }
 
-// Makes the file of no entries, under another name until it is whole. Where another process makes it too, the first one stays.
-fn make(path: &Path) -> io::Result<()> {
-    let mut other = OsString::from(path);
-    other.push(format!(".{}.new", std::process::id()));
-    let made = (|| {
-        let file = File::create(&other)?;
-        file.write_all_at(TITLE, 0)?;
-        file.write_all_at(&slot(0), SLOTS[0])?;
-        file.write_all_at(&[0; 32], SLOTS[1])?;
-        file.sync_all()?;
-        match fs::hard_link(&other, path) {
-            Err(error) if error.kind() == io::ErrorKind::AlreadyExists => Ok(()),
-            linked => linked,
+// The head of a log of no entries.
+fn empty_head() -> [u8; START as usize] {
+    let mut head = [0; START as usize];
+    head[..32].copy_from_slice(TITLE);
+    head[32..64].copy_from_slice(&slot(0));
+    head
+}
+
+// Opens the file at a path, which is made where there is none, and locks it.
+fn locked(path: &Path) -> io::Result<File> {
+    loop {
+        let file = OpenOptions::new()
+            .read(true)
+            .write(true)
+            .create(true)
+            .truncate(false)
+            .open(path)?;
+        // SAFETY: the descriptor is that of an open file.
+        if unsafe { sys::flock(file.as_raw_fd(), sys::LOCK_EX | sys::LOCK_NB) } != 0 {
+            return Err(io::Error::last_os_error());
         }
-    })();
-    let _ = fs::remove_file(&other);
-    made?;
+        let own = file.metadata()?;
+        match fs::metadata(path) {
+            Ok(found) if (found.dev(), found.ino()) == (own.dev(), own.ino()) => return Ok(file),
+            // another file took its place before it was locked
+            Ok(_) => {}
+            Err(error) if error.kind() == io::ErrorKind::NotFound => {}
+            Err(error) => return Err(error),
+        }
+    }
+}
+
+// Writes the head of a log of no entries, and syncs it and the folder.
+fn make(file: &File, path: &Path) -> io::Result<()> {
+    file.write_all_at(&empty_head(), 0)?;
+    file.sync_all()?;
     let folder = match path.parent() {
         Some(folder) if !folder.as_os_str().is_empty() => folder,
         _ => Path::new("."),
@@ -127,26 +147,22 @@ fn make(path: &Path) -> io::Result<()> {
     File::open(folder)?.sync_all()
 }
 
-// Opens the file, cuts off what an append left that did not end, and returns the size and the stored digests.
+// Opens the file, and returns the size and the stored digests. It changes nothing of a file that has a log.
 fn open(path: &Path) -> io::Result<(Keeper, usize, Vec<Digest>)> {
-    let existing = || OpenOptions::new().read(true).write(true).open(path);
-    let file = match existing() {
-        Err(error) if error.kind() == io::ErrorKind::NotFound => {
-            make(path)?;
-            existing()?
-        }
-        opened => opened?,
-    };
-    // SAFETY: the descriptor is that of an open file.
-    if unsafe { sys::flock(file.as_raw_fd(), sys::LOCK_EX | sys::LOCK_NB) } != 0 {
-        return Err(io::Error::last_os_error());
-    }
+    let file = locked(path)?;
+    let mut length = file.metadata()?.len();
     let mut head = [0; START as usize];
-    match file.read_exact_at(&mut head, 0) {
-        Err(error) if error.kind() == io::ErrorKind::UnexpectedEof => {
-            return Err(no_log("the file is no log of paxidore"));
-        }
-        read => read?,
+    let own = length.min(START) as usize;
+    file.read_exact_at(&mut head[..own], 0)?;
+    // Nothing is appended before the head is synced: what a crash left of a head is that of a log of no entries.
+    let none = empty_head();
+    let is_begun = head
+        .iter()
+        .zip(none)
+        .all(|(byte, own)| *byte == 0 || *byte == own);
+    if length <= START && is_begun && (length < START || head != none) {
+        make(&file, path)?;
+        (head, length) = (none, START);
     }
     let whole = |at: u64| {
         let found = &head[at as usize..at as usize + 32];
@@ -155,28 +171,28 @@ fn open(path: &Path) -> io::Result<(Keeper, usize, Vec<Digest>)> {
     };
     // sizes only grow, so that the larger one is the last
     let size = match SLOTS.iter().filter_map(|at| whole(*at)).max() {
-        Some(size) if head[..32] == TITLE[..] => size,
+        Some(size) if head[..32] == TITLE[..] && length >= START => size,
         _ => return Err(no_log("the file is no log of paxidore")),
     };
+    if size >= 1 << 63 {
+        return Err(no_log("the head of the file of a log is damaged"));
+    }
     let next = if whole(SLOTS[0]) == Some(size) {
         SLOTS[1]
     } else {
         SLOTS[0]
     };
     let count = stored_count(size);
-    let length = file.metadata()?.len();
-    let end = 32 * count as u64 + START;
-    if length < end {
+    // so many digests fit into the file, and with them what is counted in bytes
+    if (length - START) / 32 < count as u64 {
         return Err(no_log("the file of a log ends early"));
     }
     let mut stored = vec![[0; 32]; count];
     file.read_exact_at(flat_mut(&mut stored), START)?;
-    if length > end {
-        file.set_len(end)?;
-    }
     let keeper = Keeper {
         file,
         next,
+        process: std::process::id(),
         unknown: false,
     };
     Ok((keeper, size, stored))
@@ -190,6 +206,14 @@ impl Keeper {
                 "an append to the file of this log failed: open it again",
             ));
         }
+        if self.process != std::process::id() {
+            return Err(io::Error::new(
+                io::ErrorKind::Other,
+                "the log was opened before the process was forked: open it again",
+            ));
+        }
+        // what an append left behind the end that did not end itself
+        self.file.set_len(32 * stored as u64 + START)?;
         self.file
             .write_all_at(flat(more), 32 * stored as u64 + START)?;
         self.file.sync_data()?;
@@ -232,8 +256,10 @@ impl Log {
     /// The log that a file keeps; a new one where there is no such file. Its stored digests, 64 bytes an entry, are also in memory
     /// while it is open.
     ///
-    /// What an append left that did not end is cut off: the log has the entries of the last append that returned, or also those of the
-    /// one that was under way. Errors: `InvalidData` where the file is no log's, `WouldBlock` where it is open already, those of files.
+    /// The log has the entries of the last append that returned, or also those of the one that was under way. Opening changes no file
+    /// that has a log; the next append cuts off what another one left that did not end. A forked process does not append to the file
+    /// that its parent opened. Errors: `InvalidData` where the file is no log's or its head is damaged, `WouldBlock` where it is open
+    /// already, those of files.
     pub fn open<P: AsRef<Path>>(path: P) -> io::Result<Log> {
         let (file, size, stored) = open(path.as_ref())?;
         Ok(Log {

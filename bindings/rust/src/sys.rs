@@ -2,213 +2,132 @@
 
 use core::ffi::{c_char, c_int};
 
-/// The calls of one hashing.
-pub struct Calls {
-    pub verify:
-        unsafe extern "C" fn(*const u8, usize, usize, *const u8, usize, *const u8, usize) -> i32,
-    #[allow(clippy::type_complexity)]
-    pub multi_verify: unsafe extern "C" fn(
-        *const u8,
-        usize,
-        *const usize,
-        usize,
-        *const u8,
-        usize,
-        *const usize,
-        usize,
-        *const u8,
-        usize,
-    ) -> i32,
-    pub root: unsafe extern "C" fn(*mut u8, *const u8, usize, *const usize, usize) -> i32,
-    pub path: unsafe extern "C" fn(
-        *mut u8,
-        usize,
-        *mut usize,
-        *const u8,
-        usize,
-        *const usize,
-        usize,
-        usize,
-    ) -> i32,
-    #[allow(clippy::type_complexity)]
-    pub multi_path: unsafe extern "C" fn(
-        *mut u8,
-        usize,
-        *mut usize,
-        *const u8,
-        usize,
-        *const usize,
-        usize,
-        *const usize,
-        usize,
-    ) -> i32,
-    pub tree_build:
-        unsafe extern "C" fn(*mut u8, usize, *const u8, usize, *const usize, usize) -> i32,
-    pub tree_rebuild: unsafe extern "C" fn(*mut u8, usize) -> i32,
-    pub tree_set: unsafe extern "C" fn(*mut u8, usize, usize, *const u8, usize) -> i32,
-    #[allow(clippy::type_complexity)]
-    pub tree_set_many: unsafe extern "C" fn(
-        *mut u8,
-        usize,
-        *const usize,
-        usize,
-        *const u8,
-        usize,
-        *const usize,
-        usize,
-    ) -> i32,
-    pub tree_root: unsafe extern "C" fn(*mut u8, *const u8, usize) -> i32,
-    pub tree_path: unsafe extern "C" fn(*mut u8, usize, *mut usize, *const u8, usize, usize) -> i32,
-    pub tree_multi_path: unsafe extern "C" fn(
-        *mut u8,
-        usize,
-        *mut usize,
-        *const u8,
-        usize,
-        *const usize,
-        usize,
-    ) -> i32,
-    pub tree_check: unsafe extern "C" fn(*const u8, usize) -> i32,
+// The numbers of hashings.
+pub const PLAIN: u32 = 1;
+pub const RFC6962: u32 = 2;
+
+// Trees of leaves that are handed over, and trees that are kept, whose lengths count digests.
+extern "C" {
+    pub fn paxidore_verify(
+        hashing: u32,
+        root: *const u8,
+        size: usize,
+        index: usize,
+        leaf: *const u8,
+        leaf_len: usize,
+        path: *const u8,
+        path_len: usize,
+    ) -> i32;
+    pub fn paxidore_multi_verify(
+        hashing: u32,
+        root: *const u8,
+        size: usize,
+        indexes: *const usize,
+        indexes_count: usize,
+        leaves: *const u8,
+        leaves_len: usize,
+        lengths: *const usize,
+        count: usize,
+        proof: *const u8,
+        proof_len: usize,
+    ) -> i32;
+    pub fn paxidore_root(
+        root: *mut u8,
+        hashing: u32,
+        leaves: *const u8,
+        leaves_len: usize,
+        lengths: *const usize,
+        count: usize,
+    ) -> i32;
+    pub fn paxidore_path(
+        path: *mut u8,
+        path_room: usize,
+        path_len: *mut usize,
+        hashing: u32,
+        leaves: *const u8,
+        leaves_len: usize,
+        lengths: *const usize,
+        count: usize,
+        index: usize,
+    ) -> i32;
+    pub fn paxidore_multi_path(
+        proof: *mut u8,
+        proof_room: usize,
+        proof_len: *mut usize,
+        hashing: u32,
+        leaves: *const u8,
+        leaves_len: usize,
+        lengths: *const usize,
+        count: usize,
+        indexes: *const usize,
+        indexes_count: usize,
+    ) -> i32;
+    pub fn paxidore_tree_build(
+        tree: *mut u8,
+        tree_len: usize,
+        hashing: u32,
+        leaves: *const u8,
+        leaves_len: usize,
+        lengths: *const usize,
+        count: usize,
+    ) -> i32;
+    pub fn paxidore_tree_rebuild(tree: *mut u8, tree_len: usize, hashing: u32) -> i32;
+    pub fn paxidore_tree_set(
+        tree: *mut u8,
+        tree_len: usize,
+        hashing: u32,
+        index: usize,
+        leaf: *const u8,
+        leaf_len: usize,
+    ) -> i32;
+    pub fn paxidore_tree_set_many(
+        tree: *mut u8,
+        tree_len: usize,
+        hashing: u32,
+        indexes: *const usize,
+        indexes_count: usize,
+        leaves: *const u8,
+        leaves_len: usize,
+        lengths: *const usize,
+        count: usize,
+    ) -> i32;
+    pub fn paxidore_tree_root(root: *mut u8, tree: *const u8, tree_len: usize) -> i32;
+    pub fn paxidore_tree_path(
+        path: *mut u8,
+        path_room: usize,
+        path_len: *mut usize,
+        tree: *const u8,
+        tree_len: usize,
+        index: usize,
+    ) -> i32;
+    pub fn paxidore_tree_multi_path(
+        proof: *mut u8,
+        proof_room: usize,
+        proof_len: *mut usize,
+        tree: *const u8,
+        tree_len: usize,
+        indexes: *const usize,
+        indexes_count: usize,
+    ) -> i32;
+    pub fn paxidore_tree_check(tree: *const u8, tree_len: usize, hashing: u32) -> i32;
 }
 
-macro_rules! calls {
-    (
-        $verify:ident $multi_verify:ident $root:ident $path:ident $multi_path:ident
-        $tree_build:ident $tree_rebuild:ident $tree_set:ident $tree_set_many:ident $tree_root:ident $tree_path:ident
-        $tree_multi_path:ident $tree_check:ident
-    ) => {{
-        extern "C" {
-            fn $verify(
-                root: *const u8,
-                size: usize,
-                index: usize,
-                leaf: *const u8,
-                leaf_len: usize,
-                path: *const u8,
-                path_len: usize,
-            ) -> i32;
-            fn $multi_verify(
-                root: *const u8,
-                size: usize,
-                indexes: *const usize,
-                indexes_count: usize,
-                leaves: *const u8,
-                leaves_len: usize,
-                lengths: *const usize,
-                count: usize,
-                proof: *const u8,
-                proof_len: usize,
-            ) -> i32;
-            fn $root(
-                root: *mut u8,
-                leaves: *const u8,
-                leaves_len: usize,
-                lengths: *const usize,
-                count: usize,
-            ) -> i32;
-            fn $path(
-                path: *mut u8,
-                path_room: usize,
-                path_len: *mut usize,
-                leaves: *const u8,
-                leaves_len: usize,
-                lengths: *const usize,
-                count: usize,
-                index: usize,
-            ) -> i32;
-            fn $multi_path(
-                proof: *mut u8,
-                proof_room: usize,
-                proof_len: *mut usize,
-                leaves: *const u8,
-                leaves_len: usize,
-                lengths: *const usize,
-                count: usize,
-                indexes: *const usize,
-                indexes_count: usize,
-            ) -> i32;
-            fn $tree_build(
-                tree: *mut u8,
-                tree_len: usize,
-                leaves: *const u8,
-                leaves_len: usize,
-                lengths: *const usize,
-                count: usize,
-            ) -> i32;
-            fn $tree_rebuild(tree: *mut u8, tree_len: usize) -> i32;
-            fn $tree_set(
-                tree: *mut u8,
-                tree_len: usize,
-                index: usize,
-                leaf: *const u8,
-                leaf_len: usize,
-            ) -> i32;
-            fn $tree_set_many(
-                tree: *mut u8,
-                tree_len: usize,
-                indexes: *const usize,
-                indexes_count: usize,
-                leaves: *const u8,
-                leaves_len: usize,
-                lengths: *const usize,
-                count: usize,
-            ) -> i32;
-            fn $tree_root(root: *mut u8, tree: *const u8, tree_len: usize) -> i32;
-            fn $tree_path(
-                path: *mut u8,
-                path_room: usize,
-                path_len: *mut usize,
-                tree: *const u8,
-                tree_len: usize,
-                index: usize,
-            ) -> i32;
-            fn $tree_multi_path(
-                proof: *mut u8,
-                proof_room: usize,
-                proof_len: *mut usize,
-                tree: *const u8,
-                tree_len: usize,
-                indexes: *const usize,
-                indexes_count: usize,
-            ) -> i32;
-            fn $tree_check(tree: *const u8, tree_len: usize) -> i32;
-        }
-        Calls {
-            verify: $verify,
-            multi_verify: $multi_verify,
-            root: $root,
-            path: $path,
-            multi_path: $multi_path,
-            tree_build: $tree_build,
-            tree_rebuild: $tree_rebuild,
-            tree_set: $tree_set,
-            tree_set_many: $tree_set_many,
-            tree_root: $tree_root,
-            tree_path: $tree_path,
-            tree_multi_path: $tree_multi_path,
-            tree_check: $tree_check,
-        }
-    }};
+/// The state of a BLAKE2s under way. Its members are the library's own.
+#[repr(C)]
+#[derive(Clone)]
+pub struct Blake2sState {
+    state: [u32; 8],
+    block: [u8; 64],
+    len: u64,
 }
 
-pub static SHA256: Calls = calls!(
-    paxidore_sha256_verify paxidore_sha256_multi_verify paxidore_sha256_root paxidore_sha256_path paxidore_sha256_multi_path
-    paxidore_sha256_tree_build paxidore_sha256_tree_rebuild paxidore_sha256_tree_set paxidore_sha256_tree_set_many
-    paxidore_sha256_tree_root paxidore_sha256_tree_path paxidore_sha256_tree_multi_path
-    paxidore_sha256_tree_check
-);
-
-pub static RFC6962: Calls = calls!(
-    paxidore_rfc6962_verify paxidore_rfc6962_multi_verify paxidore_rfc6962_root paxidore_rfc6962_path
-    paxidore_rfc6962_multi_path
-    paxidore_rfc6962_tree_build paxidore_rfc6962_tree_rebuild paxidore_rfc6962_tree_set paxidore_rfc6962_tree_set_many
-    paxidore_rfc6962_tree_root paxidore_rfc6962_tree_path paxidore_rfc6962_tree_multi_path
-    paxidore_rfc6962_tree_check
-);
-
+// Hashes, commitments, clients of logs and transcripts.
 extern "C" {
     pub fn paxidore_sha256(digest: *mut u8, input: *const u8, input_len: usize);
     pub fn paxidore_blake2s(digest: *mut u8, input: *const u8, input_len: usize);
+    pub fn paxidore_blake2s_init(state: *mut Blake2sState);
+    pub fn paxidore_blake2s_update(state: *mut Blake2sState, input: *const u8, input_len: usize);
+    pub fn paxidore_blake2s_final(state: *mut Blake2sState, digest: *mut u8);
     pub fn paxidore_blake2s_commit(
         commitment: *mut u8,
         value: *const u8,
@@ -289,6 +208,7 @@ extern "C" {
         parameters: *const u8,
         parameters_len: usize,
     ) -> i32;
+    pub fn paxidore_strerror(answer: i32) -> *const c_char;
     pub fn paxidore_version() -> *const c_char;
 }
 

@@ -1,6 +1,6 @@
 //! Trees whose digests are kept, so that nothing is rebuilt.
 
-use crate::{written, Digest, Flat, Refused, Trees};
+use crate::{sys, written, Digest, Flat, Refused, Trees};
 
 /// A tree whose digests are kept in memory, 32 bytes each: the root first, those of the leaves last (`paxidore.h` has the places).
 ///
@@ -91,9 +91,10 @@ impl<M: AsRef<[u8]> + AsMut<[u8]>> Tree<M> {
         // SAFETY: each pointer with its length is that of a borrowed slice, of which `place` alone is written, and the call asks for
         // nothing else.
         done(unsafe {
-            (trees.calls.tree_build)(
+            sys::paxidore_tree_build(
                 place.as_mut_ptr(),
                 count,
+                trees.hashing,
                 bytes.as_ptr(),
                 bytes.len(),
                 lengths.as_ptr(),
@@ -109,7 +110,14 @@ impl<M: AsRef<[u8]> + AsMut<[u8]>> Tree<M> {
         let count = digests(place)?;
         // SAFETY: as in `build_in`.
         done(unsafe {
-            (self.trees.calls.tree_set)(place.as_mut_ptr(), count, index, leaf.as_ptr(), leaf.len())
+            sys::paxidore_tree_set(
+                place.as_mut_ptr(),
+                count,
+                self.trees.hashing,
+                index,
+                leaf.as_ptr(),
+                leaf.len(),
+            )
         })
     }
 
@@ -126,9 +134,10 @@ impl<M: AsRef<[u8]> + AsMut<[u8]>> Tree<M> {
         let count = digests(place)?;
         // SAFETY: as in `build_in`.
         done(unsafe {
-            (self.trees.calls.tree_set_many)(
+            sys::paxidore_tree_set_many(
                 place.as_mut_ptr(),
                 count,
+                self.trees.hashing,
                 indexes.as_ptr(),
                 indexes.len(),
                 bytes.as_ptr(),
@@ -144,7 +153,7 @@ impl<M: AsRef<[u8]> + AsMut<[u8]>> Tree<M> {
         let place = self.memory.as_mut();
         let count = digests(place)?;
         // SAFETY: as in `build_in`.
-        done(unsafe { (self.trees.calls.tree_rebuild)(place.as_mut_ptr(), count) })
+        done(unsafe { sys::paxidore_tree_rebuild(place.as_mut_ptr(), count, self.trees.hashing) })
     }
 }
 
@@ -162,7 +171,7 @@ impl<M: AsRef<[u8]>> Tree<M> {
         let count = digests(place)?;
         let mut root = [0; 32];
         // SAFETY: as in `build_in`, and `root` has room for 32 bytes that nothing else lends.
-        done(unsafe { (self.trees.calls.tree_root)(root.as_mut_ptr(), place.as_ptr(), count) })?;
+        done(unsafe { sys::paxidore_tree_root(root.as_mut_ptr(), place.as_ptr(), count) })?;
         Ok(root)
     }
 
@@ -173,7 +182,7 @@ impl<M: AsRef<[u8]>> Tree<M> {
         let room = 16 + crate::path_digests(count / 2 + 1);
         // SAFETY: as in `build_in`, and the buffer has room for `room` bytes that nothing else lends.
         written(room, |path, room, path_len| unsafe {
-            (self.trees.calls.tree_path)(path, room, path_len, place.as_ptr(), count, index)
+            sys::paxidore_tree_path(path, room, path_len, place.as_ptr(), count, index)
         })
     }
 
@@ -187,7 +196,7 @@ impl<M: AsRef<[u8]>> Tree<M> {
         let room = crate::multi_path_room(size, indexes.len());
         // SAFETY: as in `path`.
         written(room, |proof, room, proof_len| unsafe {
-            (self.trees.calls.tree_multi_path)(
+            sys::paxidore_tree_multi_path(
                 proof,
                 room,
                 proof_len,
@@ -205,7 +214,9 @@ impl<M: AsRef<[u8]>> Tree<M> {
         let place = self.memory.as_ref();
         let count = digests(place)?;
         // SAFETY: as in `build_in`.
-        crate::verdict(unsafe { (self.trees.calls.tree_check)(place.as_ptr(), count) })
+        crate::verdict(unsafe {
+            sys::paxidore_tree_check(place.as_ptr(), count, self.trees.hashing)
+        })
     }
 
     /// How many leaves the tree has.

@@ -1,6 +1,8 @@
 //! Each call once, the refusals, and values of other implementations.
 
-use paxidore::{blake2s, blake2s_commit, blake2s_opens, sha256, version, Log, Refused, Trees};
+use paxidore::{
+    blake2s, blake2s_commit, blake2s_opens, sha256, version, Blake2s, Log, Refused, Trees,
+};
 
 fn hex(bytes: &[u8]) -> String {
     bytes.iter().map(|byte| format!("{byte:02x}")).collect()
@@ -148,6 +150,19 @@ fn logs() -> Result<(), Refused> {
         Err(Refused::Invalid)
     );
     Ok(())
+}
+
+#[test]
+fn a_digest_piece_by_piece() {
+    let text: Vec<u8> = (0..1000u32).map(|i| (i * 7) as u8).collect();
+    for cut in [0, 1, 63, 64, 65, 128, 999, 1000] {
+        let mut under_way = Blake2s::new();
+        under_way.update(&text[..cut]);
+        let other = under_way.clone();
+        under_way.update(&text[cut..]);
+        assert_eq!(under_way.finalize(), blake2s(&text));
+        assert_eq!(other.finalize(), blake2s(&text[..cut]));
+    }
 }
 
 #[test]

@@ -197,7 +197,7 @@ fn a_file_is_read_again() -> Result<(), LogError> {
 #[test]
 fn files() -> Result<(), LogError> {
     let room = Room::new("files");
-    for content in [&b""[..], b"x", &[0; 96], &[0; 1000]] {
+    for content in [&b"x"[..], &[0; 97], &[0; 1000]] {
         fs::write(room.log(), content)?;
         assert_eq!(
             Log::open(room.log()).unwrap_err().kind(),
@@ -213,10 +213,13 @@ fn files() -> Result<(), LogError> {
     assert_eq!(whole[..32], *b"paxidore log, digests of SHA-256");
     assert_eq!(whole[64..72], 3u64.to_le_bytes());
     assert_eq!(whole[72..96], sha256(&3u64.to_le_bytes())[..24]);
-    // a torn tail is cut off, a torn slot gives way to the other one, and a short file is refused
-    fs::write(room.log(), [&whole[..], b"torn"].concat())?;
+    // a torn tail is cut off by the next append, a torn slot gives way to the other one, and a short file is refused
+    let tail = [&whole[..], b"torn"].concat();
+    fs::write(room.log(), &tail)?;
     assert_eq!(Log::open(room.log())?.len(), 3);
-    assert_eq!(fs::read(room.log())?, whole);
+    assert_eq!(fs::read(room.log())?, tail);
+    Log::open(room.log())?.append(&["d"])?;
+    assert_eq!(fs::read(room.log())?.len(), 96 + 7 * 32);
     let mut torn = whole.clone();
     torn[70] ^= 1;
     fs::write(room.log(), torn)?;
@@ -231,5 +234,68 @@ fn files() -> Result<(), LogError> {
     damaged[96 + 40] ^= 1;
     fs::write(room.log(), damaged)?;
     assert!(!Log::open(room.log())?.check()?);
+    Ok(())
+}
+
+#[test]
+fn heads_that_a_crash_left() -> Result<(), LogError> {
+    let room = Room::new("heads");
+    Log::open(room.log())?;
+    let head = fs::read(room.log())?;
+    assert_eq!(head.len(), 96);
+    for end in 0..=96 {
+        let zeros = vec![0; 96];
+        for content in [
+            head[..end].to_vec(),
+            zeros[..end].to_vec(),
+            [&head[..end], &zeros[end..]].concat(),
+            [&zeros[..end], &head[end..]].concat(),
+        ] {
+            fs::write(room.log(), content)?;
+            assert_eq!(Log::open(room.log())?.append(&["an entry"])?, 1);
+        }
+    }
+    Ok(())
+}
+
+#[test]
+fn sizes_that_are_none() -> Result<(), LogError> {
+    let room = Room::new("sizes");
+    Log::open(room.log())?.append(&["a", "b", "c"])?;
+    let whole = fs::read(room.log())?;
+    for size in [1 << 63, u64::MAX, 1 << 62, 1 << 59, 1 << 58, 4] {
+        for at in [32, 64] {
+            let mut content = whole.clone();
+            content[at..at + 8].copy_from_slice(&size.to_le_bytes());
+            content[at + 8..at + 32].copy_from_slice(&sha256(&size.to_le_bytes())[..24]);
+            fs::write(room.log(), &content)?;
+            assert_eq!(
+                Log::open(room.log()).unwrap_err().kind(),
+                ErrorKind::InvalidData
+            );
+            assert_eq!(fs::read(room.log())?, content);
+        }
+    }
+    Ok(())
+}
+
+#[test]
+fn a_new_log_of_several_threads() -> Result<(), LogError> {
+    let room = Room::new("threads");
+    for _ in 0..300 {
+        let done: usize = std::thread::scope(|scope| {
+            let open = || match Log::open(room.log()) {
+                Ok(mut log) => log.append(&["one", "two"]).map(|_| 1),
+                Err(error) if error.kind() == ErrorKind::WouldBlock => Ok(0),
+                Err(error) => Err(error.into()),
+            };
+            let threads = [scope.spawn(open), scope.spawn(open), scope.spawn(open)];
+            threads.map(|it| it.join().unwrap().unwrap()).iter().sum()
+        });
+        assert!(done > 0);
+        assert_eq!(Log::open(room.log())?.len(), 2 * done);
+        fs::remove_file(room.log())?;
+    }
+    assert_eq!(fs::read_dir(&room.0)?.count(), 0);
     Ok(())
 }

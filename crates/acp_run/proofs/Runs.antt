@@ -1,6 +1,6 @@
 -- How a session over lines goes on.
 use Rattle.std.proofs.Common.{◌≡◌, ℕ, zero, suc, ◌<◌, List, [], ◌∷◌, ◌++◌, length, take, drop, ◌+◌, Option, Some, None, Result, Ok, Err, refl, sym, ◌∙◌, ap, arith, append_assoc, append-nil, length-append, inl, inr, IfSome}
-use Rattle.std.specs.Prelude.{◌⊎◌, ◌^◌, ◌-◌, OnOk, OnErr}
+use Rattle.std.specs.Prelude.{◌^◌, ◌-◌, OnOk, OnErr}
 use Rattle.std.specs.List.{flat_map}
 use Rattle.std.specs.Io.KnownBytes.{Appends, Keeps, IsAtEnd, Consumes}
 use Rattle.std.specs.Io.BufRead.{take_through, drop_through, strip_last, DropsThrough}

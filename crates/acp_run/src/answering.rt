@@ -57,8 +57,8 @@ impl<'a, C: Shell> Session<'a, C> {
         leaf_parameters: &'a LeafParam<C>,
         pair_parameters: &'a TwoToOneParam<C>,
     ) -> Session<'a, C>
-        ensures language { let language = ⟦<Self as Answering>⟧.language in
-            language result ≡ C.language leaf_parameters.now pair_parameters.now }
+        ensures language { ⟦<Self as Answering>⟧.language result ≡ C.language leaf_parameters.now
+            pair_parameters.now }
         ensures none { ⟦<Self as Answering>⟧.state result ≡ None }
         ensures sound { ⟦<Self as Answering>⟧.is_sound result }
     {

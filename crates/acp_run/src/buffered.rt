@@ -25,8 +25,8 @@ pub struct BufferedInput<R> {
 impl<R: Read> BufferedInput<R> {
     /// Takes a reader, of which no call has failed.
     pub fn new(lines: BufReader<R>) -> BufferedInput<R>
-        ensures remaining { let remaining = ⟦<Self as Input>⟧.remaining in
-            remaining result ≡ reader_remaining R.remaining lines }
+        ensures remaining { ⟦<Self as Input>⟧.remaining result ≡ reader_remaining R.remaining
+            lines }
         ensures going { ⟦<Self as Input>⟧.has_failed result ≡ false }
     {
         BufferedInput {
@@ -82,12 +82,10 @@ impl<W: Write> BufferedOutput<W> {
     pub fn new(alloc: Global, writer: W) -> io::Result<BufferedOutput<W>>
     where
         W: Drop,
-        ensures contents { let contents = ⟦<Self as Output>⟧.contents in
-            IfOk result (λ output. Keeps (W.contents writer) (contents output)) }
-        ensures sent { let unsent = ⟦<Self as Output>⟧.unsent in
-            IfOk result (λ output. unsent output ≡ []) }
-        ensures going { let has_failed = ⟦<Self as Output>⟧.has_failed in
-            IfOk result (λ output. has_failed output ≡ false) }
+        ensures contents { IfOk result
+            (λ output. Keeps (W.contents writer) (⟦<Self as Output>⟧.contents output)) }
+        ensures sent { IfOk result (λ output. ⟦<Self as Output>⟧.unsent output ≡ []) }
+        ensures going { IfOk result (λ output. ⟦<Self as Output>⟧.has_failed output ≡ false) }
     {
         let buffer = Vec::with_capacity(alloc, CAPACITY)?;
         Ok(BufferedOutput {
@@ -99,8 +97,7 @@ impl<W: Write> BufferedOutput<W> {
 
     /// Takes a writer, of which no call has failed, and sends each write off at once.
     pub fn direct(alloc: Global, writer: W) -> BufferedOutput<W>
-        ensures contents { let contents = ⟦<Self as Output>⟧.contents in
-            Keeps (W.contents writer) (contents result) }
+        ensures contents { Keeps (W.contents writer) (⟦<Self as Output>⟧.contents result) }
         ensures sent { ⟦<Self as Output>⟧.unsent result ≡ [] }
         ensures going { ⟦<Self as Output>⟧.has_failed result ≡ false }
     {
@@ -113,8 +110,8 @@ impl<W: Write> BufferedOutput<W> {
 
     /// Gives the writer back. Where all was sent off and no call failed, it holds all.
     pub fn into_inner(self) -> W
-        ensures { let contents = ⟦<Self as Output>⟧.contents in
-            ⟦<Self as Output>⟧.unsent self ≡ [] → Keeps (contents self) (W.contents result) }
+        ensures { ⟦<Self as Output>⟧.unsent self ≡ [] → Keeps (⟦<Self as Output>⟧.contents self)
+            (W.contents result) }
     {
         self.writer
     }
@@ -127,10 +124,10 @@ impl<W: Write> BufferedOutput<W> {
     // Puts bytes behind those in the buffer.
     fn keep(&mut self, bytes: &[u8]) -> io::Result<()>
         requires { self.old.failure ≡ None }
-        ensures whole { let contents = ⟦<Self as Output>⟧.contents in
-            OnOk result (Appends (contents self.old) (contents self.new) bytes.now) }
-        ensures kept { let contents = ⟦<Self as Output>⟧.contents in
-            OnErr result (Keeps (contents self.old) (contents self.new)) }
+        ensures whole { OnOk result (Appends (⟦<Self as Output>⟧.contents self.old)
+            (⟦<Self as Output>⟧.contents self.new) bytes.now) }
+        ensures kept { OnErr result (Keeps (⟦<Self as Output>⟧.contents self.old)
+            (⟦<Self as Output>⟧.contents self.new)) }
         ensures failed { MatchResult result
             (λ _. self.new.failure ≡ None) (λ _. is_some self.new.failure ≡ true) }
     {
@@ -147,10 +144,10 @@ impl<W: Write> BufferedOutput<W> {
     fn pass(&mut self, bytes: &[u8]) -> io::Result<()>
         requires going { self.old.failure ≡ None }
         requires empty { self.old.buffer.items ≡ [] }
-        ensures whole { let contents = ⟦<Self as Output>⟧.contents in
-            OnOk result (Appends (contents self.old) (contents self.new) bytes.now) }
-        ensures cut { let contents = ⟦<Self as Output>⟧.contents in
-            OnErr result (AppendsFront (contents self.old) (contents self.new) bytes.now) }
+        ensures whole { OnOk result (Appends (⟦<Self as Output>⟧.contents self.old)
+            (⟦<Self as Output>⟧.contents self.new) bytes.now) }
+        ensures cut { OnErr result (AppendsFront (⟦<Self as Output>⟧.contents self.old)
+            (⟦<Self as Output>⟧.contents self.new) bytes.now) }
         ensures failed { MatchResult result
             (λ _. self.new.failure ≡ None) (λ _. is_some self.new.failure ≡ true) }
     {
@@ -166,8 +163,8 @@ impl<W: Write> BufferedOutput<W> {
     // Writes the buffer's bytes.
     fn pass_buffer(&mut self) -> io::Result<()>
         requires { self.old.failure ≡ None }
-        ensures kept { let contents = ⟦<Self as Output>⟧.contents in
-            Keeps (contents self.old) (contents self.new) }
+        ensures kept { Keeps (⟦<Self as Output>⟧.contents self.old)
+            (⟦<Self as Output>⟧.contents self.new) }
         ensures sent { OnOk result (self.new.buffer.items ≡ []) }
         ensures failed { MatchResult result
             (λ _. self.new.failure ≡ None) (λ _. is_some self.new.failure ≡ true) }
@@ -218,10 +215,10 @@ impl<W: Write> Output for BufferedOutput<W> {
 
 // Writes bytes whole and flushes. A write that was interrupted is tried again; any other failure ends it.
 fn hand_over<W: Write>(writer: &mut W, bytes: &[u8]) -> Result<(), Cut>
-    ensures whole { let held = W.contents in
-        OnOk result (Appends (held writer.old) (held writer.new) bytes.now) }
-    ensures cut { let held = W.contents in IfErr result (λ cut.
-        Appends (held writer.old) (held writer.new) (take cut.written bytes.now)) }
+    ensures whole { OnOk result (Appends (W.contents writer.old) (W.contents writer.new)
+        bytes.now) }
+    ensures cut { IfErr result (λ cut. Appends (W.contents writer.old) (W.contents writer.new)
+        (take cut.written bytes.now)) }
 {
     let mut written = 0;
     for _ in 0..u64::MAX {

@@ -59,24 +59,22 @@ pub fn command<I: Input, O: Output, E: Output>(
 
     ensures status { configuration_of (map vec_items words.now) ≢ None
         → result ≢ 0 → result ≡ 1 }
-    ensures served { IfSome (configuration_of (map vec_items words.now)) (λ configuration.
-        let input = I.remaining lines.old in
-        let step = Step (language_of configuration) in
-        result ≡ 0 → Serves step input (O.contents replies.old) (O.contents replies.new)) }
+    ensures served { IfSome (configuration_of (map vec_items words.now))
+        (λ configuration. result ≡ 0 → Serves (Step (language_of configuration))
+        (I.remaining lines.old) (O.contents replies.old) (O.contents replies.new)) }
     ensures sent { configuration_of (map vec_items words.now) ≢ None
         → O.has_failed replies.new ≡ false → O.unsent replies.new ≡ [] }
     ensures well { configuration_of (map vec_items words.now) ≢ None → result ≡ 0
         → (I.has_failed lines.new ≡ false) × (O.has_failed replies.new ≡ false) }
     ensures quiet { result ≡ 0 → faults.new ≡ faults.old }
 
-    ensures stopped { IfSome (configuration_of (map vec_items words.now)) (λ configuration.
-        let input = I.remaining lines.old in
-        let step = Step (language_of configuration) in
-        result ≡ 1 → Stops step input (O.contents replies.old) (O.contents replies.new)) }
-    ensures why { IfSome (configuration_of (map vec_items words.now)) (λ configuration.
-        let halts = Halts (Step (language_of configuration)) (I.remaining lines.old) in
-        result ≡ 1 → I.has_failed lines.new ≡ true ⊎ O.has_failed replies.new ≡ true
-        ⊎ halts (O.contents replies.old) (O.contents replies.new)) }
+    ensures stopped { IfSome (configuration_of (map vec_items words.now))
+        (λ configuration. result ≡ 1 → Stops (Step (language_of configuration))
+        (I.remaining lines.old) (O.contents replies.old) (O.contents replies.new)) }
+    ensures why { IfSome (configuration_of (map vec_items words.now)) (λ configuration. result ≡ 1
+        → I.has_failed lines.new ≡ true ⊎ O.has_failed replies.new ≡ true
+        ⊎ Halts (Step (language_of configuration)) (I.remaining lines.old) (O.contents replies.old)
+        (O.contents replies.new)) }
     ensures notice { result ≡ 1
         → AppendsFront (E.contents faults.old) (E.contents faults.new) stop_notice }
     ensures notice_whole { result ≡ 1 → E.has_failed faults.new ≡ false

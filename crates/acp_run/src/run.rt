@@ -36,13 +36,11 @@ fn read_line<I: Input, O: Output>(
 ) -> io::Result<bool>
     requires reader { I.has_failed lines.old ≡ false }
     requires writer { O.has_failed replies.old ≡ false }
-    ensures line { let left = I.remaining in
-        OnOk result (IfSome (left lines.old) (λ bytes. line.new.items ≡ take_through 10 bytes)) }
-    ensures rest { let left = I.remaining in
-        OnOk result (DropsThrough (left lines.old) (left lines.new) 10) }
+    ensures line { OnOk result (IfSome (I.remaining lines.old)
+        (λ bytes. line.new.items ≡ take_through 10 bytes)) }
+    ensures rest { OnOk result (DropsThrough (I.remaining lines.old) (I.remaining lines.new) 10) }
     ensures some { IfOk result (λ is_there. is_there ≡ true → 0 < length line.new.items) }
-    ensures end { let left = I.remaining in
-        IfOk result (λ is_there. is_there ≡ false → IsAtEnd (left lines.old)) }
+    ensures end { IfOk result (λ is_there. is_there ≡ false → IsAtEnd (I.remaining lines.old)) }
     ensures read { LosesFront (I.remaining lines.old) (I.remaining lines.new) }
     ensures kept { Keeps (O.contents replies.old) (O.contents replies.new) }
     ensures going { OnOk result
@@ -67,10 +65,10 @@ fn without_line_feed(line: &[u8]) -> &[u8]
 /// Writes a reply and a line feed. Where that fails, a front of them was written.
 fn write_reply<O: Output>(replies: &mut O, reply: &[u8]) -> io::Result<()>
     requires { O.has_failed replies.old ≡ false }
-    ensures whole { let held = O.contents in
-        OnOk result (Appends (held replies.old) (held replies.new) (with_line_feed reply.now)) }
-    ensures cut { let held = O.contents in OnErr result
-        (AppendsFront (held replies.old) (held replies.new) (with_line_feed reply.now)) }
+    ensures whole { OnOk result (Appends (O.contents replies.old) (O.contents replies.new)
+        (with_line_feed reply.now)) }
+    ensures cut { OnErr result (AppendsFront (O.contents replies.old) (O.contents replies.new)
+        (with_line_feed reply.now)) }
     ensures failed { MatchResult result
         (λ _. O.has_failed replies.new ≡ false) (λ _. O.has_failed replies.new ≡ true) }
 {
@@ -89,19 +87,17 @@ pub fn run<C: Shell, I: Input, O: Output>(
     lines: &mut I,
     replies: &mut O,
 ) -> io::Result<()>
-    ensures served { OnOk result
-        (let step = Step (C.language leaf_parameters.now pair_parameters.now) in
-        Serves step (I.remaining lines.old) (O.contents replies.old) (O.contents replies.new)) }
+    ensures served { OnOk result (Serves (Step (C.language leaf_parameters.now pair_parameters.now))
+        (I.remaining lines.old) (O.contents replies.old) (O.contents replies.new)) }
     ensures sent { OnOk result (O.unsent replies.new ≡ []) }
     ensures well { OnOk result
         ((I.has_failed lines.new ≡ false) × (O.has_failed replies.new ≡ false)) }
     ensures stopped { OnErr result
-        (let step = Step (C.language leaf_parameters.now pair_parameters.now) in
-        Stops step (I.remaining lines.old) (O.contents replies.old) (O.contents replies.new)) }
-    ensures why { OnErr result
-        (let halts = Halts (Step (C.language leaf_parameters.now pair_parameters.now)) in
-        I.has_failed lines.new ≡ true ⊎ O.has_failed replies.new ≡ true
-        ⊎ halts (I.remaining lines.old) (O.contents replies.old) (O.contents replies.new)) }
+        (Stops (Step (C.language leaf_parameters.now pair_parameters.now)) (I.remaining lines.old)
+        (O.contents replies.old) (O.contents replies.new)) }
+    ensures why { OnErr result (I.has_failed lines.new ≡ true ⊎ O.has_failed replies.new ≡ true
+        ⊎ Halts (Step (C.language leaf_parameters.now pair_parameters.now)) (I.remaining lines.old)
+        (O.contents replies.old) (O.contents replies.new)) }
     ensures read { LosesFront (I.remaining lines.old) (I.remaining lines.new) }
 {
     if lines.has_failed() || replies.has_failed() {
@@ -123,20 +119,17 @@ fn answer_all<S: Answering, I: Input, O: Output>(
     requires sound { S.is_sound session.old }
     requires reader { I.has_failed lines.old ≡ false }
     requires writer { O.has_failed replies.old ≡ false }
-    ensures served { OnOk result
-        (let serves = ServesFrom (S.step (S.language session.old)) (S.state session.old) in
-        serves (I.remaining lines.old) (O.contents replies.old) (O.contents replies.new)) }
+    ensures served { OnOk result (ServesFrom (S.step (S.language session.old)) (S.state session.old)
+        (I.remaining lines.old) (O.contents replies.old) (O.contents replies.new)) }
     ensures sent { OnOk result (O.unsent replies.new ≡ []) }
     ensures well { OnOk result
         ((I.has_failed lines.new ≡ false) × (O.has_failed replies.new ≡ false)) }
-    ensures stopped { OnErr result
-        (let stops = StopsFrom (S.step (S.language session.old)) (S.state session.old) in
-        stops (I.remaining lines.old) (O.contents replies.old) (O.contents replies.new)) }
-    ensures why { OnErr result
-        (let step = S.step (S.language session.old) in
-        let halts = HaltsFrom step (S.state session.old) (S.lacks session.new) in
-        I.has_failed lines.new ≡ true ⊎ O.has_failed replies.new ≡ true
-        ⊎ halts (I.remaining lines.old) (O.contents replies.old) (O.contents replies.new)) }
+    ensures stopped { OnErr result (StopsFrom (S.step (S.language session.old))
+        (S.state session.old) (I.remaining lines.old) (O.contents replies.old)
+        (O.contents replies.new)) }
+    ensures why { OnErr result (I.has_failed lines.new ≡ true ⊎ O.has_failed replies.new ≡ true
+        ⊎ HaltsFrom (S.step (S.language session.old)) (S.state session.old) (S.lacks session.new)
+        (I.remaining lines.old) (O.contents replies.old) (O.contents replies.new)) }
     ensures read { LosesFront (I.remaining lines.old) (I.remaining lines.new) }
 {
     for _ in 0..u64::MAX {

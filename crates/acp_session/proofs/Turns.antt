@@ -14,16 +14,15 @@ use Rattle.acp_session.specs.Requests.{asked, request_of}
 use Rattle.acp_session.specs.Steps.{State, Step, Takes, TakesAny, TakesTurn, multi_reply}
 
 -- what is asked decides the step, also as a language that is the same has it
-pub steps : {P Q L D : Type 0} (hash : P → L → Outcome Digest) (numbers : D → Digest) (o : Option (Request L D))
-    (r s : Request L D) → o ≡ Some r → r ≡ s → (l k : P → Q → Language) → ((p : P) (q : Q) → l p q ≡ k p q)
-    → (line : List ℕ)
-    → ((p : P) (q : Q) → option_map (asked (hash p) numbers) o ≡ request_of (l p q) (tokens_of line))
-    → (p : P) (q : Q) (before after : State) (bytes : List ℕ)
-    → TakesTurn (k p q) before (asked (hash p) numbers s) after bytes → Step (l p q) before line after bytes
-steps hash numbers o r s some is l k same line read p q before after bytes turn =
-    subst (λ request. TakesAny (l p q) before request after bytes)
-    (sym (ap (option_map (asked (hash p) numbers)) (some ∙ ap (λ r. Some r) is)) ∙ read p q)
-    (subst (λ m. TakesTurn m before (asked (hash p) numbers s) after bytes) (sym (same p q)) turn)
+module _ {P Q L D : Type 0} (hash : P → L → Outcome Digest) (numbers : D → Digest) (o : Option (Request L D)) (r s :
+    Request L D) (some : o ≡ Some r) (is : r ≡ s) (l k : P → Q → Language) where
+  pub steps : ((p : P) (q : Q) → l p q ≡ k p q) → (line : List ℕ) → ((p : P) (q : Q) → option_map (asked (hash p)
+      numbers) o ≡ request_of (l p q) (tokens_of line)) → (p : P) (q : Q) (before after : State) (bytes : List ℕ) →
+      TakesTurn (k p q) before (asked (hash p) numbers s) after bytes → Step (l p q) before line after bytes
+  steps same line read p q before after bytes turn =
+      subst (λ request. TakesAny (l p q) before request after bytes)
+      (sym (ap (option_map (asked (hash p) numbers)) (some ∙ ap (λ r. Some r) is)) ∙ read p q)
+      (subst (λ m. TakesTurn m before (asked (hash p) numbers s) after bytes) (sym (same p q)) turn)
 
 -- a reply that is told is a turn that leaves the tree
 pub takes_told : (before : State) (reply : Reply) (bytes : List ℕ) → Tells reply bytes

@@ -26,9 +26,8 @@ pub fn answer<C: Shell>(
     line: &[u8],
 ) -> Result<Vec<u8>, AllocError>
     requires { ⟦<C as Hashing>⟧.has_hashes leaf_parameters.now pair_parameters.now tree.old }
-    ensures step { IfOk result (λ reply.
-        let l = C.language leaf_parameters.now pair_parameters.now in
-        Step l (state_of tree.old) line.now (state_of tree.new) reply.items) }
+    ensures step { IfOk result (λ reply. Step (C.language leaf_parameters.now pair_parameters.now)
+        (state_of tree.old) line.now (state_of tree.new) reply.items) }
     ensures hashes { ⟦<C as Hashing>⟧.has_hashes leaf_parameters.now pair_parameters.now tree.new }
     ensures refused { OnErr result (tree.new ≡ tree.old) }
 {

@@ -21,11 +21,10 @@ pub fn new_tree<C: Shell>(
     leaves: &[C::Leaf],
 ) -> Result<Vec<u8>, AllocError>
     requires { ⟦<C as Hashing>⟧.has_hashes leaf_parameters.now pair_parameters.now tree.old }
-    ensures turn { IfOk result (λ reply.
-        let hashed = map (C.LeafHash.meaning leaf_parameters.now) leaves.now in
-        let pair = ⟦<C as Views>⟧.pair pair_parameters.now in
-        let exact = tree_turn pair (state_of tree.old) hashed in
-        Takes (state_of tree.old) exact (state_of tree.new) reply.items) }
+    ensures turn { IfOk result
+        (λ reply. Takes (state_of tree.old) (tree_turn (⟦<C as Views>⟧.pair pair_parameters.now)
+        (state_of tree.old) (map (C.LeafHash.meaning leaf_parameters.now) leaves.now))
+        (state_of tree.new) reply.items) }
     ensures hashes { ⟦<C as Hashing>⟧.has_hashes leaf_parameters.now pair_parameters.now tree.new }
     ensures refused { OnErr result (tree.new ≡ tree.old) }
 {
@@ -45,10 +44,10 @@ pub fn new_tree_of_digests<C: Shell>(
     digests: Vec<C::LeafDigest>,
 ) -> Result<Vec<u8>, AllocError>
     requires { ⟦<C as Hashing>⟧.has_hashes leaf_parameters.now pair_parameters.now tree.old }
-    ensures turn { IfOk result (λ reply. let pair = ⟦<C as Views>⟧.pair pair_parameters.now in
-        let numbers = map C.LeafDigest.numbers digests.items in
-        let exact = digests_turn pair (state_of tree.old) numbers in
-        Takes (state_of tree.old) exact (state_of tree.new) reply.items) }
+    ensures turn { IfOk result
+        (λ reply. Takes (state_of tree.old) (digests_turn (⟦<C as Views>⟧.pair pair_parameters.now)
+        (state_of tree.old) (map C.LeafDigest.numbers digests.items)) (state_of tree.new)
+        reply.items) }
     ensures hashes { ⟦<C as Hashing>⟧.has_hashes leaf_parameters.now pair_parameters.now tree.new }
     ensures refused { OnErr result (tree.new ≡ tree.old) }
 {
@@ -86,10 +85,11 @@ pub fn set<C: Shell>(
     index: usize,
     leaf: &C::Leaf,
 ) -> Result<Vec<u8>, AllocError>
-    ensures turn { IfOk result (λ reply. let before = tree.old.leaves in
-        let hashed = C.LeafHash.meaning tree.old.leaf_parameters leaf.now in
-        let exact = set_turn (⟦<C as Views>⟧.pair tree.old.pair_parameters) before index hashed in
-        Takes (Some before) exact (Some tree.new.leaves) reply.items) }
+    ensures turn { IfOk result
+        (λ reply. Takes (Some tree.old.leaves)
+        (set_turn (⟦<C as Views>⟧.pair tree.old.pair_parameters) tree.old.leaves index
+        (C.LeafHash.meaning tree.old.leaf_parameters leaf.now)) (Some tree.new.leaves)
+        reply.items) }
     ensures hashes { (p : C.LeafHash.Parameters) (q : C.TwoToOneHash.Parameters)
         → ⟦<C as Hashing>⟧.has_hashes p q (Some tree.old)
         → ⟦<C as Hashing>⟧.has_hashes p q (Some tree.new) }
@@ -111,11 +111,11 @@ pub fn set_many<C: Shell>(
     tree: &mut MerkleTree<C>,
     changes: &[(usize, C::Leaf)],
 ) -> Result<Vec<u8>, AllocError>
-    ensures turn { IfOk result (λ reply. let before = tree.old.leaves in
-        let meaning = C.LeafHash.meaning tree.old.leaf_parameters in
-        let hashed = map (λ change. (change.0, meaning change.1)) changes.now in
-        let exact = set_many_turn (⟦<C as Views>⟧.pair tree.old.pair_parameters) before hashed in
-        Takes (Some before) exact (Some tree.new.leaves) reply.items) }
+    ensures turn { IfOk result
+        (λ reply. Takes (Some tree.old.leaves)
+        (set_many_turn (⟦<C as Views>⟧.pair tree.old.pair_parameters) tree.old.leaves
+        (map (λ change. (change.0, (C.LeafHash.meaning tree.old.leaf_parameters) change.1))
+        changes.now)) (Some tree.new.leaves) reply.items) }
     ensures hashes { (p : C.LeafHash.Parameters) (q : C.TwoToOneHash.Parameters)
         → ⟦<C as Hashing>⟧.has_hashes p q (Some tree.old)
         → ⟦<C as Hashing>⟧.has_hashes p q (Some tree.new) }

@@ -25,11 +25,11 @@ pub fn verdict<C: Shell>(
     bytes: &[u8],
     leaf: &C::Leaf,
 ) -> Result<Finding, Error>
-    requires { let pair = ⟦<C as Views>⟧.pair in
-        pair tree.now.pair_parameters ≡ pair pair_parameters.now }
-    ensures { let hashed = C.LeafHash.meaning leaf_parameters.now leaf.now in
-        let say = held_by (⟦<C as Views>⟧.pair pair_parameters.now) tree.now.leaves hashed in
-        Answers (about say (⟦<C as Views>⟧.path_reading bytes.now)) result }
+    requires { ⟦<C as Views>⟧.pair tree.now.pair_parameters ≡ ⟦<C as Views>⟧.pair
+        pair_parameters.now }
+    ensures { Answers (about (held_by (⟦<C as Views>⟧.pair pair_parameters.now) tree.now.leaves
+        (C.LeafHash.meaning leaf_parameters.now leaf.now)) (⟦<C as Views>⟧.path_reading bytes.now))
+        result }
 {
     let Some(path) = whole_proof::<Path<C>>(alloc, bytes)? else {
         return Ok(Finding::Trailing);
@@ -47,9 +47,9 @@ pub fn binding<C: Shell>(
     bytes: &[u8],
     leaf: &C::Leaf,
 ) -> Result<Finding, Error>
-    ensures { let hashed = C.LeafHash.meaning tree.now.leaf_parameters leaf.now in
-        let say = bound_by (⟦<C as Views>⟧.pair tree.now.pair_parameters) tree.now.leaves hashed in
-        Answers (about say (⟦<C as Views>⟧.path_reading bytes.now)) result }
+    ensures { Answers (about (bound_by (⟦<C as Views>⟧.pair tree.now.pair_parameters)
+        tree.now.leaves (C.LeafHash.meaning tree.now.leaf_parameters leaf.now))
+        (⟦<C as Views>⟧.path_reading bytes.now)) result }
 {
     let Some(path) = whole_proof::<Path<C>>(alloc, bytes)? else {
         return Ok(Finding::Trailing);
@@ -71,18 +71,16 @@ pub fn multi_verdict<C: Shell>(
     leaves: &[C::Leaf],
     with_pairs: bool,
 ) -> Result<Finding, Error>
-    requires { let pair = ⟦<C as Views>⟧.pair in
-        pair tree.now.pair_parameters ≡ pair pair_parameters.now }
-    ensures answer { let hashed = map (C.LeafHash.meaning leaf_parameters.now) leaves.now in
-        let pair = ⟦<C as Views>⟧.pair pair_parameters.now in
-        let say = held_by_multi (verdict_with with_pairs (pairs_of result)) in
-        let reading = ⟦<C as Views>⟧.multi_path_reading bytes.now in
-        Answers (about (say pair tree.now.leaves hashed) reading) result }
-    ensures count { let hashed = map (C.LeafHash.meaning leaf_parameters.now) leaves.now in
-        let pair = ⟦<C as Views>⟧.pair pair_parameters.now in
-        let reading = ⟦<C as Views>⟧.multi_path_reading bytes.now in
-        IsOk result → with_pairs ≡ true
-        → MayCount pair tree.now.leaves hashed reading (pairs_of result) }
+    requires { ⟦<C as Views>⟧.pair tree.now.pair_parameters ≡ ⟦<C as Views>⟧.pair
+        pair_parameters.now }
+    ensures answer { Answers (about (held_by_multi (verdict_with with_pairs (pairs_of result))
+        (⟦<C as Views>⟧.pair pair_parameters.now) tree.now.leaves
+        (map (C.LeafHash.meaning leaf_parameters.now) leaves.now))
+        (⟦<C as Views>⟧.multi_path_reading bytes.now)) result }
+    ensures count { IsOk result → with_pairs ≡ true
+        → MayCount (⟦<C as Views>⟧.pair pair_parameters.now) tree.now.leaves
+        (map (C.LeafHash.meaning leaf_parameters.now) leaves.now)
+        (⟦<C as Views>⟧.multi_path_reading bytes.now) (pairs_of result) }
 {
     let Some(proof) = whole_proof::<MultiPath<C>>(alloc, bytes)? else {
         return Ok(Finding::Trailing);
@@ -112,8 +110,8 @@ fn verdict_with(with_pairs: bool, pairs: usize, holds: bool) -> Finding
 ///
 /// Errors: the bytes' first fault, `InvalidData` for a multi-proof that is not strict.
 pub fn strict_count<C: Shell>(alloc: Global, bytes: &[u8]) -> Result<Finding, Error>
-    ensures { let reading = strict_reading (⟦<C as Views>⟧.multi_path_reading bytes.now) in
-        Answers (about count_of reading) result }
+    ensures { Answers (about count_of
+        (strict_reading (⟦<C as Views>⟧.multi_path_reading bytes.now))) result }
 {
     let (proof, used) = MultiPath::<C>::read_strict(alloc, bytes)?;
     if used < bytes.len() {

@@ -20,8 +20,8 @@ use std::alloc::{AllocError, Global};
 /// Returns the reply to `root`.
 pub fn root<C: Shell>(alloc: Global, tree: &MerkleTree<C>) -> Result<Vec<u8>, AllocError>
     ensures { IfOk result (λ reply. (p : C.LeafHash.Parameters) (q : C.TwoToOneHash.Parameters)
-        → let r = root (⟦<C as Views>⟧.pair tree.now.pair_parameters) tree.now.leaves in
-        Tells (shown_root (C.language p q).root_bytes r) reply.items) }
+        → Tells (shown_root (C.language p q).root_bytes
+        (root (⟦<C as Views>⟧.pair tree.now.pair_parameters) tree.now.leaves)) reply.items) }
 {
     let mut reply = plain(alloc, b"root ")?;
     C::show_root(tree.root(), &mut reply)?;
@@ -31,8 +31,8 @@ pub fn root<C: Shell>(alloc: Global, tree: &MerkleTree<C>) -> Result<Vec<u8>, Al
 // The canonical bytes of an index's path.
 fn path_bytes<C: Shell>(alloc: Global, tree: &MerkleTree<C>, index: usize) -> Result<Vec<u8>, Error>
     requires { index < length tree.now.leaves }
-    ensures { let path = path_in (⟦<C as Views>⟧.tree tree.now) index in
-        AnswersBy (λ bytes. bytes.items) (Ok (⟦<C as Views>⟧.path_bytes path)) result }
+    ensures { AnswersBy (λ bytes. bytes.items)
+        (Ok (⟦<C as Views>⟧.path_bytes (path_in (⟦<C as Views>⟧.tree tree.now) index))) result }
 {
     let path = tree.generate_proof(alloc, index)?;
     proof_bytes(alloc, &path)
@@ -44,9 +44,9 @@ pub fn proof<C: Shell>(
     tree: &MerkleTree<C>,
     index: usize,
 ) -> Result<Vec<u8>, AllocError>
-    ensures { let path = path_in (⟦<C as Views>⟧.tree tree.now) index in
-        let bytes = ⟦<C as Views>⟧.path_bytes path in
-        IfOk result (λ reply. Tells (proof_reply bytes tree.now.leaves index) reply.items) }
+    ensures { IfOk result (λ reply. Tells
+        (proof_reply (⟦<C as Views>⟧.path_bytes (path_in (⟦<C as Views>⟧.tree tree.now) index))
+        tree.now.leaves index) reply.items) }
 {
     if index >= tree.size() {
         return plain(alloc, b"refused index");
@@ -72,8 +72,9 @@ fn multi_path_bytes<C: Shell>(
     indexes: &[usize],
 ) -> Result<Vec<u8>, Error>
     requires { All (λ i. i < length tree.now.leaves) indexes.now }
-    ensures { let proof = multi_path_in (⟦<C as Views>⟧.tree tree.now) indexes.now in
-        AnswersBy (λ bytes. bytes.items) (Ok (⟦<C as Views>⟧.multi_path_bytes proof)) result }
+    ensures { AnswersBy (λ bytes. bytes.items)
+        (Ok (⟦<C as Views>⟧.multi_path_bytes (multi_path_in (⟦<C as Views>⟧.tree tree.now)
+        indexes.now))) result }
 {
     let proof = tree.generate_multi_proof(alloc, indexes)?;
     proof_bytes(alloc, &proof)
@@ -85,9 +86,9 @@ pub fn multi_proof<C: Shell>(
     tree: &MerkleTree<C>,
     indexes: &[usize],
 ) -> Result<Vec<u8>, AllocError>
-    ensures { let proof = multi_path_in (⟦<C as Views>⟧.tree tree.now) indexes.now in
-        let bytes = ⟦<C as Views>⟧.multi_path_bytes proof in
-        IfOk result (λ reply. Tells (multi_reply bytes tree.now.leaves indexes.now) reply.items) }
+    ensures { IfOk result (λ reply. Tells
+        (multi_reply (⟦<C as Views>⟧.multi_path_bytes (multi_path_in (⟦<C as Views>⟧.tree tree.now)
+        indexes.now)) tree.now.leaves indexes.now) reply.items) }
 {
     if !are_below(indexes, tree.size()) {
         return plain(alloc, b"refused index");

@@ -4,3 +4,5 @@ pub mod Scalars
 pub mod Segments
 pub mod SignedTimes
 pub mod Words
+pub mod Relations
+pub mod BitChunks

@@ -77,7 +77,7 @@ scalar-within (c ∷ chunks) (suc n) few =
 split : (d e s t : ℤ) → IsWithin 4 d → IsWithin 4 e → d +ℤ pos 16 *ℤ s ≡ e +ℤ pos 16 *ℤ t → (d ≡ e) × (s ≡ t)
 split d e s t first second same = (omega (arith, ints), omega (arith, ints))
 
-alone : (a b : List Chunk) → length a ≡ length b → segment_scalar a ≡ segment_scalar b → a ≡ b
+pub alone : (a b : List Chunk) → length a ≡ length b → segment_scalar a ≡ segment_scalar b → a ≡ b
 unfolding segment_scalar
 alone [] [] long same = refl
 alone [] (y ∷ b) long same = absurd (omega arith)

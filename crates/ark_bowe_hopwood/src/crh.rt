@@ -1,6 +1,6 @@
 //! The Bowe-Hopwood hash of one input.
 
-ghost use Rattle.std.specs.Prelude.{◌≡◌, ◌∷◌, [], ℕ, List, IfOk, OnOk, IfErr};
+ghost use Rattle.std.specs.Prelude.{◌≡◌, ◌∷◌, [], ℕ, List, map, IfOk, OnOk, IfErr};
 ghost use Rattle.ark_base.specs.Outcome.{AnswersBy};
 ghost use Rattle.ark_groups.specs.Group.{times};
 ghost use Rattle.ark_pedersen.specs.Pedersen.{lists_in, window_elements, seen_by};
@@ -57,6 +57,25 @@ fn segment<G: AdditiveGroup>(alloc: Global, count: usize, element: G) -> Result<
         last = sixteenfold(last);
     }
     Ok(list)
+}
+
+/// Returns parameters of the elements of the windows: of each, it and its sixteenfolds, as many as a window has chunks.
+///
+/// The only error is `OutOfMemory`.
+pub fn parameters_of<G: AdditiveGroup>(
+    alloc: Global,
+    size: usize,
+    elements: &[G],
+) -> Result<Parameters<G>, Error>
+    ensures made { IfOk result (λ parameters.
+        lists_in parameters.generators.items ≡ map (sixteenfolds G.group size) elements.now) }
+    ensures refused { IfErr result (λ error. error ≡ Error.OutOfMemory) }
+{
+    let mut generators = Vec::with_capacity(alloc, elements.len())?;
+    for element in elements {
+        generators.push(segment(alloc, size, *element)?)?;
+    }
+    Ok(Parameters { generators })
 }
 
 // Sixteen times an element.

@@ -1,6 +1,8 @@
 //! Bowe-Hopwood hashes: the first coordinate of a sum of elements, each as often as a signed digit of three bits says.
 #![tactic(auto)]
 
+mod binding;
+mod bits;
 mod crh;
 mod parameters;
 mod setup;
@@ -8,8 +10,11 @@ mod sums;
 mod text;
 mod two_to_one;
 
-pub use crh::CRH;
+pub use binding::hashes_bind;
+pub use bits::hash_bits;
+pub use crh::{CRH, parameters_of};
 pub use parameters::Parameters;
+pub use setup::is_fitting;
 pub use two_to_one::TwoToOneCRH;
 
 /// The bits of a chunk (Zcash protocol specification, section 5.4.1.7).

@@ -117,8 +117,8 @@ fn add_chunks<G: AdditiveGroup, W: Window>(
     sum
 }
 
-// The sum with an element as often as the digit of a chunk says.
-fn add_digit<G: AdditiveGroup>(sum: G::Sum, x: G, a: bool, b: bool, is_negative: bool) -> G::Sum
+/// Returns the sum with an element as often as the digit of a chunk says.
+pub fn add_digit<G: AdditiveGroup>(sum: G::Sum, x: G, a: bool, b: bool, is_negative: bool) -> G::Sum
     ensures { let times = signed_times G.group (digit (a, b, is_negative)) in
         G.total result ≡ G.group.plus (G.total sum) (times x) }
 {

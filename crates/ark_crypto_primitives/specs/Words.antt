@@ -34,7 +34,7 @@ pub use Rattle.ark_sponge.specs.Sponge.{with_absorbed}
 pub use Rattle.ark_sponge.specs.Squeezing.{cut_squeezed, native_squeezed}
 pub use Rattle.ark_poseidon_parameters.specs.Ready.{AreReady, bls12_381_fr_alpha, bls12_381_fr_rounds, bn254_fr_rounds}
 -- hashes
-pub use Rattle.ark_crh.specs.Four.{four_in_turn, four_seen}
+pub use Rattle.ark_crh.specs.Ahead.{HashesAhead, lent, lent_couples, of_bytes, of_couple, sure}
 pub use Rattle.ark_poseidon.specs.Digest.{digest_of_two}
 pub use Rattle.ark_pedersen.specs.Pedersen.{AreDrawn, AreGeneratorsOf, bits_of_bytes, doublings, generators_in}
 pub use Rattle.ark_pedersen.specs.Pedersen.{lists_in, of_halves, pedersen_hash, seen_by, window_elements, windows_hash}

@@ -20,17 +20,21 @@ pub mod serialize {
 pub mod ff {
     pub use ark_groups::ff::{
         BabyBear, Field, Fp, Goldilocks, KoalaBear, M7, M13, M61, M257, M65537, Mersenne31,
-        Modulus, PrimeField, UniformRand,
+        Modulus, PrimeField, UniformRand, Valued, Words,
     };
-    pub use ark_wide_fields::{Bls12_381Fr, Bn254Fr, Fp256, PallasFp, VestaFp, WideModulus};
+    pub use ark_wide_fields::{
+        Bls12_381Fr, Bn254Fr, Fp256, InvertibleField, PallasFp, VestaFp, WideModulus, inverse,
+        power, quotient, square_root,
+    };
 }
 
 /// Groups.
 pub mod ec {
     pub use ark_groups::ec::{
-        Additive, AdditiveGroup, CurveGroup, Residues, SWCoordinates, SWPoint, Small, SmallModulus,
-        TECoordinates, TEPoint,
+        Additive, AdditiveGroup, CurveGroup, FromDigest, PrimeOrderGroup, Residues, SWCoordinates,
+        SWPoint, Small, SmallModulus, TECoordinates, TEPoint, ToldByX,
     };
+    pub use ark_schemes::from_label::{elements_of_label, group_hash};
     pub use jubjub;
 }
 
@@ -61,7 +65,9 @@ pub mod commitment {
 
     /// The Pedersen hash of the input and a multiple of an element, the randomness being the count.
     pub mod pedersen {
-        pub use ark_schemes::commitment::pedersen::{Commitment, Parameters, Randomness, Window};
+        pub use ark_schemes::commitment::pedersen::{
+            Commitment, Parameters, Randomness, Window, opening_relation_of,
+        };
     }
 
     /// Maps of such a commitment.
@@ -96,26 +102,33 @@ pub mod signature {
 
 /// Hashes of one input and of two.
 pub mod crh {
-    pub use ark_crh::{CRHScheme, TwoToOneCRHScheme};
+    pub use ark_crh::{ArrayHash, CRHScheme, PlainSha256, TwoToOneCRHScheme};
 
     /// SHA-256 (FIPS 180-4).
     pub mod sha256 {
         pub use ark_crh::sha256::Sha256;
     }
 
-    /// What a new sponge gives once it has absorbed the input.
+    /// What a new sponge gives once it has absorbed the input, and the hash of circomlib.
     pub mod poseidon {
-        pub use ark_poseidon::{CRH, TwoToOneCRH};
+        pub use ark_poseidon::{CRH, CircomCRH, CircomTwoToOneCRH, TwoToOneCRH, circom_hash};
     }
 
     /// Sums of elements at the set bits of an input.
     pub mod pedersen {
-        pub use ark_pedersen::{CRH, Parameters, TwoToOneCRH, Window, bytes_to_bits};
+        pub use ark_pedersen::{
+            CRH, Parameters, TwoToOneCRH, Window, Windows4x64, Windows4x256, Windows63x9,
+            bytes_to_bits, relation_of, windows_fit,
+        };
+        pub use ark_schemes::from_label::pedersen_from_label;
     }
 
     /// The first coordinate of sums of elements, each as often as a signed digit of three bits says.
     pub mod bowe_hopwood {
-        pub use ark_bowe_hopwood::{CHUNK_SIZE, CRH, Parameters, TwoToOneCRH};
+        pub use ark_bowe_hopwood::{
+            CHUNK_SIZE, CRH, Parameters, TwoToOneCRH, hash_bits, hashes_bind,
+        };
+        pub use ark_schemes::from_label::bowe_hopwood_from_label;
     }
 
     /// Maps of Pedersen hashes.
@@ -152,6 +165,16 @@ pub mod merkle_tree {
         Binding, ByteDigestConverter, Config, DigestConverter, IdentityDigestConverter, LeafParam,
         MerkleTree, MultiPath, PairCount, PairHasher, Path, TwoToOneParam, Views, is_tree_size,
     };
+
+    /// Trees whose digests stand in memory of the caller's: the root first, the leaf digests last.
+    pub mod kept {
+        pub use kept_tree::build::rebuild;
+        pub use kept_tree::change::set_leaf;
+        pub use kept_tree::check::{holds_tree, is_tree_length};
+        pub use kept_tree::many::rehash_above;
+        pub use kept_tree::multi_path::multi_path_bytes;
+        pub use kept_tree::path::{path_len, root, write_path};
+    }
 }
 
 /// Merkle logs of any size (RFC 6962 and RFC 9162).
@@ -166,7 +189,7 @@ pub mod log {
 /// Configurations of trees, ready for use.
 pub mod trees {
     pub use crate::log_tree::log_tree;
-    pub use ark_trees::{ArraySha256, LogSha256, Sha256Arrays, Sha256Log, Sha256Strings};
+    pub use ark_trees::{ArraySha256, Arrays, LogSha256, Sha256Arrays, Sha256Log, Sha256Strings};
 }
 
 #[cfg(test)]

@@ -15,8 +15,8 @@ use std::alloc::Global;
 /// `OutOfMemory`.
 pub fn log_tree(alloc: Global, entries: &[Vec<u8>]) -> Result<MerkleTree<Sha256Log>, Error>
     requires { IsTreeSize (length entries.now) }
-    ensures tree { let hashes = ⟦<Sha256Log as Views>⟧.hashes tt tt in
-        AnswersBy ⟦<Sha256Log as Views>⟧.tree (tree_of hashes entries.now) result }
+    ensures tree { AnswersBy ⟦<Sha256Log as Views>⟧.tree
+        (tree_of (⟦<Sha256Log as Views>⟧.hashes tt tt) entries.now) result }
 
     // Its root is the Merkle tree hash of the entries (RFC 6962, section 2.1).
     ensures root { let entries = map (λ entry. entry.items) entries.now in

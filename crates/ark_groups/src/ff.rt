@@ -20,4 +20,4 @@ pub use parts::{element_of_bits, is_same_field, push_low_bytes, same_element};
 pub use prime_field::PrimeField;
 pub use uniform::UniformRand;
 pub use valued::Valued;
-pub use words::{Words, is_same_number, write_bytes};
+pub use words::{Words, halved, is_same_number, write_bytes};

@@ -1,8 +1,7 @@
 -- Several changes of leaves, as lists.
-use Rattle.std.proofs.Common.{zero, suc, ◌≡◌, ◌≢◌, ℕ, ◌+◌, ◌<◌, ◌≤◌, true, false, ltb, eqb, List, [], ◌∷◌, ◌++◌, length, drop, map, get_or, set, Ok, Err, inl, inr, refl, ap, sym, ◌∙◌, arith, append-nil}
+use Rattle.std.proofs.Common.{zero, suc, ◌≡◌, ◌≢◌, ℕ, ◌+◌, ◌<◌, ◌≤◌, true, false, ltb, eqb, List, [], ◌∷◌, length, drop, map, get_or, set, Ok, inl, inr, refl, ap, sym, ◌∙◌, arith, append-nil}
 use Rattle.std.proofs.lemmas.Bool.{lt-ltb, le-ltb, eq-eqb, ne_eqb}
 use Rattle.std.proofs.lemmas.List.{length-map, set-set, length-set, drop_more, drop_all, drop-drop, drop-set-lt, get_or-drop}
-use Rattle.ark_base.specs.declared.error.Error.{Error}
 use Rattle.ark_base.specs.Outcome.{Outcome, ◌>>=◌}
 use Rattle.ark_base.specs.Laws.Steps.{bind_ok, done_injective}
 use Rattle.ark_paths.specs.Pair.{Digest}
@@ -185,16 +184,6 @@ module _ {A : Type 0} (hash : A → Outcome Digest) where
 abbrev pub AreHashedSoFar : {A : Type 0} → (A → Outcome Digest) → List (ℕ × A) → List (ℕ × Digest)
     → List (ℕ × A) → Type 0
 AreHashedSoFar hash cs done rest = hashed_changes hash cs ≡ begun done (hashed_changes hash rest)
-
-pub hashed_so_far-more : {A : Type 0} (hash : A → Outcome Digest) (cs : List (ℕ × A)) (done : List (ℕ × Digest))
-    (c : ℕ × A) (others : List (ℕ × A)) (d : Digest) → AreHashedSoFar hash cs done (c ∷ others) → hash c.1 ≡ Ok d
-    → AreHashedSoFar hash cs (done ++ (c.0, d) ∷ []) others
-hashed_so_far-more hash cs done c others d so is = so ∙ rw is (begun-more done (c.0, d) (hashed_changes hash others))
-
-pub hashed_so_far-refused : {A : Type 0} (hash : A → Outcome Digest) (cs : List (ℕ × A)) (done : List (ℕ × Digest))
-    (c : ℕ × A) (others : List (ℕ × A)) (e : Error) → AreHashedSoFar hash cs done (c ∷ others) → hash c.1 ≡ Err e
-    → hashed_changes hash cs ≡ Err e
-hashed_so_far-refused hash cs done c others e so refused = so ∙ rw refused refl
 
 pub hashed_so_far-all : {A : Type 0} (hash : A → Outcome Digest) (cs : List (ℕ × A)) (done : List (ℕ × Digest))
     → AreHashedSoFar hash cs done [] → hashed_changes hash cs ≡ Ok done

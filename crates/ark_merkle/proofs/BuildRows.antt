@@ -50,7 +50,7 @@ module _ (hash : Digest → Digest → Outcome Digest) where
   one_more (Ok d) (Ok next) left rest is = rw (is d) (begun-cons d next (rest (d ∷ next)))
 
   -- the couples of a row, and those behind it
-  piled-row : (count left couple : ℕ) (before row done : List Digest) → length before ≡ 2 * couple → length row
+  pub piled-row : (count left couple : ℕ) (before row done : List Digest) → length before ≡ 2 * couple → length row
       ≡ 2 * count
       → piled (count + left) couple (before ++ (row ++ done)) ≡ (row_above hash row >>= λ next. begun next
       (piled left (couple + count) (before ++ (row ++ (done ++ next)))))

@@ -4,13 +4,13 @@ pub mod LastLeaves
 pub mod ChangedTrees
 pub mod Batches
 pub mod EachIndex
-pub mod ChangesOfFour
+pub mod ChangeRuns
 pub mod Bounds
 pub mod Changes
 mod LentChanges
 pub mod LevelOrder
 pub mod BuildRows
-pub mod BuildRowsByFour
+pub mod PileRuns
 pub mod TreeChanges
 pub mod Puts
 pub mod TreeReads

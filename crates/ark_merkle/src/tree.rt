@@ -69,8 +69,8 @@ impl<P: Views> MerkleTree<P> {
         leaves: &[P::Leaf],
     ) -> Result<MerkleTree<P>, Error>
         requires { IsTreeSize (length leaves.now) }
-        ensures { let hashes = P.hashes leaf_parameters.now pair_parameters.now in
-            AnswersBy P.tree (tree_of hashes leaves.now) result }
+        ensures { AnswersBy P.tree (tree_of (P.hashes leaf_parameters.now pair_parameters.now)
+            leaves.now) result }
     {
         let hasher = ConfigHasher::<P>::new(leaf_parameters, pair_parameters);
         let digests = hash_all(alloc, &hasher, leaves)?;
@@ -87,8 +87,8 @@ impl<P: Views> MerkleTree<P> {
         leaves: Vec<P::LeafDigest>,
     ) -> Result<MerkleTree<P>, Error>
         requires { IsTreeSize (length leaves.items) }
-        ensures { let hashes = P.hashes leaf_parameters.now pair_parameters.now in
-            AnswersBy P.tree (tree_above hashes (digests_of P.LeafDigest.numbers leaves)) result }
+        ensures { AnswersBy P.tree (tree_above (P.hashes leaf_parameters.now pair_parameters.now)
+            (digests_of P.LeafDigest.numbers leaves)) result }
     {
         let hasher = ConfigHasher::<P>::new(leaf_parameters, pair_parameters);
         let rows = rows_above(alloc, &hasher, &leaves)?;
@@ -113,9 +113,8 @@ impl<P: Views> MerkleTree<P> {
     ) -> Result<MerkleTree<P>, Error>
         requires low { 2 ≤ height }
         requires high { height ≤ 64 }
-        ensures { let hashes = P.hashes leaf_parameters.now pair_parameters.now in
-            let digests = replicate (2 ^ (height - 1)) P.LeafDigest.blank_numbers in
-            AnswersBy P.tree (tree_above hashes digests) result }
+        ensures { AnswersBy P.tree (tree_above (P.hashes leaf_parameters.now pair_parameters.now)
+            (replicate (2 ^ (height - 1)) P.LeafDigest.blank_numbers)) result }
     {
         let digests = blank_row(alloc, height)?;
         MerkleTree::new_with_leaf_digest(alloc, leaf_parameters, pair_parameters, digests)
@@ -191,8 +190,7 @@ impl<P: Views> MerkleTree<P> {
         ensures leaves { map P.LeafDigest.numbers result.1.now ≡ self.now.leaves }
         ensures tree { let own =
             ⟦<ConfigHasher<'a, P> as TreeHasher<P::LeafDigest, P::InnerDigest>>⟧ in
-            let h = (own.hashes result.0).pair in
-            IsTree h (map P.LeafDigest.numbers result.1.now) result.2.now }
+            IsTree (own.hashes result.0).pair (map P.LeafDigest.numbers result.1.now) result.2.now }
         ensures fits { length result.1.now < 2 ^ 64 }
     {
         let hasher = ConfigHasher::<P>::new(&self.leaf_parameters, &self.pair_parameters);

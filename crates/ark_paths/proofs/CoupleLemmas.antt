@@ -4,9 +4,7 @@ use Rattle.std.proofs.lemmas.List.{length-map, get_or-map}
 use Rattle.ark_base.specs.declared.error.Error.{Error}
 use Rattle.ark_base.specs.Outcome.{Outcome, ◌>>=◌}
 use Rattle.ark_paths.specs.Pair.{Digest}
-use Rattle.ark_crh.specs.Four.{four_in_turn}
 use Rattle.ark_paths.specs.Rows.{couples, row_above}
-use Rattle.ark_paths.proofs.Fours.{IsSoFar-four, IsSoFar-four_refused}
 use Rattle.ark_paths.proofs.ListOutcomes.{each-append, length-each, get_or-each, IsSoFar, IsSoFar-none, IsSoFar-more, IsSoFar-refused, IsSoFar-all}
 
 pub length-couples : {A : Type 0} (xs : List A) → length (couples xs) ≡ length xs / 2
@@ -48,6 +46,18 @@ module _ (hash : Digest → Digest → Outcome Digest) where
       (omega (arith, length-couples row)) in
       rw two at hashed
 
+-- what two reads of a list give of its couples
+module _ {A B : Type 0} (view : A → B) (xs : List A) where
+  pub couple_read : (i : ℕ) (a b : A) → i < length xs / 2 → a ≡ get_or xs (2 * i) a → b ≡ get_or xs (2 * i + 1) b
+      → (view a, view b) ≡ get_or (couples (map view xs)) i (view a, view b)
+  couple_read i a b below a_is b_is =
+      let same : length (map view xs) ≡ length xs = length-map xs view in
+      let left : get_or (map view xs) (2 * i) (view a) ≡ view a =
+      get_or-map view xs (2 * i) a (view a) (omega arith) ∙ ap view (sym a_is) in
+      let right : get_or (map view xs) (2 * i + 1) (view a) ≡ view b =
+      get_or-map view xs (2 * i + 1) b (view a) (omega arith) ∙ ap view (sym b_is) in
+      sym (get_or-couples (map view xs) i (view a) (view a, view b) (omega arith) ∙ rw (left, right) refl)
+
 -- Pairing a list of what has numbers, couple by couple.
 module _ {A : Type 0} (hash : Digest → Digest → Outcome Digest) (numbers : A → Digest) (xs : List A) where
   -- the first couples are hashed
@@ -57,17 +67,6 @@ module _ {A : Type 0} (hash : Digest → Digest → Outcome Digest) (numbers : A
   long : length (couples (map numbers xs)) ≡ length xs / 2
   long = length-couples (map numbers xs) ∙ ap (λ (n : ℕ). n / 2) (length-map xs numbers)
 
-  -- what two reads of the list give of its couples
-  couple_read : (i : ℕ) (a b : A) → i < length xs / 2 → a ≡ get_or xs (2 * i) a → b ≡ get_or xs (2 * i + 1) b
-      → (numbers a, numbers b) ≡ get_or (couples (map numbers xs)) i (numbers a, numbers b)
-  couple_read i a b below a_is b_is =
-      let same : length (map numbers xs) ≡ length xs = length-map xs numbers in
-      let left : get_or (map numbers xs) (2 * i) [] ≡ numbers a = get_or-map numbers xs (2 * i) a [] (omega arith)
-      ∙ ap numbers (sym a_is) in
-      let right : get_or (map numbers xs) (2 * i + 1) [] ≡ numbers b =
-      get_or-map numbers xs (2 * i + 1) b [] (omega arith) ∙ ap numbers (sym b_is) in
-      sym (get_or-couples (map numbers xs) i [] (numbers a, numbers b) (omega arith) ∙ rw (left, right) refl)
-
   pub ArePaired-none : ArePaired 0 []
   ArePaired-none = IsSoFar-none (λ p. hash p.0 p.1) (couples (map numbers xs))
 
@@ -75,53 +74,16 @@ module _ {A : Type 0} (hash : Digest → Digest → Outcome Digest) (numbers : A
       → b ≡ get_or xs (2 * i + 1) b → ArePaired i done → hash (numbers a) (numbers b) ≡ Ok d → ArePaired (i + 1)
       (done ++ d ∷ [])
   ArePaired-more i a b done d below a_is b_is so hashed = IsSoFar-more (λ p. hash p.0 p.1) (couples (map numbers xs)) i
-      (numbers a, numbers b) done d (rw long below) (couple_read i a b below a_is b_is) so hashed
+      (numbers a, numbers b) done d (rw long below) (couple_read numbers xs i a b below a_is b_is) so hashed
 
   pub ArePaired-refused : (i : ℕ) (a b : A) (done : List Digest) (e : Error) → i < length xs / 2 → a ≡ get_or xs (2 * i)
       a → b ≡ get_or xs (2 * i + 1) b → ArePaired i done → hash (numbers a) (numbers b) ≡ Err e → row_above hash
       (map numbers xs) ≡ Err e
   ArePaired-refused i a b done e below a_is b_is so refused = IsSoFar-refused (λ p. hash p.0 p.1)
-      (couples (map numbers xs)) i (numbers a, numbers b) done e (rw long below) (couple_read i a b below a_is b_is) so
+      (couples (map numbers xs)) i (numbers a, numbers b) done e (rw long below)
+      (couple_read numbers xs i a b below a_is b_is) so
       refused
 
   pub ArePaired-all : (i : ℕ) (done : List Digest) → length xs / 2 ≤ i → ArePaired i done → row_above hash
       (map numbers xs) ≡ Ok done
   ArePaired-all i done past so = IsSoFar-all (λ p. hash p.0 p.1) (couples (map numbers xs)) i done (rw long past) so
-
-  -- four couples, the first of which is one of four times a number
-  module _ (f : ℕ) (a ar b br c cr d dr : A) (inside : 4 * f + 3 < length xs / 2)
-      (a_is : a ≡ get_or xs (8 * f) a) (ar_is : ar ≡ get_or xs (8 * f + 1) ar)
-      (b_is : b ≡ get_or xs (8 * f + 2) b) (br_is : br ≡ get_or xs (8 * f + 3) br)
-      (c_is : c ≡ get_or xs (8 * f + 4) c) (cr_is : cr ≡ get_or xs (8 * f + 5) cr)
-      (d_is : d ≡ get_or xs (8 * f + 6) d) (dr_is : dr ≡ get_or xs (8 * f + 7) dr)
-      (done : List Digest) (so : ArePaired (4 * f) done) where
-    moved : (x : A) (p q : ℕ) → p ≡ q → x ≡ get_or xs p x → x ≡ get_or xs q x
-    moved x p q same is = is ∙ ap (λ (n : ℕ). get_or xs n x) same
-
-    read : (i p q : ℕ) (x y : A) → i < length xs / 2 → p ≡ 2 * i → q ≡ 2 * i + 1 → x ≡ get_or xs p x → y ≡ get_or xs q y
-        → (numbers x, numbers y) ≡ get_or (couples (map numbers xs)) i (numbers x, numbers y)
-    read i p q x y below left right x_is y_is =
-        couple_read i x y below (moved x p (2 * i) left x_is) (moved y q (2 * i + 1) right y_is)
-
-    pub ArePaired-four : (w x y z : Digest)
-        → four_in_turn (hash (numbers a) (numbers ar)) (hash (numbers b) (numbers br)) (hash (numbers c) (numbers cr))
-        (hash (numbers d) (numbers dr)) ≡ Ok (w ∷ x ∷ y ∷ z ∷ []) → ArePaired (4 * f + 4) (done ++ w ∷ x ∷ y ∷ z ∷ [])
-    ArePaired-four =
-        IsSoFar-four (λ p. hash p.0 p.1) (couples (map numbers xs)) (4 * f) (numbers a, numbers ar)
-        (numbers b, numbers br)
-        (numbers c, numbers cr) (numbers d, numbers dr) (rw long inside)
-        (read (4 * f) (8 * f) (8 * f + 1) a ar (omega arith) (omega arith) (omega arith) a_is ar_is)
-        (read (4 * f + 1) (8 * f + 2) (8 * f + 3) b br (omega arith) (omega arith) (omega arith) b_is br_is)
-        (read (4 * f + 2) (8 * f + 4) (8 * f + 5) c cr (omega arith) (omega arith) (omega arith) c_is cr_is)
-        (read (4 * f + 3) (8 * f + 6) (8 * f + 7) d dr (omega arith) (omega arith) (omega arith) d_is dr_is) done so
-
-    pub ArePaired-four_refused : (e : Error)
-        → four_in_turn (hash (numbers a) (numbers ar)) (hash (numbers b) (numbers br)) (hash (numbers c) (numbers cr))
-        (hash (numbers d) (numbers dr)) ≡ Err e → row_above hash (map numbers xs) ≡ Err e
-    ArePaired-four_refused =
-        IsSoFar-four_refused (λ p. hash p.0 p.1) (couples (map numbers xs)) (4 * f) (numbers a, numbers ar)
-        (numbers b, numbers br) (numbers c, numbers cr) (numbers d, numbers dr) (rw long inside)
-        (read (4 * f) (8 * f) (8 * f + 1) a ar (omega arith) (omega arith) (omega arith) a_is ar_is)
-        (read (4 * f + 1) (8 * f + 2) (8 * f + 3) b br (omega arith) (omega arith) (omega arith) b_is br_is)
-        (read (4 * f + 2) (8 * f + 4) (8 * f + 5) c cr (omega arith) (omega arith) (omega arith) c_is cr_is)
-        (read (4 * f + 3) (8 * f + 6) (8 * f + 7) d dr (omega arith) (omega arith) (omega arith) d_is dr_is) done so

@@ -4,7 +4,7 @@ pub mod Collisions
 pub mod Clients
 pub mod Climbs
 pub mod ListOutcomes
-pub mod Fours
+pub mod Ahead
 pub mod CoupleLemmas
 pub mod Logs
 pub mod Levels

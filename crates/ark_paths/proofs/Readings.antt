@@ -24,15 +24,17 @@ module _ {A B : Type 0} (view : A → B) (xs : List A) (i : ℕ) where
   seen_at x below is = slice_get-map view xs i ∙ ap (option_map view) (slice_get-get_or xs i x below ∙ ap Some (sym is))
 
 -- a list that follows another behind a front, item by item
-pub mapped-more : {A B C : Type 0} (view : A → C) (other : B → C) (front : List C) (now next : List A) (ys : List B)
-    (k : ℕ) (x : A) (y : B) → k < length ys → y ≡ get_or ys k y → view x ≡ other y → next ≡ now ++ x ∷ []
-    → map view now ≡ front ++ map other (take k ys) → map view next ≡ front ++ map other (take (k + 1) ys)
-mapped-more {B = B} {C = C} view other front now next ys k x y below is same more so =
-    ap (map view) more ∙ map-append view now (x ∷ []) ∙ ap (λ (zs : List C). zs ++ view x ∷ []) so ∙ append_assoc front
-    (map other (take k ys)) (view x ∷ [])
-    ∙ ap (λ (zs : List C). front ++ zs) (ap (λ (z : C). map other (take k ys) ++ z ∷ []) same
-    ∙ sym (map-append other (take k ys) (y ∷ [])) ∙ ap (map other) (ap (λ (z : B). take k ys ++ z ∷ []) is
-    ∙ sym (take_more ys k y below)))
+module _ {A B C : Type 0} (view : A → C) (other : B → C) (front : List C) where
+  pub mapped-more : (now next : List A) (ys : List B) (k : ℕ) (x : A) (y : B) → k < length ys
+      → y ≡ get_or ys k y → view x ≡ other y → next ≡ now ++ x ∷ []
+      → map view now ≡ front ++ map other (take k ys) → map view next ≡ front ++ map other (take (k + 1) ys)
+  mapped-more now next ys k x y below is same more so =
+      ap (map view) more ∙ map-append view now (x ∷ []) ∙ ap (λ (zs : List C). zs ++ view x ∷ []) so
+      ∙ append_assoc front
+      (map other (take k ys)) (view x ∷ [])
+      ∙ ap (λ (zs : List C). front ++ zs) (ap (λ (z : C). map other (take k ys) ++ z ∷ []) same
+      ∙ sym (map-append other (take k ys) (y ∷ [])) ∙ ap (map other) (ap (λ (z : B). take k ys ++ z ∷ []) is
+      ∙ sym (take_more ys k y below)))
 
 module _ {A Z : Type 0} (numbers : A → Digest) where
   pub row_read : (rows : List (Vec A Z)) (k : ℕ) (row : Vec A Z) → k < length rows → row ≡ get_or rows k row

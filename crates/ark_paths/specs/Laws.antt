@@ -2,3 +2,4 @@
 pub mod Path
 pub mod MultiPath
 pub mod ByNumbers
+pub mod Pair

@@ -1,7 +1,7 @@
 -- Digests as contracts see them, and the two hashes of pairs.
-use Rattle.std.specs.Prelude.{ℕ, List, Bool, if◌then◌else◌}
+use Rattle.std.specs.Prelude.{ℕ, List, Bool, if◌then◌else◌, Ok}
 use Rattle.std.specs.Str.{bytes_eq}
-use Rattle.ark_base.specs.Outcome.{Outcome, ◌>>=◌}
+use Rattle.ark_base.specs.Outcome.{Outcome, ◌>>=◌, IsDecided}
 
 -- a digest by its numbers
 abbrev pub Digest : Type 0
@@ -20,6 +20,19 @@ pub record HashPair : Type 0 where
 pub record Hashes (A : Type 0) : Type 0 where
   pub leaf : A → Outcome Digest
   pub pair : HashPair
+
+-- No refusal of the hashes is `OutOfMemory`.
+pub record AreDecided {A : Type 0} (hashes : Hashes A) : Type 0 where
+  pub leaf : (x : A) → IsDecided (hashes.leaf x)
+  pub bottom : (a b : Digest) → IsDecided (hashes.pair.bottom a b)
+  pub upper : (a b : Digest) → IsDecided (hashes.pair.upper a b)
+
+-- two leaf digests that are converted, left first, or the first refusal
+abbrev pub converted_couple : (Digest → Outcome Digest) → Digest × Digest → Outcome (Digest × Digest)
+converted_couple conversion couple = do
+  x ← conversion couple.0
+  y ← conversion couple.1
+  Ok (x, y)
 
 -- Both leaf digests are converted, left first, and then hashed.
 abbrev pub bottom_pair :

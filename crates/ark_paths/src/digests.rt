@@ -49,8 +49,8 @@ pub fn copies_of_rows<D: DigestItem>(alloc: Global, rows: &[Vec<D>]) -> Result<V
 pub fn blank_row<D: DigestItem>(alloc: Global, height: usize) -> Result<Vec<D>, Error>
     requires low { 2 ≤ height }
     requires high { height ≤ 64 }
-    ensures digests { let digests = replicate (2 ^ (height - 1)) D.blank_numbers in
-        AnswersBy (digests_of D.numbers) (Ok digests) result }
+    ensures digests { AnswersBy (digests_of D.numbers)
+        (Ok (replicate (2 ^ (height - 1)) D.blank_numbers)) result }
     ensures size { IfOk result (λ digests. IsTreeSize (length digests.items)) }
 {
     let size = 1usize << (height - 1);

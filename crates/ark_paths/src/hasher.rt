@@ -2,12 +2,13 @@
 
 ghost use Rattle.std.specs.Prelude.{◌≡◌};
 ghost use Rattle.ark_base.specs.Outcome.{AnswersBy};
-ghost use Rattle.ark_crh.specs.Four.{four_in_turn, four_seen};
-ghost use Rattle.ark_paths.specs.Pair.{Hashes, pair_of};
+ghost use Rattle.ark_crh.specs.Ahead.{HashesAhead, lent, lent_couples, of_couple};
+ghost use Rattle.ark_paths.specs.Laws.Pair.{bottom_pair-decided};
+ghost use Rattle.ark_paths.specs.Pair.{AreDecided, Hashes, pair_of};
 
 use crate::config::{Config, LeafParam, TwoToOneParam};
 use crate::multi_path::hasher::PairHasher;
-use crate::pair::{hash_bottom, hash_bottom_four};
+use crate::pair::{hash_bottom, hash_bottom_ahead};
 use crate::views::Views;
 use ark_base::error::Error;
 use ark_base::serialize::DigestItem;
@@ -29,91 +30,45 @@ pub trait TreeHasher<L: DigestItem, D: DigestItem> {
 
     /// Hashes two leaf digests, left first. Errors: those of `hashes`; `OutOfMemory`.
     fn bottom(&self, alloc: Global, left: &L, right: &L) -> Result<D, Error>
-        ensures { let hash = (hashes self.now).pair.bottom in
-            AnswersBy D.numbers (hash (L.numbers left.now) (L.numbers right.now)) result };
+        ensures { AnswersBy D.numbers ((hashes self.now).pair.bottom (L.numbers left.now)
+            (L.numbers right.now)) result };
 
     /// Hashes two digests above the leaves, left first. Errors: those of `hashes`; `OutOfMemory`.
     fn upper(&self, alloc: Global, left: &D, right: &D) -> Result<D, Error>
-        ensures { let hash = (hashes self.now).pair.upper in
-            AnswersBy D.numbers (hash (D.numbers left.now) (D.numbers right.now)) result };
+        ensures { AnswersBy D.numbers ((hashes self.now).pair.upper (D.numbers left.now)
+            (D.numbers right.now)) result };
 
-    /// Hashes four leaves, each as `leaf` does. A hasher may hash them together.
+    /// Hashes so many of the first leaves as it hashes together: by default none.
     ///
-    /// Errors: the first of `leaf`, from the left.
-    fn leaf_four(
-        &self,
-        alloc: Global,
-        a: &Self::Leaf,
-        b: &Self::Leaf,
-        c: &Self::Leaf,
-        d: &Self::Leaf,
-    ) -> Result<(L, L, L, L), Error>
-        ensures { let hash = (hashes self.now).leaf in
-            AnswersBy (four_seen L.numbers)
-            (four_in_turn (hash a.now) (hash b.now) (hash c.now) (hash d.now)) result }
+    /// The only error is `OutOfMemory`.
+    fn leaf_ahead(&self, alloc: Global, leaves: &[&Self::Leaf]) -> Result<Vec<L>, Error>
+        ensures { HashesAhead L.numbers ((hashes self.now).leaf) (lent leaves.now) result }
     {
-        let first = self.leaf(alloc, a)?;
-        let second = self.leaf(alloc, b)?;
-        let third = self.leaf(alloc, c)?;
-        let fourth = self.leaf(alloc, d)?;
-        Ok((first, second, third, fourth))
+        Ok(Vec::with_capacity(alloc, leaves.len())?)
     }
 
-    /// Hashes four couples, each as `bottom` does. A hasher may hash them together.
+    /// Hashes so many of the first couples of leaf digests as it hashes together: by default none.
     ///
-    /// Errors: the first of `bottom`, from the left.
-    fn bottom_four(
-        &self,
-        alloc: Global,
-        a: &L,
-        a_right: &L,
-        b: &L,
-        b_right: &L,
-        c: &L,
-        c_right: &L,
-        d: &L,
-        d_right: &L,
-    ) -> Result<(D, D, D, D), Error>
-        ensures { let x = L.numbers in
-            let hash = (hashes self.now).pair.bottom in
-            AnswersBy (four_seen D.numbers) (four_in_turn
-            (hash (x a.now) (x a_right.now)) (hash (x b.now) (x b_right.now))
-            (hash (x c.now) (x c_right.now)) (hash (x d.now) (x d_right.now))) result }
+    /// The only error is `OutOfMemory`.
+    fn bottom_ahead(&self, alloc: Global, couples: &[(&L, &L)]) -> Result<Vec<D>, Error>
+        ensures { HashesAhead D.numbers (of_couple (hashes self.now).pair.bottom)
+            (lent_couples L.numbers couples.now) result }
     {
-        let first = self.bottom(alloc, a, a_right)?;
-        let second = self.bottom(alloc, b, b_right)?;
-        let third = self.bottom(alloc, c, c_right)?;
-        let fourth = self.bottom(alloc, d, d_right)?;
-        Ok((first, second, third, fourth))
+        Ok(Vec::with_capacity(alloc, couples.len())?)
     }
 
-    /// Hashes four couples, each as `upper` does. A hasher may hash them together.
+    /// Hashes so many of the first couples of digests above the leaves as it hashes together: by default none.
     ///
-    /// Errors: the first of `upper`, from the left.
-    fn upper_four(
-        &self,
-        alloc: Global,
-        a: &D,
-        a_right: &D,
-        b: &D,
-        b_right: &D,
-        c: &D,
-        c_right: &D,
-        d: &D,
-        d_right: &D,
-    ) -> Result<(D, D, D, D), Error>
-        ensures { let x = D.numbers in
-            let hash = (hashes self.now).pair.upper in
-            AnswersBy (four_seen D.numbers) (four_in_turn
-            (hash (x a.now) (x a_right.now)) (hash (x b.now) (x b_right.now))
-            (hash (x c.now) (x c_right.now)) (hash (x d.now) (x d_right.now))) result }
+    /// The only error is `OutOfMemory`.
+    fn upper_ahead(&self, alloc: Global, couples: &[(&D, &D)]) -> Result<Vec<D>, Error>
+        ensures { HashesAhead D.numbers (of_couple (hashes self.now).pair.upper)
+            (lent_couples D.numbers couples.now) result }
     {
-        let first = self.upper(alloc, a, a_right)?;
-        let second = self.upper(alloc, b, b_right)?;
-        let third = self.upper(alloc, c, c_right)?;
-        let fourth = self.upper(alloc, d, d_right)?;
-        Ok((first, second, third, fourth))
+        Ok(Vec::with_capacity(alloc, couples.len())?)
     }
+
+    // What a call refuses for want of memory is no refusal of the hashes.
+    ghost decided: { (hasher : Self) → AreDecided (hashes hasher) };
 }
 
 /// The hashes of a configuration at two parameters.
@@ -129,8 +84,8 @@ impl<'a, P: Views> ConfigHasher<'a, P> {
         leaf_parameters: &'a LeafParam<P>,
         pair_parameters: &'a TwoToOneParam<P>,
     ) -> ConfigHasher<'a, P>
-        ensures { let own = ⟦<Self as TreeHasher<P::LeafDigest, P::InnerDigest>>⟧.hashes in
-            own result ≡ P.hashes leaf_parameters.now pair_parameters.now }
+        ensures { ⟦<Self as TreeHasher<P::LeafDigest, P::InnerDigest>>⟧.hashes result ≡ P.hashes
+            leaf_parameters.now pair_parameters.now }
     {
         ConfigHasher {
             leaf_parameters,
@@ -175,84 +130,38 @@ impl<'a, P: Config> TreeHasher<P::LeafDigest, P::InnerDigest> for ConfigHasher<'
         P::TwoToOneHash::compress(alloc, self.pair_parameters, left, right)
     }
 
-    fn leaf_four(
-        &self,
-        alloc: Global,
-        a: &P::Leaf,
-        b: &P::Leaf,
-        c: &P::Leaf,
-        d: &P::Leaf,
-    ) -> Result<(P::LeafDigest, P::LeafDigest, P::LeafDigest, P::LeafDigest), Error> {
-        P::LeafHash::evaluate_four(alloc, self.leaf_parameters, a, b, c, d)
+    fn leaf_ahead(&self, alloc: Global, leaves: &[&P::Leaf]) -> Result<Vec<P::LeafDigest>, Error> {
+        P::LeafHash::evaluate_ahead(alloc, self.leaf_parameters, leaves)
     }
 
-    fn bottom_four(
+    fn bottom_ahead(
         &self,
         alloc: Global,
-        a: &P::LeafDigest,
-        a_right: &P::LeafDigest,
-        b: &P::LeafDigest,
-        b_right: &P::LeafDigest,
-        c: &P::LeafDigest,
-        c_right: &P::LeafDigest,
-        d: &P::LeafDigest,
-        d_right: &P::LeafDigest,
-    ) -> Result<
-        (
-            P::InnerDigest,
-            P::InnerDigest,
-            P::InnerDigest,
-            P::InnerDigest,
-        ),
-        Error,
-    > {
-        hash_bottom_four::<_, P::LeafInnerDigestConverter, P::TwoToOneHash>(
+        couples: &[(&P::LeafDigest, &P::LeafDigest)],
+    ) -> Result<Vec<P::InnerDigest>, Error> {
+        hash_bottom_ahead::<_, P::LeafInnerDigestConverter, P::TwoToOneHash>(
             alloc,
             self.pair_parameters,
-            a,
-            a_right,
-            b,
-            b_right,
-            c,
-            c_right,
-            d,
-            d_right,
+            couples,
         )
     }
 
-    fn upper_four(
+    fn upper_ahead(
         &self,
         alloc: Global,
-        a: &P::InnerDigest,
-        a_right: &P::InnerDigest,
-        b: &P::InnerDigest,
-        b_right: &P::InnerDigest,
-        c: &P::InnerDigest,
-        c_right: &P::InnerDigest,
-        d: &P::InnerDigest,
-        d_right: &P::InnerDigest,
-    ) -> Result<
-        (
-            P::InnerDigest,
-            P::InnerDigest,
-            P::InnerDigest,
-            P::InnerDigest,
-        ),
-        Error,
-    > {
-        P::TwoToOneHash::compress_four(
-            alloc,
-            self.pair_parameters,
-            a,
-            a_right,
-            b,
-            b_right,
-            c,
-            c_right,
-            d,
-            d_right,
-        )
+        couples: &[(&P::InnerDigest, &P::InnerDigest)],
+    ) -> Result<Vec<P::InnerDigest>, Error> {
+        P::TwoToOneHash::compress_ahead(alloc, self.pair_parameters, couples)
     }
+
+    ghost decided = { λ hasher. record {
+      leaf = P.LeafHash.meaning_decided hasher.leaf_parameters.now;
+      bottom = bottom_pair-decided P.LeafInnerDigestConverter.conversion
+          (P.TwoToOneHash.evaluated hasher.pair_parameters.now)
+          P.LeafInnerDigestConverter.conversion_is_decided
+          (P.TwoToOneHash.evaluated_decided hasher.pair_parameters.now);
+      upper = P.TwoToOneHash.compressed_decided hasher.pair_parameters.now;
+    } };
 }
 
 /// Hashes pairs as another hasher does, and counts them.

@@ -9,6 +9,7 @@ pub mod multi_path;
 pub mod pair;
 pub mod path;
 mod received;
+pub mod runs;
 pub mod views;
 
 pub use config::{

@@ -127,10 +127,9 @@ impl<P: Views> Path<P> {
 
         // In every tree with this root whose height the path has, the leaf's digest stands at the index modulo the size, or
         // at some level the path's pair and the tree's differ and hash alike.
-        ensures bound { let hashes = P.hashes leaf_parameters.now pair_parameters.now in
-            let given = P.InnerDigest.numbers root.now in
-            IfOk result (λ accepted. accepted ≡ true
-            → BindsLeaf hashes given leaf.now (P.way self.now)) }
+        ensures bound { IfOk result (λ accepted. accepted ≡ true
+            → BindsLeaf (P.hashes leaf_parameters.now pair_parameters.now)
+            (P.InnerDigest.numbers root.now) leaf.now (P.way self.now)) }
     {
         let hasher = ConfigHasher::<P>::new(leaf_parameters, pair_parameters);
         verify_leaf(
@@ -155,13 +154,13 @@ fn verify_leaf<L: DigestItem, D: DigestItem, T: TreeHasher<L, D>>(
     above: &[D],
     index: usize,
 ) -> Result<bool, Error>
-    ensures { let hashes = T.hashes hasher.now in
-        let way : Way = record {
-          sibling = L.numbers sibling.now;
-          above = map D.numbers above.now;
-          index = index;
-        } in
-        Answers (verdict hashes.pair (hashes.leaf leaf.now) way (D.numbers root.now)) result }
+    ensures { let way : Way = record {
+      sibling = L.numbers sibling.now;
+      above = map D.numbers above.now;
+      index = index;
+    } in
+        Answers (verdict (T.hashes hasher.now).pair ((T.hashes hasher.now).leaf leaf.now) way
+        (D.numbers root.now)) result }
 {
     let digest = hasher.leaf(alloc, leaf)?;
     let top = top_of(alloc, hasher, &digest, sibling, above, index)?;
@@ -182,8 +181,8 @@ fn top_of<L: DigestItem, D: DigestItem, T: TreeHasher<L, D>>(
       above = map D.numbers above.now;
       index = index;
     } in
-        let root = path_root (T.hashes hasher.now).pair way (L.numbers digest.now) in
-        AnswersBy D.numbers root result }
+        AnswersBy D.numbers (path_root (T.hashes hasher.now).pair way (L.numbers digest.now))
+        result }
 {
     let is_right = is_bit_set(index, 0);
     let lowest = hash_leaves(alloc, hasher, is_right, digest, sibling)?;
@@ -198,8 +197,8 @@ fn climb<L: DigestItem, D: DigestItem, T: TreeHasher<L, D>>(
     beside: &[D],
     mut current: D,
 ) -> Result<D, Error>
-    ensures { let outcome = climb (T.hashes hasher.now).pair.upper index in
-        AnswersBy D.numbers (outcome (map D.numbers beside.now) (D.numbers current)) result }
+    ensures { AnswersBy D.numbers (climb (T.hashes hasher.now).pair.upper index
+        (map D.numbers beside.now) (D.numbers current)) result }
 {
     for level in 0..beside.len() {
         let sibling = &beside[beside.len() - 1 - level];

@@ -49,8 +49,7 @@ impl<P: Values> Path<P> {
     /// `IncorrectInputLength` with the length of `auth_path` where it is not the logarithm of the size less one;
     /// `InvalidData` where the path's own index is another one or not below the size; `OutOfMemory`.
     pub fn read_at(alloc: Global, bytes: &[u8], size: usize, index: usize) -> Result<Path<P>, Error>
-        ensures { let reading = P.path_reading bytes.now in
-            AnswersBy P.way (received_path size index reading) result }
+        ensures { AnswersBy P.way (received_path size index (P.path_reading bytes.now)) result }
     {
         if !is_tree_size(size) {
             return Err(Error::IncorrectInputLength(size));
@@ -76,18 +75,15 @@ impl<P: Values> Path<P> {
         bytes: &[u8],
         leaf: &P::Leaf,
     ) -> Result<bool, Error>
-        ensures answer { let hashes = P.hashes leaf_parameters.now pair_parameters.now in
-            let given = P.InnerDigest.numbers root.now in
-            let reading = P.path_reading bytes.now in
-            Answers (received_verdict hashes given size index leaf.now reading) result }
+        ensures answer { Answers (received_verdict
+            (P.hashes leaf_parameters.now pair_parameters.now) (P.InnerDigest.numbers root.now) size
+            index leaf.now (P.path_reading bytes.now)) result }
 
         // In every tree with this root and size the leaf's digest stands at the index, or at some level the path's pair and
         // the tree's differ and hash alike.
-        ensures bound { let hashes = P.hashes leaf_parameters.now pair_parameters.now in
-            let given = P.InnerDigest.numbers root.now in
-            let reading = P.path_reading bytes.now in
-            IfOk result (λ accepted. accepted ≡ true
-            → ShowsLeaf hashes given size index leaf.now reading) }
+        ensures bound { IfOk result (λ accepted. accepted ≡ true
+            → ShowsLeaf (P.hashes leaf_parameters.now pair_parameters.now)
+            (P.InnerDigest.numbers root.now) size index leaf.now (P.path_reading bytes.now)) }
     {
         let path = Path::<P>::read_at(alloc, bytes, size, index)?;
         path.verify(alloc, leaf_parameters, pair_parameters, root, leaf)
@@ -103,8 +99,9 @@ fn is_fit_for<D>(
     indexes: &[usize],
 ) -> Result<(), Error>
     requires { IsTreeSize size }
-    ensures { let above = length (get_or (map (λ list. list.items) suffixes.now) 0 []) in
-        result ≡ is_fit size behind.now above (bytes_eq own.now indexes.now) }
+    ensures { result ≡ is_fit size behind.now
+        (length (get_or (map (λ list. list.items) suffixes.now) 0 []))
+        (bytes_eq own.now indexes.now) }
 {
     is_fit(size, behind, first_length(suffixes), own == indexes)
 }
@@ -123,8 +120,8 @@ impl<P: Values> MultiPath<P> {
         size: usize,
         indexes: &[usize],
     ) -> Result<MultiPath<P>, Error>
-        ensures { let reading = P.multi_path_reading bytes.now in
-            AnswersBy P.multi_way (received_multi_path size indexes.now reading) result }
+        ensures { AnswersBy P.multi_way (received_multi_path size indexes.now
+            (P.multi_path_reading bytes.now)) result }
     {
         if !is_tree_size(size) {
             return Err(Error::IncorrectInputLength(size));
@@ -154,18 +151,15 @@ impl<P: Values> MultiPath<P> {
         bytes: &[u8],
         leaves: &[P::Leaf],
     ) -> Result<bool, Error>
-        ensures answer { let hashes = P.hashes leaf_parameters.now pair_parameters.now in
-            let given = P.InnerDigest.numbers root.now in
-            let reading = P.multi_path_reading bytes.now in
-            let verdict = received_multi_verdict hashes given size in
-            Answers (verdict indexes.now leaves.now reading) result }
+        ensures answer { Answers (received_multi_verdict
+            (P.hashes leaf_parameters.now pair_parameters.now) (P.InnerDigest.numbers root.now) size
+            indexes.now leaves.now (P.multi_path_reading bytes.now)) result }
 
         // Each leaf's digest stands at its index, as in `Path::verify_bytes`.
-        ensures bound { let hashes = P.hashes leaf_parameters.now pair_parameters.now in
-            let given = P.InnerDigest.numbers root.now in
-            let reading = P.multi_path_reading bytes.now in
-            IfOk result (λ accepted. accepted ≡ true
-            → ShowsLeaves hashes given size indexes.now leaves.now reading) }
+        ensures bound { IfOk result (λ accepted. accepted ≡ true
+            → ShowsLeaves (P.hashes leaf_parameters.now pair_parameters.now)
+            (P.InnerDigest.numbers root.now) size indexes.now leaves.now
+            (P.multi_path_reading bytes.now)) }
     {
         let proof = MultiPath::<P>::read_strict_at(alloc, bytes, size, indexes)?;
         proof.verify(alloc, leaf_parameters, pair_parameters, root, leaves.iter())

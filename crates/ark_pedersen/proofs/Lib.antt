@@ -5,3 +5,4 @@ pub mod Halves
 pub mod PedersenSums
 pub mod Shapes
 pub mod Windows
+pub mod Relations

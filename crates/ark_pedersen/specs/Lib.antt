@@ -1,3 +1,4 @@
 pub mod Laws
 pub mod Pedersen
 pub use Rattle.ark_base.specs.Outcome
+pub mod Binding

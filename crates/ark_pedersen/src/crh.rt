@@ -1,6 +1,6 @@
 //! The Pedersen hash of one input.
 
-ghost use Rattle.std.specs.Prelude.{◌≡◌, ℕ, List, Ok, IfOk, OnOk, IfErr};
+ghost use Rattle.std.specs.Prelude.{◌≡◌, ℕ, List, map, Ok, IfOk, OnOk, IfErr};
 ghost use Rattle.ark_pedersen.specs.Pedersen.{lists_in, generators_in, doublings, AreGeneratorsOf};
 ghost use Rattle.ark_pedersen.specs.Pedersen.{window_elements, AreDrawn};
 ghost use Rattle.ark_pedersen.specs.Pedersen.{pedersen_hash, windows_hash, seen_by};
@@ -49,14 +49,46 @@ impl<C: AdditiveGroup, W: Window> CRH<C, W> {
         ensures left { OnOk result (R.stream rng.new ≡ (C.draw (R.stream rng.old)).1) }
         ensures refused { IfErr result (λ error. error ≡ Error.OutOfMemory) }
     {
-        let mut list = Vec::with_capacity(alloc, count)?;
-        let mut power = C::rand(rng);
-        for _ in 0..count {
-            list.push(power)?;
-            power = power.double();
-        }
-        Ok(list)
+        let element = C::rand(rng);
+        doublings_of(alloc, count, element)
     }
+}
+
+/// Returns an element, then its doublings, `count` in all. The only error is `OutOfMemory`.
+pub fn doublings_of<C: AdditiveGroup>(
+    alloc: Global,
+    count: usize,
+    element: C,
+) -> Result<Vec<C>, Error>
+    ensures made { IfOk result (λ list. list.items ≡ doublings C.group count element) }
+    ensures refused { IfErr result (λ error. error ≡ Error.OutOfMemory) }
+{
+    let mut list = Vec::with_capacity(alloc, count)?;
+    let mut power = element;
+    for _ in 0..count {
+        list.push(power)?;
+        power = power.double();
+    }
+    Ok(list)
+}
+
+/// Returns parameters of the elements of the windows: of each, it and its doublings, as many as a window has bits.
+///
+/// The only error is `OutOfMemory`.
+pub fn parameters_of<C: AdditiveGroup>(
+    alloc: Global,
+    size: usize,
+    elements: &[C],
+) -> Result<Parameters<C>, Error>
+    ensures made { IfOk result (λ parameters.
+        generators_in parameters ≡ map (doublings C.group size) elements.now) }
+    ensures refused { IfErr result (λ error. error ≡ Error.OutOfMemory) }
+{
+    let mut generators = Vec::with_capacity(alloc, elements.len())?;
+    for element in elements {
+        generators.push(doublings_of(alloc, size, *element)?)?;
+    }
+    Ok(Parameters { generators })
 }
 
 impl<C: AdditiveGroup + DigestItem, W: Window> CRHScheme for CRH<C, W> {

@@ -10,7 +10,7 @@ use crate::{CRH, Parameters, TwoToOneCRH, Window, hash_bytes, hash_halves};
 use ark_base::error::Error;
 use ark_base::serialize::{CanonicalItem, DigestItem, Duplicate, canonical_bytes};
 use ark_crh::{CRHScheme, TwoToOneCRHScheme};
-use ark_groups::ec::{AdditiveGroup, TECoordinates};
+use ark_groups::ec::{AdditiveGroup, TECoordinates, ToldByX};
 use rand::Rng;
 use std::alloc::Global;
 use std::fmt::Debug;
@@ -219,3 +219,11 @@ where
         (of_halves W.Window (pedersen_hash C.group W.Window lists)
         (I.Output.bytes_of left) (I.Output.bytes_of right))) same };
 }
+
+/// States that two elements with one image under `TECompressor` are one, in a group whose elements their first
+/// coordinate tells. So a compressed hash binds as the hash does.
+pub fn images_tell_elements<C: AdditiveGroup + ToldByX>()
+    ensures { (a b : C) → let image : C → List ℕ =
+        λ x. bytes_of_number (bytes_for C.BaseField.MODULUS_BIT_SIZE) (C.x x) in
+        image a ≡ image b → a ≡ b }
+{}

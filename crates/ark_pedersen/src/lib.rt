@@ -1,6 +1,7 @@
 //! Pedersen hashes: the sum of the generators at the set bits of an input, and maps of such sums.
 #![tactic(auto)]
 
+mod binding;
 mod bits;
 mod crh;
 pub mod injective_map;
@@ -9,9 +10,10 @@ mod sums;
 mod two_to_one;
 mod window;
 
+pub use binding::{relation_of, windows_fit};
 pub use bits::bytes_to_bits;
-pub use crh::CRH;
+pub use crh::{CRH, doublings_of, parameters_of};
 pub use parameters::Parameters;
 pub use sums::{has_shape, hash_bytes, hash_halves, sum_of_bytes};
 pub use two_to_one::TwoToOneCRH;
-pub use window::Window;
+pub use window::{Window, Windows4x64, Windows4x256, Windows63x9};

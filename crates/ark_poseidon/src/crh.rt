@@ -48,9 +48,9 @@ impl<F: Field + DigestItem, S: SBox<F>> CRHScheme for CRH<F, S> {
 
     /// Returns the element that a new sponge gives once it has absorbed the list. The only error is `OutOfMemory`.
     fn evaluate(alloc: Global, parameters: &PoseidonConfig<F>, input: &Vec<F>) -> Result<F, Error>
-        ensures { let numbers = map F.value input.now.items in
-            let digest = poseidon_digest F.MODULUS S.image parameters.now numbers in
-            AnswersBy (λ x. F.value x ∷ []) (Ok digest) result }
+        ensures { AnswersBy (λ x. F.value x ∷ [])
+            (Ok (poseidon_digest F.MODULUS S.image parameters.now (map F.value input.now.items)))
+            result }
     {
         digest::<F, S>(alloc, parameters, input)
     }

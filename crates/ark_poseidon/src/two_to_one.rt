@@ -45,9 +45,9 @@ fn hash_of_two<F: Field, S: SBox<F>>(
         let y = F.value right ∷ [] in
         let digest = digest_of_two F.MODULUS S.image parameters.now x y in
         AnswersBy (λ x. F.value x ∷ []) (Ok digest) result }
-    ensures as_list { let both = F.value left ∷ F.value right ∷ [] in
-        let digest = poseidon_digest F.MODULUS S.image parameters.now both in
-        AnswersBy (λ x. F.value x ∷ []) (Ok digest) result }
+    ensures as_list { AnswersBy
+        (λ x. F.value x ∷ []) (Ok (poseidon_digest F.MODULUS S.image parameters.now
+        (F.value left ∷ F.value right ∷ []))) result }
 {
     let both = list_of_two(alloc, left, right)?;
     digest::<F, S>(alloc, parameters, &both)
@@ -109,9 +109,9 @@ impl<F: Field + DigestItem, S: SBox<F>> TwoToOneCRHScheme for TwoToOneCRH<F, S> 
             AnswersBy (λ x. F.value x ∷ []) (Ok digest) result }
 
         // It is `CRH::evaluate` of the list of both.
-        ensures as_list { let both = F.value left.now ∷ F.value right.now ∷ [] in
-            let digest = poseidon_digest F.MODULUS S.image parameters.now both in
-            AnswersBy (λ x. F.value x ∷ []) (Ok digest) result }
+        ensures as_list { AnswersBy
+            (λ x. F.value x ∷ []) (Ok (poseidon_digest F.MODULUS S.image parameters.now
+            (F.value left.now ∷ F.value right.now ∷ []))) result }
     {
         hash_of_two::<F, S>(alloc, parameters, *left, *right)
     }

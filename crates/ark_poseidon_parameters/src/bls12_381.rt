@@ -19,9 +19,9 @@ pub fn bls12_381_fr(
     rate: usize,
 ) -> Result<Option<PoseidonConfig<Bls12_381Fr>>, Error>
     ensures rates { IfOk result (λ found. IsSome found ↔ ((2 ≤ rate) × (rate ≤ 8))) }
-    ensures ready { let rounds = bls12_381_fr_rounds rate in
-        let alpha = bls12_381_fr_alpha rate in
-        IfOk result (λ found. IfSome found (AreReady rate rounds alpha)) }
+    ensures ready { IfOk result
+        (λ found. IfSome found (AreReady rate (bls12_381_fr_rounds rate)
+        (bls12_381_fr_alpha rate))) }
     ensures refused { IfErr result (λ error. error ≡ Error.OutOfMemory) }
 {
     let found = match rate {

@@ -3,3 +3,4 @@ pub mod PedersenCommitments
 pub mod Pieces
 pub mod Texts
 pub mod WordSums
+pub mod GroupHashes

@@ -60,17 +60,17 @@ words_behind text bytes p j k rest width =
     ∙ (rw rest (get_or-drop p text (j + n) 0)) ∙ ap (slice_index text) at))
 
 -- one more of the blocks behind n
-pub state_after-behind : (first text bytes before words after : List ℕ) (n i p j k t : ℕ) → length text < 2 ^ 64
-    → bytes ≡ drop p text → p ≡ 64 * n → j ≡ 64 * i → k ≡ 64 * (i + 1)
-    → k < length bytes → t ≡ (p + k) % 2 ^ 64 → before ≡ state_after first (blocks text) (n + i)
-    → words ≡ words_from (slice_range bytes j k) 0 → after ≡ compression before words t false
-    → after ≡ state_after first (blocks text) (n + (i + 1))
-state_after-behind first text bytes before words after n i p j k t fits rest whole start end within count held read e =
-    let size : length bytes ≡ length text - p = ap length rest ∙ length-drop p text in
-    let at : p + j ≡ 64 * (n + i) = omega arith in
-    let next : n + i + 1 ≡ n + (i + 1) = omega arith in
-    rw (← next) (state_after-more first text (n + i) before words after t (omega arith)
-    held (read ∙ words_behind text bytes p j k rest (omega arith) ∙ ap (words_from text) at) (omega arith) e)
+module _ (first text bytes before words after : List ℕ) (n i p j k t : ℕ) where
+  pub state_after-behind : length text < 2 ^ 64 → bytes ≡ drop p text → p ≡ 64 * n → j ≡ 64 * i → k ≡ 64 * (i + 1)
+      → k < length bytes → t ≡ (p + k) % 2 ^ 64 → before ≡ state_after first (blocks text) (n + i)
+      → words ≡ words_from (slice_range bytes j k) 0 → after ≡ compression before words t false
+      → after ≡ state_after first (blocks text) (n + (i + 1))
+  state_after-behind fits rest whole start end within count held read e =
+      let size : length bytes ≡ length text - p = ap length rest ∙ length-drop p text in
+      let at : p + j ≡ 64 * (n + i) = omega arith in
+      let next : n + i + 1 ≡ n + (i + 1) = omega arith in
+      rw (← next) (state_after-more first text (n + i) before words after t (omega arith)
+      held (read ∙ words_behind text bytes p j k rest (omega arith) ∙ ap (words_from text) at) (omega arith) e)
 
 -- ---- the hasher of a text
 
@@ -111,52 +111,62 @@ last-grown : (text input : List ℕ) → drop (64 * last_block text) (text ++ in
 last-grown text input = drop-append-le (64 * last_block text) text input (omega arith)
 
 -- bytes for which the block has room
-pub hasher_of-append : (salt person text input : List ℕ) (s n : Hasher) (used j : ℕ)
-    → s ≡ hasher_of salt person text
-    → used ≡ length text - bytes_before_last (length text) → used + length input ≤ 64 → j ≡ length input
-    → length text + length input < 2 ^ 64
-    → n.state ≡ s.state → n.block ≡ written_over used j s.block input → n.len ≡ (s.len + length input) % 2 ^ 64
-    → n ≡ hasher_of salt person (text ++ input)
-hasher_of-append salt person text input s n used j held at room width fits state block count_kept =
-    let size = length-append text input in
-    let size_behind = length-last text in
-    let len : n.len ≡ length (text ++ input) = omega (arith, len_of salt person text s held) in
-    let count : last_block (text ++ input) ≡ last_block text = omega arith in
-    let put = full_block-put (last_bytes text) input s.block used j (block_of salt person text s held) (omega arith)
-    width (omega arith) in
-    hasher_by salt person (text ++ input) n
-    (rw count (state ∙ state_of salt person text s held
-    ∙ sym (state_after-append (first_state salt person) text input (last_block text) (omega arith))))
-    (rw (count, last-grown text input) (block ∙ put))
-    len
+module _ (salt person text input : List ℕ) (s n : Hasher) where
+  pub hasher_of-append : (used j : ℕ)
+      → s ≡ hasher_of salt person text
+      → used ≡ length text - bytes_before_last (length text)
+      → used + length input ≤ 64
+      → j ≡ length input
+      → length text + length input < 2 ^ 64
+      → n.state ≡ s.state
+      → n.block ≡ written_over used j s.block input
+      → n.len ≡ (s.len + length input) % 2 ^ 64
+      → n ≡ hasher_of salt person (text ++ input)
+  hasher_of-append used j held at room width fits state block count_kept =
+      let size = length-append text input in
+      let size_behind = length-last text in
+      let len : n.len ≡ length (text ++ input) = omega (arith, len_of salt person text s held) in
+      let count : last_block (text ++ input) ≡ last_block text = omega arith in
+      let put = full_block-put (last_bytes text) input s.block used j (block_of salt person text s held) (omega arith)
+      width (omega arith) in
+      hasher_by salt person (text ++ input) n
+      (rw count (state ∙ state_of salt person text s held
+      ∙ sym (state_after-append (first_state salt person) text input (last_block text) (omega arith))))
+      (rw (count, last-grown text input) (block ∙ put))
+      len
 
 -- a block that was begun is full, and a further byte follows
-pub state_after-filled : (salt person text input block words after : List ℕ) (s : Hasher) (used room j t : ℕ)
-    → s ≡ hasher_of salt person text
-    → used ≡ length text - bytes_before_last (length text) → used + room ≡ 64 → 0 < used → room < length input
-    → j ≡ room → length text + length input < 2 ^ 64
-    → block ≡ written_over used j s.block (take room input) → words ≡ words_from block 0 → t ≡ (s.len + room) % 2 ^ 64
-    → after ≡ compression s.state words t false
-    → after ≡ state_after (first_state salt person) (blocks (text ++ input)) ((length text + (64 - used) % 64) / 64)
-state_after-filled salt person text input block words after s used room j t held at full some more width fits put read
-    count e =
-    let i : ℕ = last_block text in
-    let behind : List ℕ = last_bytes text in
-    let size = length-append text input in
-    let size_behind = length-last text in
-    let size_front : length (take room input) ≡ room = length-take-le room input (omega arith) in
-    let ends : 64 ≡ length behind + room = omega arith in
-    let front : take 64 (behind ++ input) ≡ behind ++ take room input =
-    ap (λ (n : ℕ). take n (behind ++ input)) ends ∙ take-append-add behind input room in
-    let written : block ≡ full_block (behind ++ take room input) =
-    put ∙ full_block-put behind (take room input) s.block used j (block_of salt person text s held) (omega arith)
-    (omega arith) (omega arith) in
-    let of_text : words ≡ words_from (text ++ input) (64 * i) =
-    read ∙ words_of_full (text ++ input) block (64 * i) (rw (last-grown text input, front) written) in
-    let next : (length text + (64 - used) % 64) / 64 ≡ i + 1 = omega arith in
-    rw next (state_after-more (first_state salt person) (text ++ input) i s.state words after t (omega arith)
-    (state_of salt person text s held ∙ sym (state_after-append (first_state salt person) text input i (omega arith)))
-    of_text (omega (arith, len_of salt person text s held)) e)
+module _ (salt person text input block words after : List ℕ) (s : Hasher) (used room j t : ℕ) (held : s ≡ hasher_of
+    salt person text) where
+  pub state_after-filled : used ≡ length text - bytes_before_last (length text)
+      → used + room ≡ 64
+      → 0 < used
+      → room < length input
+      → j ≡ room
+      → length text + length input < 2 ^ 64
+      → block ≡ written_over used j s.block (take room input)
+      → words ≡ words_from block 0
+      → t ≡ (s.len + room) % 2 ^ 64
+      → after ≡ compression s.state words t false
+      → after ≡ state_after (first_state salt person) (blocks (text ++ input)) ((length text + (64 - used) % 64) / 64)
+  state_after-filled at full some more width fits put read count e =
+      let i : ℕ = last_block text in
+      let behind : List ℕ = last_bytes text in
+      let size = length-append text input in
+      let size_behind = length-last text in
+      let size_front : length (take room input) ≡ room = length-take-le room input (omega arith) in
+      let ends : 64 ≡ length behind + room = omega arith in
+      let front : take 64 (behind ++ input) ≡ behind ++ take room input =
+      ap (λ (n : ℕ). take n (behind ++ input)) ends ∙ take-append-add behind input room in
+      let written : block ≡ full_block (behind ++ take room input) =
+      put ∙ full_block-put behind (take room input) s.block used j (block_of salt person text s held) (omega arith)
+      (omega arith) (omega arith) in
+      let of_text : words ≡ words_from (text ++ input) (64 * i) =
+      read ∙ words_of_full (text ++ input) block (64 * i) (rw (last-grown text input, front) written) in
+      let next : (length text + (64 - used) % 64) / 64 ≡ i + 1 = omega arith in
+      rw next (state_after-more (first_state salt person) (text ++ input) i s.state words after t (omega arith)
+      (state_of salt person text s held ∙ sym (state_after-append (first_state salt person) text input i (omega arith)))
+      of_text (omega (arith, len_of salt person text s held)) e)
 
 -- a block that holds nothing
 pub state_after-unfilled : (salt person text input : List ℕ) (s : Hasher) (used : ℕ)

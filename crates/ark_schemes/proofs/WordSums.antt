@@ -73,12 +73,15 @@ module _ {G : Type 0} {g : Group G} (laws : IsCommutativeGroup g) (xs : List G) 
       ∙ ap (g.plus sum) (sym split)
 
   -- word by word
-  pub pedersen_sum-four : (a b c d : ℕ) (s s1 s2 s3 s4 : G) → a < 2 ^ 64 → b < 2 ^ 64 → c < 2 ^ 64
-      → s1 ≡ g.plus s (pedersen_sum g (drop 0 xs) (bits_of_number 64 a))
-      → s2 ≡ g.plus s1 (pedersen_sum g (drop 64 xs) (bits_of_number 64 b))
-      → s3 ≡ g.plus s2 (pedersen_sum g (drop 128 xs) (bits_of_number 64 c))
-      → s4 ≡ g.plus s3 (pedersen_sum g (drop 192 xs) (bits_of_number 64 d))
-      → s4 ≡ g.plus s (pedersen_sum g xs (bits_of_number 256 (four a b c d)))
-  pedersen_sum-four a b c d s s1 s2 s3 s4 a_fits b_fits c_fits e1 e2 e3 e4 =
-      joined 0 192 a _ s s1 s4 a_fits e1 (joined 64 128 b _ s1 s2 s4 b_fits e2 (joined 128 64 c d s2 s3 s4 c_fits e3
-      e4))
+  module _ (a b c d : ℕ) (s s1 s2 s3 s4 : G) where
+    pub pedersen_sum-four : a < 2 ^ 64
+        → b < 2 ^ 64
+        → c < 2 ^ 64
+        → s1 ≡ g.plus s (pedersen_sum g (drop 0 xs) (bits_of_number 64 a))
+        → s2 ≡ g.plus s1 (pedersen_sum g (drop 64 xs) (bits_of_number 64 b))
+        → s3 ≡ g.plus s2 (pedersen_sum g (drop 128 xs) (bits_of_number 64 c))
+        → s4 ≡ g.plus s3 (pedersen_sum g (drop 192 xs) (bits_of_number 64 d))
+        → s4 ≡ g.plus s (pedersen_sum g xs (bits_of_number 256 (four a b c d)))
+    pedersen_sum-four a_fits b_fits c_fits e1 e2 e3 e4 =
+        joined 0 192 a _ s s1 s4 a_fits e1 (joined 64 128 b _ s1 s2 s4 b_fits e2 (joined 128 64 c d s2 s3 s4 c_fits e3
+        e4))

@@ -1,24 +1,34 @@
-//! Digests as arrays.
+//! Hashes of arrays as hashes of trees.
 
-ghost use Rattle.std.specs.Prelude.{◌≡◌, ◌++◌, Ok, refl};
-ghost use Rattle.sha2.specs.Sha256.{sha256};
+ghost use Rattle.std.specs.Prelude.{◌≡◌, Ok, refl};
+ghost use Rattle.ark_trees.specs.Arrays.{array_hashes};
+ghost use Rattle.ark_trees.specs.Laws.Arrays.{arrays-decided};
 
 use ark_base::error::Error;
-use ark_crh::{CRHScheme, TwoToOneCRHScheme};
+use ark_crh::array_hash::{leaf_digests, node_digests};
+use ark_crh::{ArrayHash, CRHScheme, PlainSha256, TwoToOneCRHScheme};
+use ark_paths::hasher::TreeHasher;
 use ark_paths::{Config, IdentityDigestConverter};
 use rand::Rng;
-use sha2::{Digest, Sha256};
-use sha256_lanes::{four_messages, four_pairs};
 use std::alloc::Global;
+use std::marker::PhantomData;
 
-// Four digests.
-pub(crate) type Four = ([u8; 32], [u8; 32], [u8; 32], [u8; 32]);
+/// A hash of arrays as a configuration of trees, as both hashes of one, and as a hasher of trees and logs.
+///
+/// Leaves are byte strings, and digests are arrays. No digest asks for memory; what is hashed ahead asks once a run.
+#[derive(Debug, Clone, Copy)]
+pub struct Arrays<H> {
+    hash: PhantomData<H>,
+}
 
-/// Trees of byte strings whose digests are arrays: the digest of a leaf is its SHA-256, that of a pair the SHA-256 of left
-/// followed by right. No digest asks for memory.
-pub struct Sha256Arrays;
+impl<H> Arrays<H> {
+    /// Makes a hasher.
+    pub fn new() -> Arrays<H> {
+        Arrays { hash: PhantomData }
+    }
+}
 
-impl Config for Sha256Arrays {
+impl<H: ArrayHash> Config for Arrays<H> {
     type Leaf = Vec<u8>;
 
     type LeafDigest = [u8; 32];
@@ -27,22 +37,19 @@ impl Config for Sha256Arrays {
 
     type InnerDigest = [u8; 32];
 
-    type LeafHash = ArraySha256;
+    type LeafHash = Arrays<H>;
 
-    type TwoToOneHash = ArraySha256;
+    type TwoToOneHash = Arrays<H>;
 }
 
-/// SHA-256 of a byte string, and of two digests, as an array.
-pub struct ArraySha256;
-
-impl CRHScheme for ArraySha256 {
+impl<H: ArrayHash> CRHScheme for Arrays<H> {
     type Input = Vec<u8>;
 
     type Output = [u8; 32];
 
     type Parameters = ();
 
-    ghost meaning = { λ _ input. Ok (sha256 input.items) };
+    ghost meaning = { λ _ input. Ok (H.leaf_hash input.items) };
 
     ghost setup_outcome = { Ok };
 
@@ -54,21 +61,17 @@ impl CRHScheme for ArraySha256 {
 
     /// Returns the digest of the input. It allocates nothing.
     fn evaluate(_alloc: Global, _parameters: &(), input: &Vec<u8>) -> Result<[u8; 32], Error>
-        ensures exact { result ≡ Ok (sha256 input.now.items) }
+        ensures exact { result ≡ Ok (H.leaf_hash input.now.items) }
     {
-        Ok(Sha256::digest(input.as_slice()))
+        Ok(H::leaf(input))
     }
 
-    /// Hashes four inputs, together where their lengths allow it. It allocates nothing.
-    fn evaluate_four(
-        _alloc: Global,
+    fn evaluate_ahead(
+        alloc: Global,
         _parameters: &(),
-        a: &Vec<u8>,
-        b: &Vec<u8>,
-        c: &Vec<u8>,
-        d: &Vec<u8>,
-    ) -> Result<Four, Error> {
-        Ok(four_messages(a, b, c, d))
+        inputs: &[&Vec<u8>],
+    ) -> Result<Vec<[u8; 32]>, Error> {
+        leaf_digests::<H>(alloc, inputs)
     }
 
     ghost meaning_decided = { λ _ _. tt };
@@ -80,16 +83,16 @@ impl CRHScheme for ArraySha256 {
     ghost same_parameters = { λ p q same. refl };
 }
 
-impl TwoToOneCRHScheme for ArraySha256 {
+impl<H: ArrayHash> TwoToOneCRHScheme for Arrays<H> {
     type Input = [u8; 32];
 
     type Output = [u8; 32];
 
     type Parameters = ();
 
-    ghost evaluated = { λ _ left right. Ok (sha256 (left ++ right)) };
+    ghost evaluated = { λ _ left right. Ok (H.node_hash left right) };
 
-    ghost compressed = { λ _ left right. Ok (sha256 (left ++ right)) };
+    ghost compressed = { λ _ left right. Ok (H.node_hash left right) };
 
     ghost setup_outcome = { Ok };
 
@@ -99,62 +102,44 @@ impl TwoToOneCRHScheme for ArraySha256 {
         Ok(())
     }
 
-    /// Returns the digest of left followed by right. It allocates nothing.
+    /// Returns the digest of left and right. It allocates nothing.
     fn evaluate(
         _alloc: Global,
         _parameters: &(),
         left: &[u8; 32],
         right: &[u8; 32],
     ) -> Result<[u8; 32], Error>
-        ensures exact { result ≡ Ok (sha256 (left.now ++ right.now)) }
+        ensures exact { result ≡ Ok (H.node_hash left.now right.now) }
     {
-        Ok(digest_of_pair(left, right))
+        Ok(H::node(left, right))
     }
 
-    /// Returns the digest of left followed by right. It allocates nothing.
+    /// Returns the digest of left and right. It allocates nothing.
     fn compress(
-        alloc: Global,
-        parameters: &(),
+        _alloc: Global,
+        _parameters: &(),
         left: &[u8; 32],
         right: &[u8; 32],
     ) -> Result<[u8; 32], Error>
-        ensures exact { result ≡ Ok (sha256 (left.now ++ right.now)) }
+        ensures exact { result ≡ Ok (H.node_hash left.now right.now) }
     {
-        <ArraySha256 as TwoToOneCRHScheme>::evaluate(alloc, parameters, left, right)
+        Ok(H::node(left, right))
     }
 
-    /// Hashes four pairs together. It allocates nothing.
-    fn evaluate_four(
-        _alloc: Global,
-        _parameters: &(),
-        a: &[u8; 32],
-        a_right: &[u8; 32],
-        b: &[u8; 32],
-        b_right: &[u8; 32],
-        c: &[u8; 32],
-        c_right: &[u8; 32],
-        d: &[u8; 32],
-        d_right: &[u8; 32],
-    ) -> Result<Four, Error> {
-        Ok(four_pairs(a, a_right, b, b_right, c, c_right, d, d_right))
-    }
-
-    /// Hashes four pairs together. It allocates nothing.
-    fn compress_four(
+    fn evaluate_ahead(
         alloc: Global,
-        parameters: &(),
-        a: &[u8; 32],
-        a_right: &[u8; 32],
-        b: &[u8; 32],
-        b_right: &[u8; 32],
-        c: &[u8; 32],
-        c_right: &[u8; 32],
-        d: &[u8; 32],
-        d_right: &[u8; 32],
-    ) -> Result<Four, Error> {
-        <ArraySha256 as TwoToOneCRHScheme>::evaluate_four(
-            alloc, parameters, a, a_right, b, b_right, c, c_right, d, d_right,
-        )
+        _parameters: &(),
+        couples: &[(&[u8; 32], &[u8; 32])],
+    ) -> Result<Vec<[u8; 32]>, Error> {
+        node_digests::<H>(alloc, couples)
+    }
+
+    fn compress_ahead(
+        alloc: Global,
+        _parameters: &(),
+        couples: &[(&[u8; 32], &[u8; 32])],
+    ) -> Result<Vec<[u8; 32]>, Error> {
+        node_digests::<H>(alloc, couples)
     }
 
     ghost evaluated_decided = { λ _ _ _. tt };
@@ -170,12 +155,49 @@ impl TwoToOneCRHScheme for ArraySha256 {
     ghost compressed_same = { λ p q same. refl };
 }
 
-// The digest of left followed by right.
-fn digest_of_pair(left: &[u8; 32], right: &[u8; 32]) -> [u8; 32]
-    ensures { result ≡ sha256 (left.now ++ right.now) }
-{
-    let mut hasher = Sha256::new();
-    hasher.update(left.as_slice());
-    hasher.update(right.as_slice());
-    hasher.finalize()
+impl<H: ArrayHash> TreeHasher<[u8; 32], [u8; 32]> for Arrays<H> {
+    type Leaf = Vec<u8>;
+
+    ghost hashes = { λ _. array_hashes H.leaf_hash H.node_hash };
+
+    fn leaf(&self, _alloc: Global, leaf: &Vec<u8>) -> Result<[u8; 32], Error> {
+        Ok(H::leaf(leaf))
+    }
+
+    fn bottom(&self, _alloc: Global, left: &[u8; 32], right: &[u8; 32]) -> Result<[u8; 32], Error> {
+        Ok(H::node(left, right))
+    }
+
+    fn upper(&self, _alloc: Global, left: &[u8; 32], right: &[u8; 32]) -> Result<[u8; 32], Error> {
+        Ok(H::node(left, right))
+    }
+
+    fn leaf_ahead(&self, alloc: Global, leaves: &[&Vec<u8>]) -> Result<Vec<[u8; 32]>, Error> {
+        leaf_digests::<H>(alloc, leaves)
+    }
+
+    fn bottom_ahead(
+        &self,
+        alloc: Global,
+        couples: &[(&[u8; 32], &[u8; 32])],
+    ) -> Result<Vec<[u8; 32]>, Error> {
+        node_digests::<H>(alloc, couples)
+    }
+
+    fn upper_ahead(
+        &self,
+        alloc: Global,
+        couples: &[(&[u8; 32], &[u8; 32])],
+    ) -> Result<Vec<[u8; 32]>, Error> {
+        node_digests::<H>(alloc, couples)
+    }
+
+    ghost decided = { λ _. arrays-decided H.leaf_hash H.node_hash };
 }
+
+/// SHA-256 of a byte string, and of two digests, as an array.
+pub type ArraySha256 = Arrays<PlainSha256>;
+
+/// Trees of byte strings whose digests are arrays: the digest of a leaf is its SHA-256, that of a pair the SHA-256 of left
+/// followed by right. No digest asks for memory.
+pub type Sha256Arrays = Arrays<PlainSha256>;

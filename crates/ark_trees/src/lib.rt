@@ -7,6 +7,6 @@ mod rfc6962;
 mod strings;
 pub mod toy;
 
-pub use arrays::{ArraySha256, Sha256Arrays};
-pub use rfc6962::{LogHasher, LogSha256, Sha256Log, digest_of_entry, digests_of_entries};
+pub use arrays::{ArraySha256, Arrays, Sha256Arrays};
+pub use rfc6962::{LogHasher, LogSha256, Sha256Log, digest_of_entry};
 pub use strings::Sha256Strings;

@@ -1,4 +1,4 @@
-//! Digests as byte strings, as the crate `ark_crh` has them.
+//! Trees whose digests are byte strings.
 
 use ark_crh::sha256::Sha256;
 use ark_paths::{Config, IdentityDigestConverter};

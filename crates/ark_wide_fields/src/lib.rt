@@ -1,14 +1,17 @@
 //! Fields of four words: the numbers below a modulus of 193 to 255 bits, kept for Montgomery's reduction.
 //!
-//! That a modulus is prime is used nowhere. A modulus of 256 bits, as secp256k1's, is not served: sums of two numbers below it
-//! take a fifth word.
+//! Only `InvertibleField` asks that a modulus is prime, for inverses and square roots. A modulus of 256 bits, as
+//! secp256k1's, is not served: sums of two numbers below it take a fifth word.
 #![tactic(auto)]
 
 mod absorb;
+mod certified;
 mod fp256;
 mod moduli;
 mod modulus;
 mod montgomery;
+mod powers;
+mod prime;
 mod words;
 
 pub use fp256::Fp256;
@@ -17,3 +20,6 @@ pub use moduli::{
     VestaFpModulus,
 };
 pub use modulus::WideModulus;
+pub use powers::{is_zero, power, squared};
+pub use prime::{InvertibleField, inverse, quotient, square_root};
+pub use words::{ZERO, is_below, is_nothing, is_odd, low_bits, plus, words_of};

@@ -3,6 +3,7 @@
 use crate::growing_log::{Client, head_of};
 use crate::store::Follower;
 use crate::transcript::challenge_after;
+use crate::wide_hash::hash_of_two;
 use crate::{log, reveal};
 use ark_crypto_primitives::ff::{Bls12_381Fr, Field};
 use ark_crypto_primitives::log::{Log, LogHasher};
@@ -137,6 +138,19 @@ fn bids_are_revealed(rt: HostRuntime) {
     for (bid, nonce, wanted) in [(42u8, 7u8, true), (43, 7, false), (42, 8, false)] {
         assert_eq!(rt; opened(rt.alloc(), bid, nonce), Ok(wanted), "{bid} {nonce}");
     }
+}
+
+// The hash of one and two, as it is shown.
+fn shown_hash(alloc: Global) -> Result<String, Error> {
+    let hash = hash_of_two(alloc, Bls12_381Fr::from_u64(1), Bls12_381Fr::from_u64(2))?;
+    Ok(format!(in alloc; "{hash:?}")?)
+}
+
+#[test]
+fn elements_of_four_words_are_hashed(rt: HostRuntime) {
+    let shown = shown_hash(rt.alloc()).expect(&rt, "memory");
+    let wanted = "Some(0x2160e2fac5c882727db2fee33326374bce021983de1c160ae7a3d8ef49c094de)";
+    assert!(rt; shown.as_str() == wanted);
 }
 
 // SHA-256 of no bytes: the root of no entries (RFC 6962, section 2.1).

@@ -26,29 +26,30 @@ pos : 0 < p
 pos = some_modulus p has_inverses
 
 -- numerators and denominators, all times a common factor, give the sum
-pub joined_stands : (r : Extended) (E F G H z : ℕ) (s t : Coordinates) → IsOnJubjub s → IsOnJubjub t → (z % p ≡ 0 → ⊥)
-    → value r.x ≡ E * F % p → value r.y ≡ G * H % p → value r.z ≡ F * G % p → value r.t ≡ E * H % p
-    → E % p ≡ (sum p d s t).x * (above s t * z) % p → H % p ≡ (sum p d s t).y * (below s t * z) % p
-    → G % p ≡ above s t * z % p → F % p ≡ below s t * z % p → Stands r (sum p d s t)
-joined_stands r E F G H z s t on_s on_t some rx ry rz rt hE hH hG hF =
-    let u : ℕ = (sum p d s t).x in
-    let v : ℕ = (sum p d s t).y in
-    let some_g : G % p ≡ 0 → ⊥ =
-    λ e. product_some p has_inverses (above s t) z (above_some p d has_inverses complete s t on_s on_t) some (sym hG
-    ∙ e) in
-    let some_f : F % p ≡ 0 → ⊥ =
-    λ e. product_some p has_inverses (below s t) z (below_some p d has_inverses complete s t on_s on_t) some (sym hF
-    ∙ e) in
-    let times : (w : ℕ) → w * (F * G) % p ≡ w * value r.z % p =
-    λ w. ap (λ n. n % p) (mul_comm w (F * G)) ∙ sym (mul-mod_first (F * G) w p) ∙ ap (λ n. n * w % p) (sym rz)
-    ∙ ap (λ n. n % p) (mul_comm (value r.z) w) in
-    record {
-      some = λ e. product_some p has_inverses F G some_f some_g (sym (reduced p (value r.z) (F * G) rz) ∙ e);
-      first = reduced p (value r.x) (E * F) rx ∙ joined_first p E G F u (above s t * z) pos hE hG ∙ times u;
-      second = reduced p (value r.y) (G * H) ry ∙ joined_second p H F G v (below s t * z) pos hH hF ∙ times v;
-      both = reduced p (value r.t) (E * H) rt
-          ∙ joined_both p E H F G u v (above s t * z) (below s t * z) pos hE hH hF hG ∙ times (u * v);
-    }
+module _ (r : Extended) (E F G H z : ℕ) (s t : Coordinates) (on_s : IsOnJubjub s) where
+  pub joined_stands : IsOnJubjub t → (z % p ≡ 0 → ⊥) → value r.x ≡ E * F % p → value r.y ≡ G * H % p
+      → value r.z ≡ F * G % p → value r.t ≡ E * H % p → E % p ≡ (sum p d s t).x * (above s t * z) % p
+      → H % p ≡ (sum p d s t).y * (below s t * z) % p → G % p ≡ above s t * z % p → F % p ≡ below s t * z % p
+      → Stands r (sum p d s t)
+  joined_stands on_t some rx ry rz rt hE hH hG hF =
+      let u : ℕ = (sum p d s t).x in
+      let v : ℕ = (sum p d s t).y in
+      let some_g : G % p ≡ 0 → ⊥ =
+      λ e. product_some p has_inverses (above s t) z (above_some p d has_inverses complete s t on_s on_t) some (sym hG
+      ∙ e) in
+      let some_f : F % p ≡ 0 → ⊥ =
+      λ e. product_some p has_inverses (below s t) z (below_some p d has_inverses complete s t on_s on_t) some (sym hF
+      ∙ e) in
+      let times : (w : ℕ) → w * (F * G) % p ≡ w * value r.z % p =
+      λ w. ap (λ n. n % p) (mul_comm w (F * G)) ∙ sym (mul-mod_first (F * G) w p) ∙ ap (λ n. n * w % p) (sym rz)
+      ∙ ap (λ n. n % p) (mul_comm (value r.z) w) in
+      record {
+        some = λ e. product_some p has_inverses F G some_f some_g (sym (reduced p (value r.z) (F * G) rz) ∙ e);
+        first = reduced p (value r.x) (E * F) rx ∙ joined_first p E G F u (above s t * z) pos hE hG ∙ times u;
+        second = reduced p (value r.y) (G * H) ry ∙ joined_second p H F G v (below s t * z) pos hH hF ∙ times v;
+        both = reduced p (value r.t) (E * H) rt
+            ∙ joined_both p E H F G u v (above s t * z) (below s t * z) pos hE hH hF hG ∙ times (u * v);
+      }
 
 -- numbers X, Y, Z and T stand for the point with x = X / Z, y = Y / Z and x y = T / Z
 pub record StandFor (X Y Z T : ℕ) (a : Coordinates) : Type 0 where
@@ -61,23 +62,23 @@ single : (a : ℕ) → a ≡ a * 1
 single a = omega arith
 
 -- the sum of two points
-sum_stands : (r : Extended) (X Y Z T X' Y' Z' T' E F G H crossed scale : ℕ) → scale % p ≡ Z * Z' % p → crossed < p
-    → crossed % p ≡ d * T * T' % p → E % p ≡ (X * Y' + Y * X') % p → F ≡ (scale + (p - crossed)) % p
-    → G ≡ (scale + crossed) % p → H % p ≡ (Y * Y' + X * X') % p → value r.x ≡ E * F % p → value r.y ≡ G * H % p
-    → value r.z ≡ F * G % p → value r.t ≡ E * H % p → (s t : Coordinates) → IsOnJubjub s → IsOnJubjub t
-    → StandFor X Y Z T s → StandFor X' Y' Z' T' t → Stands r (sum p d s t)
-sum_stands r X Y Z T X' Y' Z' T' E F G H crossed scale scale_mod small crossed_mod e_mod is_f is_g h_mod rx ry rz rt s t
-    on_s on_t of_a of_b =
-    joined_stands r E F G H (Z * Z') s t on_s on_t (product_some p has_inverses Z Z' of_a.some of_b.some) rx ry rz rt
-    (e_mod ∙ first_numerator p X Y X' Y' Z Z' (sum p d s t).x (above s t) s.x s.y t.x t.y pos of_a.first of_a.second
-    of_b.first of_b.second (x_of p d has_inverses complete s t on_s on_t))
-    (h_mod ∙ second_numerator p X Y X' Y' Z Z' (sum p d s t).y (below s t) s.x s.y t.x t.y pos of_a.first of_a.second
-    of_b.first of_b.second (y_of p d has_inverses complete s t on_s on_t))
-    (reduced p G (scale + crossed) is_g ∙ sums p scale (Z * Z') crossed (d * T * T') scale_mod crossed_mod
-    ∙ first_denominator p T T' Z Z' s.x s.y t.x t.y d pos of_a.both of_b.both)
-    (second_denominator p F (below s t) T T' Z Z' s.x s.y t.x t.y d pos
-    (sums p F F (d * T * T') crossed refl (sym crossed_mod) ∙ ap (λ n. (n + crossed) % p) is_f
-    ∙ taken_back p scale crossed small ∙ scale_mod) of_a.both of_b.both (less p (cross d s t) pos))
+module _ (r : Extended) (X Y Z T X' Y' Z' T' E F G H crossed scale : ℕ) (scale_mod : scale % p ≡ Z * Z' % p) (small :
+    crossed < p) (crossed_mod : crossed % p ≡ d * T * T' % p) (e_mod : E % p ≡ (X * Y' + Y * X') % p) (is_f : F ≡
+    (scale + (p - crossed)) % p) (is_g : G ≡ (scale + crossed) % p) (h_mod : H % p ≡ (Y * Y' + X * X') % p) where
+  sum_stands : value r.x ≡ E * F % p → value r.y ≡ G * H % p → value r.z ≡ F * G % p → value r.t ≡ E * H % p
+      → (s t : Coordinates) → IsOnJubjub s → IsOnJubjub t → StandFor X Y Z T s → StandFor X' Y' Z' T' t
+      → Stands r (sum p d s t)
+  sum_stands rx ry rz rt s t on_s on_t of_a of_b =
+      joined_stands r E F G H (Z * Z') s t on_s on_t (product_some p has_inverses Z Z' of_a.some of_b.some) rx ry rz rt
+      (e_mod ∙ first_numerator p X Y X' Y' Z Z' (sum p d s t).x (above s t) s.x s.y t.x t.y pos of_a.first of_a.second
+      of_b.first of_b.second (x_of p d has_inverses complete s t on_s on_t))
+      (h_mod ∙ second_numerator p X Y X' Y' Z Z' (sum p d s t).y (below s t) s.x s.y t.x t.y pos of_a.first of_a.second
+      of_b.first of_b.second (y_of p d has_inverses complete s t on_s on_t))
+      (reduced p G (scale + crossed) is_g ∙ sums p scale (Z * Z') crossed (d * T * T') scale_mod crossed_mod
+      ∙ first_denominator p T T' Z Z' s.x s.y t.x t.y d pos of_a.both of_b.both)
+      (second_denominator p F (below s t) T T' Z Z' s.x s.y t.x t.y d pos
+      (sums p F F (d * T * T') crossed refl (sym crossed_mod) ∙ ap (λ n. (n + crossed) % p) is_f
+      ∙ taken_back p scale crossed small ∙ scale_mod) of_a.both of_b.both (less p (cross d s t) pos))
 
 twice_mod : (m a b c : ℕ) → a % m ≡ b * c % m → 2 * a % m ≡ b * (2 * c) % m
 twice_mod m a b c e =
@@ -109,28 +110,27 @@ crossed_mod m k a b c n is_k is_n =
     turn c a b = omega arith
 
 -- the sum of a point by four coordinates and of one by numbers, all doubled
-pub plus_stands : (r a : Extended) (X Y Z T k E F G H crossed scale : ℕ) → k ≡ 2 * d % p
-    → scale % p ≡ 2 * value a.z * Z % p → crossed ≡ k * value a.t % p * T % p
-    → E ≡ 2 * (value a.x * Y + value a.y * X) % p → F ≡ (scale + (p - crossed)) % p → G ≡ (scale + crossed) % p
-    → H ≡ 2 * (value a.y * Y + value a.x * X) % p → value r.x ≡ E * F % p → value r.y ≡ G * H % p
-    → value r.z ≡ F * G % p → value r.t ≡ E * H % p → (s t : Coordinates) → IsOnJubjub s → IsOnJubjub t → Stands a s
-    → StandFor X Y Z T t → Stands r (sum p d s t)
-plus_stands r a X Y Z T k E F G H crossed scale is_k scale_mod is_crossed is_e is_f is_g is_h rx ry rz rt s t on_s on_t
-    of_a of_b =
-    let x = value a.x in
-    let y = value a.y in
-    sum_stands r (2 * x) (2 * y) (2 * value a.z) (2 * value a.t) X Y Z T E F G H crossed scale scale_mod
-    (below_p crossed (k * value a.t % p * T) is_crossed)
-    (crossed_mod p k (value a.t) T d crossed is_k is_crossed)
-    (reduced p E (2 * (x * Y + y * X)) is_e ∙ ap (λ n. n % p) (spread x Y y X)) is_f is_g
-    (reduced p H (2 * (y * Y + x * X)) is_h ∙ ap (λ n. n % p) (spread y Y x X)) rx ry rz rt s t on_s on_t
-    (twice_all a s of_a) of_b
-  where
-    below_p : (n a : ℕ) → n ≡ a % p → n < p
-    below_p n a e = let l : a % p < p = mod-lt a pos in omega (arith, e, l)
+module _ (r a : Extended) (X Y Z T k E F G H crossed scale : ℕ) (is_k : k ≡ 2 * d % p) (scale_mod : scale % p ≡ 2 *
+    value a.z * Z % p) (is_crossed : crossed ≡ k * value a.t % p * T % p) (is_e : E ≡ 2 * (value a.x * Y + value a.y *
+    X) % p) (is_f : F ≡ (scale + (p - crossed)) % p) (is_g : G ≡ (scale + crossed) % p) (is_h : H ≡ 2 * (value a.y * Y
+    + value a.x * X) % p) where
+  pub plus_stands : value r.x ≡ E * F % p → value r.y ≡ G * H % p → value r.z ≡ F * G % p → value r.t ≡ E * H % p
+      → (s t : Coordinates) → IsOnJubjub s → IsOnJubjub t → Stands a s → StandFor X Y Z T t → Stands r (sum p d s t)
+  plus_stands rx ry rz rt s t on_s on_t of_a of_b =
+      let x = value a.x in
+      let y = value a.y in
+      sum_stands r (2 * x) (2 * y) (2 * value a.z) (2 * value a.t) X Y Z T E F G H crossed scale scale_mod
+      (below_p crossed (k * value a.t % p * T) is_crossed)
+      (crossed_mod p k (value a.t) T d crossed is_k is_crossed)
+      (reduced p E (2 * (x * Y + y * X)) is_e ∙ ap (λ n. n % p) (spread x Y y X)) is_f is_g
+      (reduced p H (2 * (y * Y + x * X)) is_h ∙ ap (λ n. n % p) (spread y Y x X)) rx ry rz rt s t on_s on_t
+      (twice_all a s of_a) of_b
+    where
+      below_p : (n a : ℕ) → n ≡ a % p → n < p
+      below_p n a e = let l : a % p < p = mod-lt a pos in omega (arith, e, l)
 
-    spread : (a b c e : ℕ) → 2 * (a * b + c * e) ≡ 2 * a * b + 2 * c * e
-    spread a b c e = omega arith
+      spread : (a b c e : ℕ) → 2 * (a * b + c * e) ≡ 2 * a * b + 2 * c * e
+      spread a b c e = omega arith
 
 -- the product of the third coordinates, doubled
 pub scale_is : (m a b n scale : ℕ) → n ≡ a * b % m → scale ≡ 2 * n % m → scale % m ≡ 2 * a * b % m
@@ -154,41 +154,42 @@ point_stands x y product is_product = record {
 }
 
 -- the double of a point
-pub double_stands : (r a : Extended) (E F G H x y z zz : ℕ) → x ≡ value a.x * value a.x % p
-    → y ≡ value a.y * value a.y % p → z ≡ value a.z * value a.z % p → zz ≡ 2 * z % p
-    → E ≡ 2 * (value a.x * value a.y % p) % p → F ≡ (zz + (p - G)) % p → G ≡ (y + (p - x)) % p → H ≡ (y + x) % p
-    → value r.x ≡ E * F % p → value r.y ≡ G * H % p → value r.z ≡ F * G % p → value r.t ≡ E * H % p
-    → (s : Coordinates) → IsOnJubjub s → Stands a s → Stands r (sum p d s s)
-double_stands r a E F G H x y z zz is_x is_y is_z is_zz is_e is_f is_g is_h rx ry rz rt s on of_a =
-    let X : ℕ = value a.x in
-    let Y : ℕ = value a.y in
-    let Z : ℕ = value a.z in
-    let x_mod : x % p ≡ X * X % p = reduced p x (X * X) is_x in
-    let y_mod : y % p ≡ Y * Y % p = reduced p y (Y * Y) is_y in
-    let z_mod : zz % p ≡ 2 * (Z * Z) % p =
-    reduced p zz (2 * z) is_zz ∙ ap (λ n. n % p) (mul_comm 2 z) ∙ multiples p z (Z * Z) 2 (reduced p z (Z * Z) is_z)
-    ∙ ap (λ n. n % p) (mul_comm (Z * Z) 2) in
-    let e_mod : E % p ≡ (X * Y + Y * X) % p =
-    reduced p E (2 * (X * Y % p)) is_e ∙ ap (λ n. n % p) (mul_comm 2 (X * Y % p)) ∙ mul-mod_first (X * Y) 2 p
-    ∙ ap (λ n. n % p) (twice X Y) in
-    let g_mod : G % p ≡ above s s * (Z * Z) % p =
-    double_denominator p G X Y Z s.x s.y d pos
-    (sums p G G (X * X) x refl (sym x_mod) ∙ ap (λ n. (n + x) % p) is_g ∙ taken_back p y x (below_p x (X * X) is_x)
-    ∙ y_mod)
-    of_a.first of_a.second on.equation in
-    joined_stands r E F G H (Z * Z) s s on on (product_some p has_inverses Z Z of_a.some of_a.some) rx ry rz rt
-    (e_mod ∙ first_numerator p X Y X Y Z Z (sum p d s s).x (above s s) s.x s.y s.x s.y pos of_a.first of_a.second
-    of_a.first of_a.second (x_of p d has_inverses complete s s on on))
-    (reduced p H (y + x) is_h ∙ sums p y (Y * Y) x (X * X) y_mod x_mod
-    ∙ second_numerator p X Y X Y Z Z (sum p d s s).y (below s s) s.x s.y s.x s.y pos of_a.first of_a.second of_a.first
-    of_a.second (y_of p d has_inverses complete s s on on))
-    g_mod
-    (double_other p F G (below s s) Z s.x s.y d pos
-    (ap (λ n. (n + G) % p) is_f ∙ taken_back p zz G (below_p G (y + (p - x)) is_g) ∙ z_mod) g_mod
-    (less p (cross d s s) pos))
-  where
-    below_p : (n a : ℕ) → n ≡ a % p → n < p
-    below_p n a e = let l : a % p < p = mod-lt a pos in omega (arith, e, l)
+module _ (r a : Extended) (E F G H x y z zz : ℕ) (is_x : x ≡ value a.x * value a.x % p) (is_y : y ≡ value a.y * value
+    a.y % p) (is_z : z ≡ value a.z * value a.z % p) (is_zz : zz ≡ 2 * z % p) (is_e : E ≡ 2 * (value a.x * value a.y %
+    p) % p) where
+  pub double_stands : F ≡ (zz + (p - G)) % p → G ≡ (y + (p - x)) % p → H ≡ (y + x) % p → value r.x ≡ E * F % p
+      → value r.y ≡ G * H % p → value r.z ≡ F * G % p → value r.t ≡ E * H % p → (s : Coordinates) → IsOnJubjub s
+      → Stands a s → Stands r (sum p d s s)
+  double_stands is_f is_g is_h rx ry rz rt s on of_a =
+      let X : ℕ = value a.x in
+      let Y : ℕ = value a.y in
+      let Z : ℕ = value a.z in
+      let x_mod : x % p ≡ X * X % p = reduced p x (X * X) is_x in
+      let y_mod : y % p ≡ Y * Y % p = reduced p y (Y * Y) is_y in
+      let z_mod : zz % p ≡ 2 * (Z * Z) % p =
+      reduced p zz (2 * z) is_zz ∙ ap (λ n. n % p) (mul_comm 2 z) ∙ multiples p z (Z * Z) 2 (reduced p z (Z * Z) is_z)
+      ∙ ap (λ n. n % p) (mul_comm (Z * Z) 2) in
+      let e_mod : E % p ≡ (X * Y + Y * X) % p =
+      reduced p E (2 * (X * Y % p)) is_e ∙ ap (λ n. n % p) (mul_comm 2 (X * Y % p)) ∙ mul-mod_first (X * Y) 2 p
+      ∙ ap (λ n. n % p) (twice X Y) in
+      let g_mod : G % p ≡ above s s * (Z * Z) % p =
+      double_denominator p G X Y Z s.x s.y d pos
+      (sums p G G (X * X) x refl (sym x_mod) ∙ ap (λ n. (n + x) % p) is_g ∙ taken_back p y x (below_p x (X * X) is_x)
+      ∙ y_mod)
+      of_a.first of_a.second on.equation in
+      joined_stands r E F G H (Z * Z) s s on on (product_some p has_inverses Z Z of_a.some of_a.some) rx ry rz rt
+      (e_mod ∙ first_numerator p X Y X Y Z Z (sum p d s s).x (above s s) s.x s.y s.x s.y pos of_a.first of_a.second
+      of_a.first of_a.second (x_of p d has_inverses complete s s on on))
+      (reduced p H (y + x) is_h ∙ sums p y (Y * Y) x (X * X) y_mod x_mod
+      ∙ second_numerator p X Y X Y Z Z (sum p d s s).y (below s s) s.x s.y s.x s.y pos of_a.first of_a.second of_a.first
+      of_a.second (y_of p d has_inverses complete s s on on))
+      g_mod
+      (double_other p F G (below s s) Z s.x s.y d pos
+      (ap (λ n. (n + G) % p) is_f ∙ taken_back p zz G (below_p G (y + (p - x)) is_g) ∙ z_mod) g_mod
+      (less p (cross d s s) pos))
+    where
+      below_p : (n a : ℕ) → n ≡ a % p → n < p
+      below_p n a e = let l : a % p < p = mod-lt a pos in omega (arith, e, l)
 
-    twice : (x y : ℕ) → x * y * 2 ≡ x * y + y * x
-    twice x y = omega arith
+      twice : (x y : ℕ) → x * y * 2 ≡ x * y + y * x
+      twice x y = omega arith

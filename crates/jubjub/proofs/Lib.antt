@@ -1,12 +1,13 @@
 pub mod CrossedProducts
 pub mod ExtendedFacts
 pub mod ExtendedLaws
-pub mod PowerSteps
 pub mod GroupLaws
 pub mod Digits
 pub mod Bits
 pub mod PointTests
-pub mod OrderPrime
 pub mod Spelled
 pub mod ItemBytes
 pub mod Totals
+pub mod Decoded
+pub mod Drawn
+pub mod CompressedFacts

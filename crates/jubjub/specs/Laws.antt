@@ -16,3 +16,7 @@ pub mod Ladder
 pub mod Spelling
 pub mod Extended
 pub mod Digests
+pub mod OrderPrime
+pub mod FirstCoordinates
+pub mod SameFirst
+pub mod PrimeOrder

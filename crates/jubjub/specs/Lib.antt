@@ -5,6 +5,8 @@ pub mod Extended
 pub mod Elements
 pub mod Spelling
 pub mod Sums
+pub mod Compressed
+pub mod Decoding
 pub mod Draws
 pub mod Theorems
 pub mod Laws

@@ -38,3 +38,7 @@ HasOrder = (x : Jubjub) → times jubjub order x ≡ jubjub.identity
 -- an element that is zero when it is added n times is zero, or the order divides n
 abbrev pub HasPrimeOrder : Type 0
 HasPrimeOrder = (n : ℕ) (x : Jubjub) → times jubjub n x ≡ jubjub.identity → (n % order ≡ 0 → ⊥) → x ≡ jubjub.identity
+
+-- the first coordinate of an element tells it
+abbrev pub FirstCoordinatesTell : Type 0
+FirstCoordinatesTell = (a b : Jubjub) → (coordinates a).x ≡ (coordinates b).x → a ≡ b

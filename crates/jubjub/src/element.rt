@@ -13,7 +13,10 @@ use crate::multiple::{is_on_curve, multiple, order_of_subgroup};
 use ark_groups::ff::{Field, Words};
 use ark_wide_fields::Bls12_381Fr;
 
+mod absorb;
 mod digest;
+mod found;
+mod from_digest;
 mod item;
 mod sums;
 

@@ -8,6 +8,8 @@ mod commitment;
 #[cfg(test)]
 mod elgamal;
 #[cfg(test)]
+mod from_label;
+#[cfg(test)]
 mod pedersen;
 #[cfg(test)]
 mod samples;

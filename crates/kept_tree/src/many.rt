@@ -6,14 +6,14 @@ ghost use Rattle.ark_paths.specs.Index.{log2};
 ghost use Rattle.kept_tree.specs.KeptTree.{LevelHashed, Rehashes, RehashesAbove, is_tree_length, leaf_count};
 
 use crate::build::hash_at;
-use crate::hash::PairHash;
+use ark_crh::ArrayHash;
 use ark_paths::index::levels_between;
 
 // Writes the hash of the two digests below a place to that place, unless it is the one before.
-fn hash_next<H: PairHash>(memory: &mut [[u8; 32]], place: usize, before: usize)
+fn hash_next<H: ArrayHash>(memory: &mut [[u8; 32]], place: usize, before: usize)
     requires { 2 * place + 2 < length memory.old }
     ensures same { place ≡ before → memory.new ≡ memory.old }
-    ensures other { place ≢ before → Rehashes H.node place 1 memory.old memory.new }
+    ensures other { place ≢ before → Rehashes H.node_hash place 1 memory.old memory.new }
 {
     if place != before {
         hash_at::<H>(memory, place);
@@ -21,12 +21,12 @@ fn hash_next<H: PairHash>(memory: &mut [[u8; 32]], place: usize, before: usize)
 }
 
 // Writes the hashes on one level above the leaves of some indexes. What two neighbours in the list share is hashed once.
-fn hash_level<H: PairHash>(memory: &mut [[u8; 32]], indexes: &[usize], level: usize)
+fn hash_level<H: ArrayHash>(memory: &mut [[u8; 32]], indexes: &[usize], level: usize)
     requires size { is_tree_length (length memory.old) ≡ true }
     requires indexes { All (λ index. index < leaf_count (length memory.old)) indexes.now }
     requires low { 0 < level }
     requires high { level ≤ log2 (leaf_count (length memory.old)) }
-    ensures { LevelHashed H.node memory.old memory.new level indexes.now }
+    ensures { LevelHashed H.node_hash memory.old memory.new level indexes.now }
 {
     let size = memory.len() / 2 + 1;
     let mut last = memory.len();
@@ -39,10 +39,10 @@ fn hash_level<H: PairHash>(memory: &mut [[u8; 32]], indexes: &[usize], level: us
 
 /// Writes the hashes above the leaf digests of some indexes, from the lowest level up. Where the indexes rise, each place
 /// is hashed once.
-pub fn rehash_above<H: PairHash>(memory: &mut [[u8; 32]], indexes: &[usize])
+pub fn rehash_above<H: ArrayHash>(memory: &mut [[u8; 32]], indexes: &[usize])
     requires size { is_tree_length (length memory.old) ≡ true }
     requires indexes { All (λ index. index < leaf_count (length memory.old)) indexes.now }
-    ensures { RehashesAbove H.node memory.old memory.new indexes.now }
+    ensures { RehashesAbove H.node_hash memory.old memory.new indexes.now }
 {
     let levels = levels_between(memory.len() / 2 + 1) + 1;
     'levels: for level in 0..levels {

@@ -329,29 +329,36 @@ module _ {D E : Type 0} (same : (x y : D) → (x ≡ y) ⊎ (x ≢ y)) (hash : D
   same_root zero root old_xs xs long low old_tree tree = absurd (omega arith)
 
   -- from the digest that both trees have
-  shared-agrees : (k i s : ℕ) (old : D) (path : List D) (new : D) (old_xs xs : List D) → i % 2 ≡ 0 → length old_xs
-      ≡ i + 1 → length xs ≡ s + 1 → i ≤ s → s < 2 ^ k
-      → tree_hash (joined hash) empty k (there old_xs) ≡ Ok old → tree_hash (joined hash) empty k (there xs) ≡ Ok new
-      → from_seed hash k i s old path ≡ Ok (Some (old, new))
-      → (old_xs ≡ take (i + 1) xs) ⊎ HistoriesCollide hash empty old_xs xs i s old path
-  shared-agrees k i s old path new old_xs xs even old_long long inside low old_tree tree way = elim (cases_eq i 0) [
-    | inl first ↦
-        whole old path (inl (first, refl, refl)) (rw (eq-eqb i 0 first) at way)
-    | inr later ↦
-        let n = had_next {E = E} Ok (from_shared hash k i s) path (old, new) (rw (ne_eqb i 0 later) at way) in
-        let step : n.digest ≡ n.state = done_injective {E = E} n.digest n.state n.stepped in
-        whole n.state n.rest (inr (omega arith, n.is ∙ ap (λ d. d ∷ n.rest) step)) n.went
-  ]
-    where
-      whole : (digest : D) (rest : List D) → (i ≡ 0) × (digest ≡ old) × (rest ≡ path) ⊎ (0 < i) × (path ≡ digest ∷ rest)
-          → from_shared hash k i s digest rest ≡ Ok (Some (old, new))
-          → (old_xs ≡ take (i + 1) xs) ⊎ HistoriesCollide hash empty old_xs xs i s old path
-      whole digest rest is e = elim (walk-agrees k i s digest digest rest old new old_xs xs old_long long inside low
-          old_tree tree e) [
-            | inr found ↦ inr (seeded hash empty digest rest even is found)
-            | inl here ↦ inl (sym (take_all (i + 1) old_xs (omega arith)) ∙ one_more none i (i + 1) old_xs xs refl
-                (omega arith) (omega arith) here.before (here.old_is ∙ sym here.is))
-          ]
+  module _ (k i s : ℕ) (old : D) (path : List D) (new : D) where
+    shared-agrees : (old_xs xs : List D)
+        → i % 2 ≡ 0
+        → length old_xs ≡ i + 1
+        → length xs ≡ s + 1
+        → i ≤ s
+        → s < 2 ^ k
+        → tree_hash (joined hash) empty k (there old_xs) ≡ Ok old
+        → tree_hash (joined hash) empty k (there xs) ≡ Ok new
+        → from_seed hash k i s old path ≡ Ok (Some (old, new))
+        → (old_xs ≡ take (i + 1) xs) ⊎ HistoriesCollide hash empty old_xs xs i s old path
+    shared-agrees old_xs xs even old_long long inside low old_tree tree way = elim (cases_eq i 0) [
+      | inl first ↦
+          whole old path (inl (first, refl, refl)) (rw (eq-eqb i 0 first) at way)
+      | inr later ↦
+          let n = had_next {E = E} Ok (from_shared hash k i s) path (old, new) (rw (ne_eqb i 0 later) at way) in
+          let step : n.digest ≡ n.state = done_injective {E = E} n.digest n.state n.stepped in
+          whole n.state n.rest (inr (omega arith, n.is ∙ ap (λ d. d ∷ n.rest) step)) n.went
+    ]
+      where
+        whole : (digest : D) (rest : List D) → (i ≡ 0) × (digest ≡ old) × (rest ≡ path) ⊎ (0 < i) ×
+            (path ≡ digest ∷ rest)
+            → from_shared hash k i s digest rest ≡ Ok (Some (old, new))
+            → (old_xs ≡ take (i + 1) xs) ⊎ HistoriesCollide hash empty old_xs xs i s old path
+        whole digest rest is e = elim (walk-agrees k i s digest digest rest old new old_xs xs old_long long inside low
+            old_tree tree e) [
+              | inr found ↦ inr (seeded hash empty digest rest even is found)
+              | inl here ↦ inl (sym (take_all (i + 1) old_xs (omega arith)) ∙ one_more none i (i + 1) old_xs xs refl
+                  (omega arith) (omega arith) here.before (here.old_is ∙ sym here.is))
+            ]
 
   -- The old tree's values are the first of the new one's, or two pairs collide.
   pub both_roots-agree : (k i s : ℕ) (old : D) (path : List D) (new : D) (old_xs xs : List D) → length old_xs ≡ i + 1

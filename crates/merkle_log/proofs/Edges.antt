@@ -4,7 +4,7 @@ use Rattle.ark_paths.specs.Pair.{Digest}
 use Rattle.merkle_log.specs.Log.{NodeHash}
 use Rattle.merkle_log.specs.Stored.{row_pairs, IsStored}
 use Rattle.merkle_log.specs.Edge.{HasLast, last_raised}
-use Rattle.merkle_log.proofs.Lasts.{length-row_pairs, pairs_parts}
+use Rattle.merkle_log.proofs.Lasts.{pairs_parts}
 use Rattle.merkle_log.proofs.Tests.{if_odd}
 
 -- a pair of a row
@@ -23,17 +23,6 @@ has-front row s None has = omega arith
 has-front row s (Some last) has = has
 
 module _ {hash : NodeHash} {rows : ℕ → List Digest} (stored : IsStored hash rows) (level s : ℕ) where
-  length-up : length (rows (level + 1)) ≡ length (rows level) / 2
-  length-up =
-      let e : level + 1 ≡ suc level = omega arith in
-      ap (λ l. length (rows l)) e ∙ length-row_pairs hash (rows level) (rows (suc level)) (stored.pairs level)
-
-  pub edge-up : s ≤ length (rows level) → s / 2 ≤ length (rows (level + 1))
-  edge-up le = omega (arith, length-up)
-
-  pub whole-up : s % 2 ≡ 1 → s < length (rows level) → s / 2 < length (rows (level + 1))
-  whole-up odd below = omega (arith, length-up)
-
   -- a complete place below a complete one
   pub whole-raised : s % 2 ≡ 1 → s < length (rows level) → last_raised hash (rows level) s (get_or (rows level) s [])
       ≡ Ok (get_or (rows (level + 1)) (s / 2) [])

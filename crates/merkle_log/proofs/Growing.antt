@@ -1,11 +1,9 @@
 -- A log's list with one leaf more.
-use Rattle.std.proofs.Common.{◌≡◌, ◌+◌, ◌<◌, ◌≤◌, ℕ, ◌++◌, List, [], ◌∷◌, length, take, get_or, Ok, Err, OnOk, OnErr, ap, sym, ◌∙◌, arith}
+use Rattle.std.proofs.Common.{◌≡◌, ◌+◌, ◌≤◌, ℕ, ◌++◌, List, [], ◌∷◌, length, take, Ok, Err, OnOk, OnErr, ap, sym, ◌∙◌, arith}
 use Rattle.std.proofs.lemmas.List.{take_all, take-take, append-nil, append_assoc}
 use Rattle.ark_base.specs.Outcome.{Outcome}
 use Rattle.ark_paths.specs.Pair.{Digest, Hashes}
-use Rattle.ark_paths.specs.Root.{all_hashes}
-use Rattle.ark_base.specs.declared.error.Error.{Error}
-use Rattle.ark_paths.proofs.ListOutcomes.{IsSoFar, IsSoFar-none, IsSoFar-more, IsSoFar-refused, IsSoFar-all}
+use Rattle.ark_paths.proofs.ListOutcomes.{IsSoFar, IsSoFar-none, IsSoFar-all}
 use Rattle.merkle_log.specs.Log.{NodeHash}
 use Rattle.merkle_log.specs.Stored.{StoredValue, stored_count, row_of, IsStored}
 use Rattle.merkle_log.specs.Append.{Appends, AppendsAll, AppendsLeaves, GrowsTo, IsWhole}
@@ -94,42 +92,15 @@ module _ {A : Type 0} {hashes : Hashes A} {old : StoredValue} {leaves : List A} 
     first_row = sym (append-nil (row_of old 0));
   }
 
-  pub appends-next : {count : ℕ} {mid new : StoredValue} → AppendsFirst hashes old leaves count mid
-      → (leaf : A) (digest : Digest) (next : ℕ) → next ≡ count + 1 → count < length leaves → leaf ≡ get_or leaves count
-      leaf → hashes.leaf leaf ≡ Ok digest
-      → Appends hashes.pair.upper mid digest new → AppendsFirst hashes old leaves next new
-  appends-next {count} {mid} {new} at leaf digest next next_is below is hashed appended =
-      let one : IsKept hashes.pair.upper new = record {
-        whole = appended.whole;
-        stored_is = stored-pushed
-            hashes.pair.upper (row_of mid) (row_of new) digest appended.made at.kept.stored_is appended.carried
-            appended.rows;
-      } in
-      record {
-        kept = one;
-        extends = extends-more old mid new at.extends appended.extends;
-        digests = at.digests ++ (digest ∷ []);
-        hashed = rw (next_is) (IsSoFar-more hashes.leaf leaves count leaf at.digests digest below is at.hashed hashed);
-        first_row = pushed-first hashes.pair.upper (row_of mid) (row_of new) digest appended.made appended.carried
-            appended.rows ∙ ap (λ l. l ++ (digest ∷ [])) at.first_row ∙ append_assoc (row_of old 0) at.digests
-            (digest ∷ []);
-      }
-
-  pub appends-refused : {count : ℕ} {mid : StoredValue} → AppendsFirst hashes old leaves count mid → (leaf : A)
-      (e : Error) → count < length leaves → leaf ≡ get_or leaves count leaf → hashes.leaf leaf ≡ Err e
-      → all_hashes hashes.leaf leaves ≡ Err e
-  appends-refused {count} at leaf e below is refused =
-      IsSoFar-refused hashes.leaf leaves count leaf at.digests e below is at.hashed refused
-
-  pub appends-four : {count : ℕ} {mid new : StoredValue} → AppendsFirst hashes old leaves count mid
+  pub appends-run : {count : ℕ} {mid new : StoredValue} (run : ℕ) → AppendsFirst hashes old leaves count mid
       → (more : List Digest) → ((digests : List Digest) → IsSoFar hashes.leaf leaves count digests
-      → IsSoFar hashes.leaf leaves (count + 4) (digests ++ more)) → (next : ℕ) → count + 4 ≡ next
-      → AppendsAll hashes.pair.upper mid more new → AppendsFirst hashes old leaves next new
-  appends-four {count} {mid} {new} at more hashed next next_is appended = record {
+      → IsSoFar hashes.leaf leaves (count + run) (digests ++ more))
+      → AppendsAll hashes.pair.upper mid more new → AppendsFirst hashes old leaves (count + run) new
+  appends-run {count} {mid} {new} run at more hashed appended = record {
     kept = record { whole = appended.whole; stored_is = appended.stored };
     extends = extends-more old mid new at.extends appended.extends;
     digests = at.digests ++ more;
-    hashed = rw (← next_is) (hashed at.digests at.hashed);
+    hashed = hashed at.digests at.hashed;
     first_row = appended.first_row ∙ ap (λ l. l ++ more) at.first_row ∙ append_assoc (row_of old 0) at.digests more;
   }
 

@@ -32,3 +32,10 @@ pub mod Bytes
 pub mod Tallied
 pub mod Backs
 pub mod Turned
+pub mod KeptRows
+pub mod Hashed
+pub mod Making
+pub mod Appending
+pub mod Asking
+pub mod Givens
+pub mod KeptPlaces

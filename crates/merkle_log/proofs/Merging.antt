@@ -44,51 +44,56 @@ merging-first {hash} empty {digests} {size} {left} {peaks} {digest} left_is own 
           ∙ ap (λ m. frontier (joined hash) (Ok empty) m (node_rows (digests ++ (digest ∷ [])))) more;
     }
 
-pub merging-next : {A : Type 0} (numbers : A → Digest) (items : List A) {hash : NodeHash} {empty : Digest}
-    {count left : ℕ} {last next : Digest} {goal : List Node} → Merging hash empty
-    (map numbers items) count left last goal
-    → count % 2 ≡ 1 → (up : ℕ) → left ≡ up + 1 → left ≤ length items → (peak : A) → peak ≡ get_or items up peak
-    → hash (numbers peak) last ≡ Ok next → Merging hash empty (map numbers items) (count / 2) up next goal
-merging-next numbers items {hash} {empty} {count} {left} {last} {next} {goal} at odd up left_is within peak
-    read hashed =
-    let own = digest-read numbers items up peak (omega arith) read in
-    let level = fewer (λ k. (frontier (joined hash) (Ok empty) k at.row ≡ node_rows (take left peaks))
-    × (frontier (joined hash) (Ok empty) (suc k) (at.row ++ (Ok last ∷ [])) ≡ goal))
-    (λ k. (frontier (joined hash) (Ok empty) k row_up ≡ node_rows (take up peaks))
-    × (frontier (joined hash) (Ok empty) (suc k) (row_up ++ (Ok next ∷ [])) ≡ goal)) at.levels (omega arith) at.high
-    (at.peaks_are, at.is) (λ k high so.
-    let parts = same_from_push (frontier (joined hash) (Ok empty) k row_up) (node_rows (take up peaks)) last_one
-    (Ok (get_or peaks up [])) (sym (frontier-odd (joined hash) (Ok empty) k at.row odd_row) ∙ so.0 ∙ cut) in (
-      parts.0,
-      ap (λ z. frontier (joined hash) (Ok empty) (suc k) (row_up ++ (z ∷ []))) (sym (ap (λ z. joined hash z
-          (Ok last)) parts.1 ∙ ap (λ d. hash d last) (sym own) ∙ hashed))
-          ∙ sym (frontier-push_odd (joined hash) (Ok empty) (suc k) at.row (Ok last) odd_row) ∙ so.1,
-    )) in
-    record {
-      row = row_up;
-      levels = level.levels;
-      size = length-complete_pairs (joined hash) at.row ∙ ap (λ n. n / 2) at.size;
-      high = level.high;
-      peaks_are = level.at.0;
-      is = level.at.1;
-    }
-  where
-    peaks : List Digest
-    peaks = map numbers items
+module _ {A : Type 0} (numbers : A → Digest) (items : List A) {hash : NodeHash} {empty : Digest} where
+  pub merging-next : {count left : ℕ} {last next : Digest} {goal : List Node}
+      → Merging hash empty (map numbers items) count left last goal
+      → count % 2 ≡ 1
+      → (up : ℕ)
+      → left ≡ up + 1
+      → left ≤ length items
+      → (peak : A)
+      → peak ≡ get_or items up peak
+      → hash (numbers peak) last ≡ Ok next
+      → Merging hash empty (map numbers items) (count / 2) up next goal
+  merging-next {count} {left} {last} {next} {goal} at odd up left_is within peak read hashed =
+      let own = digest-read numbers items up peak (omega arith) read in
+      let level = fewer (λ k. (frontier (joined hash) (Ok empty) k at.row ≡ node_rows (take left peaks))
+      × (frontier (joined hash) (Ok empty) (suc k) (at.row ++ (Ok last ∷ [])) ≡ goal))
+      (λ k. (frontier (joined hash) (Ok empty) k row_up ≡ node_rows (take up peaks))
+      × (frontier (joined hash) (Ok empty) (suc k) (row_up ++ (Ok next ∷ [])) ≡ goal)) at.levels (omega arith) at.high
+      (at.peaks_are, at.is) (λ k high so.
+      let parts = same_from_push (frontier (joined hash) (Ok empty) k row_up) (node_rows (take up peaks)) last_one
+      (Ok (get_or peaks up [])) (sym (frontier-odd (joined hash) (Ok empty) k at.row odd_row) ∙ so.0 ∙ cut) in (
+        parts.0,
+        ap (λ z. frontier (joined hash) (Ok empty) (suc k) (row_up ++ (z ∷ []))) (sym (ap (λ z. joined hash z
+            (Ok last)) parts.1 ∙ ap (λ d. hash d last) (sym own) ∙ hashed))
+            ∙ sym (frontier-push_odd (joined hash) (Ok empty) (suc k) at.row (Ok last) odd_row) ∙ so.1,
+      )) in
+      record {
+        row = row_up;
+        levels = level.levels;
+        size = length-complete_pairs (joined hash) at.row ∙ ap (λ n. n / 2) at.size;
+        high = level.high;
+        peaks_are = level.at.0;
+        is = level.at.1;
+      }
+    where
+      peaks : List Digest
+      peaks = map numbers items
 
-    row_up : List Node
-    row_up = complete_pairs (joined hash) at.row
+      row_up : List Node
+      row_up = complete_pairs (joined hash) at.row
 
-    last_one : Node
-    last_one = get_or at.row (length at.row - 1) (Ok empty)
+      last_one : Node
+      last_one = get_or at.row (length at.row - 1) (Ok empty)
 
-    odd_row : length at.row % 2 ≡ 1
-    odd_row = ap (λ n. n % 2) at.size ∙ odd
+      odd_row : length at.row % 2 ≡ 1
+      odd_row = ap (λ n. n % 2) at.size ∙ odd
 
-    cut : node_rows (take left peaks) ≡ node_rows (take up peaks) ++ (Ok (get_or peaks up []) ∷ [])
-    cut = ap (λ n. node_rows (take n peaks)) left_is
-        ∙ ap (map Ok) (take_more peaks up [] (omega (arith, length-map items numbers)))
-        ∙ map-append Ok (take up peaks) (get_or peaks up [] ∷ [])
+      cut : node_rows (take left peaks) ≡ node_rows (take up peaks) ++ (Ok (get_or peaks up []) ∷ [])
+      cut = ap (λ n. node_rows (take n peaks)) left_is
+          ∙ ap (map Ok) (take_more peaks up [] (omega (arith, length-map items numbers)))
+          ∙ map-append Ok (take up peaks) (get_or peaks up [] ∷ [])
 
 pub merging-end : {hash : NodeHash} {empty : Digest} {peaks : List Digest} {count left : ℕ} {last : Digest}
     {goal : List Node} → Merging hash empty peaks count left last goal → count % 2 ≡ 0 → goal

@@ -74,6 +74,12 @@ pub position-within : (level place size : ℕ) → (place + 1) * 2 ^ level ≤ s
 position-within level place size le =
     omega (arith, position-next level place, count-rises ((place + 1) * 2 ^ level) size le)
 
+-- A place that is not complete stands behind what is.
+pub position-beyond : (level place size : ℕ) → size < (place + 1) * 2 ^ level → stored_count size
+    ≤ position level place
+position-beyond level place size beyond =
+    omega (arith, count-rises size ((place + 1) * 2 ^ level - 1) (omega arith))
+
 -- ---- how many places a level has
 
 -- the leaves below the places of a level

@@ -2,8 +2,7 @@
 use Rattle.std.proofs.Common.{◌≡◌, ℕ, ◌+◌, ◌-◌, ◌/◌, ◌%◌, ◌<◌, ◌^◌, ap, arith}
 use Rattle.std.proofs.lemmas.Nat.{ones_le_self}
 use Rattle.std.proofs.Math.Nat.{min-eq_left}
-use Rattle.std.specs.Prelude.{count_ones, min, Option, Some, None, OnOk, Ok, Err}
-use Rattle.ark_base.specs.Outcome.{Outcome}
+use Rattle.std.specs.Prelude.{count_ones, min, Option, Some, None}
 use Rattle.merkle_log.specs.Edge.{pairs_left, root_pairs}
 use Rattle.merkle_log.proofs.Positions.{half_ones}
 
@@ -50,13 +49,3 @@ left-end c n s None end is =
     omega (arith, half_ones 1, ones_le_self 0)
 left-end c n s (Some last) end is =
     let same : count_ones s ≡ count_ones 0 = ap count_ones end in omega (arith, ones_le_self 0)
-
--- what holds where a call answers
-pub known_if_ok : {V P Q : Type 0} (result : Outcome V) → (P → Q) → OnOk result P → OnOk result Q
-known_if_ok (Ok v) f p = f p
-known_if_ok (Err e) f p = tt
-
--- what holds whatever a call answers
-pub known_anyway : {V P : Type 0} (result : Outcome V) → P → OnOk result P
-known_anyway (Ok v) p = p
-known_anyway (Err e) p = tt

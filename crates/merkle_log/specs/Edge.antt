@@ -1,5 +1,6 @@
 -- What is read of a log's rows for a size that it had: the rows' first digests, and a last one at the right edge.
-use Rattle.std.specs.Prelude.{◌+◌, ◌-◌, ◌/◌, ◌%◌, ◌^◌, ◌<◌, ◌≤◌, ◌≡◌, ◌⊎◌, ◌==◌, nat_lt, ◌++◌, ℕ, zero, suc, if◌then◌else◌, List, [], ◌∷◌, length, map, take, get_or, Ok, Err, MatchResult, Option, Some, None, count_ones}
+use Rattle.std.specs.Prelude.{◌+◌, ◌-◌, ◌/◌, ◌%◌, ◌^◌, ◌<◌, ◌≤◌, ◌≡◌, ◌⊎◌, ◌==◌, nat_lt, ◌++◌, ℕ, zero, suc, if◌then◌else◌, List, [], ◌∷◌, length, map, take, get_or, Result, Ok, Err, MatchResult, Option, Some, None, count_ones}
+use Rattle.ark_base.specs.declared.error.Error.{Error}
 use Rattle.ark_base.specs.declared.error.Error.TheVariants.{OutOfMemory}
 use Rattle.ark_base.specs.Outcome.{Outcome, ◌>>=◌}
 use Rattle.ark_paths.specs.Pair.{Digest}
@@ -74,10 +75,11 @@ abbrev pub digests_beside : List Digest → ℕ → ℕ → Digest → List Dige
 digests_beside row i s last = if has_beside i s then (digest_beside row i s last ∷ []) else []
 
 -- The last digest is raised one level, where a path from index i still needs it.
-abbrev pub RaisesNeeded : {A : Type 0} → NodeHash → List Digest → ℕ → ℕ → Digest → (A → Digest) → Outcome A → Type 0
-RaisesNeeded hash row i s last seen result =
+abbrev pub RaisesNeeded : {A R : Type 0} → (R → Error) → NodeHash → List Digest → ℕ → ℕ → Digest → (A → Digest)
+    → Result A R → Type 0
+RaisesNeeded why hash row i s last seen result =
     MatchResult result (λ up. i / 2 < s / 2 → last_raised hash row s last ≡ Ok (seen up))
-    (λ error. (error ≡ OutOfMemory) ⊎ (i / 2 < s / 2) × (last_raised hash row s last ≡ Err error))
+    (λ refusal. (why refusal ≡ OutOfMemory) ⊎ (i / 2 < s / 2) × (last_raised hash row s last ≡ Err (why refusal)))
 
 -- the digests of a path, behind others
 abbrev pub behind : List Digest → List Digest → Outcome (List Digest)

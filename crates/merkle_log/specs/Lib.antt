@@ -11,3 +11,6 @@ pub mod Edge
 pub mod Frontier
 pub mod Received
 pub mod Binding
+pub mod Given
+pub mod Asked
+pub mod Kept

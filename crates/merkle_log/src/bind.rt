@@ -12,7 +12,8 @@ ghost use Rattle.merkle_log.specs.Walk.{has_beside};
 
 use crate::digests::copy_of;
 use crate::inclusion::verify_inclusion_digest;
-use crate::rows::{last_of, raise_last, root_of};
+use crate::refusing::Refusing;
+use crate::rows::{Rows, last_of, raise, root_of};
 use crate::stored::Stored;
 use crate::way::{has_beside, hash_beside};
 use ark_base::error::Error;
@@ -51,9 +52,8 @@ fn digest_of<'a, D: DigestItem>(
     requires inside { index ≤ last_index }
     requires within { last_index ≤ length (row_of rows.now level) }
     requires last { HasLast (row_of rows.now level) last_index last.now }
-    ensures { let row = row_of rows.now level in
-        let edge = edge_of row last_index (last_seen D.numbers row last_index last.now) in
-        D.numbers result.now ≡ get_or edge index [] }
+    ensures { D.numbers result.now ≡ get_or (edge_of (row_of rows.now level) last_index
+        (last_seen D.numbers (row_of rows.now level) last_index last.now)) index [] }
 {
     if index < last_index {
         rows.at(level, index)
@@ -77,10 +77,9 @@ fn is_other<D: DigestItem>(
     requires within { last_index ≤ length (row_of rows.now level) }
     requires last { HasLast (row_of rows.now level) last_index last.now }
     requires used { has_beside index last_index ≡ true → used < length path.now }
-    ensures { let row = row_of rows.now level in
-        let edge = edge_of row last_index (last_seen D.numbers row last_index last.now) in
-        let sibling = get_or (map D.numbers path.now) used [] in
-        result ≡ is_other_pair edge index last_index (D.numbers own.now) sibling }
+    ensures { result ≡ is_other_pair (edge_of (row_of rows.now level) last_index
+        (last_seen D.numbers (row_of rows.now level) last_index last.now)) index last_index
+        (D.numbers own.now) (get_or (map D.numbers path.now) used []) }
 {
     if !has_beside(index as u64, last_index as u64) {
         return false;
@@ -111,13 +110,11 @@ fn highest_other<D: DigestItem, T: TreeHasher<D, D>>(
     requires stored { IsStored (T.hashes hasher.now).pair.upper (row_of rows.now) }
     requires inside { start < size }
     requires within { size ≤ length (row_of rows.now 0) }
-    requires reaches { let hash = (T.hashes hasher.now).pair.upper in
-        let digests = take size (row_of rows.now 0) in
-        Reaches hash digests size start (D.numbers digest.now) (map D.numbers path.now) }
-    ensures highest { let hash = (T.hashes hasher.now).pair.upper in
-        let digests = take size (row_of rows.now 0) in
-        IfOk result (λ found. (empty : Digest) → IsHighest hash empty digests start (size - 1)
-        (D.numbers digest.now) (map D.numbers path.now) found) }
+    requires reaches { Reaches (T.hashes hasher.now).pair.upper (take size (row_of rows.now 0))
+        size start (D.numbers digest.now) (map D.numbers path.now) }
+    ensures highest { IfOk result (λ found. (empty : Digest)
+        → IsHighest (T.hashes hasher.now).pair.upper empty (take size (row_of rows.now 0)) start
+        (size - 1) (D.numbers digest.now) (map D.numbers path.now) found) }
     ensures refused { IfErr result (λ error. error ≡ OutOfMemory) }
 {
     let mut index = start;
@@ -130,7 +127,13 @@ fn highest_other<D: DigestItem, T: TreeHasher<D, D>>(
     'levels: while last_index > 0 {
         let differs = is_other(rows, level, index, last_index, &last, &own, path, used);
         found = found_here(differs, level, found);
-        last = raise_last(alloc, hasher, rows, level, last_index, last)?;
+        last = raise(
+            &mut Refusing::new(alloc, hasher),
+            rows,
+            level,
+            last_index,
+            last,
+        )?;
         if has_beside(index as u64, last_index as u64) {
             own = hash_beside(alloc, hasher, index % 2 == 1, &own, &path[used])?;
             used += 1;
@@ -166,25 +169,21 @@ pub fn binding_of<D: DigestItem, T: TreeHasher<D, D>>(
 ) -> Result<LogBinding, Error>
     requires stored { IsStored (T.hashes hasher.now).pair.upper (row_of rows.now) }
     requires within { size ≤ length (row_of rows.now 0) }
-    ensures verdict { let hash = (T.hashes hasher.now).pair.upper in
-        let digests = row_of rows.now 0 in
-        (empty : Digest) → AnswersBy is_accepted (verdict_in hash empty digests size index
-        (D.numbers digest.now) (map D.numbers path.now)) result }
-    ensures stands { let hash = (T.hashes hasher.now).pair.upper in
-        let digests = take size (row_of rows.now 0) in
-        IfOk result (λ binding. binding ≡ Stands → (empty : Digest)
-        → IsHighest hash empty digests index (size - 1) (D.numbers digest.now)
-        (map D.numbers path.now) None) }
-    ensures collides { let hash = (T.hashes hasher.now).pair.upper in
-        let digests = take size (row_of rows.now 0) in
-        IfOk result (λ binding. (level : ℕ) → binding ≡ Collides level → (empty : Digest)
-        → IsHighest hash empty digests index (size - 1) (D.numbers digest.now)
+    ensures verdict { (empty : Digest)
+        → AnswersBy is_accepted (verdict_in (T.hashes hasher.now).pair.upper empty
+        (row_of rows.now 0) size index (D.numbers digest.now) (map D.numbers path.now)) result }
+    ensures stands { IfOk result (λ binding. binding ≡ Stands → (empty : Digest)
+        → IsHighest (T.hashes hasher.now).pair.upper empty (take size (row_of rows.now 0)) index
+        (size - 1) (D.numbers digest.now) (map D.numbers path.now) None) }
+    ensures collides { IfOk result (λ binding. (level : ℕ) → binding ≡ Collides level
+        → (empty : Digest) → IsHighest (T.hashes hasher.now).pair.upper empty
+        (take size (row_of rows.now 0)) index (size - 1) (D.numbers digest.now)
         (map D.numbers path.now) (Some level)) }
 {
     if index >= size {
         return Ok(LogBinding::Rejected);
     }
-    let root = root_of(alloc, hasher, rows, size)?;
+    let root = root_of(&mut Refusing::new(alloc, hasher), rows, size)?;
     if !verify_inclusion_digest(
         alloc,
         hasher,

@@ -28,21 +28,19 @@ pub fn verify_consistency<D: DigestItem, T: TreeHasher<D, D>>(
     new_root: &D,
     path: &[D],
 ) -> Result<bool, Error>
-    ensures answer { let hash = (T.hashes hasher.now).pair.upper in
-        let verdict = consistency_verdict hash old_size (D.numbers old_root.now) new_size in
-        Answers (verdict (D.numbers new_root.now) (map D.numbers path.now)) result }
+    ensures answer { Answers (consistency_verdict (T.hashes hasher.now).pair.upper old_size
+        (D.numbers old_root.now) new_size (D.numbers new_root.now) (map D.numbers path.now))
+        result }
 
     // Each list of the old size with the old root is the front of each list of the new size with the new root, or two pairs
     // that are named differ and hash alike: of the walk and one list's tree, or of both lists' trees.
-    ensures bound { let hash = (T.hashes hasher.now).pair.upper in
-        let binds = BindsFront hash old_size (D.numbers old_root.now) new_size in
-        IfOk result (λ accepted. accepted ≡ true
-        → binds (D.numbers new_root.now) (map D.numbers path.now)) }
+    ensures bound { IfOk result (λ accepted. accepted ≡ true
+        → BindsFront (T.hashes hasher.now).pair.upper old_size (D.numbers old_root.now) new_size
+        (D.numbers new_root.now) (map D.numbers path.now)) }
 
     // A log's own path is accepted.
-    ensures own { let hash = (T.hashes hasher.now).pair.upper in
-        let is_own = IsConsistency hash old_size (D.numbers old_root.now) new_size in
-        is_own (D.numbers new_root.now) (map D.numbers path.now) → Answers (Ok true) result }
+    ensures own { IsConsistency (T.hashes hasher.now).pair.upper old_size (D.numbers old_root.now)
+        new_size (D.numbers new_root.now) (map D.numbers path.now) → Answers (Ok true) result }
 {
     is_front(alloc, hasher, old_size, old_root, new_size, new_root, path)
 }
@@ -57,9 +55,9 @@ fn is_front<D: DigestItem, T: TreeHasher<D, D>>(
     new_root: &D,
     path: &[D],
 ) -> Result<bool, Error>
-    ensures { let hash = (T.hashes hasher.now).pair.upper in
-        let verdict = consistency_verdict hash old_size (D.numbers old_root.now) new_size in
-        Answers (verdict (D.numbers new_root.now) (map D.numbers path.now)) result }
+    ensures { Answers (consistency_verdict (T.hashes hasher.now).pair.upper old_size
+        (D.numbers old_root.now) new_size (D.numbers new_root.now) (map D.numbers path.now))
+        result }
 {
     if old_size == 0 || new_size < old_size {
         return Ok(false);
@@ -88,10 +86,9 @@ fn leads_from_seed<D: DigestItem, T: TreeHasher<D, D>>(
     path: &[D],
 ) -> Result<bool, Error>
     requires { index ≤ last }
-    ensures { let hash = (T.hashes hasher.now).pair.upper in
-        let leads = leads_from_seed hash (D.numbers old_root.now) (D.numbers new_root.now) in
-        (k : ℕ) → last < 2 ^ k
-        → Answers (leads k index last (map D.numbers path.now)) result }
+    ensures { (k : ℕ) → last < 2 ^ k
+        → Answers (leads_from_seed (T.hashes hasher.now).pair.upper (D.numbers old_root.now)
+        (D.numbers new_root.now) k index last (map D.numbers path.now)) result }
 {
     if index == 0 {
         return leads_to_both(
@@ -125,10 +122,10 @@ fn leads_to_both<D: DigestItem, T: TreeHasher<D, D>>(
     path: &[D],
 ) -> Result<bool, Error>
     requires { index ≤ last }
-    ensures { let hash = (T.hashes hasher.now).pair.upper in
-        let leads = leads_to_both hash (D.numbers old_root.now) (D.numbers new_root.now) in
-        (k : ℕ) → last < 2 ^ k
-        → Answers (leads k index last (D.numbers shared.now) (map D.numbers path.now)) result }
+    ensures { (k : ℕ) → last < 2 ^ k
+        → Answers (leads_to_both (T.hashes hasher.now).pair.upper (D.numbers old_root.now)
+        (D.numbers new_root.now) k index last (D.numbers shared.now) (map D.numbers path.now))
+        result }
 {
     let mut ends = (copy_of(alloc, shared)?, copy_of(alloc, shared)?);
     let mut used = 0;
@@ -154,10 +151,8 @@ fn hash_both<D: DigestItem, T: TreeHasher<D, D>>(
     own: (D, D),
     beside: &D,
 ) -> Result<(D, D), Error>
-    ensures { let numbers = D.numbers in
-        let hash = (T.hashes hasher.now).pair.upper in
-        AnswersBy (both_seen numbers)
-        (hash_of_both hash is_right (both_seen numbers own) (numbers beside.now)) result }
+    ensures { AnswersBy (both_seen D.numbers) (hash_of_both (T.hashes hasher.now).pair.upper
+        is_right (both_seen D.numbers own) (D.numbers beside.now)) result }
 {
     let (old, new) = own;
     if is_right {

@@ -52,12 +52,10 @@ fn merge<D: DigestItem, T: TreeHasher<D, D>>(
 ) -> Result<(usize, D), Error>
     requires count { length peaks.now ≡ count_ones size }
     requires fits { size + 1 < 2 ^ 64 }
-    ensures merged { let numbers = D.numbers in
-        let hash = (T.hashes hasher.now).pair.upper in
-        let own = map numbers peaks.now in
-        IfOk result (λ merged. (digests : List Digest) → IsFrontier hash digests size own
-        → IsFrontier hash (digests ++ (numbers digest ∷ [])) (size + 1)
-        (take merged.0 own ++ (numbers merged.1 ∷ []))) }
+    ensures merged { IfOk result (λ merged. (digests : List Digest)
+        → IsFrontier (T.hashes hasher.now).pair.upper digests size (map D.numbers peaks.now)
+        → IsFrontier (T.hashes hasher.now).pair.upper (digests ++ (D.numbers digest ∷ []))
+        (size + 1) (take merged.0 (map D.numbers peaks.now) ++ (D.numbers merged.1 ∷ []))) }
     ensures count { IfOk result (λ merged. merged.0 + 1 ≡ count_ones (size + 1)) }
     ensures within { IfOk result (λ merged. merged.0 ≤ length peaks.now) }
     ensures refused { IfErr result (λ error. (error ≡ OutOfMemory)
@@ -76,8 +74,8 @@ fn merge<D: DigestItem, T: TreeHasher<D, D>>(
 
 // Reads a count of digests and the roots of their complete trees.
 fn read_peaks<D: DigestItem>(alloc: Global, bytes: &[u8]) -> Result<(u64, Vec<D>), Error>
-    ensures read { let peaks = peaks_in D.reads (λ value. D.numbers_of (D.spelling value)) in
-        AnswersBy (λ read. (read.0, digests_of D.numbers read.1)) (peaks bytes.now) result }
+    ensures read { AnswersBy (λ read. (read.0, digests_of D.numbers read.1)) (peaks_in D.reads
+        (λ value. D.numbers_of (D.spelling value)) bytes.now) result }
     ensures count { IfOk result (λ read. length read.1.items ≡ count_ones read.0) }
 {
     let (size, used) = u64::deserialize(alloc, bytes)?;
@@ -107,14 +105,14 @@ impl<D: DigestItem, T: TreeHasher<D, D>> Frontier<D, T> {
     ///
     /// The only error is `OutOfMemory`.
     pub fn to_bytes(&self, alloc: Global) -> Result<Vec<u8>, Error>
-        ensures written { let bytes = word self.now.size ++ flat_map D.bytes_of self.now.peaks in
-            IfOk result (λ written. written.items ≡ bytes) }
+        ensures written { IfOk result
+            (λ written. written.items ≡ word self.now.size ++ flat_map D.bytes_of self.now.peaks) }
         ensures refused { IfErr result (λ error. error ≡ OutOfMemory) }
 
         // With the same hasher and root of no digests they are read again as this frontier.
-        ensures again { let own = self.now in
-            let reads = frontier_in D.reads (λ value. D.numbers_of (D.spelling value)) in
-            IfOk result (λ written. reads own.hasher own.empty written.items ≡ Ok own) }
+        ensures again { IfOk result
+            (λ written. frontier_in D.reads (λ value. D.numbers_of (D.spelling value))
+            self.now.hasher self.now.empty written.items ≡ Ok self.now) }
     {
         let mut bytes = Vec::new(alloc);
         self.size.serialize(&mut bytes)?;
@@ -179,8 +177,8 @@ impl<D: DigestItem, T: TreeHasher<D, D> + Drop> Frontier<D, T> {
         empty: D,
         bytes: &[u8],
     ) -> Result<Frontier<D, T>, Error>
-        ensures { let reads = frontier_in D.reads (λ value. D.numbers_of (D.spelling value)) in
-            Answers (reads hasher (D.numbers empty) bytes.now) result }
+        ensures { Answers (frontier_in D.reads (λ value. D.numbers_of (D.spelling value)) hasher
+            (D.numbers empty) bytes.now) result }
     {
         let (size, peaks) = read_peaks(alloc, bytes)?;
         Ok(Frontier {
@@ -199,10 +197,10 @@ fn fold<D: DigestItem, T: TreeHasher<D, D>>(
     peaks: &[D],
 ) -> Result<D, Error>
     requires { 0 < length peaks.now }
-    ensures { let hash = (T.hashes hasher.now).pair.upper in
-        (empty : Digest) (digests : List Digest) (size : ℕ)
-        → IsFrontier hash digests size (map D.numbers peaks.now)
-        → AnswersBy D.numbers (merkle_tree_hash hash empty digests) result }
+    ensures { (empty : Digest) (digests : List Digest) (size : ℕ)
+        → IsFrontier (T.hashes hasher.now).pair.upper digests size (map D.numbers peaks.now)
+        → AnswersBy D.numbers (merkle_tree_hash (T.hashes hasher.now).pair.upper empty digests)
+        result }
 {
     let mut left = peaks.len() - 1;
     let mut last = copy_of(alloc, &peaks[left])?;

@@ -27,18 +27,17 @@ pub fn verify_inclusion<D: DigestItem, T: TreeHasher<D, D>>(
     leaf: &T::Leaf,
     path: &[D],
 ) -> Result<bool, Error>
-    ensures answer { let verdict = leaf_verdict (T.hashes hasher.now) (D.numbers root.now) in
-        Answers (verdict size index leaf.now (map D.numbers path.now)) result }
+    ensures answer { Answers (leaf_verdict (T.hashes hasher.now) (D.numbers root.now) size index
+        leaf.now (map D.numbers path.now)) result }
 
     // In each list of this size with this root the leaf's hash stands at the index, or at some level the path's pair and that
     // of the list's tree differ and hash alike.
-    ensures bound { let binds = BindsLogLeaf (T.hashes hasher.now) (D.numbers root.now) in
-        IfOk result (λ accepted. accepted ≡ true
-        → binds size index leaf.now (map D.numbers path.now)) }
+    ensures bound { IfOk result (λ accepted. accepted ≡ true → BindsLogLeaf (T.hashes hasher.now)
+        (D.numbers root.now) size index leaf.now (map D.numbers path.now)) }
 
     // A log's own path is accepted.
-    ensures own { let is_own = IsLeafInclusion (T.hashes hasher.now) (D.numbers root.now) in
-        is_own size index leaf.now (map D.numbers path.now) → Answers (Ok true) result }
+    ensures own { IsLeafInclusion (T.hashes hasher.now) (D.numbers root.now) size index leaf.now
+        (map D.numbers path.now) → Answers (Ok true) result }
 {
     if index >= size {
         return Ok(false);
@@ -59,21 +58,18 @@ pub fn verify_inclusion_digest<D: DigestItem, T: TreeHasher<D, D>>(
     digest: &D,
     path: &[D],
 ) -> Result<bool, Error>
-    ensures answer { let hash = (T.hashes hasher.now).pair.upper in
-        let verdict = inclusion_verdict hash (D.numbers root.now) size index in
-        Answers (verdict (D.numbers digest.now) (map D.numbers path.now)) result }
+    ensures answer { Answers (inclusion_verdict (T.hashes hasher.now).pair.upper
+        (D.numbers root.now) size index (D.numbers digest.now) (map D.numbers path.now)) result }
 
     // In each list of this size with this root the digest stands at the index, or at some level the path's pair and that of
     // the list's tree differ and hash alike.
-    ensures bound { let hash = (T.hashes hasher.now).pair.upper in
-        let binds = BindsDigest hash (D.numbers root.now) size index in
-        IfOk result (λ accepted. accepted ≡ true
-        → binds (D.numbers digest.now) (map D.numbers path.now)) }
+    ensures bound { IfOk result (λ accepted. accepted ≡ true
+        → BindsDigest (T.hashes hasher.now).pair.upper (D.numbers root.now) size index
+        (D.numbers digest.now) (map D.numbers path.now)) }
 
     // A log's own path is accepted.
-    ensures own { let hash = (T.hashes hasher.now).pair.upper in
-        let is_own = IsInclusion hash (D.numbers root.now) size index in
-        is_own (D.numbers digest.now) (map D.numbers path.now) → Answers (Ok true) result }
+    ensures own { IsInclusion (T.hashes hasher.now).pair.upper (D.numbers root.now) size index
+        (D.numbers digest.now) (map D.numbers path.now) → Answers (Ok true) result }
 {
     if index >= size {
         return Ok(false);
@@ -93,10 +89,9 @@ fn leads_to<D: DigestItem, T: TreeHasher<D, D>>(
     path: &[D],
 ) -> Result<bool, Error>
     requires { index ≤ last }
-    ensures { let hash = (T.hashes hasher.now).pair.upper in
-        let leads = leads_to hash (D.numbers root.now) in
-        (k : ℕ) → last < 2 ^ k
-        → Answers (leads k index last (D.numbers own) (map D.numbers path.now)) result }
+    ensures { (k : ℕ) → last < 2 ^ k
+        → Answers (leads_to (T.hashes hasher.now).pair.upper (D.numbers root.now) k index last
+        (D.numbers own) (map D.numbers path.now)) result }
 {
     let mut used = 0;
     'levels: while last > 0 {

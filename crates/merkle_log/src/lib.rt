@@ -7,10 +7,14 @@ pub mod consistency;
 mod digests;
 pub mod frontier;
 pub mod inclusion;
+pub mod kept;
 pub mod log;
-mod paths;
+pub mod nodes;
+pub mod paths;
+mod places;
 pub mod received;
-mod rows;
+mod refusing;
+pub mod rows;
 mod stored;
 mod way;
 

@@ -3,7 +3,6 @@
 ghost use Rattle.std.specs.Prelude.{◌≡◌, ◌⊎◌, ◌<◌, ◌≤◌, ◌+◌, ◌-◌, ◌^◌, ◌∷◌, ℕ, suc, List, [], true, length, map, get_or, reverse, take, IfOk, IfErr, OnOk, OnErr, Ok, Err, Some, None};
 ghost use Rattle.ark_base.specs.declared.error.Error.TheVariants.{OutOfMemory};
 ghost use Rattle.ark_base.specs.Outcome.{AnswersBy};
-ghost use Rattle.ark_crh.specs.Four.{four_seen};
 ghost use Rattle.ark_paths.specs.Index.{neighbour};
 ghost use Rattle.ark_paths.specs.Pair.{Digest};
 ghost use Rattle.ark_paths.specs.Root.{all_hashes, root_of};
@@ -20,12 +19,14 @@ ghost use Rattle.merkle_log.specs.Verdict.{inclusion_verdict, consistency_verdic
 use crate::bind::{LogBinding, binding_of};
 use crate::digests::copy_of;
 use crate::paths::{consistency_path_of, inclusion_path_of};
-use crate::rows::{root_counted, root_of};
+use crate::refusing::Refusing;
+use crate::rows::root_of;
 use crate::stored::Stored;
 use ark_base::error::Error;
 use ark_base::serialize::DigestItem;
 use ark_paths::PairHasher;
 use ark_paths::hasher::{Counting, TreeHasher};
+use ark_paths::runs::{RUN, leaf_row, part_of};
 use std::alloc::Global;
 use std::marker::Model;
 
@@ -55,31 +56,30 @@ impl<D: DigestItem, T: TreeHasher<D, D>> Model for Log<D, T> {
     } };
 }
 
-// Puts four digests behind a list, the first one first, and hashes the pairs that they complete. An error may leave some.
-fn append_four<D: DigestItem, W: PairHasher<D, D>>(
+// Puts digests behind a list, the first one first, and hashes the pairs that they complete. An error may leave some.
+fn append_run<D: DigestItem, W: PairHasher<D, D>>(
     alloc: Global,
     pairs: &mut W,
     stored: &mut Stored<D>,
-    four: (D, D, D, D),
+    digests: Vec<D>,
 ) -> Result<(), Error>
     requires whole { IsWhole stored.old }
     requires stored { IsStored (W.pair pairs.old).upper (row_of stored.old) }
     requires counted { W.counted pairs.old < 2 ^ 64 }
-    ensures appended { let digests = four_seen D.numbers four in
-        OnOk result (AppendsAll (W.pair pairs.old).upper stored.old digests stored.new) }
+    requires fits { stored.old.size < 2 ^ 64 }
+    ensures appended { OnOk result (AppendsAll (W.pair pairs.old).upper stored.old
+        (digests_of D.numbers digests) stored.new) }
     ensures extends { GrowsTo stored.old stored.new }
     ensures refused { IfErr result (λ error. (error ≡ OutOfMemory)
         ⊎ Refuses (W.pair pairs.old).upper error) }
     ensures same { OnOk result (W.pair pairs.new ≡ W.pair pairs.old) }
-    ensures counts { let more = pair_count stored.new.size - pair_count stored.old.size in
-        OnOk result (W.counted pairs.new ≡ counted_after (W.counted pairs.old) more) }
+    ensures counts { OnOk result (W.counted pairs.new ≡ counted_after (W.counted pairs.old)
+        (pair_count stored.new.size - pair_count stored.old.size)) }
     ensures fits { stored.new.size < 2 ^ 64 }
 {
-    let (first, second, third, fourth) = four;
-    stored.append(alloc, pairs, first)?;
-    stored.append(alloc, pairs, second)?;
-    stored.append(alloc, pairs, third)?;
-    stored.append(alloc, pairs, fourth)?;
+    'digests: for digest in digests {
+        stored.append(alloc, pairs, digest)?;
+    }
     Ok(())
 }
 
@@ -97,30 +97,22 @@ fn append_each<D: DigestItem, T: TreeHasher<D, D>, W: PairHasher<D, D>>(
     requires same { (W.pair pairs.old).upper ≡ (T.hashes hasher.now).pair.upper }
     requires fits { stored.old.size < 2 ^ 64 }
     requires counted { W.counted pairs.old < 2 ^ 64 }
-    ensures appended { let hashes = T.hashes hasher.now in
-        OnOk result (AppendsLeaves hashes stored.old leaves.now stored.new) }
+    ensures appended { OnOk result (AppendsLeaves (T.hashes hasher.now) stored.old leaves.now
+        stored.new) }
     ensures extends { GrowsTo stored.old stored.new }
     ensures refused { IfErr result (λ error. (error ≡ OutOfMemory)
         ⊎ (all_hashes (T.hashes hasher.now).leaf leaves.now ≡ Err error)
         ⊎ Refuses (T.hashes hasher.now).pair.upper error) }
-    ensures counts { let more = pair_count stored.new.size - pair_count stored.old.size in
-        OnOk result (W.counted pairs.new ≡ counted_after (W.counted pairs.old) more) }
+    ensures counts { OnOk result (W.counted pairs.new ≡ counted_after (W.counted pairs.old)
+        (pair_count stored.new.size - pair_count stored.old.size)) }
     ensures fits { stored.new.size < 2 ^ 64 }
 {
-    let fours = leaves.len() / 4;
-    'fours: for four in 0..fours {
-        let made = hasher.leaf_four(
-            alloc,
-            &leaves[4 * four],
-            &leaves[4 * four + 1],
-            &leaves[4 * four + 2],
-            &leaves[4 * four + 3],
-        )?;
-        append_four(alloc, pairs, stored, made)?;
-    }
-    'rest: for place in 4 * fours..leaves.len() {
-        let digest = hasher.leaf(alloc, &leaves[place])?;
-        stored.append(alloc, pairs, digest)?;
+    let mut first = 0;
+    'runs: while first < leaves.len() {
+        let count = (leaves.len() - first).min(RUN);
+        let made = leaf_row(alloc, hasher, part_of(leaves, first, count))?;
+        append_run(alloc, pairs, stored, made)?;
+        first += count;
     }
     Ok(())
 }
@@ -150,16 +142,16 @@ impl<D: DigestItem, T: TreeHasher<D, D>> Log<D, T> {
 
     /// Appends a leaf. Errors, which leave the log unchanged: that of the leaf's hash; that of a pair; `OutOfMemory`.
     pub fn append(&mut self, alloc: Global, leaf: &T::Leaf) -> Result<(), Error>
-        ensures appended { let hashes = T.hashes self.old.hasher in
-            OnOk result (HasLeaf hashes self.old leaf.now self.new) }
+        ensures appended { OnOk result (HasLeaf (T.hashes self.old.hasher) self.old leaf.now
+            self.new) }
         ensures kept { OnErr result (self.new ≡ self.old) }
         ensures refused { IfErr result (λ error. (error ≡ OutOfMemory)
             ⊎ ((T.hashes self.old.hasher).leaf leaf.now ≡ Err error)
             ⊎ Refuses (T.hashes self.old.hasher).pair.upper error) }
 
         // Roots and proofs of the sizes that the log had stay.
-        ensures stays { let hash = (T.hashes self.old.hasher).pair.upper in
-            OnOk result (KeepsSizes hash self.old self.new) }
+        ensures stays { OnOk result (KeepsSizes ((T.hashes self.old.hasher).pair.upper) self.old
+            self.new) }
     {
         let digest = self.hasher.leaf(alloc, leaf)?;
         self.append_digest(alloc, digest)
@@ -167,15 +159,14 @@ impl<D: DigestItem, T: TreeHasher<D, D>> Log<D, T> {
 
     /// Appends a leaf's digest. Errors, which leave the log unchanged: that of a pair; `OutOfMemory`.
     pub fn append_digest(&mut self, alloc: Global, digest: D) -> Result<(), Error>
-        ensures appended { let more = D.numbers digest ∷ [] in
-            OnOk result (self.new ≡ with_more self.old more) }
+        ensures appended { OnOk result (self.new ≡ with_more self.old (D.numbers digest ∷ [])) }
         ensures kept { OnErr result (self.new ≡ self.old) }
         ensures refused { IfErr result (λ error. (error ≡ OutOfMemory)
             ⊎ Refuses (T.hashes self.old.hasher).pair.upper error) }
 
         // Roots and proofs of the sizes that the log had stay.
-        ensures stays { let hash = (T.hashes self.old.hasher).pair.upper in
-            OnOk result (KeepsSizes hash self.old self.new) }
+        ensures stays { OnOk result (KeepsSizes ((T.hashes self.old.hasher).pair.upper) self.old
+            self.new) }
     {
         self.append_digest_counting(alloc, digest)?;
         Ok(())
@@ -185,33 +176,34 @@ impl<D: DigestItem, T: TreeHasher<D, D>> Log<D, T> {
     ///
     /// Over n appends to an empty log that is n less the count of ones of n.
     pub fn append_digest_counting(&mut self, alloc: Global, digest: D) -> Result<usize, Error>
-        ensures appended { let more = D.numbers digest ∷ [] in
-            OnOk result (self.new ≡ with_more self.old more) }
+        ensures appended { OnOk result (self.new ≡ with_more self.old (D.numbers digest ∷ [])) }
         ensures kept { OnErr result (self.new ≡ self.old) }
         ensures refused { IfErr result (λ error. (error ≡ OutOfMemory)
             ⊎ Refuses (T.hashes self.old.hasher).pair.upper error) }
-        ensures count { let before = pair_count (length self.old.digests) in
-            IfOk result (λ count. before + count ≡ pair_count (length self.new.digests)) }
+        ensures count { IfOk result
+            (λ count. pair_count (length self.old.digests) + count ≡ pair_count
+            (length self.new.digests)) }
     {
         let mut hasher = Counting::new(&self.hasher);
         self.stored.append(alloc, &mut hasher, digest)?;
         Ok(hasher.calls())
     }
 
-    /// Appends leaves: as `append` of each in turn, whole or not at all. It allocates once.
+    /// Appends leaves: as `append` of each in turn, whole or not at all. It allocates once, and a bounded run at a time.
     ///
-    /// Errors, which leave the log unchanged: the first of `append`.
+    /// Errors, which leave the log unchanged: the first of the leaves' hash; one of the pairs' hash; `OutOfMemory`. Leaves are
+    /// hashed ahead of the pairs that they complete, so a leaf's error may come in place of that of a pair on its left.
     pub fn append_many(&mut self, alloc: Global, leaves: &[T::Leaf]) -> Result<(), Error>
-        ensures appended { let hashes = T.hashes self.old.hasher in
-            OnOk result (HasLeaves hashes self.old leaves.now self.new) }
+        ensures appended { OnOk result (HasLeaves (T.hashes self.old.hasher) self.old leaves.now
+            self.new) }
         ensures kept { OnErr result (self.new ≡ self.old) }
         ensures refused { IfErr result (λ error. (error ≡ OutOfMemory)
             ⊎ (all_hashes (T.hashes self.old.hasher).leaf leaves.now ≡ Err error)
             ⊎ Refuses (T.hashes self.old.hasher).pair.upper error) }
 
         // Roots and proofs of the sizes that the log had stay.
-        ensures stays { let hash = (T.hashes self.old.hasher).pair.upper in
-            OnOk result (KeepsSizes hash self.old self.new) }
+        ensures stays { OnOk result (KeepsSizes ((T.hashes self.old.hasher).pair.upper) self.old
+            self.new) }
     {
         self.append_many_counting(alloc, leaves)?;
         Ok(())
@@ -224,14 +216,15 @@ impl<D: DigestItem, T: TreeHasher<D, D>> Log<D, T> {
         alloc: Global,
         leaves: &[T::Leaf],
     ) -> Result<usize, Error>
-        ensures appended { let hashes = T.hashes self.old.hasher in
-            OnOk result (HasLeaves hashes self.old leaves.now self.new) }
+        ensures appended { OnOk result (HasLeaves (T.hashes self.old.hasher) self.old leaves.now
+            self.new) }
         ensures kept { OnErr result (self.new ≡ self.old) }
         ensures refused { IfErr result (λ error. (error ≡ OutOfMemory)
             ⊎ (all_hashes (T.hashes self.old.hasher).leaf leaves.now ≡ Err error)
             ⊎ Refuses (T.hashes self.old.hasher).pair.upper error) }
-        ensures count { let before = pair_count (length self.old.digests) in
-            IfOk result (λ count. before + count ≡ pair_count (length self.new.digests)) }
+        ensures count { IfOk result
+            (λ count. pair_count (length self.old.digests) + count ≡ pair_count
+            (length self.new.digests)) }
     {
         let size = self.stored.size();
         self.stored.reserve(leaves.len())?;
@@ -249,34 +242,33 @@ impl<D: DigestItem, T: TreeHasher<D, D>> Log<D, T> {
     /// those of the right edge can have; `OutOfMemory`.
     pub fn root(&self, alloc: Global, size: usize) -> Result<D, Error>
         requires { size ≤ length self.now.digests }
-        ensures root { let hash = (T.hashes self.now.hasher).pair.upper in
-            AnswersBy D.numbers (root_at hash self.now size) result }
+        ensures root { AnswersBy D.numbers (root_at ((T.hashes self.now.hasher).pair.upper) self.now
+            size) result }
 
         // Of a power of two above one it is the root by repeated halving, that of a tree of such leaves.
-        ensures halved { let pair = both_levels (T.hashes self.now.hasher).pair.upper in
-            let digests = take size self.now.digests in
-            IfOk result (λ root. (m : ℕ) → size ≡ 2 ^ suc m
-            → root_of pair m digests ≡ Ok (D.numbers root)) }
+        ensures halved { IfOk result (λ root. (m : ℕ) → size ≡ 2 ^ suc m
+            → root_of (both_levels (T.hashes self.now.hasher).pair.upper) m
+            (take size self.now.digests) ≡ Ok (D.numbers root)) }
     {
         if size == 0 {
             return copy_of(alloc, &self.empty);
         }
-        root_of(alloc, &self.hasher, &self.stored, size)
+        root_of(&mut Refusing::new(alloc, &self.hasher), &self.stored, size)
     }
 
     /// Acts as `root`, and returns how many pairs were hashed: the ones of the size less one, all of an incomplete
     /// right edge, and none for no leaves.
     pub fn root_counting(&self, alloc: Global, size: usize) -> Result<(D, usize), Error>
         requires { size ≤ length self.now.digests }
-        ensures root { let hash = (T.hashes self.now.hasher).pair.upper in
-            AnswersBy (λ counted. D.numbers counted.0) (root_at hash self.now size) result }
+        ensures root { AnswersBy (λ counted. D.numbers counted.0)
+            (root_at ((T.hashes self.now.hasher).pair.upper) self.now size) result }
         ensures count { IfOk result (λ counted. counted.1 ≡ root_pairs size) }
     {
         if size == 0 {
             return Ok((copy_of(alloc, &self.empty)?, 0));
         }
-        let mut pairs = Counting::new(&self.hasher);
-        let root = root_counted(alloc, &mut pairs, &self.stored, size)?;
+        let mut pairs = Refusing::new(alloc, &self.hasher);
+        let root = root_of(&mut pairs, &self.stored, size)?;
         Ok((root, pairs.calls()))
     }
 
@@ -284,10 +276,9 @@ impl<D: DigestItem, T: TreeHasher<D, D>> Log<D, T> {
     pub fn inclusion_proof(&self, alloc: Global, size: usize, index: usize) -> Result<Vec<D>, Error>
         requires inside { index < size }
         requires within { size ≤ length self.now.digests }
-        ensures proof { let digests = take size self.now.digests in
-            let hash = (T.hashes self.now.hasher).pair.upper in
-            let path = inclusion_path hash self.now.empty index digests in
-            AnswersBy (digests_of D.numbers) (all_of path) result }
+        ensures proof { AnswersBy (digests_of D.numbers)
+            (all_of (inclusion_path ((T.hashes self.now.hasher).pair.upper) self.now.empty index
+            (take size self.now.digests))) result }
 
         // `verify_inclusion_digest` accepts it under the root of the size, for the digest at the index.
         ensures accepted { let hash = (T.hashes self.now.hasher).pair.upper in
@@ -296,12 +287,10 @@ impl<D: DigestItem, T: TreeHasher<D, D>> Log<D, T> {
             → inclusion_verdict hash root size index own (digests_of D.numbers path) ≡ Ok true) }
 
         // Of a power of two above one it is, from the leaf up, the path of a tree of such leaves.
-        ensures halved { let pair = both_levels (T.hashes self.now.hasher).pair.upper in
-            let digests = take size self.now.digests in
-            let sibling = get_or digests (neighbour index) [] in
-            IfOk result (λ path. (m : ℕ) → size ≡ 2 ^ suc m
-            → let above = halves_beside pair m index digests in
-            digests_of D.numbers path ≡ sibling ∷ reverse above) }
+        ensures halved { IfOk result (λ path. (m : ℕ) → size ≡ 2 ^ suc m
+            → digests_of D.numbers path ≡ get_or (take size self.now.digests) (neighbour index) []
+            ∷ reverse (halves_beside (both_levels (T.hashes self.now.hasher).pair.upper) m index
+            (take size self.now.digests))) }
     {
         let (path, _) = self.inclusion_proof_counting(alloc, size, index)?;
         Ok(path)
@@ -317,14 +306,13 @@ impl<D: DigestItem, T: TreeHasher<D, D>> Log<D, T> {
     ) -> Result<(Vec<D>, usize), Error>
         requires inside { index < size }
         requires within { size ≤ length self.now.digests }
-        ensures proof { let digests = take size self.now.digests in
-            let hash = (T.hashes self.now.hasher).pair.upper in
-            let path = inclusion_path hash self.now.empty index digests in
-            AnswersBy (λ counted. digests_of D.numbers counted.0) (all_of path) result }
+        ensures proof { AnswersBy (λ counted. digests_of D.numbers counted.0)
+            (all_of (inclusion_path ((T.hashes self.now.hasher).pair.upper) self.now.empty index
+            (take size self.now.digests))) result }
         ensures count { IfOk result (λ counted. counted.1 ≡ beside_pairs index size) }
     {
-        let mut pairs = Counting::new(&self.hasher);
-        let path = inclusion_path_of(alloc, &mut pairs, &self.stored, size, index)?;
+        let mut pairs = Refusing::new(alloc, &self.hasher);
+        let path = inclusion_path_of(&mut pairs, &self.stored, size, index, Vec::new(alloc))?;
         Ok((path, pairs.calls()))
     }
 
@@ -338,10 +326,9 @@ impl<D: DigestItem, T: TreeHasher<D, D>> Log<D, T> {
         requires some { 0 < old_size }
         requires inside { old_size < size }
         requires within { size ≤ length self.now.digests }
-        ensures proof { let digests = take size self.now.digests in
-            let hash = (T.hashes self.now.hasher).pair.upper in
-            let path = consistency_path hash self.now.empty old_size digests in
-            AnswersBy (digests_of D.numbers) (all_of path) result }
+        ensures proof { AnswersBy (digests_of D.numbers)
+            (all_of (consistency_path ((T.hashes self.now.hasher).pair.upper) self.now.empty
+            old_size (take size self.now.digests))) result }
 
         // `verify_consistency` accepts it under the roots of both sizes.
         ensures accepted { let hash = (T.hashes self.now.hasher).pair.upper in
@@ -365,14 +352,13 @@ impl<D: DigestItem, T: TreeHasher<D, D>> Log<D, T> {
         requires some { 0 < old_size }
         requires inside { old_size < size }
         requires within { size ≤ length self.now.digests }
-        ensures proof { let digests = take size self.now.digests in
-            let hash = (T.hashes self.now.hasher).pair.upper in
-            let path = consistency_path hash self.now.empty old_size digests in
-            AnswersBy (λ counted. digests_of D.numbers counted.0) (all_of path) result }
+        ensures proof { AnswersBy (λ counted. digests_of D.numbers counted.0)
+            (all_of (consistency_path ((T.hashes self.now.hasher).pair.upper) self.now.empty
+            old_size (take size self.now.digests))) result }
         ensures count { IfOk result (λ counted. counted.1 ≡ beside_pairs (old_size - 1) size) }
     {
-        let mut pairs = Counting::new(&self.hasher);
-        let path = consistency_path_of(alloc, &mut pairs, &self.stored, old_size, size)?;
+        let mut pairs = Refusing::new(alloc, &self.hasher);
+        let path = consistency_path_of(&mut pairs, &self.stored, old_size, size, Vec::new(alloc))?;
         Ok((path, pairs.calls()))
     }
 
@@ -392,21 +378,18 @@ impl<D: DigestItem, T: TreeHasher<D, D>> Log<D, T> {
         requires { size ≤ length self.now.digests }
 
         // It is rejected exactly where `verify_inclusion` says false under the root of the size.
-        ensures verdict { let hashes = T.hashes self.now.hasher in
-            let verdict = leaf_verdict_in hashes self.now size index leaf.now in
-            AnswersBy is_accepted (verdict (map D.numbers path.now)) result }
+        ensures verdict { AnswersBy is_accepted (leaf_verdict_in (T.hashes self.now.hasher) self.now
+            size index leaf.now (map D.numbers path.now)) result }
 
         // The leaf's hash stands at the index, and pairs collide at no level.
-        ensures stands { let hashes = T.hashes self.now.hasher in
-            let path = map D.numbers path.now in
-            IfOk result (λ binding. binding ≡ Stands
-            → LeafHighestIn hashes self.now size index leaf.now path None) }
+        ensures stands { IfOk result (λ binding. binding ≡ Stands
+            → LeafHighestIn (T.hashes self.now.hasher) self.now size index leaf.now
+            (map D.numbers path.now) None) }
 
         // At the level that is named two different pairs hash alike, and at no level above.
-        ensures collides { let hashes = T.hashes self.now.hasher in
-            let path = map D.numbers path.now in
-            IfOk result (λ binding. (level : ℕ) → binding ≡ Collides level
-            → LeafHighestIn hashes self.now size index leaf.now path (Some level)) }
+        ensures collides { IfOk result (λ binding. (level : ℕ) → binding ≡ Collides level
+            → LeafHighestIn (T.hashes self.now.hasher) self.now size index leaf.now
+            (map D.numbers path.now) (Some level)) }
     {
         if index >= size {
             return Ok(LogBinding::Rejected);
@@ -429,21 +412,19 @@ impl<D: DigestItem, T: TreeHasher<D, D>> Log<D, T> {
         requires { size ≤ length self.now.digests }
 
         // It is rejected exactly where `verify_inclusion_digest` says false under the root of the size.
-        ensures verdict { let hash = (T.hashes self.now.hasher).pair.upper in
-            let verdict = verdict_in hash self.now.empty self.now.digests size index in
-            let path = map D.numbers path.now in
-            AnswersBy is_accepted (verdict (D.numbers digest.now) path) result }
+        ensures verdict { AnswersBy is_accepted (verdict_in ((T.hashes self.now.hasher).pair.upper)
+            self.now.empty self.now.digests size index (D.numbers digest.now)
+            (map D.numbers path.now)) result }
 
         // The digest stands at the index, and pairs collide at no level.
-        ensures stands { let hash = (T.hashes self.now.hasher).pair.upper in
-            let highest = HighestIn hash self.now size index (D.numbers digest.now) in
-            IfOk result (λ binding. binding ≡ Stands → highest (map D.numbers path.now) None) }
+        ensures stands { IfOk result (λ binding. binding ≡ Stands
+            → HighestIn ((T.hashes self.now.hasher).pair.upper) self.now size index
+            (D.numbers digest.now) (map D.numbers path.now) None) }
 
         // At the level that is named two different pairs hash alike, and at no level above.
-        ensures collides { let hash = (T.hashes self.now.hasher).pair.upper in
-            let highest = HighestIn hash self.now size index (D.numbers digest.now) in
-            IfOk result (λ binding. (level : ℕ) → binding ≡ Collides level
-            → highest (map D.numbers path.now) (Some level)) }
+        ensures collides { IfOk result (λ binding. (level : ℕ) → binding ≡ Collides level
+            → HighestIn ((T.hashes self.now.hasher).pair.upper) self.now size index
+            (D.numbers digest.now) (map D.numbers path.now) (Some level)) }
     {
         binding_of(alloc, &self.hasher, &self.stored, size, index, digest, path)
     }

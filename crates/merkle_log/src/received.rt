@@ -66,8 +66,8 @@ fn count_of(old_size: u64, new_size: u64) -> u64
 /// Errors: the first fault of a digest's bytes, `Truncated` where bytes are missing; `InvalidData` where bytes are
 /// left; `OutOfMemory`.
 pub fn read_digests<D: DigestItem>(alloc: Global, bytes: &[u8], count: u64) -> Result<Vec<D>, Error>
-    ensures { let digests = digests_in D.reads (λ value. D.numbers_of (D.spelling value)) in
-        AnswersBy (digests_of D.numbers) (digests count bytes.now) result }
+    ensures { AnswersBy (digests_of D.numbers) (digests_in D.reads
+        (λ value. D.numbers_of (D.spelling value)) count bytes.now) result }
 {
     let (digests, used) = D::read_items(alloc, count, bytes)?;
     if used < bytes.len() {
@@ -90,16 +90,14 @@ pub fn verify_inclusion_bytes<D: DigestItem, T: TreeHasher<D, D>>(
     leaf: &T::Leaf,
     bytes: &[u8],
 ) -> Result<bool, Error>
-    ensures answer { let digests = digests_in D.reads (λ value. D.numbers_of (D.spelling value)) in
-        let path = digests (inclusion_length size index) bytes.now in
-        let verdict = received_inclusion (T.hashes hasher.now) (D.numbers root.now) size index in
-        Answers (verdict leaf.now path) result }
+    ensures answer { Answers (received_inclusion (T.hashes hasher.now) (D.numbers root.now) size
+        index leaf.now (digests_in D.reads (λ value. D.numbers_of (D.spelling value))
+        (inclusion_length size index) bytes.now)) result }
 
     // What the bytes spell binds the leaf, as in `verify_inclusion`.
-    ensures bound { let digests = digests_in D.reads (λ value. D.numbers_of (D.spelling value)) in
-        let path = digests (inclusion_length size index) bytes.now in
-        let shows = ShowsLogLeaf (T.hashes hasher.now) (D.numbers root.now) size index in
-        IfOk result (λ accepted. accepted ≡ true → shows leaf.now path) }
+    ensures bound { IfOk result (λ accepted. accepted ≡ true → ShowsLogLeaf (T.hashes hasher.now)
+        (D.numbers root.now) size index leaf.now (digests_in D.reads
+        (λ value. D.numbers_of (D.spelling value)) (inclusion_length size index) bytes.now)) }
 {
     if index >= size {
         return Err(Error::SerializationError(SerializationError::InvalidData));
@@ -122,18 +120,16 @@ pub fn verify_consistency_bytes<D: DigestItem, T: TreeHasher<D, D>>(
     new_root: &D,
     bytes: &[u8],
 ) -> Result<bool, Error>
-    ensures answer { let digests = digests_in D.reads (λ value. D.numbers_of (D.spelling value)) in
-        let path = digests (consistency_length old_size new_size) bytes.now in
-        let hash = (T.hashes hasher.now).pair.upper in
-        let verdict = received_consistency hash old_size (D.numbers old_root.now) new_size in
-        Answers (verdict (D.numbers new_root.now) path) result }
+    ensures answer { Answers (received_consistency (T.hashes hasher.now).pair.upper old_size
+        (D.numbers old_root.now) new_size (D.numbers new_root.now) (digests_in D.reads
+        (λ value. D.numbers_of (D.spelling value)) (consistency_length old_size new_size)
+        bytes.now)) result }
 
     // What the bytes spell binds the old root, as in `verify_consistency`.
-    ensures bound { let digests = digests_in D.reads (λ value. D.numbers_of (D.spelling value)) in
-        let path = digests (consistency_length old_size new_size) bytes.now in
-        let hash = (T.hashes hasher.now).pair.upper in
-        let shows = ShowsFront hash old_size (D.numbers old_root.now) new_size in
-        IfOk result (λ accepted. accepted ≡ true → shows (D.numbers new_root.now) path) }
+    ensures bound { IfOk result (λ accepted. accepted ≡ true
+        → ShowsFront (T.hashes hasher.now).pair.upper old_size (D.numbers old_root.now) new_size
+        (D.numbers new_root.now) (digests_in D.reads (λ value. D.numbers_of (D.spelling value))
+        (consistency_length old_size new_size) bytes.now)) }
 {
     if old_size == 0 || new_size < old_size {
         return Err(Error::SerializationError(SerializationError::InvalidData));

@@ -7,6 +7,8 @@ ghost use Rattle.ark_paths.specs.Rows.{digests_of};
 ghost use Rattle.merkle_log.specs.Append.{Appends, Completes, Refuses, counted_after, pair_count};
 ghost use Rattle.merkle_log.specs.Stored.{position, stored_count, StoredValue, row_of};
 
+use crate::places::digest_at;
+use crate::rows::Rows;
 use ark_base::error::Error;
 use ark_base::serialize::DigestItem;
 use ark_paths::PairHasher;
@@ -31,27 +33,6 @@ impl<D: DigestItem> Model for Stored<D> {
     ghost invariant = { λ stored. length stored.digests.items ≡ stored_count stored.size };
 }
 
-// Returns where the digest of a place stands.
-fn position_of(level: usize, place: usize) -> usize
-    requires level { level < 64 }
-    requires below { (place + 1) * 2 ^ level < 2 ^ 64 }
-    requires fits { position level place < 2 ^ 64 }
-    ensures { result ≡ position level place }
-{
-    let last = ((place + 1) << level) - 1;
-    last - last.count_ones() as usize + last + level
-}
-
-// Returns the digest of a place.
-fn digest_at<D: DigestItem>(digests: &[D], level: usize, place: usize) -> &D
-    requires level { level < 64 }
-    requires below { (place + 1) * 2 ^ level < 2 ^ 64 }
-    requires inside { position level place < length digests.now }
-    ensures { D.numbers result.now ≡ get_or (map D.numbers digests.now) (position level place) [] }
-{
-    &digests[position_of(level, place)]
-}
-
 // Puts a digest behind the others, and behind it those of the places that it completes. An error may leave some of them.
 fn complete<D: DigestItem, W: PairHasher<D, D>>(
     alloc: Global,
@@ -62,16 +43,14 @@ fn complete<D: DigestItem, W: PairHasher<D, D>>(
 ) -> Result<(), Error>
     requires whole { length digests.old.items ≡ stored_count size }
     requires counted { W.counted hasher.old < 2 ^ 64 }
-    ensures completed { let hash = (W.pair hasher.old).upper in
-        let before = digests_of D.numbers digests.old in
-        let after = digests_of D.numbers digests.new in
-        OnOk result (Completes hash size before (D.numbers digest) after) }
+    ensures completed { OnOk result (Completes ((W.pair hasher.old).upper) size
+        (digests_of D.numbers digests.old) (D.numbers digest) (digests_of D.numbers digests.new)) }
     ensures front { take (length digests.old.items) digests.new.items ≡ digests.old.items }
     ensures refused { IfErr result (λ error. (error ≡ OutOfMemory)
         ⊎ Refuses (W.pair hasher.old).upper error) }
     ensures same { W.pair hasher.new ≡ W.pair hasher.old }
-    ensures counts { let pairs = pair_count (size + 1) - pair_count size in
-        OnOk result (W.counted hasher.new ≡ counted_after (W.counted hasher.old) pairs) }
+    ensures counts { OnOk result (W.counted hasher.new ≡ counted_after (W.counted hasher.old)
+        (pair_count (size + 1) - pair_count size)) }
 {
     digests.push(digest)?;
     let mut level = 0;
@@ -104,14 +83,6 @@ impl<D: DigestItem> Stored<D> {
         self.size
     }
 
-    /// Returns the digest of a complete place.
-    pub fn at(&self, level: usize, place: usize) -> &D
-        requires { place < length (row_of self.now level) }
-        ensures { D.numbers result.now ≡ get_or (row_of self.now level) place [] }
-    {
-        digest_at(&self.digests, level, place)
-    }
-
     /// Puts a digest behind the others, and behind it those of the places that it completes. An error leaves the list.
     pub fn append<W: PairHasher<D, D>>(
         &mut self,
@@ -120,14 +91,14 @@ impl<D: DigestItem> Stored<D> {
         digest: D,
     ) -> Result<(), Error>
         requires { W.counted hasher.old < 2 ^ 64 }
-        ensures appended { let hash = (W.pair hasher.old).upper in
-            OnOk result (Appends hash self.old (D.numbers digest) self.new) }
+        ensures appended { OnOk result (Appends ((W.pair hasher.old).upper) self.old
+            (D.numbers digest) self.new) }
         ensures kept { OnErr result (self.new ≡ self.old) }
         ensures refused { IfErr result (λ error. (error ≡ OutOfMemory)
             ⊎ Refuses (W.pair hasher.old).upper error) }
         ensures same { W.pair hasher.new ≡ W.pair hasher.old }
-        ensures counts { let pairs = pair_count self.new.size - pair_count self.old.size in
-            OnOk result (W.counted hasher.new ≡ counted_after (W.counted hasher.old) pairs) }
+        ensures counts { OnOk result (W.counted hasher.new ≡ counted_after (W.counted hasher.old)
+            (pair_count self.new.size - pair_count self.old.size)) }
         ensures fits { self.new.size < 2 ^ 64 }
     {
         let count = self.digests.len();
@@ -158,11 +129,23 @@ impl<D: DigestItem> Stored<D> {
     /// Cuts the list back to fewer leaves.
     pub fn cut(&mut self, size: usize)
         requires { size ≤ self.old.size }
-        ensures { let front = take (stored_count size) self.old.digests in
-            self.new ≡ record { size = size; digests = front } }
+        ensures { self.new ≡ record {
+          size = size;
+          digests = take (stored_count size) self.old.digests;
+        } }
     {
         self.size = size;
         let count = size - size.count_ones() as usize + size;
         self.digests.truncate(count);
+    }
+}
+
+impl<D: DigestItem> Rows<D> for Stored<D> {
+    ghost stored = { λ stored. stored };
+
+    ghost Holds = { λ _ _ _. Unit {0} };
+
+    fn at(&self, level: usize, place: usize) -> &D {
+        digest_at(&self.digests, level, place)
     }
 }

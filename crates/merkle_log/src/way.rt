@@ -24,10 +24,8 @@ pub fn hash_beside<D: DigestItem, T: TreeHasher<D, D>>(
     own: &D,
     beside: &D,
 ) -> Result<D, Error>
-    ensures { let own = D.numbers own.now in
-        let beside = D.numbers beside.now in
-        let hash = (T.hashes hasher.now).pair.upper in
-        AnswersBy D.numbers (hash_of_both hash is_right own beside) result }
+    ensures { AnswersBy D.numbers (hash_of_both (T.hashes hasher.now).pair.upper is_right
+        (D.numbers own.now) (D.numbers beside.now)) result }
 {
     if is_right {
         hasher.upper(alloc, beside, own)

@@ -48,4 +48,10 @@ impl TreeHasher<[u8; 32], [u8; 32]> for Rfc6962 {
     fn upper(&self, _alloc: Global, left: &[u8; 32], right: &[u8; 32]) -> Result<[u8; 32], Error> {
         Ok(node_digest(left, right))
     }
+
+    ghost decided = { λ _. record {
+      leaf = λ _. tt;
+      bottom = λ _ _. tt;
+      upper = λ _ _. tt;
+    } };
 }

@@ -6,3 +6,4 @@ pub mod PrimeLaws
 pub mod Pigeonhole
 pub mod Orders
 pub mod Units
+pub mod SquareRoots

@@ -3,3 +3,4 @@ pub mod Congruences
 pub mod Powers
 pub mod Primes
 pub mod Generators
+pub mod Roots

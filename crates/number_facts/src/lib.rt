@@ -7,6 +7,6 @@ mod primes;
 
 pub use congruences::{congruence_follows, polynomials_agree};
 pub use primes::{
-    certified_is_prime, eulers_criterion, little_fermat, power_is_inverse, powers_are_all_units,
-    primes_divide_a_factor, squaring_gives_powers,
+    certified_has_square_roots, certified_is_prime, eulers_criterion, little_fermat,
+    power_is_inverse, powers_are_all_units, primes_divide_a_factor, squaring_gives_powers,
 };

@@ -1,4 +1,12 @@
+pub mod Answering
 pub mod Codes
+pub mod Cutting
+pub mod Keeping
+pub mod KeptLogs
 pub mod Lengths
+pub mod Numbers
 pub mod Parts
+pub mod Putting
 pub mod TreeLemmas
+pub mod Whole
+pub mod Written

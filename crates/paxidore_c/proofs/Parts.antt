@@ -3,8 +3,8 @@ use Rattle.std.proofs.Common.{◌≡◌, ℕ, suc, List, [], ◌∷◌, length, 
 use Rattle.std.specs.Option.{option_map}
 use Rattle.ark_paths.specs.Index.{IsTreeSize, is_tree_size}
 use Rattle.ark_paths.proofs.ReceivedProofs.{size-decided}
-use Rattle.paxidore_calls.specs.Answer.{tree_leaves_in}
-use Rattle.paxidore_calls.specs.Cut.{parts_by}
+use Rattle.paxidore_c.specs.Answer.{tree_leaves_in}
+use Rattle.paxidore_c.specs.Cut.{parts_by}
 
 -- as many parts as lengths
 parts-count : (bytes lengths : List ℕ) (parts : List (List ℕ)) → parts_by bytes lengths ≡ Some parts

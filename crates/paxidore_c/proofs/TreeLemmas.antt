@@ -1,7 +1,7 @@
 -- Trees whose hashes refuse nothing.
 use Rattle.std.proofs.Common.{◌<◌, arith, pow_pos, ◌≡◌, ◌⊎◌, ℕ, zero, suc, ◌^◌, List, length, take, drop, map, nat_lt, true, false, Result, Ok, Err, IfOk, Global, refl, sym, ap, subst, ◌∙◌, inl, inr}
 use Rattle.std.proofs.Math.Nat.{pow-succ'}
-use Rattle.std.proofs.lemmas.List.{length-map}
+use Rattle.std.proofs.lemmas.List.{length-map, map-id}
 use Rattle.std.specs.declared.vec.Vec.{Vec}
 use Rattle.ark_base.specs.Digits.{itself}
 use Rattle.ark_paths.specs.Laws.ByNumbers.{multi_spelling-way}
@@ -21,13 +21,13 @@ use Rattle.ark_paths.specs.Pair.{Digest, HashPair, Hashes}
 use Rattle.ark_paths.specs.Root.{Root, place, root, upper_levels}
 use Rattle.ark_paths.specs.Tree.{HashedTree, own_path, path_in, root_in, tree_above, tree_with}
 use Rattle.paxidore_c.proofs.Parts.{leaves-fit}
-use Rattle.paxidore_calls.specs.Answer.{GivesBy, are_indexes, leaves_in, multi_path_of_leaves, only_if, path_of_leaves, refused_of, results_of, tree_leaves_in}
-use Rattle.paxidore_calls.specs.Cut.{parts_by}
+use Rattle.paxidore_c.specs.Answer.{GivesBy, are_indexes, leaves_in, multi_path_of_leaves, only_if, path_of_leaves, refused_of, results_of, tree_leaves_in}
+use Rattle.paxidore_c.specs.Cut.{parts_by}
 use Rattle.ark_trees.proofs.TreeHashes.{root-entries}
 use Rattle.ark_trees.specs.Rfc6962.{merkle_tree_hash}
-use Rattle.paxidore_calls.specs.Hashing.{Hashing, bytes_of_multi_path, bytes_of_path, hashes_by, node_pair, rfc6962_hashing, tree_over}
-use Rattle.paxidore_calls.specs.declared.refused.Refused.{Refused}
-use Rattle.paxidore_calls.specs.declared.refused.Refused.TheVariants.{Index}
+use Rattle.paxidore_c.specs.Hashing.{Hashing, bytes_of_multi_path, bytes_of_path, hashes_by, node_pair, rfc6962_hashing, tree_over}
+use Rattle.paxidore_c.specs.declared.refused.Refused.{Refused}
+use Rattle.paxidore_c.specs.declared.refused.Refused.TheVariants.{Index}
 
 -- two outcomes that are one
 abbrev Outcomes : Outcome MultiWay → Outcome MultiWay → Type 0
@@ -35,10 +35,6 @@ Outcomes a b = a ≡ b
 
 abbrev Ways : Outcome Way → Outcome Way → Type 0
 Ways a b = a ≡ b
-
--- the hashes of pairs
-abbrev pub pair_in : {A : Type 0} → Hashes A → HashPair
-pair_in hashes = hashes.pair
 
 module _ (h : Hashing) where
   pub place-node : (m : ℕ) (digests : List Digest) → (d : Digest) × (place (node_pair h) m digests ≡ Root d)
@@ -70,19 +66,16 @@ module _ (h : Hashing) where
         sym (tree-known digests) ∙ refused in absurd cc
 
     -- and the tree above what is made of leaves holds their digests
-    pub tree-made : (made seen : List ℕ → List ℕ) → made ≡ h.leaf_hash → seen ≡ (λ digest. digest)
-        → (leaves lengths : List ℕ) → is_tree_size (length lengths) ≡ true → (items : List Digest)
-        → results_of made (leaves_in (parts_by leaves lengths)) ≡ Ok (map seen items)
+    pub tree-made : (leaves lengths : List ℕ) → is_tree_size (length lengths) ≡ true → (items : List Digest)
+        → results_of h.leaf_hash (leaves_in (parts_by leaves lengths)) ≡ Ok items
         → (tree : HashedTree A) → tree_above hashes (map (λ (digest : Digest). digest) items) ≡ Ok tree
         → results_of h.leaf_hash (tree_leaves_in leaves lengths) ≡ Ok tree.leaves
-    tree-made made seen made_is seen_is leaves lengths sized items cut tree above =
+    tree-made leaves lengths sized items cut tree above =
         let digests : List Digest = map (λ (digest : Digest). digest) items in
         let kept : digests ≡ tree.leaves =
         ap (λ (t : HashedTree A). t.leaves) (done_injective _ _ (sym (tree-known digests) ∙ above)) in
         let ok : List Digest → Result (List Digest) Refused = λ ds. Ok ds in
-        let P : (List ℕ → Digest) → Type 0 =
-        λ f. results_of f (tree_leaves_in leaves lengths) ≡ Ok tree.leaves in
-        subst P made_is (rw sized (cut ∙ ap ok (ap (λ (f : List ℕ → List ℕ). map f items) seen_is ∙ kept)))
+        rw sized (cut ∙ ap ok (sym (map-id items) ∙ kept))
 
 -- what holds of the digests of a tree holds of those of its leaves
 pub over-leaves : (made : List ℕ → Digest) (leaves : Result (List (List ℕ)) Refused) (digests : List Digest)

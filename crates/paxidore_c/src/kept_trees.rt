@@ -1,125 +1,208 @@
-//! Trees whose digests are kept in the caller's memory, in both hashings: the root first, the leaf digests last. A
+//! Trees whose digests are kept in the caller's memory, in a hashing that a number names: the root first, the leaf digests last. A
 //! multi-proof is allocated, and freed before the call returns; nothing else is.
 
-ghost use Rattle.std.specs.Prelude.{◌≡◌, ◌≢◌, ◌⊎◌, ◌+◌, ◌*◌, ◌↔◌, List, [], pos, false, length, map, get_or, set, IfOk, IfSome, Ok};
-ghost use Rattle.std.specs.List.{zip};
-ghost use Rattle.ark_merkle.specs.Batch.{puts};
+ghost use Rattle.std.specs.Prelude.{◌≡◌, ◌≢◌, ◌<◌, ◌+◌, ◌*◌, ◌++◌, ◌∷◌, ◌↔◌, [], ℕ, List, pos, Bool, length, map, take, get_or, set, IfOk, IfSome, Ok};
+ghost use Rattle.std.specs.Option.{is_some};
 ghost use Rattle.ark_paths.specs.Index.{log2};
 ghost use Rattle.ark_paths.specs.Pair.{Digest};
 ghost use Rattle.ark_paths.specs.Tree.{root_in, tree_with};
-ghost use Rattle.kept_tree.specs.KeptTree.{ChangesLeaf, ChangesLeaves, HoldsTree, is_tree_length, kept_leaves, leaf_count};
-ghost use Rattle.paxidore_calls.specs.declared.refused.Refused.TheVariants.{Memory, Size};
-ghost use Rattle.paxidore_calls.specs.Answer.{Hands, done_code, refusal_code, tree_leaves_in};
-ghost use Rattle.paxidore_calls.specs.Cut.{parts_by};
-ghost use Rattle.paxidore_calls.specs.Hashing.{hashes_of, rfc6962_hashing, sha256_hashing};
-ghost use Rattle.paxidore_calls.specs.KeptAnswer.{kept_index, kept_multi_path, kept_path, kept_root, leaves_to_change, leaves_to_keep, multi_path_of_digests, path_of_digests};
+ghost use Rattle.kept_tree.specs.KeptTree.{ChangesLeaf, HoldsTree, is_tree_length, kept_leaves, leaf_count};
+ghost use Rattle.paxidore_c.specs.Answer.{Hands, done_code, hashing_of, in_hashing, refusal_code, tree_leaves_in, verdict_code};
+ghost use Rattle.paxidore_c.specs.Cut.{parts_by};
+ghost use Rattle.paxidore_c.specs.Hashing.{Hashing, hashes_of};
+ghost use Rattle.paxidore_c.specs.KeptAnswer.{kept_check, kept_index, kept_path, kept_root, leaves_to_keep, path_of_digests};
+ghost use Rattle.paxidore_c.specs.declared.refused.Refused.TheVariants.{Memory};
 
-use paxidore_calls::kept_changes::tree_set_many;
-use paxidore_calls::kept_proofs::tree_multi_path;
-use paxidore_calls::kept_trees::{
-    tree_build, tree_check, tree_path, tree_rebuild, tree_root, tree_set,
-};
-use paxidore_calls::leaves::{LogDigest, PlainDigest};
-use std::alloc::Global;
+use crate::hashing::in_hashing;
+use crate::leaves::{are_parts, hash_leaves};
+use crate::refused::Refused;
+use ark_crh::ArrayHash;
+use ark_paths::is_tree_size;
+use kept_tree::build::rebuild;
+use kept_tree::change::set_leaf;
+use kept_tree::check::{holds_tree, is_tree_length};
+use kept_tree::path::write_path;
+
+// Writes the digests of leaves to the last places of memory for their tree.
+fn write_leaves<H: ArrayHash>(tree: &mut [[u8; 32]], bytes: &[u8], lengths: &[usize])
+    requires some { 0 < length lengths.now }
+    requires room { length tree.old + 1 ≡ 2 * length lengths.now }
+    ensures { IfSome (parts_by bytes.now lengths.now)
+        (λ xs. kept_leaves tree.new ≡ map H.leaf_hash xs) }
+{
+    hash_leaves::<H>(&mut tree[lengths.len() - 1..], bytes, lengths);
+}
+
+// Writes the tree above the leaves to memory of as many digests as it has, and returns the code.
+fn tree_build<H: ArrayHash>(tree: &mut [[u8; 32]], leaves: &[u8], lengths: &[usize]) -> i32
+    ensures answer { result ≡ done_code (leaves_to_keep (length tree.old) leaves.now lengths.now) }
+    ensures tree { result ≡ pos 0 → IfOk (tree_leaves_in leaves.now lengths.now)
+        (λ xs. HoldsTree H.node_hash tree.new (map H.leaf_hash xs)) }
+    ensures kept { result ≢ pos 0 → tree.new ≡ tree.old }
+{
+    if !is_tree_size(lengths.len()) {
+        return Refused::Size.code();
+    }
+    if tree.len() + 1 != 2 * lengths.len() {
+        return Refused::Room.code();
+    }
+    if !are_parts(leaves, lengths) {
+        return Refused::Lengths.code();
+    }
+    write_leaves::<H>(tree, leaves, lengths);
+    rebuild::<H>(tree);
+    0
+}
+
+// Writes the tree above the leaf digests that stand in memory, and returns the code.
+fn tree_rebuild<H: ArrayHash>(tree: &mut [[u8; 32]]) -> i32
+    ensures answer { result ≡ done_code (kept_root tree.old) }
+    ensures tree { result ≡ pos 0 → HoldsTree H.node_hash tree.new (kept_leaves tree.old) }
+    ensures kept { result ≢ pos 0 → tree.new ≡ tree.old }
+{
+    if !is_tree_length(tree) {
+        return Refused::Size.code();
+    }
+    rebuild::<H>(tree);
+    0
+}
+
+// Changes the leaf at an index, and returns the code.
+fn tree_set<H: ArrayHash>(tree: &mut [[u8; 32]], index: usize, leaf: &[u8]) -> i32
+    ensures answer { result ≡ done_code (kept_index (length tree.old) index) }
+    ensures changes { result ≡ pos 0
+        → ChangesLeaf H.node_hash tree.old tree.new index (H.leaf_hash leaf.now) }
+    ensures tree { (leaves : List Digest) → result ≡ pos 0
+        → HoldsTree H.node_hash tree.old leaves
+        → HoldsTree H.node_hash tree.new (set leaves index (H.leaf_hash leaf.now)) }
+    ensures kept { result ≢ pos 0 → tree.new ≡ tree.old }
+{
+    if !is_tree_length(tree) {
+        return Refused::Size.code();
+    }
+    if index > tree.len() / 2 {
+        return Refused::Index.code();
+    }
+    set_leaf::<H>(tree, index, &H::leaf(leaf));
+    0
+}
+
+// Returns the code of whether memory holds the tree above the leaf digests that stand in it.
+fn tree_check<H: ArrayHash>(tree: &[[u8; 32]]) -> i32
+    ensures answer { (holds : Bool)
+        × (result ≡ verdict_code (kept_check (length tree.now) holds)) }
+    ensures holds { result ≡ pos 0 ↔ HoldsTree H.node_hash tree.now (kept_leaves tree.now) }
+{
+    if !is_tree_length(tree) {
+        return Refused::Size.code();
+    }
+    if holds_tree::<H>(tree) { 0 } else { 1 }
+}
+
+// Writes the bytes of the path of an index, as it stands in memory.
+fn kept_path(path: &mut [u8], path_len: &mut usize, tree: &[[u8; 32]], index: usize) -> i32
+    ensures handed { Hands (kept_path tree.now index)
+        path.old path.new path_len.old path_len.new result }
+    ensures counted { result ≡ pos 0
+        → path_len.new ≡ 16 + 32 * log2 (leaf_count (length tree.now)) }
+    ensures no_memory { result ≢ refusal_code Memory }
+{
+    if !is_tree_length(tree) {
+        return Refused::Size.code();
+    }
+    if index > tree.len() / 2 {
+        return Refused::Index.code();
+    }
+    let needed = kept_tree::path::path_len(tree, index);
+    *path_len = needed;
+    if path.len() < needed {
+        return Refused::Room.code();
+    }
+    write_path(path, tree, index);
+    0
+}
 
 /// Writes the tree above the leaves to memory of as many digests as it has. An error leaves the memory as before.
 ///
-/// Answers: 0; else the first of `E_SIZE`, `E_ROOM` where the tree has more or fewer digests, `E_LENGTHS`.
+/// Answers: 0; else the first of `E_INVALID` for a number that names no hashing, `E_SIZE`, `E_ROOM` where the tree has more or
+/// fewer digests, `E_LENGTHS`.
 #[unsafe(no_mangle)]
-pub extern "C" fn paxidore_sha256_tree_build(
+pub extern "C" fn paxidore_tree_build(
     tree: &mut [[u8; 32]],
+    hashing: u32,
     leaves: &[u8],
     lengths: &[usize],
 ) -> i32
-    ensures answer { let outcome = leaves_to_keep (length tree.old) leaves.now lengths.now in
-        result ≡ done_code outcome }
-    ensures tree { let h = sha256_hashing in
-        result ≡ pos 0 → IfOk (tree_leaves_in leaves.now lengths.now)
-        (λ xs. HoldsTree h.node tree.new (map h.leaf_hash xs)) }
+    ensures answer { result ≡ done_code (in_hashing hashing (λ h.
+        leaves_to_keep (length tree.old) leaves.now lengths.now)) }
+    ensures tree { result ≡ pos 0 → IfOk (hashing_of hashing) (λ h.
+        IfOk (tree_leaves_in leaves.now lengths.now)
+        (λ xs. HoldsTree h.node tree.new (map h.leaf_hash xs))) }
     ensures kept { result ≢ pos 0 → tree.new ≡ tree.old }
 {
-    tree_build::<PlainDigest>(tree, leaves, lengths)
+    in_hashing!(hashing, tree_build(tree, leaves, lengths))
 }
 
 /// Writes the hashes above the leaf digests that stand in memory, from the lowest up.
 ///
-/// Answers: 0; else `E_SIZE`, where no tree has so many digests, which leaves the memory as before.
+/// Answers: 0; else the first of `E_INVALID` for a number that names no hashing and `E_SIZE`, where no tree has so many
+/// digests, which leave the memory as before.
 #[unsafe(no_mangle)]
-pub extern "C" fn paxidore_sha256_tree_rebuild(tree: &mut [[u8; 32]]) -> i32
-    ensures answer { result ≡ done_code (kept_root tree.old) }
-    ensures tree { let node = sha256_hashing.node in
-        result ≡ pos 0 → HoldsTree node tree.new (kept_leaves tree.old) }
+pub extern "C" fn paxidore_tree_rebuild(tree: &mut [[u8; 32]], hashing: u32) -> i32
+    ensures answer { result ≡ done_code (in_hashing hashing (λ h. kept_root tree.old)) }
+    ensures tree { result ≡ pos 0 → IfOk (hashing_of hashing) (λ h.
+        HoldsTree h.node tree.new (kept_leaves tree.old)) }
     ensures kept { result ≢ pos 0 → tree.new ≡ tree.old }
 {
-    tree_rebuild::<PlainDigest>(tree)
+    in_hashing!(hashing, tree_rebuild(tree))
 }
 
 /// Writes the digest of a leaf to the place of an index, and then the hashes above it, from the lowest up.
 ///
-/// Answers: 0; else the first of `E_SIZE`, where no tree has so many digests, and `E_INDEX`, which leave the memory as
-/// before.
+/// Answers: 0; else the first of `E_INVALID` for a number that names no hashing, `E_SIZE`, where no tree has so many digests,
+/// and `E_INDEX`, which leave the memory as before.
 #[unsafe(no_mangle)]
-pub extern "C" fn paxidore_sha256_tree_set(tree: &mut [[u8; 32]], index: usize, leaf: &[u8]) -> i32
-    ensures answer { result ≡ done_code (kept_index (length tree.old) index) }
+pub extern "C" fn paxidore_tree_set(
+    tree: &mut [[u8; 32]],
+    hashing: u32,
+    index: usize,
+    leaf: &[u8],
+) -> i32
+    ensures answer { result ≡ done_code (in_hashing hashing (λ h.
+        kept_index (length tree.old) index)) }
 
     // Whatever memory holds: the leaf's digest and those above it are written, and no other.
-    ensures changes { let h = sha256_hashing in
-        result ≡ pos 0 → ChangesLeaf h.node tree.old tree.new index (h.leaf_hash leaf.now) }
+    ensures changes { result ≡ pos 0 → IfOk (hashing_of hashing) (λ h.
+        ChangesLeaf h.node tree.old tree.new index (h.leaf_hash leaf.now)) }
 
     // A tree is then that of the changed leaf digests.
-    ensures tree { let h = sha256_hashing in
-        (leaves : List Digest) → result ≡ pos 0 → HoldsTree h.node tree.old leaves
-        → HoldsTree h.node tree.new (set leaves index (h.leaf_hash leaf.now)) }
+    ensures tree { result ≡ pos 0 → IfOk (hashing_of hashing) (λ h.
+        (leaves : List Digest) → HoldsTree h.node tree.old leaves
+        → HoldsTree h.node tree.new (set leaves index (h.leaf_hash leaf.now))) }
     ensures kept { result ≢ pos 0 → tree.new ≡ tree.old }
 {
-    tree_set::<PlainDigest>(tree, index, leaf)
-}
-
-/// Writes the digests of leaves to the places of their indexes, one after the other, and then the hashes above them, level by
-/// level from the lowest up. Where the indexes rise, each hash is made once.
-///
-/// Answers: 0; else the first of `E_SIZE`, where no tree has so many digests, `E_COUNT`, `E_LENGTHS`, `E_INDEX`, which leave
-/// the memory as before.
-#[unsafe(no_mangle)]
-pub extern "C" fn paxidore_sha256_tree_set_many(
-    tree: &mut [[u8; 32]],
-    indexes: &[usize],
-    leaves: &[u8],
-    lengths: &[usize],
-) -> i32
-    ensures answer { let given = leaves_to_change (length tree.old) indexes.now in
-        result ≡ done_code (given leaves.now lengths.now) }
-
-    // Whatever memory holds: the leaves' digests and those above them are written, and no other.
-    ensures changes { let h = sha256_hashing in
-        result ≡ pos 0 → IfSome (parts_by leaves.now lengths.now)
-        (λ xs. ChangesLeaves h.node tree.old tree.new indexes.now (map h.leaf_hash xs)) }
-
-    // A tree is then that of the changed leaf digests.
-    ensures tree { let h = sha256_hashing in
-        (held : List Digest) → result ≡ pos 0 → HoldsTree h.node tree.old held
-        → IfSome (parts_by leaves.now lengths.now)
-        (λ xs. HoldsTree h.node tree.new (puts held (zip indexes.now (map h.leaf_hash xs)))) }
-    ensures kept { result ≢ pos 0 → tree.new ≡ tree.old }
-{
-    tree_set_many::<PlainDigest>(tree, indexes, leaves, lengths)
+    in_hashing!(hashing, tree_set(tree, index, leaf))
 }
 
 /// Writes the digest that stands first to `root`.
 ///
 /// Answers: 0; else `E_SIZE`, where no tree has so many digests, which leaves `root` as before.
 #[unsafe(no_mangle)]
-pub extern "C" fn paxidore_sha256_tree_root(root: &mut [u8; 32], tree: &[[u8; 32]]) -> i32
+pub extern "C" fn paxidore_tree_root(root: &mut [u8; 32], tree: &[[u8; 32]]) -> i32
     ensures answer { result ≡ done_code (kept_root tree.now) }
     ensures root { result ≡ pos 0 → root.new ≡ get_or tree.now 0 [] }
 
-    // Of a tree it is the root.
-    ensures tree { let h = sha256_hashing in
-        (leaves : List Digest) → result ≡ pos 0 → HoldsTree h.node tree.now leaves
+    // Of a tree, in any hashing, it is the root.
+    ensures tree { (h : Hashing) (leaves : List Digest) → result ≡ pos 0
+        → HoldsTree h.node tree.now leaves
         → root_in (tree_with (hashes_of h) leaves) ≡ Ok root.new }
     ensures kept { result ≢ pos 0 → root.new ≡ root.old }
 {
-    tree_root::<PlainDigest>(root, tree)
+    if !is_tree_length(tree) {
+        return Refused::Size.code();
+    }
+    *root = *kept_tree::path::root(tree);
+    0
 }
 
 /// Writes the bytes of the path of an index to the front of `path`, with the digests that stand in memory, and their count.
@@ -127,231 +210,39 @@ pub extern "C" fn paxidore_sha256_tree_root(root: &mut [u8; 32], tree: &[[u8; 32
 /// Answers: 0; else the first of `E_SIZE`, where no tree has so many digests, `E_INDEX`, `E_ROOM`, which alone writes the
 /// count that is needed. Any other refusal leaves both buffers as before.
 #[unsafe(no_mangle)]
-pub extern "C" fn paxidore_sha256_tree_path(
+pub extern "C" fn paxidore_tree_path(
     path: &mut [u8],
     path_len: &mut usize,
     tree: &[[u8; 32]],
     index: usize,
 ) -> i32
-    ensures handed { let outcome = kept_path tree.now index in
-        Hands outcome path.old path.new path_len.old path_len.new result }
+    ensures handed { Hands (kept_path tree.now index)
+        path.old path.new path_len.old path_len.new result }
 
-    // Of a tree it is the path that its leaves give.
-    ensures tree { let h = sha256_hashing in
-        (leaves : List Digest) → HoldsTree h.node tree.now leaves
+    // Of a tree, in any hashing, it is the path that its leaves give.
+    ensures tree { (h : Hashing) (leaves : List Digest) → HoldsTree h.node tree.now leaves
         → Hands (path_of_digests h leaves index)
         path.old path.new path_len.old path_len.new result }
 
     // PAXIDORE_PATHBYTES of the size's logarithm.
-    ensures counted { let size = leaf_count (length tree.now) in
-        result ≡ pos 0 → path_len.new ≡ 16 + 32 * log2 size }
+    ensures counted { result ≡ pos 0
+        → path_len.new ≡ 16 + 32 * log2 (leaf_count (length tree.now)) }
     ensures no_memory { result ≢ refusal_code Memory }
 {
-    tree_path::<PlainDigest>(path, path_len, tree, index)
-}
-
-/// Writes the bytes of the multi-proof of some indexes, in any order, to the front of `proof`, with the digests that stand in
-/// memory, and their count. It shows the indexes rising and each once.
-///
-/// Answers: 0; else the first of `E_SIZE`, where no tree has so many digests, `E_INDEX`, also where there is no index,
-/// `E_MEMORY`, `E_ROOM`, which alone writes the count that is needed. Any other refusal leaves both buffers as before.
-#[unsafe(no_mangle)]
-pub extern "C" fn paxidore_sha256_tree_multi_path(
-    alloc: Global,
-    proof: &mut [u8],
-    proof_len: &mut usize,
-    tree: &[[u8; 32]],
-    indexes: &[usize],
-) -> i32
-    ensures handed { let outcome = kept_multi_path tree.now indexes.now in
-        Hands outcome proof.old proof.new proof_len.old proof_len.new result }
-
-    // Of a tree it is the multi-proof that its leaves give.
-    ensures tree { let h = sha256_hashing in
-        (leaves : List Digest) → HoldsTree h.node tree.now leaves
-        → Hands (multi_path_of_digests h leaves indexes.now)
-        proof.old proof.new proof_len.old proof_len.new result }
-{
-    tree_multi_path::<PlainDigest>(alloc, proof, proof_len, tree, indexes)
+    kept_path(path, path_len, tree, index)
 }
 
 /// Returns whether memory holds the tree above the leaf digests that stand in it: whether each other digest is the hash of
 /// the two below it.
 ///
-/// Answers: 0 for a yes, 1 for a no; else `E_SIZE`, where no tree has so many digests.
+/// Answers: 0 for a yes, 1 for a no; else the first of `E_INVALID` for a number that names no hashing and `E_SIZE`, where no
+/// tree has so many digests.
 #[unsafe(no_mangle)]
-pub extern "C" fn paxidore_sha256_tree_check(tree: &[[u8; 32]]) -> i32
-    ensures codes { (result ≡ pos 0) ⊎ (result ≡ pos 1) ⊎ (result ≡ refusal_code Size) }
-    ensures size { result ≡ refusal_code Size ↔ is_tree_length (length tree.now) ≡ false }
-    ensures holds { let node = sha256_hashing.node in
-        result ≡ pos 0 ↔ HoldsTree node tree.now (kept_leaves tree.now) }
+pub extern "C" fn paxidore_tree_check(tree: &[[u8; 32]], hashing: u32) -> i32
+    ensures answer { (holds : Bool) × (result ≡ verdict_code (in_hashing hashing (λ h.
+        kept_check (length tree.now) holds))) }
+    ensures holds { IfOk (hashing_of hashing) (λ h.
+        result ≡ pos 0 ↔ HoldsTree h.node tree.now (kept_leaves tree.now)) }
 {
-    tree_check::<PlainDigest>(tree)
-}
-
-/// Writes the tree above the leaves to memory of as many digests as it has. An error leaves the memory as before.
-///
-/// Answers: 0; else the first of `E_SIZE`, `E_ROOM` where the tree has more or fewer digests, `E_LENGTHS`.
-#[unsafe(no_mangle)]
-pub extern "C" fn paxidore_rfc6962_tree_build(
-    tree: &mut [[u8; 32]],
-    leaves: &[u8],
-    lengths: &[usize],
-) -> i32
-    ensures answer { let outcome = leaves_to_keep (length tree.old) leaves.now lengths.now in
-        result ≡ done_code outcome }
-    ensures tree { let h = rfc6962_hashing in
-        result ≡ pos 0 → IfOk (tree_leaves_in leaves.now lengths.now)
-        (λ xs. HoldsTree h.node tree.new (map h.leaf_hash xs)) }
-    ensures kept { result ≢ pos 0 → tree.new ≡ tree.old }
-{
-    tree_build::<LogDigest>(tree, leaves, lengths)
-}
-
-/// Writes the hashes above the leaf digests that stand in memory, from the lowest up.
-///
-/// Answers: 0; else `E_SIZE`, where no tree has so many digests, which leaves the memory as before.
-#[unsafe(no_mangle)]
-pub extern "C" fn paxidore_rfc6962_tree_rebuild(tree: &mut [[u8; 32]]) -> i32
-    ensures answer { result ≡ done_code (kept_root tree.old) }
-    ensures tree { let node = rfc6962_hashing.node in
-        result ≡ pos 0 → HoldsTree node tree.new (kept_leaves tree.old) }
-    ensures kept { result ≢ pos 0 → tree.new ≡ tree.old }
-{
-    tree_rebuild::<LogDigest>(tree)
-}
-
-/// Writes the digest of a leaf to the place of an index, and then the hashes above it, from the lowest up.
-///
-/// Answers: 0; else the first of `E_SIZE`, where no tree has so many digests, and `E_INDEX`, which leave the memory as
-/// before.
-#[unsafe(no_mangle)]
-pub extern "C" fn paxidore_rfc6962_tree_set(tree: &mut [[u8; 32]], index: usize, leaf: &[u8]) -> i32
-    ensures answer { result ≡ done_code (kept_index (length tree.old) index) }
-
-    // Whatever memory holds: the leaf's digest and those above it are written, and no other.
-    ensures changes { let h = rfc6962_hashing in
-        result ≡ pos 0 → ChangesLeaf h.node tree.old tree.new index (h.leaf_hash leaf.now) }
-
-    // A tree is then that of the changed leaf digests.
-    ensures tree { let h = rfc6962_hashing in
-        (leaves : List Digest) → result ≡ pos 0 → HoldsTree h.node tree.old leaves
-        → HoldsTree h.node tree.new (set leaves index (h.leaf_hash leaf.now)) }
-    ensures kept { result ≢ pos 0 → tree.new ≡ tree.old }
-{
-    tree_set::<LogDigest>(tree, index, leaf)
-}
-
-/// Writes the digests of leaves to the places of their indexes, one after the other, and then the hashes above them, level by
-/// level from the lowest up. Where the indexes rise, each hash is made once.
-///
-/// Answers: 0; else the first of `E_SIZE`, where no tree has so many digests, `E_COUNT`, `E_LENGTHS`, `E_INDEX`, which leave
-/// the memory as before.
-#[unsafe(no_mangle)]
-pub extern "C" fn paxidore_rfc6962_tree_set_many(
-    tree: &mut [[u8; 32]],
-    indexes: &[usize],
-    leaves: &[u8],
-    lengths: &[usize],
-) -> i32
-    ensures answer { let given = leaves_to_change (length tree.old) indexes.now in
-        result ≡ done_code (given leaves.now lengths.now) }
-
-    // Whatever memory holds: the leaves' digests and those above them are written, and no other.
-    ensures changes { let h = rfc6962_hashing in
-        result ≡ pos 0 → IfSome (parts_by leaves.now lengths.now)
-        (λ xs. ChangesLeaves h.node tree.old tree.new indexes.now (map h.leaf_hash xs)) }
-
-    // A tree is then that of the changed leaf digests.
-    ensures tree { let h = rfc6962_hashing in
-        (held : List Digest) → result ≡ pos 0 → HoldsTree h.node tree.old held
-        → IfSome (parts_by leaves.now lengths.now)
-        (λ xs. HoldsTree h.node tree.new (puts held (zip indexes.now (map h.leaf_hash xs)))) }
-    ensures kept { result ≢ pos 0 → tree.new ≡ tree.old }
-{
-    tree_set_many::<LogDigest>(tree, indexes, leaves, lengths)
-}
-
-/// Writes the digest that stands first to `root`.
-///
-/// Answers: 0; else `E_SIZE`, where no tree has so many digests, which leaves `root` as before.
-#[unsafe(no_mangle)]
-pub extern "C" fn paxidore_rfc6962_tree_root(root: &mut [u8; 32], tree: &[[u8; 32]]) -> i32
-    ensures answer { result ≡ done_code (kept_root tree.now) }
-    ensures root { result ≡ pos 0 → root.new ≡ get_or tree.now 0 [] }
-
-    // Of a tree it is the root.
-    ensures tree { let h = rfc6962_hashing in
-        (leaves : List Digest) → result ≡ pos 0 → HoldsTree h.node tree.now leaves
-        → root_in (tree_with (hashes_of h) leaves) ≡ Ok root.new }
-    ensures kept { result ≢ pos 0 → root.new ≡ root.old }
-{
-    tree_root::<LogDigest>(root, tree)
-}
-
-/// Writes the bytes of the path of an index to the front of `path`, with the digests that stand in memory, and their count.
-///
-/// Answers: 0; else the first of `E_SIZE`, where no tree has so many digests, `E_INDEX`, `E_ROOM`, which alone writes the
-/// count that is needed. Any other refusal leaves both buffers as before.
-#[unsafe(no_mangle)]
-pub extern "C" fn paxidore_rfc6962_tree_path(
-    path: &mut [u8],
-    path_len: &mut usize,
-    tree: &[[u8; 32]],
-    index: usize,
-) -> i32
-    ensures handed { let outcome = kept_path tree.now index in
-        Hands outcome path.old path.new path_len.old path_len.new result }
-
-    // Of a tree it is the path that its leaves give.
-    ensures tree { let h = rfc6962_hashing in
-        (leaves : List Digest) → HoldsTree h.node tree.now leaves
-        → Hands (path_of_digests h leaves index)
-        path.old path.new path_len.old path_len.new result }
-
-    // PAXIDORE_PATHBYTES of the size's logarithm.
-    ensures counted { let size = leaf_count (length tree.now) in
-        result ≡ pos 0 → path_len.new ≡ 16 + 32 * log2 size }
-    ensures no_memory { result ≢ refusal_code Memory }
-{
-    tree_path::<LogDigest>(path, path_len, tree, index)
-}
-
-/// Writes the bytes of the multi-proof of some indexes, in any order, to the front of `proof`, with the digests that stand in
-/// memory, and their count. It shows the indexes rising and each once.
-///
-/// Answers: 0; else the first of `E_SIZE`, where no tree has so many digests, `E_INDEX`, also where there is no index,
-/// `E_MEMORY`, `E_ROOM`, which alone writes the count that is needed. Any other refusal leaves both buffers as before.
-#[unsafe(no_mangle)]
-pub extern "C" fn paxidore_rfc6962_tree_multi_path(
-    alloc: Global,
-    proof: &mut [u8],
-    proof_len: &mut usize,
-    tree: &[[u8; 32]],
-    indexes: &[usize],
-) -> i32
-    ensures handed { let outcome = kept_multi_path tree.now indexes.now in
-        Hands outcome proof.old proof.new proof_len.old proof_len.new result }
-
-    // Of a tree it is the multi-proof that its leaves give.
-    ensures tree { let h = rfc6962_hashing in
-        (leaves : List Digest) → HoldsTree h.node tree.now leaves
-        → Hands (multi_path_of_digests h leaves indexes.now)
-        proof.old proof.new proof_len.old proof_len.new result }
-{
-    tree_multi_path::<LogDigest>(alloc, proof, proof_len, tree, indexes)
-}
-
-/// Returns whether memory holds the tree above the leaf digests that stand in it: whether each other digest is the hash of
-/// the two below it.
-///
-/// Answers: 0 for a yes, 1 for a no; else `E_SIZE`, where no tree has so many digests.
-#[unsafe(no_mangle)]
-pub extern "C" fn paxidore_rfc6962_tree_check(tree: &[[u8; 32]]) -> i32
-    ensures codes { (result ≡ pos 0) ⊎ (result ≡ pos 1) ⊎ (result ≡ refusal_code Size) }
-    ensures size { result ≡ refusal_code Size ↔ is_tree_length (length tree.now) ≡ false }
-    ensures holds { let node = rfc6962_hashing.node in
-        result ≡ pos 0 ↔ HoldsTree node tree.now (kept_leaves tree.now) }
-{
-    tree_check::<LogDigest>(tree)
+    in_hashing!(hashing, tree_check(tree))
 }

@@ -3,10 +3,12 @@
 ghost use Rattle.std.specs.Prelude.{◌≡◌, pos};
 ghost use Rattle.ark_trees.specs.Rfc6962.{log_hashes, node_of};
 ghost use Rattle.merkle_log.specs.Received.{ShowsFront, ShowsLogLeaf, consistency_length, inclusion_length};
-ghost use Rattle.paxidore_calls.specs.Answer.{Gives, verdict_code};
-ghost use Rattle.paxidore_calls.specs.LogProofs.{continuing_shown, entry_shown, proof_digests};
+ghost use Rattle.paxidore_c.specs.Answer.{Gives, verdict_code};
+ghost use Rattle.paxidore_c.specs.LogProofs.{continuing_shown, entry_shown, proof_digests};
 
-use paxidore_calls::log::{verify_consistency, verify_inclusion};
+use crate::refused::{Refused, verdict_code};
+use ark_trees::LogHasher;
+use merkle_log::{verify_consistency_bytes, verify_inclusion_bytes};
 use std::alloc::Global;
 
 /// Returns whether the bytes of a path show an entry at an index of a log with this root and size.
@@ -22,16 +24,22 @@ pub extern "C" fn paxidore_log_verify_inclusion(
     entry: &[u8],
     path: &[u8],
 ) -> i32
-    ensures answer { let outcome = entry_shown root.now size index entry.now path.now in
-        Gives (verdict_code outcome) result }
+    ensures answer { Gives (verdict_code (entry_shown root.now size index entry.now path.now))
+        result }
 
     // 0 says: in every log with this root and size the entry's hash stands at the index, or at some level the path's
     // pair and that of the log's tree differ and hash alike.
-    ensures shows { let hashes = log_hashes (λ bytes. bytes) in
-        let digests = proof_digests (inclusion_length size index) path.now in
-        result ≡ pos 0 → ShowsLogLeaf hashes root.now size index entry.now digests }
+    ensures shows { result ≡ pos 0 → ShowsLogLeaf (log_hashes (λ bytes. bytes)) root.now size index
+        entry.now (proof_digests (inclusion_length size index) path.now) }
 {
-    verify_inclusion(alloc, root, size, index, entry, path)
+    if index >= size {
+        return Refused::Index.code();
+    }
+    let Ok(entry) = Vec::from_slice(alloc, entry) else {
+        return Refused::Memory.code();
+    };
+    let (size, index) = (size as u64, index as u64);
+    verdict_code(verify_inclusion_bytes(alloc, &LogHasher, root, size, index, &entry, path))
 }
 
 /// Returns whether the bytes of a consistency proof show that a log with a new root and size continues one with an old
@@ -48,14 +56,19 @@ pub extern "C" fn paxidore_log_verify_consistency(
     new_root: &[u8; 32],
     proof: &[u8],
 ) -> i32
-    ensures answer { let of_sizes = continuing_shown old_size old_root.now new_size new_root.now in
-        Gives (verdict_code (of_sizes proof.now)) result }
+    ensures answer { Gives (verdict_code (continuing_shown old_size old_root.now new_size
+        new_root.now proof.now)) result }
 
     // 0 says: each list of the old size with the old root is the front of each list of the new size with the new root,
     // or two different pairs of the proof and of these lists' trees are named that hash alike.
-    ensures shows { let digests = proof_digests (consistency_length old_size new_size) proof.now in
-        let shows = ShowsFront node_of old_size old_root.now new_size new_root.now in
-        result ≡ pos 0 → shows digests }
+    ensures shows { result ≡ pos 0 → ShowsFront node_of old_size old_root.now new_size new_root.now
+        (proof_digests (consistency_length old_size new_size) proof.now) }
 {
-    verify_consistency(alloc, old_size, old_root, new_size, new_root, proof)
+    if old_size == 0 || new_size < old_size {
+        return Refused::Size.code();
+    }
+    let (old_size, new_size) = (old_size as u64, new_size as u64);
+    verdict_code(verify_consistency_bytes(
+        alloc, &LogHasher, old_size, old_root, new_size, new_root, proof,
+    ))
 }

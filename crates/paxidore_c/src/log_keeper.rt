@@ -4,19 +4,28 @@
 //! The stored digests are those of the log's complete subtrees, in the order in which they are completed: 2n less the count of
 //! ones of n for n entries. They only grow. Where other digests are kept, each call answers all the same.
 
-ghost use Rattle.std.specs.Prelude.{◌≡◌, ◌≢◌, ◌≤◌, ◌++◌, ◌^◌, ℕ, List, Bool, length, map, take, drop, nat_lt, if◌then◌else◌, pos, IfOk, Ok};
+ghost use Rattle.std.specs.Prelude.{◌≡◌, ◌≢◌, ◌<◌, ◌≤◌, ◌++◌, ◌^◌, ℕ, List, [], length, map, take, drop, pos, nat_lt, if◌then◌else◌, true, false, Bool, IfOk, MatchOption, Ok};
+ghost use Rattle.std.specs.List.{flat_map};
+ghost use Rattle.ark_base.specs.Digits.{itself};
 ghost use Rattle.ark_paths.specs.Pair.{Digest};
-ghost use Rattle.ark_trees.specs.Rfc6962.{entry_hash};
-ghost use Rattle.kept_log.specs.Kept.{front, Keeps};
+ghost use Rattle.ark_trees.specs.Rfc6962.{entry_hash, node_of};
+ghost use Rattle.merkle_log.specs.Kept.{front, has_front, Keeps};
 ghost use Rattle.merkle_log.specs.Received.{ShowsLogLeaf, inclusion_length};
 ghost use Rattle.merkle_log.specs.Stored.{row_of, stored_count};
-ghost use Rattle.paxidore_calls.specs.Answer.{Gives, Hands, done_code, refusal_code, verdict_code};
-ghost use Rattle.paxidore_calls.specs.KeptLog.{appended, consistency_bytes, digest_hashes, digest_shown, if_inside, if_kept, if_older, inclusion_bytes, kept_code, log_root, more_count};
-ghost use Rattle.paxidore_calls.specs.LogProofs.{proof_digests};
-ghost use Rattle.paxidore_calls.specs.declared.refused.Refused.TheVariants.{Room};
+ghost use Rattle.paxidore_c.specs.Answer.{Gives, GivesBy, Hands, done_code, refusal_code, verdict_code};
+ghost use Rattle.paxidore_c.specs.KeptLog.{appended, consistency_bytes, digest_hashes, digest_shown, if_inside, if_kept, if_older, inclusion_bytes, kept_code, log_root, more_count, takes};
+ghost use Rattle.paxidore_c.specs.LogProofs.{proof_digests};
+ghost use Rattle.paxidore_c.specs.declared.refused.Refused.TheVariants.{Room, Size};
 
-use kept_log::{is_size, stored_count};
-use paxidore_calls::log_keeper;
+use crate::buffer::hand_over;
+use crate::leaves::digests_of_leaves;
+use crate::refused::{Refused, verdict_code};
+use ark_base::error::Error;
+use ark_base::serialize::CanonicalItem;
+use ark_paths::hasher::TreeHasher;
+use ark_trees::LogHasher;
+use merkle_log::kept::{Kept, is_size, stored_count};
+use merkle_log::verify_inclusion_bytes;
 use std::alloc::Global;
 
 /// Returns how many digests a log of this size has stored; 0 for a size of 2^63 and above.
@@ -25,41 +34,6 @@ pub extern "C" fn paxidore_log_kept(size: usize) -> usize
     ensures { result ≡ (if nat_lt size (2 ^ 63) then stored_count size else 0) }
 {
     if is_size(size) { stored_count(size) } else { 0 }
-}
-
-/// Writes to the front of `more` the digests to put behind the stored ones of a log of `size` entries for more entries, and how
-/// many to `more_len`.
-///
-/// Answers: 0; else the first of `E_SIZE` for fewer digests than are stored and for a new size of 2^63 and above, `E_ROOM`,
-/// which alone writes the count that is needed, `E_LENGTHS`; `E_MEMORY` in place of any. Each leaves `more` as before.
-#[unsafe(no_mangle)]
-pub extern "C" fn paxidore_log_append(
-    alloc: Global,
-    more: &mut [[u8; 32]],
-    more_len: &mut usize,
-    kept: &[[u8; 32]],
-    size: usize,
-    entries: &[u8],
-    lengths: &[usize],
-) -> i32
-    ensures answer { let of_entries = appended size kept.now (length more.old) entries.now in
-        Gives (done_code (of_entries lengths.now)) result }
-
-    // Of a list of `size` leaf digests whose stored ones are kept: these and `more` behind them are the stored digests of the
-    // list with the entries' digests behind it.
-    ensures grows { let of_entries = appended size kept.now (length more.old) entries.now in
-        result ≡ pos 0 → IfOk (of_entries lengths.now) (λ xs. (leaves : List Digest)
-        → length leaves ≡ size → Keeps leaves kept.now
-        → let stored = take (stored_count size) kept.now in
-        Keeps (leaves ++ map entry_hash xs) (stored ++ take more_len.new more.new)) }
-    ensures counted { result ≡ pos 0 → more_len.new ≡ more_count size (length lengths.now) }
-    ensures behind { result ≡ pos 0 → drop more_len.new more.new ≡ drop more_len.new more.old }
-    ensures room_needed { let needed = more_count size (length lengths.now) in
-        result ≡ refusal_code Room → more_len.new ≡ needed }
-    ensures kept { result ≢ pos 0 → more.new ≡ more.old }
-    ensures uncounted { result ≢ pos 0 → result ≢ refusal_code Room → more_len.new ≡ more_len.old }
-{
-    log_keeper::append(alloc, more, more_len, kept, size, entries, lengths)
 }
 
 /// Writes the root of the first `size` entries of a log to `root`: MTH(D[0:size]), and of none the SHA-256 of nothing.
@@ -74,7 +48,45 @@ pub extern "C" fn paxidore_log_root(root: &mut [u8; 32], kept: &[[u8; 32]], size
         → Keeps leaves kept.now → log_root size leaves ≡ Ok root.new }
     ensures kept { result ≢ pos 0 → root.new ≡ root.old }
 {
-    log_keeper::root(root, kept, size)
+    match Kept::of(size, kept) {
+        Some(kept) => {
+            *root = kept.root();
+            0
+        }
+        None => Refused::Size.code(),
+    }
+}
+
+// The bytes of digests, one behind the other.
+fn bytes_of(alloc: Global, digests: &[[u8; 32]]) -> Result<Vec<u8>, Refused>
+    ensures { GivesBy (λ bytes. bytes.items) (Ok (flat_map itself digests.now)) result }
+{
+    let mut bytes = Vec::new(alloc);
+    <[u8; 32]>::serialize_items(digests, &mut bytes)?;
+    Ok(bytes)
+}
+
+// The bytes of the path of an index.
+fn inclusion_of(
+    alloc: Global,
+    kept: &[[u8; 32]],
+    size: usize,
+    index: usize,
+) -> Result<Vec<u8>, Refused>
+    ensures given { (bytes : List ℕ)
+        × GivesBy (λ bytes. bytes.items) (if_inside size index kept.now (Ok bytes)) result }
+    ensures path { (leaves : List Digest) → size ≤ length leaves → Keeps leaves kept.now
+        → GivesBy (λ bytes. bytes.items)
+        (if_inside size index kept.now (inclusion_bytes size index leaves)) result }
+{
+    let Some(kept) = Kept::of(size, kept) else {
+        return Err(Refused::Size);
+    };
+    if index >= size {
+        return Err(Refused::Index);
+    }
+    let path = kept.inclusion_path(alloc, index)?;
+    bytes_of(alloc, &path)
 }
 
 /// Writes the bytes of the path of an index of the first `size` entries to the front of `path`, and their count.
@@ -92,14 +104,38 @@ pub extern "C" fn paxidore_log_inclusion(
 ) -> i32
     // Of a list of at least `size` leaf digests whose stored ones are kept, they are those of PATH(index, D[0:size]).
     ensures path { (leaves : List Digest) → size ≤ length leaves → Keeps leaves kept.now
-        → let outcome = if_inside size index kept.now (inclusion_bytes size index leaves) in
-        Hands outcome path.old path.new path_len.old path_len.new result }
+        → Hands (if_inside size index kept.now (inclusion_bytes size index leaves)) path.old
+        path.new path_len.old path_len.new result }
 
     // Whatever is kept, some bytes are handed over.
-    ensures given { (bytes : List ℕ) × (let outcome = if_inside size index kept.now (Ok bytes) in
-        Hands outcome path.old path.new path_len.old path_len.new result) }
+    ensures given { (bytes : List ℕ)
+        × (Hands (if_inside size index kept.now (Ok bytes)) path.old path.new path_len.old
+        path_len.new result) }
 {
-    log_keeper::inclusion(alloc, path, path_len, kept, size, index)
+    hand_over(inclusion_of(alloc, kept, size, index), path, path_len)
+}
+
+// The bytes of the consistency proof of an old size.
+fn consistency_of(
+    alloc: Global,
+    kept: &[[u8; 32]],
+    old_size: usize,
+    size: usize,
+) -> Result<Vec<u8>, Refused>
+    ensures given { (bytes : List ℕ)
+        × GivesBy (λ bytes. bytes.items) (if_older old_size size kept.now (Ok bytes)) result }
+    ensures proof { (leaves : List Digest) → size ≤ length leaves → Keeps leaves kept.now
+        → GivesBy (λ bytes. bytes.items)
+        (if_older old_size size kept.now (consistency_bytes old_size size leaves)) result }
+{
+    let Some(kept) = Kept::of(size, kept) else {
+        return Err(Refused::Size);
+    };
+    if old_size == 0 || size < old_size {
+        return Err(Refused::Size);
+    }
+    let path = kept.consistency_path(alloc, old_size)?;
+    bytes_of(alloc, &path)
 }
 
 /// Writes the bytes of the proof that the first `size` entries continue the first `old_size` ones to the front of `proof`, and
@@ -118,14 +154,83 @@ pub extern "C" fn paxidore_log_consistency(
 ) -> i32
     // Of a list of at least `size` leaf digests whose stored ones are kept, they are those of PROOF(old_size, D[0:size]).
     ensures proof { (leaves : List Digest) → size ≤ length leaves → Keeps leaves kept.now
-        → let outcome = if_older old_size size kept.now (consistency_bytes old_size size leaves) in
-        Hands outcome proof.old proof.new proof_len.old proof_len.new result }
+        → Hands (if_older old_size size kept.now (consistency_bytes old_size size leaves)) proof.old
+        proof.new proof_len.old proof_len.new result }
 
     // Whatever is kept, some bytes are handed over.
-    ensures given { (bytes : List ℕ) × (let outcome = if_older old_size size kept.now (Ok bytes) in
-        Hands outcome proof.old proof.new proof_len.old proof_len.new result) }
+    ensures given { (bytes : List ℕ)
+        × (Hands (if_older old_size size kept.now (Ok bytes)) proof.old proof.new proof_len.old
+        proof_len.new result) }
 {
-    log_keeper::consistency(alloc, proof, proof_len, kept, old_size, size)
+    hand_over(
+        consistency_of(alloc, kept, old_size, size),
+        proof,
+        proof_len,
+    )
+}
+
+// How many digests stand behind the stored ones for so many leaves more; `None` where the sum is no size.
+fn more_count(size: usize, count: usize) -> Option<usize>
+    requires { size < 2 ^ 63 }
+    ensures { MatchOption result (takes size count ≡ false)
+        (λ more. (takes size count ≡ true) × (more ≡ more_count size count)) }
+{
+    let grown = size.saturating_add(count);
+    if !is_size(grown) {
+        return None;
+    }
+    Some(stored_count(grown) - stored_count(size))
+}
+
+/// Writes to the front of `more` the digests to put behind the stored ones of a log of `size` entries for more entries, and how
+/// many to `more_len`.
+///
+/// Answers: 0; else the first of `E_SIZE` for fewer digests than are stored and for a new size of 2^63 and above, `E_ROOM`,
+/// which alone writes the count that is needed, `E_LENGTHS`; `E_MEMORY` in place of any. Each leaves `more` as before.
+#[unsafe(no_mangle)]
+pub extern "C" fn paxidore_log_append(
+    alloc: Global,
+    more: &mut [[u8; 32]],
+    more_len: &mut usize,
+    kept: &[[u8; 32]],
+    size: usize,
+    entries: &[u8],
+    lengths: &[usize],
+) -> i32
+    ensures answer { Gives (done_code (appended size kept.now (length more.old) entries.now
+        lengths.now)) result }
+
+    // Of a list of `size` leaf digests whose stored ones are kept: these and `more` behind them are the stored digests of the
+    // list with the entries' digests behind it.
+    ensures grows { result ≡ pos 0
+        → IfOk (appended size kept.now (length more.old) entries.now lengths.now)
+        (λ xs. (leaves : List Digest) → length leaves ≡ size → Keeps leaves kept.now
+        → Keeps (leaves ++ map entry_hash xs) (take (stored_count size) kept.now ++ take
+        more_len.new more.new)) }
+    ensures counted { result ≡ pos 0 → more_len.new ≡ more_count size (length lengths.now) }
+    ensures behind { result ≡ pos 0 → drop more_len.new more.new ≡ drop more_len.new more.old }
+    ensures room_needed { result ≡ refusal_code Room
+        → more_len.new ≡ more_count size (length lengths.now) }
+    ensures kept { result ≢ pos 0 → more.new ≡ more.old }
+    ensures uncounted { result ≢ pos 0 → result ≢ refusal_code Room → more_len.new ≡ more_len.old }
+{
+    let Some(kept) = Kept::of(size, kept) else {
+        return Refused::Size.code();
+    };
+    let Some(count) = more_count(size, lengths.len()) else {
+        return Refused::Size.code();
+    };
+    if more.len() < count {
+        *more_len = count;
+        return Refused::Room.code();
+    }
+    match digests_of_leaves::<LogHasher>(alloc, entries, lengths) {
+        Ok(digests) => {
+            *more_len = merkle_log::kept::append(&kept, &digests, more);
+            0
+        }
+        Err(refused) => refused.code(),
+    }
 }
 
 /// Returns whether each stored digest of a pair is the hash of its two.
@@ -142,7 +247,37 @@ pub extern "C" fn paxidore_log_check(kept: &[[u8; 32]], size: usize) -> i32
     ensures damaged { result ≡ pos 1 → (leaves : List Digest) → length leaves ≡ size
         → Keeps leaves kept.now → ⊥ }
 {
-    log_keeper::check(kept, size)
+    match Kept::of(size, kept) {
+        Some(kept) => { if kept.is_sound() { 0 } else { 1 } }
+        None => Refused::Size.code(),
+    }
+}
+
+// A log whose entries are given by their digests.
+struct DigestHasher;
+
+impl TreeHasher<[u8; 32], [u8; 32]> for DigestHasher {
+    type Leaf = [u8; 32];
+
+    ghost hashes = { λ _. digest_hashes };
+
+    fn leaf(&self, _alloc: Global, leaf: &[u8; 32]) -> Result<[u8; 32], Error> {
+        Ok(*leaf)
+    }
+
+    fn bottom(&self, alloc: Global, left: &[u8; 32], right: &[u8; 32]) -> Result<[u8; 32], Error> {
+        LogHasher.bottom(alloc, left, right)
+    }
+
+    fn upper(&self, alloc: Global, left: &[u8; 32], right: &[u8; 32]) -> Result<[u8; 32], Error> {
+        LogHasher.upper(alloc, left, right)
+    }
+
+    ghost decided = { λ _. record {
+      leaf = λ _. tt;
+      bottom = λ _ _. tt;
+      upper = λ _ _. tt;
+    } };
 }
 
 /// Returns whether the bytes of a path show the digest of an entry at an index of a log with this root and size.
@@ -158,13 +293,17 @@ pub extern "C" fn paxidore_log_verify_inclusion_digest(
     digest: &[u8; 32],
     path: &[u8],
 ) -> i32
-    ensures answer { let outcome = digest_shown root.now size index digest.now path.now in
-        Gives (verdict_code outcome) result }
+    ensures answer { Gives (verdict_code (digest_shown root.now size index digest.now path.now))
+        result }
 
     // 0 says: in every log with this root and size the digest stands at the index, or at some level the path's pair and that of
     // the log's tree differ and hash alike.
-    ensures shows { let digests = proof_digests (inclusion_length size index) path.now in
-        result ≡ pos 0 → ShowsLogLeaf digest_hashes root.now size index digest.now digests }
+    ensures shows { result ≡ pos 0 → ShowsLogLeaf digest_hashes root.now size index digest.now
+        (proof_digests (inclusion_length size index) path.now) }
 {
-    log_keeper::verify_inclusion_digest(alloc, root, size, index, digest, path)
+    if index >= size {
+        return Refused::Index.code();
+    }
+    let (size, index) = (size as u64, index as u64);
+    verdict_code(verify_inclusion_bytes(alloc, &DigestHasher, root, size, index, digest, path))
 }

@@ -1,6 +1,7 @@
 //! The command `paxlog`: a transparency log in a file.
 #![tactic(auto)]
 
+mod file_disk;
 mod progress;
 mod stop;
 mod store;
@@ -12,7 +13,7 @@ use crate::words::words;
 use ark_trees::digest_of_entry;
 use paxlog_run::entries::digests_of_lines;
 use paxlog_run::fault::Fault;
-use paxlog_run::replies::{consistency_line, inclusion_line, is_sound, root_line};
+use paxlog_run::replies::{consistency_line, inclusion_line, is_sound, line_of_root};
 use paxlog_run::request::{Request, request_of, word};
 use paxlog_run::verdicts::{verify_consistency, verify_inclusion};
 use std::fs;
@@ -87,8 +88,8 @@ fn answer(rt: &HostRuntime, request: Request, words: &[Vec<u8>]) -> Result<u8, S
         Request::Append => append(rt, words, &digests_of_files(rt, words)?),
         Request::AppendLines => append(rt, words, &digests_in_file(rt, words)?),
         Request::Root { size } => {
-            let file = bytes_of(rt, words, 1)?;
-            say(rt, &root_line(rt.alloc(), &file, size)?)
+            let (size, root) = store::root(rt, name(words, 1)?, size)?;
+            say(rt, &line_of_root(rt.alloc(), size, &root)?)
         }
         Request::Prove { index, size } => {
             let file = bytes_of(rt, words, 1)?;

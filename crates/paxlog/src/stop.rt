@@ -27,6 +27,15 @@ impl From<Fault> for Stop {
     }
 }
 
+impl From<log_store::Stop<io::Error>> for Stop {
+    fn from(stop: log_store::Stop<io::Error>) -> Stop {
+        match stop {
+            log_store::Stop::Fault(fault) => Stop::Fault(fault),
+            log_store::Stop::Disk(error) => Stop::System(error),
+        }
+    }
+}
+
 impl From<AllocError> for Stop {
     fn from(_refused: AllocError) -> Stop {
         Stop::Fault(Fault::Memory)

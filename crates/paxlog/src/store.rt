@@ -1,22 +1,10 @@
-//! The file of a log.
+//! The file of a log: it is opened, locked, and made where it has no byte.
 
+use crate::file_disk::FileDisk;
 use crate::stop::Stop;
-use paxlog_run::file::log_in;
-use paxlog_run::growth::grow;
+use log_store::Disk;
 use paxlog_run::head::{TITLE, slot_of};
-use std::fs::{self, File, OpenOptions};
-use std::io::{self, ErrorKind, Read, Write};
-use std::os::unix::fs::FileExt;
-use std::process;
-
-// Writes the file of no entries.
-fn write_empty(rt: &HostRuntime, path: &str) -> io::Result<()> {
-    let mut file = File::create(rt, path)?;
-    file.write_all(&TITLE)?;
-    file.write_all(&slot_of(0))?;
-    file.write_all(&[0; 32])?;
-    file.sync_all()
-}
+use std::fs::{File, OpenOptions};
 
 // The folder of a file.
 fn folder_of(path: &str) -> &str {
@@ -27,53 +15,47 @@ fn folder_of(path: &str) -> &str {
     }
 }
 
-// Makes the file of no entries, under another name until it is whole. Where another process makes it too, the first one stays.
-fn make(rt: &HostRuntime, path: &str) -> Result<(), Stop> {
-    let id = process::id(rt.process());
-    let other = format!(in rt.alloc(); "{path}.{id}.new")?;
-    let made = match write_empty(rt, other.as_str()) {
-        Ok(()) => fs::hard_link(rt, other.as_str(), path),
-        Err(error) => Err(error),
-    };
-    let _ = fs::remove_file(rt, other.as_str());
-    match made {
-        Err(error) if error.kind() != ErrorKind::AlreadyExists => Err(Stop::System(error)),
-        _ => Ok(File::open(rt, folder_of(path))?.sync_all()?),
+// Writes the head of no entries to a file that has no byte, or no more than a part of that head.
+fn make(rt: &HostRuntime, path: &str, disk: &mut FileDisk) -> Result<(), Stop> {
+    let mut head = Vec::new(rt.alloc());
+    head.extend_from_slice(&TITLE)?;
+    head.extend_from_slice(&slot_of(0))?;
+    head.extend_from_slice(&slot_of(0))?;
+    let count = disk.length()?;
+    if count > head.len() {
+        return Ok(());
     }
-}
-
-// Opens the file of a log, which is made where there is none.
-fn open(rt: &HostRuntime, path: &str) -> Result<File, Stop> {
-    let mut how = OpenOptions::new();
-    how.read(true).write(true);
-    match how.open(rt, path) {
-        Err(error) if error.kind() == ErrorKind::NotFound => {
-            make(rt, path)?;
-            Ok(how.open(rt, path)?)
-        }
-        opened => Ok(opened?),
+    let mut there = Vec::new(rt.alloc());
+    there.resize(count, 0u8)?;
+    disk.read_at(0, &mut there)?;
+    let is_part = there
+        .iter()
+        .zip(head.iter())
+        .all(|(a, b)| *a == *b || *a == 0);
+    if count < head.len() && is_part {
+        disk.write_at(0, &head)?;
+        disk.sync()?;
+        File::open(rt, folder_of(path))?.sync_all()?;
     }
+    Ok(())
 }
 
 /// Appends entries with these digests to the log of a file, which is made where there is none, and returns the new size.
-///
-/// The digests are synced before the slot of the new size is written, and that before the call returns.
 pub fn append(rt: &HostRuntime, path: &str, digests: &[[u8; 32]]) -> Result<usize, Stop> {
-    let mut file = open(rt, path)?;
+    let mut how = OpenOptions::new();
+    let file = how.read(true).write(true).create(true).open(rt, path)?;
     file.try_lock()?;
-    let mut bytes = Vec::new(rt.alloc());
-    file.read_to_end(&mut bytes)?;
+    let mut disk = FileDisk { file };
+    make(rt, path, &mut disk)?;
+    disk.sync()?;
     if digests.is_empty() {
-        return match log_in(&bytes) {
-            Ok(log) => Ok(log.head.size),
-            Err(fault) => Err(Stop::from(fault)),
-        };
+        return Ok(log_store::size(&disk)?);
     }
-    let made = grow(rt.alloc(), &bytes, digests)?;
-    file.set_len(made.place as u64)?;
-    file.write_all_at(&made.digests, made.place as u64)?;
-    file.sync_all()?;
-    file.write_all_at(&made.slot, made.slot_place as u64)?;
-    file.sync_all()?;
-    Ok(made.size)
+    Ok(log_store::append(rt.alloc(), &mut disk, digests)?)
+}
+
+/// Returns the count and the root of the first entries of the log of a file, of as many as are named, or else of all.
+pub fn root(rt: &HostRuntime, path: &str, named: Option<usize>) -> Result<(usize, [u8; 32]), Stop> {
+    let file = File::open(rt, path)?;
+    Ok(log_store::root(&FileDisk { file }, named)?)
 }

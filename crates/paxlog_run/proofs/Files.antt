@@ -1,20 +1,20 @@
 -- The file of a log, and what an append makes of it.
-use Rattle.std.proofs.Common.{◌≡◌, ℕ, ◌+◌, ◌-◌, ◌*◌, ◌/◌, ◌<◌, ◌≤◌, ◌^◌, nat_lt, Bool, true, false, List, ◌++◌, length, take, drop, Option, Some, None, refl, ap, sym, ◌∙◌, subst, arith}
+use Rattle.std.proofs.Common.{◌≡◌, ◌⊎◌, inl, inr, ℕ, ◌+◌, ◌-◌, ◌*◌, ◌/◌, ◌<◌, ◌≤◌, ◌^◌, nat_lt, Bool, true, false, List, ◌++◌, length, take, drop, Option, Some, None, refl, ap, sym, ◌∙◌, subst, arith}
 use Rattle.std.specs.Prelude.{◌&&◌, not}
 use Rattle.std.specs.List.{flat_map, AllByRecursion}
 use Rattle.std.specs.Simd.{first_chunks}
 use Rattle.std.proofs.lemmas.Bool.{le-ltb, lt-ltb, ltb-true, ltb-false}
-use Rattle.std.proofs.lemmas.List.{length-append, length-drop, length-take-le, take-take, take-append-le, drop-drop}
+use Rattle.std.proofs.lemmas.List.{length-append, length-drop, length-take-le, take-take, take-append-le, take_all, drop-drop}
 use Rattle.ark_base.specs.Digits.{itself, AreBytes}
 use Rattle.ark_paths.specs.Pair.{Digest}
 use Rattle.ark_trees.specs.Rfc6962.{node_of}
-use Rattle.kept_log.specs.Kept.{front, has_front, Keeps}
+use Rattle.merkle_log.specs.Kept.{front, has_front, Keeps}
 use Rattle.merkle_log.specs.Stored.{stored_count, row_of, StoredValue, IsStored}
 use Rattle.merkle_log.proofs.Positions.{length-row_of}
 use Rattle.paxlog_run.specs.Append.{Appends, HasBehind}
 use Rattle.paxlog_run.specs.LogFile.{digest_count, file_end, file_head, next_slot, slot, slot_size, stored_in, written, IsLogFile}
 use Rattle.paxlog_run.proofs.Chunks.{chunks-append, chunks-flat, chunks-take, length-flat}
-use Rattle.paxlog_run.proofs.Heads.{head-parts, head-same, head-written, is_headed, length-slot, slot_size-slot, HasHead, IsNext}
+use Rattle.paxlog_run.proofs.Heads.{head-parts, head-same, head-written, is_headed, length-slot, slot-part, slot_size-slot, HasHead, IsNext, Uses}
 use Rattle.paxlog_run.proofs.Pieces.{behind-cut, behind-written, length-written, piece-cut}
 
 -- ---- as many digests as a size asks for
@@ -188,9 +188,83 @@ grown leaves more file log new all fits count keeps =
     ))
     (subst (Keeps (leaves ++ more)) (sym stored) keeps)
 
+-- ---- any bytes in the place of a slot
+
+-- what a file has whose digests are those of a log with these leaves
+pub record Holds (leaves : List Digest) (file : List ℕ) : Type 0 where
+  pub fits : length leaves < 2 ^ 63
+  pub inside : file_end (length leaves) ≤ length file
+  pub keeps : Keeps leaves (stored_in (length leaves) file)
+
+pub holds-of : (leaves : List Digest) (file : List ℕ) → Known leaves file → Holds leaves file
+holds-of leaves file log = record { fits = log.fits; inside = log.inside; keeps = log.keeps }
+
+-- A slot changes no digest.
+pub holds-slot : (leaves : List Digest) (file part : List ℕ) (second : Bool) → 96 ≤ length file → length part ≡ 32
+    → Holds leaves file → Holds leaves (written file (next_slot second) part)
+holds-slot leaves file part second long is has = record {
+  fits = has.fits;
+  inside = omega (arith, slot-length file part second long is, has.inside);
+  keeps = subst (Keeps leaves) (ap (first_chunks 32 (stored_count (length leaves))) (sym (slot-behind file part second
+      long is))) has.keeps;
+}
+
+pub log-holds : (leaves : List Digest) (file : List ℕ) (second : Bool) → HasHead file (length leaves) second
+    → Holds leaves file → IsLogFile leaves file
+log-holds leaves file second head has = log-of leaves file second head has.fits has.inside has.keeps
+
+-- Whatever stands in the place of a slot, the log is the same, or that slot says a larger size.
+pub slot-torn : (leaves : List Digest) (file part : List ℕ) (second : Bool) → Uses file (length leaves) second
+    → length part ≡ 32 → Holds leaves file → IsLogFile leaves (written file (next_slot second) part)
+    ⊎ ((other : ℕ) × (length leaves < other)
+    × ((next : Bool) × HasHead (written file (next_slot second) part) other next))
+slot-torn leaves file part second uses long has =
+    elim (slot-part file part (length leaves) second uses long) [
+      | inl same ↦ inl (log-holds leaves (written file (next_slot second) part) same.0 same.1
+          (holds-slot leaves file part second uses.long long has))
+      | inr larger ↦ inr (larger.0, larger.2, larger.3)
+    ]
+
+-- ---- digests behind the stored ones
+
+-- where the digests end, and what stands there then
+pub holds-more : (leaves more : List Digest) (file bytes rest : List ℕ) (log : Known leaves file)
+    → HasBehind leaves (stored_in (length leaves) file) more bytes → length (leaves ++ more) < 2 ^ 63
+    → Holds (leaves ++ more) (take (file_end (length leaves)) file ++ (bytes ++ rest))
+holds-more leaves more file bytes rest log behind fits =
+    let size = length (leaves ++ more) in
+    let count : stored_count (length leaves) + length behind.new ≡ stored_count size =
+    behind.count ∙ ap stored_count (sym (length-append leaves more)) in
+    let after = take (file_end (length leaves)) file ++ (bytes ++ rest) in
+    let flat : length bytes ≡ 32 * length behind.new = ap length behind.is ∙ length-flat behind.new behind.are_bytes in
+    let stored : stored_in size after ≡ stored_in (length leaves) file ++ behind.new =
+    ap (λ n. first_chunks 32 n (drop 96 after)) (sym count)
+    ∙ ap (first_chunks 32 (stored_count (length leaves) + length behind.new)) (cut-behind leaves file (bytes ++ rest)
+    log)
+    ∙ chunks-append (stored_count (length leaves)) (length behind.new)
+    (take (32 * stored_count (length leaves)) (drop 96 file)) (bytes ++ rest) (stored-length leaves file (bytes ++ rest)
+    log)
+    ∙ ap (λ xs. xs ++ first_chunks 32 (length behind.new) (bytes ++ rest)) (chunks-take (stored_count (length leaves))
+    (drop 96 file))
+    ∙ ap (λ xs. stored_in (length leaves) file ++ xs) (sym (chunks-take (length behind.new) (bytes ++ rest))
+    ∙ ap (first_chunks 32 (length behind.new)) (take-append-le (32 * length behind.new) bytes rest (omega (arith, flat))
+    ∙ take_all (32 * length behind.new) bytes (omega (arith, flat)) ∙ behind.is)
+    ∙ chunks-flat behind.new behind.are_bytes) in
+    record {
+      fits = fits;
+      inside = omega (
+        arith,
+        length-cut leaves file (bytes ++ rest) log,
+        length-append bytes rest,
+        flat,
+        count,
+      );
+      keeps = subst (Keeps (leaves ++ more)) (sym stored) behind.keeps;
+    }
+
 -- ---- what a check of the stored digests says
 
-sizes-same : (file : List ℕ) (a b : ℕ) (first second : Bool) → file_head file ≡ Some (a, first)
+pub sizes-same : (file : List ℕ) (a b : ℕ) (first second : Bool) → file_head file ≡ Some (a, first)
     → file_head file ≡ Some (b, second) → a ≡ b
 sizes-same file a b first second one two = ap (λ o. size_in o) (sym one ∙ two)
   where

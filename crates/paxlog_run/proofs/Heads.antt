@@ -1,8 +1,9 @@
 -- The head of a log's file, and what a slot that is written makes of it.
-use Rattle.std.proofs.Common.{◌≡◌, ℕ, ◌+◌, ◌<◌, ◌≤◌, ◌^◌, nat_lt, Bool, true, false, if◌then◌else◌, List, length, take, drop, Option, Some, None, refl, ap, ◌∙◌, arith}
+use Rattle.std.proofs.Common.{◌≡◌, ◌⊎◌, ℕ, ◌+◌, ◌<◌, ◌≤◌, ◌^◌, nat_lt, Bool, true, false, if◌then◌else◌, List, length, take, drop, Option, Some, None, refl, ap, ◌∙◌, inl, inr, arith}
+use Rattle.std.specs.Prelude.{not}
 use Rattle.std.specs.Int.{w64, to_le_bytes}
 use Rattle.std.specs.Str.{bytes_eq}
-use Rattle.std.proofs.lemmas.Bool.{le-ltb, ltb-false}
+use Rattle.std.proofs.lemmas.Bool.{cases_lt, le-ltb, ltb-false, ltb-true}
 use Rattle.std.proofs.lemmas.List.{length-append, length-take-le}
 use Rattle.std.proofs.lemmas.Nat.{from_le_bytes-to_le_bytes_8}
 use Rattle.std.proofs.lemmas.Slice.Eq.{bytes_eq-Decides}
@@ -153,6 +154,95 @@ head-written file part size new false head long is =
       },
     )
 
+-- ---- a slot in whose place any bytes stand
+
+-- where the slot stands that is in use, if the other one takes the next size
+abbrev pub used_slot : Bool → ℕ
+used_slot second = if second then 32 else 64
+
+-- The slot in use has a size.
+pub record Uses (file : List ℕ) (size : ℕ) (second : Bool) : Type 0 where
+  pub long : 96 ≤ length file
+  pub begins : bytes_eq (take 32 file) title ≡ true
+  pub has : slot_size (take 32 (drop (used_slot second) file)) ≡ Some size
+
+pub uses-of : (file : List ℕ) (size : ℕ) (second : Bool) → HasHead file size second → Uses file size second
+uses-of file size true head = record {
+  long = head.long;
+  begins = head.begins;
+  has = first-has (slot_size (take 32 (drop 32 file))) (slot_size (take 32 (drop 64 file))) size head.slots;
+}
+uses-of file size false head = record {
+  long = head.long;
+  begins = head.begins;
+  has = second-has (slot_size (take 32 (drop 32 file))) (slot_size (take 32 (drop 64 file))) size head.slots;
+}
+
+-- The file has this size, or a larger one that stands in the other slot.
+abbrev pub ReadsOr : List ℕ → ℕ → Option ℕ → Type 0
+ReadsOr file size seen = ((next : Bool) × HasHead file size next)
+    ⊎ ((other : ℕ) × (seen ≡ Some other) × (size < other) × ((next : Bool) × HasHead file other next))
+
+-- what the larger of two slots' sizes is
+abbrev LargerOr : ℕ → Option ℕ → Option (ℕ × Bool) → Type 0
+LargerOr size seen found = ((next : Bool) × (found ≡ some_head size next))
+    ⊎ ((other : ℕ) × (seen ≡ Some other) × (size < other) × ((next : Bool) × (found ≡ some_head other next)))
+
+larger-left : (size : ℕ) (seen : Option ℕ) → LargerOr size seen (larger (Some size) seen)
+larger-left size None = inl (true, refl)
+larger-left size (Some other) = go (nat_lt size other) refl
+  where
+    go : (below : Bool) → nat_lt size other ≡ below
+        → LargerOr size (Some other) (if below then some_head other false else some_head size true)
+    go true told = inr (other, refl, ltb-true size other told, (false, refl))
+    go false told = inl (true, refl)
+
+larger-right : (size : ℕ) (seen : Option ℕ) → LargerOr size seen (larger seen (Some size))
+larger-right size None = inl (false, refl)
+larger-right size (Some other) = go (nat_lt other size) refl
+  where
+    go : (below : Bool) → nat_lt other size ≡ below
+        → LargerOr size (Some other) (if below then some_head size false else some_head other true)
+    go true told = inl (false, refl)
+    go false told = elim (cases_lt size other) [
+      | inl less ↦ inr (other, refl, less, (true, refl))
+      | inr ge ↦
+          let same : other ≡ size = omega (arith, ltb-false other size told) in
+          inl (true, ap (λ n. some_head n true) same)
+    ]
+
+reads-of : (file : List ℕ) (size : ℕ) (seen : Option ℕ) → 96 ≤ length file → bytes_eq (take 32 file) title ≡ true
+    → LargerOr size seen (larger (slot_size (take 32 (drop 32 file))) (slot_size (take 32 (drop 64 file))))
+    → ReadsOr file size seen
+reads-of file size seen long begins (inl (next, found)) =
+    inl (next, record { long = long; begins = begins; slots = found })
+reads-of file size seen long begins (inr (other, is, less, (next, found))) =
+    inr (other, is, less, (next, record { long = long; begins = begins; slots = found }))
+
+-- Whatever stands in the place of the next slot.
+pub slot-part : (file part : List ℕ) (size : ℕ) (second : Bool) → Uses file size second → length part ≡ 32
+    → ReadsOr (written file (next_slot second) part) size (slot_size part)
+slot-part file part size true head long =
+    let inside : 64 + length part ≤ length file = omega (arith, head.long, long) in
+    let first : take 32 (drop 32 (written file 64 part)) ≡ take 32 (drop 32 file) =
+    piece-before file part 64 32 32 (omega arith) (omega (arith, head.long)) in
+    let other : take 32 (drop 64 (written file 64 part)) ≡ part =
+    piece-written file part 64 32 long (omega (arith, head.long)) in
+    let begins : take 32 (written file 64 part) ≡ take 32 file =
+    piece-before file part 64 0 32 (omega arith) (omega (arith, head.long)) in
+    reads-of (written file 64 part) size (slot_size part) (omega (arith, head.long, length-written file part 64 inside))
+    (rw begins head.begins) (rw (first, other, head.has) (larger-left size (slot_size part)))
+slot-part file part size false head long =
+    let inside : 32 + length part ≤ length file = omega (arith, head.long, long) in
+    let begins : take 32 (written file 32 part) ≡ take 32 file =
+    piece-before file part 32 0 32 (omega arith) (omega (arith, head.long)) in
+    let first : take 32 (drop 32 (written file 32 part)) ≡ part =
+    piece-written file part 32 32 long (omega (arith, head.long)) in
+    let behind : drop 64 (written file 32 part) ≡ drop 64 file =
+    behind-written file part 32 64 (omega (arith, long)) (omega (arith, head.long)) in
+    reads-of (written file 32 part) size (slot_size part) (omega (arith, head.long, length-written file part 32 inside))
+    (rw begins head.begins) (rw (first, behind, head.has) (larger-right size (slot_size part)))
+
 -- ---- a slot
 
 length-word : (n : ℕ) → length (to_le_bytes w64 n) ≡ 8
@@ -174,3 +264,53 @@ same_bytes bytes = (bytes_eq-Decides bytes bytes).1 refl
 
 pub slot_size-slot : (size : ℕ) → size < 2 ^ 64 → slot_size (slot size) ≡ Some size
 slot_size-slot size fits = rw (first_word-slot size fits, same_bytes (slot size)) refl
+
+-- The next slot was written with a larger size: now the other one is the next.
+pub uses-turned : (file : List ℕ) (size new : ℕ) (second : Bool) → Uses file size second → new < 2 ^ 64
+    → Uses (written file (next_slot second) (slot new)) new (not second)
+uses-turned file size new true head fits =
+    let part = slot new in
+    let long = length-slot new in
+    let inside : 64 + length part ≤ length file = omega (arith, head.long, long) in
+    let begins : take 32 (written file 64 part) ≡ take 32 file =
+    piece-before file part 64 0 32 (omega arith) (omega (arith, head.long)) in
+    record {
+      long = omega (arith, head.long, length-written file part 64 inside);
+      begins = rw begins head.begins;
+      has = ap slot_size (piece-written file part 64 32 long (omega (arith, head.long))) ∙ slot_size-slot new fits;
+    }
+uses-turned file size new false head fits =
+    let part = slot new in
+    let long = length-slot new in
+    let inside : 32 + length part ≤ length file = omega (arith, head.long, long) in
+    let begins : take 32 (written file 32 part) ≡ take 32 file =
+    piece-before file part 32 0 32 (omega arith) (omega (arith, head.long)) in
+    record {
+      long = omega (arith, head.long, length-written file part 32 inside);
+      begins = rw begins head.begins;
+      has = ap slot_size (piece-written file part 32 32 long (omega (arith, head.long))) ∙ slot_size-slot new fits;
+    }
+
+-- The slot in use stays while the other one is written.
+pub uses-kept : (file part : List ℕ) (size : ℕ) (second : Bool) → Uses file size second → length part ≡ 32
+    → Uses (written file (next_slot second) part) size second
+uses-kept file part size true head long =
+    let inside : 64 + length part ≤ length file = omega (arith, head.long, long) in
+    let begins : take 32 (written file 64 part) ≡ take 32 file =
+    piece-before file part 64 0 32 (omega arith) (omega (arith, head.long)) in
+    record {
+      long = omega (arith, head.long, length-written file part 64 inside);
+      begins = rw begins head.begins;
+      has = ap slot_size (piece-before file part 64 32 32 (omega arith) (omega (arith, head.long))) ∙ head.has;
+    }
+uses-kept file part size false head long =
+    let inside : 32 + length part ≤ length file = omega (arith, head.long, long) in
+    let begins : take 32 (written file 32 part) ≡ take 32 file =
+    piece-before file part 32 0 32 (omega arith) (omega (arith, head.long)) in
+    let behind : drop 64 (written file 32 part) ≡ drop 64 file =
+    behind-written file part 32 64 (omega (arith, long)) (omega (arith, head.long)) in
+    record {
+      long = omega (arith, head.long, length-written file part 32 inside);
+      begins = rw begins head.begins;
+      has = ap (λ l. slot_size (take 32 l)) behind ∙ head.has;
+    }

@@ -4,7 +4,7 @@ use Rattle.std.specs.Prelude.{not, unwrap_or}
 use Rattle.std.proofs.lemmas.Bool.{le-ltb, lt-ltb}
 use Rattle.ark_base.specs.Outcome.{◌>>=◌}
 use Rattle.ark_paths.specs.Pair.{Digest}
-use Rattle.kept_log.specs.Kept.{front}
+use Rattle.merkle_log.specs.Kept.{front}
 use Rattle.merkle_log.specs.Stored.{StoredValue}
 use Rattle.paxlog_run.specs.Faults.{log_size, of_first, only_if}
 use Rattle.paxlog_run.specs.declared.fault.Fault.{Fault}

@@ -4,7 +4,7 @@ use Rattle.std.specs.List.{flat_map, AllByRecursion}
 use Rattle.ark_base.specs.Digits.{itself, AreBytes}
 use Rattle.ark_base.specs.Outcome.{◌>>=◌}
 use Rattle.ark_paths.specs.Pair.{Digest}
-use Rattle.kept_log.specs.Kept.{Keeps}
+use Rattle.merkle_log.specs.Kept.{Keeps}
 use Rattle.merkle_log.specs.Stored.{stored_count}
 use Rattle.paxlog_run.specs.Faults.{log_size, only_if}
 use Rattle.paxlog_run.specs.LogFile.{slot_size, written, IsLogFile}

@@ -1,7 +1,7 @@
 -- Why there is no answer.
 use Rattle.std.specs.Prelude.{◌≡◌, ◌⊎◌, ℕ, nat_lt, not, ◌&&◌, Bool, if◌then◌else◌, List, Option, Some, None, unwrap_or, Result, Ok, Err, IsOk, MatchResult}
 use Rattle.ark_base.specs.Outcome.{◌>>=◌}
-use Rattle.kept_log.specs.Kept.{has_front}
+use Rattle.merkle_log.specs.Kept.{has_front}
 use Rattle.paxlog_run.specs.LogFile.{digest_count, file_head}
 use Rattle.paxlog_run.specs.declared.fault.Fault.{Fault}
 use Rattle.paxlog_run.specs.declared.fault.Fault.TheVariants.{Memory, NoLog, Short, Size}

@@ -5,7 +5,7 @@ use Rattle.std.specs.Simd.{first_chunks}
 use Rattle.std.specs.Str.{bytes_eq}
 use Rattle.sha2.specs.Sha256.{sha256}
 use Rattle.ark_paths.specs.Pair.{Digest}
-use Rattle.kept_log.specs.Kept.{has_front, Keeps}
+use Rattle.merkle_log.specs.Kept.{has_front, Keeps}
 use Rattle.merkle_log.specs.Stored.{stored_count}
 
 -- how the file of a log begins

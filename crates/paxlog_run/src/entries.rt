@@ -1,13 +1,16 @@
 //! The digests of entries that are lines.
 
-ghost use Rattle.std.specs.Prelude.{◌≡◌, ◌<◌, ◌∷◌, ◌++◌, [], List, length, map, IfSome, IsOkUnless, OnOk, MatchOption, Ok};
+ghost use Rattle.std.specs.Prelude.{◌≡◌, ◌<◌, ◌≤◌, ◌∷◌, ◌++◌, [], length, map, IfOk, IsOkUnless, OnOk, MatchOption, Ok};
+ghost use Rattle.ark_crh.specs.Ahead.{lent};
 ghost use Rattle.ark_trees.specs.Rfc6962.{entry_hash};
 ghost use Rattle.paxlog_run.specs.Entries.{lines_of};
 ghost use Rattle.paxlog_run.specs.Faults.{GivesBy};
 ghost use Rattle.paxlog_run.specs.declared.fault.Fault.TheVariants.{Memory};
 
 use crate::fault::Fault;
-use ark_trees::{digest_of_entry, digests_of_entries};
+use ark_crh::ArrayHash;
+use ark_paths::runs::RUN;
+use ark_trees::LogHasher;
 use memchr::memchr;
 use std::alloc::Global;
 
@@ -17,12 +20,12 @@ pub trait Progress {
     fn show(&mut self, done: usize, all: usize);
 }
 
-// How many lines are hashed between two times that progress is shown: a multiple of four.
+// How many lines are hashed between two times that progress is shown: a multiple of those of a run.
 const BETWEEN: usize = 65536;
 
 /// Returns the first line, without its line feed, and what stands behind that; nothing where there is no byte.
 fn next_line(bytes: &[u8]) -> Option<(&[u8], &[u8])>
-    ensures { MatchOption result (lines_of bytes.now ≡ [])
+    ensures { MatchOption result ((length bytes.now ≡ 0) × (lines_of bytes.now ≡ []))
         (λ found. (lines_of bytes.now ≡ found.0.now ∷ lines_of found.1.now)
         × (length found.1.now < length bytes.now)) }
 {
@@ -35,36 +38,37 @@ fn next_line(bytes: &[u8]) -> Option<(&[u8], &[u8])>
     }
 }
 
-// Returns the first four lines, and what stands behind them; nothing where there are fewer.
-fn next_four(bytes: &[u8]) -> Option<(&[u8], &[u8], &[u8], &[u8], &[u8])>
-    ensures { IfSome result (λ found. (lines_of bytes.now
-        ≡ found.0.now ∷ found.1.now ∷ found.2.now ∷ found.3.now ∷ lines_of found.4.now)
-        × (length found.4.now < length bytes.now)) }
-{
-    let (first, rest) = next_line(bytes)?;
-    let (second, rest) = next_line(rest)?;
-    let (third, rest) = next_line(rest)?;
-    let (fourth, rest) = next_line(rest)?;
-    Some((first, second, third, fourth, rest))
-}
-
-// Puts the digests of four entries behind others.
-fn push_four(
-    digests: &mut Vec<[u8; 32]>,
-    a: &[u8],
-    b: &[u8],
-    c: &[u8],
-    d: &[u8],
-) -> Result<(), Fault>
-    ensures pushed { let four = a.now ∷ b.now ∷ c.now ∷ d.now ∷ [] in
-        OnOk result (digests.new.items ≡ digests.old.items ++ map entry_hash four) }
+// Returns the first lines, a run of them, and what stands behind them.
+fn next_lines(alloc: Global, bytes: &[u8]) -> Result<(Vec<&[u8]>, &[u8]), Fault>
+    ensures lines { IfOk result (λ found.
+        lines_of bytes.now ≡ lent found.0.items ++ lines_of found.1.now) }
+    ensures more { IfOk result (λ found.
+        0 < length bytes.now → length found.1.now < length bytes.now) }
+    ensures run { IfOk result (λ found. length found.0.items ≤ 256) }
     ensures memory { IsOkUnless result Memory }
 {
-    let (first, second, third, fourth) = digests_of_entries(a, b, c, d);
-    digests.push(first)?;
-    digests.push(second)?;
-    digests.push(third)?;
-    digests.push(fourth)?;
+    let mut lines = Vec::with_capacity(alloc, RUN)?;
+    let mut rest = bytes;
+    'lines: for _ in 0..RUN {
+        let Some((line, behind)) = next_line(rest) else {
+            break;
+        };
+        lines.push(line)?;
+        rest = behind;
+    }
+    Ok((lines, rest))
+}
+
+// Puts the digests of entries behind others.
+fn push_digests(digests: &mut Vec<[u8; 32]>, lines: &[&[u8]]) -> Result<(), Fault>
+    requires { length lines.now ≤ 256 }
+    ensures pushed { OnOk result (digests.new.items
+        ≡ digests.old.items ++ map entry_hash (lent lines.now)) }
+    ensures memory { IsOkUnless result Memory }
+{
+    let mut made = [[0u8; 32]; RUN];
+    LogHasher::leaves(lines, &mut made[..lines.len()]);
+    digests.extend_from_slice(&made[..lines.len()])?;
     Ok(())
 }
 
@@ -81,16 +85,13 @@ pub fn digests_of_lines<P: Progress>(
 {
     let mut digests = Vec::new(alloc);
     let mut rest = bytes;
-    'fours: while let Some((a, b, c, d, behind)) = next_four(rest) {
-        push_four(&mut digests, a, b, c, d)?;
+    'runs: while !rest.is_empty() {
+        let (lines, behind) = next_lines(alloc, rest)?;
+        push_digests(&mut digests, &lines)?;
         rest = behind;
         if digests.len() % BETWEEN == 0 {
             progress.show(bytes.len().saturating_sub(rest.len()), bytes.len());
         }
-    }
-    'others: while let Some((line, behind)) = next_line(rest) {
-        digests.push(digest_of_entry(line))?;
-        rest = behind;
     }
     Ok(digests)
 }

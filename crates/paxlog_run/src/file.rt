@@ -3,20 +3,20 @@
 ghost use Rattle.std.specs.Prelude.{◌≡◌, ◌≤◌, ◌<◌, ◌+◌, ◌*◌, ◌^◌, drop, Some, Ok, Err, length, List, IfOk, IfErr, unwrap_or};
 ghost use Rattle.std.specs.Simd.{first_chunks};
 ghost use Rattle.ark_paths.specs.Pair.{Digest};
-ghost use Rattle.kept_log.specs.Kept.{Keeps};
+ghost use Rattle.merkle_log.specs.Kept.{front, Keeps};
 ghost use Rattle.merkle_log.specs.Stored.{stored_count};
 ghost use Rattle.paxlog_run.specs.Faults.{log_size, of_first};
 ghost use Rattle.paxlog_run.specs.LogFile.{file_end, file_head, stored_in, IsLogFile};
 
 use crate::fault::Fault;
 use crate::head::{Head, START, head_in};
-use kept_log::{Kept, is_size, stored_count};
+use merkle_log::kept::{Kept, is_size, stored_count};
 
 /// The log of a file: its head, and its stored digests.
-#[derive(Clone, Copy)]
+#[derive(Drop)]
 pub struct LogFile<'a> {
     pub head: Head,
-    pub digests: &'a [[u8; 32]],
+    pub kept: Kept<'a>,
 }
 
 // The first digests behind the head.
@@ -36,8 +36,9 @@ pub fn log_in(bytes: &[u8]) -> Result<LogFile<'_>, Fault>
     ensures size { IfOk result (λ log. log_size bytes.now ≡ Ok log.head.size) }
     ensures head { IfOk result (λ log.
         file_head bytes.now ≡ Some (log.head.size, log.head.is_second_next)) }
-    ensures digests { IfOk result (λ log. log.digests.now ≡ stored_in log.head.size bytes.now) }
-    ensures count { IfOk result (λ log. length log.digests.now ≡ stored_count log.head.size) }
+    ensures kept { IfOk result (λ log.
+        log.kept ≡ front log.head.size (stored_in log.head.size bytes.now)) }
+    ensures count { IfOk result (λ log. length log.kept.digests ≡ stored_count log.head.size) }
     ensures fits { IfOk result (λ log. log.head.size < 2 ^ 63) }
     ensures inside { IfOk result (λ log. file_end log.head.size ≤ length bytes.now) }
     ensures refused { IfErr result (λ fault. log_size bytes.now ≡ Err fault) }
@@ -54,7 +55,7 @@ pub fn log_in(bytes: &[u8]) -> Result<LogFile<'_>, Fault>
     }
     Ok(LogFile {
         head,
-        digests: stored_in(bytes, count),
+        kept: Kept::new(head.size, stored_in(bytes, count)),
     })
 }
 
@@ -78,8 +79,5 @@ pub fn first_of(bytes: &[u8], named: Option<usize>) -> Result<Kept<'_>, Fault>
     if size > log.head.size {
         return Err(Fault::Size);
     }
-    match Kept::of(size, log.digests) {
-        Some(kept) => Ok(kept),
-        None => Err(Fault::Size),
-    }
+    Ok(log.kept.first(size))
 }

@@ -2,7 +2,7 @@
 
 ghost use Rattle.std.specs.Prelude.{◌≡◌, ℕ, ◌<◌, ◌+◌, ◌≤◌, ◌^◌, Bool, List, length, take, Some, IfOk, IsOkUnless};
 ghost use Rattle.ark_paths.specs.Pair.{Digest};
-ghost use Rattle.kept_log.specs.Kept.{Keeps};
+ghost use Rattle.merkle_log.specs.Kept.{Keeps};
 ghost use Rattle.merkle_log.specs.Stored.{stored_count};
 ghost use Rattle.paxlog_run.specs.Append.{appended_size, Appends, HasBehind};
 ghost use Rattle.paxlog_run.specs.Faults.{GivesBy};
@@ -13,7 +13,7 @@ use crate::fault::Fault;
 use crate::file::log_in;
 use crate::head::{START, slot_of};
 use ark_base::serialize::CanonicalItem;
-use kept_log::{Kept, is_size, stored_count};
+use merkle_log::kept::{self, Kept, is_size, stored_count};
 use std::alloc::Global;
 
 /// What an append writes: first the digests, and once they are on the disk the slot.
@@ -47,32 +47,26 @@ fn bytes_made(
         IfOk result (λ bytes. HasBehind leaves stored digests.now bytes.items) }
     ensures memory { IsOkUnless result Memory }
 {
-    let made = kept_log::append(kept, digests, more);
+    let made = kept::append(kept, digests, more);
     let mut bytes = Vec::new(alloc);
     <[u8; 32]>::serialize_items(&more[..made], &mut bytes)?;
     Ok(bytes)
 }
 
-// The same, of stored digests.
-fn bytes_behind(
-    alloc: Global,
-    size: usize,
-    stored: &[[u8; 32]],
-    digests: &[[u8; 32]],
-) -> Result<Vec<u8>, Fault>
-    requires whole { length stored.now ≡ stored_count size }
-    requires fits { size + length digests.now < 2 ^ 63 }
-    ensures bytes { (leaves : List Digest) → length leaves ≡ size → Keeps leaves stored.now
-        → IfOk result (λ bytes. HasBehind leaves stored.now digests.now bytes.items) }
+// The same. It makes the buffer.
+fn bytes_behind(alloc: Global, kept: &Kept, digests: &[[u8; 32]]) -> Result<Vec<u8>, Fault>
+    requires fits { kept.now.size + length digests.now < 2 ^ 63 }
+    ensures bytes { (leaves : List Digest) → length leaves ≡ kept.now.size
+        → Keeps leaves kept.now.digests
+        → let stored = take (stored_count kept.now.size) kept.now.digests in
+        IfOk result (λ bytes. HasBehind leaves stored digests.now bytes.items) }
     ensures memory { IsOkUnless result Memory }
 {
-    let Some(kept) = Kept::of(size, stored) else {
-        return Err(Fault::Memory);
-    };
-    let count = stored_count(size + digests.len()) - stored.len();
+    let size = kept.size();
+    let count = stored_count(size + digests.len()) - stored_count(size);
     let mut more = Vec::new(alloc);
     more.resize(count, [0u8; 32])?;
-    bytes_made(alloc, &kept, digests, &mut more)
+    bytes_made(alloc, kept, digests, &mut more)
 }
 
 /// Returns what an append of entries with these digests writes to the file of a log.
@@ -102,10 +96,10 @@ pub fn grow(alloc: Global, file: &[u8], digests: &[[u8; 32]]) -> Result<Growth, 
     if !is_size(size) {
         return Err(Fault::Size);
     }
-    let more = bytes_behind(alloc, log.head.size, log.digests, digests)?;
+    let more = bytes_behind(alloc, &log.kept, digests)?;
     Ok(Growth {
         size,
-        place: START + 32 * log.digests.len(),
+        place: START + 32 * log.kept.stored().len(),
         digests: more,
         slot_place: log.head.next_slot(),
         slot: slot_of(size),

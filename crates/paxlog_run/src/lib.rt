@@ -8,5 +8,4 @@ pub mod growth;
 pub mod head;
 pub mod replies;
 pub mod request;
-pub mod task;
 pub mod verdicts;

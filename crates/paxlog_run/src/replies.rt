@@ -1,6 +1,7 @@
 //! What is said of the log of a file, line by line.
 
-ghost use Rattle.std.specs.Prelude.{◌≡◌, ℕ, nat_lt, true, false, List, length, IfOk, IfErr, Ok, Err, unwrap_or};
+ghost use Rattle.std.specs.Prelude.{◌≡◌, ◌++◌, ◌∷◌, ℕ, nat_lt, true, false, List, length, IfOk, IfErr, Ok, Err, unwrap_or};
+ghost use Rattle.std.specs.Fmt.{decimal};
 ghost use Rattle.std.specs.List.{flat_map};
 ghost use Rattle.ark_base.specs.Digits.{itself};
 ghost use Rattle.ark_paths.specs.Pair.{Digest};
@@ -12,8 +13,16 @@ ghost use Rattle.paxlog_run.specs.declared.fault.Fault.TheVariants.{Index, Size}
 use crate::fault::Fault;
 use crate::file::{first_of, log_in};
 use ark_base::serialize::CanonicalItem;
-use kept_log::Kept;
 use std::alloc::Global;
+
+/// Returns the line of a root: the count of entries in decimal, a space, and the root in hexadecimal. The only error is `Memory`.
+pub fn line_of_root(alloc: Global, size: usize, root: &[u8; 32]) -> Result<Vec<u8>, Fault>
+    ensures { let line = decimal size ++ 32 ∷ hex_line root.now in
+        GivesBy (λ line. line.items) (Ok line) result }
+{
+    let hex = hex::encode(alloc, root.as_slice())?;
+    Ok(format!(in alloc; "{size} {hex}\n")?.into_bytes())
+}
 
 /// Returns the line of the root of the first entries of the log of a file, of as many as are named, or else of all: their
 /// count in decimal, a space, and the root in hexadecimal.
@@ -129,8 +138,5 @@ pub fn is_sound(file: &[u8]) -> Result<bool, Fault>
         Ok(log) => log,
         Err(fault) => return Err(fault),
     };
-    match Kept::of(log.head.size, log.digests) {
-        Some(kept) => Ok(kept.is_sound()),
-        None => Err(Fault::Short),
-    }
+    Ok(log.kept.is_sound())
 }

@@ -1,9 +1,8 @@
 //! What the words behind the command's name ask for.
 
 ghost use Rattle.std.specs.Prelude.{◌≡◌, List, [], map, get_or, vec_items};
-ghost use Rattle.paxlog_run.specs.Requests.{asked, digest_at, digest_of, number_at, request_of, size_at};
+ghost use Rattle.paxlog_run.specs.Requests.{asked, consistency_in, digest_at, digest_of, number_at, prove_in, request_of, root_in, size_at, verify_consistency_in, verify_in};
 
-use crate::task::{Task, task_of};
 use decimals::number_of;
 
 /// What is asked for. The names of files and a proof's word stay among the words: LOG behind the first word, FILE behind it
@@ -84,37 +83,114 @@ fn size_at(words: &[Vec<u8>], place: usize) -> Option<Option<usize>>
     }
 }
 
-// What a task asks for by the words.
-fn asked(task: Task, words: &[Vec<u8>]) -> Option<Request>
-    ensures { result ≡ asked task (map vec_items words.now) }
+// The root that is asked for.
+fn root_in(words: &[Vec<u8>]) -> Option<Request>
+    ensures { result ≡ root_in (map vec_items words.now) }
 {
-    match task {
-        Task::Append => Some(Request::Append),
-        Task::AppendLines => Some(Request::AppendLines),
-        Task::Root => Some(Request::Root {
-            size: size_at(words, 2)?,
-        }),
-        Task::Prove => Some(Request::Prove {
-            index: number_at(words, 2)?,
-            size: size_at(words, 3)?,
-        }),
-        Task::Consistency => Some(Request::Consistency {
-            old_size: number_at(words, 2)?,
-            size: size_at(words, 3)?,
-        }),
-        Task::Check => Some(Request::Check),
-        Task::Verify => Some(Request::Verify {
-            root: digest_at(words, 1)?,
-            size: number_at(words, 2)?,
-            index: number_at(words, 3)?,
-        }),
-        Task::VerifyConsistency => Some(Request::VerifyConsistency {
-            old_size: number_at(words, 1)?,
-            old_root: digest_at(words, 2)?,
-            size: number_at(words, 3)?,
-            root: digest_at(words, 4)?,
-        }),
-        Task::Help => Some(Request::Help),
+    Some(Request::Root {
+        size: size_at(words, 2)?,
+    })
+}
+
+// The inclusion proof that is asked for.
+fn prove_in(words: &[Vec<u8>]) -> Option<Request>
+    ensures { result ≡ prove_in (map vec_items words.now) }
+{
+    Some(Request::Prove {
+        index: number_at(words, 2)?,
+        size: size_at(words, 3)?,
+    })
+}
+
+// The consistency proof that is asked for.
+fn consistency_in(words: &[Vec<u8>]) -> Option<Request>
+    ensures { result ≡ consistency_in (map vec_items words.now) }
+{
+    Some(Request::Consistency {
+        old_size: number_at(words, 2)?,
+        size: size_at(words, 3)?,
+    })
+}
+
+// The check of an inclusion proof that is asked for.
+fn verify_in(words: &[Vec<u8>]) -> Option<Request>
+    ensures { result ≡ verify_in (map vec_items words.now) }
+{
+    Some(Request::Verify {
+        root: digest_at(words, 1)?,
+        size: number_at(words, 2)?,
+        index: number_at(words, 3)?,
+    })
+}
+
+// The check of a consistency proof that is asked for.
+fn verify_consistency_in(words: &[Vec<u8>]) -> Option<Request>
+    ensures { result ≡ verify_consistency_in (map vec_items words.now) }
+{
+    Some(Request::VerifyConsistency {
+        old_size: number_at(words, 1)?,
+        old_root: digest_at(words, 2)?,
+        size: number_at(words, 3)?,
+        root: digest_at(words, 4)?,
+    })
+}
+
+// What is asked for by a word with so many others behind it.
+fn asked(word: &[u8], count: usize, words: &[Vec<u8>]) -> Option<Request>
+    ensures { result ≡ asked word.now count (map vec_items words.now) }
+{
+    if word == b"append".as_slice() {
+        if count > 1 {
+            Some(Request::Append)
+        } else {
+            None
+        }
+    } else if word == b"append-lines".as_slice() {
+        if count == 2 {
+            Some(Request::AppendLines)
+        } else {
+            None
+        }
+    } else if word == b"root".as_slice() {
+        if count == 1 || count == 2 {
+            root_in(words)
+        } else {
+            None
+        }
+    } else if word == b"prove".as_slice() {
+        if count == 2 || count == 3 {
+            prove_in(words)
+        } else {
+            None
+        }
+    } else if word == b"consistency".as_slice() {
+        if count == 2 || count == 3 {
+            consistency_in(words)
+        } else {
+            None
+        }
+    } else if word == b"check".as_slice() {
+        if count == 1 {
+            Some(Request::Check)
+        } else {
+            None
+        }
+    } else if word == b"verify".as_slice() {
+        if count == 5 { verify_in(words) } else { None }
+    } else if word == b"verify-consistency".as_slice() {
+        if count == 5 {
+            verify_consistency_in(words)
+        } else {
+            None
+        }
+    } else if word == b"--help".as_slice() {
+        if count == 0 {
+            Some(Request::Help)
+        } else {
+            None
+        }
+    } else {
+        None
     }
 }
 
@@ -122,6 +198,6 @@ fn asked(task: Task, words: &[Vec<u8>]) -> Option<Request>
 pub fn request_of(words: &[Vec<u8>]) -> Option<Request>
     ensures { result ≡ request_of (map vec_items words.now) }
 {
-    let task = task_of(words)?;
-    asked(task, words)
+    let word = words.first()?;
+    asked(word, words.len() - 1, words)
 }

@@ -58,19 +58,20 @@ back : (n k : ℕ) → n ≤ k → n + (k - n) ≡ k
 back n k le = omega arith
 
 -- what holds of each of the sixteen words of a block
-pub below_sixteen : (P : ℕ → Type 0) → P 0 → P 1 → P 2 → P 3 → P 4 → P 5 → P 6 → P 7 → P 8 → P 9 → P 10 → P 11 → P 12
-    → P 13 → P 14 → P 15 → (k : ℕ) → k < 16 → P k
-below_sixteen P p0 p1 p2 p3 p4 p5 p6 p7 p8 p9 p10 p11 p12 p13 p14 p15 k lt =
-    elim (cases_lt k 4) [
-      | inl a ↦ below_four P p0 p1 p2 p3 k a
-      | inr a ↦ elim (cases_lt k 8) [
-        | inl b ↦ rw (← back 4 k a) (below_four (λ i. P (4 + i)) p4 p5 p6 p7 (k - 4) (omega arith))
-        | inr b ↦ elim (cases_lt k 12) [
-          | inl c ↦ rw (← back 8 k b) (below_four (λ i. P (8 + i)) p8 p9 p10 p11 (k - 8) (omega arith))
-          | inr c ↦ rw (← back 12 k c) (below_four (λ i. P (12 + i)) p12 p13 p14 p15 (k - 12) (omega arith))
+module _ (P : ℕ → Type 0) (p0 : P 0) (p1 : P 1) (p2 : P 2) (p3 : P 3) (p4 : P 4) (p5 : P 5) (p6 : P 6) (p7 : P 7)
+  where
+    pub below_sixteen : P 8 → P 9 → P 10 → P 11 → P 12 → P 13 → P 14 → P 15 → (k : ℕ) → k < 16 → P k
+    below_sixteen p8 p9 p10 p11 p12 p13 p14 p15 k lt =
+        elim (cases_lt k 4) [
+          | inl a ↦ below_four P p0 p1 p2 p3 k a
+          | inr a ↦ elim (cases_lt k 8) [
+            | inl b ↦ rw (← back 4 k a) (below_four (λ i. P (4 + i)) p4 p5 p6 p7 (k - 4) (omega arith))
+            | inr b ↦ elim (cases_lt k 12) [
+              | inl c ↦ rw (← back 8 k b) (below_four (λ i. P (8 + i)) p8 p9 p10 p11 (k - 8) (omega arith))
+              | inr c ↦ rw (← back 12 k c) (below_four (λ i. P (12 + i)) p12 p13 p14 p15 (k - 12) (omega arith))
+            ]
+          ]
         ]
-      ]
-    ]
 
 -- word i of the state in lane j
 pub slice_index-lane : (x : List (List ℕ)) (j i : ℕ) → i < 8 → slice_index (lane j x) i

@@ -1,4 +1,4 @@
-//! SHA-256 (FIPS 180-4) of four messages at once, a lane of a vector for each.
+//! SHA-256 (FIPS 180-4) of many messages, some of them together: a lane of a vector for each.
 //!
 //! Each result is the digest that the kit's `sha2` gives: no caller can tell the two apart but by the time.
 #![tactic(auto)]
@@ -11,10 +11,9 @@ mod pairs;
 mod prefixed_pairs;
 #[cfg(test)]
 mod prefixed_tests;
+mod runs;
 #[cfg(test)]
 mod tests;
 mod texts;
 
-pub use messages::{four_messages, four_prefixed};
-pub use pairs::four_pairs;
-pub use prefixed_pairs::four_prefixed_pairs;
+pub use runs::{digest_of_message, digest_of_pair, digests_of_messages, digests_of_pairs};

@@ -25,8 +25,8 @@ fn is_long(head: &[u8], tail: &[u8]) -> bool
     used >= 56 && used <= 119
 }
 
-// The digest of a head and a tail.
-fn digest_of(head: &[u8], tail: &[u8]) -> [u8; 32]
+/// Hashes a head followed by a tail.
+pub fn digest_of(head: &[u8], tail: &[u8]) -> [u8; 32]
     ensures { result ≡ sha256 (head.now ++ tail.now) }
 {
     let mut hasher = Sha256::new();

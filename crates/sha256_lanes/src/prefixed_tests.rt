@@ -1,6 +1,7 @@
 //! Messages and pairs behind a byte: digests as another implementation has them.
 
-use crate::{four_prefixed, four_prefixed_pairs};
+use crate::messages::four_prefixed;
+use crate::prefixed_pairs::four_prefixed_pairs;
 use std::test::Fail;
 
 // The digest of a zero byte.

@@ -1,6 +1,7 @@
 //! Vectors of FIPS 180-4, in every lane.
 
-use crate::{four_messages, four_pairs};
+use crate::messages::four_messages;
+use crate::pairs::four_pairs;
 use std::test::Fail;
 
 // The digest of no bytes.

@@ -1,9 +1,11 @@
 //! Changes of several leaves at once.
 
 ghost use Rattle.std.specs.Bool.{OnTrue};
-ghost use Rattle.std.specs.Prelude.{◌≡◌, ◌<◌, ℕ, [], ◌∷◌, map, length, IfOk, OnErr, Ok};
-ghost use Rattle.std.specs.List.{All};
+ghost use Rattle.std.specs.Prelude.{◌≡◌, ◌<◌, ℕ, [], ◌∷◌, map, length, IfOk, IsOkUnless, OnErr, Ok};
+ghost use Rattle.std.specs.List.{All, zip};
+ghost use Rattle.ark_base.specs.declared.error.Error.TheVariants.{OutOfMemory};
 ghost use Rattle.ark_base.specs.Outcome.{AnswersBy};
+ghost use Rattle.ark_crh.specs.Ahead.{lent};
 ghost use Rattle.ark_paths.specs.Index.{log2};
 ghost use Rattle.ark_paths.specs.Root.{leaves_with_root};
 ghost use Rattle.ark_paths.specs.Rows.{IsTree};
@@ -19,6 +21,7 @@ use crate::tree::levels::Levels;
 use ark_base::error::Error;
 use ark_base::serialize::DigestItem;
 use ark_paths::hasher::{ConfigHasher, TreeHasher};
+use ark_paths::runs::{RUN, leaf_digests, part_of};
 use ark_paths::views::Views;
 use std::alloc::Global;
 use std::collections::BTreeMap;
@@ -31,17 +34,18 @@ impl<P: Views> MerkleTree<P> {
     /// the new leaf digests' halving; `OutOfMemory`.
     pub fn update_many(&mut self, alloc: Global, changes: &[(usize, P::Leaf)]) -> Result<(), Error>
         requires { All (λ change. change.0 < length self.old.leaves) changes.now }
-        ensures tree { let new = with_leaves (P.tree self.old) changes.now in
-            AnswersBy (λ _. P.tree self.new) new result }
+        ensures tree { AnswersBy (λ _. P.tree self.new) (with_leaves (P.tree self.old) changes.now)
+            result }
         ensures refused { OnErr result (self.new ≡ self.old) }
 
         // Index by index: the last leaf of each changed one stands there, and all others have what they had.
-        ensures each { let old = P.tree self.old in (new : _) → with_leaves old changes.now ≡ Ok new
-            → HasLastLeaves old changes.now new }
+        ensures each { (new : _) → with_leaves (P.tree self.old) changes.now ≡ Ok new
+            → HasLastLeaves (P.tree self.old) changes.now new }
 
         // With one change it is `update`.
-        ensures one_change { let old = P.tree self.old in (index : ℕ) (leaf : _) →
-            with_leaves old ((index, leaf) ∷ []) ≡ with_leaf old index leaf }
+        ensures one_change { (index : ℕ) (leaf : _)
+            → with_leaves (P.tree self.old) ((index, leaf) ∷ []) ≡ with_leaf (P.tree self.old) index
+            leaf }
 
         // Where the same changes one after the other all succeed, they give this tree.
         ensures one_by_one { (tree : _) → with_each_leaf (P.tree self.old) changes.now ≡ Ok tree
@@ -58,11 +62,10 @@ impl<P: Views> MerkleTree<P> {
         changes: &[(usize, P::Leaf)],
     ) -> Result<usize, Error>
         requires { All (λ change. change.0 < length self.old.leaves) changes.now }
-        ensures tree { let new = with_leaves (P.tree self.old) changes.now in
-            AnswersBy (λ _. P.tree self.new) new result }
-        ensures count { let indexes = map (λ change. change.0) changes.now in
-            let levels = log2 (length self.old.leaves) in
-            IfOk result (λ count. count ≡ count_above levels indexes) }
+        ensures tree { AnswersBy (λ _. P.tree self.new) (with_leaves (P.tree self.old) changes.now)
+            result }
+        ensures count { IfOk result (λ count. count ≡ count_above (log2 (length self.old.leaves))
+            (map (λ change. change.0) changes.now)) }
         ensures refused { OnErr result (self.new ≡ self.old) }
         ensures one_by_one { (tree : _) → with_each_leaf (P.tree self.old) changes.now ≡ Ok tree
             → with_leaves (P.tree self.old) changes.now ≡ Ok tree }
@@ -80,16 +83,15 @@ fn update_leaves<L: DigestItem, D: DigestItem, T: TreeHasher<L, D>>(
     rows: &mut Levels<D>,
     changes: &[(usize, T::Leaf)],
 ) -> Result<usize, Error>
-    requires tree { let h = (T.hashes hasher.now).pair in
-        IsTree h (map L.numbers leaves.old) rows.old }
+    requires tree { IsTree (T.hashes hasher.now).pair (map L.numbers leaves.old) rows.old }
     requires changes { All (λ change. change.0 < length leaves.old) changes.now }
-    ensures leaves { let seen = tree_with (T.hashes hasher.now) in
-        let new = with_leaves (seen (map L.numbers leaves.old)) changes.now in
-        AnswersBy (λ _. seen (map L.numbers leaves.new)) new result }
-    ensures tree { let h = (T.hashes hasher.now).pair in
-        IsTree h (map L.numbers leaves.new) rows.new }
-    ensures count { let indexes = map (λ change. change.0) changes.now in
-        IfOk result (λ count. count ≡ count_above (log2 (length leaves.old)) indexes) }
+    ensures leaves { AnswersBy (λ _. tree_with (T.hashes hasher.now) (map L.numbers leaves.new))
+        (with_leaves (tree_with (T.hashes hasher.now) (map L.numbers leaves.old)) changes.now)
+        result }
+    ensures tree { IsTree (T.hashes hasher.now).pair (map L.numbers leaves.new) rows.new }
+    ensures count { IfOk result
+        (λ count. count ≡ count_above (log2 (length leaves.old))
+        (map (λ change. change.0) changes.now)) }
     ensures refused { OnErr result (leaves.new ≡ leaves.old) }
     ensures refused_rows { OnErr result (rows.new ≡ rows.old) }
     ensures one_by_one { let old = tree_with (T.hashes hasher.now) (map L.numbers leaves.old) in
@@ -109,15 +111,12 @@ fn change_leaves<L: DigestItem, D: DigestItem, T: TreeHasher<L, D>>(
     rows: &mut Levels<D>,
     changes: Vec<(usize, L)>,
 ) -> Result<usize, Error>
-    requires tree { let h = (T.hashes hasher.now).pair in
-        IsTree h (map L.numbers leaves.old) rows.old }
+    requires tree { IsTree (T.hashes hasher.now).pair (map L.numbers leaves.old) rows.old }
     requires changes { AreChanges 0 (length leaves.old) changes.items }
-    ensures leaves { let h = (T.hashes hasher.now).pair in
-        let numbers = L.numbers in
-        let new = puts (map numbers leaves.old) (seen_changes numbers changes.items) in
-        AnswersBy (λ _. map numbers leaves.new) (leaves_with_root h new) result }
-    ensures tree { let h = (T.hashes hasher.now).pair in
-        IsTree h (map L.numbers leaves.new) rows.new }
+    ensures leaves { AnswersBy (λ _. map L.numbers leaves.new)
+        (leaves_with_root (T.hashes hasher.now).pair
+        (puts (map L.numbers leaves.old) (seen_changes L.numbers changes.items))) result }
+    ensures tree { IsTree (T.hashes hasher.now).pair (map L.numbers leaves.new) rows.new }
     ensures count { IfOk result (λ count.
         count ≡ count_over (length rows.old) (map (λ c. c.0) changes.items)) }
     ensures refused { OnErr result (leaves.new ≡ leaves.old) }
@@ -137,8 +136,8 @@ fn enter<'a, L>(
     leaf: &'a L,
 ) -> Result<(), Error>
     requires { Rise 0 (entered last.old) }
-    ensures { let changes = with_change (index, leaf.now) (entered last.old) in
-        AnswersBy (λ _. entered last.new) (Ok changes) result }
+    ensures { AnswersBy (λ _. entered last.new)
+        (Ok (with_change (index, leaf.now) (entered last.old))) result }
 {
     if last.contains_key(&index) {
         return Ok(());
@@ -199,28 +198,44 @@ fn last_leaves<'a, L>(
     Ok(last)
 }
 
+// The indexes of changes, and their leaves.
+fn parted<'a, L>(
+    alloc: Global,
+    changes: &[(usize, &'a L)],
+) -> Result<(Vec<usize>, Vec<&'a L>), Error>
+    ensures parts { IfOk result (λ parts. zip parts.0.items (lent parts.1.items)
+        ≡ seen_changes (λ leaf. leaf.now) changes.now) }
+    ensures count { IfOk result (λ parts. length parts.0.items ≡ length parts.1.items) }
+    ensures memory { IsOkUnless result OutOfMemory }
+{
+    let mut indexes = Vec::with_capacity(alloc, changes.len())?;
+    let mut leaves = Vec::with_capacity(alloc, changes.len())?;
+    'changes: for place in 0..changes.len() {
+        let change = changes[place];
+        indexes.push(change.0)?;
+        leaves.push(change.1)?;
+    }
+    Ok((indexes, leaves))
+}
+
 // The digest of the last leaf of each changed index.
 fn hash_last<L: DigestItem, D: DigestItem, T: TreeHasher<L, D>>(
     alloc: Global,
     hasher: &T,
     changes: &[(usize, T::Leaf)],
 ) -> Result<Vec<(usize, L)>, Error>
-    ensures { let hashed = hashed_changes (T.hashes hasher.now).leaf in
-        AnswersBy (λ digests. seen_changes L.numbers digests.items)
-        (hashed (last_changes changes.now)) result }
+    ensures { AnswersBy (λ digests. seen_changes L.numbers digests.items)
+        (hashed_changes (T.hashes hasher.now).leaf (last_changes changes.now)) result }
 {
     let last = last_leaves(alloc, changes)?;
     let mut digests = Vec::with_capacity(alloc, last.len())?;
-    let fours = last.len() / 4;
-    'fours: for four in 0..fours {
-        let (a, b) = (last[4 * four], last[4 * four + 1]);
-        let (c, d) = (last[4 * four + 2], last[4 * four + 3]);
-        let made = hasher.leaf_four(alloc, a.1, b.1, c.1, d.1)?;
-        push_changes(&mut digests, (a.0, b.0, c.0, d.0), made)?;
-    }
-    'rest: for place in 4 * fours..last.len() {
-        let (index, leaf) = last[place];
-        digests.push((index, hasher.leaf(alloc, leaf)?))?;
+    let mut next = 0;
+    'runs: while next < last.len() {
+        let count = (last.len() - next).min(RUN);
+        let (indexes, leaves) = parted(alloc, part_of(&last, next, count))?;
+        let made = leaf_digests(alloc, hasher, &leaves)?;
+        push_changes(&mut digests, &indexes, made)?;
+        next += count;
     }
     Ok(digests)
 }

@@ -46,17 +46,16 @@ impl<P: Views> MerkleTree<P> {
         ensures answer { Answers (binding_in (P.tree self.now) leaf.now (P.way path.now)) result }
 
         // It is rejected exactly where `verify` says false.
-        ensures accepted { let tree = P.tree self.now in
-            IfOk result (λ binding. MatchesVerdict tree leaf.now (P.way path.now) binding) }
+        ensures accepted { IfOk result
+            (λ binding. MatchesVerdict (P.tree self.now) leaf.now (P.way path.now) binding) }
 
         // The leaf's digest is the tree's at the index modulo the size.
-        ensures stands { let index = path.now.leaf_index % length self.now.leaves in
-            IfOk result (λ binding. binding ≡ Stands → HoldsLeaf (P.tree self.now) index leaf.now) }
+        ensures stands { IfOk result (λ binding. binding ≡ Stands
+            → HoldsLeaf (P.tree self.now) (path.now.leaf_index % length self.now.leaves) leaf.now) }
 
         // At the level that is named two different pairs hash alike.
-        ensures differs { let tree = P.tree self.now in
-            IfOk result (λ binding. (level : ℕ) → binding ≡ Differs level
-            → CollidesAt tree leaf.now (P.way path.now) level) }
+        ensures differs { IfOk result (λ binding. (level : ℕ) → binding ≡ Differs level
+            → CollidesAt (P.tree self.now) leaf.now (P.way path.now) level) }
     {
         let (hasher, leaves, rows) = self.parts();
         binding_in(
@@ -83,12 +82,10 @@ fn binding_in<L: DigestItem, D: DigestItem, T: TreeHasher<L, D>>(
     above: &[D],
     index: usize,
 ) -> Result<Binding, Error>
-    requires tree { let h = (T.hashes hasher.now).pair in
-        IsTree h (map L.numbers leaves.now) rows.now }
+    requires tree { IsTree (T.hashes hasher.now).pair (map L.numbers leaves.now) rows.now }
     requires fits { length leaves.now < 2 ^ 64 }
-    ensures { let tree = tree_with (T.hashes hasher.now) (map L.numbers leaves.now) in
-        let way = way_of L.numbers D.numbers (sibling.now, (above.now, index)) in
-        Answers (binding_in tree leaf.now way) result }
+    ensures { Answers (binding_in (tree_with (T.hashes hasher.now) (map L.numbers leaves.now))
+        leaf.now (way_of L.numbers D.numbers (sibling.now, (above.now, index)))) result }
 {
     let levels = rows.len() - 1;
     if above.len() != levels {
@@ -123,17 +120,16 @@ fn compare<L: DigestItem, D: DigestItem, T: TreeHasher<L, D>>(
     above: &[D],
     path_index: usize,
 ) -> Result<(D, Option<usize>), Error>
-    requires tree { let h = (T.hashes hasher.now).pair in
-        IsTree h (map L.numbers leaves.now) rows.now }
+    requires tree { IsTree (T.hashes hasher.now).pair (map L.numbers leaves.now) rows.now }
     requires fits { length leaves.now < 2 ^ 64 }
     requires count { length rows.now ≡ suc (length above.now) }
-    ensures top { let h = (T.hashes hasher.now).pair in
-        let way = way_of L.numbers D.numbers (sibling.now, (above.now, path_index)) in
-        AnswersBy (λ r. D.numbers r.0) (path_root h way (L.numbers digest.now)) result }
-    ensures differs { let h = (T.hashes hasher.now).pair in
-        let way = way_of L.numbers D.numbers (sibling.now, (above.now, path_index)) in
-        let tree = map L.numbers leaves.now in
-        IfOk result (λ r. r.1 ≡ difference h tree way (L.numbers digest.now)) }
+    ensures top { AnswersBy (λ r. D.numbers r.0) (path_root (T.hashes hasher.now).pair
+        (way_of L.numbers D.numbers (sibling.now, (above.now, path_index))) (L.numbers digest.now))
+        result }
+    ensures differs { IfOk result
+        (λ r. r.1 ≡ difference (T.hashes hasher.now).pair (map L.numbers leaves.now)
+        (way_of L.numbers D.numbers (sibling.now, (above.now, path_index)))
+        (L.numbers digest.now)) }
 {
     let index = path_index % leaves.len();
     let is_own = are_both(

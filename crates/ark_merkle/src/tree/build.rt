@@ -1,9 +1,7 @@
 //! The digests above the leaves, row by row.
 
-ghost use Rattle.std.specs.Prelude.{◌≡◌, ◌+◌, ◌-◌, ◌^◌, ◌++◌, ℕ, suc, map, length, IfOk, IsOkUnless, OnOk};
-ghost use Rattle.ark_base.specs.declared.error.Error.TheVariants.{OutOfMemory};
+ghost use Rattle.std.specs.Prelude.{◌≡◌, ◌+◌, ◌-◌, ◌^◌, ℕ, suc, map, length, IfOk};
 ghost use Rattle.ark_base.specs.Outcome.{Answers, AnswersBy};
-ghost use Rattle.ark_crh.specs.Four.{four_seen};
 ghost use Rattle.ark_paths.specs.Index.{IsTreeSize};
 ghost use Rattle.ark_paths.specs.Root.{all_hashes, upper_levels};
 ghost use Rattle.ark_paths.specs.Rows.{row_above, rows_from, rows_of, digests_of};
@@ -13,6 +11,7 @@ use crate::tree::levels::Levels;
 use ark_base::error::Error;
 use ark_base::serialize::DigestItem;
 use ark_paths::hasher::TreeHasher;
+use ark_paths::runs::{RUN, bottom_row, leaf_row, part_of, upper_row};
 use std::alloc::Global;
 
 /// Returns the digests of leaves.
@@ -21,42 +20,20 @@ pub fn hash_all<L: DigestItem, D: DigestItem, T: TreeHasher<L, D>>(
     hasher: &T,
     leaves: &[T::Leaf],
 ) -> Result<Vec<L>, Error>
-    ensures digests { let outcome = all_hashes (T.hashes hasher.now).leaf leaves.now in
-        AnswersBy (digests_of L.numbers) outcome result }
+    ensures digests { AnswersBy (digests_of L.numbers) (all_hashes (T.hashes hasher.now).leaf
+        leaves.now) result }
     ensures size { IfOk result (λ digests.
         IsTreeSize (length leaves.now) → IsTreeSize (length digests.items)) }
 {
     let mut digests = Vec::with_capacity(alloc, leaves.len())?;
-    let fours = leaves.len() / 4;
-    'fours: for four in 0..fours {
-        let made = hasher.leaf_four(
-            alloc,
-            &leaves[4 * four],
-            &leaves[4 * four + 1],
-            &leaves[4 * four + 2],
-            &leaves[4 * four + 3],
-        )?;
-        push_four(&mut digests, made)?;
-    }
-    'rest: for place in 4 * fours..leaves.len() {
-        let next = hasher.leaf(alloc, &leaves[place])?;
-        digests.push(next)?;
+    let mut first = 0;
+    'runs: while first < leaves.len() {
+        let count = (leaves.len() - first).min(RUN);
+        let mut made = leaf_row(alloc, hasher, part_of(leaves, first, count))?;
+        digests.append(&mut made)?;
+        first += count;
     }
     Ok(digests)
-}
-
-// Puts four digests behind others, the first one first.
-fn push_four<D: DigestItem>(digests: &mut Vec<D>, four: (D, D, D, D)) -> Result<(), Error>
-    ensures digests { let old = map D.numbers digests.old.items in
-        OnOk result (map D.numbers digests.new.items ≡ old ++ four_seen D.numbers four) }
-    ensures memory { IsOkUnless result OutOfMemory }
-{
-    let (first, second, third, fourth) = four;
-    digests.push(first)?;
-    digests.push(second)?;
-    digests.push(third)?;
-    digests.push(fourth)?;
-    Ok(())
 }
 
 // The hashes of the neighbours among leaf digests, in a list with room for all digests above them.
@@ -65,29 +42,16 @@ fn pair_leaves<L: DigestItem, D: DigestItem, T: TreeHasher<L, D>>(
     hasher: &T,
     digests: &[L],
 ) -> Result<Vec<D>, Error>
-    ensures { let pair = (T.hashes hasher.now).pair in
-        let row = map L.numbers digests.now in
-        AnswersBy (digests_of D.numbers) (row_above pair.bottom row) result }
+    ensures { AnswersBy (digests_of D.numbers) (row_above (T.hashes hasher.now).pair.bottom
+        (map L.numbers digests.now)) result }
 {
     let mut row = Vec::with_capacity(alloc, digests.len().saturating_sub(1))?;
-    let fours = digests.len() / 8;
-    'fours: for four in 0..fours {
-        let made = hasher.bottom_four(
-            alloc,
-            &digests[8 * four],
-            &digests[8 * four + 1],
-            &digests[8 * four + 2],
-            &digests[8 * four + 3],
-            &digests[8 * four + 4],
-            &digests[8 * four + 5],
-            &digests[8 * four + 6],
-            &digests[8 * four + 7],
-        )?;
-        push_four(&mut row, made)?;
-    }
-    'rest: for couple in 4 * fours..digests.len() / 2 {
-        let next = hasher.bottom(alloc, &digests[2 * couple], &digests[2 * couple + 1])?;
-        row.push(next)?;
+    let mut couple = 0;
+    'runs: while couple < digests.len() / 2 {
+        let count = (digests.len() / 2 - couple).min(RUN);
+        let mut made = bottom_row(alloc, hasher, part_of(digests, 2 * couple, 2 * count))?;
+        row.append(&mut made)?;
+        couple += count;
     }
     Ok(row)
 }
@@ -99,33 +63,19 @@ fn pair_rows<L: DigestItem, D: DigestItem, T: TreeHasher<L, D>>(
     hasher: &T,
     mut digests: Vec<D>,
 ) -> Result<Vec<D>, Error>
-    ensures rows { let row = digests_of D.numbers digests in
-        (k : ℕ) → length row ≡ 2 ^ k →
-        let rows = rows_from (T.hashes hasher.now).pair.upper k row in
-        AnswersBy (λ all. rows_in_turn (suc k) (digests_of D.numbers all)) rows result }
-    ensures whole { let count = length digests.items in
-        IfOk result (λ all. length all.items ≡ count + (count - 1)) }
+    ensures rows { (k : ℕ) → length (digests_of D.numbers digests) ≡ 2 ^ k → AnswersBy
+        (λ all. rows_in_turn (suc k) (digests_of D.numbers all))
+        (rows_from (T.hashes hasher.now).pair.upper k (digests_of D.numbers digests)) result }
+    ensures whole { IfOk result
+        (λ all. length all.items ≡ length digests.items + (length digests.items - 1)) }
 {
-    let count = digests.len().saturating_sub(1);
-    // Four couples at a time, as long as both digests of each are there.
-    let fours = (digests.len() / 4).saturating_sub(1);
-    'fours: for four in 0..fours {
-        let made = hasher.upper_four(
-            alloc,
-            &digests[8 * four],
-            &digests[8 * four + 1],
-            &digests[8 * four + 2],
-            &digests[8 * four + 3],
-            &digests[8 * four + 4],
-            &digests[8 * four + 5],
-            &digests[8 * four + 6],
-            &digests[8 * four + 7],
-        )?;
-        push_four(&mut digests, made)?;
-    }
-    'rest: for couple in 4 * fours..count {
-        let next = hasher.upper(alloc, &digests[2 * couple], &digests[2 * couple + 1])?;
-        digests.push(next)?;
+    let mut couple = 0;
+    // As many couples as are there by now.
+    'runs: while couple < digests.len() / 2 {
+        let count = (digests.len() / 2 - couple).min(RUN);
+        let mut made = upper_row(alloc, hasher, part_of(&digests, 2 * couple, 2 * count))?;
+        digests.append(&mut made)?;
+        couple += count;
     }
     Ok(digests)
 }
@@ -137,9 +87,8 @@ pub fn rows_above<L: DigestItem, D: DigestItem, T: TreeHasher<L, D>>(
     digests: &[L],
 ) -> Result<Levels<D>, Error>
     requires { IsTreeSize (length digests.now) }
-    ensures { let pair = (T.hashes hasher.now).pair in
-        let leaves = map L.numbers digests.now in
-        Answers (rows_of pair (upper_levels leaves) leaves) result }
+    ensures { Answers (rows_of (T.hashes hasher.now).pair
+        (upper_levels (map L.numbers digests.now)) (map L.numbers digests.now)) result }
 {
     let row = pair_leaves(alloc, hasher, digests)?;
     let rows = pair_rows(alloc, hasher, row)?;

@@ -2,8 +2,10 @@
 
 ghost use Rattle.std.specs.Prelude.{◌≡◌, ◌<◌, ◌≤◌, ◌-◌, ◌/◌, ◌%◌, ◌^◌, ◌+◌, ◌++◌, ℕ, [], ◌∷◌, map, length, take, drop, get_or, set, slice_index, IfOk, IsOkUnless, OnErr, OnOk};
 ghost use Rattle.ark_base.specs.declared.error.Error.TheVariants.{OutOfMemory};
+ghost use Rattle.std.specs.List.{zip};
 ghost use Rattle.ark_base.specs.Outcome.{AnswersBy};
-ghost use Rattle.ark_paths.specs.Rows.{rows_from};
+ghost use Rattle.ark_crh.specs.Ahead.{lent_couples};
+ghost use Rattle.ark_paths.specs.Rows.{digests_of, rows_from};
 ghost use Rattle.ark_merkle.specs.Batch.{hashed_changes, puts};
 ghost use Rattle.ark_merkle.specs.Changed.{seen_changes, AreChanges, AreHashed, couples_reached, count_over};
 
@@ -12,6 +14,7 @@ use ark_base::error::Error;
 use ark_base::serialize::DigestItem;
 use ark_paths::hasher::TreeHasher;
 use ark_paths::index::is_bit_set;
+use ark_paths::runs::{RUN, bottom_digests, upper_digests};
 use std::alloc::Global;
 use std::mem::swap;
 
@@ -69,68 +72,71 @@ fn reached_by<'a, D: DigestItem>(
     }
 }
 
-// Four couples of a row that changes reach, as they become.
-struct FourReached<'a, D: DigestItem> {
+// Couples of a row that changes reach, as they become: a run of them.
+#[derive(Drop)]
+struct ReachedRun<'a, D: DigestItem> {
     // The couples' places in the row above.
-    places: (usize, usize, usize, usize),
-    a: (&'a D, &'a D),
-    b: (&'a D, &'a D),
-    c: (&'a D, &'a D),
-    d: (&'a D, &'a D),
+    places: Vec<usize>,
+    couples: Vec<(&'a D, &'a D)>,
     // The first change behind them.
     behind: usize,
 }
 
-// The next four couples of a row that changes reach.
-fn four_reached<'a, D: DigestItem>(
+// The next run of couples of a row that changes reach.
+fn run_reached<'a, D: DigestItem>(
+    alloc: Global,
     row: &'a [D],
     changes: &'a [(usize, D)],
     next: usize,
-) -> FourReached<'a, D>
+) -> Result<ReachedRun<'a, D>, Error>
     requires even { length row.now % 2 ≡ 0 }
     requires changes { AreChanges 0 (length row.now) changes.now }
-    requires next { next + 7 < length changes.now }
+    requires next { next < length changes.now }
     ensures reached { let row = map D.numbers row.now in
         let from = λ (n : ℕ). couples_reached row (seen_changes D.numbers (drop n changes.now)) in
-        from next ≡ (result.places.0, (D.numbers result.a.0.now, D.numbers result.a.1.now))
-        ∷ (result.places.1, (D.numbers result.b.0.now, D.numbers result.b.1.now))
-        ∷ (result.places.2, (D.numbers result.c.0.now, D.numbers result.c.1.now))
-        ∷ (result.places.3, (D.numbers result.d.0.now, D.numbers result.d.1.now))
-        ∷ from result.behind }
-    ensures more { next < result.behind }
-    ensures inside { result.behind ≤ length changes.now }
-{
-    let first = reached_by(row, changes, next);
-    let second = reached_by(row, changes, first.behind);
-    let third = reached_by(row, changes, second.behind);
-    let fourth = reached_by(row, changes, third.behind);
-    FourReached {
-        places: (first.place, second.place, third.place, fourth.place),
-        a: (first.left, first.right),
-        b: (second.left, second.right),
-        c: (third.left, third.right),
-        d: (fourth.left, fourth.right),
-        behind: fourth.behind,
-    }
-}
-
-/// Puts four digests behind others, each with its place, the first one first.
-pub fn push_changes<D: DigestItem>(
-    changes: &mut Vec<(usize, D)>,
-    places: (usize, usize, usize, usize),
-    digests: (D, D, D, D),
-) -> Result<(), Error>
-    ensures changes { let old = seen_changes D.numbers changes.old.items in
-        OnOk result (seen_changes D.numbers changes.new.items ≡ old
-        ++ (places.0, D.numbers digests.0) ∷ (places.1, D.numbers digests.1)
-        ∷ (places.2, D.numbers digests.2) ∷ (places.3, D.numbers digests.3) ∷ []) }
+        IfOk result (λ run. from next
+        ≡ zip run.places.items (lent_couples D.numbers run.couples.items) ++ from run.behind) }
+    ensures places { IfOk result (λ run. length run.places.items ≡ length run.couples.items) }
+    ensures more { IfOk result (λ run. next < run.behind) }
+    ensures inside { IfOk result (λ run. run.behind ≤ length changes.now) }
     ensures memory { IsOkUnless result OutOfMemory }
 {
-    let (first, second, third, fourth) = digests;
-    changes.push((places.0, first))?;
-    changes.push((places.1, second))?;
-    changes.push((places.2, third))?;
-    changes.push((places.3, fourth))?;
+    let most = (changes.len() - next).min(RUN);
+    let mut places = Vec::with_capacity(alloc, most)?;
+    let mut couples = Vec::with_capacity(alloc, most)?;
+    let mut behind = next;
+    'reached: for _ in 0..most {
+        if behind == changes.len() {
+            break;
+        }
+        let reached = reached_by(row, changes, behind);
+        places.push(reached.place)?;
+        couples.push((reached.left, reached.right))?;
+        behind = reached.behind;
+    }
+    Ok(ReachedRun {
+        places,
+        couples,
+        behind,
+    })
+}
+
+/// Puts digests behind others, each with its place, the first one first.
+pub fn push_changes<D: DigestItem>(
+    changes: &mut Vec<(usize, D)>,
+    places: &[usize],
+    digests: Vec<D>,
+) -> Result<(), Error>
+    requires { length digests.items ≡ length places.now }
+    ensures changes { OnOk result (seen_changes D.numbers changes.new.items ≡ seen_changes D.numbers
+        changes.old.items ++ zip places.now (digests_of D.numbers digests)) }
+    ensures memory { IsOkUnless result OutOfMemory }
+{
+    let mut place = 0;
+    'digests: for digest in digests {
+        changes.push((places[place], digest))?;
+        place += 1;
+    }
     Ok(())
 }
 
@@ -143,38 +149,17 @@ fn hash_reached<L: DigestItem, D: DigestItem, T: TreeHasher<L, D>>(
 ) -> Result<Vec<(usize, D)>, Error>
     requires even { length row.now % 2 ≡ 0 }
     requires changes { AreChanges 0 (length row.now) changes.now }
-    ensures { let numbers = D.numbers in
-        let couples = couples_reached (map numbers row.now) (seen_changes numbers changes.now) in
-        let hash = (T.hashes hasher.now).pair.upper in
-        AnswersBy (λ above. seen_changes numbers above.items)
-        (hashed_changes (λ couple. hash couple.0 couple.1) couples) result }
+    ensures { AnswersBy (λ above. seen_changes D.numbers above.items) (hashed_changes
+        (λ couple. (T.hashes hasher.now).pair.upper couple.0 couple.1)
+        (couples_reached (map D.numbers row.now) (seen_changes D.numbers changes.now))) result }
 {
     let mut above = Vec::with_capacity(alloc, changes.len())?;
     let mut next = 0;
-    // Eight changes reach four couples at least.
-    'fours: while next + 7 < changes.len() {
-        let FourReached {
-            places,
-            a,
-            b,
-            c,
-            d,
-            behind,
-        } = four_reached(row, changes, next);
-        let made = hasher.upper_four(alloc, a.0, a.1, b.0, b.1, c.0, c.1, d.0, d.1)?;
-        push_changes(&mut above, places, made)?;
-        next = behind;
-    }
-    'rest: while next < changes.len() {
-        let Reached {
-            place,
-            left,
-            right,
-            behind,
-        } = reached_by(row, changes, next);
-        let up = hasher.upper(alloc, left, right)?;
-        above.push((place, up))?;
-        next = behind;
+    'runs: while next < changes.len() {
+        let run = run_reached(alloc, row, changes, next)?;
+        let made = upper_digests(alloc, hasher, &run.couples)?;
+        push_changes(&mut above, &run.places, made)?;
+        next = run.behind;
     }
     Ok(above)
 }
@@ -188,38 +173,17 @@ pub fn hash_reached_leaves<L: DigestItem, D: DigestItem, T: TreeHasher<L, D>>(
 ) -> Result<Vec<(usize, D)>, Error>
     requires even { length leaves.now % 2 ≡ 0 }
     requires changes { AreChanges 0 (length leaves.now) changes.now }
-    ensures { let numbers = L.numbers in
-        let couples = couples_reached (map numbers leaves.now) (seen_changes numbers changes.now) in
-        let pair = (T.hashes hasher.now).pair in
-        AnswersBy (λ above. seen_changes D.numbers above.items)
-        (hashed_changes (λ couple. pair.bottom couple.0 couple.1) couples) result }
+    ensures { AnswersBy (λ above. seen_changes D.numbers above.items) (hashed_changes
+        (λ couple. (T.hashes hasher.now).pair.bottom couple.0 couple.1)
+        (couples_reached (map L.numbers leaves.now) (seen_changes L.numbers changes.now))) result }
 {
     let mut above = Vec::with_capacity(alloc, changes.len())?;
     let mut next = 0;
-    // Eight changes reach four couples at least.
-    'fours: while next + 7 < changes.len() {
-        let FourReached {
-            places,
-            a,
-            b,
-            c,
-            d,
-            behind,
-        } = four_reached(leaves, changes, next);
-        let made = hasher.bottom_four(alloc, a.0, a.1, b.0, b.1, c.0, c.1, d.0, d.1)?;
-        push_changes(&mut above, places, made)?;
-        next = behind;
-    }
-    'rest: while next < changes.len() {
-        let Reached {
-            place,
-            left,
-            right,
-            behind,
-        } = reached_by(leaves, changes, next);
-        let up = hasher.bottom(alloc, left, right)?;
-        above.push((place, up))?;
-        next = behind;
+    'runs: while next < changes.len() {
+        let run = run_reached(alloc, leaves, changes, next)?;
+        let made = bottom_digests(alloc, hasher, &run.couples)?;
+        push_changes(&mut above, &run.places, made)?;
+        next = run.behind;
     }
     Ok(above)
 }
@@ -248,8 +212,8 @@ pub fn put_changes<D: DigestItem>(digests: &mut [D], mut changes: Vec<(usize, D)
 fn put_in_row<D: DigestItem>(rows: &mut Levels<D>, row: usize, mut changes: Vec<(usize, D)>)
     requires row { row < length rows.old }
     requires changes { AreChanges 0 (length (get_or rows.old row [])) changes.items }
-    ensures { let new = puts (get_or rows.old row []) (seen_changes D.numbers changes.items) in
-        rows.new ≡ set rows.old row new }
+    ensures { rows.new ≡ set rows.old row
+        (puts (get_or rows.old row []) (seen_changes D.numbers changes.items)) }
 {
     for n in 0..changes.len() {
         let (place, digest) = &mut changes[n];
@@ -270,11 +234,9 @@ pub fn change_rows<L: DigestItem, D: DigestItem, T: TreeHasher<L, D>>(
     requires size { length (get_or rows.old row []) ≡ 2 ^ (length rows.old - 1 - row) }
     requires hashed { AreHashed (T.hashes hasher.now).pair.upper rows.old }
     requires changes { AreChanges 0 (length (get_or rows.old row [])) changes.items }
-    ensures rows { let changed = seen_changes D.numbers changes.items in
-        let new = puts (get_or rows.old row []) changed in
-        let left = length rows.old - 1 - row in
-        AnswersBy (λ _. drop row rows.new) (rows_from (T.hashes hasher.now).pair.upper left new)
-        result }
+    ensures rows { AnswersBy (λ _. drop row rows.new) (rows_from (T.hashes hasher.now).pair.upper
+        (length rows.old - 1 - row)
+        (puts (get_or rows.old row []) (seen_changes D.numbers changes.items))) result }
     ensures length { length rows.new ≡ length rows.old }
     ensures below { take row rows.new ≡ take row rows.old }
     ensures count { IfOk result (λ count.

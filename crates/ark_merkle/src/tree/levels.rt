@@ -51,8 +51,8 @@ fn part_of<D: DigestItem>(digests: &[D], first: usize, count: usize) -> &[D]
 // Reverses the digests from one on, of which there are so many.
 fn turn_back<D: DigestItem>(digests: &mut [D], first: usize, count: usize)
     requires { first + count ≤ length digests.old }
-    ensures { let own = take count (drop first digests.old) in digests.new
-        ≡ take first digests.old ++ (reverse own ++ drop count (drop first digests.old)) }
+    ensures { digests.new ≡ take first digests.old ++ (reverse (take count (drop first digests.old))
+        ++ drop count (drop first digests.old)) }
 {
     digests[first..first + count].reverse();
 }

@@ -37,16 +37,17 @@ impl<P: Views> MerkleTree<P> {
             Contains proof.leaf_indexes.items i ↔ Contains indexes.now i) }
 
         // Of the paths of these indexes, each takes as many first digests from the one before as they have in common.
-        ensures proof { let proof = multi_path_in (P.tree self.now) indexes.now in
-            AnswersBy P.multi_way (Ok proof) result }
+        ensures proof { AnswersBy P.multi_way (Ok (multi_path_in (P.tree self.now) indexes.now))
+            result }
 
         // No other multi-proof of these paths is strict.
         ensures strict { IfOk result (λ proof. 0 < length indexes.now →
             is_strict (P.multi_way proof) ≡ true) }
 
         // Each place decodes to the path of its index.
-        ensures decoded { let paths = paths_in (P.tree self.now) in IfOk result
-            (λ proof. decoded_paths (P.multi_way proof) ≡ paths proof.leaf_indexes.items) }
+        ensures decoded { IfOk result
+            (λ proof. decoded_paths (P.multi_way proof) ≡ paths_in (P.tree self.now)
+            proof.leaf_indexes.items) }
 
         // `verify` accepts it under the tree's parameters and root, if it has an index, for any leaves with the digests of its
         // indexes in turn.
@@ -87,9 +88,8 @@ fn digests_at_neighbours<D: DigestItem>(
     indexes: &[usize],
 ) -> Result<Vec<D>, Error>
     requires { All (λ i. neighbour i < length leaves.now) indexes.now }
-    ensures { let seen = map D.numbers leaves.now in
-        let digests = map (λ i. get_or seen (neighbour i) []) indexes.now in
-        AnswersBy (digests_of D.numbers) (Ok digests) result }
+    ensures { AnswersBy (digests_of D.numbers)
+        (Ok (map (λ i. get_or (map D.numbers leaves.now) (neighbour i) []) indexes.now)) result }
 {
     let mut digests = Vec::with_capacity(alloc, indexes.len())?;
     for index in indexes {
@@ -142,10 +142,11 @@ fn digests_beside_each<D: DigestItem>(
     indexes: &[usize],
 ) -> Result<(Vec<usize>, Vec<Vec<D>>), Error>
     requires { All (HoldsIndex rows.now) indexes.now }
-    ensures prefixes { let lists = map (beside_in rows.now (length rows.now - 1)) indexes.now in
-        AnswersBy (λ made. made.0.items) (Ok (prefixes_of [] lists)) result }
-    ensures suffixes { let lists = map (beside_in rows.now (length rows.now - 1)) indexes.now in
-        AnswersBy (λ made. rows_seen D.numbers made.1) (Ok (suffixes_of [] lists)) result }
+    ensures prefixes { AnswersBy
+        (λ made. made.0.items) (Ok
+        (prefixes_of [] (map (beside_in rows.now (length rows.now - 1)) indexes.now))) result }
+    ensures suffixes { AnswersBy (λ made. rows_seen D.numbers made.1)
+        (Ok (suffixes_of [] (map (beside_in rows.now (length rows.now - 1)) indexes.now))) result }
 {
     let mut prefixes = Vec::with_capacity(alloc, indexes.len())?;
     let mut suffixes = Vec::with_capacity(alloc, indexes.len())?;

@@ -19,8 +19,7 @@ pub fn digests_beside<D: DigestItem>(
 ) -> Result<Vec<D>, Error>
     requires holds { HoldsIndex rows.now index }
     requires count { count ≤ length rows.now }
-    ensures { let digests = beside_in rows.now (count - 1) index in
-        AnswersBy (digests_of D.numbers) (Ok digests) result }
+    ensures { AnswersBy (digests_of D.numbers) (Ok (beside_in rows.now (count - 1) index)) result }
 {
     let mut digests = Vec::with_capacity(alloc, count.saturating_sub(1))?;
     // From the lowest row up, whose digests take longest to come from memory.

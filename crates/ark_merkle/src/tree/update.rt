@@ -24,8 +24,8 @@ impl<P: Views> MerkleTree<P> {
     /// `OutOfMemory`.
     pub fn update(&mut self, alloc: Global, index: usize, new_leaf: &P::Leaf) -> Result<(), Error>
         requires { index < length self.old.leaves }
-        ensures tree { let new = with_leaf (P.tree self.old) index new_leaf.now in
-            AnswersBy (λ _. P.tree self.new) new result }
+        ensures tree { AnswersBy (λ _. P.tree self.new)
+            (with_leaf (P.tree self.old) index new_leaf.now) result }
         ensures refused { OnErr result (self.new ≡ self.old) }
     {
         let (hasher, leaves, rows) = self.parts();
@@ -45,10 +45,10 @@ impl<P: Views> MerkleTree<P> {
         asserted_new_root: &P::InnerDigest,
     ) -> Result<bool, Error>
         requires { index < length self.old.leaves }
-        ensures agrees { let asserted = P.InnerDigest.numbers asserted_new_root.now in
-            Answers (change_agrees (P.tree self.old) index new_leaf.now asserted) result }
-        ensures tree { let new = with_leaf (P.tree self.old) index new_leaf.now in
-            IfOk result (λ agrees. agrees ≡ true → new ≡ Ok (P.tree self.new)) }
+        ensures agrees { Answers (change_agrees (P.tree self.old) index new_leaf.now
+            (P.InnerDigest.numbers asserted_new_root.now)) result }
+        ensures tree { IfOk result (λ agrees. agrees ≡ true → with_leaf (P.tree self.old) index
+            new_leaf.now ≡ Ok (P.tree self.new)) }
         ensures kept { IfOk result (λ agrees. agrees ≡ false → self.new ≡ self.old) }
         ensures refused { OnErr result (self.new ≡ self.old) }
     {
@@ -66,9 +66,8 @@ impl<P: Views> MerkleTree<P> {
     // Puts a leaf digest in its place, and those on its way in theirs.
     fn put_leaf(&mut self, index: usize, digest: P::LeafDigest, way: Vec<P::InnerDigest>)
         requires index { index < length self.old.leaves }
-        requires way { let old = P.tree self.old in
-            ChangesWay old.hashes.pair old.leaves index (P.LeafDigest.numbers digest)
-            (digests_of P.InnerDigest.numbers way) }
+        requires way { ChangesWay (P.tree self.old).hashes.pair (P.tree self.old).leaves index
+            (P.LeafDigest.numbers digest) (digests_of P.InnerDigest.numbers way) }
         ensures { let old = P.tree self.old in
             let leaves = set old.leaves index (P.LeafDigest.numbers digest) in
             P.tree self.new ≡ record { hashes = old.hashes; leaves = leaves } }
@@ -87,19 +86,16 @@ fn changed_way<L: DigestItem, D: DigestItem, T: TreeHasher<L, D>>(
     index: usize,
     leaf: &T::Leaf,
 ) -> Result<(L, Vec<D>), Error>
-    requires tree { let h = (T.hashes hasher.now).pair in
-        IsTree h (map L.numbers leaves.now) rows.now }
+    requires tree { IsTree (T.hashes hasher.now).pair (map L.numbers leaves.now) rows.now }
     requires index { index < length leaves.now }
     requires fits { length leaves.now < 2 ^ 64 }
-    ensures digest { let hashed = (T.hashes hasher.now).leaf leaf.now in
-        IfOk result (λ r. hashed ≡ Ok (L.numbers r.0)) }
-    ensures way { let h = (T.hashes hasher.now).pair in
-        IfOk result (λ r. ChangesWay h (map L.numbers leaves.now) index (L.numbers r.0)
-        (digests_of D.numbers r.1)) }
-    ensures root { let hashes = T.hashes hasher.now in
-        let old = map L.numbers leaves.now in
-        AnswersBy (λ r. get_or (digests_of D.numbers r.1) (upper_levels old) [])
-        (new_root hashes.pair (hashes.leaf leaf.now) index old) result }
+    ensures digest { IfOk result (λ r. (T.hashes hasher.now).leaf leaf.now ≡ Ok (L.numbers r.0)) }
+    ensures way { IfOk result
+        (λ r. ChangesWay (T.hashes hasher.now).pair (map L.numbers leaves.now) index
+        (L.numbers r.0) (digests_of D.numbers r.1)) }
+    ensures root { AnswersBy (λ r. get_or (digests_of D.numbers r.1)
+        (upper_levels (map L.numbers leaves.now)) []) (new_root (T.hashes hasher.now).pair
+        ((T.hashes hasher.now).leaf leaf.now) index (map L.numbers leaves.now)) result }
 {
     let digest = hasher.leaf(alloc, leaf)?;
     let way = new_way(alloc, hasher, leaves, rows, index, &digest)?;
@@ -115,18 +111,16 @@ fn new_way<L: DigestItem, D: DigestItem, T: TreeHasher<L, D>>(
     index: usize,
     digest: &L,
 ) -> Result<Vec<D>, Error>
-    requires tree { let h = (T.hashes hasher.now).pair in
-        IsTree h (map L.numbers leaves.now) rows.now }
+    requires tree { IsTree (T.hashes hasher.now).pair (map L.numbers leaves.now) rows.now }
     requires index { index < length leaves.now }
     requires fits { length leaves.now < 2 ^ 64 }
-    ensures way { let h = (T.hashes hasher.now).pair in
-        let old = map L.numbers leaves.now in
-        IfOk result (λ way. ChangesWay h old index (L.numbers digest.now)
-        (digests_of D.numbers way)) }
-    ensures root { let h = (T.hashes hasher.now).pair in
-        let old = map L.numbers leaves.now in
-        AnswersBy (λ way. get_or (digests_of D.numbers way) (upper_levels old) [])
-        (root h (set old index (L.numbers digest.now))) result }
+    ensures way { IfOk result
+        (λ way. ChangesWay (T.hashes hasher.now).pair (map L.numbers leaves.now) index
+        (L.numbers digest.now) (digests_of D.numbers way)) }
+    ensures root { AnswersBy (λ way. get_or (digests_of D.numbers way)
+        (upper_levels (map L.numbers leaves.now)) [])
+        (root (T.hashes hasher.now).pair (set (map L.numbers leaves.now) index
+        (L.numbers digest.now))) result }
 {
     let mut way = Vec::with_capacity(alloc, rows.len())?;
     let sibling = &leaves[neighbour_of(index)];

@@ -63,24 +63,25 @@ rows-viewed numbers view back are [] = refl
 rows-viewed numbers view back are (row ∷ rows) =
     λ i. map-viewed numbers view back are row.items i ∷ rows-viewed numbers view back are rows i
 
--- The canonical value of a multi-proof forgets none of its numbers.
-pub multi_way_of-value : {A B L U Z : Type 0} (leaf_numbers : A → Digest) (leaf_view : A → L) (leaf_back : L → Digest)
-    → ((a : A) → leaf_numbers a ≡ leaf_back (leaf_view a)) → (numbers : B → Digest) (view : B → U) (back : U → Digest)
-    → ((b : B) → numbers b ≡ back (view b))
-    → (siblings : List A) (prefixes : List ℕ) (suffixes : List (Vec B Z)) (indexes : List ℕ)
-    → ◌≡◌ {A = MultiWay} (record {
-      siblings = map leaf_numbers siblings;
-      prefixes = prefixes;
-      suffixes = map (digests_of numbers) suffixes;
-      indexes = indexes;
-    }) (multi_way_of leaf_back back (
-      map leaf_view siblings,
-      (map (λ n. n) prefixes, (map (λ suffix. map view suffix.items) suffixes, map (λ n. n) indexes)),
-    ))
-multi_way_of-value leaf_numbers leaf_view leaf_back leaf_are numbers view back are siblings prefixes suffixes indexes =
-    λ i. record {
-      siblings = map-viewed leaf_numbers leaf_view leaf_back leaf_are siblings i;
-      prefixes = map-itself prefixes i;
-      suffixes = rows-viewed numbers view back are suffixes i;
-      indexes = map-itself indexes i;
-    }
+module _ {A B L U Z : Type 0} (leaf_numbers : A → Digest) (leaf_view : A → L) (leaf_back : L → Digest)
+    (leaf_are : (a : A) → leaf_numbers a ≡ leaf_back (leaf_view a)) where
+  -- The canonical value of a multi-proof forgets none of its numbers.
+  pub multi_way_of-value : (numbers : B → Digest) (view : B → U) (back : U → Digest)
+      → ((b : B) → numbers b ≡ back (view b))
+      → (siblings : List A) (prefixes : List ℕ) (suffixes : List (Vec B Z)) (indexes : List ℕ)
+      → ◌≡◌ {A = MultiWay} (record {
+        siblings = map leaf_numbers siblings;
+        prefixes = prefixes;
+        suffixes = map (digests_of numbers) suffixes;
+        indexes = indexes;
+      }) (multi_way_of leaf_back back (
+        map leaf_view siblings,
+        (map (λ n. n) prefixes, (map (λ suffix. map view suffix.items) suffixes, map (λ n. n) indexes)),
+      ))
+  multi_way_of-value numbers view back are siblings prefixes suffixes indexes =
+      λ i. record {
+        siblings = map-viewed leaf_numbers leaf_view leaf_back leaf_are siblings i;
+        prefixes = map-itself prefixes i;
+        suffixes = rows-viewed numbers view back are suffixes i;
+        indexes = map-itself indexes i;
+      }

@@ -24,15 +24,15 @@ pub trait PairHasher<L: Numbered, D: Numbered> {
 
     /// Returns the hash of two leaf digests, left first. Errors: those of its function; `OutOfMemory`.
     fn bottom(&mut self, alloc: Global, left: &L, right: &L) -> Result<D, Error>
-        ensures answer { let hash = (pair self.old).bottom in
-            AnswersBy D.numbers (hash (L.numbers left.now) (L.numbers right.now)) result }
+        ensures answer { AnswersBy D.numbers ((pair self.old).bottom (L.numbers left.now)
+            (L.numbers right.now)) result }
         ensures same { pair self.new ≡ pair self.old }
         ensures counts { counted self.new ≡ min (counted self.old + 1) 18446744073709551615 };
 
     /// Returns the hash of two digests above the leaves, left first. Errors: those of its function; `OutOfMemory`.
     fn upper(&mut self, alloc: Global, left: &D, right: &D) -> Result<D, Error>
-        ensures answer { let hash = (pair self.old).upper in
-            AnswersBy D.numbers (hash (D.numbers left.now) (D.numbers right.now)) result }
+        ensures answer { AnswersBy D.numbers ((pair self.old).upper (D.numbers left.now)
+            (D.numbers right.now)) result }
         ensures same { pair self.new ≡ pair self.old }
         ensures counts { counted self.new ≡ min (counted self.old + 1) 18446744073709551615 };
 
@@ -51,8 +51,8 @@ pub struct PairCount<'a, P: Config> {
 impl<'a, P: Config> PairCount<'a, P> {
     /// Returns a hasher that was not asked yet. It allocates nothing.
     pub fn new(pair_parameters: &'a TwoToOneParam<P>) -> PairCount<'a, P>
-        ensures pair { let own = ⟦<Self as PairHasher<P::LeafDigest, P::InnerDigest>>⟧.pair in
-            own result ≡ ⟦<P as Views>⟧.pair pair_parameters.now }
+        ensures pair { ⟦<Self as PairHasher<P::LeafDigest, P::InnerDigest>>⟧.pair result
+            ≡ ⟦<P as Views>⟧.pair pair_parameters.now }
         ensures none { ⟦<Self as PairHasher<P::LeafDigest, P::InnerDigest>>⟧.counted result ≡ 0 }
     {
         PairCount {

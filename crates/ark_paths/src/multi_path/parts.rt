@@ -20,13 +20,12 @@ pub fn serialize_parts<L: CanonicalItem, D: CanonicalItem>(
     indexes: &Vec<usize>,
     dest: &mut Vec<u8>,
 ) -> Result<(), Error>
-    ensures spelled { let parts = parts_of L.view D.view
-        siblings.now.items prefixes.now.items suffixes.now.items indexes.now.items in
-        OnOk result (MultiFits L.has_spelling D.has_spelling parts) }
-    ensures appended { let parts = parts_of L.view D.view
-        siblings.now.items prefixes.now.items suffixes.now.items indexes.now.items in
-        let bytes = multi_path_spelling L.spelling D.spelling parts in
-        OnOk result (dest.new.items ≡ dest.old.items ++ bytes) }
+    ensures spelled { OnOk result (MultiFits L.has_spelling D.has_spelling
+        (parts_of L.view D.view siblings.now.items prefixes.now.items suffixes.now.items
+        indexes.now.items)) }
+    ensures appended { OnOk result (dest.new.items ≡ dest.old.items ++
+        (multi_path_spelling L.spelling D.spelling (parts_of L.view D.view siblings.now.items
+        prefixes.now.items suffixes.now.items indexes.now.items))) }
     ensures refused { LacksMemoryOnly result (dest.new.items ≡ dest.old.items) }
 {
     (siblings, (prefixes, (suffixes, indexes))).serialize(dest)
@@ -39,10 +38,8 @@ pub fn read_parts<L: CanonicalItem, D: CanonicalItem>(
     alloc: Global,
     bytes: &[u8],
 ) -> Result<(Parts<L, D>, usize), Error>
-    ensures { let reading = multi_path_at L.reads D.reads bytes.now in
-        let view = parts_of L.view D.view in
-        Reads (λ parts. view parts.0.items parts.1.0.items parts.1.1.0.items parts.1.1.1.items)
-        bytes.now reading result }
+    ensures { Reads (λ parts. parts_of L.view D.view parts.0.items parts.1.0.items parts.1.1.0.items
+        parts.1.1.1.items) bytes.now (multi_path_at L.reads D.reads bytes.now) result }
 {
     Parts::<L, D>::read(alloc, bytes)
 }

@@ -80,9 +80,8 @@ pub fn extend<'a, D: DigestItem>(
     prefix: usize,
     suffix: &'a [D],
 ) -> Result<(), Error>
-    ensures above { let numbers = map (λ x. D.numbers x.now) in
-        IfOk result (λ _. numbers above.new.items
-        ≡ take prefix (numbers above.old.items) ++ map D.numbers suffix.now) }
+    ensures above { IfOk result (λ _. map (λ x. D.numbers x.now) above.new.items ≡ take prefix
+        (map (λ x. D.numbers x.now) above.old.items) ++ map D.numbers suffix.now) }
     ensures memory { IsOkUnless result OutOfMemory }
 {
     above.truncate(prefix);

@@ -33,9 +33,8 @@ impl<P: Values> MultiPath<P> {
         ensures within { IfOk result (λ read. read.1 ≤ length bytes.now) }
 
         // What the plain reader gives, where it is strict; else which refusal it is.
-        ensures exact { let reading = strict_reading (P.multi_path_reading bytes.now) in
-            AnswersBy (λ read. (P.multi_way read.0, drop read.1 bytes.now))
-            (reading_outcome reading) result }
+        ensures exact { AnswersBy (λ read. (P.multi_way read.0, drop read.1 bytes.now))
+            (reading_outcome (strict_reading (P.multi_path_reading bytes.now))) result }
 
         ensures strict { IfOk result (λ read. is_strict (P.multi_way read.0) ≡ true) }
 
@@ -44,11 +43,10 @@ impl<P: Values> MultiPath<P> {
             take read.1 bytes.now ≡ P.multi_path_bytes (P.multi_way read.0)) }
 
         // A strict multi-proof that a front of the bytes spells is read, whatever follows it.
-        ensures only { let IsSpelledBy = Spells ⟦<MultiPath<P> as Canonical>⟧.has_spelling
-            ⟦<MultiPath<P> as Canonical>⟧.spelling in
-            (proof : _) (n : ℕ) → is_strict (P.multi_way proof) ≡ true → n ≤ length bytes.now
-            → IsSpelledBy (⟦<MultiPath<P> as Canonical>⟧.view proof) (take n bytes.now)
-            → MatchResult result
+        ensures only { (proof : _) (n : ℕ) → is_strict (P.multi_way proof) ≡ true
+            → n ≤ length bytes.now → (Spells ⟦<MultiPath<P> as Canonical>⟧.has_spelling
+            ⟦<MultiPath<P> as Canonical>⟧.spelling) (⟦<MultiPath<P> as Canonical>⟧.view proof)
+            (take n bytes.now) → MatchResult result
             (λ read. (P.multi_way read.0 ≡ P.multi_way proof) × (read.1 ≡ n)) IsMemory }
 
         // Two strict multi-proofs of the same paths are the same, and so are their bytes.
@@ -68,8 +66,8 @@ impl<P: Values> MultiPath<P> {
 
     // The refusal of a multi-proof that is not strict: `InvalidData`. `OutOfMemory`.
     fn check_strict(&self, alloc: Global) -> Result<(), Error>
-        ensures { let is_strict = is_strict (P.multi_way self.now) in
-            Answers (provided is_strict (OfBytes InvalidData)) result }
+        ensures { Answers (provided (is_strict (P.multi_way self.now)) (OfBytes InvalidData))
+            result }
     {
         let is_strict = is_strict(
             alloc,
@@ -94,9 +92,8 @@ fn is_strict<S: Numbered, D: DigestItem>(
     suffixes: &[Vec<D>],
     indexes: &[usize],
 ) -> Result<bool, Error>
-    ensures { let proof = listed_way S.numbers D.numbers siblings.now prefixes.now suffixes.now
-        indexes.now in
-        Answers (Ok (is_strict proof)) result }
+    ensures { Answers (Ok (is_strict (listed_way S.numbers D.numbers siblings.now prefixes.now
+        suffixes.now indexes.now))) result }
 {
     if !are_as_many(siblings, prefixes, suffixes, indexes) {
         return Ok(false);
@@ -114,9 +111,9 @@ fn are_as_many<S, D>(
     suffixes: &[Vec<D>],
     indexes: &[usize],
 ) -> bool
-    ensures { let count = length indexes.now in
-        result ≡ (nat_lt 0 count && (length siblings.now == count)
-        && (length prefixes.now == count) && (length suffixes.now == count)) }
+    ensures { result ≡ (nat_lt 0 (length indexes.now) && (length siblings.now == length indexes.now)
+        && (length prefixes.now == length indexes.now) &&
+        (length suffixes.now == length indexes.now)) }
 {
     let count = indexes.len();
     count > 0 && siblings.len() == count && prefixes.len() == count && suffixes.len() == count
@@ -136,8 +133,8 @@ fn are_rising(numbers: &[usize]) -> bool
 
 // Whether indexes rise, and are those of leaves in a tree whose paths have `len` digests.
 fn are_placed(indexes: &[usize], len: usize) -> bool
-    ensures { let inside = list_all (λ index. nat_lt index (2 ^ (len + 1))) in
-        result ≡ (are_rising indexes.now && inside indexes.now) }
+    ensures { result ≡ (are_rising indexes.now && (list_all (λ index. nat_lt index (2 ^ (len + 1))))
+        indexes.now) }
 {
     are_rising(indexes) && are_inside(indexes, len)
 }
@@ -169,13 +166,12 @@ fn are_longest<D: DigestItem>(
     suffixes: &[Vec<D>],
 ) -> Result<bool, Error>
     requires { length prefixes.now ≡ length suffixes.now }
-    ensures { let seen = map (digests_of D.numbers) suffixes.now in
-        (siblings : List Digest) (indexes : List ℕ)
-        → length siblings ≡ length suffixes.now → length indexes ≡ length suffixes.now
+    ensures { (siblings : List Digest) (indexes : List ℕ) → length siblings ≡ length suffixes.now
+        → length indexes ≡ length suffixes.now
         → let proof : MultiWay = record {
           siblings = siblings;
           prefixes = prefixes.now;
-          suffixes = seen;
+          suffixes = map (digests_of D.numbers) suffixes.now;
           indexes = indexes;
         } in
         Answers (Ok (are_longest [] prefixes.now (decoded_paths proof))) result }

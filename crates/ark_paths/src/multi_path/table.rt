@@ -93,8 +93,8 @@ impl<'a, X> Entries<'a, X> {
 
 // Two digests, left first: the own one stands right where that is so.
 fn in_order<'b, X: Numbered>(is_right: bool, own: &'b X, sibling: &'b X) -> (&'b X, &'b X)
-    ensures { let ordered = couple is_right (X.numbers own.now) (X.numbers sibling.now) in
-        (X.numbers result.0.now, X.numbers result.1.now) ≡ ordered }
+    ensures { (X.numbers result.0.now, X.numbers result.1.now) ≡ couple is_right (X.numbers own.now)
+        (X.numbers sibling.now) }
 {
     if is_right {
         (sibling, own)
@@ -180,12 +180,12 @@ fn keep<'a, X, D: DigestItem>(
     digest: D,
 ) -> Result<usize, Error>
     requires { AreKept entries.old.all entries.old.last.items }
-    ensures made { let numbers = map D.numbers in
-        OnOk result (numbers made.new.items ≡ numbers made.old.items ++ D.numbers digest ∷ []) }
+    ensures made { OnOk result (map D.numbers made.new.items ≡ map D.numbers made.old.items ++
+        D.numbers digest ∷ []) }
     ensures number { IfOk result (λ number. number ≡ length made.old.items) }
-    ensures entries { IfOk result (λ number.
-        let entry : OfEntry X = record { pair = pair.entry; digest = number } in
-        Updates place_cmp entries.old.all entries.new.all place (Some entry)) }
+    ensures entries { IfOk result
+        (λ number. let entry : OfEntry X = record { pair = pair.entry; digest = number } in Updates
+        place_cmp entries.old.all entries.new.all place (Some entry)) }
     ensures kept { OnOk result (AreKept entries.new.all entries.new.last.items) }
     ensures memory { IsOkUnless result OutOfMemory }
 {
@@ -227,17 +227,16 @@ pub fn ask_lowest<'a, L: DigestItem, D: DigestItem, T: PairHasher<L, D>>(
     pair: Pair<'a, L>,
 ) -> Result<usize, Error>
     requires own { pair.own < length leaves.now }
-    requires made { let digests = map L.numbers leaves.now in
-        let all = map D.numbers made.old.items in
-        AllMade L.numbers (T.pair hasher.old).bottom digests all entries.old }
+    requires made { AllMade L.numbers (T.pair hasher.old).bottom (map L.numbers leaves.now)
+        (map D.numbers made.old.items) entries.old }
     ensures answer { let asked = pair_seen L.numbers
         (map L.numbers leaves.now) pair.entry in
         AnswersBy (λ number. get_or (map D.numbers made.new.items) number [])
         ((T.pair hasher.old).bottom asked.0 asked.1) result }
-    ensures served { let digests = map L.numbers leaves.now in
-        IfOk result (IsServed L.numbers D.numbers (T.pair hasher.old).bottom place pair.entry
-        (row_of digests made.old.items entries.old (T.counted hasher.old))
-        (row_of digests made.new.items entries.new (T.counted hasher.new))) }
+    ensures served { IfOk result (IsServed L.numbers D.numbers (T.pair hasher.old).bottom place
+        pair.entry (row_of (map L.numbers leaves.now) made.old.items entries.old
+        (T.counted hasher.old)) (row_of (map L.numbers leaves.now) made.new.items entries.new
+        (T.counted hasher.new))) }
     ensures same { T.pair hasher.new ≡ T.pair hasher.old }
     ensures most { T.counted hasher.new ≤ T.counted hasher.old + 1 }
 {
@@ -261,17 +260,16 @@ pub fn ask_upper<'a, L: DigestItem, D: DigestItem, T: PairHasher<L, D>>(
     pair: Pair<'a, D>,
 ) -> Result<usize, Error>
     requires own { pair.own < length made.old.items }
-    requires made { let all = map D.numbers made.old.items in
-        AllMade D.numbers (T.pair hasher.old).upper all all entries.old }
+    requires made { AllMade D.numbers (T.pair hasher.old).upper (map D.numbers made.old.items)
+        (map D.numbers made.old.items) entries.old }
     ensures answer { let asked = pair_seen D.numbers
         (map D.numbers made.old.items) pair.entry in
         AnswersBy (λ number. get_or (map D.numbers made.new.items) number [])
         ((T.pair hasher.old).upper asked.0 asked.1) result }
-    ensures served { let old = map D.numbers made.old.items in
-        let new = map D.numbers made.new.items in
-        IfOk result (IsServed D.numbers D.numbers (T.pair hasher.old).upper place pair.entry
-        (row_of old made.old.items entries.old (T.counted hasher.old))
-        (row_of new made.new.items entries.new (T.counted hasher.new))) }
+    ensures served { IfOk result (IsServed D.numbers D.numbers (T.pair hasher.old).upper place
+        pair.entry (row_of (map D.numbers made.old.items) made.old.items entries.old
+        (T.counted hasher.old)) (row_of (map D.numbers made.new.items) made.new.items entries.new
+        (T.counted hasher.new))) }
     ensures same { T.pair hasher.new ≡ T.pair hasher.old }
     ensures most { T.counted hasher.new ≤ T.counted hasher.old + 1 }
 {

@@ -40,11 +40,9 @@ impl<P: Views> MultiPath<P> {
             (λ digests. multi_verdict hashes.pair digests (P.multi_way self.now) given) result }
 
         // Each decoded path binds its leaf to the root, as in `Path::verify`.
-        ensures bound { let hashes = P.hashes leaf_parameters.now pair_parameters.now in
-            let given = P.InnerDigest.numbers root.now in
-            let ways = decoded_paths (P.multi_way self.now) in
-            IfOk result (λ accepted. accepted ≡ true
-            → BindsGiven I.next_gives (λ leaf. leaf.now) leaves hashes given ways) }
+        ensures bound { IfOk result (λ accepted. accepted ≡ true → BindsGiven I.next_gives
+            (λ leaf. leaf.now) leaves (P.hashes leaf_parameters.now pair_parameters.now)
+            (P.InnerDigest.numbers root.now) (decoded_paths (P.multi_way self.now))) }
     {
         self.verify_next(alloc, leaf_parameters, pair_parameters, root, &mut leaves)
     }
@@ -127,22 +125,20 @@ impl<P: Views> MultiPath<P> {
     where
         P::Leaf: 'a,
         requires { I.can_next leaves }
-        ensures answer { let leaf_hash = P.LeafHash.meaning leaf_parameters.now in
-            let given = P.InnerDigest.numbers root.now in
-            (behind : I) × AnswersOver I.next_gives (λ leaf. leaf_hash leaf.now) leaves behind
-            (λ digests. multi_verdict (T.pair hasher.old) digests (P.multi_way self.now) given)
-            result }
+        ensures answer { (behind : I) × AnswersOver I.next_gives
+            (λ leaf. P.LeafHash.meaning leaf_parameters.now leaf.now) leaves behind
+            (λ digests. multi_verdict (T.pair hasher.old) digests (P.multi_way self.now)
+            (P.InnerDigest.numbers root.now)) result }
 
         // Of a tree's own multi-proof with its leaves, each place above them is asked once.
-        ensures exact { let leaf_hash = P.LeafHash.meaning leaf_parameters.now in
-            let given = P.InnerDigest.numbers root.now in
-            IfOk result (λ accepted. accepted ≡ true
-            → CountsOwn I.next_gives (λ leaf. leaf_hash leaf.now) leaves (T.pair hasher.old) given
-            (P.multi_way self.now) (T.counted hasher.old) (T.counted hasher.new)) }
+        ensures exact { IfOk result (λ accepted. accepted ≡ true → CountsOwn I.next_gives
+            (λ leaf. P.LeafHash.meaning leaf_parameters.now leaf.now) leaves (T.pair hasher.old)
+            (P.InnerDigest.numbers root.now) (P.multi_way self.now) (T.counted hasher.old)
+            (T.counted hasher.new)) }
 
         // Whatever is answered, no more are asked than those of each index.
-        ensures most { let most = most_asked (P.multi_way self.now) in
-            T.counted hasher.new ≤ T.counted hasher.old + most }
+        ensures most { T.counted hasher.new ≤ T.counted hasher.old +
+            (most_asked (P.multi_way self.now)) }
         ensures same { T.pair hasher.new ≡ T.pair hasher.old }
     {
         self.verify_next_with(alloc, leaf_parameters, hasher, root, &mut leaves)
@@ -164,18 +160,16 @@ impl<P: Views> MultiPath<P> {
     where
         P::Leaf: 'a,
         requires { I.can_next leaves.old }
-        ensures answer { let leaf_hash = P.LeafHash.meaning leaf_parameters.now in
-            let given = P.InnerDigest.numbers root.now in
-            AnswersOver I.next_gives (λ leaf. leaf_hash leaf.now) leaves.old leaves.new
-            (λ digests. multi_verdict (T.pair hasher.old) digests (P.multi_way self.now) given)
-            result }
-        ensures exact { let leaf_hash = P.LeafHash.meaning leaf_parameters.now in
-            let given = P.InnerDigest.numbers root.now in
-            IfOk result (λ accepted. accepted ≡ true
-            → CountsOwn I.next_gives (λ leaf. leaf_hash leaf.now) leaves.old (T.pair hasher.old)
-            given (P.multi_way self.now) (T.counted hasher.old) (T.counted hasher.new)) }
-        ensures most { let most = most_asked (P.multi_way self.now) in
-            T.counted hasher.new ≤ T.counted hasher.old + most }
+        ensures answer { AnswersOver I.next_gives
+            (λ leaf. P.LeafHash.meaning leaf_parameters.now leaf.now) leaves.old leaves.new
+            (λ digests. multi_verdict (T.pair hasher.old) digests (P.multi_way self.now)
+            (P.InnerDigest.numbers root.now)) result }
+        ensures exact { IfOk result (λ accepted. accepted ≡ true → CountsOwn I.next_gives
+            (λ leaf. P.LeafHash.meaning leaf_parameters.now leaf.now) leaves.old (T.pair hasher.old)
+            (P.InnerDigest.numbers root.now) (P.multi_way self.now) (T.counted hasher.old)
+            (T.counted hasher.new)) }
+        ensures most { T.counted hasher.new ≤ T.counted hasher.old +
+            (most_asked (P.multi_way self.now)) }
         ensures same { T.pair hasher.new ≡ T.pair hasher.old }
     {
         let mut above = Vec::new(alloc);

@@ -44,14 +44,12 @@ fn top_of<'a, L: DigestItem, D: DigestItem, T: PairHasher<L, D>>(
     index: usize,
 ) -> Result<usize, Error>
     requires { IsTable L.numbers D.numbers (T.pair hasher.old) table.old }
-    ensures answer { let way = way_of L.numbers (λ x. D.numbers x.now)
-        (sibling.now, (above.now, index)) in
-        AnswersBy (λ number. get_or (map D.numbers table.new.made.items) number [])
-        (path_root (T.pair hasher.old) way (L.numbers digest)) result }
-    ensures walked { let way = way_of L.numbers (λ x. D.numbers x.now)
-        (sibling.now, (above.now, index)) in
-        IfOk result (λ number. (number < length table.new.made.items)
-        × IsWalked L.numbers D.numbers (T.pair hasher.old) way (Ok (L.numbers digest))
+    ensures answer { AnswersBy (λ number. get_or (map D.numbers table.new.made.items) number [])
+        (path_root (T.pair hasher.old) (way_of L.numbers
+        (λ x. D.numbers x.now) (sibling.now, (above.now, index))) (L.numbers digest)) result }
+    ensures walked { IfOk result (λ number. (number < length table.new.made.items)
+        × IsWalked L.numbers D.numbers (T.pair hasher.old) (way_of L.numbers
+        (λ x. D.numbers x.now) (sibling.now, (above.now, index))) (Ok (L.numbers digest))
         (walk_of table.old (T.counted hasher.old)) (walk_of table.new (T.counted hasher.new))) }
     ensures same { T.pair hasher.new ≡ T.pair hasher.old }
     ensures most { T.counted hasher.new ≤ T.counted hasher.old + suc (length above.now) }
@@ -106,16 +104,13 @@ pub fn judge<'a, H: CRHScheme, D: DigestItem, T: PairHasher<H::Output, D>>(
     index: usize,
 ) -> Result<bool, Error>
     requires { IsTable H.Output.numbers D.numbers (T.pair hasher.old) table.old }
-    ensures answer { let way = way_of H.Output.numbers (λ x. D.numbers x.now)
-        (sibling.now, (above.now, index)) in
-        let given = D.numbers root.now in
-        let hashed = H.meaning leaf_parameters.now leaf.now in
-        Answers (verdict (T.pair hasher.old) hashed way given) result }
-    ensures walked { let way = way_of H.Output.numbers (λ x. D.numbers x.now)
-        (sibling.now, (above.now, index)) in
-        let hashed = H.meaning leaf_parameters.now leaf.now in
-        OnOk result (IsWalked H.Output.numbers D.numbers (T.pair hasher.old) way hashed
-        (walk_of table.old (T.counted hasher.old)) (walk_of table.new (T.counted hasher.new))) }
+    ensures answer { Answers (verdict (T.pair hasher.old) (H.meaning leaf_parameters.now leaf.now)
+        (way_of H.Output.numbers (λ x. D.numbers x.now) (sibling.now, (above.now, index)))
+        (D.numbers root.now)) result }
+    ensures walked { OnOk result (IsWalked H.Output.numbers D.numbers (T.pair hasher.old)
+        (way_of H.Output.numbers (λ x. D.numbers x.now) (sibling.now, (above.now, index)))
+        (H.meaning leaf_parameters.now leaf.now) (walk_of table.old (T.counted hasher.old))
+        (walk_of table.new (T.counted hasher.new))) }
     ensures same { T.pair hasher.new ≡ T.pair hasher.old }
     ensures most { T.counted hasher.new ≤ T.counted hasher.old + suc (length above.now) }
 {
@@ -155,22 +150,16 @@ where
     requires none { table.old.made.items ≡ [] }
     requires holds { (pairs : ℕ × ℕ → Digest × Digest) (levels : ℕ)
         → HoldsTree H.Output.numbers D.numbers pairs levels 0 0 [] table.old }
-    ensures answer { let hash = H.meaning leaf_parameters.now in
-        let given = D.numbers root.now in
-        let proof = listed_way H.Output.numbers D.numbers siblings.now
-        prefixes.now suffixes.now indexes.now in
-        AnswersOver I.next_gives (λ leaf. hash leaf.now) leaves.old leaves.new
-        (λ digests. multi_verdict (T.pair hasher.old) digests proof given) result }
-    ensures exact { let hash = H.meaning leaf_parameters.now in
-        let given = D.numbers root.now in
-        let proof = listed_way H.Output.numbers D.numbers siblings.now
-        prefixes.now suffixes.now indexes.now in
-        IfOk result (λ accepted. accepted ≡ true
-        → CountsOwn I.next_gives (λ leaf. hash leaf.now) leaves.old (T.pair hasher.old)
-        given proof (T.counted hasher.old) (T.counted hasher.new)) }
-    ensures most { let proof = listed_way H.Output.numbers D.numbers siblings.now
-        prefixes.now suffixes.now indexes.now in
-        T.counted hasher.new ≤ T.counted hasher.old + most_asked proof }
+    ensures answer { AnswersOver I.next_gives (λ leaf. H.meaning leaf_parameters.now leaf.now)
+        leaves.old leaves.new (λ digests. multi_verdict (T.pair hasher.old) digests
+        (listed_way H.Output.numbers D.numbers siblings.now prefixes.now suffixes.now indexes.now)
+        (D.numbers root.now)) result }
+    ensures exact { IfOk result (λ accepted. accepted ≡ true → CountsOwn I.next_gives
+        (λ leaf. H.meaning leaf_parameters.now leaf.now) leaves.old (T.pair hasher.old)
+        (D.numbers root.now) (listed_way H.Output.numbers D.numbers siblings.now prefixes.now
+        suffixes.now indexes.now) (T.counted hasher.old) (T.counted hasher.new)) }
+    ensures most { T.counted hasher.new ≤ T.counted hasher.old + most_asked
+        (listed_way H.Output.numbers D.numbers siblings.now prefixes.now suffixes.now indexes.now) }
     ensures same { T.pair hasher.new ≡ T.pair hasher.old }
 {
     if indexes.is_empty() {

@@ -7,6 +7,7 @@ ghost use Rattle.ark_pedersen.specs.Pedersen.{pedersen_sum, seen_by};
 ghost use Rattle.ark_schemes.specs.PedersenCommitments.{elements_in, AreOf, AreMade, drawn_elements, AreAllDrawn, pedersen_commitment};
 ghost use Rattle.ark_schemes.specs.PedersenCommitments.{windows_commitment, sum_of, IsUnion};
 
+mod binding;
 mod parameters;
 mod randomness;
 
@@ -17,6 +18,7 @@ use ark_groups::ec::AdditiveGroup;
 use ark_groups::ff::{Field, Words};
 pub use ark_pedersen::Window;
 use ark_pedersen::{CRH, sum_of_bytes};
+pub use binding::opening_relation_of;
 pub use parameters::Parameters;
 use rand::Rng;
 pub use randomness::Randomness;

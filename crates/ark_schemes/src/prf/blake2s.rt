@@ -6,7 +6,7 @@ ghost use Rattle.ark_schemes.specs.Blake2s.{blake2s, blake2s_with};
 ghost use Rattle.ark_schemes.specs.Hashers.{HoldsText, AloneHoldsText};
 
 pub mod compress;
-mod hasher;
+pub(crate) mod hasher;
 pub mod words;
 
 use crate::prf::PRF;

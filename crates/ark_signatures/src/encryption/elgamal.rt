@@ -4,6 +4,8 @@ ghost use Rattle.std.specs.Prelude.{◌≡◌, ℕ, Ok, IsOkAnd};
 ghost use Rattle.ark_groups.specs.Group.{times};
 ghost use Rattle.ark_signatures.specs.ElGamal.{encrypted, decrypted};
 
+mod keys;
+
 use crate::encryption::AsymmetricEncryptionScheme;
 use ark_base::error::Error;
 use ark_groups::ec::AdditiveGroup;
@@ -76,7 +78,7 @@ impl<C: AdditiveGroup> AsymmetricEncryptionScheme for ElGamal<C> {
     ghost decrypt_gives = { λ pp sk ciphertext result.
         result ≡ Ok (decrypted C.group (C.ScalarField.value sk.0) ciphertext) };
 
-    /// Draws the generator. It returns no error.
+    /// Draws the generator. It returns no error. Its seed need not be secret; that of keys and randomnesses must.
     fn setup<R: Rng>(_alloc: Global, rng: &mut R) -> Result<Parameters<C>, Error>
         ensures made { result ≡ Ok (record { generator = (C.draw (R.stream rng.old)).0 }) }
         ensures left { R.stream rng.new ≡ (C.draw (R.stream rng.old)).1 }

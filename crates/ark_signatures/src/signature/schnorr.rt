@@ -71,7 +71,7 @@ impl<C: AdditiveGroup, D: ByteDigest> SignatureScheme for Schnorr<C, D> {
         IsOkAnd result (λ new. numbers_of value new
         ≡ randomised C.ScalarField.MODULUS (multiplier bytes) numbers) };
 
-    /// Draws the salt, then the generator. It returns no error.
+    /// Draws the salt, then the generator. It returns no error. Its seed need not be secret; that of keys and nonces must.
     fn setup<R: Rng>(_alloc: Global, rng: &mut R) -> Result<Parameters<C>, Error> {
         let salt = <[u8; 32] as UniformRand>::rand(rng);
         let generator = C::rand(rng);

@@ -189,8 +189,8 @@ impl<F: Field> PoseidonConfig<F> {
 
 // The rows once more.
 fn copy_of_rows<F: Field>(rows: &Vec<Vec<F>>) -> Result<Vec<Vec<F>>, Error>
-    ensures { let numbers = map (λ row. map F.value row.items) in
-        AnswersBy (λ copy. numbers copy.items) (Ok (numbers rows.now.items)) result }
+    ensures { AnswersBy (λ copy. map (λ row. map F.value row.items) copy.items)
+        (Ok (map (λ row. map F.value row.items) rows.now.items)) result }
 {
     Ok(rows.clone()?)
 }

@@ -9,7 +9,8 @@ use Rattle.jubjub.specs.Edwards.{Coordinates, IsOnCurve, cross}
 use Rattle.jubjub.specs.Jubjub.{p, d}
 use Rattle.jubjub.specs.Laws.RootFacts.{roots, fours}
 use Rattle.jubjub.specs.Laws.CurveLaws.{NoCrossIsOne}
-use Rattle.jubjub.specs.Laws.Modulus.{prime_factors, seven_generates, d_is_no_square}
+use Rattle.ark_wide_fields.specs.Laws.Bls12_381Fr.{prime_factors, seven_generates}
+use Rattle.jubjub.specs.Laws.Modulus.{d_is_no_square}
 
 module _ (m d g n : ℕ) (fs : List ℕ) (k : IsGenerator m g n fs) (h : ℕ) (twice : h + h ≡ n) (some : 0 < h) (big : 4 < m)
     (euler : power_mod m 255 d h ≡ m - 1) where

@@ -54,7 +54,7 @@ of_order a = same_element (times jubjub order a) jubjub.identity
     (coordinates-times order a ∙ a.in_subgroup.of_order ∙ sym at-identity)
 
 -- the scalars' modulus is the order
-modulus_is_order : number scalar_ghosts.P ≡ order
+pub modulus_is_order : number scalar_ghosts.P ≡ order
 unfolding order
 modulus_is_order = refl
 

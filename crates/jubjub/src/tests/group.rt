@@ -65,18 +65,41 @@ fn sums_agree<G: AdditiveGroup>(a: G, b: G) -> bool {
         && G::zero() == G::default()
 }
 
-// Whether an element is drawn as the generator times a drawn scalar, and nothing more is drawn.
-fn is_drawn<R: Rng>(rng: &mut R, twin: &mut R) -> bool {
+// Whether the drawn element is at these coordinates, and the stream goes on with this word.
+fn is_drawn_at<R: Rng>(alloc: Global, rng: &mut R, x: &str, y: &str, next: u64) -> bool {
     let drawn = <Jubjub as AdditiveGroup>::rand(rng);
-    let scalar = JubjubFr::rand(twin);
-    drawn == AdditiveGroup::mul(Jubjub::generator(), scalar) && rng.next_u64() == twin.next_u64()
+    is(alloc, drawn.x(), x) && is(alloc, drawn.y(), y) && rng.next_u64() == next
+}
+
+#[test]
+fn draws_agree_with_python(rt: HostRuntime) {
+    let mut rng = SmallRng::seed_from_u64(31);
+    assert!(rt;
+        is_drawn_at(
+            rt.alloc(),
+            &mut rng,
+            "0x06e8f7ebc79e4b2db21f2bb23140c3f1626e915f452a367512310897ea8e1043",
+            "0x3ae14bd517586dba1a3384064cb50cf50b5386c04b54e78c157ea0dbebdfead8",
+            9613494578731401534,
+        )
+    );
+}
+
+// Whether one of the next scalars of a stream is the logarithm of the element that is drawn from its twin.
+fn is_replayed<R: Rng>(rng: &mut R, twin: &mut R) -> bool {
+    let drawn = <Jubjub as AdditiveGroup>::rand(rng);
+    let mut found = false;
+    for _ in 0..8 {
+        found = found || Jubjub::generator().mul(JubjubFr::rand(twin).words()) == drawn;
+    }
+    found
 }
 
 #[test]
 fn the_group_is_one(rt: HostRuntime) {
     let mut rng = SmallRng::seed_from_u64(31);
     let mut twin = SmallRng::seed_from_u64(31);
-    assert!(rt; is_drawn(&mut rng, &mut twin));
+    assert!(rt; !is_replayed(&mut rng, &mut twin));
     let element = <Jubjub as AdditiveGroup>::rand(&mut rng);
     assert!(rt; sums_agree(Jubjub::generator(), element));
 }

@@ -6,14 +6,17 @@ use Rattle.ark_bowe_hopwood.proofs.sums.add_digit.Goals as goal
 use Rattle.ark_bowe_hopwood.proofs.sums.add_digit.Goals.{then-a, else-a}
 
 -- the element, or its opposite, is added once or twice, and then twice or not at all
-added : {G : Type 0} {g : Group G} (laws : IsCommutativeGroup g) (sum x once twice first whole : G) (a b c : Bool)
-    → once ≡ cond c (g.opposite x) x → twice ≡ g.plus once once → first ≡ cond a twice once
-    → whole ≡ cond b (g.plus (g.plus sum first) twice) (g.plus sum first)
-    → whole ≡ g.plus sum (signed_times g (digit (a, b, c)) x)
-added {G} {g} laws sum x once twice first whole a b c is_once is_twice is_first is =
-    let signed : G = cond c (g.opposite x) x in
-    is ∙ rw (is_first, is_twice, is_once) (sym (ap (g.plus sum) (digit-times laws a b c x) ∙ digit-added laws a b
-    sum signed))
+module _ {G : Type 0} {g : Group G} (laws : IsCommutativeGroup g) (sum x once twice first whole : G) where
+  added : (a b c : Bool)
+      → once ≡ cond c (g.opposite x) x
+      → twice ≡ g.plus once once
+      → first ≡ cond a twice once
+      → whole ≡ cond b (g.plus (g.plus sum first) twice) (g.plus sum first)
+      → whole ≡ g.plus sum (signed_times g (digit (a, b, c)) x)
+  added a b c is_once is_twice is_first is =
+      let signed : G = cond c (g.opposite x) x in
+      is ∙ rw (is_first, is_twice, is_once) (sym (ap (g.plus sum) (digit-times laws a b c x) ∙ digit-added laws a b
+      sum signed))
 
 pub returns-then-b : goal.returns-then-b
 returns-then-b g c =

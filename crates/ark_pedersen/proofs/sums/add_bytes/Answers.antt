@@ -30,30 +30,33 @@ word_below bytes first start n all fits within room =
     rw (next_is bytes start n) (omega arith)
 
 -- and what is added of them, and what is still to be added, are what was to be added
-step : {G : Type 0} {g : Group G} (laws : IsCommutativeGroup g) (all : List G) (bytes : List ℕ) (sum new : G)
-    (first start n number : ℕ) → IsBytes bytes → start + n ≤ length bytes → n ≤ 8 → number ≡ number_of_bytes
-    (next bytes start n)
-    → new ≡ g.plus sum (pedersen_sum g (drop (first + 8 * start) all) (bits_of_number 64 number))
-    → g.plus new (pedersen_sum g (drop (first + 8 * (start + n)) all) (bits_of_bytes (drop (start + n) bytes)))
-    ≡ g.plus sum (pedersen_sum g (drop (first + 8 * start) all) (bits_of_bytes (drop start bytes)))
-step {G} {g} laws all bytes sum new first start n number fits within short is added =
-    let xs = drop (first + 8 * start) all in
-    let rest = drop start bytes in
-    let word : number ≡ number_of_bytes (take n rest) = is ∙ ap number_of_bytes (next_is bytes start n) in
-    let here : G = pedersen_sum g xs (bits_of_number 64 (number_of_bytes (take n rest))) in
-    let elements : drop (first + 8 * (start + n)) all ≡ drop (8 * n) xs =
-    (let k : first + 8 * (start + n) ≡ first + 8 * start + 8 * n = omega arith in ap (λ (m : ℕ). drop m all) k)
-    ∙ sym (drop-drop (8 * n) (first + 8 * start) all) in
-    let behind : drop (start + n) bytes ≡ drop n rest = sym (drop-drop n start bytes) in
-    ap (λ (x : G). g.plus x (pedersen_sum g (drop (first + 8 * (start + n)) all)
-    (bits_of_bytes (drop (start + n) bytes))))
-    (added ∙ ap (λ (m : ℕ). g.plus sum (pedersen_sum g xs (bits_of_number 64 m))) word)
-    ∙ ap (λ (ys : List G). g.plus (g.plus sum here) (pedersen_sum g ys (bits_of_bytes (drop (start + n) bytes))))
-    elements
-    ∙ ap (λ (t : List ℕ). g.plus (g.plus sum here) (pedersen_sum g (drop (8 * n) xs) (bits_of_bytes t))) behind
-    ∙ laws.assoc _ _ _
-    ∙ ap (g.plus sum) (sym (pedersen_sum-word laws xs rest n (IsBytes-drop start bytes fits)
-    (omega (arith, length-drop start bytes)) short))
+module _ {G : Type 0} {g : Group G} (laws : IsCommutativeGroup g) (all : List G) (bytes : List ℕ) (sum new : G) where
+  step : (first start n number : ℕ)
+      → IsBytes bytes
+      → start + n ≤ length bytes
+      → n ≤ 8
+      → number ≡ number_of_bytes (next bytes start n)
+      → new ≡ g.plus sum (pedersen_sum g (drop (first + 8 * start) all) (bits_of_number 64 number))
+      → g.plus new (pedersen_sum g (drop (first + 8 * (start + n)) all) (bits_of_bytes (drop (start + n) bytes))) ≡
+      g.plus sum (pedersen_sum g (drop (first + 8 * start) all) (bits_of_bytes (drop start bytes)))
+  step first start n number fits within short is added =
+      let xs = drop (first + 8 * start) all in
+      let rest = drop start bytes in
+      let word : number ≡ number_of_bytes (take n rest) = is ∙ ap number_of_bytes (next_is bytes start n) in
+      let here : G = pedersen_sum g xs (bits_of_number 64 (number_of_bytes (take n rest))) in
+      let elements : drop (first + 8 * (start + n)) all ≡ drop (8 * n) xs =
+      (let k : first + 8 * (start + n) ≡ first + 8 * start + 8 * n = omega arith in ap (λ (m : ℕ). drop m all) k)
+      ∙ sym (drop-drop (8 * n) (first + 8 * start) all) in
+      let behind : drop (start + n) bytes ≡ drop n rest = sym (drop-drop n start bytes) in
+      ap (λ (x : G). g.plus x (pedersen_sum g (drop (first + 8 * (start + n)) all)
+      (bits_of_bytes (drop (start + n) bytes))))
+      (added ∙ ap (λ (m : ℕ). g.plus sum (pedersen_sum g xs (bits_of_number 64 m))) word)
+      ∙ ap (λ (ys : List G). g.plus (g.plus sum here) (pedersen_sum g ys (bits_of_bytes (drop (start + n) bytes))))
+      elements
+      ∙ ap (λ (t : List ℕ). g.plus (g.plus sum here) (pedersen_sum g (drop (8 * n) xs) (bits_of_bytes t))) behind
+      ∙ laws.assoc _ _ _
+      ∙ ap (g.plus sum) (sym (pedersen_sum-word laws xs rest n (IsBytes-drop start bytes fits)
+      (omega (arith, length-drop start bytes)) short))
 
 pub add_word-sum-requires-clause-fits : goal.add_word-sum-requires-clause-fits
 add_word-sum-requires-clause-fits g c =

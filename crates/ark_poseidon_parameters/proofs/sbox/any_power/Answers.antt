@@ -1,4 +1,4 @@
-use Rattle.std.proofs.Common.{◌≡◌, ◌+◌, ◌*◌, ◌/◌, ◌%◌, ◌^◌, sym, ap, ◌∙◌, arith}
+use Rattle.std.proofs.Common.{◌≡◌, ◌*◌, ◌/◌, ◌%◌, ◌^◌, sym, ap, ◌∙◌, arith}
 use Rattle.ark_poseidon_parameters.proofs.Powers.{even_step, odd_step, whole_power, no_power}
 use Rattle.ark_poseidon_parameters.proofs.sbox.any_power.Goals as goal
 use Rattle.ark_poseidon_parameters.proofs.sbox.any_power.Goals.{then-rest-eq1, else-rest-eq1}

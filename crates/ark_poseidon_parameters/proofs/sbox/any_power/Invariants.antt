@@ -1,4 +1,4 @@
-use Rattle.std.proofs.Common.{◌≡◌, ◌*◌, ◌%◌, ◌^◌, ◌<◌}
+use Rattle.std.proofs.Common.{◌≡◌, ◌*◌, ◌%◌, ◌^◌}
 use Rattle.ark_poseidon_parameters.proofs.sbox.any_power.Given as goal
 
 -- what is done, times the base to the power of the rest, is the whole

@@ -65,3 +65,38 @@ impl<C: AdditiveGroup> CanonicalItem for SecretKey<C> {
 
     ghost at_least = { C.ScalarField.CanonicalItem.at_least };
 }
+
+/// The canonical bytes of a signature are those of the response, and then of the challenge.
+impl<C: AdditiveGroup> Canonical for Signature<C> {
+    ghost Value = { ⟦<(C::ScalarField, C::ScalarField) as Canonical>⟧.Value };
+
+    ghost view = { λ signature. ⟦<(C::ScalarField, C::ScalarField) as Canonical>⟧.view
+        (signature.prover_response, signature.verifier_challenge) };
+
+    ghost has_spelling = { ⟦<(C::ScalarField, C::ScalarField) as Canonical>⟧.has_spelling };
+
+    ghost spelling = { ⟦<(C::ScalarField, C::ScalarField) as Canonical>⟧.spelling };
+
+    ghost reads = { ⟦<(C::ScalarField, C::ScalarField) as Canonical>⟧.reads };
+
+    ghost laws = { ⟦<(C::ScalarField, C::ScalarField) as Canonical>⟧.laws };
+}
+
+impl<C: AdditiveGroup> CanonicalSerialize for Signature<C> {
+    fn serialize(&self, dest: &mut Vec<u8>) -> Result<(), Error> {
+        (self.prover_response, self.verifier_challenge).serialize(dest)
+    }
+}
+
+impl<C: AdditiveGroup> CanonicalDeserialize for Signature<C> {
+    /// Errors: the response's fault, then the challenge's: `Truncated`, `InvalidData` of the modulus or more.
+    fn read(alloc: Global, bytes: &[u8]) -> Result<(Signature<C>, usize), Error> {
+        let (pair, used) = <(C::ScalarField, C::ScalarField)>::read(alloc, bytes)?;
+        let (prover_response, verifier_challenge) = pair;
+        let signature = Signature {
+            prover_response,
+            verifier_challenge,
+        };
+        Ok((signature, used))
+    }
+}

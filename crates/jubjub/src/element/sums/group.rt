@@ -7,11 +7,12 @@ ghost use Rattle.jubjub.specs.Sums.{total};
 ghost use Rattle.jubjub.specs.Laws.Group.{jubjub_laws, of_modulus, same_if_equal};
 ghost use Rattle.jubjub.specs.Laws.Elements.{same_element};
 
+use crate::element::found::element_drawn;
 use crate::element::{Jubjub, JubjubSum};
 use crate::extended::{doubled, lifted, plus, plus_point, twice_coefficient};
 use crate::fr::JubjubFr;
 use ark_groups::ec::{AdditiveGroup, TECoordinates};
-use ark_groups::ff::{Field, UniformRand};
+use ark_groups::ff::Field;
 use ark_wide_fields::Bls12_381Fr;
 use rand::Rng;
 
@@ -67,9 +68,11 @@ impl AdditiveGroup for Jubjub {
         Jubjub::of_extended(sum.point)
     }
 
-    /// Takes 48 bytes of the generator's stream: a scalar, times the group's generator.
+    /// Takes 48 bytes of the generator's stream at each of at most 128 tries: the number that they are modulo p as a
+    /// second coordinate, and 8 times the point over it whose first coordinate is even, until that is an element but
+    /// zero. Nobody knows the logarithm of what is found. After 128 tries it is zero.
     fn rand<R: Rng>(rng: &mut R) -> Jubjub {
-        Jubjub::generator().mul(JubjubFr::rand(rng).words())
+        element_drawn(rng)
     }
 
     ghost laws = { jubjub_laws };

@@ -4,7 +4,7 @@ use Rattle.kept_tree.proofs.change.set_leaf.Given as goal
 
 abbrev pub invariant-up : goal.invariant-up
 invariant-up g l =
-    ChangesUpTo g.H.PairHash.node l.fn.memory l.memory (length l.fn.memory / 2 + l.index) l.place l.digest
+    ChangesUpTo g.H.ArrayHash.node_hash l.fn.memory l.memory (length l.fn.memory / 2 + l.index) l.place l.digest
 
 abbrev pub decreases-up : goal.decreases-up
 decreases-up g l = l.place

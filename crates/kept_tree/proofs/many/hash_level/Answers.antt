@@ -21,7 +21,7 @@ hash_next-requires g c =
 
 pub indexes-init : goal.indexes-init
 indexes-init g c =
-    level-none g.H.PairHash.node c.args.memory.now (has_levels (length c.args.memory.now) c.requires.size)
+    level-none g.H.ArrayHash.node_hash c.args.memory.now (has_levels (length c.args.memory.now) c.requires.size)
     c.requires.high c.args.indexes.now (λ j below. c.requires.indexes j 0 below)
 
 pub indexes-preserved : goal.indexes-preserved
@@ -30,14 +30,14 @@ indexes-preserved g c =
     let place : ℕ → ℕ = λ n.
     (n + get_or c.args.indexes.now c.indexes.index-index 0) / 2 ^ c.args.level - 1 in
     let Hashes : ℕ → Type 0 = λ n. place n ≢ c.indexes.last
-    → Rehashes g.H.PairHash.node (place n) 1 c.indexes.memory c.hash_next.new.memory in
-    rw tree.half (level-next g.H.PairHash.node c.args.memory.now tree c.requires.high c.args.indexes.now
+    → Rehashes g.H.ArrayHash.node_hash (place n) 1 c.indexes.memory c.hash_next.new.memory in
+    rw tree.half (level-next g.H.ArrayHash.node_hash c.args.memory.now tree c.requires.high c.args.indexes.now
     (λ j below. c.requires.indexes j 0 below) c.indexes.memory c.hash_next.new.memory c.indexes.index-index
     c.indexes.last c.indexes-test.true c.indexes.invariant
     (λ same. c.hash_next.ensures.same (ap place tree.half ∙ same)) (subst Hashes tree.half c.hash_next.ensures.other))
 
 pub returns : goal.returns
 returns g c =
-    level-all g.H.PairHash.node c.args.memory.now (has_levels (length c.args.memory.now) c.requires.size)
+    level-all g.H.ArrayHash.node_hash c.args.memory.now (has_levels (length c.args.memory.now) c.requires.size)
     c.requires.high c.args.indexes.now (λ j below. c.requires.indexes j 0 below) c.indexes.memory
     c.indexes.index-index c.indexes.last (omega arith) c.indexes.invariant

@@ -15,7 +15,8 @@ overflow_add-levels g c =
 
 pub levels-init : goal.levels-init
 levels-init g c =
-    above-none g.H.PairHash.node c.args.memory.now (levels-found _ _ c.requires.size c.levels_between-levels.ensures)
+    above-none g.H.ArrayHash.node_hash c.args.memory.now (levels-found _ _ c.requires.size
+    c.levels_between-levels.ensures)
     c.args.indexes.now (λ j below. c.requires.indexes j 0 below)
 
 pub hash_level-requires-clause-high : goal.hash_level-requires-clause-high
@@ -26,12 +27,14 @@ hash_level-requires-clause-high g c =
 
 pub levels-preserved : goal.levels-preserved
 levels-preserved g c =
-    above-more g.H.PairHash.node c.args.memory.now (levels-found _ _ c.requires.size c.levels_between-levels.ensures)
+    above-more g.H.ArrayHash.node_hash c.args.memory.now (levels-found _ _ c.requires.size
+    c.levels_between-levels.ensures)
     c.args.indexes.now (λ j below. c.requires.indexes j 0 below) c.levels.memory c.hash_level.new.memory c.levels.level
     (omega arith) c.levels.invariant c.hash_level.ensures
 
 pub returns : goal.returns
 returns g c =
-    above-all g.H.PairHash.node c.args.memory.now (levels-found _ _ c.requires.size c.levels_between-levels.ensures)
+    above-all g.H.ArrayHash.node_hash c.args.memory.now (levels-found _ _ c.requires.size
+    c.levels_between-levels.ensures)
     c.args.indexes.now (λ j below. c.requires.indexes j 0 below) c.levels.memory c.levels.level (omega arith)
     c.levels.invariant

@@ -39,13 +39,13 @@ is_other-differs-requires-clause-used g c = λ beside.
     climbing-inside c.requires.stored (c.levels.invariant.at []) g.D.Numbered.numbers c.args.path.now c.levels.used refl
     c.levels-test.true beside
 
-pub raise_last-requires-clause-last : goal.raise_last-requires-clause-last
-raise_last-requires-clause-last g c = c.levels.invariant.has
+pub raise-requires-clause-last : goal.raise-requires-clause-last
+raise-requires-clause-last g c = c.levels.invariant.has
 
 pub returns-in_err-last-clause-refused : goal.returns-in_err-last-clause-refused
 returns-in_err-last-clause-refused g c =
     memory_only c.from_residual-in_err-last.result c.in_err-last.field-0.0 c.from_residual-in_err-last.ensures.1
-    c.in_err-last.ensures.raised
+    (rw (c.new.ensures.hasher) at (c.in_err-last.ensures.raised (rw (c.new.ensures.hasher) c.requires.stored)))
     (λ refused. climbing-raised c.requires.stored (c.levels.invariant.at []) c.levels-test.true refused)
 
 pub bounds-path-used : goal.bounds-path-used
@@ -78,6 +78,8 @@ levels-preserved g c =
     let row = row_of c.args.rows.now c.levels.level in
     let edge = edge_of row c.levels.last_index (last_seen numbers row c.levels.last_index c.levels.last) in
     let next_own = get_or (map numbers c.args.path.now) c.levels.used [] in
+    let raised = rw (c.new.ensures.hasher) at (c.in_ok-last.ensures.raised (rw (c.new.ensures.hasher)
+    c.requires.stored)) in
     let here = c.found_here-found.ensures ∙ ap (λ b. found_at b c.levels.level c.levels.found)
     c.is_other-differs.ensures in
     elim c.if-has_beside.branch [
@@ -95,7 +97,7 @@ levels-preserved g c =
             at = λ empty. rw (w.own-is, w.used-is) (climbing-next c.requires.stored (c.levels.invariant.at empty)
                 c.levels-test.true beside c.found_here-found.result (climbing-read c.requires.stored
                 (c.levels.invariant.at empty) numbers c.args.path.now c.levels.used refl c.levels-test.true beside
-                w.index-path-used.result w.index-path-used.is) w.in_ok-own-2.ensures c.in_ok-last.ensures.raised
+                w.index-path-used.result w.index-path-used.is) w.in_ok-own-2.ensures raised
                 (here ∙ ap (λ d. found_at (is_other_pair edge c.levels.index c.levels.last_index
                 (numbers c.levels.own) d) c.levels.level c.levels.found) (sym read)));
           }
@@ -107,7 +109,7 @@ levels-preserved g c =
             root = c.levels.invariant.root;
             at = λ empty. rw (w.own-is, w.used-is) (climbing-alone c.requires.stored (c.levels.invariant.at empty)
                 c.levels-test.true (sym c.has_beside.ensures ∙ w.if-has_beside.false) next_own
-                c.found_here-found.result c.in_ok-last.ensures.raised here);
+                c.found_here-found.result raised here);
           }
     ]
 

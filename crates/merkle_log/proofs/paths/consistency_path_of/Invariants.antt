@@ -1,25 +1,33 @@
-use Rattle.std.proofs.Common.{◌≡◌, ◌+◌, ◌-◌, ◌≤◌, take, Ok}
+use Rattle.std.proofs.Common.{◌≡◌, ◌+◌, ◌-◌, ◌<◌, ◌≤◌, take, length, Ok}
 use Rattle.ark_paths.specs.Pair.{Digest}
+use Rattle.merkle_log.specs.Asked.{Holding, IsBeside, IsPeak, own_count}
 use Rattle.merkle_log.specs.Log.{consistency_path}
 use Rattle.merkle_log.specs.Edge.{last_seen, HasLast, all_of, beside_pairs}
-use Rattle.merkle_log.specs.Stored.{row_of}
+use Rattle.merkle_log.specs.Stored.{row_of, IsStored}
+use Rattle.merkle_log.proofs.Asking.{Lowering}
 use Rattle.merkle_log.proofs.Backs.{Tallying}
 use Rattle.merkle_log.proofs.Seeding.{Seeding}
 use Rattle.merkle_log.proofs.paths.consistency_path_of.Given as goal
 
 abbrev pub invariant-complete : goal.invariant-complete
 invariant-complete g l =
-    let hash = (g.W.PairHasher.pair l.initial.pairs).upper in
-    let rows = row_of l.rows in
+    let hash = g.H.NodeHasher.hash l.initial.hasher in
+    let rows = row_of (g.R.Rows.stored l.rows) in
     let last = last_seen g.D.Numbered.numbers (rows l.level) l.last_index l.last in
     record {
       count : l.level + l.last_index ≤ l.size;
+      inside : l.index ≤ l.last_index;
+      under : l.index < l.last_index;
+      within : l.last_index ≤ length (rows l.level);
       has : HasLast (rows l.level) l.last_index l.last;
-      at : (empty : Digest) → Seeding hash rows empty l.level l.index l.last_index (Ok last)
+      peaks : Holding (g.R.Rows.Holds l.rows) l.level (IsPeak (own_count l.last_index l.last));
+      beside : Holding (g.R.Rows.Holds l.rows) l.level (IsBeside l.index (own_count l.last_index l.last));
+      lowest : Lowering l.old_size l.level l.index;
+      at : IsStored hash rows → (empty : Digest) → Seeding hash rows empty l.level l.index l.last_index (Ok last)
           (all_of (consistency_path hash empty l.old_size (take l.size (rows 0))));
-      same : g.W.PairHasher.pair l.pairs ≡ g.W.PairHasher.pair l.initial.pairs;
-      low : g.W.PairHasher.counted l.pairs ≤ l.level;
-      tally : Tallying (g.W.PairHasher.counted l.pairs) l.index l.last_index l.last
+      same : g.H.NodeHasher.hash l.hasher ≡ hash;
+      low : g.H.NodeHasher.counted l.hasher ≤ l.level;
+      tally : Tallying (g.H.NodeHasher.counted l.hasher) l.index l.last_index l.last
           (beside_pairs (l.old_size - 1) l.size);
     }
 

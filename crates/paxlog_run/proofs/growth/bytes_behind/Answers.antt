@@ -5,7 +5,7 @@ use Rattle.paxlog_run.proofs.growth.bytes_behind.Goals as goal
 pub overflow_sub-count : goal.overflow_sub-count
 overflow_sub-count c = omega (
   arith,
-  count-rises c.args.size (c.args.size + length c.args.digests.now) (omega arith),
-  c.requires.whole,
+  count-rises c.size-size.result (c.size-size.result + length c.args.digests.now) (omega arith),
   c.stored_count.ensures,
+  c.stored_count-2.ensures,
 )

@@ -1,41 +1,67 @@
-use Rattle.std.proofs.Common.{◌*◌, arith}
-use Rattle.std.proofs.lemmas.List.{map_push}
+use Rattle.std.proofs.Common.{◌≡◌, ◌∙◌, ◌+◌, ◌++◌, length, take, drop, ap, sym, arith, List, ℕ, Bor}
+use Rattle.std.proofs.lemmas.List.{length-map}
+use Rattle.std.specs.List.{zip}
 use Rattle.ark_base.proofs.Refusals.{passed_on}
+use Rattle.ark_crh.specs.Ahead.{lent}
+use Rattle.ark_paths.specs.Root.{all_hashes}
+use Rattle.ark_paths.specs.Rows.{digests_of}
+use Rattle.ark_paths.proofs.ListOutcomes.{length-each}
 use Rattle.ark_merkle.specs.Batch.{last_changes}
-use Rattle.ark_merkle.proofs.Batches.{hashed_so_far-more, hashed_so_far-refused}
-use Rattle.ark_merkle.proofs.BuildRowsByFour.{next_four}
-use Rattle.ark_merkle.proofs.ChangesOfFour.{hashed_so_far-four, hashed_so_far-four_refused}
-use Rattle.ark_merkle.proofs.LentChanges.{lent-next, lent-four}
+use Rattle.ark_merkle.specs.Changed.{lent_changes, seen_changes}
+use Rattle.ark_merkle.proofs.ChangeRuns.{hashed_so_far-run, hashed_so_far-run_refused}
+use Rattle.ark_merkle.proofs.LentChanges.{lent-run}
+use Rattle.ark_merkle.proofs.tree.batch.hash_last.Goals.{In_ok-indexes}
 use Rattle.ark_merkle.proofs.tree.batch.hash_last.Goals as goal
+
+-- the run and the changes behind it
+run : (g : _) (c : In_ok-indexes g) → drop c.runs.next (lent_changes c.in_ok-last.last)
+    ≡ zip c.in_ok-indexes.indexes.items (lent c.in_ok-indexes.leaves.items)
+    ++ drop (c.runs.next + c.min-count.result) (lent_changes c.in_ok-last.last)
+run g c =
+    lent-run c.in_ok-last.last.items c.runs.next c.min-count.result c.in_ok-indexes.indexes.items
+    (lent c.in_ok-indexes.leaves.items) (c.in_ok-indexes.ensures.parts
+    ∙ ap (seen_changes (λ leaf. leaf.now)) (c.part_of.ensures
+    ∙ ap (λ xs. take c.min-count.result (drop c.runs.next xs)) c.deref.ensures.value))
+
+same : (g : _) (c : In_ok-indexes g) → length c.in_ok-indexes.indexes.items
+    ≡ length (lent c.in_ok-indexes.leaves.items)
+same g c =
+    omega (
+      arith,
+      c.in_ok-indexes.ensures.count,
+      length-map c.in_ok-indexes.leaves.items (λ (leaf : Bor _). leaf.now),
+    )
 
 pub returns-in_err-made : goal.returns-in_err-made
 returns-in_err-made g c =
-    passed_on _ _ c.from_residual-in_err-made.result c.in_err-made.field-0.0 c.from_residual-in_err-made.ensures.1
-    c.in_err-made.ensures
-    (hashed_so_far-four_refused (g.T.TreeHasher.hashes c.args.hasher.now).leaf (last_changes c.args.changes.now)
-    _ _ _ _ _ _ (rw (lent-four c.in_ok-last.last.items (4 * c.fours.four) _ _ _ _ (omega arith) c.index.ensures
-    c.index-in-fours.ensures c.index-in-fours-2.ensures c.index-in-fours-3.ensures) at c.fours.invariant)
-    c.in_err-made.field-0.0)
+    let hash = (g.T.TreeHasher.hashes c.args.hasher.now).leaf in
+    let here = (goal.at.returns-in_err-made g c).In_ok-indexes in
+    passed_on _ _ c.from_residual-in_err-made.result _ c.from_residual-in_err-made.ensures.1 c.in_err-made.ensures
+    (λ is. hashed_so_far-run_refused hash (last_changes c.args.changes.now) _ c.in_ok-indexes.indexes.items
+    (lent c.in_ok-indexes.leaves.items) _ (same g here) (rw (run g here) at c.runs.invariant) _
+    (ap (λ xs. all_hashes hash (lent xs)) (sym c.deref-in-runs.ensures.value) ∙ is))
 
-pub fours-preserved : goal.fours-preserved
-fours-preserved g c =
-    rw c.in_ok-push_changes.ensures.changes (rw (next_four c.fours.four) at (hashed_so_far-four
-    (g.T.TreeHasher.hashes c.args.hasher.now).leaf (last_changes c.args.changes.now) _ _ _ _ _ _
-    (rw (lent-four c.in_ok-last.last.items (4 * c.fours.four) _ _ _ _ (omega arith) c.index.ensures
-    c.index-in-fours.ensures c.index-in-fours-2.ensures c.index-in-fours-3.ensures) at c.fours.invariant)
-    _ _ _ _ c.in_ok-made.ensures))
+pub push_changes-requires : goal.push_changes-requires
+push_changes-requires g c =
+    let hash = (g.T.TreeHasher.hashes c.args.hasher.now).leaf in
+    omega (
+      arith,
+      c.in_ok-indexes.ensures.count,
+      length-map c.in_ok-made.made.items g.L.Numbered.numbers,
+      length-map c.deref-in-runs.result.now (λ (leaf : Bor _). leaf.now),
+      ap length c.deref-in-runs.ensures.value,
+      ap length c.deref-in-runs-2.ensures.value,
+      length-each hash (lent c.deref-in-runs.result.now) _ c.in_ok-made.ensures,
+    )
 
-pub returns-in_err-leaf : goal.returns-in_err-leaf
-returns-in_err-leaf g c =
-    passed_on _ _ c.from_residual-in_err-leaf.result c.in_err-leaf.field-0.0 c.from_residual-in_err-leaf.ensures.1
-    c.in_err-leaf.ensures
-    (hashed_so_far-refused (g.T.TreeHasher.hashes c.args.hasher.now).leaf (last_changes c.args.changes.now) _ _ _
-    c.in_err-leaf.field-0.0 (rw (lent-next c.in_ok-last.last.items c.rest.place _ (omega arith)
-    c.index-in-rest.ensures) at c.rest.invariant))
-
-pub rest-preserved : goal.rest-preserved
-rest-preserved g c =
-    rw (c.in_ok-push.ensures.items, map_push)
-    (hashed_so_far-more (g.T.TreeHasher.hashes c.args.hasher.now).leaf (last_changes c.args.changes.now) _ _ _ _
-    (rw (lent-next c.in_ok-last.last.items c.rest.place _ (omega arith) c.index-in-rest.ensures) at c.rest.invariant)
-    c.in_ok-leaf.ensures)
+pub runs-preserved : goal.runs-preserved
+runs-preserved g c =
+    let hash = (g.T.TreeHasher.hashes c.args.hasher.now).leaf in
+    let here = (goal.at.runs-preserved g c).In_ok-indexes in
+    let digests = digests_of g.L.Numbered.numbers c.in_ok-made.made in
+    rw (c.in_ok-push_changes.ensures.changes ∙ ap (λ (ps : List ℕ). seen_changes g.L.Numbered.numbers
+    c.runs.digests.items
+    ++ zip ps digests) c.deref-in-runs-2.ensures.value)
+    (hashed_so_far-run hash (last_changes c.args.changes.now) _ c.in_ok-indexes.indexes.items
+    (lent c.in_ok-indexes.leaves.items) _ (same g here) (rw (run g here) at c.runs.invariant) digests
+    (ap (λ xs. all_hashes hash (lent xs)) (sym c.deref-in-runs.ensures.value) ∙ c.in_ok-made.ensures))

@@ -1,40 +1,16 @@
-use Rattle.std.proofs.Common.{◌≡◌, ℕ, suc, ◌+◌, ◌-◌, ◌≤◌, ◌++◌, ◌∷◌, List, [], ◌∙◌, sym, ap, append_assoc, arith}
-use Rattle.std.proofs.lemmas.List.{append-nil}
+use Rattle.std.proofs.Common.{◌∙◌, ap}
+use Rattle.std.proofs.lemmas.Result.{IfOk-weaker}
 use Rattle.rand_core.specs.Stream.{Stream}
-use Rattle.ark_groups.specs.Group.{Group}
 use Rattle.ark_pedersen.specs.Pedersen.{doublings}
 use Rattle.ark_pedersen.proofs.crh.CRH.generator_powers.Goals as goal
 
-step : {G : Type 0} (g : Group G) (front new : List G) (x double : G) (count i : ℕ) (whole : List G) → i + 1 ≤ count
-    → new ≡ front ++ x ∷ [] → double ≡ g.plus x x
-    → front ++ doublings g (count - i) x ≡ whole → new ++ doublings g (count - (i + 1)) double ≡ whole
-unfolding doublings
-step {G} g front new x double count i whole more put doubled so_far =
-    let one : count - i ≡ suc (count - (i + 1)) = omega arith in
-    ap (λ (t : List G). t ++ doublings g (count - (i + 1)) double) put
-    ∙ ap (λ (y : G). (front ++ x ∷ []) ++ doublings g (count - (i + 1)) y) doubled
-    ∙ append_assoc front (x ∷ []) _
-    ∙ ap (λ (n : ℕ). front ++ doublings g n x) (sym one)
-    ∙ so_far
-
-all : {G : Type 0} (g : Group G) (front : List G) (x : G) (count i : ℕ) (whole : List G) → count ≤ i
-    → front ++ doublings g (count - i) x ≡ whole → front ≡ whole
-unfolding doublings
-all {G} g front x count i whole done so_far =
-    let none : count - i ≡ 0 = omega arith in
-    sym (ap (λ (n : ℕ). front ++ doublings g n x) none ∙ append-nil front) ∙ so_far
-
-pub loop-preserved : goal.loop-preserved
-loop-preserved g c =
-    step g.C.AdditiveGroup.group c.loop.list.items c.push.new.self.items c.loop.power c.double-power.result c.args.count
-    c.loop.counter _ (omega arith) c.in_ok-push.ensures.items c.double-power.ensures c.loop.invariant
-
 pub returns-clause-made : goal.returns-clause-made
 returns-clause-made g c =
-    all g.C.AdditiveGroup.group c.loop.list.items c.loop.power c.args.count c.loop.counter _
-    (omega arith) c.loop.invariant
+    IfOk-weaker c.doublings_of.result _ _ (λ list made. made
     ∙ ap (λ (drawn : g.row.C.Denot × Stream). doublings g.C.AdditiveGroup.group c.args.count drawn.0)
-    c.rand-power.ensures
+    c.rand-element.ensures) c.doublings_of.ensures.made
 
 pub returns-clause-left : goal.returns-clause-left
-returns-clause-left g c = ap (λ (drawn : g.row.C.Denot × Stream). drawn.1) c.rand-power.ensures
+returns-clause-left g c =
+    IfOk-weaker c.doublings_of.result _ _
+    (λ list made. ap (λ (drawn : g.row.C.Denot × Stream). drawn.1) c.rand-element.ensures) c.doublings_of.ensures.made

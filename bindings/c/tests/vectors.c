@@ -1,0 +1,72 @@
+/* Reads the lines of `tools/vectors --lines` and checks each. It prints how many were right, and ends with 1 where one was not. */
+#include "paxidore.h"
+
+#include <stdio.h>
+#include <stdlib.h>
+#include <string.h>
+
+enum { LONGEST = 1 << 13 };
+
+/* The next word of the line, as bytes, with their count; `-` is none. */
+static size_t bytes_of(const char *word, uint8_t *to) {
+    size_t count = 0;
+    if (strcmp(word, "-") != 0)
+        for (; word[2 * count] != 0; count++) {
+            unsigned byte;
+            if (sscanf(word + 2 * count, "%2x", &byte) != 1) exit(2);
+            to[count] = (uint8_t)byte;
+        }
+    return count;
+}
+
+static int is_right(char *line) {
+    static uint8_t first[LONGEST], second[LONGEST], third[LONGEST];
+    char *words[8] = {NULL};
+    size_t count = 0;
+    for (char *word = strtok(line, " \n"); word != NULL && count < 8; word = strtok(NULL, " \n"))
+        words[count++] = word;
+    if (count == 7 && strcmp(words[0], "verify") == 0) {
+        uint32_t hashing = strcmp(words[1], "plain") == 0 ? PAXIDORE_PLAIN : PAXIDORE_RFC6962;
+        bytes_of(words[2], first);
+        size_t leaf = bytes_of(words[5], second), path = bytes_of(words[6], third);
+        return paxidore_verify(hashing, first, strtoull(words[3], NULL, 10), strtoull(words[4], NULL, 10), second, leaf, third, path) == 0;
+    }
+    if (count == 6 && strcmp(words[0], "inclusion") == 0) {
+        bytes_of(words[1], first);
+        size_t entry = bytes_of(words[4], second), path = bytes_of(words[5], third);
+        return paxidore_log_verify_inclusion(first, strtoull(words[2], NULL, 10), strtoull(words[3], NULL, 10), second, entry, third,
+                                             path) == 0;
+    }
+    if (count == 6 && strcmp(words[0], "consistency") == 0) {
+        bytes_of(words[2], first), bytes_of(words[4], second);
+        size_t proof = bytes_of(words[5], third);
+        return paxidore_log_verify_consistency(strtoull(words[1], NULL, 10), first, strtoull(words[3], NULL, 10), second, third,
+                                               proof) == 0;
+    }
+    if (count == 3) {
+        size_t input = bytes_of(words[1], first);
+        uint8_t digest[PAXIDORE_DIGESTBYTES];
+        bytes_of(words[2], second);
+        if (strcmp(words[0], "sha256") == 0)
+            paxidore_sha256(digest, first, input);
+        else if (strcmp(words[0], "blake2s") == 0)
+            paxidore_blake2s(digest, first, input);
+        else
+            return 0;
+        return memcmp(digest, second, sizeof digest) == 0;
+    }
+    return 0;
+}
+
+int main(void) {
+    static char line[2 * LONGEST];
+    int passed = 0, failed = 0;
+    while (fgets(line, sizeof line, stdin) != NULL) {
+        if (is_right(line))
+            passed++;
+        else
+            failed++;
+    }
+    printf("%d passed, %d failed\n", passed, failed);
+    return failed != 0 || passed == 0;
+}

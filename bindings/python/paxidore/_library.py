@@ -1,0 +1,170 @@
+"""The library that is called, its answers as exceptions, and the arguments that it takes."""
+import ctypes
+import os
+from typing import Any, Sequence, Tuple
+
+DIGEST_BYTES = 32
+
+_size = ctypes.c_size_t
+_sizes = ctypes.POINTER(_size)
+_bytes = ctypes.c_char_p
+_hashing = ctypes.c_uint32
+# leaves one behind the other, and their lengths
+_leaves = (_bytes, _size, _sizes, _size)
+# a wheel has the library beside this file
+_beside = os.path.join(os.path.dirname(os.path.abspath(__file__)), "libpaxidore.so.1")
+_found = os.environ.get("PAXIDORE_LIBRARY", _beside if os.path.exists(_beside) else "libpaxidore.so.1")
+try:
+    _library = ctypes.CDLL(_found)
+except OSError as error:
+    raise ImportError(
+        "the library of paxidore cannot be loaded (%s): build it with tools/build-library, and set PAXIDORE_LIBRARY to the path of "
+        "its lib/libpaxidore.so.1" % error
+    ) from None
+
+
+def _call(name: str, result: Any, *types: Any) -> Any:
+    try:
+        function = getattr(_library, "paxidore_" + name)
+    except AttributeError:
+        raise ImportError(
+            "%s has no call paxidore_%s, so it is not the library that this module is for: build that with tools/build-library, and "
+            "set PAXIDORE_LIBRARY to the path of its lib/libpaxidore.so.1" % (_found, name)
+        ) from None
+    function.argtypes = types
+    function.restype = result
+    return function
+
+
+_strerror = _call("strerror", ctypes.c_char_p, ctypes.c_int32)
+
+
+class Refused(Exception):
+    """A call was refused. ``code`` is the answer of the library, as ``paxidore.h`` lists them.
+
+    Each answer that a call of this module can give has a class below, with the code that is its own. An answer of a newer library is
+    ``Refused`` itself, with its code.
+    """
+
+    code = 0
+
+
+class TruncatedProof(Refused, ValueError):
+    """The bytes of the proof end early."""
+
+    code = -2
+
+
+class InvalidProof(Refused, ValueError):
+    """The bytes are no proof for these indexes: of others, not canonical, or with bytes behind."""
+
+    code = -3
+
+
+class HeightError(Refused, ValueError):
+    """The proof is for a tree of another size."""
+
+    code = -4
+
+
+class SizeError(Refused, ValueError):
+    """No tree has this count of leaves: a tree has 2, 4, 8, 16 .. of them; or no log continues one of the old size, or the log has
+    fewer entries."""
+
+    code = -5
+
+
+class LengthsError(Refused, ValueError):
+    """The lengths of the leaves do not sum to that of their bytes. No call of this module gives it."""
+
+    code = -6
+
+
+class CountError(Refused, ValueError):
+    """There are not as many leaves as indexes."""
+
+    code = -7
+
+
+class IndexBeyondSize(Refused, IndexError):
+    """An index is not below the count of leaves, or there is none."""
+
+    code = -8
+
+
+class OutOfMemory(Refused, MemoryError):
+    """A request for memory was refused."""
+
+    code = -1
+
+
+_KINDS = {
+    kind.code: kind
+    for kind in (
+        OutOfMemory,
+        TruncatedProof,
+        InvalidProof,
+        HeightError,
+        SizeError,
+        LengthsError,
+        CountError,
+        IndexBeyondSize,
+    )
+}
+
+
+def _refusal(answer: int) -> Refused:
+    refused = _KINDS.get(answer, Refused)(_strerror(answer).decode("ascii"))
+    refused.code = answer
+    return refused
+
+
+def _exact(name: str, value: bytes) -> bytes:
+    # a subclass may say another length than that of its bytes, which the library would then read past
+    if type(value) is not bytes:
+        raise TypeError("%s is bytes, not %s" % (name, type(value).__name__))
+    return value
+
+
+def _digest(root: bytes, name: str = "root") -> bytes:
+    if len(_exact(name, root)) != DIGEST_BYTES:
+        raise ValueError("%s has 32 bytes, not %d" % (name, len(root)))
+    return root
+
+
+def _int(name: str, number: int) -> int:
+    # as int itself, since a subclass may compare in another way than its number does
+    if not isinstance(number, int):
+        raise TypeError("%s is int, not %s" % (name, type(number).__name__))
+    return int.__index__(number)
+
+
+def _word(name: str, number: int) -> int:
+    # ctypes would take a number modulo 2^64
+    word = _int(name, number)
+    if not 0 <= word < 1 << 64:
+        raise OverflowError("%s is not a number of 64 bits" % name)
+    return word
+
+
+def _words(name: str, numbers: Sequence[int]) -> Tuple["ctypes.Array[ctypes.c_size_t]", int]:
+    # as a tuple, whose length cannot change between two looks at it
+    words = tuple(_word(name, number) for number in numbers)
+    return (_size * len(words))(*words), len(words)
+
+
+def _flat(leaves: Tuple[bytes, ...]) -> Tuple[bytes, int, "ctypes.Array[ctypes.c_size_t]", int]:
+    for leaf in leaves:
+        _exact("a leaf", leaf)
+    joined = b"".join(leaves)
+    return joined, len(joined), (_size * len(leaves))(*map(len, leaves)), len(leaves)
+
+
+def _path_digests(size: int) -> int:
+    # how many bytes the digests of a path have in a tree of this size
+    return DIGEST_BYTES * max(size - 1, 0).bit_length()
+
+
+def _multi_path_room(size: int, count: int) -> int:
+    # no multi-proof has more: four counts, and for each index, which is shown once, 24 bytes and a path
+    return 32 + min(count, size) * (24 + _path_digests(size))

@@ -1,0 +1,61 @@
+//! The lines of `tools/vectors --lines`, which the variable `PAXIDORE_VECTORS` names a file of.
+
+use paxidore::{blake2s, sha256, Digest, Log, Trees};
+
+fn bytes(word: &str) -> Vec<u8> {
+    let word = if word == "-" { "" } else { word };
+    (0..word.len())
+        .step_by(2)
+        .map(|at| u8::from_str_radix(&word[at..at + 2], 16).unwrap())
+        .collect()
+}
+
+fn digest(word: &str) -> Digest {
+    bytes(word).try_into().unwrap()
+}
+
+fn number(word: &str) -> usize {
+    word.parse().unwrap()
+}
+
+#[test]
+fn lines() {
+    let Ok(place) = std::env::var("PAXIDORE_VECTORS") else {
+        return;
+    };
+    let mut count = 0;
+    for line in std::fs::read_to_string(place).unwrap().lines() {
+        let words: Vec<&str> = line.split(' ').collect();
+        let is_right = match words[..] {
+            ["verify", hashing, root, size, index, leaf, path] => {
+                let trees = match hashing {
+                    "plain" => Trees::SHA256,
+                    _ => Trees::RFC6962,
+                };
+                trees.verify(
+                    &digest(root),
+                    number(size),
+                    number(index),
+                    &bytes(leaf),
+                    &bytes(path),
+                ) == Ok(true)
+            }
+            ["inclusion", root, size, index, entry, path] => {
+                let (size, index) = (number(size), number(index));
+                Log::verify_inclusion(&digest(root), size, index, &bytes(entry), &bytes(path))
+                    == Ok(true)
+            }
+            ["consistency", old_size, old_root, size, root, proof] => {
+                let (old_size, size) = (number(old_size), number(size));
+                let (old_root, root) = (digest(old_root), digest(root));
+                Log::verify_consistency(old_size, &old_root, size, &root, &bytes(proof)) == Ok(true)
+            }
+            ["sha256", input, output] => sha256(&bytes(input)) == digest(output),
+            ["blake2s", input, output] => blake2s(&bytes(input)) == digest(output),
+            _ => false,
+        };
+        assert!(is_right, "{line}");
+        count += 1;
+    }
+    assert!(count > 300);
+}

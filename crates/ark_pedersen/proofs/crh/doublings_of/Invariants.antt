@@ -1,0 +1,9 @@
+use Rattle.std.proofs.Common.{◌≡◌, ◌-◌, ◌++◌}
+use Rattle.ark_pedersen.specs.Pedersen.{doublings}
+use Rattle.ark_pedersen.proofs.crh.doublings_of.Given as goal
+
+-- what was put, and what is still to be put, are the whole
+abbrev pub invariant-loop : goal.invariant-loop
+invariant-loop g l =
+    let group = g.C.AdditiveGroup.group in
+    l.list.items ++ doublings group (l.count - l.counter) l.power ≡ doublings group l.count l.initial.power

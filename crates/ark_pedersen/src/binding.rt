@@ -1,0 +1,91 @@
+//! What two inputs with one hash give: a relation among the elements of the windows.
+//!
+//! Where nobody knows a relation among the elements, nobody can make two such inputs.
+
+ghost use Rattle.std.specs.Prelude.{◌≡◌, ◌<◌, ◌≤◌, ◌%◌, ◌^◌, ◌*◌, map, take, drop, length, IfOk, IfErr};
+ghost use Rattle.ark_base.specs.Outcome.{AnswersBy};
+ghost use Rattle.ark_groups.specs.Bits.{number_of_bits};
+ghost use Rattle.ark_pedersen.specs.Pedersen.{bits_of_bytes};
+ghost use Rattle.ark_pedersen.specs.Binding.{window_numbers, differences, windows_fit};
+ghost use Rattle.ark_pedersen.specs.Binding.{relation_outcome, IsRelation, AreAllZero};
+
+use crate::bits::bytes_to_bits;
+use crate::window::Window;
+use ark_base::error::{Error, Refusal};
+use ark_groups::ec::AdditiveGroup;
+use ark_groups::ff::{Field, element_of_bits};
+use std::alloc::Global;
+
+/// Returns whether each number of a window stays below the group's order. Else two windows of bits can count alike.
+pub fn windows_fit<C: AdditiveGroup, W: Window>() -> bool
+    ensures { result ≡ windows_fit C.ScalarField.MODULUS W.Window }
+{
+    W::WINDOW_SIZE < C::ScalarField::MODULUS_BIT_SIZE as usize
+}
+
+// The number of a window of bits, modulo the field's modulus. Bits that are missing are 0.
+fn window_number<F: Field>(bits: &[bool], place: usize, size: usize) -> F
+    ensures { F.value result ≡ number_of_bits (take size (drop place bits.now)) % F.MODULUS }
+{
+    let first = place.min(bits.len());
+    let last = first + size.min(bits.len() - first);
+    element_of_bits(&bits[first..last])
+}
+
+/// Returns the coefficients of the relation that two inputs with one hash give, one for each window: how much more its
+/// number is in the left input than in the right, modulo the order. Inputs of one length that differ have a coefficient
+/// that is not 0.
+///
+/// Errors: `WindowTooLarge`, where a number of a window can pass the order; `IncorrectInputLength` with the bytes of the
+/// left input, and then of the right, where these have more bits than the windows; `OutOfMemory`.
+pub fn relation_of<C: AdditiveGroup, W: Window>(
+    alloc: Global,
+    left: &[u8],
+    right: &[u8],
+) -> Result<Vec<C::ScalarField>, Error>
+    ensures exact { let outcome = relation_outcome C.ScalarField.MODULUS W.Window in
+        AnswersBy (λ found. map C.ScalarField.value found.items)
+        (outcome left.now right.now) result }
+    ensures relation { IfOk result (λ found.
+        let coefficients = map C.ScalarField.value found.items in
+        IsRelation C.group W.Window coefficients left.now right.now) }
+    ensures some { IfOk result (λ found.
+        AreAllZero (map C.ScalarField.value found.items)
+        → length left.now ≡ length right.now → left.now ≡ right.now) }
+{
+    if !windows_fit::<C, W>() {
+        return Err(Error::GenericError(Refusal::WindowTooLarge));
+    }
+    let most = W::WINDOW_SIZE * W::NUM_WINDOWS / 8;
+    if left.len() > most {
+        return Err(Error::IncorrectInputLength(left.len()));
+    }
+    if right.len() > most {
+        return Err(Error::IncorrectInputLength(right.len()));
+    }
+    let left = bytes_to_bits(alloc, left)?;
+    let right = bytes_to_bits(alloc, right)?;
+    differences_of(alloc, &left, &right, W::WINDOW_SIZE, W::NUM_WINDOWS)
+}
+
+// Of each window, its number in the left bits less that in the right.
+fn differences_of<F: Field>(
+    alloc: Global,
+    left: &[bool],
+    right: &[bool],
+    size: usize,
+    count: usize,
+) -> Result<Vec<F>, Error>
+    requires { size * count < 2 ^ 64 }
+    ensures made { IfOk result (λ found. map F.value found.items
+        ≡ differences F.MODULUS (window_numbers size count left.now)
+        (window_numbers size count right.now)) }
+    ensures refused { IfErr result (λ error. error ≡ Error.OutOfMemory) }
+{
+    let mut found = Vec::with_capacity(alloc, count)?;
+    for i in 0..count {
+        let here = window_number::<F>(left, size * i, size);
+        found.push(here.sub(window_number(right, size * i, size)))?;
+    }
+    Ok(found)
+}

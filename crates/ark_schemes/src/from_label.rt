@@ -1,0 +1,132 @@
+//! Elements and generators from labels, for setups that nobody has to trust.
+//!
+//! They are found by trying one digest of BLAKE2s after another, as Zcash's group hash does. Who knows the label knows no
+//! relation among them.
+
+ghost use Rattle.std.specs.Prelude.{◌≡◌, ◌<◌, ◌≤◌, ◌^◌, List, true, IfOk, OnOk};
+ghost use Rattle.ark_base.specs.Digits.{bytes_of_number};
+ghost use Rattle.ark_schemes.specs.GroupHash.{group_digest, group_hash, AreOfLabel};
+ghost use Rattle.ark_pedersen.specs.Pedersen.{generators_in, lists_in, AreGeneratorsOf};
+ghost use Rattle.ark_pedersen.specs.Binding.{windows_fit};
+ghost use Rattle.ark_bowe_hopwood.specs.BoweHopwood.{AreSegmentsOf, is_fitting};
+
+use crate::prf::blake2s::hasher::Hasher;
+use ark_base::error::{Error, Refusal};
+use ark_groups::ec::FromDigest;
+use ark_groups::ff::{Field, Words, write_bytes};
+use ark_pedersen::{Window, windows_fit};
+use std::alloc::Global;
+
+// The random beacon that stands before each text.
+const BEACON: &[u8; 64] = b"096b36a5804bfacef1691e173c366a47ff5ba84a44f26ddd7e8d9f79d5b42df0";
+
+// The digest of the beacon, a text and a last byte.
+fn group_digest(label: &[u8; 8], text: &[u8], last: u8) -> [u8; 32]
+    ensures { result ≡ group_digest label.now text.now last }
+{
+    let mut hasher = Hasher::new(&[0; 8], label);
+    hasher.update(BEACON);
+    hasher.update(text);
+    hasher.update(&[last]);
+    hasher.finalize()
+}
+
+/// Returns the element of a text under a label of eight bytes: the first that is found in the digests of 256 last bytes.
+/// `None` where there is none, of which none is known. It allocates nothing.
+pub fn group_hash<C: FromDigest>(label: &[u8; 8], text: &[u8]) -> Option<C>
+    ensures { result ≡ group_hash C.found_in label.now text.now }
+{
+    for last in 0..256u16 {
+        if let Some(element) = C::from_digest(&group_digest(label, text, last as u8)) {
+            return Some(element);
+        }
+    }
+    None
+}
+
+// The four bytes of a place, the least first.
+fn place_bytes(place: u32) -> [u8; 4]
+    ensures { result ≡ bytes_of_number 4 place }
+{
+    let mut bytes = [0; 4];
+    let number = Words {
+        w0: place as u64,
+        w1: 0,
+        w2: 0,
+        w3: 0,
+    };
+    write_bytes(number, &mut bytes);
+    bytes
+}
+
+/// Returns the elements of a label, so many as are asked for: of each place from 0 on the group hash of its four bytes.
+///
+/// Errors: `DrawsExhausted` where one has no element, of which none is known; `OutOfMemory`.
+pub fn elements_of_label<C: FromDigest>(
+    alloc: Global,
+    label: &[u8; 8],
+    count: u32,
+) -> Result<Vec<C>, Error>
+    ensures { IfOk result (λ elements. AreOfLabel C.found_in label.now count elements.items) }
+{
+    let mut elements = Vec::new(alloc);
+    for i in 0..count {
+        match group_hash::<C>(label, &place_bytes(i)) {
+            Some(element) => elements.push(element)?,
+            None => return Err(Error::GenericError(Refusal::DrawsExhausted)),
+        }
+    }
+    Ok(elements)
+}
+
+// The count of windows.
+fn count_of<W: Window>() -> Result<u32, Error>
+    ensures { IfOk result (λ count. count ≡ W.NUM_WINDOWS) }
+{
+    if W::NUM_WINDOWS < 1 << 32 {
+        Ok(W::NUM_WINDOWS as u32)
+    } else {
+        Err(Error::GenericError(Refusal::LengthOverflow))
+    }
+}
+
+/// Returns the parameters of a Pedersen hash of a label: those of the label's elements, with their doublings. Take these:
+/// nobody has to trust who made them.
+///
+/// Errors: `WindowTooLarge` where a number of a window can pass the order; `LengthOverflow` of 2^32 windows or more;
+/// those of `elements_of_label`.
+pub fn pedersen_from_label<C: FromDigest, W: Window>(
+    alloc: Global,
+    label: &[u8; 8],
+) -> Result<ark_pedersen::Parameters<C>, Error>
+    ensures made { IfOk result (λ parameters. (elements : List C)
+        × AreOfLabel C.found_in label.now W.NUM_WINDOWS elements
+        × AreGeneratorsOf C.group W.Window elements (generators_in parameters)) }
+    ensures fits { OnOk result (windows_fit C.ScalarField.MODULUS W.Window ≡ true) }
+{
+    if !windows_fit::<C, W>() {
+        return Err(Error::GenericError(Refusal::WindowTooLarge));
+    }
+    let elements = elements_of_label::<C>(alloc, label, count_of::<W>()?)?;
+    ark_pedersen::parameters_of(alloc, W::WINDOW_SIZE, &elements)
+}
+
+/// Returns the parameters of a Bowe-Hopwood hash of a label: those of the label's elements, with their sixteenfolds. Take
+/// these: nobody has to trust who made them. Of `Zcash_PH` they are those of Sapling's Pedersen hash.
+///
+/// Errors: `WindowTooLarge` as `CRH::setup`; `LengthOverflow` of 2^32 windows or more; those of `elements_of_label`.
+pub fn bowe_hopwood_from_label<C: FromDigest, W: Window>(
+    alloc: Global,
+    label: &[u8; 8],
+) -> Result<ark_bowe_hopwood::Parameters<C>, Error>
+    ensures made { IfOk result (λ parameters. (elements : List C)
+        × AreOfLabel C.found_in label.now W.NUM_WINDOWS elements
+        × AreSegmentsOf C.group W.Window elements (lists_in parameters.generators.items)) }
+    ensures fits { OnOk result (is_fitting C.ScalarField.MODULUS W.WINDOW_SIZE ≡ true) }
+{
+    if !ark_bowe_hopwood::is_fitting(C::ScalarField::modulus(), W::WINDOW_SIZE) {
+        return Err(Error::GenericError(Refusal::WindowTooLarge));
+    }
+    let elements = elements_of_label::<C>(alloc, label, count_of::<W>()?)?;
+    ark_bowe_hopwood::parameters_of(alloc, W::WINDOW_SIZE, &elements)
+}

@@ -1,0 +1,77 @@
+use Rattle.std.proofs.Common.{sym, ◌∙◌, refl}
+use Rattle.std.specs.Int.{from_bool}
+use Rattle.ark_groups.specs.Words.{number}
+use Rattle.ark_groups.specs.Group.{times}
+use Rattle.ark_wide_fields.specs.Laws.Fp256.{wide_below}
+use Rattle.ark_wide_fields.proofs.PowerSteps.{unless}
+use Rattle.jubjub.specs.Edwards.{Coordinates}
+use Rattle.jubjub.specs.Jubjub.{curve, IsInSubgroup}
+use Rattle.jubjub.specs.Values.{value}
+use Rattle.jubjub.proofs.Digits.{multiple_on_curve}
+use Rattle.jubjub.proofs.GroupLaws.{order_shows}
+use Rattle.jubjub.proofs.Decoded.{none_over, zero_over, outside_over, found_over}
+use Rattle.jubjub.proofs.element.found.cleared_over.Goals as goal
+
+pub returns-in_err-x : goal.returns-in_err-x
+returns-in_err-x c =
+    c.from_residual.ensures ∙ sym (none_over (value c.args.y) (from_bool c.args.odd) (wide_below c.args.y)
+    (c.in_err-x.ensures.none refl))
+
+pub returns-then-is_neutral : goal.returns-then-is_neutral
+returns-then-is_neutral c =
+    let x = value c.in_ok-x.x in
+    let on = c.in_ok-x.ensures.some in
+    let a : Coordinates = record { x = x; y = value c.args.y } in
+    sym (zero_over (value c.args.y) (from_bool c.args.odd) x on c.in_ok-x.ensures.parity
+    ((c.is_neutral.ensures (times curve 8 a) (multiple_on_curve 8 a on)
+    (c.multiple-cleared.ensures a on c.lifted.ensures)).0 c.if-is_neutral.true))
+
+pub returns-then-not-is_neutral : goal.returns-then-not-is_neutral
+returns-then-not-is_neutral c =
+    let x = value c.in_ok-x.x in
+    let on = c.in_ok-x.ensures.some in
+    let a : Coordinates = record { x = x; y = value c.args.y } in
+    let b : Coordinates = times curve 8 a in
+    let on_b = multiple_on_curve 8 a on in
+    let stands = c.multiple-cleared.ensures a on c.lifted.ensures in
+    sym (outside_over (value c.args.y) (from_bool c.args.odd) x on c.in_ok-x.ensures.parity
+    (unless c.is_neutral.result (c.is_neutral.ensures b on_b stands) c.if-is_neutral.false)
+    (λ s. unless c.is_neutral-2.result (order_shows b on_b c.multiple.result (number c.order_of_subgroup.result)
+    c.is_neutral-2.result c.order_of_subgroup.ensures (c.multiple.ensures b on_b stands) c.is_neutral-2.ensures)
+    c.if-not-is_neutral.true s.of_order))
+
+pub of_extended-requires : goal.of_extended-requires
+of_extended-requires c =
+    let x = value c.in_ok-x.x in
+    let on = c.in_ok-x.ensures.some in
+    let a : Coordinates = record { x = x; y = value c.args.y } in
+    let b : Coordinates = times curve 8 a in
+    let on_b = multiple_on_curve 8 a on in
+    let stands = c.multiple-cleared.ensures a on c.lifted.ensures in (
+      b,
+      record {
+        on_curve = on_b;
+        of_order = (order_shows b on_b c.multiple.result (number c.order_of_subgroup.result)
+            c.is_neutral-2.result c.order_of_subgroup.ensures (c.multiple.ensures b on_b stands)
+            c.is_neutral-2.ensures).0 c.if-not-is_neutral.false;
+      },
+      stands,
+    )
+
+pub returns : goal.returns
+returns c =
+    let x = value c.in_ok-x.x in
+    let on = c.in_ok-x.ensures.some in
+    let a : Coordinates = record { x = x; y = value c.args.y } in
+    let b : Coordinates = times curve 8 a in
+    let on_b = multiple_on_curve 8 a on in
+    let stands = c.multiple-cleared.ensures a on c.lifted.ensures in
+    let s : IsInSubgroup b = record {
+      on_curve = on_b;
+      of_order = (order_shows b on_b c.multiple.result (number c.order_of_subgroup.result)
+          c.is_neutral-2.result c.order_of_subgroup.ensures (c.multiple.ensures b on_b stands)
+          c.is_neutral-2.ensures).0 c.if-not-is_neutral.false;
+    } in
+    sym (found_over (value c.args.y) (from_bool c.args.odd) x on c.in_ok-x.ensures.parity
+    (unless c.is_neutral.result (c.is_neutral.ensures b on_b stands) c.if-is_neutral.false) s c.of_extended.result
+    (c.of_extended.ensures b s stands))

@@ -1,0 +1,27 @@
+-- The order of the prime subgroup is a prime, so only zero has a smaller one.
+use Rattle.std.proofs.Common.{◌≡◌, ℕ, ◌-◌, ◌*◌, ◌%◌, ◌^◌, sym, ◌∙◌, ap, subst, mul_comm}
+use Rattle.number_facts.proofs.Units.{power_inverse}
+use Rattle.ark_groups.specs.Group.{times}
+use Rattle.ark_groups.specs.Words.{number}
+use Rattle.ark_groups.proofs.Multiples.{times-mul, times-mod, times-identity}
+use Rattle.jubjub.specs.declared.element.Jubjub.{Jubjub}
+use Rattle.jubjub.specs.contracts.fr.JubjubFrModulusWideModulus.TheImpl.{ghosts as scalar_ghosts}
+use Rattle.jubjub.specs.Jubjub.{order}
+use Rattle.jubjub.specs.Elements.{jubjub}
+use Rattle.jubjub.specs.Laws.Group.{jubjub_laws, of_order, modulus_is_order}
+use Rattle.jubjub.specs.Laws.OrderPrime.{base, order_factors, order_certificate}
+
+pub of_prime_order : (n : ℕ) (x : Jubjub) → times jubjub n x ≡ jubjub.identity → (n % order ≡ 0 → ⊥)
+    → x ≡ jubjub.identity
+of_prime_order n x zero some =
+    let z : ℕ = n ^ (order - 2) % order in
+    sym (jubjub_laws.left_identity x)
+    ∙ ap (λ k. times jubjub k x) (sym (power_inverse order base (order - 1) order_factors order_certificate n some))
+    ∙ times-mod jubjub_laws order (n * z) x (of_order x) ∙ ap (λ k. times jubjub k x) (mul_comm n z)
+    ∙ times-mul jubjub_laws z n x ∙ ap (times jubjub z) zero ∙ times-identity jubjub_laws z
+
+-- the same by the modulus of the scalars
+pub prime_order : (n : ℕ) (x : Jubjub) → times jubjub n x ≡ jubjub.identity
+    → (n % number scalar_ghosts.P ≡ 0 → ⊥) → x ≡ jubjub.identity
+prime_order n x zero some =
+    of_prime_order n x zero (λ none. some (subst (λ (m : ℕ). n % m ≡ 0) (sym modulus_is_order) none))

@@ -1,4 +1,0 @@
-pub mod Rows
-pub mod Making
-pub mod Appending
-pub mod Hashed

@@ -1,0 +1,6 @@
+pub mod Overlaid
+pub mod Moments
+pub mod Tearing
+pub mod Reading
+pub mod Growths
+pub mod Refusals

@@ -1,0 +1,4 @@
+pub mod Disk
+pub mod Store
+pub mod Refused
+pub mod Overlay

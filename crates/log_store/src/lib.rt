@@ -1,0 +1,20 @@
+//! A log in a file: appends that a crash cannot lose once they returned, and roots, of which only what is asked for is read.
+//!
+//! The file lies on a disk, whose calls may fail and of which a crash may leave any part of what was written since the last
+//! sync.
+#![tactic(auto)]
+
+pub mod disk;
+mod edge;
+mod growth;
+mod head;
+mod steps;
+mod stop;
+#[cfg(test)]
+mod tests;
+
+pub use disk::Disk;
+pub use edge::root;
+pub use growth::append;
+pub use head::size;
+pub use stop::Stop;

@@ -1,0 +1,7 @@
+use Rattle.merkle_log.specs.Kept.{stored_front}
+use Rattle.merkle_log.proofs.Appending.{Appending}
+use Rattle.merkle_log.proofs.kept.growth.append_over.Given as goal
+
+abbrev pub invariant-leaves : goal.invariant-leaves
+invariant-leaves g l =
+    Appending (stored_front (g.R.Rows.stored l.rows)) l.size l.digests l.fn.more l.more l.place l.made

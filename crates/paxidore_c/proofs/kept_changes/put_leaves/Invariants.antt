@@ -1,0 +1,6 @@
+use Rattle.paxidore_c.proofs.Putting.{PutUpTo}
+use Rattle.paxidore_c.proofs.kept_changes.put_leaves.Given as goal
+
+abbrev pub invariant-leaves : goal.invariant-leaves
+invariant-leaves g l = PutUpTo g.H.ArrayHash.leaf_hash l.fn.bytes l.lengths l.indexes l.fn.digests l.digests
+    l.place l.rest

@@ -1,0 +1,10 @@
+use Rattle.paxidore_c.specs.Answer.{tree_leaves_in}
+use Rattle.paxidore_c.proofs.Codes.{done-zero}
+use Rattle.paxidore_c.proofs.TreeLemmas.{log-root}
+use Rattle.paxidore_c.proofs.trees.paxidore_root.Goals as goal
+
+pub returns-in-2-clause-tree_hash : goal.returns-in-2-clause-tree_hash
+returns-in-2-clause-tree_hash c = λ two zero.
+    let leaves = tree_leaves_in c.args.leaves.now c.args.lengths.now in
+    log-root c.args.leaves.now c.args.lengths.now _
+    (c.root_over-in-2.ensures.root (done-zero leaves c.root_over-in-2.result c.root_over-in-2.ensures.answer zero))

@@ -1,0 +1,194 @@
+-- Transcripts: the duplex sponge over a field that a number names, by the bytes of its parameters and of its state.
+use Rattle.std.specs.Prelude.{◌≡◌, ◌≢◌, ◌⊎◌, ℕ, ◌-◌, ◌/◌, ◌%◌, ◌^◌, ◌==◌, if◌then◌else◌, List, [], ◌∷◌, ◌++◌, length, drop, Bool, true, false, ℤ, pos, Result, Ok, Err, IfOk}
+use Rattle.std.specs.List.{flat_map}
+use Rattle.ark_base.specs.Digits.{bytes_of_number, bytes_for, below_at, flag, flag_at}
+use Rattle.ark_base.specs.Outcome.{Outcome, ◌>>=◌}
+use Rattle.ark_base.specs.Reading.{Reading, reading_outcome}
+use Rattle.ark_base.specs.Spelling.{word, word_at, items_at, both_at}
+use Rattle.ark_absorb.specs.Elements.{piece_numbers, text_bytes}
+use Rattle.ark_sponge.specs.ConfigBytes.{parameters_at, parameters_spelling}
+use Rattle.ark_poseidon_parameters.specs.Ready.{AreReady, bls12_381_fr_alpha, bls12_381_fr_rounds, bn254_fr_rounds}
+use Rattle.ark_sponge.specs.Mode.{mode_index}
+use Rattle.ark_sponge.specs.Permutation.{Parameters, width}
+use Rattle.ark_sponge.specs.Sponge.{Sponge, SpongeState, new_sponge, restored_sponge, after_absorbing}
+use Rattle.ark_sponge.specs.Squeezing.{native_squeezed, bytes_squeezed}
+use Rattle.ark_sponge.specs.declared.mode.DuplexSpongeMode.{DuplexSpongeMode}
+use Rattle.ark_sponge.specs.declared.mode.DuplexSpongeMode.TheVariants.{Absorbing, Squeezing}
+use Rattle.paxidore_c.specs.Answer.{Gives, only_if, refusing, written_code}
+use Rattle.paxidore_c.specs.declared.refused.Refused.{Refused}
+use Rattle.paxidore_c.specs.declared.refused.Refused.TheVariants.{Invalid, Truncated}
+
+-- ---- fields
+
+-- a field: its modulus, and how many binary digits that has
+pub record FieldSize : Type 0 where
+  pub modulus : ℕ
+  pub bits : ℕ
+
+-- a field of this modulus, which has so many binary digits
+abbrev pub field_size : ℕ → ℕ → FieldSize
+field_size modulus bits = record { modulus = modulus; bits = bits }
+
+-- 2^64 - 2^32 + 1
+abbrev pub goldilocks : FieldSize
+goldilocks = field_size 18446744069414584321 64
+
+-- 15 * 2^27 + 1
+abbrev pub babybear : FieldSize
+babybear = field_size 2013265921 31
+
+-- the scalar field of the curve BLS12-381
+abbrev pub bls12_381_fr : FieldSize
+bls12_381_fr = field_size 52435875175126190479447740508185965837690552500527637822603658699938581184513 255
+
+-- the scalar field of the curve BN254
+abbrev pub bn254_fr : FieldSize
+bn254_fr = field_size 21888242871839275222246405745257275088548364400416034343698204186575808495617 254
+
+-- what is said over the field that a number names; no other number names one
+abbrev pub in_field : {A : Type 0} → ℕ → (FieldSize → Result A Refused) → Result A Refused
+in_field name outcome =
+    if name == 1 then outcome goldilocks
+    else if name == 2 then outcome babybear
+    else if name == 3 then outcome bls12_381_fr
+    else if name == 4 then outcome bn254_fr
+    else Err Invalid
+
+-- how many bytes an element takes
+abbrev pub element_length : FieldSize → ℕ
+element_length f = bytes_for f.bits
+
+-- how an element is read: its number, which is below the modulus, the least byte first
+abbrev pub element_at : FieldSize → List ℕ → Reading ℕ
+element_at f = below_at f.modulus (element_length f)
+
+-- elements as bytes, one behind the other
+abbrev pub elements_bytes : FieldSize → List ℕ → List ℕ
+elements_bytes f = flat_map (bytes_of_number (element_length f))
+
+-- the S-box: a power
+abbrev pub power : FieldSize → ℕ → ℕ → ℕ
+power f alpha x = x ^ alpha % f.modulus
+
+-- ---- what bytes spell
+
+-- a value, where no bytes are left behind it
+abbrev pub none_behind : {V : Type 0} → V × List ℕ → Result V Refused
+none_behind (v, []) = Ok v
+none_behind (v, byte ∷ bytes) = Err Invalid
+
+-- what bytes spell and nothing behind it, or their first fault
+abbrev pub whole_of : {V : Type 0} → Reading V → Result V Refused
+whole_of reading = do
+  x ← refusing (reading_outcome reading)
+  none_behind x
+
+-- the numbers of elements that fill the bytes
+abbrev pub elements_in : FieldSize → List ℕ → Result (List ℕ) Refused
+elements_in f bytes = only_if (length bytes % element_length f == 0) Truncated
+    (whole_of (items_at (element_at f) (length bytes / element_length f) bytes))
+
+-- what a sponge does next, by its index and whether it squeezes
+abbrev pub mode_of : ℕ × Bool → DuplexSpongeMode
+mode_of (index, false) = Absorbing index
+mode_of (index, true) = Squeezing index
+
+-- the state of so many elements that bytes spell: the elements, the index in eight bytes, a byte 1 where it squeezes
+abbrev pub state_in : FieldSize → ℕ → List ℕ → Result SpongeState Refused
+state_in f elements bytes = do
+  xs ← refusing (reading_outcome (items_at (element_at f) elements bytes))
+  m ← whole_of (both_at word_at flag_at xs.1)
+  Ok (record { state = xs.0; mode = mode_of m })
+
+-- a refusal of a state is that of bytes which spell none
+abbrev pub valid : {A : Type 0} → Outcome A → Result A Refused
+valid (Ok value) = Ok value
+valid (Err error) = Err Invalid
+
+-- the sponge that the bytes of parameters and of a state spell
+abbrev pub sponge_in : FieldSize → List ℕ → List ℕ → Result Sponge Refused
+sponge_in f parameters state = do
+  c ← whole_of (parameters_at f.modulus f.bits parameters)
+  held ← state_in f (width c) state
+  valid (restored_sponge held c)
+
+-- ---- what is written
+
+-- whether a sponge squeezes
+abbrev pub is_squeezing : DuplexSpongeMode → Bool
+is_squeezing (Absorbing index) = false
+is_squeezing (Squeezing index) = true
+
+-- the bytes of a sponge's state
+abbrev pub state_bytes : FieldSize → Sponge → List ℕ
+state_bytes f s = elements_bytes f s.state ++ (word (mode_index s.mode) ++ flag (is_squeezing s.mode))
+
+-- ---- the calls, by the bytes of the state that they leave
+
+-- a transcript that has absorbed nothing
+abbrev pub begun : List ℕ → FieldSize → Result (List ℕ) Refused
+begun parameters f = do
+  c ← whole_of (parameters_at f.modulus f.bits parameters)
+  Ok (state_bytes f (new_sponge c))
+
+-- the transcript that has absorbed elements
+abbrev pub with_elements : (ℕ → ℕ → ℕ) → List ℕ → List ℕ → List ℕ → FieldSize → Result (List ℕ) Refused
+with_elements sbox parameters state elements f = do
+  s ← sponge_in f parameters state
+  xs ← elements_in f elements
+  Ok (state_bytes f (after_absorbing f.modulus sbox s xs))
+
+-- The transcript that has absorbed bytes: behind their length in eight bytes, in pieces of as many bytes as fit below
+-- the modulus.
+abbrev pub with_bytes : (ℕ → ℕ → ℕ) → List ℕ → List ℕ → List ℕ → FieldSize → Result (List ℕ) Refused
+with_bytes sbox parameters state text f = do
+  s ← sponge_in f parameters state
+  let xs = piece_numbers f.modulus ((f.bits - 1) / 8) (text_bytes text) in
+      Ok (state_bytes f (after_absorbing f.modulus sbox s xs))
+
+-- What squeezing gives as bytes, and the bytes of the state that it leaves.
+pub record Squeezed : Type 0 where
+  pub given : List ℕ
+  pub state : List ℕ
+
+-- so many bytes of elements: these are whole ones
+abbrev pub elements_squeezed : (ℕ → ℕ → ℕ) → List ℕ → List ℕ → ℕ → FieldSize → Result Squeezed Refused
+elements_squeezed sbox parameters state count f = only_if (count % element_length f == 0) Truncated (do
+  s ← sponge_in f parameters state
+  let squeezed = native_squeezed f.modulus sbox s (count / element_length f) in
+      Ok (record { given = elements_bytes f squeezed.0; state = state_bytes f squeezed.1 }))
+
+-- so many bytes
+abbrev pub bytes_given : (ℕ → ℕ → ℕ) → List ℕ → List ℕ → ℕ → FieldSize → Result Squeezed Refused
+bytes_given sbox parameters state count f = do
+  s ← sponge_in f parameters state
+  let squeezed = bytes_squeezed f.modulus f.bits sbox s count in
+      Ok (record { given = squeezed.0; state = state_bytes f squeezed.1 })
+
+-- ---- ready parameters
+
+-- The parameters are the ready ones of a rate, over the field of this number: fields of four words have some for rates
+-- from 2 to 8.
+abbrev pub AreReadyOver : ℕ → ℕ → Parameters → Type 0
+AreReadyOver name rate c =
+    ((name ≡ 3) × AreReady rate (bls12_381_fr_rounds rate) (bls12_381_fr_alpha rate) c)
+    ⊎ ((name ≡ 4) × AreReady rate (bn254_fr_rounds rate) 5 c)
+
+-- the bytes are those of ready parameters
+abbrev pub SpellReady : ℕ → ℕ → List ℕ → Type 0
+SpellReady name rate bytes =
+    (c : Parameters) × AreReadyOver name rate c
+    × (in_field name (λ f. Ok (parameters_spelling f.bits c)) ≡ Ok bytes)
+
+-- ---- what is done to a caller's buffers
+
+-- the state that squeezing leaves
+abbrev pub left_by : Result Squeezed Refused → Result (List ℕ) Refused
+left_by (Ok squeezed) = Ok squeezed.state
+left_by (Err refused) = Err refused
+
+-- The call writes the bytes of a state over the ones before, or refuses and leaves these.
+pub record Replaces (outcome : Result (List ℕ) Refused) (before after : List ℕ) (code : ℤ) : Type 0 where
+  pub right_code : Gives (written_code outcome (length before)) code
+  pub written : code ≡ pos 0 → IfOk outcome (λ bytes. after ≡ bytes ++ drop (length bytes) before)
+  pub kept : code ≢ pos 0 → after ≡ before

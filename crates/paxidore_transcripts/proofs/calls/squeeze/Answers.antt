@@ -1,9 +1,0 @@
-use Rattle.std.proofs.Common.{ap, w32}
-use Rattle.std.proofs.lemmas.Int.{to_z-of_z}
-use Rattle.paxidore_transcripts.specs.Transcript.{left_by}
-use Rattle.paxidore_transcripts.proofs.calls.squeeze.Goals as goal
-
-pub returns-in-Ok-clause-state : goal.returns-in-Ok-clause-state
-returns-in-Ok-clause-state c =
-    let fits = to_z-of_z w32 c.fill.result (record { sfits = c.fill.type_inv }) in
-    rw fits (c.fill.ensures.state _ (ap left_by c.in-Ok.ensures.given))

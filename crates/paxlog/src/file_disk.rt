@@ -1,0 +1,46 @@
+//! The file of a log, as the disk that the store asks for.
+
+ghost use Rattle.std.specs.Prelude.{[]};
+
+use log_store::Disk;
+use std::fs::File;
+use std::io;
+use std::os::unix::fs::FileExt;
+
+/// An open file of the operating system. Nothing is proved of it: that its five calls do what `Disk` says is trusted.
+#[derive(Drop)]
+pub struct FileDisk {
+    pub file: File,
+}
+
+impl Disk for FileDisk {
+    type Refusal = io::Error;
+
+    ghost Obeys = { λ _. ⊥ };
+
+    ghost seen = { λ _. [] };
+
+    ghost may_leave = { λ _ _. ⊥ };
+
+    ghost moment = { λ _. 0 };
+
+    ghost left_since = { λ _ _ _. ⊥ };
+
+    ghost only_now = { λ _ _ since. since };
+
+    fn length(&self) -> io::Result<usize> {
+        Ok(self.file.metadata()?.len() as usize)
+    }
+
+    fn read_at(&self, at: usize, into: &mut [u8]) -> io::Result<()> {
+        self.file.read_exact_at(into, at as u64)
+    }
+
+    fn write_at(&mut self, at: usize, bytes: &[u8]) -> io::Result<()> {
+        self.file.write_all_at(bytes, at as u64)
+    }
+
+    fn sync(&mut self) -> io::Result<()> {
+        self.file.sync_all()
+    }
+}
