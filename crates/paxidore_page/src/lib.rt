@@ -6,7 +6,7 @@ ghost use Rattle.std.specs.Prelude.{◌≡◌, pos};
 ghost use Rattle.ark_trees.specs.Rfc6962.{entry_hash, node_of};
 ghost use Rattle.merkle_log.specs.Bind.{BindsDigest, BindsFront};
 ghost use Rattle.merkle_log.specs.Verdict.{consistency_verdict, inclusion_verdict};
-ghost use Rattle.paxidore_page.specs.Code.{Tells};
+ghost use Rattle.paxidore_page.specs.Code.{Tells, number_of};
 
 use ark_base::error::Error;
 use ark_trees::{LogHasher, digest_of_entry};
@@ -15,7 +15,7 @@ use std::alloc::Global;
 
 // The number of an answer.
 fn number_of(answer: Result<bool, Error>) -> i32
-    ensures { Tells answer result }
+    ensures { result ≡ number_of answer }
 {
     match answer {
         Ok(true) => 0,
