@@ -1,8 +1,10 @@
 //! Zcash's generators, as other implementations have them; `tools/jubjub-model` finds them too.
 
 use crate::samples::is;
-use ark_base::error::Error;
-use ark_bowe_hopwood::hash_bits;
+use ark_base::error::{Error, Refusal};
+use ark_base::serialize::DigestItem;
+use ark_bowe_hopwood::{NodeCRH, NodeParameters, Parameters, hash_bits};
+use ark_crh::TwoToOneCRHScheme;
 use ark_groups::ec::{FromDigest, TECoordinates};
 use ark_groups::ff::Field;
 use ark_pedersen::Window;
@@ -51,8 +53,8 @@ const ELEMENTS: [[u8; 32]; 6] = [
         216, 203, 10, 7, 145, 216, 202, 86, 75, 12, 228, 126, 47,
     ],
     [
-        239, 138, 101, 195, 153, 130, 150, 153, 76, 209, 89, 88, 9, 216, 185, 179, 229, 201, 6,
-        20, 56, 50, 120, 57, 10, 157, 171, 3, 33, 197, 75, 201,
+        239, 138, 101, 195, 153, 130, 150, 153, 76, 209, 89, 88, 9, 216, 185, 179, 229, 201, 6, 20,
+        56, 50, 120, 57, 10, 157, 171, 3, 33, 197, 75, 201,
     ],
     [
         154, 98, 141, 159, 17, 130, 96, 67, 167, 19, 107, 198, 210, 0, 2, 168, 40, 106, 19, 10, 7,
@@ -94,19 +96,34 @@ impl Window for Node {
     ghost fits = { lit< tt };
 }
 
-// The hash of the level 0's two nodes that are not committed to, the number 1, and of two such hashes on the level 1.
-fn empty_roots<C: FromDigest + TECoordinates>(
+// The parameters of Sapling's hash of two nodes of a level.
+fn node_parameters<C: FromDigest + TECoordinates>(
     alloc: Global,
-) -> Result<(C::BaseField, C::BaseField), Error> {
-    let parameters = bowe_hopwood_from_label::<C, Node>(alloc, b"Zcash_PH")?;
-    let mut bits = [false; 516];
-    bits[6] = true;
-    bits[261] = true;
-    let first = hash_bits::<C, Node>(&parameters.generators, &bits)?;
-    bits[0] = true;
-    first.write_low_bits(&mut bits[6..261]);
-    first.write_low_bits(&mut bits[261..]);
-    let second = hash_bits::<C, Node>(&parameters.generators, &bits)?;
+    level: u8,
+) -> Result<NodeParameters<C>, Error> {
+    let Parameters { generators } = bowe_hopwood_from_label::<C, Node>(alloc, b"Zcash_PH")?;
+    Ok(NodeParameters { level, generators })
+}
+
+// The hash of a node with itself.
+fn of_twins<H: TwoToOneCRHScheme>(
+    alloc: Global,
+    parameters: &H::Parameters,
+    node: &H::Output,
+) -> Result<H::Output, Error> {
+    H::compress(alloc, parameters, node, node)
+}
+
+// The empty roots of the levels 1 and 2, where an empty leaf is the number 1.
+fn empty_roots<C>(alloc: Global) -> Result<(C::BaseField, C::BaseField), Error>
+where
+    C: FromDigest + TECoordinates,
+    C::BaseField: DigestItem,
+{
+    let leaves = node_parameters::<C>(alloc, 0)?;
+    let first = of_twins::<NodeCRH<C, Node>>(alloc, &leaves, &C::BaseField::one())?;
+    let nodes = node_parameters::<C>(alloc, 1)?;
+    let second = of_twins::<NodeCRH<C, Node>>(alloc, &nodes, &first)?;
     Ok((first, second))
 }
 
@@ -161,4 +178,20 @@ fn hashes_of_bits_are_those_of_zcash(rt: HostRuntime) -> Result<(), Error> {
         )
     );
     Ok(())
+}
+
+// Whether a level of seven bits is refused by its name.
+fn is_too_high<C>(alloc: Global) -> Result<bool, Error>
+where
+    C: FromDigest + TECoordinates,
+    C::BaseField: DigestItem,
+{
+    let parameters = node_parameters::<C>(alloc, 64)?;
+    let refused = of_twins::<NodeCRH<C, Node>>(alloc, &parameters, &C::BaseField::one()).err();
+    Ok(refused == Some(Error::GenericError(Refusal::LengthOverflow)))
+}
+
+#[test]
+fn a_level_of_seven_bits_is_refused(rt: HostRuntime) {
+    assert!(rt; is_too_high::<Jubjub>(rt.alloc()) == Ok(true));
 }
