@@ -1,5 +1,5 @@
 -- Pedersen hashes of bits.
-use Rattle.std.specs.Prelude.{ℕ, Bool, List, length, nat_lt, Ok, Err, if◌then◌else◌}
+use Rattle.std.specs.Prelude.{Bool, List, length, nat_lt, Ok, Err, if◌then◌else◌}
 use Rattle.ark_base.specs.Outcome.{Outcome}
 use Rattle.ark_base.specs.declared.error.Error.TheVariants.{IncorrectInputLength, GenericError}
 use Rattle.ark_base.specs.declared.error.Refusal.TheVariants.{ParameterShape}

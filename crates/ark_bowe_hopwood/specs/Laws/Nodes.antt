@@ -1,5 +1,5 @@
 -- The laws of hashes of two nodes.
-use Rattle.std.proofs.Common.{◌≡◌, ℕ, List, map, ap, ap₂, ◌∙◌}
+use Rattle.std.proofs.Common.{◌≡◌, ℕ, List, map}
 use Rattle.std.specs.Prelude.{nat_lt, ◌*◌, length}
 use Rattle.std.specs.declared.vec.Vec.{Vec}
 use Rattle.ark_base.specs.Outcome.{IsDecided}

@@ -4,7 +4,7 @@ use Rattle.std.proofs.Common.{◌≡◌, ℕ, zero, suc, ◌+◌, ◌-◌, ◌*�
 use Rattle.std.proofs.Common.{mod-eq_of_lt, div-add-mod', mul_comm, ◌⊎◌, inl, inr, ⊎_elim}
 use Rattle.std.proofs.Math.Nat.{div-lt_iff_lt-mul}
 use Rattle.std.proofs.lemmas.Bool.{cases_lt, cases_eq}
-use Rattle.number_facts.proofs.Pigeonhole.{Into, Apart, taken}
+use Rattle.number_facts.proofs.Pigeonhole.{Apart, taken}
 use Rattle.ark_groups.specs.Group.{Group, IsCommutativeGroup, times}
 use Rattle.ark_groups.proofs.Multiples.{times-add, times-mul, times-mod}
 

@@ -1,4 +1,4 @@
-use Rattle.std.proofs.Common.{◌≡◌, ℕ, ◌++◌, Bool, List, length, replicate, take, drop, sym, ◌∙◌, ap, ap₂, arith, false}
+use Rattle.std.proofs.Common.{◌≡◌, ◌++◌, Bool, List, length, replicate, take, drop, sym, ◌∙◌, ap, arith, false}
 use Rattle.std.proofs.lemmas.List.{append_assoc, take_all}
 use Rattle.std.proofs.Math.Seq.{take-append_seam}
 use Rattle.ark_groups.specs.Bits.{bits_of_number}

@@ -1,7 +1,7 @@
-use Rattle.std.proofs.Common.{◌≡◌, ℕ, ◌*◌, ◌<◌, ◌≤◌, Bool, false, List, length, get_or, sym, ap, ◌∙◌, arith}
+use Rattle.std.proofs.Common.{◌≡◌, ℕ, ◌<◌, ◌≤◌, length, get_or, sym, ap, ◌∙◌, arith}
 use Rattle.ark_pedersen.specs.Pedersen.{window_bits, lists_in, concatenation}
 use Rattle.ark_pedersen.proofs.BitPlaces.{one_added, one_left, all_added}
-use Rattle.ark_pedersen.proofs.Shapes.{shape_all, value_in, element_in, element_at}
+use Rattle.ark_pedersen.proofs.Shapes.{shape_all, element_in, element_at}
 use Rattle.ark_pedersen.proofs.bits.sum_of_bits.Goals as goal
 use Rattle.ark_pedersen.proofs.bits.sum_of_bits.Goals.{then-bits-place, else-bits-place}
 
