@@ -1,4 +1,5 @@
 pub mod Overlaid
+pub mod Spotted
 pub mod Moments
 pub mod Tearing
 pub mod Reading

@@ -10,3 +10,9 @@ abbrev pub IsRefusedFor : {A B R : Type 0} → Result B fault_of_files.Fault →
 IsRefusedFor outcome (Ok value) = Unit {0}
 IsRefusedFor outcome (Err (Fault fault)) = (fault ≡ Memory) ⊎ (outcome ≡ Err fault)
 IsRefusedFor outcome (Err (Disk refusal)) = Unit {0}
+
+-- The only fault is a lack of memory.
+abbrev pub IsOnlyMemory : {A R : Type 0} → Result A (Stop R) → Type 0
+IsOnlyMemory (Ok value) = Unit {0}
+IsOnlyMemory (Err (Fault fault)) = fault ≡ Memory
+IsOnlyMemory (Err (Disk refusal)) = Unit {0}

@@ -12,11 +12,10 @@ ghost use Rattle.paxlog_run.specs.Faults.{of_first};
 ghost use Rattle.paxlog_run.specs.LogFile.{file_end, stored_in, IsLogFile};
 
 use crate::disk::Disk;
-use crate::head::read_head;
+use crate::head::read_first;
 use crate::stop::Stop;
 use merkle_log::kept::{KeptNodes, position_of};
 use merkle_log::rows::{Rows, root_of};
-use paxlog_run::fault::Fault;
 use paxlog_run::head::START;
 use sha2::{Digest as _, Sha256};
 use std::marker::{Brand, PhantomData};
@@ -50,8 +49,8 @@ impl<'a, W: Whole> Rows<[u8; 32]> for Edge<'a, W> {
     }
 }
 
-// Reads the digest at a position behind the head.
-fn read_digest<D: Disk>(disk: &D, position: usize) -> Result<[u8; 32], D::Refusal>
+/// Reads the digest at a position behind the head.
+pub fn read_digest<D: Disk>(disk: &D, position: usize) -> Result<[u8; 32], D::Refusal>
     requires { 96 + 32 * position < 2 ^ 64 }
     ensures { D.Obeys disk.now → 96 + 32 * (position + 1) ≤ length (D.seen disk.now)
         → IfOk result (λ digest. digest ≡ take 32 (drop (96 + 32 * position) (D.seen disk.now))) }
@@ -123,11 +122,7 @@ pub fn root<D: Disk>(disk: &D, named: Option<usize>) -> Result<(usize, [u8; 32])
         → IfOk result (λ root. (root.0 ≡ unwrap_or named (length leaves)) × (root.0 ≤ length leaves)
         × (merkle_tree_hash node_of (sha256 []) (take root.0 leaves) ≡ Ok root.1)) }
 {
-    let head = read_head(disk)?;
-    let size = named.unwrap_or(head.size);
-    if size > head.size {
-        return Err(Stop::Fault(Fault::Size));
-    }
+    let size = read_first(disk, named)?;
     if size == 0 {
         return Ok((0, Sha256::digest([].as_slice())));
     }

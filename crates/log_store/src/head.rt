@@ -1,11 +1,11 @@
 //! The head of a log's file, read from the disk.
 
-ghost use Rattle.std.specs.Prelude.{◌≡◌, ◌≤◌, ◌<◌, ◌^◌, List, length, true, Some, Ok, IfOk};
+ghost use Rattle.std.specs.Prelude.{◌≡◌, ◌≤◌, ◌<◌, ◌^◌, List, length, true, Some, Ok, IfOk, unwrap_or};
 ghost use Rattle.ark_paths.specs.Pair.{Digest};
 ghost use Rattle.log_store.specs.Refused.{IsRefusedFor};
 ghost use Rattle.merkle_log.specs.Kept.{has_front};
 ghost use Rattle.merkle_log.specs.Stored.{stored_count};
-ghost use Rattle.paxlog_run.specs.Faults.{log_size};
+ghost use Rattle.paxlog_run.specs.Faults.{log_size, of_first};
 ghost use Rattle.paxlog_run.specs.LogFile.{file_end, file_head, IsLogFile};
 
 use crate::disk::Disk;
@@ -52,6 +52,30 @@ pub fn read_head<D: Disk>(disk: &D) -> Result<Head, Stop<D::Refusal>>
         return Err(Stop::Fault(Fault::Short));
     }
     Ok(head)
+}
+
+/// Returns a size of the log of a file: the one that is named, or else that of all entries.
+///
+/// Errors, the first that applies: those of `read_head`; `Size` for more entries than there are.
+pub fn read_first<D: Disk>(disk: &D, named: Option<usize>) -> Result<usize, Stop<D::Refusal>>
+    ensures size { D.Obeys disk.now → IfOk result (λ size.
+        of_first (D.seen disk.now) named Ok ≡ Ok size) }
+    ensures refused { let first = of_first (D.seen disk.now) named Ok in
+        D.Obeys disk.now → IsRefusedFor first result }
+    ensures log { D.Obeys disk.now → (leaves : List Digest) → IsLogFile leaves (D.seen disk.now)
+        → IfOk result (λ size. (size ≡ unwrap_or named (length leaves))
+        × (size ≤ length leaves)) }
+    ensures fits { IfOk result (λ size. size < 2 ^ 63) }
+    ensures near { IfOk result (λ size. file_end size < 2 ^ 64) }
+    ensures inside { D.Obeys disk.now → IfOk result (λ size.
+        file_end size ≤ length (D.seen disk.now)) }
+{
+    let head = read_head(disk)?;
+    let size = named.unwrap_or(head.size);
+    if size > head.size {
+        return Err(Stop::Fault(Fault::Size));
+    }
+    Ok(size)
 }
 
 /// Returns how many entries the log of a file has. Errors: `NoLog`; `Short`; the disk's refusal.

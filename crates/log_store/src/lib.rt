@@ -1,4 +1,4 @@
-//! A log in a file: appends that a crash cannot lose once they returned, and roots, of which only what is asked for is read.
+//! A log in a file: appends that a crash cannot lose once they returned, roots and proofs, for which only what they ask for is read.
 //!
 //! The file lies on a disk, whose calls may fail and of which a crash may leave any part of what was written since the last
 //! sync.
@@ -8,6 +8,8 @@ pub mod disk;
 mod edge;
 mod growth;
 mod head;
+mod proving;
+mod spots;
 mod steps;
 mod stop;
 #[cfg(test)]
@@ -17,4 +19,5 @@ pub use disk::Disk;
 pub use edge::root;
 pub use growth::append;
 pub use head::size;
+pub use proving::{consistency, prove};
 pub use stop::Stop;

@@ -13,7 +13,7 @@ use crate::words::words;
 use ark_trees::digest_of_entry;
 use paxlog_run::entries::digests_of_lines;
 use paxlog_run::fault::Fault;
-use paxlog_run::replies::{consistency_line, inclusion_line, is_sound, line_of_root};
+use paxlog_run::replies::{is_sound, line_of, line_of_root};
 use paxlog_run::request::{Request, request_of, word};
 use paxlog_run::verdicts::{verify_consistency, verify_inclusion};
 use std::fs;
@@ -92,12 +92,12 @@ fn answer(rt: &HostRuntime, request: Request, words: &[Vec<u8>]) -> Result<u8, S
             say(rt, &line_of_root(rt.alloc(), size, &root)?)
         }
         Request::Prove { index, size } => {
-            let file = bytes_of(rt, words, 1)?;
-            say(rt, &inclusion_line(rt.alloc(), &file, index, size)?)
+            let path = store::prove(rt, name(words, 1)?, index, size)?;
+            say(rt, &line_of(rt.alloc(), &path)?)
         }
         Request::Consistency { old_size, size } => {
-            let file = bytes_of(rt, words, 1)?;
-            say(rt, &consistency_line(rt.alloc(), &file, old_size, size)?)
+            let path = store::consistency(rt, name(words, 1)?, old_size, size)?;
+            say(rt, &line_of(rt.alloc(), &path)?)
         }
         Request::Check => {
             let file = bytes_of(rt, words, 1)?;

@@ -59,3 +59,26 @@ pub fn root(rt: &HostRuntime, path: &str, named: Option<usize>) -> Result<(usize
     let file = File::open(rt, path)?;
     Ok(log_store::root(&FileDisk { file }, named)?)
 }
+
+/// Returns the inclusion proof of an index in the first entries of the log of a file, as many as are named, or else all.
+pub fn prove(
+    rt: &HostRuntime,
+    path: &str,
+    index: usize,
+    named: Option<usize>,
+) -> Result<Vec<[u8; 32]>, Stop> {
+    let file = File::open(rt, path)?;
+    Ok(log_store::prove(rt.alloc(), &FileDisk { file }, index, named)?)
+}
+
+/// Returns the proof that the first entries of the log of a file, as many as are named, or else all, continue its first
+/// `old_size` ones.
+pub fn consistency(
+    rt: &HostRuntime,
+    path: &str,
+    old_size: usize,
+    named: Option<usize>,
+) -> Result<Vec<[u8; 32]>, Stop> {
+    let file = File::open(rt, path)?;
+    Ok(log_store::consistency(rt.alloc(), &FileDisk { file }, old_size, named)?)
+}

@@ -53,8 +53,8 @@ fn bytes_of(alloc: Global, digests: &[[u8; 32]]) -> Result<Vec<u8>, Fault>
     Ok(bytes)
 }
 
-// The line of digests: their bytes in hexadecimal.
-fn line_of(alloc: Global, digests: &[[u8; 32]]) -> Result<Vec<u8>, Fault>
+/// Returns the line of a proof: the bytes of its digests in hexadecimal. The only error is `Memory`.
+pub fn line_of(alloc: Global, digests: &[[u8; 32]]) -> Result<Vec<u8>, Fault>
     ensures { let line = hex_line (flat_map itself digests.now) in
         GivesBy (λ line. line.items) (Ok line) result }
 {
