@@ -5,3 +5,4 @@ pub mod Tearing
 pub mod Reading
 pub mod Growths
 pub mod Refusals
+pub mod Verdicts

@@ -1,24 +1,25 @@
 -- What is read of a log's file: its head, and digests at positions.
 use Rattle.std.proofs.Common.{zero, suc, ◌≡◌, ◌==◌, true, map, ℕ, ◌+◌, ◌*◌, ◌/◌, ◌<◌, ◌≤◌, ◌^◌, Bool, List, [], ◌∷◌, length, take, drop, get_or, Some, None, Ok, Err, refl, ap, sym, ◌∙◌, subst, inl, inr, arith}
 use Rattle.std.specs.Simd.{first_chunks}
-use Rattle.std.proofs.lemmas.Bool.{cases_lt, le-ltb}
+use Rattle.std.proofs.lemmas.Bool.{cases_lt, le-ltb, lt-ltb}
 use Rattle.std.proofs.lemmas.Bool.Decides.{nat_tests}
-use Rattle.std.proofs.lemmas.List.{append-nil, drop-drop, length-map, length-take-le, take_all}
+use Rattle.std.proofs.lemmas.List.{append-nil, drop-drop, get_or-take, length-map, length-take-le, take-take, take_all}
 use Rattle.std.proofs.Math.Nat.{mul-le-mul_right}
 use Rattle.ark_paths.specs.Pair.{Digest}
 use Rattle.ark_trees.specs.Rfc6962.{node_of}
 use Rattle.ark_base.specs.Outcome.{Outcome}
 use Rattle.merkle_log.specs.Asked.{IsPeak}
-use Rattle.merkle_log.specs.Log.{consistency_path, NodeHash}
+use Rattle.merkle_log.specs.Log.{consistency_path, merkle_tree_hash, NodeHash}
+use Rattle.sha2.specs.Sha256.{sha256}
 use Rattle.merkle_log.specs.Kept.{front, has_front, stored_front, Keeps}
 use Rattle.merkle_log.specs.Stored.{position, stored_count, row_of, IsStored}
 use Rattle.merkle_log.specs.Walk.{index_up}
 use Rattle.merkle_log.proofs.KeptPlaces.{above-up}
 use Rattle.merkle_log.proofs.KeptRows.{fewer-first, fewer-hashed, rows-agree, stored-same}
-use Rattle.merkle_log.proofs.Positions.{count-rises, up-times}
+use Rattle.merkle_log.proofs.Positions.{count-rises, place-within, position-within, row_of-at, up-times}
 use Rattle.merkle_log.proofs.Tests.{power-rises}
-use Rattle.paxlog_run.specs.Faults.{log_size, only_if}
-use Rattle.paxlog_run.specs.LogFile.{digest_count, file_head, stored_in}
+use Rattle.paxlog_run.specs.Faults.{log_size, no_head, only_if}
+use Rattle.paxlog_run.specs.LogFile.{digest_count, file_head, slot_to_take, stored_in}
 use Rattle.paxlog_run.specs.declared.fault.Fault.TheVariants.{NoLog, Short}
 use Rattle.paxlog_run.proofs.Pieces.{piece-cut}
 use Rattle.log_store.specs.Overlay.{overlay}
@@ -45,8 +46,27 @@ head-read file bytes read long =
       cut 64 (omega arith),
     ) refl
 
-pub size-none : (file : List ℕ) → file_head file ≡ None → log_size file ≡ Err NoLog
+-- and why there is none
+pub none-read : (file bytes : List ℕ) → bytes ≡ take 96 (drop 0 file) → 96 ≤ length file
+    → no_head bytes ≡ no_head file
+none-read file bytes read long =
+    let all : length bytes ≡ 96 = ap length read ∙ length-take-le 96 file long in
+    let title : take 32 bytes ≡ take 32 file = ap (take 32) read ∙ take-take 32 96 file (omega arith) in
+    rw (le-ltb (length bytes) 96 (omega (arith, all)), le-ltb (length file) 96 long, title) refl
+
+-- and which slot may take the next size
+pub slots-read : (file bytes : List ℕ) (size : ℕ) (root : Digest) → bytes ≡ take 96 (drop 0 file) → 96 ≤ length file
+    → slot_to_take bytes size root ≡ slot_to_take file size root
+slots-read file bytes size root read long =
+    let cut : (at : ℕ) → at + 32 ≤ 96 → take 32 (drop at bytes) ≡ take 32 (drop at file) = λ at le.
+    ap (λ l. take 32 (drop at l)) (read ∙ sym (append-nil (take 96 file))) ∙ piece-cut file [] at 32 96 le long in
+    rw (cut 32 (omega arith), cut 64 (omega arith)) refl
+
+pub size-none : (file : List ℕ) → file_head file ≡ None → log_size file ≡ Err (no_head file)
 size-none file none = rw (none) refl
+
+pub size-short : (file : List ℕ) → length file < 96 → log_size file ≡ Err NoLog
+size-short file short = rw (lt-ltb (length file) 96 short) refl
 
 pub size-of : (file : List ℕ) (size : ℕ) (second front : Bool) → file_head file ≡ Some (size, second)
     → has_front size (digest_count file) ≡ front → log_size file ≡ only_if front Short (Ok size)
@@ -192,3 +212,17 @@ path-whole hash empty (d ∷ ds) size is =
 
     is-same : (a b : ℕ) → a ≡ b → (a == b) ≡ true
     is-same a b same = grind (arith, nat_tests)
+
+-- ---- the root
+
+-- the digest of an entry
+pub entry-at : {leaves : List Digest} (file : List ℕ) (size index : ℕ) → Keeps leaves (stored_in (length leaves) file)
+    → size ≤ length leaves → index < size
+    → take 32 (drop (96 + 32 * position 0 index) file) ≡ get_or (take size leaves) index []
+entry-at {leaves} file size index keeps le below =
+    let all = length leaves in
+    let inside : index < length leaves = omega (arith, le, below) in
+    let stored = front all (stored_in all file) in
+    let within = position-within 0 index all (place-within 0 index all inside) in
+    stored-at all (position 0 index) file within ∙ sym (row_of-at stored 0 index inside)
+    ∙ ap (λ l. get_or l index []) keeps.lowest ∙ sym (get_or-take size leaves index [] below)

@@ -1,4 +1,4 @@
-use Rattle.std.proofs.Common.{ℕ, ◌≡◌, ◌≤◌, ◌<◌, ◌-◌, nat_lt, [], List, length, take, Ok, Err, inl, inr, ap, sym, subst, ◌∙◌, arith}
+use Rattle.std.proofs.Common.{ℕ, ◌≡◌, ◌≤◌, ◌<◌, ◌-◌, nat_lt, [], List, length, take, Ok, Err, inl, inr, refl, ap, sym, subst, ◌∙◌, arith}
 use Rattle.std.specs.Prelude.{IfOk, unwrap_or}
 use Rattle.std.proofs.lemmas.List.{length-take-le}
 use Rattle.std.proofs.lemmas.Result.{err_from_is_err_and}
@@ -19,28 +19,9 @@ use Rattle.log_store.specs.Spots.{AreOf}
 use Rattle.log_store.proofs.Reading.{path-whole, spotted-first, spotted-stored}
 use Rattle.log_store.proofs.Refusals.{only-memory, refused-given}
 use Rattle.log_store.proofs.Spotted.{spotted-held}
+use Rattle.merkle_log.specs.Verdict.{consistency_verdict}
+use Rattle.log_store.proofs.Verdicts.{continued, not_both}
 use Rattle.log_store.proofs.proving.consistency.Goals as goal
-
-pub consistency_over-requires-clause-peaks : goal.consistency_over-requires-clause-peaks
-consistency_over-requires-clause-peaks g c = λ level place peak.
-    spotted-held c.in_ok-size.size c.deref.result.now
-    (stored_in c.in_ok-size.size (g.D.Disk.seen c.args.disk.now)) level place (omega (arith, peak.1))
-    (rw (c.deref.ensures.value)
-    (c.in_ok-read_lowest.ensures.more _ (c.in_ok-spots.ensures.peaks level place peak)))
-
-pub consistency_over-requires-clause-beside : goal.consistency_over-requires-clause-beside
-consistency_over-requires-clause-beside g c = λ level place beside.
-    spotted-held c.in_ok-size.size c.deref.result.now
-    (stored_in c.in_ok-size.size (g.D.Disk.seen c.args.disk.now)) level place beside.1
-    (rw (c.deref.ensures.value)
-    (c.in_ok-read_lowest.ensures.more _ (c.in_ok-spots.ensures.beside level place beside)))
-
-pub consistency_over-requires-clause-lowest : goal.consistency_over-requires-clause-lowest
-consistency_over-requires-clause-lowest g c = λ level place lowest.
-    spotted-held c.in_ok-size.size c.deref.result.now
-    (stored_in c.in_ok-size.size (g.D.Disk.seen c.args.disk.now)) level place
-    (omega (arith, lowest.0.1, up-rises level c.args.old_size c.in_ok-size.size (omega arith)))
-    (rw (c.deref.ensures.value) (c.in_ok-read_lowest.ensures.read level place lowest))
 
 pub returns-in_err-size-clause-refused : goal.returns-in_err-size-clause-refused
 returns-in_err-size-clause-refused g c = λ obeys.
@@ -49,38 +30,46 @@ returns-in_err-size-clause-refused g c = λ obeys.
     (λ size. only_if (is_older c.args.old_size size) Size (Ok size)) _ (c.in_err-size.ensures.refused obeys))
 
 pub returns-then-old_size-eq0-clause-refused : goal.returns-then-old_size-eq0-clause-refused
-returns-then-old_size-eq0-clause-refused g c = λ obeys. inr (old-none (g.D.Disk.seen c.args.disk.now) c.args.named
-    c.in_ok-size.size (c.in_ok-size.ensures.size obeys) c.args.old_size c.if-old_size-eq0.true)
+returns-then-old_size-eq0-clause-refused g c = λ obeys. inr (inl (old-none (g.D.Disk.seen c.args.disk.now) c.args.named
+    c.in_ok-size.size (c.in_ok-size.ensures.size obeys) c.args.old_size c.if-old_size-eq0.true))
 
 pub returns-then-size-old_size-clause-refused : goal.returns-then-size-old_size-clause-refused
-returns-then-size-old_size-clause-refused g c = λ obeys. inr (old-above (g.D.Disk.seen c.args.disk.now) c.args.named
-    c.in_ok-size.size (c.in_ok-size.ensures.size obeys) c.args.old_size c.if-size-old_size.true)
+returns-then-size-old_size-clause-refused g c = λ obeys. inr (inl (old-above (g.D.Disk.seen c.args.disk.now) c.args.named
+    c.in_ok-size.size (c.in_ok-size.ensures.size obeys) c.args.old_size c.if-size-old_size.true))
 
-pub returns-in-Ok-clause-proof : goal.returns-in-Ok-clause-proof
-returns-in-Ok-clause-proof g c = λ obeys leaves log.
-    let file = g.D.Disk.seen c.args.disk.now in
-    let size = c.in_ok-size.size in
-    let facts = known leaves file log in
-    let first = c.in_ok-size.ensures.log obeys leaves log in
-    let inside = c.in_ok-size.ensures.inside obeys in
-    let own : AreOf c.deref.result.now (stored_in size file) = rw (c.deref.ensures.value)
-    (c.in_ok-read_lowest.ensures.own obeys size (omega arith) inside (c.in_ok-spots.ensures.own obeys inside)) in
-    let path = c.in-Ok.ensures.path (spotted-stored {leaves = leaves} file size c.deref.result.now
-    facts.keeps first.1 own) in
-    ap (λ l. all_of (consistency_path node_of (sha256 []) c.args.old_size l)) (ap (λ n. take n leaves) (sym first.0)
-    ∙ sym (spotted-first {leaves = leaves} file size c.deref.result.now facts.keeps first.1 own)) ∙ path
-
-pub read_lowest-requires-clause-inside : goal.read_lowest-requires-clause-inside
-read_lowest-requires-clause-inside g c = omega (
+pub root_at-requires-clause-near : goal.root_at-requires-clause-near
+root_at-requires-clause-near g c = omega (
   arith,
   count-rises c.args.old_size c.in_ok-size.size (omega (arith, c.if-size-old_size.false)),
   c.in_ok-size.ensures.near,
 )
 
-pub returns-then-old_size-size-clause-proof : goal.returns-then-old_size-size-clause-proof
-returns-then-old_size-size-clause-proof g c = λ obeys leaves log.
-    let first = c.in_ok-size.ensures.log obeys leaves log in
-    let size = unwrap_or c.args.named (length leaves) in
-    let long : length (take size leaves) ≡ size = length-take-le size leaves (omega (arith, first.0, first.1)) in
-    ap all_of (path-whole node_of (sha256 []) (take size leaves) c.args.old_size
-    (omega (arith, first.0, long, c.if-old_size-size.true))) ∙ ap Ok (sym c.new.ensures.items)
+pub returns-in-Ok-true-clause-accepted : goal.returns-in-Ok-true-clause-accepted
+returns-in-Ok-true-clause-accepted g c =
+    ap (consistency_verdict node_of c.args.old_size c.in-Ok-root_at.old_root c.in_ok-size.size c.in_ok-size.root)
+    (sym c.deref.ensures.value) ∙ c.in-Ok-true.ensures.verdict ∙ ap Ok c.in-Ok-true.field-0-test
+
+pub returns-in-Ok-true-clause-proof : goal.returns-in-Ok-true-clause-proof
+returns-in-Ok-true-clause-proof g c = λ obeys leaves log.
+    let first = c.in_ok-size.ensures.root obeys leaves log in
+    ap (λ n. all_of (consistency_path node_of (sha256 []) c.args.old_size (take n leaves))) (sym first.0)
+    ∙ c.in-Ok.ensures.path obeys (c.in_ok-size.ensures.inside obeys) leaves first.1 log.keeps
+
+pub returns-in-Ok-false-clause-refused : goal.returns-in-Ok-false-clause-refused
+returns-in-Ok-false-clause-refused g c = λ obeys. inr (inr (
+  refl,
+  λ leaves log.
+      let first = c.in_ok-size.ensures.root obeys leaves log in
+      let size = c.in_ok-size.size in
+      let old_size = c.args.old_size in
+      let inside = c.in_ok-size.ensures.inside obeys in
+      let older : old_size ≤ size = omega (arith, c.if-size-old_size.false) in
+      let old = c.in-Ok-root_at.ensures obeys leaves (omega (arith, older, first.1))
+      (omega (arith, inside, count-rises old_size size older)) log.keeps in
+      not_both (consistency_verdict node_of old_size c.in-Ok-root_at.old_root size c.in_ok-size.root c.in-Ok.path.items)
+      (continued leaves old_size size c.in-Ok.path.items c.in-Ok-root_at.old_root c.in_ok-size.root
+      (omega (arith, c.if-old_size-eq0.false)) older first.1
+      (c.in-Ok.ensures.path obeys inside leaves first.1 log.keeps) old first.2)
+      (ap (consistency_verdict node_of old_size c.in-Ok-root_at.old_root size c.in_ok-size.root) (sym c.deref.ensures.value)
+      ∙ c.in-Ok-false.ensures.verdict) c.in-Ok-false.field-0-test,
+))
