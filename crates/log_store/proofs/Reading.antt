@@ -9,8 +9,7 @@ use Rattle.ark_paths.specs.Pair.{Digest}
 use Rattle.ark_trees.specs.Rfc6962.{node_of}
 use Rattle.ark_base.specs.Outcome.{Outcome}
 use Rattle.merkle_log.specs.Asked.{IsPeak}
-use Rattle.merkle_log.specs.Log.{consistency_path, merkle_tree_hash, NodeHash}
-use Rattle.sha2.specs.Sha256.{sha256}
+use Rattle.merkle_log.specs.Log.{consistency_path, NodeHash}
 use Rattle.merkle_log.specs.Kept.{front, has_front, stored_front, Keeps}
 use Rattle.merkle_log.specs.Stored.{position, stored_count, row_of, IsStored}
 use Rattle.merkle_log.specs.Walk.{index_up}

@@ -1,5 +1,5 @@
 -- Faults of a log's file.
-use Rattle.std.proofs.Common.{ℕ, ◌≡◌, List, Option, Result, Ok, Err, refl, inl, inr}
+use Rattle.std.proofs.Common.{ℕ, List, Option, Result, Ok, Err, refl, inl, inr}
 use Rattle.paxlog_run.specs.Faults.{log_size, of_first}
 use Rattle.paxlog_run.specs.declared.fault.Fault as fault_of_files
 use Rattle.paxlog_run.proofs.Sizes.{given-refused}

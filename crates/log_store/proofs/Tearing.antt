@@ -10,9 +10,9 @@ use Rattle.sha2.specs.Sha256.{sha256}
 use Rattle.ark_trees.specs.Rfc6962.{node_of}
 use Rattle.merkle_log.specs.Kept.{Keeps}
 use Rattle.merkle_log.specs.Log.{merkle_tree_hash}
-use Rattle.paxlog_run.specs.LogFile.{file_end, next_slot, slot, slot_fits, slot_front, slot_size, statement, stored_in, written, IsLogFile}
+use Rattle.paxlog_run.specs.LogFile.{file_end, next_slot, slot, slot_front, slot_size, statement, stored_in, written, IsLogFile}
 use Rattle.paxlog_run.proofs.Files.{cut-head, cut-holds, cut-uses, holds-slot, keeps-more, known, known-free, log-holds, slot-torn, Holds, Known}
-use Rattle.paxlog_run.proofs.Heads.{fits-size, fits-stated, head-kept, is_headed, length-front, length-slot, length-statement, size-begins, slot-begin, slot-end, slot-fits, slot-part, uses-kept, uses-turned, HasHead, Uses}
+use Rattle.paxlog_run.proofs.Heads.{fits-size, fits-stated, head-kept, is_headed, length-front, length-slot, length-statement, size-begins, slot-begin, slot-end, slot-fits, uses-kept, uses-turned, HasHead, Uses}
 use Rattle.paxlog_run.proofs.Pieces.{piece-written}
 use Rattle.log_store.specs.Disk.{Follows, Only, Torn, TornTwice}
 use Rattle.log_store.specs.Store.{IsBeforeOrAfter, IsGrowth, IsSettled}

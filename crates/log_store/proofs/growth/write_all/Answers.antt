@@ -1,7 +1,7 @@
-use Rattle.std.proofs.Common.{◌≡◌, ◌+◌, ◌≤◌, ◌++◌, List, length, ap, sym, subst, ◌∙◌, arith}
+use Rattle.std.proofs.Common.{◌≡◌, ◌+◌, ◌≤◌, ◌++◌, length, ap, sym, subst, ◌∙◌}
 use Rattle.std.specs.Prelude.{not}
 use Rattle.merkle_log.proofs.Givens.{known_if_ok}
-use Rattle.paxlog_run.specs.LogFile.{file_end, next_slot, slot, slot_front, statement, written}
+use Rattle.paxlog_run.specs.LogFile.{next_slot, slot, slot_front, statement, written}
 use Rattle.log_store.specs.Store.{IsBeforeOrAfter, IsSettled}
 use Rattle.log_store.proofs.Moments.{then_on, weaker}
 use Rattle.log_store.proofs.Tearing.{both-settled, crash-behind, crash-both, crash-slot, digests-written, end-written, first-inside, free-inside, front-long-of, growing, more-inside, more-keeps, second-inside, slot-long-of, slot-written, third-inside}

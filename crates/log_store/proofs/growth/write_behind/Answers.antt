@@ -1,12 +1,5 @@
-use Rattle.std.proofs.Common.{ℕ, ◌≡◌, ◌+◌, ◌≤◌, List, [], length, take, Ok, ap, sym, subst, ◌∙◌, arith}
-use Rattle.std.proofs.lemmas.List.{take_all}
-use Rattle.sha2.specs.Sha256.{sha256}
-use Rattle.ark_trees.specs.Rfc6962.{node_of}
-use Rattle.merkle_log.specs.Kept.{Keeps}
-use Rattle.merkle_log.specs.Log.{merkle_tree_hash}
-use Rattle.paxlog_run.specs.LogFile.{file_end, statement, stored_in, written}
+use Rattle.std.proofs.Common.{ℕ, ◌≡◌, ◌≤◌, List, length, ap, ◌∙◌, arith}
 use Rattle.log_store.specs.Disk.{Torn, TornTwice}
-use Rattle.log_store.proofs.Growths.{top-of}
 use Rattle.log_store.proofs.Moments.{started, goes_on}
 use Rattle.paxlog_run.proofs.Heads.{length-statement}
 use Rattle.log_store.proofs.Tearing.{longer-written, torn-from, torn-not, torn-once, torn-then}

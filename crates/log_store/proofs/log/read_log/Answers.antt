@@ -1,11 +1,5 @@
-use Rattle.std.proofs.Common.{ℕ, ◌≡◌, ◌≤◌, [], length, take, Some, None, Ok, inl, inr, refl, ap, sym, subst, ◌∙◌, arith}
-use Rattle.std.proofs.lemmas.List.{take_all}
-use Rattle.std.proofs.lemmas.Result.{err_from_is_err_and}
-use Rattle.sha2.specs.Sha256.{sha256}
-use Rattle.ark_trees.specs.Rfc6962.{node_of}
-use Rattle.merkle_log.specs.Log.{merkle_tree_hash}
+use Rattle.std.proofs.Common.{◌≡◌, length, inr, refl, sym, ◌∙◌, arith}
 use Rattle.paxlog_run.proofs.Files.{sizes-same}
-use Rattle.paxlog_run.specs.LogFile.{slot_to_take}
 use Rattle.log_store.proofs.Growths.{none-states, top-of}
 use Rattle.log_store.proofs.Reading.{slots-read}
 use Rattle.log_store.proofs.log.read_log.Goals as goal

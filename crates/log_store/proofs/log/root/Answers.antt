@@ -1,4 +1,4 @@
-use Rattle.std.proofs.Common.{ℕ, ◌≡◌, ◌≤◌, [], length, take, Ok, inl, inr, ap, sym, subst, ◌∙◌, arith}
+use Rattle.std.proofs.Common.{ℕ, ◌≤◌, [], length, Ok, inl, inr, ap, sym, ◌∙◌, arith}
 use Rattle.std.specs.Prelude.{unwrap_or}
 use Rattle.std.proofs.lemmas.List.{take_all}
 use Rattle.std.proofs.lemmas.Result.{err_from_is_err_and}
@@ -7,7 +7,6 @@ use Rattle.ark_paths.specs.Pair.{Digest}
 use Rattle.ark_trees.specs.Rfc6962.{node_of}
 use Rattle.merkle_log.specs.Log.{merkle_tree_hash}
 use Rattle.merkle_log.proofs.Positions.{count-rises}
-use Rattle.paxlog_run.specs.declared.head.Head.{Head}
 use Rattle.log_store.specs.declared.log.Log.{Log}
 use Rattle.log_store.proofs.Refusals.{refused-first}
 use Rattle.paxlog_run.specs.LogFile.{slot_to_take}

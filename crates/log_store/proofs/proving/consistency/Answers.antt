@@ -1,24 +1,15 @@
-use Rattle.std.proofs.Common.{ℕ, ◌≡◌, ◌≤◌, ◌<◌, ◌-◌, nat_lt, [], List, length, take, Ok, Err, inl, inr, refl, ap, sym, subst, ◌∙◌, arith}
-use Rattle.std.specs.Prelude.{IfOk, unwrap_or}
-use Rattle.std.proofs.lemmas.List.{length-take-le}
+use Rattle.std.proofs.Common.{ℕ, ◌≤◌, [], List, take, Ok, inl, inr, refl, ap, sym, ◌∙◌, arith}
 use Rattle.std.proofs.lemmas.Result.{err_from_is_err_and}
 use Rattle.sha2.specs.Sha256.{sha256}
 use Rattle.ark_paths.specs.Pair.{Digest}
 use Rattle.ark_trees.specs.Rfc6962.{node_of}
 use Rattle.merkle_log.specs.Edge.{all_of}
 use Rattle.merkle_log.specs.Log.{consistency_path}
-use Rattle.merkle_log.specs.Walk.{index_up}
-use Rattle.merkle_log.proofs.KeptRows.{up-rises}
 use Rattle.merkle_log.proofs.Positions.{count-rises}
-use Rattle.paxlog_run.proofs.Files.{known}
 use Rattle.paxlog_run.proofs.Saying.{old-above, old-none}
-use Rattle.paxlog_run.specs.Faults.{is_older, of_first, only_if}
-use Rattle.paxlog_run.specs.LogFile.{stored_in}
+use Rattle.paxlog_run.specs.Faults.{is_older, only_if}
 use Rattle.paxlog_run.specs.declared.fault.Fault.TheVariants.{Size}
-use Rattle.log_store.specs.Spots.{AreOf}
-use Rattle.log_store.proofs.Reading.{path-whole, spotted-first, spotted-stored}
-use Rattle.log_store.proofs.Refusals.{only-memory, refused-given}
-use Rattle.log_store.proofs.Spotted.{spotted-held}
+use Rattle.log_store.proofs.Refusals.{refused-given}
 use Rattle.merkle_log.specs.Verdict.{consistency_verdict}
 use Rattle.log_store.proofs.Verdicts.{continued, not_both}
 use Rattle.log_store.proofs.proving.consistency.Goals as goal

@@ -1,4 +1,4 @@
-use Rattle.std.proofs.Common.{length, arith}
+use Rattle.std.proofs.Common.{arith}
 use Rattle.merkle_log.proofs.Positions.{length-row_of}
 use Rattle.log_store.proofs.proving.consistency_over.Goals as goal
 

@@ -1,8 +1,5 @@
-use Rattle.std.proofs.Common.{[], length, subst, ap, sym, ◌∙◌, Ok, Some, ◌≡◌, ◌<◌, ◌^◌, ◌+◌, get_or, arith}
-use Rattle.sha2.specs.Sha256.{sha256}
-use Rattle.merkle_log.specs.Stored.{position, row_of}
+use Rattle.std.proofs.Common.{arith}
 use Rattle.merkle_log.proofs.Positions.{length-row_of}
-use Rattle.log_store.specs.Spots.{found}
 use Rattle.log_store.proofs.proving.inclusion_over.Goals as goal
 
 pub inclusion_path_of-requires-clause-within : goal.inclusion_path_of-requires-clause-within

@@ -1,5 +1,4 @@
-use Rattle.std.proofs.Common.{ℕ, ◌≡◌, ◌≤◌, ◌<◌, ◌+◌, ◌*◌, nat_lt, [], List, length, take, drop, get_or, Ok, Err, inl, inr, refl, ap, sym, subst, ◌∙◌, arith}
-use Rattle.std.specs.Prelude.{IfOk, unwrap_or}
+use Rattle.std.proofs.Common.{ℕ, ◌≡◌, ◌<◌, ◌+◌, ◌*◌, nat_lt, [], List, take, drop, get_or, Ok, inl, inr, refl, ap, sym, ◌∙◌, arith}
 use Rattle.std.proofs.lemmas.Result.{err_from_is_err_and}
 use Rattle.sha2.specs.Sha256.{sha256}
 use Rattle.ark_paths.specs.Pair.{Digest}
@@ -7,16 +6,14 @@ use Rattle.ark_trees.specs.Rfc6962.{node_of}
 use Rattle.merkle_log.specs.Edge.{all_of}
 use Rattle.merkle_log.specs.Log.{inclusion_path}
 use Rattle.merkle_log.proofs.Positions.{place-within, position-within}
-use Rattle.paxlog_run.proofs.Files.{known}
 use Rattle.paxlog_run.proofs.Saying.{index-beyond}
-use Rattle.paxlog_run.specs.Faults.{of_first, only_if}
+use Rattle.paxlog_run.specs.Faults.{only_if}
 use Rattle.paxlog_run.specs.LogFile.{stored_in}
 use Rattle.paxlog_run.specs.declared.fault.Fault.TheVariants.{Index}
 use Rattle.log_store.specs.Spots.{AreOf}
 use Rattle.log_store.proofs.Reading.{entry-at, spotted-first, spotted-stored}
-use Rattle.log_store.proofs.Refusals.{only-memory, refused-given}
+use Rattle.log_store.proofs.Refusals.{refused-given}
 use Rattle.log_store.proofs.Spotted.{spotted-held}
-use Rattle.merkle_log.specs.Stored.{position}
 use Rattle.merkle_log.specs.Verdict.{inclusion_verdict}
 use Rattle.merkle_log.proofs.Accepted.{inclusion-accepted}
 use Rattle.log_store.proofs.Verdicts.{not_both}

@@ -1,11 +1,10 @@
-use Rattle.std.proofs.Common.{◌≡◌, ◌+◌, ◌*◌, ◌/◌, ◌<◌, ◌≤◌, ◌∙◌, [], ap, sym, subst, inl, inr, arith}
+use Rattle.std.proofs.Common.{◌≡◌, ◌/◌, ◌<◌, ◌∙◌, ap, sym, inl, inr, arith}
 use Rattle.std.proofs.lemmas.Bool.{cases_lt}
 use Rattle.merkle_log.specs.Binding.{index_beside}
 use Rattle.merkle_log.specs.Stored.{position}
 use Rattle.merkle_log.specs.Walk.{index_up}
 use Rattle.merkle_log.proofs.KeptRows.{up-rises}
-use Rattle.merkle_log.proofs.Positions.{place-within, position-within, up-more, up-times}
-use Rattle.log_store.specs.Spots.{IsRead}
+use Rattle.merkle_log.proofs.Positions.{place-within, position-within, up-more}
 use Rattle.log_store.proofs.Reading.{level-below, level-low, up-less}
 use Rattle.log_store.proofs.spots.read_beside.Goals as goal
 use Rattle.log_store.proofs.spots.read_beside.Goals.{then-other-left+in_ok-read_spot, else-other-left}

@@ -1,5 +1,4 @@
-use Rattle.std.proofs.Common.{◌≡◌, ◌+◌, ◌*◌, ◌≤◌, ◌<◌, ◌++◌, ◌∷◌, [], length, sym, subst, ◌∙◌, arith}
-use Rattle.merkle_log.proofs.Positions.{count-rises}
+use Rattle.std.proofs.Common.{sym, subst, ◌∙◌, arith}
 use Rattle.paxlog_run.specs.LogFile.{stored_in}
 use Rattle.log_store.specs.Spots.{AreMore, AreOf, IsRead}
 use Rattle.log_store.proofs.Reading.{stored-at}

@@ -1,4 +1,4 @@
-use Rattle.std.proofs.Common.{length, drop, ◌∙◌, arith}
+use Rattle.std.proofs.Common.{drop, ◌∙◌, arith}
 use Rattle.std.proofs.lemmas.List.{length-drop, take_all}
 use Rattle.paxlog_run.proofs.head.end_in.Goals as goal
 

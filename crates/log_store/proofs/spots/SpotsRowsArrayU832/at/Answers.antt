@@ -1,6 +1,6 @@
-use Rattle.std.proofs.Common.{◌≡◌, ◌*◌, ◌+◌, ◌≤◌, ◌<◌, ◌^◌, [], get_or, Option, Some, None, ap, sym, ◌∙◌, arith}
+use Rattle.std.proofs.Common.{◌<◌, [], get_or, Option, Some, None, ap, sym, ◌∙◌, arith}
 use Rattle.ark_paths.specs.Pair.{Digest}
-use Rattle.merkle_log.specs.Stored.{position, row_of}
+use Rattle.merkle_log.specs.Stored.{row_of}
 use Rattle.merkle_log.specs.Walk.{index_up}
 use Rattle.merkle_log.proofs.Positions.{length-row_of, level-fits, place-within, position-within}
 use Rattle.log_store.specs.Spots.{found}
