@@ -65,12 +65,12 @@ fn bytes_of(rt: &HostRuntime, words: &[Vec<u8>], place: usize) -> Result<Vec<u8>
         let mut bytes = Vec::new(rt.alloc());
         return match rt.stdin().read_to_end(&mut bytes) {
             Ok(_) => Ok(bytes),
-            Err(error) => Err(Stop::System(error).at(place)),
+            Err(error) => Err(Stop::from(error).at(place)),
         };
     }
     match fs::read(rt, name) {
         Ok(bytes) => Ok(bytes),
-        Err(error) => Err(Stop::System(error).at(place)),
+        Err(error) => Err(Stop::from(error).at(place)),
     }
 }
 
@@ -104,6 +104,11 @@ fn say_proof(rt: &HostRuntime, verdict: Result<bool, Fault>) -> Result<u8, StopA
     }
 }
 
+// Writes a size, and returns the status.
+fn say_size(rt: &HostRuntime, size: usize) -> Result<u8, StopAt> {
+    say(rt, format!(in rt.alloc(); "{size}\n")?.as_bytes())
+}
+
 // Appends entries, and writes the new size.
 fn append(
     rt: &HostRuntime,
@@ -115,17 +120,9 @@ fn append(
         Ok(size) => size,
         Err(why) => return Err(why.at(1)),
     };
-    match say(rt, format!(in rt.alloc(); "{size}\n")?.as_bytes()) {
-        Err(
-            StopAt {
-                why: Stop::System(error),
-                place,
-            },
-        ) => Err(StopAt {
-            why: Stop::Perhaps(error),
-            place,
-        }),
-        said => said,
+    match say_size(rt, size) {
+        Ok(status) => Ok(status),
+        Err(_) => Err(StopAt::from(Stop::Unsaid)),
     }
 }
 
@@ -278,6 +275,10 @@ fn complain(rt: &HostRuntime, words: &[Vec<u8>], stop: StopAt) -> u8 {
         Stop::Perhaps(error) => {
             begin(rt, words, place);
             let _ = eprintln!(rt; "the entries are perhaps in the log: {error}");
+            PERHAPS
+        }
+        Stop::Unsaid => {
+            let _ = eprintln!(rt; "paxlog: the entries are in the log, and the output failed");
             PERHAPS
         }
     }

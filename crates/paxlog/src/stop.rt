@@ -20,6 +20,8 @@ pub enum Stop {
     System(io::Error),
     /// A call of the system failed after a slot was begun: what was to be appended may be in the log.
     Perhaps(io::Error),
+    /// Entries were appended, and the new size could not be written.
+    Unsaid,
 }
 
 /// Why the command stops, and the place among the words of the file that it speaks of.
@@ -27,6 +29,15 @@ pub enum Stop {
 pub struct StopAt {
     pub why: Stop,
     pub place: Option<usize>,
+}
+
+// What a refusal of the system says: a lack of memory has its own name.
+fn of_system(error: io::Error) -> Stop {
+    if error.kind() == io::ErrorKind::OutOfMemory {
+        Stop::Fault(Fault::Memory)
+    } else {
+        Stop::System(error)
+    }
 }
 
 impl Stop {
@@ -48,7 +59,7 @@ impl From<Stop> for StopAt {
 impl From<io::Error> for StopAt {
     fn from(error: io::Error) -> StopAt {
         StopAt {
-            why: Stop::System(error),
+            why: of_system(error),
             place: None,
         }
     }
@@ -85,7 +96,7 @@ impl From<log_store::Stop<io::Error>> for Stop {
     fn from(stop: log_store::Stop<io::Error>) -> Stop {
         match stop {
             log_store::Stop::Fault(fault) => Stop::Fault(fault),
-            log_store::Stop::Disk(error) => Stop::System(error),
+            log_store::Stop::Disk(error) => of_system(error),
         }
     }
 }
@@ -110,14 +121,14 @@ impl<T: Drop> From<AllocFailed<T>> for Stop {
 
 impl From<io::Error> for Stop {
     fn from(error: io::Error) -> Stop {
-        Stop::System(error)
+        of_system(error)
     }
 }
 
 impl From<TryLockError> for Stop {
     fn from(error: TryLockError) -> Stop {
         match error {
-            TryLockError::Error(error) => Stop::System(error),
+            TryLockError::Error(error) => of_system(error),
             TryLockError::WouldBlock => Stop::Locked,
         }
     }

@@ -88,7 +88,7 @@ pub fn append(
         Ok(size) => Ok(size),
         Err(log_store::Stop::Fault(fault)) => Err(Stop::Fault(fault)),
         Err(log_store::Stop::Disk(error)) if disk.is_slot_begun => Err(Stop::Perhaps(error)),
-        Err(log_store::Stop::Disk(error)) => Err(Stop::System(error)),
+        Err(log_store::Stop::Disk(error)) => Err(Stop::from(error)),
     }
 }
 
