@@ -1,4 +1,5 @@
-//! A log in a file: appends that a crash cannot lose once they returned, roots and proofs, for which only what they ask for is read.
+//! A log in a file: appends that a crash cannot lose once they returned, and roots and proofs, for which only what they ask for
+//! is read, and which are checked.
 //!
 //! The file lies on a disk, whose calls may fail and of which a crash may leave any part of what was written since the last
 //! sync.
