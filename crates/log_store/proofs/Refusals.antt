@@ -3,7 +3,7 @@ use Rattle.std.proofs.Common.{ℕ, List, Option, Result, Ok, Err, refl, inl, inr
 use Rattle.paxlog_run.specs.Faults.{log_size, of_first}
 use Rattle.paxlog_run.specs.declared.fault.Fault as fault_of_files
 use Rattle.paxlog_run.proofs.Sizes.{given-refused}
-use Rattle.log_store.specs.Refused.{IsOnlyMemory, IsRefusedFor}
+use Rattle.log_store.specs.Refused.{IsRefusedFor}
 use Rattle.log_store.specs.declared.stop.Stop.{Stop}
 use Rattle.log_store.specs.declared.stop.Stop.TheVariants.{Fault, Disk}
 
@@ -14,12 +14,6 @@ refused-first A B file named (Fault fault) (inl memory) = inl memory
 refused-first A B file named (Fault fault) (inr (inl is)) = inr (inl (rw (is) refl))
 refused-first A B file named (Fault fault) (inr (inr damaged)) = inr (inr damaged)
 refused-first A B file named (Disk refusal) known = tt
-
--- a lack of memory, whatever the outcome is
-pub only-memory : (A B C : Type 0) {R : Type 0} (file : List ℕ) (outcome : Result C fault_of_files.Fault)
-    (stop : Stop R) → IsOnlyMemory {A = A} (Err stop) → IsRefusedFor {A = B} file outcome (Err stop)
-only-memory A B C file outcome (Fault fault) memory = inl memory
-only-memory A B C file outcome (Disk refusal) known = tt
 
 -- a fault of the file before a size is given
 pub refused-given : (A B : Type 0) {C R : Type 0} (file : List ℕ) (named : Option ℕ)

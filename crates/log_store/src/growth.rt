@@ -173,8 +173,8 @@ pub fn append_after<D: Disk>(
     append(alloc, disk, digests)
 }
 
-// Writes digests, and the statement of the root that they lead to where a slot ends that is free, and syncs. It returns the root
-// of the log of this size.
+// Writes digests, and the statement of the root that they lead to where a slot ends that is free, and syncs. It returns the
+// root of the log of this size.
 fn write_behind<D: Disk>(
     disk: &mut D,
     place: usize,

@@ -203,11 +203,11 @@ pub struct ConsistencyProof {
     pub path: Vec<[u8; 32]>,
 }
 
-/// Returns the inclusion proof of an index in the first entries of the log of a file, as many as are named, or else all. It reads
-/// the head and at most 256 digests, and checks the proof.
+/// Returns the inclusion proof of an index in the first entries of the log of a file, as many as are named, or else all. It
+/// reads the head and at most 256 digests, and checks the proof.
 ///
-/// Errors, the first that applies: those of `read_log`; `Size` for more than there are; `Index`; `Damaged` for a proof that does
-/// not hold; `Memory` in place of any.
+/// Errors, the first that applies: those of `read_log`; `Size` for more than there are; `Index`; `Damaged` for a proof that
+/// does not hold; `Memory` in place of any.
 pub fn prove<D: Disk>(
     alloc: Global,
     disk: &D,

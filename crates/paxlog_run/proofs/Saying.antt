@@ -8,23 +8,12 @@ use Rattle.paxlog_run.proofs.Sizes.{given-of}
 
 module _ (file : List ℕ) (named : Option ℕ) (size : ℕ) (is : of_first file named Ok ≡ Ok size) where
   -- an index
-  pub index-inside : (index : ℕ) → index < size → of_first file named (λ size. only_if (nat_lt index size) Index
-      (Ok size)) ≡ Ok size
-  index-inside index below = given-of (λ size. only_if (nat_lt index size) Index (Ok size)) named file size is
-      ∙ rw (lt-ltb index size below) refl
-
   pub index-beyond : (index : ℕ) → size ≤ index → of_first file named (λ size. only_if (nat_lt index size) Index
       (Ok size)) ≡ Err Index
   index-beyond index above = given-of (λ size. only_if (nat_lt index size) Index (Ok size)) named file size is
       ∙ rw (le-ltb index size above) refl
 
   -- an old size
-  pub old-inside : (old_size : ℕ) → 0 < old_size → old_size ≤ size → of_first file named (λ size. only_if
-      (is_older old_size size) Size (Ok size)) ≡ Ok size
-  old-inside old_size some inside =
-      given-of (λ size. only_if (is_older old_size size) Size (Ok size)) named file size is
-      ∙ rw (lt-ltb 0 old_size some, le-ltb size old_size inside) refl
-
   pub old-none : (old_size : ℕ) → old_size ≡ 0 → of_first file named (λ size. only_if (is_older old_size size) Size
       (Ok size)) ≡ Err Size
   old-none old_size none = given-of (λ size. only_if (is_older old_size size) Size (Ok size)) named file size is
