@@ -40,7 +40,7 @@ fn divides<F: InvertibleField>() -> bool {
     }
 }
 
-// Whether the inverses of 1 to 20 are those, and the third of three elements is told to be 0.
+// Whether the inverses of 1 to 20 are those, and the first of two elements that are 0 behind them is named.
 fn divides_many<F: InvertibleField>(alloc: Global) -> Result<bool, Error> {
     let mut elements = Vec::new(alloc);
     for i in 1..21 {
@@ -53,8 +53,9 @@ fn divides_many<F: InvertibleField>(alloc: Global) -> Result<bool, Error> {
     for (i, element) in elements.iter().enumerate() {
         same = same && i < found.len() && inverse(*element) == Some(found[i]);
     }
-    let zero = batch_inverse(alloc, &[F::one(), F::one(), F::zero(), F::zero()]).err();
-    Ok(same && zero == Some(NoInverses::Zero(2)))
+    elements.push(F::zero())?;
+    elements.push(F::zero())?;
+    Ok(same && batch_inverse(alloc, &elements).err() == Some(NoInverses::Zero(20)))
 }
 
 #[test]
