@@ -2,15 +2,18 @@
 #![tactic(auto)]
 
 mod file_disk;
+mod picture;
 mod progress;
 mod stop;
 mod store;
 mod words;
 
+use crate::picture::{image_of, text_of};
 use crate::progress::OnTerminal;
 use crate::stop::{Stop, StopAt};
 use crate::words::words;
 use ark_trees::digest_of_entry;
+use log_store::InclusionProof;
 use paxlog_run::entries::digests_of_lines;
 use paxlog_run::fault::Fault;
 use paxlog_run::replies::{is_sound, line_of, line_of_root};
@@ -24,6 +27,8 @@ const USAGE: &str = "usage: paxlog append LOG [--after SIZE ROOT] [--] FILE ..
        paxlog append-lines LOG [--after SIZE ROOT] [--] FILE
        paxlog root LOG [SIZE]
        paxlog prove LOG INDEX [SIZE]
+       paxlog show LOG INDEX [SIZE]
+       paxlog show-image LOG INDEX [SIZE]
        paxlog consistency LOG OLD_SIZE [SIZE]
        paxlog check LOG
        paxlog verify ROOT SIZE INDEX FILE PROOF
@@ -160,6 +165,19 @@ fn of_log<T: Drop>(said: Result<T, Stop>) -> Result<T, StopAt> {
     }
 }
 
+// The picture of a proof.
+fn picture_of(
+    rt: &HostRuntime,
+    index: usize,
+    proof: &InclusionProof,
+    is_image: bool,
+) -> Result<Vec<u8>, Fault> {
+    if is_image {
+        return image_of(rt.alloc(), proof.size, index, &proof.digest, &proof.path);
+    }
+    text_of(rt.alloc(), proof.size, index, &proof.digest, &proof.path)
+}
+
 // Does what is asked for, and returns the status.
 fn answer(rt: &HostRuntime, request: Request, words: &[Vec<u8>]) -> Result<u8, StopAt> {
     match request {
@@ -174,8 +192,16 @@ fn answer(rt: &HostRuntime, request: Request, words: &[Vec<u8>]) -> Result<u8, S
             say(rt, &line_of_root(rt.alloc(), size, &root)?)
         }
         Request::Prove { index, size } => {
-            let path = of_log(store::prove(rt, name(words, 1)?, index, size))?;
-            say(rt, &line_of(rt.alloc(), &path)?)
+            let proof = of_log(store::prove(rt, name(words, 1)?, index, size))?;
+            say(rt, &line_of(rt.alloc(), &proof.path)?)
+        }
+        Request::Show {
+            index,
+            size,
+            is_image,
+        } => {
+            let proof = of_log(store::prove(rt, name(words, 1)?, index, size))?;
+            say(rt, &picture_of(rt, index, &proof, is_image)?)
         }
         Request::Consistency { old_size, size } => {
             let path = of_log(store::consistency(rt, name(words, 1)?, old_size, size))?;

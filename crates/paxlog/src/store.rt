@@ -2,7 +2,7 @@
 
 use crate::file_disk::FileDisk;
 use crate::stop::Stop;
-use log_store::Disk;
+use log_store::{Disk, InclusionProof};
 use paxlog_run::fault::Fault;
 use paxlog_run::head::{TITLE, slot_of};
 use paxlog_run::request::After;
@@ -105,9 +105,9 @@ pub fn prove(
     path: &str,
     index: usize,
     named: Option<usize>,
-) -> Result<Vec<[u8; 32]>, Stop> {
+) -> Result<InclusionProof, Stop> {
     let file = File::open(rt, path)?;
-    Ok(log_store::prove(rt.alloc(), &FileDisk::new(file), index, named)?.path)
+    Ok(log_store::prove(rt.alloc(), &FileDisk::new(file), index, named)?)
 }
 
 /// Returns the path of the proof that the first entries of the log of a file, as many as are named, or else all, continue its

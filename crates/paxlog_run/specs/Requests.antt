@@ -1,5 +1,5 @@
 -- The words behind the command's name.
-use Rattle.std.specs.Prelude.{ℕ, ◌+◌, ◌==◌, ◌||◌, nat_lt, get_or, length, List, [], ◌∷◌, if◌then◌else◌, Option, Some, None, codes}
+use Rattle.std.specs.Prelude.{ℕ, ◌+◌, ◌==◌, ◌||◌, nat_lt, get_or, length, List, [], ◌∷◌, if◌then◌else◌, Bool, true, false, Option, Some, None, codes}
 use Rattle.std.specs.Result.{result_ok}
 use Rattle.std.specs.Str.{bytes_eq}
 use Rattle.hex.specs.Hex.{decode_sized}
@@ -7,7 +7,7 @@ use Rattle.decimals.specs.Decimals.{number_of}
 use Rattle.ark_paths.specs.Pair.{Digest}
 use Rattle.paxlog_run.specs.declared.request.Request.{Request}
 use Rattle.paxlog_run.specs.declared.request.After.{After}
-use Rattle.paxlog_run.specs.declared.request.Request.TheVariants.{Append, AppendLines, Root, Prove, Consistency, Check, Verify, VerifyConsistency, Help, Version}
+use Rattle.paxlog_run.specs.declared.request.Request.TheVariants.{Append, AppendLines, Root, Prove, Show, Consistency, Check, Verify, VerifyConsistency, Help, Version}
 
 -- the digest that a word spells in hexadecimal
 abbrev pub digest_of : List ℕ → Option Digest
@@ -44,6 +44,13 @@ prove_in words = do
   index ← number_at words 2
   size ← size_at words 3
   Some (Prove index size)
+
+-- the picture that they ask for, as an image or as text
+abbrev pub show_in : List (List ℕ) → Bool → Option Request
+show_in words is_image = do
+  index ← number_at words 2
+  size ← size_at words 3
+  Some (Show index size is_image)
 
 -- the consistency proof that they ask for
 abbrev pub consistency_in : List (List ℕ) → Option Request
@@ -103,6 +110,8 @@ asked word count words =
     else if bytes_eq word (codes "append-lines") then append_lines_in words
     else if bytes_eq word (codes "root") then (if count == 1 || count == 2 then root_in words else None)
     else if bytes_eq word (codes "prove") then (if count == 2 || count == 3 then prove_in words else None)
+    else if bytes_eq word (codes "show") then (if count == 2 || count == 3 then show_in words false else None)
+    else if bytes_eq word (codes "show-image") then (if count == 2 || count == 3 then show_in words true else None)
     else if bytes_eq word (codes "consistency") then (if count == 2 || count == 3 then consistency_in words else None)
     else if bytes_eq word (codes "check") then (if count == 1 then Some Check else None)
     else if bytes_eq word (codes "verify") then (if count == 5 then verify_in words else None)

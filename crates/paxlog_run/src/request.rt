@@ -1,7 +1,7 @@
 //! What the words behind the command's name ask for.
 
 ghost use Rattle.std.specs.Prelude.{◌≡◌, List, [], map, get_or, vec_items};
-ghost use Rattle.paxlog_run.specs.Requests.{after_in, append_in, append_lines_in, asked, consistency_in, digest_at, digest_of, files_from, number_at, prove_in, request_of, root_in, size_at, verify_consistency_in, verify_in};
+ghost use Rattle.paxlog_run.specs.Requests.{after_in, append_in, append_lines_in, asked, consistency_in, digest_at, digest_of, files_from, number_at, prove_in, request_of, root_in, show_in, size_at, verify_consistency_in, verify_in};
 
 use decimals::number_of;
 
@@ -30,6 +30,12 @@ pub enum Request {
     Prove {
         index: usize,
         size: Option<usize>,
+    },
+    Show {
+        index: usize,
+        size: Option<usize>,
+        /// Whether as an image.
+        is_image: bool,
     },
     Consistency {
         old_size: usize,
@@ -113,6 +119,17 @@ fn prove_in(words: &[Vec<u8>]) -> Option<Request>
     Some(Request::Prove {
         index: number_at(words, 2)?,
         size: size_at(words, 3)?,
+    })
+}
+
+// The picture that is asked for.
+fn show_in(words: &[Vec<u8>], is_image: bool) -> Option<Request>
+    ensures { result ≡ show_in (map vec_items words.now) is_image }
+{
+    Some(Request::Show {
+        index: number_at(words, 2)?,
+        size: size_at(words, 3)?,
+        is_image,
     })
 }
 
@@ -222,6 +239,18 @@ fn asked(word: &[u8], count: usize, words: &[Vec<u8>]) -> Option<Request>
     } else if word == b"prove".as_slice() {
         if count == 2 || count == 3 {
             prove_in(words)
+        } else {
+            None
+        }
+    } else if word == b"show".as_slice() {
+        if count == 2 || count == 3 {
+            show_in(words, false)
+        } else {
+            None
+        }
+    } else if word == b"show-image".as_slice() {
+        if count == 2 || count == 3 {
+            show_in(words, true)
         } else {
             None
         }
