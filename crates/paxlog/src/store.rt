@@ -92,22 +92,46 @@ pub fn append(
     }
 }
 
-/// Returns the count and the root of the first entries of the log of a file, of as many as are named, or else of all.
-pub fn root(rt: &HostRuntime, path: &str, named: Option<usize>) -> Result<(usize, [u8; 32]), Stop> {
-    let file = File::open(rt, path)?;
-    Ok(log_store::root(&FileDisk::new(file), named)?)
+// The root of the first entries, one at least: by it the log that the file states continues them.
+fn root_of_first(rt: &HostRuntime, disk: &FileDisk, size: usize) -> Result<[u8; 32], Stop> {
+    Ok(log_store::consistency(rt.alloc(), disk, size, None)?.old_root)
 }
 
-/// Returns the path of the inclusion proof of an index in the first entries of the log of a file, as many as are named, or else
-/// all.
+// Refuses a root of the first entries, of as many as are named, that the log which the file states does not continue.
+fn bind(
+    rt: &HostRuntime,
+    disk: &FileDisk,
+    named: Option<usize>,
+    root: &[u8; 32],
+) -> Result<(), Stop> {
+    match named {
+        Some(size) if size > 0 && root_of_first(rt, disk, size)? != *root => {
+            Err(Stop::Fault(Fault::Damaged))
+        }
+        _ => Ok(()),
+    }
+}
+
+/// Returns the count and the root of the first entries of the log of a file, of as many as are named, or else of all.
+pub fn root(rt: &HostRuntime, path: &str, named: Option<usize>) -> Result<(usize, [u8; 32]), Stop> {
+    let disk = FileDisk::new(File::open(rt, path)?);
+    match named {
+        Some(size) if size > 0 => Ok((size, root_of_first(rt, &disk, size)?)),
+        _ => Ok(log_store::root(&disk, named)?),
+    }
+}
+
+/// Returns the inclusion proof of an index in the first entries of the log of a file, as many as are named, or else all.
 pub fn prove(
     rt: &HostRuntime,
     path: &str,
     index: usize,
     named: Option<usize>,
 ) -> Result<InclusionProof, Stop> {
-    let file = File::open(rt, path)?;
-    Ok(log_store::prove(rt.alloc(), &FileDisk::new(file), index, named)?)
+    let disk = FileDisk::new(File::open(rt, path)?);
+    let proof = log_store::prove(rt.alloc(), &disk, index, named)?;
+    bind(rt, &disk, named, &proof.root)?;
+    Ok(proof)
 }
 
 /// Returns the path of the proof that the first entries of the log of a file, as many as are named, or else all, continue its
@@ -118,6 +142,8 @@ pub fn consistency(
     old_size: usize,
     named: Option<usize>,
 ) -> Result<Vec<[u8; 32]>, Stop> {
-    let file = File::open(rt, path)?;
-    Ok(log_store::consistency(rt.alloc(), &FileDisk::new(file), old_size, named)?.path)
+    let disk = FileDisk::new(File::open(rt, path)?);
+    let proof = log_store::consistency(rt.alloc(), &disk, old_size, named)?;
+    bind(rt, &disk, named, &proof.root)?;
+    Ok(proof.path)
 }
