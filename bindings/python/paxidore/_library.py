@@ -92,6 +92,18 @@ class IndexBeyondSize(Refused, IndexError):
     code = -8
 
 
+class NoLog(Refused, ValueError):
+    """The file is no log's."""
+
+    code = -11
+
+
+class ShortLog(Refused, ValueError):
+    """The file of a log ends before the digests of the log's size."""
+
+    code = -12
+
+
 class OutOfMemory(Refused, MemoryError):
     """A request for memory was refused."""
 
@@ -109,8 +121,13 @@ _KINDS = {
         LengthsError,
         CountError,
         IndexBeyondSize,
+        NoLog,
+        ShortLog,
     )
 }
+
+# the answer that pieces of a file are to be read first
+MORE = -10
 
 
 def _refusal(answer: int) -> Refused:
