@@ -4,8 +4,11 @@
 //! first, and puts their places behind those of the ones that were read. What is to be written is handed over in steps, each a
 //! place and a count of bytes.
 
-ghost use Rattle.std.specs.Prelude.{◌≡◌, ◌<◌, ◌+◌, ◌*◌, ◌^◌};
+ghost use Rattle.std.specs.Prelude.{◌≡◌, ◌≢◌, ◌<◌, ◌+◌, ◌*◌, ◌^◌, pos, negsuc, IfErr, Err};
+ghost use Rattle.paxidore_c.specs.LogFiles.{Asks, call_code};
+ghost use Rattle.paxidore_c.specs.declared.log_file.not_done.NotDone.TheVariants.{More};
 
+mod answers;
 mod asked;
 mod asking;
 mod made;
@@ -14,37 +17,54 @@ mod replay;
 mod ways;
 
 use crate::leaves::digests_of_leaves;
+use crate::log_file::answers::{Growth, growth_of, made_of, path_of, proof_of, root_of, size_of};
 use crate::log_file::asked::{Asked, ask};
-use crate::log_file::made::make;
 use crate::log_file::not_done::NotDone;
-use crate::log_file::replay::Replay;
-use crate::log_file::ways::{consistency, inclusion};
+use crate::log_file::replay::Step;
 use crate::refused::Refused;
 use ark_base::serialize::CanonicalItem;
 use ark_trees::LogHasher;
 use paxlog_run::file::log_in;
 use std::alloc::Global;
+use std::marker::Brand;
 
 // Writes what is to be written to the fronts of the caller's buffers, with their counts.
 fn hand_over_steps(
-    disk: &Replay,
+    alloc: Global,
+    plan: &[Step],
     bytes: &mut [u8],
     bytes_len: &mut usize,
     steps: &mut [[usize; 2]],
     steps_len: &mut usize,
-) -> Result<(), NotDone> {
-    *bytes_len = disk.bytes.len();
-    *steps_len = disk.steps.len();
-    if bytes.len() < disk.bytes.len() || steps.len() < disk.steps.len() {
-        return Err(NotDone::Refused(Refused::Room));
+) -> Result<(), NotDone>
+    ensures { result ≢ Err More }
+{
+    let mut all = Vec::new(alloc);
+    let mut places = Vec::new(alloc);
+    for step in plan {
+        if all.extend_from_slice(&step.bytes).is_err() {
+            return Err(NotDone::Refusal(Refused::Memory));
+        }
+        if places.push([step.at, step.bytes.len()]).is_err() {
+            return Err(NotDone::Refusal(Refused::Memory));
+        }
     }
-    bytes[..disk.bytes.len()].copy_from_slice(&disk.bytes);
-    steps[..disk.steps.len()].copy_from_slice(&disk.steps);
+    *bytes_len = all.len();
+    *steps_len = places.len();
+    if bytes.len() < all.len() || steps.len() < places.len() {
+        return Err(NotDone::Refusal(Refused::Room));
+    }
+    bytes[..all.len()].copy_from_slice(&all);
+    steps[..places.len()].copy_from_slice(&places);
     Ok(())
 }
 
 // The code of a call that was done, or was not.
-fn code_of(done: Result<(), NotDone>) -> i32 {
+fn code_of(done: Result<(), NotDone>) -> i32
+    ensures code { result ≡ call_code done }
+    ensures more { result ≡ negsuc 9 → done ≡ Err More }
+    ensures done { done ≡ Err More → result ≡ negsuc 9 }
+{
     match done {
         Ok(()) => 0,
         Err(not_done) => not_done.code(),
@@ -61,11 +81,22 @@ fn made_in(
     places_len: &mut usize,
     file_len: usize,
     pieces: &[u8],
-) -> Result<(), NotDone> {
+) -> Result<(), NotDone>
+    ensures asked { result ≡ Err More
+        → Asks file_len places_len.old places_len.new places.old places.new }
+    ensures kept { result ≢ Err More → places.new ≡ places.old }
+    ensures uncounted { result ≢ Err More → places_len.new ≡ places_len.old }
+{
     ask(alloc, Asked::Made, file_len, places, places_len, pieces)?;
-    let mut disk = Replay::new(alloc, file_len, &places[..*places_len], pieces);
-    make(&mut disk)?;
-    hand_over_steps(&disk, bytes, bytes_len, steps, steps_len)
+    let mut plan = made_of::<Brand>(alloc, file_len, &places[..*places_len], pieces)?;
+    if plan.is_empty() {
+        // a sync alone
+        plan.push(Step {
+            at: 0,
+            bytes: Vec::new(alloc),
+        })?;
+    }
+    hand_over_steps(alloc, &plan, bytes, bytes_len, steps, steps_len)
 }
 
 /// Returns how many bytes are enough for what is to be written for so many entries more.
@@ -90,7 +121,12 @@ pub extern "C" fn paxidore_log_file_make(
     places_len: &mut usize,
     file_len: usize,
     pieces: &[u8],
-) -> i32 {
+) -> i32
+    ensures asked { result ≡ negsuc 9
+        → Asks file_len places_len.old places_len.new places.old places.new }
+    ensures kept { result ≢ negsuc 9 → places.new ≡ places.old }
+    ensures uncounted { result ≢ negsuc 9 → places_len.new ≡ places_len.old }
+{
     code_of(made_in(
         alloc, bytes, bytes_len, steps, steps_len, places, places_len, file_len, pieces,
     ))
@@ -103,9 +139,15 @@ fn size_in(
     places_len: &mut usize,
     file_len: usize,
     pieces: &[u8],
-) -> Result<(), NotDone> {
+) -> Result<(), NotDone>
+    ensures asked { result ≡ Err More
+        → Asks file_len places_len.old places_len.new places.old places.new }
+    ensures kept { result ≢ Err More → places.new ≡ places.old }
+    ensures uncounted { result ≢ Err More → places_len.new ≡ places_len.old }
+    ensures size_kept { IfErr result (λ _. size.new ≡ size.old) }
+{
     ask(alloc, Asked::Size, file_len, places, places_len, pieces)?;
-    *size = log_store::size(&Replay::new(alloc, file_len, &places[..*places_len], pieces))?;
+    *size = size_of::<Brand>(alloc, file_len, &places[..*places_len], pieces)?;
     Ok(())
 }
 
@@ -118,7 +160,13 @@ pub extern "C" fn paxidore_log_file_size(
     places_len: &mut usize,
     file_len: usize,
     pieces: &[u8],
-) -> i32 {
+) -> i32
+    ensures asked { result ≡ negsuc 9
+        → Asks file_len places_len.old places_len.new places.old places.new }
+    ensures kept { result ≢ negsuc 9 → places.new ≡ places.old }
+    ensures uncounted { result ≢ negsuc 9 → places_len.new ≡ places_len.old }
+    ensures size_kept { result ≢ pos 0 → size.new ≡ size.old }
+{
     code_of(size_in(alloc, size, places, places_len, file_len, pieces))
 }
 
@@ -130,7 +178,13 @@ fn root_in(
     file_len: usize,
     pieces: &[u8],
     size: usize,
-) -> Result<(), NotDone> {
+) -> Result<(), NotDone>
+    ensures asked { result ≡ Err More
+        → Asks file_len places_len.old places_len.new places.old places.new }
+    ensures kept { result ≢ Err More → places.new ≡ places.old }
+    ensures uncounted { result ≢ Err More → places_len.new ≡ places_len.old }
+    ensures root_kept { IfErr result (λ _. root.new ≡ root.old) }
+{
     ask(
         alloc,
         Asked::Root(size),
@@ -139,8 +193,7 @@ fn root_in(
         places_len,
         pieces,
     )?;
-    let disk = Replay::new(alloc, file_len, &places[..*places_len], pieces);
-    *root = log_store::root(&disk, Some(size))?.1;
+    *root = root_of::<Brand>(alloc, file_len, &places[..*places_len], pieces, size)?;
     Ok(())
 }
 
@@ -154,7 +207,13 @@ pub extern "C" fn paxidore_log_file_root(
     file_len: usize,
     pieces: &[u8],
     size: usize,
-) -> i32 {
+) -> i32
+    ensures asked { result ≡ negsuc 9
+        → Asks file_len places_len.old places_len.new places.old places.new }
+    ensures kept { result ≢ negsuc 9 → places.new ≡ places.old }
+    ensures uncounted { result ≢ negsuc 9 → places_len.new ≡ places_len.old }
+    ensures root_kept { result ≢ pos 0 → root.new ≡ root.old }
+{
     code_of(root_in(alloc, root, places, places_len, file_len, pieces, size))
 }
 
@@ -171,23 +230,34 @@ fn append_in(
     pieces: &[u8],
     entries: &[u8],
     lengths: &[usize],
-) -> Result<(), NotDone> {
+) -> Result<(), NotDone>
+    ensures asked { result ≡ Err More
+        → Asks file_len places_len.old places_len.new places.old places.new }
+    ensures kept { result ≢ Err More → places.new ≡ places.old }
+    ensures uncounted { result ≢ Err More → places_len.new ≡ places_len.old }
+    ensures size_kept { IfErr result (λ _. size.new ≡ size.old) }
+{
     let asked = if lengths.is_empty() {
         Asked::Size
     } else {
         Asked::Growth
     };
     ask(alloc, asked, file_len, places, places_len, pieces)?;
-    let mut disk = Replay::new(alloc, file_len, &places[..*places_len], pieces);
+    let read = &places[..*places_len];
     let digests = digests_of_leaves::<LogHasher>(alloc, entries, lengths)?;
-    let grown = if digests.is_empty() {
-        log_store::size(&disk)?
+    let growth = if digests.is_empty() {
+        Growth {
+            size: size_of::<Brand>(alloc, file_len, read, pieces)?,
+            steps: Vec::new(alloc),
+        }
     } else {
-        log_store::append(alloc, &mut disk, &digests)?
+        growth_of::<Brand>(alloc, file_len, read, pieces, &digests)?
     };
-    hand_over_steps(&disk, bytes, bytes_len, steps, steps_len)?;
-    *size = grown;
-    Ok(())
+    let handed = hand_over_steps(alloc, &growth.steps, bytes, bytes_len, steps, steps_len);
+    if handed.is_ok() {
+        *size = growth.size;
+    }
+    handed
 }
 
 /// Hands over what is to be written to the file of a log to append entries, and writes the new size.
@@ -205,7 +275,13 @@ pub extern "C" fn paxidore_log_file_append(
     pieces: &[u8],
     entries: &[u8],
     lengths: &[usize],
-) -> i32 {
+) -> i32
+    ensures asked { result ≡ negsuc 9
+        → Asks file_len places_len.old places_len.new places.old places.new }
+    ensures kept { result ≢ negsuc 9 → places.new ≡ places.old }
+    ensures uncounted { result ≢ negsuc 9 → places_len.new ≡ places_len.old }
+    ensures size_kept { result ≢ pos 0 → size.new ≡ size.old }
+{
     code_of(append_in(
         alloc, bytes, bytes_len, steps, steps_len, size, places, places_len, file_len, pieces,
         entries, lengths,
@@ -218,14 +294,16 @@ fn hand_over_digests(
     digests: &[[u8; 32]],
     buffer: &mut [u8],
     count: &mut usize,
-) -> Result<(), NotDone> {
+) -> Result<(), NotDone>
+    ensures { result ≢ Err More }
+{
     let mut bytes = Vec::new(alloc);
     if <[u8; 32]>::serialize_items(digests, &mut bytes).is_err() {
-        return Err(NotDone::Refused(Refused::Memory));
+        return Err(NotDone::Refusal(Refused::Memory));
     }
     *count = bytes.len();
     if buffer.len() < bytes.len() {
-        return Err(NotDone::Refused(Refused::Room));
+        return Err(NotDone::Refusal(Refused::Room));
     }
     buffer[..bytes.len()].copy_from_slice(&bytes);
     Ok(())
@@ -241,11 +319,16 @@ fn inclusion_in(
     pieces: &[u8],
     index: usize,
     size: usize,
-) -> Result<(), NotDone> {
+) -> Result<(), NotDone>
+    ensures asked { result ≡ Err More
+        → Asks file_len places_len.old places_len.new places.old places.new }
+    ensures kept { result ≢ Err More → places.new ≡ places.old }
+    ensures uncounted { result ≢ Err More → places_len.new ≡ places_len.old }
+{
     let asked = Asked::Inclusion(index, size);
     ask(alloc, asked, file_len, places, places_len, pieces)?;
-    let disk = Replay::new(alloc, file_len, &places[..*places_len], pieces);
-    let digests = inclusion(alloc, &disk, index, size)?;
+    let read = &places[..*places_len];
+    let digests = path_of::<Brand>(alloc, file_len, read, pieces, index, size)?;
     hand_over_digests(alloc, &digests, path, path_len)
 }
 
@@ -261,7 +344,12 @@ pub extern "C" fn paxidore_log_file_inclusion(
     pieces: &[u8],
     size: usize,
     index: usize,
-) -> i32 {
+) -> i32
+    ensures asked { result ≡ negsuc 9
+        → Asks file_len places_len.old places_len.new places.old places.new }
+    ensures kept { result ≢ negsuc 9 → places.new ≡ places.old }
+    ensures uncounted { result ≢ negsuc 9 → places_len.new ≡ places_len.old }
+{
     code_of(inclusion_in(
         alloc, path, path_len, places, places_len, file_len, pieces, index, size,
     ))
@@ -277,11 +365,16 @@ fn consistency_in(
     pieces: &[u8],
     old_size: usize,
     size: usize,
-) -> Result<(), NotDone> {
+) -> Result<(), NotDone>
+    ensures asked { result ≡ Err More
+        → Asks file_len places_len.old places_len.new places.old places.new }
+    ensures kept { result ≢ Err More → places.new ≡ places.old }
+    ensures uncounted { result ≢ Err More → places_len.new ≡ places_len.old }
+{
     let asked = Asked::Consistency(old_size, size);
     ask(alloc, asked, file_len, places, places_len, pieces)?;
-    let disk = Replay::new(alloc, file_len, &places[..*places_len], pieces);
-    let digests = consistency(alloc, &disk, old_size, size)?;
+    let read = &places[..*places_len];
+    let digests = proof_of::<Brand>(alloc, file_len, read, pieces, old_size, size)?;
     hand_over_digests(alloc, &digests, proof, proof_len)
 }
 
@@ -298,7 +391,12 @@ pub extern "C" fn paxidore_log_file_consistency(
     pieces: &[u8],
     old_size: usize,
     size: usize,
-) -> i32 {
+) -> i32
+    ensures asked { result ≡ negsuc 9
+        → Asks file_len places_len.old places_len.new places.old places.new }
+    ensures kept { result ≢ negsuc 9 → places.new ≡ places.old }
+    ensures uncounted { result ≢ negsuc 9 → places_len.new ≡ places_len.old }
+{
     code_of(consistency_in(
         alloc, proof, proof_len, places, places_len, file_len, pieces, old_size, size,
     ))

@@ -1,6 +1,9 @@
 //! What a call on a log's file asks for, and which pieces of the file are to be read for it.
 
-ghost use Rattle.std.specs.Prelude.{◌≡◌, ◌≤◌, length, OnOk};
+ghost use Rattle.std.specs.Prelude.{◌≡◌, ◌≢◌, ◌≤◌, ◌+◌, length, take, OnOk, Err};
+ghost use Rattle.std.specs.List.{between, list_all};
+ghost use Rattle.paxidore_c.specs.LogFiles.{Asks, lies_within};
+ghost use Rattle.paxidore_c.specs.declared.log_file.not_done.NotDone.TheVariants.{More};
 
 use crate::log_file::asking::Asking;
 use crate::log_file::made::make;
@@ -57,6 +60,28 @@ fn are_pieces(places: &[[usize; 2]], pieces: &[u8]) -> bool {
     left == 0
 }
 
+// Whether each piece lies within so many bytes.
+fn are_inside(places: &[[usize; 2]], file_len: usize) -> bool
+    ensures { result ≡ list_all (lies_within file_len) places.now }
+{
+    for piece in places {
+        if piece[0] > file_len || piece[1] > file_len - piece[0] {
+            return false;
+        }
+    }
+    true
+}
+
+// Puts places behind the first ones.
+fn put_places(places: &mut [[usize; 2]], count: usize, more: &[[usize; 2]])
+    requires { count + length more.now ≤ length places.old }
+    ensures same { take count places.new ≡ take count places.old }
+    ensures put { between count (count + length more.now) places.new ≡ more.now }
+    ensures room { length places.new ≡ length places.old }
+{
+    places[count..count + more.len()].copy_from_slice(more);
+}
+
 /// Puts the places of the pieces that are to be read first behind those that were read.
 ///
 /// Errors: `Room` where there is none for the first of them, `Lengths` where the pieces have not as many bytes as their places
@@ -70,15 +95,17 @@ pub fn ask(
     pieces: &[u8],
 ) -> Result<(), NotDone>
     ensures room { OnOk result (places_len.new ≤ length places.new) }
-    ensures kept { OnOk result (places.new ≡ places.old) }
-    ensures counted { OnOk result (places_len.new ≡ places_len.old) }
+    ensures asked { result ≡ Err More
+        → Asks file_len places_len.old places_len.new places.old places.new }
+    ensures kept { result ≢ Err More → places.new ≡ places.old }
+    ensures uncounted { result ≢ Err More → places_len.new ≡ places_len.old }
 {
     let read = *places_len;
     if read > places.len() {
-        return Err(NotDone::Refused(Refused::Room));
+        return Err(NotDone::Refusal(Refused::Room));
     }
     if !are_pieces(&places[..read], pieces) {
-        return Err(NotDone::Refused(Refused::Lengths));
+        return Err(NotDone::Refusal(Refused::Lengths));
     }
     let mut disk = Asking::new(alloc, file_len, &places[..read], pieces);
     asked.try_on(alloc, &mut disk);
@@ -88,9 +115,12 @@ pub fn ask(
     }
     let count = missing.len().min(places.len() - read);
     if count == 0 {
-        return Err(NotDone::Refused(Refused::Room));
+        return Err(NotDone::Refusal(Refused::Room));
     }
-    places[read..read + count].copy_from_slice(&missing[..count]);
+    if !are_inside(&missing[..count], file_len) {
+        return Err(NotDone::Refusal(Refused::Other));
+    }
+    put_places(places, read, &missing[..count]);
     *places_len = read + count;
     Err(NotDone::More)
 }

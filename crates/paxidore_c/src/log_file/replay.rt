@@ -1,7 +1,11 @@
 //! A disk that answers from what a caller has read of a file, and notes what the caller is to write there.
 
+ghost use Rattle.std.specs.Prelude.{◌≡◌, ◌+◌, ◌≤◌, ◌++◌, ◌∷◌, List, [], ℕ, length, take, drop, true, if◌then◌else◌};
+ghost use Rattle.paxidore_c.specs.Plan.{IsReadOf};
+
 use log_store::Disk;
 use std::alloc::Global;
+use std::marker::{Brand, Model, PhantomData};
 
 /// Why a call on a log's file stops.
 #[derive(Clone, Copy, Debug, PartialEq, Eq)]
@@ -14,39 +18,116 @@ pub enum Halt {
     Memory,
 }
 
-/// A file of so many bytes, of which some pieces were read, and what is to be written there, in steps.
-///
-/// A piece and a step are a place and a count, and so many bytes, which stand one behind the other. What a step writes is synced
-/// before the next one; a step of no bytes syncs alone.
+/// The file of a caller, whole, of which only some pieces are read.
+pub trait Held {
+    ghost file: { List ℕ };
+
+    // The places of the pieces, and their bytes.
+    ghost places: { List (List ℕ) };
+
+    ghost pieces: { List ℕ };
+
+    // How many bytes the caller says that the file has.
+    ghost size: { ℕ };
+}
+
+impl Held for Brand {
+    ghost use Rattle.std.specs.Prelude.{[]};
+
+    ghost file = { [] };
+
+    ghost places = { [] };
+
+    ghost pieces = { [] };
+
+    ghost size = { 0 };
+}
+
+/// Bytes that are to be written at a place, and synced before any others are written.
 #[derive(Drop)]
-pub struct Replay<'a> {
-    file_len: usize,
-    places: &'a [[usize; 2]],
-    pieces: &'a [u8],
-    pub steps: Vec<[usize; 2]>,
+pub struct Step {
+    pub at: usize,
     pub bytes: Vec<u8>,
 }
 
-impl<'a> Replay<'a> {
+/// A file of so many bytes, of which some pieces were read, and what is to be written there, in steps.
+///
+/// A piece is a place and a count, and so many bytes, which stand one behind the other.
+#[derive(Drop)]
+pub struct Replay<'a, F: Held> {
+    alloc: Global,
+    file_len: usize,
+    places: &'a [[usize; 2]],
+    pieces: &'a [u8],
+    steps: Vec<Step>,
+    // how many steps are synced
+    done: usize,
+    of: PhantomData<F>,
+}
+
+impl<'a, F: Held> Model for Replay<'a, F> {
+    ghost use Rattle.std.specs.Prelude.{◌≡◌, ◌≤◌, length};
+    ghost use Rattle.paxidore_c.specs.Plan.{Noted};
+
+    ghost Value = { Noted };
+
+    ghost view = { λ disk. record {
+      steps = disk.steps.items;
+      done = disk.done;
+    } };
+
+    ghost invariant = { λ disk. (disk.places.now ≡ F.places) × (disk.pieces.now ≡ F.pieces)
+        × (disk.file_len ≡ F.size) × (disk.done ≤ length disk.steps.items) };
+}
+
+impl<'a, F: Held> Replay<'a, F> {
     /// Returns the disk, to which nothing is to be written so far.
     pub fn new(
         alloc: Global,
         file_len: usize,
         places: &'a [[usize; 2]],
         pieces: &'a [u8],
-    ) -> Replay<'a> {
+    ) -> Replay<'a, F>
+        requires places { places.now ≡ F.places }
+        requires pieces { pieces.now ≡ F.pieces }
+        requires size { file_len ≡ F.size }
+        ensures nothing { result.steps ≡ [] }
+        ensures start { result.done ≡ 0 }
+    {
         Replay {
+            alloc,
             file_len,
             places,
             pieces,
             steps: Vec::new(alloc),
-            bytes: Vec::new(alloc),
+            done: 0,
+            of: PhantomData,
         }
+    }
+
+    // Notes a step, and returns whether there was memory for it.
+    fn put_step(&mut self, step: Step) -> bool
+        ensures steps { self.new.steps ≡ (if result then self.old.steps ++ step ∷ []
+            else self.old.steps) }
+        ensures done { self.new.done ≡ self.old.done }
+    {
+        self.steps.push(step).is_ok()
+    }
+
+    /// Returns what is to be written.
+    pub fn into_steps(self) -> Vec<Step>
+        ensures { result.items ≡ self.entry.steps }
+    {
+        self.steps
     }
 }
 
 /// Copies the bytes of a range from a piece that has it, and returns whether one has.
-pub fn copy_piece(places: &[[usize; 2]], pieces: &[u8], at: usize, into: &mut [u8]) -> bool {
+pub fn copy_piece(places: &[[usize; 2]], pieces: &[u8], at: usize, into: &mut [u8]) -> bool
+    // Where the pieces are those of a file, they are the file's.
+    ensures { result ≡ true → (file : List ℕ) → IsReadOf places.now pieces.now file
+        → into.new ≡ take (length into.old) (drop at file) }
+{
     let mut rest = pieces;
     for piece in places {
         let (place, count) = (piece[0], piece[1]);
@@ -54,8 +135,7 @@ pub fn copy_piece(places: &[[usize; 2]], pieces: &[u8], at: usize, into: &mut [u
             return false;
         }
         if place <= at && at - place <= count && into.len() <= count - (at - place) {
-            let from = at - place;
-            into.copy_from_slice(&rest[from..from + into.len()]);
+            copy_part(&rest[..count], at - place, into);
             return true;
         }
         rest = &rest[count..];
@@ -63,28 +143,47 @@ pub fn copy_piece(places: &[[usize; 2]], pieces: &[u8], at: usize, into: &mut [u
     false
 }
 
-impl<'a> Disk for Replay<'a> {
-    ghost use Rattle.std.specs.Prelude.{[]};
+// How many steps there are.
+fn count(steps: &[Step]) -> usize
+    ensures { result ≡ length steps.now }
+{
+    steps.len()
+}
+
+// Copies bytes from a place on.
+fn copy_part(bytes: &[u8], at: usize, into: &mut [u8])
+    requires { at + length into.old ≤ length bytes.now }
+    ensures { into.new ≡ take (length into.old) (drop at bytes.now) }
+{
+    into.copy_from_slice(&bytes[at..at + into.len()]);
+}
+
+impl<'a, F: Held> Disk for Replay<'a, F> {
+    ghost use Rattle.std.specs.Prelude.{◌≡◌, length, take, drop};
+    ghost use Rattle.paxidore_c.specs.Plan.{IsReadOf, IsStopped, carried};
 
     type Refusal = Halt;
 
-    ghost Obeys = { λ _. ⊥ };
+    ghost Obeys = { λ _. IsReadOf F.places F.pieces F.file × (F.size ≡ length F.file) };
 
-    ghost seen = { λ _. [] };
+    ghost seen = { λ disk. carried disk.steps F.file };
 
-    ghost may_leave = { λ _ _. ⊥ };
+    ghost may_leave = { λ disk left. IsStopped (drop disk.done disk.steps)
+        (carried (take disk.done disk.steps) F.file) left };
 
-    ghost moment = { λ _. 0 };
+    ghost moment = { λ disk. disk.done };
 
-    ghost left_since = { λ _ _ _. ⊥ };
+    ghost left_since = { λ disk since left. IsStopped (drop since disk.steps)
+        (carried (take since disk.steps) F.file) left };
 
     ghost only_now = { λ _ _ since. since };
 
     fn length(&self) -> Result<usize, Halt> {
-        if !self.steps.is_empty() {
-            return Err(Halt::Ended);
+        if self.steps.is_empty() {
+            Ok(self.file_len)
+        } else {
+            Err(Halt::Ended)
         }
-        Ok(self.file_len)
     }
 
     fn read_at(&self, at: usize, into: &mut [u8]) -> Result<(), Halt> {
@@ -99,23 +198,18 @@ impl<'a> Disk for Replay<'a> {
     }
 
     fn write_at(&mut self, at: usize, bytes: &[u8]) -> Result<(), Halt> {
-        if self.bytes.extend_from_slice(bytes).is_err() {
+        let Ok(bytes) = Vec::from_slice(self.alloc, bytes) else {
+            return Err(Halt::Memory);
+        };
+        if !self.put_step(Step { at, bytes }) {
             return Err(Halt::Memory);
         }
-        match self.steps.push([at, bytes.len()]) {
-            Ok(()) => Ok(()),
-            Err(_) => Err(Halt::Memory),
-        }
+        Ok(())
     }
 
+    // The caller syncs what a step writes before the next one.
     fn sync(&mut self) -> Result<(), Halt> {
-        if !self.steps.is_empty() {
-            // what a step writes is synced before the next one
-            return Ok(());
-        }
-        match self.steps.push([0, 0]) {
-            Ok(()) => Ok(()),
-            Err(_) => Err(Halt::Memory),
-        }
+        self.done = count(&self.steps);
+        Ok(())
     }
 }
