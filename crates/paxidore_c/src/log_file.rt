@@ -11,14 +11,18 @@ ghost use Rattle.paxidore_c.specs.declared.log_file.not_done.NotDone.TheVariants
 mod answers;
 mod asked;
 mod asking;
+mod grown;
+mod handed;
 mod made;
 mod not_done;
 mod replay;
 mod ways;
 
 use crate::leaves::digests_of_leaves;
-use crate::log_file::answers::{Growth, growth_of, made_of, path_of, proof_of, root_of, size_of};
+use crate::log_file::answers::{made_of, path_of, proof_of, root_of, size_of};
 use crate::log_file::asked::{Asked, ask};
+use crate::log_file::grown::hand_over_growth;
+use crate::log_file::handed::hand_over_steps;
 use crate::log_file::not_done::NotDone;
 use crate::log_file::replay::Step;
 use crate::refused::Refused;
@@ -27,37 +31,6 @@ use ark_trees::LogHasher;
 use paxlog_run::file::log_in;
 use std::alloc::Global;
 use std::marker::Brand;
-
-// Writes what is to be written to the fronts of the caller's buffers, with their counts.
-fn hand_over_steps(
-    alloc: Global,
-    plan: &[Step],
-    bytes: &mut [u8],
-    bytes_len: &mut usize,
-    steps: &mut [[usize; 2]],
-    steps_len: &mut usize,
-) -> Result<(), NotDone>
-    ensures { result ≢ Err More }
-{
-    let mut all = Vec::new(alloc);
-    let mut places = Vec::new(alloc);
-    for step in plan {
-        if all.extend_from_slice(&step.bytes).is_err() {
-            return Err(NotDone::Refusal(Refused::Memory));
-        }
-        if places.push([step.at, step.bytes.len()]).is_err() {
-            return Err(NotDone::Refusal(Refused::Memory));
-        }
-    }
-    *bytes_len = all.len();
-    *steps_len = places.len();
-    if bytes.len() < all.len() || steps.len() < places.len() {
-        return Err(NotDone::Refusal(Refused::Room));
-    }
-    bytes[..all.len()].copy_from_slice(&all);
-    steps[..places.len()].copy_from_slice(&places);
-    Ok(())
-}
 
 // The code of a call that was done, or was not.
 fn code_of(done: Result<(), NotDone>) -> i32
@@ -245,19 +218,15 @@ fn append_in(
     ask(alloc, asked, file_len, places, places_len, pieces)?;
     let read = &places[..*places_len];
     let digests = digests_of_leaves::<LogHasher>(alloc, entries, lengths)?;
-    let growth = if digests.is_empty() {
-        Growth {
-            size: size_of::<Brand>(alloc, file_len, read, pieces)?,
-            steps: Vec::new(alloc),
-        }
-    } else {
-        growth_of::<Brand>(alloc, file_len, read, pieces, &digests)?
-    };
-    let handed = hand_over_steps(alloc, &growth.steps, bytes, bytes_len, steps, steps_len);
-    if handed.is_ok() {
-        *size = growth.size;
+    if !digests.is_empty() {
+        return hand_over_growth::<Brand>(
+            alloc, bytes, bytes_len, steps, steps_len, size, read, file_len, pieces, &digests,
+        );
     }
-    handed
+    let own = size_of::<Brand>(alloc, file_len, read, pieces)?;
+    hand_over_steps(alloc, &[], bytes, bytes_len, steps, steps_len)?;
+    *size = own;
+    Ok(())
 }
 
 /// Hands over what is to be written to the file of a log to append entries, and writes the new size.
