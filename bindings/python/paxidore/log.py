@@ -107,6 +107,8 @@ class _Memory:
 class _File:
     """A log in a file. The library says what is to be read of it and what is to be written, and this class does that."""
 
+    file = -1
+
     def __init__(self, path: "os.PathLike[str] | str", read_only: bool, wait: float) -> None:
         self.read_only = read_only
         self.is_unknown = False
@@ -221,6 +223,18 @@ class _File:
         return answer
 
     def close(self) -> None:
+        file = self.file
+        if file >= 0 and not self.read_only:
+            # the lock would last while a process that was forked meanwhile has the file too
+            fcntl.flock(file, fcntl.LOCK_UN)
+        self.leave()
+
+    def __del__(self) -> None:
+        # at the end of the interpreter its modules may be gone, and the system closes what is open
+        if self.file >= 0 and os is not None and fcntl is not None:
+            self.close()
+
+    def leave(self) -> None:
         file, self.file = self.file, -1
         if file >= 0:
             os.close(file)
@@ -232,7 +246,7 @@ _files: "weakref.WeakSet[_File]" = weakref.WeakSet()
 def _leave_files() -> None:
     # a forked process has its parent's locks as well: it lets go of them, so that they are the parent's alone
     for file in list(_files):
-        file.close()
+        file.leave()
 
 
 os.register_at_fork(after_in_child=_leave_files)

@@ -592,6 +592,11 @@ class InFile(unittest.TestCase):
                 self.assertRaises(paxidore.NoLog, Log.open, other, read_only=True)
                 Log.open(self.path, read_only=True).close()
             log.append([b"one"])
+        # one that is not closed
+        Log.open(self.path).append([b"two"])
+        Log.open(self.path, read_only=True).root()
+        self.assertRaises(NotADirectoryError, Log.open, other + "/none")
+        self.assertEqual(len(Log.open(self.path)), 2)
         self.assertEqual(sorted(os.listdir("/proc/self/fd")), before)
 
     def test_each_crash(self):

@@ -39,10 +39,6 @@ struct Plan {
     bytes: Vec<u8>,
 }
 
-fn other(why: &str) -> io::Error {
-    io::Error::new(io::ErrorKind::Other, why)
-}
-
 // Locks a file, and waits for its lock at most until then.
 fn lock(file: &File, until: Instant) -> io::Result<()> {
     loop {
@@ -127,7 +123,10 @@ impl LogFile {
     // Makes a call, for which the pieces of the file are read that it asks for.
     fn asking(&self, mut call: impl FnMut(&mut Pieces) -> i32) -> Result<(), LogError> {
         if self.is_unknown {
-            return Err(other("an append to the file of this log failed: open it again").into());
+            return Err(io::Error::other(
+                "an append to the file of this log failed: open it again",
+            )
+            .into());
         }
         let mut pieces = Pieces {
             places: [[0; 2]; PIECES],
@@ -222,12 +221,13 @@ impl LogFile {
 
     pub(crate) fn append(&mut self, own: usize, flat: &Flat) -> Result<usize, LogError> {
         if self.reads_only {
-            return Err(other("the log is open for reading only").into());
+            return Err(io::Error::other("the log is open for reading only").into());
         }
         if self.process != std::process::id() {
-            return Err(
-                other("the log was opened before the process was forked: open it again").into(),
-            );
+            return Err(io::Error::other(
+                "the log was opened before the process was forked: open it again",
+            )
+            .into());
         }
         let mut size = own;
         let plan = self.planned(room(flat.lengths.len()), |plan, counts, pieces| {
@@ -341,6 +341,16 @@ impl LogFile {
         // SAFETY: as in `made`.
         let answer = unsafe { sys::paxidore_log_file_check(whole.as_ptr(), whole.len()) };
         Ok(verdict(answer)?)
+    }
+}
+
+impl Drop for LogFile {
+    // The lock would last while a process that was forked meanwhile has the file too.
+    fn drop(&mut self) {
+        if !self.reads_only && self.process == std::process::id() {
+            // SAFETY: the descriptor is that of an open file.
+            unsafe { sys::flock(self.file.as_raw_fd(), sys::LOCK_UN) };
+        }
     }
 }
 

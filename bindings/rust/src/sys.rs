@@ -347,6 +347,7 @@ extern "C" {
 // Of the system: a lock on an open file, which one process has.
 pub const LOCK_EX: c_int = 2;
 pub const LOCK_NB: c_int = 4;
+pub const LOCK_UN: c_int = 8;
 
 extern "C" {
     pub fn flock(file: c_int, operation: c_int) -> c_int;

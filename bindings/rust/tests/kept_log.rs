@@ -2,8 +2,9 @@
 
 use paxidore::{sha256, Digest, Log, LogError, Refused};
 use std::fs;
-use std::io::ErrorKind;
+use std::io::{ErrorKind, Write};
 use std::path::PathBuf;
+use std::process::{Command, Stdio};
 use std::time::{Duration, Instant};
 
 fn entries(count: usize) -> Vec<Vec<u8>> {
@@ -375,5 +376,55 @@ fn a_new_log_of_several_threads() -> Result<(), LogError> {
         fs::remove_file(room.log())?;
     }
     assert_eq!(fs::read_dir(&room.0)?.count(), 0);
+    Ok(())
+}
+
+// What the process that is killed does; in a run of all tests it does nothing.
+#[test]
+fn appends_until_it_is_killed() -> Result<(), LogError> {
+    let Some(path) = std::env::var_os("PAXIDORE_LOG_TO_KILL") else {
+        return Ok(());
+    };
+    let mut log = Log::open(path)?;
+    loop {
+        let size = log.append(&[log.len().to_string(), "and another".into()])?;
+        std::io::stdout().write_all(format!("size {size}\n").as_bytes())?;
+    }
+}
+
+#[test]
+fn killed_while_it_appends() -> Result<(), LogError> {
+    let room = Room::new("killed");
+    let mut size = 0;
+    for turn in 0..60 {
+        let mut child = Command::new(std::env::current_exe()?)
+            .args(["--exact", "appends_until_it_is_killed", "--nocapture"])
+            .env("PAXIDORE_LOG_TO_KILL", room.log())
+            .stdout(Stdio::piped())
+            .spawn()?;
+        std::thread::sleep(Duration::from_micros(3000 + 137 * turn));
+        child.kill()?;
+        let said = String::from_utf8_lossy(&child.wait_with_output()?.stdout).into_owned();
+        // the last line may be cut
+        let told = said
+            .lines()
+            .filter(|line| said.contains(&format!("{line}\n")));
+        let acknowledged = told
+            .filter_map(|line| line.strip_prefix("size ")?.parse().ok())
+            .last()
+            .unwrap_or(size);
+        let log = Log::open(room.log())?;
+        // of the append that was under way all or nothing
+        assert!([acknowledged, acknowledged + 2].contains(&log.len()));
+        let entry = |i: usize| match i % 2 {
+            0 => i.to_string(),
+            _ => "and another".to_string(),
+        };
+        let leaves: Vec<Vec<u8>> = (0..log.len()).map(|i| entry(i).into_bytes()).collect();
+        assert_eq!(log.root(log.len())?, mth(&digests(&leaves)));
+        assert!(log.check()?);
+        size = log.len();
+    }
+    assert!(size > 0);
     Ok(())
 }
