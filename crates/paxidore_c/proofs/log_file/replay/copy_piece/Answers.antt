@@ -1,4 +1,4 @@
-use Rattle.std.proofs.Common.{◌≡◌, ◌-◌, ◌∙◌, [], length, take, drop, get_or, ap, arith}
+use Rattle.std.proofs.Common.{◌∙◌, [], length, take, drop, get_or, ap, arith}
 use Rattle.paxidore_c.proofs.Plans.{piece-of, piece-read}
 use Rattle.paxidore_c.proofs.log_file.replay.copy_piece.Goals as goal
 

@@ -1,5 +1,4 @@
-use Rattle.std.proofs.Common.{◌≤◌, ◌∷◌, [], ◌∙◌, ap, length, sym, subst}
-use Rattle.log_store.specs.Disk.{Torn}
+use Rattle.std.proofs.Common.{◌≤◌, ◌∷◌, [], ◌∙◌, ap, length, subst}
 use Rattle.paxlog_run.specs.LogFile.{written}
 use Rattle.paxidore_c.specs.Plan.{carried}
 use Rattle.paxidore_c.specs.declared.log_file.replay.Step.{Step}
