@@ -1,2 +1,3 @@
 -- The laws of Bowe-Hopwood hashes.
 pub mod BoweHopwood
+pub mod Nodes

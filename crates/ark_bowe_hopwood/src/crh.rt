@@ -110,6 +110,9 @@ where
 
     /// Returns parameters of generators as `create_generators` makes them.
     ///
+    /// The seed of `rng` may be known to all where a draw tells no logarithm, as over `Jubjub`; a label shows besides
+    /// that nobody chose it (`bowe_hopwood_from_label`).
+    ///
     /// Errors: `WindowTooLarge`, where four times the sum of the powers of 16 below a window's size passes half of the
     /// order less one; `OutOfMemory`.
     fn setup<R: Rng>(alloc: Global, rng: &mut R) -> Result<Parameters<G>, Error>

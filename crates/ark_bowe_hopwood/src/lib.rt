@@ -4,6 +4,7 @@
 mod binding;
 mod bits;
 mod crh;
+mod node;
 mod parameters;
 mod setup;
 mod sums;
@@ -13,6 +14,7 @@ mod two_to_one;
 pub use binding::hashes_bind;
 pub use bits::hash_bits;
 pub use crh::{CRH, parameters_of};
+pub use node::{NodeCRH, NodeParameters, hash_node};
 pub use parameters::Parameters;
 pub use setup::is_fitting;
 pub use two_to_one::TwoToOneCRH;

@@ -15,6 +15,7 @@ pub use Rattle.ark_groups.specs.Bits.{bits_of_number}
 pub use Rattle.ark_groups.specs.Words.{number}
 pub use Rattle.ark_groups.specs.Group.{Group, IsCommutativeGroup, times}
 pub use Rattle.ark_wide_fields.specs.Moduli.{AreFourWords, IsWide, value_of}
+pub use Rattle.ark_wide_fields.specs.Laws.Moduli.{written_wide}
 -- Jubjub
 pub use Rattle.jubjub.specs.Edwards.{Coordinates, IsOnCurve, edwards}
 pub use Rattle.jubjub.specs.Jubjub.{IsInSubgroup, IsOnJubjub, base_point, curve as jubjub_curve, order as jubjub_order}
@@ -24,7 +25,7 @@ pub use Rattle.jubjub.specs.Theorems.{ElementsAreCoordinates, HasOrder, HasPrime
 pub use Rattle.jubjub.specs.Theorems.{QuotientsAreRight}
 -- what a sponge absorbs, and sponges
 pub use Rattle.ark_absorb.specs.Appending.{AppendsBytes, AppendsElements}
-pub use Rattle.ark_absorb.specs.Elements.{AreShort, Elements, packed_elements, text_bytes}
+pub use Rattle.ark_absorb.specs.Elements.{AreShort, Elements, elements_then, number_element, packed_elements, text_bytes}
 pub use Rattle.ark_sponge.specs.Mode.{IsWithin, absorb_index, mode_index}
 pub use Rattle.ark_sponge.specs.Permutation.{Parameters, lawful_parameters, permutation, poseidon_rounds, sums, width}
 pub use Rattle.ark_sponge.specs.Sizes.{are_full, size_width, sum_of_sizes}

@@ -23,8 +23,8 @@ pub mod ff {
         Modulus, PrimeField, UniformRand, Valued, Words,
     };
     pub use ark_wide_fields::{
-        Bls12_381Fr, Bn254Fr, Fp256, InvertibleField, PallasFp, VestaFp, WideModulus, inverse,
-        power, quotient, square_root,
+        Bls12_381Fr, Bn254Fr, Fp256, InvertibleField, NoInverses, PallasFp, VestaFp, WideModulus,
+        batch_inverse, inverse, power, quotient, square_root,
     };
 }
 
@@ -118,7 +118,7 @@ pub mod crh {
     pub mod pedersen {
         pub use ark_pedersen::{
             CRH, Parameters, TwoToOneCRH, Window, Windows4x64, Windows4x256, Windows63x9,
-            bytes_to_bits, relation_of, windows_fit,
+            bytes_to_bits, hash_bits, relation_of, windows_fit,
         };
         pub use ark_schemes::from_label::pedersen_from_label;
     }
@@ -126,7 +126,8 @@ pub mod crh {
     /// The first coordinate of sums of elements, each as often as a signed digit of three bits says.
     pub mod bowe_hopwood {
         pub use ark_bowe_hopwood::{
-            CHUNK_SIZE, CRH, Parameters, TwoToOneCRH, hash_bits, hashes_bind,
+            CHUNK_SIZE, CRH, NodeCRH, NodeParameters, Parameters, TwoToOneCRH, hash_bits,
+            hash_node, hashes_bind,
         };
         pub use ark_schemes::from_label::bowe_hopwood_from_label;
     }

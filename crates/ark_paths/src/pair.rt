@@ -69,10 +69,11 @@ fn converted_couples<L: DigestItem, I: Numbered + Drop, C: DigestConverter<L, I>
     let mut made = Vec::with_capacity(alloc, couples.len())?;
     'couples: for place in 0..couples.len() {
         let couple = couples[place];
-        let Ok(next) = converted_couple::<L, I, C>(alloc, couple.0, couple.1) else {
-            return Ok(made);
-        };
-        made.push(next)?;
+        match converted_couple::<L, I, C>(alloc, couple.0, couple.1) {
+            Ok(next) => made.push(next)?,
+            Err(Error::OutOfMemory) => return Err(Error::OutOfMemory),
+            Err(_) => return Ok(made),
+        }
     }
     Ok(made)
 }

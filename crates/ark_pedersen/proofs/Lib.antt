@@ -6,3 +6,4 @@ pub mod PedersenSums
 pub mod Shapes
 pub mod Windows
 pub mod Relations
+pub mod BitPlaces

@@ -111,7 +111,9 @@ impl<C: AdditiveGroup + DigestItem, W: Window> CRHScheme for CRH<C, W> {
 
     /// Returns parameters of generators as `create_generators` makes them.
     ///
-    /// The only error is `OutOfMemory`.
+    /// The seed of `rng` may be known to all where a draw tells no logarithm, as over `Jubjub`; a label shows besides
+    /// that nobody chose it (`pedersen_from_label`). Windows that pass the order are made all the same: `windows_fit`
+    /// tests them. The only error is `OutOfMemory`.
     fn setup<R: Rng>(alloc: Global, rng: &mut R) -> Result<Parameters<C>, Error> {
         Ok(Parameters {
             generators: Self::create_generators(alloc, rng)?,

@@ -11,7 +11,7 @@ mod two_to_one;
 mod window;
 
 pub use binding::{relation_of, windows_fit};
-pub use bits::bytes_to_bits;
+pub use bits::{bytes_to_bits, hash_bits};
 pub use crh::{CRH, doublings_of, parameters_of};
 pub use parameters::Parameters;
 pub use sums::{has_shape, hash_bytes, hash_halves, sum_of_bytes};

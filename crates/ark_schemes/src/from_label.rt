@@ -3,9 +3,9 @@
 //! They are found by trying one digest of BLAKE2s after another, as Zcash's group hash does. Who knows the label knows no
 //! relation among them.
 
-ghost use Rattle.std.specs.Prelude.{◌≡◌, ◌<◌, ◌≤◌, ◌^◌, List, true, IfOk, OnOk};
+ghost use Rattle.std.specs.Prelude.{◌≡◌, ◌<◌, ◌≤◌, ◌^◌, List, true, false, Err, IfOk, OnOk, IfErr};
 ghost use Rattle.ark_base.specs.Digits.{bytes_of_number};
-ghost use Rattle.ark_schemes.specs.GroupHash.{group_digest, group_hash, AreOfLabel};
+ghost use Rattle.ark_schemes.specs.GroupHash.{group_digest, group_hash, AreOfLabel, IsLabelFault};
 ghost use Rattle.ark_pedersen.specs.Pedersen.{generators_in, lists_in, AreGeneratorsOf};
 ghost use Rattle.ark_pedersen.specs.Binding.{windows_fit};
 ghost use Rattle.ark_bowe_hopwood.specs.BoweHopwood.{AreSegmentsOf, is_fitting};
@@ -67,7 +67,9 @@ pub fn elements_of_label<C: FromDigest>(
     label: &[u8; 8],
     count: u32,
 ) -> Result<Vec<C>, Error>
-    ensures { IfOk result (λ elements. AreOfLabel C.found_in label.now count elements.items) }
+    ensures made { IfOk result (λ elements.
+        AreOfLabel C.found_in label.now count elements.items) }
+    ensures refused { IfErr result (λ error. IsLabelFault C.found_in label.now count error) }
 {
     let mut elements = Vec::new(alloc);
     for i in 0..count {
@@ -103,6 +105,8 @@ pub fn pedersen_from_label<C: FromDigest, W: Window>(
         × AreOfLabel C.found_in label.now W.NUM_WINDOWS elements
         × AreGeneratorsOf C.group W.Window elements (generators_in parameters)) }
     ensures fits { OnOk result (windows_fit C.ScalarField.MODULUS W.Window ≡ true) }
+    ensures too_large { windows_fit C.ScalarField.MODULUS W.Window ≡ false
+        → result ≡ Err (Error.GenericError Refusal.WindowTooLarge) }
 {
     if !windows_fit::<C, W>() {
         return Err(Error::GenericError(Refusal::WindowTooLarge));
@@ -123,6 +127,8 @@ pub fn bowe_hopwood_from_label<C: FromDigest, W: Window>(
         × AreOfLabel C.found_in label.now W.NUM_WINDOWS elements
         × AreSegmentsOf C.group W.Window elements (lists_in parameters.generators.items)) }
     ensures fits { OnOk result (is_fitting C.ScalarField.MODULUS W.WINDOW_SIZE ≡ true) }
+    ensures too_large { is_fitting C.ScalarField.MODULUS W.WINDOW_SIZE ≡ false
+        → result ≡ Err (Error.GenericError Refusal.WindowTooLarge) }
 {
     if !ark_bowe_hopwood::is_fitting(C::ScalarField::modulus(), W::WINDOW_SIZE) {
         return Err(Error::GenericError(Refusal::WindowTooLarge));

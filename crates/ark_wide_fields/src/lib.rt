@@ -5,6 +5,7 @@
 #![tactic(auto)]
 
 mod absorb;
+mod batch;
 mod certified;
 mod fp256;
 mod moduli;
@@ -14,6 +15,7 @@ mod powers;
 mod prime;
 mod words;
 
+pub use batch::{NoInverses, batch_inverse};
 pub use fp256::Fp256;
 pub use moduli::{
     Bls12_381Fr, Bls12_381FrModulus, Bn254Fr, Bn254FrModulus, PallasFp, PallasFpModulus, VestaFp,
@@ -21,5 +23,5 @@ pub use moduli::{
 };
 pub use modulus::WideModulus;
 pub use powers::{is_zero, power, squared};
-pub use prime::{InvertibleField, inverse, quotient, square_root};
+pub use prime::{InvertibleField, inverse, inverse_of_some, quotient, square_root};
 pub use words::{ZERO, is_below, is_nothing, is_odd, low_bits, plus, words_of};

@@ -6,4 +6,6 @@ mod arithmetic;
 #[cfg(test)]
 mod bytes;
 #[cfg(test)]
+mod inverses;
+#[cfg(test)]
 mod sponge;

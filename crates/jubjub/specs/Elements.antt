@@ -20,6 +20,6 @@ jubjub = record {
   opposite = λ a. element (negative p (coordinates a)) (negative_in_subgroup (coordinates a) a.in_subgroup);
 }
 
--- the generator of the prime subgroup
+-- the generator of the prime subgroup: each element is a multiple of it (`BaseGenerates`)
 unfoldable pub base : Jubjub
 base = element base_point generator_in_subgroup

@@ -20,3 +20,5 @@ pub mod OrderPrime
 pub mod FirstCoordinates
 pub mod SameFirst
 pub mod PrimeOrder
+pub mod Covering
+pub mod Generates

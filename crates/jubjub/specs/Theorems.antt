@@ -1,10 +1,10 @@
 -- What is proved of the curve and of its prime subgroup.
-use Rattle.std.specs.Prelude.{◌≡◌, ℕ, ◌+◌, ◌-◌, ◌*◌, ◌%◌}
+use Rattle.std.specs.Prelude.{◌≡◌, ℕ, ◌+◌, ◌-◌, ◌*◌, ◌%◌, ◌<◌}
 use Rattle.ark_groups.specs.Group.{Group, times}
 use Rattle.jubjub.specs.declared.element.Jubjub.{Jubjub}
 use Rattle.jubjub.specs.Edwards.{Coordinates, cross, over}
 use Rattle.jubjub.specs.Jubjub.{p, d, order, IsOnJubjub, IsInSubgroup}
-use Rattle.jubjub.specs.Elements.{coordinates, jubjub}
+use Rattle.jubjub.specs.Elements.{coordinates, jubjub, base}
 
 -- a quotient times its divisor is the dividend, modulo p, if p does not divide the divisor
 abbrev pub QuotientsAreRight : Type 0
@@ -42,3 +42,9 @@ HasPrimeOrder = (n : ℕ) (x : Jubjub) → times jubjub n x ≡ jubjub.identity 
 -- the first coordinate of an element tells it
 abbrev pub FirstCoordinatesTell : Type 0
 FirstCoordinatesTell = (a b : Jubjub) → (coordinates a).x ≡ (coordinates b).x → a ≡ b
+
+-- each element is a multiple of the generator below the order, and of no two: so the subgroup has as many elements as its
+-- order says
+pub record BaseGenerates : Type 0 where
+  pub each : (e : Jubjub) → (k : ℕ) × (k < order) × (times jubjub k base ≡ e)
+  pub apart : (m n : ℕ) → m < order → n < order → times jubjub m base ≡ times jubjub n base → m ≡ n

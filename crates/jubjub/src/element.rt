@@ -96,7 +96,7 @@ impl Jubjub {
         Jubjub::of(Bls12_381Fr::zero(), Bls12_381Fr::one())
     }
 
-    /// Returns the generator of the subgroup.
+    /// Returns the generator of the subgroup: each element is one multiple of it below the order (`generator_generates`).
     pub fn generator() -> Jubjub
         ensures element { result ≡ base }
         ensures coordinates { coordinates result ≡ base_point }

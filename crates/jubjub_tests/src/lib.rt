@@ -6,11 +6,15 @@ mod bowe_hopwood;
 #[cfg(test)]
 mod commitment;
 #[cfg(test)]
+mod compressed;
+#[cfg(test)]
 mod elgamal;
 #[cfg(test)]
 mod from_label;
 #[cfg(test)]
 mod pedersen;
+#[cfg(test)]
+mod relations;
 #[cfg(test)]
 mod samples;
 #[cfg(test)]

@@ -6,7 +6,7 @@ use ark_base::serialize::DigestItem;
 use ark_crh::CRHScheme;
 use ark_groups::ec::{AdditiveGroup, TECoordinates};
 use ark_pedersen::injective_map::{PedersenCRHCompressor, TECompressor};
-use ark_pedersen::{CRH, Parameters};
+use ark_pedersen::{CRH, Parameters, bytes_to_bits, hash_bits};
 use jubjub::Jubjub;
 use std::alloc::Global;
 
@@ -46,5 +46,24 @@ fn a_hash_agrees_with_python(rt: HostRuntime) {
     match compressed(alloc, Jubjub::generator()) {
         Ok(digest) => assert!(rt; is(alloc, digest, X)),
         Err(_) => assert!(rt; false),
+    }
+}
+
+// The hash of the bits of a5 3c, where the last two, which are 0, may be left out.
+fn hash_of_bits<C: AdditiveGroup>(alloc: Global, generator: C, count: usize) -> Result<C, Error> {
+    let generators = rows(alloc, generator)?;
+    let mut bits = bytes_to_bits(alloc, &[0xa5, 0x3c])?;
+    bits.truncate(count);
+    hash_bits::<C, Four>(&generators, &bits)
+}
+
+#[test]
+fn a_hash_of_bits_agrees_with_python(rt: HostRuntime) {
+    let alloc = rt.alloc();
+    for count in [14, 16] {
+        match hash_of_bits(alloc, Jubjub::generator(), count) {
+            Ok(digest) => assert!(rt; is(alloc, digest.x(), X) && is(alloc, digest.y(), Y)),
+            Err(_) => assert!(rt; false),
+        }
     }
 }

@@ -1,6 +1,8 @@
 pub mod Overlaid
+pub mod Spotted
 pub mod Moments
 pub mod Tearing
 pub mod Reading
 pub mod Growths
 pub mod Refusals
+pub mod Verdicts

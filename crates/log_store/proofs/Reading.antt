@@ -1,25 +1,31 @@
 -- What is read of a log's file: its head, and digests at positions.
-use Rattle.std.proofs.Common.{zero, suc, ◌≡◌, ℕ, ◌+◌, ◌*◌, ◌<◌, ◌≤◌, ◌^◌, Bool, List, [], ◌∷◌, length, take, drop, get_or, Some, None, Ok, Err, refl, ap, sym, ◌∙◌, subst, inl, inr, arith}
+use Rattle.std.proofs.Common.{zero, suc, ◌≡◌, ◌==◌, true, map, ℕ, ◌+◌, ◌*◌, ◌/◌, ◌<◌, ◌≤◌, ◌^◌, Bool, List, [], ◌∷◌, length, take, drop, get_or, Some, None, Ok, Err, refl, ap, sym, ◌∙◌, subst, inl, inr, arith}
 use Rattle.std.specs.Simd.{first_chunks}
-use Rattle.std.proofs.lemmas.Bool.{cases_lt, le-ltb}
-use Rattle.std.proofs.lemmas.List.{append-nil, drop-drop, length-take-le, take_all}
+use Rattle.std.proofs.lemmas.Bool.{cases_lt, le-ltb, lt-ltb}
+use Rattle.std.proofs.lemmas.Bool.Decides.{nat_tests}
+use Rattle.std.proofs.lemmas.List.{append-nil, drop-drop, get_or-take, length-map, length-take-le, take-take, take_all}
 use Rattle.std.proofs.Math.Nat.{mul-le-mul_right}
 use Rattle.ark_paths.specs.Pair.{Digest}
 use Rattle.ark_trees.specs.Rfc6962.{node_of}
+use Rattle.ark_base.specs.Outcome.{Outcome}
 use Rattle.merkle_log.specs.Asked.{IsPeak}
+use Rattle.merkle_log.specs.Log.{consistency_path, NodeHash}
 use Rattle.merkle_log.specs.Kept.{front, has_front, stored_front, Keeps}
 use Rattle.merkle_log.specs.Stored.{position, stored_count, row_of, IsStored}
 use Rattle.merkle_log.specs.Walk.{index_up}
 use Rattle.merkle_log.proofs.KeptPlaces.{above-up}
 use Rattle.merkle_log.proofs.KeptRows.{fewer-first, fewer-hashed, rows-agree, stored-same}
-use Rattle.merkle_log.proofs.Positions.{count-rises, up-times}
+use Rattle.merkle_log.proofs.Positions.{count-rises, place-within, position-within, row_of-at, up-times}
 use Rattle.merkle_log.proofs.Tests.{power-rises}
-use Rattle.paxlog_run.specs.Faults.{log_size, only_if}
-use Rattle.paxlog_run.specs.LogFile.{digest_count, file_head, stored_in}
+use Rattle.paxlog_run.specs.Faults.{log_size, no_head, only_if}
+use Rattle.paxlog_run.specs.LogFile.{digest_count, file_head, slot_to_take, stored_in}
 use Rattle.paxlog_run.specs.declared.fault.Fault.TheVariants.{NoLog, Short}
 use Rattle.paxlog_run.proofs.Pieces.{piece-cut}
 use Rattle.log_store.specs.Overlay.{overlay}
+use Rattle.log_store.specs.Spots.{spotted, AreOf}
+use Rattle.log_store.specs.declared.spots.Spot.{Spot}
 use Rattle.log_store.proofs.Overlaid.{overlay-long, overlay-own}
+use Rattle.log_store.proofs.Spotted.{spotted-own}
 
 -- ---- the head
 
@@ -39,8 +45,27 @@ head-read file bytes read long =
       cut 64 (omega arith),
     ) refl
 
-pub size-none : (file : List ℕ) → file_head file ≡ None → log_size file ≡ Err NoLog
+-- and why there is none
+pub none-read : (file bytes : List ℕ) → bytes ≡ take 96 (drop 0 file) → 96 ≤ length file
+    → no_head bytes ≡ no_head file
+none-read file bytes read long =
+    let all : length bytes ≡ 96 = ap length read ∙ length-take-le 96 file long in
+    let title : take 32 bytes ≡ take 32 file = ap (take 32) read ∙ take-take 32 96 file (omega arith) in
+    rw (le-ltb (length bytes) 96 (omega (arith, all)), le-ltb (length file) 96 long, title) refl
+
+-- and which slot may take the next size
+pub slots-read : (file bytes : List ℕ) (size : ℕ) (root : Digest) → bytes ≡ take 96 (drop 0 file) → 96 ≤ length file
+    → slot_to_take bytes size root ≡ slot_to_take file size root
+slots-read file bytes size root read long =
+    let cut : (at : ℕ) → at + 32 ≤ 96 → take 32 (drop at bytes) ≡ take 32 (drop at file) = λ at le.
+    ap (λ l. take 32 (drop at l)) (read ∙ sym (append-nil (take 96 file))) ∙ piece-cut file [] at 32 96 le long in
+    rw (cut 32 (omega arith), cut 64 (omega arith)) refl
+
+pub size-none : (file : List ℕ) → file_head file ≡ None → log_size file ≡ Err (no_head file)
 size-none file none = rw (none) refl
+
+pub size-short : (file : List ℕ) → length file < 96 → log_size file ≡ Err NoLog
+size-short file short = rw (lt-ltb (length file) 96 short) refl
 
 pub size-of : (file : List ℕ) (size : ℕ) (second front : Bool) → file_head file ≡ Some (size, second)
     → has_front size (digest_count file) ≡ front → log_size file ≡ only_if front Short (Ok size)
@@ -89,6 +114,10 @@ pub peak-low : (level place size : ℕ) → size < 2 ^ 63 → IsPeak size level 
 peak-low level place size fits peak =
     let low = level-low level size fits (omega (arith, peak.1)) in omega arith
 
+pub up-less : (level n : ℕ) → index_up level n ≤ n
+up-less zero n = omega arith
+up-less (suc level) n = omega (arith, up-less level (n / 2))
+
 -- A level with a place stands below one that has none.
 pub level-below : (level last size : ℕ) → 0 < index_up level size → index_up last size ≡ 0 → level < last
 level-below level last size some none = elim (cases_lt level last) [
@@ -108,14 +137,10 @@ level-below level last size some none = elim (cases_lt level last) [
     times_one : (n : ℕ) → (0 + 1) * n ≡ n
     times_one n = omega arith
 
--- ---- the list of a log's file with what was read of it
+-- ---- the list of a log's file
 
-module _ {leaves : List Digest} (file : List ℕ) (size : ℕ) (peaks : List Digest) (keeps : Keeps leaves
-    (stored_in (length leaves) file)) (le : size ≤ length leaves) (own : (level place : ℕ) → IsPeak size level place
-    → get_or peaks level [] ≡ get_or (stored_in size file) (position level place) []) where
-  digests-are : (overlay size peaks (stored_in size file)).digests ≡ stored_in size file
-  digests-are = overlay-own size peaks (stored_in size file) (length-chunks (stored_count size) (drop 96 file)) own
-
+module _ {leaves : List Digest} (file : List ℕ) (size : ℕ) (digests : List Digest) (keeps : Keeps leaves
+    (stored_in (length leaves) file)) (le : size ≤ length leaves) (are : digests ≡ stored_in size file) where
   fewer : take (stored_count size) (stored_in (length leaves) file) ≡ stored_in size file
   fewer = chunks-front (stored_count size) (stored_count (length leaves)) (drop 96 file)
       (count-rises size (length leaves) le)
@@ -127,16 +152,31 @@ module _ {leaves : List Digest} (file : List ℕ) (size : ℕ) (peaks : List Dig
         (drop 96 file),
   ))
 
-  rows : (level : ℕ) → row_of (front size (stored_in (length leaves) file)) level
-      ≡ row_of (overlay size peaks (stored_in size file)) level
+  rows : (level : ℕ) → row_of (front size (stored_in (length leaves) file)) level ≡ row_of (front size digests) level
   rows level = rows-agree size (stored_in (length leaves) file) (stored_in size file) (fewer ∙ sym all-of) level
-      ∙ ap (λ digests. row_of (front size digests) level) (sym digests-are)
+      ∙ ap (λ digests. row_of (front size digests) level) (sym are)
+
+  pub list-stored : IsStored node_of (row_of (front size digests))
+  list-stored = stored-same node_of _ _ rows (fewer-hashed keeps size le)
+
+  pub list-first : take size (row_of (front size digests) 0) ≡ take size leaves
+  list-first = ap (take size) (sym (rows 0)) ∙ fewer-first keeps size le
+
+-- ---- the list with what was read of it
+
+module _ {leaves : List Digest} (file : List ℕ) (size : ℕ) (peaks : List Digest) (keeps : Keeps leaves
+    (stored_in (length leaves) file)) (le : size ≤ length leaves) (own : (level place : ℕ) → IsPeak size level place
+    → get_or peaks level [] ≡ get_or (stored_in size file) (position level place) []) where
+  digests-are : (overlay size peaks (stored_in size file)).digests ≡ stored_in size file
+  digests-are = overlay-own size peaks (stored_in size file) (length-chunks (stored_count size) (drop 96 file)) own
 
   pub whole-stored : IsStored node_of (row_of (overlay size peaks (stored_in size file)))
-  whole-stored = stored-same node_of _ _ rows (fewer-hashed keeps size le)
+  whole-stored = list-stored {leaves = leaves} file size (overlay size peaks (stored_in size file)).digests keeps le
+      digests-are
 
   pub whole-first : take size (row_of (overlay size peaks (stored_in size file)) 0) ≡ take size leaves
-  whole-first = ap (take size) (sym (rows 0)) ∙ fewer-first keeps size le
+  whole-first = list-first {leaves = leaves} file size (overlay size peaks (stored_in size file)).digests keeps le
+      digests-are
 
   pub whole-keeps : size ≡ length leaves → Keeps leaves (overlay size peaks (stored_in size file)).digests
   whole-keeps is = subst (Keeps leaves) (ap (λ n. stored_in n file) (sym is) ∙ sym digests-are) keeps
@@ -144,3 +184,44 @@ module _ {leaves : List Digest} (file : List ℕ) (size : ℕ) (peaks : List Dig
   pub whole-front : stored_front (overlay size peaks (stored_in size file)) ≡ stored_in size file
   whole-front = take_all (stored_count size) (overlay size peaks (stored_in size file)).digests
       (omega (arith, overlay-long size peaks (stored_in size file))) ∙ digests-are
+
+module _ {leaves : List Digest} (file : List ℕ) (size : ℕ) (spots : List Spot) (keeps : Keeps leaves
+    (stored_in (length leaves) file)) (le : size ≤ length leaves) (own : AreOf spots (stored_in size file)) where
+  spots-are : (spotted size spots (stored_in size file)).digests ≡ stored_in size file
+  spots-are = spotted-own size spots (stored_in size file) (length-chunks (stored_count size) (drop 96 file)) own
+
+  pub spotted-stored : IsStored node_of (row_of (spotted size spots (stored_in size file)))
+  spotted-stored = list-stored {leaves = leaves} file size (spotted size spots (stored_in size file)).digests keeps le
+      spots-are
+
+  pub spotted-first : take size (row_of (spotted size spots (stored_in size file)) 0) ≡ take size leaves
+  spotted-first = list-first {leaves = leaves} file size (spotted size spots (stored_in size file)).digests keeps le
+      spots-are
+
+-- ---- a log that continues all of its entries
+
+pub path-whole : (hash : NodeHash) (empty : Digest) (digests : List Digest) (size : ℕ) → size ≡ length digests
+    → consistency_path hash empty size digests ≡ []
+path-whole hash empty [] size is = refl
+path-whole hash empty (d ∷ ds) size is =
+    rw (is-same size (length (map done (d ∷ ds))) (is ∙ sym (length-map (d ∷ ds) done))) refl
+  where
+    done : Digest → Outcome Digest
+    done digest = Ok digest
+
+    is-same : (a b : ℕ) → a ≡ b → (a == b) ≡ true
+    is-same a b same = grind (arith, nat_tests)
+
+-- ---- the root
+
+-- the digest of an entry
+pub entry-at : {leaves : List Digest} (file : List ℕ) (size index : ℕ) → Keeps leaves (stored_in (length leaves) file)
+    → size ≤ length leaves → index < size
+    → take 32 (drop (96 + 32 * position 0 index) file) ≡ get_or (take size leaves) index []
+entry-at {leaves} file size index keeps le below =
+    let all = length leaves in
+    let inside : index < length leaves = omega (arith, le, below) in
+    let stored = front all (stored_in all file) in
+    let within = position-within 0 index all (place-within 0 index all inside) in
+    stored-at all (position 0 index) file within ∙ sym (row_of-at stored 0 index inside)
+    ∙ ap (λ l. get_or l index []) keeps.lowest ∙ sym (get_or-take size leaves index [] below)

@@ -1,15 +1,20 @@
 -- What a write that was cut short leaves of a log's file.
-use Rattle.std.proofs.Common.{◌≡◌, inl, inr, ℕ, ◌+◌, ◌<◌, ◌≤◌, ◌^◌, Bool, true, false, List, ◌++◌, length, take, drop, Option, Some, None, refl, ap, sym, ◌∙◌, subst, append_assoc, arith}
+use Rattle.std.proofs.Common.{◌≡◌, inl, inr, ℕ, ◌+◌, ◌<◌, ◌≤◌, ◌^◌, Bool, true, false, List, [], ◌++◌, length, take, drop, Option, Some, None, Ok, refl, ap, sym, ◌∙◌, subst, append_assoc, arith}
 use Rattle.std.specs.Prelude.{not}
 use Rattle.std.proofs.lemmas.Bool.{cases_lt}
-use Rattle.std.proofs.lemmas.List.{length-append, length-drop, length-take-le, take-append-drop, drop-drop}
+use Rattle.std.proofs.lemmas.List.{length-append, length-drop, length-take-le, take-append-drop, drop-drop, take_at, drop_at}
 use Rattle.std.proofs.Math.Nat.{max-eq_left, le-max_left}
 use Rattle.ark_paths.specs.Pair.{Digest}
 use Rattle.paxlog_run.specs.Append.{HasBehind}
-use Rattle.paxlog_run.specs.LogFile.{file_end, next_slot, slot, slot_size, stored_in, written, IsLogFile}
-use Rattle.paxlog_run.proofs.Files.{cut-head, holds-more, holds-of, holds-slot, known, log-holds, slot-torn, stays, Holds, Known}
-use Rattle.paxlog_run.proofs.Heads.{head-parts, is_headed, length-slot, slot-part, slot_size-slot, uses-kept, uses-of, uses-turned, HasHead, Uses}
-use Rattle.log_store.specs.Disk.{Follows, Only, Torn}
+use Rattle.sha2.specs.Sha256.{sha256}
+use Rattle.ark_trees.specs.Rfc6962.{node_of}
+use Rattle.merkle_log.specs.Kept.{Keeps}
+use Rattle.merkle_log.specs.Log.{merkle_tree_hash}
+use Rattle.paxlog_run.specs.LogFile.{file_end, next_slot, slot, slot_front, slot_size, statement, stored_in, written, IsLogFile}
+use Rattle.paxlog_run.proofs.Files.{cut-head, cut-holds, cut-uses, holds-slot, keeps-more, known, known-free, log-holds, slot-torn, Holds, Known}
+use Rattle.paxlog_run.proofs.Heads.{fits-size, fits-stated, head-kept, is_headed, length-front, length-slot, length-statement, size-begins, slot-begin, slot-end, slot-fits, uses-kept, uses-turned, HasHead, Uses}
+use Rattle.paxlog_run.proofs.Pieces.{piece-written}
+use Rattle.log_store.specs.Disk.{Follows, Only, Torn, TornTwice}
 use Rattle.log_store.specs.Store.{IsBeforeOrAfter, IsGrowth, IsSettled}
 
 -- nothing was written
@@ -28,6 +33,27 @@ pub torn-from : (at n : ℕ) (file left : List ℕ) (old new : List ℕ → Type
 torn-from at n file left old new only follows now =
     let from = follows left now in
     subst (λ f. Torn at n f left) (only from.0 from.1) from.2
+
+-- one write was cut short, and the next was none
+pub torn-once : (at n to m : ℕ) (file left : List ℕ) → Torn at n file left → TornTwice at n to m file left
+torn-once at n to m file left torn = (left, torn, torn-not to m left left refl)
+
+-- and then the next was
+pub torn-then : (at n to m : ℕ) (file left : List ℕ) (mid new : List ℕ → Type 0)
+    → ((before : List ℕ) → mid before → Torn at n file before) → Follows (Torn to m) mid new → new left
+    → TornTwice at n to m file left
+torn-then at n to m file left mid new first follows now =
+    let from = follows left now in (from.0, first from.0 from.1, from.2)
+
+-- What is written makes a file no shorter.
+pub longer-written : (file bytes : List ℕ) (at : ℕ) → at ≤ length file → length file ≤ length (written file at bytes)
+longer-written file bytes at inside = omega (
+  arith,
+  length-append (take at file ++ bytes) (drop (at + length bytes) file),
+  length-append (take at file) bytes,
+  length-take-le at file inside,
+  length-drop (at + length bytes) file,
+)
 
 -- A piece inside the file was torn.
 pub torn-piece : (at n : ℕ) (file left : List ℕ) → at + n ≤ length file → Torn at n file left
@@ -52,10 +78,10 @@ torn-behind at n file left torn = sym (take-append-drop at left) ∙ ap (λ l. l
 
 -- ---- an append
 
--- Leaves are appended to the file of a log: these bytes, and then the size.
+-- Leaves are appended to the file of a log: these bytes, and then the size and the root.
 pub record Growing (leaves more : List Digest) (file bytes : List ℕ) (second : Bool) : Type 0 where
   pub log : Known leaves file
-  pub same : log.second ≡ second
+  pub same : log.free ≡ second
   pub behind : HasBehind leaves (stored_in (length leaves) file) more bytes
   pub fits : length (leaves ++ more) < 2 ^ 63
   pub some : 0 < length more
@@ -63,21 +89,20 @@ pub record Growing (leaves more : List Digest) (file bytes : List ℕ) (second :
 pub growing : {leaves more : List Digest} {file bytes : List ℕ} {second : Bool} → IsGrowth leaves more file bytes
     second
     → Growing leaves more file bytes second
-growing {leaves} {more} {file} {bytes} {second} growth =
-    let facts = known leaves file growth.log in
-    record {
-      log = record {
-        second = second;
-        head = head-parts file (length leaves) second growth.head;
-        fits = facts.fits;
-        inside = facts.inside;
-        keeps = facts.keeps;
-      };
-      same = refl;
-      behind = growth.behind;
-      fits = growth.fits;
-      some = growth.some;
-    }
+growing {leaves} {more} {file} {bytes} {second} growth = record {
+  log = known leaves file growth.log;
+  same = known-free leaves file growth.log ∙ growth.free;
+  behind = growth.behind;
+  fits = growth.fits;
+  some = growth.some;
+}
+
+-- how long a slot and its front are
+pub front-long-of : (front : List ℕ) (size : ℕ) → front ≡ slot_front size → length front ≡ 20
+front-long-of front size is = ap length is ∙ length-front size
+
+pub slot-long-of : (part : List ℕ) (size : ℕ) (root : Digest) → part ≡ slot size root → length part ≡ 32
+slot-long-of part size root is = ap length is ∙ length-slot size root
 
 -- the other slot
 twice_not : (b : Bool) → not (not b) ≡ b
@@ -96,18 +121,24 @@ module _ {leaves more : List Digest} {file bytes : List ℕ} {second : Bool} (gr
   abbrev new : ℕ
   new = length (leaves ++ more)
 
+  abbrev old_root : Digest
+  old_root = grow.log.root
+
+  abbrev free : ℕ
+  free = next_slot second
+
   longer : size < new
   longer = omega (arith, length-append leaves more, grow.some)
 
-  -- the file with the digests, with one slot and with both
+  small : new < 2 ^ 64
+  small = omega (arith, grow.fits)
+
+  uses : Uses file size old_root second
+  uses = subst (Uses file size old_root) grow.same grow.log.uses
+
+  -- the file with the digests
   abbrev pub digests-written : List ℕ
   digests-written = written file (file_end (length leaves)) bytes
-
-  abbrev pub slot-written : List ℕ
-  slot-written = written digests-written (next_slot second) (slot (length (leaves ++ more)))
-
-  abbrev pub both-written : List ℕ
-  both-written = written slot-written (next_slot (not second)) (slot (length (leaves ++ more)))
 
   abbrev rest : List ℕ
   rest = drop (file_end size + length bytes) file
@@ -115,135 +146,244 @@ module _ {leaves more : List Digest} {file bytes : List ℕ} {second : Bool} (gr
   digests-are : digests-written ≡ take (file_end size) file ++ (bytes ++ rest)
   digests-are = append_assoc (take (file_end size) file) bytes rest
 
-  first-holds : Holds leaves digests-written
-  first-holds = subst (Holds leaves) (sym digests-are) (holds-of leaves _ (known leaves _ (stays leaves file
-      (bytes ++ rest) grow.log)))
+  pub more-keeps : Keeps (leaves ++ more) (stored_in (length (leaves ++ more)) digests-written)
+  more-keeps = subst (λ f. Keeps (leaves ++ more) (stored_in new f)) (sym digests-are)
+      (keeps-more leaves more old_root file bytes rest grow.log.head.long grow.log.holds grow.behind).0
 
-  first-uses : Uses digests-written size second
-  first-uses = subst (λ f. Uses f size second) (sym digests-are) (uses-of (take (file_end size) file ++ (bytes ++
-      rest))
-      size second (subst (HasHead (take (file_end size) file ++ (bytes ++ rest)) size) grow.same (cut-head leaves file
-      (bytes ++ rest) grow.log)))
-
-  more-holds : Holds (leaves ++ more) digests-written
-  more-holds = subst (Holds (leaves ++ more)) (sym digests-are) (holds-more leaves more file bytes rest grow.log
-      grow.behind grow.fits)
-
-  slot-holds : Holds (leaves ++ more) slot-written
-  slot-holds = holds-slot (leaves ++ more) digests-written (slot new) second first-uses.long (length-slot new)
-      more-holds
-
-  slot-uses : Uses slot-written new (not second)
-  slot-uses = uses-turned digests-written size new second first-uses (omega (arith, grow.fits))
-
-  both-holds : Holds (leaves ++ more) both-written
-  both-holds = holds-slot (leaves ++ more) slot-written (slot new) (not second) slot-uses.long (length-slot new)
-      slot-holds
-
-  both-uses : (other : Bool) → Uses both-written new other
-  both-uses other = go other second refl
-    where
-      kept : Uses both-written new (not second)
-      kept = uses-kept slot-written (slot new) new (not second) slot-uses (length-slot new)
-
-      turned : Uses both-written new second
-      turned = subst (Uses both-written new) (twice_not second) (uses-turned slot-written new new (not second)
-          slot-uses
-          (omega (arith, grow.fits)))
-
-      go : (other own : Bool) → own ≡ second → Uses both-written new other
-      go true true is = subst (Uses both-written new) (sym is) turned
-      go false false is = subst (Uses both-written new) (sym is) turned
-      go true false is = subst (Uses both-written new) (ap not (sym is)) kept
-      go false true is = subst (Uses both-written new) (ap not (sym is)) kept
-
-  -- a crash while the digests are written
-  pub crash-digests : (n : ℕ) (left : List ℕ) → Torn (file_end (length leaves)) n file left
-      → IsBeforeOrAfter leaves more left
-  crash-digests n left torn = inl (subst (IsLogFile leaves) (sym (torn-behind (file_end size) n file left torn))
-      (stays leaves file (drop (file_end size) left) grow.log))
-
-  -- a crash while the first slot is written
-  pub crash-slot : (left : List ℕ) → Torn (next_slot second) 32 digests-written left
-      → IsBeforeOrAfter leaves more left
-  crash-slot left torn =
-      let piece = torn-piece (next_slot second) 32 digests-written left
-      (omega (arith, slot-inside second, first-uses.long)) torn in
-      subst (IsBeforeOrAfter leaves more) (sym piece.2) (elim (slot-torn leaves digests-written piece.0 second
-      first-uses
-      piece.1 first-holds) [
-        | inl same ↦ inl same
-        | inr larger ↦ by_size piece.0 piece.1 larger.0 larger.1 larger.2.0 larger.2.1
-      ])
-    where
-      by_size : (part : List ℕ) → length part ≡ 32 → (other : ℕ) → size < other → (next : Bool)
-          → HasHead (written digests-written (next_slot second) part) other next
-          → IsBeforeOrAfter leaves more (written digests-written (next_slot second) part)
-      by_size part long other less next head = elim (cases_lt other new) [
-        | inl below ↦ inr (inr (other, next, is_headed _ other next head, less, λ same. omega (arith, same)))
-        | inr ge ↦ elim (cases_lt new other) [
-          | inl above ↦ inr (inr (other, next, is_headed _ other next head, less, λ same. omega (arith, same)))
-          | inr le ↦
-              let e : other ≡ new = omega arith in
-              inr (inl (log-holds (leaves ++ more) (written digests-written (next_slot second) part) next
-              (subst (λ k. HasHead (written digests-written (next_slot second) part) k next) e head)
-              (holds-slot (leaves ++ more) digests-written part second first-uses.long long more-holds)))
-        ]
-      ]
-
-  -- a crash while the second slot is written
-  pub crash-both : (left : List ℕ) → Torn (next_slot (not second)) 32 slot-written left
-      → IsBeforeOrAfter leaves more left
-  crash-both left torn =
-      let piece = torn-piece (next_slot (not second)) 32 slot-written left
-      (omega (arith, slot-inside (not second), slot-uses.long)) torn in
-      subst (IsBeforeOrAfter leaves more) (sym piece.2) (elim (slot-torn (leaves ++ more) slot-written piece.0 (not
-      second)
-      slot-uses piece.1 slot-holds) [
-        | inl same ↦ inr (inl same)
-        | inr larger ↦ inr (inr (
-          larger.0,
-          larger.2.0,
-          is_headed _ larger.0 larger.2.0 larger.2.1,
-          omega (arith, larger.1, longer),
-          λ same. omega (arith, larger.1, same),
-        ))
-      ])
+  pub more-inside : file_end (length (leaves ++ more)) ≤ length digests-written
+  more-inside = omega (
+    arith,
+    ap length digests-are,
+    (keeps-more leaves more old_root file bytes rest grow.log.head.long grow.log.holds grow.behind).1,
+  )
 
   -- where is written
   pub first-inside : file_end (length leaves) ≤ length file
-  first-inside = grow.log.inside
+  first-inside = grow.log.holds.inside
 
-  pub second-inside : next_slot second ≤ length digests-written
-  second-inside = omega (arith, slot-inside second, first-uses.long)
+  pub free-inside : next_slot second + 20 ≤ length file
+  free-inside = omega (arith, slot-inside second, grow.log.head.long)
 
-  pub third-inside : next_slot (not second) ≤ length slot-written
-  third-inside = omega (arith, slot-inside (not second), slot-uses.long)
+  head-in : HasHead digests-written size grow.log.next
+  head-in = subst (λ f. HasHead f size grow.log.next) (sym digests-are)
+      (cut-head leaves old_root file (bytes ++ rest) grow.log.head.long grow.log.holds grow.log.next grow.log.head)
 
-  -- what is there once all is written
-  pub both-settled : IsSettled (leaves ++ more) both-written
-  both-settled = record {
-    log = elim (slot-part slot-written (slot new) new (not second) slot-uses (length-slot new)) [
-      | inl head ↦ log-holds (leaves ++ more) both-written head.0 head.1 both-holds
-      | inr larger ↦ absurd (no_larger larger.0 larger.1 larger.2)
-    ];
-    lost = λ other part long. elim (slot-torn (leaves ++ more) both-written part other (both-uses other) long
-        both-holds) [
+  uses-in : Uses digests-written size old_root second
+  uses-in = subst (λ f. Uses f size old_root second) (sym digests-are)
+      (cut-uses leaves old_root file (bytes ++ rest) grow.log.head.long grow.log.holds size old_root second uses)
+
+  holds-in : Holds leaves old_root digests-written
+  holds-in = subst (Holds leaves old_root) (sym digests-are)
+      (cut-holds leaves old_root file (bytes ++ rest) grow.log.head.long grow.log.holds)
+
+  -- a crash while the digests and a slot's end are written
+  pub crash-behind : (n : ℕ) (left : List ℕ) → TornTwice (file_end (length leaves)) n (next_slot second + 20) 12 file left
+      → IsBeforeOrAfter leaves more left
+  crash-behind n left (mid, first, then) =
+      let behind = drop (file_end size) mid in
+      let mid-is = torn-behind (file_end size) n file mid first in
+      let has : Holds leaves old_root mid = subst (Holds leaves old_root) (sym mid-is)
+      (cut-holds leaves old_root file behind grow.log.head.long grow.log.holds) in
+      let head : HasHead mid size grow.log.next = subst (λ f. HasHead f size grow.log.next) (sym mid-is)
+      (cut-head leaves old_root file behind grow.log.head.long grow.log.holds grow.log.next grow.log.head) in
+      let used : Uses mid size old_root second = subst (λ f. Uses f size old_root second) (sym mid-is)
+      (cut-uses leaves old_root file behind grow.log.head.long grow.log.holds size old_root second uses) in
+      let inside : free + 32 ≤ length mid = omega (arith, slot-inside second, used.long) in
+      let piece = torn-piece (free + 20) 12 mid left (omega (arith, inside)) then in
+      let begin = take 20 (drop free mid) in
+      let count : length begin ≡ 20 = length-take-le 20 (drop free mid) (omega (arith, inside, length-drop free mid)) in
+      let part = begin ++ piece.0 in
+      let long : length part ≡ 32 = omega (arith, count, piece.1, length-append begin piece.0) in
+      let is : left ≡ written mid free part = piece.2 ∙ slot-end mid piece.0 free inside piece.1 in
+      let same : take 20 part ≡ begin = take_at begin piece.0 20 count in
+      inl (subst (IsLogFile leaves) (sym is) (log-holds leaves old_root (written mid free part) grow.log.next second
+      (head-kept mid part size second grow.log.next head long same)
+      (uses-kept mid part size old_root second used long)
+      (holds-slot leaves old_root mid part second used.long long has)))
+
+  -- ---- with the root of the log with the new leaves
+
+  module _ (root : Digest) (root_is : merkle_tree_hash node_of (sha256 []) (leaves ++ more) ≡ Ok root) where
+    -- the file with a slot's end, with that slot, and with both
+    abbrev pub end-written : List ℕ
+    end-written = written digests-written (next_slot second + 20) (statement (length (leaves ++ more)) root)
+
+    abbrev pub slot-written : List ℕ
+    slot-written = written end-written (next_slot second) (slot_front (length (leaves ++ more)))
+
+    abbrev pub both-written : List ℕ
+    both-written = written slot-written (next_slot (not second)) (slot (length (leaves ++ more)) root)
+
+    more-in : Holds (leaves ++ more) root digests-written
+    more-in = record { fits = grow.fits; inside = more-inside; keeps = more-keeps; root_is = root_is }
+
+    inside-in : free + 32 ≤ length digests-written
+    inside-in = omega (arith, slot-inside second, uses-in.long)
+
+    -- the end as a whole slot
+    abbrev end-part : List ℕ
+    end-part = take 20 (drop free digests-written) ++ statement new root
+
+    end-count : length (take 20 (drop free digests-written)) ≡ 20
+    end-count = length-take-le 20 (drop free digests-written) (omega (arith, inside-in, length-drop free digests-written))
+
+    end-long : length end-part ≡ 32
+    end-long = omega (
+      arith,
+      end-count,
+      length-statement new root,
+      length-append (take 20 (drop free digests-written)) (statement new root),
+    )
+
+    end-is : end-written ≡ written digests-written free end-part
+    end-is = slot-end digests-written (statement new root) free inside-in (length-statement new root)
+
+    end-uses : Uses end-written size old_root second
+    end-uses = subst (λ f. Uses f size old_root second) (sym end-is)
+        (uses-kept digests-written end-part size old_root second uses-in end-long)
+
+    end-holds : Holds leaves old_root end-written
+    end-holds = subst (Holds leaves old_root) (sym end-is)
+        (holds-slot leaves old_root digests-written end-part second uses-in.long end-long holds-in)
+
+    end-more : Holds (leaves ++ more) root end-written
+    end-more = subst (Holds (leaves ++ more) root) (sym end-is)
+        (holds-slot (leaves ++ more) root digests-written end-part second uses-in.long end-long more-in)
+
+    end-there : take 12 (drop (free + 20) end-written) ≡ statement new root
+    end-there = piece-written digests-written (statement new root) (free + 20) 12 (length-statement new root)
+        (omega (arith, inside-in))
+
+    end-inside : free + 32 ≤ length end-written
+    end-inside = omega (arith, slot-inside second, end-uses.long)
+
+    -- a slot's front as a whole slot
+    front-is : (front : List ℕ) → length front ≡ 20 → written end-written free front
+        ≡ written end-written free (front ++ statement new root)
+    front-is front long = slot-begin end-written front free end-inside long
+        ∙ ap (λ l. written end-written free (front ++ l)) end-there
+
+    front-long : (front : List ℕ) → length front ≡ 20 → length (front ++ statement new root) ≡ 32
+    front-long front long = omega (arith, long, length-statement new root, length-append front (statement new root))
+
+    slot-is : slot-written ≡ written end-written free (slot new root)
+    slot-is = front-is (slot_front new) (length-front new)
+
+    slot-uses : Uses slot-written new root (not second)
+    slot-uses = subst (λ f. Uses f new root (not second)) (sym slot-is)
+        (uses-turned end-written (slot new root) size new old_root root second end-uses (length-slot new root) small
+        (slot-fits new root))
+
+    slot-holds : Holds (leaves ++ more) root slot-written
+    slot-holds = subst (Holds (leaves ++ more) root) (sym slot-is)
+        (holds-slot (leaves ++ more) root end-written (slot new root) second end-uses.long (length-slot new root) end-more)
+
+    both-holds : Holds (leaves ++ more) root both-written
+    both-holds = holds-slot (leaves ++ more) root slot-written (slot new root) (not second) slot-uses.long
+        (length-slot new root) slot-holds
+
+    both-uses : (other : Bool) → Uses both-written new root other
+    both-uses other = go other second refl
+      where
+        kept : Uses both-written new root (not second)
+        kept = uses-kept slot-written (slot new root) new root (not second) slot-uses (length-slot new root)
+
+        turned : Uses both-written new root second
+        turned = subst (Uses both-written new root) (twice_not second) (uses-turned slot-written (slot new root) new new
+            root root (not second) slot-uses (length-slot new root) small (slot-fits new root))
+
+        go : (other own : Bool) → own ≡ second → Uses both-written new root other
+        go true true is = subst (Uses both-written new root) (sym is) turned
+        go false false is = subst (Uses both-written new root) (sym is) turned
+        go true false is = subst (Uses both-written new root) (ap not (sym is)) kept
+        go false true is = subst (Uses both-written new root) (ap not (sym is)) kept
+
+    -- a crash while the front of the first slot is written
+    pub crash-slot : (left : List ℕ) → Torn (next_slot second) 20 end-written left → IsBeforeOrAfter leaves more left
+    crash-slot left torn =
+        let piece = torn-piece free 20 end-written left (omega (arith, end-inside)) torn in
+        let part = piece.0 ++ statement new root in
+        let long = front-long piece.0 piece.1 in
+        let is : left ≡ written end-written free part = piece.2 ∙ front-is piece.0 piece.1 in
+        subst (IsBeforeOrAfter leaves more) (sym is) (elim (slot-torn leaves old_root end-written part second
+        end-uses long end-holds) [
           | inl same ↦ inl same
-          | inr larger ↦ inr (
-            larger.0,
-            larger.2.0,
-            is_headed _ larger.0 larger.2.0 larger.2.1,
-            larger.1,
-            λ same. omega (arith, larger.1, same),
-          )
-        ];
-  }
-    where
-      some_of : Option ℕ → ℕ
-      some_of None = 0
-      some_of (Some n) = n
+          | inr larger ↦ by_size piece.0 piece.1 larger.0 larger.1 larger.2 larger.3.0 larger.3.1
+        ])
+      where
+        by_size : (front : List ℕ) → length front ≡ 20 → (other : ℕ)
+            → slot_size (front ++ statement new root) ≡ Some other → size < other → (next : Bool)
+            → HasHead (written end-written free (front ++ statement new root)) other next
+            → IsBeforeOrAfter leaves more (written end-written free (front ++ statement new root))
+        by_size front count other says less next head = elim (cases_lt other new) [
+          | inl below ↦ inr (inr (other, next, is_headed _ other next head, less, λ same. omega (arith, same)))
+          | inr ge ↦ elim (cases_lt new other) [
+            | inl above ↦ inr (inr (other, next, is_headed _ other next head, less, λ same. omega (arith, same)))
+            | inr le ↦
+                let e : other ≡ new = omega arith in
+                let part = front ++ statement new root in
+                let begins = size-begins part new (says ∙ ap Some e) in
+                let fits = fits-stated part new root begins (drop_at front (statement new root) 20 count) in
+                inr (inl (log-holds (leaves ++ more) root (written end-written free part) next (not second)
+                (subst (λ k. HasHead (written end-written free part) k next) e head)
+                (uses-turned end-written part size new old_root root second end-uses (front-long front count) small fits)
+                (holds-slot (leaves ++ more) root end-written part second end-uses.long (front-long front count)
+                end-more)))
+          ]
+        ]
 
-      no_larger : (other : ℕ) → slot_size (slot new) ≡ Some other → new < other → ⊥
-      no_larger other is less =
-          let same = ap some_of (sym (slot_size-slot new (omega (arith, grow.fits))) ∙ is) in omega arith
+    -- a crash while the second slot is written
+    pub crash-both : (left : List ℕ) → Torn (next_slot (not second)) 32 slot-written left
+        → IsBeforeOrAfter leaves more left
+    crash-both left torn =
+        let piece = torn-piece (next_slot (not second)) 32 slot-written left
+        (omega (arith, slot-inside (not second), slot-uses.long)) torn in
+        subst (IsBeforeOrAfter leaves more) (sym piece.2) (elim (slot-torn (leaves ++ more) root slot-written piece.0 (not
+        second)
+        slot-uses piece.1 slot-holds) [
+          | inl same ↦ inr (inl same)
+          | inr larger ↦ inr (inr (
+            larger.0,
+            larger.3.0,
+            is_headed _ larger.0 larger.3.0 larger.3.1,
+            omega (arith, larger.2, longer),
+            λ same. omega (arith, larger.2, same),
+          ))
+        ])
+
+    -- where is written
+    pub second-inside : next_slot second ≤ length end-written
+    second-inside = omega (arith, slot-inside second, end-uses.long)
+
+    pub third-inside : next_slot (not second) ≤ length slot-written
+    third-inside = omega (arith, slot-inside (not second), slot-uses.long)
+
+    -- what is there once all is written
+    pub both-settled : IsSettled (leaves ++ more) both-written
+    both-settled = record {
+      log = elim (slot-torn (leaves ++ more) root slot-written (slot new root) (not second) slot-uses
+          (length-slot new root) slot-holds) [
+            | inl same ↦ same
+            | inr larger ↦ absurd (no_larger larger.0 larger.1 larger.2)
+          ];
+      lost = λ other part long. elim (slot-torn (leaves ++ more) root both-written part other (both-uses other) long
+          both-holds) [
+            | inl same ↦ inl same
+            | inr larger ↦ inr (
+              larger.0,
+              larger.3.0,
+              is_headed _ larger.0 larger.3.0 larger.3.1,
+              larger.2,
+              λ same. omega (arith, larger.2, same),
+            )
+          ];
+    }
+      where
+        some_of : Option ℕ → ℕ
+        some_of None = 0
+        some_of (Some n) = n
+
+        no_larger : (other : ℕ) → slot_size (slot new root) ≡ Some other → new < other → ⊥
+        no_larger other is less =
+            let same = ap some_of (sym (fits-size (slot new root) new root small (slot-fits new root)) ∙ is) in
+            omega arith

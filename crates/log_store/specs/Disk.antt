@@ -8,6 +8,10 @@ pub record Torn (at n : ℕ) (old new : List ℕ) : Type 0 where
   pub no_shorter : length old ≤ length new
   pub no_longer : length new ≤ max (length old) (at + n)
 
+-- Two writes, of n bytes and then of m, were cut short.
+abbrev pub TornTwice : ℕ → ℕ → ℕ → ℕ → List ℕ → List ℕ → Type 0
+TornTwice at n to m old new = (mid : List ℕ) × Torn at n old mid × Torn to m mid new
+
 -- A crash leaves this file and no other.
 abbrev pub Only : List ℕ → (List ℕ → Type 0) → Type 0
 Only file may_leave = (left : List ℕ) → may_leave left → left ≡ file

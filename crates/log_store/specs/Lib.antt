@@ -2,3 +2,4 @@ pub mod Disk
 pub mod Store
 pub mod Refused
 pub mod Overlay
+pub mod Spots

@@ -4,9 +4,8 @@ use Rattle.ark_paths.specs.Pair.{Digest}
 use Rattle.paxlog_run.specs.Append.{HasBehind}
 use Rattle.paxlog_run.specs.LogFile.{file_head, next_slot, stored_in, written, IsLogFile}
 
--- A whole slot says a size that nobody wrote there, larger than the log's own: torn bytes have its check sum. That
--- takes a
--- coincidence of 24 bytes of SHA-256.
+-- A whole slot says a size that nobody wrote there, larger than the log's own: torn bytes have its check sum. That takes
+-- a coincidence of 12 bytes of SHA-256.
 abbrev pub IsForged : ℕ → ℕ → List ℕ → Type 0
 IsForged size new file =
     (other : ℕ) × (second : Bool) × (file_head file ≡ Some (other, second)) × (size < other) × (other ≢ new)
@@ -16,12 +15,11 @@ abbrev pub IsBeforeOrAfter : List Digest → List Digest → List ℕ → Type 0
 IsBeforeOrAfter leaves more file = IsLogFile leaves file ⊎ IsLogFile (leaves ++ more) file
     ⊎ IsForged (length leaves) (length (leaves ++ more)) file
 
--- The file is that of a log, whose second slot takes the next size or not, and the bytes are those of the digests
--- that more
--- leaves add to it.
+-- The file is that of a log, whose second slot takes the next size or not, and the bytes are those of the digests that
+-- more leaves add to it.
 pub record IsGrowth (leaves more : List Digest) (file bytes : List ℕ) (second : Bool) : Type 0 where
   pub log : IsLogFile leaves file
-  pub head : file_head file ≡ Some (length leaves, second)
+  pub free : log.second_is_free ≡ second
   pub behind : HasBehind leaves (stored_in (length leaves) file) more bytes
   pub fits : length (leaves ++ more) < 2 ^ 63
   pub some : 0 < length more

@@ -1,22 +1,18 @@
 //! The complete subtrees into which a log's leaves fall, read from the disk: at most 64 digests.
 
-ghost use Rattle.std.specs.Prelude.{◌≡◌, ◌≤◌, ◌<◌, ◌+◌, ◌*◌, ◌^◌, ℕ, List, [], length, take, drop, get_or, unwrap_or, IfOk, Ok};
+ghost use Rattle.std.specs.Prelude.{◌≡◌, ◌≤◌, ◌<◌, ◌+◌, ◌*◌, ◌^◌, ℕ, List, [], length, take, drop, get_or, IfOk, Ok};
 ghost use Rattle.sha2.specs.Sha256.{sha256};
 ghost use Rattle.ark_paths.specs.Pair.{Digest};
 ghost use Rattle.ark_trees.specs.Rfc6962.{node_of};
 ghost use Rattle.merkle_log.specs.Asked.{IsPeak};
 ghost use Rattle.merkle_log.specs.Log.{merkle_tree_hash};
 ghost use Rattle.merkle_log.specs.Stored.{position, row_of, IsStored, StoredValue};
-ghost use Rattle.log_store.specs.Refused.{IsRefusedFor};
-ghost use Rattle.paxlog_run.specs.Faults.{of_first};
-ghost use Rattle.paxlog_run.specs.LogFile.{file_end, stored_in, IsLogFile};
+ghost use Rattle.merkle_log.specs.Kept.{Keeps};
+ghost use Rattle.paxlog_run.specs.LogFile.{file_end, stored_in};
 
 use crate::disk::Disk;
-use crate::head::read_head;
-use crate::stop::Stop;
 use merkle_log::kept::{KeptNodes, position_of};
 use merkle_log::rows::{Rows, root_of};
-use paxlog_run::fault::Fault;
 use paxlog_run::head::START;
 use sha2::{Digest as _, Sha256};
 use std::marker::{Brand, PhantomData};
@@ -50,8 +46,8 @@ impl<'a, W: Whole> Rows<[u8; 32]> for Edge<'a, W> {
     }
 }
 
-// Reads the digest at a position behind the head.
-fn read_digest<D: Disk>(disk: &D, position: usize) -> Result<[u8; 32], D::Refusal>
+/// Reads the digest at a position behind the head.
+pub fn read_digest<D: Disk>(disk: &D, position: usize) -> Result<[u8; 32], D::Refusal>
     requires { 96 + 32 * position < 2 ^ 64 }
     ensures { D.Obeys disk.now → 96 + 32 * (position + 1) ≤ length (D.seen disk.now)
         → IfOk result (λ digest. digest ≡ take 32 (drop (96 + 32 * position) (D.seen disk.now))) }
@@ -112,27 +108,30 @@ fn root_over<D: Disk, W: Whole>(_disk: &D, size: usize, peaks: &[[u8; 32]; 64]) 
     }
 }
 
-/// Returns the root of the first entries of the log of a file, of as many as are named, or else of all, and their count. It
-/// reads the head and at most 64 digests.
-///
-/// Errors, the first that applies: those of `read_head`; `Size` for more than there are.
-pub fn root<D: Disk>(disk: &D, named: Option<usize>) -> Result<(usize, [u8; 32]), Stop<D::Refusal>>
-    ensures refused { let first = of_first (D.seen disk.now) named Ok in
-        D.Obeys disk.now → IsRefusedFor first result }
-    ensures root { D.Obeys disk.now → (leaves : List Digest) → IsLogFile leaves (D.seen disk.now)
-        → IfOk result (λ root. (root.0 ≡ unwrap_or named (length leaves)) × (root.0 ≤ length leaves)
-        × (merkle_tree_hash node_of (sha256 []) (take root.0 leaves) ≡ Ok root.1)) }
+/// Returns the root of a log of this size whose peaks these are. The disk has the list.
+pub fn root_with<D: Disk>(disk: &D, size: usize, peaks: &[[u8; 32]; 64]) -> [u8; 32]
+    requires fits { size < 2 ^ 63 }
+    ensures { (leaves : List Digest) → size ≤ length leaves
+        → Keeps leaves (stored_in (length leaves) (D.seen disk.now))
+        → ((level place : ℕ) → IsPeak size level place → get_or peaks.now level []
+        ≡ get_or (stored_in size (D.seen disk.now)) (position level place) [])
+        → merkle_tree_hash node_of (sha256 []) (take size leaves) ≡ Ok result }
 {
-    let head = read_head(disk)?;
-    let size = named.unwrap_or(head.size);
-    if size > head.size {
-        return Err(Stop::Fault(Fault::Size));
-    }
     if size == 0 {
-        return Ok((0, Sha256::digest([].as_slice())));
+        return Sha256::digest([].as_slice());
     }
-    match read_peaks(disk, size) {
-        Ok(peaks) => Ok((size, root_over::<D, Brand>(disk, size, &peaks))),
-        Err(refusal) => Err(Stop::Disk(refusal)),
-    }
+    root_over::<D, Brand>(disk, size, peaks)
+}
+
+/// Reads the root of the first entries of a log, which has digests behind the head. It reads at most 64 digests.
+pub fn root_at<D: Disk>(disk: &D, size: usize) -> Result<[u8; 32], D::Refusal>
+    requires fits { size < 2 ^ 63 }
+    requires near { file_end size < 2 ^ 64 }
+    ensures { D.Obeys disk.now → (leaves : List Digest) → size ≤ length leaves
+        → file_end size ≤ length (D.seen disk.now)
+        → Keeps leaves (stored_in (length leaves) (D.seen disk.now))
+        → IfOk result (λ root. merkle_tree_hash node_of (sha256 []) (take size leaves) ≡ Ok root) }
+{
+    let peaks = read_peaks(disk, size)?;
+    Ok(root_with(disk, size, &peaks))
 }

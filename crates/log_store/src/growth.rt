@@ -1,26 +1,30 @@
-//! An append: the digests, and then the size, in one slot after the other.
+//! An append: the digests, and then the size and the root, in one slot after the other.
 
-ghost use Rattle.std.specs.Prelude.{◌≡◌, ◌≤◌, ◌<◌, ◌+◌, ◌^◌, ◌++◌, ℕ, List, [], length, take, get_or, IfOk, IsOkUnless, OnOk};
+ghost use Rattle.std.specs.Prelude.{◌≡◌, ◌≤◌, ◌<◌, ◌+◌, ◌^◌, ◌++◌, ℕ, Bool, List, [], true, Some, length, get_or, IfOk, IsOkUnless, Ok, OnOk};
+ghost use Rattle.sha2.specs.Sha256.{sha256};
 ghost use Rattle.ark_paths.specs.Pair.{Digest};
-ghost use Rattle.log_store.specs.Disk.{LeavesOnly, Only};
+ghost use Rattle.ark_trees.specs.Rfc6962.{node_of};
+ghost use Rattle.log_store.specs.Disk.{LeavesOnly, Only, TornTwice};
 ghost use Rattle.log_store.specs.Store.{IsBeforeOrAfter, IsGrowth, IsSettled};
 ghost use Rattle.merkle_log.specs.Asked.{IsPeak};
 ghost use Rattle.merkle_log.specs.Kept.{Keeps, stored_front};
+ghost use Rattle.merkle_log.specs.Log.{merkle_tree_hash};
 ghost use Rattle.merkle_log.specs.Stored.{row_of, stored_count};
 ghost use Rattle.log_store.specs.Refused.{IsRefusedFor};
 ghost use Rattle.paxlog_run.specs.Append.{appended_size, HasBehind};
 ghost use Rattle.paxlog_run.specs.declared.fault.Fault.TheVariants.{Memory};
-ghost use Rattle.paxlog_run.specs.LogFile.{file_end, next_slot, slot, IsLogFile};
+ghost use Rattle.paxlog_run.specs.Faults.{log_size};
+ghost use Rattle.paxlog_run.specs.LogFile.{file_end, slot_to_take, statement, stored_in, written, IsLogFile};
 
 use crate::disk::Disk;
-use crate::edge::{Edge, Whole, read_peaks};
-use crate::head::read_head;
+use crate::edge::{Edge, Whole, root_at};
+use crate::log::read_log;
 use crate::steps::write_durably;
 use crate::stop::Stop;
 use ark_base::serialize::CanonicalItem;
 use merkle_log::kept::{append_over, is_size, stored_count};
 use paxlog_run::fault::Fault;
-use paxlog_run::head::{START, slot_of};
+use paxlog_run::head::{START, front_of, next_slot, slot_of, statement_of};
 use std::alloc::Global;
 use std::marker::{Brand, PhantomData};
 
@@ -77,20 +81,30 @@ fn bytes_over<D: Disk, W: Whole>(
     bytes_made::<D, W>(alloc, _disk, size, peaks, digests, &mut more)
 }
 
+// Returns whether the digests of a log of this size end at a place of 64 bits.
+fn is_near(size: usize) -> bool
+    requires { size < 2 ^ 63 }
+    ensures { result ≡ true → file_end size < 2 ^ 64 }
+{
+    stored_count(size) <= 576460752303423480
+}
+
 /// Appends entries with these digests, one at least, to the log of a file, and returns the new size. What was read has to be on
-/// the disk: sync before. It reads the head and at most 64 digests.
+/// the disk: sync before. It reads the head and at most 128 digests.
 ///
-/// Errors: `NoLog`, `Short`, `Size` for a new size of over 63 bits, `Memory`, after which nothing was written; the disk's
-/// refusal, after which the file is that of the log before or after.
+/// Errors: those of `read_head`, `Damaged`, `Size` for a new size of over 63 bits, `Memory`, also for a size with more bytes
+/// than a file has, after which nothing was written; the disk's refusal, after which the file is that of the log before or
+/// after.
 pub fn append<D: Disk>(
     alloc: Global,
     disk: &mut D,
     digests: &[[u8; 32]],
 ) -> Result<usize, Stop<D::Refusal>>
     requires { 0 < length digests.now }
-
-    ensures refused { let size = appended_size (D.seen disk.old) (length digests.now) in
-        D.Obeys disk.new → IsRefusedFor size result }
+    ensures obeys { D.Obeys disk.new → D.Obeys disk.old }
+    ensures refused { let file = D.seen disk.old in
+        let size = appended_size file (length digests.now) in
+        D.Obeys disk.new → IsRefusedFor file size result }
 
     // Once it returned, a crash leaves the log with the entries; and so it is if one of its two slots is lost.
     ensures acknowledged { D.Obeys disk.new → (leaves : List Digest)
@@ -106,55 +120,118 @@ pub fn append<D: Disk>(
         → IsLogFile leaves (D.seen disk.old) → Only (D.seen disk.old) (D.may_leave disk.old)
         → LeavesOnly D.moment D.left_since disk.old disk.new (IsBeforeOrAfter leaves digests.now) }
 {
-    let head = read_head(disk)?;
-    let size = head.size.saturating_add(digests.len());
+    let log = read_log(disk)?;
+    let size = log.size.saturating_add(digests.len());
     if !is_size(size) {
         return Err(Stop::Fault(Fault::Size));
     }
-    let peaks = match read_peaks(disk, head.size) {
-        Ok(peaks) => peaks,
-        Err(refusal) => return Err(Stop::Disk(refusal)),
-    };
-    let bytes = match bytes_over::<D, Brand>(alloc, disk, head.size, &peaks, digests) {
+    if !is_near(size) {
+        return Err(Stop::Fault(Fault::Memory));
+    }
+    let bytes = match bytes_over::<D, Brand>(alloc, disk, log.size, &log.peaks, digests) {
         Ok(bytes) => bytes,
         Err(fault) => return Err(Stop::Fault(fault)),
     };
-    let place = START + 32 * stored_count(head.size);
-    match write_all(disk, place, &bytes, head.is_second_next, &slot_of(size)) {
+    let place = START + 32 * stored_count(log.size);
+    match write_all(disk, place, &bytes, log.is_second_free, size) {
         Ok(()) => Ok(size),
         Err(refusal) => Err(Stop::Disk(refusal)),
     }
 }
 
-// Returns where a slot stands.
-fn slot_place(is_second: bool) -> usize
-    ensures { result ≡ next_slot is_second }
+/// Appends as `append` does, where the log has this size and root.
+///
+/// Errors: `Other` where it has another, after which nothing was written; those of `append`.
+pub fn append_after<D: Disk>(
+    alloc: Global,
+    disk: &mut D,
+    size: usize,
+    root: &[u8; 32],
+    digests: &[[u8; 32]],
+) -> Result<usize, Stop<D::Refusal>>
+    requires { 0 < length digests.now }
+
+    // Of every file: a slot has this size, and states this root or none.
+    ensures after { D.Obeys disk.new → OnOk result ((log_size (D.seen disk.old) ≡ Ok size)
+        × ((second : Bool) × (slot_to_take (D.seen disk.old) size root.now ≡ Some second))) }
+    ensures log { D.Obeys disk.new → (leaves : List Digest) → IsLogFile leaves (D.seen disk.old)
+        → OnOk result ((length leaves ≡ size)
+        × (merkle_tree_hash node_of (sha256 []) leaves ≡ Ok root.now)) }
+    ensures acknowledged { D.Obeys disk.new → (leaves : List Digest)
+        → IsLogFile leaves (D.seen disk.old)
+        → OnOk result (IsSettled (leaves ++ digests.now) (D.seen disk.new)) }
+    ensures durable { D.Obeys disk.new
+        → OnOk result (Only (D.seen disk.new) (D.may_leave disk.new)) }
+    ensures any_moment { D.Obeys disk.new → (leaves : List Digest)
+        → IsLogFile leaves (D.seen disk.old) → Only (D.seen disk.old) (D.may_leave disk.old)
+        → LeavesOnly D.moment D.left_since disk.old disk.new (IsBeforeOrAfter leaves digests.now) }
 {
-    if is_second { 64 } else { 32 }
+    let log = read_log(disk)?;
+    if !log.is(size, root) {
+        return Err(Stop::Fault(Fault::Other));
+    }
+    append(alloc, disk, digests)
 }
 
-// Writes digests and then both slots, of which the first one is not in use.
+// Writes digests, and the statement of the root that they lead to where a slot ends that is free, and syncs. It returns the
+// root of the log of this size.
+fn write_behind<D: Disk>(
+    disk: &mut D,
+    place: usize,
+    bytes: &[u8],
+    slot_end: usize,
+    size: usize,
+) -> Result<[u8; 32], D::Refusal>
+    requires fits { size < 2 ^ 63 }
+    requires near { file_end size < 2 ^ 64 }
+    ensures obeys { D.Obeys disk.new → D.Obeys disk.old }
+    ensures durable { D.Obeys disk.new
+        → OnOk result (Only (D.seen disk.new) (D.may_leave disk.new)) }
+    ensures written { D.Obeys disk.new → place ≤ length (D.seen disk.old)
+        → slot_end ≤ length (D.seen disk.old)
+        → IfOk result (λ root. let file = written (D.seen disk.old) place bytes.now in
+        D.seen disk.new ≡ written file slot_end (statement size root)) }
+    ensures root { D.Obeys disk.new → place ≤ length (D.seen disk.old) → (leaves : List Digest)
+        → length leaves ≡ size → let file = written (D.seen disk.old) place bytes.now in
+        file_end size ≤ length file → Keeps leaves (stored_in (length leaves) file)
+        → IfOk result (λ root. merkle_tree_hash node_of (sha256 []) leaves ≡ Ok root) }
+    ensures any_moment { D.Obeys disk.new → place ≤ length (D.seen disk.old)
+        → slot_end ≤ length (D.seen disk.old) → Only (D.seen disk.old) (D.may_leave disk.old)
+        → LeavesOnly D.moment D.left_since disk.old disk.new
+        (TornTwice place (length bytes.now) slot_end 12 (D.seen disk.old)) }
+{
+    disk.write_at(place, bytes)?;
+    let root = root_at(disk, size)?;
+    disk.write_at(slot_end, &statement_of(size, &root))?;
+    disk.sync()?;
+    Ok(root)
+}
+
+// Writes digests, and then the size and the root to both slots, of which the first one is free.
 fn write_all<D: Disk>(
     disk: &mut D,
     place: usize,
     bytes: &[u8],
-    is_second_next: bool,
-    new_slot: &[u8; 32],
+    is_second_free: bool,
+    size: usize,
 ) -> Result<(), D::Refusal>
+    requires fits { size < 2 ^ 63 }
+    requires near { file_end size < 2 ^ 64 }
     ensures obeys { D.Obeys disk.new → D.Obeys disk.old }
     ensures durable { D.Obeys disk.new
         → OnOk result (Only (D.seen disk.new) (D.may_leave disk.new)) }
     ensures acknowledged { D.Obeys disk.new → (leaves more : List Digest)
-        → IsGrowth leaves more (D.seen disk.old) bytes.now is_second_next
-        → place ≡ file_end (length leaves) → new_slot.now ≡ slot (length (leaves ++ more))
+        → IsGrowth leaves more (D.seen disk.old) bytes.now is_second_free
+        → place ≡ file_end (length leaves) → size ≡ length (leaves ++ more)
         → OnOk result (IsSettled (leaves ++ more) (D.seen disk.new)) }
     ensures any_moment { D.Obeys disk.new → (leaves more : List Digest)
-        → IsGrowth leaves more (D.seen disk.old) bytes.now is_second_next
-        → place ≡ file_end (length leaves) → new_slot.now ≡ slot (length (leaves ++ more))
+        → IsGrowth leaves more (D.seen disk.old) bytes.now is_second_free
+        → place ≡ file_end (length leaves) → size ≡ length (leaves ++ more)
         → Only (D.seen disk.old) (D.may_leave disk.old)
         → LeavesOnly D.moment D.left_since disk.old disk.new (IsBeforeOrAfter leaves more) }
 {
-    write_durably(disk, place, bytes)?;
-    write_durably(disk, slot_place(is_second_next), new_slot)?;
-    write_durably(disk, slot_place(!is_second_next), new_slot)
+    let free = next_slot(is_second_free);
+    let root = write_behind(disk, place, bytes, free + 20, size)?;
+    write_durably(disk, free, &front_of(size))?;
+    write_durably(disk, next_slot(!is_second_free), &slot_of(size, &root))
 }

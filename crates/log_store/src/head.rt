@@ -1,6 +1,6 @@
 //! The head of a log's file, read from the disk.
 
-ghost use Rattle.std.specs.Prelude.{◌≡◌, ◌≤◌, ◌<◌, ◌^◌, List, length, true, Some, Ok, IfOk};
+ghost use Rattle.std.specs.Prelude.{◌≡◌, ◌≤◌, ◌<◌, ◌^◌, List, length, take, drop, true, Some, Ok, IfOk};
 ghost use Rattle.ark_paths.specs.Pair.{Digest};
 ghost use Rattle.log_store.specs.Refused.{IsRefusedFor};
 ghost use Rattle.merkle_log.specs.Kept.{has_front};
@@ -12,7 +12,7 @@ use crate::disk::Disk;
 use crate::stop::Stop;
 use merkle_log::kept::{is_size, stored_count};
 use paxlog_run::fault::Fault;
-use paxlog_run::head::{Head, START, head_in};
+use paxlog_run::head::{Head, START, fault_without_head, head_in};
 
 // Returns whether so many digests are as many as a log of this size has.
 fn has_front(size: usize, count: usize) -> bool
@@ -22,17 +22,29 @@ fn has_front(size: usize, count: usize) -> bool
     is_size(size) && stored_count(size) <= count
 }
 
-/// Reads the head of a log's file. Errors: `NoLog`; `Short`, also for a size of over 63 bits; the disk's refusal.
-pub fn read_head<D: Disk>(disk: &D) -> Result<Head, Stop<D::Refusal>>
-    ensures size { D.Obeys disk.now → IfOk result (λ head.
-        log_size (D.seen disk.now) ≡ Ok head.size) }
-    ensures refused { D.Obeys disk.now → IsRefusedFor (log_size (D.seen disk.now)) result }
-    ensures head { D.Obeys disk.now → IfOk result (λ head.
-        file_head (D.seen disk.now) ≡ Some (head.size, head.is_second_next)) }
-    ensures fits { IfOk result (λ head. head.size < 2 ^ 63) }
-    ensures near { IfOk result (λ head. file_end head.size < 2 ^ 64) }
-    ensures inside { D.Obeys disk.now → IfOk result (λ head.
-        file_end head.size ≤ length (D.seen disk.now)) }
+/// The head of a log's file, and its bytes.
+#[derive(Clone, Copy)]
+pub struct ReadHead {
+    pub head: Head,
+    pub bytes: [u8; START],
+}
+
+/// Reads the head of a log's file.
+///
+/// Errors: `NoLog`; `Head`; `Short`, also for a size of over 63 bits; the disk's refusal.
+pub fn read_head<D: Disk>(disk: &D) -> Result<ReadHead, Stop<D::Refusal>>
+    ensures size { D.Obeys disk.now → IfOk result (λ read.
+        log_size (D.seen disk.now) ≡ Ok read.head.size) }
+    ensures refused { let file = D.seen disk.now in
+        D.Obeys disk.now → IsRefusedFor file (log_size file) result }
+    ensures head { D.Obeys disk.now → IfOk result (λ read.
+        file_head (D.seen disk.now) ≡ Some (read.head.size, read.head.is_second_next)) }
+    ensures bytes { D.Obeys disk.now → IfOk result (λ read.
+        read.bytes ≡ take 96 (drop 0 (D.seen disk.now))) }
+    ensures fits { IfOk result (λ read. read.head.size < 2 ^ 63) }
+    ensures near { IfOk result (λ read. file_end read.head.size < 2 ^ 64) }
+    ensures inside { D.Obeys disk.now → IfOk result (λ read.
+        file_end read.head.size ≤ length (D.seen disk.now)) }
 {
     let count = match disk.length() {
         Ok(count) => count,
@@ -46,12 +58,12 @@ pub fn read_head<D: Disk>(disk: &D) -> Result<Head, Stop<D::Refusal>>
         return Err(Stop::Disk(refusal));
     }
     let Some(head) = head_in(&bytes) else {
-        return Err(Stop::Fault(Fault::NoLog));
+        return Err(Stop::Fault(fault_without_head(&bytes)));
     };
     if !has_front(head.size, (count - START) / 32) {
         return Err(Stop::Fault(Fault::Short));
     }
-    Ok(head)
+    Ok(ReadHead { head, bytes })
 }
 
 /// Returns how many entries the log of a file has. Errors: `NoLog`; `Short`; the disk's refusal.
@@ -59,5 +71,5 @@ pub fn size<D: Disk>(disk: &D) -> Result<usize, Stop<D::Refusal>>
     ensures { D.Obeys disk.now → (leaves : List Digest) → IsLogFile leaves (D.seen disk.now)
         → IfOk result (λ size. size ≡ length leaves) }
 {
-    Ok(read_head(disk)?.size)
+    Ok(read_head(disk)?.head.size)
 }

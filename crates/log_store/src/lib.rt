@@ -1,4 +1,5 @@
-//! A log in a file: appends that a crash cannot lose once they returned, and roots, of which only what is asked for is read.
+//! A log in a file: appends that a crash cannot lose once they returned, and roots and proofs, for which only what they ask for
+//! is read, and which are checked.
 //!
 //! The file lies on a disk, whose calls may fail and of which a crash may leave any part of what was written since the last
 //! sync.
@@ -8,13 +9,17 @@ pub mod disk;
 mod edge;
 mod growth;
 mod head;
+mod log;
+mod proving;
+mod spots;
 mod steps;
 mod stop;
 #[cfg(test)]
 mod tests;
 
 pub use disk::Disk;
-pub use edge::root;
-pub use growth::append;
+pub use growth::{append, append_after};
 pub use head::size;
+pub use log::root;
+pub use proving::{ConsistencyProof, InclusionProof, consistency, prove};
 pub use stop::Stop;

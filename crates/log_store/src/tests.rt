@@ -1,9 +1,10 @@
 //! Appends over a disk that stops at a call, and writes a part of what that call was to write.
 
 use crate::disk::Disk;
-use crate::{append, root};
+use crate::{append, consistency, prove, root};
 use ark_trees::digest_of_entry;
 use paxlog_run::head::{TITLE, slot_of};
+use sha2::{Digest as _, Sha256};
 use std::alloc::{AllocError, Global};
 use std::test::Fail;
 
@@ -24,8 +25,9 @@ impl Short {
     fn new(alloc: Global) -> Result<Short, AllocError> {
         let mut bytes = Vec::new(alloc);
         bytes.extend_from_slice(&TITLE)?;
-        bytes.extend_from_slice(&slot_of(0))?;
-        bytes.extend_from_slice(&slot_of(0))?;
+        let empty = Sha256::digest([].as_slice());
+        bytes.extend_from_slice(&slot_of(0, &empty))?;
+        bytes.extend_from_slice(&slot_of(0, &empty))?;
         Ok(Short {
             bytes,
             calls: 100,
@@ -144,7 +146,7 @@ fn what_a_stop_leaves_is_the_log_before_or_after(rt: HostRuntime) -> Result<(), 
     let two = two(alloc)?;
     let digest = digest_of_entry(&[16]);
     let third = [digest];
-    for calls in 0..6 {
+    for calls in 0..7 {
         for part in [0, 1, 9, 31] {
             let mut disk = two.copy(alloc, calls, part)?;
             assert!(rt; append(alloc, &mut disk, &third).is_err());
@@ -166,5 +168,23 @@ fn a_slot_that_is_lost_changes_nothing(rt: HostRuntime) -> Result<(), Fail> {
         assert!(rt; disk.put(place, &[0xa5]).is_ok());
         assert!(rt; is_after(&disk));
     }
+    Ok(())
+}
+
+#[test]
+fn a_digest_that_is_damaged_is_told(rt: HostRuntime) -> Result<(), Fail> {
+    let alloc = rt.alloc();
+    let mut log = two(alloc)?;
+    let digest = digest_of_entry(&[16]);
+    let third = [digest];
+    assert!(rt; append(alloc, &mut log, &third).is_ok());
+    assert!(rt; prove(alloc, &log, 1, None).is_ok());
+    assert!(rt; consistency(alloc, &log, 2, None).is_ok());
+    assert!(rt; log.put(96, &[0xa5]).is_ok());
+    assert!(rt; root(&log, None).is_ok());
+    assert!(rt; prove(alloc, &log, 1, None).is_err());
+    assert!(rt; log.put(160, &[0xa5]).is_ok());
+    assert!(rt; root(&log, None).is_err());
+    assert!(rt; append(alloc, &mut log, &third).is_err());
     Ok(())
 }

@@ -3,6 +3,7 @@
 ghost use Rattle.std.specs.Prelude.{[]};
 
 use log_store::Disk;
+use paxlog_run::head::START;
 use std::fs::File;
 use std::io;
 use std::os::unix::fs::FileExt;
@@ -11,6 +12,17 @@ use std::os::unix::fs::FileExt;
 #[derive(Drop)]
 pub struct FileDisk {
     pub file: File,
+    /// Whether a write to a slot was begun, so that what is appended may be in the log.
+    pub is_slot_begun: bool,
+}
+
+impl FileDisk {
+    pub fn new(file: File) -> FileDisk {
+        FileDisk {
+            file,
+            is_slot_begun: false,
+        }
+    }
 }
 
 impl Disk for FileDisk {
@@ -37,6 +49,9 @@ impl Disk for FileDisk {
     }
 
     fn write_at(&mut self, at: usize, bytes: &[u8]) -> io::Result<()> {
+        if at < START && at % 32 == 0 {
+            self.is_slot_begun = true;
+        }
         self.file.write_all_at(bytes, at as u64)
     }
 

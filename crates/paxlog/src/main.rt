@@ -8,41 +8,74 @@ mod store;
 mod words;
 
 use crate::progress::OnTerminal;
-use crate::stop::Stop;
+use crate::stop::{Stop, StopAt};
 use crate::words::words;
 use ark_trees::digest_of_entry;
 use paxlog_run::entries::digests_of_lines;
 use paxlog_run::fault::Fault;
-use paxlog_run::replies::{consistency_line, inclusion_line, is_sound, line_of_root};
-use paxlog_run::request::{Request, request_of, word};
+use paxlog_run::replies::{is_sound, line_of, line_of_root};
+use paxlog_run::request::{After, Request, request_of, word};
 use paxlog_run::verdicts::{verify_consistency, verify_inclusion};
 use std::fs;
-use std::io::Write;
+use std::io::{Read, Write};
 use std::process::ExitCode;
 
-const USAGE: &str = "usage: paxlog append LOG FILE ..
-       paxlog append-lines LOG FILE
+const USAGE: &str = "usage: paxlog append LOG [--after SIZE ROOT] [--] FILE ..
+       paxlog append-lines LOG [--after SIZE ROOT] [--] FILE
        paxlog root LOG [SIZE]
        paxlog prove LOG INDEX [SIZE]
        paxlog consistency LOG OLD_SIZE [SIZE]
        paxlog check LOG
        paxlog verify ROOT SIZE INDEX FILE PROOF
        paxlog verify-consistency OLD_SIZE OLD_ROOT SIZE ROOT PROOF
-       paxlog --help
+       paxlog -h | --help | --version
+FILE - is standard input.
 ";
 
+const VERSION: &str = "paxlog 1.0.0
+";
+
+// Exit statuses.
+const NO: u8 = 1;
+
+const USED_WRONGLY: u8 = 2;
+
+const REFUSED: u8 = 3;
+
+const LOCKED: u8 = 4;
+
+const DAMAGED: u8 = 5;
+
+const SYSTEM: u8 = 6;
+
+const PERHAPS: u8 = 7;
+
 // The name of a file at a place of the words.
-fn name(words: &[Vec<u8>], place: usize) -> Result<&str, Stop> {
-    str::from_utf8(word(words, place)).map_err(|_| Stop::Words)
+fn name(words: &[Vec<u8>], place: usize) -> Result<&str, StopAt> {
+    match str::from_utf8(word(words, place)) {
+        Ok(name) => Ok(name),
+        Err(_) => Err(Stop::Words.at(place)),
+    }
 }
 
-// The bytes of the file at a place of the words.
-fn bytes_of(rt: &HostRuntime, words: &[Vec<u8>], place: usize) -> Result<Vec<u8>, Stop> {
-    Ok(fs::read(rt, name(words, place)?)?)
+// The bytes of the file at a place of the words, or of standard input.
+fn bytes_of(rt: &HostRuntime, words: &[Vec<u8>], place: usize) -> Result<Vec<u8>, StopAt> {
+    let name = name(words, place)?;
+    if name == "-" {
+        let mut bytes = Vec::new(rt.alloc());
+        return match rt.stdin().read_to_end(&mut bytes) {
+            Ok(_) => Ok(bytes),
+            Err(error) => Err(Stop::from(error).at(place)),
+        };
+    }
+    match fs::read(rt, name) {
+        Ok(bytes) => Ok(bytes),
+        Err(error) => Err(Stop::from(error).at(place)),
+    }
 }
 
 // Writes what is said, and returns the status.
-fn say(rt: &HostRuntime, line: &[u8]) -> Result<u8, Stop> {
+fn say(rt: &HostRuntime, line: &[u8]) -> Result<u8, StopAt> {
     let mut out = rt.stdout();
     out.write_all(line)?;
     out.flush()?;
@@ -50,65 +83,117 @@ fn say(rt: &HostRuntime, line: &[u8]) -> Result<u8, Stop> {
 }
 
 // Writes what a check says, and returns the status.
-fn say_verdict(rt: &HostRuntime, holds: bool) -> Result<u8, Stop> {
+fn say_verdict(rt: &HostRuntime, holds: bool) -> Result<u8, StopAt> {
     if holds {
         return say(rt, b"yes\n");
     }
     say(rt, b"no\n")?;
-    Ok(1)
+    Ok(NO)
 }
 
-// Appends entries, and writes the new size.
-fn append(rt: &HostRuntime, words: &[Vec<u8>], digests: &[[u8; 32]]) -> Result<u8, Stop> {
-    let size = store::append(rt, name(words, 1)?, digests)?;
+// Writes what a check of a proof says, and why a proof is none.
+fn say_proof(rt: &HostRuntime, verdict: Result<bool, Fault>) -> Result<u8, StopAt> {
+    match verdict {
+        Ok(holds) => say_verdict(rt, holds),
+        Err(fault) if fault == Fault::Word || fault == Fault::Length => {
+            let why = reason(fault);
+            let _ = eprintln!(rt; "paxlog: {why}");
+            say_verdict(rt, false)
+        }
+        Err(fault) => Err(StopAt::from(fault)),
+    }
+}
+
+// Writes a size, and returns the status.
+fn say_size(rt: &HostRuntime, size: usize) -> Result<u8, StopAt> {
     say(rt, format!(in rt.alloc(); "{size}\n")?.as_bytes())
 }
 
-// The digests of the entries that the files behind the log are.
-fn digests_of_files(rt: &HostRuntime, words: &[Vec<u8>]) -> Result<Vec<[u8; 32]>, Stop> {
+// Appends entries, and writes the new size.
+fn append(
+    rt: &HostRuntime,
+    words: &[Vec<u8>],
+    after: Option<After>,
+    digests: &[[u8; 32]],
+) -> Result<u8, StopAt> {
+    let size = match store::append(rt, name(words, 1)?, after, digests) {
+        Ok(size) => size,
+        Err(why) => return Err(why.at(1)),
+    };
+    match say_size(rt, size) {
+        Ok(status) => Ok(status),
+        Err(_) => Err(StopAt::from(Stop::Unsaid)),
+    }
+}
+
+// The digests of the entries that the files from a place on are.
+fn digests_of_files(
+    rt: &HostRuntime,
+    words: &[Vec<u8>],
+    first: usize,
+) -> Result<Vec<[u8; 32]>, StopAt> {
     let mut digests = Vec::new(rt.alloc());
-    for place in 2..words.len() {
+    for place in first..words.len() {
         digests.push(digest_of_entry(&bytes_of(rt, words, place)?))?;
     }
     Ok(digests)
 }
 
 // The digests of the entries that the lines of a file are.
-fn digests_in_file(rt: &HostRuntime, words: &[Vec<u8>]) -> Result<Vec<[u8; 32]>, Stop> {
+fn digests_in_file(
+    rt: &HostRuntime,
+    words: &[Vec<u8>],
+    place: usize,
+) -> Result<Vec<[u8; 32]>, StopAt> {
     let mut progress = OnTerminal::new(rt);
-    let bytes = bytes_of(rt, words, 2)?;
+    let bytes = bytes_of(rt, words, place)?;
     let digests = digests_of_lines(rt.alloc(), &bytes, &mut progress)?;
     progress.end();
     Ok(digests)
 }
 
+// What is said of the log, or why not.
+fn of_log<T: Drop>(said: Result<T, Stop>) -> Result<T, StopAt> {
+    match said {
+        Ok(value) => Ok(value),
+        Err(why) => Err(why.at(1)),
+    }
+}
+
 // Does what is asked for, and returns the status.
-fn answer(rt: &HostRuntime, request: Request, words: &[Vec<u8>]) -> Result<u8, Stop> {
+fn answer(rt: &HostRuntime, request: Request, words: &[Vec<u8>]) -> Result<u8, StopAt> {
     match request {
-        Request::Append => append(rt, words, &digests_of_files(rt, words)?),
-        Request::AppendLines => append(rt, words, &digests_in_file(rt, words)?),
+        Request::Append { after, first } => {
+            append(rt, words, after, &digests_of_files(rt, words, first)?)
+        }
+        Request::AppendLines { after, first } => {
+            append(rt, words, after, &digests_in_file(rt, words, first)?)
+        }
         Request::Root { size } => {
-            let (size, root) = store::root(rt, name(words, 1)?, size)?;
+            let (size, root) = of_log(store::root(rt, name(words, 1)?, size))?;
             say(rt, &line_of_root(rt.alloc(), size, &root)?)
         }
         Request::Prove { index, size } => {
-            let file = bytes_of(rt, words, 1)?;
-            say(rt, &inclusion_line(rt.alloc(), &file, index, size)?)
+            let path = of_log(store::prove(rt, name(words, 1)?, index, size))?;
+            say(rt, &line_of(rt.alloc(), &path)?)
         }
         Request::Consistency { old_size, size } => {
-            let file = bytes_of(rt, words, 1)?;
-            say(rt, &consistency_line(rt.alloc(), &file, old_size, size)?)
+            let path = of_log(store::consistency(rt, name(words, 1)?, old_size, size))?;
+            say(rt, &line_of(rt.alloc(), &path)?)
         }
         Request::Check => {
             let file = bytes_of(rt, words, 1)?;
-            say_verdict(rt, is_sound(&file)?)
+            match is_sound(&file) {
+                Ok(holds) => say_verdict(rt, holds),
+                Err(fault) => Err(Stop::Fault(fault).at(1)),
+            }
         }
         Request::Verify { root, size, index } => {
             let entry = bytes_of(rt, words, 4)?;
             let proof = word(words, 5);
-            say_verdict(
+            say_proof(
                 rt,
-                verify_inclusion(rt.alloc(), &root, size, index, &entry, proof)?,
+                verify_inclusion(rt.alloc(), &root, size, index, &entry, proof),
             )
         }
         Request::VerifyConsistency {
@@ -118,10 +203,11 @@ fn answer(rt: &HostRuntime, request: Request, words: &[Vec<u8>]) -> Result<u8, S
             root,
         } => {
             let proof = word(words, 5);
-            let holds = verify_consistency(rt.alloc(), old_size, &old_root, size, &root, proof)?;
-            say_verdict(rt, holds)
+            let verdict = verify_consistency(rt.alloc(), old_size, &old_root, size, &root, proof);
+            say_proof(rt, verdict)
         }
         Request::Help => say(rt, USAGE.as_bytes()),
+        Request::Version => say(rt, VERSION.as_bytes()),
     }
 }
 
@@ -130,46 +216,88 @@ fn reason(fault: Fault) -> &'static str {
     match fault {
         Fault::Memory => "a request for memory was refused",
         Fault::NoLog => "the file is no log",
+        Fault::HeadDamaged => "the head of the log is damaged",
+        Fault::Damaged => "a digest of the log is damaged",
         Fault::Short => "the file of the log ends early",
         Fault::Size => "the log has no such size",
         Fault::Index => "the log has no entry at this index",
+        Fault::Other => "the log has another size or root",
         Fault::Length => "a proof of these sizes has another length",
         Fault::Word => "the proof is not hexadecimal",
     }
 }
 
+// The status of a fault.
+fn status(fault: Fault) -> u8 {
+    match fault {
+        Fault::HeadDamaged | Fault::Damaged | Fault::Short => DAMAGED,
+        _ => REFUSED,
+    }
+}
+
+// Begins the line of why there is no answer: with the name of the file that it speaks of.
+fn begin(rt: &HostRuntime, words: &[Vec<u8>], place: Option<usize>) {
+    let _ = eprint!(rt; "paxlog: ");
+    if let Some(place) = place {
+        let _ = rt.stderr().write_all(word(words, place));
+        let _ = eprint!(rt; ": ");
+    }
+}
+
 // Writes why there is no answer, and returns the status.
-fn complain(rt: &HostRuntime, why: Stop) -> u8 {
+fn complain(rt: &HostRuntime, words: &[Vec<u8>], stop: StopAt) -> u8 {
+    let StopAt { why, place } = stop;
     match why {
         Stop::Words => {
             let _ = eprint!(rt; "{USAGE}");
-            return 2;
+            USED_WRONGLY
+        }
+        Stop::LongWord => {
+            let _ = eprintln!(rt; "paxlog: a word is longer than 8192 bytes");
+            USED_WRONGLY
         }
         Stop::Fault(fault) => {
             let why = reason(fault);
-            let _ = eprintln!(rt; "paxlog: {why}");
+            begin(rt, words, place);
+            let _ = eprintln!(rt; "{why}");
+            status(fault)
         }
         Stop::Locked => {
-            let _ = eprintln!(rt; "paxlog: another process appends to the log");
+            begin(rt, words, place);
+            let _ = eprintln!(rt; "another process appends to the log");
+            LOCKED
         }
         Stop::System(error) => {
-            let _ = eprintln!(rt; "paxlog: {error}");
+            begin(rt, words, place);
+            let _ = eprintln!(rt; "{error}");
+            SYSTEM
+        }
+        Stop::Perhaps(error) => {
+            begin(rt, words, place);
+            let _ = eprintln!(rt; "the entries are perhaps in the log: {error}");
+            PERHAPS
+        }
+        Stop::Unsaid => {
+            let _ = eprintln!(rt; "paxlog: the entries are in the log, and the output failed");
+            PERHAPS
         }
     }
-    3
 }
 
-fn start(rt: &HostRuntime) -> Result<u8, Stop> {
-    let words = words(rt.alloc(), rt)?;
-    match request_of(&words) {
-        Some(request) => answer(rt, request, &words),
-        None => Err(Stop::Words),
+fn start(rt: &HostRuntime, words: &[Vec<u8>]) -> Result<u8, StopAt> {
+    match request_of(words) {
+        Some(request) => answer(rt, request, words),
+        None => Err(StopAt::from(Stop::Words)),
     }
 }
 
 fn main(rt: HostRuntime) -> ExitCode {
-    match start(&rt) {
+    let words = match words(rt.alloc(), &rt) {
+        Ok(words) => words,
+        Err(why) => return ExitCode::from(complain(&rt, &[], StopAt::from(why))),
+    };
+    match start(&rt, &words) {
         Ok(status) => ExitCode::from(status),
-        Err(why) => ExitCode::from(complain(&rt, why)),
+        Err(why) => ExitCode::from(complain(&rt, &words, why)),
     }
 }

@@ -10,19 +10,84 @@ use std::io;
 pub enum Stop {
     /// It knows no such words.
     Words,
+    /// A word has more bytes than any that it takes.
+    LongWord,
     /// There is no answer.
     Fault(Fault),
     /// Another process appends.
     Locked,
     /// A call of the system failed.
     System(io::Error),
+    /// A call of the system failed after a slot was begun: what was to be appended may be in the log.
+    Perhaps(io::Error),
+    /// Entries were appended, and the new size could not be written.
+    Unsaid,
 }
 
-impl From<Fault> for Stop {
-    fn from(fault: Fault) -> Stop {
-        match fault {
-            Fault::Word => Stop::Words,
-            other => Stop::Fault(other),
+/// Why the command stops, and the place among the words of the file that it speaks of.
+#[derive(Drop)]
+pub struct StopAt {
+    pub why: Stop,
+    pub place: Option<usize>,
+}
+
+// What a refusal of the system says: a lack of memory has its own name.
+fn of_system(error: io::Error) -> Stop {
+    if error.kind() == io::ErrorKind::OutOfMemory {
+        Stop::Fault(Fault::Memory)
+    } else {
+        Stop::System(error)
+    }
+}
+
+impl Stop {
+    /// Names the file at a place of the words.
+    pub fn at(self, place: usize) -> StopAt {
+        StopAt {
+            why: self,
+            place: Some(place),
+        }
+    }
+}
+
+impl From<Stop> for StopAt {
+    fn from(why: Stop) -> StopAt {
+        StopAt { why, place: None }
+    }
+}
+
+impl From<io::Error> for StopAt {
+    fn from(error: io::Error) -> StopAt {
+        StopAt {
+            why: of_system(error),
+            place: None,
+        }
+    }
+}
+
+impl From<Fault> for StopAt {
+    fn from(fault: Fault) -> StopAt {
+        StopAt {
+            why: Stop::Fault(fault),
+            place: None,
+        }
+    }
+}
+
+impl From<AllocError> for StopAt {
+    fn from(_refused: AllocError) -> StopAt {
+        StopAt {
+            why: Stop::Fault(Fault::Memory),
+            place: None,
+        }
+    }
+}
+
+impl<T: Drop> From<AllocFailed<T>> for StopAt {
+    fn from(_refused: AllocFailed<T>) -> StopAt {
+        StopAt {
+            why: Stop::Fault(Fault::Memory),
+            place: None,
         }
     }
 }
@@ -31,8 +96,14 @@ impl From<log_store::Stop<io::Error>> for Stop {
     fn from(stop: log_store::Stop<io::Error>) -> Stop {
         match stop {
             log_store::Stop::Fault(fault) => Stop::Fault(fault),
-            log_store::Stop::Disk(error) => Stop::System(error),
+            log_store::Stop::Disk(error) => of_system(error),
         }
+    }
+}
+
+impl From<Fault> for Stop {
+    fn from(fault: Fault) -> Stop {
+        Stop::Fault(fault)
     }
 }
 
@@ -50,14 +121,14 @@ impl<T: Drop> From<AllocFailed<T>> for Stop {
 
 impl From<io::Error> for Stop {
     fn from(error: io::Error) -> Stop {
-        Stop::System(error)
+        of_system(error)
     }
 }
 
 impl From<TryLockError> for Stop {
     fn from(error: TryLockError) -> Stop {
         match error {
-            TryLockError::Error(error) => Stop::System(error),
+            TryLockError::Error(error) => of_system(error),
             TryLockError::WouldBlock => Stop::Locked,
         }
     }

@@ -3,7 +3,10 @@
 use crate::file_disk::FileDisk;
 use crate::stop::Stop;
 use log_store::Disk;
+use paxlog_run::fault::Fault;
 use paxlog_run::head::{TITLE, slot_of};
+use paxlog_run::request::After;
+use sha2::{Digest, Sha256};
 use std::fs::{File, OpenOptions};
 
 // The folder of a file.
@@ -19,8 +22,9 @@ fn folder_of(path: &str) -> &str {
 fn make(rt: &HostRuntime, path: &str, disk: &mut FileDisk) -> Result<(), Stop> {
     let mut head = Vec::new(rt.alloc());
     head.extend_from_slice(&TITLE)?;
-    head.extend_from_slice(&slot_of(0))?;
-    head.extend_from_slice(&slot_of(0))?;
+    let empty = Sha256::digest([].as_slice());
+    head.extend_from_slice(&slot_of(0, &empty))?;
+    head.extend_from_slice(&slot_of(0, &empty))?;
     let count = disk.length()?;
     if count > head.len() {
         return Ok(());
@@ -40,22 +44,80 @@ fn make(rt: &HostRuntime, path: &str, disk: &mut FileDisk) -> Result<(), Stop> {
     Ok(())
 }
 
-/// Appends entries with these digests to the log of a file, which is made where there is none, and returns the new size.
-pub fn append(rt: &HostRuntime, path: &str, digests: &[[u8; 32]]) -> Result<usize, Stop> {
+// Whether a log with this size and root is the one after which entries are to be appended.
+fn is_after(after: &After, size: usize, root: &[u8; 32]) -> bool {
+    after.size == size && after.root == *root
+}
+
+/// Appends entries with these digests to the log of a file, which is made where there is none, and returns the new size. Where a
+/// size and a root are given, it appends only to the log that has them.
+pub fn append(
+    rt: &HostRuntime,
+    path: &str,
+    after: Option<After>,
+    digests: &[[u8; 32]],
+) -> Result<usize, Stop> {
     let mut how = OpenOptions::new();
-    let file = how.read(true).write(true).create(true).open(rt, path)?;
+    let file = how
+        .read(true)
+        .write(true)
+        .create(after.is_none())
+        .open(rt, path)?;
     file.try_lock()?;
-    let mut disk = FileDisk { file };
-    make(rt, path, &mut disk)?;
+    let mut disk = FileDisk::new(file);
+    if after.is_none() {
+        make(rt, path, &mut disk)?;
+    }
     disk.sync()?;
     if digests.is_empty() {
-        return Ok(log_store::size(&disk)?);
+        let (size, root) = log_store::root(&disk, None)?;
+        return match after {
+            Some(after) if !is_after(&after, size, &root) => Err(Stop::Fault(Fault::Other)),
+            _ => Ok(size),
+        };
     }
-    Ok(log_store::append(rt.alloc(), &mut disk, digests)?)
+    disk.is_slot_begun = false;
+    let appended = match after {
+        Some(after) => {
+            let alloc = rt.alloc();
+            log_store::append_after(alloc, &mut disk, after.size, &after.root, digests)
+        }
+        None => log_store::append(rt.alloc(), &mut disk, digests),
+    };
+    match appended {
+        Ok(size) => Ok(size),
+        Err(log_store::Stop::Fault(fault)) => Err(Stop::Fault(fault)),
+        Err(log_store::Stop::Disk(error)) if disk.is_slot_begun => Err(Stop::Perhaps(error)),
+        Err(log_store::Stop::Disk(error)) => Err(Stop::from(error)),
+    }
 }
 
 /// Returns the count and the root of the first entries of the log of a file, of as many as are named, or else of all.
 pub fn root(rt: &HostRuntime, path: &str, named: Option<usize>) -> Result<(usize, [u8; 32]), Stop> {
     let file = File::open(rt, path)?;
-    Ok(log_store::root(&FileDisk { file }, named)?)
+    Ok(log_store::root(&FileDisk::new(file), named)?)
+}
+
+/// Returns the path of the inclusion proof of an index in the first entries of the log of a file, as many as are named, or else
+/// all.
+pub fn prove(
+    rt: &HostRuntime,
+    path: &str,
+    index: usize,
+    named: Option<usize>,
+) -> Result<Vec<[u8; 32]>, Stop> {
+    let file = File::open(rt, path)?;
+    Ok(log_store::prove(rt.alloc(), &FileDisk::new(file), index, named)?.path)
+}
+
+/// Returns the path of the proof that the first entries of the log of a file, as many as are named, or else all, continue its
+/// first `old_size` ones.
+pub fn consistency(
+    rt: &HostRuntime,
+    path: &str,
+    old_size: usize,
+    named: Option<usize>,
+) -> Result<Vec<[u8; 32]>, Stop> {
+    let file = File::open(rt, path)?;
+    Ok(log_store::consistency(rt.alloc(), &FileDisk::new(file), old_size, named)?.path)
 }

@@ -7,7 +7,7 @@ use std::env::{Env, FillError};
 // No word that the command takes is longer: a proof has at most 64 digests, and a name fewer bytes.
 const LONGEST: usize = 8192;
 
-/// Copies the words behind the command's name. The error is a lack of memory, or `Words` for one of more than 8,192 bytes.
+/// Copies the words behind the command's name. The error is a lack of memory, or `LongWord` for one of more than 8,192 bytes.
 pub fn words<E: Env>(alloc: Global, env: &E) -> Result<Vec<Vec<u8>>, Stop> {
     let mut words = Vec::new(alloc);
     let mut room = Vec::new(alloc);
@@ -16,7 +16,7 @@ pub fn words<E: Env>(alloc: Global, env: &E) -> Result<Vec<Vec<u8>>, Stop> {
         match env.arg(place, &mut room) {
             Ok(length) => words.push(Vec::from_slice(alloc, &room[..length])?)?,
             Err(FillError::NotPresent) => return Ok(words),
-            Err(FillError::TooLong) => return Err(Stop::Words),
+            Err(FillError::TooLong) => return Err(Stop::LongWord),
         }
     }
     Ok(words)

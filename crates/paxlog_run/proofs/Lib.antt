@@ -6,3 +6,4 @@ pub mod Lines
 pub mod Pieces
 pub mod Saying
 pub mod Sizes
+pub mod Words

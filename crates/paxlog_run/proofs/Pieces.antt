@@ -1,6 +1,7 @@
 -- The pieces of a file that was cut, and of one that was written to.
 use Rattle.std.proofs.Common.{◌≡◌, ℕ, ◌+◌, ◌-◌, ◌≤◌, List, ◌++◌, length, take, drop, refl, ap, sym, ◌∙◌, append_assoc, arith}
-use Rattle.std.proofs.lemmas.List.{length-append, length-drop, length-take-le, take-take, take-append-le, drop-append-le, drop-take, take_at, drop_at}
+use Rattle.std.proofs.lemmas.List.{append-nil, drop_all, length-append, length-drop, length-take-le, take-append-drop, take-take, take-append-le, drop-append-le, drop-drop, drop-take, take_at, drop_at}
+use Rattle.std.proofs.Math.Seq.{take-add}
 use Rattle.paxlog_run.specs.LogFile.{written}
 
 -- a piece that ends where the file was cut, or before
@@ -68,3 +69,35 @@ length-written file part place inside = omega (
   length-take-le place file (omega arith),
   length-drop (place + length part) file,
 )
+
+-- a part that is written behind a front of a piece
+pub written-end : (file part : List ℕ) (place k : ℕ) → place + k + length part ≤ length file
+    → written file (place + k) part ≡ written file place (take k (drop place file) ++ part)
+written-end file part place k inside =
+    let front = take k (drop place file) in
+    let long : length front ≡ k = length-take-le k (drop place file) (omega (arith, inside, length-drop place file)) in
+    let all : place + length (front ++ part) ≡ place + k + length part =
+    omega (arith, long, length-append front part) in
+    rw (take-add place k file, all)
+    (ap (λ l. l ++ drop (place + k + length part) file) (append_assoc (take place file) front part))
+
+-- a part that is written before the end of a piece
+pub written-begin : (file part : List ℕ) (place m : ℕ) → place + length part + m ≤ length file
+    → written file place part ≡ written file place (part ++ take m (drop (place + length part) file))
+written-begin file part place m inside =
+    let behind = drop (place + length part) file in
+    let end = take m behind in
+    let long : length end ≡ m =
+    length-take-le m behind (omega (arith, inside, length-drop (place + length part) file)) in
+    let all : place + length (part ++ end) ≡ (place + length part) + m = omega (arith, long, length-append part end) in
+    rw (all, ← drop-drop m (place + length part) file)
+    (ap (λ l. (take place file ++ part) ++ l) (sym (take-append-drop m behind))
+    ∙ sym (append_assoc (take place file ++ part) end (drop m behind))
+    ∙ ap (λ l. l ++ drop m behind) (append_assoc (take place file) part end))
+
+-- 20 bytes and 12 behind them
+pub both-parts : (front end rest : List ℕ) → length front ≡ 20 → length rest ≡ 12
+    → take 20 (front ++ rest) ++ (end ++ drop 12 (drop 20 (front ++ rest))) ≡ front ++ end
+both-parts front end rest long some =
+    rw (take_at front rest 20 long, drop_at front rest 20 long, drop_all 12 rest (omega (arith, some)))
+    (ap (λ l. front ++ l) (append-nil end))

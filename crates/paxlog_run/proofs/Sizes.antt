@@ -3,9 +3,6 @@ use Rattle.std.proofs.Common.{◌≡◌, ℕ, ◌<◌, ◌≤◌, nat_lt, Bool, 
 use Rattle.std.specs.Prelude.{not, unwrap_or}
 use Rattle.std.proofs.lemmas.Bool.{le-ltb, lt-ltb}
 use Rattle.ark_base.specs.Outcome.{◌>>=◌}
-use Rattle.ark_paths.specs.Pair.{Digest}
-use Rattle.merkle_log.specs.Kept.{front}
-use Rattle.merkle_log.specs.Stored.{StoredValue}
 use Rattle.paxlog_run.specs.Faults.{log_size, of_first, only_if}
 use Rattle.paxlog_run.specs.declared.fault.Fault.{Fault}
 use Rattle.paxlog_run.specs.declared.fault.Fault.TheVariants.{Size}
@@ -17,11 +14,6 @@ module _ (file : List ℕ) (named : Option ℕ) (all size : ℕ) (is : log_size 
 
   pub size-inside : size ≤ all → of_first file named Ok ≡ Ok size
   size-inside inside = rw (is, sym asked, le-ltb all size inside) refl
-
-  -- the size of what is kept
-  pub size-kept : (kept : StoredValue) (digests : List Digest) → kept ≡ front size digests → size ≤ all
-      → of_first file named Ok ≡ Ok kept.size
-  size-kept kept digests same inside = rw same (size-inside inside)
 
 abbrev fault_in : Result ℕ Fault → Fault
 fault_in (Ok n) = Size

@@ -1,5 +1,5 @@
 -- An append to the file of a log.
-use Rattle.std.specs.Prelude.{◌≡◌, ℕ, ◌+◌, ◌^◌, ◌++◌, nat_lt, List, length, take, None, Result, Ok}
+use Rattle.std.specs.Prelude.{◌≡◌, ℕ, ◌+◌, ◌^◌, ◌++◌, nat_lt, List, length, Result, Ok}
 use Rattle.std.specs.List.{flat_map, AllByRecursion}
 use Rattle.ark_base.specs.Digits.{itself, AreBytes}
 use Rattle.ark_base.specs.Outcome.{◌>>=◌}
@@ -7,7 +7,6 @@ use Rattle.ark_paths.specs.Pair.{Digest}
 use Rattle.merkle_log.specs.Kept.{Keeps}
 use Rattle.merkle_log.specs.Stored.{stored_count}
 use Rattle.paxlog_run.specs.Faults.{log_size, only_if}
-use Rattle.paxlog_run.specs.LogFile.{slot_size, written, IsLogFile}
 use Rattle.paxlog_run.specs.declared.fault.Fault.{Fault}
 use Rattle.paxlog_run.specs.declared.fault.Fault.TheVariants.{Size}
 
@@ -24,14 +23,3 @@ pub record HasBehind (leaves stored more : List Digest) (bytes : List ℕ) : Typ
   pub is : bytes ≡ flat_map itself new
   pub count : stored_count (length leaves) + length new ≡ stored_count (length leaves + length more)
   pub keeps : Keeps (leaves ++ more) (stored ++ new)
-
--- Digests are written at a place of a log's file, which was cut there, and then a slot.
-pub record Appends (leaves more : List Digest) (file : List ℕ) (place : ℕ) (bytes : List ℕ) (slot_place : ℕ)
-    (slot : List ℕ) : Type 0 where
-  -- whatever stands from the place on, the log is as before
-  pub stays : (rest : List ℕ) → IsLogFile leaves (take place file ++ rest)
-  -- so it is while the slot is no whole one
-  pub torn : (rest part : List ℕ) → length part ≡ 32 → slot_size part ≡ None
-      → IsLogFile leaves (written (take place file ++ rest) slot_place part)
-  -- once both are written, it has the new leaves
-  pub grown : IsLogFile (leaves ++ more) (written (take place file ++ bytes) slot_place slot)

@@ -14,10 +14,16 @@ pub enum Fault {
     Memory,
     /// The file is no log's.
     NoLog,
+    /// The file has the title of a log's, and no slot is whole.
+    HeadDamaged,
     /// The file ends before the digests of the log's size.
     Short,
+    /// A digest of the log is another than the one that was stored, or a slot states another root.
+    Damaged,
     /// The log has no such size: it has fewer entries, an old size is 0 or above the size, or a new one has over 63 bits.
     Size,
+    /// The log has another size or root than those after which entries are to be appended.
+    Other,
     /// The index is not below the size.
     Index,
     /// A proof of this index or these sizes has another length.

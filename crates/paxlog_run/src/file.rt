@@ -1,15 +1,14 @@
 //! A log, as the bytes of its file say it.
 
-ghost use Rattle.std.specs.Prelude.{◌≡◌, ◌≤◌, ◌<◌, ◌+◌, ◌*◌, ◌^◌, drop, Some, Ok, Err, length, List, IfOk, IfErr, unwrap_or};
+ghost use Rattle.std.specs.Prelude.{◌≡◌, ◌≤◌, ◌<◌, ◌+◌, ◌*◌, ◌^◌, drop, Some, Ok, Err, length, IfOk, IfErr};
 ghost use Rattle.std.specs.Simd.{first_chunks};
-ghost use Rattle.ark_paths.specs.Pair.{Digest};
-ghost use Rattle.merkle_log.specs.Kept.{front, Keeps};
+ghost use Rattle.merkle_log.specs.Kept.{front};
 ghost use Rattle.merkle_log.specs.Stored.{stored_count};
-ghost use Rattle.paxlog_run.specs.Faults.{log_size, of_first};
-ghost use Rattle.paxlog_run.specs.LogFile.{file_end, file_head, stored_in, IsLogFile};
+ghost use Rattle.paxlog_run.specs.Faults.{log_size};
+ghost use Rattle.paxlog_run.specs.LogFile.{file_end, file_head, stored_in};
 
 use crate::fault::Fault;
-use crate::head::{Head, START, head_in};
+use crate::head::{Head, START, fault_without_head, head_in};
 use merkle_log::kept::{Kept, is_size, stored_count};
 
 /// The log of a file: its head, and its stored digests.
@@ -31,7 +30,7 @@ fn stored_in(bytes: &[u8], count: usize) -> &[[u8; 32]]
 
 /// Returns the log that the bytes of a file are. What stands behind the digests of its size does not count.
 ///
-/// Errors: `NoLog`; `Short`, also for a size of over 63 bits.
+/// Errors: `NoLog`; `HeadDamaged`; `Short`, also for a size of over 63 bits.
 pub fn log_in(bytes: &[u8]) -> Result<LogFile<'_>, Fault>
     ensures size { IfOk result (λ log. log_size bytes.now ≡ Ok log.head.size) }
     ensures head { IfOk result (λ log.
@@ -44,7 +43,7 @@ pub fn log_in(bytes: &[u8]) -> Result<LogFile<'_>, Fault>
     ensures refused { IfErr result (λ fault. log_size bytes.now ≡ Err fault) }
 {
     let Some(head) = head_in(bytes) else {
-        return Err(Fault::NoLog);
+        return Err(fault_without_head(bytes));
     };
     if !is_size(head.size) {
         return Err(Fault::Short);
@@ -57,27 +56,4 @@ pub fn log_in(bytes: &[u8]) -> Result<LogFile<'_>, Fault>
         head,
         kept: Kept::new(head.size, stored_in(bytes, count)),
     })
-}
-
-/// Returns the stored digests of the first entries of the log of a file, of as many as are named, or else of all.
-///
-/// Errors, the first that applies: those of `log_in`; `Size` for more than there are.
-pub fn first_of(bytes: &[u8], named: Option<usize>) -> Result<Kept<'_>, Fault>
-    ensures size { IfOk result (λ kept. of_first bytes.now named Ok ≡ Ok kept.size) }
-    ensures refused { IfErr result (λ fault. of_first bytes.now named Ok ≡ Err fault) }
-
-    // Of the file of a log they are those of its leaves.
-    ensures log { (leaves : List Digest) → IsLogFile leaves bytes.now
-        → IfOk result (λ kept. (kept.size ≡ unwrap_or named (length leaves))
-        × (kept.size ≤ length leaves) × Keeps leaves kept.digests) }
-{
-    let log = match log_in(bytes) {
-        Ok(log) => log,
-        Err(fault) => return Err(fault),
-    };
-    let size = named.unwrap_or(log.head.size);
-    if size > log.head.size {
-        return Err(Fault::Size);
-    }
-    Ok(log.kept.first(size))
 }

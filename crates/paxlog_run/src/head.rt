@@ -1,10 +1,14 @@
-//! The head of a log's file: its title, and two slots for its size.
+//! The head of a log's file: its title, and two slots for its size and its root.
 
-ghost use Rattle.std.specs.Prelude.{◌≡◌, ◌+◌, ◌≤◌, Option, length, take, drop};
+ghost use Rattle.std.specs.Prelude.{◌≡◌, ◌+◌, ◌≤◌, ◌||◌, Option, length, take, drop};
 ghost use Rattle.std.specs.Option.{option_map};
+ghost use Rattle.std.specs.Int.{w64, to_le_bytes};
 ghost use Rattle.std.specs.Str.{bytes_eq};
-ghost use Rattle.paxlog_run.specs.LogFile.{file_head, first_word, larger, next_slot, slot, slot_size, title};
+ghost use Rattle.sha2.specs.Sha256.{sha256};
+ghost use Rattle.paxlog_run.specs.Faults.{no_head};
+ghost use Rattle.paxlog_run.specs.LogFile.{file_head, first_word, larger, next_slot, no_statement, slot, slot_fits, slot_front, slot_size, slot_to_take, statement, title};
 
+use crate::fault::Fault;
 use sha2::{Digest, Sha256};
 
 /// How many bytes stand before the stored digests.
@@ -21,15 +25,49 @@ pub struct Head {
     pub is_second_next: bool,
 }
 
-/// Returns the slot of a size: the size in eight bytes, the least first, and the first 24 bytes of their SHA-256.
-pub fn slot_of(size: usize) -> [u8; 32]
-    ensures { result ≡ slot size }
+/// Returns how a slot of a size begins: the size in eight bytes, the least first, and the first 12 bytes of their SHA-256.
+pub fn front_of(size: usize) -> [u8; 20]
+    ensures { result ≡ slot_front size }
 {
     let word = size.to_le_bytes();
     let digest = Sha256::digest(word.as_slice());
+    let mut front = [0; 20];
+    front[..8].copy_from_slice(&word);
+    front[8..].copy_from_slice(&digest[..12]);
+    front
+}
+
+/// Returns how a slot ends that states a root: the first 12 bytes of the SHA-256 of the size's eight bytes and the root.
+pub fn statement_of(size: usize, root: &[u8; 32]) -> [u8; 12]
+    ensures { result ≡ statement size root.now }
+{
+    let mut bytes = [0; 40];
+    bytes[..8].copy_from_slice(&size.to_le_bytes());
+    bytes[8..].copy_from_slice(root);
+    let digest = Sha256::digest(bytes.as_slice());
+    let mut end = [0; 12];
+    end.copy_from_slice(&digest[..12]);
+    end
+}
+
+// Returns how a slot ends that states no root.
+fn no_statement_of(size: usize) -> [u8; 12]
+    ensures { result ≡ no_statement size }
+{
+    let word = size.to_le_bytes();
+    let digest = Sha256::digest(word.as_slice());
+    let mut end = [0; 12];
+    end.copy_from_slice(&digest[12..24]);
+    end
+}
+
+/// Returns the slot of a size and its root.
+pub fn slot_of(size: usize, root: &[u8; 32]) -> [u8; 32]
+    ensures { result ≡ slot size root.now }
+{
     let mut slot = [0; 32];
-    slot[..8].copy_from_slice(&word);
-    slot[8..].copy_from_slice(&digest[..24]);
+    slot[..20].copy_from_slice(&front_of(size));
+    slot[20..].copy_from_slice(&statement_of(size, root));
     slot
 }
 
@@ -42,16 +80,49 @@ fn first_word(bytes: &[u8; 32]) -> usize
     usize::from_le_bytes(word)
 }
 
+// How a slot begins.
+fn front_in(bytes: &[u8; 32]) -> [u8; 20]
+    ensures { result ≡ take 20 bytes.now }
+{
+    let mut front = [0; 20];
+    front.copy_from_slice(&bytes[..20]);
+    front
+}
+
+// How a slot ends.
+fn end_in(bytes: &[u8; 32]) -> [u8; 12]
+    ensures { result ≡ drop 20 bytes.now }
+{
+    let mut end = [0; 12];
+    end.copy_from_slice(&bytes[20..]);
+    end
+}
+
 // The size that a slot has, where the slot is whole.
 fn size_in(bytes: &[u8; 32]) -> Option<usize>
     ensures { result ≡ slot_size bytes.now }
 {
     let size = first_word(bytes);
-    if *bytes == slot_of(size) {
+    if front_in(bytes) == front_of(size) {
         Some(size)
     } else {
         None
     }
+}
+
+// Whether the end of a slot states this root, or none.
+fn is_stated(end: &[u8; 12], size: usize, root: &[u8; 32]) -> bool
+    ensures { result ≡ (bytes_eq end.now (statement size root.now)
+        || bytes_eq end.now (no_statement size)) }
+{
+    *end == statement_of(size, root) || *end == no_statement_of(size)
+}
+
+// Whether a slot has this size, and states this root, or none.
+fn slot_fits(bytes: &[u8; 32], size: usize, root: &[u8; 32]) -> bool
+    ensures { result ≡ slot_fits bytes.now size root.now }
+{
+    front_in(bytes) == front_of(size) && is_stated(&end_in(bytes), size, root)
 }
 
 // The larger size, and the slot that has another.
@@ -104,11 +175,39 @@ pub fn head_in(bytes: &[u8]) -> Option<Head>
     larger(size_in(&piece(bytes, 32)), size_in(&piece(bytes, 64)))
 }
 
-impl Head {
-    /// Returns where the slot stands that takes the next size.
-    pub fn next_slot(self) -> usize
-        ensures { result ≡ next_slot self.is_second_next }
-    {
-        if self.is_second_next { 64 } else { 32 }
+/// Returns why bytes have no head: `HeadDamaged` where they begin as a log's file does, and else `NoLog`.
+pub fn fault_without_head(bytes: &[u8]) -> Fault
+    ensures { result ≡ no_head bytes.now }
+{
+    if bytes.len() < START {
+        return Fault::NoLog;
     }
+    if has_title(bytes) {
+        Fault::HeadDamaged
+    } else {
+        Fault::NoLog
+    }
+}
+
+/// Returns whether a slot of the head has this size, and states this root of it or none: `Some(true)` where the first one does,
+/// so that the second one may take the next size; else `Some(false)` where the second one does. `None` says that the root is not
+/// the one that the log had.
+pub fn slot_to_take(head: &[u8], size: usize, root: &[u8; 32]) -> Option<bool>
+    requires { 96 ≤ length head.now }
+    ensures { result ≡ slot_to_take head.now size root.now }
+{
+    if slot_fits(&piece(head, 32), size, root) {
+        return Some(true);
+    }
+    if slot_fits(&piece(head, 64), size, root) {
+        return Some(false);
+    }
+    None
+}
+
+/// Returns where the slot stands that takes the next size: the second one or the first.
+pub fn next_slot(is_second: bool) -> usize
+    ensures { result ≡ next_slot is_second }
+{
+    if is_second { 64 } else { 32 }
 }

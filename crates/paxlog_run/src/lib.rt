@@ -4,7 +4,6 @@
 pub mod entries;
 pub mod fault;
 pub mod file;
-pub mod growth;
 pub mod head;
 pub mod replies;
 pub mod request;

@@ -1,16 +1,29 @@
 //! What the words behind the command's name ask for.
 
 ghost use Rattle.std.specs.Prelude.{◌≡◌, List, [], map, get_or, vec_items};
-ghost use Rattle.paxlog_run.specs.Requests.{asked, consistency_in, digest_at, digest_of, number_at, prove_in, request_of, root_in, size_at, verify_consistency_in, verify_in};
+ghost use Rattle.paxlog_run.specs.Requests.{after_in, append_in, append_lines_in, asked, consistency_in, digest_at, digest_of, files_from, number_at, prove_in, request_of, root_in, size_at, verify_consistency_in, verify_in};
 
 use decimals::number_of;
 
-/// What is asked for. The names of files and a proof's word stay among the words: LOG behind the first word, FILE behind it
-/// or, of `Verify`, at place 4; PROOF at place 5.
+/// The size and the root that a log has to have, so that entries are appended to it.
+#[derive(Clone, Copy)]
+pub struct After {
+    pub size: usize,
+    pub root: [u8; 32],
+}
+
+/// What is asked for. The names of files and a proof's word stay among the words: LOG behind the first word; FILE at the place
+/// that is named or, of `Verify`, at place 4; PROOF at place 5.
 #[derive(Clone, Copy)]
 pub enum Request {
-    Append,
-    AppendLines,
+    Append {
+        after: Option<After>,
+        first: usize,
+    },
+    AppendLines {
+        after: Option<After>,
+        first: usize,
+    },
     Root {
         size: Option<usize>,
     },
@@ -35,6 +48,7 @@ pub enum Request {
         root: [u8; 32],
     },
     Help,
+    Version,
 }
 
 // The digest that a word spells in hexadecimal.
@@ -135,22 +149,70 @@ fn verify_consistency_in(words: &[Vec<u8>]) -> Option<Request>
     })
 }
 
+// The size and the root behind `--after`, if that stands behind LOG.
+fn after_in(words: &[Vec<u8>]) -> Option<Option<After>>
+    ensures { result ≡ after_in (map vec_items words.now) }
+{
+    if word(words, 2) == b"--after".as_slice() {
+        Some(Some(After {
+            size: number_at(words, 3)?,
+            root: digest_at(words, 4)?,
+        }))
+    } else {
+        Some(None)
+    }
+}
+
+// Where the files stand: behind LOG, behind the size and the root if they are given, and behind `--`.
+fn files_from(words: &[Vec<u8>]) -> usize
+    ensures { result ≡ files_from (map vec_items words.now) }
+{
+    let place = if word(words, 2) == b"--after".as_slice() {
+        5
+    } else {
+        2
+    };
+    if word(words, place) == b"--".as_slice() {
+        place + 1
+    } else {
+        place
+    }
+}
+
+// The append of files that is asked for.
+fn append_in(words: &[Vec<u8>]) -> Option<Request>
+    ensures { result ≡ append_in (map vec_items words.now) }
+{
+    let after = after_in(words)?;
+    let first = files_from(words);
+    if first < words.len() {
+        Some(Request::Append { after, first })
+    } else {
+        None
+    }
+}
+
+// The append of lines that is asked for.
+fn append_lines_in(words: &[Vec<u8>]) -> Option<Request>
+    ensures { result ≡ append_lines_in (map vec_items words.now) }
+{
+    let after = after_in(words)?;
+    let first = files_from(words);
+    if first + 1 == words.len() {
+        Some(Request::AppendLines { after, first })
+    } else {
+        None
+    }
+}
+
 // What is asked for by a word with so many others behind it.
 fn asked(word: &[u8], count: usize, words: &[Vec<u8>]) -> Option<Request>
     ensures { result ≡ asked word.now count (map vec_items words.now) }
 {
     if word == b"append".as_slice() {
-        if count > 1 {
-            Some(Request::Append)
-        } else {
-            None
-        }
+        append_in(words)
     } else if word == b"append-lines".as_slice() {
-        if count == 2 {
-            Some(Request::AppendLines)
-        } else {
-            None
-        }
+        append_lines_in(words)
     } else if word == b"root".as_slice() {
         if count == 1 || count == 2 {
             root_in(words)
@@ -183,9 +245,15 @@ fn asked(word: &[u8], count: usize, words: &[Vec<u8>]) -> Option<Request>
         } else {
             None
         }
-    } else if word == b"--help".as_slice() {
+    } else if word == b"--help".as_slice() || word == b"-h".as_slice() {
         if count == 0 {
             Some(Request::Help)
+        } else {
+            None
+        }
+    } else if word == b"--version".as_slice() {
+        if count == 0 {
+            Some(Request::Version)
         } else {
             None
         }

@@ -59,6 +59,9 @@ impl<C: AdditiveGroup, W: Window> CommitmentScheme for Commitment<C, W> {
     /// Draws the randomness element and puts its doublings, one for each bit of the scalars' modulus; then the generators of the
     /// hash, as its `create_generators` makes them.
     ///
+    /// The seed of `rng` may be known to all where a draw tells no logarithm, as over `Jubjub`. That of a randomness has
+    /// to be secret: who knows it opens the commitment.
+    ///
     /// The only error is `OutOfMemory`.
     fn setup<R: Rng>(alloc: Global, rng: &mut R) -> Result<Parameters<C>, Error> {
         let bits = C::ScalarField::MODULUS_BIT_SIZE as usize;

@@ -7,7 +7,7 @@ use Rattle.ark_paths.proofs.pair.converted_couples.Goals as goal
 
 pub couples-preserved : goal.couples-preserved
 couples-preserved g c =
-    rw (c.in_ok-push.ensures.items, map_push)
+    rw (c.in_ok-push-in-Ok.ensures.items, map_push)
     (values-next (converted_couple g.C.DigestConverter.conversion) (lent_couple g.L.Numbered.numbers)
     c.args.couples.now c.couples.place _ c.couples.invariant _ _ c.couples-test.true c.index-couples-place.is
     c.in-Ok.ensures)

@@ -9,7 +9,7 @@ pub returns-clause-made : goal.returns-clause-made
 returns-clause-made g c =
     let elements = c.in_ok-elements.elements.items in
     let of_label = subst (λ (n : ℕ). AreOfLabel g.C.FromDigest.found_in c.args.label.now n elements)
-    c.in_ok-count_of.ensures c.in_ok-elements.ensures in
+    c.in_ok-count_of.ensures c.in_ok-elements.ensures.made in
     IfOk-weaker c.parameters_of.result _ _ (λ parameters made. (
       elements,
       of_label,

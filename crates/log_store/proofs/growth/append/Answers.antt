@@ -1,7 +1,7 @@
-use Rattle.std.proofs.Common.{◌≡◌, ℕ, ◌+◌, ◌*◌, ◌<◌, ◌^◌, ◌++◌, inl, length, ap, sym, ◌∙◌, arith}
+use Rattle.std.proofs.Common.{◌≡◌, ℕ, ◌+◌, ◌*◌, ◌<◌, ◌^◌, inl, length, ap, sym, ◌∙◌, arith}
 use Rattle.std.specs.Prelude.{min}
 use Rattle.merkle_log.specs.Stored.{stored_count}
-use Rattle.paxlog_run.specs.LogFile.{file_end, slot, stored_in}
+use Rattle.paxlog_run.specs.LogFile.{file_end, stored_in}
 use Rattle.log_store.specs.Store.{IsBeforeOrAfter}
 use Rattle.log_store.proofs.Growths.{made-of}
 use Rattle.log_store.proofs.Moments.{unmoved}
@@ -15,19 +15,20 @@ sum_is size more new is fits = omega arith
 pub bytes_over-requires-clause-whole : goal.bytes_over-requires-clause-whole
 bytes_over-requires-clause-whole g c = omega (
   arith,
-  overlay-long c.in_ok-head.head.size c.in-Ok.peaks (stored_in c.in_ok-head.head.size (g.D.Disk.seen c.args.disk.now)),
+  overlay-long c.in_ok-log.log.size c.in_ok-log.log.peaks (stored_in c.in_ok-log.log.size
+      (g.D.Disk.seen c.args.disk.now)),
 )
 
 pub bytes_over-requires-clause-peaks : goal.bytes_over-requires-clause-peaks
 bytes_over-requires-clause-peaks g c = λ level place peak.
-    let low = peak-low level place c.in_ok-head.head.size c.in_ok-head.ensures.fits peak in (
+    let low = peak-low level place c.in_ok-log.log.size c.in_ok-log.ensures.fits peak in (
       low,
-      overlay-peak c.in_ok-head.head.size c.in-Ok.peaks (stored_in c.in_ok-head.head.size
+      overlay-peak c.in_ok-log.log.size c.in_ok-log.log.peaks (stored_in c.in_ok-log.log.size
           (g.D.Disk.seen c.args.disk.now)) level place low peak,
     )
 
-pub returns-in_err-head-clause-any_moment : goal.returns-in_err-head-clause-any_moment
-returns-in_err-head-clause-any_moment g c = λ obeys leaves log only.
+pub returns-in_err-log-clause-any_moment : goal.returns-in_err-log-clause-any_moment
+returns-in_err-log-clause-any_moment g c = λ obeys leaves log only.
     unmoved g.D.Disk.moment g.D.Disk.left_since c.args.disk.now (IsBeforeOrAfter leaves c.args.digests.now)
     (g.D.Disk.may_leave c.args.disk.now) (g.D.Disk.seen c.args.disk.now) only (g.met.D.Disk.only_now c.args.disk.now)
     (inl log)
@@ -38,56 +39,50 @@ returns-in-Err-clause-any_moment g c = λ obeys leaves log only.
     (g.D.Disk.may_leave c.args.disk.now) (g.D.Disk.seen c.args.disk.now) only (g.met.D.Disk.only_now c.args.disk.now)
     (inl log)
 
-pub returns-in-Err-bytes_over-clause-any_moment : goal.returns-in-Err-bytes_over-clause-any_moment
-returns-in-Err-bytes_over-clause-any_moment g c = λ obeys leaves log only.
-    unmoved g.D.Disk.moment g.D.Disk.left_since c.args.disk.now (IsBeforeOrAfter leaves c.args.digests.now)
-    (g.D.Disk.may_leave c.args.disk.now) (g.D.Disk.seen c.args.disk.now) only (g.met.D.Disk.only_now c.args.disk.now)
-    (inl log)
-
 pub returns-in-Ok-write_all-clause-acknowledged : goal.returns-in-Ok-write_all-clause-acknowledged
 returns-in-Ok-write_all-clause-acknowledged g c = λ obeys leaves log.
     let before = c.write_all.ensures.obeys obeys in
     let fits : c.saturating_add-size.result < 2 ^ 63 = omega (arith, c.if-not-is_size.ensures.fits) in
-    let made = made-of c.in-Ok.peaks log (c.in_ok-head.ensures.head before)
-    (c.in-Ok.ensures before (c.in_ok-head.ensures.inside before)) c.in-Ok-bytes_over.ensures.bytes
-    (sum_is c.in_ok-head.head.size (length c.args.digests.now) c.saturating_add-size.result
+    let known = c.in_ok-log.ensures.log before leaves log in
+    let made = made-of c.in_ok-log.log.peaks log known.0 known.1 (c.in_ok-log.ensures.states before)
+    (c.in_ok-log.ensures.peaks before) c.in-Ok.ensures.bytes
+    (sum_is c.in_ok-log.log.size (length c.args.digests.now) c.saturating_add-size.result
     c.saturating_add-size.ensures fits) fits c.requires in
     let place : 96 + 32 * c.stored_count.result ≡ file_end (length leaves) =
-    ap (λ n. 96 + 32 * n) (c.stored_count.ensures ∙ ap stored_count (sym made.count)) in
-    let slot_is : c.slot_of.result ≡ slot (length (leaves ++ c.args.digests.now)) =
-    c.slot_of.ensures ∙ ap slot (sym made.sum) in
+    ap (λ n. 96 + 32 * n) (c.stored_count.ensures ∙ ap stored_count (sym known.0)) in
     c.in-Ok-write_all.ensures.acknowledged obeys leaves c.args.digests.now (rw (c.deref.ensures.value) made.growth)
-    place
-    slot_is
+    place made.sum
 
 pub returns-in-Ok-write_all-clause-any_moment : goal.returns-in-Ok-write_all-clause-any_moment
 returns-in-Ok-write_all-clause-any_moment g c = λ obeys leaves log only.
     let before = c.write_all.ensures.obeys obeys in
     let fits : c.saturating_add-size.result < 2 ^ 63 = omega (arith, c.if-not-is_size.ensures.fits) in
-    let made = made-of c.in-Ok.peaks log (c.in_ok-head.ensures.head before)
-    (c.in-Ok.ensures before (c.in_ok-head.ensures.inside before)) c.in-Ok-bytes_over.ensures.bytes
-    (sum_is c.in_ok-head.head.size (length c.args.digests.now) c.saturating_add-size.result
+    let known = c.in_ok-log.ensures.log before leaves log in
+    let made = made-of c.in_ok-log.log.peaks log known.0 known.1 (c.in_ok-log.ensures.states before)
+    (c.in_ok-log.ensures.peaks before) c.in-Ok.ensures.bytes
+    (sum_is c.in_ok-log.log.size (length c.args.digests.now) c.saturating_add-size.result
     c.saturating_add-size.ensures fits) fits c.requires in
     let place : 96 + 32 * c.stored_count.result ≡ file_end (length leaves) =
-    ap (λ n. 96 + 32 * n) (c.stored_count.ensures ∙ ap stored_count (sym made.count)) in
-    let slot_is : c.slot_of.result ≡ slot (length (leaves ++ c.args.digests.now)) =
-    c.slot_of.ensures ∙ ap slot (sym made.sum) in
+    ap (λ n. 96 + 32 * n) (c.stored_count.ensures ∙ ap stored_count (sym known.0)) in
     c.write_all.ensures.any_moment obeys leaves c.args.digests.now (rw (c.deref.ensures.value) made.growth) place
-    slot_is
-    only
+    made.sum only
 
 pub returns-clause-any_moment : goal.returns-clause-any_moment
 returns-clause-any_moment g c = λ obeys leaves log only.
     let before = c.write_all.ensures.obeys obeys in
     let fits : c.saturating_add-size.result < 2 ^ 63 = omega (arith, c.if-not-is_size.ensures.fits) in
-    let made = made-of c.in-Ok.peaks log (c.in_ok-head.ensures.head before)
-    (c.in-Ok.ensures before (c.in_ok-head.ensures.inside before)) c.in-Ok-bytes_over.ensures.bytes
-    (sum_is c.in_ok-head.head.size (length c.args.digests.now) c.saturating_add-size.result
+    let known = c.in_ok-log.ensures.log before leaves log in
+    let made = made-of c.in_ok-log.log.peaks log known.0 known.1 (c.in_ok-log.ensures.states before)
+    (c.in_ok-log.ensures.peaks before) c.in-Ok.ensures.bytes
+    (sum_is c.in_ok-log.log.size (length c.args.digests.now) c.saturating_add-size.result
     c.saturating_add-size.ensures fits) fits c.requires in
     let place : 96 + 32 * c.stored_count.result ≡ file_end (length leaves) =
-    ap (λ n. 96 + 32 * n) (c.stored_count.ensures ∙ ap stored_count (sym made.count)) in
-    let slot_is : c.slot_of.result ≡ slot (length (leaves ++ c.args.digests.now)) =
-    c.slot_of.ensures ∙ ap slot (sym made.sum) in
+    ap (λ n. 96 + 32 * n) (c.stored_count.ensures ∙ ap stored_count (sym known.0)) in
     c.write_all.ensures.any_moment obeys leaves c.args.digests.now (rw (c.deref.ensures.value) made.growth) place
-    slot_is
-    only
+    made.sum only
+
+pub returns-then-not-is_near-clause-any_moment : goal.returns-then-not-is_near-clause-any_moment
+returns-then-not-is_near-clause-any_moment g c = λ obeys leaves log only.
+    unmoved g.D.Disk.moment g.D.Disk.left_since c.args.disk.now (IsBeforeOrAfter leaves c.args.digests.now)
+    (g.D.Disk.may_leave c.args.disk.now) (g.D.Disk.seen c.args.disk.now) only (g.met.D.Disk.only_now c.args.disk.now)
+    (inl log)

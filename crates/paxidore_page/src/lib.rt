@@ -1,0 +1,77 @@
+//! Checks of a log's proofs for a web page (RFC 9162, section 2.1). No call asks for memory, so that a module of WebAssembly needs
+//! nothing of its host but the memory in which the arguments stand.
+#![tactic(auto)]
+
+ghost use Rattle.std.specs.Prelude.{◌≡◌, pos};
+ghost use Rattle.ark_trees.specs.Rfc6962.{entry_hash, node_of};
+ghost use Rattle.merkle_log.specs.Bind.{BindsDigest, BindsFront};
+ghost use Rattle.merkle_log.specs.Verdict.{consistency_verdict, inclusion_verdict};
+ghost use Rattle.paxidore_page.specs.Code.{Tells, number_of};
+
+use ark_base::error::Error;
+use ark_trees::{LogHasher, digest_of_entry};
+use merkle_log::{verify_consistency, verify_inclusion_digest};
+use std::alloc::Global;
+
+// The number of an answer.
+fn number_of(answer: Result<bool, Error>) -> i32
+    ensures { result ≡ number_of answer }
+{
+    match answer {
+        Ok(true) => 0,
+        Ok(false) => 1,
+        Err(_) => 2,
+    }
+}
+
+/// Writes the digest of an entry: the SHA-256 of a zero byte and the entry.
+#[unsafe(no_mangle)]
+pub extern "C" fn paxidore_page_entry(digest: &mut [u8; 32], entry: &[u8])
+    ensures { digest.new ≡ entry_hash entry.now }
+{
+    *digest = digest_of_entry(entry);
+}
+
+/// Returns whether a path shows that a digest stands at an index of the log of this size with this root: 0 yes, 1 no. The digests
+/// of the path stand one behind the other, from the leaf up.
+#[unsafe(no_mangle)]
+pub extern "C" fn paxidore_page_inclusion(
+    alloc: Global,
+    root: &[u8; 32],
+    size: u64,
+    index: u64,
+    digest: &[u8; 32],
+    path: &[[u8; 32]],
+) -> i32
+    ensures answer { Tells (inclusion_verdict node_of root.now size index digest.now path.now)
+        result }
+
+    // In each list of this size with this root the digest stands at the index, or at some level the path's pair and that of
+    // the list's tree differ and hash alike.
+    ensures shows { result ≡ pos 0 → BindsDigest node_of root.now size index digest.now path.now }
+{
+    number_of(verify_inclusion_digest(alloc, &LogHasher, root, size, index, digest, path))
+}
+
+/// Returns whether a proof shows that the log of a new size and root continues that of an old size and root: 0 yes, 1 no.
+#[unsafe(no_mangle)]
+pub extern "C" fn paxidore_page_consistency(
+    alloc: Global,
+    old_size: u64,
+    old_root: &[u8; 32],
+    new_size: u64,
+    new_root: &[u8; 32],
+    proof: &[[u8; 32]],
+) -> i32
+    ensures answer { Tells (consistency_verdict node_of old_size old_root.now new_size new_root.now
+        proof.now) result }
+
+    // Each list of the old size with the old root is the front of each list of the new size with the new root, or two different
+    // pairs are named that hash alike.
+    ensures shows { result ≡ pos 0
+        → BindsFront node_of old_size old_root.now new_size new_root.now proof.now }
+{
+    number_of(verify_consistency(
+        alloc, &LogHasher, old_size, old_root, new_size, new_root, proof,
+    ))
+}

@@ -1,0 +1,14 @@
+use Rattle.std.proofs.Common.{refl}
+use Rattle.paxlog_run.specs.LogFile.{slot_front, statement}
+use Rattle.paxlog_run.proofs.Heads.{length-front}
+use Rattle.paxlog_run.proofs.Pieces.{both-parts}
+use Rattle.paxlog_run.proofs.head.slot_of.Goals as goal
+
+pub returns : goal.returns
+returns c = rw (
+  c.copy_from_slice.ensures.after,
+  c.front_of.ensures,
+  c.copy_from_slice-2.ensures.after,
+  c.statement_of.ensures,
+) (both-parts (slot_front c.args.size) (statement c.args.size c.args.root.now) _
+    (length-front c.args.size) refl)
