@@ -107,17 +107,17 @@ static int is_log_of(const struct file *file, size_t size, int thorough) {
     if (answer != PAXIDORE_OK || found != size || read_so_far.turns != 1)
         return 0;
     ASKED(answer, file, paxidore_log_file_root(own, PIECES(file), size));
-    if (answer != PAXIDORE_OK || read_so_far.turns > 2 || paxidore_log_root(other, kept, kept_len, size) != PAXIDORE_OK ||
+    if (answer != PAXIDORE_OK || read_so_far.turns > 3 || paxidore_log_root(other, kept, kept_len, size) != PAXIDORE_OK ||
         memcmp(own, other, 32) != 0)
         return 0;
     for (size_t index = 0; thorough && index < size; index++) {
         ASKED(answer, file, paxidore_log_file_inclusion(path, sizeof path, &path_len, PIECES(file), size, index));
-        if (answer != PAXIDORE_OK || read_so_far.turns > 2 ||
+        if (answer != PAXIDORE_OK || read_so_far.turns > 3 ||
             paxidore_log_inclusion(wanted, sizeof wanted, &wanted_len, kept, kept_len, size, index) != PAXIDORE_OK ||
             path_len != wanted_len || memcmp(path, wanted, path_len) != 0)
             return 0;
         ASKED(answer, file, paxidore_log_file_consistency(path, sizeof path, &path_len, PIECES(file), index + 1, size));
-        if (answer != PAXIDORE_OK || read_so_far.turns > 2 ||
+        if (answer != PAXIDORE_OK || read_so_far.turns > 3 ||
             paxidore_log_consistency(wanted, sizeof wanted, &wanted_len, kept, kept_len, index + 1, size) != PAXIDORE_OK ||
             path_len != wanted_len || memcmp(path, wanted, path_len) != 0)
             return 0;
@@ -152,7 +152,7 @@ static void appends(void) {
     for (size_t n = 0; n < sizeof counts / sizeof *counts; n++) {
         size_t count = counts[n];
         ASKED(answer, &file, paxidore_log_file_append(PLAN, &grown, PIECES(&file), entries + size, count, lengths, count));
-        CHECK(answer == PAXIDORE_OK && grown == size + count && read_so_far.turns <= 2);
+        CHECK(answer == PAXIDORE_OK && grown == size + count && read_so_far.turns <= 3);
         CHECK(plan.bytes_len <= paxidore_log_file_room(count) && plan.steps_len <= PAXIDORE_LOG_STEPS_MAX);
         keep(entries + size, count, lengths, count);
         struct plan whole = plan;
@@ -215,6 +215,28 @@ static void appends(void) {
     torn = file;
     torn.bytes[file.len - 32 * 3] ^= 1;
     CHECK(paxidore_log_file_check(torn.bytes, torn.len) == PAXIDORE_NOT_SHOWN);
+    /* a digest that is no peak: the root is the one that the head states, and proofs that need the digest are refused */
+    torn = file;
+    torn.bytes[head] ^= 1;
+    ASKED(answer, &torn, paxidore_log_file_root(root, PIECES(&torn), size));
+    CHECK(answer == PAXIDORE_OK);
+    ASKED(answer, &torn, paxidore_log_file_inclusion(path, sizeof path, &count, PIECES(&torn), size, 1));
+    CHECK(answer == PAXIDORE_E_DAMAGED);
+    ASKED(answer, &torn, paxidore_log_file_consistency(path, sizeof path, &count, PIECES(&torn), 1, size));
+    CHECK(answer == PAXIDORE_E_DAMAGED);
+    /* the last digest is a peak: the log of the file has an odd number of entries */
+    torn = file;
+    torn.bytes[file.len - 1] ^= 1;
+    CHECK(size % 2 == 1);
+    ASKED(answer, &torn, paxidore_log_file_root(root, PIECES(&torn), size));
+    CHECK(answer == PAXIDORE_E_DAMAGED);
+    ASKED(answer, &torn, paxidore_log_file_append(PLAN, &grown, PIECES(&torn), entries, 1, lengths, 1));
+    CHECK(answer == PAXIDORE_E_DAMAGED);
+    /* neither slot is whole */
+    torn = file;
+    torn.bytes[32] ^= 1, torn.bytes[64] ^= 1;
+    ASKED(answer, &torn, paxidore_log_file_size(&count, PIECES(&torn)));
+    CHECK(answer == PAXIDORE_E_HEAD && paxidore_log_file_check(torn.bytes, torn.len) == answer);
 }
 
 int main(void) {
@@ -223,6 +245,8 @@ int main(void) {
     CHECK(strcmp(paxidore_strerror(PAXIDORE_E_MORE), "unknown answer") != 0);
     CHECK(strcmp(paxidore_strerror(PAXIDORE_E_NO_LOG), "unknown answer") != 0);
     CHECK(strcmp(paxidore_strerror(PAXIDORE_E_SHORT), "unknown answer") != 0);
+    CHECK(strcmp(paxidore_strerror(PAXIDORE_E_HEAD), "unknown answer") != 0);
+    CHECK(strcmp(paxidore_strerror(PAXIDORE_E_DAMAGED), "unknown answer") != 0);
     printf("%d passed, %d failed\n", passed, failed);
     return failed != 0;
 }

@@ -22,6 +22,8 @@ system finds ``libpaxidore.so.1``. Where it is not there, or is older than this 
 """
 from ._library import (
     CountError,
+    DamagedHead,
+    DamagedLog,
     HeightError,
     IndexBeyondSize,
     InvalidProof,
@@ -44,6 +46,8 @@ __version__ = "1.0.0"
 __all__ = [
     "Blake2s",
     "CountError",
+    "DamagedHead",
+    "DamagedLog",
     "Field",
     "HeightError",
     "IndexBeyondSize",

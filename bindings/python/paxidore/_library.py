@@ -104,6 +104,18 @@ class ShortLog(Refused, ValueError):
     code = -12
 
 
+class DamagedHead(Refused, ValueError):
+    """The file has the title of a log's, and neither of its two slots is whole."""
+
+    code = -13
+
+
+class DamagedLog(Refused, ValueError):
+    """The file of a log has a digest that is not the one that was stored, or states another root."""
+
+    code = -14
+
+
 class OutOfMemory(Refused, MemoryError):
     """A request for memory was refused."""
 
@@ -123,6 +135,8 @@ _KINDS = {
         IndexBeyondSize,
         NoLog,
         ShortLog,
+        DamagedHead,
+        DamagedLog,
     )
 }
 

@@ -35,7 +35,7 @@ _log_check = _call("log_check", ctypes.c_int32, ctypes.c_void_p, _size, _size)
 _Flat = Tuple[bytes, int, "ctypes.Array[ctypes.c_size_t]", int]
 
 # how many pieces and steps are enough, as the header has them
-_PIECES = 192
+_PIECES = 384
 _STEPS = 8
 
 _file_room = _call("log_file_room", _size, _size)
@@ -332,8 +332,8 @@ class Log:
         file that has a log. Where the file is open already, it waits for at most so many seconds. A log that is open for reading
         only needs no lock, and sees what its keeper appends; it has to be there.
 
-        Raises ``NoLog`` and ``ShortLog``, which are ``ValueError``, where the file is no log's or ends early; ``BlockingIOError``
-        where it is still open, ``OSError``.
+        Raises ``NoLog``, ``DamagedHead`` and ``ShortLog``, which are ``ValueError``, where the file is no log's, its head is damaged
+        or it ends early; ``BlockingIOError`` where it is still open, ``OSError``.
         """
         log = cls.__new__(cls)
         log._kept = _File(path, read_only, wait)

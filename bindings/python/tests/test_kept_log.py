@@ -418,6 +418,58 @@ class InFile(unittest.TestCase):
             with open(self.path, "rb") as file:
                 self.assertEqual(file.read(), content)
 
+    def test_a_file_of_an_earlier_version(self):
+        """Its slots have 24 bytes of the sum of the size, and state no root. It goes on, and then states one."""
+        entries = drawn(12)
+        for size in range(len(entries)):
+            if os.path.exists(self.path):
+                os.remove(self.path)
+            with Log.open(self.path) as log:
+                log.append(entries[:size])
+            with open(self.path, "rb") as file:
+                whole = file.read()
+            word = size.to_bytes(8, "little")
+            for slots in (2 * (word + sha(word)[:24]), word + sha(word)[:24] + bytes(32)):
+                old = whole[:32] + slots + whole[96:]
+                with open(self.path, "wb") as file:
+                    file.write(old)
+                with Log.open(self.path) as log:
+                    self.assertEqual((len(log), log.root(), log.check()), (size, mth(entry_digests(entries[:size])), True))
+                    with open(self.path, "rb") as file:
+                        self.assertEqual(file.read(), old)
+                    for index in range(size):
+                        shown = log.inclusion(index)
+                        self.assertTrue(Log.verify_inclusion(log.root(), size, index, entries[index], shown))
+                    self.assertEqual(log.append(entries[size:]), len(entries))
+                    self.assertEqual(log.root(), mth(entry_digests(entries)))
+                with open(self.path, "rb") as file:
+                    head = file.read()[32:96]
+                statement = sha(len(entries).to_bytes(8, "little") + mth(entry_digests(entries)))[:12]
+                self.assertEqual((head[20:32], head[52:]), (statement, statement))
+
+    def test_damage(self):
+        """A digest that a root or a proof needs is told; a head without a whole slot has its own error."""
+        with Log.open(self.path) as log:
+            log.append(drawn(11))
+        with open(self.path, "rb") as file:
+            whole = file.read()
+        with open(self.path, "wb") as file:
+            file.write(whole[:-1] + bytes([whole[-1] ^ 1]))
+        with Log.open(self.path) as log:
+            for call in (log.root, lambda: log.inclusion(3), lambda: log.consistency(3), lambda: log.append([b"more"])):
+                self.assertRaises(paxidore.DamagedLog, call)
+            self.assertEqual(len(log), 11)
+        with open(self.path, "wb") as file:
+            file.write(whole[:96] + bytes([whole[96] ^ 1]) + whole[97:])
+        with Log.open(self.path) as log:
+            log.root()
+            log.inclusion(8)
+            self.assertRaises(paxidore.DamagedLog, log.inclusion, 1)
+            self.assertRaises(paxidore.DamagedLog, log.consistency, 1)
+        with open(self.path, "wb") as file:
+            file.write(whole[:32] + bytes(64) + whole[96:])
+        self.assertRaises(paxidore.DamagedHead, Log.open, self.path)
+
     def test_a_forked_process(self):
         """It does not have the log of its parent, nor its lock."""
         with Log.open(self.path) as log:
@@ -738,7 +790,7 @@ class InFile(unittest.TestCase):
                     elif log.check():
                         # the leaf that is in no pair yet, which stands last
                         self.assertEqual((size % 2, place >= len(whole) - 32), (1, True))
-                        self.assertNotEqual(log.root(), root)
+                        self.assertRaises(paxidore.DamagedLog, log.root)
             # that of the title, at least
             self.assertGreaterEqual(told, 256)
 

@@ -76,6 +76,10 @@ pub enum Refused {
     NoLog,
     /// The file of a log ends before the digests of the log's size.
     Short,
+    /// The file has the title of a log's, and neither of its two slots is whole.
+    DamagedHead,
+    /// The file of a log has a digest that is not the one that was stored, or states another root.
+    Damaged,
     /// Another answer of a library that is newer than this crate.
     Other(i32),
 }
@@ -94,6 +98,8 @@ impl Refused {
             -9 => Refused::Room,
             -11 => Refused::NoLog,
             -12 => Refused::Short,
+            -13 => Refused::DamagedHead,
+            -14 => Refused::Damaged,
             other => Refused::Other(other),
         }
     }
@@ -115,6 +121,8 @@ impl fmt::Display for Refused {
             Refused::Room => f.write_str("the memory for a tree has another length"),
             Refused::NoLog => f.write_str("the file is no log"),
             Refused::Short => f.write_str("the file of the log ends early"),
+            Refused::DamagedHead => f.write_str("the head of the log's file is damaged"),
+            Refused::Damaged => f.write_str("the file of the log is damaged"),
             // a newer library has words for it
             Refused::Other(answer) => {
                 // SAFETY: the library answers a text of its own for each number, which ends with a zero byte and never changes.

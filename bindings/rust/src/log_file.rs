@@ -22,7 +22,7 @@ pub(crate) struct LogFile {
 }
 
 // How many pieces and steps are enough, as the header has them, in numbers.
-const PIECES: usize = 192;
+const PIECES: usize = 384;
 const STEPS: usize = 8;
 
 // The pieces of a file that were read for a call.

@@ -3,7 +3,7 @@ use Rattle.std.specs.Prelude.{◌≡◌, ◌<◌, ◌≤◌, ◌-◌, ◌&&◌, 
 use Rattle.std.specs.List.{between, list_all}
 use Rattle.paxidore_c.specs.Answer.{refusal_code}
 use Rattle.paxidore_c.specs.declared.log_file.not_done.NotDone.{NotDone}
-use Rattle.paxidore_c.specs.declared.log_file.not_done.NotDone.TheVariants.{Refusal, More, NoLog, Short}
+use Rattle.paxidore_c.specs.declared.log_file.not_done.NotDone.TheVariants.{Refusal, More, NoLog, Short, HeadDamaged, Damaged}
 
 -- the code of why a call is not done
 abbrev pub not_done_code : NotDone → ℤ
@@ -11,6 +11,8 @@ not_done_code (Refusal refused) = refusal_code refused
 not_done_code More = negsuc 9
 not_done_code NoLog = negsuc 10
 not_done_code Short = negsuc 11
+not_done_code HeadDamaged = negsuc 12
+not_done_code Damaged = negsuc 13
 
 -- the code of a call: 0, or why it is not done
 abbrev pub call_code : {A : Type 0} → Result A NotDone → ℤ

@@ -13,10 +13,8 @@ mod asked;
 mod asking;
 mod grown;
 mod handed;
-mod made;
 mod not_done;
 mod replay;
-mod ways;
 
 use crate::leaves::digests_of_leaves;
 use crate::log_file::answers::{made_of, path_of, proof_of, root_of, size_of};
@@ -297,8 +295,8 @@ fn inclusion_in(
     let asked = Asked::Inclusion(index, size);
     ask(alloc, asked, file_len, places, places_len, pieces)?;
     let read = &places[..*places_len];
-    let digests = path_of::<Brand>(alloc, file_len, read, pieces, index, size)?;
-    hand_over_digests(alloc, &digests, path, path_len)
+    let proof = path_of::<Brand>(alloc, file_len, read, pieces, index, size)?;
+    hand_over_digests(alloc, &proof.path, path, path_len)
 }
 
 /// Writes the bytes of the path of an index in the first `size` entries of the log of a file, and their count.
@@ -343,8 +341,8 @@ fn consistency_in(
     let asked = Asked::Consistency(old_size, size);
     ask(alloc, asked, file_len, places, places_len, pieces)?;
     let read = &places[..*places_len];
-    let digests = proof_of::<Brand>(alloc, file_len, read, pieces, old_size, size)?;
-    hand_over_digests(alloc, &digests, proof, proof_len)
+    let given = proof_of::<Brand>(alloc, file_len, read, pieces, old_size, size)?;
+    hand_over_digests(alloc, &given.path, proof, proof_len)
 }
 
 /// Writes the bytes of the proof that the first `size` entries of the log of a file continue the first `old_size` ones, and

@@ -1,19 +1,20 @@
 //! What is said of a log's file by what was read of it, and what is to be written there. The file is that of the caller, whole.
 
-ghost use Rattle.std.specs.Prelude.{◌≡◌, ◌≢◌, ◌≤◌, ◌<◌, ◌+◌, ◌++◌, List, ℕ, [], length, take, IfOk, Ok, Err};
+ghost use Rattle.std.specs.Prelude.{◌≡◌, ◌≢◌, ◌≤◌, ◌<◌, ◌+◌, ◌++◌, List, ℕ, [], length, take, true, IfOk, Ok, Err};
 ghost use Rattle.sha2.specs.Sha256.{sha256};
 ghost use Rattle.ark_paths.specs.Pair.{Digest};
 ghost use Rattle.ark_trees.specs.Rfc6962.{node_of};
 ghost use Rattle.log_store.specs.Store.{IsBeforeOrAfter, IsSettled};
-ghost use Rattle.merkle_log.specs.Log.{merkle_tree_hash};
+ghost use Rattle.merkle_log.specs.Edge.{all_of};
+ghost use Rattle.merkle_log.specs.Log.{consistency_path, inclusion_path, merkle_tree_hash};
+ghost use Rattle.merkle_log.specs.Verdict.{consistency_verdict, inclusion_verdict};
 ghost use Rattle.paxidore_c.specs.Plan.{IsReadOf, IsStopped, carried};
 ghost use Rattle.paxidore_c.specs.declared.log_file.not_done.NotDone.TheVariants.{More};
 ghost use Rattle.paxlog_run.specs.LogFile.{IsLogFile};
 
-use crate::log_file::made::make;
 use crate::log_file::not_done::NotDone;
 use crate::log_file::replay::{Held, Replay, Step};
-use crate::log_file::ways::{consistency, inclusion};
+use log_store::{ConsistencyProof, InclusionProof};
 use std::alloc::Global;
 
 /// What is to be written to the file of a log, and its size then.
@@ -118,16 +119,21 @@ pub fn made_of<F: Held>(
     requires places { places.now ≡ F.places }
     requires pieces { pieces.now ≡ F.pieces }
     requires bytes { file_len ≡ F.size }
+
+    // The file of a log stays as it is.
+    ensures kept { IsReadOf F.places F.pieces F.file → F.size ≡ length F.file
+        → (leaves : List Digest) → IsLogFile leaves F.file
+        → IfOk result (λ steps. carried steps.items F.file ≡ F.file) }
     ensures done { result ≢ Err More }
 {
     let mut disk = Replay::<F>::new(alloc, file_len, places, pieces);
-    match make(&mut disk) {
+    match log_store::make(&mut disk) {
         Ok(()) => Ok(disk.into_steps()),
         Err(stop) => Err(NotDone::from(stop)),
     }
 }
 
-/// Returns the path of an index in the first entries of the log of a file.
+/// Returns the inclusion proof of an index in the first entries of the log of a file.
 pub fn path_of<F: Held>(
     alloc: Global,
     file_len: usize,
@@ -135,15 +141,23 @@ pub fn path_of<F: Held>(
     pieces: &[u8],
     index: usize,
     size: usize,
-) -> Result<Vec<[u8; 32]>, NotDone>
+) -> Result<InclusionProof, NotDone>
     requires places { places.now ≡ F.places }
     requires pieces { pieces.now ≡ F.pieces }
     requires bytes { file_len ≡ F.size }
+    ensures path { IsReadOf F.places F.pieces F.file → F.size ≡ length F.file
+        → (leaves : List Digest) → IsLogFile leaves F.file
+        → let path = inclusion_path node_of (sha256 []) index (take size leaves) in
+        IfOk result (λ proof. all_of path ≡ Ok proof.path.items) }
+
+    // Of every file: the proof is accepted.
+    ensures accepted { IfOk result (λ proof. let verdict = inclusion_verdict node_of proof.root in
+        verdict proof.size index proof.digest proof.path.items ≡ Ok true) }
     ensures done { result ≢ Err More }
 {
     let disk = Replay::<F>::new(alloc, file_len, places, pieces);
-    match inclusion(alloc, &disk, index, size) {
-        Ok(path) => Ok(path),
+    match log_store::prove(alloc, &disk, index, Some(size)) {
+        Ok(proof) => Ok(proof),
         Err(stop) => Err(NotDone::from(stop)),
     }
 }
@@ -156,14 +170,22 @@ pub fn proof_of<F: Held>(
     pieces: &[u8],
     old_size: usize,
     size: usize,
-) -> Result<Vec<[u8; 32]>, NotDone>
+) -> Result<ConsistencyProof, NotDone>
     requires places { places.now ≡ F.places }
     requires pieces { pieces.now ≡ F.pieces }
     requires bytes { file_len ≡ F.size }
+    ensures path { IsReadOf F.places F.pieces F.file → F.size ≡ length F.file
+        → (leaves : List Digest) → IsLogFile leaves F.file
+        → let path = consistency_path node_of (sha256 []) old_size (take size leaves) in
+        IfOk result (λ proof. all_of path ≡ Ok proof.path.items) }
+
+    // Of every file: the proof is accepted.
+    ensures accepted { IfOk result (λ proof. let verdict = consistency_verdict node_of old_size in
+        verdict proof.old_root proof.size proof.root proof.path.items ≡ Ok true) }
     ensures done { result ≢ Err More }
 {
     let disk = Replay::<F>::new(alloc, file_len, places, pieces);
-    match consistency(alloc, &disk, old_size, size) {
+    match log_store::consistency(alloc, &disk, old_size, Some(size)) {
         Ok(proof) => Ok(proof),
         Err(stop) => Err(NotDone::from(stop)),
     }

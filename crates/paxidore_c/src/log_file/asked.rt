@@ -6,9 +6,7 @@ ghost use Rattle.paxidore_c.specs.LogFiles.{Asks, lies_within};
 ghost use Rattle.paxidore_c.specs.declared.log_file.not_done.NotDone.TheVariants.{More};
 
 use crate::log_file::asking::Asking;
-use crate::log_file::made::make;
 use crate::log_file::not_done::NotDone;
-use crate::log_file::ways::{consistency, inclusion};
 use crate::refused::Refused;
 use log_store::{Disk, Stop};
 use std::alloc::Global;
@@ -37,13 +35,17 @@ impl Asked {
     // Makes the call, of which the disk alone tells.
     fn try_on<D: Disk>(self, alloc: Global, disk: &mut D) {
         match self {
-            Asked::Made => leave(make(disk)),
+            Asked::Made => leave(log_store::make(disk)),
             Asked::Size => leave(log_store::size(disk)),
             Asked::Root(size) => leave(log_store::root(disk, Some(size))),
             // what is read for one entry is read for any number of them
             Asked::Growth => leave(log_store::append(alloc, disk, &[[0; 32]])),
-            Asked::Inclusion(index, size) => leave(inclusion(alloc, disk, index, size)),
-            Asked::Consistency(old_size, size) => leave(consistency(alloc, disk, old_size, size)),
+            Asked::Inclusion(index, size) => {
+                leave(log_store::prove(alloc, disk, index, Some(size)))
+            }
+            Asked::Consistency(old_size, size) => {
+                leave(log_store::consistency(alloc, disk, old_size, Some(size)))
+            }
         }
     }
 }

@@ -30,13 +30,18 @@ impl<'a> Asking<'a> {
         }
     }
 
-    // Notes a piece.
+    // Notes a piece, once.
     fn note(&self, at: usize, count: usize) -> Result<(), Halt> {
         match self.missing.try_borrow_mut() {
-            Ok(mut missing) => match missing.push([at, count]) {
-                Ok(()) => Ok(()),
-                Err(_) => Err(Halt::Memory),
-            },
+            Ok(mut missing) => {
+                if missing.contains(&[at, count]) {
+                    return Ok(());
+                }
+                match missing.push([at, count]) {
+                    Ok(()) => Ok(()),
+                    Err(_) => Err(Halt::Memory),
+                }
+            }
             Err(_) => Err(Halt::Missing),
         }
     }

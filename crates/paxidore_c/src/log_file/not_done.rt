@@ -21,6 +21,10 @@ pub enum NotDone {
     NoLog,
     /// The file ends before the digests of the log's size.
     Short,
+    /// The file has the title of a log's, and no slot is whole.
+    HeadDamaged,
+    /// A digest of the log is another than the one that was stored, or a slot states another root.
+    Damaged,
 }
 
 impl NotDone {
@@ -33,6 +37,8 @@ impl NotDone {
             NotDone::More => -10,
             NotDone::NoLog => -11,
             NotDone::Short => -12,
+            NotDone::HeadDamaged => -13,
+            NotDone::Damaged => -14,
         }
     }
 }
@@ -52,10 +58,12 @@ impl From<Fault> for NotDone {
         match fault {
             Fault::Memory => NotDone::Refusal(Refused::Memory),
             Fault::NoLog => NotDone::NoLog,
+            Fault::HeadDamaged => NotDone::HeadDamaged,
             Fault::Short => NotDone::Short,
+            Fault::Damaged => NotDone::Damaged,
             Fault::Size => NotDone::Refusal(Refused::Size),
             Fault::Index => NotDone::Refusal(Refused::Index),
-            Fault::Length | Fault::Word => NotDone::Refusal(Refused::Other),
+            Fault::Other | Fault::Length | Fault::Word => NotDone::Refusal(Refused::Other),
         }
     }
 }

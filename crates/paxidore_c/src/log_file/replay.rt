@@ -1,7 +1,8 @@
 //! A disk that answers from what a caller has read of a file, and notes what the caller is to write there.
 
-ghost use Rattle.std.specs.Prelude.{◌≡◌, ◌+◌, ◌≤◌, ◌++◌, ◌∷◌, List, [], ℕ, length, take, drop, true, if◌then◌else◌};
+ghost use Rattle.std.specs.Prelude.{◌≡◌, ◌+◌, ◌≤◌, ◌++◌, ◌∷◌, List, [], ℕ, length, take, drop, true, if◌then◌else◌, IfOk, OnOk};
 ghost use Rattle.paxidore_c.specs.Plan.{IsReadOf};
+ghost use Rattle.paxlog_run.specs.LogFile.{written};
 
 use log_store::Disk;
 use std::alloc::Global;
@@ -114,6 +115,36 @@ impl<'a, F: Held> Replay<'a, F> {
         self.steps.push(step).is_ok()
     }
 
+    // Copies the bytes of a range of the file.
+    fn read_piece(&self, at: usize, into: &mut [u8]) -> Result<(), Halt>
+        ensures piece { IsReadOf F.places F.pieces F.file → OnOk result (into.new
+            ≡ take (length into.old) (drop at F.file)) }
+    {
+        if at > self.file_len || into.len() > self.file_len - at {
+            return Err(Halt::Ended);
+        }
+        if into.is_empty() || copy_piece(self.places, self.pieces, at, into) {
+            Ok(())
+        } else {
+            Err(Halt::Missing)
+        }
+    }
+
+    // Returns the only step, which begins within the file or at its end.
+    fn only_step(&self) -> Result<&Step, Halt>
+        ensures only { IfOk result (λ step. self.now.steps ≡ step.now ∷ []) }
+        ensures inside { IfOk result (λ step. step.now.at ≤ F.size) }
+    {
+        if self.steps.len() != 1 {
+            return Err(Halt::Ended);
+        }
+        let step = &self.steps[0];
+        if step.at > self.file_len {
+            return Err(Halt::Ended);
+        }
+        Ok(step)
+    }
+
     /// Returns what is to be written.
     pub fn into_steps(self) -> Vec<Step>
         ensures { result.items ≡ self.entry.steps }
@@ -148,6 +179,21 @@ fn count(steps: &[Step]) -> usize
     ensures { result ≡ length steps.now }
 {
     steps.len()
+}
+
+// Copies the bytes of a range from a step that has it.
+fn read_step(step: &Step, at: usize, into: &mut [u8]) -> Result<(), Halt>
+    requires { step.now.at ≤ at }
+    ensures { (file : List ℕ) → step.now.at ≤ length file → OnOk result (into.new
+        ≡ take (length into.old) (drop at (written file step.now.at step.now.bytes.items))) }
+{
+    let begin = at - step.at;
+    let bytes = step.bytes.as_slice();
+    if begin > bytes.len() || into.len() > bytes.len() - begin {
+        return Err(Halt::Ended);
+    }
+    copy_part(bytes, begin, into);
+    Ok(())
 }
 
 // Copies bytes from a place on.
@@ -186,15 +232,19 @@ impl<'a, F: Held> Disk for Replay<'a, F> {
         }
     }
 
+    // Of what is to be written only one step is read, which stands behind what was read of the file.
     fn read_at(&self, at: usize, into: &mut [u8]) -> Result<(), Halt> {
-        if !self.steps.is_empty() || at > self.file_len || into.len() > self.file_len - at {
-            return Err(Halt::Ended);
+        if self.steps.is_empty() {
+            return self.read_piece(at, into);
         }
-        if into.is_empty() || copy_piece(self.places, self.pieces, at, into) {
-            Ok(())
-        } else {
-            Err(Halt::Missing)
+        let step = self.only_step()?;
+        if at < step.at {
+            if into.len() > step.at - at {
+                return Err(Halt::Ended);
+            }
+            return self.read_piece(at, into);
         }
+        read_step(step, at, into)
     }
 
     fn write_at(&mut self, at: usize, bytes: &[u8]) -> Result<(), Halt> {
