@@ -93,8 +93,13 @@ enum paxidore_answer {
     PAXIDORE_E_LENGTHS = -6,   /* the lengths of the leaves do not sum to that of their bytes */
     PAXIDORE_E_COUNT = -7,     /* there are not as many leaves as indexes */
     PAXIDORE_E_INDEX = -8,     /* an index is not below the count of leaves, or there is none */
-    PAXIDORE_E_ROOM = -9       /* the buffer is too short; the count that is needed was written; or the memory of a tree
+    PAXIDORE_E_ROOM = -9,      /* the buffer is too short; the count that is needed was written; or the memory of a tree
                                 * has not as many digests as the tree above the leaves */
+    PAXIDORE_E_MORE = -10,     /* pieces of the file of a log are to be read first, and their places were written */
+    PAXIDORE_E_NO_LOG = -11,   /* the file is no log's */
+    PAXIDORE_E_SHORT = -12,    /* the file of a log ends before the digests of the log's size */
+    PAXIDORE_E_HEAD = -13,     /* the file has the title of a log's, and neither of its two slots is whole */
+    PAXIDORE_E_DAMAGED = -14   /* the file of a log has a digest that is not the one that was stored, or states another root */
 };
 
 /* A few words on an answer, for people. Never NULL. */
@@ -290,6 +295,84 @@ PAXIDORE_ANSWERS PAXIDORE_NOT_NULL((1, 4))
 int32_t paxidore_log_verify_inclusion_digest(const uint8_t root[PAXIDORE_DIGESTBYTES], size_t size, size_t index,
                                              const uint8_t digest[PAXIDORE_DIGESTBYTES],
                                              const uint8_t *path, size_t path_len);
+
+/* ---- Logs in files of the caller's. No call reads or writes a file, and no caller knows what stands where in it: the calls say which
+ * pieces are to be read, and what is to be written. FORMATS.md says what the file has.
+ *
+ * A piece is a place in the file and a count of bytes: `places` has two numbers for each, and room for `places_room` pieces, of which
+ * PAXIDORE_LOG_PIECES_MAX are enough. Begin with `*places_len` 0 and no byte of pieces. Where the answer is E_MORE, further pieces
+ * stand in `places`, and `*places_len` counts them too: read each from the file, put its bytes behind those of the others, and make
+ * the same call again. All of them lie within the first `file_len` bytes, which are those that the file has. A log's head is read
+ * first, then what its root is made of, and then the rest: three reads in turn at most, for any size. Whoever does not lock the file
+ * begins anew for each call.
+ *
+ * What is to be written comes as steps: `steps` has a place and a count for each, and PAXIDORE_LOG_STEPS_MAX are enough; their bytes
+ * stand in `bytes` one behind the other. Write the bytes of a step at its place, sync the file (fsync, fdatasync), and only then go on
+ * to the next step; a step of no bytes is a sync alone. Whatever stops this, be it in the middle of a step, the file has the log as it
+ * was or with the entries; once all is done it has them, also where either of its two slots is damaged later. After a failed write or
+ * sync begin again with paxidore_log_file_make. Two writers destroy each other's work: lock the file before anything is read.
+ *
+ * The answers of each, in this order: E_ROOM where `places` has no room; E_LENGTHS where the pieces have not as many bytes as their
+ * places say; E_MORE; then its own. E_NO_LOG, E_HEAD, E_SHORT say of a file that it is no log's, that its head is damaged, or that it
+ * ends early; E_DAMAGED that its digests do not lead to the root that its head states, or that a proof of them does not hold. They
+ * change nothing. Files of earlier versions state no root: of them only proofs are checked. */
+#define PAXIDORE_LOG_PIECES_MAX 384U
+#define PAXIDORE_LOG_STEPS_MAX 8U
+
+/* How many bytes are enough for what is to be written for so many entries, 0 for a new log. It allocates nothing. */
+size_t paxidore_log_file_room(size_t count);
+
+/* What is to be done before a file is appended to, each time that it is opened: the head of a log of no entries is written to a file
+ * that has no byte, or no more than a part of that head; any other one is synced alone. Where bytes are written, sync the folder too.
+ * E_ROOM also for `bytes` and `steps`. */
+PAXIDORE_ANSWERS PAXIDORE_NOT_NULL((3, 6, 9))
+int32_t paxidore_log_file_make(uint8_t *bytes, size_t bytes_room, size_t *bytes_len,
+                               size_t *steps, size_t steps_room, size_t *steps_len,
+                               size_t *places, size_t places_room, size_t *places_len,
+                               size_t file_len, const uint8_t *pieces, size_t pieces_len);
+
+/* Writes how many entries the log has. E_NO_LOG, E_HEAD, E_SHORT. */
+PAXIDORE_ANSWERS PAXIDORE_NOT_NULL((1, 4))
+int32_t paxidore_log_file_size(size_t *size,
+                               size_t *places, size_t places_room, size_t *places_len,
+                               size_t file_len, const uint8_t *pieces, size_t pieces_len);
+
+/* What is to be written for `count` entries more, which are handed over as leaves are, and the new size. For no entries there is
+ * nothing. E_LENGTHS, E_NO_LOG, E_HEAD, E_SHORT, E_DAMAGED, E_SIZE for a new size of 2^63 and above, E_MEMORY, E_ROOM for `bytes` and
+ * `steps`. */
+PAXIDORE_ANSWERS PAXIDORE_NOT_NULL((3, 6, 7, 10))
+int32_t paxidore_log_file_append(uint8_t *bytes, size_t bytes_room, size_t *bytes_len,
+                                 size_t *steps, size_t steps_room, size_t *steps_len, size_t *size,
+                                 size_t *places, size_t places_room, size_t *places_len,
+                                 size_t file_len, const uint8_t *pieces, size_t pieces_len,
+                                 const uint8_t *entries, size_t entries_len,
+                                 const size_t *lengths, size_t count);
+
+/* Writes the root of the first `size` entries. E_NO_LOG, E_HEAD, E_SHORT, E_DAMAGED, E_SIZE for more than there are. */
+PAXIDORE_ANSWERS PAXIDORE_NOT_NULL((1, 4))
+int32_t paxidore_log_file_root(uint8_t root[PAXIDORE_DIGESTBYTES],
+                               size_t *places, size_t places_room, size_t *places_len,
+                               size_t file_len, const uint8_t *pieces, size_t pieces_len, size_t size);
+
+/* Writes the bytes of the inclusion proof of `index` in the first `size` entries, as paxidore_log_inclusion does. It is checked. E_NO_LOG,
+ * E_HEAD, E_SHORT, E_DAMAGED, E_SIZE, E_INDEX, E_DAMAGED, E_ROOM, E_MEMORY. */
+PAXIDORE_ANSWERS PAXIDORE_NOT_NULL((3, 6))
+int32_t paxidore_log_file_inclusion(uint8_t *path, size_t path_room, size_t *path_len,
+                                    size_t *places, size_t places_room, size_t *places_len,
+                                    size_t file_len, const uint8_t *pieces, size_t pieces_len, size_t size, size_t index);
+
+/* Writes the bytes of the proof that the first `size` entries continue the first `old_size` ones, as paxidore_log_consistency does. It
+ * is checked. E_NO_LOG, E_HEAD, E_SHORT, E_DAMAGED, E_SIZE, E_DAMAGED, E_ROOM, E_MEMORY. */
+PAXIDORE_ANSWERS PAXIDORE_NOT_NULL((3, 6))
+int32_t paxidore_log_file_consistency(uint8_t *proof, size_t proof_room, size_t *proof_len,
+                                      size_t *places, size_t places_room, size_t *places_len,
+                                      size_t file_len, const uint8_t *pieces, size_t pieces_len,
+                                      size_t old_size, size_t size);
+
+/* PAXIDORE_OK where each stored digest of two others is their hash, as paxidore_log_check says, in the log whose file has these bytes,
+ * all of them; else PAXIDORE_NOT_SHOWN. E_NO_LOG, E_HEAD, E_SHORT. */
+PAXIDORE_ANSWERS
+int32_t paxidore_log_file_check(const uint8_t *file, size_t file_len);
 
 /* ---- BLAKE2s with 32 bytes out and no key (RFC 7693). Nothing is refused. The standard defines it for inputs below 2^64 bytes:
  * of a longer text, which `update` can take in pieces, the count is kept modulo 2^64. */

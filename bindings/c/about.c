@@ -16,6 +16,11 @@ const char *paxidore_strerror(int32_t answer) {
     case PAXIDORE_E_COUNT: return "there are not as many leaves as indexes";
     case PAXIDORE_E_INDEX: return "there is no index, or no leaf at one";
     case PAXIDORE_E_ROOM: return "the buffer is too short";
+    case PAXIDORE_E_MORE: return "pieces of the file are to be read first";
+    case PAXIDORE_E_NO_LOG: return "the file is no log";
+    case PAXIDORE_E_SHORT: return "the file of the log ends early";
+    case PAXIDORE_E_HEAD: return "the head of the log's file is damaged";
+    case PAXIDORE_E_DAMAGED: return "the file of the log is damaged";
     default: return "unknown answer";
     }
 }

@@ -92,6 +92,30 @@ class IndexBeyondSize(Refused, IndexError):
     code = -8
 
 
+class NoLog(Refused, ValueError):
+    """The file is no log's."""
+
+    code = -11
+
+
+class ShortLog(Refused, ValueError):
+    """The file of a log ends before the digests of the log's size."""
+
+    code = -12
+
+
+class DamagedHead(Refused, ValueError):
+    """The file has the title of a log's, and neither of its two slots is whole."""
+
+    code = -13
+
+
+class DamagedLog(Refused, ValueError):
+    """The file of a log has a digest that is not the one that was stored, or states another root."""
+
+    code = -14
+
+
 class OutOfMemory(Refused, MemoryError):
     """A request for memory was refused."""
 
@@ -109,8 +133,15 @@ _KINDS = {
         LengthsError,
         CountError,
         IndexBeyondSize,
+        NoLog,
+        ShortLog,
+        DamagedHead,
+        DamagedLog,
     )
 }
+
+# the answer that pieces of a file are to be read first
+MORE = -10
 
 
 def _refusal(answer: int) -> Refused:

@@ -2,12 +2,14 @@
 import copy
 import fcntl
 import hashlib
+import io
 import os
 import random
 import signal
 import sys
 import tempfile
 import threading
+import time
 import unittest
 
 import paxidore
@@ -293,7 +295,7 @@ class InFile(unittest.TestCase):
                 proofs_are(self, log, digests, size)
             self.assertTrue(log.check())
         with open(self.path, "rb") as file:
-            self.assertEqual(file.read()[96:], b"".join(stored(digests)))
+            self.assertTrue(file.read().endswith(b"".join(stored(digests))))
         self.assertEqual(os.listdir(self.room.name), ["log"])
 
     def test_it_is_locked(self):
@@ -316,9 +318,8 @@ class InFile(unittest.TestCase):
         Log.open(self.path).close()
         with open(self.path, "rb") as file:
             head = file.read()
-        self.assertEqual(len(head), 96)
-        for end in range(97):
-            for content in (head[:end], bytes(end), head[:end] + bytes(96 - end), bytes(end) + head[end:]):
+        for end in range(len(head) + 1):
+            for content in (head[:end], bytes(end), head[:end] + bytes(len(head) - end), bytes(end) + head[end:]):
                 with open(self.path, "wb") as file:
                     file.write(content)
                 with Log.open(self.path) as log:
@@ -417,6 +418,58 @@ class InFile(unittest.TestCase):
             with open(self.path, "rb") as file:
                 self.assertEqual(file.read(), content)
 
+    def test_a_file_of_an_earlier_version(self):
+        """Its slots have 24 bytes of the sum of the size, and state no root. It goes on, and then states one."""
+        entries = drawn(12)
+        for size in range(len(entries)):
+            if os.path.exists(self.path):
+                os.remove(self.path)
+            with Log.open(self.path) as log:
+                log.append(entries[:size])
+            with open(self.path, "rb") as file:
+                whole = file.read()
+            word = size.to_bytes(8, "little")
+            for slots in (2 * (word + sha(word)[:24]), word + sha(word)[:24] + bytes(32)):
+                old = whole[:32] + slots + whole[96:]
+                with open(self.path, "wb") as file:
+                    file.write(old)
+                with Log.open(self.path) as log:
+                    self.assertEqual((len(log), log.root(), log.check()), (size, mth(entry_digests(entries[:size])), True))
+                    with open(self.path, "rb") as file:
+                        self.assertEqual(file.read(), old)
+                    for index in range(size):
+                        shown = log.inclusion(index)
+                        self.assertTrue(Log.verify_inclusion(log.root(), size, index, entries[index], shown))
+                    self.assertEqual(log.append(entries[size:]), len(entries))
+                    self.assertEqual(log.root(), mth(entry_digests(entries)))
+                with open(self.path, "rb") as file:
+                    head = file.read()[32:96]
+                statement = sha(len(entries).to_bytes(8, "little") + mth(entry_digests(entries)))[:12]
+                self.assertEqual((head[20:32], head[52:]), (statement, statement))
+
+    def test_damage(self):
+        """A digest that a root or a proof needs is told; a head without a whole slot has its own error."""
+        with Log.open(self.path) as log:
+            log.append(drawn(11))
+        with open(self.path, "rb") as file:
+            whole = file.read()
+        with open(self.path, "wb") as file:
+            file.write(whole[:-1] + bytes([whole[-1] ^ 1]))
+        with Log.open(self.path) as log:
+            for call in (log.root, lambda: log.inclusion(3), lambda: log.consistency(3), lambda: log.append([b"more"])):
+                self.assertRaises(paxidore.DamagedLog, call)
+            self.assertEqual(len(log), 11)
+        with open(self.path, "wb") as file:
+            file.write(whole[:96] + bytes([whole[96] ^ 1]) + whole[97:])
+        with Log.open(self.path) as log:
+            log.root()
+            log.inclusion(8)
+            self.assertRaises(paxidore.DamagedLog, log.inclusion, 1)
+            self.assertRaises(paxidore.DamagedLog, log.consistency, 1)
+        with open(self.path, "wb") as file:
+            file.write(whole[:32] + bytes(64) + whole[96:])
+        self.assertRaises(paxidore.DamagedHead, Log.open, self.path)
+
     def test_a_forked_process(self):
         """It does not have the log of its parent, nor its lock."""
         with Log.open(self.path) as log:
@@ -484,7 +537,7 @@ class InFile(unittest.TestCase):
         entries = drawn(12)
         digests = entry_digests(entries)
         real = os.fsync
-        for fails_at in (1, 2):
+        for fails_at in (1, 2, 3):
             if os.path.exists(self.path):
                 os.unlink(self.path)
             with Log.open(self.path) as log:
@@ -503,6 +556,7 @@ class InFile(unittest.TestCase):
                 finally:
                     os.fsync = real
                 if fails_at == 1:
+                    # no size was written
                     self.assertEqual(log.root(), mth(digests[:5]))
                     self.assertEqual(log.append(entries[5:]), 12)
                 else:
@@ -511,6 +565,91 @@ class InFile(unittest.TestCase):
             with Log.open(self.path) as log:
                 self.assertIn(len(log), (5, 12))
                 self.assertEqual(log.root(), mth(digests[: len(log)]))
+
+    def test_for_reading_only(self):
+        """It needs no lock, sees what the keeper appends, and writes nothing."""
+        self.assertRaises(FileNotFoundError, Log.open, self.path, read_only=True)
+        self.assertEqual(os.listdir(self.room.name), [])
+        entries = drawn(40)
+        digests = entry_digests(entries)
+        with Log.open(self.path) as keeper, Log.open(self.path, read_only=True) as log:
+            for size in (0, 1, 7, 8, 33):
+                keeper.append(entries[len(keeper) : size])
+                self.assertEqual((len(log), log.root()), (size, mth(digests[:size])))
+                proofs_are(self, log, digests, size)
+                self.assertTrue(log.check())
+            self.assertRaises(io.UnsupportedOperation, log.append, entries[:1])
+            os.chmod(self.path, 0o444)
+            child = os.fork()
+            if child == 0:
+                os._exit(log.root() == mth(digests[:33]))
+            self.assertEqual(os.waitstatus_to_exitcode(os.waitpid(child, 0)[1]), 1)
+        with open(self.path, "wb") as file:
+            file.write(b"x")
+        self.assertRaises(paxidore.NoLog, Log.open, self.path, read_only=True)
+
+    def test_a_file_that_is_cut(self):
+        """A file that gets shorter while it is open is refused, and ends no process."""
+        entries = drawn(3000)
+        with Log.open(self.path) as log, Log.open(self.path, read_only=True) as reader:
+            log.append(entries)
+            for length in (os.path.getsize(self.path) - 1, 5000, 97, 10, 0):
+                os.truncate(self.path, length)
+                for each in (log, reader):
+                    self.assertRaises(ValueError, each.root)
+                    self.assertRaises(ValueError, each.inclusion, 7, 3000)
+                    self.assertRaises(ValueError, each.consistency, 7, 3000)
+                    self.assertRaises(ValueError, each.check)
+                self.assertRaises(ValueError, log.append, entries[:1])
+                self.assertEqual(os.path.getsize(self.path), length)
+
+    def test_a_file_that_is_cut_within_a_call(self):
+        real = os.pread
+        with Log.open(self.path) as log:
+            log.append(drawn(9))
+            os.pread = lambda file, count, at: b"" if at else real(file, count, at)
+            try:
+                self.assertRaisesRegex(ValueError, "shorter", log.root)
+                self.assertRaisesRegex(ValueError, "shorter", log.append, [b"x"])
+                # what is read in parts is read
+                os.pread = lambda file, count, at: real(file, min(count, 5), at)
+                self.assertEqual(log.append([b"x"]), 10)
+            finally:
+                os.pread = real
+            self.assertTrue(log.check())
+
+    def test_waiting_for_the_lock(self):
+        with Log.open(self.path) as log:
+            begin = time.monotonic()
+            self.assertRaises(BlockingIOError, Log.open, self.path, wait=0.05)
+            self.assertGreaterEqual(time.monotonic() - begin, 0.05)
+            opened = []
+            opener = threading.Thread(target=lambda: opened.append(Log.open(self.path, wait=60)))
+            opener.start()
+            log.append([b"one"])
+            self.assertEqual(opened, [])
+        opener.join()
+        self.assertEqual(opened[0].append([b"two"]), 2)
+        opened[0].close()
+
+    def test_no_descriptor_is_left(self):
+        before = sorted(os.listdir("/proc/self/fd"))
+        other = self.path + ".other"
+        with open(other, "wb") as file:
+            file.write(bytes(97))
+        with Log.open(self.path) as log:
+            for _ in range(50):
+                self.assertRaises(BlockingIOError, Log.open, self.path)
+                self.assertRaises(paxidore.NoLog, Log.open, other)
+                self.assertRaises(paxidore.NoLog, Log.open, other, read_only=True)
+                Log.open(self.path, read_only=True).close()
+            log.append([b"one"])
+        # one that is not closed
+        Log.open(self.path).append([b"two"])
+        Log.open(self.path, read_only=True).root()
+        self.assertRaises(NotADirectoryError, Log.open, other + "/none")
+        self.assertEqual(len(Log.open(self.path)), 2)
+        self.assertEqual(sorted(os.listdir("/proc/self/fd")), before)
 
     def test_each_crash(self):
         """What was written and not synced stands there in part, or not at all."""
@@ -617,17 +756,18 @@ class InFile(unittest.TestCase):
         self.assertGreater(within, 0)
 
     def test_each_bit_that_is_flipped(self):
-        """It is found, or the log is that of an append before, or the root is not the one that was published."""
+        """In the head it is told or harmless. In a digest it is found, or the root is not the one that was published."""
+        with Log.open(self.path):
+            pass
+        head = os.path.getsize(self.path)
         for first, more in ((1, 0), (1, 1), (2, 1), (3, 4), (5, 8)):
-            if os.path.exists(self.path):
-                os.unlink(self.path)
+            os.unlink(self.path)
             entries = drawn(first + more)
-            published = {}
+            size, told = first + more, 0
             with Log.open(self.path) as log:
                 for part in (entries[:0], entries[:first], entries[first:]):
                     log.append(part)
-                    published[len(log)] = log.root()
-            size = first + more
+                root = log.root()
             with open(self.path, "rb") as file:
                 whole = file.read()
             for bit in range(8 * len(whole)):
@@ -636,20 +776,23 @@ class InFile(unittest.TestCase):
                 with open(self.path, "wb") as file:
                     file.write(flipped)
                 place = bit // 8
-                if place < 32:
-                    self.assertRaises(ValueError, Log.open, self.path)
+                try:
+                    log = Log.open(self.path)
+                except ValueError:
+                    self.assertLess(place, head)
+                    told += 1
                     continue
-                with Log.open(self.path) as log:
-                    if place < 96:
-                        # in a slot: the other one decides
-                        self.assertTrue(log.check())
-                        self.assertEqual(log.root(), published[len(log)])
+                with log:
+                    # never a log of fewer entries
+                    self.assertEqual(len(log), size)
+                    if place < head:
+                        self.assertEqual((log.root(), log.check()), (root, True))
                     elif log.check():
                         # the leaf that is in no pair yet, which stands last
-                        self.assertEqual((size % 2, (place - 96) // 32), (1, len(whole) // 32 - 4))
-                        self.assertNotEqual(log.root(), published[size])
-                    else:
-                        self.assertEqual(len(log), size)
+                        self.assertEqual((size % 2, place >= len(whole) - 32), (1, True))
+                        self.assertRaises(paxidore.DamagedLog, log.root)
+            # that of the title, at least
+            self.assertGreaterEqual(told, 256)
 
 
 if __name__ == "__main__":

@@ -22,6 +22,8 @@
 mod client;
 #[cfg(feature = "std")]
 mod log;
+#[cfg(feature = "std")]
+mod log_file;
 #[cfg_attr(not(feature = "std"), allow(dead_code))]
 mod sys;
 #[cfg(feature = "std")]
@@ -70,6 +72,14 @@ pub enum Refused {
     Index,
     /// The memory for a tree has another length than that of the tree.
     Room,
+    /// The file is no log's.
+    NoLog,
+    /// The file of a log ends before the digests of the log's size.
+    Short,
+    /// The file has the title of a log's, and neither of its two slots is whole.
+    DamagedHead,
+    /// The file of a log has a digest that is not the one that was stored, or states another root.
+    Damaged,
     /// Another answer of a library that is newer than this crate.
     Other(i32),
 }
@@ -86,6 +96,10 @@ impl Refused {
             -7 => Refused::Count,
             -8 => Refused::Index,
             -9 => Refused::Room,
+            -11 => Refused::NoLog,
+            -12 => Refused::Short,
+            -13 => Refused::DamagedHead,
+            -14 => Refused::Damaged,
             other => Refused::Other(other),
         }
     }
@@ -105,6 +119,10 @@ impl fmt::Display for Refused {
             Refused::Count => f.write_str("there are not as many leaves as indexes"),
             Refused::Index => f.write_str("there is no index, or no leaf at one"),
             Refused::Room => f.write_str("the memory for a tree has another length"),
+            Refused::NoLog => f.write_str("the file is no log"),
+            Refused::Short => f.write_str("the file of the log ends early"),
+            Refused::DamagedHead => f.write_str("the head of the log's file is damaged"),
+            Refused::Damaged => f.write_str("the file of the log is damaged"),
             // a newer library has words for it
             Refused::Other(answer) => {
                 // SAFETY: the library answers a text of its own for each number, which ends with a zero byte and never changes.

@@ -257,9 +257,97 @@ extern "C" {
     ) -> i32;
 }
 
+// The answer that pieces of a file are to be read first.
+pub const MORE: i32 = -10;
+
+// Logs in files. `places` and `steps` have two numbers for each piece and step, and lengths of them count pieces and steps.
+extern "C" {
+    pub fn paxidore_log_file_room(count: usize) -> usize;
+    pub fn paxidore_log_file_make(
+        bytes: *mut u8,
+        bytes_room: usize,
+        bytes_len: *mut usize,
+        steps: *mut usize,
+        steps_room: usize,
+        steps_len: *mut usize,
+        places: *mut usize,
+        places_room: usize,
+        places_len: *mut usize,
+        file_len: usize,
+        pieces: *const u8,
+        pieces_len: usize,
+    ) -> i32;
+    pub fn paxidore_log_file_size(
+        size: *mut usize,
+        places: *mut usize,
+        places_room: usize,
+        places_len: *mut usize,
+        file_len: usize,
+        pieces: *const u8,
+        pieces_len: usize,
+    ) -> i32;
+    pub fn paxidore_log_file_append(
+        bytes: *mut u8,
+        bytes_room: usize,
+        bytes_len: *mut usize,
+        steps: *mut usize,
+        steps_room: usize,
+        steps_len: *mut usize,
+        size: *mut usize,
+        places: *mut usize,
+        places_room: usize,
+        places_len: *mut usize,
+        file_len: usize,
+        pieces: *const u8,
+        pieces_len: usize,
+        entries: *const u8,
+        entries_len: usize,
+        lengths: *const usize,
+        count: usize,
+    ) -> i32;
+    pub fn paxidore_log_file_root(
+        root: *mut u8,
+        places: *mut usize,
+        places_room: usize,
+        places_len: *mut usize,
+        file_len: usize,
+        pieces: *const u8,
+        pieces_len: usize,
+        size: usize,
+    ) -> i32;
+    pub fn paxidore_log_file_inclusion(
+        path: *mut u8,
+        path_room: usize,
+        path_len: *mut usize,
+        places: *mut usize,
+        places_room: usize,
+        places_len: *mut usize,
+        file_len: usize,
+        pieces: *const u8,
+        pieces_len: usize,
+        size: usize,
+        index: usize,
+    ) -> i32;
+    pub fn paxidore_log_file_consistency(
+        proof: *mut u8,
+        proof_room: usize,
+        proof_len: *mut usize,
+        places: *mut usize,
+        places_room: usize,
+        places_len: *mut usize,
+        file_len: usize,
+        pieces: *const u8,
+        pieces_len: usize,
+        old_size: usize,
+        size: usize,
+    ) -> i32;
+    pub fn paxidore_log_file_check(file: *const u8, file_len: usize) -> i32;
+}
+
 // Of the system: a lock on an open file, which one process has.
 pub const LOCK_EX: c_int = 2;
 pub const LOCK_NB: c_int = 4;
+pub const LOCK_UN: c_int = 8;
 
 extern "C" {
     pub fn flock(file: c_int, operation: c_int) -> c_int;

@@ -2,8 +2,10 @@
 
 use paxidore::{sha256, Digest, Log, LogError, Refused};
 use std::fs;
-use std::io::ErrorKind;
+use std::io::{ErrorKind, Write};
 use std::path::PathBuf;
+use std::process::{Command, Stdio};
+use std::time::{Duration, Instant};
 
 fn entries(count: usize) -> Vec<Vec<u8>> {
     (0..count).map(|i| vec![i as u8; i % 130]).collect()
@@ -57,6 +59,14 @@ fn subproof(old: usize, leaves: &[Digest], known: bool) -> Vec<Digest> {
     };
     proof.push(beside);
     proof
+}
+
+// Why a call was refused.
+fn refusal<T: std::fmt::Debug>(done: Result<T, LogError>) -> Refused {
+    match done {
+        Err(LogError::Refused(refused)) => refused,
+        other => panic!("not refused: {other:?}"),
+    }
 }
 
 struct Room(PathBuf);
@@ -140,18 +150,18 @@ fn each_size() -> Result<(), LogError> {
 fn refusals() -> Result<(), LogError> {
     let mut log = Log::new();
     assert!(log.is_empty());
-    assert_eq!(log.inclusion(0, 0), Err(Refused::Index));
-    assert_eq!(log.consistency(0, 0), Err(Refused::Size));
+    assert_eq!(refusal(log.inclusion(0, 0)), Refused::Index);
+    assert_eq!(refusal(log.consistency(0, 0)), Refused::Size);
     assert_eq!(log.append::<&[u8]>(&[])?, 0);
     log.append(&["a", "b", "c"])?;
     assert_eq!(log.len(), 3);
-    assert_eq!(log.root(4), Err(Refused::Size));
-    assert_eq!(log.root(usize::MAX), Err(Refused::Size));
-    assert_eq!(log.inclusion(3, 3), Err(Refused::Index));
-    assert_eq!(log.inclusion(0, 4), Err(Refused::Size));
-    assert_eq!(log.consistency(0, 3), Err(Refused::Size));
-    assert_eq!(log.consistency(3, 2), Err(Refused::Size));
-    assert_eq!(log.consistency(3, 3), Ok(Vec::new()));
+    assert_eq!(refusal(log.root(4)), Refused::Size);
+    assert_eq!(refusal(log.root(usize::MAX)), Refused::Size);
+    assert_eq!(refusal(log.inclusion(3, 3)), Refused::Index);
+    assert_eq!(refusal(log.inclusion(0, 4)), Refused::Size);
+    assert_eq!(refusal(log.consistency(0, 3)), Refused::Size);
+    assert_eq!(refusal(log.consistency(3, 2)), Refused::Size);
+    assert!(log.consistency(3, 3)?.is_empty());
     let none = [0; 32];
     assert_eq!(
         Log::verify_inclusion_digest(&none, 1, 1, &none, &[]),
@@ -208,32 +218,102 @@ fn files() -> Result<(), LogError> {
     fs::remove_file(room.log())?;
     Log::open(room.log())?.append(&["a", "b", "c"])?;
     let whole = fs::read(room.log())?;
-    // a title, two slots, and the digests of a, of b, of both, and of c
-    assert_eq!(whole.len(), 96 + 4 * 32);
-    assert_eq!(whole[..32], *b"paxidore log, digests of SHA-256");
-    assert_eq!(whole[64..72], 3u64.to_le_bytes());
-    assert_eq!(whole[72..96], sha256(&3u64.to_le_bytes())[..24]);
-    // a torn tail is cut off by the next append, a torn slot gives way to the other one, and a short file is refused
+    // the digests of a, of b, of both, and of c
+    let [a, b, c] = ["a", "b", "c"].map(|entry| sha256(&[&[0], entry.as_bytes()].concat()));
+    let both = sha256(&[&[1][..], &a, &b].concat());
+    assert!(whole.ends_with(&[a, b, both, c].concat()));
+    // what an append left that did not end is no part of the log, and a short file is refused
     let tail = [&whole[..], b"torn"].concat();
     fs::write(room.log(), &tail)?;
     assert_eq!(Log::open(room.log())?.len(), 3);
     assert_eq!(fs::read(room.log())?, tail);
-    Log::open(room.log())?.append(&["d"])?;
-    assert_eq!(fs::read(room.log())?.len(), 96 + 7 * 32);
-    let mut torn = whole.clone();
-    torn[70] ^= 1;
-    fs::write(room.log(), torn)?;
-    assert_eq!(Log::open(room.log())?.len(), 0);
+    assert_eq!(Log::open(room.log())?.append(&["d"])?, 4);
+    assert_eq!(
+        Log::open(room.log())?.root(4)?,
+        mth(&[a, b, c, sha256(b"\0d")])
+    );
     fs::write(room.log(), &whole[..whole.len() - 1])?;
     assert_eq!(
         Log::open(room.log()).unwrap_err().kind(),
         ErrorKind::InvalidData
     );
-    // damage is found
+    // damage of a digest is found
     let mut damaged = whole.clone();
-    damaged[96 + 40] ^= 1;
+    damaged[whole.len() - 32 - 40] ^= 1;
     fs::write(room.log(), damaged)?;
     assert!(!Log::open(room.log())?.check()?);
+    Ok(())
+}
+
+#[test]
+fn each_bit_of_the_head() -> Result<(), LogError> {
+    let room = Room::new("bits");
+    let entries = entries(11);
+    for append in entries.chunks(4) {
+        Log::open(room.log())?.append(append)?;
+    }
+    let (whole, root) = (fs::read(room.log())?, mth(&digests(&entries)));
+    // behind the head stand the digests of 11 entries: 2 * 11 less three ones
+    for bit in 0..8 * (whole.len() - 32 * 19) {
+        let mut flipped = whole.clone();
+        flipped[bit / 8] ^= 1 << (bit % 8);
+        fs::write(room.log(), &flipped)?;
+        // it is told, or harmless
+        match Log::open(room.log()) {
+            Ok(log) => assert_eq!((log.len(), log.root(11)?), (11, root)),
+            Err(error) => assert_eq!(error.kind(), ErrorKind::InvalidData),
+        }
+        assert_eq!(fs::read(room.log())?, flipped);
+    }
+    Ok(())
+}
+
+#[test]
+fn read_only() -> Result<(), LogError> {
+    let room = Room::new("reads");
+    assert_eq!(
+        Log::open_read_only(room.log()).unwrap_err().kind(),
+        ErrorKind::NotFound
+    );
+    let mut keeper = Log::open(room.log())?;
+    let mut reader = Log::open_read_only(room.log())?;
+    let entries = entries(9);
+    keeper.append(&entries)?;
+    assert_eq!((reader.len(), reader.refresh()?), (0, 9));
+    assert_eq!(reader.root(9)?, keeper.root(9)?);
+    assert_eq!(reader.inclusion(7, 9)?, keeper.inclusion(7, 9)?);
+    assert_eq!(reader.consistency(7, 9)?, keeper.consistency(7, 9)?);
+    assert!(reader.check()?);
+    assert!(matches!(reader.append(&["x"]), Err(LogError::Io(_))));
+    // a file that is cut while it is open
+    let whole = fs::read(room.log())?;
+    fs::OpenOptions::new()
+        .write(true)
+        .open(room.log())?
+        .set_len(whole.len() as u64 - 1)?;
+    assert_eq!(refusal(reader.root(9)), Refused::Short);
+    assert_eq!(refusal(keeper.inclusion(1, 9)), Refused::Short);
+    assert_eq!(refusal(keeper.append(&["x"])), Refused::Short);
+    Ok(())
+}
+
+#[test]
+fn waits_for_the_lock() -> Result<(), LogError> {
+    let room = Room::new("waits");
+    let keeper = Log::open(room.log())?;
+    let begin = Instant::now();
+    let wait = Duration::from_millis(30);
+    assert_eq!(
+        Log::open_within(room.log(), wait).unwrap_err().kind(),
+        ErrorKind::WouldBlock
+    );
+    assert!(begin.elapsed() >= wait);
+    let path = room.log();
+    let opener =
+        std::thread::spawn(move || Log::open_within(path, Duration::from_secs(60)).map(drop));
+    std::thread::sleep(wait);
+    drop(keeper);
+    opener.join().unwrap()?;
     Ok(())
 }
 
@@ -242,9 +322,8 @@ fn heads_that_a_crash_left() -> Result<(), LogError> {
     let room = Room::new("heads");
     Log::open(room.log())?;
     let head = fs::read(room.log())?;
-    assert_eq!(head.len(), 96);
-    for end in 0..=96 {
-        let zeros = vec![0; 96];
+    for end in 0..=head.len() {
+        let zeros = vec![0; head.len()];
         for content in [
             head[..end].to_vec(),
             zeros[..end].to_vec(),
@@ -297,5 +376,55 @@ fn a_new_log_of_several_threads() -> Result<(), LogError> {
         fs::remove_file(room.log())?;
     }
     assert_eq!(fs::read_dir(&room.0)?.count(), 0);
+    Ok(())
+}
+
+// What the process that is killed does; in a run of all tests it does nothing.
+#[test]
+fn appends_until_it_is_killed() -> Result<(), LogError> {
+    let Some(path) = std::env::var_os("PAXIDORE_LOG_TO_KILL") else {
+        return Ok(());
+    };
+    let mut log = Log::open(path)?;
+    loop {
+        let size = log.append(&[log.len().to_string(), "and another".into()])?;
+        std::io::stdout().write_all(format!("size {size}\n").as_bytes())?;
+    }
+}
+
+#[test]
+fn killed_while_it_appends() -> Result<(), LogError> {
+    let room = Room::new("killed");
+    let mut size = 0;
+    for turn in 0..60 {
+        let mut child = Command::new(std::env::current_exe()?)
+            .args(["--exact", "appends_until_it_is_killed", "--nocapture"])
+            .env("PAXIDORE_LOG_TO_KILL", room.log())
+            .stdout(Stdio::piped())
+            .spawn()?;
+        std::thread::sleep(Duration::from_micros(3000 + 137 * turn));
+        child.kill()?;
+        let said = String::from_utf8_lossy(&child.wait_with_output()?.stdout).into_owned();
+        // the last line may be cut
+        let told = said
+            .lines()
+            .filter(|line| said.contains(&format!("{line}\n")));
+        let acknowledged = told
+            .filter_map(|line| line.strip_prefix("size ")?.parse().ok())
+            .last()
+            .unwrap_or(size);
+        let log = Log::open(room.log())?;
+        // of the append that was under way all or nothing
+        assert!([acknowledged, acknowledged + 2].contains(&log.len()));
+        let entry = |i: usize| match i % 2 {
+            0 => i.to_string(),
+            _ => "and another".to_string(),
+        };
+        let leaves: Vec<Vec<u8>> = (0..log.len()).map(|i| entry(i).into_bytes()).collect();
+        assert_eq!(log.root(log.len())?, mth(&digests(&leaves)));
+        assert!(log.check()?);
+        size = log.len();
+    }
+    assert!(size > 0);
     Ok(())
 }

@@ -1,7 +1,10 @@
 -- Faults of a log's file.
-use Rattle.std.proofs.Common.{ℕ, List, Option, Result, Ok, Err, refl, inl, inr}
+use Rattle.std.proofs.Common.{◌≡◌, ℕ, List, Option, Result, Ok, Err, refl, inl, inr}
+use Rattle.ark_paths.specs.Pair.{Digest}
 use Rattle.paxlog_run.specs.Faults.{log_size, of_first}
 use Rattle.paxlog_run.specs.declared.fault.Fault as fault_of_files
+use Rattle.paxlog_run.specs.declared.fault.Fault.TheVariants.{Damaged}
+use Rattle.paxlog_run.specs.LogFile.{IsLogFile}
 use Rattle.paxlog_run.proofs.Sizes.{given-refused}
 use Rattle.log_store.specs.Refused.{IsRefusedFor}
 use Rattle.log_store.specs.declared.stop.Stop.{Stop}
@@ -25,3 +28,12 @@ refused-given A B file named given (Fault fault) (inr (inl is)) =
     inr (inl (given-refused given named file fault is))
 refused-given A B file named given (Fault fault) (inr (inr damaged)) = inr (inr damaged)
 refused-given A B file named given (Disk refusal) known = tt
+
+-- a file that is told to be damaged is that of no log
+pub damaged-none : (A : Type 0) {R : Type 0} (file : List ℕ) (stop : Stop R) → stop ≡ Fault Damaged
+    → IsRefusedFor {A = A} file (log_size file) (Err stop) → (leaves : List Digest) → IsLogFile leaves file → ⊥
+damaged-none A file (Fault fault) is (inl memory) leaves log = absurd cc
+damaged-none A file (Fault fault) is (inr (inl known)) leaves log =
+    let clash = rw (log.head, log.whole) at known in absurd cc
+damaged-none A file (Fault fault) is (inr (inr damaged)) leaves log = damaged.1 leaves log
+damaged-none A file (Disk refusal) is known leaves log = absurd cc

@@ -6,6 +6,7 @@ pub mod KeptLogs
 pub mod Lengths
 pub mod Numbers
 pub mod Parts
+pub mod Plans
 pub mod Putting
 pub mod TreeLemmas
 pub mod Whole

@@ -3,5 +3,7 @@ pub mod Cut
 pub mod Hashing
 pub mod KeptAnswer
 pub mod KeptLog
+pub mod LogFiles
 pub mod LogProofs
+pub mod Plan
 pub mod Transcript

@@ -13,6 +13,7 @@ pub mod kept_proofs;
 pub mod kept_trees;
 mod leaves;
 pub mod log;
+pub mod log_file;
 pub mod log_keeper;
 mod refused;
 pub mod sha256;

@@ -4,9 +4,8 @@ use crate::file_disk::FileDisk;
 use crate::stop::Stop;
 use log_store::{Disk, InclusionProof};
 use paxlog_run::fault::Fault;
-use paxlog_run::head::{TITLE, slot_of};
+use paxlog_run::head::START;
 use paxlog_run::request::After;
-use sha2::{Digest, Sha256};
 use std::fs::{File, OpenOptions};
 
 // The folder of a file.
@@ -18,27 +17,11 @@ fn folder_of(path: &str) -> &str {
     }
 }
 
-// Writes the head of no entries to a file that has no byte, or no more than a part of that head.
+// Writes the head of no entries to a file that has no byte, or no more than a part of that head, and syncs.
 fn make(rt: &HostRuntime, path: &str, disk: &mut FileDisk) -> Result<(), Stop> {
-    let mut head = Vec::new(rt.alloc());
-    head.extend_from_slice(&TITLE)?;
-    let empty = Sha256::digest([].as_slice());
-    head.extend_from_slice(&slot_of(0, &empty))?;
-    head.extend_from_slice(&slot_of(0, &empty))?;
-    let count = disk.length()?;
-    if count > head.len() {
-        return Ok(());
-    }
-    let mut there = Vec::new(rt.alloc());
-    there.resize(count, 0u8)?;
-    disk.read_at(0, &mut there)?;
-    let is_part = there
-        .iter()
-        .zip(head.iter())
-        .all(|(a, b)| *a == *b || *a == 0);
-    if count < head.len() && is_part {
-        disk.write_at(0, &head)?;
-        disk.sync()?;
+    let is_new = disk.length()? < START;
+    log_store::make(disk)?;
+    if is_new {
         File::open(rt, folder_of(path))?.sync_all()?;
     }
     Ok(())
@@ -67,8 +50,9 @@ pub fn append(
     let mut disk = FileDisk::new(file);
     if after.is_none() {
         make(rt, path, &mut disk)?;
+    } else {
+        disk.sync()?;
     }
-    disk.sync()?;
     if digests.is_empty() {
         let (size, root) = log_store::root(&disk, None)?;
         return match after {

@@ -1,4 +1,4 @@
-use Rattle.std.proofs.Common.{◌≡◌, ◌≤◌, ◌∙◌, ◌+◌, ◌++◌, length, take, map, ap, sym, List, ℕ, Bor, arith, append_assoc}
+use Rattle.std.proofs.Common.{◌≡◌, ◌≤◌, ◌∙◌, ◌+◌, ◌++◌, length, take, ap, sym, List, ℕ, Bor, arith, append_assoc}
 use Rattle.std.proofs.lemmas.List.{length-append, length-map, length-take-le, take_at}
 use Rattle.std.proofs.lemmas.Simd.{map-map}
 use Rattle.paxidore_c.proofs.leaves.write_run.Goals as goal

@@ -1,4 +1,4 @@
-use Rattle.std.proofs.Common.{length, inr, arith}
+use Rattle.std.proofs.Common.{inr, arith}
 use Rattle.std.proofs.lemmas.List.{length-drop}
 use Rattle.paxidore_c.proofs.Numbers.{elements_fault, elements_read}
 use Rattle.paxidore_c.proofs.Whole.{elements-alone, elements-fault, elements-more, error_passed}

@@ -1,0 +1,360 @@
+//! A log in a file. The library says what is to be read of it and what is to be written, and this module does that.
+
+use crate::{sys, verdict, Digest, Flat, LogError, Refused};
+use std::fs::{self, File, OpenOptions};
+use std::io;
+use std::os::unix::fs::{FileExt, MetadataExt};
+use std::os::unix::io::AsRawFd;
+use std::path::Path;
+use std::thread::sleep;
+use std::time::{Duration, Instant};
+
+/// The file of a log.
+#[derive(Debug)]
+pub(crate) struct LogFile {
+    file: File,
+    // it has no lock, and is not written
+    reads_only: bool,
+    // that opened the file: a forked one has its lock as well
+    process: u32,
+    // an append failed, and whether the file has its entries is not known
+    is_unknown: bool,
+}
+
+// How many pieces and steps are enough, as the header has them, in numbers.
+const PIECES: usize = 384;
+const STEPS: usize = 8;
+
+// The pieces of a file that were read for a call.
+struct Pieces {
+    places: [[usize; 2]; PIECES],
+    count: usize,
+    file_len: usize,
+    bytes: Vec<u8>,
+}
+
+// What is to be written: the places and counts of steps, and their bytes.
+struct Plan {
+    steps: Vec<[usize; 2]>,
+    bytes: Vec<u8>,
+}
+
+// Locks a file, and waits for its lock at most until then.
+fn lock(file: &File, until: Instant) -> io::Result<()> {
+    loop {
+        // SAFETY: the descriptor is that of an open file.
+        if unsafe { sys::flock(file.as_raw_fd(), sys::LOCK_EX | sys::LOCK_NB) } == 0 {
+            return Ok(());
+        }
+        let error = io::Error::last_os_error();
+        let left = until.saturating_duration_since(Instant::now());
+        match error.kind() {
+            io::ErrorKind::Interrupted => {}
+            io::ErrorKind::WouldBlock if !left.is_zero() => {
+                sleep(left.min(Duration::from_millis(5)))
+            }
+            _ => return Err(error),
+        }
+    }
+}
+
+// Opens the file at a path, which is made where there is none, and locks it.
+fn locked(path: &Path, wait: Duration) -> io::Result<File> {
+    let until = Instant::now() + wait;
+    loop {
+        let file = OpenOptions::new()
+            .read(true)
+            .write(true)
+            .create(true)
+            .truncate(false)
+            .open(path)?;
+        lock(&file, until)?;
+        let own = file.metadata()?;
+        match fs::metadata(path) {
+            Ok(found) if (found.dev(), found.ino()) == (own.dev(), own.ino()) => return Ok(file),
+            // another file took its place before it was locked
+            Ok(_) => {}
+            Err(error) if error.kind() == io::ErrorKind::NotFound => {}
+            Err(error) => return Err(error),
+        }
+    }
+}
+
+fn sync_folder(path: &Path) -> io::Result<()> {
+    let folder = match path.parent() {
+        Some(folder) if !folder.as_os_str().is_empty() => folder,
+        _ => Path::new("."),
+    };
+    File::open(folder)?.sync_all()
+}
+
+impl LogFile {
+    pub(crate) fn open(path: &Path, wait: Duration) -> io::Result<LogFile> {
+        let file = LogFile {
+            file: locked(path, wait)?,
+            reads_only: false,
+            process: std::process::id(),
+            is_unknown: false,
+        };
+        match file.made() {
+            Ok(plan) => {
+                file.carry_out(&plan)?;
+                if !plan.bytes.is_empty() {
+                    sync_folder(path)?;
+                }
+                Ok(file)
+            }
+            Err(LogError::Io(error)) => Err(error),
+            Err(LogError::Refused(refused)) => {
+                Err(io::Error::new(io::ErrorKind::InvalidData, refused))
+            }
+        }
+    }
+
+    pub(crate) fn open_read_only(path: &Path) -> io::Result<LogFile> {
+        Ok(LogFile {
+            file: File::open(path)?,
+            reads_only: true,
+            process: std::process::id(),
+            is_unknown: false,
+        })
+    }
+
+    // Makes a call, for which the pieces of the file are read that it asks for.
+    fn asking(&self, mut call: impl FnMut(&mut Pieces) -> i32) -> Result<(), LogError> {
+        if self.is_unknown {
+            return Err(io::Error::other(
+                "an append to the file of this log failed: open it again",
+            )
+            .into());
+        }
+        let mut pieces = Pieces {
+            places: [[0; 2]; PIECES],
+            count: 0,
+            file_len: self.file.metadata()?.len() as usize,
+            bytes: Vec::new(),
+        };
+        loop {
+            let read = pieces.count;
+            match call(&mut pieces) {
+                0 => return Ok(()),
+                sys::MORE => {}
+                refused => return Err(Refused::of(refused).into()),
+            }
+            for place in read..pieces.count {
+                let ([at, count], begin) = (pieces.places[place], pieces.bytes.len());
+                pieces.bytes.resize(begin + count, 0);
+                self.file
+                    .read_exact_at(&mut pieces.bytes[begin..], at as u64)?;
+            }
+        }
+    }
+
+    // What a call says that is to be written, in so many bytes at most.
+    fn planned(
+        &self,
+        room: usize,
+        mut call: impl FnMut(&mut Plan, &mut [usize; 2], &mut Pieces) -> i32,
+    ) -> Result<Plan, LogError> {
+        let mut plan = Plan {
+            steps: vec![[0; 2]; STEPS],
+            bytes: vec![0; room],
+        };
+        let mut counts = [0; 2];
+        self.asking(|pieces| call(&mut plan, &mut counts, pieces))?;
+        plan.bytes.truncate(counts[0]);
+        plan.steps.truncate(counts[1]);
+        Ok(plan)
+    }
+
+    fn made(&self) -> Result<Plan, LogError> {
+        self.planned(room(0), |plan, counts, pieces| {
+            let [bytes_len, steps_len] = counts;
+            // SAFETY: each pointer is that of a buffer of the length behind it, which nothing else lends.
+            unsafe {
+                sys::paxidore_log_file_make(
+                    plan.bytes.as_mut_ptr(),
+                    plan.bytes.len(),
+                    bytes_len,
+                    plan.steps.as_mut_ptr().cast(),
+                    STEPS,
+                    steps_len,
+                    pieces.places.as_mut_ptr().cast(),
+                    PIECES,
+                    &mut pieces.count,
+                    pieces.file_len,
+                    pieces.bytes.as_ptr(),
+                    pieces.bytes.len(),
+                )
+            }
+        })
+    }
+
+    // Each step is written and synced before the next one.
+    fn carry_out(&self, plan: &Plan) -> io::Result<()> {
+        let mut rest = &plan.bytes[..];
+        for [at, count] in &plan.steps {
+            let (part, behind) = rest.split_at(*count);
+            self.file.write_all_at(part, *at as u64)?;
+            self.file.sync_all()?;
+            rest = behind;
+        }
+        Ok(())
+    }
+
+    pub(crate) fn size(&self) -> Result<usize, LogError> {
+        let mut size = 0;
+        // SAFETY: as in `made`.
+        self.asking(|pieces| unsafe {
+            sys::paxidore_log_file_size(
+                &mut size,
+                pieces.places.as_mut_ptr().cast(),
+                PIECES,
+                &mut pieces.count,
+                pieces.file_len,
+                pieces.bytes.as_ptr(),
+                pieces.bytes.len(),
+            )
+        })?;
+        Ok(size)
+    }
+
+    pub(crate) fn append(&mut self, own: usize, flat: &Flat) -> Result<usize, LogError> {
+        if self.reads_only {
+            return Err(io::Error::other("the log is open for reading only").into());
+        }
+        if self.process != std::process::id() {
+            return Err(io::Error::other(
+                "the log was opened before the process was forked: open it again",
+            )
+            .into());
+        }
+        let mut size = own;
+        let plan = self.planned(room(flat.lengths.len()), |plan, counts, pieces| {
+            let [bytes_len, steps_len] = counts;
+            // SAFETY: as in `made`.
+            unsafe {
+                sys::paxidore_log_file_append(
+                    plan.bytes.as_mut_ptr(),
+                    plan.bytes.len(),
+                    bytes_len,
+                    plan.steps.as_mut_ptr().cast(),
+                    STEPS,
+                    steps_len,
+                    &mut size,
+                    pieces.places.as_mut_ptr().cast(),
+                    PIECES,
+                    &mut pieces.count,
+                    pieces.file_len,
+                    pieces.bytes.as_ptr(),
+                    pieces.bytes.len(),
+                    flat.bytes.as_ptr(),
+                    flat.bytes.len(),
+                    flat.lengths.as_ptr(),
+                    flat.lengths.len(),
+                )
+            }
+        })?;
+        if let Err(error) = self.carry_out(&plan) {
+            // what was written is no part of the log, where the file has the size that it had
+            self.is_unknown = !matches!(self.size(), Ok(found) if found == own);
+            return Err(error.into());
+        }
+        Ok(size)
+    }
+
+    pub(crate) fn root(&self, size: usize) -> Result<Digest, LogError> {
+        let mut root = [0; 32];
+        // SAFETY: as in `made`.
+        self.asking(|pieces| unsafe {
+            sys::paxidore_log_file_root(
+                root.as_mut_ptr(),
+                pieces.places.as_mut_ptr().cast(),
+                PIECES,
+                &mut pieces.count,
+                pieces.file_len,
+                pieces.bytes.as_ptr(),
+                pieces.bytes.len(),
+                size,
+            )
+        })?;
+        Ok(root)
+    }
+
+    pub(crate) fn inclusion(
+        &self,
+        room: usize,
+        index: usize,
+        size: usize,
+    ) -> Result<Vec<u8>, LogError> {
+        let (mut path, mut count) = (vec![0; room], 0);
+        // SAFETY: as in `made`.
+        self.asking(|pieces| unsafe {
+            sys::paxidore_log_file_inclusion(
+                path.as_mut_ptr(),
+                room,
+                &mut count,
+                pieces.places.as_mut_ptr().cast(),
+                PIECES,
+                &mut pieces.count,
+                pieces.file_len,
+                pieces.bytes.as_ptr(),
+                pieces.bytes.len(),
+                size,
+                index,
+            )
+        })?;
+        path.truncate(count);
+        Ok(path)
+    }
+
+    pub(crate) fn consistency(
+        &self,
+        room: usize,
+        old_size: usize,
+        size: usize,
+    ) -> Result<Vec<u8>, LogError> {
+        let (mut proof, mut count) = (vec![0; room], 0);
+        // SAFETY: as in `made`.
+        self.asking(|pieces| unsafe {
+            sys::paxidore_log_file_consistency(
+                proof.as_mut_ptr(),
+                room,
+                &mut count,
+                pieces.places.as_mut_ptr().cast(),
+                PIECES,
+                &mut pieces.count,
+                pieces.file_len,
+                pieces.bytes.as_ptr(),
+                pieces.bytes.len(),
+                old_size,
+                size,
+            )
+        })?;
+        proof.truncate(count);
+        Ok(proof)
+    }
+
+    pub(crate) fn check(&self) -> Result<bool, LogError> {
+        let mut whole = vec![0; self.file.metadata()?.len() as usize];
+        self.file.read_exact_at(&mut whole, 0)?;
+        // SAFETY: as in `made`.
+        let answer = unsafe { sys::paxidore_log_file_check(whole.as_ptr(), whole.len()) };
+        Ok(verdict(answer)?)
+    }
+}
+
+impl Drop for LogFile {
+    // The lock would last while a process that was forked meanwhile has the file too.
+    fn drop(&mut self) {
+        if !self.reads_only && self.process == std::process::id() {
+            // SAFETY: the descriptor is that of an open file.
+            unsafe { sys::flock(self.file.as_raw_fd(), sys::LOCK_UN) };
+        }
+    }
+}
+
+fn room(count: usize) -> usize {
+    // SAFETY: the call asks for nothing.
+    unsafe { sys::paxidore_log_file_room(count) }
+}

@@ -1,0 +1,90 @@
+//! The head of a new log's file.
+
+ghost use Rattle.std.specs.Prelude.{◌≡◌, List, false, IfOk, OnOk};
+ghost use Rattle.ark_paths.specs.Pair.{Digest};
+ghost use Rattle.log_store.specs.Disk.{Only};
+ghost use Rattle.paxlog_run.specs.LogFile.{IsLogFile};
+
+use crate::disk::Disk;
+use crate::log::read_log;
+use crate::stop::Stop;
+use paxlog_run::fault::Fault;
+use paxlog_run::head::{START, TITLE, slot_of};
+use sha2::{Digest as _, Sha256};
+
+// The head of a log of no entries.
+fn empty_head() -> [u8; START] {
+    let slot = slot_of(0, &Sha256::digest([].as_slice()));
+    let mut head = [0; START];
+    head[..32].copy_from_slice(&TITLE);
+    head[32..64].copy_from_slice(&slot);
+    head[64..].copy_from_slice(&slot);
+    head
+}
+
+// Whether a file has no log.
+fn lacks_log<D: Disk>(disk: &D) -> Result<bool, Stop<D::Refusal>>
+    ensures { D.Obeys disk.now → (leaves : List Digest) → IsLogFile leaves (D.seen disk.now)
+        → IfOk result (λ lacks. lacks ≡ false) }
+{
+    match read_log(disk) {
+        Ok(_) => Ok(false),
+        Err(Stop::Fault(Fault::NoLog)) => Ok(true),
+        Err(Stop::Fault(Fault::HeadDamaged)) => Ok(true),
+        Err(Stop::Fault(Fault::Damaged)) => Ok(true),
+        Err(Stop::Fault(_)) => Ok(false),
+        Err(Stop::Disk(refusal)) => Err(Stop::Disk(refusal)),
+    }
+}
+
+// Whether a file has no byte, or no more than those of a head: each byte is that of the head or zero.
+fn is_part<D: Disk>(disk: &D, head: &[u8; START]) -> Result<bool, D::Refusal> {
+    let count = disk.length()?;
+    if count > START {
+        return Ok(false);
+    }
+    let mut there = [0; START];
+    disk.read_at(0, &mut there[..count])?;
+    for n in 0..START {
+        if there[n] != head[n] && there[n] != 0 {
+            return Ok(false);
+        }
+    }
+    Ok(true)
+}
+
+// Whether a file has no more than a part of a head, and so no log.
+fn is_begun<D: Disk>(disk: &D, head: &[u8; START]) -> Result<bool, Stop<D::Refusal>>
+    ensures { D.Obeys disk.now → (leaves : List Digest) → IsLogFile leaves (D.seen disk.now)
+        → IfOk result (λ begun. begun ≡ false) }
+{
+    match is_part(disk, head) {
+        Ok(true) => lacks_log(disk),
+        Ok(false) => Ok(false),
+        Err(refusal) => Err(Stop::Disk(refusal)),
+    }
+}
+
+/// Writes the head of a log of no entries to a file that has no byte, or no more than a part of that head, and syncs.
+///
+/// Errors: the disk's refusal.
+pub fn make<D: Disk>(disk: &mut D) -> Result<(), Stop<D::Refusal>>
+    ensures obeys { D.Obeys disk.new → D.Obeys disk.old }
+
+    // A file that has a log stays as it is.
+    ensures kept { D.Obeys disk.new → (leaves : List Digest) → IsLogFile leaves (D.seen disk.old)
+        → OnOk result (D.seen disk.new ≡ D.seen disk.old) }
+    ensures durable { D.Obeys disk.new
+        → OnOk result (Only (D.seen disk.new) (D.may_leave disk.new)) }
+{
+    let head = empty_head();
+    if is_begun(disk, &head)? {
+        if let Err(refusal) = disk.write_at(0, &head) {
+            return Err(Stop::Disk(refusal));
+        }
+    }
+    match disk.sync() {
+        Ok(()) => Ok(()),
+        Err(refusal) => Err(Stop::Disk(refusal)),
+    }
+}
