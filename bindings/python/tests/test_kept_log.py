@@ -537,7 +537,7 @@ class InFile(unittest.TestCase):
         entries = drawn(12)
         digests = entry_digests(entries)
         real = os.fsync
-        for fails_at in (1, 2, 3):
+        for fails_at in (1, 2, 3, 4):
             if os.path.exists(self.path):
                 os.unlink(self.path)
             with Log.open(self.path) as log:
@@ -555,7 +555,7 @@ class InFile(unittest.TestCase):
                     self.assertRaises(OSError, log.append, entries[5:])
                 finally:
                     os.fsync = real
-                if fails_at == 1:
+                if fails_at <= 2:
                     # no size was written
                     self.assertEqual(log.root(), mth(digests[:5]))
                     self.assertEqual(log.append(entries[5:]), 12)

@@ -1,8 +1,7 @@
-use Rattle.std.proofs.Common.{◌≡◌, true, false, sym, ◌∙◌, subst, ap}
+use Rattle.std.proofs.Common.{sym, ◌∙◌, subst, ap}
 use Rattle.log_store.proofs.made.make.Goals as goal
 use Rattle.log_store.proofs.made.make.Goals.{then-branch+in_default, else-branch}
 
--- src/made.rt:69:1
 pub returns-in-Ok-clause-kept : goal.returns-in-Ok-clause-kept
 returns-in-Ok-clause-kept g c = λ obeys leaves log.
     let before = c.sync.ensures.obeys obeys in
