@@ -38,9 +38,12 @@ pub fn path_of<P: Config>(
     leaves: &[P::Leaf],
     index: usize,
 ) -> Result<Option<Path<P>>, Error> {
-    if !is_tree_size(leaves.len()) || index >= leaves.len() {
+    if !is_tree_size(leaves.len()) {
         return Ok(None);
     }
     let tree = MerkleTree::<P>::new(alloc, leaf, pair, leaves)?;
+    if index >= tree.size() {
+        return Ok(None);
+    }
     Ok(Some(tree.generate_proof(alloc, index)?))
 }
