@@ -1,0 +1,89 @@
+//! Elements of Jubjub.
+
+use crate::texts::{array_of, bytes_of, word_of};
+use ark_crypto_primitives::Error;
+use ark_crypto_primitives::ec::group_hash;
+use ark_crypto_primitives::ec::jubjub::{Jubjub, PointFault};
+use ark_crypto_primitives::ff::{Bls12_381Fr, Field, Words};
+use std::alloc::Global;
+
+// The number that eight bytes are, the least first.
+fn word_at(bytes: &[u8; 32], from: usize) -> u64
+    requires { from ≤ 24 }
+{
+    let mut word = [0; 8];
+    word.copy_from_slice(&bytes[from..from + 8]);
+    u64::from_le_bytes(word)
+}
+
+// The coordinate as 32 bytes, the least first.
+fn coordinate(alloc: Global, x: Bls12_381Fr) -> Result<String, Error> {
+    let mut bytes = [0; 32];
+    x.write_low_bytes(&mut bytes);
+    word_of(alloc, &bytes)
+}
+
+/// Returns the multiple of the generator by a number of 32 bytes, the least first.
+pub fn multiple_of(alloc: Global, word: &str) -> Result<Option<String>, Error> {
+    let Some(number) = array_of(word) else {
+        return Ok(None);
+    };
+    let number = Words {
+        w0: word_at(&number, 0),
+        w1: word_at(&number, 8),
+        w2: word_at(&number, 16),
+        w3: word_at(&number, 24),
+    };
+    let multiple = Jubjub::generator().mul(number);
+    let x = coordinate(alloc, multiple.x())?;
+    let y = coordinate(alloc, multiple.y())?;
+    let bytes = word_of(alloc, &multiple.to_compressed())?;
+    Ok(Some(format!(in alloc; "{x} {y} {bytes}")?))
+}
+
+/// Returns the element that a word of 32 bytes spells, or the fault. `None` of another word.
+pub fn element_of(word: &str) -> Option<Result<Jubjub, PointFault>> {
+    let bytes = array_of(word)?;
+    Some(Jubjub::from_compressed(&bytes))
+}
+
+/// Returns the coordinates of an element, or the name of a fault.
+pub fn element_answer(
+    alloc: Global,
+    element: Option<Result<Jubjub, PointFault>>,
+) -> Result<Option<String>, Error> {
+    let text = match element {
+        None => return Ok(None),
+        Some(Ok(element)) => {
+            let x = coordinate(alloc, element.x())?;
+            let y = coordinate(alloc, element.y())?;
+            format!(in alloc; "{x} {y}")?
+        }
+        Some(Err(fault)) => String::from_str(alloc, name_of(fault))?,
+    };
+    Ok(Some(text))
+}
+
+fn name_of(fault: PointFault) -> &'static str {
+    match fault {
+        PointFault::NotBelowModulus => "not below the modulus",
+        PointFault::NoPoint => "no point",
+        PointFault::SignOfZero => "sign of zero",
+        PointFault::OutsideSubgroup => "outside the subgroup",
+    }
+}
+
+/// Returns the element of a text under a label of eight bytes.
+pub fn group_answer(alloc: Global, words: &str) -> Result<Option<String>, Error> {
+    let Some((label, text)) = words.split_once(' ') else {
+        return Ok(None);
+    };
+    let mut bytes = [0; 8];
+    let (Ok(()), Some(text)) = (hex::decode_to_slice(label, &mut bytes), bytes_of(alloc, text)?) else {
+        return Ok(None);
+    };
+    match group_hash::<Jubjub>(&bytes, &text) {
+        Some(element) => Ok(Some(word_of(alloc, &element.to_compressed())?)),
+        None => Ok(None),
+    }
+}
