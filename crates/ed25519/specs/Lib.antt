@@ -1,0 +1,5 @@
+pub mod Edwards25519
+pub mod Values
+pub mod Points
+pub mod Signatures
+pub mod Laws

@@ -1,0 +1,21 @@
+-- Points of edwards25519 as 32 bytes (RFC 8032, 5.1.2), and the constants of their square roots.
+use Rattle.std.specs.Prelude.{ℕ, ◌+◌, ◌*◌, ◌%◌, ◌^◌, List}
+use Rattle.ark_base.specs.Digits.{bytes_of_number}
+use Rattle.edwards_numbers.specs.Edwards.{Coordinates}
+use Rattle.ed25519.specs.Values.{Fp, value}
+
+-- y, the least byte first, with the lowest bit of x as the highest bit
+abbrev pub spelling : Coordinates → List ℕ
+spelling a = bytes_of_number 32 (a.y + 2 ^ 255 * (a.x % 2))
+
+-- the coordinates that two elements of the field are
+abbrev pub coordinates_of : Fp → Fp → Coordinates
+coordinates_of x y = record { x = value x; y = value y }
+
+-- (p - 1) / 2
+unfoldable pub half : ℕ
+half = 28948022309329048855892746252171976963317496166410141009864396001978282409974
+
+-- (p + 3) / 8: the power to this of a square is a root, or one times a root of -1
+unfoldable pub eighth : ℕ
+eighth = 7237005577332262213973186563042994240829374041602535252466099000494570602494

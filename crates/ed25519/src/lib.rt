@@ -1,0 +1,21 @@
+//! Ed25519 (RFC 8032, section 5.1): keys, signatures, and points of its curve as 32 bytes.
+#![tactic(auto)]
+
+mod laws;
+mod moduli;
+mod numbers;
+mod points;
+mod roots;
+mod signatures;
+mod signing;
+
+pub use laws::{first_halves_decide, own_signatures_are_accepted, points_are_their_bytes};
+pub use moduli::{Ed25519Fp, Ed25519FpModulus, Ed25519Fr, Ed25519FrModulus};
+pub use numbers::{base_has_the_order, modulus_is_prime, order_is_prime, points_are_a_group};
+pub use points::{abscissa, point_of, spelled};
+pub use roots::root_of_ratio;
+pub use signatures::{challenge_of, commitment, verify};
+pub use signing::{multiple_bytes, public_key, sign};
+
+#[cfg(test)]
+mod tests;

@@ -1,0 +1,6 @@
+pub mod CrossedProducts
+pub mod ExtendedFacts
+pub mod ExtendedLaws
+pub mod Sums
+pub mod Bits
+pub mod WithOne

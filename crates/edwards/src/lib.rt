@@ -1,0 +1,10 @@
+//! Points of twisted Edwards curves over a field of four words, by four coordinates: for each curve of `IsComplete`.
+#![tactic(auto)]
+
+mod extended;
+mod field;
+mod multiples;
+
+pub use extended::{Extended, affine, doubled, lifted, plus, zero};
+pub use field::{crossed_products, inverse};
+pub use multiples::multiple;
