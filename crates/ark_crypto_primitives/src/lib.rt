@@ -91,6 +91,7 @@ pub mod encryption {
 /// Signatures.
 pub mod signature {
     pub use ark_signatures::signature::SignatureScheme;
+    pub use ed25519;
 
     /// Schnorr signatures.
     pub mod schnorr {

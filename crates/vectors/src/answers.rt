@@ -1,6 +1,7 @@
 //! The lines, and what is answered.
 
 use crate::points::{element_answer, element_of, group_answer, multiple_of};
+use crate::signatures::{signature_of, verdict_of};
 use crate::texts::{array_of, bytes_of, word_of};
 use crate::transcripts::transcript_of;
 use ark_crypto_primitives::Error;
@@ -18,6 +19,8 @@ use std::alloc::Global;
 /// - `multiple NUMBER`: the multiple of Jubjub's generator, by its coordinates and its 32 bytes;
 /// - `element BYTES`: the coordinates of the element that 32 bytes are, or why they are none;
 /// - `group LABEL TEXT`: the 32 bytes of the element that Zcash's group hash finds;
+/// - `ed25519-sign SEED MESSAGE`: the key and the signature;
+/// - `ed25519-verify KEY MESSAGE SIGNATURE`: `yes` or `no`;
 /// - `transcript FIELD PARAMETERS STEP ..`: what the steps squeeze (`transcript_of`).
 ///
 /// The only error is `OutOfMemory`.
@@ -32,6 +35,8 @@ pub fn answer(alloc: Global, line: &str) -> Result<Option<String>, Error> {
         "multiple" => multiple_of(alloc, rest),
         "element" => element_answer(alloc, element_of(rest)),
         "group" => group_answer(alloc, rest),
+        "ed25519-sign" => signature_of(alloc, rest),
+        "ed25519-verify" => verdict_of(alloc, rest),
         "transcript" => transcript_of(alloc, rest),
         _ => Ok(None),
     }

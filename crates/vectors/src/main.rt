@@ -4,6 +4,7 @@
 
 mod answers;
 mod points;
+mod signatures;
 mod texts;
 mod transcripts;
 

@@ -79,7 +79,10 @@ pub fn group_answer(alloc: Global, words: &str) -> Result<Option<String>, Error>
         return Ok(None);
     };
     let mut bytes = [0; 8];
-    let (Ok(()), Some(text)) = (hex::decode_to_slice(label, &mut bytes), bytes_of(alloc, text)?) else {
+    let (Ok(()), Some(text)) = (
+        hex::decode_to_slice(label, &mut bytes),
+        bytes_of(alloc, text)?,
+    ) else {
         return Ok(None);
     };
     match group_hash::<Jubjub>(&bytes, &text) {
