@@ -34,6 +34,11 @@ extern "C" {
 /* The nonce of a commitment. */
 #define PAXIDORE_NONCEBYTES 32U
 
+/* Ed25519: the secret seed, the key that others are given, and a signature. */
+#define PAXIDORE_SEEDBYTES 32U
+#define PAXIDORE_KEYBYTES 32U
+#define PAXIDORE_SIGNATUREBYTES 64U
+
 /* The canonical bytes of a path in a tree of 2^log2_of_size leaves, and of the longest path there is. */
 #define PAXIDORE_PATHBYTES(log2_of_size) (16U + 32U * (size_t)(log2_of_size))
 #define PAXIDORE_PATHBYTES_MAX PAXIDORE_PATHBYTES(63U)
@@ -410,6 +415,26 @@ void paxidore_blake2s_commit(uint8_t commitment[PAXIDORE_DIGESTBYTES], const uin
 PAXIDORE_ANSWERS PAXIDORE_NOT_NULL((1, 4))
 int32_t paxidore_blake2s_opens(const uint8_t commitment[PAXIDORE_DIGESTBYTES], const uint8_t *value, size_t value_len,
                                const uint8_t nonce[PAXIDORE_NONCEBYTES]);
+
+/* ---- Ed25519 (RFC 8032, section 5.1): signatures of 64 bytes under keys of 32 bytes, which a seed of 32 bytes makes. The seed is the
+ * secret: the library keeps no copy, and wiping it is up to the caller. The time of `public_key` and of `sign` depends on the seed: do not
+ * call them where an attacker can measure it. Nothing is refused. */
+
+/* Writes the key that others are given. */
+PAXIDORE_NOT_NULL((1, 2))
+void paxidore_ed25519_public_key(uint8_t key[PAXIDORE_KEYBYTES], const uint8_t seed[PAXIDORE_SEEDBYTES]);
+
+/* Writes the signature of a message. */
+PAXIDORE_NOT_NULL((1, 2))
+void paxidore_ed25519_sign(uint8_t signature[PAXIDORE_SIGNATUREBYTES], const uint8_t seed[PAXIDORE_SEEDBYTES], const uint8_t *message,
+                           size_t message_len);
+
+/* PAXIDORE_OK where it is a signature of the message under the key, else PAXIDORE_NOT_SHOWN. The equation has no cofactor, and key and
+ * signature are to be spelled as the standard says: a second spelling of their points, or a scalar that is the order or more, is no
+ * signature. */
+PAXIDORE_ANSWERS PAXIDORE_NOT_NULL((1, 4))
+int32_t paxidore_ed25519_verify(const uint8_t key[PAXIDORE_KEYBYTES], const uint8_t *message, size_t message_len,
+                                const uint8_t signature[PAXIDORE_SIGNATUREBYTES]);
 
 /* ---- Transcripts: the duplex sponge over Poseidon's permutation, as proof systems make challenges of what they have sent. How
  * elements are cut into calls does not change the result. Bytes are absorbed behind their count, and squeezed out of whole

@@ -43,6 +43,20 @@ static int is_right(char *line) {
         return paxidore_log_verify_consistency(strtoull(words[1], NULL, 10), first, strtoull(words[3], NULL, 10), second, third,
                                                proof) == 0;
     }
+    if (count == 5 && strcmp(words[0], "ed25519-sign") == 0) {
+        uint8_t key[PAXIDORE_KEYBYTES], signature[PAXIDORE_SIGNATUREBYTES];
+        bytes_of(words[1], first);
+        size_t message = bytes_of(words[2], second);
+        paxidore_ed25519_public_key(key, first);
+        paxidore_ed25519_sign(signature, first, second, message);
+        bytes_of(words[3], first), bytes_of(words[4], third);
+        return memcmp(key, first, sizeof key) == 0 && memcmp(signature, third, sizeof signature) == 0;
+    }
+    if (count == 5 && strcmp(words[0], "ed25519-verify") == 0) {
+        bytes_of(words[1], first), bytes_of(words[3], third);
+        size_t message = bytes_of(words[2], second);
+        return paxidore_ed25519_verify(first, second, message, third) == (strcmp(words[4], "yes") == 0 ? PAXIDORE_OK : PAXIDORE_NOT_SHOWN);
+    }
     if (count == 3) {
         size_t input = bytes_of(words[1], first);
         uint8_t digest[PAXIDORE_DIGESTBYTES];

@@ -1,4 +1,5 @@
-"""Merkle trees over byte strings, transparency logs, transcripts, SHA-256, BLAKE2s and commitments, by the proved code of libpaxidore.
+"""Merkle trees over byte strings, transparency logs, transcripts, SHA-256, BLAKE2s, commitments and Ed25519, by the proved code of
+libpaxidore.
 
 A log or a store publishes the root of its leaves and their count, and hands out paths::
 
@@ -14,12 +15,13 @@ Whoever has the root and the count checks them without the other leaves::
 ``sha256`` has the same calls for trees whose hashes are SHA-256 of a leaf, and of left followed by right. There are 2, 4, 8, 16 ..
 leaves in a tree. ``Tree`` keeps the digests of one in memory or in a file. ``Log`` is a log of any size, in memory or in a file, with
 the checks for its clients. ``Transcript`` is Poseidon's duplex sponge over a field. ``blake2s_commit`` commits to a value that is
-shown later.
+shown later. ``ed25519`` signs and verifies.
 
 The library is found by the variable ``PAXIDORE_LIBRARY`` (a path), else beside this file, where a wheel has it, else as the
 system finds ``libpaxidore.so.1``. Where it is not there, or is older than this module, ``import paxidore`` raises
 ``ImportError``.
 """
+from . import ed25519
 from ._library import (
     CountError,
     DamagedHead,
@@ -67,6 +69,7 @@ __all__ = [
     "blake2s",
     "blake2s_commit",
     "blake2s_opens",
+    "ed25519",
     "parameters_bytes",
     "ready_parameters",
     "rfc6962",

@@ -63,6 +63,24 @@ class Vectors(unittest.TestCase):
             self.assertEqual(paxidore.blake2s_commit(value, nonce).hex(), row["commitment"])
             self.assertTrue(paxidore.blake2s_opens(hexed(row["commitment"]), value, nonce))
 
+    def test_ed25519(self):
+        of = read("ed25519")
+        for row in of["signatures"]:
+            seed, message = hexed(row["seed"]), hexed(row["message"])
+            self.assertEqual(paxidore.ed25519.public_key(seed).hex(), row["key"])
+            self.assertEqual(paxidore.ed25519.sign(seed, message).hex(), row["signature"])
+        for row in of["checks"]:
+            key, message, signature = hexed(row["key"]), hexed(row["message"]), hexed(row["signature"])
+            if len(key) == 32:
+                self.assertIs(paxidore.ed25519.verify(key, message, signature), row["valid"], row["what"])
+        for what, call in [
+            ("seed", lambda: paxidore.ed25519.public_key(bytes(31))),
+            ("seed", lambda: paxidore.ed25519.sign(bytes(33), b"")),
+            ("key", lambda: paxidore.ed25519.verify(bytes(31), b"", bytes(64))),
+        ]:
+            with self.assertRaisesRegex(ValueError, what):
+                call()
+
     def test_transcripts(self):
         for given in read("transcripts"):
             field = Field(given["number"])

@@ -1,5 +1,5 @@
-//! Merkle trees over byte strings, transparency logs, transcripts, SHA-256, BLAKE2s and commitments, by the proved code of
-//! libpaxidore.
+//! Merkle trees over byte strings, transparency logs, transcripts, SHA-256, BLAKE2s, commitments and Ed25519, by the proved
+//! code of libpaxidore.
 //!
 //! A log or a store publishes the root of its leaves and their count, and hands out paths. Whoever has the root and the count
 //! checks them without the other leaves:
@@ -15,11 +15,12 @@
 //! ```
 //!
 //! Without the feature `std`, which is on by default, the crate is `no_std` and allocates nothing of its own: it has the checks of
-//! proofs, the hashes and the commitments. The library still calls the `malloc`, `realloc` and `free` that are linked.
+//! proofs, the hashes, the commitments and Ed25519. The library still calls the `malloc`, `realloc` and `free` that are linked.
 #![cfg_attr(not(feature = "std"), no_std)]
 #![warn(missing_docs)]
 
 mod client;
+pub mod ed25519;
 #[cfg(feature = "std")]
 mod log;
 #[cfg(feature = "std")]

@@ -140,6 +140,19 @@ extern "C" {
         value_len: usize,
         nonce: *const u8,
     ) -> i32;
+    pub fn paxidore_ed25519_public_key(key: *mut u8, seed: *const u8);
+    pub fn paxidore_ed25519_sign(
+        signature: *mut u8,
+        seed: *const u8,
+        message: *const u8,
+        message_len: usize,
+    );
+    pub fn paxidore_ed25519_verify(
+        key: *const u8,
+        message: *const u8,
+        message_len: usize,
+        signature: *const u8,
+    ) -> i32;
     pub fn paxidore_log_verify_inclusion(
         root: *const u8,
         size: usize,

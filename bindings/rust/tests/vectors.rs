@@ -1,6 +1,6 @@
 //! The lines of `tools/vectors --lines`, which the variable `PAXIDORE_VECTORS` names a file of.
 
-use paxidore::{blake2s, sha256, Digest, Log, Trees};
+use paxidore::{blake2s, ed25519, sha256, Digest, Log, Trees};
 
 fn bytes(word: &str) -> Vec<u8> {
     let word = if word == "-" { "" } else { word };
@@ -52,6 +52,15 @@ fn lines() {
             }
             ["sha256", input, output] => sha256(&bytes(input)) == digest(output),
             ["blake2s", input, output] => blake2s(&bytes(input)) == digest(output),
+            ["ed25519-sign", seed, message, key, signature] => {
+                let (seed, message) = (digest(seed), bytes(message));
+                ed25519::public_key(&seed) == digest(key)
+                    && ed25519::sign(&seed, &message)[..] == bytes(signature)
+            }
+            ["ed25519-verify", key, message, signature, valid] => {
+                let signature = bytes(signature).try_into().unwrap();
+                ed25519::verify(&digest(key), &bytes(message), &signature) == (valid == "yes")
+            }
             _ => false,
         };
         assert!(is_right, "{line}");

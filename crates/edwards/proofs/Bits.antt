@@ -61,7 +61,7 @@ module _ {M : Type 0} {g : Ghosts M} (d : ℕ) (c : IsComplete (number g.P) d) w
   -- and after a bit of 1
   pub odd_left : (e f h r : Extended M g) (rest n : ℕ) (a : Coordinates) → IsOnCurve (number g.P) d a
       → ((s t : Coordinates) → IsOnCurve (number g.P) d s → IsOnCurve (number g.P) d t → Stands e s → Stands f t →
-          Stands h (sum (number g.P) d s t))
+      Stands h (sum (number g.P) d s t))
       → Doubles d c f r → rest % 2 ≡ 1 → AreLeft e f rest n a → AreLeft h r (rest / 2) n a
   odd_left e f h r rest n a on adds doubles odd before =
       let m = before.count in
@@ -89,7 +89,7 @@ module _ {M : Type 0} {g : Ghosts M} (d : ℕ) (c : IsComplete (number g.P) d) w
       → Stands e (times (edwards (number g.P) d) n a)
   none_left e f rest n a none after =
       subst (λ k. Stands e (times (edwards (number g.P) d) k a)) (all after.count after.step rest n none after.whole)
-          after.sum_stands
+      after.sum_stands
     where
       nothing : (m k : ℕ) → m ≡ m + k * 0
       nothing m k = omega arith

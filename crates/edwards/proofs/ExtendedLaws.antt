@@ -122,7 +122,7 @@ module _ (p d : ℕ) (c : IsComplete p d) where
       → E ≡ 2 * (AX * Y + AY * X) % p → F ≡ (scale + (p - crossed)) % p → G ≡ (scale + crossed) % p
       → H ≡ 2 * (AY * Y + AX * X) % p → RX ≡ E * F % p → RY ≡ G * H % p
       → RZ ≡ F * G % p → RT ≡ E * H % p → (s t : Coordinates) → IsOnCurve p d s → IsOnCurve p d t → StandFor p AX AY
-          AZ AT s
+      AZ AT s
       → StandFor p X Y Z T t → StandFor p RX RY RZ RT (sum p d s t)
   plus_stands RX RY RZ RT AX AY AZ AT X Y Z T k E F G H crossed scale is_k scale_mod is_crossed is_e is_f is_g is_h rx
       ry rz rt s t on_s on_t

@@ -1,5 +1,5 @@
 //! The library for C, and for what calls C: Merkle trees over byte strings, clients and keepers of transparency logs,
-//! transcripts, SHA-256, BLAKE2s and commitments.
+//! transcripts, SHA-256, BLAKE2s, commitments and Ed25519.
 //!
 //! `include/paxidore.h` declares the exports. Each that can refuse answers 0 where all is well, 1 where a proof was read and
 //! does not show the leaf, or a negative code, and then leaves the caller's buffers as they were.
@@ -7,6 +7,7 @@
 
 pub mod blake2s;
 mod buffer;
+pub mod ed25519;
 mod hashing;
 pub mod kept_changes;
 pub mod kept_proofs;

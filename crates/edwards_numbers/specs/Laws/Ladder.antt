@@ -50,11 +50,11 @@ module _ (p d : ℕ) (k : IsComplete p d) where
       (ladder f (n / 2) (quick_sum s.at s.at)) (λ t. t ≡ (times (points p d k) n s).at)
       (λ odd. ap (quick_sum s.at) rest ∙ sym (quick_right s.at (times (points p d k) (n / 2) twice).at)
       ∙ ap (λ (t : (Point p d k)). t.at) (ap (λ t. (points p d k).plus t (times (points p d k) (n / 2) twice)) (sym
-          ((points_laws p d k).left_identity s))
+      ((points_laws p d k).left_identity s))
       ∙ odd_step (points_laws p d k) n (points p d k).identity s (eqb-true (n % 2) 1 odd) ∙ (points_laws p d
-          k).left_identity (times (points p d k) n s)))
+      k).left_identity (times (points p d k) n s)))
       (λ even. rest ∙ ap (λ (t : (Point p d k)). t.at) (sym ((points_laws p d k).left_identity (times (points p d k)
-          (n / 2) twice))
+      (n / 2) twice))
       ∙ even_step (points_laws p d k) n (points p d k).identity s (half n (eqb-false (n % 2) 1 even))
       ∙ (points_laws p d k).left_identity (times (points p d k) n s)))
     where

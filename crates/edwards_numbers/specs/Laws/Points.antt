@@ -32,10 +32,16 @@ module _ (p d : ℕ) (k : IsComplete p d) where
   abbrev pub points : Group Point
   points = record {
     identity = record { at = neutral; on = neutral_on_curve p d (has_inverses p d k) (complete p d k) };
-    plus = λ a b. record { at = sum p d a.at b.at; on = sum_closed p d (has_inverses p d k) (complete p d k) a.at b.at
-        a.on b.on };
-    opposite = λ a. record { at = negative p a.at; on = negative_closed p d (has_inverses p d k) (complete p d k) a.at
-        a.on };
+    plus = λ a b. record {
+      at = sum p d a.at b.at;
+      on = sum_closed p d (has_inverses p d k) (complete p d k) a.at b.at
+          a.on b.on;
+    };
+    opposite = λ a. record {
+      at = negative p a.at;
+      on = negative_closed p d (has_inverses p d k) (complete p d k) a.at
+          a.on;
+    };
   }
 
   pub points_laws : IsCommutativeGroup points

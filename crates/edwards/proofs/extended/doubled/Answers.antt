@@ -13,5 +13,5 @@ returns g c d k =
     (value c.add.result) (value c.mul-x.result) (value c.mul-y.result) (value c.mul.result) (value c.double.result)
     c.mul-x.ensures c.mul-y.ensures c.mul.ensures c.double.ensures
     (c.double-2.ensures ∙ ap (λ n. 2 * n % number g.M.WideModulus.P) c.mul-2.ensures) c.sub-f.ensures c.sub-g.ensures
-        c.add.ensures
+    c.add.ensures
     c.joined.ensures.x c.joined.ensures.y c.joined.ensures.z c.joined.ensures.t

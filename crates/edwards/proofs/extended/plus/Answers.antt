@@ -14,7 +14,7 @@ returns g c d k is_twice s t on_s on_t of_a of_b =
     (value c.crossed_products.result.0) (value c.sub.result) (value c.add.result)
     (value c.crossed_products.result.1) (value c.mul-cross.result) (value c.double-scale.result) is_twice
     (scale_is (number g.M.WideModulus.P) d k (number g.M.WideModulus.P) (value c.args.a.z) (value b.z) (value
-        c.mul-2.result) (value c.double-scale.result) c.mul-2.ensures
+    c.mul-2.result) (value c.double-scale.result) c.mul-2.ensures
     c.double-scale.ensures)
     (c.mul-cross.ensures ∙ ap (λ n. n * value b.t % number g.M.WideModulus.P) c.mul.ensures)
     c.crossed_products.ensures.crossed c.sub.ensures c.add.ensures c.crossed_products.ensures.straight
