@@ -2,4 +2,5 @@ pub mod Edwards25519
 pub mod Values
 pub mod Points
 pub mod Signatures
+pub mod Combined
 pub mod Laws

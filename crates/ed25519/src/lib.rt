@@ -1,6 +1,7 @@
 //! Ed25519 (RFC 8032, section 5.1): keys, signatures, and points of its curve as 32 bytes.
 #![tactic(auto)]
 
+mod combined;
 mod laws;
 mod moduli;
 mod numbers;
@@ -9,6 +10,7 @@ mod roots;
 mod signatures;
 mod signing;
 
+pub use combined::{Four, sum_of_multiples};
 pub use laws::{first_halves_decide, own_signatures_are_accepted, points_are_their_bytes};
 pub use moduli::{Ed25519Fp, Ed25519FpModulus, Ed25519Fr, Ed25519FrModulus};
 pub use numbers::{base_has_the_order, modulus_is_prime, order_is_prime, points_are_a_group};

@@ -10,10 +10,11 @@ ghost use Rattle.ed25519.specs.Points.{spelling, coordinates_of};
 ghost use Rattle.ed25519.specs.Signatures.{challenge, IsSignature};
 ghost use Rattle.ed25519.specs.Values.{value, scalar};
 
+use crate::combined::sum_of_multiples;
 use crate::moduli::{Ed25519Fp, Ed25519Fr};
 use crate::points::{coefficient, point_of, spelled};
 use ark_groups::ff::{Field, Words};
-use edwards::{affine, lifted, multiple, plus};
+use edwards::{affine, lifted};
 use sha2::{Digest, Sha512};
 
 /// Returns the challenge, modulo the order.
@@ -57,10 +58,10 @@ pub fn commitment(x: Ed25519Fp, y: Ed25519Fp, s: Words, k: Words) -> [u8; 32]
     ensures { result ≡ spelling (curve.plus (times curve (number s) base_point)
         (times curve (number k) (negative p (coordinates_of x y)))) }
 {
-    let twice = coefficient().double();
-    let first = multiple(twice, lifted(base_x(), base_y()), s);
-    let second = multiple(twice, lifted(x.neg(), y), k);
-    let (u, v) = affine(plus(twice, first, second));
+    let base = lifted(base_x(), base_y());
+    let opposite = lifted(x.neg(), y);
+    let sum = sum_of_multiples(coefficient().double(), base, s, opposite, k);
+    let (u, v) = affine(sum);
     spelled(u, v)
 }
 
