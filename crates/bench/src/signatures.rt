@@ -1,6 +1,6 @@
 //! Works on ElGamal encryption and Schnorr signatures over any group, with any digest.
 
-use crate::sums::sum_of_value;
+use crate::sums::{sum_of, sum_of_value};
 use ark_crypto_primitives::Error;
 use ark_crypto_primitives::digest::ByteDigest;
 use ark_crypto_primitives::ec::{AdditiveGroup, CurveGroup};
@@ -8,6 +8,7 @@ use ark_crypto_primitives::encryption::AsymmetricEncryptionScheme;
 use ark_crypto_primitives::encryption::elgamal::{ElGamal, Randomness};
 use ark_crypto_primitives::ff::PrimeField;
 use ark_crypto_primitives::signature::SignatureScheme;
+use ark_crypto_primitives::signature::ed25519::{public_key, sign, verify};
 use ark_crypto_primitives::signature::schnorr::Schnorr;
 use rand::SeedableRng;
 use rand_chacha::ChaCha20Rng;
@@ -113,4 +114,22 @@ fn encryption_with<G: CurveGroup>(
         };
     }
     Ok(Some(sum_of_value(alloc, &message)?))
+}
+
+/// Does the work on Ed25519 that a word names, `count` times.
+pub fn ed25519(work: &str, count: u64) -> Option<u64> {
+    let mut seed = [7; 32];
+    let key = public_key(&seed);
+    let signature = sign(&seed, MESSAGE);
+    let mut sum = 0;
+    for _ in 0..count {
+        sum ^= match work {
+            "sign" => sum_of(&sign(&seed, MESSAGE)),
+            "key" => sum_of(&public_key(&seed)),
+            "verify" => verify(&key, MESSAGE, &signature) as u64,
+            _ => return None,
+        };
+        seed[0] ^= sum as u8;
+    }
+    Some(sum)
 }

@@ -38,6 +38,7 @@ pub fn checksum(alloc: Global, words: &[String]) -> Result<Option<u64>, Error> {
         "bowe" => bowe_hopwood::checksum(alloc, work, count),
         "poseidon" => poseidon_checksum(alloc, work, count),
         "schnorr" => signatures::signing::<Group, Blake2s256>(alloc, work, count),
+        "ed25519" => Ok(signatures::ed25519(work, count)),
         "elgamal" => signatures::encryption::<Group>(alloc, work, count),
         "jubjub" => jubjub_checksum(alloc, work, count),
         "array" => trees::checksum::<Sha256Arrays>(alloc, &(), &(), work, count),
