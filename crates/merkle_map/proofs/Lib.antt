@@ -16,3 +16,4 @@ pub mod Calls
 pub mod Pruning
 pub mod Bytes
 pub mod Changed
+pub mod OwnProof

@@ -10,3 +10,4 @@ pub mod Pruned
 pub mod Binding
 pub mod Sha256
 pub mod Transition
+pub mod KeyProof

@@ -8,6 +8,7 @@ pub mod hasher;
 mod key;
 pub mod laws;
 mod part;
+pub mod proof;
 mod prune;
 mod put;
 mod remove;
@@ -17,6 +18,8 @@ pub mod tree;
 pub mod verify;
 
 pub use hasher::MapHasher;
+pub use part::Entry;
+pub use proof::{End, KeyProof};
 pub use sha256::Sha256Map;
 pub use transition::{Change, verify_transition};
 pub use tree::MapTree;

@@ -3,6 +3,7 @@
 ghost use Rattle.std.specs.Prelude.{◌≡◌, false, true, List, IfOk, OnOk, OnErr, Ok};
 ghost use Rattle.ark_base.specs.Outcome.{Answers, AnswersBy};
 ghost use Rattle.merkle_map.specs.Changes.{known_at, tree_with, tree_without, outcome_with};
+ghost use Rattle.merkle_map.specs.KeyProof.{proof_at, proof_seen, IsAccepted};
 ghost use Rattle.merkle_map.specs.Map.{Entry as EntryOf, put, root_of, without};
 ghost use Rattle.merkle_map.specs.Parts.{found_seen, value_seen};
 ghost use Rattle.merkle_map.specs.Pruned.{pruned, CanLose, KnowsSame, ShowsSame};
@@ -12,6 +13,7 @@ ghost use Rattle.merkle_map.specs.Tree.{shape_digest, Empty, Hidden, IsWhole, Sh
 use crate::hasher::MapHasher;
 use crate::key::are_same_digests;
 use crate::part::{Entry, Part, digest_of, find, hidden};
+use crate::proof::{KeyProof, climb_down};
 use crate::prune::prune_in;
 use crate::put::put_in;
 use crate::remove::{has_at, is_unknown, remove_in, rest_without};
@@ -197,5 +199,27 @@ impl<D: DigestItem> MapTree<D> {
         ensures removes { IfOk result (λ new. IsWhole self.now → CanLose keys.now new) }
     {
         self.pruned_for(alloc, hasher, true, keys)
+    }
+
+    /// Returns the proof of what the map has at one key.
+    ///
+    /// Errors: that of the highest side beside the key's way whose hash refuses; `Custom(1)`: the tree hides what is at the key;
+    /// `OutOfMemory`.
+    pub fn prove_key<T: MapHasher<D>>(
+        &self,
+        alloc: Global,
+        hasher: &T,
+        key: &[u8; 32],
+    ) -> Result<KeyProof<D>, Error>
+        ensures answer { AnswersBy (proof_seen D.numbers) (proof_at (T.hashes hasher.now) 0 key.now
+            self.now) result }
+
+        // The tree's root accepts it.
+        ensures accepted { IfOk result (λ proof. IsAccepted (T.hashes hasher.now) key.now self.now
+            (proof_seen D.numbers proof)) }
+    {
+        let mut siblings = Vec::new(alloc);
+        let end = climb_down(alloc, hasher, &self.top, 0, key, &mut siblings)?;
+        Ok(KeyProof { end, siblings })
     }
 }
