@@ -7,7 +7,7 @@ use Rattle.ark_base.specs.Outcome.{Outcome, ◌>>=◌, AnswersBy, Answers}
 use Rattle.ark_base.specs.Laws.Steps.{bind_ok, done_injective}
 use Rattle.merkle_map.specs.Map.{Key, Digest, Entry, MapHashes, put, without}
 use Rattle.merkle_map.specs.Tree.{Shape, Empty, One, Fork, Hidden, shape_digest, Shows, IsKey, StandsAt}
-use Rattle.merkle_map.specs.Changes.{with_value, losing, known_at, tree_without, losing_known, hides, has_entry, is_there, Becomes}
+use Rattle.merkle_map.specs.Changes.{with_value, losing, known_at, tree_without, losing_known, hides, outcome_with, has_entry, is_there, Becomes}
 use Rattle.merkle_map.specs.Rests.{rest_of, is_hidden_rest}
 use Rattle.merkle_map.specs.Parts.{found_seen, value_seen}
 use Rattle.merkle_map.specs.Shown.{BindsTree, Follows, Has, has_digest}
@@ -16,7 +16,7 @@ use Rattle.merkle_map.proofs.Known.{known-shown}
 use Rattle.merkle_map.proofs.Rest.{IsSeen, seen-losing, losing-hides}
 use Rattle.merkle_map.proofs.Putting.{with-shows}
 use Rattle.merkle_map.proofs.Take.{losing-shows}
-use Rattle.merkle_map.proofs.Stands.{with-stands}
+use Rattle.merkle_map.proofs.Stands.{with-stands, losing-stands}
 use Rattle.merkle_map.proofs.Shows.{shows-or_collides}
 
 -- ---- get
@@ -84,6 +84,31 @@ unknown_losing key old e = by_outcome (losing 0 key old) (seen-losing 0 key old)
 
 pub losing-followed : (key : Key) (old new : Shape) → losing 0 key old ≡ Ok new → Follows (without key) old new
 losing-followed key old new is = λ h entries map shown. losing-shows h 0 key old new entries is shown
+
+-- a tree without a key shows the maps without it, and stands where it stood
+module _ (key : Key) (old new : Shape) where
+  pub without-follows : {A : Type 0} (result : Outcome A) → tree_without key old ≡ outcome_with new result
+      → OnOk result (Follows (without key) old new)
+  without-follows (Err error) e = tt
+  without-follows (Ok x) e = by_known (known_at 0 key old) refl e
+    where
+      by_known : (o : Outcome (Option Digest)) → known_at 0 key old ≡ o → (o >>= losing_known key old) ≡ Ok new
+          → Follows (without key) old new
+      by_known (Ok None) is e =
+          subst (Follows (without key) old) (done_injective {E = Error} old new e)
+          (absent-followed key old (ap (λ o. o >>= λ value. Ok (is_there value)) is))
+      by_known (Ok (Some value)) is e = losing-followed key old new e
+      by_known (Err error) is e = absurd cc
+
+  pub without-stands : {A : Type 0} (result : Outcome A) → tree_without key old ≡ outcome_with new result
+      → OnErr result (new ≡ old) → StandsAt [] old → StandsAt [] new
+  without-stands (Err error) e same stands = subst (StandsAt []) (sym same) stands
+  without-stands (Ok x) e same stands = by_known (known_at 0 key old) e
+    where
+      by_known : (o : Outcome (Option Digest)) → (o >>= losing_known key old) ≡ Ok new → StandsAt [] new
+      by_known (Ok None) e = subst (StandsAt []) (done_injective {E = Error} old new e) stands
+      by_known (Ok (Some value)) e = losing-stands [] 0 key old new stands e
+      by_known (Err error) e = absurd cc
 
 -- ---- roots
 

@@ -14,6 +14,8 @@ pub mod Stands
 pub mod Known
 pub mod Calls
 pub mod Pruning
-pub mod Bytes
+pub mod Nodes
 pub mod Changed
 pub mod OwnProof
+pub mod Wholes
+pub mod Reading

@@ -161,7 +161,7 @@ module _ (h : MapHashes) where
       let r = bind_ok (pruned h true (suc level) (keys_with true level (k ∷ keys)) right) (λ r. Ok (Fork l.0 r)) n l.2 in
       moved (λ s. IsSeen (Ok s)) (Fork l.0 r.0) n r.2 tt
 
-  joined-ok : (l r : Shape) → IsSeen (Ok l) → IsSeen (Ok r) → IsOk (joined l r)
+  pub joined-ok : (l r : Shape) → IsSeen (Ok l) → IsSeen (Ok r) → IsOk (joined l r)
   joined-ok Empty Empty a b = refl
   joined-ok Empty (One f) a b = refl
   joined-ok Empty (Fork x y) a b = refl
@@ -209,7 +209,7 @@ module _ (h : MapHashes) where
       by_bit m n on_m on_n on_left on_right false bit = ok-left n (losing (suc level) key m) on_n (seen-losing (suc level) key m)
           (on_left (among-filter (λ k. has_bit false level k) key (k ∷ keys) (own_bit false level key bit) among))
 
-  whole-known : (level : ℕ) (key : Key) (s : Shape) → IsWhole s → IsOk (known_at level key s)
+  pub whole-known : (level : ℕ) (key : Key) (s : Shape) → IsWhole s → IsOk (known_at level key s)
   whole-known level key Empty whole = refl
   whole-known level key (One entry) whole = refl
   whole-known level key (Hidden digest) whole = absurd whole

@@ -11,3 +11,5 @@ pub mod Binding
 pub mod Sha256
 pub mod Transition
 pub mod KeyProof
+pub mod Whole
+pub mod Bytes

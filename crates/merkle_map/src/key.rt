@@ -3,7 +3,7 @@
 ghost use Rattle.std.specs.Prelude.{◌≡◌, ◌<◌, Ok};
 ghost use Rattle.std.specs.Str.{bytes_eq};
 ghost use Rattle.ark_base.specs.Outcome.{AnswersBy};
-ghost use Rattle.merkle_map.specs.Map.{bit_of as bit_in};
+ghost use Rattle.merkle_map.specs.Map.{bit_of as bit_in, has_bit as has_bit_in};
 
 use ark_base::error::Error;
 use ark_base::serialize::DigestItem;
@@ -15,6 +15,18 @@ pub fn bit_of(key: &[u8; 32], i: usize) -> bool
     ensures { result ≡ bit_in i key.now }
 {
     (key[i / 8] >> (7 - i % 8)) % 2 == 1
+}
+
+// Returns whether a key has this bit.
+pub fn has_bit(key: &[u8; 32], level: usize, bit: bool) -> bool
+    requires { level < 256 }
+    ensures { result ≡ has_bit_in bit level key.now }
+{
+    if bit {
+        bit_of(key, level)
+    } else {
+        !bit_of(key, level)
+    }
 }
 
 // Returns whether two keys are the same.

@@ -4,6 +4,7 @@
 //! The tree is the compact sparse Merkle tree: entries are told apart by the bits of their keys.
 #![tactic(auto)]
 
+mod bytes;
 pub mod hasher;
 mod key;
 pub mod laws;

@@ -2,29 +2,16 @@
 
 ghost use Rattle.std.specs.Prelude.{◌≡◌, ◌<◌, Ok};
 ghost use Rattle.ark_base.specs.Outcome.{AnswersBy};
-ghost use Rattle.merkle_map.specs.Map.{has_bit as has_bit_in};
 ghost use Rattle.merkle_map.specs.Parts.{entry_seen, shape};
 ghost use Rattle.merkle_map.specs.Tree.{One};
 ghost use Rattle.merkle_map.specs.Pruned.{aside, covered, keys_with, pruned, Fits};
 
 use crate::hasher::MapHasher;
-use crate::key::{bit_of, copy_of};
+use crate::key::{copy_of, has_bit};
 use crate::part::{Entry, Part, digest_of, fork};
 use ark_base::error::Error;
 use ark_base::serialize::DigestItem;
 use std::alloc::Global;
-
-// Returns whether a key has this bit.
-fn has_bit(key: &[u8; 32], level: usize, bit: bool) -> bool
-    requires { level < 256 }
-    ensures { result ≡ has_bit_in bit level key.now }
-{
-    if bit {
-        bit_of(key, level)
-    } else {
-        !bit_of(key, level)
-    }
-}
 
 // Copies the keys that have this bit. The only error is `OutOfMemory`.
 fn keys_on(

@@ -1,13 +1,13 @@
 //! A key is removed from a tree.
 
-ghost use Rattle.std.specs.Prelude.{◌≡◌, [], Ok};
-ghost use Rattle.merkle_map.specs.Changes.{collapsed, is_alone, has_entry, joined, losing, Becomes};
+ghost use Rattle.std.specs.Prelude.{◌≡◌, [], OnErr, Ok};
+ghost use Rattle.merkle_map.specs.Changes.{collapsed, is_alone, has_entry, joined, losing, outcome_with, tree_without, Becomes};
 ghost use Rattle.merkle_map.specs.Parts.{shape};
 ghost use Rattle.merkle_map.specs.Rests.{is_hidden_rest, rest_of, rest_beside};
 ghost use Rattle.merkle_map.specs.Tree.{way, StandsAt};
 
 use crate::key::{are_same_keys, bit_of};
-use crate::part::{Part, find};
+use crate::part::{Part, find, hidden};
 use ark_base::error::Error;
 use ark_base::serialize::DigestItem;
 use std::mem;
@@ -26,7 +26,7 @@ pub enum Rest {
 }
 
 // Returns whether a whole tree has an entry at a key. The error is that the tree hides it.
-pub fn has_at<D: DigestItem>(part: &Part<D>, key: &[u8; 32]) -> Result<bool, Error>
+fn has_at<D: DigestItem>(part: &Part<D>, key: &[u8; 32]) -> Result<bool, Error>
     requires { StandsAt [] (shape D.numbers part.now) }
     ensures { has_entry key.now (shape D.numbers part.now) ≡ result }
 {
@@ -37,7 +37,7 @@ pub fn has_at<D: DigestItem>(part: &Part<D>, key: &[u8; 32]) -> Result<bool, Err
 }
 
 // Returns whether what is hidden decides what is left.
-pub fn is_unknown(rest: Rest) -> bool
+fn is_unknown(rest: Rest) -> bool
     ensures { result ≡ is_hidden_rest rest }
 {
     match rest {
@@ -78,7 +78,7 @@ fn rest_joined(own: Rest, beside: Rest) -> Rest
 }
 
 // Returns what a tree some levels below the root is without a key.
-pub fn rest_without<D: DigestItem>(part: &Part<D>, level: usize, key: &[u8; 32]) -> Rest
+fn rest_without<D: DigestItem>(part: &Part<D>, level: usize, key: &[u8; 32]) -> Rest
     requires { StandsAt (way level key.now) (shape D.numbers part.now) }
     ensures { result ≡ rest_of (losing level key.now (shape D.numbers part.now)) }
 {
@@ -145,7 +145,7 @@ fn collapse<D: DigestItem>(part: &mut Part<D>)
 }
 
 // Removes a key from a tree some levels below the root, if the tree does not hide what that needs.
-pub fn remove_in<D: DigestItem>(part: &mut Part<D>, level: usize, key: &[u8; 32])
+fn remove_in<D: DigestItem>(part: &mut Part<D>, level: usize, key: &[u8; 32])
     requires { StandsAt (way level key.now) (shape D.numbers part.old) }
     ensures { Becomes (losing level key.now (shape D.numbers part.old)) (shape D.numbers part.new) }
 {
@@ -167,4 +167,21 @@ pub fn remove_in<D: DigestItem>(part: &mut Part<D>, level: usize, key: &[u8; 32]
         }
         Part::Hidden { .. } => {}
     }
+}
+
+// Removes a key from a whole tree. The error, which leaves the tree unchanged: the tree hides what is at the key, or whether an
+// entry is left alone.
+pub fn remove_from<D: DigestItem>(part: &mut Part<D>, key: &[u8; 32]) -> Result<(), Error>
+    requires { StandsAt [] (shape D.numbers part.old) }
+    ensures changed { tree_without key.now (shape D.numbers part.old)
+        ≡ outcome_with (shape D.numbers part.new) result }
+    ensures kept { OnErr result (shape D.numbers part.new ≡ shape D.numbers part.old) }
+{
+    if has_at(part, key)? {
+        if is_unknown(rest_without(part, 0, key)) {
+            return Err(hidden());
+        }
+        remove_in(part, 0, key);
+    }
+    Ok(())
 }

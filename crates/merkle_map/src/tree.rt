@@ -2,6 +2,7 @@
 
 ghost use Rattle.std.specs.Prelude.{◌≡◌, false, true, List, IfOk, OnOk, OnErr, Ok};
 ghost use Rattle.ark_base.specs.Outcome.{Answers, AnswersBy};
+ghost use Rattle.merkle_map.specs.Bytes.{spelled, tree_of_bytes, IsOf32, ReadsBack};
 ghost use Rattle.merkle_map.specs.Changes.{known_at, tree_with, tree_without, outcome_with};
 ghost use Rattle.merkle_map.specs.KeyProof.{proof_at, proof_seen, IsAccepted};
 ghost use Rattle.merkle_map.specs.Map.{Entry as EntryOf, put, root_of, without};
@@ -9,14 +10,16 @@ ghost use Rattle.merkle_map.specs.Parts.{found_seen, value_seen};
 ghost use Rattle.merkle_map.specs.Pruned.{pruned, CanLose, KnowsSame, ShowsSame};
 ghost use Rattle.merkle_map.specs.Shown.{BindsTree, Follows, Has, has_digest};
 ghost use Rattle.merkle_map.specs.Tree.{shape_digest, Empty, Hidden, IsWhole, Shows};
+ghost use Rattle.merkle_map.specs.Whole.{IsRootOf, Stores};
 
+use crate::bytes::{part_of_bytes, write_part};
 use crate::hasher::MapHasher;
 use crate::key::are_same_digests;
-use crate::part::{Entry, Part, digest_of, find, hidden};
+use crate::part::{Entry, Part, digest_of, find};
 use crate::proof::{KeyProof, climb_down};
 use crate::prune::prune_in;
 use crate::put::put_in;
-use crate::remove::{has_at, is_unknown, remove_in, rest_without};
+use crate::remove::remove_from;
 use ark_base::error::Error;
 use ark_base::serialize::DigestItem;
 use std::alloc::Global;
@@ -85,6 +88,9 @@ impl<D: DigestItem> MapTree<D> {
 
         // Each map that the tree showed is shown now with the value at the key.
         ensures maps { OnOk result (Follows (put key.now (D.numbers value)) self.old self.new) }
+
+        // A store becomes the store of the map with the value.
+        ensures store { Stores (put key.now (D.numbers value)) self.old self.new result }
     {
         put_in(alloc, &mut self.top, 0, Entry { key: *key, value })
     }
@@ -99,14 +105,11 @@ impl<D: DigestItem> MapTree<D> {
 
         // Each map that the tree showed is shown now without the key.
         ensures maps { OnOk result (Follows (without key.now) self.old self.new) }
+
+        // A store becomes the store of the map without the key.
+        ensures store { Stores (without key.now) self.old self.new result }
     {
-        if has_at(&self.top, key)? {
-            if is_unknown(rest_without(&self.top, 0, key)) {
-                return Err(hidden());
-            }
-            remove_in(&mut self.top, 0, key);
-        }
-        Ok(())
+        remove_from(&mut self.top, key)
     }
 
     /// Returns the digest of the tree. Errors: those of the hashes, the lowest first, then the leftmost; `OutOfMemory`.
@@ -116,6 +119,7 @@ impl<D: DigestItem> MapTree<D> {
         // It is the root of each map that the tree shows.
         ensures maps { (entries : List EntryOf) → Shows (T.hashes hasher.now) 0 self.now entries
             → root_of (T.hashes hasher.now) entries ≡ shape_digest (T.hashes hasher.now) self.now }
+        ensures store { IsRootOf (T.hashes hasher.now) self.now }
     {
         digest_of(alloc, hasher, &self.top)
     }
@@ -221,5 +225,35 @@ impl<D: DigestItem> MapTree<D> {
         let mut siblings = Vec::new(alloc);
         let end = climb_down(alloc, hasher, &self.top, 0, key, &mut siblings)?;
         Ok(KeyProof { end, siblings })
+    }
+}
+
+impl MapTree<[u8; 32]> {
+    /// Returns the tree's bytes. The only error is `OutOfMemory`.
+    pub fn to_bytes(&self, alloc: Global) -> Result<Vec<u8>, Error>
+        ensures written { AnswersBy (λ bytes. bytes.items) (Ok (spelled self.now)) result }
+        ensures sized { IfOk result (λ _. IsOf32 self.now) }
+    {
+        let mut bytes = Vec::new(alloc);
+        write_part(&self.top, &mut bytes)?;
+        Ok(bytes)
+    }
+
+    /// Reads the tree that all the bytes spell: a store, a proof or a witness.
+    ///
+    /// Errors: the first fault from the left: `Truncated`; `InvalidData`: a byte that stands for nothing, or a fork below the last
+    /// bit of a key; else `InvalidData`: an entry that is not on its key's way, a fork above fewer than two entries, or bytes that
+    /// are left; `OutOfMemory`.
+    pub fn from_bytes(alloc: Global, bytes: &[u8]) -> Result<MapTree<[u8; 32]>, Error>
+        ensures answer { AnswersBy (λ tree. tree) (tree_of_bytes bytes.now) result }
+
+        // The bytes are those of the tree, and of no other one.
+        ensures only { IfOk result (λ tree. bytes.now ≡ spelled tree) }
+
+        // What was written is read again.
+        ensures reads { ReadsBack bytes.now }
+    {
+        let top = part_of_bytes(alloc, bytes)?;
+        Ok(MapTree { top })
     }
 }

@@ -1,4 +1,4 @@
-use Rattle.merkle_map.proofs.Bytes.{same_node}
+use Rattle.merkle_map.proofs.Nodes.{same_node}
 use Rattle.merkle_map.proofs.sha256.nodes_are_apart.Goals as goal
 
 pub returns-clause-apart : goal.returns-clause-apart

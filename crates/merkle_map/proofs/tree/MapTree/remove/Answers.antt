@@ -1,40 +1,34 @@
-use Rattle.std.proofs.Common.{Ok, Err, ap, sym, ◌∙◌, subst}
+use Rattle.std.proofs.Common.{OnOk, subst}
 use Rattle.merkle_map.specs.Map.{without}
-use Rattle.merkle_map.specs.Changes.{losing, tree_without}
+use Rattle.merkle_map.specs.Changes.{tree_without}
 use Rattle.merkle_map.specs.Parts.{shape}
-use Rattle.merkle_map.specs.Rests.{is_hidden_rest}
 use Rattle.merkle_map.specs.Shown.{Follows}
-use Rattle.merkle_map.proofs.Calls.{there-losing, unknown_losing, known_rest, losing-followed, absent-followed}
-use Rattle.merkle_map.proofs.Stands.{losing-stands}
+use Rattle.merkle_map.specs.Whole.{Stores}
+use Rattle.merkle_map.proofs.Calls.{without-follows, without-stands}
+use Rattle.merkle_map.proofs.Wholes.{stores, remove-can, exact}
 use Rattle.merkle_map.proofs.tree.MapTree.remove.Goals as goal
-
-pub returns-then-is_unknown-clause-changed : goal.returns-then-is_unknown-clause-changed
-returns-then-is_unknown-clause-changed g c =
-    let key = c.args.key.now in
-    let old = shape g.D.Numbered.numbers c.self.inside.top in
-    ap (tree_without key) (sym c.self.view_is)
-    ∙ there-losing key old (c.in_ok-has_at.ensures ∙ ap Ok c.if-branch.true)
-    ∙ unknown_losing key old (ap is_hidden_rest (sym c.rest_without.ensures) ∙ sym c.is_unknown.ensures ∙ c.if-is_unknown.true)
-    ∙ ap Err (sym c.hidden.ensures)
 
 pub invariant_of-self : goal.invariant_of-self
 invariant_of-self g c =
-    let key = c.args.key.now in
-    let old = shape g.D.Numbered.numbers c.self.inside.top in
-    let new = shape g.D.Numbered.numbers c.remove_in.new.part in
-    losing-stands _ 0 key old new c.self.invariant (known_rest (losing 0 key old)
-    (ap is_hidden_rest (sym c.rest_without.ensures) ∙ sym c.is_unknown.ensures ∙ c.if-is_unknown.false) new c.remove_in.ensures)
+    let numbers = g.D.Numbered.numbers in
+    without-stands c.args.key.now (shape numbers c.self.inside.top) (shape numbers c.remove_from.new.part) c.remove_from.result
+    c.remove_from.ensures.changed c.remove_from.ensures.kept c.self.invariant
 
-pub returns-else-is_unknown-clause-maps : goal.returns-else-is_unknown-clause-maps
-returns-else-is_unknown-clause-maps g c =
+pub returns-clause-maps : goal.returns-clause-maps
+returns-clause-maps g c =
+    let numbers = g.D.Numbered.numbers in
     let key = c.args.key.now in
-    let old = shape g.D.Numbered.numbers c.self.inside.top in
-    let new = shape g.D.Numbered.numbers c.remove_in.new.part in
-    subst (λ s. Follows (without key) s new) c.self.view_is (losing-followed key old new (known_rest (losing 0 key old)
-    (ap is_hidden_rest (sym c.rest_without.ensures) ∙ sym c.is_unknown.ensures ∙ c.if-is_unknown.false) new c.remove_in.ensures))
+    let new = shape numbers c.remove_from.new.part in
+    subst (λ s. OnOk c.remove_from.result (Follows (without key) s new)) c.self.view_is
+    (without-follows key (shape numbers c.self.inside.top) new c.remove_from.result c.remove_from.ensures.changed)
 
-pub returns-else-branch-clause-maps : goal.returns-else-branch-clause-maps
-returns-else-branch-clause-maps g c =
+pub returns-clause-store : goal.returns-clause-store
+returns-clause-store g c =
+    let numbers = g.D.Numbered.numbers in
     let key = c.args.key.now in
-    let old = shape g.D.Numbered.numbers c.self.inside.top in
-    subst (λ s. Follows (without key) s s) c.self.view_is (absent-followed key old (c.in_ok-has_at.ensures ∙ ap Ok c.if-branch.false))
+    let old = shape numbers c.self.inside.top in
+    let new = shape numbers c.remove_from.new.part in
+    subst (λ s. Stores (without key) s new c.remove_from.result) c.self.view_is
+    (stores (without key) old new c.self.invariant (invariant_of-self g c) (tree_without key old) c.remove_from.result
+    (remove-can key old) (exact new (tree_without key old) c.remove_from.result c.remove_from.ensures.changed)
+    (without-follows key old new c.remove_from.result c.remove_from.ensures.changed))
