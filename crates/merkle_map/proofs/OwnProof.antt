@@ -1,19 +1,17 @@
 -- A tree's own proof of one key, and what an accepted proof binds.
-use Rattle.std.proofs.Common.{zero, suc, ◌≡◌, ℕ, ◌+◌, ◌-◌, ◌<◌, ◌≤◌, Bool, true, false, nat_lt, if◌then◌else◌, Option, Some, None, List, [], ◌∷◌, ◌++◌, length, map, Ok, Err, IfOk, arith, refl, ap, sym, ◌∙◌, subst}
-use Rattle.std.proofs.lemmas.List.{map-append, append_assoc}
+use Rattle.std.proofs.Common.{suc, ◌≡◌, ℕ, ◌+◌, ◌≤◌, Bool, true, false, nat_lt, if◌then◌else◌, Option, Some, None, List, [], ◌∷◌, ◌++◌, length, Ok, Err, arith, refl, ap, sym, ◌∙◌, subst}
+use Rattle.std.proofs.lemmas.List.{append_assoc}
 use Rattle.std.proofs.lemmas.Bool.{le-ltb}
 use Rattle.std.proofs.lemmas.Slice.Eq.{bytes_eq-Decides}
 use Rattle.std.specs.Str.{bytes_eq}
 use Rattle.ark_base.specs.declared.error.Error.{Error}
-use Rattle.ark_base.specs.Outcome.{Outcome, ◌>>=◌, Answers, AnswersBy}
+use Rattle.ark_base.specs.Outcome.{Outcome, ◌>>=◌}
 use Rattle.ark_base.specs.Laws.Steps.{bind_ok, done_injective}
 use Rattle.merkle_map.specs.Map.{Key, Digest, Entry, Node, Nothing, Leaf, MapHashes, digest_of, bit_of, leaf_of, key_bits}
 use Rattle.merkle_map.specs.Tree.{Shape, Empty, One, Fork, Hidden, shape_digest, StandsAt}
 use Rattle.merkle_map.specs.Changes.{known_at, own_value}
-use Rattle.merkle_map.specs.Way.{pair_on, climb, verdict, verdict_from, other_verdict}
-use Rattle.merkle_map.specs.Binding.{BindsValue}
-use Rattle.merkle_map.specs.KeyProof.{EndSeen, AtNothing, AtOwn, AtOther, ProofSeen, proof_at, end_at, end_node, below, behind, behind_all, proof_verdict, end_verdict, BindsBy, IsAccepted}
-use Rattle.merkle_map.proofs.Answered.{gives}
+use Rattle.merkle_map.specs.Way.{pair_on, climb, verdict, verdict_from}
+use Rattle.merkle_map.specs.KeyProof.{EndSeen, AtNothing, AtOwn, AtOther, ProofSeen, proof_at, end_at, end_node, below, behind, behind_all, end_verdict, IsAccepted}
 use Rattle.merkle_map.proofs.Climb.{climb-refused}
 use Rattle.merkle_map.proofs.Places.{if_true, if_false}
 

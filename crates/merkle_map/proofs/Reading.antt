@@ -1,12 +1,12 @@
 -- Trees that are read from bytes.
-use Rattle.std.proofs.Common.{zero, suc, ◌≡◌, ℕ, ◌+◌, ◌-◌, ◌<◌, ◌≤◌, ◌==◌, nat_lt, Bool, true, false, not, ◌&&◌, if◌then◌else◌, List, [], ◌∷◌, ◌++◌, length, take, drop, get_or, Ok, Err, arith, refl, ap, sym, ◌∙◌, subst, take-append-drop, length-drop, length-append, append_assoc, append-nil}
+use Rattle.std.proofs.Common.{zero, suc, ◌≡◌, ℕ, ◌+◌, ◌-◌, ◌<◌, ◌≤◌, ◌==◌, nat_lt, Bool, true, false, not, ◌&&◌, if◌then◌else◌, List, [], ◌∷◌, ◌++◌, length, take, drop, get_or, Ok, Err, arith, refl, ap, sym, ◌∙◌, subst, take-append-drop, length-append, append_assoc, append-nil}
 use Rattle.std.proofs.Math.Seq.{drop-cons, take-append_seam, drop-append_seam}
 use Rattle.std.proofs.lemmas.Bool.{le-ltb, ltb-false}
 use Rattle.std.proofs.lemmas.Bool.Decides.{Decides-eqb}
 use Rattle.ark_base.specs.declared.error.Error.{Error}
 use Rattle.ark_base.specs.Outcome.{Outcome, ◌>>=◌}
 use Rattle.ark_base.specs.Laws.Steps.{bind_ok, done_injective}
-use Rattle.merkle_map.specs.Map.{Key, Digest, Entry, bit_of, has_bit}
+use Rattle.merkle_map.specs.Map.{Key, bit_of, has_bit}
 use Rattle.merkle_map.specs.Tree.{Shape, Empty, One, Fork, Hidden, way, weight, StandsAt}
 use Rattle.merkle_map.specs.Bytes.{spelled, string_read, entry_read, digest_read, tagged, tree_read, invalid, truncated, IsOf32, all_have, is_placed, tree_of_bytes, ReadsBack}
 use Rattle.merkle_map.specs.Pruned.{Fits}
@@ -73,9 +73,12 @@ entry-found : (rest : List ℕ) (found : Found) → entry_read rest ≡ Ok found
     × (found.0 ≡ One (record { key = key; value = value }))
 entry-found rest found e =
     let k = bind_ok (string_read rest) _ found e in
-    let v = bind_ok (string_read k.0.1) (λ value. Ok (One (record { key = k.0.0; value = value.0 }), value.1)) found k.2 in
-    (k.0.0, v.0.0, sym (ap (λ (f : Found). f.0)
-    (done_injective {E = Error} (One (record { key = k.0.0; value = v.0.0 }), v.0.1) found v.2)))
+    let v = bind_ok (string_read k.0.1) (λ value. Ok (One (record { key = k.0.0; value = value.0 }), value.1)) found k.2 in (
+      k.0.0,
+      v.0.0,
+      sym (ap (λ (f : Found). f.0)
+          (done_injective {E = Error} (One (record { key = k.0.0; value = v.0.0 }), v.0.1) found v.2)),
+    )
 
 pub read-fits : (depth level : ℕ) (bytes : List ℕ) (found : Found) → depth + level ≡ 256 → tree_read depth bytes ≡ Ok found
     → Fits level found.0

@@ -1,22 +1,21 @@
 -- Trees that hide nothing show their own entries.
-use Rattle.std.proofs.Common.{zero, suc, ◌≡◌, ◌≢◌, ◌⊎◌, ℕ, ◌+◌, ◌-◌, ◌<◌, ◌≤◌, Bool, true, false, not, cond, if◌then◌else◌, Option, Some, None, List, [], ◌∷◌, ◌++◌, length, Ok, Err, IsOk, IfErr, OnOk, OnErr, arith, refl, ap, sym, ◌∙◌, subst, inl, inr, length-append, append-nil}
+use Rattle.std.proofs.Common.{zero, suc, ◌≡◌, ℕ, ◌-◌, ◌≤◌, Bool, true, false, not, if◌then◌else◌, Option, Some, None, List, [], ◌∷◌, ◌++◌, length, Ok, Err, IsOk, OnOk, arith, refl, ap, sym, ◌∙◌, subst, inl, inr, length-append, append-nil}
 use Rattle.std.proofs.lemmas.List.Elements.{filter-append}
 use Rattle.std.proofs.lemmas.Slice.Eq.{bytes_eq-Decides}
-use Rattle.std.specs.List.{filter}
 use Rattle.std.specs.Str.{bytes_eq}
 use Rattle.ark_base.specs.declared.error.Error.{Error}
-use Rattle.ark_base.specs.Outcome.{Outcome, ◌>>=◌, AnswersBy, IsMemory}
-use Rattle.ark_base.specs.Laws.Steps.{bind_ok, done_injective}
-use Rattle.merkle_map.specs.Map.{Key, Digest, Entry, MapHashes, bit_of, has_bit, side, key_bits, value_at, IsMap, HaveSame, put, without, root_of}
-use Rattle.merkle_map.specs.Tree.{Shape, Empty, One, Fork, Hidden, IsWhole, shape_digest, Shows, way, weight, IsKey, StandsAt}
-use Rattle.merkle_map.specs.Changes.{known_at, two_of, with_value, joined, losing, losing_known, entry_of, tree_without, outcome_with}
+use Rattle.ark_base.specs.Outcome.{Outcome, ◌>>=◌, AnswersBy}
+use Rattle.ark_base.specs.Laws.Steps.{done_injective}
+use Rattle.merkle_map.specs.Map.{Key, Digest, Entry, MapHashes, bit_of, has_bit, side, key_bits, value_at, IsMap}
+use Rattle.merkle_map.specs.Tree.{Shape, Empty, One, Fork, Hidden, IsWhole, Shows, way, weight, StandsAt}
+use Rattle.merkle_map.specs.Changes.{known_at, two_of, with_value, joined, losing, losing_known, tree_without, outcome_with}
 use Rattle.merkle_map.specs.Shown.{Follows}
 use Rattle.merkle_map.specs.Whole.{entries_of, IsStoreOf, Stores, IsRootOf}
 use Rattle.merkle_map.proofs.Answered.{gives}
 use Rattle.merkle_map.proofs.Entries.{own_bit, other_bit}
 use Rattle.merkle_map.proofs.Known.{known-shown}
-use Rattle.merkle_map.proofs.Pruning.{joined-ok, whole-known}
-use Rattle.merkle_map.proofs.Rest.{IsSeen, seen-losing}
+use Rattle.merkle_map.proofs.Pruning.{whole-known}
+use Rattle.merkle_map.proofs.Rest.{IsSeen}
 use Rattle.merkle_map.proofs.Shows.{shows-digest}
 
 -- hashes of no use
@@ -244,8 +243,8 @@ store-of : (entries : List Entry) (s : Shape) → IsWhole s → StandsAt [] s �
 store-of entries s whole stands shown = record {
   whole = whole;
   same = λ key.
-  let own = whole-shows plain [] 0 s refl whole stands in
-  by_known key own (known_at 0 key s) refl (whole-known plain 0 key s whole);
+      let own = whole-shows plain [] 0 s refl whole stands in
+      by_known key own (known_at 0 key s) refl (whole-known plain 0 key s whole);
 }
   where
     by_known : (key : Key) → Shows plain 0 s (entries_of s) → (o : Outcome (Option Digest)) → known_at 0 key s ≡ o → IsOk o
@@ -260,9 +259,11 @@ module _ (change : List Entry → List Entry) (old new : Shape) (stands : Stands
       → OnOk result (Follows change old new) → Stores change old new result
   stores next (Ok x) can answered follows = λ whole.
       let n = can whole in
-      let same : n.0 ≡ new = done_injective {E = Error} n.0 new (sym n.1 ∙ answered) in
-      (store-of (change (entries_of old)) new (subst IsWhole same n.2) after (follows plain (entries_of old)
-      (whole-map [] old stands) (whole-shows plain [] 0 old refl whole stands)), tt)
+      let same : n.0 ≡ new = done_injective {E = Error} n.0 new (sym n.1 ∙ answered) in (
+        store-of (change (entries_of old)) new (subst IsWhole same n.2) after (follows plain (entries_of old)
+            (whole-map [] old stands) (whole-shows plain [] 0 old refl whole stands)),
+        tt,
+      )
   stores next (Err error) can (inl memory) follows = λ whole. (tt, memory)
   stores next (Err error) can (inr is) follows = λ whole. let n = can whole in absurd cc
 

@@ -1,10 +1,10 @@
 -- The bytes of a tree whose digests have 32 bytes.
-use Rattle.std.specs.Prelude.{◌≡◌, ℕ, zero, suc, ◌+◌, ◌<◌, ◌==◌, nat_lt, List, [], ◌∷◌, ◌++◌, length, take, drop, if◌then◌else◌, Bool, true, false, not, ◌&&◌, Ok, Err}
+use Rattle.std.specs.Prelude.{◌≡◌, ℕ, zero, suc, ◌+◌, ◌==◌, nat_lt, List, [], ◌∷◌, ◌++◌, length, take, drop, if◌then◌else◌, Bool, true, false, not, ◌&&◌, Ok, Err}
 use Rattle.ark_base.specs.Outcome.{Outcome, ◌>>=◌}
 use Rattle.ark_base.specs.declared.error.Error.{Error}
 use Rattle.ark_base.specs.declared.error.Error.TheVariants.{SerializationError}
 use Rattle.ark_base.specs.declared.error.SerializationError.TheVariants.{Truncated, InvalidData}
-use Rattle.merkle_map.specs.Map.{Key, Digest, Entry, has_bit}
+use Rattle.merkle_map.specs.Map.{Digest, has_bit}
 use Rattle.merkle_map.specs.Tree.{Shape, Empty, One, Fork, Hidden, weight, IsKey, StandsAt}
 
 -- digests of 32 bytes are seen as they are

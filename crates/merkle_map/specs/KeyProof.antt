@@ -4,11 +4,10 @@ use Rattle.std.specs.Str.{bytes_eq}
 use Rattle.ark_base.specs.Outcome.{Outcome, ◌>>=◌}
 use Rattle.merkle_map.specs.Map.{Key, Digest, Entry, Node, Nothing, Leaf, MapHashes, bit_of, leaf_of}
 use Rattle.merkle_map.specs.Tree.{Shape, Empty, One, Fork, Hidden, shape_digest}
-use Rattle.merkle_map.specs.Changes.{known_at, hides, entry_of}
+use Rattle.merkle_map.specs.Changes.{known_at, hides}
 use Rattle.merkle_map.specs.Way.{verdict, other_verdict}
 use Rattle.merkle_map.specs.Binding.{BindsValue}
 use Rattle.merkle_map.specs.Parts.{entry_seen}
-use Rattle.merkle_map.specs.declared.part.Entry.{Entry as KeyAndValue}
 use Rattle.merkle_map.specs.declared.proof.End.{End}
 use Rattle.merkle_map.specs.declared.proof.End.TheVariants.{Nothing as NoEntry, Own as OwnEntry, Other as OtherEntry}
 use Rattle.merkle_map.specs.declared.proof.KeyProof.{KeyProof}

@@ -1,5 +1,5 @@
 -- Trees that hide nothing: stores.
-use Rattle.std.specs.Prelude.{◌≡◌, List, [], ◌∷◌, ◌++◌, IfErr, OnOk, Ok}
+use Rattle.std.specs.Prelude.{◌≡◌, List, [], ◌∷◌, ◌++◌, IfErr, OnOk}
 use Rattle.ark_base.specs.Outcome.{Outcome, IsMemory}
 use Rattle.merkle_map.specs.Map.{Entry, MapHashes, HaveSame, root_of}
 use Rattle.merkle_map.specs.Tree.{Shape, Empty, One, Fork, Hidden, IsWhole, shape_digest}

@@ -93,11 +93,7 @@ fn read_string(bytes: &[u8]) -> Result<[u8; 32], Error>
 //
 // Errors: the first fault from the left: `Truncated`; `InvalidData`: a byte that stands for nothing, or a fork below the last bit
 // of a key; `OutOfMemory`.
-fn read_part(
-    alloc: Global,
-    bytes: &[u8],
-    level: usize,
-) -> Result<(Part<[u8; 32]>, usize), Error>
+fn read_part(alloc: Global, bytes: &[u8], level: usize) -> Result<(Part<[u8; 32]>, usize), Error>
     requires { level ≤ 256 }
     ensures within { IfOk result (λ read. read.1 ≤ length bytes.now) }
     ensures sized { IfOk result (λ read. IsOf32 (shape itself read.0)) }

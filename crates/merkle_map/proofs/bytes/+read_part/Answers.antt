@@ -1,4 +1,4 @@
-use Rattle.std.proofs.Common.{◌≡◌, ◌+◌, ◌-◌, ◌<◌, ◌≤◌, Ok, Err, drop, length, ap, sym, ◌∙◌, arith, rules, length-drop}
+use Rattle.std.proofs.Common.{◌+◌, ◌-◌, ◌<◌, Ok, drop, length, ap, sym, ◌∙◌, arith, rules, length-drop}
 use Rattle.ark_base.proofs.Refusals.{passed_on}
 use Rattle.ark_base.specs.Outcome.{◌>>=◌}
 use Rattle.merkle_map.specs.Bytes.{itself, string_read, tree_read}

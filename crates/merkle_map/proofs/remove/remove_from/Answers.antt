@@ -1,8 +1,7 @@
-use Rattle.std.proofs.Common.{◌≡◌, true, Ok, Err, ap, sym, ◌∙◌}
+use Rattle.std.proofs.Common.{Ok, Err, ap, sym, ◌∙◌}
 use Rattle.merkle_map.specs.Parts.{shape}
 use Rattle.merkle_map.specs.Rests.{is_hidden_rest}
-use Rattle.merkle_map.proofs.Calls.{there-losing, unknown_losing, known_rest}
-use Rattle.merkle_map.specs.Changes.{losing}
+use Rattle.merkle_map.proofs.Calls.{there-losing, unknown_losing}
 use Rattle.merkle_map.proofs.remove.remove_from.Goals as goal
 
 pub returns-then-is_unknown-clause-changed : goal.returns-then-is_unknown-clause-changed

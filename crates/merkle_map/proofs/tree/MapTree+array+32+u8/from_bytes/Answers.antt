@@ -1,4 +1,3 @@
-use Rattle.std.proofs.Common.{[]}
 use Rattle.merkle_map.specs.Bytes.{itself}
 use Rattle.merkle_map.specs.Parts.{shape}
 use Rattle.merkle_map.proofs.Reading.{reads-back, bytes-spelled, bytes-stand}

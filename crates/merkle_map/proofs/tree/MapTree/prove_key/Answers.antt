@@ -1,4 +1,4 @@
-use Rattle.std.proofs.Common.{[], ap, sym, ◌∙◌, subst, map}
+use Rattle.std.proofs.Common.{ap, sym, ◌∙◌, subst, map}
 use Rattle.merkle_map.specs.KeyProof.{proof_at, behind_all, proof_seen, IsAccepted}
 use Rattle.merkle_map.specs.Parts.{shape}
 use Rattle.merkle_map.proofs.OwnProof.{accepts, behind_none}
