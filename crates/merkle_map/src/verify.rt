@@ -143,7 +143,8 @@ pub fn verify_other<D: DigestItem, T: MapHasher<D>>(
         (map D.numbers siblings.now) (leaf_of other_key.now (D.numbers other_value.now))) }
 {
     if are_same_keys(other_key, key) {
-        return Ok(false);
+        Ok(false)
+    } else {
+        leaf_leads_to(alloc, hasher, root, key, other_key, other_value, siblings)
     }
-    leaf_leads_to(alloc, hasher, root, key, other_key, other_value, siblings)
 }

@@ -4,8 +4,8 @@ use Rattle.merkle_map.specs.Map.{leaf_of}
 use Rattle.merkle_map.proofs.Climb.{verdict-binds, other_value, answered}
 use Rattle.merkle_map.proofs.verify.verify_other.Goals as goal
 
-pub returns-clause-bound : goal.returns-clause-bound
-returns-clause-bound g c =
+pub returns-else-are_same_keys-clause-bound : goal.returns-else-are_same_keys-clause-bound
+returns-else-are_same_keys-clause-bound g c =
     let h = g.T.MapHasher.hashes c.args.hasher.now in
     let key = c.args.key.now in
     let other = c.args.other_key.now in
