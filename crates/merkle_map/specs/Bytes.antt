@@ -20,9 +20,11 @@ spelled (Hidden digest) = 3 ∷ digest
 
 -- ---- reading
 
+-- the error of bytes that end too early
 abbrev pub truncated : Error
 truncated = SerializationError Truncated
 
+-- the error of bytes that no tree has
 abbrev pub invalid : Error
 invalid = SerializationError InvalidData
 
@@ -35,10 +37,12 @@ abbrev pub string_outcome : List ℕ → Outcome (List ℕ) → Outcome (List �
 string_outcome bytes (Ok value) = Ok (value, drop 32 bytes)
 string_outcome bytes (Err error) = Err error
 
+-- an entry and the bytes behind it
 abbrev pub entry_read : List ℕ → Outcome (Shape × List ℕ)
 entry_read bytes = string_read bytes >>= λ key. string_read key.1 >>= λ value.
     Ok (One (record { key = key.0; value = value.0 }), value.1)
 
+-- hidden entries and the bytes behind them
 abbrev pub digest_read : List ℕ → Outcome (Shape × List ℕ)
 digest_read bytes = string_read bytes >>= λ digest. Ok (Hidden digest.0, digest.1)
 

@@ -12,6 +12,7 @@ use Rattle.merkle_map.specs.Tree.{Shape, Empty, One, Fork, Hidden}
 abbrev pub hides : Error
 hides = GenericError (Custom 1)
 
+-- a key with its value
 abbrev pub entry_of : Key → Digest → Entry
 entry_of key value = record { key = key; value = value }
 
@@ -82,12 +83,14 @@ losing level key (Fork left right) = if bit_of level key
     else (losing (suc level) key left >>= λ l. joined l right)
 losing level key (Hidden digest) = Err hides
 
+-- the tree that has lost the entry of a key, if it has one
 abbrev pub losing_known : Key → Shape → Option Digest → Outcome Shape
 losing_known key shape None = Ok shape
 losing_known key shape (Some value) = losing 0 key shape
 
 -- ---- whole trees
 
+-- the tree with a value at a key
 abbrev pub tree_with : Key → Digest → Shape → Outcome Shape
 tree_with key value shape = with_value 0 (entry_of key value) shape
 
@@ -105,6 +108,7 @@ abbrev pub outcome_with : {A : Type 0} → Shape → Outcome A → Outcome Shape
 outcome_with new (Ok value) = Ok new
 outcome_with new (Err error) = Err error
 
+-- something is there
 abbrev pub is_there : Option Digest → Bool
 is_there None = false
 is_there (Some value) = true

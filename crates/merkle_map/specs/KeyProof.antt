@@ -23,11 +23,13 @@ pub record ProofSeen : Type 0 where
   pub end : EndSeen
   pub siblings : List Digest
 
+-- an end, its value by its numbers
 abbrev pub end_seen : {D : Type 0} → (D → Digest) → End D → EndSeen
 end_seen numbers NoEntry = AtNothing
 end_seen numbers OwnEntry = AtOwn
 end_seen numbers (OtherEntry entry) = AtOther (entry_seen numbers entry)
 
+-- a proof, its digests by their numbers
 abbrev pub proof_seen : {D : Type 0} → (D → Digest) → KeyProof D → ProofSeen
 proof_seen numbers proof = record { end = end_seen numbers proof.end; siblings = map numbers proof.siblings.items }
 
@@ -54,6 +56,7 @@ proof_verdict h root key value proof = end_verdict h root key proof.siblings pro
 
 -- ---- a tree's own proof
 
+-- the end of a key's way at this entry
 abbrev pub end_at : Key → Entry → EndSeen
 end_at key entry = if bytes_eq entry.key key then AtOwn else AtOther entry
 
@@ -88,5 +91,6 @@ IsAccepted h key tree proof = (root : Digest) (value : Option Digest) → shape_
 abbrev pub behind_all : List Digest → Outcome ProofSeen → Outcome ProofSeen
 behind_all digests outcome = outcome >>= λ proof. Ok (behind digests proof)
 
+-- the proof of an end and these digests
 abbrev pub seen_with : {D : Type 0} → (D → Digest) → List Digest → End D → ProofSeen
 seen_with numbers siblings end = record { end = end_seen numbers end; siblings = siblings }

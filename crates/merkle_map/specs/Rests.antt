@@ -23,6 +23,7 @@ rest_beside Lone Unknown = Unknown
 rest_beside More beside = More
 rest_beside Unknown beside = Unknown
 
+-- what is hidden decides what is left
 abbrev pub is_hidden_rest : Rest → Bool
 is_hidden_rest Nothing = false
 is_hidden_rest Lone = false

@@ -13,6 +13,7 @@ pub data ChangeSeen : Type 0 where
   Puts : (key : Key) (value : Digest) → ChangeSeen
   Removes : (key : Key) → ChangeSeen
 
+-- what a change is
 abbrev pub change_seen : {D : Type 0} → (D → Digest) → Change D → ChangeSeen
 change_seen numbers (Put key value) = Puts key (numbers value)
 change_seen numbers (Remove key) = Removes key
