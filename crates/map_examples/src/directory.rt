@@ -1,0 +1,92 @@
+//! A map whose roots are the entries of a log, one for each version, and a check of what the newest version has at a key.
+
+ghost use Rattle.std.specs.Prelude.{◌≡◌, true, Ok};
+ghost use Rattle.merkle_map.specs.Bytes.{itself};
+ghost use Rattle.merkle_map.specs.KeyProof.{proof_seen, BindsBy};
+ghost use Rattle.merkle_map.specs.Parts.{value_seen};
+ghost use Rattle.merkle_map.specs.Sha256.{sha256_map};
+
+use ark_base::error::Error;
+use ark_trees::LogHasher;
+use merkle_log::{Log, verify_inclusion_bytes};
+use merkle_map::{KeyProof, MapTree, Sha256Map};
+use std::alloc::Global;
+
+/// The root of a log of no entries: SHA-256 of no bytes.
+const NO_ENTRIES: [u8; 32] = [
+    0xe3, 0xb0, 0xc4, 0x42, 0x98, 0xfc, 0x1c, 0x14, 0x9a, 0xfb, 0xf4, 0xc8, 0x99, 0x6f, 0xb9, 0x24,
+    0x27, 0xae, 0x41, 0xe4, 0x64, 0x9b, 0x93, 0x4c, 0xa4, 0x95, 0x99, 0x1b, 0x78, 0x52, 0xb8, 0x55,
+];
+
+/// A map, and the log of the roots that it had.
+#[derive(Drop)]
+pub struct Directory {
+    pub map: MapTree<[u8; 32]>,
+    pub versions: Log<[u8; 32], LogHasher>,
+}
+
+// The entry of the log that a root is.
+fn entry_of(alloc: Global, root: &[u8; 32]) -> Result<Vec<u8>, Error> {
+    let mut entry = Vec::new(alloc);
+    entry.extend_from_slice(root)?;
+    Ok(entry)
+}
+
+impl Directory {
+    /// Returns an empty directory, which has no version yet.
+    pub fn new(alloc: Global) -> Directory {
+        Directory {
+            map: MapTree::new(),
+            versions: Log::new(alloc, LogHasher, NO_ENTRIES),
+        }
+    }
+
+    /// Puts a value at a key. Keys should be hashes: whoever chooses keys can make a neighbour's proof longer.
+    ///
+    /// Errors, which leave the map unchanged: those of `MapTree::insert`.
+    pub fn put(&mut self, alloc: Global, key: &[u8; 32], value: [u8; 32]) -> Result<(), Error> {
+        self.map.insert(alloc, key, value)
+    }
+
+    /// Ends a version: appends the map's root to the log, and returns it. The only error is `OutOfMemory`.
+    pub fn publish(&mut self, alloc: Global) -> Result<[u8; 32], Error> {
+        let root = self.map.root(alloc, &Sha256Map::new())?;
+        self.versions.append(alloc, &entry_of(alloc, &root)?)?;
+        Ok(root)
+    }
+}
+
+/// What a client holds: the log's root and the count of versions.
+#[derive(Debug, Clone, Copy)]
+pub struct Head {
+    pub root: [u8; 32],
+    pub size: u64,
+}
+
+/// Returns whether a root is that of the newest version, and a map with this root has this at a key: a value, or nothing.
+///
+/// The directory sends the root, the bytes of its path in the log and the key's proof. Errors: those of `verify_inclusion_bytes`;
+/// `OutOfMemory`.
+pub fn is_newest(
+    alloc: Global,
+    head: &Head,
+    root: &[u8; 32],
+    path: &[u8],
+    key: &[u8; 32],
+    value: Option<&[u8; 32]>,
+    proof: &KeyProof<[u8; 32]>,
+) -> Result<bool, Error>
+    // Each map with this root has this at the key, or two different nodes with one hash are named.
+    ensures bound { result ≡ Ok true → BindsBy sha256_map root.now key.now
+        (value_seen (λ v. v.now) value.entry) (proof_seen itself proof.now) }
+{
+    if head.size == 0 {
+        return Ok(false);
+    }
+    let entry = entry_of(alloc, root)?;
+    let newest = head.size - 1;
+    if !verify_inclusion_bytes(alloc, &LogHasher, &head.root, head.size, newest, &entry, path)? {
+        return Ok(false);
+    }
+    proof.verify(alloc, &Sha256Map::new(), root, key, value)
+}

@@ -1,0 +1,45 @@
+use Rattle.std.proofs.Common.{not, Ok, ap, sym, ◌∙◌}
+use Rattle.ark_base.specs.Outcome.{◌>>=◌}
+use Rattle.merkle_map.specs.Parts.{entry_seen}
+use Rattle.merkle_map.specs.Tree.{Empty, Fork}
+use Rattle.merkle_map.proofs.Keys.{bits_left}
+use Rattle.merkle_map.proofs.Two.{both-right, both-left, first-right, first-left}
+use Rattle.merkle_map.proofs.Answered.{answers_as}
+use Rattle.merkle_map.proofs.put.+apart.Goals as goal
+
+pub have_same_bit-requires : goal.have_same_bit-requires
+have_same_bit-requires g t c = record {
+  within = bits_left c.args.level c.args.own.key c.args.other.key c.requires.own_key c.requires.other_key c.requires.within
+      c.requires.together c.requires.differ;
+  together = c.requires.together;
+}
+
+pub returns-then-bit_of : goal.returns-then-bit_of
+returns-then-bit_of g t c =
+    let numbers = g.D.Numbered.numbers in
+    let own = sym c.bit_of.ensures ∙ c.if-bit_of.true in
+    answers_as _ _ _ _ (ap Ok (first-right c.args.level (entry_seen numbers c.args.own) (entry_seen numbers c.args.other)
+    c.have_same_bit.ensures.within own (c.have_same_bit.ensures.other c.if-have_same_bit.false ∙ ap not own))) c.fork-then-bit_of.ensures
+
+pub returns-else-bit_of : goal.returns-else-bit_of
+returns-else-bit_of g t c =
+    let numbers = g.D.Numbered.numbers in
+    let own = sym c.bit_of.ensures ∙ c.if-bit_of.false in
+    answers_as _ _ _ _ (ap Ok (first-left c.args.level (entry_seen numbers c.args.own) (entry_seen numbers c.args.other)
+    c.have_same_bit.ensures.within own (c.have_same_bit.ensures.other c.if-have_same_bit.false ∙ ap not own))) c.fork-else-have_same_bit.ensures
+
+pub returns-then-is_right : goal.returns-then-is_right
+returns-then-is_right g t c =
+    let numbers = g.D.Numbered.numbers in
+    let own = sym c.bit_of-is_right.ensures ∙ c.if-is_right.true in
+    answers_as _ _ _ _ (ap Ok (both-right c.args.level (entry_seen numbers c.args.own) (entry_seen numbers c.args.other)
+    c.have_same_bit.ensures.within own (c.have_same_bit.ensures.same c.if-have_same_bit.true ∙ own))
+    ∙ ap (λ o. o >>= λ s. Ok (Fork Empty s)) c.in_ok-below.ensures) c.fork.ensures
+
+pub returns-else-is_right : goal.returns-else-is_right
+returns-else-is_right g t c =
+    let numbers = g.D.Numbered.numbers in
+    let own = sym c.bit_of-is_right.ensures ∙ c.if-is_right.false in
+    answers_as _ _ _ _ (ap Ok (both-left c.args.level (entry_seen numbers c.args.own) (entry_seen numbers c.args.other)
+    c.have_same_bit.ensures.within own (c.have_same_bit.ensures.same c.if-have_same_bit.true ∙ own))
+    ∙ ap (λ o. o >>= λ s. Ok (Fork s Empty)) c.in_ok-below.ensures) c.fork-else-is_right.ensures

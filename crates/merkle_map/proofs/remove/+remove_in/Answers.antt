@@ -1,0 +1,49 @@
+use Rattle.std.proofs.Common.{◌+◌, arith, sym, ◌∙◌, subst}
+use Rattle.merkle_map.specs.Changes.{losing, joined, Becomes}
+use Rattle.merkle_map.specs.Parts.{shape}
+use Rattle.merkle_map.specs.Tree.{way, StandsAt}
+use Rattle.merkle_map.proofs.Places.{fork_within, losing-right, losing-left}
+use Rattle.merkle_map.proofs.Rest.{becomes_on}
+use Rattle.merkle_map.proofs.remove.+remove_in.Goals as goal
+
+pub bit_of-requires : goal.bit_of-requires
+bit_of-requires g t c =
+    let numbers = g.D.Numbered.numbers in
+    fork_within c.args.level c.args.key.now (shape numbers c.in-Fork.left.value) (shape numbers c.in-Fork.right.value)
+    (subst (λ p. StandsAt (way c.args.level c.args.key.now) (shape numbers p)) c.in-Fork.is c.requires)
+
+pub overflow_add-level-else-bit_of : goal.overflow_add-level-else-bit_of
+overflow_add-level-else-bit_of g t c =
+    let numbers = g.D.Numbered.numbers in
+    let inside = fork_within c.args.level c.args.key.now (shape numbers c.in-Fork.left.value) (shape numbers c.in-Fork.right.value)
+    (subst (λ p. StandsAt (way c.args.level c.args.key.now) (shape numbers p)) c.in-Fork.is c.requires) in
+    omega (arith, inside)
+
+pub returns-then-bit_of : goal.returns-then-bit_of
+returns-then-bit_of g t c =
+    let numbers = g.D.Numbered.numbers in
+    let level = c.args.level in
+    let key = c.args.key.now in
+    let left = shape numbers c.in-Fork.left.value in
+    let right = shape numbers c.in-Fork.right.value in
+    let new = shape numbers c.collapse.new.part in
+    subst (λ p. Becomes (losing level key (shape numbers p)) new) (sym c.in-Fork.is)
+    (subst (λ o. Becomes o new) (sym (losing-right level key left right (sym c.bit_of.ensures ∙ c.if-bit_of.true)))
+    (becomes_on (losing (level + 1) key right) (λ r. joined left r) (shape numbers c.remove_in.new.part) new
+    (subst (λ p. Becomes (losing (level + 1) key (shape numbers p)) (shape numbers c.remove_in.new.part)) c.deref_mut.ensures.value
+    c.remove_in.ensures) c.collapse.ensures))
+
+pub returns-else-bit_of : goal.returns-else-bit_of
+returns-else-bit_of g t c =
+    let numbers = g.D.Numbered.numbers in
+    let level = c.args.level in
+    let key = c.args.key.now in
+    let left = shape numbers c.in-Fork.left.value in
+    let right = shape numbers c.in-Fork.right.value in
+    let removed = c.remove_in-else-bit_of in
+    let new = shape numbers c.collapse-else-bit_of.new.part in
+    subst (λ p. Becomes (losing level key (shape numbers p)) new) (sym c.in-Fork.is)
+    (subst (λ o. Becomes o new) (sym (losing-left level key left right (sym c.bit_of.ensures ∙ c.if-bit_of.false)))
+    (becomes_on (losing (level + 1) key left) (λ l. joined l right) (shape numbers removed.new.part) new
+    (subst (λ p. Becomes (losing (level + 1) key (shape numbers p)) (shape numbers removed.new.part)) c.deref_mut-else-bit_of.ensures.value
+    removed.ensures) c.collapse-else-bit_of.ensures))

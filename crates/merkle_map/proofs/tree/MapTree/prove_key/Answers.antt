@@ -1,0 +1,17 @@
+use Rattle.std.proofs.Common.{ap, sym, ◌∙◌, subst, map}
+use Rattle.merkle_map.specs.KeyProof.{proof_at, behind_all, proof_seen, IsAccepted}
+use Rattle.merkle_map.specs.Parts.{shape}
+use Rattle.merkle_map.proofs.OwnProof.{accepts, behind_none}
+use Rattle.merkle_map.proofs.tree.MapTree.prove_key.Goals as goal
+
+pub returns-clause-accepted : goal.returns-clause-accepted
+returns-clause-accepted g c =
+    let numbers = g.D.Numbered.numbers in
+    let h = g.T.MapHasher.hashes c.args.hasher.now in
+    let key = c.args.key.now in
+    let old = shape numbers c.self.inside.top in
+    subst (λ s. IsAccepted h key s (proof_seen numbers (record { end = c.in_ok-end.end; siblings = c.climb_down.new.siblings })))
+    c.self.view_is
+    (accepts h key old (proof_seen numbers (record { end = c.in_ok-end.end; siblings = c.climb_down.new.siblings })) c.self.invariant
+    (sym (behind_none (proof_at h 0 key old))
+    ∙ ap (λ l. behind_all (map numbers l) (proof_at h 0 key old)) (sym c.new-siblings.ensures.items) ∙ c.in_ok-end.ensures))

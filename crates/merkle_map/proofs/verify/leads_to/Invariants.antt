@@ -1,0 +1,16 @@
+use Rattle.std.proofs.Common.{◌≡◌, ◌≤◌, length, map, take, Ok}
+use Rattle.merkle_map.specs.Way.{climb}
+use Rattle.merkle_map.proofs.verify.leads_to.Given as goal
+
+abbrev pub invariant-levels : goal.invariant-levels
+invariant-levels g l =
+    let h = g.T.MapHasher.hashes l.hasher in
+    let numbers = g.D.Numbered.numbers in
+    record {
+      inside : l.level ≤ length l.siblings;
+      whole : climb h l.key 0 (map numbers l.siblings) (Ok (numbers l.initial.own))
+          ≡ climb h l.key 0 (map numbers (take l.level l.siblings)) (Ok (numbers l.own));
+    }
+
+abbrev pub decreases-levels : goal.decreases-levels
+decreases-levels g l = l.level

@@ -1,0 +1,15 @@
+pub mod Coded
+pub mod Map
+pub mod Way
+pub mod Tree
+pub mod Parts
+pub mod Changes
+pub mod Rests
+pub mod Shown
+pub mod Pruned
+pub mod Binding
+pub mod Sha256
+pub mod Transition
+pub mod KeyProof
+pub mod Whole
+pub mod Bytes

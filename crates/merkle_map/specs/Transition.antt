@@ -1,0 +1,50 @@
+-- Changes of a map, and what a checked transition says.
+use Rattle.std.specs.Prelude.{◌≡◌, ◌⊎◌, List, [], ◌∷◌, Bool, false, if◌then◌else◌, Ok}
+use Rattle.ark_base.specs.Outcome.{Outcome, ◌>>=◌}
+use Rattle.merkle_map.specs.Map.{Key, Digest, Entry, MapHashes, root_of, IsMap, put, without}
+use Rattle.merkle_map.specs.Tree.{Shape, CollidesBelow}
+use Rattle.merkle_map.specs.Changes.{tree_with, tree_without}
+use Rattle.merkle_map.specs.Shown.{has_digest}
+use Rattle.merkle_map.specs.declared.transition.Change.{Change}
+use Rattle.merkle_map.specs.declared.transition.Change.TheVariants.{Put, Remove}
+
+-- a change, its value by its numbers
+pub data ChangeSeen : Type 0 where
+  Puts : (key : Key) (value : Digest) → ChangeSeen
+  Removes : (key : Key) → ChangeSeen
+
+-- what a change is
+abbrev pub change_seen : {D : Type 0} → (D → Digest) → Change D → ChangeSeen
+change_seen numbers (Put key value) = Puts key (numbers value)
+change_seen numbers (Remove key) = Removes key
+
+-- a map after a change
+abbrev pub changed_by : ChangeSeen → List Entry → List Entry
+changed_by (Puts key value) entries = put key value entries
+changed_by (Removes key) entries = without key entries
+
+-- a map after changes, the first one first
+abbrev pub changed_by_all : List ChangeSeen → List Entry → List Entry
+changed_by_all [] entries = entries
+changed_by_all (change ∷ changes) entries = changed_by_all changes (changed_by change entries)
+
+-- a tree after a change
+abbrev pub tree_after : ChangeSeen → Shape → Outcome Shape
+tree_after (Puts key value) tree = tree_with key value tree
+tree_after (Removes key) tree = tree_without key tree
+
+-- a tree after changes, the first one first
+abbrev pub tree_after_all : List ChangeSeen → Shape → Outcome Shape
+tree_after_all [] tree = Ok tree
+tree_after_all (change ∷ changes) tree = tree_after change tree >>= tree_after_all changes
+
+-- whether a tree has the old root and, after the changes, the new one
+abbrev pub transition_verdict : MapHashes → Digest → Digest → List ChangeSeen → Shape → Outcome Bool
+transition_verdict h old new changes tree = has_digest h old tree >>= λ is_old.
+    if is_old then (tree_after_all changes tree >>= has_digest h new) else Ok false
+
+-- Each map with the old root has the new one after the changes, or collides with the tree below bits that are named.
+abbrev pub LeadsTo : MapHashes → Digest → Digest → Shape → List ChangeSeen → Type 0
+LeadsTo h old new tree changes = (entries : List Entry) → IsMap entries → root_of h entries ≡ Ok old
+    → (root_of h (changed_by_all changes entries) ≡ Ok new)
+    ⊎ ((bits : List Bool) × CollidesBelow h 0 bits tree entries)

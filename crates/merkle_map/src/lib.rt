@@ -1,0 +1,27 @@
+//! Authenticated maps: one root for keys of 32 bytes with their values, and proofs of what a map has at a key and of what it
+//! has not.
+//!
+//! The tree is the compact sparse Merkle tree: entries are told apart by the bits of their keys.
+#![tactic(auto)]
+
+mod bytes;
+pub mod hasher;
+mod key;
+pub mod laws;
+mod part;
+pub mod proof;
+mod prune;
+mod put;
+mod remove;
+pub mod sha256;
+pub mod transition;
+pub mod tree;
+pub mod verify;
+
+pub use hasher::MapHasher;
+pub use part::Entry;
+pub use proof::{End, KeyProof};
+pub use sha256::Sha256Map;
+pub use transition::{Change, verify_transition};
+pub use tree::MapTree;
+pub use verify::{verify_absent, verify_other, verify_value};

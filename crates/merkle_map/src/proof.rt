@@ -1,0 +1,125 @@
+//! Proofs of what a map has at one key.
+
+ghost use Rattle.std.specs.Prelude.{◌≡◌, true, map, IfOk, Ok};
+ghost use Rattle.ark_base.specs.Outcome.{Answers, AnswersBy};
+ghost use Rattle.merkle_map.specs.KeyProof.{behind_all, end_at, end_seen, proof_at, proof_seen, proof_verdict, seen_with, BindsBy};
+ghost use Rattle.merkle_map.specs.Parts.{entry_seen, shape, value_seen};
+ghost use Rattle.merkle_map.specs.Tree.{way, StandsAt};
+
+use crate::hasher::MapHasher;
+use crate::key::{are_same_keys, bit_of, copy_of};
+use crate::part::{Entry, Part, digest_of, hidden};
+use crate::verify::{verify_absent, verify_other, verify_value};
+use ark_base::error::Error;
+use ark_base::serialize::DigestItem;
+use std::alloc::Global;
+
+/// Where a key's way ends.
+#[derive(Drop)]
+pub enum End<D> {
+    /// At no entry: the map has nothing at the key.
+    Nothing,
+    /// At the key's own entry.
+    Own,
+    /// At the entry of another key: the map has nothing at the key.
+    Other { entry: Entry<D> },
+}
+
+/// A proof of what a map has at one key: where the key's way ends, and the digests beside the way, from below the root down.
+#[derive(Drop)]
+pub struct KeyProof<D> {
+    pub end: End<D>,
+    pub siblings: Vec<D>,
+}
+
+// Makes the end at an entry. The only error is `OutOfMemory`.
+fn end_of<D: DigestItem>(alloc: Global, key: &[u8; 32], entry: &Entry<D>) -> Result<End<D>, Error>
+    ensures { AnswersBy (end_seen D.numbers) (Ok (end_at key.now (entry_seen D.numbers entry.now)))
+        result }
+{
+    if are_same_keys(&entry.key, key) {
+        return Ok(End::Own);
+    }
+    let value = copy_of(alloc, &entry.value)?;
+    Ok(End::Other {
+        entry: Entry {
+            key: entry.key,
+            value,
+        },
+    })
+}
+
+// Finds the end of a key's way in a tree some levels below the root, and puts the digests beside the way behind others. Errors,
+// which may leave some: that of the highest side whose hash refuses; `Custom(1)`: the end is hidden; `OutOfMemory`.
+pub fn climb_down<D: DigestItem, T: MapHasher<D>>(
+    alloc: Global,
+    hasher: &T,
+    part: &Part<D>,
+    level: usize,
+    key: &[u8; 32],
+    siblings: &mut Vec<D>,
+) -> Result<End<D>, Error>
+    requires { StandsAt (way level key.now) (shape D.numbers part.now) }
+    ensures { AnswersBy (seen_with D.numbers (map D.numbers siblings.new.items))
+        (behind_all (map D.numbers siblings.old.items)
+        (proof_at (T.hashes hasher.now) level key.now (shape D.numbers part.now))) result }
+{
+    match part {
+        Part::Empty => Ok(End::Nothing),
+        Part::One { entry } => end_of(alloc, key, entry),
+        Part::Fork { left, right } => {
+            if bit_of(key, level) {
+                let digest = digest_of(alloc, hasher, left)?;
+                siblings.push(digest)?;
+                climb_down(alloc, hasher, right, level + 1, key, siblings)
+            } else {
+                let digest = digest_of(alloc, hasher, right)?;
+                siblings.push(digest)?;
+                climb_down(alloc, hasher, left, level + 1, key, siblings)
+            }
+        }
+        Part::Hidden { .. } => Err(hidden()),
+    }
+}
+
+impl<D: DigestItem> KeyProof<D> {
+    /// Returns whether the proof shows that a map with this root has this at the key: a value, or nothing.
+    ///
+    /// The answer is `false` where the end does not fit, or for more digests than a key has bits. Errors: those of the hash of
+    /// the entry; those of the hash of pairs, the lowest first; `OutOfMemory`.
+    pub fn verify<T: MapHasher<D>>(
+        &self,
+        alloc: Global,
+        hasher: &T,
+        root: &D,
+        key: &[u8; 32],
+        value: Option<&D>,
+    ) -> Result<bool, Error>
+        ensures answer { Answers (proof_verdict (T.hashes hasher.now) (D.numbers root.now) key.now
+            (value_seen (λ v. D.numbers v.now) value.entry) (proof_seen D.numbers self.now)) result }
+
+        // Each map with this root has this at the key, or at some level of the key's way the proof and the map's own tree have
+        // two different nodes with one hash.
+        ensures bound { IfOk result (λ accepted. accepted ≡ true
+            → BindsBy (T.hashes hasher.now) (D.numbers root.now) key.now
+            (value_seen (λ v. D.numbers v.now) value.entry) (proof_seen D.numbers self.now)) }
+    {
+        let siblings = self.siblings.as_slice();
+        match &self.end {
+            End::Nothing => match value {
+                None => verify_absent(alloc, hasher, root, key, siblings),
+                Some(_) => Ok(false),
+            },
+            End::Own => match value {
+                None => Ok(false),
+                Some(value) => verify_value(alloc, hasher, root, key, value, siblings),
+            },
+            End::Other { entry } => match value {
+                None => {
+                    verify_other(alloc, hasher, root, key, &entry.key, &entry.value, siblings)
+                }
+                Some(_) => Ok(false),
+            },
+        }
+    }
+}

@@ -1,0 +1,187 @@
+//! A key is removed from a tree.
+
+ghost use Rattle.std.specs.Prelude.{◌≡◌, [], OnErr, Ok};
+ghost use Rattle.merkle_map.specs.Changes.{collapsed, is_alone, has_entry, joined, losing, outcome_with, tree_without, Becomes};
+ghost use Rattle.merkle_map.specs.Parts.{shape};
+ghost use Rattle.merkle_map.specs.Rests.{is_hidden_rest, rest_of, rest_beside};
+ghost use Rattle.merkle_map.specs.Tree.{way, StandsAt};
+
+use crate::key::{are_same_keys, bit_of};
+use crate::part::{Part, find, hidden};
+use ark_base::error::Error;
+use ark_base::serialize::DigestItem;
+use std::mem;
+
+/// What is left of a tree.
+#[derive(Clone, Copy)]
+pub enum Rest {
+    /// No entry.
+    Nothing,
+    /// One entry.
+    Lone,
+    /// Two entries or more.
+    More,
+    /// What the tree hides decides it.
+    Unknown,
+}
+
+// Returns whether a whole tree has an entry at a key. The error is that the tree hides it.
+fn has_at<D: DigestItem>(part: &Part<D>, key: &[u8; 32]) -> Result<bool, Error>
+    requires { StandsAt [] (shape D.numbers part.now) }
+    ensures { has_entry key.now (shape D.numbers part.now) ≡ result }
+{
+    match find(part, 0, key)? {
+        None => Ok(false),
+        Some(_) => Ok(true),
+    }
+}
+
+// Returns whether what is hidden decides what is left.
+fn is_unknown(rest: Rest) -> bool
+    ensures { result ≡ is_hidden_rest rest }
+{
+    match rest {
+        Rest::Nothing => false,
+        Rest::Lone => false,
+        Rest::More => false,
+        Rest::Unknown => true,
+    }
+}
+
+// Returns what a tree is.
+fn rest_now<D: DigestItem>(part: &Part<D>) -> Rest
+    ensures { result ≡ rest_of (Ok (shape D.numbers part.now)) }
+{
+    match part {
+        Part::Empty => Rest::Nothing,
+        Part::One { .. } => Rest::Lone,
+        Part::Fork { .. } => Rest::More,
+        Part::Hidden { .. } => Rest::Unknown,
+    }
+}
+
+// Returns what is left of two sides, of which one lost an entry.
+fn rest_joined(own: Rest, beside: Rest) -> Rest
+    ensures { result ≡ rest_beside own beside }
+{
+    match own {
+        Rest::Nothing => beside,
+        Rest::Lone => match beside {
+            Rest::Nothing => Rest::Lone,
+            Rest::Lone => Rest::More,
+            Rest::More => Rest::More,
+            Rest::Unknown => Rest::Unknown,
+        },
+        Rest::More => Rest::More,
+        Rest::Unknown => Rest::Unknown,
+    }
+}
+
+// Returns what a tree some levels below the root is without a key.
+fn rest_without<D: DigestItem>(part: &Part<D>, level: usize, key: &[u8; 32]) -> Rest
+    requires { StandsAt (way level key.now) (shape D.numbers part.now) }
+    ensures { result ≡ rest_of (losing level key.now (shape D.numbers part.now)) }
+{
+    match part {
+        Part::Empty => Rest::Nothing,
+        Part::One { entry } => {
+            if are_same_keys(&entry.key, key) {
+                return Rest::Nothing;
+            }
+            Rest::Lone
+        }
+        Part::Fork { left, right } => {
+            if bit_of(key, level) {
+                rest_joined(rest_without(right, level + 1, key), rest_now(left))
+            } else {
+                rest_joined(rest_without(left, level + 1, key), rest_now(right))
+            }
+        }
+        Part::Hidden { .. } => Rest::Unknown,
+    }
+}
+
+// Returns whether a tree beside another is the tree of both: the other is empty, and this one has one entry at most.
+fn stands_alone<D: DigestItem>(part: &Part<D>, beside: &Part<D>) -> bool
+    ensures { result ≡ is_alone (shape D.numbers part.now) (shape D.numbers beside.now) }
+{
+    match beside {
+        Part::Empty => match part {
+            Part::Empty => true,
+            Part::One { .. } => true,
+            Part::Fork { .. } => false,
+            Part::Hidden { .. } => false,
+        },
+        Part::One { .. } => false,
+        Part::Fork { .. } => false,
+        Part::Hidden { .. } => false,
+    }
+}
+
+// Joins two sides, of which one may have lost an entry, if what is hidden does not decide what they are together.
+fn join<D: DigestItem>(left: Box<Part<D>>, right: Box<Part<D>>) -> Part<D>
+    ensures { Becomes (joined (shape D.numbers left.value) (shape D.numbers right.value))
+        (shape D.numbers result) }
+{
+    if stands_alone(&right, &left) {
+        return Box::into_inner(right);
+    }
+    if stands_alone(&left, &right) {
+        return Box::into_inner(left);
+    }
+    Part::Fork { left, right }
+}
+
+// Joins the two sides of a tree, of which one may have lost an entry.
+fn collapse<D: DigestItem>(part: &mut Part<D>)
+    ensures { Becomes (collapsed (shape D.numbers part.old)) (shape D.numbers part.new) }
+{
+    match mem::replace(part, Part::Empty) {
+        Part::Empty => {}
+        Part::One { entry } => *part = Part::One { entry },
+        Part::Fork { left, right } => *part = join(left, right),
+        Part::Hidden { digest } => *part = Part::Hidden { digest },
+    }
+}
+
+// Removes a key from a tree some levels below the root, if the tree does not hide what that needs.
+fn remove_in<D: DigestItem>(part: &mut Part<D>, level: usize, key: &[u8; 32])
+    requires { StandsAt (way level key.now) (shape D.numbers part.old) }
+    ensures { Becomes (losing level key.now (shape D.numbers part.old)) (shape D.numbers part.new) }
+{
+    match part {
+        Part::Empty => {}
+        Part::One { entry } => {
+            if are_same_keys(&entry.key, key) {
+                *part = Part::Empty;
+            }
+        }
+        Part::Fork { left, right } => {
+            if bit_of(key, level) {
+                remove_in(right, level + 1, key);
+                collapse(part);
+            } else {
+                remove_in(left, level + 1, key);
+                collapse(part);
+            }
+        }
+        Part::Hidden { .. } => {}
+    }
+}
+
+// Removes a key from a whole tree. The error, which leaves the tree unchanged: the tree hides what is at the key, or whether an
+// entry is left alone.
+pub fn remove_from<D: DigestItem>(part: &mut Part<D>, key: &[u8; 32]) -> Result<(), Error>
+    requires { StandsAt [] (shape D.numbers part.old) }
+    ensures changed { tree_without key.now (shape D.numbers part.old)
+        ≡ outcome_with (shape D.numbers part.new) result }
+    ensures kept { OnErr result (shape D.numbers part.new ≡ shape D.numbers part.old) }
+{
+    if has_at(part, key)? {
+        if is_unknown(rest_without(part, 0, key)) {
+            return Err(hidden());
+        }
+        remove_in(part, 0, key);
+    }
+    Ok(())
+}

@@ -1,0 +1,259 @@
+//! Trees of maps: a store hides nothing, a proof hides what it does not need.
+
+ghost use Rattle.std.specs.Prelude.{◌≡◌, false, true, List, IfOk, OnOk, OnErr, Ok};
+ghost use Rattle.ark_base.specs.Outcome.{Answers, AnswersBy};
+ghost use Rattle.merkle_map.specs.Bytes.{spelled, tree_of_bytes, IsOf32, ReadsBack};
+ghost use Rattle.merkle_map.specs.Changes.{known_at, tree_with, tree_without, outcome_with};
+ghost use Rattle.merkle_map.specs.KeyProof.{proof_at, proof_seen, IsAccepted};
+ghost use Rattle.merkle_map.specs.Map.{Entry as EntryOf, put, root_of, without};
+ghost use Rattle.merkle_map.specs.Parts.{found_seen, value_seen};
+ghost use Rattle.merkle_map.specs.Pruned.{pruned, CanLose, KnowsSame, ShowsSame};
+ghost use Rattle.merkle_map.specs.Shown.{BindsTree, Follows, Has, has_digest};
+ghost use Rattle.merkle_map.specs.Tree.{shape_digest, Empty, Hidden, IsWhole, Shows};
+ghost use Rattle.merkle_map.specs.Whole.{IsRootOf, Stores};
+
+use crate::bytes::{part_of_bytes, write_part};
+use crate::hasher::MapHasher;
+use crate::key::are_same_digests;
+use crate::part::{Entry, Part, digest_of, find};
+use crate::proof::{KeyProof, climb_down};
+use crate::prune::prune_in;
+use crate::put::put_in;
+use crate::remove::remove_from;
+use ark_base::error::Error;
+use ark_base::serialize::DigestItem;
+use std::alloc::Global;
+use std::marker::Model;
+
+/// The tree of a map, of which parts may be hidden but for their digests.
+///
+/// A tree that hides nothing is a store. One that hides what some keys do not need is a proof of what the map has at these
+/// keys, and the witness of their changes. Contracts see the tree, its digests by their numbers.
+#[derive(Drop)]
+pub struct MapTree<D: DigestItem> {
+    top: Part<D>,
+}
+
+impl<D: DigestItem> Model for MapTree<D> {
+    ghost use Rattle.std.specs.Prelude.{[]};
+    ghost use Rattle.merkle_map.specs.Parts.{shape};
+    ghost use Rattle.merkle_map.specs.Tree.{Shape, StandsAt};
+    ghost use Rattle.merkle_map.specs.Coded.{shape_code};
+
+    ghost Value = { Shape };
+
+    ghost coded = { shape_code };
+
+    ghost view = { λ tree. shape D.numbers tree.top };
+
+    ghost invariant = { λ tree. StandsAt [] (shape D.numbers tree.top) };
+}
+
+impl<D: DigestItem> MapTree<D> {
+    /// Returns the tree of an empty map.
+    pub fn new() -> MapTree<D>
+        ensures { result ≡ Empty }
+    {
+        MapTree { top: Part::Empty }
+    }
+
+    /// Returns a tree of which only the digest is known.
+    pub fn hidden(digest: D) -> MapTree<D>
+        ensures { result ≡ Hidden (D.numbers digest) }
+    {
+        MapTree {
+            top: Part::Hidden { digest },
+        }
+    }
+
+    /// Returns what the map has at a key. The error is `Custom(1)`: the tree hides it.
+    pub fn get(&self, key: &[u8; 32]) -> Result<Option<&D>, Error>
+        ensures found { known_at 0 key.now self.now
+            ≡ found_seen (λ value. D.numbers value.now) result }
+
+        // Each map that the tree shows has this at the key.
+        ensures maps { IfOk result (λ found. Has self.now key.now
+            (value_seen (λ value. D.numbers value.now) found)) }
+    {
+        find(&self.top, 0, key)
+    }
+
+    /// Puts a value at a key.
+    ///
+    /// Errors, which leave the tree unchanged: `Custom(1)`: the tree hides the key's place; `OutOfMemory`.
+    pub fn insert(&mut self, alloc: Global, key: &[u8; 32], value: D) -> Result<(), Error>
+        ensures changed { AnswersBy (λ _. self.new) (tree_with key.now (D.numbers value) self.old)
+            result }
+        ensures kept { OnErr result (self.new ≡ self.old) }
+
+        // Each map that the tree showed is shown now with the value at the key.
+        ensures maps { OnOk result (Follows (put key.now (D.numbers value)) self.old self.new) }
+
+        // A store becomes the store of the map with the value.
+        ensures store { Stores (put key.now (D.numbers value)) self.old self.new result }
+    {
+        put_in(alloc, &mut self.top, 0, Entry { key: *key, value })
+    }
+
+    /// Removes a key. A tree that has nothing at the key stays as it is.
+    ///
+    /// The error, which leaves the tree unchanged, is `Custom(1)`: the tree hides what is at the key, or whether an entry is
+    /// left alone.
+    pub fn remove(&mut self, key: &[u8; 32]) -> Result<(), Error>
+        ensures changed { tree_without key.now self.old ≡ outcome_with self.new result }
+        ensures kept { OnErr result (self.new ≡ self.old) }
+
+        // Each map that the tree showed is shown now without the key.
+        ensures maps { OnOk result (Follows (without key.now) self.old self.new) }
+
+        // A store becomes the store of the map without the key.
+        ensures store { Stores (without key.now) self.old self.new result }
+    {
+        remove_from(&mut self.top, key)
+    }
+
+    /// Returns the digest of the tree. Errors: those of the hashes, the lowest first, then the leftmost; `OutOfMemory`.
+    pub fn root<T: MapHasher<D>>(&self, alloc: Global, hasher: &T) -> Result<D, Error>
+        ensures digest { AnswersBy D.numbers (shape_digest (T.hashes hasher.now) self.now) result }
+
+        // It is the root of each map that the tree shows.
+        ensures maps { (entries : List EntryOf) → Shows (T.hashes hasher.now) 0 self.now entries
+            → root_of (T.hashes hasher.now) entries ≡ shape_digest (T.hashes hasher.now) self.now }
+        ensures store { IsRootOf (T.hashes hasher.now) self.now }
+    {
+        digest_of(alloc, hasher, &self.top)
+    }
+
+    /// Returns whether the tree has this root. Errors: as of `root`.
+    pub fn has_root<T: MapHasher<D>>(
+        &self,
+        alloc: Global,
+        hasher: &T,
+        root: &D,
+    ) -> Result<bool, Error>
+        ensures answer { Answers (has_digest (T.hashes hasher.now) (D.numbers root.now) self.now)
+            result }
+
+        // It shows each map with this root, or below some bits the tree and the map's own tree have two different nodes with
+        // one hash.
+        ensures bound { IfOk result (λ accepted. accepted ≡ true
+            → BindsTree (T.hashes hasher.now) (D.numbers root.now) self.now) }
+    {
+        let digest = self.root(alloc, hasher)?;
+        Ok(are_same_digests(&digest, root))
+    }
+
+    // Copies the tree without what no key's way meets, or with the tops of that.
+    fn pruned_for<T: MapHasher<D>>(
+        &self,
+        alloc: Global,
+        hasher: &T,
+        tops: bool,
+        keys: &[[u8; 32]],
+    ) -> Result<MapTree<D>, Error>
+        ensures answer { AnswersBy (λ new. new) (pruned (T.hashes hasher.now) tops 0 keys.now
+            self.now) result }
+        ensures digest { IfOk result (λ new. shape_digest (T.hashes hasher.now) new
+            ≡ shape_digest (T.hashes hasher.now) self.now) }
+        ensures known { IfOk result (KnowsSame keys.now self.now) }
+        ensures maps { IfOk result (ShowsSame (T.hashes hasher.now) self.now) }
+    {
+        let top = prune_in(alloc, hasher, tops, &self.top, 0, keys)?;
+        Ok(MapTree { top })
+    }
+
+    /// Copies the tree and hides what stands beside the ways of these keys: the proof of what the map has at them. A value can
+    /// be put at each of them.
+    ///
+    /// Errors: those of the hashes, the lowest first, then the leftmost; `OutOfMemory`.
+    pub fn prove<T: MapHasher<D>>(
+        &self,
+        alloc: Global,
+        hasher: &T,
+        keys: &[[u8; 32]],
+    ) -> Result<MapTree<D>, Error>
+        ensures answer { AnswersBy (λ new. new) (pruned (T.hashes hasher.now) false 0 keys.now
+            self.now) result }
+
+        // The proof has the tree's root, and has the same as the tree at each of the keys.
+        ensures digest { IfOk result (λ new. shape_digest (T.hashes hasher.now) new
+            ≡ shape_digest (T.hashes hasher.now) self.now) }
+        ensures known { IfOk result (KnowsSame keys.now self.now) }
+        ensures maps { IfOk result (ShowsSame (T.hashes hasher.now) self.now) }
+    {
+        self.pruned_for(alloc, hasher, false, keys)
+    }
+
+    /// Copies the tree as `prove` does, and shows the tops of what stands beside the ways: the witness of changes. Each of the
+    /// keys can be removed from the witness of a tree that hides nothing.
+    ///
+    /// Errors: those of the hashes, the lowest first, then the leftmost; `OutOfMemory`.
+    pub fn witness<T: MapHasher<D>>(
+        &self,
+        alloc: Global,
+        hasher: &T,
+        keys: &[[u8; 32]],
+    ) -> Result<MapTree<D>, Error>
+        ensures answer { AnswersBy (λ new. new) (pruned (T.hashes hasher.now) true 0 keys.now
+            self.now) result }
+        ensures digest { IfOk result (λ new. shape_digest (T.hashes hasher.now) new
+            ≡ shape_digest (T.hashes hasher.now) self.now) }
+        ensures known { IfOk result (KnowsSame keys.now self.now) }
+        ensures maps { IfOk result (ShowsSame (T.hashes hasher.now) self.now) }
+        ensures removes { IfOk result (λ new. IsWhole self.now → CanLose keys.now new) }
+    {
+        self.pruned_for(alloc, hasher, true, keys)
+    }
+
+    /// Returns the proof of what the map has at one key.
+    ///
+    /// Errors: that of the highest side beside the key's way whose hash refuses; `Custom(1)`: the tree hides what is at the key;
+    /// `OutOfMemory`.
+    pub fn prove_key<T: MapHasher<D>>(
+        &self,
+        alloc: Global,
+        hasher: &T,
+        key: &[u8; 32],
+    ) -> Result<KeyProof<D>, Error>
+        ensures answer { AnswersBy (proof_seen D.numbers) (proof_at (T.hashes hasher.now) 0 key.now
+            self.now) result }
+
+        // The tree's root accepts it.
+        ensures accepted { IfOk result (λ proof. IsAccepted (T.hashes hasher.now) key.now self.now
+            (proof_seen D.numbers proof)) }
+    {
+        let mut siblings = Vec::new(alloc);
+        let end = climb_down(alloc, hasher, &self.top, 0, key, &mut siblings)?;
+        Ok(KeyProof { end, siblings })
+    }
+}
+
+impl MapTree<[u8; 32]> {
+    /// Returns the tree's bytes. The only error is `OutOfMemory`.
+    pub fn to_bytes(&self, alloc: Global) -> Result<Vec<u8>, Error>
+        ensures written { AnswersBy (λ bytes. bytes.items) (Ok (spelled self.now)) result }
+        ensures sized { IfOk result (λ _. IsOf32 self.now) }
+    {
+        let mut bytes = Vec::new(alloc);
+        write_part(&self.top, &mut bytes)?;
+        Ok(bytes)
+    }
+
+    /// Reads the tree that all the bytes spell: a store, a proof or a witness.
+    ///
+    /// Errors: the first fault from the left: `Truncated`; `InvalidData`: a byte that stands for nothing, or a fork below the last
+    /// bit of a key; else `InvalidData`: an entry that is not on its key's way, a fork above fewer than two entries, or bytes that
+    /// are left; `OutOfMemory`.
+    pub fn from_bytes(alloc: Global, bytes: &[u8]) -> Result<MapTree<[u8; 32]>, Error>
+        ensures answer { AnswersBy (λ tree. tree) (tree_of_bytes bytes.now) result }
+
+        // The bytes are those of the tree, and of no other one.
+        ensures only { IfOk result (λ tree. bytes.now ≡ spelled tree) }
+
+        // What was written is read again.
+        ensures reads { ReadsBack bytes.now }
+    {
+        let top = part_of_bytes(alloc, bytes)?;
+        Ok(MapTree { top })
+    }
+}

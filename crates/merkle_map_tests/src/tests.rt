@@ -1,0 +1,146 @@
+//! Each call once, and what no clause says.
+
+use crate::drawn::{change, changed, drawn, is_shown, key_of};
+use crate::model::{CHANGES, PROOFS, PRUNED};
+use ark_base::error::Error;
+use merkle_map::{Change, End, KeyProof, MapTree, Sha256Map, verify_transition};
+use sha2::{Digest, Sha256};
+use std::alloc::Global;
+use std::test::Fail;
+
+// The end of a proof as the model names it.
+fn name_of(end: &End<[u8; 32]>) -> &'static str {
+    match end {
+        End::Nothing => "nothing",
+        End::Own => "own",
+        End::Other { .. } => "other",
+    }
+}
+
+// SHA-256 of a proof's digests and of another key's entry.
+fn sum_of(proof: &KeyProof<[u8; 32]>) -> [u8; 32] {
+    let mut hasher = Sha256::new();
+    for digest in &proof.siblings {
+        hasher.update(digest.as_slice());
+    }
+    if let End::Other { entry } = &proof.end {
+        hasher.update(entry.key.as_slice());
+        hasher.update(entry.value.as_slice());
+    }
+    hasher.finalize()
+}
+
+// How many proofs are the model's, and are accepted for what the map has and for nothing else.
+fn agreed(alloc: Global) -> Result<usize, Error> {
+    let hasher = Sha256Map::new();
+    let tree = changed(alloc, &hasher)?;
+    let root = tree.root(alloc, &hasher)?;
+    let wrong = drawn("wrong", 0);
+    let mut agree = 0usize;
+    for (number, end, count, sum) in PROOFS {
+        let key = key_of(*number);
+        let value = tree.get(&key)?;
+        let proof = tree.prove_key(alloc, &hasher, &key)?;
+        let is_model = name_of(&proof.end) == *end
+            && proof.siblings.len() == *count
+            && is_shown(alloc, &sum_of(&proof), sum);
+        let is_proof = proof.verify(alloc, &hasher, &root, &key, value)?
+            && !proof.verify(alloc, &hasher, &root, &key, Some(&wrong))?
+            && !proof.verify(alloc, &hasher, &wrong, &key, value)?;
+        if is_model && is_proof {
+            agree = agree.wrapping_add(1);
+        }
+    }
+    Ok(agree)
+}
+
+// Whether the bytes of proofs are the model's, are read again, and are refused with a byte changed or left out.
+fn are_read(alloc: Global) -> Result<bool, Error> {
+    let hasher = Sha256Map::new();
+    let tree = changed(alloc, &hasher)?;
+    let root = tree.root(alloc, &hasher)?;
+    let keys = [key_of(1), key_of(2), key_of(7)];
+    let bytes = tree.prove(alloc, &hasher, &keys)?.to_bytes(alloc)?;
+    let witness = tree.witness(alloc, &hasher, &keys)?.to_bytes(alloc)?;
+    let mut is_right = is_shown(alloc, &Sha256::digest(bytes.as_slice()), PRUNED.0)
+        && is_shown(alloc, &Sha256::digest(witness.as_slice()), PRUNED.1);
+    let again = MapTree::from_bytes(alloc, &bytes)?;
+    is_right = is_right && again.has_root(alloc, &hasher, &root)?;
+    for count in 0..bytes.len() {
+        let short = MapTree::from_bytes(alloc, &bytes[..count]);
+        is_right = is_right && short.is_err();
+    }
+    let mut longer = bytes.clone()?;
+    longer.push(0)?;
+    is_right = is_right && MapTree::from_bytes(alloc, &longer).is_err();
+    Ok(is_right)
+}
+
+// What a map is changed by, and another change.
+fn changes(alloc: Global, last: [u8; 32]) -> Result<Vec<Change<[u8; 32]>>, Error> {
+    let mut changes = Vec::new(alloc);
+    changes.push(Change::Remove { key: key_of(1) })?;
+    changes.push(Change::Remove { key: key_of(2) })?;
+    changes.push(Change::Put {
+        key: key_of(7),
+        value: last,
+    })?;
+    Ok(changes)
+}
+
+// Whether a witness shows its changes, and no others.
+fn is_transition(alloc: Global) -> Result<bool, Error> {
+    let hasher = Sha256Map::new();
+    let mut tree = changed(alloc, &hasher)?;
+    let old = tree.root(alloc, &hasher)?;
+    let keys = [key_of(1), key_of(2), key_of(7)];
+    let right = tree.witness(alloc, &hasher, &keys)?;
+    let wrong = tree.witness(alloc, &hasher, &keys)?;
+    let value = drawn("value", 1000);
+    tree.remove(&keys[0])?;
+    tree.remove(&keys[1])?;
+    tree.insert(alloc, &keys[2], value)?;
+    let new = tree.root(alloc, &hasher)?;
+    let given = changes(alloc, value)?;
+    let others = changes(alloc, old)?;
+    Ok(verify_transition(alloc, &hasher, &old, &new, right, &given)?
+        && !verify_transition(alloc, &hasher, &old, &new, wrong, &others)?)
+}
+
+#[test]
+fn roots_are_the_models(rt: HostRuntime) -> Result<(), Fail> {
+    let alloc = rt.alloc();
+    let mut tree = MapTree::new();
+    let agree = change(alloc, &Sha256Map::new(), &mut tree);
+    assert!(rt; matches!(agree, Ok(96)));
+    assert!(rt; CHANGES.len() == 96);
+    Ok(())
+}
+
+#[test]
+fn proofs_are_the_models(rt: HostRuntime) -> Result<(), Fail> {
+    assert!(rt; matches!(agreed(rt.alloc()), Ok(24)));
+    Ok(())
+}
+
+#[test]
+fn bytes_are_the_models(rt: HostRuntime) -> Result<(), Fail> {
+    assert!(rt; matches!(are_read(rt.alloc()), Ok(true)));
+    Ok(())
+}
+
+#[test]
+fn witnesses_show_their_changes(rt: HostRuntime) -> Result<(), Fail> {
+    assert!(rt; matches!(is_transition(rt.alloc()), Ok(true)));
+    Ok(())
+}
+
+#[test]
+fn what_is_hidden_is_an_error(rt: HostRuntime) -> Result<(), Fail> {
+    let mut tree = MapTree::hidden(drawn("root", 0));
+    let key = key_of(0);
+    assert!(rt; tree.get(&key).is_err());
+    assert!(rt; tree.remove(&key).is_err());
+    assert!(rt; tree.insert(rt.alloc(), &key, key).is_err());
+    Ok(())
+}
