@@ -1,5 +1,5 @@
 -- Which parameters are ready, by their counts.
-use Rattle.std.specs.Prelude.{ℕ, ◌-◌, ◌≤◌, ◌==◌, ◌||◌, nat_lt, Bool, if◌then◌else◌, List, [], ◌∷◌, get_or, Option, Some, None}
+use Rattle.std.specs.Prelude.{ℕ, ◌-◌, ◌==◌, ◌||◌, nat_lt, Bool, if◌then◌else◌, List, [], ◌∷◌, get_or, Option, Some, None}
 
 -- the exponent of the S-box, and the counts of full and of partial rounds
 pub record Counts : Type 0 where

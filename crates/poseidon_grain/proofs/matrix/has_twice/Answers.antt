@@ -1,7 +1,6 @@
-use Rattle.std.proofs.Common.{◌≡◌, ◌==◌, ◌||◌, ◌∷◌, [], true, map, sym, ap, ◌∙◌, subst}
-use Rattle.std.specs.Option.{MatchOption}
+use Rattle.std.proofs.Common.{◌||◌, map, sym, ap, ◌∙◌}
 use Rattle.poseidon_grain.specs.Constants.{has_twice}
-use Rattle.poseidon_grain.proofs.Twice.{none_twice, empty_twice, twice_later}
+use Rattle.poseidon_grain.proofs.Twice.{empty_twice, twice_later}
 use Rattle.poseidon_grain.proofs.matrix.has_twice.Goals as goal
 
 pub returns-then-is_among : goal.returns-then-is_among

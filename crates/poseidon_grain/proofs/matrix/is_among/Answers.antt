@@ -1,4 +1,4 @@
-use Rattle.std.proofs.Common.{◌≡◌, ◌==◌, ◌||◌, ◌∷◌, true, map, sym, ap, ◌∙◌}
+use Rattle.std.proofs.Common.{◌==◌, ◌||◌, map, sym, ap, ◌∙◌}
 use Rattle.std.specs.List.{list_any}
 use Rattle.poseidon_grain.proofs.matrix.is_among.Goals as goal
 

@@ -1,8 +1,5 @@
-use Rattle.std.proofs.Common.{◌≡◌, ◌+◌, ◌<◌, ◌≤◌, ◌∷◌, [], map, length, get_or, sym, ap, ◌∙◌, subst, arith}
-use Rattle.std.specs.Prelude.{IfSome}
+use Rattle.std.proofs.Common.{◌∷◌, [], map, ap, ◌∙◌, arith}
 use Rattle.std.proofs.lemmas.List.{map-append, length-map}
-use Rattle.ark_wide_fields.specs.Inverses.{AreInverses}
-use Rattle.poseidon_grain.specs.Constants.{sums_with}
 use Rattle.poseidon_grain.proofs.Cauchy.{one_row, all_rows, value_at}
 use Rattle.poseidon_grain.proofs.matrix.rows.Goals as goal
 

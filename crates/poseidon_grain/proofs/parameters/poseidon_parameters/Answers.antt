@@ -1,4 +1,4 @@
-use Rattle.std.proofs.Common.{◌≡◌, ◌+◌, ◌∙◌, refl, sym, subst, map, arith}
+use Rattle.std.proofs.Common.{◌+◌, ◌∙◌, refl, sym, subst, map, arith}
 use Rattle.poseidon_grain.specs.Constants.{asked_of, AreGenerated, AreParameters}
 use Rattle.poseidon_grain.proofs.Made.{made_same}
 use Rattle.poseidon_grain.proofs.parameters.poseidon_parameters.Goals as goal

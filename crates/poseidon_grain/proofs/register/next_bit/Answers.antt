@@ -1,4 +1,4 @@
-use Rattle.std.proofs.Common.{◌≡◌, ℕ, suc, ◌+◌, ◌-◌, ◌<◌, ◌≤◌, refl, sym, ap, ◌∙◌, arith}
+use Rattle.std.proofs.Common.{◌≡◌, ℕ, suc, ◌+◌, ◌-◌, ◌<◌, sym, ap, ◌∙◌, arith}
 use Rattle.poseidon_grain.specs.Grain.{feedback, shifted, bit_within}
 use Rattle.poseidon_grain.proofs.Bits.{bit_at_once, bit_later, no_bit}
 use Rattle.poseidon_grain.proofs.register.next_bit.Goals as goal

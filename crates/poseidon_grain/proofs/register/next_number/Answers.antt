@@ -1,4 +1,4 @@
-use Rattle.std.proofs.Common.{◌≡◌, ℕ, suc, ◌+◌, ◌-◌, ◌*◌, ◌<◌, ◌≤◌, ◌^◌, min, refl, sym, ap, ◌∙◌, arith}
+use Rattle.std.proofs.Common.{min, ap, ◌∙◌}
 use Rattle.poseidon_grain.proofs.Bits.{four_words}
 use Rattle.poseidon_grain.proofs.register.next_number.Goals as goal
 

@@ -1,5 +1,4 @@
-use Rattle.std.proofs.Common.{◌≡◌, ℕ, suc, ◌+◌, ◌-◌, ◌*◌, ◌<◌, ◌≤◌, ◌^◌, refl, sym, ap, ◌∙◌, arith}
-use Rattle.poseidon_grain.specs.Grain.{number_drawn}
+use Rattle.std.proofs.Common.{sym, arith}
 use Rattle.poseidon_grain.proofs.Bits.{no_digit, one_digit, drawn-small}
 use Rattle.poseidon_grain.proofs.register.next_word.Goals as goal
 

@@ -1,4 +1,4 @@
-use Rattle.std.proofs.Common.{◌≡◌, ℕ, suc, ◌+◌, ◌-◌, ◌<◌, ◌≤◌, refl, sym, ap, ◌∙◌, arith}
+use Rattle.std.proofs.Common.{◌≡◌, suc, ◌+◌, ◌-◌, sym, ap, ◌∙◌, arith}
 use Rattle.poseidon_grain.specs.Grain.{stepped}
 use Rattle.poseidon_grain.proofs.Bits.{one_step, no_step}
 use Rattle.poseidon_grain.proofs.register.seeded.Goals as goal

@@ -1,7 +1,6 @@
-use Rattle.std.proofs.Common.{◌≡◌, ℕ, suc, ◌+◌, ◌-◌, ◌*◌, ◌/◌, ◌%◌, ◌<◌, ◌≤◌, ◌^◌, refl, sym, ap, ◌∙◌, arith}
-use Rattle.std.proofs.Math.Nat.{pow-le-pow_right}
-use Rattle.poseidon_grain.specs.Grain.{bit, turned}
-use Rattle.poseidon_grain.proofs.Bits.{turned-below, turned-small, no_digit_turned, one_digit_turned}
+use Rattle.std.proofs.Common.{◌+◌, ◌*◌, sym, ap, ◌∙◌, arith}
+use Rattle.poseidon_grain.specs.Grain.{bit}
+use Rattle.poseidon_grain.proofs.Bits.{turned-small, no_digit_turned, one_digit_turned}
 use Rattle.poseidon_grain.proofs.register.turned.Goals as goal
 
 pub loop-place-init : goal.loop-place-init
