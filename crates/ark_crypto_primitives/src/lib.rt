@@ -153,9 +153,14 @@ pub mod sponge {
     pub mod poseidon {
         pub use ark_sponge::poseidon::{PoseidonConfig, PoseidonSponge, PoseidonSpongeState, SBox};
 
-        /// Ready parameters over fields of four words, and their S-box.
+        /// Ready parameters, those of the Grain generator for any field and width, and their S-box.
         pub mod parameters {
             pub use ark_poseidon_parameters::{Power, bls12_381_fr, bn254_fr};
+            pub use poseidon_grain::{
+                PoseidonDefaultConfig, PoseidonDefaultConfigEntry, baby_bear_parameters,
+                circom_parameters, find_poseidon_ark_and_mds, get_default_poseidon_parameters,
+                goldilocks_parameters, poseidon_parameters,
+            };
         }
     }
 }
@@ -192,6 +197,7 @@ pub mod log {
 pub mod trees {
     pub use crate::log_tree::log_tree;
     pub use ark_trees::{ArraySha256, Arrays, LogSha256, Sha256Arrays, Sha256Log, Sha256Strings};
+    pub use circom_trees::CircomTree;
 }
 
 #[cfg(test)]

@@ -16,8 +16,8 @@ use rand::Rng;
 use std::alloc::Global;
 use std::marker::PhantomData;
 
-/// The hash of as many elements as the parameters' rate says, as circomlib's template `Poseidon` has it: of one to eight inputs over
-/// the ready parameters of BN254's scalar field. It is not the hash of `CRH`, which gives the element behind the capacity.
+/// The hash of as many elements as the parameters' rate says, as circomlib's template `Poseidon` has it: of 1 to 16 inputs at
+/// `circom_parameters`, over BN254's scalar field. It is not the hash of `CRH`, which gives the element behind the capacity.
 pub struct CircomCRH<F, S> {
     field: PhantomData<F>,
     sbox: PhantomData<S>,

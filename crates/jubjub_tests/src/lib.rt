@@ -14,10 +14,14 @@ mod from_label;
 #[cfg(test)]
 mod pedersen;
 #[cfg(test)]
+mod point_tree;
+#[cfg(test)]
 mod relations;
 #[cfg(test)]
 mod samples;
 #[cfg(test)]
 mod schnorr;
+#[cfg(test)]
+mod seed;
 #[cfg(test)]
 mod tree;

@@ -1,0 +1,6 @@
+pub mod Bits
+pub mod Cauchy
+pub mod Elements
+pub mod Lists
+pub mod Made
+pub mod Twice

@@ -1,0 +1,3 @@
+pub mod Grain
+pub mod Constants
+pub mod Defaults

@@ -1,0 +1,15 @@
+//! The constants and the matrix of Poseidon for any field and width, of the Grain LFSR, as the authors of Poseidon define them.
+#![tactic(auto)]
+
+mod defaults;
+mod draws;
+mod matrix;
+mod parameters;
+mod ready;
+mod register;
+
+pub use defaults::{
+    PoseidonDefaultConfig, PoseidonDefaultConfigEntry, get_default_poseidon_parameters,
+};
+pub use parameters::{find_poseidon_ark_and_mds, poseidon_parameters};
+pub use ready::{baby_bear_parameters, circom_parameters, goldilocks_parameters};

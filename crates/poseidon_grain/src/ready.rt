@@ -1,0 +1,114 @@
+//! Parameters whose counts of rounds stand fixed.
+
+ghost use Rattle.std.specs.Prelude.{◌≡◌, ◌<◌, ◌≤◌, ◌+◌, ◌-◌, ◌⊎◌, true, false, IfOk, IfErr, IfSome, Ok, Err};
+ghost use Rattle.ark_base.specs.declared.error.Error.TheVariants.{IncorrectInputLength};
+ghost use Rattle.poseidon_grain.specs.Constants.{asked_of, AreParameters};
+ghost use Rattle.poseidon_grain.specs.Defaults.{circom_rounds, baby_bear_rounds};
+
+use crate::parameters::poseidon_parameters;
+use ark_base::error::{Error, Refusal};
+use ark_groups::ff::{BabyBear, Field, Fp, Goldilocks};
+use ark_sponge::poseidon::PoseidonConfig;
+use ark_wide_fields::{Bn254Fr, InvertibleField};
+use std::alloc::Global;
+
+// Parameters with eight full rounds over the first matrix, for which a matrix that is refused is an error.
+fn of_rounds<F: InvertibleField>(
+    alloc: Global,
+    rate: usize,
+    capacity: usize,
+    alpha: u64,
+    partial_rounds: usize,
+) -> Result<PoseidonConfig<F>, Error>
+    ensures { let asked = asked_of F.MODULUS F.MODULUS_BIT_SIZE (rate + capacity) 8 in
+        IfOk result (λ c. AreParameters (asked partial_rounds 0) rate capacity alpha c) }
+{
+    match poseidon_parameters::<F>(alloc, rate, capacity, alpha, 8, partial_rounds, 0)? {
+        Some(parameters) => Ok(parameters),
+        None => Err(Error::GenericError(Refusal::ParameterShape)),
+    }
+}
+
+// The partial rounds of circomlib's hash, by the count of its inputs.
+fn circom_rounds(inputs: usize) -> usize
+    requires some { 1 ≤ inputs }
+    requires few { inputs ≤ 16 }
+    ensures { result ≡ circom_rounds inputs }
+{
+    match inputs {
+        1 => 56,
+        2 => 57,
+        3 => 56,
+        4 => 60,
+        5 => 60,
+        6 => 63,
+        7 => 64,
+        8 => 63,
+        9 => 60,
+        10 => 66,
+        11 => 60,
+        12 => 65,
+        13 => 70,
+        14 => 60,
+        15 => 64,
+        _ => 68,
+    }
+}
+
+/// Returns the parameters of circomlib's hash of 1 to 16 inputs over the scalar field of BN254: a rate of as many
+/// elements, a capacity of one, fifth powers, eight full rounds.
+///
+/// Errors: `IncorrectInputLength` with any other count of inputs; `ParameterShape` for a matrix that is refused, which
+/// none of these is; `OutOfMemory`.
+pub fn circom_parameters(alloc: Global, inputs: usize) -> Result<PoseidonConfig<Bn254Fr>, Error>
+    ensures made { let field = ⟦<Bn254Fr as Field>⟧ in
+        let asked = asked_of field.MODULUS field.MODULUS_BIT_SIZE (inputs + 1) 8 in
+        IfOk result (λ c. AreParameters (asked (circom_rounds inputs) 0) inputs 1 5 c) }
+    ensures none { (inputs < 1) ⊎ (16 < inputs) → result ≡ Err (IncorrectInputLength inputs) }
+{
+    if inputs < 1 || inputs > 16 {
+        return Err(Error::IncorrectInputLength(inputs));
+    }
+    of_rounds::<Bn254Fr>(alloc, inputs, 1, 5, circom_rounds(inputs))
+}
+
+/// Returns parameters over Goldilocks for a width of 8, 12 or 16: a capacity of 4 elements, seventh powers, 8 full rounds
+/// and 22 partial ones. They are the Grain LFSR's: neither Plonky2's, whose constants were drawn otherwise and whose
+/// matrix is circulant, nor those of any Poseidon2.
+///
+/// Errors: `IncorrectInputLength` with any other width; `ParameterShape` and `OutOfMemory` as of `circom_parameters`.
+pub fn goldilocks_parameters(
+    alloc: Global,
+    width: usize,
+) -> Result<PoseidonConfig<Fp<Goldilocks>>, Error>
+    ensures made { let field = ⟦<Fp<Goldilocks> as Field>⟧ in
+        let asked = asked_of field.MODULUS field.MODULUS_BIT_SIZE width 8 in
+        IfOk result (λ c. AreParameters (asked 22 0) (width - 4) 4 7 c) }
+    ensures none { (width ≡ 8 → ⊥) × (width ≡ 12 → ⊥) × (width ≡ 16 → ⊥)
+        → result ≡ Err (IncorrectInputLength width) }
+{
+    if width != 8 && width != 12 && width != 16 {
+        return Err(Error::IncorrectInputLength(width));
+    }
+    of_rounds::<Fp<Goldilocks>>(alloc, width - 4, 4, 7, 22)
+}
+
+/// Returns parameters over BabyBear for a width of 12 or 16: a capacity of 8 elements, seventh powers, 8 full rounds and
+/// 10 or 13 partial ones. They are the Grain LFSR's: neither Plonky3's nor RISC Zero's, which are Poseidon2's.
+///
+/// Errors: `IncorrectInputLength` with any other width; `ParameterShape` and `OutOfMemory` as of `circom_parameters`.
+pub fn baby_bear_parameters(
+    alloc: Global,
+    width: usize,
+) -> Result<PoseidonConfig<Fp<BabyBear>>, Error>
+    ensures made { let field = ⟦<Fp<BabyBear> as Field>⟧ in
+        let asked = asked_of field.MODULUS field.MODULUS_BIT_SIZE width 8 in
+        IfOk result (λ c. AreParameters (asked (baby_bear_rounds width) 0) (width - 8) 8 7 c) }
+    ensures none { (width ≡ 12 → ⊥) × (width ≡ 16 → ⊥) → result ≡ Err (IncorrectInputLength width) }
+{
+    if width != 12 && width != 16 {
+        return Err(Error::IncorrectInputLength(width));
+    }
+    let rounds = if width == 12 { 10 } else { 13 };
+    of_rounds::<Fp<BabyBear>>(alloc, width - 8, 8, 7, rounds)
+}
