@@ -14,6 +14,8 @@ pub struct FileDisk {
     pub file: File,
     /// Whether a write to a slot was begun, so that what is appended may be in the log.
     pub is_slot_begun: bool,
+    /// Whether a write or a sync was refused.
+    pub is_refused: bool,
 }
 
 impl FileDisk {
@@ -21,7 +23,14 @@ impl FileDisk {
         FileDisk {
             file,
             is_slot_begun: false,
+            is_refused: false,
         }
+    }
+
+    // What a call said, after it is noted whether it was refused.
+    fn noting(&mut self, said: io::Result<()>) -> io::Result<()> {
+        self.is_refused |= said.is_err();
+        said
     }
 }
 
@@ -52,10 +61,10 @@ impl Disk for FileDisk {
         if at < START && at % 32 == 0 {
             self.is_slot_begun = true;
         }
-        self.file.write_all_at(bytes, at as u64)
+        self.noting(self.file.write_all_at(bytes, at as u64))
     }
 
     fn sync(&mut self) -> io::Result<()> {
-        self.file.sync_all()
+        self.noting(self.file.sync_all())
     }
 }
