@@ -1,5 +1,5 @@
 -- The file that is made of what is sound of another.
-use Rattle.std.proofs.Common.{◌≡◌, ℕ, ◌+◌, ◌*◌, ◌<◌, ◌≤◌, ◌^◌, nat_lt, Bool, true, false, List, [], ◌++◌, length, take, drop, Option, Some, None, Ok, refl, ap, sym, ◌∙◌, subst, append_assoc, inl, inr, arith}
+use Rattle.std.proofs.Common.{◌≡◌, ℕ, ◌+◌, ◌*◌, ◌<◌, ◌≤◌, ◌^◌, Bool, true, false, List, [], ◌++◌, length, take, drop, Some, Ok, refl, ap, sym, ◌∙◌, subst, append_assoc, inl, inr, arith}
 use Rattle.std.proofs.lemmas.Bool.{le-ltb}
 use Rattle.std.proofs.lemmas.List.{append-nil, drop-append-le, drop-drop, drop_all, drop_at, length-append, length-drop, length-take-le, take-take, take_all, take_at}
 use Rattle.std.proofs.Math.Seq.{take-add}
@@ -10,7 +10,7 @@ use Rattle.ark_trees.specs.Rfc6962.{node_of}
 use Rattle.merkle_log.specs.Kept.{Keeps}
 use Rattle.merkle_log.specs.Log.{merkle_tree_hash}
 use Rattle.merkle_log.specs.Stored.{stored_count}
-use Rattle.paxlog_run.specs.LogFile.{file_end, larger, slot, slot_fits, slot_size, stored_in, title, written}
+use Rattle.paxlog_run.specs.LogFile.{larger, slot, slot_fits, slot_size, title, written}
 use Rattle.paxlog_run.proofs.Files.{log-holds, slot-torn, stored-same, Holds}
 use Rattle.paxlog_run.proofs.Heads.{fits-size, is_headed, length-slot, same_bytes, slot-fits, HasHead, Uses}
 use Rattle.log_store.specs.Sound.{HasStored}
@@ -28,14 +28,6 @@ put-behind file bytes at long =
 pub record IsCopied (file new : List ℕ) (done : ℕ) : Type 0 where
   pub long : length new ≡ 96 + done
   pub same : drop 96 new ≡ take done (drop 96 file)
-
-pub copied-none : (file new zeros : List ℕ) → new ≡ [] → length zeros ≡ 96
-    → IsCopied file (written new 0 zeros) 0
-copied-none file new zeros none long =
-    rw (none, put-behind [] zeros 0 refl) (record {
-      long = long;
-      same = drop_all 96 zeros (omega (arith, long));
-    })
 
 pub copied-more : (file new bytes : List ℕ) (done more : ℕ) → IsCopied file new done
     → bytes ≡ take more (drop (96 + done) file) → 96 + (done + more) ≤ length file

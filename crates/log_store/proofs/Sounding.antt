@@ -1,5 +1,5 @@
 -- The stored digests of a log's file, of which each is the hash of its two.
-use Rattle.std.proofs.Common.{zero, suc, ◌≡◌, ℕ, ◌+◌, ◌-◌, ◌*◌, ◌/◌, ◌%◌, ◌<◌, ◌≤◌, ◌^◌, nat_eq, nat_lt, Bool, true, false, List, [], length, take, drop, get_or, Option, Some, None, Result, Ok, Err, refl, ap, sym, ◌∙◌, subst, inl, inr, arith}
+use Rattle.std.proofs.Common.{suc, ◌≡◌, ℕ, ◌+◌, ◌-◌, ◌*◌, ◌/◌, ◌%◌, ◌<◌, ◌≤◌, ◌^◌, nat_eq, Bool, true, false, List, [], length, take, drop, get_or, Option, Some, None, Result, Ok, Err, refl, ap, sym, ◌∙◌, subst, inl, inr, arith}
 use Rattle.std.proofs.lemmas.Bool.{cases_lt}
 use Rattle.std.proofs.lemmas.Bool.Decides.{nat_tests}
 use Rattle.std.proofs.lemmas.List.{drop-drop, drop-take, take-take}
@@ -10,18 +10,18 @@ use Rattle.ark_paths.specs.Pair.{Digest}
 use Rattle.ark_trees.specs.Rfc6962.{node_hash, node_of}
 use Rattle.merkle_log.specs.Kept.{front, has_front, Keeps}
 use Rattle.merkle_log.specs.Log.{merkle_tree_hash}
-use Rattle.merkle_log.specs.Stored.{position, stored_count, row_of, row_pairs, IsStored}
+use Rattle.merkle_log.specs.Stored.{position, stored_count, row_of, row_pairs}
 use Rattle.merkle_log.specs.Walk.{index_up}
 use Rattle.merkle_log.proofs.Edges.{row_pair}
 use Rattle.merkle_log.proofs.Hashed.{hashed-all, HashedTo}
-use Rattle.merkle_log.proofs.KeptRows.{keeps-of, length-up, up-rises}
+use Rattle.merkle_log.proofs.KeptRows.{keeps-of, up-rises}
 use Rattle.merkle_log.proofs.Positions.{length-row_of, level-fits, place-within, position-within, row_of-at, up-carry, up-more, up-same, up-times, up-times_all}
-use Rattle.paxlog_run.specs.Faults.{log_size, no_head, only_if}
+use Rattle.paxlog_run.specs.Faults.{log_size, only_if}
 use Rattle.paxlog_run.specs.LogFile.{digest_count, file_end, file_head, slot_to_take, stored_in, IsLogFile}
 use Rattle.paxlog_run.specs.declared.fault.Fault.{Fault}
 use Rattle.paxlog_run.specs.declared.fault.Fault.TheVariants.{Short}
 use Rattle.paxlog_run.proofs.Files.{known}
-use Rattle.log_store.specs.Sound.{placed, AreHashed, HasStored, IsAhead, IsHashed}
+use Rattle.log_store.specs.Sound.{placed, AreNodes, HasStored, IsAhead, IsNode}
 use Rattle.log_store.proofs.Reading.{length-chunks, stored-at, up-less}
 
 -- ---- digests by their places
@@ -46,7 +46,7 @@ module _ (file : List ℕ) (size : ℕ) where
   long level = length-row_of (front size (stored_in size file)) level
 
   -- the pairs of a row
-  level-hashed : AreHashed file size → (level : ℕ) → row_pairs node_of (rows level) ≡ Ok (rows (suc level))
+  level-hashed : AreNodes file size → (level : ℕ) → row_pairs node_of (rows level) ≡ Ok (rows (suc level))
   level-hashed are level =
       hashed-all node_of (rows level) (rows (suc level)) (long (suc level) ∙ up-next level size
       ∙ ap (λ n. n / 2) (sym (long level))) pairs
@@ -61,7 +61,7 @@ module _ (file : List ℕ) (size : ℕ) where
           ∙ ap (λ d. Ok d) (are level q up ∙ placed-in file size (suc level) q up)
 
   -- Digests that are hashed so are those of a log.
-  pub hashed-keeps : AreHashed file size → Keeps (rows 0) (stored_in size file)
+  pub hashed-keeps : AreNodes file size → Keeps (rows 0) (stored_in size file)
   hashed-keeps are = keeps-of size (rows 0) (stored_in size file) (long 0)
       (omega (arith, length-chunks (stored_count size) (drop 96 file))) refl
       (record { pairs = level-hashed are })
@@ -71,7 +71,7 @@ module _ (file : List ℕ) (size : ℕ) where
 
 -- Those of a log are hashed so, also the first of them.
 pub keeps-hashed : (leaves : List Digest) (file : List ℕ) (size : ℕ) → Keeps leaves (stored_in (length leaves) file)
-    → size ≤ length leaves → AreHashed file size
+    → size ≤ length leaves → AreNodes file size
 keeps-hashed leaves file size keeps le = λ level place below.
     let all = length leaves in
     let row = row_of (front all (stored_in all file)) level in
@@ -87,7 +87,7 @@ keeps-hashed leaves file size keeps le = λ level place below.
     ∙ sym (placed-in file all (suc level) place up)
 
 -- so they stand behind a head
-pub front-of : (file : List ℕ) (size : ℕ) → AreHashed file size → file_end size ≤ length file
+pub front-of : (file : List ℕ) (size : ℕ) → AreNodes file size → file_end size ≤ length file
     → HasStored (rows file size 0) file
 front-of file size are inside = record {
   inside = rw (first-long file size) inside;
@@ -99,9 +99,9 @@ front-of file size are inside = record {
 
 module _ (file : List ℕ) (index : ℕ) where
   -- each digest that it completes
-  pub entry-hashed : (last : ℕ) → AreHashed file index → ((l : ℕ) → l < last → index_up l index % 2 ≡ 1)
-      → index_up last index % 2 ≡ 0 → ((l : ℕ) → l < last → IsHashed file l (index_up (suc l) index))
-      → AreHashed file (index + 1)
+  pub entry-hashed : (last : ℕ) → AreNodes file index → ((l : ℕ) → l < last → index_up l index % 2 ≡ 1)
+      → index_up last index % 2 ≡ 0 → ((l : ℕ) → l < last → IsNode file l (index_up (suc l) index))
+      → AreNodes file (index + 1)
   entry-hashed last are odd even more = λ level place below. elim (cases_lt level last) [
     | inl low ↦
         let carried = up-carry (suc level) index (λ l less. odd l (omega (arith, low, less))) in
@@ -109,7 +109,7 @@ module _ (file : List ℕ) (index : ℕ) where
           | inl old ↦ are level place old
           | inr new ↦
               let e : place ≡ index_up (suc level) index = omega (arith, new, below, carried) in
-              subst (IsHashed file level) (sym e) (more level low)
+              subst (IsNode file level) (sym e) (more level low)
         ]
     | inr high ↦
         let same = up-same (suc level) last index (omega (arith, high)) odd even in
@@ -118,13 +118,13 @@ module _ (file : List ℕ) (index : ℕ) where
 
   -- one of them that is not
   pub entry-damaged : (level : ℕ) → ((l : ℕ) → l ≤ level → index_up l index % 2 ≡ 1)
-      → (IsHashed file level (index_up (suc level) index) → ⊥) → AreHashed file (index + 1) → ⊥
+      → (IsNode file level (index_up (suc level) index) → ⊥) → AreNodes file (index + 1) → ⊥
   entry-damaged level odd not are =
       let carried = up-carry (suc level) index (λ l less. odd l (omega (arith, less))) in
       not (are level (index_up (suc level) index) (omega (arith, carried)))
 
 -- no entry
-pub none-hashed : (file : List ℕ) → AreHashed file 0
+pub none-hashed : (file : List ℕ) → AreNodes file 0
 none-hashed file = λ level place below. absurd (omega (arith, below, up-less (suc level) 0))
 
 -- ---- the places that an entry completes
@@ -178,8 +178,8 @@ other-stands index level left at odd fits =
 
 -- What is compared with the digest of a place is the hash of its two.
 pub record Compares (file : List ℕ) (index level : ℕ) (made above : Digest) : Type 0 where
-  pub same : made ≡ above → IsHashed file level (index_up (suc level) index)
-  pub back : IsHashed file level (index_up (suc level) index) → made ≡ above
+  pub same : made ≡ above → IsNode file level (index_up (suc level) index)
+  pub back : IsNode file level (index_up (suc level) index) → made ≡ above
 
 pub compares : (file : List ℕ) (index level left : ℕ) (other own above : Digest) → Climbs index level left
     → left % 2 ≡ 1 → other ≡ placed file level (left - 1) → own ≡ placed file level left
@@ -238,7 +238,7 @@ log-stored leaves file log =
 
 -- A file whose digests are hashed so, and whose root a slot states or none, is that of a log.
 pub sound-file : (file : List ℕ) (size : ℕ) (root : Digest) (free : Bool) → log_size file ≡ Ok size
-    → AreHashed file size → slot_to_take file size root ≡ Some free
+    → AreNodes file size → slot_to_take file size root ≡ Some free
     → ((leaves : List Digest) → length leaves ≡ size → Keeps leaves (stored_in size file)
     → merkle_tree_hash node_of (sha256 []) leaves ≡ Ok root) → (leaves : List Digest) × IsLogFile leaves file
 sound-file file size root free is are states top =

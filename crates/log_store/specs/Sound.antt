@@ -12,13 +12,13 @@ abbrev pub placed : List ℕ → ℕ → ℕ → Digest
 placed file level place = take 32 (drop (96 + 32 * position level place) file)
 
 -- The digest of a place above others is the hash of its two.
-abbrev pub IsHashed : List ℕ → ℕ → ℕ → Type 0
-IsHashed file level place =
+abbrev pub IsNode : List ℕ → ℕ → ℕ → Type 0
+IsNode file level place =
     node_hash (placed file level (2 * place)) (placed file level (2 * place + 1)) ≡ placed file (suc level) place
 
 -- So is each that the first entries complete.
-abbrev pub AreHashed : List ℕ → ℕ → Type 0
-AreHashed file size = (level place : ℕ) → place < index_up (suc level) size → IsHashed file level place
+abbrev pub AreNodes : List ℕ → ℕ → Type 0
+AreNodes file size = (level place : ℕ) → place < index_up (suc level) size → IsNode file level place
 
 -- Behind the head the stored digests of a log with these leaves stand.
 pub record HasStored (leaves : List Digest) (file : List ℕ) : Type 0 where

@@ -1,10 +1,10 @@
 //! How far the stored digests of a log's file are those of a log. They are read from the front on, a part at a time.
 
-ghost use Rattle.std.specs.Prelude.{◌≡◌, ◌≤◌, ◌<◌, ◌+◌, ◌*◌, ◌^◌, ◌&&◌, not, nat_lt, true, false, ℕ, List, length, IfOk, Ok};
+ghost use Rattle.std.specs.Prelude.{◌≡◌, ◌≤◌, ◌<◌, ◌+◌, ◌*◌, ◌^◌, ◌&&◌, not, nat_lt, true, false, List, length, IfOk, Ok};
 ghost use Rattle.ark_paths.specs.Pair.{Digest};
 ghost use Rattle.merkle_log.specs.Stored.{stored_count};
 ghost use Rattle.log_store.specs.Refused.{IsDamaged, IsRefusedFor};
-ghost use Rattle.log_store.specs.Sound.{AreHashed, IsAhead};
+ghost use Rattle.log_store.specs.Sound.{AreNodes, IsAhead};
 ghost use Rattle.paxlog_run.specs.Faults.{log_size};
 ghost use Rattle.paxlog_run.specs.LogFile.{file_end, IsLogFile};
 
@@ -24,12 +24,12 @@ fn is_completed<D: Disk>(disk: &D, window: &Window, index: usize) -> Result<bool
     requires ahead { window.now.count ≤ 128 }
     ensures sound { D.Obeys disk.now
         → IsAhead window.now.start window.now.count window.now.bytes (D.seen disk.now)
-        → file_end (index + 1) ≤ length (D.seen disk.now) → AreHashed (D.seen disk.now) index
-        → result ≡ Ok true → AreHashed (D.seen disk.now) (index + 1) }
+        → file_end (index + 1) ≤ length (D.seen disk.now) → AreNodes (D.seen disk.now) index
+        → result ≡ Ok true → AreNodes (D.seen disk.now) (index + 1) }
     ensures damaged { D.Obeys disk.now
         → IsAhead window.now.start window.now.count window.now.bytes (D.seen disk.now)
         → file_end (index + 1) ≤ length (D.seen disk.now)
-        → result ≡ Ok false → AreHashed (D.seen disk.now) (index + 1) → ⊥ }
+        → result ≡ Ok false → AreNodes (D.seen disk.now) (index + 1) → ⊥ }
 {
     let mut own = digest_in(window, disk, position_of(0, index))?;
     let mut level = 0;
@@ -63,10 +63,10 @@ pub fn sound_front<D: Disk>(disk: &D, count: usize, limit: usize) -> Result<usiz
     ensures limit { IfOk result (λ size. size ≤ limit) }
     ensures count { IfOk result (λ size. stored_count size ≤ count) }
     ensures sound { D.Obeys disk.now → 96 + 32 * count ≤ length (D.seen disk.now)
-        → IfOk result (λ size. AreHashed (D.seen disk.now) size) }
+        → IfOk result (λ size. AreNodes (D.seen disk.now) size) }
     ensures longest { D.Obeys disk.now → 96 + 32 * count ≤ length (D.seen disk.now)
         → IfOk result (λ size. size < limit → stored_count (size + 1) ≤ count
-        → AreHashed (D.seen disk.now) (size + 1) → ⊥) }
+        → AreNodes (D.seen disk.now) (size + 1) → ⊥) }
 {
     let mut window = no_window();
     let mut size = 0;

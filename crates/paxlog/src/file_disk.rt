@@ -26,12 +26,6 @@ impl FileDisk {
             is_refused: false,
         }
     }
-
-    // What a call said, after it is noted whether it was refused.
-    fn noting(&mut self, said: io::Result<()>) -> io::Result<()> {
-        self.is_refused |= said.is_err();
-        said
-    }
 }
 
 impl Disk for FileDisk {
@@ -61,10 +55,18 @@ impl Disk for FileDisk {
         if at < START && at % 32 == 0 {
             self.is_slot_begun = true;
         }
-        self.noting(self.file.write_all_at(bytes, at as u64))
+        let said = self.file.write_all_at(bytes, at as u64);
+        if said.is_err() {
+            self.is_refused = true;
+        }
+        said
     }
 
     fn sync(&mut self) -> io::Result<()> {
-        self.noting(self.file.sync_all())
+        let said = self.file.sync_all();
+        if said.is_err() {
+            self.is_refused = true;
+        }
+        said
     }
 }

@@ -11,7 +11,7 @@ use Rattle.merkle_log.specs.Stored.{stored_count}
 use Rattle.sha2.specs.Sha256.{sha256}
 use Rattle.merkle_log.specs.Log.{merkle_tree_hash}
 use Rattle.paxlog_run.specs.Append.{HasBehind}
-use Rattle.paxlog_run.specs.LogFile.{digest_count, file_end, file_head, next_slot, slot_fits, slot_size, slot_to_take, stored_in, used_slot, written, IsLogFile}
+use Rattle.paxlog_run.specs.LogFile.{digest_count, file_end, file_head, next_slot, slot_fits, slot_size, stored_in, used_slot, written, IsLogFile}
 use Rattle.paxlog_run.proofs.Chunks.{chunks-append, chunks-flat, chunks-take, length-flat}
 use Rattle.paxlog_run.proofs.Heads.{fits-taken, head-parts, head-same, is_headed, slot-part, taken-fits, uses-kept, HasHead, Uses}
 use Rattle.paxlog_run.proofs.Pieces.{behind-cut, behind-written, length-written, piece-cut}

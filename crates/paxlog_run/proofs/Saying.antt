@@ -1,8 +1,7 @@
 -- What is said of the first entries of a log: a size, and the faults in its place.
-use Rattle.std.proofs.Common.{◌≡◌, ℕ, ◌<◌, ◌≤◌, nat_lt, List, Option, Result, Ok, Err, refl, ap, ◌∙◌, arith}
+use Rattle.std.proofs.Common.{◌≡◌, ℕ, ◌<◌, ◌≤◌, nat_lt, List, Option, Ok, Err, refl, ◌∙◌, arith}
 use Rattle.std.proofs.lemmas.Bool.{le-ltb, lt-ltb}
 use Rattle.paxlog_run.specs.Faults.{is_older, of_first, only_if}
-use Rattle.paxlog_run.specs.declared.fault.Fault.{Fault}
 use Rattle.paxlog_run.specs.declared.fault.Fault.TheVariants.{Index, Size}
 use Rattle.paxlog_run.proofs.Sizes.{given-of}
 

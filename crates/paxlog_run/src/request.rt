@@ -1,6 +1,6 @@
 //! What the words behind the command's name ask for.
 
-ghost use Rattle.std.specs.Prelude.{◌≡◌, ◌≤◌, ◌+◌, List, [], map, get_or, vec_items, IfSome};
+ghost use Rattle.std.specs.Prelude.{◌≡◌, ◌≤◌, ◌+◌, [], map, get_or, vec_items, IfSome};
 ghost use Rattle.paxlog_run.specs.Requests.{append_in, append_lines_in, asked, consistency_in, digest_at, digest_of, files_at, number_at, option_more, options_in, prove_in, request_of, root_in, show_in, size_at, verify_consistency_in, verify_in};
 
 use decimals::number_of;

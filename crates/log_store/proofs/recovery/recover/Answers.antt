@@ -1,4 +1,4 @@
-use Rattle.std.proofs.Common.{◌≡◌, ◌+◌, ◌*◌, ◌≤◌, length, sym, subst, arith}
+use Rattle.std.proofs.Common.{◌+◌, ◌*◌, ◌≤◌, length, sym, subst, arith}
 use Rattle.log_store.specs.Store.{IsSettled}
 use Rattle.log_store.proofs.Recovering.{settled-by}
 use Rattle.log_store.proofs.Sounding.{log-stored}

@@ -1,7 +1,7 @@
 use Rattle.std.proofs.Common.{ℕ, ◌+◌, ◌≡◌, ◌≤◌, ◌*◌, length, true, false, ap, ◌∙◌, subst, inl, inr, arith}
 use Rattle.std.proofs.lemmas.Bool.{cases_lt}
 use Rattle.merkle_log.proofs.Positions.{count-rises}
-use Rattle.log_store.specs.Sound.{AreHashed}
+use Rattle.log_store.specs.Sound.{AreNodes}
 use Rattle.log_store.specs.declared.log.Log.{Log}
 use Rattle.log_store.specs.declared.stop.Stop.TheVariants.{Fault}
 use Rattle.log_store.proofs.Refusals.{damaged-none}
@@ -22,7 +22,7 @@ returns-in-Ok-sound_front-clause-sound g c = λ obeys told.
     omega (arith, c.in-Ok.ensures.inside obeys, c.stored_count.ensures) in
     let same = sizes-equal c.in-Ok-sound_front.size size (said-same _ true told) in
     sound-file seen size c.in-Ok.log.root c.in-Ok.log.is_second_free (c.in-Ok.ensures.size obeys)
-    (subst (AreHashed seen) same (c.in-Ok-sound_front.ensures.sound obeys inside)) (c.in-Ok.ensures.states obeys)
+    (subst (AreNodes seen) same (c.in-Ok-sound_front.ensures.sound obeys inside)) (c.in-Ok.ensures.states obeys)
     (c.in-Ok.ensures.root obeys)
 
 pub returns-in-Ok-sound_front-clause-damaged : goal.returns-in-Ok-sound_front-clause-damaged

@@ -1,9 +1,7 @@
-use Rattle.std.proofs.Common.{suc, ◌≡◌, ◌+◌, ◌-◌, ◌*◌, ◌/◌, ◌%◌, ◌<◌, ◌^◌, take, drop, ap, sym, ◌∙◌, subst, inl, inr, arith}
+use Rattle.std.proofs.Common.{◌≡◌, ◌+◌, ◌-◌, ◌*◌, ◌/◌, ◌%◌, take, drop, ap, sym, ◌∙◌, inl, inr, arith}
 use Rattle.std.proofs.lemmas.Bool.{cases_lt}
-use Rattle.merkle_log.specs.Walk.{index_up}
 use Rattle.merkle_log.proofs.Hashed.{other-says, same-says}
-use Rattle.log_store.specs.Sound.{placed, IsHashed}
-use Rattle.log_store.proofs.Sounding.{climb, climbs, compares, entry-damaged, entry-hashed, other-stands, own-stands, Climbs, Compares}
+use Rattle.log_store.proofs.Sounding.{climb, climbs, compares, entry-damaged, entry-hashed, other-stands, own-stands}
 use Rattle.log_store.proofs.sound.is_completed.Goals as goal
 
 pub digest_in-requires-clause-near : goal.digest_in-requires-clause-near

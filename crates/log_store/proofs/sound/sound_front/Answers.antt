@@ -1,4 +1,4 @@
-use Rattle.std.proofs.Common.{◌*◌, refl, arith}
+use Rattle.std.proofs.Common.{refl, arith}
 use Rattle.merkle_log.proofs.Positions.{no-count}
 use Rattle.log_store.proofs.Sounding.{none-hashed}
 use Rattle.log_store.proofs.sound.sound_front.Goals as goal

@@ -1,6 +1,6 @@
-use Rattle.std.proofs.Common.{◌≡◌, ◌≤◌, ◌+◌, ◌-◌, ◌*◌, length}
+use Rattle.std.proofs.Common.{◌≤◌, ◌+◌, ◌-◌, ◌*◌, length}
 use Rattle.merkle_log.specs.Stored.{stored_count}
-use Rattle.log_store.specs.Sound.{AreHashed, IsAhead}
+use Rattle.log_store.specs.Sound.{AreNodes, IsAhead}
 use Rattle.log_store.proofs.sound.sound_front.Given as goal
 
 abbrev pub invariant-entries : goal.invariant-entries
@@ -13,7 +13,7 @@ invariant-entries g l =
       near : l.window.start + l.window.count ≤ l.count;
       ahead : g.D.Disk.Obeys l.disk → 96 + 32 * l.count ≤ length seen
           → IsAhead l.window.start l.window.count l.window.bytes seen;
-      sound : g.D.Disk.Obeys l.disk → 96 + 32 * l.count ≤ length seen → AreHashed seen l.size;
+      sound : g.D.Disk.Obeys l.disk → 96 + 32 * l.count ≤ length seen → AreNodes seen l.size;
     }
 
 abbrev pub decreases-entries : goal.decreases-entries

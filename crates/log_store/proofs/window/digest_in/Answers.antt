@@ -9,5 +9,6 @@ returns g c = λ obeys ahead inside.
     let place = c.args.position - start in
     let there : start + place ≡ c.args.position = omega (arith, c.if-position-window.false) in
     c.digest_of.ensures
-    ∙ ahead-at start c.args.window.now.count place c.args.window.now.bytes file ahead (omega (arith, c.if-place-window.false))
+    ∙ ahead-at start c.args.window.now.count place c.args.window.now.bytes file ahead
+    (omega (arith, c.if-place-window.false))
     ∙ ap (λ n. take 32 (drop (96 + 32 * n) file)) there

@@ -1,4 +1,4 @@
-use Rattle.std.proofs.Common.{ℕ, ◌-◌, ◌≤◌}
+use Rattle.std.proofs.Common.{◌-◌, ◌≤◌}
 use Rattle.paxlog_run.proofs.Lines.{AreWhole}
 use Rattle.paxlog_run.proofs.entries.whole_lines.Given as goal
 
