@@ -16,6 +16,8 @@ import paxidore
 from paxidore import Log
 
 DRAWS = random.Random(6962)
+# rounds of openers; PAXIDORE_ROUNDS=10000 takes the long way
+ROUNDS = int(os.environ.get("PAXIDORE_ROUNDS", "300"))
 
 
 def sha(data):
@@ -330,7 +332,7 @@ class InFile(unittest.TestCase):
         interval = sys.getswitchinterval()
         self.addCleanup(sys.setswitchinterval, interval)
         sys.setswitchinterval(1e-6)
-        for turn in range(300):
+        for turn in range(ROUNDS):
             path, done = "%s%d" % (self.path, turn), []
 
             def opens():
@@ -351,6 +353,31 @@ class InFile(unittest.TestCase):
                 self.assertEqual(len(log), 2 * len(done))
             os.unlink(path)
         self.assertEqual(os.listdir(self.room.name), [])
+
+    def test_a_new_log_of_several_processes(self):
+        """The same of forked processes; who waits for the lock appends."""
+        for turn in range(ROUNDS // 6):
+            path, wait = "%s%d" % (self.path, turn), turn % 2 * 60
+            children = []
+            for _ in range(3):
+                child = os.fork()
+                if child == 0:
+                    done = 0
+                    try:
+                        with Log.open(path, wait=wait) as log:
+                            done = log.append([b"one", b"two"])
+                    except BlockingIOError:
+                        pass
+                    finally:
+                        os._exit(done)
+                children.append(child)
+            sizes = [os.waitstatus_to_exitcode(os.waitpid(child, 0)[1]) for child in children]
+            done = sorted(size for size in sizes if size)
+            self.assertEqual(done, list(range(2, 2 * len(done) + 1, 2)))
+            self.assertGreaterEqual(len(done), 3 if wait else 1)
+            with Log.open(path) as log:
+                self.assertEqual(len(log), 2 * len(done))
+            os.unlink(path)
 
     def test_a_file_that_is_replaced(self):
         """A log that was opened under a name that another file has now is none."""

@@ -61,6 +61,11 @@ fn subproof(old: usize, leaves: &[Digest], known: bool) -> Vec<Digest> {
     proof
 }
 
+// How often something is tried: as the environment says, for the long way.
+fn counted(name: &str, else_count: u64) -> u64 {
+    std::env::var(name).map_or(else_count, |count| count.parse().unwrap())
+}
+
 // Why a call was refused.
 fn refusal<T: std::fmt::Debug>(done: Result<T, LogError>) -> Refused {
     match done {
@@ -361,7 +366,7 @@ fn sizes_that_are_none() -> Result<(), LogError> {
 #[test]
 fn a_new_log_of_several_threads() -> Result<(), LogError> {
     let room = Room::new("threads");
-    for _ in 0..300 {
+    for _ in 0..counted("PAXIDORE_ROUNDS", 300) {
         let done: usize = std::thread::scope(|scope| {
             let open = || match Log::open(room.log()) {
                 Ok(mut log) => log.append(&["one", "two"]).map(|_| 1),
@@ -396,13 +401,13 @@ fn appends_until_it_is_killed() -> Result<(), LogError> {
 fn killed_while_it_appends() -> Result<(), LogError> {
     let room = Room::new("killed");
     let mut size = 0;
-    for turn in 0..60 {
+    for turn in 0..counted("PAXIDORE_KILLS", 60) {
         let mut child = Command::new(std::env::current_exe()?)
             .args(["--exact", "appends_until_it_is_killed", "--nocapture"])
             .env("PAXIDORE_LOG_TO_KILL", room.log())
             .stdout(Stdio::piped())
             .spawn()?;
-        std::thread::sleep(Duration::from_micros(3000 + 137 * turn));
+        std::thread::sleep(Duration::from_micros(3000 + 137 * (turn % 60)));
         child.kill()?;
         let said = String::from_utf8_lossy(&child.wait_with_output()?.stdout).into_owned();
         // the last line may be cut

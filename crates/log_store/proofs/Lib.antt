@@ -6,3 +6,5 @@ pub mod Reading
 pub mod Growths
 pub mod Refusals
 pub mod Verdicts
+mod Sounding
+mod Recovering

@@ -18,7 +18,7 @@ use Rattle.merkle_log.proofs.KeptRows.{fewer-first, fewer-hashed, rows-agree, st
 use Rattle.merkle_log.proofs.Positions.{count-rises, place-within, position-within, row_of-at, up-times}
 use Rattle.merkle_log.proofs.Tests.{power-rises}
 use Rattle.paxlog_run.specs.Faults.{log_size, no_head, only_if}
-use Rattle.paxlog_run.specs.LogFile.{digest_count, file_head, slot_to_take, stored_in}
+use Rattle.paxlog_run.specs.LogFile.{digest_count, file_head, slot_to_take, slots_head, stored_in}
 use Rattle.paxlog_run.specs.declared.fault.Fault.TheVariants.{NoLog, Short}
 use Rattle.paxlog_run.proofs.Pieces.{piece-cut}
 use Rattle.log_store.specs.Overlay.{overlay}
@@ -57,6 +57,14 @@ none-read file bytes read long =
 pub slots-read : (file bytes : List ℕ) (size : ℕ) (root : Digest) → bytes ≡ take 96 (drop 0 file) → 96 ≤ length file
     → slot_to_take bytes size root ≡ slot_to_take file size root
 slots-read file bytes size root read long =
+    let cut : (at : ℕ) → at + 32 ≤ 96 → take 32 (drop at bytes) ≡ take 32 (drop at file) = λ at le.
+    ap (λ l. take 32 (drop at l)) (read ∙ sym (append-nil (take 96 file))) ∙ piece-cut file [] at 32 96 le long in
+    rw (cut 32 (omega arith), cut 64 (omega arith)) refl
+
+-- and what its slots say, whatever the title
+pub stated-read : (file bytes : List ℕ) → bytes ≡ take 96 (drop 0 file) → 96 ≤ length file
+    → slots_head bytes ≡ slots_head file
+stated-read file bytes read long =
     let cut : (at : ℕ) → at + 32 ≤ 96 → take 32 (drop at bytes) ≡ take 32 (drop at file) = λ at le.
     ap (λ l. take 32 (drop at l)) (read ∙ sym (append-nil (take 96 file))) ∙ piece-cut file [] at 32 96 le long in
     rw (cut 32 (omega arith), cut 64 (omega arith)) refl

@@ -3,3 +3,4 @@ pub mod Store
 pub mod Refused
 pub mod Overlay
 pub mod Spots
+pub mod Sound

@@ -12,11 +12,14 @@ mod head;
 mod log;
 mod made;
 mod proving;
+mod recovery;
+mod sound;
 mod spots;
 mod steps;
 mod stop;
 #[cfg(test)]
 mod tests;
+mod window;
 
 pub use disk::Disk;
 pub use growth::{append, append_after};
@@ -24,4 +27,6 @@ pub use head::size;
 pub use log::root;
 pub use made::make;
 pub use proving::{ConsistencyProof, InclusionProof, consistency, prove};
+pub use recovery::{Recovered, recover, recoverable};
+pub use sound::check;
 pub use stop::Stop;

@@ -5,6 +5,7 @@ ghost use Rattle.sha2.specs.Sha256.{sha256};
 ghost use Rattle.ark_paths.specs.Pair.{Digest};
 ghost use Rattle.ark_trees.specs.Rfc6962.{node_of};
 ghost use Rattle.merkle_log.specs.Asked.{IsPeak};
+ghost use Rattle.merkle_log.specs.Kept.{Keeps};
 ghost use Rattle.merkle_log.specs.Log.{merkle_tree_hash};
 ghost use Rattle.merkle_log.specs.Stored.{position};
 ghost use Rattle.log_store.specs.Refused.{IsRefusedFor};
@@ -54,6 +55,11 @@ pub fn read_log<D: Disk>(disk: &D) -> Result<Log, Stop<D::Refusal>>
     ensures log { D.Obeys disk.now → (leaves : List Digest) → IsLogFile leaves (D.seen disk.now)
         → IfOk result (λ log. (length leaves ≡ log.size)
         × (merkle_tree_hash node_of (sha256 []) leaves ≡ Ok log.root)) }
+
+    // Whatever the slots state, the root is that of the digests.
+    ensures root { D.Obeys disk.now → IfOk result (λ log. (leaves : List Digest)
+        → length leaves ≡ log.size → Keeps leaves (stored_in log.size (D.seen disk.now))
+        → merkle_tree_hash node_of (sha256 []) leaves ≡ Ok log.root) }
     ensures peaks { D.Obeys disk.now → IfOk result (λ log. (level place : ℕ)
         → IsPeak log.size level place → get_or log.peaks level []
         ≡ get_or (stored_in log.size (D.seen disk.now)) (position level place) []) }

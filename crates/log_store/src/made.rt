@@ -9,18 +9,8 @@ use crate::disk::Disk;
 use crate::log::read_log;
 use crate::stop::Stop;
 use paxlog_run::fault::Fault;
-use paxlog_run::head::{START, TITLE, slot_of};
+use paxlog_run::head::{START, head_of};
 use sha2::{Digest as _, Sha256};
-
-// The head of a log of no entries.
-fn empty_head() -> [u8; START] {
-    let slot = slot_of(0, &Sha256::digest([].as_slice()));
-    let mut head = [0; START];
-    head[..32].copy_from_slice(&TITLE);
-    head[32..64].copy_from_slice(&slot);
-    head[64..].copy_from_slice(&slot);
-    head
-}
 
 // Whether a file has no log.
 fn lacks_log<D: Disk>(disk: &D) -> Result<bool, Stop<D::Refusal>>
@@ -77,7 +67,7 @@ pub fn make<D: Disk>(disk: &mut D) -> Result<(), Stop<D::Refusal>>
     ensures durable { D.Obeys disk.new
         → OnOk result (Only (D.seen disk.new) (D.may_leave disk.new)) }
 {
-    let head = empty_head();
+    let head = head_of(0, &Sha256::digest([].as_slice()));
     if is_begun(disk, &head)? {
         if let Err(refusal) = disk.write_at(0, &head) {
             return Err(Stop::Disk(refusal));

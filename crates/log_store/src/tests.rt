@@ -1,7 +1,7 @@
 //! Appends over a disk that stops at a call, and writes a part of what that call was to write.
 
 use crate::disk::Disk;
-use crate::{append, consistency, prove, root};
+use crate::{append, check, consistency, prove, recover, root};
 use ark_trees::digest_of_entry;
 use paxlog_run::head::{TITLE, slot_of};
 use sha2::{Digest as _, Sha256};
@@ -186,5 +186,45 @@ fn a_digest_that_is_damaged_is_told(rt: HostRuntime) -> Result<(), Fail> {
     assert!(rt; log.put(160, &[0xa5]).is_ok());
     assert!(rt; root(&log, None).is_err());
     assert!(rt; append(alloc, &mut log, &third).is_err());
+    Ok(())
+}
+
+// What is recovered of a file: its size and root, if the new file is that of a log with these.
+fn recovered(alloc: Global, disk: &Short) -> Option<(usize, [u8; 32])> {
+    let mut new = Short {
+        bytes: Vec::new(alloc),
+        calls: 100,
+        part: 0,
+    };
+    let found = match recover(disk, &mut new) {
+        Ok(found) => found,
+        Err(_) => return None,
+    };
+    let said = match root(&new, None) {
+        Ok(said) => said,
+        Err(_) => return None,
+    };
+    match check(&new) {
+        Ok(true) if said == (found.size, found.root) => Some(said),
+        _ => None,
+    }
+}
+
+#[test]
+fn what_is_sound_is_recovered(rt: HostRuntime) -> Result<(), Fail> {
+    let alloc = rt.alloc();
+    let mut log = two(alloc)?;
+    let digest = digest_of_entry(&[16]);
+    let third = [digest];
+    assert!(rt; append(alloc, &mut log, &third).is_ok());
+    assert!(rt; matches!(check(&log), Ok(true)));
+    assert!(rt; recovered(alloc, &log).is_some_and(|found| found.0 == 3 && starts(&found)));
+    let mut headless = log.copy(alloc, 100, 0)?;
+    assert!(rt; headless.put(32, &[0; 64]).is_ok());
+    assert!(rt; check(&headless).is_err());
+    assert!(rt; recovered(alloc, &headless).is_some_and(|found| found.0 == 3 && starts(&found)));
+    assert!(rt; log.put(160, &[0xa5]).is_ok());
+    assert!(rt; matches!(check(&log), Ok(false)));
+    assert!(rt; recovered(alloc, &log) == Some((1, digest_of_entry(b""))));
     Ok(())
 }

@@ -14,6 +14,8 @@ pub struct FileDisk {
     pub file: File,
     /// Whether a write to a slot was begun, so that what is appended may be in the log.
     pub is_slot_begun: bool,
+    /// Whether a write or a sync was refused.
+    pub is_refused: bool,
 }
 
 impl FileDisk {
@@ -21,6 +23,7 @@ impl FileDisk {
         FileDisk {
             file,
             is_slot_begun: false,
+            is_refused: false,
         }
     }
 }
@@ -52,10 +55,18 @@ impl Disk for FileDisk {
         if at < START && at % 32 == 0 {
             self.is_slot_begun = true;
         }
-        self.file.write_all_at(bytes, at as u64)
+        let said = self.file.write_all_at(bytes, at as u64);
+        if said.is_err() {
+            self.is_refused = true;
+        }
+        said
     }
 
     fn sync(&mut self) -> io::Result<()> {
-        self.file.sync_all()
+        let said = self.file.sync_all();
+        if said.is_err() {
+            self.is_refused = true;
+        }
+        said
     }
 }

@@ -1,6 +1,7 @@
 //! The command `paxlog`: a transparency log in a file.
 #![tactic(auto)]
 
+mod batches;
 mod file_disk;
 mod picture;
 mod progress;
@@ -8,29 +9,32 @@ mod stop;
 mod store;
 mod words;
 
+use crate::batches::{Batches, Source};
 use crate::picture::{image_of, text_of};
 use crate::progress::OnTerminal;
 use crate::stop::{Stop, StopAt};
+use crate::store::Keeper;
 use crate::words::words;
 use ark_trees::digest_of_entry;
-use log_store::InclusionProof;
+use log_store::{InclusionProof, Recovered};
 use paxlog_run::entries::digests_of_lines;
 use paxlog_run::fault::Fault;
-use paxlog_run::replies::{is_sound, line_of, line_of_root};
-use paxlog_run::request::{After, Request, request_of, word};
+use paxlog_run::replies::{line_of, line_of_root};
+use paxlog_run::request::{Options, Request, request_of, word};
 use paxlog_run::verdicts::{verify_consistency, verify_inclusion};
 use std::fs;
 use std::io::{Read, Write};
 use std::process::ExitCode;
 
-const USAGE: &str = "usage: paxlog append LOG [--after SIZE ROOT] [--] FILE ..
-       paxlog append-lines LOG [--after SIZE ROOT] [--] FILE
+const USAGE: &str = "usage: paxlog append LOG [--after SIZE ROOT] [--wait SECONDS] [--] FILE ..
+       paxlog append-lines LOG [--after SIZE ROOT] [--wait SECONDS] [--batch COUNT] [--] FILE
        paxlog root LOG [SIZE]
        paxlog prove LOG INDEX [SIZE]
        paxlog show LOG INDEX [SIZE]
        paxlog show-image LOG INDEX [SIZE]
        paxlog consistency LOG OLD_SIZE [SIZE]
        paxlog check LOG
+       paxlog recover LOG [NEW]
        paxlog verify ROOT SIZE INDEX FILE PROOF
        paxlog verify-consistency OLD_SIZE OLD_ROOT SIZE ROOT PROOF
        paxlog -h | --help | --version
@@ -109,26 +113,54 @@ fn say_proof(rt: &HostRuntime, verdict: Result<bool, Fault>) -> Result<u8, StopA
     }
 }
 
-// Writes a size, and returns the status.
+// Writes a size that was appended, and returns the status.
 fn say_size(rt: &HostRuntime, size: usize) -> Result<u8, StopAt> {
-    say(rt, format!(in rt.alloc(); "{size}\n")?.as_bytes())
-}
-
-// Appends entries, and writes the new size.
-fn append(
-    rt: &HostRuntime,
-    words: &[Vec<u8>],
-    after: Option<After>,
-    digests: &[[u8; 32]],
-) -> Result<u8, StopAt> {
-    let size = match store::append(rt, name(words, 1)?, after, digests) {
-        Ok(size) => size,
-        Err(why) => return Err(why.at(1)),
-    };
-    match say_size(rt, size) {
+    let line = format!(in rt.alloc(); "{size}\n")?;
+    match say(rt, line.as_bytes()) {
         Ok(status) => Ok(status),
         Err(_) => Err(StopAt::from(Stop::Unsaid)),
     }
+}
+
+// Appends entries at once, and returns the new size.
+fn append(
+    rt: &HostRuntime,
+    words: &[Vec<u8>],
+    options: &Options,
+    digests: &[[u8; 32]],
+) -> Result<usize, StopAt> {
+    let mut keeper = of_log(Keeper::open(rt, name(words, 1)?, options))?;
+    of_log(keeper.append(rt, digests))
+}
+
+// Appends the lines of a file, so many at once, and writes each new size once it is on the disk.
+fn append_batches(
+    rt: &HostRuntime,
+    words: &[Vec<u8>],
+    options: &Options,
+    place: usize,
+    count: usize,
+) -> Result<u8, StopAt> {
+    let source = match Source::open(rt, name(words, place)?) {
+        Ok(source) => source,
+        Err(why) => return Err(why.at(place)),
+    };
+    let mut keeper = of_log(Keeper::open(rt, name(words, 1)?, options))?;
+    let mut batches = Batches::new(rt.alloc(), source, count);
+    for _turn in 0..u64::MAX {
+        let digests = match batches.next(rt) {
+            Ok(digests) => digests,
+            Err(why) => return Err(why.at(place)),
+        };
+        // an empty input says the size that there is
+        if !digests.is_empty() || batches.is_first() {
+            say_size(rt, of_log(keeper.append(rt, &digests))?)?;
+        }
+        if batches.is_at_end() {
+            return Ok(0);
+        }
+    }
+    Ok(0)
 }
 
 // The digests of the entries that the files from a place on are.
@@ -144,17 +176,20 @@ fn digests_of_files(
     Ok(digests)
 }
 
-// The digests of the entries that the lines of a file are.
-fn digests_in_file(
+// Appends the lines of a file at once, and writes the new size. It shows how far it is.
+fn append_lines(
     rt: &HostRuntime,
     words: &[Vec<u8>],
+    options: &Options,
     place: usize,
-) -> Result<Vec<[u8; 32]>, StopAt> {
+) -> Result<u8, StopAt> {
     let mut progress = OnTerminal::new(rt);
     let bytes = bytes_of(rt, words, place)?;
     let digests = digests_of_lines(rt.alloc(), &bytes, &mut progress)?;
+    progress.writes();
+    let appended = append(rt, words, options, &digests);
     progress.end();
-    Ok(digests)
+    say_size(rt, appended?)
 }
 
 // What is said of the log, or why not.
@@ -178,15 +213,45 @@ fn picture_of(
     text_of(rt.alloc(), proof.size, index, &proof.digest, &proof.path)
 }
 
+// Says on standard error what of a file can be recovered, and what was done.
+fn tell(rt: &HostRuntime, words: &[Vec<u8>], found: &Recovered, is_made: bool) {
+    begin(rt, words, Some(1));
+    let _ = match found.stated {
+        None => eprint!(rt; "no slot of its head is whole; "),
+        Some(size) => eprint!(rt; "its head says {size} entries; "),
+    };
+    let _ = eprintln!(rt; "the digests of the first {} are sound", found.size);
+    begin(rt, words, if is_made { Some(2) } else { Some(1) });
+    let _ = if is_made {
+        eprintln!(rt; "a new log of {} entries was made", found.size)
+    } else {
+        eprintln!(rt; "nothing was changed: with NEW behind LOG a new log is made of these entries")
+    };
+}
+
+// Says what of a file can be recovered, or makes a new one of it; writes its size and its root.
+fn recover(rt: &HostRuntime, words: &[Vec<u8>], is_made: bool) -> Result<u8, StopAt> {
+    let old = name(words, 1)?;
+    let found = if is_made {
+        store::recover(rt, old, name(words, 2)?)?
+    } else {
+        of_log(store::recoverable(rt, old))?
+    };
+    tell(rt, words, &found, is_made);
+    say(rt, &line_of_root(rt.alloc(), found.size, &found.root)?)
+}
+
 // Does what is asked for, and returns the status.
 fn answer(rt: &HostRuntime, request: Request, words: &[Vec<u8>]) -> Result<u8, StopAt> {
     match request {
-        Request::Append { after, first } => {
-            append(rt, words, after, &digests_of_files(rt, words, first)?)
+        Request::Append { options, first } => {
+            let digests = digests_of_files(rt, words, first)?;
+            say_size(rt, append(rt, words, &options, &digests)?)
         }
-        Request::AppendLines { after, first } => {
-            append(rt, words, after, &digests_in_file(rt, words, first)?)
-        }
+        Request::AppendLines { options, first } => match options.batch {
+            Some(count) => append_batches(rt, words, &options, first, count),
+            None => append_lines(rt, words, &options, first),
+        },
         Request::Root { size } => {
             let (size, root) = of_log(store::root(rt, name(words, 1)?, size))?;
             say(rt, &line_of_root(rt.alloc(), size, &root)?)
@@ -207,13 +272,8 @@ fn answer(rt: &HostRuntime, request: Request, words: &[Vec<u8>]) -> Result<u8, S
             let path = of_log(store::consistency(rt, name(words, 1)?, old_size, size))?;
             say(rt, &line_of(rt.alloc(), &path)?)
         }
-        Request::Check => {
-            let file = bytes_of(rt, words, 1)?;
-            match is_sound(&file) {
-                Ok(holds) => say_verdict(rt, holds),
-                Err(fault) => Err(Stop::Fault(fault).at(1)),
-            }
-        }
+        Request::Check => say_verdict(rt, of_log(store::check(rt, name(words, 1)?))?),
+        Request::Recover { is_made } => recover(rt, words, is_made),
         Request::Verify { root, size, index } => {
             let entry = bytes_of(rt, words, 4)?;
             let proof = word(words, 5);

@@ -18,6 +18,13 @@ impl<'a> OnTerminal<'a> {
         }
     }
 
+    /// Shows that all is hashed, and is written.
+    pub fn writes(&self) {
+        if self.is_shown {
+            let _ = eprint!(self.rt; "\rpaxlog: writing");
+        }
+    }
+
     /// Clears the line.
     pub fn end(&self) {
         if self.is_shown {

@@ -1,12 +1,17 @@
 //! The file of a log: it is opened, locked, and made where it has no byte.
 
 use crate::file_disk::FileDisk;
-use crate::stop::Stop;
-use log_store::{Disk, InclusionProof};
+use crate::stop::{Stop, StopAt};
+use log_store::{Disk, InclusionProof, Recovered};
 use paxlog_run::fault::Fault;
 use paxlog_run::head::START;
-use paxlog_run::request::After;
-use std::fs::{File, OpenOptions};
+use paxlog_run::request::{After, Options};
+use std::fs::{File, OpenOptions, TryLockError};
+use std::thread;
+use std::time::{Duration, Instant};
+
+// For how many milliseconds nothing is tried while another process is waited for.
+const PAUSE: u64 = 20;
 
 // The folder of a file.
 fn folder_of(path: &str) -> &str {
@@ -32,47 +37,85 @@ fn is_after(after: &After, size: usize, root: &[u8; 32]) -> bool {
     after.size == size && after.root == *root
 }
 
-/// Appends entries with these digests to the log of a file, which is made where there is none, and returns the new size. Where a
-/// size and a root are given, it appends only to the log that has them.
-pub fn append(
-    rt: &HostRuntime,
-    path: &str,
-    after: Option<After>,
-    digests: &[[u8; 32]],
-) -> Result<usize, Stop> {
-    let mut how = OpenOptions::new();
-    let file = how
-        .read(true)
-        .write(true)
-        .create(after.is_none())
-        .open(rt, path)?;
-    file.try_lock()?;
-    let mut disk = FileDisk::new(file);
-    if after.is_none() {
-        make(rt, path, &mut disk)?;
-    } else {
-        disk.sync()?;
-    }
-    if digests.is_empty() {
-        let (size, root) = log_store::root(&disk, None)?;
-        return match after {
-            Some(after) if !is_after(&after, size, &root) => Err(Stop::Fault(Fault::Other)),
-            _ => Ok(size),
-        };
-    }
-    disk.is_slot_begun = false;
-    let appended = match after {
-        Some(after) => {
-            let alloc = rt.alloc();
-            log_store::append_after(alloc, &mut disk, after.size, &after.root, digests)
+// Locks a file, and waits for so many seconds at most while another process has locked it.
+fn lock(rt: &HostRuntime, file: &File, seconds: usize) -> Result<(), Stop> {
+    let start = Instant::now(rt)?;
+    for _turn in 0..usize::MAX {
+        match file.try_lock() {
+            Ok(()) => return Ok(()),
+            Err(TryLockError::Error(error)) => return Err(Stop::from(error)),
+            Err(TryLockError::WouldBlock) => {
+                if start.elapsed(rt)?.as_secs() as usize >= seconds {
+                    return Err(Stop::Locked);
+                }
+                thread::sleep(rt, Duration::from_millis(PAUSE));
+            }
         }
-        None => log_store::append(rt.alloc(), &mut disk, digests),
-    };
-    match appended {
-        Ok(size) => Ok(size),
-        Err(log_store::Stop::Fault(fault)) => Err(Stop::Fault(fault)),
-        Err(log_store::Stop::Disk(error)) if disk.is_slot_begun => Err(Stop::Perhaps(error)),
-        Err(log_store::Stop::Disk(error)) => Err(Stop::from(error)),
+    }
+    Err(Stop::Locked)
+}
+
+/// A log's file that is locked, so that entries are appended to it.
+#[derive(Drop)]
+pub struct Keeper {
+    disk: FileDisk,
+    after: Option<After>,
+}
+
+impl Keeper {
+    /// Opens and locks the file of a log, which is made where there is none and no log is named after which to append.
+    pub fn open(rt: &HostRuntime, path: &str, options: &Options) -> Result<Keeper, Stop> {
+        let mut how = OpenOptions::new();
+        let file = how
+            .read(true)
+            .write(true)
+            .create(options.after.is_none())
+            .open(rt, path)?;
+        lock(rt, &file, options.wait)?;
+        let mut disk = FileDisk::new(file);
+        if options.after.is_none() {
+            make(rt, path, &mut disk)?;
+        } else {
+            disk.sync()?;
+        }
+        Ok(Keeper {
+            disk,
+            after: options.after,
+        })
+    }
+
+    // The size of the log, where it is the one after which entries are to be appended.
+    fn size(&self) -> Result<usize, Stop> {
+        let (size, root) = log_store::root(&self.disk, None)?;
+        match &self.after {
+            Some(after) if !is_after(after, size, &root) => Err(Stop::Fault(Fault::Other)),
+            _ => Ok(size),
+        }
+    }
+
+    /// Appends entries with these digests, and returns the new size. The first append is to the log that was named, if one was.
+    pub fn append(&mut self, rt: &HostRuntime, digests: &[[u8; 32]]) -> Result<usize, Stop> {
+        if digests.is_empty() {
+            return self.size();
+        }
+        let disk = &mut self.disk;
+        disk.is_slot_begun = false;
+        let alloc = rt.alloc();
+        let appended = match &self.after {
+            Some(after) => log_store::append_after(alloc, disk, after.size, &after.root, digests),
+            None => log_store::append(alloc, disk, digests),
+        };
+        match appended {
+            Ok(size) => {
+                self.after = None;
+                Ok(size)
+            }
+            Err(log_store::Stop::Fault(fault)) => Err(Stop::Fault(fault)),
+            Err(log_store::Stop::Disk(error)) if self.disk.is_slot_begun => {
+                Err(Stop::Perhaps(error))
+            }
+            Err(log_store::Stop::Disk(error)) => Err(Stop::from(error)),
+        }
     }
 }
 
@@ -130,4 +173,58 @@ pub fn consistency(
     let proof = log_store::consistency(rt.alloc(), &disk, old_size, named)?;
     bind(rt, &disk, named, &proof.root)?;
     Ok(proof.path)
+}
+
+/// Returns whether a file is that of a log.
+pub fn check(rt: &HostRuntime, path: &str) -> Result<bool, Stop> {
+    let disk = FileDisk::new(File::open(rt, path)?);
+    Ok(log_store::check(&disk)?)
+}
+
+// The file of a log, to which nobody appends meanwhile.
+fn unchanged(rt: &HostRuntime, path: &str) -> Result<FileDisk, Stop> {
+    let file = File::open(rt, path)?;
+    file.try_lock_shared()?;
+    Ok(FileDisk::new(file))
+}
+
+/// Returns what of a file can be recovered.
+pub fn recoverable(rt: &HostRuntime, path: &str) -> Result<Recovered, Stop> {
+    let disk = unchanged(rt, path)?;
+    Ok(log_store::recoverable(&disk)?)
+}
+
+// A new file, where there is none, with its lock.
+fn created(rt: &HostRuntime, path: &str) -> Result<FileDisk, Stop> {
+    let mut how = OpenOptions::new();
+    let file = how.read(true).write(true).create_new(true).open(rt, path)?;
+    file.try_lock()?;
+    Ok(FileDisk::new(file))
+}
+
+/// Makes a new file of what of a file can be recovered, and returns once it is on the disk. The error has the place of the file that
+/// it speaks of: 1 for the old one, 2 for the new one.
+pub fn recover(rt: &HostRuntime, path: &str, new_path: &str) -> Result<Recovered, StopAt> {
+    let disk = match unchanged(rt, path) {
+        Ok(disk) => disk,
+        Err(why) => return Err(why.at(1)),
+    };
+    // a file that is no log is told before a new one is made
+    if let Err(why) = log_store::recoverable(&disk) {
+        return Err(Stop::from(why).at(1));
+    }
+    let mut new = match created(rt, new_path) {
+        Ok(new) => new,
+        Err(why) => return Err(why.at(2)),
+    };
+    match log_store::recover(&disk, &mut new) {
+        Ok(found) => match File::open(rt, folder_of(new_path)) {
+            Ok(folder) => match folder.sync_all() {
+                Ok(()) => Ok(found),
+                Err(error) => Err(Stop::from(error).at(2)),
+            },
+            Err(error) => Err(Stop::from(error).at(2)),
+        },
+        Err(why) => Err(Stop::from(why).at(if new.is_refused { 2 } else { 1 })),
+    }
 }

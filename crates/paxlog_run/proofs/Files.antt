@@ -4,18 +4,14 @@ use Rattle.std.specs.Prelude.{◌&&◌, not}
 use Rattle.std.specs.Simd.{first_chunks}
 use Rattle.std.proofs.lemmas.Bool.{le-ltb, lt-ltb, ltb-true, ltb-false}
 use Rattle.std.proofs.lemmas.List.{length-append, length-drop, length-take-le, take-take, take-append-le, take_all, drop-drop}
-use Rattle.ark_base.specs.Outcome.{Outcome}
-use Rattle.ark_base.specs.Laws.Steps.{done_injective}
-use Rattle.ark_base.specs.declared.error.Error.{Error}
 use Rattle.ark_paths.specs.Pair.{Digest}
 use Rattle.ark_trees.specs.Rfc6962.{node_of}
-use Rattle.merkle_log.specs.Kept.{front, has_front, Keeps}
-use Rattle.merkle_log.specs.Stored.{stored_count, row_of, StoredValue, IsStored}
-use Rattle.merkle_log.proofs.Positions.{length-row_of}
+use Rattle.merkle_log.specs.Kept.{has_front, Keeps}
+use Rattle.merkle_log.specs.Stored.{stored_count}
 use Rattle.sha2.specs.Sha256.{sha256}
 use Rattle.merkle_log.specs.Log.{merkle_tree_hash}
 use Rattle.paxlog_run.specs.Append.{HasBehind}
-use Rattle.paxlog_run.specs.LogFile.{digest_count, file_end, file_head, next_slot, slot_fits, slot_size, slot_to_take, stored_in, used_slot, written, IsLogFile}
+use Rattle.paxlog_run.specs.LogFile.{digest_count, file_end, file_head, next_slot, slot_fits, slot_size, stored_in, used_slot, written, IsLogFile}
 use Rattle.paxlog_run.proofs.Chunks.{chunks-append, chunks-flat, chunks-take, length-flat}
 use Rattle.paxlog_run.proofs.Heads.{fits-taken, head-parts, head-same, is_headed, slot-part, taken-fits, uses-kept, HasHead, Uses}
 use Rattle.paxlog_run.proofs.Pieces.{behind-cut, behind-written, length-written, piece-cut}
@@ -111,7 +107,7 @@ log-holds leaves root file next free head uses has =
     }
 
 -- Where the bytes behind the head begin alike, the stored digests are the same.
-stored-same : (size : ℕ) (file other : List ℕ) → take (32 * stored_count size) (drop 96 other)
+pub stored-same : (size : ℕ) (file other : List ℕ) → take (32 * stored_count size) (drop 96 other)
     ≡ take (32 * stored_count size) (drop 96 file) → stored_in size other ≡ stored_in size file
 stored-same size file other is = sym (chunks-take (stored_count size) (drop 96 other))
     ∙ ap (first_chunks 32 (stored_count size)) is ∙ chunks-take (stored_count size) (drop 96 file)
@@ -256,10 +252,7 @@ keeps-more leaves more root file bytes rest long has behind =
       omega (arith, length-cut leaves root file (bytes ++ rest) long has, length-append bytes rest, flat, count),
     )
 
--- ---- what a check of the stored digests says
-
-abbrev done : Digest → Outcome Digest
-done top = Ok top
+-- ---- one head
 
 pub sizes-same : (file : List ℕ) (a b : ℕ) (first second : Bool) → file_head file ≡ Some (a, first)
     → file_head file ≡ Some (b, second) → a ≡ b
@@ -268,63 +261,3 @@ sizes-same file a b first second one two = ap (λ o. size_in o) (sym one ∙ two
     size_in : Option (ℕ × Bool) → ℕ
     size_in None = a
     size_in (Some head) = head.0
-
-module _ (file : List ℕ) (size : ℕ) (second : Bool) (kept : StoredValue) (digests : List Digest) (root : Digest)
-    (head : file_head file ≡ Some (size, second)) (stored : digests ≡ stored_in size file)
-    (is : kept ≡ front size digests)
-    (hashed : (leaves : List Digest) → size ≤ length leaves → Keeps leaves digests
-    → merkle_tree_hash node_of (sha256 []) (take size leaves) ≡ Ok root) where
-  kept-is : kept ≡ front size (stored_in size file)
-  kept-is = is ∙ ap (front size) stored
-
-  -- the root that was hashed is that of a log whose file it is
-  root-of : (leaves : List Digest) → length leaves ≡ size → Keeps leaves digests
-      → merkle_tree_hash node_of (sha256 []) leaves ≡ Ok root
-  root-of leaves long keeps = ap (merkle_tree_hash node_of (sha256 [])) (sym (take_all size leaves (omega (arith, long))))
-      ∙ hashed leaves (omega (arith, long)) keeps
-
-  pub sound-file : (free : Bool) → size < 2 ^ 63 → file_end size ≤ length file → Keeps (row_of kept 0) kept.digests
-      → slot_to_take file size root ≡ Some free → (leaves : List Digest) × IsLogFile leaves file
-  sound-file free fits inside keeps states =
-      let leaves = row_of kept 0 in
-      let long : length leaves ≡ size = length-row_of kept 0 ∙ ap (λ k. k.size) is in
-      let seen : kept.digests ≡ stored_in (length leaves) file =
-      ap (λ k. k.digests) kept-is ∙ ap (λ n. stored_in n file) (sym long) in
-      let has = head-parts file size second head in (
-        leaves,
-        record {
-          second_is_next = second;
-          head = head ∙ ap (λ n. Some (n, second)) (sym long);
-          whole = rw (long) (front-whole size (digest_count file) fits (enough-digests (stored_count size) (length file)
-              inside));
-          keeps = subst (Keeps leaves) seen keeps;
-          root = root;
-          root_is = root-of leaves long (subst (Keeps leaves) (ap (λ k. k.digests) is) keeps);
-          second_is_free = free;
-          states = rw (long) states;
-        },
-      )
-
-  pub damaged-file : (IsStored node_of (row_of kept) → ⊥) → (leaves : List Digest) → IsLogFile leaves file → ⊥
-  damaged-file damaged leaves log =
-      let same : length leaves ≡ size = sizes-same file (length leaves) size log.second_is_next second log.head head in
-      damaged (subst (λ k. IsStored node_of (row_of k)) (ap (λ n. front n (stored_in n file)) same ∙ sym kept-is)
-      log.keeps.hashed)
-
-  -- No slot fits the root that was hashed.
-  pub unstated-file : slot_to_take file size root ≡ None → (leaves : List Digest) → IsLogFile leaves file → ⊥
-  unstated-file none leaves log =
-      let same : length leaves ≡ size = sizes-same file (length leaves) size log.second_is_next second log.head head in
-      let seen : stored_in (length leaves) file ≡ digests = ap (λ n. stored_in n file) same ∙ sym stored in
-      let tops = root-same log.root root (sym log.root_is ∙ root-of leaves same (subst (Keeps leaves) seen log.keeps)) in
-      let states = log.states in
-      is-none (slot_to_take file size root) log.second_is_free none
-      (subst (λ top. slot_to_take file size top ≡ Some log.second_is_free) tops
-      (subst (λ n. slot_to_take file n log.root ≡ Some log.second_is_free) same states))
-    where
-      root-same : (a b : Digest) → done a ≡ Ok b → a ≡ b
-      root-same a b told = done_injective {E = Error} a b told
-
-      is-none : (o : Option Bool) (b : Bool) → o ≡ None → o ≡ Some b → ⊥
-      is-none None b none some = absurd (cc)
-      is-none (Some c) b none some = absurd (cc)

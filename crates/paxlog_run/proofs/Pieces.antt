@@ -95,9 +95,9 @@ written-begin file part place m inside =
     ∙ sym (append_assoc (take place file ++ part) end (drop m behind))
     ∙ ap (λ l. l ++ drop m behind) (append_assoc (take place file) part end))
 
--- 20 bytes and 12 behind them
-pub both-parts : (front end rest : List ℕ) → length front ≡ 20 → length rest ≡ 12
-    → take 20 (front ++ rest) ++ (end ++ drop 12 (drop 20 (front ++ rest))) ≡ front ++ end
-both-parts front end rest long some =
-    rw (take_at front rest 20 long, drop_at front rest 20 long, drop_all 12 rest (omega (arith, some)))
+-- the front of a buffer was written, and what stands behind it
+pub both-parts : (n m : ℕ) (front end rest : List ℕ) → length front ≡ n → length rest ≡ m
+    → take n (front ++ rest) ++ (end ++ drop m (drop n (front ++ rest))) ≡ front ++ end
+both-parts n m front end rest long some =
+    rw (take_at front rest n long, drop_at front rest n long, drop_all m rest (omega (arith, some)))
     (ap (λ l. front ++ l) (append-nil end))

@@ -1,8 +1,7 @@
 -- What is said of the first entries of a log: a size, and the faults in its place.
-use Rattle.std.proofs.Common.{◌≡◌, ℕ, ◌<◌, ◌≤◌, nat_lt, Bool, List, Option, Result, Ok, Err, refl, ap, ◌∙◌, arith}
+use Rattle.std.proofs.Common.{◌≡◌, ℕ, ◌<◌, ◌≤◌, nat_lt, List, Option, Ok, Err, refl, ◌∙◌, arith}
 use Rattle.std.proofs.lemmas.Bool.{le-ltb, lt-ltb}
 use Rattle.paxlog_run.specs.Faults.{is_older, of_first, only_if}
-use Rattle.paxlog_run.specs.declared.fault.Fault.{Fault}
 use Rattle.paxlog_run.specs.declared.fault.Fault.TheVariants.{Index, Size}
 use Rattle.paxlog_run.proofs.Sizes.{given-of}
 
@@ -23,13 +22,3 @@ module _ (file : List ℕ) (named : Option ℕ) (size : ℕ) (is : of_first file
       (Ok size)) ≡ Err Size
   old-above old_size above = given-of (λ size. only_if (is_older old_size size) Size (Ok size)) named file size is
       ∙ rw (lt-ltb 0 old_size (omega (arith, above)), lt-ltb size old_size above) refl
-
-abbrev verdict : Bool → Result Bool Fault
-verdict holds = Ok holds
-
-pub verdict-same : (a b : Bool) → verdict a ≡ verdict b → a ≡ b
-verdict-same a b is = ap verdict_in is
-  where
-    verdict_in : Result Bool Fault → Bool
-    verdict_in (Ok holds) = holds
-    verdict_in (Err fault) = a

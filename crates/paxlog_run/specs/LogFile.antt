@@ -51,12 +51,15 @@ larger (Some size) None = Some (size, true)
 larger None (Some size) = Some (size, false)
 larger (Some size) (Some other) = if nat_lt size other then Some (other, false) else Some (size, true)
 
+-- what the two slots of a head say, whatever the title: the larger size of those that are whole
+abbrev pub slots_head : List ℕ → Option (ℕ × Bool)
+slots_head file = larger (slot_size (take 32 (drop 32 file))) (slot_size (take 32 (drop 64 file)))
+
 -- the size of the log of a file, and whether the second slot takes the next; none where the file is no log's
 abbrev pub file_head : List ℕ → Option (ℕ × Bool)
 file_head file =
     if nat_lt (length file) 96 then None
-    else if bytes_eq (take 32 file) title
-    then larger (slot_size (take 32 (drop 32 file))) (slot_size (take 32 (drop 64 file)))
+    else if bytes_eq (take 32 file) title then slots_head file
     else None
 
 -- where the slot stands that takes the next size

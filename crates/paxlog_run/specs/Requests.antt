@@ -1,5 +1,5 @@
 -- The words behind the command's name.
-use Rattle.std.specs.Prelude.{ℕ, ◌+◌, ◌==◌, ◌||◌, nat_lt, get_or, length, List, [], ◌∷◌, if◌then◌else◌, Bool, true, false, Option, Some, None, codes}
+use Rattle.std.specs.Prelude.{ℕ, ◌+◌, ◌==◌, ◌&&◌, ◌||◌, is_none, nat_lt, get_or, length, List, [], ◌∷◌, if◌then◌else◌, Bool, true, false, Option, Some, None, codes}
 use Rattle.std.specs.Result.{result_ok}
 use Rattle.std.specs.Str.{bytes_eq}
 use Rattle.hex.specs.Hex.{decode_sized}
@@ -7,7 +7,8 @@ use Rattle.decimals.specs.Decimals.{number_of}
 use Rattle.ark_paths.specs.Pair.{Digest}
 use Rattle.paxlog_run.specs.declared.request.Request.{Request}
 use Rattle.paxlog_run.specs.declared.request.After.{After}
-use Rattle.paxlog_run.specs.declared.request.Request.TheVariants.{Append, AppendLines, Root, Prove, Show, Consistency, Check, Verify, VerifyConsistency, Help, Version}
+use Rattle.paxlog_run.specs.declared.request.OptionsAt.{OptionsAt}
+use Rattle.paxlog_run.specs.declared.request.Request.TheVariants.{Append, AppendLines, Root, Prove, Show, Consistency, Check, Recover, Verify, VerifyConsistency, Help, Version}
 
 -- the digest that a word spells in hexadecimal
 abbrev pub digest_of : List ℕ → Option Digest
@@ -76,32 +77,61 @@ verify_consistency_in words = do
   root ← digest_at words 4
   Some (VerifyConsistency old_size old_root size root)
 
+-- no option yet, behind LOG
+abbrev pub no_options : OptionsAt
+no_options = record { options = record { after = None; wait = 0; batch = None }; place = 2 }
+
+-- one option more, if one stands at the place: each may stand anywhere among them, and the last of its kind counts
+abbrev pub option_more : List (List ℕ) → OptionsAt → Option OptionsAt
+option_more words at =
+    if bytes_eq (get_or words at.place []) (codes "--after") then (do
+      size ← number_at words (at.place + 1)
+      root ← digest_at words (at.place + 2)
+      Some (record {
+        options = record {
+          after = Some (record { size = size; root = root });
+          wait = at.options.wait;
+          batch = at.options.batch;
+        };
+        place = at.place + 3;
+      }))
+    else if bytes_eq (get_or words at.place []) (codes "--wait") then (do
+      seconds ← number_at words (at.place + 1)
+      Some (record {
+        options = record { after = at.options.after; wait = seconds; batch = at.options.batch };
+        place = at.place + 2;
+      }))
+    else if bytes_eq (get_or words at.place []) (codes "--batch") then (do
+      count ← number_at words (at.place + 1)
+      if count == 0 then None else Some (record {
+        options = record { after = at.options.after; wait = at.options.wait; batch = Some count };
+        place = at.place + 2;
+      }))
+    else Some at
+
 -- a place of files, or that behind it where -- stands there
-abbrev files_at : List (List ℕ) → ℕ → ℕ
+abbrev pub files_at : List (List ℕ) → ℕ → ℕ
 files_at words place = if bytes_eq (get_or words place []) (codes "--") then place + 1 else place
 
--- the size and the root behind --after, if that stands behind LOG
-abbrev pub after_in : List (List ℕ) → Option (Option After)
-after_in words = if bytes_eq (get_or words 2 []) (codes "--after") then (do
-  size ← number_at words 3
-  root ← digest_at words 4
-  Some (Some (record { size = size; root = root }))) else Some None
+-- at most three options, and the place of the files behind them
+abbrev pub options_in : List (List ℕ) → Option OptionsAt
+options_in words = do
+  one ← option_more words no_options
+  two ← option_more words one
+  three ← option_more words two
+  Some (record { options = three.options; place = files_at words three.place })
 
--- where the files stand: behind LOG, behind the size and the root if they are given, and behind --
-abbrev pub files_from : List (List ℕ) → ℕ
-files_from words = files_at words (if bytes_eq (get_or words 2 []) (codes "--after") then 5 else 2)
-
--- the append of files that they ask for
+-- the append of files that they ask for: at once, so that they name no batch
 abbrev pub append_in : List (List ℕ) → Option Request
 append_in words = do
-  after ← after_in words
-  if nat_lt (files_from words) (length words) then Some (Append after (files_from words)) else None
+  at ← options_in words
+  if is_none at.options.batch && nat_lt at.place (length words) then Some (Append at.options at.place) else None
 
 -- the append of lines that they ask for
 abbrev pub append_lines_in : List (List ℕ) → Option Request
 append_lines_in words = do
-  after ← after_in words
-  if files_from words + 1 == length words then Some (AppendLines after (files_from words)) else None
+  at ← options_in words
+  if at.place + 1 == length words then Some (AppendLines at.options at.place) else None
 
 -- what is asked for by a word with so many others behind it
 abbrev pub asked : List ℕ → ℕ → List (List ℕ) → Option Request
@@ -114,6 +144,8 @@ asked word count words =
     else if bytes_eq word (codes "show-image") then (if count == 2 || count == 3 then show_in words true else None)
     else if bytes_eq word (codes "consistency") then (if count == 2 || count == 3 then consistency_in words else None)
     else if bytes_eq word (codes "check") then (if count == 1 then Some Check else None)
+    else if bytes_eq word (codes "recover")
+    then (if count == 1 || count == 2 then Some (Recover (count == 2)) else None)
     else if bytes_eq word (codes "verify") then (if count == 5 then verify_in words else None)
     else if bytes_eq word (codes "verify-consistency") then (if count == 5 then verify_consistency_in words else None)
     else if bytes_eq word (codes "--help") || bytes_eq word (codes "-h") then (if count == 0 then Some Help else None)

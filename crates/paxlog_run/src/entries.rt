@@ -1,6 +1,6 @@
 //! The digests of entries that are lines.
 
-ghost use Rattle.std.specs.Prelude.{◌≡◌, ◌<◌, ◌≤◌, ◌∷◌, ◌++◌, [], length, map, IfOk, IsOkUnless, OnOk, MatchOption, Ok};
+ghost use Rattle.std.specs.Prelude.{◌≡◌, ◌<◌, ◌≤◌, ◌∷◌, ◌++◌, ℕ, List, [], length, take, drop, map, IfOk, IsOkUnless, OnOk, MatchOption, Ok};
 ghost use Rattle.ark_crh.specs.Ahead.{lent};
 ghost use Rattle.ark_trees.specs.Rfc6962.{entry_hash};
 ghost use Rattle.paxlog_run.specs.Entries.{lines_of};
@@ -94,4 +94,31 @@ pub fn digests_of_lines<P: Progress>(
         }
     }
     Ok(digests)
+}
+
+/// Returns how many bytes the first whole lines have, with their line feeds, and how many lines these are, of so many at most.
+///
+/// A line is whole where its line feed is there, so that it is a line however the bytes go on.
+pub fn whole_lines(bytes: &[u8], most: usize) -> (usize, usize)
+    ensures inside { result.0 ≤ length bytes.now }
+
+    // They are the first lines of all bytes that go on so.
+    ensures lines { (more : List ℕ) → lines_of (bytes.now ++ more)
+        ≡ lines_of (take result.0 bytes.now) ++ lines_of (drop result.0 bytes.now ++ more) }
+    ensures count { length (lines_of (take result.0 bytes.now)) ≡ result.1 }
+    ensures most { result.1 ≤ most }
+
+    // Where they are fewer, no whole line is left.
+    ensures all { result.1 < most → length (lines_of (drop result.0 bytes.now)) ≤ 1 }
+{
+    let mut end = 0;
+    let mut count = 0;
+    'lines: while count < most {
+        let Some(at) = memchr(b'\n', &bytes[end..]) else {
+            return (end, count);
+        };
+        end += at + 1;
+        count += 1;
+    }
+    (end, count)
 }

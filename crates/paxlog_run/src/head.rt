@@ -1,12 +1,12 @@
 //! The head of a log's file: its title, and two slots for its size and its root.
 
-ghost use Rattle.std.specs.Prelude.{◌≡◌, ◌+◌, ◌≤◌, ◌||◌, Option, length, take, drop};
+ghost use Rattle.std.specs.Prelude.{◌≡◌, ◌+◌, ◌≤◌, ◌++◌, ◌||◌, Option, length, take, drop};
 ghost use Rattle.std.specs.Option.{option_map};
 ghost use Rattle.std.specs.Int.{w64, to_le_bytes};
 ghost use Rattle.std.specs.Str.{bytes_eq};
 ghost use Rattle.sha2.specs.Sha256.{sha256};
 ghost use Rattle.paxlog_run.specs.Faults.{no_head};
-ghost use Rattle.paxlog_run.specs.LogFile.{file_head, first_word, larger, next_slot, no_statement, slot, slot_fits, slot_front, slot_size, slot_to_take, statement, title};
+ghost use Rattle.paxlog_run.specs.LogFile.{file_head, first_word, larger, next_slot, no_statement, slot, slot_fits, slot_front, slot_size, slot_to_take, slots_head, statement, title};
 
 use crate::fault::Fault;
 use sha2::{Digest, Sha256};
@@ -69,6 +69,26 @@ pub fn slot_of(size: usize, root: &[u8; 32]) -> [u8; 32]
     slot[..20].copy_from_slice(&front_of(size));
     slot[20..].copy_from_slice(&statement_of(size, root));
     slot
+}
+
+// A slot, twice.
+fn twice(slot: &[u8; 32]) -> [u8; 64]
+    ensures { result ≡ slot.now ++ slot.now }
+{
+    let mut slots = [0; 64];
+    slots[..32].copy_from_slice(slot);
+    slots[32..].copy_from_slice(slot);
+    slots
+}
+
+/// Returns the head of the file of a log: the title, and twice the slot of its size and root.
+pub fn head_of(size: usize, root: &[u8; 32]) -> [u8; START]
+    ensures { result ≡ title ++ (slot size root.now ++ slot size root.now) }
+{
+    let mut head = [0; START];
+    head[..32].copy_from_slice(&TITLE);
+    head[32..].copy_from_slice(&twice(&slot_of(size, root)));
+    head
 }
 
 // The number of the first eight bytes.
@@ -152,12 +172,21 @@ fn piece(bytes: &[u8], at: usize) -> [u8; 32]
     piece
 }
 
-// Whether the first 32 bytes are those of a log's file.
-fn has_title(bytes: &[u8]) -> bool
+/// Returns whether the first 32 bytes are those of a log's file.
+pub fn has_title(bytes: &[u8]) -> bool
     requires { 32 ≤ length bytes.now }
     ensures { result ≡ bytes_eq (take 32 bytes.now) title }
 {
     piece(bytes, 0) == TITLE
+}
+
+/// Returns what the slots of a head say, whatever its title: the larger size of those that are whole. `None` where neither is.
+pub fn slots_in(bytes: &[u8]) -> Option<Head>
+    requires { 96 ≤ length bytes.now }
+    ensures { let seen = option_map (λ head. (head.size, head.is_second_next)) result in
+        seen ≡ slots_head bytes.now }
+{
+    larger(size_in(&piece(bytes, 32)), size_in(&piece(bytes, 64)))
 }
 
 /// Returns the head of a log's file; `None` where the bytes are those of no log's. The larger size of the slots that are
@@ -172,7 +201,7 @@ pub fn head_in(bytes: &[u8]) -> Option<Head>
     if !has_title(bytes) {
         return None;
     }
-    larger(size_in(&piece(bytes, 32)), size_in(&piece(bytes, 64)))
+    slots_in(bytes)
 }
 
 /// Returns why bytes have no head: `HeadDamaged` where they begin as a log's file does, and else `NoLog`.

@@ -1,7 +1,7 @@
 //! What the words behind the command's name ask for.
 
-ghost use Rattle.std.specs.Prelude.{◌≡◌, List, [], map, get_or, vec_items};
-ghost use Rattle.paxlog_run.specs.Requests.{after_in, append_in, append_lines_in, asked, consistency_in, digest_at, digest_of, files_from, number_at, prove_in, request_of, root_in, show_in, size_at, verify_consistency_in, verify_in};
+ghost use Rattle.std.specs.Prelude.{◌≡◌, ◌≤◌, ◌+◌, [], map, get_or, vec_items, IfSome};
+ghost use Rattle.paxlog_run.specs.Requests.{append_in, append_lines_in, asked, consistency_in, digest_at, digest_of, files_at, number_at, option_more, options_in, prove_in, request_of, root_in, show_in, size_at, verify_consistency_in, verify_in};
 
 use decimals::number_of;
 
@@ -12,16 +12,27 @@ pub struct After {
     pub root: [u8; 32],
 }
 
-/// What is asked for. The names of files and a proof's word stay among the words: LOG behind the first word; FILE at the place
-/// that is named or, of `Verify`, at place 4; PROOF at place 5.
+/// How entries are to be appended.
+#[derive(Clone, Copy)]
+pub struct Options {
+    /// The log after which they are appended; any where none is named.
+    pub after: Option<After>,
+    /// For how many seconds another process is waited for that has locked the file.
+    pub wait: usize,
+    /// How many lines are appended at once; all where no count is named. It is not 0.
+    pub batch: Option<usize>,
+}
+
+/// What is asked for. The names of files and a proof's word stay among the words: LOG behind the first word, NEW behind that;
+/// FILE at the place that is named or, of `Verify`, at place 4; PROOF at place 5.
 #[derive(Clone, Copy)]
 pub enum Request {
     Append {
-        after: Option<After>,
+        options: Options,
         first: usize,
     },
     AppendLines {
-        after: Option<After>,
+        options: Options,
         first: usize,
     },
     Root {
@@ -42,6 +53,10 @@ pub enum Request {
         size: Option<usize>,
     },
     Check,
+    /// Whether NEW is to be made.
+    Recover {
+        is_made: bool,
+    },
     Verify {
         root: [u8; 32],
         size: usize,
@@ -166,29 +181,67 @@ fn verify_consistency_in(words: &[Vec<u8>]) -> Option<Request>
     })
 }
 
-// The size and the root behind `--after`, if that stands behind LOG.
-fn after_in(words: &[Vec<u8>]) -> Option<Option<After>>
-    ensures { result ≡ after_in (map vec_items words.now) }
+/// What the options of an append say.
+#[derive(Clone, Copy)]
+pub struct OptionsAt {
+    pub options: Options,
+    /// The place of the words that stands behind them.
+    pub place: usize,
+}
+
+// The same with one option more, if one stands at the place.
+fn option_more(words: &[Vec<u8>], at: OptionsAt) -> Option<OptionsAt>
+    requires { at.place ≤ 8 }
+    ensures more { result ≡ option_more (map vec_items words.now) at }
+    ensures near { IfSome result (λ more. more.place ≤ at.place + 3) }
 {
-    if word(words, 2) == b"--after".as_slice() {
-        Some(Some(After {
-            size: number_at(words, 3)?,
-            root: digest_at(words, 4)?,
-        }))
+    let OptionsAt { options, place } = at;
+    let Options { after, wait, batch } = options;
+    if word(words, place) == b"--after".as_slice() {
+        let after = After {
+            size: number_at(words, place + 1)?,
+            root: digest_at(words, place + 2)?,
+        };
+        Some(OptionsAt {
+            options: Options {
+                after: Some(after),
+                wait,
+                batch,
+            },
+            place: place + 3,
+        })
+    } else if word(words, place) == b"--wait".as_slice() {
+        Some(OptionsAt {
+            options: Options {
+                after,
+                wait: number_at(words, place + 1)?,
+                batch,
+            },
+            place: place + 2,
+        })
+    } else if word(words, place) == b"--batch".as_slice() {
+        let count = number_at(words, place + 1)?;
+        if count == 0 {
+            return None;
+        }
+        Some(OptionsAt {
+            options: Options {
+                after,
+                wait,
+                batch: Some(count),
+            },
+            place: place + 2,
+        })
     } else {
-        Some(None)
+        Some(at)
     }
 }
 
-// Where the files stand: behind LOG, behind the size and the root if they are given, and behind `--`.
-fn files_from(words: &[Vec<u8>]) -> usize
-    ensures { result ≡ files_from (map vec_items words.now) }
+// A place of files, or that behind it where `--` stands there.
+fn files_at(words: &[Vec<u8>], place: usize) -> usize
+    requires { place ≤ 11 }
+    ensures { result ≡ files_at (map vec_items words.now) place }
 {
-    let place = if word(words, 2) == b"--after".as_slice() {
-        5
-    } else {
-        2
-    };
     if word(words, place) == b"--".as_slice() {
         place + 1
     } else {
@@ -196,14 +249,38 @@ fn files_from(words: &[Vec<u8>]) -> usize
     }
 }
 
+// The options of an append, and the place of the files behind them.
+fn options_in(words: &[Vec<u8>]) -> Option<OptionsAt>
+    ensures options { result ≡ options_in (map vec_items words.now) }
+    ensures near { IfSome result (λ at. at.place ≤ 12) }
+{
+    let none = OptionsAt {
+        options: Options {
+            after: None,
+            wait: 0,
+            batch: None,
+        },
+        place: 2,
+    };
+    let one = option_more(words, none)?;
+    let two = option_more(words, one)?;
+    let OptionsAt { options, place } = option_more(words, two)?;
+    Some(OptionsAt {
+        options,
+        place: files_at(words, place),
+    })
+}
+
 // The append of files that is asked for.
 fn append_in(words: &[Vec<u8>]) -> Option<Request>
     ensures { result ≡ append_in (map vec_items words.now) }
 {
-    let after = after_in(words)?;
-    let first = files_from(words);
-    if first < words.len() {
-        Some(Request::Append { after, first })
+    let OptionsAt { options, place } = options_in(words)?;
+    if options.batch.is_none() && place < words.len() {
+        Some(Request::Append {
+            options,
+            first: place,
+        })
     } else {
         None
     }
@@ -213,10 +290,12 @@ fn append_in(words: &[Vec<u8>]) -> Option<Request>
 fn append_lines_in(words: &[Vec<u8>]) -> Option<Request>
     ensures { result ≡ append_lines_in (map vec_items words.now) }
 {
-    let after = after_in(words)?;
-    let first = files_from(words);
-    if first + 1 == words.len() {
-        Some(Request::AppendLines { after, first })
+    let OptionsAt { options, place } = options_in(words)?;
+    if place + 1 == words.len() {
+        Some(Request::AppendLines {
+            options,
+            first: place,
+        })
     } else {
         None
     }
@@ -263,6 +342,14 @@ fn asked(word: &[u8], count: usize, words: &[Vec<u8>]) -> Option<Request>
     } else if word == b"check".as_slice() {
         if count == 1 {
             Some(Request::Check)
+        } else {
+            None
+        }
+    } else if word == b"recover".as_slice() {
+        if count == 1 || count == 2 {
+            Some(Request::Recover {
+                is_made: count == 2,
+            })
         } else {
             None
         }

@@ -1,4 +1,6 @@
-use Rattle.std.proofs.Common.{◌≡◌, length, inr, refl, sym, ◌∙◌, arith}
+use Rattle.std.proofs.Common.{◌≡◌, length, inr, refl, sym, ◌∙◌, subst, arith}
+use Rattle.merkle_log.specs.Kept.{Keeps}
+use Rattle.paxlog_run.specs.LogFile.{stored_in}
 use Rattle.paxlog_run.proofs.Files.{sizes-same}
 use Rattle.log_store.proofs.Growths.{none-states, top-of}
 use Rattle.log_store.proofs.Reading.{slots-read}
@@ -36,6 +38,14 @@ returns-clause-log g c = λ obeys leaves log.
       count,
       top-of leaves size count (c.root_with-root.ensures leaves (omega (arith, count)) log.keeps own),
     )
+
+pub returns-clause-root : goal.returns-clause-root
+returns-clause-root g c = λ obeys leaves count keeps.
+    let file = g.D.Disk.seen c.args.disk.now in
+    let size = c.in_ok-read.read.head.size in
+    let own = c.in-Ok.ensures obeys (c.in_ok-read.ensures.inside obeys) in
+    top-of leaves size count (c.root_with-root.ensures leaves (omega (arith, count))
+    (subst (λ n. Keeps leaves (stored_in n file)) (sym count) keeps) own)
 
 pub returns-clause-peaks : goal.returns-clause-peaks
 returns-clause-peaks g c = λ obeys. c.in-Ok.ensures obeys (c.in_ok-read.ensures.inside obeys)

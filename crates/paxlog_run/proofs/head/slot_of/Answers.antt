@@ -10,5 +10,5 @@ returns c = rw (
   c.front_of.ensures,
   c.copy_from_slice-2.ensures.after,
   c.statement_of.ensures,
-) (both-parts (slot_front c.args.size) (statement c.args.size c.args.root.now) _
+) (both-parts 20 12 (slot_front c.args.size) (statement c.args.size c.args.root.now) _
     (length-front c.args.size) refl)
