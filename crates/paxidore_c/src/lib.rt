@@ -7,7 +7,6 @@
 
 pub mod blake2s;
 mod buffer;
-pub mod ed25519;
 mod hashing;
 pub mod kept_changes;
 pub mod kept_proofs;
@@ -18,5 +17,6 @@ pub mod log_file;
 pub mod log_keeper;
 mod refused;
 pub mod sha256;
+pub mod signatures;
 pub mod transcript;
 pub mod trees;
