@@ -241,17 +241,30 @@ fn recover(rt: &HostRuntime, words: &[Vec<u8>], is_made: bool) -> Result<u8, Sto
     say(rt, &line_of_root(rt.alloc(), found.size, &found.root)?)
 }
 
+// Stops where a word from a place on, or LOG before them, is no text: before any file is read.
+fn name_all(words: &[Vec<u8>], first: usize) -> Result<(), StopAt> {
+    for place in first..words.len() {
+        name(words, 1)?;
+        name(words, place)?;
+    }
+    Ok(())
+}
+
 // Does what is asked for, and returns the status.
 fn answer(rt: &HostRuntime, request: Request, words: &[Vec<u8>]) -> Result<u8, StopAt> {
     match request {
         Request::Append { options, first } => {
+            name_all(words, first)?;
             let digests = digests_of_files(rt, words, first)?;
             say_size(rt, append(rt, words, &options, &digests)?)
         }
-        Request::AppendLines { options, first } => match options.batch {
-            Some(count) => append_batches(rt, words, &options, first, count),
-            None => append_lines(rt, words, &options, first),
-        },
+        Request::AppendLines { options, first } => {
+            name_all(words, first)?;
+            match options.batch {
+                Some(count) => append_batches(rt, words, &options, first, count),
+                None => append_lines(rt, words, &options, first),
+            }
+        }
         Request::Root { size } => {
             let (size, root) = of_log(store::root(rt, name(words, 1)?, size))?;
             say(rt, &line_of_root(rt.alloc(), size, &root)?)
