@@ -85,7 +85,9 @@ pub fn is_newest(
     }
     let entry = entry_of(alloc, root)?;
     let newest = head.size - 1;
-    if !verify_inclusion_bytes(alloc, &LogHasher, &head.root, head.size, newest, &entry, path)? {
+    if !verify_inclusion_bytes(
+        alloc, &LogHasher, &head.root, head.size, newest, &entry, path,
+    )? {
         return Ok(false);
     }
     proof.verify(alloc, &Sha256Map::new(), root, key, value)

@@ -24,7 +24,8 @@ use Rattle.merkle_map.proofs.Shows.{shows-or_collides}
 pub found-has : {A : Type 0} (numbers : A → Digest) (shape : Shape) (key : Key) (result : Outcome (Option A))
     → known_at 0 key shape ≡ found_seen numbers result
     → IfOk result (λ found. Has shape key (value_seen numbers found))
-found-has numbers shape key (Ok found) e = λ h entries shown. known-shown h key 0 shape entries (value_seen numbers found) shown e
+found-has numbers shape key (Ok found) e =
+    λ h entries shown. known-shown h key 0 shape entries (value_seen numbers found) shown e
 found-has numbers shape key (Err error) e = tt
 
 -- ---- insert
@@ -37,7 +38,8 @@ module _ (own : Entry) (own_key : IsKey own.key) (old new : Shape) (stands : Sta
 
   pub put-follows : (result : Outcome (Unit {0})) → AnswersBy (λ _. new) (with_value 0 own old) result
       → OnOk result (Follows (put own.key own.value) old new)
-  put-follows (Ok x) is = λ h entries map shown. with-shows h own own_key 0 old new entries (omega arith) stands is map shown
+  put-follows (Ok x) is =
+      λ h entries map shown. with-shows h own own_key 0 old new entries (omega arith) stands is map shown
   put-follows (Err error) is = tt
 
 -- ---- remove
@@ -71,7 +73,8 @@ absent-followed key old e = λ h entries map shown.
     subst (λ es. Shows h 0 old es) (sym (absent-without key entries none)) shown
 
 -- what is hidden decides: the error is that
-pub unknown_losing : (key : Key) (old : Shape) → is_hidden_rest (rest_of (losing 0 key old)) ≡ true → losing 0 key old ≡ Err hides
+pub unknown_losing : (key : Key) (old : Shape) → is_hidden_rest (rest_of (losing 0 key old)) ≡ true
+    → losing 0 key old ≡ Err hides
 unknown_losing key old e = by_outcome (losing 0 key old) (seen-losing 0 key old) (losing-hides 0 key old) e
   where
     by_outcome : (o : Outcome Shape) → IsSeen o → ((error : Error) → o ≡ Err error → error ≡ hides)
@@ -117,5 +120,6 @@ pub same_root : (h : MapHashes) (root : Digest) (shape : Shape) (result : Outcom
 same_root h root shape (Err error) e = tt
 same_root h root shape (Ok accepted) e = λ yes entries tree.
     let digest = bind_ok (shape_digest h shape) _ accepted e in
-    let same = (bytes_eq-Decides digest.0 root).0 (done_injective {E = Error} (bytes_eq digest.0 root) accepted digest.2 ∙ yes) in
+    let same = (bytes_eq-Decides digest.0 root).0 (done_injective {E = Error}
+    (bytes_eq digest.0 root) accepted digest.2 ∙ yes) in
     shows-or_collides h 0 shape entries root (digest.1 ∙ ap Ok same) tree

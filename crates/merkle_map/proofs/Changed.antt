@@ -18,9 +18,11 @@ changed-map : (change : ChangeSeen) (entries : List Entry) → IsMap entries →
 changed-map (Puts key value) entries is = map-put key value entries is
 changed-map (Removes key) entries is = map-without key entries is
 
-changed-all-map : (changes : List ChangeSeen) (entries : List Entry) → IsMap entries → IsMap (changed_by_all changes entries)
+changed-all-map : (changes : List ChangeSeen) (entries : List Entry) → IsMap entries
+    → IsMap (changed_by_all changes entries)
 changed-all-map [] entries is = is
-changed-all-map (change ∷ changes) entries is = changed-all-map changes (changed_by change entries) (changed-map change entries is)
+changed-all-map (change ∷ changes) entries is =
+    changed-all-map changes (changed_by change entries) (changed-map change entries is)
 
 changed-more : (xs : List ChangeSeen) (x : ChangeSeen) (entries : List Entry)
     → changed_by_all (xs ++ x ∷ []) entries ≡ changed_by x (changed_by_all xs entries)
@@ -34,7 +36,8 @@ after-all : (xs ys : List ChangeSeen) (tree : Shape)
 after-all [] ys tree = refl
 after-all (x ∷ xs) ys tree = by_first (tree_after x tree) (λ s. after-all xs ys s)
   where
-    by_first : (o : Outcome Shape) → ((s : Shape) → tree_after_all (xs ++ ys) s ≡ (tree_after_all xs s >>= tree_after_all ys))
+    by_first : (o : Outcome Shape) → ((s : Shape)
+        → tree_after_all (xs ++ ys) s ≡ (tree_after_all xs s >>= tree_after_all ys))
         → (o >>= tree_after_all (xs ++ ys)) ≡ ((o >>= tree_after_all xs) >>= tree_after_all ys)
     by_first (Ok s) ih = ih s
     by_first (Err e) ih = refl
@@ -79,10 +82,12 @@ module _ {A : Type 0} (seen : A → ChangeSeen) (items : List A) (first : Shape)
     }
 
     -- the error of one change is that of all
-    pub made-error : (error : Error) → tree_after (seen item) before ≡ Err error → tree_after_all (map seen items) first ≡ Err error
+    pub made-error : (error : Error) → tree_after (seen item) before ≡ Err error
+        → tree_after_all (map seen items) first ≡ Err error
     made-error error e =
         let whole : map seen items ≡ map seen (take (i + 1) items) ++ map seen (drop (i + 1) items) =
-        ap (map seen) (sym (take-append-drop (i + 1) items)) ∙ map-append seen (take (i + 1) items) (drop (i + 1) items) in
+        ap (map seen) (sym (take-append-drop (i + 1) items))
+        ∙ map-append seen (take (i + 1) items) (drop (i + 1) items) in
         ap (λ l. tree_after_all l first) whole
         ∙ after-all (map seen (take (i + 1) items)) (map seen (drop (i + 1) items)) first
         ∙ ap (λ o. o >>= tree_after_all (map seen (drop (i + 1) items))) (next ∙ e)
@@ -95,7 +100,8 @@ pub leads : (h : MapHashes) (old new : Digest) (changes : List ChangeSeen) (firs
 leads h old new changes first after (Err error) binds follows e = tt
 leads h old new changes first after (Ok accepted) binds follows e = λ yes entries is_map is_old.
     let digest = bind_ok (shape_digest h after) _ accepted e in
-    let same = (bytes_eq-Decides digest.0 new).0 (done_injective {E = Error} (bytes_eq digest.0 new) accepted digest.2 ∙ yes) in
+    let same = (bytes_eq-Decides digest.0 new).0 (done_injective {E = Error}
+    (bytes_eq digest.0 new) accepted digest.2 ∙ yes) in
     elim (binds entries is_old) [
       | inr found ↦ inr found
       | inl shown ↦ inl (shows-digest h 0 after (changed_by_all changes entries) (follows h entries is_map shown)

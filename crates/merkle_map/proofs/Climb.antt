@@ -41,7 +41,8 @@ module _ (h : MapHashes) (key : Key) where
   climb-next numbers items i n item own next inside is =
       let more : n ≡ suc i = omega arith in
       let front = map numbers (take i items) in
-      let long : length front ≡ i = length-map (take i items) numbers ∙ length-take-le i items (omega (arith, inside)) in
+      let long : length front ≡ i = length-map (take i items) numbers
+      ∙ length-take-le i items (omega (arith, inside)) in
       let all : map numbers (take n items) ≡ front ++ numbers item ∷ [] =
       ap (λ k. map numbers (take k items)) more ∙ ap (map numbers) (take-suc items i item inside)
       ∙ map-append numbers (take i items) (get_or items i item ∷ [])

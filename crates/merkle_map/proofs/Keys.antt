@@ -14,14 +14,25 @@ length-way zero key = refl
 length-way (suc level) key = let ih = length-way level key in omega (arith, ih)
 
 heads : (a b : Bool) (xs ys : List Bool) → a ∷ xs ≡ b ∷ ys → (a ≡ b) × (xs ≡ ys)
-heads a b xs ys e = (ap (λ (l : List Bool). elim l [ [] ↦ a | x ∷ rest ↦ x ]) e, ap (λ (l : List Bool). elim l [ [] ↦ xs | x ∷ rest ↦ rest ]) e)
+heads a b xs ys e = (
+  ap (λ (l : List Bool). elim l [ [] ↦ a | x ∷ rest ↦ x ]) e,
+  ap (λ (l : List Bool). elim l [
+    | [] ↦ xs
+    | x ∷ rest ↦
+        rest
+  ]) e,
+)
 
 -- keys with one way have the same bits on it
 pub same_bit : (level i : ℕ) (a b : Key) → way level a ≡ way level b → i < level → bit_of i a ≡ bit_of i b
 same_bit zero i a b e inside = absurd (omega arith)
 same_bit (suc level) i a b e inside =
     let parts = heads (bit_of level a) (bit_of level b) (way level a) (way level b) e in
-    elim (last i inside) [ inl below ↦ same_bit level i a b parts.1 below | inr is ↦ subst (λ (n : ℕ). bit_of n a ≡ bit_of n b) (sym is) parts.0 ]
+    elim (last i inside) [
+      | inl below ↦ same_bit level i a b parts.1 below
+      | inr is ↦ subst (λ
+          (n : ℕ). bit_of n a ≡ bit_of n b) (sym is) parts.0
+    ]
   where
     last : (i : ℕ) → i < suc level → (i < level) ⊎ (i ≡ level)
     last i h = elim (cases_lt i level) [ inl below ↦ inl below | inr above ↦ inr (omega (arith, h, above)) ]

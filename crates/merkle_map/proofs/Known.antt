@@ -8,7 +8,8 @@ use Rattle.merkle_map.specs.Changes.{known_at, own_value}
 use Rattle.merkle_map.proofs.Bound.{value_at-side}
 
 module _ (h : MapHashes) (key : Key) where
-  pub known-shown : (level : ℕ) (shape : Shape) (entries : List Entry) (value : Option Digest) → Shows h level shape entries
+  pub known-shown : (level : ℕ) (shape : Shape) (entries : List Entry) (value : Option Digest)
+      → Shows h level shape entries
       → known_at level key shape ≡ Ok value → value_at key entries ≡ value
   known-shown level Empty entries value shown is = ap (value_at key) shown ∙ done_injective {E = Error} None value is
   known-shown level (One entry) entries value shown is =
@@ -21,7 +22,8 @@ module _ (h : MapHashes) (key : Key) where
       by_bit : (known_at (suc level) key left ≡ Ok value → value_at key (side false level entries) ≡ value)
           → (known_at (suc level) key right ≡ Ok value → value_at key (side true level entries) ≡ value)
           → (b : Bool) → bit_of level key ≡ b
-          → (if b then known_at (suc level) key right else known_at (suc level) key left) ≡ Ok value → value_at key entries ≡ value
+          → (if b then known_at (suc level) key right else known_at
+          (suc level) key left) ≡ Ok value → value_at key entries ≡ value
       by_bit on_left on_right true bit is = sym (value_at-side key level entries)
           ∙ ap (λ (b : Bool). value_at key (side b level entries)) bit ∙ on_right is
       by_bit on_left on_right false bit is = sym (value_at-side key level entries)

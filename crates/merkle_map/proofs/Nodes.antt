@@ -32,4 +32,5 @@ same_node (Pair w x) (Leaf y) p q e = absurd cc
 same_node (Pair w x) (Pair y z) p q e =
     let rest = tails 1 1 (w ++ x) (y ++ z) e in
     let long = p.0 ∙ sym q.0 in
-    ap (λ (l : List ℕ). Pair l x) (first_same w x y z long rest) ∙ ap (λ (r : List ℕ). Pair y r) (second_same w x y z long rest)
+    ap (λ (l : List ℕ). Pair l x) (first_same w x y z long rest) ∙ ap (λ (r : List ℕ). Pair y r) (second_same w x y z
+    long rest)

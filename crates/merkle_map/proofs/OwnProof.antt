@@ -19,14 +19,16 @@ use Rattle.merkle_map.proofs.Places.{if_true, if_false}
 
 behind-twice : (a b : List Digest) (o : Outcome ProofSeen)
     → behind_all (a ++ b) o ≡ (o >>= λ proof. Ok (behind a (behind b proof)))
-behind-twice a b (Ok proof) = ap (λ (l : List Digest). Ok (record { end = proof.end; siblings = l })) (append_assoc a b proof.siblings)
+behind-twice a b (Ok proof) =
+    ap (λ (l : List Digest). Ok (record { end = proof.end; siblings = l })) (append_assoc a b proof.siblings)
 behind-twice a b (Err error) = refl
 
 one-more : (a : List Digest) (d : Digest) (o : Outcome ProofSeen)
     → behind_all a (o >>= λ proof. Ok (below d proof)) ≡ behind_all (a ++ d ∷ []) o
 one-more a d (Err error) = refl
 one-more a d (Ok proof) =
-    ap (λ (l : List Digest). Ok (record { end = proof.end; siblings = l })) (sym (append_assoc a (d ∷ []) proof.siblings))
+    ap (λ (l : List Digest). Ok (record { end = proof.end; siblings = l })) (sym (append_assoc a
+    (d ∷ []) proof.siblings))
 
 module _ (h : MapHashes) (level : ℕ) (key : Key) (left right : Shape) where
   -- one level down
@@ -36,7 +38,8 @@ module _ (h : MapHashes) (level : ℕ) (key : Key) (left right : Shape) where
   down-right digests d bit is =
       let e : suc level ≡ level + 1 = omega arith in
       ap (behind_all digests) (if_true (bit_of level key) (shape_digest h left >>= λ d. proof_at h (suc level) key right
-      >>= λ p. Ok (below d p)) (shape_digest h right >>= λ d. proof_at h (suc level) key left >>= λ p. Ok (below d p)) bit
+      >>= λ p. Ok (below d p)) (shape_digest h right >>= λ d. proof_at h (suc level) key left >>= λ p. Ok
+      (below d p)) bit
       ∙ ap (λ o. o >>= λ d. proof_at h (suc level) key right >>= λ p. Ok (below d p)) is)
       ∙ one-more digests d (proof_at h (suc level) key right)
       ∙ ap (λ (n : ℕ). behind_all (digests ++ d ∷ []) (proof_at h n key right)) e
@@ -46,8 +49,10 @@ module _ (h : MapHashes) (level : ℕ) (key : Key) (left right : Shape) where
       ≡ behind_all (digests ++ d ∷ []) (proof_at h (level + 1) key left)
   down-left digests d bit is =
       let e : suc level ≡ level + 1 = omega arith in
-      ap (behind_all digests) (if_false (bit_of level key) (shape_digest h left >>= λ d. proof_at h (suc level) key right
-      >>= λ p. Ok (below d p)) (shape_digest h right >>= λ d. proof_at h (suc level) key left >>= λ p. Ok (below d p)) bit
+      ap (behind_all digests) (if_false (bit_of level key) (shape_digest h left >>= λ d. proof_at h
+      (suc level) key right
+      >>= λ p. Ok (below d p)) (shape_digest h right >>= λ d. proof_at h (suc level) key left >>= λ p. Ok
+      (below d p)) bit
       ∙ ap (λ o. o >>= λ d. proof_at h (suc level) key left >>= λ p. Ok (below d p)) is)
       ∙ one-more digests d (proof_at h (suc level) key left)
       ∙ ap (λ (n : ℕ). behind_all (digests ++ d ∷ []) (proof_at h n key left)) e
@@ -68,7 +73,8 @@ module _ (h : MapHashes) (key : Key) where
       by_test true e = ap (λ (k : Key). h.leaf k entry.value) (sym ((bytes_eq-Decides entry.key key).0 e))
       by_test false e = refl
 
-  climb-below : (level : ℕ) (shape : Shape) (proof : ProofSeen) (value : Option Digest) → proof_at h level key shape ≡ Ok proof
+  climb-below : (level : ℕ) (shape : Shape) (proof : ProofSeen) (value : Option Digest)
+      → proof_at h level key shape ≡ Ok proof
       → known_at level key shape ≡ Ok value
       → climb h key level proof.siblings (end_digest value proof.end) ≡ shape_digest h shape
   climb-below level Empty proof value is known =
@@ -82,7 +88,8 @@ module _ (h : MapHashes) (key : Key) where
       ap (λ (p : ProofSeen). climb h key level p.siblings (end_digest value p.end)) (sym p)
       ∙ ap (λ (v : Option Digest). end_digest v (end_at key entry)) (sym v) ∙ end_own entry
   climb-below level (Hidden digest) proof value is known = absurd cc
-  climb-below level (Fork left right) proof value is known = by_bit (climb-below (suc level) left) (climb-below (suc level) right)
+  climb-below level (Fork left right) proof value is known =
+      by_bit (climb-below (suc level) left) (climb-below (suc level) right)
       (bit_of level key) refl is known
     where
       by_bit : ((proof : ProofSeen) (value : Option Digest) → proof_at h (suc level) key left ≡ Ok proof
@@ -117,7 +124,8 @@ module _ (h : MapHashes) (key : Key) where
   long-below : (bits : List Bool) (level : ℕ) (shape : Shape) (proof : ProofSeen) → length bits ≡ level → level ≤ 256
       → StandsAt bits shape → proof_at h level key shape ≡ Ok proof → length proof.siblings + level ≤ 256
   long-below bits level Empty proof long within stands is =
-      let p = ap (λ (p : ProofSeen). length p.siblings) (done_injective {E = Error} (record { end = AtNothing; siblings = [] }) proof is) in
+      let p = ap (λ (p : ProofSeen). length p.siblings) (done_injective {E = Error}
+      (record { end = AtNothing; siblings = [] }) proof is) in
       omega (arith, p, within)
   long-below bits level (One entry) proof long within stands is =
       let p = ap (λ (p : ProofSeen). length p.siblings)
@@ -125,36 +133,42 @@ module _ (h : MapHashes) (key : Key) where
       omega (arith, p, within)
   long-below bits level (Hidden digest) proof long within stands is = absurd cc
   long-below bits level (Fork left right) proof long within stands is =
-      by_bit (λ p. long-below (false ∷ bits) (suc level) left p (omega (arith, long)) (omega (arith, long, stands.0)) stands.2)
+      by_bit (λ p. long-below (false ∷ bits) (suc level) left p (omega (arith, long)) (omega
+      (arith, long, stands.0)) stands.2)
       (λ p. long-below (true ∷ bits) (suc level) right p (omega (arith, long)) (omega (arith, long, stands.0)) stands.3)
       (bit_of level key) is
     where
       by_bit : ((p : ProofSeen) → proof_at h (suc level) key left ≡ Ok p → length p.siblings + suc level ≤ 256)
-          → ((p : ProofSeen) → proof_at h (suc level) key right ≡ Ok p → length p.siblings + suc level ≤ 256) → (b : Bool)
+          → ((p : ProofSeen) → proof_at h (suc level) key right ≡ Ok p → length p.siblings + suc level ≤ 256)
+          → (b : Bool)
           → (if b then (shape_digest h left >>= λ d. proof_at h (suc level) key right >>= λ p. Ok (below d p))
           else (shape_digest h right >>= λ d. proof_at h (suc level) key left >>= λ p. Ok (below d p))) ≡ Ok proof
           → length proof.siblings + level ≤ 256
       by_bit on_left on_right true is =
           let d = bind_ok (shape_digest h left) _ proof is in
           let p = bind_ok (proof_at h (suc level) key right) (λ p. Ok (below d.0 p)) proof d.2 in
-          let whole = ap (λ (p : ProofSeen). length p.siblings) (done_injective {E = Error} (below d.0 p.0) proof p.2) in
+          let whole = ap (λ (p : ProofSeen). length p.siblings) (done_injective {E = Error}
+          (below d.0 p.0) proof p.2) in
           omega (arith, whole, on_right p.0 p.1)
       by_bit on_left on_right false is =
           let d = bind_ok (shape_digest h right) _ proof is in
           let p = bind_ok (proof_at h (suc level) key left) (λ p. Ok (below d.0 p)) proof d.2 in
-          let whole = ap (λ (p : ProofSeen). length p.siblings) (done_injective {E = Error} (below d.0 p.0) proof p.2) in
+          let whole = ap (λ (p : ProofSeen). length p.siblings) (done_injective {E = Error}
+          (below d.0 p.0) proof p.2) in
           omega (arith, whole, on_left p.0 p.1)
 
   reaches : (root : Digest) (siblings : List Digest) (end : Node) (own : Outcome Digest) → digest_of h end ≡ own
       → climb h key 0 siblings own ≡ Ok root → length siblings ≤ 256 → verdict h root key siblings end ≡ Ok true
   reaches root siblings end own is up long =
-      if_false (nat_lt key_bits (length siblings)) (Ok false) (digest_of h end >>= verdict_from h root key siblings) (not_long (length siblings) long)
+      if_false (nat_lt key_bits (length siblings)) (Ok false) (digest_of h end >>= verdict_from h root key siblings)
+      (not_long (length siblings) long)
       ∙ ap (λ o. o >>= verdict_from h root key siblings) is ∙ by_own own up
     where
       not_long : (n : ℕ) → n ≤ 256 → nat_lt 256 n ≡ false
       not_long n within = le-ltb 256 n within
 
-      by_own : (own : Outcome Digest) → climb h key 0 siblings own ≡ Ok root → (own >>= verdict_from h root key siblings) ≡ Ok true
+      by_own : (own : Outcome Digest) → climb h key 0 siblings own ≡ Ok root
+          → (own >>= verdict_from h root key siblings) ≡ Ok true
       by_own (Ok own) up = ap (λ o. o >>= λ top. Ok (bytes_eq top root)) up
           ∙ ap Ok ((bytes_eq-Decides root root).1 refl)
       by_own (Err error) up = let no = sym (climb-refused h key 0 siblings error) ∙ up in absurd cc
@@ -171,38 +185,47 @@ module _ (h : MapHashes) (key : Key) where
   fits-own : (entry : Entry) → Fits (own_value key entry) (end_at key entry)
   fits-own entry = by_test (bytes_eq entry.key key) refl
     where
-      by_test : (b : Bool) → bytes_eq entry.key key ≡ b → Fits (if b then Some entry.value else None) (if b then AtOwn else AtOther entry)
+      by_test : (b : Bool) → bytes_eq entry.key key ≡ b
+          → Fits (if b then Some entry.value else None) (if b then AtOwn else AtOther entry)
       by_test true e = tt
       by_test false e = e
 
-  fits-end : (level : ℕ) (shape : Shape) (proof : ProofSeen) (value : Option Digest) → proof_at h level key shape ≡ Ok proof
+  fits-end : (level : ℕ) (shape : Shape) (proof : ProofSeen) (value : Option Digest)
+      → proof_at h level key shape ≡ Ok proof
       → known_at level key shape ≡ Ok value → Fits value proof.end
   fits-end level Empty proof value is known =
-      subst (λ (p : ProofSeen). Fits value p.end) (done_injective {E = Error} (record { end = AtNothing; siblings = [] }) proof is)
+      subst (λ (p : ProofSeen). Fits value p.end) (done_injective {E = Error}
+      (record { end = AtNothing; siblings = [] }) proof is)
       (subst (λ (v : Option Digest). Fits v AtNothing) (done_injective {E = Error} None value known) tt)
   fits-end level (One entry) proof value is known =
       subst (λ (p : ProofSeen). Fits value p.end)
       (done_injective {E = Error} (record { end = end_at key entry; siblings = [] }) proof is)
-      (subst (λ (v : Option Digest). Fits v (end_at key entry)) (done_injective {E = Error} (own_value key entry) value known)
+      (subst (λ (v : Option Digest). Fits v (end_at key entry)) (done_injective {E = Error}
+      (own_value key entry) value known)
       (fits-own entry))
   fits-end level (Hidden digest) proof value is known = absurd cc
   fits-end level (Fork left right) proof value is known = by_bit (λ p. fits-end (suc level) left p value)
       (λ p. fits-end (suc level) right p value) (bit_of level key) is known
     where
-      by_bit : ((p : ProofSeen) → proof_at h (suc level) key left ≡ Ok p → known_at (suc level) key left ≡ Ok value → Fits value p.end)
-          → ((p : ProofSeen) → proof_at h (suc level) key right ≡ Ok p → known_at (suc level) key right ≡ Ok value → Fits value p.end)
+      by_bit : ((p : ProofSeen) → proof_at h (suc level) key left ≡ Ok p → known_at (suc level) key left ≡ Ok value
+          → Fits value p.end)
+          → ((p : ProofSeen) → proof_at h (suc level) key right ≡ Ok p → known_at (suc level) key right ≡ Ok value
+          → Fits value p.end)
           → (b : Bool)
           → (if b then (shape_digest h left >>= λ d. proof_at h (suc level) key right >>= λ p. Ok (below d p))
           else (shape_digest h right >>= λ d. proof_at h (suc level) key left >>= λ p. Ok (below d p))) ≡ Ok proof
-          → (if b then known_at (suc level) key right else known_at (suc level) key left) ≡ Ok value → Fits value proof.end
+          → (if b then known_at (suc level) key right else known_at
+          (suc level) key left) ≡ Ok value → Fits value proof.end
       by_bit on_left on_right true is known =
           let d = bind_ok (shape_digest h left) _ proof is in
           let p = bind_ok (proof_at h (suc level) key right) (λ p. Ok (below d.0 p)) proof d.2 in
-          subst (λ (p : ProofSeen). Fits value p.end) (done_injective {E = Error} (below d.0 p.0) proof p.2) (on_right p.0 p.1 known)
+          subst (λ (p : ProofSeen). Fits value p.end) (done_injective {E = Error} (below d.0 p.0) proof p.2)
+          (on_right p.0 p.1 known)
       by_bit on_left on_right false is known =
           let d = bind_ok (shape_digest h right) _ proof is in
           let p = bind_ok (proof_at h (suc level) key left) (λ p. Ok (below d.0 p)) proof d.2 in
-          subst (λ (p : ProofSeen). Fits value p.end) (done_injective {E = Error} (below d.0 p.0) proof p.2) (on_left p.0 p.1 known)
+          subst (λ (p : ProofSeen). Fits value p.end) (done_injective {E = Error} (below d.0 p.0) proof p.2)
+          (on_left p.0 p.1 known)
 
   pub accepts : (shape : Shape) (proof : ProofSeen) → StandsAt [] shape → proof_at h 0 key shape ≡ Ok proof
       → IsAccepted h key shape proof
@@ -221,7 +244,8 @@ module _ (h : MapHashes) (key : Key) where
       by_end AtOwn (Some value) fits up =
           reaches root proof.siblings (leaf_of key value) (digest_of h (leaf_of key value)) refl up short
       by_end (AtOther entry) None fits up =
-          if_false (bytes_eq entry.key key) (Ok false) (verdict h root key proof.siblings (leaf_of entry.key entry.value)) fits
+          if_false (bytes_eq entry.key key) (Ok false) (verdict h root key proof.siblings
+          (leaf_of entry.key entry.value)) fits
           ∙ reaches root proof.siblings (leaf_of entry.key entry.value) (digest_of h (Leaf entry)) refl up short
       by_end (AtOther entry) (Some value) fits up = absurd fits
 

@@ -1,5 +1,5 @@
 -- Trees on the way of a key.
-use Rattle.std.proofs.Common.{suc, ◌≡◌, ℕ, ◌+◌, ◌<◌, Bool, true, false, if◌then◌else◌, ◌∷◌, Ok, arith, refl, ap, sym, ◌∙◌, subst}
+use Rattle.std.proofs.Common.{suc, ◌≡◌, ℕ, ◌+◌, ◌<◌, Bool, true, false, if◌then◌else◌, Ok, arith, refl, ap, ◌∙◌}
 use Rattle.ark_base.specs.Outcome.{◌>>=◌}
 use Rattle.merkle_map.specs.Map.{Key, Entry, bit_of}
 use Rattle.merkle_map.specs.Tree.{Shape, Fork, way, StandsAt}
@@ -15,18 +15,6 @@ if_false b x y e = rw e refl
 module _ (level : ℕ) (key : Key) (left right : Shape) (stands : StandsAt (way level key) (Fork left right)) where
   pub fork_within : level < 256
   fork_within = let long = length-way level key in omega (arith, stands.0, long)
-
-  pub stands-right : (next : ℕ) → next ≡ level + 1 → bit_of level key ≡ true → StandsAt (way next key) right
-  stands-right next is bit =
-      let e : next ≡ suc level = omega (arith, is) in
-      subst (λ (n : ℕ). StandsAt (way n key) right) (sym e)
-      (subst (λ (b : Bool). StandsAt (b ∷ way level key) right) (sym bit) stands.3)
-
-  pub stands-left : (next : ℕ) → next ≡ level + 1 → bit_of level key ≡ false → StandsAt (way next key) left
-  stands-left next is bit =
-      let e : next ≡ suc level = omega (arith, is) in
-      subst (λ (n : ℕ). StandsAt (way n key) left) (sym e)
-      (subst (λ (b : Bool). StandsAt (b ∷ way level key) left) (sym bit) stands.2)
 
 -- a function of a fork goes on at the key's side
 module _ (level : ℕ) (key : Key) (left right : Shape) where

@@ -14,7 +14,8 @@ use Rattle.merkle_map.proofs.Rest.{IsSeen, seen-losing}
 use Rattle.merkle_map.proofs.Shows.{shows-digest}
 
 -- forks that stand on ways stand above the last bit
-pub stands-fits : (bits : List Bool) (level : ℕ) (shape : Shape) → length bits ≡ level → StandsAt bits shape → Fits level shape
+pub stands-fits : (bits : List Bool) (level : ℕ) (shape : Shape) → length bits ≡ level → StandsAt bits shape
+    → Fits level shape
 stands-fits bits level Empty long stands = tt
 stands-fits bits level (One entry) long stands = tt
 stands-fits bits level (Hidden digest) long stands = tt
@@ -28,7 +29,8 @@ stands-fits bits level (Fork left right) long stands = (
 moved : (P : Shape → Type 0) (s n : Shape) → gives s ≡ Ok n → P s → P n
 moved P s n e p = subst P (done_injective {E = Error} s n e) p
 
-among-filter : (p : Key → Bool) (key : Key) (keys : List Key) → p key ≡ true → IsAmong key keys → IsAmong key (filter p keys)
+among-filter : (p : Key → Bool) (key : Key) (keys : List Key) → p key ≡ true → IsAmong key keys
+    → IsAmong key (filter p keys)
 among-filter p key [] has h = absurd h
 among-filter p key (first ∷ keys) has (inl same) =
     let e : p first ≡ true = ap p same ∙ has in rw e (inl same)
@@ -101,7 +103,8 @@ module _ (h : MapHashes) where
 
   -- ---- a pruned tree is a copy
 
-  pub prunes : (tops : Bool) (level : ℕ) (bits : List Bool) (keys : List Key) (s n : Shape) → pruned h tops level keys s ≡ Ok n
+  pub prunes : (tops : Bool) (level : ℕ) (bits : List Bool) (keys : List Key) (s n : Shape)
+      → pruned h tops level keys s ≡ Ok n
       → IsCopy level bits s n
   prunes tops level bits [] s n e = asides tops level bits s n e
   prunes tops level bits (key ∷ keys) Empty n e = same level bits Empty n e
@@ -109,7 +112,8 @@ module _ (h : MapHashes) where
   prunes tops level bits (key ∷ keys) (Hidden digest) n e = same level bits (Hidden digest) n e
   prunes tops level bits (key ∷ keys) (Fork left right) n e =
       let l = bind_ok (pruned h tops (suc level) (keys_with false level (key ∷ keys)) left) _ n e in
-      let r = bind_ok (pruned h tops (suc level) (keys_with true level (key ∷ keys)) right) (λ r. Ok (Fork l.0 r)) n l.2 in
+      let r = bind_ok (pruned h tops (suc level) (keys_with true level (key ∷ keys)) right) (λ r. Ok
+      (Fork l.0 r)) n l.2 in
       moved (IsCopy level bits (Fork left right)) (Fork l.0 r.0) n r.2 (forks level bits left right l.0 r.0
       (prunes tops (suc level) (false ∷ bits) (keys_with false level (key ∷ keys)) left l.0 l.1)
       (prunes tops (suc level) (true ∷ bits) (keys_with true level (key ∷ keys)) right r.0 r.1))
@@ -118,21 +122,25 @@ module _ (h : MapHashes) where
   pub prunes-known : (tops : Bool) (level : ℕ) (keys : List Key) (key : Key) (s n : Shape) → IsAmong key keys
       → pruned h tops level keys s ≡ Ok n → known_at level key n ≡ known_at level key s
   prunes-known tops level [] key s n among e = absurd among
-  prunes-known tops level (k ∷ keys) key Empty n among e = ap (known_at level key) (sym (done_injective {E = Error} Empty n e))
+  prunes-known tops level (k ∷ keys) key Empty n among e =
+      ap (known_at level key) (sym (done_injective {E = Error} Empty n e))
   prunes-known tops level (k ∷ keys) key (One entry) n among e =
       ap (known_at level key) (sym (done_injective {E = Error} (One entry) n e))
   prunes-known tops level (k ∷ keys) key (Hidden digest) n among e =
       ap (known_at level key) (sym (done_injective {E = Error} (Hidden digest) n e))
   prunes-known tops level (k ∷ keys) key (Fork left right) n among e =
       let l = bind_ok (pruned h tops (suc level) (keys_with false level (k ∷ keys)) left) _ n e in
-      let r = bind_ok (pruned h tops (suc level) (keys_with true level (k ∷ keys)) right) (λ r. Ok (Fork l.0 r)) n l.2 in
+      let r = bind_ok (pruned h tops (suc level) (keys_with true level (k ∷ keys)) right) (λ r. Ok
+      (Fork l.0 r)) n l.2 in
       ap (known_at level key) (sym (done_injective {E = Error} (Fork l.0 r.0) n r.2))
       ∙ by_bit l.0 r.0 (λ a. prunes-known tops (suc level) (keys_with false level (k ∷ keys)) key left l.0 a l.1)
       (λ a. prunes-known tops (suc level) (keys_with true level (k ∷ keys)) key right r.0 a r.1) (bit_of level key) refl
     where
       by_bit : (m n : Shape)
-          → (IsAmong key (keys_with false level (k ∷ keys)) → known_at (suc level) key m ≡ known_at (suc level) key left)
-          → (IsAmong key (keys_with true level (k ∷ keys)) → known_at (suc level) key n ≡ known_at (suc level) key right)
+          → (IsAmong key (keys_with false level (k ∷ keys)) → known_at (suc level) key m ≡ known_at
+          (suc level) key left)
+          → (IsAmong key (keys_with true level (k ∷ keys)) → known_at (suc level) key n ≡ known_at
+          (suc level) key right)
           → (b : Bool) → bit_of level key ≡ b → (if b then known_at (suc level) key n else known_at (suc level) key m)
           ≡ (if b then known_at (suc level) key right else known_at (suc level) key left)
       by_bit m n on_left on_right true bit =
@@ -151,14 +159,16 @@ module _ (h : MapHashes) where
       let r = bind_ok (covered h right) (λ r. Ok (Fork l.0 r)) n l.2 in
       moved (λ s. IsSeen (Ok s)) (Fork l.0 r.0) n r.2 tt
 
-  prunes-seen : (level : ℕ) (keys : List Key) (s n : Shape) → IsWhole s → pruned h true level keys s ≡ Ok n → IsSeen (Ok n)
+  prunes-seen : (level : ℕ) (keys : List Key) (s n : Shape) → IsWhole s → pruned h true level keys s ≡ Ok n
+      → IsSeen (Ok n)
   prunes-seen level [] s n whole e = covers-aside s n whole e
   prunes-seen level (k ∷ keys) Empty n whole e = moved (λ s. IsSeen (Ok s)) Empty n e tt
   prunes-seen level (k ∷ keys) (One entry) n whole e = moved (λ s. IsSeen (Ok s)) (One entry) n e tt
   prunes-seen level (k ∷ keys) (Hidden digest) n whole e = absurd whole
   prunes-seen level (k ∷ keys) (Fork left right) n whole e =
       let l = bind_ok (pruned h true (suc level) (keys_with false level (k ∷ keys)) left) _ n e in
-      let r = bind_ok (pruned h true (suc level) (keys_with true level (k ∷ keys)) right) (λ r. Ok (Fork l.0 r)) n l.2 in
+      let r = bind_ok (pruned h true (suc level) (keys_with true level (k ∷ keys)) right) (λ r. Ok
+      (Fork l.0 r)) n l.2 in
       moved (λ s. IsSeen (Ok s)) (Fork l.0 r.0) n r.2 tt
 
   pub joined-ok : (l r : Shape) → IsSeen (Ok l) → IsSeen (Ok r) → IsOk (joined l r)
@@ -192,7 +202,8 @@ module _ (h : MapHashes) where
   loses level (k ∷ keys) key (Hidden digest) n whole among e = absurd whole
   loses level (k ∷ keys) key (Fork left right) n whole among e =
       let l = bind_ok (pruned h true (suc level) (keys_with false level (k ∷ keys)) left) _ n e in
-      let r = bind_ok (pruned h true (suc level) (keys_with true level (k ∷ keys)) right) (λ r. Ok (Fork l.0 r)) n l.2 in
+      let r = bind_ok (pruned h true (suc level) (keys_with true level (k ∷ keys)) right) (λ r. Ok
+      (Fork l.0 r)) n l.2 in
       moved (λ s. IsOk (losing level key s)) (Fork l.0 r.0) n r.2
       (by_bit l.0 r.0 (prunes-seen (suc level) (keys_with false level (k ∷ keys)) left l.0 whole.0 l.1)
       (prunes-seen (suc level) (keys_with true level (k ∷ keys)) right r.0 whole.1 r.1)
@@ -204,9 +215,11 @@ module _ (h : MapHashes) where
           → (IsAmong key (keys_with true level (k ∷ keys)) → IsOk (losing (suc level) key n))
           → (b : Bool) → bit_of level key ≡ b → IsOk (if b then (losing (suc level) key n >>= λ r. joined m r)
           else (losing (suc level) key m >>= λ l. joined l n))
-      by_bit m n on_m on_n on_left on_right true bit = ok-right m (losing (suc level) key n) on_m (seen-losing (suc level) key n)
+      by_bit m n on_m on_n on_left on_right true bit =
+          ok-right m (losing (suc level) key n) on_m (seen-losing (suc level) key n)
           (on_right (among-filter (λ k. has_bit true level k) key (k ∷ keys) (own_bit true level key bit) among))
-      by_bit m n on_m on_n on_left on_right false bit = ok-left n (losing (suc level) key m) on_n (seen-losing (suc level) key m)
+      by_bit m n on_m on_n on_left on_right false bit =
+          ok-left n (losing (suc level) key m) on_n (seen-losing (suc level) key m)
           (on_left (among-filter (λ k. has_bit false level k) key (k ∷ keys) (own_bit false level key bit) among))
 
   pub whole-known : (level : ℕ) (key : Key) (s : Shape) → IsWhole s → IsOk (known_at level key s)
@@ -223,7 +236,8 @@ module _ (h : MapHashes) where
 
   pub can_lose : (keys : List Key) (s n : Shape) → pruned h true 0 keys s ≡ Ok n → IsWhole s → CanLose keys n
   can_lose keys s n e whole key among = by_known (known_at 0 key n)
-      (subst (λ (o : Outcome (Option Digest)). IsOk o) (sym (prunes-known true 0 keys key s n among e)) (whole-known 0 key s whole))
+      (subst (λ (o : Outcome (Option Digest)). IsOk o) (sym (prunes-known true 0 keys key s n among e)) (whole-known 0
+      key s whole))
     where
       by_known : (o : Outcome (Option Digest)) → IsOk o → IsOk (o >>= losing_known key n)
       by_known (Ok None) ok = refl

@@ -89,11 +89,13 @@ module _ (h : MapHashes) (level : ℕ) where
 
 -- ---- two entries
 
-module _ (h : MapHashes) (x y : Entry) (x_key : IsKey x.key) (y_key : IsKey y.key) (differ : bytes_eq y.key x.key ≡ false) where
+module _ (h : MapHashes) (x y : Entry) (x_key : IsKey x.key) (y_key : IsKey y.key) (differ : bytes_eq y.key x.key ≡
+    false) where
   pub two-shows : (bits level : ℕ) → bits + level ≡ 256 → way level x.key ≡ way level y.key
       → Shows h level (two_of bits level x y) (x ∷ y ∷ [])
   two-shows zero level sum together =
-      let inside = bits_left level x.key y.key x_key y_key (omega (arith, sum)) together differ in absurd (omega (arith, sum, inside))
+      let inside = bits_left level x.key y.key x_key y_key (omega (arith, sum)) together differ in absurd (omega
+      (arith, sum, inside))
   two-shows (suc bits) level sum together = by_bits
       (λ same. two-shows bits (suc level) (omega (arith, sum)) (ap (λ (b : Bool). b ∷ way level x.key) same
       ∙ ap (λ (bits : List Bool). bit_of level y.key ∷ bits) together))
@@ -102,14 +104,17 @@ module _ (h : MapHashes) (x y : Entry) (x_key : IsKey x.key) (y_key : IsKey y.ke
       inside : level < key_bits
       inside = omega (arith, sum)
 
-      by_bits : (bit_of level x.key ≡ bit_of level y.key → Shows h (suc level) (two_of bits (suc level) x y) (x ∷ y ∷ []))
+      by_bits : (bit_of level x.key ≡ bit_of level y.key
+          → Shows h (suc level) (two_of bits (suc level) x y) (x ∷ y ∷ []))
           → (p q : Bool) → bit_of level x.key ≡ p → bit_of level y.key ≡ q
           → Shows h level (if p then (if q then Fork Empty (two_of bits (suc level) x y) else Fork (One y) (One x))
           else (if q then Fork (One x) (One y) else Fork (two_of bits (suc level) x y) Empty)) (x ∷ y ∷ [])
-      by_bits below true true p q = both_on h level true x y (two_of bits (suc level) x y) inside p q (below (p ∙ sym q))
+      by_bits below true true p q =
+          both_on h level true x y (two_of bits (suc level) x y) inside p q (below (p ∙ sym q))
       by_bits below true false p q = parted h level true x y inside p q
       by_bits below false true p q = parted h level false x y inside p q
-      by_bits below false false p q = both_on h level false x y (two_of bits (suc level) x y) inside p q (below (p ∙ sym q))
+      by_bits below false false p q =
+          both_on h level false x y (two_of bits (suc level) x y) inside p q (below (p ∙ sym q))
 
 -- a tree with a value that is put shows the map with it
 module _ (h : MapHashes) (own : Entry) (own_key : IsKey own.key) where
@@ -119,7 +124,8 @@ module _ (h : MapHashes) (own : Entry) (own_key : IsKey own.key) where
       → Shows h (suc level) below (side b level entries)
       → Shows h (suc level) after (put own.key own.value (side b level entries))
 
-  pub with-shows : (level : ℕ) (shape new : Shape) (entries : List Entry) → level ≤ 256 → StandsAt (way level own.key) shape
+  pub with-shows : (level : ℕ) (shape new : Shape) (entries : List Entry) → level ≤ 256
+      → StandsAt (way level own.key) shape
       → with_value level own shape ≡ Ok new → IsMap entries → Shows h level shape entries
       → Shows h level new (put own.key own.value entries)
   with-shows level Empty new entries within stands is map shown =
@@ -155,12 +161,14 @@ module _ (h : MapHashes) (own : Entry) (own_key : IsKey own.key) where
       by_bit on_left on_right true bit is =
           let below = bind_ok (with_value (suc level) own right) (λ r. Ok (Fork left r)) new is in
           let at = subst (λ (b : Bool). StandsAt (b ∷ way level own.key) right) (sym bit) stands.3 in
-          subst (λ s. Shows h level s (put own.key own.value entries)) (done_injective {E = Error} (Fork left below.0) new below.2)
+          subst (λ s. Shows h level s (put own.key own.value entries)) (done_injective {E = Error}
+          (Fork left below.0) new below.2)
           (put-right h level own.key own.value left right below.0 entries bit map shown
           (λ m s. on_right below.0 at below.1 m s))
       by_bit on_left on_right false bit is =
           let below = bind_ok (with_value (suc level) own left) (λ l. Ok (Fork l right)) new is in
           let at = subst (λ (b : Bool). StandsAt (b ∷ way level own.key) left) (sym bit) stands.2 in
-          subst (λ s. Shows h level s (put own.key own.value entries)) (done_injective {E = Error} (Fork below.0 right) new below.2)
+          subst (λ s. Shows h level s (put own.key own.value entries)) (done_injective {E = Error}
+          (Fork below.0 right) new below.2)
           (put-left h level own.key own.value left right below.0 entries bit map shown
           (λ m s. on_left below.0 at below.1 m s))

@@ -33,7 +33,8 @@ drops c b a xs = ap (drop c) (drop-twice a b xs) ∙ drop-twice (a + b) c xs
 
 -- both sides of a fork, one behind the other
 abbrev pub sides_read : ℕ → List ℕ → Outcome Found
-sides_read depth rest = tree_read depth rest >>= λ left. tree_read depth left.1 >>= λ right. Ok (Fork left.0 right.0, right.1)
+sides_read depth rest =
+    tree_read depth rest >>= λ left. tree_read depth left.1 >>= λ right. Ok (Fork left.0 right.0, right.1)
 
 module _ (bytes : List ℕ) (there : 0 < length bytes) where
   opened : (tag : ℕ) → get_or bytes 0 0 ≡ tag → bytes ≡ tag ∷ drop 1 bytes
@@ -73,14 +74,19 @@ entry-found : (rest : List ℕ) (found : Found) → entry_read rest ≡ Ok found
     × (found.0 ≡ One (record { key = key; value = value }))
 entry-found rest found e =
     let k = bind_ok (string_read rest) _ found e in
-    let v = bind_ok (string_read k.0.1) (λ value. Ok (One (record { key = k.0.0; value = value.0 }), value.1)) found k.2 in (
+    let v = bind_ok (string_read k.0.1) (λ value. Ok (
+      One
+          (record { key = k.0.0; value = value.0 }),
+      value.1,
+    )) found k.2 in (
       k.0.0,
       v.0.0,
       sym (ap (λ (f : Found). f.0)
           (done_injective {E = Error} (One (record { key = k.0.0; value = v.0.0 }), v.0.1) found v.2)),
     )
 
-pub read-fits : (depth level : ℕ) (bytes : List ℕ) (found : Found) → depth + level ≡ 256 → tree_read depth bytes ≡ Ok found
+pub read-fits : (depth level : ℕ) (bytes : List ℕ) (found : Found) → depth + level ≡ 256
+    → tree_read depth bytes ≡ Ok found
     → Fits level found.0
 read-fits depth level [] found sum e = none depth e
   where
@@ -91,7 +97,8 @@ read-fits zero level (tag ∷ rest) found sum e = by_tag (λ (f : Found). Fits l
     (λ one. let f = entry-found rest found one in subst (Fits level) (sym f.2) tt) (λ two. absurd cc)
     (λ hidden. let d = bind_ok (string_read rest) _ found hidden in
     subst (λ (f : Found). Fits level f.0) (done_injective {E = Error} (Hidden d.0.0, d.0.1) found d.2) tt) e
-read-fits (suc depth) level (tag ∷ rest) found sum e = by_tag (λ (f : Found). Fits level f.0) tag rest (sides_read depth rest) found tt
+read-fits (suc depth) level (tag ∷ rest) found sum e =
+    by_tag (λ (f : Found). Fits level f.0) tag rest (sides_read depth rest) found tt
     (λ one. let f = entry-found rest found one in subst (Fits level) (sym f.2) tt)
     (λ two.
     let l = bind_ok (tree_read depth rest) _ found two in
@@ -109,7 +116,8 @@ read-fits (suc depth) level (tag ∷ rest) found sum e = by_tag (λ (f : Found).
 string-found : (bytes : List ℕ) (found : List ℕ × List ℕ) → string_read bytes ≡ Ok found → bytes ≡ found.0 ++ found.1
 string-found bytes found e = by_test (nat_lt (length bytes) 32) e
   where
-    by_test : (b : Bool) → (if b then Err truncated else Ok (take 32 bytes, drop 32 bytes)) ≡ Ok found → bytes ≡ found.0 ++ found.1
+    by_test : (b : Bool) → (if b then Err truncated else Ok (take 32 bytes, drop 32 bytes)) ≡ Ok found
+        → bytes ≡ found.0 ++ found.1
     by_test true e = absurd cc
     by_test false e = sym (take-append-drop 32 bytes)
         ∙ ap (λ (f : List ℕ × List ℕ). f.0 ++ f.1) (done_injective {E = Error} (take 32 bytes, drop 32 bytes) found e)
@@ -121,8 +129,13 @@ module _ where
   entry-spelled : (rest : List ℕ) (found : Found) → entry_read rest ≡ Ok found → IsSpelled (1 ∷ rest) found
   entry-spelled rest found e =
       let k = bind_ok (string_read rest) _ found e in
-      let v = bind_ok (string_read k.0.1) (λ value. Ok (One (record { key = k.0.0; value = value.0 }), value.1)) found k.2 in
-      ap (λ (l : List ℕ). 1 ∷ l) (string-found rest k.0 k.1 ∙ ap (λ (l : List ℕ). k.0.0 ++ l) (string-found k.0.1 v.0 v.1)
+      let v = bind_ok (string_read k.0.1) (λ value. Ok (
+        One
+            (record { key = k.0.0; value = value.0 }),
+        value.1,
+      )) found k.2 in
+      ap (λ (l : List ℕ). 1 ∷ l) (string-found rest k.0 k.1 ∙ ap (λ (l : List ℕ). k.0.0 ++ l) (string-found k.0.1 v.0
+      v.1)
       ∙ sym (append_assoc k.0.0 v.0.0 v.0.1))
       ∙ ap (λ (f : Found). spelled f.0 ++ f.1)
       (done_injective {E = Error} (One (record { key = k.0.0; value = v.0.0 }), v.0.1) found v.2)
@@ -134,7 +147,8 @@ module _ where
       ∙ ap (λ (f : Found). spelled f.0 ++ f.1) (done_injective {E = Error} (Hidden d.0.0, d.0.1) found d.2)
 
   tagged-spelled : (tag : ℕ) (rest : List ℕ) (sides : Outcome Found) (found : Found)
-      → (sides ≡ Ok found → IsSpelled (2 ∷ rest) found) → tagged tag rest sides ≡ Ok found → IsSpelled (tag ∷ rest) found
+      → (sides ≡ Ok found → IsSpelled (2 ∷ rest) found) → tagged tag rest sides ≡ Ok found → IsSpelled
+      (tag ∷ rest) found
   tagged-spelled tag rest sides found two e = first (tag == 0) (tag == 1) (tag == 2) (tag == 3) refl refl refl refl e
     where
       named : (n : ℕ) → (tag == n) ≡ true → IsSpelled (n ∷ rest) found → IsSpelled (tag ∷ rest) found
@@ -150,7 +164,8 @@ module _ where
       first false false false true p q r s e = named 3 s (digest-spelled rest found e)
       first false false false false p q r s e = absurd cc
 
-  pub read-spelled : (depth : ℕ) (bytes : List ℕ) (found : Found) → tree_read depth bytes ≡ Ok found → IsSpelled bytes found
+  pub read-spelled : (depth : ℕ) (bytes : List ℕ) (found : Found) → tree_read depth bytes ≡ Ok found
+      → IsSpelled bytes found
   read-spelled depth [] found e = none depth e
     where
       none : (depth : ℕ) → tree_read depth [] ≡ Ok found → [] ≡ spelled found.0 ++ found.1
@@ -171,10 +186,17 @@ module _ where
 string-read-back : (value rest : List ℕ) → length value ≡ 32 → string_read (value ++ rest) ≡ Ok (value, rest)
 string-read-back value rest long =
     let sum = length-append value rest in
-    let enough : nat_lt (length (value ++ rest)) 32 ≡ false = le-ltb (length (value ++ rest)) 32 (omega (arith, sum, long)) in
-    let front : take 32 (value ++ rest) ≡ value = ap (λ (n : ℕ). take n (value ++ rest)) (sym long) ∙ take-append_seam value rest in
-    let end : drop 32 (value ++ rest) ≡ rest = ap (λ (n : ℕ). drop n (value ++ rest)) (sym long) ∙ drop-append_seam value rest in
-    if_false (nat_lt (length (value ++ rest)) 32) (Err truncated) (Ok (take 32 (value ++ rest), drop 32 (value ++ rest))) enough
+    let enough : nat_lt (length (value ++ rest)) 32 ≡ false = le-ltb (length (value ++ rest)) 32 (omega
+    (arith, sum, long)) in
+    let front : take 32 (value ++ rest) ≡ value = ap (λ (n : ℕ). take n (value ++ rest)) (sym long)
+    ∙ take-append_seam value rest in
+    let end : drop 32 (value ++ rest) ≡ rest = ap (λ (n : ℕ). drop n (value ++ rest)) (sym long)
+    ∙ drop-append_seam value rest in
+    if_false (nat_lt (length (value ++ rest)) 32) (Err truncated) (Ok (
+      take 32 (value ++ rest),
+      drop 32
+          (value ++ rest),
+    )) enough
     ∙ ap (λ (l : List ℕ). Ok (l, drop 32 (value ++ rest))) front ∙ ap (λ (l : List ℕ). Ok (value, l)) end
 
 pub read-back : (depth level : ℕ) (tree : Shape) (rest : List ℕ) → depth + level ≡ 256 → Fits level tree → IsOf32 tree
@@ -188,7 +210,8 @@ read-back depth level (One entry) rest sum fits sized =
     ∙ ap (λ o. o >>= λ value. Ok (One (record { key = entry.key; value = value.0 }), value.1))
     (string-read-back entry.value rest sized.1)
   where
-    by_depth : (depth : ℕ) → tree_read depth (1 ∷ ((entry.key ++ entry.value) ++ rest)) ≡ entry_read ((entry.key ++ entry.value) ++ rest)
+    by_depth : (depth : ℕ) → tree_read depth (1 ∷ ((entry.key ++ entry.value) ++ rest)) ≡ entry_read ((entry.key ++
+        entry.value) ++ rest)
     by_depth zero = refl
     by_depth (suc depth) = refl
 read-back depth level (Hidden digest) rest sum fits sized =
@@ -230,16 +253,19 @@ bit_is false level key e = by_bit (bit_of level key) e
     by_bit true e = absurd cc
     by_bit false e = refl
 
-agrees-next : (b : Bool) (bits : List Bool) (s : Shape) → Agrees bits s → all_have b (length bits) s ≡ true → Agrees (b ∷ bits) s
+agrees-next : (b : Bool) (bits : List Bool) (s : Shape) → Agrees bits s → all_have b (length bits) s ≡ true
+    → Agrees (b ∷ bits) s
 agrees-next b bits Empty h e = tt
 agrees-next b bits (Hidden d) h e = tt
-agrees-next b bits (One entry) h e = ap (λ (c : Bool). c ∷ way (length bits) entry.key) (bit_is b (length bits) entry.key e)
+agrees-next b bits (One entry) h e =
+    ap (λ (c : Bool). c ∷ way (length bits) entry.key) (bit_is b (length bits) entry.key e)
     ∙ ap (λ (l : List Bool). b ∷ l) h
 agrees-next b bits (Fork l r) h e =
     let both = and_both (all_have b (length bits) l) (all_have b (length bits) r) e in
     (agrees-next b bits l h.0 both.0, agrees-next b bits r h.1 both.1)
 
-placed-stands : (bits : List Bool) (level : ℕ) (s : Shape) → length bits ≡ level → Agrees bits s → Fits level s → IsOf32 s
+placed-stands : (bits : List Bool) (level : ℕ) (s : Shape) → length bits ≡ level → Agrees bits s → Fits level s
+    → IsOf32 s
     → is_placed level s ≡ true → StandsAt bits s
 placed-stands bits level Empty long h fits sized e = tt
 placed-stands bits level (Hidden d) long h fits sized e = tt
@@ -247,7 +273,8 @@ placed-stands bits level (One entry) long h fits sized e = (sized.0, h)
 placed-stands bits level (Fork l r) long h fits sized e =
     let outer = and_both (not (nat_lt (weight l + weight r) 2)) ((all_have false level l && all_have true level r)
     && (is_placed (suc level) l && is_placed (suc level) r)) e in
-    let inner = and_both (all_have false level l && all_have true level r) (is_placed (suc level) l && is_placed (suc level) r) outer.1 in
+    let inner = and_both (all_have false level l && all_have true level r) (is_placed (suc level) l && is_placed
+    (suc level) r) outer.1 in
     let have = and_both (all_have false level l) (all_have true level r) inner.0 in
     let below = and_both (is_placed (suc level) l) (is_placed (suc level) r) inner.1 in
     let two : 2 ≤ weight l + weight r = heavy (weight l + weight r) outer.0 in (
@@ -289,7 +316,8 @@ have-below more b bits (Fork l r) stands = both_and (all_have b (length bits) l)
     (have-below (false ∷ more) b bits l stands.2) (have-below (true ∷ more) b bits r stands.3)
 
 -- and one that stands passes the test
-stands-placed : (bits : List Bool) (level : ℕ) (s : Shape) → length bits ≡ level → StandsAt bits s → is_placed level s ≡ true
+stands-placed : (bits : List Bool) (level : ℕ) (s : Shape) → length bits ≡ level → StandsAt bits s
+    → is_placed level s ≡ true
 stands-placed bits level Empty long stands = refl
 stands-placed bits level (Hidden d) long stands = refl
 stands-placed bits level (One entry) long stands = refl
@@ -312,7 +340,8 @@ module _ (bytes : List ℕ) where
   pub bytes-spelled : (s : Shape) → tree_of_bytes bytes ≡ Ok s → bytes ≡ spelled s
   bytes-spelled s e =
       let found = bind_ok (tree_read 256 bytes) _ s e in
-      by_tests found.0 (is_placed 0 found.0.0) (nat_lt 0 (length found.0.1)) refl found.2 (read-spelled 256 bytes found.0 found.1)
+      by_tests found.0 (is_placed 0 found.0.0) (nat_lt 0 (length found.0.1)) refl found.2
+      (read-spelled 256 bytes found.0 found.1)
     where
       none : (xs : List ℕ) → nat_lt 0 (length xs) ≡ false → xs ≡ []
       none [] e = refl
@@ -331,7 +360,8 @@ module _ (bytes : List ℕ) where
   spelled-bytes s stands sized is =
       let whole : tree_read 256 bytes ≡ Ok (s, []) = ap (tree_read 256) (is ∙ sym (append-nil (spelled s)))
       ∙ read-back 256 0 s [] refl (stands-fits [] 0 s refl stands) sized in
-      ap (λ o. o >>= λ found. if is_placed 0 found.0 then (if nat_lt 0 (length found.1) then Err invalid else Ok found.0)
+      ap (λ o. o >>= λ found. if is_placed 0 found.0 then (if nat_lt 0
+      (length found.1) then Err invalid else Ok found.0)
       else Err invalid) whole
       ∙ if_true (is_placed 0 s) (Ok s) (Err invalid) (stands-placed [] 0 s refl stands)
 
@@ -342,10 +372,12 @@ reads-back bytes s stands sized is = spelled-bytes bytes s stands sized is
 pub bytes-stand : (bytes : List ℕ) (s : Shape) → IsOf32 s → tree_of_bytes bytes ≡ Ok s → StandsAt [] s
 bytes-stand bytes s sized e =
     let found = bind_ok (tree_read 256 bytes) _ s e in
-    by_tests found.0 (is_placed 0 found.0.0) (nat_lt 0 (length found.0.1)) refl found.2 (read-fits 256 0 bytes found.0 refl found.1)
+    by_tests found.0 (is_placed 0 found.0.0) (nat_lt 0 (length found.0.1)) refl found.2
+    (read-fits 256 0 bytes found.0 refl found.1)
   where
     by_tests : (found : Found) (placed left : Bool) → is_placed 0 found.0 ≡ placed
-        → (if placed then (if left then Err invalid else Ok found.0) else Err invalid) ≡ Ok s → Fits 0 found.0 → StandsAt [] s
+        → (if placed then (if left then Err invalid else Ok found.0) else Err invalid) ≡ Ok s → Fits 0 found.0 →
+        StandsAt [] s
     by_tests found false left t e fits = absurd cc
     by_tests found true true t e fits = absurd cc
     by_tests found true false t e fits =

@@ -86,11 +86,13 @@ hides-on : (o : Outcome Shape) (next : Shape → Outcome Shape) → ((error : Er
 hides-on (Ok s) next first second error e = second s error e
 hides-on (Err f) next first second error e = first error e
 
-pub losing-hides : (level : ℕ) (key : Key) (shape : Shape) (error : Error) → losing level key shape ≡ Err error → error ≡ hides
+pub losing-hides : (level : ℕ) (key : Key) (shape : Shape) (error : Error) → losing level key shape ≡ Err error
+    → error ≡ hides
 losing-hides level key Empty error e = absurd cc
 losing-hides level key (One entry) error e = absurd cc
 losing-hides level key (Hidden d) error e = sym (err_injective hides error e)
-losing-hides level key (Fork left right) error e = by_test (losing-hides (suc level) key left) (losing-hides (suc level) key right)
+losing-hides level key (Fork left right) error e =
+    by_test (losing-hides (suc level) key left) (losing-hides (suc level) key right)
     (bit_of level key) e
   where
     by_test : ((error : Error) → losing (suc level) key left ≡ Err error → error ≡ hides)

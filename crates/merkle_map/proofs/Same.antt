@@ -91,7 +91,8 @@ module _ (h : MapHashes) where
       (side-same b level xs ys same) in
       ap (λ o. o >>= λ l. digest_of h l >>= λ left. at true xs >>= λ r. digest_of h r >>= λ right. Ok (Pair left right))
       (below false)
-      ∙ ap (λ o. at false ys >>= λ l. digest_of h l >>= λ left. o >>= λ r. digest_of h r >>= λ right. Ok (Pair left right))
+      ∙ ap (λ o. at false ys >>= λ l. digest_of h l >>= λ left. o >>= λ r. digest_of h r >>= λ right. Ok
+      (Pair left right))
       (below true)
 
   -- the root is a function of what the map has

@@ -24,7 +24,8 @@ weight-two : (bits level : ℕ) (x y : Entry) → weight (two_of bits level x y)
 weight-two zero level x y = refl
 weight-two (suc bits) level x y = by_bits (bit_of level x.key) (bit_of level y.key)
   where
-    by_bits : (p q : Bool) → weight (if p then (if q then Fork Empty (two_of bits (suc level) x y) else Fork (One y) (One x))
+    by_bits : (p q : Bool) → weight (if p then (if q then Fork Empty (two_of bits (suc level) x y) else Fork (One y)
+        (One x))
         else (if q then Fork (One x) (One y) else Fork (two_of bits (suc level) x y) Empty)) ≡ 2
     by_bits true true = refl
     by_bits true false = refl
@@ -35,7 +36,8 @@ module _ (x y : Entry) (x_key : IsKey x.key) (y_key : IsKey y.key) (differ : byt
   two-stands : (bits level : ℕ) → bits + level ≡ 256 → way level x.key ≡ way level y.key
       → StandsAt (way level x.key) (two_of bits level x y)
   two-stands zero level sum together =
-      let inside = bits_left level x.key y.key x_key y_key (omega (arith, sum)) together differ in absurd (omega (arith, sum, inside))
+      let inside = bits_left level x.key y.key x_key y_key (omega (arith, sum)) together differ in absurd (omega
+      (arith, sum, inside))
   two-stands (suc bits) level sum together = by_bits
       (λ same. two-stands bits (suc level) (omega (arith, sum)) (ap (λ (c : Bool). c ∷ way level x.key) same
       ∙ ap (λ (bits : List Bool). bit_of level y.key ∷ bits) together))
@@ -51,7 +53,8 @@ module _ (x y : Entry) (x_key : IsKey x.key) (y_key : IsKey y.key) (differ : byt
       next b = let long = length-way level x.key in omega (arith, long)
 
       here : (b : Bool) → bit_of level x.key ≡ b → StandsAt (b ∷ way level x.key) (One x)
-      here b is = one-stands x (b ∷ way level x.key) (suc level) x_key (next b) (ap (λ (c : Bool). c ∷ way level x.key) is)
+      here b is =
+          one-stands x (b ∷ way level x.key) (suc level) x_key (next b) (ap (λ (c : Bool). c ∷ way level x.key) is)
 
       there : (b : Bool) → bit_of level y.key ≡ b → StandsAt (b ∷ way level x.key) (One y)
       there b is = one-stands y (b ∷ way level x.key) (suc level) y_key (next b)
@@ -60,12 +63,14 @@ module _ (x y : Entry) (x_key : IsKey x.key) (y_key : IsKey y.key) (differ : byt
       below : (bit_of level x.key ≡ bit_of level y.key → StandsAt (way (suc level) x.key) (two_of bits (suc level) x y))
           → (b : Bool) → bit_of level x.key ≡ b → bit_of level y.key ≡ b
           → StandsAt (b ∷ way level x.key) (two_of bits (suc level) x y)
-      below ih b p q = subst (λ (c : Bool). StandsAt (c ∷ way level x.key) (two_of bits (suc level) x y)) p (ih (p ∙ sym q))
+      below ih b p q =
+          subst (λ (c : Bool). StandsAt (c ∷ way level x.key) (two_of bits (suc level) x y)) p (ih (p ∙ sym q))
 
       two : 2 ≤ weight (two_of bits (suc level) x y)
       two = let w = weight-two bits (suc level) x y in omega (arith, w)
 
-      by_bits : (bit_of level x.key ≡ bit_of level y.key → StandsAt (way (suc level) x.key) (two_of bits (suc level) x y))
+      by_bits : (bit_of level x.key ≡ bit_of level y.key
+          → StandsAt (way (suc level) x.key) (two_of bits (suc level) x y))
           → (p q : Bool) → bit_of level x.key ≡ p → bit_of level y.key ≡ q → StandsAt (way level x.key)
           (if p then (if q then Fork Empty (two_of bits (suc level) x y) else Fork (One y) (One x))
           else (if q then Fork (One x) (One y) else Fork (two_of bits (suc level) x y) Empty))
@@ -81,7 +86,8 @@ module _ (own : Entry) (own_key : IsKey own.key) where
   weight-with level (Hidden d) new is = absurd cc
   weight-with level (One entry) new is = by_test (bytes_eq entry.key own.key) is
     where
-      by_test : (b : Bool) → gives (if b then One own else two_of (key_bits - level) level own entry) ≡ Ok new → 1 ≤ weight new
+      by_test : (b : Bool) → gives (if b then One own else two_of (key_bits - level) level own entry) ≡ Ok new
+          → 1 ≤ weight new
       by_test true is = let w = ap weight (done_injective {E = Error} (One own) new is) in omega (arith, w)
       by_test false is =
           let w = ap weight (done_injective {E = Error} (two_of (key_bits - level) level own entry) new is) in
@@ -109,9 +115,11 @@ module _ (own : Entry) (own_key : IsKey own.key) where
   with-stands level (One entry) new within stands is = by_test (bytes_eq entry.key own.key) refl is
     where
       by_test : (b : Bool) → bytes_eq entry.key own.key ≡ b
-          → gives (if b then One own else two_of (key_bits - level) level own entry) ≡ Ok new → StandsAt (way level own.key) new
+          → gives (if b then One own else two_of (key_bits - level) level own entry) ≡ Ok new → StandsAt
+          (way level own.key) new
       by_test true e is =
-          subst (StandsAt (way level own.key)) (done_injective {E = Error} (One own) new is) (own-stands level own own_key)
+          subst (StandsAt (way level own.key)) (done_injective {E = Error} (One own) new is)
+          (own-stands level own own_key)
       by_test false e is =
           let ways = sym stands.1 ∙ ap (λ (n : ℕ). way n entry.key) (length-way level own.key) in
           let sum : (key_bits - level) + level ≡ 256 = omega (arith, within) in
@@ -199,7 +207,8 @@ losing-stands bits level key (Fork left right) new stands is = by_bit
     (λ after. losing-stands (true ∷ bits) (suc level) key right after stands.3) (bit_of level key) is
   where
     by_bit : ((after : Shape) → losing (suc level) key left ≡ Ok after → StandsAt (false ∷ bits) after)
-        → ((after : Shape) → losing (suc level) key right ≡ Ok after → StandsAt (true ∷ bits) after) → (b : Bool) → (if b then (losing (suc level) key right >>= λ r. joined left r)
+        → ((after : Shape) → losing (suc level) key right ≡ Ok after → StandsAt (true ∷ bits) after) → (b : Bool)
+        → (if b then (losing (suc level) key right >>= λ r. joined left r)
         else (losing (suc level) key left >>= λ l. joined l right)) ≡ Ok new → StandsAt bits new
     by_bit on_left on_right true is =
         let below = bind_ok (losing (suc level) key right) (λ r. joined left r) new is in

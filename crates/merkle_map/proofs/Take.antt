@@ -29,7 +29,8 @@ is_not false = refl
 
 -- all entries are on one side
 all_right : (level : ℕ) (entries : List Entry) → side false level entries ≡ [] → side true level entries ≡ entries
-all_right level entries e = filter_all (λ x. has_bit true level x.key) (λ x. has_bit false level x.key) (λ x. refl) entries e
+all_right level entries e =
+    filter_all (λ x. has_bit true level x.key) (λ x. has_bit false level x.key) (λ x. refl) entries e
 
 all_left : (level : ℕ) (entries : List Entry) → side true level entries ≡ [] → side false level entries ≡ entries
 all_left level entries e = filter_all (λ x. has_bit false level x.key) (λ x. has_bit true level x.key)
@@ -37,7 +38,8 @@ all_left level entries e = filter_all (λ x. has_bit false level x.key) (λ x. h
 
 both_sides : (level : ℕ) (entries : List Entry)
     → length (side true level entries) + length (side false level entries) ≡ length entries
-both_sides level entries = length-filter_both (λ x. has_bit true level x.key) (λ x. has_bit false level x.key) (λ x. refl)
+both_sides level entries =
+    length-filter_both (λ x. has_bit true level x.key) (λ x. has_bit false level x.key) (λ x. refl)
     entries
 
 module _ (h : MapHashes) (level : ℕ) where
@@ -56,15 +58,18 @@ module _ (h : MapHashes) (level : ℕ) where
       → Shows h (suc level) left (side false level entries) → Shows h (suc level) right (side true level entries)
       → Shows h level new entries
   joined-shows Empty Empty new entries inside is l r =
-      subst (λ s. Shows h level s entries) (done_injective {E = Error} Empty new is) (sym (all_right level entries l) ∙ r)
+      subst (λ s. Shows h level s entries) (done_injective {E = Error} Empty new is) (sym (all_right level entries l)
+      ∙ r)
   joined-shows Empty (One e) new entries inside is l r =
-      subst (λ s. Shows h level s entries) (done_injective {E = Error} (One e) new is) (sym (all_right level entries l) ∙ r)
+      subst (λ s. Shows h level s entries) (done_injective {E = Error} (One e) new is) (sym
+      (all_right level entries l) ∙ r)
   joined-shows Empty (Fork a b) new entries inside is l r =
       subst (λ s. Shows h level s entries) (done_injective {E = Error} (Fork Empty (Fork a b)) new is)
       (at_least Empty (Fork a b) entries 0 2 inside (omega arith) (omega arith) r.1 l r)
   joined-shows Empty (Hidden d) new entries inside is l r = absurd cc
   joined-shows (One e) Empty new entries inside is l r =
-      subst (λ s. Shows h level s entries) (done_injective {E = Error} (One e) new is) (sym (all_left level entries r) ∙ l)
+      subst (λ s. Shows h level s entries) (done_injective {E = Error} (One e) new is) (sym
+      (all_left level entries r) ∙ l)
   joined-shows (One e) (One f) new entries inside is l r =
       let one = ap length l in
       let other = ap length r in
@@ -127,27 +132,32 @@ module _ (h : MapHashes) (level : ℕ) where
 module _ (h : MapHashes) where
   abbrev Below : ℕ → Key → List Entry → Bool → Shape → Type 0
   Below level key entries b below = (after : Shape) → losing (suc level) key below ≡ Ok after
-      → Shows h (suc level) below (side b level entries) → Shows h (suc level) after (without key (side b level entries))
+      → Shows h (suc level) below (side b level entries) → Shows h (suc level) after (without key
+      (side b level entries))
 
   -- what a tree shows, it shows without the key once it has lost its entry
-  pub losing-shows : (level : ℕ) (key : Key) (shape new : Shape) (entries : List Entry) → losing level key shape ≡ Ok new
+  pub losing-shows : (level : ℕ) (key : Key) (shape new : Shape) (entries : List Entry)
+      → losing level key shape ≡ Ok new
       → Shows h level shape entries → Shows h level new (without key entries)
   losing-shows level key Empty new entries is shown =
-      subst (λ s. Shows h level s (without key entries)) (done_injective {E = Error} Empty new is) (ap (without key) shown)
+      subst (λ s. Shows h level s (without key entries)) (done_injective {E = Error} Empty new is) (ap
+      (without key) shown)
   losing-shows level key (One entry) new entries is shown = by_test (bytes_eq entry.key key) refl is
     where
       by_test : (b : Bool) → bytes_eq entry.key key ≡ b → gives (if b then Empty else One entry) ≡ Ok new
           → Shows h level new (without key entries)
       by_test true e is = subst (λ s. Shows h level s (without key entries)) (done_injective {E = Error} Empty new is)
           (take-same h level key entry entries e shown)
-      by_test false e is = subst (λ s. Shows h level s (without key entries)) (done_injective {E = Error} (One entry) new is)
+      by_test false e is =
+          subst (λ s. Shows h level s (without key entries)) (done_injective {E = Error} (One entry) new is)
           (take-other h level key entry entries e shown)
   losing-shows level key (Hidden d) new entries is shown = absurd cc
   losing-shows level key (Fork left right) new entries is shown = by_bit
       (λ after. losing-shows (suc level) key left after (side false level entries))
       (λ after. losing-shows (suc level) key right after (side true level entries)) (bit_of level key) refl is
     where
-      by_bit : Below level key entries false left → Below level key entries true right → (b : Bool) → bit_of level key ≡ b
+      by_bit : Below level key entries false left → Below level key entries true right → (b : Bool)
+          → bit_of level key ≡ b
           → (if b then (losing (suc level) key right >>= λ r. joined left r)
           else (losing (suc level) key left >>= λ l. joined l right)) ≡ Ok new → Shows h level new (without key entries)
       by_bit on_left on_right true bit is =

@@ -41,7 +41,8 @@ abbrev AllHave : Bool → ℕ → List Entry → Type 0
 AllHave b level [] = Unit {0}
 AllHave b level (x ∷ xs) = (bit_of level x.key ≡ b) × AllHave b level xs
 
-both-have : (b : Bool) (level : ℕ) (xs ys : List Entry) → AllHave b level xs → AllHave b level ys → AllHave b level (xs ++ ys)
+both-have : (b : Bool) (level : ℕ) (xs ys : List Entry) → AllHave b level xs → AllHave b level ys
+    → AllHave b level (xs ++ ys)
 both-have b level [] ys h k = k
 both-have b level (x ∷ xs) ys h k = (h.0, both-have b level xs ys h.1 k)
 
@@ -78,13 +79,15 @@ module _ (bits : List Bool) (left right : Shape) (stands : StandsAt bits (Fork l
 
   side-left : side false (length bits) (entries_of left ++ entries_of right) ≡ entries_of left
   side-left = filter-append (λ e. has_bit false (length bits) e.key) (entries_of left) (entries_of right)
-      ∙ ap (λ (l : List Entry). l ++ side false (length bits) (entries_of right)) (kept false (length bits) (entries_of left) on_left)
+      ∙ ap (λ (l : List Entry). l ++ side false (length bits) (entries_of right)) (kept false (length bits) (entries_of
+      left) on_left)
       ∙ ap (λ (l : List Entry). entries_of left ++ l) (dropped true (length bits) (entries_of right) on_right)
       ∙ append-nil (entries_of left)
 
   side-right : side true (length bits) (entries_of left ++ entries_of right) ≡ entries_of right
   side-right = filter-append (λ e. has_bit true (length bits) e.key) (entries_of left) (entries_of right)
-      ∙ ap (λ (l : List Entry). l ++ side true (length bits) (entries_of right)) (dropped false (length bits) (entries_of left) on_left)
+      ∙ ap (λ (l : List Entry). l ++ side true (length bits) (entries_of right)) (dropped false (length bits)
+      (entries_of left) on_left)
       ∙ kept true (length bits) (entries_of right) on_right
 
 weight-entries : (bits : List Bool) (s : Shape) → IsWhole s → StandsAt bits s → weight s ≤ length (entries_of s)
@@ -97,7 +100,8 @@ weight-entries bits (Fork l r) whole stands =
     let sum = length-append (entries_of l) (entries_of r) in
     omega (arith, a, b, sum, stands.1)
 
-pub whole-shows : (h : MapHashes) (bits : List Bool) (level : ℕ) (s : Shape) → length bits ≡ level → IsWhole s → StandsAt bits s
+pub whole-shows : (h : MapHashes) (bits : List Bool) (level : ℕ) (s : Shape) → length bits ≡ level → IsWhole s
+    → StandsAt bits s
     → Shows h level s (entries_of s)
 whole-shows h bits level Empty long whole stands = refl
 whole-shows h bits level (One e) long whole stands = refl
@@ -128,7 +132,8 @@ none-of b level key (y ∷ ys) h e = by_test (bytes_eq y.key key) refl (none-of 
     by_test false s ih = ih
     by_test true s ih = absurd (differ b (sym h.0 ∙ ap (bit_of level) ((bytes_eq-Decides y.key key).0 s) ∙ e))
 
-value_at-none : (key : Key) (xs ys : List Entry) → value_at key xs ≡ None → value_at key ys ≡ None → value_at key (xs ++ ys) ≡ None
+value_at-none : (key : Key) (xs ys : List Entry) → value_at key xs ≡ None → value_at key ys ≡ None
+    → value_at key (xs ++ ys) ≡ None
 value_at-none key [] ys e f = f
 value_at-none key (x ∷ xs) ys e f = by_test (bytes_eq x.key key) e (value_at-none key xs ys)
   where
@@ -175,7 +180,8 @@ module _ (own : Entry) where
   with-whole level (Hidden d) whole = absurd whole
   with-whole level (One e) whole = by_test (bytes_eq e.key own.key)
     where
-      by_test : (b : Bool) → (n : Shape) × (gives (if b then One own else two_of (key_bits - level) level own e) ≡ Ok n) × IsWhole n
+      by_test : (b : Bool) → (n : Shape) × (gives (if b then One own else two_of (key_bits - level) level own e) ≡ Ok
+          n) × IsWhole n
       by_test true = (One own, refl, tt)
       by_test false = (two_of (key_bits - level) level own e, refl, whole-two (key_bits - level) level own e)
   with-whole level (Fork l r) whole = by_bit (with-whole (suc level) l whole.0) (with-whole (suc level) r whole.1)
@@ -217,10 +223,12 @@ losing-whole level key (One e) whole = by_test (bytes_eq e.key key)
     by_test : (b : Bool) → (n : Shape) × (gives (if b then Empty else One e) ≡ Ok n) × IsWhole n
     by_test true = (Empty, refl, tt)
     by_test false = (One e, refl, tt)
-losing-whole level key (Fork l r) whole = by_bit (losing-whole (suc level) key l whole.0) (losing-whole (suc level) key r whole.1)
+losing-whole level key (Fork l r) whole =
+    by_bit (losing-whole (suc level) key l whole.0) (losing-whole (suc level) key r whole.1)
     (bit_of level key)
   where
-    by_bit : (n : Shape) × (losing (suc level) key l ≡ Ok n) × IsWhole n → (n : Shape) × (losing (suc level) key r ≡ Ok n) × IsWhole n
+    by_bit : (n : Shape) × (losing (suc level) key l ≡ Ok n) × IsWhole n
+        → (n : Shape) × (losing (suc level) key r ≡ Ok n) × IsWhole n
         → (b : Bool) → (n : Shape) × ((if b then (losing (suc level) key r >>= λ r. joined l r)
         else (losing (suc level) key l >>= λ l. joined l r)) ≡ Ok n) × IsWhole n
     by_bit a b true = let j = whole-joined l b.0 whole.0 b.2 in
@@ -239,7 +247,8 @@ without-whole key s whole = by_known (known_at 0 key s) (whole-known plain 0 key
 -- ---- stores
 
 -- whole trees have one map
-store-of : (entries : List Entry) (s : Shape) → IsWhole s → StandsAt [] s → Shows plain 0 s entries → IsStoreOf entries s
+store-of : (entries : List Entry) (s : Shape) → IsWhole s → StandsAt [] s → Shows plain 0 s entries
+    → IsStoreOf entries s
 store-of entries s whole stands shown = record {
   whole = whole;
   same = λ key.
@@ -247,7 +256,8 @@ store-of entries s whole stands shown = record {
       by_known key own (known_at 0 key s) refl (whole-known plain 0 key s whole);
 }
   where
-    by_known : (key : Key) → Shows plain 0 s (entries_of s) → (o : Outcome (Option Digest)) → known_at 0 key s ≡ o → IsOk o
+    by_known : (key : Key) → Shows plain 0 s (entries_of s) → (o : Outcome (Option Digest)) → known_at 0 key s ≡ o
+        → IsOk o
         → value_at key (entries_of s) ≡ value_at key entries
     by_known key own (Ok value) is ok =
         known-shown plain key 0 s (entries_of s) value own is ∙ sym (known-shown plain key 0 s entries value shown is)

@@ -8,7 +8,8 @@ abbrev pub along : Key → ℕ → List Entry → List Entry
 along key zero entries = entries
 along key (suc level) entries = side (bit_of level key) level (along key level entries)
 
--- At this level of a key's way, 0 for the root, the proof and the map's own tree have two different nodes with one hash.
+-- At this level of a key's way, 0 for the root, the proof and the map's own tree have two different nodes with one
+-- hash.
 pub record CollidesAt (h : MapHashes) (entries : List Entry) (key : Key) (siblings : List Digest) (end : Node)
     (level : ℕ) : Type 0 where
   pub inside : level ≤ length siblings

@@ -55,7 +55,8 @@ tagged tag rest sides = if tag == 0 then Ok (Empty, rest) else if tag == 1 then 
 abbrev pub tree_read : ℕ → List ℕ → Outcome (Shape × List ℕ)
 tree_read depth [] = Err truncated
 tree_read zero (tag ∷ rest) = tagged tag rest (Err invalid)
-tree_read (suc depth) (tag ∷ rest) = tagged tag rest (tree_read depth rest >>= λ left. tree_read depth left.1 >>= λ right.
+tree_read (suc depth) (tag ∷ rest) =
+    tagged tag rest (tree_read depth rest >>= λ left. tree_read depth left.1 >>= λ right.
     Ok (Fork left.0 right.0, right.1))
 
 -- ---- trees that are spelled
@@ -76,7 +77,8 @@ is_placed level (Fork left right) = not (nat_lt (weight left + weight right) 2)
     && (is_placed (suc level) left && is_placed (suc level) right))
 is_placed level (Hidden digest) = true
 
--- the tree that all the bytes spell, or the first fault: bytes that end too early or have no meaning; else an entry or a fork
+-- the tree that all the bytes spell, or the first fault: bytes that end too early or have no meaning; else an entry or
+-- a fork
 -- out of place; else bytes that are left
 abbrev pub tree_of_bytes : List ℕ → Outcome Shape
 tree_of_bytes bytes = tree_read 256 bytes >>= λ found. if is_placed 0 found.0 then

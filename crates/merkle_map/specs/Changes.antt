@@ -24,7 +24,8 @@ own_value key entry = if bytes_eq entry.key key then Some entry.value else None
 abbrev pub known_at : ℕ → Key → Shape → Outcome (Option Digest)
 known_at level key Empty = Ok None
 known_at level key (One entry) = Ok (own_value key entry)
-known_at level key (Fork left right) = if bit_of level key then known_at (suc level) key right else known_at (suc level) key left
+known_at level key (Fork left right) =
+    if bit_of level key then known_at (suc level) key right else known_at (suc level) key left
 known_at level key (Hidden digest) = Err hides
 
 -- ---- a value is put
@@ -48,7 +49,8 @@ with_value level new (Hidden digest) = Err hides
 
 -- ---- a key is removed
 
--- The tree of two sides, one of which may have lost an entry: an only entry stands alone. Beside one entry or none, what is
+-- The tree of two sides, one of which may have lost an entry: an only entry stands alone. Beside one entry or none,
+-- what is
 -- hidden would have to be known.
 abbrev pub joined : Shape → Shape → Outcome Shape
 joined Empty Empty = Ok Empty

@@ -45,5 +45,8 @@ trees_of-tokens (Fork left right) rest =
 
 -- trees by the list of their nodes
 abbrev pub shape_code : Coded Shape
-shape_code = code_by (List Token) (coded_list (coded× (coded× coded_bool coded_bool) (coded× (coded_list coded_ℕ) (coded_list coded_ℕ))))
-    (λ tree. tokens tree ++ []) (λ ts. first_of_trees (trees_of ts)) (λ tree. ap first_of_trees (trees_of-tokens tree []))
+shape_code =
+    code_by (List Token) (coded_list (coded× (coded× coded_bool coded_bool) (coded× (coded_list coded_ℕ)
+    (coded_list coded_ℕ))))
+    (λ tree. tokens tree ++ []) (λ ts. first_of_trees (trees_of ts)) (λ tree. ap first_of_trees
+    (trees_of-tokens tree []))

@@ -3,7 +3,8 @@ use Rattle.std.specs.Prelude.{◌≡◌, ℕ, List, [], ◌∷◌, ◌++◌, len
 use Rattle.sha2.specs.Sha256.{sha256}
 use Rattle.merkle_map.specs.Map.{Node, Nothing, Leaf, Pair, MapHashes}
 
--- The bytes of a node: of nothing none; of an entry 0, the key and the value; of two digests 1, the left and the right one.
+-- The bytes of a node: of nothing none; of an entry 0, the key and the value; of two digests 1, the left and the right
+-- one.
 abbrev pub node_bytes : Node → List ℕ
 node_bytes Nothing = []
 node_bytes (Leaf entry) = 0 ∷ (entry.key ++ entry.value)

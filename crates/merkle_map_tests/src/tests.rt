@@ -103,8 +103,10 @@ fn is_transition(alloc: Global) -> Result<bool, Error> {
     let new = tree.root(alloc, &hasher)?;
     let given = changes(alloc, value)?;
     let others = changes(alloc, old)?;
-    Ok(verify_transition(alloc, &hasher, &old, &new, right, &given)?
-        && !verify_transition(alloc, &hasher, &old, &new, wrong, &others)?)
+    Ok(
+        verify_transition(alloc, &hasher, &old, &new, right, &given)?
+            && !verify_transition(alloc, &hasher, &old, &new, wrong, &others)?,
+    )
 }
 
 #[test]

@@ -14,7 +14,8 @@ bit_of-requires g t c =
 pub overflow_add-level-else-bit_of : goal.overflow_add-level-else-bit_of
 overflow_add-level-else-bit_of g t c =
     let numbers = g.D.Numbered.numbers in
-    let inside = fork_within c.args.level c.args.key.now (shape numbers c.in-Fork.left.value) (shape numbers c.in-Fork.right.value)
+    let inside = fork_within c.args.level c.args.key.now (shape numbers c.in-Fork.left.value)
+    (shape numbers c.in-Fork.right.value)
     (subst (λ p. StandsAt (way c.args.level c.args.key.now) (shape numbers p)) c.in-Fork.is c.requires) in
     omega (arith, inside)
 
@@ -36,4 +37,5 @@ returns-else-bit_of g t c =
     ap (λ p. known_at level key (shape numbers p)) c.in-Fork.is
     ∙ known-left level key (shape numbers c.in-Fork.left.value) (shape numbers c.in-Fork.right.value)
     (sym c.bit_of.ensures ∙ c.if-bit_of.false)
-    ∙ ap (λ p. known_at (level + 1) key (shape numbers p)) (sym c.deref-else-bit_of.ensures) ∙ c.find-else-bit_of.ensures
+    ∙ ap (λ p. known_at (level + 1) key (shape numbers p)) (sym c.deref-else-bit_of.ensures)
+    ∙ c.find-else-bit_of.ensures

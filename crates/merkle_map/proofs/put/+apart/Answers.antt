@@ -9,7 +9,8 @@ use Rattle.merkle_map.proofs.put.+apart.Goals as goal
 
 pub have_same_bit-requires : goal.have_same_bit-requires
 have_same_bit-requires g t c = record {
-  within = bits_left c.args.level c.args.own.key c.args.other.key c.requires.own_key c.requires.other_key c.requires.within
+  within =
+      bits_left c.args.level c.args.own.key c.args.other.key c.requires.own_key c.requires.other_key c.requires.within
       c.requires.together c.requires.differ;
   together = c.requires.together;
 }
@@ -18,15 +19,18 @@ pub returns-then-bit_of : goal.returns-then-bit_of
 returns-then-bit_of g t c =
     let numbers = g.D.Numbered.numbers in
     let own = sym c.bit_of.ensures ∙ c.if-bit_of.true in
-    answers_as _ _ _ _ (ap Ok (first-right c.args.level (entry_seen numbers c.args.own) (entry_seen numbers c.args.other)
-    c.have_same_bit.ensures.within own (c.have_same_bit.ensures.other c.if-have_same_bit.false ∙ ap not own))) c.fork-then-bit_of.ensures
+    answers_as _ _ _ _ (ap Ok (first-right c.args.level (entry_seen numbers c.args.own)
+    (entry_seen numbers c.args.other)
+    c.have_same_bit.ensures.within own (c.have_same_bit.ensures.other c.if-have_same_bit.false
+    ∙ ap not own))) c.fork-then-bit_of.ensures
 
 pub returns-else-bit_of : goal.returns-else-bit_of
 returns-else-bit_of g t c =
     let numbers = g.D.Numbered.numbers in
     let own = sym c.bit_of.ensures ∙ c.if-bit_of.false in
     answers_as _ _ _ _ (ap Ok (first-left c.args.level (entry_seen numbers c.args.own) (entry_seen numbers c.args.other)
-    c.have_same_bit.ensures.within own (c.have_same_bit.ensures.other c.if-have_same_bit.false ∙ ap not own))) c.fork-else-have_same_bit.ensures
+    c.have_same_bit.ensures.within own (c.have_same_bit.ensures.other c.if-have_same_bit.false
+    ∙ ap not own))) c.fork-else-have_same_bit.ensures
 
 pub returns-then-is_right : goal.returns-then-is_right
 returns-then-is_right g t c =

@@ -15,7 +15,8 @@ bit_of-requires g t c =
 pub overflow_add-level-else-bit_of : goal.overflow_add-level-else-bit_of
 overflow_add-level-else-bit_of g t c =
     let numbers = g.D.Numbered.numbers in
-    let inside = fork_within c.args.level c.args.key.now (shape numbers c.in-Fork.left.value) (shape numbers c.in-Fork.right.value)
+    let inside = fork_within c.args.level c.args.key.now (shape numbers c.in-Fork.left.value)
+    (shape numbers c.in-Fork.right.value)
     (subst (λ p. StandsAt (way c.args.level c.args.key.now) (shape numbers p)) c.in-Fork.is c.requires) in
     omega (arith, inside)
 
@@ -30,7 +31,8 @@ returns-then-bit_of g t c =
     subst (λ p. Becomes (losing level key (shape numbers p)) new) (sym c.in-Fork.is)
     (subst (λ o. Becomes o new) (sym (losing-right level key left right (sym c.bit_of.ensures ∙ c.if-bit_of.true)))
     (becomes_on (losing (level + 1) key right) (λ r. joined left r) (shape numbers c.remove_in.new.part) new
-    (subst (λ p. Becomes (losing (level + 1) key (shape numbers p)) (shape numbers c.remove_in.new.part)) c.deref_mut.ensures.value
+    (subst (λ p. Becomes (losing (level + 1) key (shape numbers p))
+    (shape numbers c.remove_in.new.part)) c.deref_mut.ensures.value
     c.remove_in.ensures) c.collapse.ensures))
 
 pub returns-else-bit_of : goal.returns-else-bit_of
@@ -45,5 +47,6 @@ returns-else-bit_of g t c =
     subst (λ p. Becomes (losing level key (shape numbers p)) new) (sym c.in-Fork.is)
     (subst (λ o. Becomes o new) (sym (losing-left level key left right (sym c.bit_of.ensures ∙ c.if-bit_of.false)))
     (becomes_on (losing (level + 1) key left) (λ l. joined l right) (shape numbers removed.new.part) new
-    (subst (λ p. Becomes (losing (level + 1) key (shape numbers p)) (shape numbers removed.new.part)) c.deref_mut-else-bit_of.ensures.value
+    (subst (λ p. Becomes (losing (level + 1) key (shape numbers p))
+    (shape numbers removed.new.part)) c.deref_mut-else-bit_of.ensures.value
     removed.ensures) c.collapse-else-bit_of.ensures))

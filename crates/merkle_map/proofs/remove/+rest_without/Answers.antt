@@ -16,7 +16,8 @@ bit_of-requires g t c =
 pub overflow_add-level-else-bit_of : goal.overflow_add-level-else-bit_of
 overflow_add-level-else-bit_of g t c =
     let numbers = g.D.Numbered.numbers in
-    let inside = fork_within c.args.level c.args.key.now (shape numbers c.in-Fork.left.value) (shape numbers c.in-Fork.right.value)
+    let inside = fork_within c.args.level c.args.key.now (shape numbers c.in-Fork.left.value)
+    (shape numbers c.in-Fork.right.value)
     (subst (λ p. StandsAt (way c.args.level c.args.key.now) (shape numbers p)) c.in-Fork.is c.requires) in
     omega (arith, inside)
 
@@ -28,8 +29,10 @@ returns-then-bit_of g t c =
     let left = shape numbers c.in-Fork.left.value in
     let right = shape numbers c.in-Fork.right.value in
     c.rest_joined.ensures
-    ∙ ap (λ r. rest_beside r c.rest_now.result) (c.rest_without.ensures ∙ ap (λ p. rest_of (losing (level + 1) key (shape numbers p))) c.deref.ensures)
-    ∙ ap (rest_beside (rest_of (losing (level + 1) key right))) (c.rest_now.ensures ∙ ap (λ p. rest_of (Ok (shape numbers p))) c.deref-then-bit_of.ensures)
+    ∙ ap (λ r. rest_beside r c.rest_now.result) (c.rest_without.ensures
+    ∙ ap (λ p. rest_of (losing (level + 1) key (shape numbers p))) c.deref.ensures)
+    ∙ ap (rest_beside (rest_of (losing (level + 1) key right))) (c.rest_now.ensures
+    ∙ ap (λ p. rest_of (Ok (shape numbers p))) c.deref-then-bit_of.ensures)
     ∙ sym (rest-right level key left right (sym c.bit_of.ensures ∙ c.if-bit_of.true))
     ∙ ap (λ p. rest_of (losing level key (shape numbers p))) (sym c.in-Fork.is)
 
@@ -41,7 +44,9 @@ returns-else-bit_of g t c =
     let left = shape numbers c.in-Fork.left.value in
     let right = shape numbers c.in-Fork.right.value in
     c.rest_joined-else-bit_of.ensures
-    ∙ ap (λ r. rest_beside r c.rest_now-else-bit_of.result) (c.rest_without-else-bit_of.ensures ∙ ap (λ p. rest_of (losing (level + 1) key (shape numbers p))) c.deref-else-bit_of.ensures)
-    ∙ ap (rest_beside (rest_of (losing (level + 1) key left))) (c.rest_now-else-bit_of.ensures ∙ ap (λ p. rest_of (Ok (shape numbers p))) c.deref-else-bit_of-2.ensures)
+    ∙ ap (λ r. rest_beside r c.rest_now-else-bit_of.result) (c.rest_without-else-bit_of.ensures
+    ∙ ap (λ p. rest_of (losing (level + 1) key (shape numbers p))) c.deref-else-bit_of.ensures)
+    ∙ ap (rest_beside (rest_of (losing (level + 1) key left))) (c.rest_now-else-bit_of.ensures
+    ∙ ap (λ p. rest_of (Ok (shape numbers p))) c.deref-else-bit_of-2.ensures)
     ∙ sym (rest-left level key left right (sym c.bit_of.ensures ∙ c.if-bit_of.false))
     ∙ ap (λ p. rest_of (losing level key (shape numbers p))) (sym c.in-Fork.is)

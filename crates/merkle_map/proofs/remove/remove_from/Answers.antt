@@ -9,5 +9,6 @@ returns-then-is_unknown-clause-changed g c =
     let key = c.args.key.now in
     let old = shape g.D.Numbered.numbers c.args.part.now in
     there-losing key old (c.in_ok-has_at.ensures ∙ ap Ok c.if-branch.true)
-    ∙ unknown_losing key old (ap is_hidden_rest (sym c.rest_without.ensures) ∙ sym c.is_unknown.ensures ∙ c.if-is_unknown.true)
+    ∙ unknown_losing key old (ap is_hidden_rest (sym c.rest_without.ensures) ∙ sym c.is_unknown.ensures
+    ∙ c.if-is_unknown.true)
     ∙ ap Err (sym c.hidden.ensures)

@@ -19,7 +19,8 @@ pub levels-preserved : goal.levels-preserved
 levels-preserved g c = record {
   inside = omega (arith, c.levels.invariant.inside);
   whole = climbed (g.T.MapHasher.hashes c.args.hasher.now) c.args.key.now g.D.Numbered.numbers c.args.siblings.now
-      (c.levels.level - 1) c.levels.level c.index-siblings-level.result (g.D.Numbered.numbers c.levels.own) c.bit_of.result _
+      (c.levels.level - 1) c.levels.level c.index-siblings-level.result
+      (g.D.Numbered.numbers c.levels.own) c.bit_of.result _
       c.levels.invariant.whole (omega arith) (omega (arith, c.levels.invariant.inside)) c.index-siblings-level.is
       c.bit_of.ensures _ c.in_ok-own.ensures;
 }

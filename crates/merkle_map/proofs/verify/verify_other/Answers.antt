@@ -12,5 +12,6 @@ returns-else-are_same_keys-clause-bound g c =
     let root = g.D.Numbered.numbers c.args.root.now in
     let value = g.D.Numbered.numbers c.args.other_value.now in
     let siblings = map g.D.Numbered.numbers c.args.siblings.now in
-    answered _ _ (λ yes. subst (λ v. BindsValue h root key v siblings (leaf_of other value)) (other_value key other value (sym c.are_same_keys.ensures ∙ c.if-are_same_keys.false))
+    answered _ _ (λ yes. subst (λ v. BindsValue h root key v siblings (leaf_of other value))
+    (other_value key other value (sym c.are_same_keys.ensures ∙ c.if-are_same_keys.false))
     (verdict-binds h key root siblings (leaf_of other value) refl yes)) c.leaf_leads_to.ensures

@@ -10,8 +10,11 @@ returns-clause-accepted g c =
     let h = g.T.MapHasher.hashes c.args.hasher.now in
     let key = c.args.key.now in
     let old = shape numbers c.self.inside.top in
-    subst (λ s. IsAccepted h key s (proof_seen numbers (record { end = c.in_ok-end.end; siblings = c.climb_down.new.siblings })))
+    subst (λ s. IsAccepted h key s (proof_seen numbers
+    (record { end = c.in_ok-end.end; siblings = c.climb_down.new.siblings })))
     c.self.view_is
-    (accepts h key old (proof_seen numbers (record { end = c.in_ok-end.end; siblings = c.climb_down.new.siblings })) c.self.invariant
+    (accepts h key old (proof_seen numbers
+    (record { end = c.in_ok-end.end; siblings = c.climb_down.new.siblings })) c.self.invariant
     (sym (behind_none (proof_at h 0 key old))
-    ∙ ap (λ l. behind_all (map numbers l) (proof_at h 0 key old)) (sym c.new-siblings.ensures.items) ∙ c.in_ok-end.ensures))
+    ∙ ap (λ l. behind_all (map numbers l) (proof_at h 0 key old)) (sym c.new-siblings.ensures.items)
+    ∙ c.in_ok-end.ensures))

@@ -26,7 +26,8 @@ pub returns-clause-known : goal.returns-clause-known
 returns-clause-known g c = λ key among.
     let numbers = g.D.Numbered.numbers in
     let h = g.T.MapHasher.hashes c.args.hasher.now in
-    prunes-known h c.args.tops 0 c.args.keys.now key (shape numbers c.self.inside.top) (shape numbers c.in_ok-top.top) among
+    prunes-known h c.args.tops 0 c.args.keys.now key (shape numbers c.self.inside.top)
+    (shape numbers c.in_ok-top.top) among
     c.in_ok-top.ensures ∙ ap (known_at 0 key) c.self.view_is
 
 pub returns-clause-maps : goal.returns-clause-maps

@@ -11,7 +11,8 @@ use Rattle.merkle_map.proofs.tree.MapTree.remove.Goals as goal
 pub invariant_of-self : goal.invariant_of-self
 invariant_of-self g c =
     let numbers = g.D.Numbered.numbers in
-    without-stands c.args.key.now (shape numbers c.self.inside.top) (shape numbers c.remove_from.new.part) c.remove_from.result
+    without-stands c.args.key.now (shape numbers c.self.inside.top)
+    (shape numbers c.remove_from.new.part) c.remove_from.result
     c.remove_from.ensures.changed c.remove_from.ensures.kept c.self.invariant
 
 pub returns-clause-maps : goal.returns-clause-maps
