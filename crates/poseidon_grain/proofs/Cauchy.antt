@@ -10,9 +10,6 @@ pub record AreRows (p : ℕ) (xs ys : List ℕ) (rows : List (List ℕ)) (count 
   pub long : length rows ≡ count
   pub each : (i : ℕ) → i < count → AreInverses p (sums_with p (get_or xs i 0) ys) (get_or rows i [])
 
-pub no_rows : (p : ℕ) (xs ys : List ℕ) (rows : List (List ℕ)) → rows ≡ [] → AreRows p xs ys rows 0
-no_rows p xs ys rows empty = record { long = ap length empty; each = λ i below. omega (arith, below) }
-
 pub one_row : (p : ℕ) (xs ys : List ℕ) (rows new : List (List ℕ)) (row : List ℕ) (count x : ℕ)
     → AreRows p xs ys rows count → new ≡ rows ++ row ∷ [] → get_or xs count 0 ≡ x
     → AreInverses p (sums_with p x ys) row → AreRows p xs ys new (count + 1)

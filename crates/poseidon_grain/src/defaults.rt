@@ -76,10 +76,10 @@ pub fn get_default_poseidon_parameters<F: PoseidonDefaultConfig>(
     rate: usize,
     optimized_for_weights: bool,
 ) -> Result<Option<PoseidonConfig<F>>, Error>
-    ensures made { let asked = asked_of F.MODULUS F.MODULUS_BIT_SIZE (rate + 1) in
-        (n : Counts) → F.counts rate optimized_for_weights ≡ Some n
+    ensures made { (n : Counts) → F.counts rate optimized_for_weights ≡ Some n
         → IfOk result (λ found. IfSome found (λ c.
-        AreParameters (asked n.full n.partial 0) rate 1 n.exponent c)) }
+        AreParameters (asked_of F.MODULUS F.MODULUS_BIT_SIZE (rate + 1) n.full n.partial 0)
+        rate 1 n.exponent c)) }
     ensures none { F.counts rate optimized_for_weights ≡ None → result ≡ Ok None }
 {
     match F::entry(rate, optimized_for_weights) {

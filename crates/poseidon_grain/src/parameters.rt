@@ -26,14 +26,14 @@ fn constants_and_matrix<F: InvertibleField>(
     partial_rounds: usize,
     skip_matrices: usize,
 ) -> Result<Option<(Vec<Vec<F>>, Vec<Vec<F>>)>, Error>
-    ensures generated { let asked = asked_of F.MODULUS F.MODULUS_BIT_SIZE width full_rounds in
-        IfOk result (λ found. IfSome found (λ made.
-        AreGenerated (asked partial_rounds skip_matrices)
+    ensures generated { IfOk result (λ found. IfSome found (λ made.
+        AreGenerated (asked_of F.MODULUS F.MODULUS_BIT_SIZE width full_rounds
+        partial_rounds skip_matrices)
         (map (λ row. map F.value row.items) made.0.items)
         (map (λ row. map F.value row.items) made.1.items))) }
-    ensures none { let asked = asked_of F.MODULUS F.MODULUS_BIT_SIZE width full_rounds in
-        IfOk result (λ found. IsNone found
-        → IsMatrixRefused (asked partial_rounds skip_matrices)) }
+    ensures none { IfOk result (λ found. IsNone found
+        → IsMatrixRefused (asked_of F.MODULUS F.MODULUS_BIT_SIZE width full_rounds
+        partial_rounds skip_matrices)) }
     ensures shape { counts_fit width full_rounds partial_rounds skip_matrices ≡ false
         → result ≡ Err (Error.GenericError Refusal.ParameterShape) }
     ensures refused { counts_fit width full_rounds partial_rounds skip_matrices ≡ true
@@ -72,14 +72,14 @@ pub fn find_poseidon_ark_and_mds<F: InvertibleField>(
     partial_rounds: usize,
     skip_matrices: usize,
 ) -> Result<Option<(Vec<Vec<F>>, Vec<Vec<F>>)>, Error>
-    ensures generated { let asked = asked_of F.MODULUS F.MODULUS_BIT_SIZE (rate + 1) full_rounds in
-        IfOk result (λ found. IfSome found (λ made.
-        AreGenerated (asked partial_rounds skip_matrices)
+    ensures generated { IfOk result (λ found. IfSome found (λ made.
+        AreGenerated (asked_of F.MODULUS F.MODULUS_BIT_SIZE (rate + 1) full_rounds
+        partial_rounds skip_matrices)
         (map (λ row. map F.value row.items) made.0.items)
         (map (λ row. map F.value row.items) made.1.items))) }
-    ensures none { let asked = asked_of F.MODULUS F.MODULUS_BIT_SIZE (rate + 1) full_rounds in
-        IfOk result (λ found. IsNone found
-        → IsMatrixRefused (asked partial_rounds skip_matrices)) }
+    ensures none { IfOk result (λ found. IsNone found
+        → IsMatrixRefused (asked_of F.MODULUS F.MODULUS_BIT_SIZE (rate + 1) full_rounds
+        partial_rounds skip_matrices)) }
     ensures shape { counts_fit (rate + 1) full_rounds partial_rounds skip_matrices ≡ false
         → result ≡ Err (Error.GenericError Refusal.ParameterShape) }
     ensures refused { counts_fit (rate + 1) full_rounds partial_rounds skip_matrices ≡ true
@@ -104,14 +104,12 @@ pub fn poseidon_parameters<F: InvertibleField>(
     partial_rounds: usize,
     skip_matrices: usize,
 ) -> Result<Option<PoseidonConfig<F>>, Error>
-    ensures generated { let width = rate + capacity in
-        let asked = asked_of F.MODULUS F.MODULUS_BIT_SIZE width full_rounds in
-        IfOk result (λ found. IfSome found (λ c.
-        AreParameters (asked partial_rounds skip_matrices) rate capacity alpha c)) }
-    ensures none { let width = rate + capacity in
-        let asked = asked_of F.MODULUS F.MODULUS_BIT_SIZE width full_rounds in
-        IfOk result (λ found. IsNone found
-        → IsMatrixRefused (asked partial_rounds skip_matrices)) }
+    ensures generated { IfOk result (λ found. IfSome found (λ c.
+        AreParameters (asked_of F.MODULUS F.MODULUS_BIT_SIZE (rate + capacity) full_rounds
+        partial_rounds skip_matrices) rate capacity alpha c)) }
+    ensures none { IfOk result (λ found. IsNone found
+        → IsMatrixRefused (asked_of F.MODULUS F.MODULUS_BIT_SIZE (rate + capacity) full_rounds
+        partial_rounds skip_matrices)) }
 {
     let Some(width) = rate.checked_add(capacity) else {
         return Err(Error::GenericError(Refusal::ParameterShape));

@@ -20,8 +20,9 @@ fn of_rounds<F: InvertibleField>(
     alpha: u64,
     partial_rounds: usize,
 ) -> Result<PoseidonConfig<F>, Error>
-    ensures { let asked = asked_of F.MODULUS F.MODULUS_BIT_SIZE (rate + capacity) 8 in
-        IfOk result (λ c. AreParameters (asked partial_rounds 0) rate capacity alpha c) }
+    ensures { IfOk result (λ c.
+        AreParameters (asked_of F.MODULUS F.MODULUS_BIT_SIZE (rate + capacity) 8 partial_rounds 0)
+        rate capacity alpha c) }
 {
     match poseidon_parameters::<F>(alloc, rate, capacity, alpha, 8, partial_rounds, 0)? {
         Some(parameters) => Ok(parameters),
@@ -61,9 +62,9 @@ fn circom_rounds(inputs: usize) -> usize
 /// Errors: `IncorrectInputLength` with any other count of inputs; `ParameterShape` for a matrix that is refused, which
 /// none of these is; `OutOfMemory`.
 pub fn circom_parameters(alloc: Global, inputs: usize) -> Result<PoseidonConfig<Bn254Fr>, Error>
-    ensures made { let field = ⟦<Bn254Fr as Field>⟧ in
-        let asked = asked_of field.MODULUS field.MODULUS_BIT_SIZE (inputs + 1) 8 in
-        IfOk result (λ c. AreParameters (asked (circom_rounds inputs) 0) inputs 1 5 c) }
+    ensures made { IfOk result (λ c.
+        AreParameters (asked_of ⟦<Bn254Fr as Field>⟧.MODULUS ⟦<Bn254Fr as Field>⟧.MODULUS_BIT_SIZE
+        (inputs + 1) 8 (circom_rounds inputs) 0) inputs 1 5 c) }
     ensures none { (inputs < 1) ⊎ (16 < inputs) → result ≡ Err (IncorrectInputLength inputs) }
 {
     if inputs < 1 || inputs > 16 {
@@ -81,9 +82,9 @@ pub fn goldilocks_parameters(
     alloc: Global,
     width: usize,
 ) -> Result<PoseidonConfig<Fp<Goldilocks>>, Error>
-    ensures made { let field = ⟦<Fp<Goldilocks> as Field>⟧ in
-        let asked = asked_of field.MODULUS field.MODULUS_BIT_SIZE width 8 in
-        IfOk result (λ c. AreParameters (asked 22 0) (width - 4) 4 7 c) }
+    ensures made { IfOk result (λ c.
+        AreParameters (asked_of ⟦<Fp<Goldilocks> as Field>⟧.MODULUS ⟦<Fp<Goldilocks> as Field>⟧.MODULUS_BIT_SIZE
+        width 8 22 0) (width - 4) 4 7 c) }
     ensures none { (width ≡ 8 → ⊥) × (width ≡ 12 → ⊥) × (width ≡ 16 → ⊥)
         → result ≡ Err (IncorrectInputLength width) }
 {
@@ -101,9 +102,9 @@ pub fn baby_bear_parameters(
     alloc: Global,
     width: usize,
 ) -> Result<PoseidonConfig<Fp<BabyBear>>, Error>
-    ensures made { let field = ⟦<Fp<BabyBear> as Field>⟧ in
-        let asked = asked_of field.MODULUS field.MODULUS_BIT_SIZE width 8 in
-        IfOk result (λ c. AreParameters (asked (baby_bear_rounds width) 0) (width - 8) 8 7 c) }
+    ensures made { IfOk result (λ c.
+        AreParameters (asked_of ⟦<Fp<BabyBear> as Field>⟧.MODULUS ⟦<Fp<BabyBear> as Field>⟧.MODULUS_BIT_SIZE
+        width 8 (baby_bear_rounds width) 0) (width - 8) 8 7 c) }
     ensures none { (width ≡ 12 → ⊥) × (width ≡ 16 → ⊥) → result ≡ Err (IncorrectInputLength width) }
 {
     if width != 12 && width != 16 {

@@ -20,4 +20,6 @@ loop-first-preserved g c =
     ∙ c.loop-first.invariant
 
 pub returns : goal.returns
-returns g c = sym (sym c.loop-first.invariant ∙ empty_twice g.F.Valued.value c.loop-first.rest.now c.in_default.ensures.cases)
+returns g c =
+    sym (sym c.loop-first.invariant
+    ∙ empty_twice g.F.Valued.value c.loop-first.rest.now c.in_default.ensures.cases)
