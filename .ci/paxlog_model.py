@@ -29,7 +29,10 @@ def check(what, holds):
 
 
 def ask(*words):
-    ran = subprocess.run([PROGRAM, *map(str, words)], stdout=subprocess.PIPE, stderr=subprocess.PIPE)
+    try:
+        ran = subprocess.run([PROGRAM, *map(str, words)], stdout=subprocess.PIPE, stderr=subprocess.PIPE, timeout=120)
+    except subprocess.TimeoutExpired:
+        return -1, "", "it does not end"
     return ran.returncode, ran.stdout.decode(), ran.stderr.decode()
 
 

@@ -10,11 +10,13 @@ use Rattle.ark_trees.specs.Rfc6962.{node_of}
 use Rattle.merkle_log.specs.Kept.{Keeps}
 use Rattle.merkle_log.specs.Log.{merkle_tree_hash}
 use Rattle.merkle_log.specs.Stored.{stored_count}
+use Rattle.merkle_log.proofs.Positions.{no-count}
 use Rattle.paxlog_run.specs.LogFile.{larger, slot, slot_fits, slot_size, title, written}
 use Rattle.paxlog_run.proofs.Files.{log-holds, slot-torn, stored-same, Holds}
 use Rattle.paxlog_run.proofs.Heads.{fits-size, is_headed, length-slot, same_bytes, slot-fits, HasHead, Uses}
 use Rattle.log_store.specs.Sound.{HasStored}
 use Rattle.log_store.specs.Store.{IsSettled}
+use Rattle.log_store.proofs.Sounding.{front-of, none-hashed}
 
 -- ---- a copy
 
@@ -188,3 +190,23 @@ settled-by leaves root file copy head size count has long fits top is count_is s
     recovered leaves root file has (omega (arith, long, fits)) top copy head
     (is ∙ ap (λ n. title ++ (slot n root ++ slot n root)) (sym long))
     (same ∙ ap (λ n. take (32 * n) (drop 96 file)) (count_is ∙ ap stored_count (sym long)))
+
+-- ---- a new log
+
+-- a head before nothing
+pub new-settled : (head file : List ℕ) → head ≡ title ++ (slot 0 (sha256 []) ++ slot 0 (sha256 [])) → file ≡ []
+    → IsSettled [] (written file 0 head)
+new-settled head file is none =
+    let long : length head ≡ 96 = ap length is ∙ omega (
+      arith,
+      length-append title (slot 0 (sha256 []) ++ slot 0 (sha256 [])),
+      length-append (slot 0 (sha256 [])) (slot 0 (sha256 [])),
+      length-slot 0 (sha256 []),
+      title_long,
+    ) in
+    let has : HasStored [] head = front-of head 0 (none-hashed head) (omega (arith, long, no-count)) in
+    settled-by [] (sha256 []) head file head 0 0 has refl (omega arith) refl is no-count
+    (ap (drop 96) none)
+  where
+    title_long : length title ≡ 32
+    title_long = refl

@@ -1,8 +1,9 @@
 //! The head of a new log's file.
 
-ghost use Rattle.std.specs.Prelude.{◌≡◌, List, false, IfOk, OnOk};
+ghost use Rattle.std.specs.Prelude.{◌≡◌, List, [], true, false, IfOk, OnOk};
 ghost use Rattle.ark_paths.specs.Pair.{Digest};
 ghost use Rattle.log_store.specs.Disk.{Only};
+ghost use Rattle.log_store.specs.Store.{IsSettled};
 ghost use Rattle.paxlog_run.specs.LogFile.{IsLogFile};
 
 use crate::disk::Disk;
@@ -45,9 +46,18 @@ fn is_part<D: Disk>(disk: &D, head: &[u8; START]) -> Result<bool, D::Refusal> {
 
 // Whether a file has no more than a part of a head, and so no log.
 fn is_begun<D: Disk>(disk: &D, head: &[u8; START]) -> Result<bool, Stop<D::Refusal>>
-    ensures { D.Obeys disk.now → (leaves : List Digest) → IsLogFile leaves (D.seen disk.now)
+    ensures log { D.Obeys disk.now → (leaves : List Digest) → IsLogFile leaves (D.seen disk.now)
         → IfOk result (λ begun. begun ≡ false) }
+    ensures empty { D.Obeys disk.now → D.seen disk.now ≡ []
+        → IfOk result (λ begun. begun ≡ true) }
 {
+    let count = match disk.length() {
+        Ok(count) => count,
+        Err(refusal) => return Err(Stop::Disk(refusal)),
+    };
+    if count == 0 {
+        return Ok(true);
+    }
     match is_part(disk, head) {
         Ok(true) => lacks_log(disk),
         Ok(false) => Ok(false),
@@ -64,6 +74,10 @@ pub fn make<D: Disk>(disk: &mut D) -> Result<(), Stop<D::Refusal>>
     // A file that has a log stays as it is.
     ensures kept { D.Obeys disk.new → (leaves : List Digest) → IsLogFile leaves (D.seen disk.old)
         → OnOk result (D.seen disk.new ≡ D.seen disk.old) }
+
+    // A file that has no byte has the log of no entries, and stays it if one of its slots is lost.
+    ensures made { D.Obeys disk.new → D.seen disk.old ≡ []
+        → OnOk result (IsSettled [] (D.seen disk.new)) }
     ensures durable { D.Obeys disk.new
         → OnOk result (Only (D.seen disk.new) (D.may_leave disk.new)) }
 {

@@ -113,10 +113,14 @@ fn say_proof(rt: &HostRuntime, verdict: Result<bool, Fault>) -> Result<u8, StopA
     }
 }
 
+// Writes a number, and returns the status.
+fn say_number(rt: &HostRuntime, number: usize) -> Result<u8, StopAt> {
+    say(rt, format!(in rt.alloc(); "{number}\n")?.as_bytes())
+}
+
 // Writes a size that was appended, and returns the status.
 fn say_size(rt: &HostRuntime, size: usize) -> Result<u8, StopAt> {
-    let line = format!(in rt.alloc(); "{size}\n")?;
-    match say(rt, line.as_bytes()) {
+    match say_number(rt, size) {
         Ok(status) => Ok(status),
         Err(_) => Err(StopAt::from(Stop::Unsaid)),
     }
@@ -237,8 +241,9 @@ fn recover(rt: &HostRuntime, words: &[Vec<u8>], is_made: bool) -> Result<u8, Sto
     } else {
         of_log(store::recoverable(rt, old))?
     };
+    let line = line_of_root(rt.alloc(), found.size, &found.root)?;
     tell(rt, words, &found, is_made);
-    say(rt, &line_of_root(rt.alloc(), found.size, &found.root)?)
+    say(rt, &line)
 }
 
 // Stops where a word from a place on, or LOG before them, is no text: before any file is read.
