@@ -1,8 +1,7 @@
--- Numbers that stand twice in a list, and sums that are 0.
-use Rattle.std.proofs.Common.{◌≡◌, ◌==◌, ◌||◌, ℕ, ◌+◌, ◌%◌, ◌<◌, false, List, [], ◌∷◌, length, map, get_or, refl, sym, ap, ◌∙◌, subst, arith}
+-- Numbers that stand twice in a list.
+use Rattle.std.proofs.Common.{◌≡◌, ◌==◌, ◌||◌, ℕ, false, List, [], ◌∷◌, length, map, refl, arith}
 use Rattle.std.specs.List.{list_any}
-use Rattle.std.proofs.lemmas.List.{length-map, get_or-map}
-use Rattle.poseidon_grain.specs.Constants.{sums_with, has_twice, HasZero, MeetsZero}
+use Rattle.poseidon_grain.specs.Constants.{has_twice}
 
 pub twice_later : (x : ℕ) (xs : List ℕ) → has_twice (x ∷ xs) ≡ (list_any (λ y. x == y) xs || has_twice xs)
 unfolding has_twice

@@ -80,15 +80,15 @@ fn hashes_are_those_of_circomlib(rt: HostRuntime) {
     }
 }
 
-/// Returns an element of four drawn words, the least first, modulo the modulus.
-pub fn drawn<F: Field, R: Rng>(rng: &mut R) -> F {
+// An element of four drawn words, the least first, modulo the modulus.
+fn drawn<F: Field, R: Rng>(rng: &mut R) -> F {
     let mut bytes = [0; 32];
     rng.fill_bytes(&mut bytes);
     F::from_le_bytes_mod_order(&bytes)
 }
 
-/// Returns one digit more of a number to base 1000003.
-pub fn behind<F: Field>(digits: F, digit: F) -> F {
+// One digit more of a number to base 1000003.
+fn behind<F: Field>(digits: F, digit: F) -> F {
     digits.mul(F::from_u64(1_000_003)).add(digit)
 }
 

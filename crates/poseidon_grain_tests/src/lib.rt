@@ -9,5 +9,3 @@ mod defaults;
 mod one_word;
 #[cfg(test)]
 mod tables;
-#[cfg(test)]
-mod trees;

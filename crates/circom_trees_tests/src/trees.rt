@@ -1,6 +1,5 @@
 //! Trees and logs over circomlib's hash.
 
-use crate::circom::{behind, drawn, is};
 use ark_base::error::Error;
 use ark_base::serialize::{DigestItem, Duplicate};
 use ark_groups::ff::Field;
@@ -10,9 +9,29 @@ use ark_wide_fields::Bn254Fr;
 use circom_trees::CircomTree;
 use merkle_log::Log;
 use poseidon_grain::circom_parameters;
-use rand::SeedableRng;
 use rand::rngs::SmallRng;
+use rand::{Rng, SeedableRng};
 use std::alloc::Global;
+
+// Whether an element is printed so.
+fn is<F: Field>(alloc: Global, element: F, text: &str) -> bool {
+    match format!(in alloc; "{element:?}") {
+        Ok(written) => written.as_str() == text,
+        Err(_) => false,
+    }
+}
+
+// An element of four drawn words, the least first, modulo the modulus.
+fn drawn<F: Field, R: Rng>(rng: &mut R) -> F {
+    let mut bytes = [0; 32];
+    rng.fill_bytes(&mut bytes);
+    F::from_le_bytes_mod_order(&bytes)
+}
+
+// One digit more of a number to base 1000003.
+fn behind<F: Field>(digits: F, digit: F) -> F {
+    digits.mul(F::from_u64(1_000_003)).add(digit)
+}
 
 // The roots of the logs of 1 to 64 drawn digests, as the digits of one number.
 fn log_digits<D: Field + DigestItem, T: TreeHasher<D, D> + Drop>(
