@@ -78,8 +78,7 @@ is_placed level (Fork left right) = not (nat_lt (weight left + weight right) 2)
 is_placed level (Hidden digest) = true
 
 -- the tree that all the bytes spell, or the first fault: bytes that end too early or have no meaning; else an entry or
--- a fork
--- out of place; else bytes that are left
+-- a fork out of place; else bytes that are left
 abbrev pub tree_of_bytes : List ℕ → Outcome Shape
 tree_of_bytes bytes = tree_read 256 bytes >>= λ found. if is_placed 0 found.0 then
     (if nat_lt 0 (length found.1) then Err invalid else Ok found.0) else Err invalid

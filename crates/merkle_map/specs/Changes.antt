@@ -50,8 +50,7 @@ with_value level new (Hidden digest) = Err hides
 -- ---- a key is removed
 
 -- The tree of two sides, one of which may have lost an entry: an only entry stands alone. Beside one entry or none,
--- what is
--- hidden would have to be known.
+-- what is hidden would have to be known.
 abbrev pub joined : Shape → Shape → Outcome Shape
 joined Empty Empty = Ok Empty
 joined Empty (One entry) = Ok (One entry)

@@ -65,8 +65,7 @@ abbrev pub below : Digest → ProofSeen → ProofSeen
 below digest proof = record { end = proof.end; siblings = digest ∷ proof.siblings }
 
 -- The proof of what a tree some levels below the root has at a key. The error is that of the highest side whose hash
--- refuses,
--- or that the end is hidden.
+-- refuses, or that the end is hidden.
 abbrev pub proof_at : MapHashes → ℕ → Key → Shape → Outcome ProofSeen
 proof_at h level key Empty = Ok (record { end = AtNothing; siblings = [] })
 proof_at h level key (One entry) = Ok (record { end = end_at key entry; siblings = [] })

@@ -48,8 +48,7 @@ weight (Fork left right) = 2
 weight (Hidden digest) = 2
 
 -- The tree stands where these bits lead from the root: each entry is on its key's way, and a fork is above two entries
--- or
--- more, or may be.
+-- or more, or may be.
 abbrev pub StandsAt : List Bool → Shape → Type 0
 StandsAt bits Empty = Unit {0}
 StandsAt bits (One entry) = IsKey entry.key × (way (length bits) entry.key ≡ bits)

@@ -51,8 +51,7 @@ verdict_from h root key siblings own = do
   Ok (bytes_eq top root)
 
 -- whether a proof, of no more digests than a key has bits, leads from an end to a root; the first refusal is that of
--- the
--- end's hash
+-- the end's hash
 abbrev pub verdict : MapHashes → Digest → Key → List Digest → Node → Outcome Bool
 verdict h root key siblings end = if nat_lt key_bits (length siblings) then Ok false else
     (digest_of h end >>= verdict_from h root key siblings)

@@ -114,8 +114,8 @@ fn roots_are_the_models(rt: HostRuntime) -> Result<(), Fail> {
     let alloc = rt.alloc();
     let mut tree = MapTree::new();
     let agree = change(alloc, &Sha256Map::new(), &mut tree);
-    assert!(rt; matches!(agree, Ok(96)));
-    assert!(rt; CHANGES.len() == 96);
+    assert!(rt; matches!(agree, Ok(64)));
+    assert!(rt; CHANGES.len() == 64);
     Ok(())
 }
 
