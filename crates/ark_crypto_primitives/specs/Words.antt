@@ -23,6 +23,12 @@ pub use Rattle.jubjub.specs.Elements.{base as jubjub_generator, coordinates as j
 pub use Rattle.jubjub.specs.Spelling.{spelling as jubjub_spelling}
 pub use Rattle.jubjub.specs.Theorems.{ElementsAreCoordinates, HasOrder, HasPrimeOrder, IsCommutativeGroupOn, IsComplete}
 pub use Rattle.jubjub.specs.Theorems.{QuotientsAreRight}
+-- Ed25519
+pub use Rattle.ed25519.specs.Signatures.{IsSignature, key_of as ed25519_key, signature_of as ed25519_signature}
+-- maps
+pub use Rattle.merkle_map.specs.Map.{Entry as MapEntry, HaveSame, IsMap, MapHashes, put as map_put, root_of as map_root}
+pub use Rattle.merkle_map.specs.Map.{value_at as map_value, without as map_without}
+pub use Rattle.merkle_map.specs.Shown.{BindsTree, Follows as MapFollows, Has as MapHas}
 -- what a sponge absorbs, and sponges
 pub use Rattle.ark_absorb.specs.Appending.{AppendsBytes, AppendsElements}
 pub use Rattle.ark_absorb.specs.Elements.{AreShort, Elements, elements_then, number_element, packed_elements, text_bytes}

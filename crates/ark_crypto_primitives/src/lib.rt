@@ -193,6 +193,14 @@ pub mod log {
     };
 }
 
+/// Maps from keys of 32 bytes to digests, with proofs of what they have at a key and of what they have not.
+pub mod map {
+    pub use merkle_map::{
+        Change, End, Entry, KeyProof, MapHasher, MapTree, Sha256Map, verify_absent, verify_other,
+        verify_transition, verify_value,
+    };
+}
+
 /// Configurations of trees, ready for use.
 pub mod trees {
     pub use crate::log_tree::log_tree;
