@@ -13,11 +13,12 @@ pub fn points_are_their_bytes()
 
 /// States that what RFC 8032 makes from a seed is a signature.
 pub fn own_signatures_are_accepted()
-    ensures { (seed message : List ℕ) → IsSignature (key_of seed) message (signature_of seed message) }
+    ensures { (seed message : List ℕ)
+        → IsSignature (key_of seed) message (signature_of seed message) }
 {}
 
 /// States that no two signatures of one message by one key have the same first half.
 pub fn first_halves_decide()
-    ensures { (key message one other : List ℕ) → IsSignature key message one → IsSignature key message other
-        → take 32 one ≡ take 32 other → one ≡ other }
+    ensures { (key message one other : List ℕ) → IsSignature key message one
+        → IsSignature key message other → take 32 one ≡ take 32 other → one ≡ other }
 {}

@@ -91,7 +91,8 @@ pub fn abscissa(y: Ed25519Fp, odd: bool) -> Option<Ed25519Fp>
 // The highest bit of 32 bytes: the parity of x, where they are a point's.
 fn mark_of(bytes: &[u8]) -> bool
     requires { length bytes.now ≡ 32 }
-    ensures { (a : Coordinates) → IsOnEd25519 a → bytes.now ≡ spelling a → a.x % 2 ≡ from_bool result }
+    ensures { (a : Coordinates) → IsOnEd25519 a → bytes.now ≡ spelling a
+        → a.x % 2 ≡ from_bool result }
 {
     let byte = bytes[31];
     byte >= 128

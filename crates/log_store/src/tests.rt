@@ -204,8 +204,9 @@ fn recovered(alloc: Global, disk: &Short) -> Option<(usize, [u8; 32])> {
         Ok(said) => said,
         Err(_) => return None,
     };
+    let top = found.root;
     match check(&new) {
-        Ok(true) if said == (found.size, found.root) => Some(said),
+        Ok(true) if said == (found.size, top) => Some(said),
         _ => None,
     }
 }
