@@ -129,7 +129,7 @@ pub fn ed25519(work: &str, count: u64) -> Option<u64> {
             "verify" => verify(&key, MESSAGE, &signature) as u64,
             _ => return None,
         };
-        seed[0] ^= sum as u8;
+        seed[0] ^= sum.to_le_bytes()[0];
     }
     Some(sum)
 }

@@ -14,7 +14,7 @@ use Rattle.ed25519.specs.Edwards25519.{p, d, order, curve, base_point, IsOnEd255
 use Rattle.ed25519.specs.Laws.Curve.{ed25519_is_complete}
 use Rattle.ed25519.specs.Laws.Primes.{factors_order, generates_order}
 use Rattle.ed25519.specs.Laws.Base.{base_of_order}
-use Rattle.ed25519.specs.Points.{spelling}
+use Rattle.ed25519.specs.Spelling.{spelling}
 use Rattle.ed25519.specs.Signatures.{challenge, IsSignature, secret, key_of, nonce, signature_of}
 use Rattle.ed25519.proofs.Verifying.{P, G, laws, base, at, spelled_alone, first_of}
 

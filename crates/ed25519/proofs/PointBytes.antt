@@ -9,7 +9,7 @@ use Rattle.ark_base.specs.Digits.{number_of_bytes, bytes_of_number}
 use Rattle.ark_base.specs.Laws.Digits.{length-bytes_of_number, number_of_bytes-bytes_of_number}
 use Rattle.edwards_numbers.specs.Edwards.{Coordinates}
 use Rattle.ed25519.specs.Edwards25519.{p, IsOnEd25519}
-use Rattle.ed25519.specs.Points.{spelling}
+use Rattle.ed25519.specs.Spelling.{spelling}
 
 pub length-spelling : (a : Coordinates) → length (spelling a) ≡ 32
 length-spelling a = length-bytes_of_number 32 (a.y + 2 ^ 255 * (a.x % 2))

@@ -16,7 +16,7 @@ use Rattle.edwards_numbers.specs.Laws.Points.{Point, points, points_laws, same_p
 use Rattle.ed25519.specs.Edwards25519.{p, d, order, curve, base_point, IsOnEd25519}
 use Rattle.ed25519.specs.Laws.Curve.{ed25519_is_complete}
 use Rattle.ed25519.specs.Laws.Base.{base_on_curve}
-use Rattle.ed25519.specs.Points.{spelling}
+use Rattle.ed25519.specs.Spelling.{spelling}
 use Rattle.ed25519.specs.Signatures.{challenge, IsSignature}
 use Rattle.ed25519.proofs.PointLaws.{ratio_from_on, denominator_some, same_or_opposite}
 use Rattle.ed25519.proofs.PointBytes.{length-spelling, number_spelled}

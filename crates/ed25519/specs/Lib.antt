@@ -1,5 +1,6 @@
 pub mod Edwards25519
 pub mod Values
+pub mod Spelling
 pub mod Points
 pub mod Signatures
 pub mod Combined

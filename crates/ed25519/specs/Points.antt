@@ -1,12 +1,7 @@
--- Points of edwards25519 as 32 bytes (RFC 8032, 5.1.2), and the constants of their square roots.
-use Rattle.std.specs.Prelude.{ℕ, ◌+◌, ◌*◌, ◌%◌, ◌^◌, List}
-use Rattle.ark_base.specs.Digits.{bytes_of_number}
+-- What stands between the code and the points of edwards25519: coordinates of elements, and the exponents of square roots.
+use Rattle.std.specs.Prelude.{ℕ}
 use Rattle.edwards_numbers.specs.Edwards.{Coordinates}
 use Rattle.ed25519.specs.Values.{Fp, value}
-
--- y, the least byte first, with the lowest bit of x as the highest bit
-abbrev pub spelling : Coordinates → List ℕ
-spelling a = bytes_of_number 32 (a.y + 2 ^ 255 * (a.x % 2))
 
 -- the coordinates that two elements of the field are
 abbrev pub coordinates_of : Fp → Fp → Coordinates

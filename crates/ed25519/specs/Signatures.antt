@@ -5,7 +5,7 @@ use Rattle.ark_base.specs.Digits.{number_of_bytes, bytes_of_number}
 use Rattle.ark_groups.specs.Group.{times}
 use Rattle.edwards_numbers.specs.Edwards.{Coordinates}
 use Rattle.ed25519.specs.Edwards25519.{order, curve, base_point, IsOnEd25519}
-use Rattle.ed25519.specs.Points.{spelling}
+use Rattle.ed25519.specs.Spelling.{spelling}
 
 -- the number by which the key is multiplied: SHA-512 of R, of the key and of the message, modulo the order
 abbrev pub challenge : List ℕ → List ℕ → List ℕ → ℕ

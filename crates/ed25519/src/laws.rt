@@ -3,7 +3,7 @@
 ghost use Rattle.std.specs.Prelude.{◌≡◌, ℕ, List, take};
 ghost use Rattle.edwards_numbers.specs.Edwards.{Coordinates};
 ghost use Rattle.ed25519.specs.Edwards25519.{IsOnEd25519};
-ghost use Rattle.ed25519.specs.Points.{spelling};
+ghost use Rattle.ed25519.specs.Spelling.{spelling};
 ghost use Rattle.ed25519.specs.Signatures.{IsSignature, key_of, signature_of};
 
 /// States that no two points have the same bytes.

@@ -5,7 +5,8 @@ ghost use Rattle.std.specs.Int.{from_bool};
 ghost use Rattle.ark_groups.specs.Words.{number};
 ghost use Rattle.edwards_numbers.specs.Edwards.{Coordinates};
 ghost use Rattle.ed25519.specs.Edwards25519.{p, d, IsOnEd25519};
-ghost use Rattle.ed25519.specs.Points.{spelling, coordinates_of};
+ghost use Rattle.ed25519.specs.Spelling.{spelling};
+ghost use Rattle.ed25519.specs.Points.{coordinates_of};
 ghost use Rattle.ed25519.specs.Values.{value};
 
 use crate::moduli::Ed25519Fp;

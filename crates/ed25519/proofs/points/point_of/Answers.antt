@@ -3,7 +3,8 @@ use Rattle.std.proofs.lemmas.Slice.Eq.{bytes_eq-Decides}
 use Rattle.ark_base.specs.Digits.{number_of_bytes}
 use Rattle.edwards_numbers.specs.Laws.CurveLaws.{same_coordinates}
 use Rattle.ed25519.specs.Edwards25519.{p}
-use Rattle.ed25519.specs.Points.{spelling, coordinates_of}
+use Rattle.ed25519.specs.Spelling.{spelling}
+use Rattle.ed25519.specs.Points.{coordinates_of}
 use Rattle.ed25519.specs.Values.{value}
 use Rattle.ed25519.proofs.PointBytes.{length-spelling, number_spelled}
 use Rattle.ed25519.proofs.points.point_of.Goals as goal

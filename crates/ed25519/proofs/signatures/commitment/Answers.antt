@@ -7,7 +7,8 @@ use Rattle.edwards.specs.Extended.{Stands}
 use Rattle.ed25519.specs.Edwards25519.{p, d, base_point, IsOnEd25519}
 use Rattle.ed25519.specs.Laws.Curve.{ed25519_is_complete}
 use Rattle.ed25519.specs.Laws.Base.{base_on_curve}
-use Rattle.ed25519.specs.Points.{spelling, coordinates_of}
+use Rattle.ed25519.specs.Spelling.{spelling}
+use Rattle.ed25519.specs.Points.{coordinates_of}
 use Rattle.ed25519.specs.Combined.{combined}
 use Rattle.ed25519.proofs.TwoMultiples.{combined_on}
 use Rattle.ed25519.proofs.signatures.commitment.Goals as goal

@@ -5,7 +5,8 @@ use Rattle.ark_base.specs.Digits.{bytes_of_number}
 use Rattle.ark_groups.specs.Words.{number}
 use Rattle.ark_wide_fields.specs.Laws.Fp256.{wide_below}
 use Rattle.ed25519.specs.Edwards25519.{order}
-use Rattle.ed25519.specs.Points.{coordinates_of, spelling}
+use Rattle.ed25519.specs.Spelling.{spelling}
+use Rattle.ed25519.specs.Points.{coordinates_of}
 use Rattle.ed25519.specs.Values.{scalar}
 use Rattle.ed25519.proofs.Comparing.{they_differ, they_agree}
 use Rattle.ed25519.proofs.Verifying.{signature_long, scalar_of, last_of, is_signature, passes, left_over}

@@ -8,7 +8,7 @@ use Rattle.edwards.proofs.Sums.{multiple_on_curve}
 use Rattle.ed25519.specs.Edwards25519.{p, d, curve, base_point, IsOnEd25519}
 use Rattle.ed25519.specs.Laws.Curve.{ed25519_is_complete}
 use Rattle.ed25519.specs.Laws.Base.{base_on_curve}
-use Rattle.ed25519.specs.Points.{spelling}
+use Rattle.ed25519.specs.Spelling.{spelling}
 use Rattle.ed25519.specs.Values.{value}
 use Rattle.ed25519.proofs.signing.multiple_bytes.Goals as goal
 

@@ -5,7 +5,7 @@ use Rattle.sha2.specs.Sha512.{sha512}
 use Rattle.ark_base.specs.Digits.{number_of_bytes, bytes_of_number}
 use Rattle.ark_groups.specs.Group.{times}
 use Rattle.ed25519.specs.Edwards25519.{order, curve, base_point}
-use Rattle.ed25519.specs.Points.{spelling}
+use Rattle.ed25519.specs.Spelling.{spelling}
 use Rattle.ed25519.specs.Signatures.{challenge, secret, key_of, nonce}
 use Rattle.ed25519.specs.Values.{scalar}
 use Rattle.ed25519.proofs.signing.sign.Goals as goal
