@@ -1,6 +1,6 @@
 //! Ed25519 (RFC 8032, section 5.1).
 
-ghost use Rattle.std.specs.Prelude.{◌≡◌, ◌⊎◌, pos, ¬};
+ghost use Rattle.std.specs.Prelude.{◌≡◌, ◌⊎◌, pos};
 ghost use Rattle.ed25519.specs.Signatures.{IsSignature, key_of, signature_of};
 
 use ed25519::{public_key, sign, verify};
@@ -32,7 +32,7 @@ pub extern "C" fn paxidore_ed25519_verify(
 ) -> i32
     ensures answer { (result ≡ pos 0) ⊎ (result ≡ pos 1) }
     ensures signs { result ≡ pos 0 → IsSignature key.now message.now signature.now }
-    ensures signs_not { result ≡ pos 1 → ¬ IsSignature key.now message.now signature.now }
+    ensures signs_not { result ≡ pos 1 → IsSignature key.now message.now signature.now → ⊥ }
 {
     if verify(key, message, signature) {
         return 0;
