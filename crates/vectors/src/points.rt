@@ -1,5 +1,7 @@
 //! Elements of Jubjub.
 
+ghost use Rattle.std.specs.Prelude.{◌≤◌};
+
 use crate::texts::{array_of, bytes_of, word_of};
 use ark_crypto_primitives::Error;
 use ark_crypto_primitives::ec::group_hash;
