@@ -88,7 +88,9 @@ fn leaves<F: Field>(alloc: Global) -> Result<Vec<Vec<F>>, Error> {
     let mut rng = SmallRng::seed_from_u64(64);
     let mut leaves = Vec::new(alloc);
     for _ in 0..4 {
-        leaves.push(vec![in alloc; drawn::<F, SmallRng>(&mut rng)]?)?;
+        let mut leaf = Vec::new(alloc);
+        leaf.push(drawn::<F, SmallRng>(&mut rng))?;
+        leaves.push(leaf)?;
     }
     Ok(leaves)
 }

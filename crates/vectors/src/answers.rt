@@ -1,6 +1,6 @@
 //! The lines, and what is answered.
 
-use crate::points::{element_answer, element_of, group_answer, multiple_of};
+use crate::points::{element_answer, group_answer, multiple_of};
 use crate::signatures::{signature_of, verdict_of};
 use crate::texts::{array_of, bytes_of, word_of};
 use crate::transcripts::transcript_of;
@@ -33,7 +33,7 @@ pub fn answer(alloc: Global, line: &str) -> Result<Option<String>, Error> {
         "blake2s" => blake2s_of(alloc, rest),
         "commitment" => commitment_of(alloc, rest),
         "multiple" => multiple_of(alloc, rest),
-        "element" => element_answer(alloc, element_of(rest)),
+        "element" => element_answer(alloc, rest),
         "group" => group_answer(alloc, rest),
         "ed25519-sign" => signature_of(alloc, rest),
         "ed25519-verify" => verdict_of(alloc, rest),

@@ -43,27 +43,19 @@ pub fn multiple_of(alloc: Global, word: &str) -> Result<Option<String>, Error> {
     Ok(Some(format!(in alloc; "{x} {y} {bytes}")?))
 }
 
-/// Returns the element that a word of 32 bytes spells, or the fault. `None` of another word.
-pub fn element_of(word: &str) -> Option<Result<Jubjub, PointFault>> {
-    let bytes = array_of(word)?;
-    Some(Jubjub::from_compressed(&bytes))
-}
-
-/// Returns the coordinates of an element, or the name of a fault.
-pub fn element_answer(
-    alloc: Global,
-    element: Option<Result<Jubjub, PointFault>>,
-) -> Result<Option<String>, Error> {
-    let text = match element {
-        None => return Ok(None),
-        Some(Ok(element)) => {
+/// Returns the coordinates of the element that a word of 32 bytes spells, or the name of the fault. `None` of another word.
+pub fn element_answer(alloc: Global, word: &str) -> Result<Option<String>, Error> {
+    let Some(bytes) = array_of(word) else {
+        return Ok(None);
+    };
+    match Jubjub::from_compressed(&bytes) {
+        Ok(element) => {
             let x = coordinate(alloc, element.x())?;
             let y = coordinate(alloc, element.y())?;
-            format!(in alloc; "{x} {y}")?
+            Ok(Some(format!(in alloc; "{x} {y}")?))
         }
-        Some(Err(fault)) => String::from_str(alloc, name_of(fault))?,
-    };
-    Ok(Some(text))
+        Err(fault) => Ok(Some(String::from_str(alloc, name_of(fault))?)),
+    }
 }
 
 fn name_of(fault: PointFault) -> &'static str {
