@@ -143,7 +143,7 @@ pub mod crh {
 
 /// Sponges, and what they absorb.
 pub mod sponge {
-    pub use ark_absorb::{Absorb, AbsorbItem, AbsorbWithLength, ByItem};
+    pub use ark_absorb::{Absorb, AbsorbItem, AbsorbWithLength, push_elements_by_item};
     pub use ark_sponge::{
         CryptographicSponge, DuplexSpongeMode, FieldBasedCryptographicSponge, FieldElementSize,
         SpongeExt,

@@ -5,7 +5,7 @@ use crate::samples::{EIGHT, Eight, Growth, Numeral, TWO, Two, are_drawn, number}
 use ark_base::error::Error;
 use ark_base::serialize::DigestItem;
 use ark_crh::{CRHScheme, TwoToOneCRHScheme};
-use ark_groups::ec::{CurveGroup, Small, TECoordinates};
+use ark_groups::ec::{AdditiveGroup, Small, TECoordinates};
 use ark_groups::ff::{Field, M13};
 use ark_pedersen::injective_map::{
     InjectiveMap, PedersenCRHCompressor, PedersenTwoToOneCRHCompressor, TECompressor,
@@ -25,7 +25,7 @@ const ROWS: [Row; 3] = [
 const ROWS_OF_TWO: [RowOfTwo; 1] = [(&[211, 0], &[11, 0], Ok(11))];
 
 // The image of an element.
-fn image_of<C: CurveGroup + TECoordinates + Numeral>(
+fn image_of<C: AdditiveGroup + TECoordinates + Numeral>(
     alloc: Global,
     element: u64,
 ) -> Result<u64, Error>
@@ -39,7 +39,7 @@ type Hash<C, W> = PedersenCRHCompressor<C, TECompressor, W>;
 
 type HashOfTwo<C, W> = PedersenTwoToOneCRHCompressor<C, TECompressor, W>;
 
-impl<C: CurveGroup + TECoordinates + Numeral, W: Window> Asked for Hash<C, W>
+impl<C: AdditiveGroup + TECoordinates + Numeral, W: Window> Asked for Hash<C, W>
 where
     C::BaseField: DigestItem + Numeral,
 {
@@ -71,7 +71,7 @@ where
 }
 
 // Whether the hash over two windows and that of two inputs over eight give the first coordinates, as the map does.
-fn are_coordinates<C: CurveGroup + TECoordinates + Numeral>(alloc: Global) -> bool
+fn are_coordinates<C: AdditiveGroup + TECoordinates + Numeral>(alloc: Global) -> bool
 where
     C::BaseField: DigestItem + Numeral,
 {
@@ -87,7 +87,7 @@ fn the_first_coordinate_is_the_digest(rt: HostRuntime) {
 }
 
 // Whether the setup doubles what a twin draws.
-fn is_drawn<C: CurveGroup + TECoordinates, W: Window, R: Rng>(
+fn is_drawn<C: AdditiveGroup + TECoordinates, W: Window, R: Rng>(
     alloc: Global,
     rng: &mut R,
     twin: &mut R,
@@ -102,7 +102,7 @@ where
 }
 
 // The same of the hash of two inputs.
-fn is_drawn_for_two<C: CurveGroup + TECoordinates, W: Window, R: Rng>(
+fn is_drawn_for_two<C: AdditiveGroup + TECoordinates, W: Window, R: Rng>(
     alloc: Global,
     rng: &mut R,
     twin: &mut R,
@@ -117,7 +117,7 @@ where
 }
 
 // Whether both do, and nothing more is drawn.
-fn all_is_drawn<C: CurveGroup + TECoordinates, R: Rng>(
+fn all_is_drawn<C: AdditiveGroup + TECoordinates, R: Rng>(
     alloc: Global,
     rng: &mut R,
     twin: &mut R,

@@ -3,8 +3,8 @@
 
 use crate::samples::Numeral;
 use ark_base::error::Error;
-use ark_groups::ec::{CurveGroup, Residues};
-use ark_groups::ff::{M13, M61, PrimeField, UniformRand};
+use ark_groups::ec::{AdditiveGroup, Residues};
+use ark_groups::ff::{M13, M61, UniformRand};
 use ark_signatures::encryption::AsymmetricEncryptionScheme;
 use ark_signatures::encryption::elgamal::{ElGamal, Parameters, Randomness, SecretKey};
 use rand::{Rng, SeedableRng};
@@ -12,7 +12,7 @@ use rand_chacha::ChaCha20Rng;
 use std::alloc::Global;
 
 // The ciphertext for the generator 2, as two numbers.
-fn encrypted<C: CurveGroup + Numeral>(
+fn encrypted<C: AdditiveGroup + Numeral>(
     alloc: Global,
     key: u64,
     message: u64,
@@ -26,7 +26,7 @@ fn encrypted<C: CurveGroup + Numeral>(
     Ok((first.number(), second.number()))
 }
 
-fn decrypted<C: CurveGroup + Numeral>(
+fn decrypted<C: AdditiveGroup + Numeral>(
     alloc: Global,
     secret: u64,
     first: u64,
@@ -41,7 +41,7 @@ fn decrypted<C: CurveGroup + Numeral>(
 }
 
 // 5 times 2 is 10; 4 times 2 is 8, and 7 and 4 times 10 are 8 modulo 13.
-fn is_by_hand<C: CurveGroup + Numeral>(alloc: Global) -> bool {
+fn is_by_hand<C: AdditiveGroup + Numeral>(alloc: Global) -> bool {
     encrypted::<C>(alloc, 10, 7, 4) == Ok((8, 8))
         && decrypted::<C>(alloc, 5, 8, 8) == Ok(7)
         && encrypted::<C>(alloc, 10, 7, 0) == Ok((0, 7))
@@ -72,7 +72,7 @@ where
     S::decrypt(alloc, &pp, &sk, &ciphertext)
 }
 
-fn is_read_back<C: CurveGroup, R: Rng>(alloc: Global, rng: &mut R) -> bool {
+fn is_read_back<C: AdditiveGroup, R: Rng>(alloc: Global, rng: &mut R) -> bool {
     let message = C::rand(rng);
     reads_back::<ElGamal<C>, R>(alloc, &message, rng) == Ok(message)
 }
@@ -86,7 +86,7 @@ fn drawn_messages_are_read_back(rt: HostRuntime) {
 }
 
 // Whether a secret key and randomness are what the generator's twin gives in turn.
-fn key_is_drawn<C: CurveGroup, R: Rng>(
+fn key_is_drawn<C: AdditiveGroup, R: Rng>(
     alloc: Global,
     pp: &Parameters<C>,
     rng: &mut R,
@@ -104,7 +104,7 @@ fn key_is_drawn<C: CurveGroup, R: Rng>(
 }
 
 // Whether the generator is, and then these are, and nothing more is drawn.
-fn is_drawn<C: CurveGroup, R: Rng>(alloc: Global, rng: &mut R, twin: &mut R) -> bool {
+fn is_drawn<C: AdditiveGroup, R: Rng>(alloc: Global, rng: &mut R, twin: &mut R) -> bool {
     match ElGamal::<C>::setup(alloc, rng) {
         Ok(pp) => {
             pp.generator == C::rand(twin)

@@ -5,7 +5,7 @@ use crate::pedersen::{Row, are_commitments};
 use crate::samples::{Numeral, TWO, Two};
 use ark_base::error::{Error, Refusal};
 use ark_base::serialize::DigestItem;
-use ark_groups::ec::{CurveGroup, Small, TECoordinates};
+use ark_groups::ec::{AdditiveGroup, Small, TECoordinates};
 use ark_groups::ff::M13;
 use ark_pedersen::injective_map::TECompressor;
 use ark_schemes::commitment::CommitmentScheme;
@@ -36,7 +36,7 @@ const COMMITMENTS: [Row; 5] = [
     ),
 ];
 
-fn are_coordinates<C: CurveGroup + TECoordinates + Numeral>(alloc: Global) -> bool
+fn are_coordinates<C: AdditiveGroup + TECoordinates + Numeral>(alloc: Global) -> bool
 where
     C::BaseField: DigestItem + Numeral,
 {
@@ -49,7 +49,7 @@ fn the_first_coordinate_is_the_commitment(rt: HostRuntime) {
 }
 
 // Whether these are the parameters that the Pedersen commitment draws.
-fn are_drawn<C: CurveGroup, R: Rng>(
+fn are_drawn<C: AdditiveGroup, R: Rng>(
     alloc: Global,
     parameters: &Parameters<C>,
     twin: &mut R,
@@ -60,7 +60,7 @@ fn are_drawn<C: CurveGroup, R: Rng>(
     }
 }
 
-fn is_drawn_alike<C: CurveGroup + TECoordinates, R: Rng>(
+fn is_drawn_alike<C: AdditiveGroup + TECoordinates, R: Rng>(
     alloc: Global,
     rng: &mut R,
     twin: &mut R,

@@ -8,8 +8,8 @@ use crate::samples::{
     Growth, Numeral, THREE, TWO, Three, Two, are_drawn, is_grown, list, lists, number,
 };
 use ark_base::error::{Error, Refusal};
-use ark_groups::ec::{CurveGroup, Residues};
-use ark_groups::ff::{M13, M61, PrimeField, UniformRand};
+use ark_groups::ec::{AdditiveGroup, Residues};
+use ark_groups::ff::{M13, M61, UniformRand};
 use ark_pedersen::Window;
 use ark_schemes::commitment::CommitmentScheme;
 use ark_schemes::commitment::pedersen::{Commitment, Parameters, Randomness};
@@ -21,21 +21,21 @@ type G13 = Residues<M13>;
 
 type G61 = Residues<M61>;
 
-impl<C: CurveGroup> Alike for Parameters<C> {
+impl<C: AdditiveGroup> Alike for Parameters<C> {
     fn is_like(&self, other: &Parameters<C>) -> bool {
         self.randomness_generator == other.randomness_generator
             && self.generators == other.generators
     }
 }
 
-impl<C: CurveGroup> Alike for Randomness<C> {
+impl<C: AdditiveGroup> Alike for Randomness<C> {
     fn is_like(&self, other: &Randomness<C>) -> bool {
         *self == *other
     }
 }
 
 // Parameters of so many doublings of the randomness element and of generators.
-fn parameters<C: CurveGroup + Numeral>(
+fn parameters<C: AdditiveGroup + Numeral>(
     alloc: Global,
     doublings: usize,
     rows: &[&[u64]],
@@ -65,7 +65,7 @@ fn commitment<S, C>(
     randomness: u64,
 ) -> Result<u64, Error>
 where
-    C: CurveGroup + Numeral,
+    C: AdditiveGroup + Numeral,
     S: CommitmentScheme<Parameters = Parameters<C>, Randomness = Randomness<C>>,
     S::Output: Numeral,
 {
@@ -76,7 +76,7 @@ where
 /// Returns whether a scheme gives these commitments.
 pub fn are_commitments<S, C>(alloc: Global, rows: &[Row]) -> bool
 where
-    C: CurveGroup + Numeral,
+    C: AdditiveGroup + Numeral,
     S: CommitmentScheme<Parameters = Parameters<C>, Randomness = Randomness<C>>,
     S::Output: Numeral,
 {
@@ -108,7 +108,7 @@ const COMMITMENTS: [Row; 11] = [
     (4, &THREE, &[0x25], 3, SHAPE),
 ];
 
-fn are_sums<C: CurveGroup + Numeral>(alloc: Global) -> bool {
+fn are_sums<C: AdditiveGroup + Numeral>(alloc: Global) -> bool {
     are_commitments::<Commitment<C, Two>, C>(alloc, &COMMITMENTS)
 }
 
@@ -118,7 +118,7 @@ fn randomness_is_added_to_the_hash(rt: HostRuntime) {
 }
 
 // Whether parameters are doublings of what a twin draws, and are duplicated.
-fn are_grown<C: CurveGroup, W: Window, R: Rng>(
+fn are_grown<C: AdditiveGroup, W: Window, R: Rng>(
     alloc: Global,
     parameters: &Parameters<C>,
     twin: &mut R,
@@ -135,7 +135,7 @@ fn are_grown<C: CurveGroup, W: Window, R: Rng>(
 }
 
 // Whether `setup` makes such parameters, and draws nothing more.
-fn setup_is_drawn<C: CurveGroup, W: Window, R: Rng>(
+fn setup_is_drawn<C: AdditiveGroup, W: Window, R: Rng>(
     alloc: Global,
     rng: &mut R,
     twin: &mut R,
@@ -157,11 +157,11 @@ fn setup_doubles_what_is_drawn(rt: HostRuntime) {
     assert!(rt; setup_is_drawn::<G61, Three, SmallRng>(rt.alloc(), &mut rng, &mut twin, 61));
 }
 
-fn randomness_of<C: CurveGroup>(number: u64) -> Randomness<C> {
+fn randomness_of<C: AdditiveGroup>(number: u64) -> Randomness<C> {
     Randomness(C::ScalarField::from_u64(number))
 }
 
-fn is_cloned<C: CurveGroup>(randomness: &Randomness<C>) -> bool {
+fn is_cloned<C: AdditiveGroup>(randomness: &Randomness<C>) -> bool {
     match randomness.clone() {
         Ok(copy) => copy == *randomness,
         Err(_) => false,
@@ -169,18 +169,18 @@ fn is_cloned<C: CurveGroup>(randomness: &Randomness<C>) -> bool {
 }
 
 // Whether the randomness of 3 is printed as its number, spelled by one byte, read from it and cloned, and is not the default.
-fn three_is_shown<C: CurveGroup>(alloc: Global) -> bool {
+fn three_is_shown<C: AdditiveGroup>(alloc: Global) -> bool {
     let three = randomness_of::<C>(3);
     is_printed(alloc, &three, "Randomness(3)")
         && is_spelled(alloc, &three, &[3])
         && is_read(alloc, &[3], &three)
-        && three.0.value() == 3
+        && three.0.words().w0 == 3
         && is_cloned(&three)
         && Randomness::<C>::default() != three
 }
 
 // Whether bytes are refused, below the modulus 13, also as the last of a list, and a list of two ends with the randomness of 12.
-fn is_read_below_thirteen<C: CurveGroup>(alloc: Global) -> bool {
+fn is_read_below_thirteen<C: AdditiveGroup>(alloc: Global) -> bool {
     fault::<Randomness<C>>(alloc, &[13]) == INVALID
         && fault::<Randomness<C>>(alloc, &[]) == TRUNCATED
         && fault::<Vec<Randomness<C>>>(alloc, &[2, 0, 0, 0, 0, 0, 0, 0, 3, 13]) == INVALID
@@ -192,7 +192,7 @@ fn is_read_below_thirteen<C: CurveGroup>(alloc: Global) -> bool {
         )
 }
 
-fn is_its_scalar<C: CurveGroup>(alloc: Global) -> bool {
+fn is_its_scalar<C: AdditiveGroup>(alloc: Global) -> bool {
     three_is_shown::<C>(alloc)
         && is_read_below_thirteen::<C>(alloc)
         && Randomness::<C>::default() == randomness_of::<C>(0)
@@ -204,7 +204,7 @@ fn randomness_is_its_scalar(rt: HostRuntime) {
 }
 
 // Whether randomness is a scalar that is drawn, and nothing more is.
-fn is_drawn<C: CurveGroup, R: Rng>(rng: &mut R, twin: &mut R) -> bool {
+fn is_drawn<C: AdditiveGroup, R: Rng>(rng: &mut R, twin: &mut R) -> bool {
     Randomness::<C>::rand(rng).0 == C::ScalarField::rand(twin) && rng.next_u64() == twin.next_u64()
 }
 

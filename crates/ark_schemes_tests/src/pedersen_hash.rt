@@ -9,7 +9,7 @@ use crate::samples::{
 use ark_base::error::{Error, Refusal};
 use ark_base::serialize::DigestItem;
 use ark_crh::{CRHScheme, TwoToOneCRHScheme};
-use ark_groups::ec::{CurveGroup, Residues};
+use ark_groups::ec::{AdditiveGroup, Residues};
 use ark_groups::ff::{M13, M61};
 use ark_pedersen::{CRH, Parameters, TwoToOneCRH, Window, bytes_to_bits};
 use rand::rngs::SmallRng;
@@ -45,7 +45,7 @@ const ROWS_OF_TWO: [RowOfTwo; 6] = [
     (&[5, 5], &[5, 5], LONG),
 ];
 
-impl<C: CurveGroup + DigestItem + Numeral, W: Window> Asked for CRH<C, W> {
+impl<C: AdditiveGroup + DigestItem + Numeral, W: Window> Asked for CRH<C, W> {
     type Parameters = Parameters<C>;
 
     fn digest(alloc: Global, parameters: &Parameters<C>, input: &Vec<u8>) -> Result<u64, Error> {
@@ -71,7 +71,7 @@ impl<C: CurveGroup + DigestItem + Numeral, W: Window> Asked for CRH<C, W> {
     }
 }
 
-fn sums<C: CurveGroup + DigestItem + Numeral, W: Window>(
+fn sums<C: AdditiveGroup + DigestItem + Numeral, W: Window>(
     alloc: Global,
     generators: &[&[u64]],
     rows: &[Row],
@@ -79,7 +79,7 @@ fn sums<C: CurveGroup + DigestItem + Numeral, W: Window>(
     are_digests::<CRH<C, W>>(alloc, generators, rows)
 }
 
-fn sums_of_two<C: CurveGroup + DigestItem + Numeral, W: Window>(
+fn sums_of_two<C: AdditiveGroup + DigestItem + Numeral, W: Window>(
     alloc: Global,
     generators: &[&[u64]],
     rows: &[RowOfTwo],
@@ -88,7 +88,7 @@ fn sums_of_two<C: CurveGroup + DigestItem + Numeral, W: Window>(
 }
 
 // Whether windows and generators give the rows: of one input two or three windows, of two inputs three or four.
-fn are_sums<C: CurveGroup + DigestItem + Numeral>(alloc: Global) -> bool {
+fn are_sums<C: AdditiveGroup + DigestItem + Numeral>(alloc: Global) -> bool {
     sums::<C, Two>(alloc, &TWO, &ROWS)
         && sums::<C, Three>(alloc, &TWO, &REFUSED)
         && sums::<C, Three>(alloc, &UNEVEN, &REFUSED[..1])
@@ -104,7 +104,7 @@ fn generators_are_added_at_set_bits(rt: HostRuntime) {
 }
 
 // Whether the setup doubles what a twin draws.
-fn is_drawn<C: CurveGroup + DigestItem, W: Window, R: Rng>(
+fn is_drawn<C: AdditiveGroup + DigestItem, W: Window, R: Rng>(
     alloc: Global,
     rng: &mut R,
     twin: &mut R,
@@ -116,7 +116,7 @@ fn is_drawn<C: CurveGroup + DigestItem, W: Window, R: Rng>(
 }
 
 // The same of the hash of two inputs.
-fn is_drawn_for_two<C: CurveGroup + DigestItem, W: Window, R: Rng>(
+fn is_drawn_for_two<C: AdditiveGroup + DigestItem, W: Window, R: Rng>(
     alloc: Global,
     rng: &mut R,
     twin: &mut R,
@@ -127,7 +127,7 @@ fn is_drawn_for_two<C: CurveGroup + DigestItem, W: Window, R: Rng>(
     }
 }
 
-fn lists_are_drawn<C: CurveGroup + DigestItem, W: Window, R: Rng>(
+fn lists_are_drawn<C: AdditiveGroup + DigestItem, W: Window, R: Rng>(
     alloc: Global,
     rng: &mut R,
     twin: &mut R,
@@ -138,7 +138,7 @@ fn lists_are_drawn<C: CurveGroup + DigestItem, W: Window, R: Rng>(
     }
 }
 
-fn list_is_drawn<C: CurveGroup + DigestItem, W: Window, R: Rng>(
+fn list_is_drawn<C: AdditiveGroup + DigestItem, W: Window, R: Rng>(
     alloc: Global,
     count: usize,
     rng: &mut R,
@@ -151,7 +151,7 @@ fn list_is_drawn<C: CurveGroup + DigestItem, W: Window, R: Rng>(
 }
 
 // The same by the hash of two inputs.
-fn list_is_drawn_for_two<C: CurveGroup + DigestItem, W: Window, R: Rng>(
+fn list_is_drawn_for_two<C: AdditiveGroup + DigestItem, W: Window, R: Rng>(
     alloc: Global,
     count: usize,
     rng: &mut R,
@@ -164,7 +164,7 @@ fn list_is_drawn_for_two<C: CurveGroup + DigestItem, W: Window, R: Rng>(
 }
 
 // Whether all that is drawn is doubled, and nothing more is drawn: parameters, their generators, and one list, also of no element.
-fn all_is_drawn<C: CurveGroup + DigestItem, W: Window, R: Rng>(
+fn all_is_drawn<C: AdditiveGroup + DigestItem, W: Window, R: Rng>(
     alloc: Global,
     rng: &mut R,
     twin: &mut R,
@@ -207,7 +207,7 @@ const SPELLED: [u8; 32] = [
 ];
 
 // Whether two windows have these bytes and, also behind the uneven ones, are read.
-fn have_spelling<C: CurveGroup + Numeral>(alloc: Global, bytes: &[u8]) -> bool {
+fn have_spelling<C: AdditiveGroup + Numeral>(alloc: Global, bytes: &[u8]) -> bool {
     have_bytes::<Parameters<C>>(alloc, bytes, &TWO, &UNEVEN, &TWO)
 }
 
@@ -220,7 +220,7 @@ const NONE: &str = "Pedersen Hash Parameters {\n}\n";
 
 const ONE: &str = "Pedersen Hash Parameters {\n\t  Generator 0: [1, 2]\n}\n";
 
-fn have_texts<C: CurveGroup + Numeral>(alloc: Global) -> bool {
+fn have_texts<C: AdditiveGroup + Numeral>(alloc: Global) -> bool {
     are_printed::<Parameters<C>>(alloc, &[], NONE)
         && are_printed::<Parameters<C>>(alloc, &[&[1, 2]], ONE)
 }

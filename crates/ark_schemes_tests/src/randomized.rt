@@ -3,15 +3,15 @@
 use crate::samples::Numeral;
 use ark_base::error::Error;
 use ark_groups::digest::ByteDigest;
-use ark_groups::ec::{CurveGroup, Residues};
-use ark_groups::ff::{M13, M61, PrimeField};
+use ark_groups::ec::{AdditiveGroup, Residues};
+use ark_groups::ff::{M13, M61};
 use ark_schemes::prf::Blake2s256;
 use ark_signatures::signature::SignatureScheme;
 use ark_signatures::signature::schnorr::{Parameters, Schnorr, Signature, bytes_to_bits};
 use std::alloc::Global;
 
 // The key made random by the bytes, for a generator.
-fn key_of<C: CurveGroup + Numeral, D: ByteDigest>(
+fn key_of<C: AdditiveGroup + Numeral, D: ByteDigest>(
     alloc: Global,
     generator: u64,
     key: u64,
@@ -26,7 +26,7 @@ fn key_of<C: CurveGroup + Numeral, D: ByteDigest>(
 }
 
 // The signature made random by the bytes, for the generator 2.
-fn signature_of<C: CurveGroup + Numeral, D: ByteDigest>(
+fn signature_of<C: AdditiveGroup + Numeral, D: ByteDigest>(
     alloc: Global,
     s: u64,
     e: u64,
@@ -42,13 +42,13 @@ fn signature_of<C: CurveGroup + Numeral, D: ByteDigest>(
     };
     let moved = Schnorr::<C, D>::randomize_signature(alloc, &pp, &signature, bytes)?;
     Ok((
-        moved.prover_response.value(),
-        moved.verifier_challenge.value(),
+        moved.prover_response.words().w0,
+        moved.verifier_challenge.words().w0,
     ))
 }
 
 // The point that a signature and a key recompute, for the generator 2.
-fn recomputed<C: CurveGroup + Numeral>(key: u64, s: u64, e: u64) -> u64 {
+fn recomputed<C: AdditiveGroup + Numeral>(key: u64, s: u64, e: u64) -> u64 {
     let response = C::of(2).mul(C::ScalarField::from_u64(s));
     let challenge = C::of(key).mul(C::ScalarField::from_u64(e));
     response.add(challenge).number()
@@ -61,7 +61,7 @@ fn both_pairs_recompute_one_point(rt: HostRuntime) {
 }
 
 // Modulo 13: 4 times 2 and 3 times 10, as 10 times 2 and 3 times 6, are 12.
-fn are_moved<C: CurveGroup + Numeral, D: ByteDigest>(alloc: Global) -> bool {
+fn are_moved<C: AdditiveGroup + Numeral, D: ByteDigest>(alloc: Global) -> bool {
     key_of::<C, D>(alloc, 2, 10, &[1]) == Ok(6)
         && key_of::<C, D>(alloc, 2, 10, &[]) == Ok(10)
         && signature_of::<C, D>(alloc, 4, 3, &[1]) == Ok((10, 3))

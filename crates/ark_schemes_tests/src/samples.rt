@@ -2,8 +2,8 @@
 
 use crate::asked::Alike;
 use ark_base::error::Error;
-use ark_groups::ec::{Additive, CurveGroup};
-use ark_groups::ff::{Fp, Modulus, PrimeField};
+use ark_groups::ec::{Additive, AdditiveGroup};
+use ark_groups::ff::{Fp, Modulus};
 use ark_pedersen::Window;
 use rand::Rng;
 use std::alloc::Global;
@@ -120,7 +120,7 @@ pub fn number<T: Numeral>(answer: Result<T, Error>) -> Result<u64, Error> {
 }
 
 /// Returns the elements of these numbers.
-pub fn list<G: CurveGroup + Numeral>(alloc: Global, numbers: &[u64]) -> Result<Vec<G>, Error> {
+pub fn list<G: AdditiveGroup + Numeral>(alloc: Global, numbers: &[u64]) -> Result<Vec<G>, Error> {
     let mut list = Vec::new(alloc);
     for number in numbers {
         list.push(G::of(*number))?;
@@ -129,7 +129,7 @@ pub fn list<G: CurveGroup + Numeral>(alloc: Global, numbers: &[u64]) -> Result<V
 }
 
 /// Returns a list of elements for each of these lists of numbers.
-pub fn lists<G: CurveGroup + Numeral>(
+pub fn lists<G: AdditiveGroup + Numeral>(
     alloc: Global,
     rows: &[&[u64]],
 ) -> Result<Vec<Vec<G>>, Error> {
@@ -160,27 +160,27 @@ pub trait Listed: Drop + Sized {
     fn listed(alloc: Global, rows: &[&[u64]]) -> Result<Self, Error>;
 }
 
-impl<C: CurveGroup + Numeral> Listed for ark_pedersen::Parameters<C> {
+impl<C: AdditiveGroup + Numeral> Listed for ark_pedersen::Parameters<C> {
     fn listed(alloc: Global, rows: &[&[u64]]) -> Result<ark_pedersen::Parameters<C>, Error> {
         let generators = lists(alloc, rows)?;
         Ok(ark_pedersen::Parameters { generators })
     }
 }
 
-impl<C: CurveGroup + Numeral> Listed for ark_bowe_hopwood::Parameters<C> {
+impl<C: AdditiveGroup + Numeral> Listed for ark_bowe_hopwood::Parameters<C> {
     fn listed(alloc: Global, rows: &[&[u64]]) -> Result<ark_bowe_hopwood::Parameters<C>, Error> {
         let generators = lists(alloc, rows)?;
         Ok(ark_bowe_hopwood::Parameters { generators })
     }
 }
 
-impl<C: CurveGroup> Alike for ark_pedersen::Parameters<C> {
+impl<C: AdditiveGroup> Alike for ark_pedersen::Parameters<C> {
     fn is_like(&self, other: &ark_pedersen::Parameters<C>) -> bool {
         self.generators == other.generators
     }
 }
 
-impl<C: CurveGroup> Alike for ark_bowe_hopwood::Parameters<C> {
+impl<C: AdditiveGroup> Alike for ark_bowe_hopwood::Parameters<C> {
     fn is_like(&self, other: &ark_bowe_hopwood::Parameters<C>) -> bool {
         self.generators == other.generators
     }
@@ -193,7 +193,7 @@ pub enum Growth {
     Tripled,
 }
 
-fn next<C: CurveGroup>(growth: Growth, power: C) -> C {
+fn next<C: AdditiveGroup>(growth: Growth, power: C) -> C {
     match growth {
         Growth::Doubled => power.double(),
         Growth::Tripled => power.add(power).add(power),
@@ -201,7 +201,7 @@ fn next<C: CurveGroup>(growth: Growth, power: C) -> C {
 }
 
 /// Returns whether the list is an element with what grows of it, as many in all.
-pub fn is_grown<C: CurveGroup>(growth: Growth, list: &[C], element: C, count: usize) -> bool {
+pub fn is_grown<C: AdditiveGroup>(growth: Growth, list: &[C], element: C, count: usize) -> bool {
     let mut power = element;
     for item in list {
         if *item != power {
@@ -213,7 +213,7 @@ pub fn is_grown<C: CurveGroup>(growth: Growth, list: &[C], element: C, count: us
 }
 
 /// Returns whether there is such a list for each window, of an element of the twin's.
-pub fn are_drawn<C: CurveGroup, W: Window, R: Rng>(
+pub fn are_drawn<C: AdditiveGroup, W: Window, R: Rng>(
     growth: Growth,
     lists: &[Vec<C>],
     twin: &mut R,

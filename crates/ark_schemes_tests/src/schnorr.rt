@@ -10,8 +10,8 @@ use crate::samples::Numeral;
 use ark_base::error::{Error, Refusal};
 use ark_base::serialize::{CanonicalDeserialize, canonical_bytes};
 use ark_groups::digest::ByteDigest;
-use ark_groups::ec::{CurveGroup, Residues};
-use ark_groups::ff::{M61, PrimeField, UniformRand};
+use ark_groups::ec::{AdditiveGroup, Residues};
+use ark_groups::ff::{M61, UniformRand};
 use ark_schemes::prf::Blake2s256;
 use ark_signatures::signature::SignatureScheme;
 use ark_signatures::signature::schnorr::{Parameters, Schnorr, SecretKey, Signature};
@@ -72,7 +72,7 @@ where
 }
 
 // The same of a Schnorr signature of one text.
-fn is_told<C: CurveGroup, D: ByteDigest, R: Rng>(
+fn is_told<C: AdditiveGroup, D: ByteDigest, R: Rng>(
     alloc: Global,
     rng: &mut R,
     told: &[u8],
@@ -82,7 +82,7 @@ fn is_told<C: CurveGroup, D: ByteDigest, R: Rng>(
 }
 
 // Whether this is told of a text, and with key and signature made random by the canonical bytes of a drawn scalar.
-fn are_told<C: CurveGroup, D: ByteDigest, R: Rng>(
+fn are_told<C: AdditiveGroup, D: ByteDigest, R: Rng>(
     alloc: Global,
     rng: &mut R,
     drawn: &mut R,
@@ -109,7 +109,7 @@ fn what_is_signed_is_valid(rt: HostRuntime) {
     }
 }
 
-fn parameters<C: CurveGroup + Numeral>() -> Parameters<C> {
+fn parameters<C: AdditiveGroup + Numeral>() -> Parameters<C> {
     Parameters {
         generator: C::of(3),
         salt: [7; 32],
@@ -117,7 +117,7 @@ fn parameters<C: CurveGroup + Numeral>() -> Parameters<C> {
 }
 
 // Whether the secret key is what the generator's twin gives.
-fn key_is_drawn<C: CurveGroup, D: ByteDigest, R: Rng>(
+fn key_is_drawn<C: AdditiveGroup, D: ByteDigest, R: Rng>(
     alloc: Global,
     pp: &Parameters<C>,
     rng: &mut R,
@@ -131,7 +131,7 @@ fn key_is_drawn<C: CurveGroup, D: ByteDigest, R: Rng>(
 }
 
 // Whether salt, generator and then the secret key are, and nothing more is drawn.
-fn is_drawn<C: CurveGroup, D: ByteDigest, R: Rng>(
+fn is_drawn<C: AdditiveGroup, D: ByteDigest, R: Rng>(
     alloc: Global,
     rng: &mut R,
     twin: &mut R,
@@ -148,7 +148,7 @@ fn is_drawn<C: CurveGroup, D: ByteDigest, R: Rng>(
 }
 
 // Whether the response is k - x e, for the scalar k that the generator's twin gives, and nothing more is drawn.
-fn is_response<C: CurveGroup, D: ByteDigest, R: Rng>(
+fn is_response<C: AdditiveGroup, D: ByteDigest, R: Rng>(
     alloc: Global,
     pp: &Parameters<C>,
     sk: &SecretKey<C>,
@@ -164,12 +164,12 @@ fn is_response<C: CurveGroup, D: ByteDigest, R: Rng>(
     }
 }
 
-fn secret<C: CurveGroup>(x: u64) -> SecretKey<C> {
+fn secret<C: AdditiveGroup>(x: u64) -> SecretKey<C> {
     SecretKey(C::ScalarField::from_u64(x))
 }
 
 // Whether both hold, one after the other.
-fn all_is_drawn<C: CurveGroup + Numeral, D: ByteDigest, R: Rng>(
+fn all_is_drawn<C: AdditiveGroup + Numeral, D: ByteDigest, R: Rng>(
     alloc: Global,
     rng: &mut R,
     twin: &mut R,
@@ -186,7 +186,7 @@ fn keys_and_nonces_are_drawn(rt: HostRuntime) {
 }
 
 // Why a text is not signed under a digest, and whether this count of draws was taken.
-fn refusal<C: CurveGroup + Numeral, D: ByteDigest, R: Rng>(
+fn refusal<C: AdditiveGroup + Numeral, D: ByteDigest, R: Rng>(
     alloc: Global,
     draws: u32,
     rng: &mut R,
@@ -199,12 +199,12 @@ fn refusal<C: CurveGroup + Numeral, D: ByteDigest, R: Rng>(
     (refused, rng.next_u64() == twin.next_u64())
 }
 
-fn verified<C: CurveGroup + Numeral, D: ByteDigest>(alloc: Global) -> Result<bool, Error> {
+fn verified<C: AdditiveGroup + Numeral, D: ByteDigest>(alloc: Global) -> Result<bool, Error> {
     Schnorr::<C, D>::verify(alloc, &parameters(), &C::of(8), TEXT, &Signature::default())
 }
 
 // Whether a text is refused so after so many draws, and a signature judged so.
-fn judges<C: CurveGroup + Numeral, D: ByteDigest, R: Rng>(
+fn judges<C: AdditiveGroup + Numeral, D: ByteDigest, R: Rng>(
     alloc: Global,
     draws: u32,
     rng: &mut R,
@@ -250,14 +250,14 @@ fn a_refusal_of_the_digest_is_told(rt: HostRuntime) {
     );
 }
 
-impl<C: CurveGroup> Alike for SecretKey<C> {
+impl<C: AdditiveGroup> Alike for SecretKey<C> {
     fn is_like(&self, other: &SecretKey<C>) -> bool {
         self.0 == other.0
     }
 }
 
 // Whether a secret key's copy is printed so.
-fn copy_is_printed<C: CurveGroup>(alloc: Global, key: &SecretKey<C>, text: &str) -> bool {
+fn copy_is_printed<C: AdditiveGroup>(alloc: Global, key: &SecretKey<C>, text: &str) -> bool {
     match key.clone() {
         Ok(copy) => is_printed(alloc, &copy, text),
         Err(_) => false,
@@ -265,20 +265,20 @@ fn copy_is_printed<C: CurveGroup>(alloc: Global, key: &SecretKey<C>, text: &str)
 }
 
 // Whether a secret key is printed so, and written as these bytes and read from them.
-fn is_shown<C: CurveGroup>(alloc: Global, key: &SecretKey<C>, text: &str, bytes: &[u8]) -> bool {
+fn is_shown<C: AdditiveGroup>(alloc: Global, key: &SecretKey<C>, text: &str, bytes: &[u8]) -> bool {
     is_spelled(alloc, key, bytes) && is_read(alloc, bytes, key) && copy_is_printed(alloc, key, text)
 }
 
 // Whether the default key and signature are zeros.
-fn has_defaults<C: CurveGroup>() -> bool {
+fn has_defaults<C: AdditiveGroup>() -> bool {
     let signature = Signature::<C>::default();
-    signature.prover_response.value() == 0
-        && signature.verifier_challenge.value() == 0
-        && SecretKey::<C>::default().0.value() == 0
+    signature.prover_response.words().w0 == 0
+        && signature.verifier_challenge.words().w0 == 0
+        && SecretKey::<C>::default().0.words().w0 == 0
 }
 
 // Whether cloned parameters have the salt.
-fn salt_is_cloned<C: CurveGroup>(pp: &Parameters<C>) -> bool {
+fn salt_is_cloned<C: AdditiveGroup>(pp: &Parameters<C>) -> bool {
     match pp.clone() {
         Ok(copy) => copy.salt == [7; 32],
         Err(_) => false,
@@ -302,7 +302,7 @@ fn are_refused<T: CanonicalDeserialize + Drop>(alloc: Global, early: &[u8], beyo
 }
 
 // Whether keys are read as a list and refused, alone and in a list.
-fn are_listed<C: CurveGroup>(alloc: Global, second: &SecretKey<C>) -> bool {
+fn are_listed<C: AdditiveGroup>(alloc: Global, second: &SecretKey<C>) -> bool {
     is_list_of_two(alloc, &KEYS, second)
         && are_refused::<Vec<SecretKey<C>>>(alloc, &EARLY, &BEYOND)
         && are_refused::<SecretKey<C>>(alloc, &[1; 7], &[255; 8])
@@ -314,7 +314,7 @@ const PARAMETERS: &str =
 const SIGNATURE: &str = "Signature { prover_response: 10, verifier_challenge: 3 }";
 
 // Whether parameters and a signature are printed field by field.
-fn are_printed<C: CurveGroup + Numeral>(alloc: Global) -> bool {
+fn are_printed<C: AdditiveGroup + Numeral>(alloc: Global) -> bool {
     let signature = Signature::<C> {
         prover_response: C::ScalarField::from_u64(10),
         verifier_challenge: C::ScalarField::from_u64(3),
@@ -327,7 +327,7 @@ fn parameters_and_signatures_are_printed(rt: HostRuntime) {
     assert_eq!(rt; are_printed::<G61>(rt.alloc()), true);
 }
 
-fn are_shown<C: CurveGroup + Numeral>(alloc: Global) -> bool {
+fn are_shown<C: AdditiveGroup + Numeral>(alloc: Global) -> bool {
     let bytes = [1, 2, 0, 0, 0, 0, 0, 0];
     is_shown::<C>(alloc, &secret(513), "SecretKey(513)", &bytes)
         && are_listed::<C>(alloc, &secret(513))

@@ -7,7 +7,7 @@ ghost use Rattle.std.specs.Prelude.{◌*◌, ◌%◌};
 use ark_base::error::{Error, Refusal};
 use ark_base::serialize::DigestItem;
 use ark_crh::{CRHScheme, TwoToOneCRHScheme};
-use ark_groups::ff::{Fp, M257, PrimeField};
+use ark_groups::ff::{Field, Fp, M257};
 use ark_poseidon::{CRH, TwoToOneCRH};
 use ark_sponge::poseidon::{PoseidonConfig, SBox};
 use rand::rngs::SmallRng;
@@ -16,7 +16,7 @@ use std::alloc::Global;
 
 struct Cube;
 
-impl<F: PrimeField> SBox<F> for Cube {
+impl<F: Field> SBox<F> for Cube {
     ghost image = { λ alpha x. ((x * x) % F.MODULUS * x) % F.MODULUS };
 
     fn apply(_alpha: u64, x: F) -> F {
@@ -26,7 +26,7 @@ impl<F: PrimeField> SBox<F> for Cube {
 
 type Element = Fp<M257>;
 
-fn elements<F: PrimeField>(alloc: Global, numbers: &[u64]) -> Result<Vec<F>, Error> {
+fn elements<F: Field>(alloc: Global, numbers: &[u64]) -> Result<Vec<F>, Error> {
     let mut made = Vec::with_capacity(alloc, numbers.len())?;
     for number in numbers {
         made.push(F::from_u64(*number))?;
@@ -34,7 +34,7 @@ fn elements<F: PrimeField>(alloc: Global, numbers: &[u64]) -> Result<Vec<F>, Err
     Ok(made)
 }
 
-fn rows<F: PrimeField>(alloc: Global, rows: &[[u64; 3]]) -> Result<Vec<Vec<F>>, Error> {
+fn rows<F: Field>(alloc: Global, rows: &[[u64; 3]]) -> Result<Vec<Vec<F>>, Error> {
     let mut made = Vec::with_capacity(alloc, rows.len())?;
     for row in rows {
         made.push(elements(alloc, row)?)?;
@@ -42,23 +42,23 @@ fn rows<F: PrimeField>(alloc: Global, rows: &[[u64; 3]]) -> Result<Vec<Vec<F>>, 
     Ok(made)
 }
 
-fn parameters<F: PrimeField>(alloc: Global) -> Result<PoseidonConfig<F>, Error> {
+fn parameters<F: Field>(alloc: Global) -> Result<PoseidonConfig<F>, Error> {
     let mds = rows(alloc, &[[0, 1, 0], [0, 0, 1], [1, 0, 0]])?;
     let ark = rows(alloc, &[[1, 2, 3]])?;
     PoseidonConfig::new(1, 0, 3, mds, ark, 2, 1)
 }
 
-fn digest<F: PrimeField + DigestItem, S: SBox<F>>(
+fn digest<F: Field + DigestItem, S: SBox<F>>(
     alloc: Global,
     parameters: &PoseidonConfig<F>,
     numbers: &[u64],
 ) -> Result<u64, Error> {
     let input = elements(alloc, numbers)?;
-    Ok(CRH::<F, S>::evaluate(alloc, parameters, &input)?.value())
+    Ok(CRH::<F, S>::evaluate(alloc, parameters, &input)?.words().w0)
 }
 
 // Whether both calls of the pair hash give this digest.
-fn is_digest_of_two<F: PrimeField + DigestItem, S: SBox<F>>(
+fn is_digest_of_two<F: Field + DigestItem, S: SBox<F>>(
     alloc: Global,
     parameters: &PoseidonConfig<F>,
     left: u64,
@@ -68,13 +68,13 @@ fn is_digest_of_two<F: PrimeField + DigestItem, S: SBox<F>>(
     let (left, right) = (F::from_u64(left), F::from_u64(right));
     let compressed = TwoToOneCRH::<F, S>::compress(alloc, parameters, &left, &right)?;
     let evaluated = TwoToOneCRH::<F, S>::evaluate(alloc, parameters, &left, &right)?;
-    Ok(compressed.value() == digest && evaluated.value() == digest)
+    Ok(compressed.words().w0 == digest && evaluated.words().w0 == digest)
 }
 
 // Numbers, and their digest.
 type Row = (&'static [u64], u64);
 
-fn are_digests<F: PrimeField + DigestItem, S: SBox<F>>(
+fn are_digests<F: Field + DigestItem, S: SBox<F>>(
     alloc: Global,
     parameters: &PoseidonConfig<F>,
     rows: &[Row],
@@ -87,7 +87,7 @@ fn are_digests<F: PrimeField + DigestItem, S: SBox<F>>(
     is_digest_of_two::<F, S>(alloc, parameters, 5, 6, 215)
 }
 
-fn rows_are_digests<F: PrimeField + DigestItem, S: SBox<F>>(
+fn rows_are_digests<F: Field + DigestItem, S: SBox<F>>(
     alloc: Global,
     rows: &[Row],
 ) -> Result<bool, Error> {
@@ -101,7 +101,7 @@ fn digests_are_one_element(rt: HostRuntime) {
 }
 
 // Whether neither hash sets parameters up.
-fn refuse_setup<F: PrimeField + DigestItem, S: SBox<F>, R: Rng>(
+fn refuse_setup<F: Field + DigestItem, S: SBox<F>, R: Rng>(
     alloc: Global,
     rng: &mut R,
 ) -> bool {

@@ -4,7 +4,7 @@ use crate::pedersen::{INPUT, Number, hashes};
 use ark_crypto_primitives::Error;
 use ark_crypto_primitives::crh::bowe_hopwood::{CRH, Parameters};
 use ark_crypto_primitives::crh::pedersen::Window;
-use ark_crypto_primitives::ec::{CurveGroup, Small, TECoordinates};
+use ark_crypto_primitives::ec::{AdditiveGroup, Small, TECoordinates};
 use ark_crypto_primitives::ff::M13;
 use ark_crypto_primitives::serialize::DigestItem;
 use rand::SeedableRng;
@@ -38,7 +38,7 @@ pub fn checksum(alloc: Global, work: &str, count: u64) -> Result<Option<u64>, Er
 }
 
 // The generators are made without `setup`, since windows of four chunks pass the order.
-fn bowe_hopwood_hashes<G: CurveGroup + TECoordinates, W: Window>(
+fn bowe_hopwood_hashes<G: AdditiveGroup + TECoordinates, W: Window>(
     alloc: Global,
     count: u64,
 ) -> Result<u64, Error>

@@ -6,7 +6,7 @@ use crate::sums::sum_of_value;
 use ark_crypto_primitives::Error;
 use ark_crypto_primitives::crh::TwoToOneCRHScheme;
 use ark_crypto_primitives::crh::poseidon::TwoToOneCRH;
-use ark_crypto_primitives::ff::{Field, PrimeField};
+use ark_crypto_primitives::ff::Field;
 use ark_crypto_primitives::serialize::DigestItem;
 use ark_crypto_primitives::sponge::poseidon::{PoseidonConfig, PoseidonSponge, SBox};
 use ark_crypto_primitives::sponge::{Absorb, FieldBasedCryptographicSponge};
@@ -15,7 +15,7 @@ use std::alloc::Global;
 /// Fifth powers.
 pub struct Fifth;
 
-impl<F: PrimeField> SBox<F> for Fifth {
+impl<F: Field> SBox<F> for Fifth {
     ghost image = { λ alpha x.
         (((x * x) % F.MODULUS * ((x * x) % F.MODULUS)) % F.MODULUS * x) % F.MODULUS };
 
@@ -28,7 +28,7 @@ impl<F: PrimeField> SBox<F> for Fifth {
 /// Seventh powers, the least that are a permutation over Goldilocks and BabyBear.
 pub struct Seventh;
 
-impl<F: PrimeField> SBox<F> for Seventh {
+impl<F: Field> SBox<F> for Seventh {
     ghost image = { λ alpha x.
         (((x * x) % F.MODULUS * ((x * x) % F.MODULUS)) % F.MODULUS
         * ((x * x) % F.MODULUS * x % F.MODULUS)) % F.MODULUS };
@@ -40,7 +40,7 @@ impl<F: PrimeField> SBox<F> for Seventh {
 }
 
 /// Does the work that a word names, `count` times, over states of `width` elements with `partial_rounds`.
-pub fn checksum<F: PrimeField + Absorb + DigestItem, S: SBox<F>>(
+pub fn checksum<F: Field + Absorb + DigestItem, S: SBox<F>>(
     alloc: Global,
     work: &str,
     width: usize,

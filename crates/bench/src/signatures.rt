@@ -3,10 +3,9 @@
 use crate::sums::{sum_of, sum_of_value};
 use ark_crypto_primitives::Error;
 use ark_crypto_primitives::digest::ByteDigest;
-use ark_crypto_primitives::ec::{AdditiveGroup, CurveGroup};
+use ark_crypto_primitives::ec::AdditiveGroup;
 use ark_crypto_primitives::encryption::AsymmetricEncryptionScheme;
 use ark_crypto_primitives::encryption::elgamal::{ElGamal, Randomness};
-use ark_crypto_primitives::ff::PrimeField;
 use ark_crypto_primitives::signature::SignatureScheme;
 use ark_crypto_primitives::signature::ed25519::{public_key, sign, verify};
 use ark_crypto_primitives::signature::schnorr::Schnorr;
@@ -27,7 +26,7 @@ pub fn signing<G: AdditiveGroup, D: ByteDigest>(
 }
 
 /// Does the work on encryption that a word names, `count` times.
-pub fn encryption<G: CurveGroup>(
+pub fn encryption<G: AdditiveGroup>(
     alloc: Global,
     work: &str,
     count: u64,
@@ -90,7 +89,7 @@ fn verifications<S: SignatureScheme>(
 }
 
 // Ciphertexts of a message, each the message of the next; or decryptions, each message the first part of the next ciphertext.
-fn encryption_with<G: CurveGroup>(
+fn encryption_with<G: AdditiveGroup>(
     alloc: Global,
     rng: &mut ChaCha20Rng,
     work: &str,

@@ -6,7 +6,7 @@ ghost use Rattle.ark_crypto_primitives.specs.Words.{elements_then, number_elemen
 
 use ark_crypto_primitives::Error;
 use ark_crypto_primitives::ff::Field;
-use ark_crypto_primitives::sponge::{AbsorbItem, ByItem};
+use ark_crypto_primitives::sponge::{Absorb, AbsorbItem, push_elements_by_item};
 
 /// An amount, and who gets it.
 #[derive(Clone, Copy)]
@@ -44,4 +44,11 @@ impl AbsorbItem for Payment {
     }
 }
 
-impl ByItem for Payment {}
+impl Absorb for Payment {
+    fn batch_to_sponge_field_elements<F: Field>(
+        batch: &[Self],
+        dest: &mut Vec<F>,
+    ) -> Result<(), Error> {
+        push_elements_by_item(batch, dest)
+    }
+}

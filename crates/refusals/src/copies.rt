@@ -5,7 +5,7 @@ use ark_crypto_primitives::Error;
 use ark_crypto_primitives::commitment::{CommitmentScheme, pedersen as committing};
 use ark_crypto_primitives::crh::pedersen::Window;
 use ark_crypto_primitives::crh::{CRHScheme, bowe_hopwood, pedersen};
-use ark_crypto_primitives::ec::{CurveGroup, TECoordinates};
+use ark_crypto_primitives::ec::{AdditiveGroup, TECoordinates};
 use ark_crypto_primitives::serialize::{DigestItem, Duplicate};
 use rand::SeedableRng;
 use rand::rngs::SmallRng;
@@ -37,7 +37,7 @@ where
 }
 
 /// Returns how the copy of what a word names ended.
-pub fn ended_of<G: CurveGroup + TECoordinates + DigestItem, W: Window>(
+pub fn ended_of<G: AdditiveGroup + TECoordinates + DigestItem, W: Window>(
     alloc: Global,
     call: &str,
 ) -> Result<Option<Ended>, Error>

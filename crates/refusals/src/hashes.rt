@@ -7,7 +7,7 @@ use ark_crypto_primitives::crh::injective_map::{
 use ark_crypto_primitives::crh::pedersen::Window;
 use ark_crypto_primitives::crh::sha256::Sha256;
 use ark_crypto_primitives::crh::{CRHScheme, TwoToOneCRHScheme, bowe_hopwood, pedersen};
-use ark_crypto_primitives::ec::{CurveGroup, TECoordinates};
+use ark_crypto_primitives::ec::{AdditiveGroup, TECoordinates};
 use ark_crypto_primitives::serialize::DigestItem;
 use rand::SeedableRng;
 use rand::rngs::SmallRng;
@@ -26,7 +26,7 @@ fn pair_set_up<H: TwoToOneCRHScheme>(alloc: Global) -> Ended {
 }
 
 /// Returns how the setup of the hash that a word names ended.
-pub fn ended_of<G: CurveGroup + TECoordinates + DigestItem, W: Window>(
+pub fn ended_of<G: AdditiveGroup + TECoordinates + DigestItem, W: Window>(
     alloc: Global,
     call: &str,
 ) -> Option<Ended>

@@ -2,8 +2,8 @@
 
 use crate::Ended;
 use ark_crypto_primitives::crh::pedersen;
-use ark_crypto_primitives::ec::CurveGroup;
-use ark_crypto_primitives::ff::PrimeField;
+use ark_crypto_primitives::ec::AdditiveGroup;
+use ark_crypto_primitives::ff::Field;
 use ark_crypto_primitives::merkle_tree::{MultiPath, Path};
 use ark_crypto_primitives::serialize::CanonicalDeserialize;
 use ark_crypto_primitives::sponge::poseidon::PoseidonConfig;
@@ -31,7 +31,7 @@ fn read<T: CanonicalDeserialize + Drop>(alloc: Global, zeros: usize) -> Ended {
 }
 
 /// Returns how the reading of what a word names ended.
-pub fn ended_of<F: PrimeField, G: CurveGroup>(alloc: Global, call: &str) -> Option<Ended> {
+pub fn ended_of<F: Field, G: AdditiveGroup>(alloc: Global, call: &str) -> Option<Ended> {
     match call {
         "bytes" => Some(read::<Vec<u8>>(alloc, 0)),
         "texts" => Some(read::<Vec<Vec<u8>>>(alloc, 0)),

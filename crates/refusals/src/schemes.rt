@@ -5,7 +5,7 @@ use ark_crypto_primitives::Error;
 use ark_crypto_primitives::commitment::{CommitmentScheme, pedersen};
 use ark_crypto_primitives::crh::pedersen::Window;
 use ark_crypto_primitives::digest::ByteDigest;
-use ark_crypto_primitives::ec::CurveGroup;
+use ark_crypto_primitives::ec::AdditiveGroup;
 use ark_crypto_primitives::signature::SignatureScheme;
 use ark_crypto_primitives::signature::schnorr::Schnorr;
 use rand::SeedableRng;
@@ -30,7 +30,7 @@ pub fn committed<C: CommitmentScheme>(alloc: Global, call: &str) -> Result<Optio
 }
 
 /// Returns how a call of a Pedersen commitment ended.
-pub fn pedersen_committed<C: CurveGroup, W: Window>(
+pub fn pedersen_committed<C: AdditiveGroup, W: Window>(
     alloc: Global,
     call: &str,
 ) -> Result<Option<Ended>, Error> {
@@ -38,7 +38,7 @@ pub fn pedersen_committed<C: CurveGroup, W: Window>(
 }
 
 /// Returns how a call of Schnorr signatures ended.
-pub fn schnorr_signed<C: CurveGroup, D: ByteDigest>(
+pub fn schnorr_signed<C: AdditiveGroup, D: ByteDigest>(
     alloc: Global,
     call: &str,
 ) -> Result<Option<Ended>, Error> {

@@ -3,7 +3,7 @@
 use crate::copies::copied;
 use crate::{Ended, ending, without_value};
 use ark_crypto_primitives::Error;
-use ark_crypto_primitives::ff::{Fp, M257, PrimeField};
+use ark_crypto_primitives::ff::{Field, Fp, M257};
 use ark_crypto_primitives::sponge::poseidon::{PoseidonConfig, PoseidonSponge, SBox};
 use ark_crypto_primitives::sponge::{
     Absorb, CryptographicSponge, FieldBasedCryptographicSponge, FieldElementSize, SpongeExt,
@@ -12,7 +12,7 @@ use std::alloc::Global;
 
 struct Same;
 
-impl<F: PrimeField> SBox<F> for Same {
+impl<F: Field> SBox<F> for Same {
     ghost image = { λ alpha x. x };
 
     fn apply(_alpha: u64, x: F) -> F {
@@ -25,14 +25,14 @@ trait Compared: CryptographicSponge {
     fn is_as(&self, copy: &Self) -> bool;
 }
 
-impl<F: PrimeField, S: SBox<F>> Compared for PoseidonSponge<F, S> {
+impl<F: Field, S: SBox<F>> Compared for PoseidonSponge<F, S> {
     fn is_as(&self, copy: &Self) -> bool {
         self.state() == copy.state() && self.mode() == copy.mode()
     }
 }
 
 /// Returns how a call of a sponge that has absorbed some elements ended.
-pub fn ended_of<F: PrimeField + Absorb>(alloc: Global, call: &str) -> Result<Option<Ended>, Error> {
+pub fn ended_of<F: Field + Absorb>(alloc: Global, call: &str) -> Result<Option<Ended>, Error> {
     let parameters = PoseidonConfig::new(2, 1, 1, rows(alloc)?, rows(alloc)?, 2, 1)?;
     match call {
         "config" => Ok(Some(copied(alloc, &parameters))),
@@ -42,7 +42,7 @@ pub fn ended_of<F: PrimeField + Absorb>(alloc: Global, call: &str) -> Result<Opt
 }
 
 // How the copy of a sponge's state ended.
-fn state_copied<F: PrimeField, S: FieldBasedCryptographicSponge<F> + SpongeExt>(
+fn state_copied<F: Field, S: FieldBasedCryptographicSponge<F> + SpongeExt>(
     alloc: Global,
     parameters: &S::Config,
 ) -> Result<Option<Ended>, Error> {
@@ -52,8 +52,8 @@ fn state_copied<F: PrimeField, S: FieldBasedCryptographicSponge<F> + SpongeExt>(
 
 // Over any sponge, since each exit of a function drops the parts of what it owns, and this one's are not known.
 fn ended_over<
-    F: PrimeField + Absorb,
-    G: PrimeField,
+    F: Field + Absorb,
+    G: Field,
     S: FieldBasedCryptographicSponge<F> + Compared + SpongeExt,
 >(alloc: Global, parameters: &S::Config, call: &str) -> Result<Option<Ended>, Error> {
     let input = elements::<F>(alloc, 9)?;
@@ -68,7 +68,7 @@ fn ended_over<
 }
 
 // What a call answers, or nothing for another word.
-fn asked<F: PrimeField + Absorb, G: PrimeField, S: FieldBasedCryptographicSponge<F> + SpongeExt>(
+fn asked<F: Field + Absorb, G: Field, S: FieldBasedCryptographicSponge<F> + SpongeExt>(
     alloc: Global,
     parameters: &S::Config,
     sponge: &mut S,
@@ -86,7 +86,7 @@ fn asked<F: PrimeField + Absorb, G: PrimeField, S: FieldBasedCryptographicSponge
 }
 
 // How a sponge is made of the state of another one's copy.
-fn put_back<F: PrimeField, S: FieldBasedCryptographicSponge<F> + SpongeExt>(
+fn put_back<F: Field, S: FieldBasedCryptographicSponge<F> + SpongeExt>(
     alloc: Global,
     parameters: &S::Config,
     sponge: &S,
@@ -96,7 +96,7 @@ fn put_back<F: PrimeField, S: FieldBasedCryptographicSponge<F> + SpongeExt>(
 }
 
 // What a squeeze answers, or nothing for another word.
-fn squeezed<F: PrimeField, G: PrimeField, S: FieldBasedCryptographicSponge<F>>(
+fn squeezed<F: Field, G: Field, S: FieldBasedCryptographicSponge<F>>(
     sponge: &mut S,
     call: &str,
 ) -> Option<Result<(), Error>> {
@@ -116,7 +116,7 @@ fn squeezed<F: PrimeField, G: PrimeField, S: FieldBasedCryptographicSponge<F>>(
     }
 }
 
-fn elements<F: PrimeField>(alloc: Global, count: u64) -> Result<Vec<F>, Error> {
+fn elements<F: Field>(alloc: Global, count: u64) -> Result<Vec<F>, Error> {
     let mut made = Vec::new(alloc);
     for number in 0..count {
         made.push(F::from_u64(number))?;
@@ -124,7 +124,7 @@ fn elements<F: PrimeField>(alloc: Global, count: u64) -> Result<Vec<F>, Error> {
     Ok(made)
 }
 
-fn rows<F: PrimeField>(alloc: Global) -> Result<Vec<Vec<F>>, Error> {
+fn rows<F: Field>(alloc: Global) -> Result<Vec<Vec<F>>, Error> {
     let mut made = Vec::new(alloc);
     for _ in 0..3 {
         made.push(elements(alloc, 3)?)?;

@@ -2,7 +2,7 @@
 
 ghost use Rattle.std.specs.Prelude.{◌≡◌};
 
-use crate::ec::CurveGroup;
+use crate::ec::{AdditiveGroup, CurveGroup};
 use crate::ff::{Fp, Modulus, PrimeField, UniformRand};
 use ark_base::error::Error;
 use ark_base::serialize::{
@@ -69,6 +69,80 @@ impl<M: Modulus, K> CurveGroup for Additive<M, K> {
 
     fn rand<R: Rng>(rng: &mut R) -> Additive<M, K> {
         Additive::new(Fp::rand(rng))
+    }
+
+    ghost laws = { number_laws };
+
+    ghost order = { number_order };
+
+    ghost equal_if_same = { number-Decides };
+
+    ghost clones = { λ x y same. same_element x y same.0 };
+
+    ghost clones_always = { λ x. (tt, tt) };
+
+    ghost default_is_zero = { λ x zero. is_identity x zero.0 };
+
+    ghost is_spelled = { λ x. x.0.reduced };
+
+    ghost same_view = { same_number };
+}
+
+impl<M: Modulus, K> AdditiveGroup for Additive<M, K> {
+    ghost use Rattle.ark_groups.specs.Laws.NumberGroups.{number_laws, number_order, same_element, same_number, is_identity, number-Decides};
+
+    type ScalarField = Fp<M>;
+
+    type Sum = Additive<M, K>;
+
+    ghost group = { ⟦<Additive<M, K> as CurveGroup>⟧.group };
+
+    ghost draw = { ⟦<Additive<M, K> as CurveGroup>⟧.draw };
+
+    ghost total = { λ sum. sum };
+
+    fn zero() -> Additive<M, K> {
+        <Additive<M, K> as CurveGroup>::zero()
+    }
+
+    fn add(self, other: Additive<M, K>) -> Additive<M, K> {
+        CurveGroup::add(self, other)
+    }
+
+    fn neg(self) -> Additive<M, K> {
+        CurveGroup::neg(self)
+    }
+
+    fn double(self) -> Additive<M, K> {
+        CurveGroup::double(self)
+    }
+
+    fn mul(self, s: Fp<M>) -> Additive<M, K> {
+        CurveGroup::mul(self, s)
+    }
+
+    fn to_sum(self) -> Additive<M, K> {
+        self
+    }
+
+    fn add_sums(a: Additive<M, K>, b: Additive<M, K>) -> Additive<M, K> {
+        CurveGroup::add(a, b)
+    }
+
+    fn add_to_sum(sum: Additive<M, K>, element: Additive<M, K>) -> Additive<M, K> {
+        CurveGroup::add(sum, element)
+    }
+
+    fn double_sum(a: Additive<M, K>) -> Additive<M, K> {
+        CurveGroup::double(a)
+    }
+
+    fn from_sum(sum: Additive<M, K>) -> Additive<M, K> {
+        sum
+    }
+
+    fn rand<R: Rng>(rng: &mut R) -> Additive<M, K> {
+        <Additive<M, K> as CurveGroup>::rand(rng)
     }
 
     ghost laws = { number_laws };

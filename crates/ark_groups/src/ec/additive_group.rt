@@ -5,14 +5,13 @@ ghost use Rattle.std.specs.Bool.{Decides};
 ghost use Rattle.rand_core.specs.Stream.{Stream};
 ghost use Rattle.ark_groups.specs.Group.{Group, IsCommutativeGroup, times};
 
-use crate::ec::CurveGroup;
 use crate::ff::Field;
 use ark_base::serialize::CanonicalItem;
 use rand::Rng;
 use std::fmt::Debug;
 use std::hash::Hash;
 
-/// A commutative group, written as a sum. Nothing is known of it but its laws. Each `CurveGroup` is one.
+/// A commutative group, written as a sum. Nothing is known of it but its laws.
 pub trait AdditiveGroup: Copy + Eq + Debug + Hash + Default + CanonicalItem {
     /// The numbers that count how often an element is added. Its modulus is an order of the group.
     type ScalarField: Field;
@@ -100,76 +99,4 @@ pub trait AdditiveGroup: Copy + Eq + Debug + Hash + Default + CanonicalItem {
     ghost is_spelled: { (x : Self) → Self.has_spelling (Self.view x) };
 
     ghost same_view: { (x y : Self) → Self.view x ≡ Self.view y → x ≡ y };
-}
-
-impl<C: CurveGroup> AdditiveGroup for C {
-    type ScalarField = C::ScalarField;
-
-    type Sum = C;
-
-    ghost group = { C.group };
-
-    ghost draw = { C.draw };
-
-    ghost total = { λ sum. sum };
-
-    fn zero() -> C {
-        <C as CurveGroup>::zero()
-    }
-
-    fn add(self, other: C) -> C {
-        CurveGroup::add(self, other)
-    }
-
-    fn neg(self) -> C {
-        CurveGroup::neg(self)
-    }
-
-    fn double(self) -> C {
-        CurveGroup::double(self)
-    }
-
-    fn mul(self, s: C::ScalarField) -> C {
-        CurveGroup::mul(self, s)
-    }
-
-    fn to_sum(self) -> C {
-        self
-    }
-
-    fn add_sums(a: C, b: C) -> C {
-        CurveGroup::add(a, b)
-    }
-
-    fn add_to_sum(sum: C, element: C) -> C {
-        CurveGroup::add(sum, element)
-    }
-
-    fn double_sum(a: C) -> C {
-        CurveGroup::double(a)
-    }
-
-    fn from_sum(sum: C) -> C {
-        sum
-    }
-
-    fn rand<R: Rng>(rng: &mut R) -> C {
-        <C as CurveGroup>::rand(rng)
-    }
-
-    ghost laws = { C.CurveGroup.laws };
-
-    ghost order = { C.CurveGroup.order };
-
-    ghost equal_if_same = { C.CurveGroup.equal_if_same };
-
-    ghost clones = { C.clones };
-
-    ghost clones_always = { C.clones_always };
-
-    ghost default_is_zero = { C.default_is_zero };
-
-    ghost is_spelled = { C.is_spelled };
-
-    ghost same_view = { C.same_view };
 }

@@ -9,13 +9,13 @@ ghost use Rattle.ark_groups.specs.Bits.{bits_of_number};
 ghost use Rattle.ark_groups.specs.Field.{IsFieldModulus, IsField, ReadsNumbers, drawn_number, dot_product};
 ghost use Rattle.ark_groups.specs.Words.{number};
 
-use crate::ff::words::{write_bits, write_bytes, write_word_bits};
-use crate::ff::{PrimeField, UniformRand, Valued, Words};
+use crate::ff::words::{write_bits, write_bytes};
+use crate::ff::{UniformRand, Valued, Words};
 use ark_base::serialize::{CanonicalItem, Numbered};
 use std::fmt::Debug;
 use std::hash::Hash;
 
-/// Numbers below a modulus, with arithmetic modulo it. Any modulus from 2 to 2^256 - 1 serves, prime or not. Each `PrimeField` is one.
+/// Numbers below a modulus, with arithmetic modulo it. Any modulus from 2 to 2^256 - 1 serves, prime or not.
 pub trait Field: Copy
     + Eq
     + Debug
@@ -146,121 +146,4 @@ pub trait Field: Copy
 
     // Its canonical value tells its number, and bytes are read as those of a number below the modulus.
     ghost reads_numbers: { ReadsNumbers MODULUS MODULUS_BIT_SIZE Self.view Self.reads Self.value };
-}
-
-impl<F: PrimeField> Field for F {
-    ghost use Rattle.ark_groups.specs.Laws.Field.{field_modulus};
-
-    ghost MODULUS = { F.MODULUS };
-
-    ghost MODULUS_BIT_SIZE = { F.MODULUS_BIT_SIZE };
-
-    const MODULUS_BIT_SIZE: u32 = <F as PrimeField>::MODULUS_BIT_SIZE;
-
-    ghost modulus_laws = { field_modulus F.MODULUS F.MODULUS_BIT_SIZE F.modulus_laws };
-
-    fn modulus() -> Words {
-        Words {
-            w0: <F as PrimeField>::MODULUS,
-            w1: 0,
-            w2: 0,
-            w3: 0,
-        }
-    }
-
-    fn zero() -> F {
-        <F as PrimeField>::zero()
-    }
-
-    fn one() -> F {
-        <F as PrimeField>::one()
-    }
-
-    fn add(self, other: F) -> F {
-        PrimeField::add(self, other)
-    }
-
-    fn sub(self, other: F) -> F {
-        PrimeField::sub(self, other)
-    }
-
-    fn neg(self) -> F {
-        PrimeField::neg(self)
-    }
-
-    fn mul(self, other: F) -> F {
-        PrimeField::mul(self, other)
-    }
-
-    fn sum_of_products(xs: &[F], ys: &[F]) -> F {
-        <F as PrimeField>::sum_of_products(xs, ys)
-    }
-
-    fn double(self) -> F {
-        PrimeField::double(self)
-    }
-
-    fn words(self) -> Words {
-        Words {
-            w0: PrimeField::value(self),
-            w1: 0,
-            w2: 0,
-            w3: 0,
-        }
-    }
-
-    fn write_low_bytes(self, out: &mut [u8]) {
-        if out.len() <= 8 {
-            let bytes = PrimeField::value(self).to_le_bytes();
-            out.copy_from_slice(&bytes[..out.len()]);
-        } else {
-            write_bytes(Field::words(self), out);
-        }
-    }
-
-    fn write_low_bits(self, out: &mut [bool]) {
-        write_word_bits(PrimeField::value(self), out);
-    }
-
-    fn from_words(words: Words) -> F {
-        <F as PrimeField>::from_u64(words.w0)
-    }
-
-    fn from_u64(number: u64) -> F {
-        <F as PrimeField>::from_u64(number)
-    }
-
-    fn from_u128(number: u128) -> F {
-        <F as PrimeField>::from_u128(number)
-    }
-
-    fn from_le_bytes_mod_order(bytes: &[u8]) -> F {
-        <F as PrimeField>::from_le_bytes_mod_order(bytes)
-    }
-
-    fn from_random_bytes(bytes: &[u8]) -> Option<F> {
-        <F as PrimeField>::from_random_bytes(bytes)
-    }
-
-    ghost laws = { F.PrimeField.laws };
-
-    ghost bits_are = { F.PrimeField.bits_are };
-
-    ghost equal_if_same = { F.PrimeField.equal_if_same };
-
-    ghost clones = { F.clones };
-
-    ghost clones_always = { F.clones_always };
-
-    ghost default_is_zero = { F.default_is_zero };
-
-    ghost numbers_are = { F.numbers_are };
-
-    ghost is_spelled = { F.is_spelled };
-
-    ghost spelling_is = { F.spelling_is };
-
-    ghost reading_refuses = { F.reading_refuses };
-
-    ghost reads_numbers = { F.reads_numbers };
 }

@@ -6,14 +6,14 @@ use ark_base::error::Error;
 use ark_base::serialize::DigestItem;
 use ark_bowe_hopwood::{CHUNK_SIZE, CRH, Parameters};
 use ark_crh::CRHScheme;
-use ark_groups::ec::{CurveGroup, Small, TECoordinates};
+use ark_groups::ec::{AdditiveGroup, Small, TECoordinates};
 use ark_groups::ff::M13;
 use ark_pedersen::Window;
 use rand::rngs::SmallRng;
 use rand::{Rng, SeedableRng};
 use std::alloc::Global;
 
-fn drawn_list<G: CurveGroup, R: Rng>(
+fn drawn_list<G: AdditiveGroup, R: Rng>(
     alloc: Global,
     count: usize,
     rng: &mut R,
@@ -26,7 +26,7 @@ fn drawn_list<G: CurveGroup, R: Rng>(
 }
 
 // A list for each window, of any elements.
-fn drawn_parameters<G: CurveGroup, W: Window, R: Rng>(
+fn drawn_parameters<G: AdditiveGroup, W: Window, R: Rng>(
     alloc: Global,
     rng: &mut R,
 ) -> Result<Parameters<G>, Error> {
@@ -44,7 +44,7 @@ fn drawn_bytes<R: Rng>(alloc: Global, len: usize, rng: &mut R) -> Result<Vec<u8>
 }
 
 // Whether bytes have the hash that the definition gives.
-fn have_digits<G: CurveGroup + TECoordinates, W: Window>(
+fn have_digits<G: AdditiveGroup + TECoordinates, W: Window>(
     alloc: Global,
     parameters: &Parameters<G>,
     input: &Vec<u8>,
@@ -58,7 +58,7 @@ where
     }
 }
 
-fn digits_agree<G: CurveGroup + TECoordinates, W: Window, R: Rng>(
+fn digits_agree<G: AdditiveGroup + TECoordinates, W: Window, R: Rng>(
     alloc: Global,
     len: usize,
     rng: &mut R,
@@ -71,7 +71,7 @@ where
     Ok(have_digits::<G, W>(alloc, &parameters, &input))
 }
 
-fn first_elements<G: CurveGroup>(alloc: Global, lists: &[Vec<G>]) -> Result<Vec<G>, Error> {
+fn first_elements<G: AdditiveGroup>(alloc: Global, lists: &[Vec<G>]) -> Result<Vec<G>, Error> {
     let mut elements = Vec::new(alloc);
     for list in lists {
         if let Some(element) = list.first() {
@@ -82,7 +82,7 @@ fn first_elements<G: CurveGroup>(alloc: Global, lists: &[Vec<G>]) -> Result<Vec<
 }
 
 // The sum over the segments, which are to be of few chunks.
-fn defined<G: CurveGroup + TECoordinates>(
+fn defined<G: AdditiveGroup + TECoordinates>(
     alloc: Global,
     size: usize,
     lists: &[Vec<G>],
@@ -96,7 +96,7 @@ fn defined<G: CurveGroup + TECoordinates>(
 }
 
 // Whether bytes have the hash that it gives.
-fn have_segments<G: CurveGroup + TECoordinates, W: Window>(
+fn have_segments<G: AdditiveGroup + TECoordinates, W: Window>(
     alloc: Global,
     parameters: &Parameters<G>,
     input: &Vec<u8>,
@@ -110,7 +110,7 @@ where
     }
 }
 
-fn segments_agree<G: CurveGroup + TECoordinates, W: Window, R: Rng>(
+fn segments_agree<G: AdditiveGroup + TECoordinates, W: Window, R: Rng>(
     alloc: Global,
     len: usize,
     rng: &mut R,
@@ -126,7 +126,7 @@ where
 
 // Whether each of twenty drawn inputs of each length that the windows take has the hash that a definition gives: that with the
 // scalars of segments, or that with digits.
-fn agree<G: CurveGroup + TECoordinates, W: Window>(alloc: Global, segments: bool, seed: u64) -> bool
+fn agree<G: AdditiveGroup + TECoordinates, W: Window>(alloc: Global, segments: bool, seed: u64) -> bool
 where
     G::BaseField: DigestItem,
 {
@@ -147,7 +147,7 @@ where
 }
 
 // Whether both kinds have, over several windows.
-fn all_agree<G: CurveGroup + TECoordinates>(alloc: Global) -> bool
+fn all_agree<G: AdditiveGroup + TECoordinates>(alloc: Global) -> bool
 where
     G::BaseField: DigestItem,
 {

@@ -10,7 +10,7 @@ use ark_base::error::{Error, Refusal};
 use ark_base::serialize::DigestItem;
 use ark_bowe_hopwood::{CRH, Parameters, TwoToOneCRH};
 use ark_crh::{CRHScheme, TwoToOneCRHScheme};
-use ark_groups::ec::{CurveGroup, Small, TECoordinates};
+use ark_groups::ec::{AdditiveGroup, Small, TECoordinates};
 use ark_groups::ff::{Field, M13};
 use ark_pedersen::Window;
 use std::alloc::Global;
@@ -52,7 +52,7 @@ const TWELVES: [RowOfTwo; 3] = [
     (&[7], &[9], Ok(101)),
 ];
 
-impl<C: CurveGroup + TECoordinates + Numeral, W: Window> Asked for CRH<C, W>
+impl<C: AdditiveGroup + TECoordinates + Numeral, W: Window> Asked for CRH<C, W>
 where
     C::BaseField: DigestItem + Numeral,
 {
@@ -83,7 +83,7 @@ where
     }
 }
 
-fn sums<C: CurveGroup + TECoordinates + Numeral, W: Window>(
+fn sums<C: AdditiveGroup + TECoordinates + Numeral, W: Window>(
     alloc: Global,
     generators: &[&[u64]],
     rows: &[Row],
@@ -94,7 +94,7 @@ where
     are_digests::<CRH<C, W>>(alloc, generators, rows)
 }
 
-fn sums_of_two<C: CurveGroup + TECoordinates + Numeral, W: Window>(
+fn sums_of_two<C: AdditiveGroup + TECoordinates + Numeral, W: Window>(
     alloc: Global,
     generators: &[&[u64]],
     rows: &[RowOfTwo],
@@ -105,7 +105,7 @@ where
     are_digests_of_two::<CRH<C, W>>(alloc, generators, rows)
 }
 
-fn compress<C: CurveGroup + TECoordinates + Numeral, W: Window>(
+fn compress<C: AdditiveGroup + TECoordinates + Numeral, W: Window>(
     alloc: Global,
     generators: &[&[u64]],
     left: u64,
@@ -118,7 +118,7 @@ where
 }
 
 // Whether all rows are so, the last three under generators of another shape.
-fn are_all<C: CurveGroup + TECoordinates + Numeral>(alloc: Global) -> bool
+fn are_all<C: AdditiveGroup + TECoordinates + Numeral>(alloc: Global) -> bool
 where
     C::BaseField: DigestItem + Numeral,
 {
@@ -139,7 +139,7 @@ fn digits_count_the_elements(rt: HostRuntime) {
 }
 
 // Whether digests are hashed by their bytes: those of two that are too long, and two whose hash is that of their bytes.
-fn digests_have_bytes<C: CurveGroup + TECoordinates + Numeral>(alloc: Global) -> bool
+fn digests_have_bytes<C: AdditiveGroup + TECoordinates + Numeral>(alloc: Global) -> bool
 where
     C::BaseField: DigestItem + Numeral,
 {

@@ -4,7 +4,7 @@ use crate::bowe_hopwood::samples::{SEVEN, THREE};
 use crate::parameters::{are_printed, have_bytes};
 use crate::samples::Numeral;
 use ark_bowe_hopwood::{CHUNK_SIZE, Parameters};
-use ark_groups::ec::{CurveGroup, Small};
+use ark_groups::ec::{AdditiveGroup, Small};
 use ark_groups::ff::M13;
 use std::alloc::Global;
 
@@ -15,7 +15,7 @@ const SPELLED: [u8; 35] = [
 ];
 
 // Whether three windows have these bytes, and are read, and others behind them.
-fn have_spelling<C: CurveGroup + Numeral>(alloc: Global, bytes: &[u8]) -> bool {
+fn have_spelling<C: AdditiveGroup + Numeral>(alloc: Global, bytes: &[u8]) -> bool {
     have_bytes::<Parameters<C>>(alloc, bytes, &THREE, &THREE, &SEVEN)
 }
 
@@ -28,7 +28,7 @@ const NONE: &str = "Bowe-Hopwood-Pedersen Hash Parameters {\n}\n";
 
 const ONE: &str = "Bowe-Hopwood-Pedersen Hash Parameters {\n\t  Generator 0: [1, 2]\n}\n";
 
-fn have_texts<C: CurveGroup + Numeral>(alloc: Global) -> bool {
+fn have_texts<C: AdditiveGroup + Numeral>(alloc: Global) -> bool {
     are_printed::<Parameters<C>>(alloc, &[], NONE)
         && are_printed::<Parameters<C>>(alloc, &[&[1, 2]], ONE)
 }

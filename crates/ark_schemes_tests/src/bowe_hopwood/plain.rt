@@ -6,7 +6,7 @@ ghost use Rattle.ark_pedersen.specs.Pedersen.{bits_of_bytes, lists_in, concatena
 ghost use Rattle.ark_bowe_hopwood.specs.BoweHopwood.{chunks_of, digit, segment_scalar};
 ghost use Rattle.ark_bowe_hopwood.specs.BoweHopwood.{signed_times, digits_sum, segments_sum};
 
-use ark_groups::ec::{CurveGroup, TECoordinates};
+use ark_groups::ec::{AdditiveGroup, TECoordinates};
 use std::alloc::{AllocError, Global};
 
 // The digit of a chunk.
@@ -26,7 +26,7 @@ fn digit(a: bool, b: bool, c: bool) -> i64
 }
 
 // The element, added as often as a number says; where that is negative, the opposite of it.
-fn signed_times<G: CurveGroup>(count: i64, x: G) -> G
+fn signed_times<G: AdditiveGroup>(count: i64, x: G) -> G
     ensures { result ≡ signed_times G.group count x }
 {
     let mut sum = G::zero();
@@ -74,7 +74,7 @@ fn chunks_of(alloc: Global, bits: &[bool]) -> Result<Vec<(bool, bool, bool)>, Al
 }
 
 // The sum of the elements, each as often as the digit of its chunk says.
-fn digits_sum<G: CurveGroup>(elements: &[G], chunks: &[(bool, bool, bool)]) -> G
+fn digits_sum<G: AdditiveGroup>(elements: &[G], chunks: &[(bool, bool, bool)]) -> G
     ensures { result ≡ digits_sum G.group elements.now chunks.now }
 {
     if elements.len().min(chunks.len()) == 0 {
@@ -100,7 +100,7 @@ fn segment_scalar(chunks: &[(bool, bool, bool)]) -> i64
 }
 
 // The sum over segments of one size, each element as often as the scalar of its segment says.
-fn segments_sum<G: CurveGroup>(size: usize, elements: &[G], chunks: &[(bool, bool, bool)]) -> G
+fn segments_sum<G: AdditiveGroup>(size: usize, elements: &[G], chunks: &[(bool, bool, bool)]) -> G
     requires { size ≤ 15 }
     ensures { result ≡ segments_sum G.group size elements.now chunks.now }
 {
@@ -139,7 +139,7 @@ fn bits_of(alloc: Global, bytes: &[u8]) -> Result<Vec<bool>, AllocError>
 }
 
 // The lists, one behind the other.
-fn concatenation<G: CurveGroup>(alloc: Global, lists: &[Vec<G>]) -> Result<Vec<G>, AllocError>
+fn concatenation<G: AdditiveGroup>(alloc: Global, lists: &[Vec<G>]) -> Result<Vec<G>, AllocError>
     ensures { IfOk result (λ all. all.items ≡ concatenation (lists_in lists.now)) }
 {
     let mut all = Vec::new(alloc);
@@ -158,7 +158,7 @@ fn input_chunks(alloc: Global, input: &[u8]) -> Result<Vec<(bool, bool, bool)>, 
 
 /// Returns the first coordinate of the sum of the elements of lists, each as often as the digit of its chunk of the
 /// input says.
-pub fn coordinate<G: CurveGroup + TECoordinates>(
+pub fn coordinate<G: AdditiveGroup + TECoordinates>(
     alloc: Global,
     lists: &[Vec<G>],
     input: &[u8],
@@ -172,7 +172,7 @@ pub fn coordinate<G: CurveGroup + TECoordinates>(
 }
 
 /// Returns the same over segments of at most fifteen chunks, each element as often as the scalar of its segment says.
-pub fn coordinate_of_segments<G: CurveGroup + TECoordinates>(
+pub fn coordinate_of_segments<G: AdditiveGroup + TECoordinates>(
     alloc: Global,
     size: usize,
     elements: &[G],

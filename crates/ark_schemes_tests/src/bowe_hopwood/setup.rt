@@ -6,7 +6,7 @@ use ark_base::error::{Error, Refusal};
 use ark_base::serialize::DigestItem;
 use ark_bowe_hopwood::{CRH, TwoToOneCRH};
 use ark_crh::{CRHScheme, TwoToOneCRHScheme};
-use ark_groups::ec::{CurveGroup, Small, SmallModulus, TECoordinates};
+use ark_groups::ec::{AdditiveGroup, Small, SmallModulus, TECoordinates};
 use ark_groups::ff::{M7, M13};
 use ark_pedersen::Window;
 use rand::rngs::SmallRng;
@@ -14,7 +14,7 @@ use rand::{Rng, SeedableRng};
 use std::alloc::Global;
 
 // Why there are no parameters, from the hash of one input and from the hash of two.
-fn refusals<C: CurveGroup + TECoordinates, W: Window>(
+fn refusals<C: AdditiveGroup + TECoordinates, W: Window>(
     alloc: Global,
 ) -> (Option<Error>, Option<Error>)
 where
@@ -46,7 +46,7 @@ fn windows_fit_the_order(rt: HostRuntime) {
 }
 
 // Whether the setup triples what a twin draws.
-fn is_drawn<C: CurveGroup + TECoordinates, W: Window, R: Rng>(
+fn is_drawn<C: AdditiveGroup + TECoordinates, W: Window, R: Rng>(
     alloc: Global,
     rng: &mut R,
     twin: &mut R,
@@ -61,7 +61,7 @@ where
 }
 
 // The same of the hash of two inputs.
-fn is_drawn_for_two<C: CurveGroup + TECoordinates, W: Window, R: Rng>(
+fn is_drawn_for_two<C: AdditiveGroup + TECoordinates, W: Window, R: Rng>(
     alloc: Global,
     rng: &mut R,
     twin: &mut R,
@@ -75,7 +75,7 @@ where
     }
 }
 
-fn lists_are_drawn<C: CurveGroup + TECoordinates, W: Window, R: Rng>(
+fn lists_are_drawn<C: AdditiveGroup + TECoordinates, W: Window, R: Rng>(
     alloc: Global,
     rng: &mut R,
     twin: &mut R,
@@ -86,7 +86,7 @@ fn lists_are_drawn<C: CurveGroup + TECoordinates, W: Window, R: Rng>(
     }
 }
 
-fn lists_of_two_are_drawn<C: CurveGroup + TECoordinates, W: Window, R: Rng>(
+fn lists_of_two_are_drawn<C: AdditiveGroup + TECoordinates, W: Window, R: Rng>(
     alloc: Global,
     rng: &mut R,
     twin: &mut R,
@@ -98,7 +98,7 @@ fn lists_of_two_are_drawn<C: CurveGroup + TECoordinates, W: Window, R: Rng>(
 }
 
 // Whether all that is drawn is tripled, over other windows each, and nothing more is drawn.
-fn all_is_drawn<C: CurveGroup + TECoordinates, R: Rng>(
+fn all_is_drawn<C: AdditiveGroup + TECoordinates, R: Rng>(
     alloc: Global,
     rng: &mut R,
     twin: &mut R,

@@ -2,7 +2,7 @@
 
 use crate::hashes::{Cube, Element, elements, parameters};
 use ark_base::error::Error;
-use ark_groups::ff::PrimeField;
+use ark_groups::ff::Field;
 use ark_merkle::{
     Config, IdentityDigestConverter, LeafParam, MerkleTree, TwoToOneParam, is_tree_size,
 };
@@ -77,7 +77,7 @@ fn has_root<P: Config>(
 }
 
 // Two leaves: 5 and 6, and nothing.
-fn leaves<F: PrimeField>(alloc: Global) -> Result<Vec<Vec<F>>, Error> {
+fn leaves<F: Field>(alloc: Global) -> Result<Vec<Vec<F>>, Error> {
     let mut leaves = Vec::new(alloc);
     leaves.push(elements(alloc, &[5, 6])?)?;
     leaves.push(Vec::new(alloc))?;

@@ -5,7 +5,7 @@ ghost use Rattle.jubjub.specs.Elements.{coordinates};
 ghost use Rattle.jubjub.specs.Jubjub.{p};
 
 use crate::element::Jubjub;
-use ark_absorb::{AbsorbItem, ByItem};
+use ark_absorb::{Absorb, AbsorbItem, push_elements_by_item};
 use ark_base::error::Error;
 use ark_groups::ec::TEPoint;
 use ark_groups::ff::Field;
@@ -26,4 +26,11 @@ impl AbsorbItem for Jubjub {
     }
 }
 
-impl ByItem for Jubjub {}
+impl Absorb for Jubjub {
+    fn batch_to_sponge_field_elements<F: Field>(
+        batch: &[Self],
+        dest: &mut Vec<F>,
+    ) -> Result<(), Error> {
+        push_elements_by_item(batch, dest)
+    }
+}

@@ -34,5 +34,5 @@ returns g t c =
       c.behind.ensures,
       c.behind-2.ensures,
       c.digit.ensures,
-    ) (first g.G.CurveGroup.group c.args.elements.now c.args.chunks.now c.index-elements-0.result
+    ) (first g.G.AdditiveGroup.group c.args.elements.now c.args.chunks.now c.index-elements-0.result
     (omega arith) c.index-elements-0.is)

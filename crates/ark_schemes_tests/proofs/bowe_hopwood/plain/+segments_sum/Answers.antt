@@ -37,5 +37,5 @@ returns g t c =
       c.behind-2.ensures,
       c.segment_scalar-scalar.ensures,
       c.front.ensures,
-    ) (first g.G.CurveGroup.group c.args.size c.args.elements.now
+    ) (first g.G.AdditiveGroup.group c.args.size c.args.elements.now
     c.args.chunks.now c.index-elements-0.result (omega (arith, some)) c.index-elements-0.is)

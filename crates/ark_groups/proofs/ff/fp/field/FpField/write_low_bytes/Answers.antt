@@ -1,7 +1,7 @@
 use Rattle.std.proofs.Common.{take, length, ap, ◌∙◌}
 use Rattle.ark_base.specs.Digits.{bytes_of_number}
 use Rattle.ark_base.proofs.Numerals.{take-to_le_bytes}
-use Rattle.ark_groups.proofs.ff.field.AnyField.write_low_bytes.Goals as goal
+use Rattle.ark_groups.proofs.ff.fp.field.FpField.write_low_bytes.Goals as goal
 
 pub returns-then-out-le8 : goal.returns-then-out-le8
 returns-then-out-le8 g c =
