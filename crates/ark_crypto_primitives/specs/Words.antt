@@ -31,7 +31,8 @@ pub use Rattle.merkle_map.specs.Map.{value_at as map_value, without as map_witho
 pub use Rattle.merkle_map.specs.Shown.{BindsTree, Follows as MapFollows, Has as MapHas}
 -- what a sponge absorbs, and sponges
 pub use Rattle.ark_absorb.specs.Appending.{AppendsBytes, AppendsElements}
-pub use Rattle.ark_absorb.specs.Elements.{AreShort, Elements, elements_then, number_element, packed_elements, text_bytes}
+pub use Rattle.ark_absorb.specs.Elements.{AreShort, Elements, batch_by_item, elements_then, number_element}
+pub use Rattle.ark_absorb.specs.Elements.{packed_elements, text_bytes}
 pub use Rattle.ark_sponge.specs.Mode.{IsWithin, absorb_index, mode_index}
 pub use Rattle.ark_sponge.specs.Permutation.{Parameters, lawful_parameters, permutation, poseidon_rounds, sums, width}
 pub use Rattle.ark_sponge.specs.Sizes.{are_full, size_width, sum_of_sizes}

@@ -2,7 +2,7 @@
 
 ghost use Rattle.std.specs.Prelude.{◌++◌};
 ghost use Rattle.std.specs.Int.{w64, to_le_bytes};
-ghost use Rattle.ark_crypto_primitives.specs.Words.{elements_then, number_element};
+ghost use Rattle.ark_crypto_primitives.specs.Words.{batch_by_item, elements_then, number_element};
 
 use ark_crypto_primitives::Error;
 use ark_crypto_primitives::ff::Field;
@@ -45,6 +45,8 @@ impl AbsorbItem for Payment {
 }
 
 impl Absorb for Payment {
+    ghost batch_elements = { batch_by_item ⟦<Payment as AbsorbItem>⟧.sponge_elements };
+
     fn batch_to_sponge_field_elements<F: Field>(
         batch: &[Self],
         dest: &mut Vec<F>,

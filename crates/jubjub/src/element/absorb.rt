@@ -1,6 +1,6 @@
 //! Elements as a sponge absorbs them: as their two coordinates.
 
-ghost use Rattle.ark_absorb.specs.Elements.{point_bytes, point_elements};
+ghost use Rattle.ark_absorb.specs.Elements.{batch_by_item, point_bytes, point_elements};
 ghost use Rattle.jubjub.specs.Elements.{coordinates};
 ghost use Rattle.jubjub.specs.Jubjub.{p};
 
@@ -27,6 +27,8 @@ impl AbsorbItem for Jubjub {
 }
 
 impl Absorb for Jubjub {
+    ghost batch_elements = { batch_by_item ⟦<Jubjub as AbsorbItem>⟧.sponge_elements };
+
     fn batch_to_sponge_field_elements<F: Field>(
         batch: &[Self],
         dest: &mut Vec<F>,
