@@ -3,6 +3,7 @@
 
 pub mod growing_log;
 pub mod log;
+pub mod plain;
 pub mod reveal;
 pub mod store;
 #[cfg(test)]

@@ -1,0 +1,202 @@
+//! Trees over each kind of ready hash, and a signature over Jubjub, in plain functions: none has a line of proof.
+
+use ark_crypto_primitives::Error;
+use ark_crypto_primitives::crh::bowe_hopwood;
+use ark_crypto_primitives::crh::injective_map::{
+    PedersenCRHCompressor, PedersenTwoToOneCRHCompressor, TECompressor,
+};
+use ark_crypto_primitives::crh::pedersen::{Parameters, Windows4x256, Windows63x9};
+use ark_crypto_primitives::crh::poseidon::{CRH, TwoToOneCRH};
+use ark_crypto_primitives::ec::jubjub::Jubjub;
+use ark_crypto_primitives::ff::{Bls12_381Fr, Bn254Fr, Fp, Goldilocks};
+use ark_crypto_primitives::log::Log;
+use ark_crypto_primitives::merkle_tree::{
+    ByteDigestConverter, Config, ConfigHasher, IdentityDigestConverter, MerkleTree, Path,
+    is_tree_size,
+};
+use ark_crypto_primitives::prf::Blake2s256;
+use ark_crypto_primitives::signature::SignatureScheme;
+use ark_crypto_primitives::signature::schnorr::Schnorr;
+use ark_crypto_primitives::sponge::poseidon::PoseidonConfig;
+use ark_crypto_primitives::sponge::poseidon::parameters::Power;
+use ark_crypto_primitives::trees::CircomTree;
+use rand::Rng;
+use std::alloc::Global;
+
+/// Trees over arkworks' Poseidon: a leaf is a list of elements.
+pub struct Notes;
+
+impl Config for Notes {
+    type Leaf = Vec<Bls12_381Fr>;
+
+    type LeafDigest = Bls12_381Fr;
+
+    type LeafInnerDigestConverter = IdentityDigestConverter<Bls12_381Fr>;
+
+    type InnerDigest = Bls12_381Fr;
+
+    type LeafHash = CRH<Bls12_381Fr, Power>;
+
+    type TwoToOneHash = TwoToOneCRH<Bls12_381Fr, Power>;
+}
+
+/// The same over a field of one word.
+pub struct SmallNotes;
+
+impl Config for SmallNotes {
+    type Leaf = Vec<Fp<Goldilocks>>;
+
+    type LeafDigest = Fp<Goldilocks>;
+
+    type LeafInnerDigestConverter = IdentityDigestConverter<Fp<Goldilocks>>;
+
+    type InnerDigest = Fp<Goldilocks>;
+
+    type LeafHash = CRH<Fp<Goldilocks>, Power>;
+
+    type TwoToOneHash = TwoToOneCRH<Fp<Goldilocks>, Power>;
+}
+
+/// Trees over Pedersen hashes: a digest is the first coordinate of a sum, and a leaf at most 128 bytes.
+pub struct Sums;
+
+impl Config for Sums {
+    type Leaf = Vec<u8>;
+
+    type LeafDigest = Bls12_381Fr;
+
+    type LeafInnerDigestConverter = ByteDigestConverter<Bls12_381Fr>;
+
+    type InnerDigest = Bls12_381Fr;
+
+    type LeafHash = PedersenCRHCompressor<Jubjub, TECompressor, Windows4x256>;
+
+    type TwoToOneHash = PedersenTwoToOneCRHCompressor<Jubjub, TECompressor, Windows4x256>;
+}
+
+/// Trees over Bowe-Hopwood hashes.
+pub struct Chunks;
+
+impl Config for Chunks {
+    type Leaf = Vec<u8>;
+
+    type LeafDigest = Bls12_381Fr;
+
+    type LeafInnerDigestConverter = ByteDigestConverter<Bls12_381Fr>;
+
+    type InnerDigest = Bls12_381Fr;
+
+    type LeafHash = bowe_hopwood::CRH<Jubjub, Windows63x9>;
+
+    type TwoToOneHash = bowe_hopwood::TwoToOneCRH<Jubjub, Windows63x9>;
+}
+
+/// Returns the path of a leaf under circomlib's hash; `None` where the count of leaves is no power of two above one, or the
+/// index is not below it.
+pub fn circom_path(
+    alloc: Global,
+    leaf: &PoseidonConfig<Bn254Fr>,
+    pair: &PoseidonConfig<Bn254Fr>,
+    leaves: &[Vec<Bn254Fr>],
+    index: usize,
+) -> Result<Option<Path<CircomTree>>, Error> {
+    if !is_tree_size(leaves.len()) || index >= leaves.len() {
+        return Ok(None);
+    }
+    let tree = MerkleTree::<CircomTree>::new(alloc, leaf, pair, leaves)?;
+    Ok(Some(tree.generate_proof(alloc, index)?))
+}
+
+/// Whether a path leads from a leaf to a root under circomlib's hash.
+pub fn circom_holds(
+    alloc: Global,
+    leaf: &PoseidonConfig<Bn254Fr>,
+    pair: &PoseidonConfig<Bn254Fr>,
+    path: &Path<CircomTree>,
+    root: &Bn254Fr,
+    note: &Vec<Bn254Fr>,
+) -> Result<bool, Error> {
+    path.verify(alloc, leaf, pair, root, note)
+}
+
+/// Returns the root of the log of some digests under circomlib's hash.
+pub fn circom_log_root(
+    alloc: Global,
+    leaf: &PoseidonConfig<Bn254Fr>,
+    pair: &PoseidonConfig<Bn254Fr>,
+    empty: Bn254Fr,
+    digests: &[Bn254Fr],
+) -> Result<Bn254Fr, Error> {
+    let mut log = Log::new(alloc, ConfigHasher::<CircomTree>::new(leaf, pair), empty);
+    for digest in digests {
+        log.append_digest(alloc, *digest)?;
+    }
+    log.root(alloc, log.size())
+}
+
+/// Returns the root of some notes; `None` where their count is no power of two above one.
+pub fn root_of_notes(
+    alloc: Global,
+    parameters: &PoseidonConfig<Bls12_381Fr>,
+    notes: &[Vec<Bls12_381Fr>],
+) -> Result<Option<Bls12_381Fr>, Error> {
+    if !is_tree_size(notes.len()) {
+        return Ok(None);
+    }
+    let tree = MerkleTree::<Notes>::new(alloc, parameters, parameters, notes)?;
+    Ok(Some(*tree.root()))
+}
+
+/// Returns the root of some notes over a field of one word; `None` where their count is no power of two above one.
+pub fn root_of_small_notes(
+    alloc: Global,
+    parameters: &PoseidonConfig<Fp<Goldilocks>>,
+    notes: &[Vec<Fp<Goldilocks>>],
+) -> Result<Option<Fp<Goldilocks>>, Error> {
+    if !is_tree_size(notes.len()) {
+        return Ok(None);
+    }
+    let tree = MerkleTree::<SmallNotes>::new(alloc, parameters, parameters, notes)?;
+    Ok(Some(*tree.root()))
+}
+
+/// Returns the root of some leaves under Pedersen hashes; `None` where their count is no power of two above one.
+pub fn root_of_sums(
+    alloc: Global,
+    leaf: &Parameters<Jubjub>,
+    pair: &Parameters<Jubjub>,
+    leaves: &[Vec<u8>],
+) -> Result<Option<Bls12_381Fr>, Error> {
+    if !is_tree_size(leaves.len()) {
+        return Ok(None);
+    }
+    let tree = MerkleTree::<Sums>::new(alloc, leaf, pair, leaves)?;
+    Ok(Some(*tree.root()))
+}
+
+/// Returns the root of some leaves under Bowe-Hopwood hashes; `None` where their count is no power of two above one.
+pub fn root_of_chunks(
+    alloc: Global,
+    leaf: &bowe_hopwood::Parameters<Jubjub>,
+    pair: &bowe_hopwood::Parameters<Jubjub>,
+    leaves: &[Vec<u8>],
+) -> Result<Option<Bls12_381Fr>, Error> {
+    if !is_tree_size(leaves.len()) {
+        return Ok(None);
+    }
+    let tree = MerkleTree::<Chunks>::new(alloc, leaf, pair, leaves)?;
+    Ok(Some(*tree.root()))
+}
+
+/// Whether the signature of a message by drawn keys is accepted, which it is.
+pub fn own_signature_holds<R: Rng>(
+    alloc: Global,
+    message: &[u8],
+    rng: &mut R,
+) -> Result<bool, Error> {
+    let parameters = Schnorr::<Jubjub, Blake2s256>::setup(alloc, rng)?;
+    let (public, secret) = Schnorr::<Jubjub, Blake2s256>::keygen(alloc, &parameters, rng)?;
+    let signature =
+        Schnorr::<Jubjub, Blake2s256>::sign(alloc, &parameters, &secret, message, rng)?;
+    Schnorr::<Jubjub, Blake2s256>::verify(alloc, &parameters, &public, message, &signature)
+}
