@@ -101,10 +101,7 @@ fn digests_are_one_element(rt: HostRuntime) {
 }
 
 // Whether neither hash sets parameters up.
-fn refuse_setup<F: Field + DigestItem, S: SBox<F>, R: Rng>(
-    alloc: Global,
-    rng: &mut R,
-) -> bool {
+fn refuse_setup<F: Field + DigestItem, S: SBox<F>, R: Rng>(alloc: Global, rng: &mut R) -> bool {
     let refusal = Some(Error::GenericError(Refusal::SetupNotAvailable));
     CRH::<F, S>::setup(alloc, rng).err() == refusal
         && TwoToOneCRH::<F, S>::setup(alloc, rng).err() == refusal

@@ -196,7 +196,6 @@ pub fn own_signature_holds<R: Rng>(
 ) -> Result<bool, Error> {
     let parameters = Schnorr::<Jubjub, Blake2s256>::setup(alloc, rng)?;
     let (public, secret) = Schnorr::<Jubjub, Blake2s256>::keygen(alloc, &parameters, rng)?;
-    let signature =
-        Schnorr::<Jubjub, Blake2s256>::sign(alloc, &parameters, &secret, message, rng)?;
+    let signature = Schnorr::<Jubjub, Blake2s256>::sign(alloc, &parameters, &secret, message, rng)?;
     Schnorr::<Jubjub, Blake2s256>::verify(alloc, &parameters, &public, message, &signature)
 }

@@ -126,7 +126,11 @@ where
 
 // Whether each of twenty drawn inputs of each length that the windows take has the hash that a definition gives: that with the
 // scalars of segments, or that with digits.
-fn agree<G: AdditiveGroup + TECoordinates, W: Window>(alloc: Global, segments: bool, seed: u64) -> bool
+fn agree<G: AdditiveGroup + TECoordinates, W: Window>(
+    alloc: Global,
+    segments: bool,
+    seed: u64,
+) -> bool
 where
     G::BaseField: DigestItem,
 {
