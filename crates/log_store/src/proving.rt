@@ -269,7 +269,8 @@ pub fn consistency<D: Disk>(
     named: Option<usize>,
 ) -> Result<ConsistencyProof, Stop<D::Refusal>>
     ensures refused { let file = D.seen disk.now in
-        let outcome = of_first file named (λ size. only_if (is_older old_size size) Size (Ok size)) in
+        let outcome = of_first file named
+        (λ size. only_if (is_older old_size size) Size (Ok size)) in
         D.Obeys disk.now → IsRefusedFor file outcome result }
     ensures proof { D.Obeys disk.now → (leaves : List Digest) → IsLogFile leaves (D.seen disk.now)
         → let size = unwrap_or named (length leaves) in

@@ -49,8 +49,8 @@ pub fn hidden() -> Error
 
 // Joins two sides. The only error is `OutOfMemory`.
 pub fn fork<D: DigestItem>(alloc: Global, left: Part<D>, right: Part<D>) -> Result<Part<D>, Error>
-    ensures { AnswersBy (shape D.numbers) (Ok (ForkOf (shape D.numbers left) (shape D.numbers right)))
-        result }
+    ensures { AnswersBy (shape D.numbers)
+        (Ok (ForkOf (shape D.numbers left) (shape D.numbers right))) result }
 {
     let left = Box::new(alloc, left)?;
     let right = Box::new(alloc, right)?;

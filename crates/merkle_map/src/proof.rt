@@ -96,7 +96,8 @@ impl<D: DigestItem> KeyProof<D> {
         value: Option<&D>,
     ) -> Result<bool, Error>
         ensures answer { Answers (proof_verdict (T.hashes hasher.now) (D.numbers root.now) key.now
-            (value_seen (λ v. D.numbers v.now) value.entry) (proof_seen D.numbers self.now)) result }
+            (value_seen (λ v. D.numbers v.now) value.entry) (proof_seen D.numbers self.now))
+            result }
 
         // Each map with this root has this at the key, or at some level of the key's way the proof and the map's own tree have
         // two different nodes with one hash.

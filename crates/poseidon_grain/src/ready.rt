@@ -83,8 +83,8 @@ pub fn goldilocks_parameters(
     width: usize,
 ) -> Result<PoseidonConfig<Fp<Goldilocks>>, Error>
     ensures made { IfOk result (λ c.
-        AreParameters (asked_of ⟦<Fp<Goldilocks> as Field>⟧.MODULUS ⟦<Fp<Goldilocks> as Field>⟧.MODULUS_BIT_SIZE
-        width 8 22 0) (width - 4) 4 7 c) }
+        AreParameters (asked_of ⟦<Fp<Goldilocks> as Field>⟧.MODULUS
+        ⟦<Fp<Goldilocks> as Field>⟧.MODULUS_BIT_SIZE width 8 22 0) (width - 4) 4 7 c) }
     ensures none { (width ≡ 8 → ⊥) × (width ≡ 12 → ⊥) × (width ≡ 16 → ⊥)
         → result ≡ Err (IncorrectInputLength width) }
 {
@@ -103,8 +103,9 @@ pub fn baby_bear_parameters(
     width: usize,
 ) -> Result<PoseidonConfig<Fp<BabyBear>>, Error>
     ensures made { IfOk result (λ c.
-        AreParameters (asked_of ⟦<Fp<BabyBear> as Field>⟧.MODULUS ⟦<Fp<BabyBear> as Field>⟧.MODULUS_BIT_SIZE
-        width 8 (baby_bear_rounds width) 0) (width - 8) 8 7 c) }
+        AreParameters (asked_of ⟦<Fp<BabyBear> as Field>⟧.MODULUS
+        ⟦<Fp<BabyBear> as Field>⟧.MODULUS_BIT_SIZE width 8 (baby_bear_rounds width) 0)
+        (width - 8) 8 7 c) }
     ensures none { (width ≡ 12 → ⊥) × (width ≡ 16 → ⊥) → result ≡ Err (IncorrectInputLength width) }
 {
     if width != 12 && width != 16 {
