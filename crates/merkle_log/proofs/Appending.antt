@@ -9,6 +9,7 @@ use Rattle.merkle_log.proofs.Completing.{completes-appends}
 use Rattle.merkle_log.proofs.Growing.{all-next, extends-itself}
 use Rattle.merkle_log.specs.Kept.{front, Keeps}
 use Rattle.merkle_log.proofs.Making.{items, length-items, room-first}
+use Rattle.merkle_log.proofs.Positions.{count-rises}
 use Rattle.merkle_log.proofs.KeptRows.{cut-hashed, cut-lowest, keeps-of}
 
 -- So many leaves are appended behind the stored digests, and the buffer has so many digests for them.
@@ -56,6 +57,23 @@ appending-next {stored} {digests} {old} {more} {next} {size} {place} {made} {aft
           ∙ ap (drop (after - made)) at.behind ∙ drop-drop (after - made) made old ∙ ap (λ n. drop n old) less;
       same = same ∙ at.same;
     }
+
+-- The digests that were made are in the buffer.
+pub appending-fits : {stored digests old more : List Digest} {size place made : ℕ} → Appending stored size digests
+    old more place made → length stored ≡ stored_count size
+    → stored_count (size + length digests) ≤ stored_count size + length old → place ≤ length digests
+    → made ≤ length more
+appending-fits {digests = digests} {size = size} {place = place} at long room inside =
+    let rises = count-rises (size + place) (size + length digests) (omega arith) in
+    omega (arith, at.same, at.count)
+
+-- There is room for the digests of one more.
+pub appending-room : {stored digests old more : List Digest} {size place made : ℕ} → Appending stored size digests
+    old more place made → stored_count (size + length digests) ≤ stored_count size + length old
+    → place < length digests → stored_count (size + place + 1) ≤ stored_count size + length more
+appending-room {digests = digests} {size = size} {place = place} at room inside =
+    let rises = count-rises (size + place + 1) (size + length digests) (omega arith) in
+    omega (arith, at.same)
 
 pub appending-end : {leaves kept digests old more : List Digest} {size place made : ℕ} → Appending
     (take (stored_count size) kept) size digests old more place made → made ≤ length more → place ≡ length digests

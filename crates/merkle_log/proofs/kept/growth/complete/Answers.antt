@@ -1,15 +1,35 @@
 use Rattle.std.proofs.Common.{◌-◌, ap, ◌∙◌, Ok, sym, arith}
 use Rattle.ark_trees.specs.Rfc6962.{node_hash}
+use Rattle.merkle_log.specs.Kept.{stored_front}
 use Rattle.merkle_log.proofs.Asking.{peak-here-at}
 use Rattle.merkle_log.proofs.KeptRows.{front-long, up-rises}
-use Rattle.merkle_log.proofs.Making.{room-first, making-first, making-room, making-place, making-next, making-end, making-whole}
+use Rattle.merkle_log.proofs.Making.{room-first, making-first, making-known, making-room, making-place, making-next, making-end, making-whole}
 use Rattle.merkle_log.proofs.kept.growth.complete.Goals as goal
+use Rattle.merkle_log.proofs.kept.growth.complete.Goals.{in-Some, in_default}
 
 pub put-requires : goal.put-requires
 put-requires g c = let more = room-first c.args.size in omega (arith, c.requires.whole, c.requires.room)
 
+pub put-requires-in-Some : goal.put-requires-in-Some
+put-requires-in-Some g c =
+    let long = front-long _ c.args.first c.requires.size c.requires.stored in
+    let known = rw (c.in-Some.is) at c.requires.known in
+    making-room {kept = stored_front (g.R.Rows.stored c.args.rows.now)} (making-first c.put.ensures.front c.put.ensures.behind c.put.ensures.same)
+    (omega (arith, c.requires.whole, long)) c.requires.fits (omega (arith, c.requires.room, long)) known.0
+
 pub odd-init : goal.odd-init
-odd-init g c = making-first c.put.ensures.front c.put.ensures.behind c.put.ensures.same
+odd-init g c =
+    let long = front-long _ c.args.first c.requires.size c.requires.stored in
+    let first = making-first {kept = stored_front (g.R.Rows.stored c.args.rows.now)} c.put.ensures.front
+    c.put.ensures.behind c.put.ensures.same in
+    elim c.match-parent.branch [
+      | in-Some w ↦
+          let known = rw (w.in-Some.is) at c.requires.known in
+          rw (w.own-is, w.more-is, w.at-is, w.left-is, w.level-is) (making-known first
+          (omega (arith, c.requires.whole, long)) c.requires.fits (omega (arith, c.requires.room, long)) known.0
+          known.1 w.put-in-Some.ensures.front w.put-in-Some.ensures.behind w.put-in-Some.ensures.same)
+      | in_default w ↦ rw (w.own-is, w.more-is, w.at-is, w.left-is, w.level-is) first
+    ]
 
 pub digest_in-requires-clause-level : goal.digest_in-requires-clause-level
 digest_in-requires-clause-level g c =
