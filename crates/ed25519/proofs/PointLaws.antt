@@ -15,7 +15,7 @@ use Rattle.ed25519.specs.Edwards25519.{p, d, IsOnEd25519}
 use Rattle.edwards_numbers.specs.Laws.Quotients.{cancelled}
 use Rattle.edwards_numbers.specs.Laws.Completeness.{has_inverses}
 use Rattle.ed25519.specs.Laws.Curve.{ed25519_is_complete}
-use Rattle.ed25519.specs.Laws.Primes.{factors_p, generates_p}
+use Rattle.ed25519.specs.Laws.ModulusPrime.{factors_p, generates_p}
 
 module _ (m c : ℕ) (pos : 0 < m) (X Y yy product u v : ℕ) (is_yy : yy ≡ Y * Y % m) (is_u : u ≡ (yy + (m - 1)) % m)
     (is_product : product ≡ yy * c % m) (is_v : v ≡ (product + 1) % m) where
