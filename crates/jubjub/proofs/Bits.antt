@@ -5,7 +5,7 @@ use Rattle.jubjub.specs.declared.extended.Extended.{Extended}
 use Rattle.jubjub.specs.Edwards.{Coordinates, sum, neutral}
 use Rattle.jubjub.specs.Jubjub.{p, d, curve, IsOnJubjub}
 use Rattle.jubjub.specs.Extended.{Stands}
-use Rattle.jubjub.specs.Laws.CurveLaws.{sum_neutral}
+use Rattle.edwards_numbers.specs.Laws.CurveLaws.{sum_neutral}
 use Rattle.jubjub.specs.Laws.Modulus.{has_inverses}
 use Rattle.jubjub.specs.Laws.Completeness.{complete}
 use Rattle.jubjub.proofs.Digits.{Doubles, multiple_on_curve, more, twice}

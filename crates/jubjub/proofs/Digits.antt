@@ -1,29 +1,24 @@
 -- Multiples of a point, digit by digit.
 use Rattle.std.proofs.Common.{◌≡◌, ℕ, suc, ◌+◌, ◌-◌, ◌*◌, ◌^◌, ◌<◌, Bool, false, ltb, List, length, set, refl, sym, ◌∙◌, ap}
-use Rattle.std.proofs.Common.{ap₂, subst, arith, pow-suc, inl, inr}
+use Rattle.std.proofs.Common.{subst, arith, pow-suc, inl, inr}
 use Rattle.std.proofs.lemmas.Bool.{cases_lt, ltb-false}
 use Rattle.std.proofs.lemmas.Grind.{get_or-set_at}
 use Rattle.std.proofs.lemmas.List.{get_or-set_other}
 use Rattle.ark_groups.specs.Group.{times}
-use Rattle.ark_groups.proofs.Multiples.{times-add}
 use Rattle.jubjub.specs.declared.extended.Extended.{Extended}
 use Rattle.jubjub.specs.Edwards.{Coordinates, sum, neutral}
 use Rattle.jubjub.specs.Jubjub.{p, d, curve, IsOnJubjub}
 use Rattle.jubjub.specs.Extended.{Stands, AreMultiples}
-use Rattle.jubjub.specs.Laws.Points.{Point, points, points_laws, at-times}
+use Rattle.jubjub.specs.Laws.Completeness.{jubjub_is_complete}
+use Rattle.edwards.proofs.Sums as sums
 
 pub multiple_on_curve : (n : ℕ) (a : Coordinates) → IsOnJubjub a → IsOnJubjub (times curve n a)
-multiple_on_curve n a on =
-    let one : Point = record { at = a; on = on } in
-    subst IsOnJubjub (at-times n one) ((times points n one).on)
+multiple_on_curve = sums.multiple_on_curve p d jubjub_is_complete
 
 -- the sum of two multiples
 pub multiples_add : (m n : ℕ) (a : Coordinates) → IsOnJubjub a
     → sum p d (times curve m a) (times curve n a) ≡ times curve (m + n) a
-multiples_add m n a on =
-    let one : Point = record { at = a; on = on } in
-    ap₂ (sum p d) (sym (at-times m one)) (sym (at-times n one))
-    ∙ ap (λ (t : Point). t.at) (sym (times-add points_laws m n one)) ∙ at-times (m + n) one
+multiples_add = sums.multiples_add p d jubjub_is_complete
 
 -- four coordinates are doubled
 abbrev pub Doubles : Extended → Extended → Type 0

@@ -1,6 +1,4 @@
-pub mod CrossedProducts
-pub mod ExtendedFacts
-pub mod ExtendedLaws
+pub mod Numbers
 pub mod GroupLaws
 pub mod Digits
 pub mod Bits

@@ -8,9 +8,9 @@ use Rattle.jubjub.specs.Edwards.{Coordinates, neutral}
 use Rattle.jubjub.specs.Jubjub.{p, d, IsOnJubjub}
 use Rattle.jubjub.specs.Extended.{Stands}
 use Rattle.jubjub.specs.Values.{value}
-use Rattle.jubjub.specs.Laws.CurveLaws.{same_coordinates}
+use Rattle.edwards_numbers.specs.Laws.CurveLaws.{same_coordinates}
 use Rattle.jubjub.specs.Laws.Modulus.{has_inverses}
-use Rattle.jubjub.specs.Laws.Quotients.{cancelled, equal, some_modulus}
+use Rattle.edwards_numbers.specs.Laws.Quotients.{cancelled, equal, some_modulus}
 
 pub neutral_from : (e : Extended) (s : Coordinates) → IsOnJubjub s → Stands e s → value e.x ≡ 0 → value e.y ≡ value e.z
     → s ≡ neutral

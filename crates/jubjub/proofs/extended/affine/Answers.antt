@@ -2,7 +2,7 @@ use Rattle.std.proofs.Common.{◌*◌, ◌%◌, ◌∙◌, ap, sym}
 use Rattle.jubjub.specs.Jubjub.{p}
 use Rattle.jubjub.specs.Values.{value}
 use Rattle.jubjub.specs.Laws.Modulus.{has_inverses}
-use Rattle.jubjub.specs.Laws.Quotients.{is_over}
+use Rattle.edwards_numbers.specs.Laws.Quotients.{is_over}
 use Rattle.jubjub.proofs.extended.affine.Goals as goal
 
 pub returns-clause-x : goal.returns-clause-x
