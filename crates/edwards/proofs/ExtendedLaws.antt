@@ -185,7 +185,8 @@ module _ (p d : ℕ) (c : IsComplete p d) where
   pub plus_stands : (a b r : Four) → Adds p d a b r → (s t : Coordinates) → IsOnCurve p d s → IsOnCurve p d t
       → FourStand p a s → FourStand p b t → FourStand p r (sum p d s t)
   plus_stands a b r it s t on_s on_t of_a of_b =
-      sum_stands (twice a) b s t on_s on_t (twice_all a s of_a) of_b it.crossed it.scale it.E it.F it.G it.H r it.is_scale
+      sum_stands (twice a) b s t on_s on_t (twice_all a s of_a) of_b it.crossed it.scale it.E it.F it.G it.H r
+      it.is_scale
       (below_p it.crossed (it.k * a.t % p * b.t) it.is_crossed)
       (crossed_mod p it.k a.t b.t d it.crossed it.is_k it.is_crossed)
       (reduced p it.E (2 * (a.x * b.y + a.y * b.x)) it.is_E ∙ ap (λ n. n % p) (spread a.x b.y a.y b.x)) it.is_F it.is_G
@@ -202,7 +203,8 @@ module _ (p d : ℕ) (c : IsComplete p d) where
       let y_mod : it.y % p ≡ a.y * a.y % p = reduced p it.y (a.y * a.y) it.is_y in
       let scale_mod : it.scale % p ≡ 2 * (a.z * a.z) % p =
       reduced p it.scale (2 * it.z) it.is_scale ∙ ap (λ n. n % p) (mul_comm 2 it.z)
-      ∙ multiples p it.z (a.z * a.z) 2 (reduced p it.z (a.z * a.z) it.is_z) ∙ ap (λ n. n % p) (mul_comm (a.z * a.z) 2) in
+      ∙ multiples p it.z (a.z * a.z) 2 (reduced p it.z (a.z * a.z) it.is_z)
+      ∙ ap (λ n. n % p) (mul_comm (a.z * a.z) 2) in
       let e_mod : it.E % p ≡ (a.x * a.y + a.y * a.x) % p =
       reduced p it.E (2 * (a.x * a.y % p)) it.is_E ∙ ap (λ n. n % p) (mul_comm 2 (a.x * a.y % p))
       ∙ mul-mod_first (a.x * a.y) 2 p ∙ ap (λ n. n % p) (both_ways a.x a.y) in
@@ -219,8 +221,8 @@ module _ (p d : ℕ) (c : IsComplete p d) where
       ∙ scale_mod) g_mod (less p (cross d s s) pos))
       g_mod
       (reduced p it.H (it.y + it.x) it.is_H ∙ sums p it.y (a.y * a.y) it.x (a.x * a.x) y_mod x_mod
-      ∙ second_numerator p a.x a.y a.x a.y a.z a.z (sum p d s s).y (below s s) s.x s.y s.x s.y pos of_a.first of_a.second
-      of_a.first of_a.second (y_of p d f all s s on on))
+      ∙ second_numerator p a.x a.y a.x a.y a.z a.z (sum p d s s).y (below s s) s.x s.y s.x s.y pos of_a.first
+      of_a.second of_a.first of_a.second (y_of p d f all s s on on))
     where
       both_ways : (x y : ℕ) → x * y * 2 ≡ x * y + y * x
       both_ways x y = omega arith

@@ -5,3 +5,4 @@ pub mod Numbers
 pub mod Sums
 pub mod Bits
 pub mod WithOne
+pub mod Neutral

@@ -1,14 +1,13 @@
 -- Multiples of a point, digit by digit.
-use Rattle.std.proofs.Common.{◌≡◌, ℕ, suc, ◌+◌, ◌-◌, ◌*◌, ◌^◌, ◌<◌, Bool, false, ltb, List, length, set, refl, sym, ◌∙◌, ap}
-use Rattle.std.proofs.Common.{subst, arith, pow-suc, inl, inr}
+use Rattle.std.proofs.Common.{◌≡◌, ℕ, suc, ◌+◌, ◌-◌, ◌*◌, ◌^◌, ◌<◌, Bool, false, ltb, List, ◌∷◌, length, set, get_or}
+use Rattle.std.proofs.Common.{refl, sym, ◌∙◌, ap, subst, arith, pow-suc, inl, inr}
 use Rattle.std.proofs.lemmas.Bool.{cases_lt, ltb-false}
 use Rattle.std.proofs.lemmas.Grind.{get_or-set_at}
 use Rattle.std.proofs.lemmas.List.{get_or-set_other}
 use Rattle.ark_groups.specs.Group.{times}
-use Rattle.jubjub.specs.declared.extended.Extended.{Extended}
 use Rattle.jubjub.specs.Edwards.{Coordinates, sum, neutral}
 use Rattle.jubjub.specs.Jubjub.{p, d, curve, IsOnJubjub}
-use Rattle.jubjub.specs.Extended.{Stands, AreMultiples}
+use Rattle.jubjub.specs.Extended.{Extended, Stands, AreMultiples}
 use Rattle.jubjub.specs.Laws.Completeness.{jubjub_is_complete}
 use Rattle.edwards.proofs.Sums as sums
 
@@ -54,6 +53,13 @@ unbegun e m a none of_e = subst (λ k. Stands e (times curve k a)) (nothing m no
   where
     nothing : (m : ℕ) → m ≡ 0 → m ≡ 16 * m
     nothing m none = omega (arith, none)
+
+-- the table begins with zero
+pub first_multiple : (zero : Extended) (rest : List Extended) (a : Coordinates) → Stands zero neutral
+    → AreMultiples a 1 (zero ∷ rest)
+first_multiple zero rest a of_zero k e below =
+    let none : 0 ≡ k = omega (arith, below) in
+    subst (λ n. Stands (get_or (zero ∷ rest) n e) (times curve n a)) none of_zero
 
 -- one multiple more in the table
 pub next_multiple : (table : List Extended) (i : ℕ) (r : Extended) (a : Coordinates) → 0 < i → i < length table

@@ -1,7 +1,5 @@
-pub mod Numbers
 pub mod GroupLaws
 pub mod Digits
-pub mod Bits
 pub mod PointTests
 pub mod Spelled
 pub mod ItemBytes

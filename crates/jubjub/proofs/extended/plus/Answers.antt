@@ -1,37 +1,6 @@
-use Rattle.std.proofs.Common.{◌*◌, ◌%◌, ◌∙◌, ap}
-use Rattle.jubjub.specs.Jubjub.{p, d}
-use Rattle.jubjub.specs.Edwards.{sum}
-use Rattle.jubjub.specs.Values.{value}
+use Rattle.jubjub.specs.Jubjub.{d}
 use Rattle.jubjub.specs.Laws.Completeness.{jubjub_is_complete}
-use Rattle.jubjub.proofs.Numbers.{numbers, by_numbers, of_numbers}
-use Rattle.edwards.proofs.ExtendedLaws.{plus_stands, scale_is}
 use Rattle.jubjub.proofs.extended.plus.Goals as goal
 
 pub returns : goal.returns
-returns c s t on_s on_t of_a of_b =
-    let a = c.args.a in
-    let b = c.args.b in
-    of_numbers c.joined.result (sum p d s t) (plus_stands p d jubjub_is_complete (numbers a) (numbers b)
-    (numbers c.joined.result) (record {
-      k = value c.args.twice;
-      crossed = value c.mul-cross.result;
-      scale = value c.double-scale.result;
-      E = value c.crossed_products.result.0;
-      F = value c.sub.result;
-      G = value c.add.result;
-      H = value c.crossed_products.result.1;
-      is_k = c.requires;
-      is_crossed = c.mul-cross.ensures ∙ ap (λ n. n * value b.t % p) c.mul.ensures;
-      is_scale = scale_is p (value a.z) (value b.z) (value c.mul-2.result) (value c.double-scale.result) c.mul-2.ensures
-          c.double-scale.ensures;
-      is_E = c.crossed_products.ensures.crossed;
-      is_F = c.sub.ensures;
-      is_G = c.add.ensures;
-      is_H = c.crossed_products.ensures.straight;
-      joins = record {
-        x = c.joined.ensures.x;
-        y = c.joined.ensures.y;
-        z = c.joined.ensures.z;
-        t = c.joined.ensures.t;
-      };
-    }) s t on_s on_t (by_numbers a s of_a) (by_numbers b t of_b))
+returns c = c.plus.ensures d jubjub_is_complete c.requires
