@@ -14,19 +14,13 @@ use Rattle.edwards.proofs.Sums as sums
 pub multiple_on_curve : (n : ℕ) (a : Coordinates) → IsOnJubjub a → IsOnJubjub (times curve n a)
 multiple_on_curve = sums.multiple_on_curve p d jubjub_is_complete
 
--- the sum of two multiples
-pub multiples_add : (m n : ℕ) (a : Coordinates) → IsOnJubjub a
-    → sum p d (times curve m a) (times curve n a) ≡ times curve (m + n) a
-multiples_add = sums.multiples_add p d jubjub_is_complete
-
 -- four coordinates are doubled
 abbrev pub Doubles : Extended → Extended → Type 0
-Doubles e r = (t : Coordinates) → IsOnJubjub t → Stands e t → Stands r (sum p d t t)
+Doubles = sums.Doubles d jubjub_is_complete
 
-pub twice : (e r : Extended) (m : ℕ) (a : Coordinates) → IsOnJubjub a → Doubles e r → Stands e (times curve m a)
+twice : (e r : Extended) (m : ℕ) (a : Coordinates) → IsOnJubjub a → Doubles e r → Stands e (times curve m a)
     → Stands r (times curve (m + m) a)
-twice e r m a on doubles of_e =
-    subst (Stands r) (multiples_add m m a on) (doubles (times curve m a) (multiple_on_curve m a on) of_e)
+twice = sums.twice d jubjub_is_complete
 
 -- doubled four times
 pub sixteen : (e f g h r : Extended) (m : ℕ) (a : Coordinates) → IsOnJubjub a → Doubles e f → Doubles f g → Doubles g h
@@ -44,7 +38,7 @@ sixteen e f g h r m a on ef fg gh hr of_e =
 -- a digit's multiple is added
 pub more : (r : Extended) (m k : ℕ) (a : Coordinates) → IsOnJubjub a
     → Stands r (sum p d (times curve m a) (times curve k a)) → Stands r (times curve (m + k) a)
-more r m k a on of_r = subst (Stands r) (multiples_add m k a on) of_r
+more = sums.more d jubjub_is_complete
 
 -- what has not begun is zero
 pub unbegun : (e : Extended) (m : ℕ) (a : Coordinates) → m ≡ 0 → Stands e (times curve m a)
