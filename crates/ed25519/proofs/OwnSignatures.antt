@@ -12,7 +12,7 @@ use Rattle.edwards_numbers.specs.Edwards.{sum}
 use Rattle.edwards_numbers.specs.Laws.Points.{same_point}
 use Rattle.ed25519.specs.Edwards25519.{p, d, order, curve, base_point, IsOnEd25519}
 use Rattle.ed25519.specs.Laws.Curve.{ed25519_is_complete}
-use Rattle.ed25519.specs.Laws.Primes.{factors_order, generates_order}
+use Rattle.ed25519.specs.Laws.OrderPrime.{factors_order, generates_order}
 use Rattle.ed25519.specs.Laws.Base.{base_of_order}
 use Rattle.ed25519.specs.Spelling.{spelling}
 use Rattle.ed25519.specs.Signatures.{challenge, IsSignature, secret, key_of, nonce, signature_of}

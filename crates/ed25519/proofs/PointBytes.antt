@@ -1,6 +1,6 @@
 -- The bytes of points.
-use Rattle.std.proofs.Common.{◌≡◌, ℕ, zero, suc, ◌+◌, ◌*◌, ◌/◌, ◌%◌, ◌^◌, ◌<◌, ◌≤◌, Bool, true, false, length, get_or}
-use Rattle.std.proofs.Common.{leb}
+use Rattle.std.proofs.Common.{◌≡◌, ℕ, zero, suc, ◌+◌, ◌*◌, ◌/◌, ◌%◌, ◌^◌, ◌<◌, ◌≤◌, Bool, true, false, List, length}
+use Rattle.std.proofs.Common.{get_or, leb}
 use Rattle.std.proofs.Common.{refl, sym, ◌∙◌, ap, arith, pow-suc, mul_comm}
 use Rattle.std.proofs.Math.Nat.{div-div-eq-div-mul}
 use Rattle.std.proofs.lemmas.Bool.{leb-true, leb-false}
@@ -32,6 +32,13 @@ fits y x l = omega (arith, l)
 -- the number that a point's bytes are
 pub number_spelled : (a : Coordinates) → IsOnEd25519 a → number_of_bytes (spelling a) ≡ a.y + 2 ^ 255 * (a.x % 2)
 number_spelled a on = number_of_bytes-bytes_of_number 32 (a.y + 2 ^ 255 * (a.x % 2)) (fits a.y a.x on.y_below)
+
+-- the same number modulo p, where the bytes and their highest bit are given
+pub number_marked : {bytes : List ℕ} {n : ℕ} (odd : Bool) (a : Coordinates) → IsOnEd25519 a → bytes ≡ spelling a
+    → a.x % 2 ≡ from_bool odd → n ≡ number_of_bytes bytes % p → n ≡ (a.y + 2 ^ 255 * from_bool odd) % p
+number_marked odd a on is mark is_n =
+    is_n ∙ ap (λ s. number_of_bytes s % p) is ∙ ap (λ m. m % p) (number_spelled a on)
+    ∙ ap (λ m. (a.y + 2 ^ 255 * m) % p) mark
 
 -- their highest bit
 pub mark_of : (a : Coordinates) (byte : ℕ) → IsOnEd25519 a → byte ≡ get_or (spelling a) 31 0

@@ -1,5 +1,5 @@
 -- The curve's equation as a ratio, and roots by their parity.
-use Rattle.std.proofs.Common.{◌≡◌, ℕ, ◌+◌, ◌-◌, ◌*◌, ◌%◌, ◌^◌, ◌<◌, Bool, true, false, refl, sym, ◌∙◌, ap, subst, arith}
+use Rattle.std.proofs.Common.{◌≡◌, ℕ, ◌+◌, ◌-◌, ◌*◌, ◌%◌, ◌<◌, Bool, true, false, refl, sym, ◌∙◌, ap, subst, arith}
 use Rattle.std.proofs.Common.{mul_comm}
 use Rattle.std.proofs.Common.{◌⊎◌, inl, inr, ⊎_elim, mod-lt, lit<, true≢false}
 use Rattle.std.proofs.Math.Nat.{zero-mod, mod-mod, mul-mod_left, add-mul-mod_self_right}
@@ -15,7 +15,7 @@ use Rattle.ed25519.specs.Edwards25519.{p, d, IsOnEd25519}
 use Rattle.edwards_numbers.specs.Laws.Quotients.{cancelled}
 use Rattle.edwards_numbers.specs.Laws.Completeness.{has_inverses}
 use Rattle.ed25519.specs.Laws.Curve.{ed25519_is_complete}
-use Rattle.ed25519.specs.Laws.Primes.{factors_p, generates_p}
+use Rattle.ed25519.specs.Laws.ModulusPrime.{factors_p, generates_p}
 
 module _ (m c : ℕ) (pos : 0 < m) (X Y yy product u v : ℕ) (is_yy : yy ≡ Y * Y % m) (is_u : u ≡ (yy + (m - 1)) % m)
     (is_product : product ≡ yy * c % m) (is_v : v ≡ (product + 1) % m) where
@@ -39,7 +39,7 @@ module _ (m c : ℕ) (pos : 0 < m) (X Y yy product u v : ℕ) (is_yy : yy ≡ Y 
       ring : (X Y c : ℕ) → (Y * Y * c + 1) * (X * X) + 1 ≡ X * X + 1 + c * X * X * Y * Y
       ring X Y c = omega arith
 
-  pub on_from_ratio : v * (X * X) % m ≡ u → (X * X + 1 + c * X * X * Y * Y) % m ≡ Y * Y % m
+  on_from_ratio : v * (X * X) % m ≡ u → (X * X + 1 + c * X * X * Y * Y) % m ≡ Y * Y % m
   on_from_ratio e =
       ap (λ t. t % m) (sym left)
       ∙ sums m ((Y * Y * c + 1) * (X * X)) (yy + (m - 1)) 1 1
@@ -49,14 +49,14 @@ module _ (m c : ℕ) (pos : 0 < m) (X Y yy product u v : ℕ) (is_yy : yy ≡ Y 
       swap : (a b : ℕ) → a + b + 1 ≡ a + 1 + b
       swap a b = omega arith
 
-  pub ratio_from_on : (X * X + 1 + c * X * X * Y * Y) % m ≡ Y * Y % m → v * (X * X) % m ≡ u
+  ratio_from_on : (X * X + 1 + c * X * X * Y * Y) % m ≡ Y * Y % m → v * (X * X) % m ≡ u
   ratio_from_on e =
       multiples m v (Y * Y * c + 1) (X * X) v_mod ∙ sym (around ((Y * Y * c + 1) * (X * X)))
       ∙ sums m ((Y * Y * c + 1) * (X * X) + 1) yy (m - 1) (m - 1)
       (ap (λ t. t % m) left ∙ e ∙ sym yy_mod) refl ∙ sym is_u
 
 -- d y^2 + 1 is 0 for no point, since d + 1 is not
-pub denominator_some : (X yy u v product : ℕ) → yy < p → u ≡ (yy + (p - 1)) % p → product ≡ yy * d % p
+denominator_some : (X yy u v product : ℕ) → yy < p → u ≡ (yy + (p - 1)) % p → product ≡ yy * d % p
     → v ≡ (product + 1) % p → v * (X * X) % p ≡ u → v ≡ 0 → ⊥
 denominator_some X yy u v product below is_u is_product is_v ratio none =
     let u_none : u ≡ 0 = sym ratio ∙ ap (λ t. t * (X * X) % p) none ∙ ap (λ t. t % p) (zero_times (X * X)) ∙ zero-mod
@@ -160,31 +160,42 @@ opposite_square m r below =
         step : (k r : ℕ) → k * k + r * (k + r) ≡ r * r + k * (k + r)
         step k r = omega arith
 
--- a number with bit 255, modulo p, without that bit
-pub without_bit : (n nineteen result m : ℕ) → m < p → n ≡ (m + 2 ^ 255 * 1) % p → nineteen ≡ 19 % p
-    → result ≡ (n + (p - nineteen)) % p → result ≡ m
-without_bit n nineteen result m below is_n is_nineteen is = omega (arith, below, is_n, is_nineteen, is)
-
-pub with_no_bit : (n m : ℕ) → m < p → n ≡ (m + 2 ^ 255 * 0) % p → n ≡ m
-with_no_bit n m below is_n = omega (arith, below, is_n)
-
 -- ---- the point with one y
 
-module _ (Y yy product u v : ℕ) (is_yy : yy ≡ Y * Y % p) (is_u : u ≡ (yy + (p - 1)) % p)
-    (is_product : product ≡ yy * d % p) (is_v : v ≡ (product + 1) % p) where
+-- u is y^2 - 1, and v is d y^2 + 1
+pub record IsRatio (Y u v : ℕ) : Type 0 where
+  pub yy : ℕ
+  pub product : ℕ
+  pub is_yy : yy ≡ Y * Y % p
+  pub is_u : u ≡ (yy + (p - 1)) % p
+  pub is_product : product ≡ yy * d % p
+  pub is_v : v ≡ (product + 1) % p
+
+pub ratio_made : {Y yy one product k other u v : ℕ} → yy ≡ Y * Y % p → one ≡ 1 → u ≡ (yy + (p - one)) % p → k ≡ d
+    → product ≡ yy * k % p → other ≡ 1 → v ≡ (product + other) % p → IsRatio Y u v
+ratio_made {yy = yy} {product = product} is_yy is_one is_u is_k is_product is_other is_v = record {
+  yy = yy;
+  product = product;
+  is_yy = is_yy;
+  is_u = is_u ∙ ap (λ n. (yy + (p - n)) % p) is_one;
+  is_product = is_product ∙ ap (λ n. yy * n % p) is_k;
+  is_v = is_v ∙ ap (λ n. (product + n) % p) is_other;
+}
+
+module _ (Y u v : ℕ) (it : IsRatio Y u v) where
   some_p : 0 < p
   some_p = lit< tt
 
   -- its x satisfies the equation
   pub ratio_of : (a : Coordinates) → IsOnEd25519 a → a.y ≡ Y → v * (a.x * a.x) % p ≡ u
   ratio_of a on y_is =
-      ratio_from_on p d some_p a.x Y yy product u v is_yy is_u is_product is_v
+      ratio_from_on p d some_p a.x Y it.yy it.product u v it.is_yy it.is_u it.is_product it.is_v
       (subst (λ t. (a.x * a.x + 1 + d * a.x * a.x * t * t) % p ≡ t * t % p) y_is on.equation)
 
   pub some_denominator : (a : Coordinates) → IsOnEd25519 a → a.y ≡ Y → v ≡ 0 → ⊥
   some_denominator a on y_is none =
       let below : Y * Y % p < p = mod-lt (Y * Y) some_p in
-      denominator_some a.x yy u v product (subst (λ t. t < p) (sym is_yy) below) is_u is_product is_v
+      denominator_some a.x it.yy u v it.product (subst (λ t. t < p) (sym it.is_yy) below) it.is_u it.is_product it.is_v
       (ratio_of a on y_is) none
 
   -- and has the square of each root of the ratio
@@ -192,7 +203,8 @@ module _ (Y yy product u v : ℕ) (is_yy : yy ≡ Y * Y % p) (is_u : u ≡ (yy +
       → a.x * a.x % p ≡ r * r % p
   one_square a r on y_is of_r =
       cancelled p (has_inverses p d ed25519_is_complete) (a.x * a.x) (r * r) v
-      (λ none. some_denominator a on y_is (is_v ∙ sym (mod-mod (product + 1) p) ∙ ap (λ t. t % p) (sym is_v) ∙ none))
+      (λ none. some_denominator a on y_is (it.is_v ∙ sym (mod-mod (it.product + 1) p)
+      ∙ ap (λ t. t % p) (sym it.is_v) ∙ none))
       (ap (λ t. t % p) (mul_comm (a.x * a.x) v) ∙ ratio_of a on y_is ∙ sym of_r
       ∙ ap (λ t. t % p) (mul_comm v (r * r)))
 
@@ -200,5 +212,5 @@ module _ (Y yy product u v : ℕ) (is_yy : yy ≡ Y * Y % p) (is_u : u ≡ (yy +
   pub on_of : (r x : ℕ) → v * (r * r) % p ≡ u → x * x % p ≡ r * r % p
       → (x * x + 1 + d * x * x * Y * Y) % p ≡ Y * Y % p
   on_of r x of_r square =
-      on_from_ratio p d some_p x Y yy product u v is_yy is_u is_product is_v
+      on_from_ratio p d some_p x Y it.yy it.product u v it.is_yy it.is_u it.is_product it.is_v
       (sym (mul-mod_second v (x * x) p) ∙ ap (λ t. v * t % p) square ∙ mul-mod_second v (r * r) p ∙ of_r)

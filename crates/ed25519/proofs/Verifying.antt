@@ -1,7 +1,6 @@
 -- What the test of a signature shows.
 use Rattle.std.proofs.Common.{◌≡◌, ℕ, ◌+◌, ◌-◌, ◌*◌, ◌%◌, ◌^◌, ◌<◌, List, ◌++◌, length, take, drop, refl, sym, ◌∙◌, ap}
-use Rattle.std.proofs.Common.{ap₂, subst, arith, mul_comm, mod-eq_of_lt, mod-lt, lit<, ⊎_elim}
-use Rattle.std.proofs.Math.Nat.{mod-mod}
+use Rattle.std.proofs.Common.{ap₂, subst, arith, mod-eq_of_lt, ⊎_elim}
 use Rattle.std.proofs.lemmas.List.{length-append}
 use Rattle.std.proofs.Math.Seq.{take-append_seam, drop-append_seam}
 use Rattle.ark_base.specs.Digits.{number_of_bytes, bytes_of_number}
@@ -10,15 +9,13 @@ use Rattle.ark_groups.specs.Group.{Group, IsCommutativeGroup, times}
 use Rattle.ark_groups.proofs.Multiples.{times-plus, times-identity, right_identity}
 use Rattle.edwards_numbers.specs.Edwards.{Coordinates, sum, negative}
 use Rattle.edwards_numbers.specs.Laws.CurveLaws.{same_coordinates}
-use Rattle.edwards_numbers.specs.Laws.Quotients.{cancelled}
-use Rattle.edwards_numbers.specs.Laws.Completeness.{has_inverses}
 use Rattle.edwards_numbers.specs.Laws.Points.{Point, points, points_laws, same_point, at-times}
 use Rattle.ed25519.specs.Edwards25519.{p, d, order, curve, base_point, IsOnEd25519}
 use Rattle.ed25519.specs.Laws.Curve.{ed25519_is_complete}
 use Rattle.ed25519.specs.Laws.Base.{base_on_curve}
 use Rattle.ed25519.specs.Spelling.{spelling}
 use Rattle.ed25519.specs.Signatures.{challenge, IsSignature}
-use Rattle.ed25519.proofs.PointLaws.{ratio_from_on, denominator_some, same_or_opposite}
+use Rattle.ed25519.proofs.PointLaws.{IsRatio, ratio_of, one_square, same_or_opposite}
 use Rattle.ed25519.proofs.PointBytes.{length-spelling, number_spelled}
 
 -- ---- the points
@@ -93,24 +90,20 @@ spelled_alone a b on_a on_b e =
     let u : ℕ = (yy + (p - 1)) % p in
     let product : ℕ = yy * d % p in
     let v : ℕ = (product + 1) % p in
-    let pos : 0 < p = (has_some) in
-    let of_a : v * (a.x * a.x) % p ≡ u = ratio_from_on p d pos a.x a.y yy product u v refl refl refl refl
-    on_a.equation in
-    let of_b : v * (b.x * b.x) % p ≡ u =
-    ratio_from_on p d pos b.x b.y yy product u v (ap (λ t. t * t % p) same_y) refl refl refl on_b.equation in
-    let some : v % p ≡ 0 → ⊥ =
-    λ none. denominator_some a.x yy u v product (mod-lt (a.y * a.y) pos) refl refl refl of_a
-    (sym (mod-mod (product + 1) p) ∙ none) in
+    let it : IsRatio a.y u v = record {
+      yy = yy;
+      product = product;
+      is_yy = refl;
+      is_u = refl;
+      is_product = refl;
+      is_v = refl;
+    } in
     let squares : a.x * a.x % p ≡ b.x * b.x % p =
-    cancelled p (has_inverses p d ed25519_is_complete) (a.x * a.x) (b.x * b.x) v some
-    (ap (λ t. t % p) (mul_comm (a.x * a.x) v) ∙ of_a ∙ sym of_b ∙ ap (λ t. t % p) (mul_comm v (b.x * b.x))) in
+    one_square a.y u v it a b.x on_a refl (ratio_of a.y u v it b on_b (sym same_y)) in
     same_coordinates a b
     (⊎_elim {C = a.x ≡ b.x} (λ h. h) (λ h. turned a.x b.x on_a.x_below on_b.x_below h parity)
     (same_or_opposite a.x b.x on_a.x_below on_b.x_below squares)) same_y
   where
-    has_some : 0 < p
-    has_some = lit< tt
-
     y_is : (x y x' y' : ℕ) → y < p → y' < p → y + 2 ^ 255 * (x % 2) ≡ y' + 2 ^ 255 * (x' % 2) → y ≡ y'
     y_is x y x' y' l l' e = omega (arith, l, l', e)
 

@@ -8,7 +8,8 @@ ghost use Rattle.ed25519.specs.Signatures.{IsSignature, key_of, signature_of};
 
 /// States that no two points have the same bytes.
 pub fn points_are_their_bytes()
-    ensures { (a b : Coordinates) → IsOnEd25519 a → IsOnEd25519 b → spelling a ≡ spelling b → a ≡ b }
+    ensures { (a b : Coordinates) → IsOnEd25519 a → IsOnEd25519 b
+        → spelling a ≡ spelling b → a ≡ b }
 {}
 
 /// States that what RFC 8032 makes from a seed is a signature.

@@ -20,16 +20,15 @@ module _ {M : Type 0} {g : Ghosts M} (d : ℕ) (c : IsComplete (number g.P) d) w
     pub power_stands : Stands f (times (edwards (number g.P) d) step a)
     pub whole : count + step * rest ≡ n
 
-  pub all_left : (e f : Extended M g) (n : ℕ) (a : Coordinates) → IsOnCurve (number g.P) d a → Stands e neutral →
-      Stands f a
-      → AreLeft e f n n a
+  pub all_left : (e f : Extended M g) (n : ℕ) (a : Coordinates) → IsOnCurve (number g.P) d a
+      → Stands e neutral → Stands f a → AreLeft e f n n a
   all_left e f n a on of_e of_f =
       record {
         count = 0;
         step = 1;
         sum_stands = of_e;
-        power_stands = subst (Stands f) (sym (sum_neutral (number g.P) d (has_inverses (number g.P) d c) (complete
-            (number g.P) d c) a on)) of_f;
+        power_stands = subst (Stands f) (sym (sum_neutral (number g.P) d (has_inverses (number g.P) d c)
+            (complete (number g.P) d c) a on)) of_f;
         whole = whole n;
       }
     where
@@ -38,8 +37,7 @@ module _ {M : Type 0} {g : Ghosts M} (d : ℕ) (c : IsComplete (number g.P) d) w
 
   -- what is left after a bit of 0
   pub even_left : (e f r : Extended M g) (rest n : ℕ) (a : Coordinates) → IsOnCurve (number g.P) d a → Doubles d c f r
-      → (rest % 2 ≡ 1 → ⊥)
-      → AreLeft e f rest n a → AreLeft e r (rest / 2) n a
+      → (rest % 2 ≡ 1 → ⊥) → AreLeft e f rest n a → AreLeft e r (rest / 2) n a
   even_left e f r rest n a on doubles even before =
       record {
         count = before.count;
@@ -60,8 +58,8 @@ module _ {M : Type 0} {g : Ghosts M} (d : ℕ) (c : IsComplete (number g.P) d) w
 
   -- and after a bit of 1
   pub odd_left : (e f h r : Extended M g) (rest n : ℕ) (a : Coordinates) → IsOnCurve (number g.P) d a
-      → ((s t : Coordinates) → IsOnCurve (number g.P) d s → IsOnCurve (number g.P) d t → Stands e s → Stands f t →
-      Stands h (sum (number g.P) d s t))
+      → ((s t : Coordinates) → IsOnCurve (number g.P) d s → IsOnCurve (number g.P) d t → Stands e s → Stands f t
+      → Stands h (sum (number g.P) d s t))
       → Doubles d c f r → rest % 2 ≡ 1 → AreLeft e f rest n a → AreLeft h r (rest / 2) n a
   odd_left e f h r rest n a on adds doubles odd before =
       let m = before.count in
@@ -69,9 +67,9 @@ module _ {M : Type 0} {g : Ghosts M} (d : ℕ) (c : IsComplete (number g.P) d) w
       record {
         count = m + k;
         step = k + k;
-        sum_stands = more d c h m k a on (adds (times (edwards (number g.P) d) m a) (times (edwards (number g.P) d) k
-            a) (multiple_on_curve (number g.P) d c m a on)
-            (multiple_on_curve (number g.P) d c k a on) before.sum_stands before.power_stands);
+        sum_stands = more d c h m k a on (adds (times (edwards (number g.P) d) m a) (times (edwards (number g.P) d) k a)
+            (multiple_on_curve (number g.P) d c m a on) (multiple_on_curve (number g.P) d c k a on) before.sum_stands
+            before.power_stands);
         power_stands = twice d c f r k a on doubles before.power_stands;
         whole = halves m k rest (rest / 2) n (half rest odd) before.whole;
       }

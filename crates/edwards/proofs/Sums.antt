@@ -29,15 +29,14 @@ module _ {M : Type 0} {g : Ghosts M} (d : ℕ) (c : IsComplete (number g.P) d) w
   abbrev pub Doubles : Extended M g → Extended M g → Type 0
   Doubles e r = (t : Coordinates) → IsOnCurve (number g.P) d t → Stands e t → Stands r (sum (number g.P) d t t)
 
-  pub twice : (e r : Extended M g) (m : ℕ) (a : Coordinates) → IsOnCurve (number g.P) d a → Doubles e r → Stands e
-      (times (edwards (number g.P) d) m a)
-      → Stands r (times (edwards (number g.P) d) (m + m) a)
+  pub twice : (e r : Extended M g) (m : ℕ) (a : Coordinates) → IsOnCurve (number g.P) d a → Doubles e r
+      → Stands e (times (edwards (number g.P) d) m a) → Stands r (times (edwards (number g.P) d) (m + m) a)
   twice e r m a on doubles of_e =
-      subst (Stands r) (multiples_add (number g.P) d c m m a on) (doubles (times (edwards (number g.P) d) m a)
-      (multiple_on_curve (number g.P) d c m a on) of_e)
+      subst (Stands r) (multiples_add (number g.P) d c m m a on)
+      (doubles (times (edwards (number g.P) d) m a) (multiple_on_curve (number g.P) d c m a on) of_e)
 
   -- a multiple is added
   pub more : (r : Extended M g) (m k : ℕ) (a : Coordinates) → IsOnCurve (number g.P) d a
-      → Stands r (sum (number g.P) d (times (edwards (number g.P) d) m a) (times (edwards (number g.P) d) k a)) →
-      Stands r (times (edwards (number g.P) d) (m + k) a)
+      → Stands r (sum (number g.P) d (times (edwards (number g.P) d) m a) (times (edwards (number g.P) d) k a))
+      → Stands r (times (edwards (number g.P) d) (m + k) a)
   more r m k a on of_r = subst (Stands r) (multiples_add (number g.P) d c m k a on) of_r

@@ -1,6 +1,7 @@
 //! Points by four coordinates.
 
 ghost use Rattle.std.specs.Prelude.{◌≡◌, ℕ, ◌*◌, ◌%◌, ⊤};
+ghost use Rattle.std.specs.Bool.{Decides};
 ghost use Rattle.ark_groups.specs.Words.{number};
 ghost use Rattle.edwards_numbers.specs.Edwards.{Coordinates, IsOnCurve, neutral, sum};
 ghost use Rattle.edwards_numbers.specs.Curves.{IsComplete};
@@ -84,6 +85,24 @@ pub fn plus<M: WideModulus>(twice: Fp256<M>, a: Extended<M>, b: Extended<M>) -> 
     joined(e, scale.sub(cross), scale.add(cross), h)
 }
 
+/// Returns the sum of a point of the curve and of one by its coordinates, by twice the curve's coefficient.
+pub fn plus_point<M: WideModulus>(
+    twice: Fp256<M>,
+    a: Extended<M>,
+    x: Fp256<M>,
+    y: Fp256<M>,
+) -> Extended<M>
+    ensures { (d : ℕ) → IsComplete (number M.P) d → value twice ≡ 2 * d % number M.P
+        → (s : Coordinates) → IsOnCurve (number M.P) d s
+        → IsOnCurve (number M.P) d (record { x = value x; y = value y }) → Stands a s
+        → Stands result (sum (number M.P) d s (record { x = value x; y = value y })) }
+{
+    let cross = twice.mul(a.t).mul(x.mul(y));
+    let scale = a.z.double();
+    let (e, h) = crossed_products(a.x, a.y, x, y);
+    joined(e, scale.sub(cross), scale.add(cross), h)
+}
+
 /// Returns the double of a point of the curve.
 pub fn doubled<M: WideModulus>(a: Extended<M>) -> Extended<M>
     ensures { (d : ℕ) → IsComplete (number M.P) d → (s : Coordinates) → IsOnCurve (number M.P) d s
@@ -105,4 +124,12 @@ pub fn affine<M: WideModulus>(a: Extended<M>) -> (Fp256<M>, Fp256<M>)
 {
     let z = inverse(a.z);
     (a.x.mul(z), a.y.mul(z))
+}
+
+/// Returns whether it is the neutral point.
+pub fn is_neutral<M: WideModulus>(a: Extended<M>) -> bool
+    ensures { (d : ℕ) → IsComplete (number M.P) d → (s : Coordinates) → IsOnCurve (number M.P) d s
+        → Stands a s → Decides result (s ≡ neutral) }
+{
+    a.x == Fp256::<M>::zero() && a.y == a.z
 }

@@ -5,6 +5,6 @@ mod extended;
 mod field;
 mod multiples;
 
-pub use extended::{Extended, affine, doubled, lifted, plus, zero};
+pub use extended::{Extended, affine, doubled, is_neutral, lifted, plus, plus_point, zero};
 pub use field::{crossed_products, inverse};
 pub use multiples::multiple;

@@ -10,16 +10,18 @@ use Rattle.ark_base.specs.Digits.{number_of_bytes, bytes_of_number}
 use Rattle.ark_base.specs.Laws.Digits.{number_of_bytes-bytes_of_number, bytes_of_number-number_of_bytes}
 use Rattle.jubjub.specs.declared.element.Jubjub.{Jubjub}
 use Rattle.jubjub.specs.declared.compressed.PointFault.{PointFault}
-use Rattle.jubjub.specs.declared.compressed.PointFault.TheVariants.{NotBelowModulus, NoPoint, SignOfZero, OutsideSubgroup}
+use Rattle.jubjub.specs.declared.compressed.PointFault.TheVariants.{NotBelowModulus, NoPoint, SignOfZero}
+use Rattle.jubjub.specs.declared.compressed.PointFault.TheVariants.{OutsideSubgroup}
 use Rattle.jubjub.specs.Edwards.{Coordinates}
 use Rattle.jubjub.specs.Jubjub.{p, d, IsOnJubjub, IsInSubgroup}
 use Rattle.jubjub.specs.Elements.{coordinates}
 use Rattle.jubjub.specs.Compressed.{compressed, y_in, parity_in, IsAt, IsFaultAt}
-use Rattle.jubjub.specs.Laws.CurveLaws.{same_coordinates}
+use Rattle.edwards_numbers.specs.Laws.CurveLaws.{same_coordinates}
 use Rattle.jubjub.specs.Laws.Elements.{same_element}
 use Rattle.jubjub.specs.Laws.Modulus.{has_inverses}
-use Rattle.jubjub.specs.Laws.Quotients.{product_some}
-use Rattle.jubjub.specs.Laws.FirstCoordinates.{denominator_some, one_square, over_alike, same_square, other_parity, same_root}
+use Rattle.edwards_numbers.specs.Laws.Quotients.{product_some}
+use Rattle.jubjub.specs.Laws.FirstCoordinates.{denominator_some, one_square, over_alike, same_square, other_parity}
+use Rattle.jubjub.specs.Laws.FirstCoordinates.{same_root}
 
 -- ---- the bit of the sign
 

@@ -11,8 +11,9 @@ use Rattle.jubjub.specs.Edwards.{Coordinates, neutral}
 use Rattle.jubjub.specs.Jubjub.{p, d, curve, IsOnJubjub, IsInSubgroup}
 use Rattle.jubjub.specs.Elements.{coordinates}
 use Rattle.jubjub.specs.Spelling.{is_in_subgroup}
-use Rattle.jubjub.specs.Decoding.{least, is_first_over, first_over, tested_element, element_with, is_zero_at, cleared_over}
-use Rattle.jubjub.specs.Laws.CurveLaws.{same_coordinates}
+use Rattle.jubjub.specs.Decoding.{least, is_first_over, first_over, tested_element, element_with, is_zero_at}
+use Rattle.jubjub.specs.Decoding.{cleared_over}
+use Rattle.edwards_numbers.specs.Laws.CurveLaws.{same_coordinates}
 use Rattle.jubjub.specs.Laws.Elements.{kept, same_element}
 use Rattle.jubjub.specs.Laws.Spelling.{in_subgroup-Decides}
 use Rattle.jubjub.specs.Laws.Modulus.{has_inverses}

@@ -1,38 +1,26 @@
 -- Multiples of a point, digit by digit.
-use Rattle.std.proofs.Common.{◌≡◌, ℕ, suc, ◌+◌, ◌-◌, ◌*◌, ◌^◌, ◌<◌, Bool, false, ltb, List, length, set, refl, sym, ◌∙◌, ap}
-use Rattle.std.proofs.Common.{ap₂, subst, arith, pow-suc, inl, inr}
+use Rattle.std.proofs.Common.{◌≡◌, ℕ, suc, ◌+◌, ◌-◌, ◌*◌, ◌^◌, ◌<◌, Bool, false, ltb, List, ◌∷◌, length, set, get_or}
+use Rattle.std.proofs.Common.{refl, sym, ◌∙◌, ap, subst, arith, pow-suc, inl, inr}
 use Rattle.std.proofs.lemmas.Bool.{cases_lt, ltb-false}
 use Rattle.std.proofs.lemmas.Grind.{get_or-set_at}
 use Rattle.std.proofs.lemmas.List.{get_or-set_other}
 use Rattle.ark_groups.specs.Group.{times}
-use Rattle.ark_groups.proofs.Multiples.{times-add}
-use Rattle.jubjub.specs.declared.extended.Extended.{Extended}
 use Rattle.jubjub.specs.Edwards.{Coordinates, sum, neutral}
 use Rattle.jubjub.specs.Jubjub.{p, d, curve, IsOnJubjub}
-use Rattle.jubjub.specs.Extended.{Stands, AreMultiples}
-use Rattle.jubjub.specs.Laws.Points.{Point, points, points_laws, at-times}
+use Rattle.jubjub.specs.Extended.{Extended, Stands, AreMultiples}
+use Rattle.jubjub.specs.Laws.Completeness.{jubjub_is_complete}
+use Rattle.edwards.proofs.Sums as sums
 
 pub multiple_on_curve : (n : ℕ) (a : Coordinates) → IsOnJubjub a → IsOnJubjub (times curve n a)
-multiple_on_curve n a on =
-    let one : Point = record { at = a; on = on } in
-    subst IsOnJubjub (at-times n one) ((times points n one).on)
-
--- the sum of two multiples
-pub multiples_add : (m n : ℕ) (a : Coordinates) → IsOnJubjub a
-    → sum p d (times curve m a) (times curve n a) ≡ times curve (m + n) a
-multiples_add m n a on =
-    let one : Point = record { at = a; on = on } in
-    ap₂ (sum p d) (sym (at-times m one)) (sym (at-times n one))
-    ∙ ap (λ (t : Point). t.at) (sym (times-add points_laws m n one)) ∙ at-times (m + n) one
+multiple_on_curve = sums.multiple_on_curve p d jubjub_is_complete
 
 -- four coordinates are doubled
 abbrev pub Doubles : Extended → Extended → Type 0
-Doubles e r = (t : Coordinates) → IsOnJubjub t → Stands e t → Stands r (sum p d t t)
+Doubles = sums.Doubles d jubjub_is_complete
 
-pub twice : (e r : Extended) (m : ℕ) (a : Coordinates) → IsOnJubjub a → Doubles e r → Stands e (times curve m a)
+twice : (e r : Extended) (m : ℕ) (a : Coordinates) → IsOnJubjub a → Doubles e r → Stands e (times curve m a)
     → Stands r (times curve (m + m) a)
-twice e r m a on doubles of_e =
-    subst (Stands r) (multiples_add m m a on) (doubles (times curve m a) (multiple_on_curve m a on) of_e)
+twice = sums.twice d jubjub_is_complete
 
 -- doubled four times
 pub sixteen : (e f g h r : Extended) (m : ℕ) (a : Coordinates) → IsOnJubjub a → Doubles e f → Doubles f g → Doubles g h
@@ -50,7 +38,7 @@ sixteen e f g h r m a on ef fg gh hr of_e =
 -- a digit's multiple is added
 pub more : (r : Extended) (m k : ℕ) (a : Coordinates) → IsOnJubjub a
     → Stands r (sum p d (times curve m a) (times curve k a)) → Stands r (times curve (m + k) a)
-more r m k a on of_r = subst (Stands r) (multiples_add m k a on) of_r
+more = sums.more d jubjub_is_complete
 
 -- what has not begun is zero
 pub unbegun : (e : Extended) (m : ℕ) (a : Coordinates) → m ≡ 0 → Stands e (times curve m a)
@@ -59,6 +47,13 @@ unbegun e m a none of_e = subst (λ k. Stands e (times curve k a)) (nothing m no
   where
     nothing : (m : ℕ) → m ≡ 0 → m ≡ 16 * m
     nothing m none = omega (arith, none)
+
+-- the table begins with zero
+pub first_multiple : (zero : Extended) (rest : List Extended) (a : Coordinates) → Stands zero neutral
+    → AreMultiples a 1 (zero ∷ rest)
+first_multiple zero rest a of_zero k e below =
+    let none : 0 ≡ k = omega (arith, below) in
+    subst (λ n. Stands (get_or (zero ∷ rest) n e) (times curve n a)) none of_zero
 
 -- one multiple more in the table
 pub next_multiple : (table : List Extended) (i : ℕ) (r : Extended) (a : Coordinates) → 0 < i → i < length table

@@ -4,13 +4,12 @@ use Rattle.std.specs.Bool.{Decides}
 use Rattle.ark_groups.specs.Group.{times}
 use Rattle.jubjub.specs.declared.element.Jubjub.{Jubjub}
 use Rattle.jubjub.specs.Edwards.{Coordinates, neutral}
-use Rattle.jubjub.specs.declared.extended.Extended.{Extended}
 use Rattle.jubjub.specs.Jubjub.{order, curve, IsOnJubjub, IsInSubgroup}
-use Rattle.jubjub.specs.Extended.{Stands}
+use Rattle.jubjub.specs.Extended.{Extended, Stands}
 use Rattle.jubjub.specs.Values.{Fr, value}
 use Rattle.jubjub.specs.Elements.{coordinates, jubjub}
 use Rattle.jubjub.specs.Laws.Elements.{same_element, coordinates_of}
-use Rattle.jubjub.specs.Laws.CurveLaws.{same_coordinates}
+use Rattle.edwards_numbers.specs.Laws.CurveLaws.{same_coordinates}
 use Rattle.jubjub.specs.Laws.Group.{coordinates-times}
 use Rattle.jubjub.proofs.Digits.{multiple_on_curve}
 

@@ -1,9 +1,5 @@
-pub mod CrossedProducts
-pub mod ExtendedFacts
-pub mod ExtendedLaws
 pub mod GroupLaws
 pub mod Digits
-pub mod Bits
 pub mod PointTests
 pub mod Spelled
 pub mod ItemBytes

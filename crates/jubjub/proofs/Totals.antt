@@ -2,11 +2,10 @@
 use Rattle.std.proofs.Common.{◌≡◌, sym, ◌∙◌, ap, subst}
 use Rattle.jubjub.specs.declared.element.Jubjub.{Jubjub}
 use Rattle.jubjub.specs.declared.element.sums.JubjubSum.{JubjubSum}
-use Rattle.jubjub.specs.declared.extended.Extended.{Extended}
 use Rattle.jubjub.specs.Edwards.{sum}
 use Rattle.jubjub.specs.Jubjub.{p, d}
 use Rattle.jubjub.specs.Elements.{coordinates, jubjub}
-use Rattle.jubjub.specs.Extended.{Stands, affine_at, IsInside}
+use Rattle.jubjub.specs.Extended.{Extended, Stands, affine_at, IsInside}
 use Rattle.jubjub.specs.Sums.{total}
 use Rattle.jubjub.specs.Laws.Elements.{kept, same_element}
 use Rattle.jubjub.specs.Laws.Extended.{stands_at, stands_inside}

@@ -2,7 +2,8 @@
 use Rattle.std.specs.Prelude.{◌≡◌, ℕ, ◌+◌, ◌*◌, ◌/◌, ◌%◌, ◌^◌, ◌≤◌, List, Option, None, nat_lt, if◌then◌else◌}
 use Rattle.ark_base.specs.Digits.{number_of_bytes, bytes_of_number}
 use Rattle.jubjub.specs.declared.compressed.PointFault.{PointFault}
-use Rattle.jubjub.specs.declared.compressed.PointFault.TheVariants.{NotBelowModulus, NoPoint, SignOfZero, OutsideSubgroup}
+use Rattle.jubjub.specs.declared.compressed.PointFault.TheVariants.{NotBelowModulus, NoPoint, SignOfZero}
+use Rattle.jubjub.specs.declared.compressed.PointFault.TheVariants.{OutsideSubgroup}
 use Rattle.jubjub.specs.declared.element.Jubjub.{Jubjub}
 use Rattle.jubjub.specs.Decoding.{cleared_over}
 use Rattle.jubjub.specs.Edwards.{Coordinates}

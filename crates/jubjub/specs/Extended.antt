@@ -1,17 +1,21 @@
 -- Points by four coordinates, whose sums need no division.
-use Rattle.std.specs.Prelude.{◌≡◌, ℕ, ◌*◌, ◌%◌, ◌<◌, List, get_or}
+use Rattle.std.specs.Prelude.{ℕ, ◌<◌, List, get_or}
 use Rattle.ark_groups.specs.Group.{times}
-use Rattle.jubjub.specs.declared.extended.Extended.{Extended}
+use Rattle.ark_wide_fields.specs.declared.moduli.Bls12_381FrModulus.{Bls12_381FrModulus}
+use Rattle.ark_wide_fields.specs.contracts.moduli.Bls12_381FrModulusWideModulus.TheImpl.{ghosts}
+use Rattle.edwards.specs.declared.extended.Extended.{Extended as ExtendedOf}
+use Rattle.edwards.specs.Stands.{StandFor}
 use Rattle.jubjub.specs.Edwards.{Coordinates, over}
 use Rattle.jubjub.specs.Jubjub.{p, curve, IsInSubgroup}
 use Rattle.jubjub.specs.Values.{value}
 
+-- four coordinates
+abbrev pub Extended : Type 0
+Extended = ExtendedOf Bls12_381FrModulus ghosts
+
 -- four coordinates X, Y, Z and T stand for the point with x = X / Z, y = Y / Z and x y = T / Z
-pub record Stands (e : Extended) (a : Coordinates) : Type 0 where
-  pub some : value e.z % p ≡ 0 → ⊥
-  pub first : value e.x % p ≡ a.x * value e.z % p
-  pub second : value e.y % p ≡ a.y * value e.z % p
-  pub both : value e.t % p ≡ a.x * a.y * value e.z % p
+abbrev pub Stands : Extended → Coordinates → Type 0
+Stands e a = StandFor p (value e.x) (value e.y) (value e.z) (value e.t) a
 
 -- the coordinates X / Z and Y / Z
 abbrev pub affine_at : Extended → Coordinates

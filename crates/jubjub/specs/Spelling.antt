@@ -1,5 +1,6 @@
 -- The canonical bytes of coordinates, and of elements of the prime subgroup.
-use Rattle.std.specs.Prelude.{ℕ, ◌+◌, ◌*◌, ◌%◌, List, ◌∷◌, [], ◌++◌, take, drop, Bool, not, ◌&&◌, eqb, ltb, Result, Ok, Err}
+use Rattle.std.specs.Prelude.{ℕ, ◌+◌, ◌*◌, ◌%◌, List, ◌∷◌, [], ◌++◌, take, drop, Bool, not, ◌&&◌, eqb, ltb, Result, Ok}
+use Rattle.std.specs.Prelude.{Err}
 use Rattle.std.specs.Prelude.{if◌then◌else◌}
 use Rattle.ark_base.specs.declared.error.SerializationError.{SerializationError}
 use Rattle.ark_base.specs.declared.error.SerializationError.TheVariants.{InvalidData}

@@ -1,6 +1,7 @@
 -- What is proved of the curve and of its prime subgroup.
 use Rattle.std.specs.Prelude.{◌≡◌, ℕ, ◌+◌, ◌-◌, ◌*◌, ◌%◌, ◌<◌}
-use Rattle.ark_groups.specs.Group.{Group, times}
+use Rattle.ark_groups.specs.Group.{times}
+pub use Rattle.edwards_numbers.specs.Curves.{IsCommutativeGroupOn}
 use Rattle.jubjub.specs.declared.element.Jubjub.{Jubjub}
 use Rattle.jubjub.specs.Edwards.{Coordinates, cross, over}
 use Rattle.jubjub.specs.Jubjub.{p, d, order, IsOnJubjub, IsInSubgroup}
@@ -14,16 +15,6 @@ QuotientsAreRight = (a b : ℕ) → (b % p ≡ 0 → ⊥) → over p a b * b % p
 abbrev pub IsComplete : Type 0
 IsComplete = (a b : Coordinates) → IsOnJubjub a → IsOnJubjub b
     → ((1 + cross d a b) % p ≡ 0 → ⊥) × ((1 + (p - cross d a b % p)) % p ≡ 0 → ⊥)
-
--- the elements that satisfy P are a commutative group
-pub record IsCommutativeGroupOn {G : Type 0} (P : G → Type 0) (g : Group G) : Type 0 where
-  pub identity_in : P g.identity
-  pub plus_in : (x y : G) → P x → P y → P (g.plus x y)
-  pub opposite_in : (x : G) → P x → P (g.opposite x)
-  pub assoc : (x y z : G) → P x → P y → P z → g.plus (g.plus x y) z ≡ g.plus x (g.plus y z)
-  pub comm : (x y : G) → P x → P y → g.plus x y ≡ g.plus y x
-  pub left_identity : (x : G) → P x → g.plus g.identity x ≡ x
-  pub left_opposite : (x : G) → P x → g.plus (g.opposite x) x ≡ g.identity
 
 -- an element is its coordinates: these are in the subgroup, each pair in it is one element's, and no other's
 pub record ElementsAreCoordinates : Type 0 where
@@ -43,8 +34,8 @@ HasPrimeOrder = (n : ℕ) (x : Jubjub) → times jubjub n x ≡ jubjub.identity 
 abbrev pub FirstCoordinatesTell : Type 0
 FirstCoordinatesTell = (a b : Jubjub) → (coordinates a).x ≡ (coordinates b).x → a ≡ b
 
--- each element is a multiple of the generator below the order, and of no two: so the subgroup has as many elements as its
--- order says
+-- each element is a multiple of the generator below the order, and of no two: so the subgroup has as many elements as
+-- its order says
 pub record BaseGenerates : Type 0 where
   pub each : (e : Jubjub) → (k : ℕ) × (k < order) × (times jubjub k base ≡ e)
   pub apart : (m n : ℕ) → m < order → n < order → times jubjub m base ≡ times jubjub n base → m ≡ n

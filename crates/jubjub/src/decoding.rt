@@ -7,9 +7,9 @@ ghost use Rattle.jubjub.specs.Decoding.{IsOver};
 ghost use Rattle.jubjub.specs.Values.{value};
 
 use crate::extended::coefficient;
-use crate::field::inverse;
 use ark_groups::ff::Field;
 use ark_wide_fields::{Bls12_381Fr, is_odd, is_zero, square_root};
+use edwards::inverse;
 
 // The root of the given parity, by one of the two roots. `None` where the roots are 0 and the parity is odd.
 fn of_parity(root: Bls12_381Fr, odd: bool) -> Option<Bls12_381Fr>

@@ -7,9 +7,9 @@ ghost use Rattle.jubjub.specs.Jubjub.{p, d, IsOnJubjub};
 ghost use Rattle.jubjub.specs.Extended.{Stands};
 ghost use Rattle.jubjub.specs.Values.{value};
 
-use crate::field::{crossed_products, inverse};
 use ark_groups::ff::{Field, Words};
-use ark_wide_fields::Bls12_381Fr;
+use ark_wide_fields::{Bls12_381Fr, Bls12_381FrModulus};
+pub use edwards::{lifted, zero};
 
 // -(10240 / 10241).
 const D: Words = Words {
@@ -20,13 +20,7 @@ const D: Words = Words {
 };
 
 /// Four coordinates X, Y, Z and T with x = X / Z, y = Y / Z and x y = T / Z.
-#[derive(Clone, Copy)]
-pub struct Extended {
-    x: Bls12_381Fr,
-    y: Bls12_381Fr,
-    z: Bls12_381Fr,
-    t: Bls12_381Fr,
-}
+pub type Extended = edwards::Extended<Bls12_381FrModulus>;
 
 /// Returns the curve's coefficient.
 pub fn coefficient() -> Bls12_381Fr
@@ -42,94 +36,48 @@ pub fn twice_coefficient() -> Bls12_381Fr
     coefficient().double()
 }
 
-/// Returns the four coordinates of the neutral point.
-pub fn zero() -> Extended
-    ensures { Stands result neutral }
-{
-    Extended {
-        x: Bls12_381Fr::zero(),
-        y: Bls12_381Fr::one(),
-        z: Bls12_381Fr::one(),
-        t: Bls12_381Fr::zero(),
-    }
-}
-
-/// Returns the four coordinates of a point.
-pub fn lifted(x: Bls12_381Fr, y: Bls12_381Fr) -> Extended
-    ensures { Stands result (record { x = value x; y = value y }) }
-{
-    Extended {
-        x,
-        y,
-        z: Bls12_381Fr::one(),
-        t: x.mul(y),
-    }
-}
-
-// The four coordinates of x = e / g and y = h / f.
-#[inline(always)]
-fn joined(e: Bls12_381Fr, f: Bls12_381Fr, g: Bls12_381Fr, h: Bls12_381Fr) -> Extended
-    ensures x { value result.x ≡ value e * value f % p }
-    ensures y { value result.y ≡ value g * value h % p }
-    ensures z { value result.z ≡ value f * value g % p }
-    ensures t { value result.t ≡ value e * value h % p }
-{
-    Extended {
-        x: e.mul(f),
-        y: g.mul(h),
-        z: f.mul(g),
-        t: e.mul(h),
-    }
-}
-
 /// Returns the sum of two points of the curve, by twice the curve's coefficient.
+#[inline(always)]
 pub fn plus(twice: Bls12_381Fr, a: Extended, b: Extended) -> Extended
     requires { value twice ≡ 2 * d % p }
     ensures { (s t : Coordinates) → IsOnJubjub s → IsOnJubjub t → Stands a s → Stands b t
         → Stands result (sum p d s t) }
 {
-    let cross = twice.mul(a.t).mul(b.t);
-    let scale = a.z.mul(b.z).double();
-    let (e, h) = crossed_products(a.x, a.y, b.x, b.y);
-    joined(e, scale.sub(cross), scale.add(cross), h)
+    edwards::plus(twice, a, b)
 }
 
 /// Returns the sum of a point of the curve and of one by its coordinates, by twice the curve's coefficient.
+#[inline(always)]
 pub fn plus_point(twice: Bls12_381Fr, a: Extended, x: Bls12_381Fr, y: Bls12_381Fr) -> Extended
     requires { value twice ≡ 2 * d % p }
     ensures { let t : Coordinates = record { x = value x; y = value y } in
         (s : Coordinates) → IsOnJubjub s → IsOnJubjub t → Stands a s
         → Stands result (sum p d s t) }
 {
-    let cross = twice.mul(a.t).mul(x.mul(y));
-    let scale = a.z.double();
-    let (e, h) = crossed_products(a.x, a.y, x, y);
-    joined(e, scale.sub(cross), scale.add(cross), h)
+    edwards::plus_point(twice, a, x, y)
 }
 
 /// Returns the double of a point of the curve.
+#[inline(always)]
 pub fn doubled(a: Extended) -> Extended
     ensures { (s : Coordinates) → IsOnJubjub s → Stands a s → Stands result (sum p d s s) }
 {
-    let x = a.x.mul(a.x);
-    let y = a.y.mul(a.y);
-    let g = y.sub(x);
-    let f = a.z.mul(a.z).double().sub(g);
-    joined(a.x.mul(a.y).double(), f, g, y.add(x))
+    edwards::doubled(a)
 }
 
 /// Returns the point's coordinates.
+#[inline(always)]
 pub fn affine(a: Extended) -> (Bls12_381Fr, Bls12_381Fr)
     ensures x { (s : Coordinates) → IsOnJubjub s → Stands a s → value result.0 ≡ s.x }
     ensures y { (s : Coordinates) → IsOnJubjub s → Stands a s → value result.1 ≡ s.y }
 {
-    let z = inverse(a.z);
-    (a.x.mul(z), a.y.mul(z))
+    edwards::affine(a)
 }
 
 /// Returns whether it is the neutral point.
+#[inline(always)]
 pub fn is_neutral(a: Extended) -> bool
     ensures { (s : Coordinates) → IsOnJubjub s → Stands a s → Decides result (s ≡ neutral) }
 {
-    a.x == Bls12_381Fr::zero() && a.y == a.z
+    edwards::is_neutral(a)
 }

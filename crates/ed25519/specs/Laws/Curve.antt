@@ -2,7 +2,7 @@
 use Rattle.std.proofs.Common.{◌-◌, ◌/◌, refl, lit<}
 use Rattle.edwards_numbers.specs.Curves.{IsComplete}
 use Rattle.ed25519.specs.Edwards25519.{p, d, root}
-use Rattle.ed25519.specs.Laws.Primes.{factors_p, generates_p}
+use Rattle.ed25519.specs.Laws.ModulusPrime.{factors_p, generates_p}
 
 pub ed25519_is_complete : IsComplete p d
 ed25519_is_complete = record {

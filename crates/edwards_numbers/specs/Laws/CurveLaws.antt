@@ -5,8 +5,7 @@ use Rattle.std.proofs.Math.Nat.{zero-mod, mod-add-mod, mod_self}
 use Rattle.number_facts.proofs.CongruenceLaws.{multiples}
 use Rattle.edwards_numbers.specs.Edwards.{Coordinates, IsOnCurve, cross, sum, over, neutral, negative}
 use Rattle.edwards_numbers.specs.Laws.Quotients.{HasInverses, some_modulus, cancelled, product_some, over_times}
-use Rattle.edwards_numbers.specs.Laws.Quotients.{over_below}
-use Rattle.edwards_numbers.specs.Laws.Quotients.{is_over, same_ratio, less, differs}
+use Rattle.edwards_numbers.specs.Laws.Quotients.{over_below, is_over, same_ratio, less, differs}
 use Rattle.edwards_numbers.specs.Laws.RootFacts.{minus_one, plus_one}
 use Rattle.edwards_numbers.specs.Laws.ClosureFacts.{sum_on_curve, negative_on_curve, negative_adds_to_zero}
 use Rattle.edwards_numbers.specs.Laws.ClearedFacts.{x_cleared, y_cleared, x_denominator, y_denominator}

@@ -1,6 +1,7 @@
 -- In a group of prime order, told apart by fewer numbers than the order's square, each element is a multiple of each
 -- element but zero: else the sums of multiples of both were too many.
-use Rattle.std.proofs.Common.{◌≡◌, ℕ, zero, suc, ◌+◌, ◌-◌, ◌*◌, ◌/◌, ◌%◌, ◌<◌, ◌≤◌, sym, ◌∙◌, ap, ap₂, subst, arith, mod-lt}
+use Rattle.std.proofs.Common.{◌≡◌, ℕ, zero, suc, ◌+◌, ◌-◌, ◌*◌, ◌/◌, ◌%◌, ◌<◌, ◌≤◌, sym, ◌∙◌, ap, ap₂, subst, arith}
+use Rattle.std.proofs.Common.{mod-lt}
 use Rattle.std.proofs.Common.{mod-eq_of_lt, div-add-mod', mul_comm, ◌⊎◌, inl, inr, ⊎_elim}
 use Rattle.std.proofs.Math.Nat.{div-lt_iff_lt-mul}
 use Rattle.std.proofs.lemmas.Bool.{cases_lt, cases_eq}

@@ -1,15 +1,14 @@
 -- Four coordinates that stand for an element.
 use Rattle.std.proofs.Common.{◌≡◌, sym, subst}
 use Rattle.std.proofs.Math.Nat.{ℕ_set}
-use Rattle.jubjub.specs.declared.extended.Extended.{Extended}
 use Rattle.jubjub.specs.Edwards.{Coordinates}
 use Rattle.jubjub.specs.Jubjub.{p, IsInSubgroup}
-use Rattle.jubjub.specs.Extended.{Stands, affine_at, IsInside}
+use Rattle.jubjub.specs.Extended.{Extended, Stands, affine_at, IsInside}
 use Rattle.jubjub.specs.Values.{value}
-use Rattle.jubjub.specs.Laws.CurveLaws.{same_coordinates}
+use Rattle.edwards_numbers.specs.Laws.CurveLaws.{same_coordinates}
 use Rattle.jubjub.specs.Laws.Modulus.{has_inverses}
 use Rattle.jubjub.specs.Laws.Points.{in_subgroup_alike}
-use Rattle.jubjub.specs.Laws.Quotients.{is_over}
+use Rattle.edwards_numbers.specs.Laws.Quotients.{is_over}
 
 never_alike : (a b : ⊥) → a ≡ b
 never_alike a b = absurd a

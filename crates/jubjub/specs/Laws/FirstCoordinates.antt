@@ -13,7 +13,7 @@ use Rattle.ark_wide_fields.specs.Laws.Bls12_381Fr.{prime_factors, seven_generate
 use Rattle.jubjub.specs.Edwards.{inverse}
 use Rattle.jubjub.specs.Jubjub.{p, d}
 use Rattle.jubjub.specs.Laws.Modulus.{d_is_no_square}
-use Rattle.jubjub.specs.Laws.Quotients.{HasInverses, product_some, cancelled}
+use Rattle.edwards_numbers.specs.Laws.Quotients.{HasInverses, product_some, cancelled}
 
 again : (a m : ℕ) → a % m % m ≡ a % m
 again a m = ap (λ t. t % m) (once (a % m)) ∙ mul-mod_first a 1 m ∙ ap (λ t. t % m) (sym (once a))

@@ -1,56 +1,29 @@
 -- The points of Jubjub as a commutative group, and its subgroup of the points of prime order.
-use Rattle.std.proofs.Common.{◌≡◌, ℕ, zero, suc, refl, sym, ◌∙◌, ap}
+use Rattle.std.proofs.Common.{◌≡◌, ℕ, sym, ◌∙◌, ap}
 use Rattle.std.proofs.Math.Nat.{ℕ_set}
-use Rattle.std.specs.Coded.{le_prop}
-use mathlib.Core.HLevel.{is_prop→PathP}
 use Rattle.ark_groups.specs.Group.{Group, IsCommutativeGroup, times}
 use Rattle.ark_groups.proofs.Multiples.{times-plus, times-identity, right_identity}
-use Rattle.jubjub.specs.Edwards.{Coordinates, IsOnCurve, sum, neutral, negative}
-use Rattle.jubjub.specs.Jubjub.{p, d, order, curve, IsOnJubjub, IsInSubgroup}
+use Rattle.edwards_numbers.specs.Laws.CurveLaws.{sum_closed, neutral_on_curve, negative_closed}
+use Rattle.edwards_numbers.specs.Laws.Points as curves
+use Rattle.edwards_numbers.specs.Laws.Points.{on_curve_alike}
+use Rattle.jubjub.specs.Edwards.{Coordinates, sum, neutral, negative}
+use Rattle.jubjub.specs.Jubjub.{p, d, order, curve, IsInSubgroup}
 use Rattle.jubjub.specs.Laws.Modulus.{has_inverses}
-use Rattle.jubjub.specs.Laws.Completeness.{complete}
-use Rattle.jubjub.specs.Laws.CurveLaws.{sum_closed, neutral_on_curve, negative_closed, sum_comm, sum_neutral}
-use Rattle.jubjub.specs.Laws.CurveLaws.{sum_negative, sum_assoc}
-
-pub on_curve_alike : (m d : ℕ) (a : Coordinates) (u v : IsOnCurve m d a) → u ≡ v
-on_curve_alike m d a u v = λ i. record {
-  x_below = le_prop u.x_below v.x_below i;
-  y_below = le_prop u.y_below v.y_below i;
-  equation = ℕ_set _ _ u.equation v.equation i;
-}
+use Rattle.jubjub.specs.Laws.Completeness.{complete, jubjub_is_complete}
 
 -- ---- the points on the curve
 
--- coordinates on the curve
-pub record Point : Type 0 where
-  pub at : Coordinates
-  pub on : IsOnJubjub at
+abbrev Point : Type 0
+Point = curves.Point p d jubjub_is_complete
 
-pub same_point : (a b : Point) → a.at ≡ b.at → a ≡ b
-same_point a b e = λ i. record {
-  at = e i;
-  on = is_prop→PathP (λ j. IsOnCurve p d (e j)) (λ j. on_curve_alike p d (e j)) a.on b.on i;
-}
+abbrev points : Group Point
+points = curves.points p d jubjub_is_complete
 
-abbrev pub points : Group Point
-points = record {
-  identity = record { at = neutral; on = neutral_on_curve p d has_inverses complete };
-  plus = λ a b. record { at = sum p d a.at b.at; on = sum_closed p d has_inverses complete a.at b.at a.on b.on };
-  opposite = λ a. record { at = negative p a.at; on = negative_closed p d has_inverses complete a.at a.on };
-}
+points_laws : IsCommutativeGroup points
+points_laws = curves.points_laws p d jubjub_is_complete
 
-pub points_laws : IsCommutativeGroup points
-points_laws = record {
-  assoc = λ a b c. same_point _ _ (sum_assoc p d has_inverses complete a.at b.at c.at a.on b.on c.on);
-  comm = λ a b. same_point _ _ (sum_comm p d has_inverses complete a.at b.at);
-  left_identity = λ a. same_point _ _ (sum_neutral p d has_inverses complete a.at a.on);
-  left_opposite = λ a. same_point _ _ (sum_negative p d has_inverses complete a.at a.on);
-}
-
--- a multiple of a point has the multiple of its coordinates
-pub at-times : (n : ℕ) (a : Point) → (times points n a).at ≡ times curve n a.at
-at-times zero a = refl
-at-times (suc n) a = ap (λ t. sum p d t a.at) (at-times n a)
+at-times : (n : ℕ) (a : Point) → (times points n a).at ≡ times curve n a.at
+at-times = curves.at-times p d jubjub_is_complete
 
 -- ---- the prime subgroup
 
@@ -69,7 +42,8 @@ IsZero a = times points order a ≡ points.identity
 -- the order's multiple of a point is zero where that of its coordinates is
 zero_from : (a : Coordinates) (s : IsInSubgroup a) → times points order (record { at = a; on = s.on_curve })
     ≡ points.identity
-zero_from a s = same_point _ _ (at-times order (record { at = a; on = s.on_curve }) ∙ s.of_order)
+zero_from a s = curves.same_point p d jubjub_is_complete _ _
+    (at-times order (record { at = a; on = s.on_curve }) ∙ s.of_order)
 
 pub sum_in_subgroup : (a b : Coordinates) → IsInSubgroup a → IsInSubgroup b → IsInSubgroup (sum p d a b)
 sum_in_subgroup a b s t =

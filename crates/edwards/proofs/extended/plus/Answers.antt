@@ -1,22 +1,35 @@
 use Rattle.std.proofs.Common.{◌*◌, ◌%◌, ◌∙◌, ap}
 use Rattle.ark_groups.specs.Words.{number}
 use Rattle.edwards.specs.Values.{value}
+use Rattle.edwards.proofs.Numbers.{numbers}
 use Rattle.edwards.proofs.ExtendedLaws.{plus_stands, scale_is}
 use Rattle.edwards.proofs.extended.plus.Goals as goal
 
 pub returns : goal.returns
-returns g c d k is_twice s t on_s on_t of_a of_b =
+returns g c d complete is_twice =
+    let p = number g.M.WideModulus.P in
+    let a = c.args.a in
     let b = c.args.b in
-    plus_stands (number g.M.WideModulus.P) d k
-    (value c.joined.result.x) (value c.joined.result.y) (value c.joined.result.z) (value c.joined.result.t)
-    (value c.args.a.x) (value c.args.a.y) (value c.args.a.z) (value c.args.a.t)
-    (value b.x) (value b.y) (value b.z) (value b.t) (value c.args.twice)
-    (value c.crossed_products.result.0) (value c.sub.result) (value c.add.result)
-    (value c.crossed_products.result.1) (value c.mul-cross.result) (value c.double-scale.result) is_twice
-    (scale_is (number g.M.WideModulus.P) d k (number g.M.WideModulus.P) (value c.args.a.z) (value b.z) (value
-    c.mul-2.result) (value c.double-scale.result) c.mul-2.ensures
-    c.double-scale.ensures)
-    (c.mul-cross.ensures ∙ ap (λ n. n * value b.t % number g.M.WideModulus.P) c.mul.ensures)
-    c.crossed_products.ensures.crossed c.sub.ensures c.add.ensures c.crossed_products.ensures.straight
-    c.joined.ensures.x c.joined.ensures.y c.joined.ensures.z c.joined.ensures.t s t on_s on_t of_a
-    of_b
+    plus_stands p d complete (numbers a) (numbers b) (numbers c.joined.result) (record {
+      k = value c.args.twice;
+      crossed = value c.mul-cross.result;
+      scale = value c.double-scale.result;
+      E = value c.crossed_products.result.0;
+      F = value c.sub.result;
+      G = value c.add.result;
+      H = value c.crossed_products.result.1;
+      is_k = is_twice;
+      is_crossed = c.mul-cross.ensures ∙ ap (λ n. n * value b.t % p) c.mul.ensures;
+      is_scale = scale_is p (value a.z) (value b.z) (value c.mul-2.result) (value c.double-scale.result) c.mul-2.ensures
+          c.double-scale.ensures;
+      is_E = c.crossed_products.ensures.crossed;
+      is_F = c.sub.ensures;
+      is_G = c.add.ensures;
+      is_H = c.crossed_products.ensures.straight;
+      joins = record {
+        x = c.joined.ensures.x;
+        y = c.joined.ensures.y;
+        z = c.joined.ensures.z;
+        t = c.joined.ensures.t;
+      };
+    })

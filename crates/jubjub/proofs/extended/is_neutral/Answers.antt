@@ -1,20 +1,6 @@
-use Rattle.std.proofs.Common.{◌∙◌, sym}
-use Rattle.ark_wide_fields.specs.Laws.Fp256.{wide_equal_if_same}
-use Rattle.jubjub.proofs.PointTests.{neutral_from, neutral_first, neutral_second}
+use Rattle.jubjub.specs.Jubjub.{d}
+use Rattle.jubjub.specs.Laws.Completeness.{jubjub_is_complete}
 use Rattle.jubjub.proofs.extended.is_neutral.Goals as goal
 
-pub returns-then-eq : goal.returns-then-eq
-returns-then-eq c s on of_a =
-    let zero = wide_equal_if_same c.args.a.x c.zero.result in
-    let same = wide_equal_if_same c.args.a.y c.args.a.z in (
-      λ t. neutral_from c.args.a s on of_a (zero.0 (sym c.eq.ensures ∙ c.if-eq.true) ∙ c.zero.ensures)
-          (same.0 (sym c.eq-then-eq.ensures ∙ t)),
-      λ e. c.eq-then-eq.ensures ∙ same.1 (neutral_second c.args.a s of_a e),
-    )
-
-pub returns-else-eq : goal.returns-else-eq
-returns-else-eq c s on of_a =
-    let zero = wide_equal_if_same c.args.a.x c.zero.result in (
-      λ t. absurd (let no = c.if-eq.false in cc),
-      λ e. c.eq.ensures ∙ zero.1 (neutral_first c.args.a s of_a e ∙ sym c.zero.ensures),
-    )
+pub returns : goal.returns
+returns c = c.is_neutral.ensures d jubjub_is_complete

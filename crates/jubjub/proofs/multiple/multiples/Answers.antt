@@ -1,9 +1,13 @@
-use Rattle.std.proofs.Common.{◌-◌, ◌∙◌, arith}
+use Rattle.std.proofs.Common.{◌-◌, replicate, refl, ◌∙◌, arith}
 use Rattle.std.proofs.lemmas.List.{length-set}
 use Rattle.ark_groups.specs.Group.{times}
 use Rattle.jubjub.specs.Jubjub.{curve}
-use Rattle.jubjub.proofs.Digits.{multiple_on_curve, next_multiple}
+use Rattle.jubjub.proofs.Digits.{multiple_on_curve, first_multiple, next_multiple}
 use Rattle.jubjub.proofs.multiple.multiples.Goals as goal
+
+pub loop-i-init : goal.loop-i-init
+loop-i-init c =
+    (refl, λ s on of_a. first_multiple c.zero-table.result (replicate 15 c.zero-table.result) s c.zero-table.ensures)
 
 pub listed : goal.listed
 listed c = omega (arith, c.loop-i.invariant.0, c.loop-i-test.true)
