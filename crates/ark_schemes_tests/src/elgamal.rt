@@ -4,7 +4,7 @@
 use crate::samples::Numeral;
 use ark_base::error::Error;
 use ark_groups::ec::{AdditiveGroup, Residues};
-use ark_groups::ff::{M13, M61, UniformRand};
+use ark_groups::ff::{Field, M13, M61, UniformRand};
 use ark_signatures::encryption::AsymmetricEncryptionScheme;
 use ark_signatures::encryption::elgamal::{ElGamal, Parameters, Randomness, SecretKey};
 use rand::{Rng, SeedableRng};

@@ -9,7 +9,7 @@ use crate::samples::{
 };
 use ark_base::error::{Error, Refusal};
 use ark_groups::ec::{AdditiveGroup, Residues};
-use ark_groups::ff::{M13, M61, UniformRand};
+use ark_groups::ff::{Field, M13, M61, UniformRand};
 use ark_pedersen::Window;
 use ark_schemes::commitment::CommitmentScheme;
 use ark_schemes::commitment::pedersen::{Commitment, Parameters, Randomness};

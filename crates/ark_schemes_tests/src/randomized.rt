@@ -4,7 +4,7 @@ use crate::samples::Numeral;
 use ark_base::error::Error;
 use ark_groups::digest::ByteDigest;
 use ark_groups::ec::{AdditiveGroup, Residues};
-use ark_groups::ff::{M13, M61};
+use ark_groups::ff::{Field, M13, M61};
 use ark_schemes::prf::Blake2s256;
 use ark_signatures::signature::SignatureScheme;
 use ark_signatures::signature::schnorr::{Parameters, Schnorr, Signature, bytes_to_bits};

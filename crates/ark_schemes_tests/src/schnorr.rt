@@ -11,7 +11,7 @@ use ark_base::error::{Error, Refusal};
 use ark_base::serialize::{CanonicalDeserialize, canonical_bytes};
 use ark_groups::digest::ByteDigest;
 use ark_groups::ec::{AdditiveGroup, Residues};
-use ark_groups::ff::{M61, UniformRand};
+use ark_groups::ff::{Field, M61, UniformRand};
 use ark_schemes::prf::Blake2s256;
 use ark_signatures::signature::SignatureScheme;
 use ark_signatures::signature::schnorr::{Parameters, Schnorr, SecretKey, Signature};
