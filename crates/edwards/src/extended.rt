@@ -5,7 +5,7 @@ ghost use Rattle.std.specs.Bool.{Decides};
 ghost use Rattle.ark_groups.specs.Words.{number};
 ghost use Rattle.edwards_numbers.specs.Edwards.{Coordinates, IsOnCurve, neutral, sum};
 ghost use Rattle.edwards_numbers.specs.Curves.{IsComplete};
-ghost use Rattle.edwards.specs.Extended.{Stands};
+ghost use Rattle.edwards.specs.Extended.{Stands, point};
 ghost use Rattle.edwards.specs.Values.{value};
 
 use crate::field::{crossed_products, inverse};
@@ -47,7 +47,7 @@ pub fn zero<M: WideModulus>() -> Extended<M>
 
 /// Returns the four coordinates of a point.
 pub fn lifted<M: WideModulus>(x: Fp256<M>, y: Fp256<M>) -> Extended<M>
-    ensures { Stands result (record { x = value x; y = value y }) }
+    ensures { Stands result (point x y) }
 {
     Extended {
         x,
@@ -93,9 +93,8 @@ pub fn plus_point<M: WideModulus>(
     y: Fp256<M>,
 ) -> Extended<M>
     ensures { (d : ℕ) → IsComplete (number M.P) d → value twice ≡ 2 * d % number M.P
-        → (s : Coordinates) → IsOnCurve (number M.P) d s
-        → IsOnCurve (number M.P) d (record { x = value x; y = value y }) → Stands a s
-        → Stands result (sum (number M.P) d s (record { x = value x; y = value y })) }
+        → (s : Coordinates) → IsOnCurve (number M.P) d s → IsOnCurve (number M.P) d (point x y)
+        → Stands a s → Stands result (sum (number M.P) d s (point x y)) }
 {
     let cross = twice.mul(a.t).mul(x.mul(y));
     let scale = a.z.double();

@@ -7,8 +7,9 @@ use Rattle.ark_groups.specs.Group.{Group, IsCommutativeGroup, times}
 use Rattle.edwards_numbers.specs.Edwards.{Coordinates, IsOnCurve, sum, neutral, negative, edwards}
 use Rattle.edwards_numbers.specs.Curves.{IsComplete}
 use Rattle.edwards_numbers.specs.Laws.Completeness.{has_inverses, complete}
-use Rattle.edwards_numbers.specs.Laws.CurveLaws.{sum_closed, neutral_on_curve, negative_closed, sum_comm, sum_neutral}
-use Rattle.edwards_numbers.specs.Laws.CurveLaws.{sum_negative, sum_assoc}
+use Rattle.edwards_numbers.specs.Laws.CurveLaws.{NoCrossIsOne, sum_closed, neutral_on_curve, negative_closed}
+use Rattle.edwards_numbers.specs.Laws.CurveLaws.{sum_comm, sum_neutral, sum_negative, sum_assoc}
+use Rattle.edwards_numbers.specs.Laws.Quotients.{HasInverses}
 
 pub on_curve_alike : (m d : ℕ) (a : Coordinates) (u v : IsOnCurve m d a) → u ≡ v
 on_curve_alike m d a u v = λ i. record {
@@ -29,27 +30,25 @@ module _ (p d : ℕ) (k : IsComplete p d) where
     on = is_prop→PathP (λ j. IsOnCurve p d (e j)) (λ j. on_curve_alike p d (e j)) a.on b.on i;
   }
 
+  abbrev f : HasInverses p
+  f = has_inverses p d k
+
+  abbrev all : NoCrossIsOne p d
+  all = complete p d k
+
   abbrev pub points : Group Point
   points = record {
-    identity = record { at = neutral; on = neutral_on_curve p d (has_inverses p d k) (complete p d k) };
-    plus = λ a b. record {
-      at = sum p d a.at b.at;
-      on = sum_closed p d (has_inverses p d k) (complete p d k) a.at b.at
-          a.on b.on;
-    };
-    opposite = λ a. record {
-      at = negative p a.at;
-      on = negative_closed p d (has_inverses p d k) (complete p d k) a.at
-          a.on;
-    };
+    identity = record { at = neutral; on = neutral_on_curve p d f all };
+    plus = λ a b. record { at = sum p d a.at b.at; on = sum_closed p d f all a.at b.at a.on b.on };
+    opposite = λ a. record { at = negative p a.at; on = negative_closed p d f all a.at a.on };
   }
 
   pub points_laws : IsCommutativeGroup points
   points_laws = record {
-    assoc = λ a b c. same_point _ _ (sum_assoc p d (has_inverses p d k) (complete p d k) a.at b.at c.at a.on b.on c.on);
-    comm = λ a b. same_point _ _ (sum_comm p d (has_inverses p d k) (complete p d k) a.at b.at);
-    left_identity = λ a. same_point _ _ (sum_neutral p d (has_inverses p d k) (complete p d k) a.at a.on);
-    left_opposite = λ a. same_point _ _ (sum_negative p d (has_inverses p d k) (complete p d k) a.at a.on);
+    assoc = λ a b c. same_point _ _ (sum_assoc p d f all a.at b.at c.at a.on b.on c.on);
+    comm = λ a b. same_point _ _ (sum_comm p d f all a.at b.at);
+    left_identity = λ a. same_point _ _ (sum_neutral p d f all a.at a.on);
+    left_opposite = λ a. same_point _ _ (sum_negative p d f all a.at a.on);
   }
 
   -- a multiple of a point has the multiple of its coordinates
