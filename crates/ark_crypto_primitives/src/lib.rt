@@ -196,8 +196,8 @@ pub mod log {
 /// Maps from keys of 32 bytes to digests, with proofs of what they have at a key and of what they have not.
 pub mod map {
     pub use merkle_map::{
-        Change, End, Entry, KeyProof, MapHasher, MapTree, Sha256Map, verify_absent, verify_other,
-        verify_transition, verify_value,
+        Change, End, Entry, KeptMap, KeyProof, MapHasher, MapTree, Sha256Map, verify_absent,
+        verify_other, verify_transition, verify_value,
     };
 }
 

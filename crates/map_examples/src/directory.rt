@@ -9,7 +9,7 @@ ghost use Rattle.merkle_map.specs.Sha256.{sha256_map};
 use ark_base::error::Error;
 use ark_trees::LogHasher;
 use merkle_log::{Log, verify_inclusion_bytes};
-use merkle_map::{KeyProof, MapTree, Sha256Map};
+use merkle_map::{KeptMap, KeyProof, Sha256Map};
 use std::alloc::Global;
 
 /// The root of a log of no entries: SHA-256 of no bytes.
@@ -21,7 +21,7 @@ const NO_ENTRIES: [u8; 32] = [
 /// A map, and the log of the roots that it had.
 #[derive(Drop)]
 pub struct Directory {
-    pub map: MapTree<[u8; 32]>,
+    pub map: KeptMap<[u8; 32], Sha256Map>,
     pub versions: Log<[u8; 32], LogHasher>,
 }
 
@@ -36,21 +36,21 @@ impl Directory {
     /// Returns an empty directory, which has no version yet.
     pub fn new(alloc: Global) -> Directory {
         Directory {
-            map: MapTree::new(),
+            map: KeptMap::new(Sha256Map::new()),
             versions: Log::new(alloc, LogHasher, NO_ENTRIES),
         }
     }
 
     /// Puts a value at a key. Keys should be hashes: whoever chooses keys can make a neighbour's proof longer.
     ///
-    /// Errors, which leave the map unchanged: those of `MapTree::insert`.
+    /// The only error is `OutOfMemory`, and it leaves the map unchanged.
     pub fn put(&mut self, alloc: Global, key: &[u8; 32], value: [u8; 32]) -> Result<(), Error> {
         self.map.insert(alloc, key, value)
     }
 
     /// Ends a version: appends the map's root to the log, and returns it. The only error is `OutOfMemory`.
     pub fn publish(&mut self, alloc: Global) -> Result<[u8; 32], Error> {
-        let root = self.map.root(alloc, &Sha256Map::new())?;
+        let root = self.map.root(alloc)?;
         self.versions.append(alloc, &entry_of(alloc, &root)?)?;
         Ok(root)
     }

@@ -2,7 +2,6 @@
 
 use crate::directory::{Directory, Head, is_newest};
 use ark_base::error::Error;
-use merkle_map::Sha256Map;
 use std::alloc::Global;
 
 const ANN: [u8; 32] = [17; 32];
@@ -33,7 +32,7 @@ fn said(alloc: Global, key: &[u8; 32], value: Option<&[u8; 32]>) -> Result<bool,
         size: directory.versions.size() as u64,
     };
     let path = path_of(alloc, &directory)?;
-    let proof = directory.map.prove_key(alloc, &Sha256Map::new(), key)?;
+    let proof = directory.map.prove_key(alloc, key)?;
     is_newest(alloc, &head, &root, &path, key, value, &proof)
 }
 

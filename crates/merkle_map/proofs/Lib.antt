@@ -19,3 +19,4 @@ pub mod Changed
 pub mod OwnProof
 pub mod Wholes
 pub mod Reading
+pub mod Keeping

@@ -3,6 +3,7 @@ pub mod Map
 pub mod Way
 pub mod Tree
 pub mod Parts
+pub mod Kept
 pub mod Changes
 pub mod Rests
 pub mod Shown

@@ -15,7 +15,7 @@ entry_seen numbers entry = entry_of entry.key (numbers entry.value)
 abbrev pub shape : {D : Type 0} → (D → Digest) → Part D → Shape
 shape numbers NoEntry = Empty
 shape numbers (OneEntry entry) = One (entry_seen numbers entry)
-shape numbers (TwoSides p left q right) = Fork (shape numbers left) (shape numbers right)
+shape numbers (TwoSides p left q right digest) = Fork (shape numbers left) (shape numbers right)
 shape numbers (Behind digest) = Hidden (numbers digest)
 
 -- a value that may be there, by its numbers

@@ -3,6 +3,8 @@
 ghost use Rattle.std.specs.Prelude.{◌≡◌, ◌<◌, ◌≤◌, ◌-◌, ◌++◌, drop, length, OnOk, IfErr, IfOk, Ok};
 ghost use Rattle.ark_base.specs.Outcome.{AnswersBy, IsMemory};
 ghost use Rattle.merkle_map.specs.Bytes.{all_have as all_have_in, is_placed as is_placed_in, invalid as is_invalid, itself, spelled, string_outcome, string_read, tree_of_bytes, tree_read, truncated as is_truncated, IsOf32};
+ghost use Rattle.merkle_map.specs.Kept.{IsKept};
+ghost use Rattle.merkle_map.specs.Map.{MapHashes};
 ghost use Rattle.merkle_map.specs.Parts.{shape};
 ghost use Rattle.merkle_map.specs.Pruned.{Fits};
 ghost use Rattle.merkle_map.specs.Tree.{weight, IsKey};
@@ -40,7 +42,7 @@ pub fn write_part(part: &Part<[u8; 32]>, dest: &mut Vec<u8>) -> Result<(), Error
             push_string(&entry.value, dest)?;
             Ok(())
         }
-        Part::Fork { left, right } => {
+        Part::Fork { left, right, .. } => {
             dest.push(2)?;
             write_part(left, dest)?;
             write_part(right, dest)?;
@@ -97,6 +99,7 @@ fn read_part(alloc: Global, bytes: &[u8], level: usize) -> Result<(Part<[u8; 32]
     requires { level ≤ 256 }
     ensures within { IfOk result (λ read. read.1 ≤ length bytes.now) }
     ensures sized { IfOk result (λ read. IsOf32 (shape itself read.0)) }
+    ensures digests { IfOk result (λ read. (h : MapHashes) → IsKept itself h read.0) }
     ensures answer { AnswersBy (λ read. (shape itself read.0, drop read.1 bytes.now))
         (tree_read (256 - level) bytes.now) result }
 {
@@ -141,7 +144,7 @@ fn all_have(part: &Part<[u8; 32]>, level: usize, bit: bool) -> bool
     match part {
         Part::Empty => true,
         Part::One { entry } => has_bit(&entry.key, level, bit),
-        Part::Fork { left, right } => all_have(left, level, bit) && all_have(right, level, bit),
+        Part::Fork { left, right, .. } => all_have(left, level, bit) && all_have(right, level, bit),
         Part::Hidden { .. } => true,
     }
 }
@@ -168,10 +171,14 @@ fn is_placed(part: &Part<[u8; 32]>, level: usize) -> bool
     match part {
         Part::Empty => true,
         Part::One { .. } => true,
-        Part::Fork { left, right } => {
-            !(weight_of(left) + weight_of(right) < 2)
-                && ((all_have(left, level, false) && all_have(right, level, true))
-                    && (is_placed(left, level + 1) && is_placed(right, level + 1)))
+        Part::Fork { left, right, .. } => {
+            if weight_of(left) + weight_of(right) < 2 {
+                return false;
+            }
+            if !all_have(left, level, false) || !all_have(right, level, true) {
+                return false;
+            }
+            is_placed(left, level + 1) && is_placed(right, level + 1)
         }
         Part::Hidden { .. } => true,
     }
@@ -181,6 +188,7 @@ fn is_placed(part: &Part<[u8; 32]>, level: usize) -> bool
 // `InvalidData`: bytes that are left.
 pub fn part_of_bytes(alloc: Global, bytes: &[u8]) -> Result<Part<[u8; 32]>, Error>
     ensures sized { IfOk result (λ part. IsOf32 (shape itself part)) }
+    ensures digests { IfOk result (λ part. (h : MapHashes) → IsKept itself h part) }
     ensures answer { AnswersBy (shape itself) (tree_of_bytes bytes.now) result }
 {
     let (part, used) = read_part(alloc, bytes, 0)?;

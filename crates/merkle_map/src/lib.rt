@@ -6,6 +6,7 @@
 
 mod bytes;
 pub mod hasher;
+pub mod kept;
 mod key;
 pub mod laws;
 mod part;
@@ -19,6 +20,7 @@ pub mod tree;
 pub mod verify;
 
 pub use hasher::MapHasher;
+pub use kept::KeptMap;
 pub use part::Entry;
 pub use proof::{End, KeyProof};
 pub use sha256::Sha256Map;

@@ -3,7 +3,8 @@
 ghost use Rattle.std.specs.Prelude.{◌≡◌, ◌≤◌, IfOk};
 ghost use Rattle.ark_base.specs.Outcome.{AnswersBy};
 ghost use Rattle.merkle_map.specs.Changes.{known_at, hides};
-ghost use Rattle.merkle_map.specs.Map.{bit_of as bit_in};
+ghost use Rattle.merkle_map.specs.Kept.{IsKept};
+ghost use Rattle.merkle_map.specs.Map.{MapHashes, bit_of as bit_in};
 ghost use Rattle.merkle_map.specs.Parts.{found_seen, shape};
 ghost use Rattle.merkle_map.specs.Tree.{shape_digest, way, StandsAt, Fork as ForkOf};
 
@@ -29,10 +30,11 @@ pub enum Part<D> {
     One {
         entry: Entry<D>,
     },
-    /// The entries whose next bit is 0, and those whose next bit is 1.
+    /// The entries whose next bit is 0, and those whose next bit is 1. The tree's digest may be kept.
     Fork {
         left: Box<Part<D>>,
         right: Box<Part<D>>,
+        digest: Option<D>,
     },
     /// Entries of which only the digest is known.
     Hidden {
@@ -49,27 +51,42 @@ pub fn hidden() -> Error
 
 // Joins two sides. The only error is `OutOfMemory`.
 pub fn fork<D: DigestItem>(alloc: Global, left: Part<D>, right: Part<D>) -> Result<Part<D>, Error>
-    ensures { AnswersBy (shape D.numbers)
+    ensures made { AnswersBy (shape D.numbers)
         (Ok (ForkOf (shape D.numbers left) (shape D.numbers right))) result }
+    ensures kept { IfOk result (λ new. (h : MapHashes) → IsKept D.numbers h left
+        → IsKept D.numbers h right → IsKept D.numbers h new) }
 {
     let left = Box::new(alloc, left)?;
     let right = Box::new(alloc, right)?;
-    Ok(Part::Fork { left, right })
+    Ok(Part::Fork {
+        left,
+        right,
+        digest: None,
+    })
 }
 
-// Hashes a tree. Errors: those of the hashes, the lowest first, the left one among equals; `OutOfMemory`.
+// Hashes a tree, as far as no digest is kept. Errors: those of the hashes, the lowest first, the left one among equals;
+// `OutOfMemory`.
 pub fn digest_of<D: DigestItem, T: MapHasher<D>>(
     alloc: Global,
     hasher: &T,
     part: &Part<D>,
 ) -> Result<D, Error>
+    requires { IsKept D.numbers (T.hashes hasher.now) part.now }
     ensures { AnswersBy D.numbers (shape_digest (T.hashes hasher.now) (shape D.numbers part.now))
         result }
 {
     match part {
         Part::Empty => hasher.nothing(alloc),
         Part::One { entry } => hasher.leaf(alloc, &entry.key, &entry.value),
-        Part::Fork { left, right } => {
+        Part::Fork {
+            left,
+            right,
+            digest,
+        } => {
+            if let Some(digest) = digest {
+                return copy_of(alloc, digest);
+            }
             let l = digest_of(alloc, hasher, left)?;
             let r = digest_of(alloc, hasher, right)?;
             hasher.pair(alloc, &l, &r)
@@ -96,7 +113,7 @@ pub fn find<'a, D: DigestItem>(
             }
             Ok(None)
         }
-        Part::Fork { left, right } => {
+        Part::Fork { left, right, .. } => {
             if bit_of(key, level) {
                 find(right, level + 1, key)
             } else {

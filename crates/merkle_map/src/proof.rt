@@ -3,6 +3,7 @@
 ghost use Rattle.std.specs.Prelude.{◌≡◌, true, map, IfOk, Ok};
 ghost use Rattle.ark_base.specs.Outcome.{Answers, AnswersBy};
 ghost use Rattle.merkle_map.specs.KeyProof.{behind_all, end_at, end_seen, proof_at, proof_seen, proof_verdict, seen_with, BindsBy};
+ghost use Rattle.merkle_map.specs.Kept.{IsKept};
 ghost use Rattle.merkle_map.specs.Parts.{entry_seen, shape, value_seen};
 ghost use Rattle.merkle_map.specs.Tree.{way, StandsAt};
 
@@ -59,7 +60,8 @@ pub fn climb_down<D: DigestItem, T: MapHasher<D>>(
     key: &[u8; 32],
     siblings: &mut Vec<D>,
 ) -> Result<End<D>, Error>
-    requires { StandsAt (way level key.now) (shape D.numbers part.now) }
+    requires stands { StandsAt (way level key.now) (shape D.numbers part.now) }
+    requires kept { IsKept D.numbers (T.hashes hasher.now) part.now }
     ensures { AnswersBy (seen_with D.numbers (map D.numbers siblings.new.items))
         (behind_all (map D.numbers siblings.old.items)
         (proof_at (T.hashes hasher.now) level key.now (shape D.numbers part.now))) result }
@@ -67,7 +69,7 @@ pub fn climb_down<D: DigestItem, T: MapHasher<D>>(
     match part {
         Part::Empty => Ok(End::Nothing),
         Part::One { entry } => end_of(alloc, key, entry),
-        Part::Fork { left, right } => {
+        Part::Fork { left, right, .. } => {
             if bit_of(key, level) {
                 let digest = digest_of(alloc, hasher, left)?;
                 siblings.push(digest)?;

@@ -1,7 +1,9 @@
 //! Proofs are made of a tree: what some keys do not need is hidden.
 
-ghost use Rattle.std.specs.Prelude.{◌≡◌, ◌<◌, Ok};
+ghost use Rattle.std.specs.Prelude.{◌≡◌, ◌<◌, IfOk, Ok};
 ghost use Rattle.ark_base.specs.Outcome.{AnswersBy};
+ghost use Rattle.merkle_map.specs.Kept.{IsKept};
+ghost use Rattle.merkle_map.specs.Map.{MapHashes};
 ghost use Rattle.merkle_map.specs.Parts.{entry_seen, shape};
 ghost use Rattle.merkle_map.specs.Tree.{One};
 ghost use Rattle.merkle_map.specs.Pruned.{aside, covered, keys_with, pruned, Fits};
@@ -34,7 +36,9 @@ fn keys_on(
 
 // Copies an entry. The only error is `OutOfMemory`.
 fn copy_of_entry<D: DigestItem>(alloc: Global, entry: &Entry<D>) -> Result<Part<D>, Error>
-    ensures { AnswersBy (shape D.numbers) (Ok (One (entry_seen D.numbers entry.now))) result }
+    ensures copied { AnswersBy (shape D.numbers) (Ok (One (entry_seen D.numbers entry.now)))
+        result }
+    ensures digests { IfOk result (λ new. (h : MapHashes) → IsKept D.numbers h new) }
 {
     let value = copy_of(alloc, &entry.value)?;
     Ok(Part::One {
@@ -52,8 +56,10 @@ fn cover<D: DigestItem, T: MapHasher<D>>(
     hasher: &T,
     part: &Part<D>,
 ) -> Result<Part<D>, Error>
-    ensures { AnswersBy (shape D.numbers) (covered (T.hashes hasher.now) (shape D.numbers part.now))
-        result }
+    requires { IsKept D.numbers (T.hashes hasher.now) part.now }
+    ensures covered { AnswersBy (shape D.numbers) (covered (T.hashes hasher.now)
+        (shape D.numbers part.now)) result }
+    ensures digests { IfOk result (λ new. (h : MapHashes) → IsKept D.numbers h new) }
 {
     match part {
         Part::Empty => Ok(Part::Empty),
@@ -76,14 +82,16 @@ fn set_aside<D: DigestItem, T: MapHasher<D>>(
     tops: bool,
     part: &Part<D>,
 ) -> Result<Part<D>, Error>
-    ensures { AnswersBy (shape D.numbers) (aside (T.hashes hasher.now) tops
+    requires { IsKept D.numbers (T.hashes hasher.now) part.now }
+    ensures aside { AnswersBy (shape D.numbers) (aside (T.hashes hasher.now) tops
         (shape D.numbers part.now)) result }
+    ensures digests { IfOk result (λ new. (h : MapHashes) → IsKept D.numbers h new) }
 {
     if tops {
         match part {
             Part::Empty => Ok(Part::Empty),
             Part::One { entry } => copy_of_entry(alloc, entry),
-            Part::Fork { left, right } => {
+            Part::Fork { left, right, .. } => {
                 let l = cover(alloc, hasher, left)?;
                 let r = cover(alloc, hasher, right)?;
                 fork(alloc, l, r)
@@ -107,9 +115,11 @@ pub fn prune_in<D: DigestItem, T: MapHasher<D>>(
     level: usize,
     keys: &[[u8; 32]],
 ) -> Result<Part<D>, Error>
-    requires { Fits level (shape D.numbers part.now) }
-    ensures { AnswersBy (shape D.numbers) (pruned (T.hashes hasher.now) tops level keys.now
+    requires fits { Fits level (shape D.numbers part.now) }
+    requires kept { IsKept D.numbers (T.hashes hasher.now) part.now }
+    ensures pruned { AnswersBy (shape D.numbers) (pruned (T.hashes hasher.now) tops level keys.now
         (shape D.numbers part.now)) result }
+    ensures digests { IfOk result (λ new. (h : MapHashes) → IsKept D.numbers h new) }
 {
     if keys.is_empty() {
         return set_aside(alloc, hasher, tops, part);
@@ -117,7 +127,7 @@ pub fn prune_in<D: DigestItem, T: MapHasher<D>>(
     match part {
         Part::Empty => Ok(Part::Empty),
         Part::One { entry } => copy_of_entry(alloc, entry),
-        Part::Fork { left, right } => {
+        Part::Fork { left, right, .. } => {
             let on_left = keys_on(alloc, keys, level, false)?;
             let on_right = keys_on(alloc, keys, level, true)?;
             let l = prune_in(alloc, hasher, tops, left, level + 1, &on_left)?;

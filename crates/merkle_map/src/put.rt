@@ -1,10 +1,11 @@
 //! A value is put into a tree.
 
-ghost use Rattle.std.specs.Prelude.{◌≡◌, ◌<◌, ◌≤◌, ◌+◌, ◌-◌, true, false, not, OnErr, Ok};
+ghost use Rattle.std.specs.Prelude.{◌≡◌, ◌<◌, ◌≤◌, ◌+◌, ◌-◌, true, false, not, IfOk, OnErr, Ok};
 ghost use Rattle.std.specs.Str.{bytes_eq};
 ghost use Rattle.ark_base.specs.Outcome.{AnswersBy};
 ghost use Rattle.merkle_map.specs.Changes.{two_of, with_value};
-ghost use Rattle.merkle_map.specs.Map.{bit_of as bit_in};
+ghost use Rattle.merkle_map.specs.Kept.{IsKept};
+ghost use Rattle.merkle_map.specs.Map.{MapHashes, bit_of as bit_in};
 ghost use Rattle.merkle_map.specs.Parts.{entry_seen, shape};
 ghost use Rattle.merkle_map.specs.Tree.{way, IsKey, StandsAt};
 
@@ -38,8 +39,9 @@ fn apart<D: DigestItem>(
     requires other_key { IsKey other.key }
     requires together { way level own.key ≡ way level other.key }
     requires differ { bytes_eq other.key own.key ≡ false }
-    ensures { AnswersBy (shape D.numbers) (Ok (two_of (256 - level) level
+    ensures made { AnswersBy (shape D.numbers) (Ok (two_of (256 - level) level
         (entry_seen D.numbers own) (entry_seen D.numbers other))) result }
+    ensures kept { IfOk result (λ new. (h : MapHashes) → IsKept D.numbers h new) }
 {
     if have_same_bit(level, &own.key, &other.key) {
         let is_right = bit_of(&own.key, level);
@@ -69,8 +71,9 @@ fn apart_from<D: DigestItem>(
     requires other_key { IsKey other.now.key }
     requires together { way level own.key ≡ way level other.now.key }
     requires differ { bytes_eq other.now.key own.key ≡ false }
-    ensures { AnswersBy (shape D.numbers) (Ok (two_of (256 - level) level
+    ensures made { AnswersBy (shape D.numbers) (Ok (two_of (256 - level) level
         (entry_seen D.numbers own) (entry_seen D.numbers other.now))) result }
+    ensures kept { IfOk result (λ new. (h : MapHashes) → IsKept D.numbers h new) }
 {
     let value = copy_of(alloc, &other.value)?;
     let copy = Entry {
@@ -93,6 +96,7 @@ pub fn put_in<D: DigestItem>(
     ensures changed { AnswersBy (λ _. shape D.numbers part.new)
         (with_value level (entry_seen D.numbers own) (shape D.numbers part.old)) result }
     ensures kept { OnErr result (shape D.numbers part.new ≡ shape D.numbers part.old) }
+    ensures digests { (h : MapHashes) → IsKept D.numbers h part.old → IsKept D.numbers h part.new }
 {
     match part {
         Part::Empty => {
@@ -108,7 +112,12 @@ pub fn put_in<D: DigestItem>(
             *part = two;
             Ok(())
         }
-        Part::Fork { left, right } => {
+        Part::Fork {
+            left,
+            right,
+            digest,
+        } => {
+            *digest = None;
             if bit_of(&own.key, level) {
                 put_in(alloc, right, level + 1, own)
             } else {

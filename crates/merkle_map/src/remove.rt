@@ -2,6 +2,8 @@
 
 ghost use Rattle.std.specs.Prelude.{◌≡◌, [], OnErr, Ok};
 ghost use Rattle.merkle_map.specs.Changes.{collapsed, is_alone, has_entry, joined, losing, outcome_with, tree_without, Becomes};
+ghost use Rattle.merkle_map.specs.Kept.{AreKept, IsKept};
+ghost use Rattle.merkle_map.specs.Map.{MapHashes};
 ghost use Rattle.merkle_map.specs.Parts.{shape};
 ghost use Rattle.merkle_map.specs.Rests.{is_hidden_rest, rest_of, rest_beside};
 ghost use Rattle.merkle_map.specs.Tree.{way, StandsAt};
@@ -90,7 +92,7 @@ fn rest_without<D: DigestItem>(part: &Part<D>, level: usize, key: &[u8; 32]) -> 
             }
             Rest::Lone
         }
-        Part::Fork { left, right } => {
+        Part::Fork { left, right, .. } => {
             if bit_of(key, level) {
                 rest_joined(rest_without(right, level + 1, key), rest_now(left))
             } else {
@@ -120,8 +122,10 @@ fn stands_alone<D: DigestItem>(part: &Part<D>, beside: &Part<D>) -> bool
 
 // Joins two sides, of which one may have lost an entry, if what is hidden does not decide what they are together.
 fn join<D: DigestItem>(left: Box<Part<D>>, right: Box<Part<D>>) -> Part<D>
-    ensures { Becomes (joined (shape D.numbers left.value) (shape D.numbers right.value))
+    ensures joined { Becomes (joined (shape D.numbers left.value) (shape D.numbers right.value))
         (shape D.numbers result) }
+    ensures digests { (h : MapHashes) → IsKept D.numbers h left.value
+        → IsKept D.numbers h right.value → IsKept D.numbers h result }
 {
     if stands_alone(&right, &left) {
         return Box::into_inner(right);
@@ -129,17 +133,22 @@ fn join<D: DigestItem>(left: Box<Part<D>>, right: Box<Part<D>>) -> Part<D>
     if stands_alone(&left, &right) {
         return Box::into_inner(left);
     }
-    Part::Fork { left, right }
+    Part::Fork {
+        left,
+        right,
+        digest: None,
+    }
 }
 
 // Joins the two sides of a tree, of which one may have lost an entry.
 fn collapse<D: DigestItem>(part: &mut Part<D>)
-    ensures { Becomes (collapsed (shape D.numbers part.old)) (shape D.numbers part.new) }
+    ensures joined { Becomes (collapsed (shape D.numbers part.old)) (shape D.numbers part.new) }
+    ensures digests { (h : MapHashes) → AreKept D.numbers h part.old → IsKept D.numbers h part.new }
 {
     match mem::replace(part, Part::Empty) {
         Part::Empty => {}
         Part::One { entry } => *part = Part::One { entry },
-        Part::Fork { left, right } => *part = join(left, right),
+        Part::Fork { left, right, .. } => *part = join(left, right),
         Part::Hidden { digest } => *part = Part::Hidden { digest },
     }
 }
@@ -147,7 +156,9 @@ fn collapse<D: DigestItem>(part: &mut Part<D>)
 // Removes a key from a tree some levels below the root, if the tree does not hide what that needs.
 fn remove_in<D: DigestItem>(part: &mut Part<D>, level: usize, key: &[u8; 32])
     requires { StandsAt (way level key.now) (shape D.numbers part.old) }
-    ensures { Becomes (losing level key.now (shape D.numbers part.old)) (shape D.numbers part.new) }
+    ensures lost { Becomes (losing level key.now (shape D.numbers part.old))
+        (shape D.numbers part.new) }
+    ensures digests { (h : MapHashes) → IsKept D.numbers h part.old → IsKept D.numbers h part.new }
 {
     match part {
         Part::Empty => {}
@@ -156,7 +167,7 @@ fn remove_in<D: DigestItem>(part: &mut Part<D>, level: usize, key: &[u8; 32])
                 *part = Part::Empty;
             }
         }
-        Part::Fork { left, right } => {
+        Part::Fork { left, right, .. } => {
             if bit_of(key, level) {
                 remove_in(right, level + 1, key);
                 collapse(part);
@@ -176,6 +187,7 @@ pub fn remove_from<D: DigestItem>(part: &mut Part<D>, key: &[u8; 32]) -> Result<
     ensures changed { tree_without key.now (shape D.numbers part.old)
         ≡ outcome_with (shape D.numbers part.new) result }
     ensures kept { OnErr result (shape D.numbers part.new ≡ shape D.numbers part.old) }
+    ensures digests { (h : MapHashes) → IsKept D.numbers h part.old → IsKept D.numbers h part.new }
 {
     if has_at(part, key)? {
         if is_unknown(rest_without(part, 0, key)) {

@@ -36,6 +36,8 @@ pub struct MapTree<D: DigestItem> {
 
 impl<D: DigestItem> Model for MapTree<D> {
     ghost use Rattle.std.specs.Prelude.{[]};
+    ghost use Rattle.merkle_map.specs.Kept.{IsKept};
+    ghost use Rattle.merkle_map.specs.Map.{MapHashes};
     ghost use Rattle.merkle_map.specs.Parts.{shape};
     ghost use Rattle.merkle_map.specs.Tree.{Shape, StandsAt};
     ghost use Rattle.merkle_map.specs.Coded.{shape_code};
@@ -46,7 +48,9 @@ impl<D: DigestItem> Model for MapTree<D> {
 
     ghost view = { λ tree. shape D.numbers tree.top };
 
-    ghost invariant = { λ tree. StandsAt [] (shape D.numbers tree.top) };
+    // It keeps no digest, since its calls may take any hasher: what it kept would have to be the digest for each.
+    ghost invariant = { λ tree. StandsAt [] (shape D.numbers tree.top)
+        × ((h : MapHashes) → IsKept D.numbers h tree.top) };
 }
 
 impl<D: DigestItem> MapTree<D> {

@@ -3,7 +3,7 @@
 use crate::drawn::{change, changed, drawn, is_shown, key_of};
 use crate::model::{CHANGES, PROOFS, PRUNED};
 use ark_base::error::Error;
-use merkle_map::{Change, End, KeyProof, MapTree, Sha256Map, verify_transition};
+use merkle_map::{Change, End, KeptMap, KeyProof, MapTree, Sha256Map, verify_transition};
 use sha2::{Digest, Sha256};
 use std::alloc::Global;
 use std::test::Fail;
@@ -52,6 +52,53 @@ fn agreed(alloc: Global) -> Result<usize, Error> {
         }
     }
     Ok(agree)
+}
+
+// How many roots of the model's changes a map has that keeps its digests.
+fn kept_agreed(alloc: Global) -> Result<usize, Error> {
+    let mut map = KeptMap::new(Sha256Map::new());
+    let mut agree = 0usize;
+    let mut row = 0u64;
+    for (number, removed, root) in CHANGES {
+        let key = key_of(*number);
+        if *removed {
+            map.remove(&key);
+        } else {
+            map.insert(alloc, &key, drawn("value", row))?;
+        }
+        row = row.wrapping_add(1);
+        if is_shown(alloc, &map.root(alloc)?, root) {
+            agree = agree.wrapping_add(1);
+        }
+    }
+    Ok(agree)
+}
+
+#[test]
+fn kept_digests_are_those_of_the_changed_map(rt: HostRuntime) {
+    assert!(rt; matches!(kept_agreed(rt.alloc()), Ok(count) if count == CHANGES.len()));
+}
+
+// Whether a map that keeps its digests has a value, and its proof of it is accepted.
+fn kept_shows(alloc: Global) -> Result<bool, Error> {
+    let key = key_of(1);
+    let value = drawn("value", 1);
+    let hasher = Sha256Map::new();
+    let mut map = KeptMap::new(Sha256Map::new());
+    map.insert(alloc, &key, value)?;
+    map.insert(alloc, &key_of(2), drawn("value", 2))?;
+    let root = map.root(alloc)?;
+    let proof = map.prove_key(alloc, &key)?;
+    let has_it = match map.get(&key) {
+        Some(found) => *found == value,
+        None => false,
+    };
+    Ok(has_it && proof.verify(alloc, &hasher, &root, &key, Some(&value))?)
+}
+
+#[test]
+fn kept_maps_prove_what_they_have(rt: HostRuntime) {
+    assert!(rt; matches!(kept_shows(rt.alloc()), Ok(true)));
 }
 
 // Whether the bytes of proofs are the model's, are read again, and are refused with a byte changed or left out.

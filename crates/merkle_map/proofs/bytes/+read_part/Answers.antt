@@ -52,7 +52,7 @@ returns-in_ok-tree-in-2-clause-answer t c =
     ∙ ap (λ o. o >>= λ right. Ok (Fork l right.0, right.1)) c.in_ok-right-in-2.ensures.answer
     ∙ ap (λ s. Ok (Fork l r, drop b s)) (c.from_index-in-2.ensures ∙ ap (drop a) c.from_index-rest.ensures)
     ∙ ap (λ s. Ok (Fork l r, s)) (drops b a 1 bytes)
-    ∙ ap (λ o. o >>= λ s. Ok (s, drop (1 + a + b) bytes)) c.in_ok-tree-in-2.ensures
+    ∙ ap (λ o. o >>= λ s. Ok (s, drop (1 + a + b) bytes)) c.in_ok-tree-in-2.ensures.made
 
 pub returns-in_ok-value-in-1-clause-within : goal.returns-in_ok-value-in-1-clause-within
 returns-in_ok-value-in-1-clause-within t c =
@@ -79,3 +79,7 @@ returns-in_ok-value-in-1-clause-answer t c =
     ∙ ap (λ s. Ok (One (record { key = key; value = value }), drop 32 s)) (c.from_index.ensures
     ∙ ap (drop 32) c.from_index-rest.ensures)
     ∙ ap (λ s. Ok (One (record { key = key; value = value }), s)) (drops 32 32 1 bytes)
+
+pub returns-in_ok-tree-in-2-clause-digests : goal.returns-in_ok-tree-in-2-clause-digests
+returns-in_ok-tree-in-2-clause-digests t c = λ h.
+    c.in_ok-tree-in-2.ensures.kept h (c.in_ok-left-in-2.ensures.digests h) (c.in_ok-right-in-2.ensures.digests h)

@@ -12,14 +12,14 @@ pub bit_of-requires : goal.bit_of-requires
 bit_of-requires g t c =
     let numbers = g.D.Numbered.numbers in
     fork_within c.args.level c.args.key.now (shape numbers c.in-Fork.left.value) (shape numbers c.in-Fork.right.value)
-    (subst (λ p. StandsAt (way c.args.level c.args.key.now) (shape numbers p)) c.in-Fork.is c.requires)
+    (subst (λ p. StandsAt (way c.args.level c.args.key.now) (shape numbers p)) c.in-Fork.is c.requires.stands)
 
 pub overflow_add-level-else-bit_of : goal.overflow_add-level-else-bit_of
 overflow_add-level-else-bit_of g t c =
     let numbers = g.D.Numbered.numbers in
     let inside = fork_within c.args.level c.args.key.now (shape numbers c.in-Fork.left.value)
     (shape numbers c.in-Fork.right.value)
-    (subst (λ p. StandsAt (way c.args.level c.args.key.now) (shape numbers p)) c.in-Fork.is c.requires) in
+    (subst (λ p. StandsAt (way c.args.level c.args.key.now) (shape numbers p)) c.in-Fork.is c.requires.stands) in
     omega (arith, inside)
 
 pub returns-in_ok-push-in-Fork : goal.returns-in_ok-push-in-Fork

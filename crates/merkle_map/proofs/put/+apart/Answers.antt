@@ -5,6 +5,8 @@ use Rattle.merkle_map.specs.Tree.{Empty, Fork}
 use Rattle.merkle_map.proofs.Keys.{bits_left}
 use Rattle.merkle_map.proofs.Two.{both-right, both-left, first-right, first-left}
 use Rattle.merkle_map.proofs.Answered.{answers_as}
+use Rattle.merkle_map.specs.declared.part.Part.{Empty as NoEntry}
+use Rattle.merkle_map.proofs.Keeping.{kept-above}
 use Rattle.merkle_map.proofs.put.+apart.Goals as goal
 
 pub have_same_bit-requires : goal.have_same_bit-requires
@@ -15,35 +17,45 @@ have_same_bit-requires g t c = record {
   together = c.requires.together;
 }
 
-pub returns-then-bit_of : goal.returns-then-bit_of
-returns-then-bit_of g t c =
+pub returns-then-bit_of-clause-made : goal.returns-then-bit_of-clause-made
+returns-then-bit_of-clause-made g t c =
     let numbers = g.D.Numbered.numbers in
     let own = sym c.bit_of.ensures ∙ c.if-bit_of.true in
     answers_as _ _ _ _ (ap Ok (first-right c.args.level (entry_seen numbers c.args.own)
     (entry_seen numbers c.args.other)
     c.have_same_bit.ensures.within own (c.have_same_bit.ensures.other c.if-have_same_bit.false
-    ∙ ap not own))) c.fork-then-bit_of.ensures
+    ∙ ap not own))) c.fork-then-bit_of.ensures.made
 
-pub returns-else-bit_of : goal.returns-else-bit_of
-returns-else-bit_of g t c =
+pub returns-else-bit_of-clause-made : goal.returns-else-bit_of-clause-made
+returns-else-bit_of-clause-made g t c =
     let numbers = g.D.Numbered.numbers in
     let own = sym c.bit_of.ensures ∙ c.if-bit_of.false in
     answers_as _ _ _ _ (ap Ok (first-left c.args.level (entry_seen numbers c.args.own) (entry_seen numbers c.args.other)
     c.have_same_bit.ensures.within own (c.have_same_bit.ensures.other c.if-have_same_bit.false
-    ∙ ap not own))) c.fork-else-have_same_bit.ensures
+    ∙ ap not own))) c.fork-else-have_same_bit.ensures.made
 
-pub returns-then-is_right : goal.returns-then-is_right
-returns-then-is_right g t c =
+pub returns-then-is_right-clause-made : goal.returns-then-is_right-clause-made
+returns-then-is_right-clause-made g t c =
     let numbers = g.D.Numbered.numbers in
     let own = sym c.bit_of-is_right.ensures ∙ c.if-is_right.true in
     answers_as _ _ _ _ (ap Ok (both-right c.args.level (entry_seen numbers c.args.own) (entry_seen numbers c.args.other)
     c.have_same_bit.ensures.within own (c.have_same_bit.ensures.same c.if-have_same_bit.true ∙ own))
-    ∙ ap (λ o. o >>= λ s. Ok (Fork Empty s)) c.in_ok-below.ensures) c.fork.ensures
+    ∙ ap (λ o. o >>= λ s. Ok (Fork Empty s)) c.in_ok-below.ensures.made) c.fork.ensures.made
 
-pub returns-else-is_right : goal.returns-else-is_right
-returns-else-is_right g t c =
+pub returns-else-is_right-clause-made : goal.returns-else-is_right-clause-made
+returns-else-is_right-clause-made g t c =
     let numbers = g.D.Numbered.numbers in
     let own = sym c.bit_of-is_right.ensures ∙ c.if-is_right.false in
     answers_as _ _ _ _ (ap Ok (both-left c.args.level (entry_seen numbers c.args.own) (entry_seen numbers c.args.other)
     c.have_same_bit.ensures.within own (c.have_same_bit.ensures.same c.if-have_same_bit.true ∙ own))
-    ∙ ap (λ o. o >>= λ s. Ok (Fork s Empty)) c.in_ok-below.ensures) c.fork-else-is_right.ensures
+    ∙ ap (λ o. o >>= λ s. Ok (Fork s Empty)) c.in_ok-below.ensures.made) c.fork-else-is_right.ensures.made
+
+pub returns-then-is_right-clause-kept : goal.returns-then-is_right-clause-kept
+returns-then-is_right-clause-kept g t c =
+    kept-above g.D.Numbered.numbers c.fork.result NoEntry c.in_ok-below.below c.fork.ensures.kept (λ h. tt)
+    c.in_ok-below.ensures.kept
+
+pub returns-else-is_right-clause-kept : goal.returns-else-is_right-clause-kept
+returns-else-is_right-clause-kept g t c =
+    kept-above g.D.Numbered.numbers c.fork-else-is_right.result c.in_ok-below.below NoEntry
+    c.fork-else-is_right.ensures.kept c.in_ok-below.ensures.kept (λ h. tt)

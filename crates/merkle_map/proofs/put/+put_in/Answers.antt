@@ -1,6 +1,7 @@
 use Rattle.std.proofs.Common.{◌+◌, ap, sym, ◌∙◌, subst}
 use Rattle.ark_base.specs.Outcome.{AnswersBy}
 use Rattle.merkle_map.specs.Changes.{with_value}
+use Rattle.merkle_map.specs.Kept.{IsKept}
 use Rattle.merkle_map.specs.Parts.{entry_seen, shape}
 use Rattle.merkle_map.specs.Tree.{Fork, way, StandsAt}
 use Rattle.merkle_map.proofs.Answered.{answers_on}
@@ -48,3 +49,22 @@ returns-else-bit_of-clause-changed g t c =
     (with-left level own left right (sym c.bit_of.ensures ∙ c.if-bit_of.false))
     (subst (λ p. AnswersBy (λ _. shape numbers put.new.part) (with_value (level + 1) own (shape numbers p)) put.result)
     c.deref_mut-else-bit_of.ensures.value put.ensures.changed))
+
+pub returns-in_ok-two-in-One-clause-digests : goal.returns-in_ok-two-in-One-clause-digests
+returns-in_ok-two-in-One-clause-digests g t c = λ h kept. c.in_ok-two-in-One.ensures.kept h
+
+pub returns-then-bit_of-clause-digests : goal.returns-then-bit_of-clause-digests
+returns-then-bit_of-clause-digests g t c = λ h kept.
+    let numbers = g.D.Numbered.numbers in
+    let old = subst (IsKept numbers h) c.in-Fork.is kept in
+    (tt, old.1, c.put_in.ensures.digests h (subst (IsKept numbers h) (sym c.deref_mut.ensures.value) old.2))
+
+pub returns-else-bit_of-clause-digests : goal.returns-else-bit_of-clause-digests
+returns-else-bit_of-clause-digests g t c = λ h kept.
+    let numbers = g.D.Numbered.numbers in
+    let old = subst (IsKept numbers h) c.in-Fork.is kept in (
+      tt,
+      c.put_in-else-bit_of.ensures.digests h (subst (IsKept numbers h) (sym c.deref_mut-else-bit_of.ensures.value)
+          old.1),
+      old.2,
+    )

@@ -1,5 +1,6 @@
 use Rattle.std.proofs.Common.{◌+◌, arith, sym, ◌∙◌, subst}
 use Rattle.merkle_map.specs.Changes.{losing, joined, Becomes}
+use Rattle.merkle_map.specs.Kept.{IsKept}
 use Rattle.merkle_map.specs.Parts.{shape}
 use Rattle.merkle_map.specs.Tree.{way, StandsAt}
 use Rattle.merkle_map.proofs.Places.{fork_within, losing-right, losing-left}
@@ -20,8 +21,8 @@ overflow_add-level-else-bit_of g t c =
     (subst (λ p. StandsAt (way c.args.level c.args.key.now) (shape numbers p)) c.in-Fork.is c.requires) in
     omega (arith, inside)
 
-pub returns-then-bit_of : goal.returns-then-bit_of
-returns-then-bit_of g t c =
+pub returns-then-bit_of-clause-lost : goal.returns-then-bit_of-clause-lost
+returns-then-bit_of-clause-lost g t c =
     let numbers = g.D.Numbered.numbers in
     let level = c.args.level in
     let key = c.args.key.now in
@@ -33,10 +34,10 @@ returns-then-bit_of g t c =
     (becomes_on (losing (level + 1) key right) (λ r. joined left r) (shape numbers c.remove_in.new.part) new
     (subst (λ p. Becomes (losing (level + 1) key (shape numbers p))
     (shape numbers c.remove_in.new.part)) c.deref_mut.ensures.value
-    c.remove_in.ensures) c.collapse.ensures))
+    c.remove_in.ensures.lost) c.collapse.ensures.joined))
 
-pub returns-else-bit_of : goal.returns-else-bit_of
-returns-else-bit_of g t c =
+pub returns-else-bit_of-clause-lost : goal.returns-else-bit_of-clause-lost
+returns-else-bit_of-clause-lost g t c =
     let numbers = g.D.Numbered.numbers in
     let level = c.args.level in
     let key = c.args.key.now in
@@ -49,4 +50,24 @@ returns-else-bit_of g t c =
     (becomes_on (losing (level + 1) key left) (λ l. joined l right) (shape numbers removed.new.part) new
     (subst (λ p. Becomes (losing (level + 1) key (shape numbers p))
     (shape numbers removed.new.part)) c.deref_mut-else-bit_of.ensures.value
-    removed.ensures) c.collapse-else-bit_of.ensures))
+    removed.ensures.lost) c.collapse-else-bit_of.ensures.joined))
+
+pub returns-then-bit_of-clause-digests : goal.returns-then-bit_of-clause-digests
+returns-then-bit_of-clause-digests g t c = λ h kept.
+    let numbers = g.D.Numbered.numbers in
+    let old = subst (IsKept numbers h) c.in-Fork.is kept in
+    c.collapse.ensures.digests h (
+      old.1,
+      c.remove_in.ensures.digests h
+          (subst (IsKept numbers h) (sym c.deref_mut.ensures.value) old.2),
+    )
+
+pub returns-else-bit_of-clause-digests : goal.returns-else-bit_of-clause-digests
+returns-else-bit_of-clause-digests g t c = λ h kept.
+    let numbers = g.D.Numbered.numbers in
+    let old = subst (IsKept numbers h) c.in-Fork.is kept in
+    c.collapse-else-bit_of.ensures.digests h (
+      c.remove_in-else-bit_of.ensures.digests h
+          (subst (IsKept numbers h) (sym c.deref_mut-else-bit_of.ensures.value) old.1),
+      old.2,
+    )

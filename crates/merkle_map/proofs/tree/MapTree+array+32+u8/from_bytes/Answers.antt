@@ -10,8 +10,10 @@ pub returns-clause-reads : goal.returns-clause-reads
 returns-clause-reads c = reads-back c.args.bytes.now
 
 pub invariant_of-result : goal.invariant_of-result
-invariant_of-result c =
-    bytes-stand c.args.bytes.now (shape itself c.in_ok-top.top) c.in_ok-top.ensures.sized c.in_ok-top.ensures.answer
+invariant_of-result c = (
+  bytes-stand c.args.bytes.now (shape itself c.in_ok-top.top) c.in_ok-top.ensures.sized c.in_ok-top.ensures.answer,
+  c.in_ok-top.ensures.digests,
+)
 
 pub returns-clause-only : goal.returns-clause-only
 returns-clause-only c = bytes-spelled c.args.bytes.now (shape itself c.in_ok-top.top) c.in_ok-top.ensures.answer

@@ -10,10 +10,12 @@ use Rattle.merkle_map.proofs.tree.MapTree.insert.Goals as goal
 
 pub invariant_of-self : goal.invariant_of-self
 invariant_of-self g c =
-    let numbers = g.D.Numbered.numbers in
-    put-stands (entry_of c.args.key.now (numbers c.args.value)) (c.told-key, c.fits-key)
-    (shape numbers c.self.inside.top)
-    (shape numbers c.put_in.new.part) c.self.invariant c.put_in.result c.put_in.ensures.changed c.put_in.ensures.kept
+    let numbers = g.D.Numbered.numbers in (
+      put-stands (entry_of c.args.key.now (numbers c.args.value)) (c.told-key, c.fits-key)
+          (shape numbers c.self.inside.top)
+          (shape numbers c.put_in.new.part) c.self.invariant.0 c.put_in.result c.put_in.ensures.changed c.put_in.ensures.kept,
+      λ h. c.put_in.ensures.digests h (c.self.invariant.1 h),
+    )
 
 pub returns-clause-maps : goal.returns-clause-maps
 returns-clause-maps g c =
@@ -22,7 +24,7 @@ returns-clause-maps g c =
     subst (λ old. OnOk c.put_in.result (Follows (put c.args.key.now (numbers c.args.value)) old new)) c.self.view_is
     (put-follows (entry_of c.args.key.now (numbers c.args.value)) (c.told-key, c.fits-key)
     (shape numbers c.self.inside.top) new
-    c.self.invariant c.put_in.result c.put_in.ensures.changed)
+    c.self.invariant.0 c.put_in.result c.put_in.ensures.changed)
 
 pub returns-clause-store : goal.returns-clause-store
 returns-clause-store g c =
@@ -31,7 +33,7 @@ returns-clause-store g c =
     let old = shape numbers c.self.inside.top in
     let new = shape numbers c.put_in.new.part in
     subst (λ s. Stores (put c.args.key.now (numbers c.args.value)) s new c.put_in.result) c.self.view_is
-    (stores (put c.args.key.now (numbers c.args.value)) old new c.self.invariant (invariant_of-self g c)
+    (stores (put c.args.key.now (numbers c.args.value)) old new c.self.invariant.0 (invariant_of-self g c).0
     (with_value 0 own old)
     c.put_in.result (put-can own old) c.put_in.ensures.changed
-    (put-follows own (c.told-key, c.fits-key) old new c.self.invariant c.put_in.result c.put_in.ensures.changed))
+    (put-follows own (c.told-key, c.fits-key) old new c.self.invariant.0 c.put_in.result c.put_in.ensures.changed))

@@ -4,6 +4,9 @@ use Rattle.merkle_map.specs.Parts.{shape}
 use Rattle.merkle_map.proofs.OwnProof.{accepts, behind_none}
 use Rattle.merkle_map.proofs.tree.MapTree.prove_key.Goals as goal
 
+pub climb_down-requires-clause-kept : goal.climb_down-requires-clause-kept
+climb_down-requires-clause-kept g c = c.self.invariant.1 (g.T.MapHasher.hashes c.args.hasher.now)
+
 pub returns-clause-accepted : goal.returns-clause-accepted
 returns-clause-accepted g c =
     let numbers = g.D.Numbered.numbers in
@@ -14,7 +17,7 @@ returns-clause-accepted g c =
     (record { end = c.in_ok-end.end; siblings = c.climb_down.new.siblings })))
     c.self.view_is
     (accepts h key old (proof_seen numbers
-    (record { end = c.in_ok-end.end; siblings = c.climb_down.new.siblings })) c.self.invariant
+    (record { end = c.in_ok-end.end; siblings = c.climb_down.new.siblings })) c.self.invariant.0
     (sym (behind_none (proof_at h 0 key old))
     ∙ ap (λ l. behind_all (map numbers l) (proof_at h 0 key old)) (sym c.new-siblings.ensures.items)
     ∙ c.in_ok-end.ensures))

@@ -6,21 +6,26 @@ use Rattle.merkle_map.proofs.Pruning.{stands-fits, prunes, prunes-known}
 use Rattle.merkle_map.proofs.tree.MapTree.pruned_for.Goals as goal
 
 pub prune_in-requires : goal.prune_in-requires
-prune_in-requires g c = stands-fits [] 0 (shape g.D.Numbered.numbers c.self.inside.top) refl c.self.invariant
+prune_in-requires g c = record {
+  fits = stands-fits [] 0 (shape g.D.Numbered.numbers c.self.inside.top) refl c.self.invariant.0;
+  kept = c.self.invariant.1 (g.T.MapHasher.hashes c.args.hasher.now);
+}
 
 pub invariant_of-result : goal.invariant_of-result
 invariant_of-result g c =
     let numbers = g.D.Numbered.numbers in
-    let h = g.T.MapHasher.hashes c.args.hasher.now in
-    (prunes h c.args.tops 0 [] c.args.keys.now (shape numbers c.self.inside.top) (shape numbers c.in_ok-top.top)
-    c.in_ok-top.ensures).stands c.self.invariant
+    let h = g.T.MapHasher.hashes c.args.hasher.now in (
+      (prunes h c.args.tops 0 [] c.args.keys.now (shape numbers c.self.inside.top) (shape numbers c.in_ok-top.top)
+          c.in_ok-top.ensures.pruned).stands c.self.invariant.0,
+      c.in_ok-top.ensures.digests,
+    )
 
 pub returns-clause-digest : goal.returns-clause-digest
 returns-clause-digest g c =
     let numbers = g.D.Numbered.numbers in
     let h = g.T.MapHasher.hashes c.args.hasher.now in
     (prunes h c.args.tops 0 [] c.args.keys.now (shape numbers c.self.inside.top) (shape numbers c.in_ok-top.top)
-    c.in_ok-top.ensures).digest ∙ ap (shape_digest h) c.self.view_is
+    c.in_ok-top.ensures.pruned).digest ∙ ap (shape_digest h) c.self.view_is
 
 pub returns-clause-known : goal.returns-clause-known
 returns-clause-known g c = λ key among.
@@ -28,11 +33,11 @@ returns-clause-known g c = λ key among.
     let h = g.T.MapHasher.hashes c.args.hasher.now in
     prunes-known h c.args.tops 0 c.args.keys.now key (shape numbers c.self.inside.top)
     (shape numbers c.in_ok-top.top) among
-    c.in_ok-top.ensures ∙ ap (known_at 0 key) c.self.view_is
+    c.in_ok-top.ensures.pruned ∙ ap (known_at 0 key) c.self.view_is
 
 pub returns-clause-maps : goal.returns-clause-maps
 returns-clause-maps g c = λ entries shown.
     let numbers = g.D.Numbered.numbers in
     let h = g.T.MapHasher.hashes c.args.hasher.now in
     (prunes h c.args.tops 0 [] c.args.keys.now (shape numbers c.self.inside.top) (shape numbers c.in_ok-top.top)
-    c.in_ok-top.ensures).shows entries (subst (λ s. Shows h 0 s entries) (sym c.self.view_is) shown)
+    c.in_ok-top.ensures.pruned).shows entries (subst (λ s. Shows h 0 s entries) (sym c.self.view_is) shown)

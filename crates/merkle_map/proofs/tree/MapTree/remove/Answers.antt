@@ -10,10 +10,12 @@ use Rattle.merkle_map.proofs.tree.MapTree.remove.Goals as goal
 
 pub invariant_of-self : goal.invariant_of-self
 invariant_of-self g c =
-    let numbers = g.D.Numbered.numbers in
-    without-stands c.args.key.now (shape numbers c.self.inside.top)
-    (shape numbers c.remove_from.new.part) c.remove_from.result
-    c.remove_from.ensures.changed c.remove_from.ensures.kept c.self.invariant
+    let numbers = g.D.Numbered.numbers in (
+      without-stands c.args.key.now (shape numbers c.self.inside.top)
+          (shape numbers c.remove_from.new.part) c.remove_from.result
+          c.remove_from.ensures.changed c.remove_from.ensures.kept c.self.invariant.0,
+      λ h. c.remove_from.ensures.digests h (c.self.invariant.1 h),
+    )
 
 pub returns-clause-maps : goal.returns-clause-maps
 returns-clause-maps g c =
@@ -30,6 +32,6 @@ returns-clause-store g c =
     let old = shape numbers c.self.inside.top in
     let new = shape numbers c.remove_from.new.part in
     subst (λ s. Stores (without key) s new c.remove_from.result) c.self.view_is
-    (stores (without key) old new c.self.invariant (invariant_of-self g c) (tree_without key old) c.remove_from.result
+    (stores (without key) old new c.self.invariant.0 (invariant_of-self g c).0 (tree_without key old) c.remove_from.result
     (remove-can key old) (exact new (tree_without key old) c.remove_from.result c.remove_from.ensures.changed)
     (without-follows key old new c.remove_from.result c.remove_from.ensures.changed))

@@ -1,0 +1,31 @@
+use Rattle.std.proofs.Common.{subst}
+use Rattle.merkle_map.specs.Map.{HaveSame, without}
+use Rattle.merkle_map.specs.Parts.{shape}
+use Rattle.merkle_map.specs.Whole.{entries_of}
+use Rattle.merkle_map.proofs.Calls.{without-follows, without-stands}
+use Rattle.merkle_map.proofs.Keeping.{without-same, without-whole}
+use Rattle.merkle_map.proofs.kept.KeptMap.remove.Goals as goal
+
+pub invariant_of-self : goal.invariant_of-self
+invariant_of-self g c =
+    let numbers = g.D.Numbered.numbers in
+    let key = c.args.key.now in
+    let old = shape numbers c.self.inside.top in
+    let new = shape numbers c.remove_from.new.part in
+    record {
+      stands = without-stands key old new c.remove_from.result c.remove_from.ensures.changed c.remove_from.ensures.kept
+          c.self.invariant.stands;
+      whole = without-whole old new c.self.invariant.whole key c.remove_from.result c.remove_from.ensures.changed;
+      kept = c.remove_from.ensures.digests (g.T.MapHasher.hashes c.self.inside.hasher) c.self.invariant.kept;
+    }
+
+pub returns-clause-removed : goal.returns-clause-removed
+returns-clause-removed g c =
+    let numbers = g.D.Numbered.numbers in
+    let key = c.args.key.now in
+    let old = shape numbers c.self.inside.top in
+    let new = shape numbers c.remove_from.new.part in
+    subst (λ map. HaveSame (entries_of new) (without key map.entries)) c.self.view_is
+    (without-same old new c.self.invariant.whole key c.remove_from.result c.self.invariant.stands
+    (invariant_of-self g c).stands c.remove_from.ensures.changed
+    (without-follows key old new c.remove_from.result c.remove_from.ensures.changed))

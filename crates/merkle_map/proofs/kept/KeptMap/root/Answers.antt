@@ -1,0 +1,15 @@
+use Rattle.std.proofs.Common.{subst}
+use Rattle.ark_base.specs.Outcome.{AnswersBy}
+use Rattle.merkle_map.specs.Map.{root_of}
+use Rattle.merkle_map.specs.Parts.{shape}
+use Rattle.merkle_map.proofs.Answered.{answers_as}
+use Rattle.merkle_map.proofs.Wholes.{root-of-store}
+use Rattle.merkle_map.proofs.kept.KeptMap.root.Goals as goal
+
+pub returns-clause-root : goal.returns-clause-root
+returns-clause-root g c =
+    let numbers = g.D.Numbered.numbers in
+    subst (λ map. AnswersBy numbers (root_of (g.T.MapHasher.hashes map.hasher) map.entries) c.fill.result)
+    c.self.view_is
+    (answers_as numbers _ _ c.fill.result (root-of-store (g.T.MapHasher.hashes c.self.inside.hasher)
+    (shape numbers c.self.inside.top) c.self.invariant.stands c.self.invariant.whole) c.fill.ensures.digest)
