@@ -1,5 +1,5 @@
 -- One step of loops over rows, at elements that f reads as numbers.
-use Rattle.std.proofs.Common.{◌≡◌, ℕ, ◌+◌, ◌<◌, ◌≤◌, List, [], ◌∷◌, ◌++◌, length, get_or, set, take, drop, ◌-◌, map, refl, sym, ◌∙◌, ap, ap₂, arith}
+use Rattle.std.proofs.Common.{◌≡◌, ℕ, ◌+◌, ◌<◌, ◌≤◌, List, [], ◌∷◌, ◌++◌, length, get_or, set, take, drop, ◌-◌, map, sym, ◌∙◌, ap, ap₂, arith}
 use Rattle.std.proofs.lemmas.List.{length-map, get_or-map, map-append, take_more, take_more_set, take_more_same, take_all, take_rest, drop-map}
 use Rattle.ark_sponge.proofs.Rows.{read}
 
@@ -22,7 +22,6 @@ module _ {F : Type 0} (f : F → ℕ) where
   image-all g row out i all all_out whole =
       let long : length (map g (map f row)) ≤ i = rw (length-map, length-map) all in
       ap (map f) (sym (take_all i out all_out)) ∙ whole ∙ take_all i (map g (map f row)) long
-
 
   -- the numbers of the row at i
   pub row_at : {Row : Type 0} (items : Row → List F) (rows : List Row) (i : ℕ) (v : Row) → i < length rows
@@ -73,7 +72,8 @@ module _ {F : Type 0} (f : F → ℕ) where
         length-map (drop 1 (map g rows)) behind,
       ) in
       let one : row ≡ get_or all i [] =
-      is_row ∙ ap behind (row_at items rest i v in_rest is_rest) ∙ sym (get_or-map behind (map g rest) i [] [] in_numbers)
+      is_row ∙ ap behind (row_at items rest i v in_rest is_rest)
+      ∙ sym (get_or-map behind (map g rest) i [] [] in_numbers)
       ∙ ap (λ t. get_or (map behind t) i []) (sym same) in
       ap₂ (λ ts r. ts ++ r ∷ []) so_far one ∙ sym (take_more all i [] in_all)
 

@@ -1,8 +1,8 @@
 -- Sums of products, modulo p: combinations of rows, and products of matrices.
-use Rattle.std.proofs.Common.{◌≡◌, ℕ, zero, suc, ◌+◌, ◌*◌, ◌%◌, ◌<◌, ◌≤◌, List, [], ◌∷◌, ◌++◌, length, get_or, set, take, map, replicate, All, refl, sym, ◌∙◌, ap, ap₂, arith, add-one}
-use Rattle.std.proofs.Math.Nat.{add-mod, add-mod-mod, mod-add-mod, mod-eq_of_lt, mod-mod}
+use Rattle.std.proofs.Common.{◌≡◌, ℕ, zero, suc, ◌+◌, ◌*◌, ◌%◌, ◌<◌, ◌≤◌, List, [], ◌∷◌, ◌++◌, length, get_or, set, take, map, replicate, All, refl, sym, ◌∙◌, ap, ap₂, arith}
+use Rattle.std.proofs.Math.Nat.{add-mod-mod, mod-add-mod, mod-eq_of_lt}
 use Rattle.std.proofs.lemmas.Nat.{mul-mod_first, mul-mod_second}
-use Rattle.std.proofs.lemmas.List.{length-map, length-take, take_more, map_more, map_push, map-append, map-set, take_all}
+use Rattle.std.proofs.lemmas.List.{length-map, length-take, take_more, map_more, map_push, take_all}
 use Rattle.ark_groups.specs.Field.{dot_product}
 use Rattle.ark_sponge.specs.Permutation.{sums, matrix_product}
 use Rattle.ark_sponge.specs.Recurrence.{IsCombination, IsProduct}
@@ -44,7 +44,8 @@ dot-sums_right p (m ∷ row) [] (y ∷ v) same = absurd (omega (arith, same))
 dot-sums_right p (m ∷ row) (x ∷ u) [] same = absurd (omega (arith, same))
 dot-sums_right p (m ∷ row) (x ∷ u) (y ∷ v) same =
     same_sum p (m * ((x + y) % p)) (m * (x + y)) (dot_product row (sums p u v))
-    (dot_product row u + dot_product row v) (mul-mod_second m (x + y) p) (dot-sums_right p row u v (omega (arith, same)))
+    (dot_product row u + dot_product row v) (mul-mod_second m (x + y) p)
+    (dot-sums_right p row u v (omega (arith, same)))
     ∙ ap (λ n. n % p) (omega arith)
 
 pub dot-scaled : (p m : ℕ) (row xs : List ℕ)

@@ -1,13 +1,14 @@
 -- The partial rounds are a recurrence.
-use Rattle.std.proofs.Common.{◌≡◌, inl, inr, ℕ, zero, suc, ◌+◌, ◌*◌, ◌-◌, ◌%◌, ◌<◌, ◌≤◌, List, [], ◌∷◌, ◌++◌, length, get_or, take, drop, map, fold, replicate, All, refl, sym, ◌∙◌, ap, ap₂, arith}
+use Rattle.std.proofs.Common.{◌≡◌, inl, inr, ℕ, zero, suc, ◌+◌, ◌*◌, ◌%◌, ◌<◌, ◌≤◌, List, [], ◌∷◌, ◌++◌, length, get_or, take, drop, map, fold, replicate, All, refl, sym, ◌∙◌, ap, ap₂, arith}
 use Rattle.std.proofs.Math.Nat.{add-mod-mod, mod-add-mod, mod-eq_of_lt}
-use Rattle.std.proofs.lemmas.Nat.{mod_below}
 use Rattle.std.proofs.lemmas.Bool.{cases_lt}
-use Rattle.std.proofs.lemmas.List.{length-map, map-append, drop-map, take_all, get_or-map}
+use Rattle.std.proofs.lemmas.List.{length-map, map-append, drop-map, take_all}
 use Rattle.std.proofs.lemmas.List.Sums.{fold_more}
 use Rattle.ark_groups.specs.Field.{IsField, dot_product}
-use Rattle.ark_sponge.specs.Permutation.{sums, front_images, matrix_product, poseidon_round, poseidon_rounds}
-use Rattle.ark_sponge.specs.Recurrence.{ShortRounds, on_tail, turned, short_round, short_rounds, AreRounds, IsCombination, IsProduct, TakesBack, TurnsAlike, plain_round, MovesOne, AreMoved}
+use Rattle.ark_sponge.specs.Permutation.{sums, matrix_product, poseidon_round, poseidon_rounds}
+use Rattle.ark_sponge.specs.Recurrence.{ShortRounds, on_tail, short_round, short_rounds, AreRounds, IsCombination, IsProduct, TakesBack, TurnsAlike, plain_round, MovesOne, AreMoved}
+use Rattle.ark_sponge.proofs.Rows.{length-sums}
+use Rattle.ark_sponge.proofs.Permuting.{matrix_product-below}
 use Rattle.ark_sponge.proofs.Products.{same_sum, dot-sums_right}
 
 -- ---- a round over a window
@@ -34,7 +35,8 @@ module _ (p : ℕ) (mds into : List (List ℕ)) (output feedback : List ℕ) whe
       sym (product (image ∷ xs)) ∙ map-append over (map (λ row. 0 ∷ row) (drop 1 into)) ((1 ∷ last) ∷ [])
       ∙ ap₂ (λ ts n. ts ++ n ∷ []) (behind_zeros image xs (drop 1 into)
       ∙ sym (drop-map (λ row. dot_product row xs % p) 1 into)) end in
-      ap (λ m. on_tail (matrix_product p into) (matrix_product p m (image ∷ xs))) is_mds ∙ ap₂ (λ n ts. n ∷ ts) head tail
+      ap (λ m. on_tail (matrix_product p into) (matrix_product p m (image ∷ xs))) is_mds
+      ∙ ap₂ (λ n ts. n ∷ ts) head tail
     where
       behind_zeros : (image : ℕ) (xs : List ℕ) (rows : List (List ℕ))
           → map (λ row. dot_product row (image ∷ xs) % p) (map (λ row. 0 ∷ row) rows) ≡ matrix_product p rows xs
@@ -43,12 +45,6 @@ module _ (p : ℕ) (mds into : List (List ℕ)) (output feedback : List ℕ) whe
           ap₂ (λ n ts. n ∷ ts) (ap (λ n. n % p) (omega arith)) (behind_zeros image xs rows)
 
 -- ---- states
-
-matrix-below : (p : ℕ) (rows : List (List ℕ)) (xs : List ℕ) → 0 < p → All (λ n. n < p) (matrix_product p rows xs)
-matrix-below p rows xs some k d within =
-    let product : List ℕ → ℕ = λ row. dot_product row xs % p in
-    let inside : k < length rows = rw (length-map rows product) at within in
-    rw (get_or-map product rows k [] d inside) (mod_below _ p some)
 
 module _ (p : ℕ) (some : 0 < p) (sbox : ℕ → ℕ) (mds : List (List ℕ)) (two : 1 ≤ length mds) where
   length-plain : (z : List ℕ) (k : ℕ) → length z ≡ length mds → length (plain_round p sbox mds z k) ≡ length mds
@@ -65,7 +61,7 @@ module _ (p : ℕ) (some : 0 < p) (sbox : ℕ → ℕ) (mds : List (List ℕ)) (
     where
       below-plain : (z : List ℕ) → All (λ n. n < p) z → All (λ n. n < p) (plain_round p sbox mds z k)
       below-plain [] below = below
-      below-plain (x ∷ z) below = matrix-below p mds (sbox ((x + k) % p) ∷ z) some
+      below-plain (x ∷ z) below = matrix_product-below p mds (sbox ((x + k) % p) ∷ z) some
 
   module _ (into : List (List ℕ)) (output feedback : List ℕ) (turns : TurnsAlike p mds into output feedback) where
     turn-one : (z : List ℕ) (k : ℕ) → length z ≡ length mds
@@ -93,16 +89,18 @@ pub are_rounds : (p n : ℕ) (mds rows : List (List ℕ)) (r : ShortRounds) → 
     → length r.output ≡ length mds → TakesBack p n r.back r.into → TurnsAlike p mds r.into r.output r.feedback
     → AreMoved p mds rows r.constants r.offset → AreRounds p mds rows r
 unfolding short_rounds
-are_rounds p n mds rows r some many wide takes turns moved =
-    (wide, λ sbox xs same below.
-    let two : 1 ≤ length mds = omega (arith, many) in
-    let end = fold (plain_round p sbox mds) xs r.constants in
-    let long : length end ≡ suc n = length-plains p some sbox mds two r.constants xs same ∙ many in
-    ap (λ t. sums p (on_tail (matrix_product p r.back) t) r.offset)
-    (sym (turn-all p some sbox mds two r.into r.output r.feedback turns r.constants xs same))
-    ∙ ap (λ t. sums p t r.offset) (taken-back p some sbox mds two r.back r.into n takes end long
-    (below-plains p some sbox mds two r.constants xs below))
-    ∙ moved sbox xs same below)
+are_rounds p n mds rows r some many wide takes turns moved = (
+  wide,
+  λ sbox xs same below.
+      let two : 1 ≤ length mds = omega (arith, many) in
+      let end = fold (plain_round p sbox mds) xs r.constants in
+      let long : length end ≡ suc n = length-plains p some sbox mds two r.constants xs same ∙ many in
+      ap (λ t. sums p (on_tail (matrix_product p r.back) t) r.offset)
+      (sym (turn-all p some sbox mds two r.into r.output r.feedback turns r.constants xs same))
+      ∙ ap (λ t. sums p t r.offset) (taken-back p some sbox mds two r.back r.into n takes end long
+      (below-plains p some sbox mds two r.constants xs below))
+      ∙ moved sbox xs same below,
+)
 
 -- ---- constants, moved
 
@@ -116,11 +114,6 @@ sums-sums p (x ∷ xs) (o ∷ os) [] same alike = absurd (omega (arith, alike))
 sums-sums p (x ∷ xs) (o ∷ os) (c ∷ cs) same alike =
     ap₂ (λ n ts. n ∷ ts) (mod-add-mod (x + o) p c ∙ ap (λ n. n % p) (omega arith) ∙ sym (add-mod-mod x (o + c) p))
     (sums-sums p xs os cs (omega (arith, same)) (omega (arith, alike)))
-
-length-of_sums : (p : ℕ) (xs ys : List ℕ) → length (sums p xs ys) ≡ length xs
-length-of_sums p [] ys = refl
-length-of_sums p (x ∷ xs) [] = refl
-length-of_sums p (x ∷ xs) (y ∷ ys) = ap suc (length-of_sums p xs ys)
 
 -- the matrix of a sum, without the first number of the second
 matrix-sums : (p s : ℕ) (rows : List (List ℕ)) (u v : List ℕ) → length v ≡ length u
@@ -156,7 +149,7 @@ moves_one p mds (c ∷ cs) (o ∷ os) constant rest next two wide long is_sum is
     mod-add-mod (x + o) p c ∙ ap (λ n. n % p) (omega arith) ∙ sym (add-mod-mod x (o + c) p)
     ∙ ap (λ n. (x + n) % p) is_constant in
     let short : length rest ≡ length xs =
-    sym (ap length is_rest) ∙ length-of_sums p os cs ∙ omega (arith, long, same) in
+    sym (ap length is_rest) ∙ length-sums p os cs ∙ omega (arith, long, same) in
     let image = sbox ((x + constant) % p) in
     ap (sums p (matrix_product p mds (image ∷ xs))) is_next ∙ sym (matrix-sums p image mds xs rest short)
     ∙ sym (ap₂ (λ n ts. matrix_product p mds (sbox n ∷ ts)) head tail)

@@ -1,8 +1,8 @@
 -- A state as an image and a window.
-use Rattle.std.proofs.Common.{◌≡◌, ℕ, zero, suc, ◌+◌, ◌-◌, ◌%◌, ◌<◌, ◌≤◌, List, [], ◌∷◌, ◌++◌, length, get_or, set, take, drop, map, fold, refl, sym, ◌∙◌, ap, ap₂, arith}
+use Rattle.std.proofs.Common.{◌≡◌, ℕ, suc, ◌+◌, ◌-◌, ◌%◌, ◌≤◌, List, [], ◌∷◌, ◌++◌, length, get_or, set, take, drop, map, fold, refl, sym, ◌∙◌, ap, ap₂, arith}
 use lib.Seq.{paste}
 use Rattle.std.proofs.Math.Nat.{add-mod-mod}
-use Rattle.std.proofs.lemmas.List.{append-nil, take_all, drop_all, map-append, drop-map, length-map}
+use Rattle.std.proofs.lemmas.List.{append-nil, take_all, drop_all, map-append, drop-map}
 use Rattle.ark_groups.specs.Field.{dot_product}
 use Rattle.ark_sponge.specs.Permutation.{sums, matrix_product}
 use Rattle.ark_sponge.specs.Recurrence.{ShortRounds, on_tail, turned, short_round, short_rounds}
@@ -50,7 +50,8 @@ module _ {F : Type 0} (f : F → ℕ) (p : ℕ) where
       → f last ≡ (f image + f product) % p
       → map f (first ∷ (drop 2 (set state 0 image) ++ last ∷ []))
       ≡ short_round p sbox (map f output) (map f feedback) (map f state) k
-  turned-of sbox output feedback [] k x sum image first product last two is_x is_sum is_image is_first is_product is_last =
+  turned-of sbox output feedback [] k x sum image first product last two is_x is_sum is_image is_first is_product
+      is_last =
       absurd (omega (arith, two))
   turned-of sbox output feedback (y ∷ rest) k x sum image first product last two is_x is_sum is_image is_first
       is_product is_last =

@@ -1,7 +1,7 @@
--- The partial rounds as a linear recurrence: each takes 2t - 1 products, where a state has t numbers, in place of t * t.
--- Only the first number goes through the S-box. The others, in another basis, are a window over one sequence of numbers:
--- a round takes the oldest out and appends a linear combination of the window and the image.
-use Rattle.std.specs.Prelude.{◌≡◌, ℕ, ◌+◌, ◌%◌, ◌<◌, ◌≤◌, List, [], ◌∷◌, ◌++◌, length, fold, drop, All}
+-- The partial rounds as a linear recurrence: each takes 2t - 1 products, where a state has t numbers, not t * t.
+-- Only the first number goes through the S-box. The others, in another basis, are a window over one sequence: a round
+-- takes the oldest number out and appends a linear combination of the window and the image.
+use Rattle.std.specs.Prelude.{◌≡◌, ℕ, ◌+◌, ◌%◌, ◌<◌, List, [], ◌∷◌, ◌++◌, length, fold, drop, All}
 use Rattle.ark_groups.specs.Field.{dot_product}
 use Rattle.ark_sponge.specs.Permutation.{sums, matrix_product, poseidon_round, poseidon_rounds}
 

@@ -196,7 +196,13 @@ impl<F: Field> Recurrence<F> {
             ≡ short_rounds F.MODULUS (S.image alpha) self.now (map F.value state.old) }
     {
         change_tail(&self.into, state, scratch);
-        turn_all::<F, S>(scratch, &self.constants, alpha, &self.output, &self.feedback);
+        turn_all::<F, S>(
+            scratch,
+            &self.constants,
+            alpha,
+            &self.output,
+            &self.feedback,
+        );
         change_tail(&self.back, scratch, state);
         add_row(state, &self.offset);
     }

@@ -37,11 +37,7 @@ fn with_head<F: Field>(alloc: Global, head: F, tail: &[F]) -> Result<Vec<F>, All
 }
 
 // The rows but the first behind a 0, and a last one behind a 1.
-fn moved_up<F: Field>(
-    alloc: Global,
-    rows: &[Vec<F>],
-    last: &[F],
-) -> Result<Vec<Vec<F>>, AllocError>
+fn moved_up<F: Field>(alloc: Global, rows: &[Vec<F>], last: &[F]) -> Result<Vec<Vec<F>>, AllocError>
     requires { 1 ≤ length rows.now }
     ensures { IfOk result (λ moved. map (λ row. map F.value row.items) moved.items
         ≡ map (λ row. 0 ∷ row) (drop 1 (map (λ row. map F.value row.items) rows.now))

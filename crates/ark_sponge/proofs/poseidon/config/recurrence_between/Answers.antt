@@ -1,4 +1,4 @@
-use Rattle.std.proofs.Common.{◌≡◌, List, ℕ, map, slice_range, subst}
+use Rattle.std.proofs.Common.{map, slice_range, subst}
 use Rattle.std.proofs.lemmas.Option.{IfSome_then}
 use Rattle.ark_sponge.specs.Recurrence.{AreRounds}
 use Rattle.ark_sponge.proofs.Recurrences.{one_modulus}

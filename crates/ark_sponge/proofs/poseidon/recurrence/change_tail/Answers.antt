@@ -1,4 +1,3 @@
-use Rattle.std.proofs.Common.{◌≡◌, arith}
 use Rattle.ark_sponge.proofs.Windows.{tail_changed}
 use Rattle.ark_sponge.proofs.poseidon.recurrence.change_tail.Goals as goal
 

@@ -1,4 +1,4 @@
-use Rattle.std.proofs.Common.{◌≡◌, ◌-◌, length, set, ap, ◌∙◌, refl}
+use Rattle.std.proofs.Common.{◌-◌, length, set, ap, ◌∙◌, refl}
 use Rattle.ark_sponge.proofs.Windows.{shifted}
 use Rattle.ark_sponge.proofs.poseidon.recurrence.shift.Goals as goal
 

@@ -1,4 +1,4 @@
-use Rattle.std.proofs.Common.{◌≡◌, map, ap, ◌∙◌}
+use Rattle.std.proofs.Common.{map, ap, ◌∙◌}
 use Rattle.ark_sponge.proofs.Windows.{turned-of}
 use Rattle.ark_sponge.proofs.poseidon.recurrence.turn.Goals as goal
 

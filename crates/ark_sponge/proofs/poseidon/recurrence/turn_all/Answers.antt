@@ -1,4 +1,4 @@
-use Rattle.std.proofs.Common.{◌≡◌, ◌<◌, length, map, ap₂, sym, ◌∙◌, arith}
+use Rattle.std.proofs.Common.{◌<◌, length, map, ap₂, sym, ◌∙◌, arith}
 use Rattle.std.proofs.lemmas.List.{length-map}
 use Rattle.std.proofs.lemmas.List.Sums.{fold_more}
 use Rattle.ark_sponge.specs.Recurrence.{short_round}

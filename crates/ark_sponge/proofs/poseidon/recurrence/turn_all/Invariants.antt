@@ -1,4 +1,4 @@
-use Rattle.std.proofs.Common.{◌≡◌, length, map, take, fold}
+use Rattle.std.proofs.Common.{◌≡◌, map, take, fold}
 use Rattle.ark_sponge.specs.Recurrence.{short_round}
 use Rattle.ark_sponge.proofs.poseidon.recurrence.turn_all.Given as goal
 

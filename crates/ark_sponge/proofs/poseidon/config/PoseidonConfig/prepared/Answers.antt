@@ -1,4 +1,4 @@
-use Rattle.std.proofs.Common.{◌≡◌, ℕ, ◌+◌, ◌/◌, List, Vec, Global, map, slice_range, subst}
+use Rattle.std.proofs.Common.{ℕ, ◌+◌, ◌/◌, List, Vec, Global, map, slice_range, subst}
 use Rattle.std.proofs.lemmas.Option.{IfSome_then}
 use Rattle.ark_sponge.specs.Recurrence.{AreRounds}
 use Rattle.ark_sponge.proofs.poseidon.config.PoseidonConfig.prepared.Goals as goal

@@ -1,4 +1,4 @@
-use Rattle.std.proofs.Common.{◌≡◌, map, ap, ◌∙◌}
+use Rattle.std.proofs.Common.{map, ap, ◌∙◌}
 use Rattle.ark_sponge.proofs.Windows.{rounds_run}
 use Rattle.ark_sponge.proofs.poseidon.recurrence.Recurrence.apply.Goals as goal
 

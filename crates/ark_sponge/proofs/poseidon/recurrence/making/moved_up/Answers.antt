@@ -1,4 +1,4 @@
-use Rattle.std.proofs.Common.{◌≡◌, ◌∷◌, map, ap, ap₂, ◌∙◌, arith}
+use Rattle.std.proofs.Common.{◌∷◌, map, ap, ap₂, ◌∙◌, arith}
 use Rattle.std.proofs.lemmas.List.{map_push}
 use Rattle.ark_sponge.proofs.Loops.{moved-more}
 use Rattle.ark_sponge.proofs.poseidon.recurrence.making.moved_up.Goals as goal

@@ -1,4 +1,4 @@
-use Rattle.std.proofs.Common.{◌≡◌, map, ap, sym, ◌∙◌, arith}
+use Rattle.std.proofs.Common.{map, ap, sym, ◌∙◌, arith}
 use Rattle.ark_sponge.specs.Permutation.{matrix_product}
 use Rattle.ark_sponge.proofs.poseidon.recurrence.making.takes_back.Goals as goal
 

@@ -1,4 +1,4 @@
-use Rattle.std.proofs.Common.{◌≡◌, ◌<◌, ◌∷◌, [], ◌++◌, ◌-◌, length, map, take, drop, ap, sym, subst, ◌∙◌, arith}
+use Rattle.std.proofs.Common.{◌<◌, ◌∷◌, [], ◌++◌, ◌-◌, length, map, take, drop, ap, sym, subst, ◌∙◌, arith}
 use Rattle.std.specs.Vec.{vec_len}
 use Rattle.std.proofs.lemmas.Bool.{not-false}
 use Rattle.ark_sponge.specs.Recurrence.{IsCombination, IsProduct}
@@ -33,12 +33,13 @@ returns g c same =
     let is_next = sym (ap (map (λ row. map f row.items)) c.deref-3.ensures.value) ∙ c.are_same.ensures same
     ∙ ap (map (λ row. map f row.items)) c.deref-4.ensures.value ∙ c.in-Ok-moved_up.ensures
     ∙ ap (λ last. map (λ row. 0 ∷ row) (drop 1 into) ++ (1 ∷ map f last) ∷ []) c.deref.ensures.value in
-    turns_from p (map (λ row. map f row.items) mds) into (map f output) (map f c.args.feedback.now) (map f top) others (f y)
-    behind coefficients (map f c.in-Ok-combination.last.items)
+    turns_from p (map (λ row. map f row.items) mds) into (map f output) (map f c.args.feedback.now) (map f top) others
+    (f y) behind coefficients (map f c.in-Ok-combination.last.items)
     (split_slice (λ row. map f row.items) mds row in_mds c.index-mds-0.is
     ∙ ap (λ t. map f t ∷ others) (sym c.as_slice-top.ensures.value))
     (split_slice f top y in_top c.index-top-0.is)
-    (split_slice f output x (omega (arith, c.requires.output, in_mds)) c.index-output-0.is ∙ ap (λ n. n ∷ coefficients) corner)
+    (split_slice f output x (omega (arith, c.requires.output, in_mds)) c.index-output-0.is
+    ∙ ap (λ n. n ∷ coefficients) corner)
     (subst (λ r. IsCombination p coefficients into r) is_first c.in-Ok-combination-2.ensures.value)
     c.in-Ok-combination.ensures.value
     (subst (λ r. IsProduct p into others r) is_next c.in-Ok.ensures)

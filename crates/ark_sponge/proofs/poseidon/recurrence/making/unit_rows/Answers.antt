@@ -1,4 +1,4 @@
-use Rattle.std.proofs.Common.{◌≡◌, set, replicate, map, ap, ap₂, sym, ◌∙◌, arith}
+use Rattle.std.proofs.Common.{set, map, ap, ap₂, sym, ◌∙◌}
 use Rattle.std.proofs.lemmas.List.{map_push, map-set}
 use Rattle.ark_sponge.proofs.Zeros.{all_zero}
 use Rattle.ark_sponge.proofs.Products.{units_up_to-none, units_up_to-more, units_up_to-all}

@@ -1,5 +1,5 @@
-use Rattle.std.proofs.Common.{◌≡◌, length, map, ap, sym, ◌∙◌, arith}
-use Rattle.ark_sponge.proofs.Loops.{rows_same-more, same-all}
+use Rattle.std.proofs.Common.{map, ap, sym, ◌∙◌, arith}
+use Rattle.ark_sponge.proofs.Loops.{rows_same-more}
 use Rattle.ark_sponge.proofs.poseidon.recurrence.matrices.are_same.Goals as goal
 
 pub loop-i-preserved : goal.loop-i-preserved

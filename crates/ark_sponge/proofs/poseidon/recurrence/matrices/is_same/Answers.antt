@@ -1,6 +1,6 @@
-use Rattle.std.proofs.Common.{◌≡◌, length, map, sym, ◌∙◌, arith}
+use Rattle.std.proofs.Common.{sym, ◌∙◌, arith}
 use Rattle.std.proofs.lemmas.Bool.{not-false}
-use Rattle.ark_sponge.proofs.Loops.{same-more, same-all}
+use Rattle.ark_sponge.proofs.Loops.{same-more}
 use Rattle.ark_sponge.proofs.poseidon.recurrence.matrices.is_same.Goals as goal
 
 pub loop-i-preserved : goal.loop-i-preserved

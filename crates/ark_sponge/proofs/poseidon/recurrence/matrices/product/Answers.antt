@@ -1,7 +1,7 @@
-use Rattle.std.proofs.Common.{◌≡◌, ◌+◌, ◌<◌, [], ◌∷◌, ◌++◌, length, map, ap, ◌∙◌, sym, subst, arith}
+use Rattle.std.proofs.Common.{◌<◌, length, map, ap, ◌∙◌, arith}
 use Rattle.std.proofs.lemmas.List.{length-map, map_push}
 use Rattle.ark_sponge.proofs.Loops.{row_at}
-use Rattle.ark_sponge.proofs.Products.{RowsUpTo, rows_up_to-none, rows_up_to-more, rows_up_to-all}
+use Rattle.ark_sponge.proofs.Products.{rows_up_to-none, rows_up_to-more, rows_up_to-all}
 use Rattle.ark_sponge.proofs.poseidon.recurrence.matrices.product.Goals as goal
 
 pub loop-row-init : goal.loop-row-init
