@@ -15,10 +15,11 @@ use ark_base::error::{Error, Refusal};
 use ark_base::serialize::Duplicate;
 use ark_groups::ff::{Field, Valued};
 use std::alloc::Global;
+use std::fmt;
 use std::marker::Model;
 
 /// The constants of a permutation, and how its state is parted into rate and capacity.
-#[derive(Debug, Drop)]
+#[derive(Drop)]
 pub struct PoseidonConfig<F: Valued> {
     full_rounds: usize,
     partial_rounds: usize,
@@ -28,6 +29,21 @@ pub struct PoseidonConfig<F: Valued> {
     rate: usize,
     capacity: usize,
     recurrence: Option<Recurrence<F>>,
+}
+
+// The debug form has no tables, which say nothing more.
+impl<F: Valued> fmt::Debug for PoseidonConfig<F> {
+    fn fmt<W: fmt::Write>(&self, f: &mut fmt::Formatter<W>) -> fmt::Result {
+        f.debug_struct("PoseidonConfig")
+            .field("full_rounds", &self.full_rounds)
+            .field("partial_rounds", &self.partial_rounds)
+            .field("alpha", &self.alpha)
+            .field("mds", &self.mds)
+            .field("ark", &self.ark)
+            .field("rate", &self.rate)
+            .field("capacity", &self.capacity)
+            .finish()
+    }
 }
 
 impl<F: Valued> Model for PoseidonConfig<F> {

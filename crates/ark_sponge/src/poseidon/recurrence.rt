@@ -14,7 +14,7 @@ use ark_groups::ff::{Field, Valued};
 use std::marker::Model;
 
 /// What the partial rounds run by.
-#[derive(Debug, Drop)]
+#[derive(Drop)]
 pub struct Recurrence<F: Valued> {
     output: Vec<F>,
     feedback: Vec<F>,
