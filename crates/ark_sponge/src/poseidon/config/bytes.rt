@@ -51,7 +51,7 @@ impl<F: Field> CanonicalDeserialize for PoseidonConfig<F> {
     fn read(alloc: Global, bytes: &[u8]) -> Result<(PoseidonConfig<F>, usize), Error> {
         let (fields, used) = Fields::<F>::read(alloc, bytes)?;
         let (full_rounds, (partial_rounds, (alpha, (ark, (mds, (rate, capacity)))))) = fields;
-        match PoseidonConfig::new(full_rounds, partial_rounds, alpha, mds, ark, rate, capacity) {
+        match PoseidonConfig::plain(full_rounds, partial_rounds, alpha, mds, ark, rate, capacity) {
             Ok(parameters) => Ok((parameters, used)),
             Err(_) => Err(Error::SerializationError(SerializationError::InvalidData)),
         }

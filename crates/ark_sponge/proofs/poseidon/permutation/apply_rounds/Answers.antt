@@ -13,4 +13,4 @@ loop-row-preserved g c =
     poseidon_rounds-more f.MODULUS _ _ c.args.count _ _ (map g.F.Valued.value row) _ _ _ i (rw length-map in_rows)
     c.loop-row.invariant (row_read g.F.Valued.value f.MODULUS (λ v. v.items) rows i _ row in_rows c.row-item.is
     c.deref.ensures.value)
-    c.write_images.ensures c.multiply.ensures
+    c.write_images.ensures c.multiply.ensures.value

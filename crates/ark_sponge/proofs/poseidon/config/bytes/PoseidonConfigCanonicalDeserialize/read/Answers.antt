@@ -31,7 +31,7 @@ returns-in-Ok g c =
     record {
       answer = ap reading_outcome (parameters_read f.MODULUS f.MODULUS_BIT_SIZE canonical.view canonical.reads
           g.F.Valued.value is c.args.bytes.now _ _ c.in-Ok.parameters read.answer
-          (rw (ark, mds) (sym c.new.ensures ∙ c.in-Ok.is)));
+          (rw (ark, mds) (sym c.plain.ensures ∙ c.in-Ok.is)));
       within = read.within;
     }
 
@@ -49,6 +49,6 @@ returns-in-Err g c =
     record {
       answer = inr (ap reading_outcome (parameters_unfit f.MODULUS f.MODULUS_BIT_SIZE canonical.view canonical.reads
           g.F.Valued.value is c.args.bytes.now _ _ c.in-Err.field-0 read.answer
-          (rw (ark, mds) (sym c.new.ensures ∙ c.in-Err.is))));
+          (rw (ark, mds) (sym c.plain.ensures ∙ c.in-Err.is))));
       within = tt;
     }
