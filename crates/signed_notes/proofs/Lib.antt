@@ -6,3 +6,5 @@ pub mod Lacking
 pub mod WrittenNotes
 pub mod Tests
 pub mod KeyTexts
+pub mod CheckpointTexts
+pub mod Cosigning

@@ -1,7 +1,7 @@
 -- Keys of notes as text: of verifiers `NAME+HASH+KEY`, of signers the same behind `PRIVATE+KEY+`. HASH is eight
 -- digits in
 -- hexadecimal, KEY the Base64 of the algorithm's byte and of the key, or of the seed that it is made from.
-use Rattle.std.specs.Prelude.{◌≡◌, ℕ, ◌==◌, Bool, true, List, ◌∷◌, ◌++◌, codes, length, take, drop, get_or, Result, Ok}
+use Rattle.std.specs.Prelude.{◌≡◌, ℕ, ◌==◌, ◌||◌, Bool, true, List, ◌∷◌, ◌++◌, codes, length, take, drop, get_or, Result, Ok}
 use Rattle.std.specs.Str.{bytes_eq}
 use Rattle.ark_base.specs.Outcome.{◌>>=◌}
 use Rattle.base64.specs.GeneralPurpose.{encode_of}
@@ -98,13 +98,17 @@ read_private is_algorithm public text =
 abbrev pub write_key : List ℕ → (List ℕ → List ℕ) → KeyParts → Result (List ℕ) Fault
 write_key front public k = only_if (is_name k.name) Name (Ok (front ++ key_text public k))
 
+-- the byte of cosignatures
+abbrev pub cosignature_byte : ℕ
+cosignature_byte = 4
+
 -- the algorithms of verifiers
 abbrev pub is_known : ℕ → Bool
-is_known byte = byte == ed25519_byte
+is_known byte = byte == ed25519_byte || byte == cosignature_byte
 
--- the algorithm of signers
-abbrev pub is_ed25519 : ℕ → Bool
-is_ed25519 byte = byte == ed25519_byte
+-- one algorithm alone
+abbrev pub is_byte : ℕ → ℕ → Bool
+is_byte algorithm byte = byte == algorithm
 
 -- the key by which the signatures of a signer are checked
 abbrev pub public_parts : KeyParts → KeyParts

@@ -38,6 +38,18 @@ pub enum Fault {
     BadSignature,
     /// No signature names a known key.
     UnknownKey,
+    /// A checkpoint is of another origin.
+    OtherOrigin,
+    /// Fewer witnesses signed than are asked for.
+    FewWitnesses,
+    /// The first line of a checkpoint is empty, or no text.
+    Origin,
+    /// The size of a checkpoint is not a number below 2^64 in decimal without leading zeros.
+    Size,
+    /// The root of a checkpoint has not 32 bytes.
+    Root,
+    /// A line behind the root of a checkpoint is empty, is no text, or has no line feed.
+    Extensions,
 }
 
 impl From<AllocError> for Fault {

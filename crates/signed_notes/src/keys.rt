@@ -5,9 +5,9 @@ ghost use Rattle.std.specs.Str.{bytes_eq};
 ghost use Rattle.ed25519.specs.Signatures.{key_of};
 ghost use Rattle.hex.specs.Hex.{encode_lower};
 ghost use Rattle.signed_notes.specs.Faults.{GivesBy};
-ghost use Rattle.signed_notes.specs.Keys.{as_it_stands, is_ed25519, is_known, key_hash, key_parts, key_text, private, public_parts, read_key, read_private, spelled_behind, spelled_by, spelled_in, write_key};
+ghost use Rattle.signed_notes.specs.Keys.{as_it_stands, cosignature_byte, ed25519_byte, is_byte, is_known, key_hash, key_parts, key_text, private, public_parts, read_key, read_private, spelled_behind, spelled_by, spelled_in, write_key};
 ghost use Rattle.signed_notes.specs.Verifying.{hash_of};
-ghost use Rattle.signed_notes.specs.Views.{byte_of, signer_parts, spelled, verifier_parts};
+ghost use Rattle.signed_notes.specs.Views.{byte_of, cosigner_parts, seed_parts, signer_parts, spelled, verifier_parts};
 ghost use Rattle.signed_notes.specs.declared.fault.Fault.TheVariants.{Memory};
 
 use crate::cutting::cut;
@@ -27,6 +27,8 @@ const PRIVATE: [u8; 12] = *b"PRIVATE+KEY+";
 pub enum Algorithm {
     /// Ed25519 (RFC 8032), whose byte is 1.
     Ed25519,
+    /// Cosignatures of checkpoints by Ed25519 (C2SP tlog-cosignature), whose byte is 4.
+    CosignatureV1,
 }
 
 impl Algorithm {
@@ -36,6 +38,7 @@ impl Algorithm {
     {
         match self {
             Algorithm::Ed25519 => 1,
+            Algorithm::CosignatureV1 => 4,
         }
     }
 }
@@ -47,6 +50,8 @@ fn algorithm_of(byte: u8) -> Option<Algorithm>
 {
     if byte == 1 {
         Some(Algorithm::Ed25519)
+    } else if byte == 4 {
+        Some(Algorithm::CosignatureV1)
     } else {
         None
     }
@@ -63,6 +68,13 @@ pub struct Verifier<'a> {
 /// The key of who signs. The time of its calls depends on the seed: do not sign where it can be measured.
 #[derive(Clone, Copy)]
 pub struct Signer<'a> {
+    pub name: &'a str,
+    pub seed: [u8; 32],
+}
+
+/// The key of a witness, who states a time beside each signature. As with `Signer`, time depends on the seed.
+#[derive(Clone, Copy)]
+pub struct Cosigner<'a> {
     pub name: &'a str,
     pub seed: [u8; 32],
 }
@@ -164,12 +176,13 @@ fn behind_private(text: &[u8]) -> Option<&[u8]>
     Some(&text[12..])
 }
 
-// The signer whose key a text says behind that.
-fn signer_in(alloc: Global, text: &[u8]) -> Result<Signer<'_>, Fault>
-    ensures { GivesBy signer_parts (read_key is_ed25519 key_of text.now) result }
+// The seed that a text says behind that, of a key of some algorithm.
+fn seed_in(alloc: Global, text: &[u8], algorithm: u8) -> Result<Signer<'_>, Fault>
+    ensures { let read = read_key (is_byte algorithm) key_of text.now in
+        GivesBy (seed_parts algorithm) read result }
 {
     let key = spelled_in(alloc, text)?;
-    if key.algorithm != 1 {
+    if key.algorithm != algorithm {
         return Err(Fault::Algorithm);
     }
     if !is_hash(&key, &public_key(&key.bytes)) {
@@ -179,6 +192,35 @@ fn signer_in(alloc: Global, text: &[u8]) -> Result<Signer<'_>, Fault>
         name: key.name,
         seed: key.bytes,
     })
+}
+
+// The seed that a text says, of a key of some algorithm.
+fn private_in(alloc: Global, text: &[u8], algorithm: u8) -> Result<Signer<'_>, Fault>
+    ensures { let read = read_private (is_byte algorithm) key_of text.now in
+        GivesBy (seed_parts algorithm) read result }
+{
+    match behind_private(text) {
+        Some(rest) => seed_in(alloc, rest, algorithm),
+        None => Err(Fault::Key),
+    }
+}
+
+// Writes the text of a key that is made from a seed.
+fn write_private(
+    alloc: Global,
+    name: &str,
+    algorithm: u8,
+    seed: &[u8; 32],
+) -> Result<Vec<u8>, Fault>
+    ensures { let key = key_parts name.now algorithm seed.now in
+        GivesBy vec_items (write_key private key_of key) result }
+{
+    if !is_name(name) {
+        return Err(Fault::Name);
+    }
+    let mut out = Vec::from_slice(alloc, &PRIVATE)?;
+    push_key(&mut out, alloc, name, algorithm, &public_key(seed), seed)?;
+    Ok(out)
 }
 
 // Writes the text of a key behind other bytes.
@@ -260,31 +302,17 @@ impl<'a> Signer<'a> {
     ///
     /// Errors, the first that applies: `Key` for another beginning, and those of `Verifier::read`.
     pub fn read(alloc: Global, text: &'a [u8]) -> Result<Signer<'a>, Fault>
-        ensures { GivesBy signer_parts (read_private is_ed25519 key_of text.now) result }
+        ensures { let read = read_private (is_byte ed25519_byte) key_of text.now in
+            GivesBy signer_parts read result }
     {
-        match behind_private(text) {
-            Some(rest) => signer_in(alloc, rest),
-            None => Err(Fault::Key),
-        }
+        private_in(alloc, text, 1)
     }
 
     /// Writes the text of the key, `PRIVATE+KEY+NAME+HASH+SEED`. Errors: `Name`, `Memory`.
     pub fn write(&self, alloc: Global) -> Result<Vec<u8>, Fault>
         ensures { GivesBy vec_items (write_key private key_of (signer_parts self.now)) result }
     {
-        if !is_name(self.name) {
-            return Err(Fault::Name);
-        }
-        let mut out = Vec::from_slice(alloc, &PRIVATE)?;
-        push_key(
-            &mut out,
-            alloc,
-            self.name,
-            1,
-            &public_key(&self.seed),
-            &self.seed,
-        )?;
-        Ok(out)
+        write_private(alloc, self.name, 1, &self.seed)
     }
 
     /// Returns the key by which others check its signatures.
@@ -294,6 +322,37 @@ impl<'a> Signer<'a> {
         Verifier {
             name: self.name,
             algorithm: Algorithm::Ed25519,
+            key: public_key(&self.seed),
+        }
+    }
+}
+
+impl<'a> Cosigner<'a> {
+    /// Reads the text of a key of cosignatures, `PRIVATE+KEY+NAME+HASH+SEED`.
+    ///
+    /// Errors: those of `Signer::read`.
+    pub fn read(alloc: Global, text: &'a [u8]) -> Result<Cosigner<'a>, Fault>
+        ensures { let read = read_private (is_byte cosignature_byte) key_of text.now in
+            GivesBy cosigner_parts read result }
+    {
+        let Signer { name, seed } = private_in(alloc, text, 4)?;
+        Ok(Cosigner { name, seed })
+    }
+
+    /// Writes the text of the key, `PRIVATE+KEY+NAME+HASH+SEED`. Errors: `Name`, `Memory`.
+    pub fn write(&self, alloc: Global) -> Result<Vec<u8>, Fault>
+        ensures { GivesBy vec_items (write_key private key_of (cosigner_parts self.now)) result }
+    {
+        write_private(alloc, self.name, 4, &self.seed)
+    }
+
+    /// Returns the key by which others check its cosignatures.
+    pub fn verifier(&self) -> Verifier<'a>
+        ensures { verifier_parts result ≡ public_parts (cosigner_parts self.now) }
+    {
+        Verifier {
+            name: self.name,
+            algorithm: Algorithm::CosignatureV1,
             key: public_key(&self.seed),
         }
     }

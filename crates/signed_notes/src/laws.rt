@@ -2,6 +2,7 @@
 
 ghost use Rattle.std.specs.Prelude.{◌≡◌, ◌∷◌, ℕ, Bool, List, Ok};
 ghost use Rattle.base64.specs.GeneralPurpose.{IsBytes};
+ghost use Rattle.signed_notes.specs.Checkpoints.{checkpoint_of, read_checkpoint, write_checkpoint, CheckpointParts, IsCheckpoint};
 ghost use Rattle.signed_notes.specs.Keys.{IsKey, key_text, read_key, KeyParts};
 ghost use Rattle.signed_notes.specs.Notes.{AreBytes, IsNote, note_of, NoteParts};
 ghost use Rattle.signed_notes.specs.Reading.{read_note};
@@ -38,4 +39,18 @@ pub fn keys_have_one_spelling()
     ensures { (is_algorithm : ℕ → Bool) (public : List ℕ → List ℕ) (text : List ℕ) (key : KeyParts)
         → IsBytes text → read_key is_algorithm public text ≡ Ok key
         → (key_text public key ≡ text) × IsKey is_algorithm key }
+{}
+
+/// States that what may be a checkpoint is written, and that its text is read as this checkpoint.
+pub fn checkpoints_are_read_back()
+    ensures written { (c : CheckpointParts) → IsCheckpoint c
+        → write_checkpoint c ≡ Ok (checkpoint_of c) }
+    ensures read { (c : CheckpointParts) → IsCheckpoint c → IsBytes c.root
+        → read_checkpoint (checkpoint_of c) ≡ Ok c }
+{}
+
+/// States that a text of which a checkpoint was read is the text of this checkpoint, so that each checkpoint has one.
+pub fn checkpoints_have_one_spelling()
+    ensures { (text : List ℕ) (c : CheckpointParts) → IsBytes text → read_checkpoint text ≡ Ok c
+        → (checkpoint_of c ≡ text) × IsCheckpoint c }
 {}

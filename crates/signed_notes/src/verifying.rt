@@ -9,8 +9,9 @@ ghost use Rattle.signed_notes.specs.Verifying.{accepted_by, hash_of, is_any, is_
 ghost use Rattle.signed_notes.specs.Views.{note_parts, parts, signer_parts, verifier_parts};
 ghost use Rattle.signed_notes.specs.declared.fault.Fault.TheVariants.{BadSignature, Memory};
 
+use crate::cosignature::is_cosignature;
 use crate::fault::Fault;
-use crate::keys::{Signer, Verifier};
+use crate::keys::{Algorithm, Signer, Verifier};
 use crate::note::{Note, Signature, read};
 use crate::writing::write;
 use ed25519::{sign, verify as is_signature};
@@ -25,15 +26,25 @@ fn is_named(verifier: &Verifier, hash: &[u8; 4], signature: &Signature) -> bool
 }
 
 // Whether a signature is one by a key.
-fn is_made_by(verifier: &Verifier, text: &str, signature: &Signature) -> bool
-    ensures { let key = verifier_parts verifier.now in
-        Decides result (IsMadeBy key text.now (parts signature.now)) }
+fn is_made_by(
+    alloc: Global,
+    verifier: &Verifier,
+    text: &str,
+    signature: &Signature,
+) -> Result<bool, Fault>
+    ensures decided { let key = verifier_parts verifier.now in
+        IfOk result (λ made. Decides made (IsMadeBy key text.now (parts signature.now))) }
+    ensures memory { IsOkUnless result Memory }
 {
-    is_signature(&verifier.key, text.as_bytes(), &signature.bytes)
+    match verifier.algorithm {
+        Algorithm::Ed25519 => Ok(is_signature(&verifier.key, text.as_bytes(), &signature.bytes)),
+        Algorithm::CosignatureV1 => { is_cosignature(alloc, &verifier.key, text, &signature.bytes) }
+    }
 }
 
 // Whether a signature names a key; then it has to be by this key.
 fn is_by(
+    alloc: Global,
     verifier: &Verifier,
     hash: &[u8; 4],
     text: &str,
@@ -45,30 +56,37 @@ fn is_by(
     ensures signed { let key = verifier_parts verifier.now in
         OnOk result (IsTrueOf key text.now (parts signature.now)) }
     ensures refused { let key = verifier_parts verifier.now in IfErr result (λ fault.
-        (fault ≡ BadSignature) × (IsTrueOf key text.now (parts signature.now) → ⊥)) }
+        (fault ≡ Memory)
+        ⊎ ((fault ≡ BadSignature) × (IsTrueOf key text.now (parts signature.now) → ⊥))) }
 {
     if !is_named(verifier, hash, signature) {
         return Ok(false);
     }
-    if !is_made_by(verifier, text, signature) {
+    if !is_made_by(alloc, verifier, text, signature)? {
         return Err(Fault::BadSignature);
     }
     Ok(true)
 }
 
 // Whether a signature names a key; all that do have to be by it.
-fn any_by(verifier: &Verifier, text: &str, signatures: &[Signature]) -> Result<bool, Fault>
+pub(crate) fn any_by(
+    alloc: Global,
+    verifier: &Verifier,
+    text: &str,
+    signatures: &[Signature],
+) -> Result<bool, Fault>
     ensures any { let key = verifier_parts verifier.now in
         IfOk result (λ any. any ≡ list_any (is_named key) (map parts signatures.now)) }
     ensures signed { let key = verifier_parts verifier.now in
         OnOk result (All (IsTrueOf key text.now) (map parts signatures.now)) }
     ensures refused { let key = verifier_parts verifier.now in IfErr result (λ fault.
-        (fault ≡ BadSignature) × (All (IsTrueOf key text.now) (map parts signatures.now) → ⊥)) }
+        (fault ≡ Memory) ⊎ ((fault ≡ BadSignature)
+        × (All (IsTrueOf key text.now) (map parts signatures.now) → ⊥))) }
 {
     let hash = verifier.hash();
     let mut any = false;
     for signature in signatures {
-        match is_by(verifier, &hash, text, signature) {
+        match is_by(alloc, verifier, &hash, text, signature) {
             Ok(named) => any |= named,
             Err(fault) => return Err(fault),
         }
@@ -85,7 +103,7 @@ pub struct Verified<'a> {
 }
 
 // Of each known key, whether a signature is by it.
-fn accepted(alloc: Global, known: &[Verifier], note: &Note) -> Result<Vec<bool>, Fault>
+pub(crate) fn accepted(alloc: Global, known: &[Verifier], note: &Note) -> Result<Vec<bool>, Fault>
     ensures accepted { let signatures = (note_parts note.now).signatures in
         IfOk result (λ all. all.items ≡ accepted_by (map verifier_parts known.now) signatures) }
     ensures signed { OnOk result (AreTrue (map verifier_parts known.now) (note_parts note.now)) }
@@ -94,7 +112,7 @@ fn accepted(alloc: Global, known: &[Verifier], note: &Note) -> Result<Vec<bool>,
 {
     let mut accepted = Vec::new(alloc);
     for verifier in known {
-        match any_by(verifier, note.text, &note.signatures) {
+        match any_by(alloc, verifier, note.text, &note.signatures) {
             Ok(any) => accepted.push(any)?,
             Err(fault) => return Err(fault),
         }

@@ -1,4 +1,4 @@
-use Rattle.std.proofs.Common.{◌++◌, ◌∷◌, [], All, Bool, get_or, map, take, inr, ap, sym, ◌∙◌, add-one}
+use Rattle.std.proofs.Common.{◌++◌, ◌∷◌, [], All, Bool, get_or, map, take, inl, inr, ap, sym, ◌∙◌, add-one}
 use Rattle.std.proofs.lemmas.List.{get_or_default}
 use Rattle.std.specs.List.{list_any}
 use Rattle.signed_notes.specs.Keys.{KeyParts}
@@ -21,13 +21,17 @@ returns-in-Err-clause-refused c =
     let x = get_or xs i none in
     let note = note_parts c.args.note.now in
     let inside = c.loop-verifier-test.true in
-    let bad = rw c.deref.ensures.value at c.in-Err.ensures.refused.1 in
-    inr (
-      c.in-Err.ensures.refused.0,
-      λ all.
-          bad (all-item (λ (key : KeyParts). All (IsTrueOf key note.text) note.signatures) verifier_parts xs i x inside
-          (get_or_default xs i none x inside) all),
-    )
+    elim c.in-Err.ensures.refused [
+      | inl memory ↦ inl memory
+      | inr refused ↦
+          let bad = rw c.deref.ensures.value at refused.1 in
+          inr (
+            refused.0,
+            λ all.
+                bad (all-item (λ (key : KeyParts). All (IsTrueOf key note.text) note.signatures) verifier_parts xs i x
+                inside (get_or_default xs i none x inside) all),
+          )
+    ]
 
 pub loop-verifier-preserved : goal.loop-verifier-preserved
 unfolding none

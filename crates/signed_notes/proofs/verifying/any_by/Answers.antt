@@ -1,17 +1,19 @@
-use Rattle.std.proofs.Common.{◌||◌, ap₂, sym, ◌∙◌, add-one}
+use Rattle.std.proofs.Common.{inl, inr, ◌||◌, ap₂, sym, ◌∙◌, add-one}
 use Rattle.signed_notes.specs.Verifying.{is_named, IsTrueOf}
 use Rattle.signed_notes.specs.Views.{parts, verifier_parts}
 use Rattle.signed_notes.proofs.Tests.{all-item, all-more, any-more}
 use Rattle.signed_notes.proofs.verifying.any_by.Goals as goal
 
 pub returns-in-Err-clause-refused : goal.returns-in-Err-clause-refused
-returns-in-Err-clause-refused c = (
-  c.in-Err.ensures.refused.0,
-  λ all.
-      c.in-Err.ensures.refused.1 (all-item (IsTrueOf (verifier_parts c.args.verifier.now) c.args.text.now) parts
-      c.args.signatures.now c.loop-signature.signature-index c.signature-item.result c.loop-signature-test.true
-      c.signature-item.is all),
-)
+returns-in-Err-clause-refused c = elim c.in-Err.ensures.refused [
+  | inl memory ↦ inl memory
+  | inr bad ↦ inr (
+    bad.0,
+    λ all.
+        bad.1 (all-item (IsTrueOf (verifier_parts c.args.verifier.now) c.args.text.now) parts c.args.signatures.now
+        c.loop-signature.signature-index c.signature-item.result c.loop-signature-test.true c.signature-item.is all),
+  )
+]
 
 pub loop-signature-preserved : goal.loop-signature-preserved
 loop-signature-preserved c =
