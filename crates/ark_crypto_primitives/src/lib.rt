@@ -184,13 +184,14 @@ pub mod merkle_tree {
     }
 }
 
-/// Merkle logs of any size (RFC 6962 and RFC 9162).
+/// Merkle logs of any size (RFC 6962 and RFC 9162), and their signed checkpoints.
 pub mod log {
     pub use ark_trees::LogHasher;
     pub use merkle_log::{
         Frontier, Log, LogBinding, verify_consistency, verify_consistency_bytes, verify_inclusion,
         verify_inclusion_bytes, verify_inclusion_digest,
     };
+    pub use signed_notes;
 }
 
 /// Maps from keys of 32 bytes to digests, with proofs of what they have at a key and of what they have not.

@@ -1,0 +1,10 @@
+pub mod Cuts
+pub mod Signatures
+pub mod Outcomes
+pub mod ReadBack
+pub mod Lacking
+pub mod WrittenNotes
+pub mod Tests
+pub mod KeyTexts
+pub mod CheckpointTexts
+pub mod Cosigning

@@ -1,0 +1,42 @@
+-- Lists that grow by an element, seen by a function.
+use Rattle.std.proofs.Common.{zero, suc, ◌≡◌, ℕ, ◌<◌, Bool, true, false, ◌||◌, List, [], ◌∷◌, ◌++◌, All, length, map, take, get_or, refl, ap, sym, subst, ◌∙◌, arith}
+use Rattle.std.specs.List.{list_any}
+use Rattle.signed_notes.proofs.ReadBack.{all-cons, all-nil}
+
+pub all-more : {A B : Type 0} (P : B → Type 0) (f : A → B) (xs : List A) (i : ℕ) (x : A) → i < length xs
+    → x ≡ get_or xs i x → All P (map f (take i xs)) → P (f x) → All P (map f (take (suc i) xs))
+all-more P f [] i x inside is all here = absurd (omega arith)
+all-more P f (y ∷ xs) zero x inside is all here =
+    all-cons P (f y) [] (subst (λ z. P (f z)) is here) (all-nil P)
+all-more P f (y ∷ xs) (suc i) x inside is all here =
+    all-cons P (f y) (map f (take (suc i) xs)) (all 0 (f y) (omega arith))
+    (all-more P f xs i x (omega arith) is (λ k d below. all (suc k) d (omega arith)) here)
+
+pub all-item : {A B : Type 0} (P : B → Type 0) (f : A → B) (xs : List A) (i : ℕ) (x : A) → i < length xs
+    → x ≡ get_or xs i x → All P (map f xs) → P (f x)
+all-item P f [] i x inside is all = absurd (omega arith)
+all-item P f (y ∷ xs) zero x inside is all = subst (λ z. P (f z)) (sym is) (all 0 (f y) (omega arith))
+all-item P f (y ∷ xs) (suc i) x inside is all =
+    all-item P f xs i x (omega arith) is (λ k d below. all (suc k) d (omega arith))
+
+or-none : (test : Bool) → (test || false) ≡ (false || test)
+or-none true = refl
+or-none false = refl
+
+or-assoc : (a b c : Bool) → (a || (b || c)) ≡ ((a || b) || c)
+or-assoc true b c = refl
+or-assoc false b c = refl
+
+pub any-more : {A B : Type 0} (test : B → Bool) (f : A → B) (xs : List A) (i : ℕ) (x : A) → i < length xs
+    → x ≡ get_or xs i x → list_any test (map f (take (suc i) xs)) ≡ (list_any test (map f (take i xs)) || test (f x))
+any-more test f [] i x inside is = absurd (omega arith)
+any-more test f (y ∷ xs) zero x inside is = ap (λ z. test (f z) || false) (sym is) ∙ or-none (test (f x))
+any-more test f (y ∷ xs) (suc i) x inside is =
+    ap (λ rest. test (f y) || rest) (any-more test f xs i x (omega arith) is)
+    ∙ or-assoc (test (f y)) (list_any test (map f (take i xs))) (test (f x))
+
+pub map-more : {A B C : Type 0} (g : B → C) (f : A → B) (xs : List A) (i : ℕ) (x : A) → i < length xs
+    → x ≡ get_or xs i x → map g (map f (take (suc i) xs)) ≡ map g (map f (take i xs)) ++ (g (f x) ∷ [])
+map-more g f [] i x inside is = absurd (omega arith)
+map-more g f (y ∷ xs) zero x inside is = ap (λ z. g (f z) ∷ []) (sym is)
+map-more g f (y ∷ xs) (suc i) x inside is = ap (λ rest. g (f y) ∷ rest) (map-more g f xs i x (omega arith) is)

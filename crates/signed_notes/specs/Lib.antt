@@ -1,0 +1,11 @@
+pub mod Cutting
+pub mod Notes
+pub mod Faults
+pub mod Reading
+pub mod Writing
+pub mod Keys
+pub mod Cosignatures
+pub mod Verifying
+pub mod Opening
+pub mod Checkpoints
+pub mod Views

@@ -1,0 +1,63 @@
+-- Checkpoints that are opened: signed by their log, and by so many witnesses.
+use Rattle.std.specs.Prelude.{◌≡◌, ◌⊎◌, ℕ, ◌<◌, ◌≤◌, Bool, true, false, List, All, count_by, Result, Ok, Err}
+use Rattle.std.specs.List.{list_any}
+use Rattle.std.specs.Str.{bytes_eq}
+use Rattle.ark_base.specs.Outcome.{◌>>=◌}
+use Rattle.signed_notes.specs.Checkpoints.{CheckpointParts, read_checkpoint}
+use Rattle.signed_notes.specs.Faults.{only_if}
+use Rattle.signed_notes.specs.Keys.{KeyParts}
+use Rattle.signed_notes.specs.Notes.{NoteParts}
+use Rattle.signed_notes.specs.Reading.{read_note}
+use Rattle.signed_notes.specs.Verifying.{AreTrue, IsTrueOf, accepted_by, is_named}
+use Rattle.signed_notes.specs.declared.fault.Fault.{Fault}
+use Rattle.signed_notes.specs.declared.fault.Fault.TheVariants.{BadSignature, FewWitnesses, Memory, OtherOrigin, UnknownKey}
+
+-- how many tests are true
+abbrev pub count_true : List Bool → ℕ
+count_true tests = count_by (λ test. test) tests
+
+-- a checkpoint of this origin alone
+abbrev pub of_origin : List ℕ → CheckpointParts → Result CheckpointParts Fault
+of_origin origin c = only_if (bytes_eq c.origin origin) OtherOrigin (Ok c)
+
+-- the checkpoint of an origin that a text says
+abbrev pub checkpoint_by : List ℕ → List ℕ → Result CheckpointParts Fault
+checkpoint_by origin text = read_checkpoint text >>= of_origin origin
+
+-- Who has to sign a checkpoint: its log, and as many of some witnesses as the quorum says.
+pub record Policy : Type 0 where
+  pub log : KeyParts
+  pub witnesses : List KeyParts
+  pub quorum : ℕ
+
+-- The log signed the note, and as many witnesses as are asked for; no signature that names one of these keys is
+-- another's.
+pub record IsWitnessed (p : Policy) (note : NoteParts) : Type 0 where
+  pub by_log : list_any (is_named p.log) note.signatures ≡ true
+  pub log_true : All (IsTrueOf p.log note.text) note.signatures
+  pub witnesses_true : AreTrue p.witnesses note
+  pub enough : p.quorum ≤ count_true (accepted_by p.witnesses note.signatures)
+
+-- a signature that names one of the keys is none by it
+abbrev pub IsFalse : Policy → NoteParts → Type 0
+IsFalse p note = (All (IsTrueOf p.log note.text) note.signatures → ⊥) ⊎ (AreTrue p.witnesses note → ⊥)
+
+-- why a note is not signed as a policy asks
+abbrev pub IsUnwitnessed : Policy → NoteParts → Fault → Type 0
+IsUnwitnessed p note fault =
+    ((fault ≡ BadSignature) × IsFalse p note)
+    ⊎ ((fault ≡ UnknownKey) × (list_any (is_named p.log) note.signatures ≡ false))
+    ⊎ ((fault ≡ FewWitnesses) × (count_true (accepted_by p.witnesses note.signatures) < p.quorum))
+
+-- The bytes are a note that is signed as a policy asks, and its text is this checkpoint, of this origin.
+pub record IsOpened (p : Policy) (origin bytes : List ℕ) (c : CheckpointParts) : Type 0 where
+  pub note : NoteParts
+  pub read : read_note bytes ≡ Ok note
+  pub signed : IsWitnessed p note
+  pub checkpoint : checkpoint_by origin note.text ≡ Ok c
+
+-- why a checkpoint is not opened
+abbrev pub IsClosed : Policy → List ℕ → List ℕ → Fault → Type 0
+IsClosed p origin bytes fault = (fault ≡ Memory) ⊎ (read_note bytes ≡ Err fault)
+    ⊎ ((note : NoteParts) × (read_note bytes ≡ Ok note)
+    × (IsUnwitnessed p note fault ⊎ (IsWitnessed p note × (checkpoint_by origin note.text ≡ Err fault))))

@@ -1,0 +1,56 @@
+//! What is proved of notes. Each function is one theorem: its contract states it, and its body does nothing.
+
+ghost use Rattle.std.specs.Prelude.{◌≡◌, ◌∷◌, ℕ, Bool, List, Ok};
+ghost use Rattle.base64.specs.GeneralPurpose.{IsBytes};
+ghost use Rattle.signed_notes.specs.Checkpoints.{checkpoint_of, read_checkpoint, write_checkpoint, CheckpointParts, IsCheckpoint};
+ghost use Rattle.signed_notes.specs.Keys.{IsKey, key_text, read_key, KeyParts};
+ghost use Rattle.signed_notes.specs.Notes.{AreBytes, IsNote, note_of, NoteParts};
+ghost use Rattle.signed_notes.specs.Reading.{read_note};
+ghost use Rattle.signed_notes.specs.Writing.{write_note};
+
+/// States that a note which was written is read as the parts that it was written from.
+pub fn notes_are_read_back()
+    ensures { (note : NoteParts) → IsNote note → AreBytes note.signatures
+        → read_note (note_of note) ≡ Ok note }
+{}
+
+/// States that the bytes of which a note was read are the writing of what was read, so that each note has one spelling.
+pub fn notes_have_one_spelling()
+    ensures { (bytes : List ℕ) (note : NoteParts) → IsBytes bytes → read_note bytes ≡ Ok note
+        → (note_of note ≡ bytes) × IsNote note }
+{}
+
+/// States that what may stand in a note is written, and nothing else.
+pub fn notes_are_written()
+    ensures written { (note : NoteParts) → IsNote note → write_note note ≡ Ok (note_of note) }
+    ensures read { (bytes : List ℕ) (note : NoteParts) → IsBytes bytes → read_note bytes ≡ Ok note
+        → write_note note ≡ Ok bytes }
+{}
+
+/// States that the text of a key is read as this key, whatever makes of its bytes those that are hashed.
+pub fn keys_are_read_back()
+    ensures { (is_algorithm : ℕ → Bool) (public : List ℕ → List ℕ) (key : KeyParts)
+        → IsKey is_algorithm key → IsBytes (key.algorithm ∷ key.bytes)
+        → read_key is_algorithm public (key_text public key) ≡ Ok key }
+{}
+
+/// States that a text of which a key was read is the text of this key, so that each key has one.
+pub fn keys_have_one_spelling()
+    ensures { (is_algorithm : ℕ → Bool) (public : List ℕ → List ℕ) (text : List ℕ) (key : KeyParts)
+        → IsBytes text → read_key is_algorithm public text ≡ Ok key
+        → (key_text public key ≡ text) × IsKey is_algorithm key }
+{}
+
+/// States that what may be a checkpoint is written, and that its text is read as this checkpoint.
+pub fn checkpoints_are_read_back()
+    ensures written { (c : CheckpointParts) → IsCheckpoint c
+        → write_checkpoint c ≡ Ok (checkpoint_of c) }
+    ensures read { (c : CheckpointParts) → IsCheckpoint c → IsBytes c.root
+        → read_checkpoint (checkpoint_of c) ≡ Ok c }
+{}
+
+/// States that a text of which a checkpoint was read is the text of this checkpoint, so that each checkpoint has one.
+pub fn checkpoints_have_one_spelling()
+    ensures { (text : List ℕ) (c : CheckpointParts) → IsBytes text → read_checkpoint text ≡ Ok c
+        → (checkpoint_of c ≡ text) × IsCheckpoint c }
+{}

@@ -1,0 +1,28 @@
+//! Signed notes (C2SP signed-note), as Go's golang.org/x/mod/sumdb/note has them.
+#![tactic(auto)]
+
+mod checkpoint;
+mod cosignature;
+mod cutting;
+mod fault;
+mod keys;
+mod laws;
+mod note;
+mod opening;
+mod texts;
+mod verifying;
+mod writing;
+
+pub use checkpoint::Checkpoint;
+pub use cosignature::{cosign, cosignature_of, sign_checkpoint};
+pub use fault::Fault;
+pub use keys::{Algorithm, Cosigner, Signer, Verifier, key_hash};
+pub use laws::{
+    checkpoints_are_read_back, checkpoints_have_one_spelling, keys_are_read_back,
+    keys_have_one_spelling, notes_are_read_back, notes_are_written, notes_have_one_spelling,
+};
+pub use note::{MOST_BYTES, MOST_SIGNATURES, Note, Signature, read};
+pub use opening::{Policy, open_checkpoint};
+pub use texts::{is_name, is_text};
+pub use verifying::{Verified, sign_note, signature_of, verify};
+pub use writing::write;

@@ -1,0 +1,81 @@
+//! Checkpoints that are opened: signed by their log, and by so many witnesses.
+
+ghost use Rattle.std.specs.Prelude.{◌≡◌, ◌⊎◌, ◌≤◌, IfOk, IfErr, OnOk, List, ℕ, map};
+ghost use Rattle.signed_notes.specs.Faults.{GivesBy};
+ghost use Rattle.signed_notes.specs.Opening.{checkpoint_by, count_true, IsClosed, IsOpened, IsUnwitnessed, IsWitnessed};
+ghost use Rattle.signed_notes.specs.Views.{checkpoint_parts, note_parts, policy_parts};
+ghost use Rattle.signed_notes.specs.declared.fault.Fault.TheVariants.{Memory};
+
+use crate::checkpoint::Checkpoint;
+use crate::fault::Fault;
+use crate::keys::Verifier;
+use crate::note::{Note, read};
+use crate::verifying::{accepted, any_by};
+use std::alloc::Global;
+
+/// Who has to sign a checkpoint: its log, and as many of some witnesses as the quorum says. A witness that is named twice
+/// counts twice.
+#[derive(Clone, Copy)]
+pub struct Policy<'a> {
+    pub log: Verifier<'a>,
+    pub witnesses: &'a [Verifier<'a>],
+    pub quorum: usize,
+}
+
+// How many tests are true.
+fn count_true(tests: &[bool]) -> usize
+    ensures { result ≡ count_true tests.now }
+{
+    tests.iter().filter(|test| **test).count()
+}
+
+// Refuses a note that is not signed as a policy asks.
+fn witnessed(alloc: Global, note: &Note, policy: &Policy) -> Result<(), Fault>
+    ensures signed { OnOk result (IsWitnessed (policy_parts policy.now) (note_parts note.now)) }
+    ensures refused { let policy = policy_parts policy.now in IfErr result (λ fault.
+        (fault ≡ Memory) ⊎ IsUnwitnessed policy (note_parts note.now) fault) }
+{
+    match any_by(alloc, &policy.log, note.text, &note.signatures) {
+        Ok(true) => (),
+        Ok(false) => return Err(Fault::UnknownKey),
+        Err(fault) => return Err(fault),
+    }
+    match accepted(alloc, policy.witnesses, note) {
+        Ok(all) if count_true(&all) >= policy.quorum => Ok(()),
+        Ok(_) => Err(Fault::FewWitnesses),
+        Err(fault) => Err(fault),
+    }
+}
+
+// The checkpoint of an origin that a text says.
+fn checkpoint_by<'a>(alloc: Global, origin: &str, text: &'a str) -> Result<Checkpoint<'a>, Fault>
+    ensures { GivesBy checkpoint_parts (checkpoint_by origin.now text.now) result }
+{
+    let checkpoint = Checkpoint::read(alloc, text.as_bytes())?;
+    if checkpoint.origin != origin {
+        return Err(Fault::OtherOrigin);
+    }
+    Ok(checkpoint)
+}
+
+/// Opens the note of a checkpoint: it has to be signed as a policy asks, and its text to be a checkpoint of an origin.
+///
+/// Errors, the first that applies: those of `read`; of the log's signatures `BadSignature`, `UnknownKey`; of those of the
+/// witnesses `BadSignature`, `FewWitnesses`; those of `Checkpoint::read`; `OtherOrigin`. `Memory` at any time.
+pub fn open_checkpoint<'a>(
+    alloc: Global,
+    bytes: &'a [u8],
+    origin: &str,
+    policy: &Policy,
+) -> Result<Checkpoint<'a>, Fault>
+    ensures opened { let policy = policy_parts policy.now in IfOk result (λ checkpoint.
+        IsOpened policy origin.now bytes.now (checkpoint_parts checkpoint)) }
+    ensures refused { let policy = policy_parts policy.now in
+        IfErr result (IsClosed policy origin.now bytes.now) }
+{
+    let note = read(alloc, bytes)?;
+    match witnessed(alloc, &note, policy) {
+        Ok(()) => checkpoint_by(alloc, origin, note.text),
+        Err(fault) => Err(fault),
+    }
+}
