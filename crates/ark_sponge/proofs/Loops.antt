@@ -92,11 +92,3 @@ pub split_slice : {X Y : Type 0} (g : X → Y) (xs : List X) (x : X) → 0 < len
 split_slice g [] x some is = absurd (omega (arith, some))
 split_slice g (y ∷ xs) x some is =
     ap₂ (λ z zs. g z ∷ map g zs) (sym is) (sym (take_all (length (y ∷ xs) - 1) xs (omega arith)))
-
--- lists that are the same as far as they go
-pub same-all : {X Y : Type 0} (g : X → Y) (xs ys : List X) (i : ℕ) → length xs ≤ i → length xs ≡ length ys
-    → take i (map g xs) ≡ take i (map g ys) → map g xs ≡ map g ys
-same-all g xs ys i all long whole =
-    let in_xs : length (map g xs) ≤ i = rw length-map all in
-    let in_ys : length (map g ys) ≤ i = omega (arith, all, long, length-map ys g) in
-    sym (take_all i (map g xs) in_xs) ∙ whole ∙ take_all i (map g ys) in_ys

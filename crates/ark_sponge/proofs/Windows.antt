@@ -66,18 +66,3 @@ module _ {F : Type 0} (f : F → ℕ) (p : ℕ) where
       ap₂ (λ n ts. n ∷ ts) is_first
       (map-append f (drop 1 rest) (last ∷ []) ∙ ap₂ (λ ts n. ts ++ n ∷ []) (sym (drop-map f 1 rest)) end)
       ∙ ap (λ n. turned p (map f output) (map f feedback) n numbers) value
-
--- all rounds, step by step
-pub rounds_run : (p : ℕ) (sbox : ℕ → ℕ) (r : ShortRounds) (into back : List (List ℕ))
-    (output feedback constants offset s0 s1 s2 s3 s4 : List ℕ) → into ≡ r.into → back ≡ r.back → output ≡ r.output
-    → feedback ≡ r.feedback → constants ≡ r.constants → offset ≡ r.offset
-    → s1 ≡ on_tail (matrix_product p into) s0 → s2 ≡ fold (short_round p sbox output feedback) s1 constants
-    → s3 ≡ on_tail (matrix_product p back) s2 → s4 ≡ sums p s3 offset → s4 ≡ short_rounds p sbox r s0
-unfolding short_rounds
-rounds_run p sbox r into back output feedback constants offset s0 s1 s2 s3 s4 is_into is_back is_output is_feedback
-    is_constants is_offset is_1 is_2 is_3 is_4 =
-    let start : s1 ≡ on_tail (matrix_product p r.into) s0 = is_1 ∙ ap (λ m. on_tail (matrix_product p m) s0) is_into in
-    let end : s2 ≡ fold (short_round p sbox r.output r.feedback) (on_tail (matrix_product p r.into) s0) r.constants =
-    is_2 ∙ ap₂ (λ o b. fold (short_round p sbox o b) s1 constants) is_output is_feedback
-    ∙ ap₂ (λ s ks. fold (short_round p sbox r.output r.feedback) s ks) start is_constants in
-    is_4 ∙ ap₂ (sums p) (is_3 ∙ ap₂ (λ m s. on_tail (matrix_product p m) s) is_back end) is_offset

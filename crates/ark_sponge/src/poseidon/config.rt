@@ -222,9 +222,9 @@ impl<F: Field> PoseidonConfig<F> {
     }
 
     /// Returns these parameters with tables by which their partial rounds take fewer products: the same permutation in
-    /// less time. Parameters of `new` have them, and copies of such; parameters that were read from bytes do not. Where
-    /// memory is refused, where a state has fewer than three elements, and with fewer than four partial rounds, there are
-    /// none.
+    /// less time. Parameters of `new` have them, and copies of such; parameters that were read from bytes do not. There are
+    /// none where memory is refused, for a state of fewer than three elements or more than 64, and for fewer than four
+    /// partial rounds.
     pub fn prepared(mut self) -> PoseidonConfig<F>
         ensures { result ≡ self }
     {

@@ -12,6 +12,9 @@ use crate::poseidon::recurrence::search::{Found, search};
 use ark_groups::ff::Field;
 use std::alloc::{AllocError, Global};
 
+// The search takes the cube of this many products.
+const MOST_WIDE: usize = 64;
+
 // The rows of the identity.
 fn unit_rows<F: Field>(alloc: Global, n: usize) -> Result<Vec<Vec<F>>, AllocError>
     ensures { IfOk result (λ rows. (xs : List ℕ) → length xs ≡ n → All (λ x. x < F.MODULUS) xs
@@ -202,8 +205,8 @@ fn kept<F: Field>(
 
 /// Returns the recurrence that the partial rounds are, with a matrix and these rows of constants.
 ///
-/// `None` where a state has fewer than three elements, where there are fewer than four rounds, where no recurrence was
-/// found, and where memory is refused.
+/// `None` where a state has fewer than three elements or more than 64, where there are fewer than four rounds, where no
+/// recurrence was found, and where memory is refused.
 pub fn recurrence_of<F: Field>(
     alloc: Global,
     mds: &[Vec<F>],
@@ -215,7 +218,7 @@ pub fn recurrence_of<F: Field>(
         (map (λ row. map F.value row.items) mds.now)
         (map (λ row. map F.value row.items) rows.now) recurrence) }
 {
-    if mds.len() < 3 || rows.len() < 4 {
+    if mds.len() < 3 || mds.len() > MOST_WIDE || rows.len() < 4 {
         return None;
     }
     let Ok(found) = search(alloc, mds) else {
