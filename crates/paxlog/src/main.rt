@@ -2,6 +2,7 @@
 #![tactic(auto)]
 
 mod batches;
+mod checkpoints;
 mod file_disk;
 mod picture;
 mod progress;
@@ -37,6 +38,9 @@ const USAGE: &str = "usage: paxlog append LOG [--after SIZE ROOT] [--wait SECOND
        paxlog recover LOG [NEW]
        paxlog verify ROOT SIZE INDEX FILE PROOF
        paxlog verify-consistency OLD_SIZE OLD_ROOT SIZE ROOT PROOF
+       paxlog keygen NAME KEYFILE
+       paxlog checkpoint LOG --key KEYFILE [--origin ORIGIN]
+       paxlog verify-checkpoint KEY FILE [ORIGIN]
        paxlog -h | --help | --version
 FILE - is standard input.
 ";
@@ -255,6 +259,31 @@ fn name_all(words: &[Vec<u8>], first: usize) -> Result<(), StopAt> {
     Ok(())
 }
 
+// The text at a place of the words, if one stands there.
+fn optional(words: &[Vec<u8>], place: usize, is_there: bool) -> Result<Option<&str>, StopAt> {
+    if is_there {
+        Ok(Some(name(words, place)?))
+    } else {
+        Ok(None)
+    }
+}
+
+// Writes the size and the root of a checkpoint, or why it is not accepted.
+fn say_checkpoint(
+    rt: &HostRuntime,
+    opened: Result<(usize, [u8; 32]), signed_notes::Fault>,
+) -> Result<u8, StopAt> {
+    match opened {
+        Ok((size, root)) => say(rt, &line_of_root(rt.alloc(), size, &root)?),
+        Err(signed_notes::Fault::Memory) => Err(StopAt::from(Fault::Memory)),
+        Err(fault) => {
+            let why = checkpoints::reason(fault);
+            let _ = eprintln!(rt; "paxlog: {why}");
+            say_verdict(rt, false)
+        }
+    }
+}
+
 // Does what is asked for, and returns the status.
 fn answer(rt: &HostRuntime, request: Request, words: &[Vec<u8>]) -> Result<u8, StopAt> {
     match request {
@@ -309,6 +338,21 @@ fn answer(rt: &HostRuntime, request: Request, words: &[Vec<u8>]) -> Result<u8, S
             let proof = word(words, 5);
             let verdict = verify_consistency(rt.alloc(), old_size, &old_root, size, &root, proof);
             say_proof(rt, verdict)
+        }
+        Request::Keygen => say(
+            rt,
+            &checkpoints::keygen(rt, name(words, 1)?, name(words, 2)?)?,
+        ),
+        Request::Checkpoint { has_origin } => {
+            let origin = optional(words, 5, has_origin)?;
+            let note = checkpoints::sign(rt, name(words, 1)?, name(words, 3)?, origin)?;
+            say(rt, &note)
+        }
+        Request::VerifyCheckpoint { has_origin } => {
+            let origin = optional(words, 3, has_origin)?;
+            let key = checkpoints::verifier(rt.alloc(), word(words, 1))?;
+            let note = bytes_of(rt, words, 2)?;
+            say_checkpoint(rt, checkpoints::opened(rt.alloc(), &key, &note, origin))
         }
         Request::Help => say(rt, USAGE.as_bytes()),
         Request::Version => say(rt, VERSION.as_bytes()),
@@ -365,6 +409,12 @@ fn complain(rt: &HostRuntime, words: &[Vec<u8>], stop: StopAt) -> u8 {
             begin(rt, words, place);
             let _ = eprintln!(rt; "{why}");
             status(fault)
+        }
+        Stop::Note(fault) => {
+            let why = checkpoints::reason(fault);
+            begin(rt, words, place);
+            let _ = eprintln!(rt; "{why}");
+            REFUSED
         }
         Stop::Locked => {
             begin(rt, words, place);

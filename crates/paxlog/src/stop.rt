@@ -14,6 +14,8 @@ pub enum Stop {
     LongWord,
     /// There is no answer.
     Fault(Fault),
+    /// A note or a key is none.
+    Note(signed_notes::Fault),
     /// Another process appends.
     Locked,
     /// A call of the system failed.
@@ -130,6 +132,15 @@ impl From<TryLockError> for Stop {
         match error {
             TryLockError::Error(error) => of_system(error),
             TryLockError::WouldBlock => Stop::Locked,
+        }
+    }
+}
+
+impl From<signed_notes::Fault> for Stop {
+    fn from(fault: signed_notes::Fault) -> Stop {
+        match fault {
+            signed_notes::Fault::Memory => Stop::Fault(Fault::Memory),
+            other => Stop::Note(other),
         }
     }
 }

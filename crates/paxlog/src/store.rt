@@ -7,6 +7,8 @@ use paxlog_run::fault::Fault;
 use paxlog_run::head::START;
 use paxlog_run::request::{After, Options};
 use std::fs::{File, OpenOptions, TryLockError};
+use std::io::{Read, Write};
+use std::os::unix::fs::OpenOptionsExt;
 use std::thread;
 use std::time::{Duration, Instant};
 
@@ -181,8 +183,8 @@ pub fn check(rt: &HostRuntime, path: &str) -> Result<bool, Stop> {
     Ok(log_store::check(&disk)?)
 }
 
-// The file of a log, to which nobody appends meanwhile.
-fn unchanged(rt: &HostRuntime, path: &str) -> Result<FileDisk, Stop> {
+/// Opens the file of a log, to which nobody appends meanwhile.
+pub fn unchanged(rt: &HostRuntime, path: &str) -> Result<FileDisk, Stop> {
     let file = File::open(rt, path)?;
     file.try_lock_shared()?;
     Ok(FileDisk::new(file))
@@ -200,6 +202,23 @@ fn created(rt: &HostRuntime, path: &str) -> Result<FileDisk, Stop> {
     let file = how.read(true).write(true).create_new(true).open(rt, path)?;
     file.try_lock()?;
     Ok(FileDisk::new(file))
+}
+
+/// Returns 32 bytes of the system's random numbers.
+pub fn random_seed(rt: &HostRuntime) -> Result<[u8; 32], Stop> {
+    let mut seed = [0; 32];
+    File::open(rt, "/dev/urandom")?.read_exact(&mut seed)?;
+    Ok(seed)
+}
+
+/// Makes a new file that its owner alone reads and writes, where there is none, and returns once it is on the disk.
+pub fn created_secret(rt: &HostRuntime, path: &str, bytes: &[u8]) -> Result<(), Stop> {
+    let mut how = OpenOptions::new();
+    let mut file = how.write(true).create_new(true).mode(0o600).open(rt, path)?;
+    file.write_all(bytes)?;
+    file.sync_all()?;
+    File::open(rt, folder_of(path))?.sync_all()?;
+    Ok(())
 }
 
 /// Makes a new file of what of a file can be recovered, and returns once it is on the disk. The error has the place of the file that

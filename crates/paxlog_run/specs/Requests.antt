@@ -1,5 +1,5 @@
 -- The words behind the command's name.
-use Rattle.std.specs.Prelude.{ℕ, ◌+◌, ◌==◌, ◌&&◌, ◌||◌, is_none, nat_lt, get_or, length, List, [], ◌∷◌, if◌then◌else◌, Bool, true, false, Option, Some, None, codes}
+use Rattle.std.specs.Prelude.{ℕ, ◌+◌, ◌==◌, ◌&&◌, ◌||◌, is_none, nat_lt, not, get_or, length, List, [], ◌∷◌, if◌then◌else◌, Bool, true, false, Option, Some, None, codes}
 use Rattle.std.specs.Result.{result_ok}
 use Rattle.std.specs.Str.{bytes_eq}
 use Rattle.hex.specs.Hex.{decode_sized}
@@ -8,7 +8,7 @@ use Rattle.ark_paths.specs.Pair.{Digest}
 use Rattle.paxlog_run.specs.declared.request.Request.{Request}
 use Rattle.paxlog_run.specs.declared.request.After.{After}
 use Rattle.paxlog_run.specs.declared.request.OptionsAt.{OptionsAt}
-use Rattle.paxlog_run.specs.declared.request.Request.TheVariants.{Append, AppendLines, Root, Prove, Show, Consistency, Check, Recover, Verify, VerifyConsistency, Help, Version}
+use Rattle.paxlog_run.specs.declared.request.Request.TheVariants.{Append, AppendLines, Root, Prove, Show, Consistency, Check, Recover, Verify, VerifyConsistency, Keygen, Checkpoint, VerifyCheckpoint, Help, Version}
 
 -- the digest that a word spells in hexadecimal
 abbrev pub digest_of : List ℕ → Option Digest
@@ -133,6 +133,23 @@ append_lines_in words = do
   at ← options_in words
   if at.place + 1 == length words then Some (AppendLines at.options at.place) else None
 
+-- the checkpoint that they ask for, with an origin or without
+abbrev pub checkpoint_in : List (List ℕ) → Bool → Option Request
+checkpoint_in words has_origin =
+    if bytes_eq (get_or words 2 []) (codes "--key")
+    && (not has_origin || bytes_eq (get_or words 4 []) (codes "--origin"))
+    then Some (Checkpoint has_origin) else None
+
+-- what is asked for by a word about checkpoints with so many others behind it
+abbrev pub asked_of_checkpoints : List ℕ → ℕ → List (List ℕ) → Option Request
+asked_of_checkpoints word count words =
+    if bytes_eq word (codes "keygen") then (if count == 2 then Some Keygen else None)
+    else if bytes_eq word (codes "checkpoint")
+    then (if count == 3 || count == 5 then checkpoint_in words (count == 5) else None)
+    else if bytes_eq word (codes "verify-checkpoint")
+    then (if count == 2 || count == 3 then Some (VerifyCheckpoint (count == 3)) else None)
+    else None
+
 -- what is asked for by a word with so many others behind it
 abbrev pub asked : List ℕ → ℕ → List (List ℕ) → Option Request
 asked word count words =
@@ -150,7 +167,7 @@ asked word count words =
     else if bytes_eq word (codes "verify-consistency") then (if count == 5 then verify_consistency_in words else None)
     else if bytes_eq word (codes "--help") || bytes_eq word (codes "-h") then (if count == 0 then Some Help else None)
     else if bytes_eq word (codes "--version") then (if count == 0 then Some Version else None)
-    else None
+    else asked_of_checkpoints word count words
 
 -- what the words ask for
 abbrev pub request_of : List (List ℕ) → Option Request

@@ -1,7 +1,7 @@
 //! What the words behind the command's name ask for.
 
 ghost use Rattle.std.specs.Prelude.{◌≡◌, ◌≤◌, ◌+◌, [], map, get_or, vec_items, IfSome};
-ghost use Rattle.paxlog_run.specs.Requests.{append_in, append_lines_in, asked, consistency_in, digest_at, digest_of, files_at, number_at, option_more, options_in, prove_in, request_of, root_in, show_in, size_at, verify_consistency_in, verify_in};
+ghost use Rattle.paxlog_run.specs.Requests.{append_in, append_lines_in, asked, asked_of_checkpoints, checkpoint_in, consistency_in, digest_at, digest_of, files_at, number_at, option_more, options_in, prove_in, request_of, root_in, show_in, size_at, verify_consistency_in, verify_in};
 
 use decimals::number_of;
 
@@ -67,6 +67,16 @@ pub enum Request {
         old_root: [u8; 32],
         size: usize,
         root: [u8; 32],
+    },
+    /// A new key is asked for. NAME stands behind the first word, KEYFILE behind that.
+    Keygen,
+    /// KEYFILE stands at place 3, an origin at place 5.
+    Checkpoint {
+        has_origin: bool,
+    },
+    /// KEY stands behind the first word, FILE behind that, an origin at place 3.
+    VerifyCheckpoint {
+        has_origin: bool,
     },
     Help,
     Version,
@@ -301,6 +311,47 @@ fn append_lines_in(words: &[Vec<u8>]) -> Option<Request>
     }
 }
 
+// The checkpoint that is asked for, with an origin or without.
+fn checkpoint_in(words: &[Vec<u8>], has_origin: bool) -> Option<Request>
+    ensures { result ≡ checkpoint_in (map vec_items words.now) has_origin }
+{
+    let has_key = word(words, 2) == b"--key".as_slice();
+    if has_key && (!has_origin || word(words, 4) == b"--origin".as_slice()) {
+        Some(Request::Checkpoint { has_origin })
+    } else {
+        None
+    }
+}
+
+// What is asked for by a word that is about checkpoints, with so many others behind it.
+fn asked_of_checkpoints(word: &[u8], count: usize, words: &[Vec<u8>]) -> Option<Request>
+    ensures { result ≡ asked_of_checkpoints word.now count (map vec_items words.now) }
+{
+    if word == b"keygen".as_slice() {
+        if count == 2 {
+            Some(Request::Keygen)
+        } else {
+            None
+        }
+    } else if word == b"checkpoint".as_slice() {
+        if count == 3 || count == 5 {
+            checkpoint_in(words, count == 5)
+        } else {
+            None
+        }
+    } else if word == b"verify-checkpoint".as_slice() {
+        if count == 2 || count == 3 {
+            Some(Request::VerifyCheckpoint {
+                has_origin: count == 3,
+            })
+        } else {
+            None
+        }
+    } else {
+        None
+    }
+}
+
 // What is asked for by a word with so many others behind it.
 fn asked(word: &[u8], count: usize, words: &[Vec<u8>]) -> Option<Request>
     ensures { result ≡ asked word.now count (map vec_items words.now) }
@@ -374,7 +425,7 @@ fn asked(word: &[u8], count: usize, words: &[Vec<u8>]) -> Option<Request>
             None
         }
     } else {
-        None
+        asked_of_checkpoints(word, count, words)
     }
 }
 

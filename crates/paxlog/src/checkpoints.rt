@@ -1,0 +1,140 @@
+//! Keys, and checkpoints that are signed and verified.
+
+use crate::stop::{Stop, StopAt};
+use crate::store::{created_secret, random_seed, unchanged};
+use log_checkpoints::checkpoint;
+use signed_notes::{Checkpoint, Policy, Signer, Verifier, open_checkpoint};
+use std::alloc::Global;
+use std::fs;
+
+// Puts a line feed behind a line.
+fn with_feed(line: Vec<u8>) -> Result<Vec<u8>, Stop> {
+    let mut whole = line;
+    whole.push(b'\n')?;
+    Ok(whole)
+}
+
+// A line without the line feed at its end.
+fn without_feed(bytes: &[u8]) -> &[u8] {
+    match bytes.last() {
+        Some(b'\n') => &bytes[..bytes.len() - 1],
+        _ => bytes,
+    }
+}
+
+/// Makes a key of a name, writes it to a new file that only its owner reads, and returns the line of its verifier.
+pub fn keygen(rt: &HostRuntime, name: &str, path: &str) -> Result<Vec<u8>, StopAt> {
+    let alloc = rt.alloc();
+    let signer = Signer {
+        name,
+        seed: random_seed(rt)?,
+    };
+    let secret = match signer.write(alloc) {
+        Ok(text) => with_feed(text)?,
+        Err(fault) => return Err(Stop::from(fault).at(1)),
+    };
+    let line = with_feed(of_note(signer.verifier().write(alloc))?)?;
+    match created_secret(rt, path, &secret) {
+        Ok(()) => Ok(line),
+        Err(why) => Err(why.at(2)),
+    }
+}
+
+// What is said of a note, or why not.
+fn of_note<T: Drop>(said: Result<T, signed_notes::Fault>) -> Result<T, Stop> {
+    match said {
+        Ok(value) => Ok(value),
+        Err(fault) => Err(Stop::from(fault)),
+    }
+}
+
+// Signs the checkpoint of a log by a key that was read.
+fn signed(rt: &HostRuntime, path: &str, signer: &Signer, origin: &str) -> Result<Vec<u8>, Stop> {
+    let mut disk = unchanged(rt, path)?;
+    match checkpoint(rt.alloc(), &mut disk, signer, origin) {
+        Ok(note) => Ok(note),
+        Err(log_checkpoints::Stop::Fault(fault)) => Err(Stop::from(fault)),
+        Err(log_checkpoints::Stop::Disk(error)) => Err(Stop::from(error)),
+        Err(log_checkpoints::Stop::Note(fault)) => Err(Stop::from(fault)),
+    }
+}
+
+/// Returns the checkpoint of the log of a file, signed by the key of another file. Its origin is the name of the key where no
+/// other is named.
+pub fn sign(
+    rt: &HostRuntime,
+    path: &str,
+    key_path: &str,
+    origin: Option<&str>,
+) -> Result<Vec<u8>, StopAt> {
+    let text = match fs::read(rt, key_path) {
+        Ok(text) => text,
+        Err(error) => return Err(Stop::from(error).at(3)),
+    };
+    let signer = match Signer::read(rt.alloc(), without_feed(&text)) {
+        Ok(signer) => signer,
+        Err(fault) => return Err(Stop::from(fault).at(3)),
+    };
+    match signed(rt, path, &signer, origin.unwrap_or(signer.name)) {
+        Ok(note) => Ok(note),
+        Err(why) => Err(why.at(1)),
+    }
+}
+
+/// Returns the key of a verifier that a word says.
+pub fn verifier(alloc: Global, word: &[u8]) -> Result<Verifier<'_>, StopAt> {
+    match Verifier::read(alloc, word) {
+        Ok(key) => Ok(key),
+        Err(fault) => Err(Stop::from(fault).at(1)),
+    }
+}
+
+/// Returns the size and the root that a checkpoint states, where the key signed it and its origin is the one that is named, or
+/// the name of the key.
+pub fn opened(
+    alloc: Global,
+    log: &Verifier,
+    note: &[u8],
+    origin: Option<&str>,
+) -> Result<(usize, [u8; 32]), signed_notes::Fault> {
+    let policy = Policy {
+        log: *log,
+        witnesses: &[],
+        quorum: 0,
+    };
+    let Checkpoint { size, root, .. } = open_checkpoint(
+        alloc,
+        note,
+        origin.unwrap_or(log.name),
+        &policy,
+    )?;
+    Ok((size, root))
+}
+
+/// Returns why a note or a key is none, or is not accepted.
+pub fn reason(fault: signed_notes::Fault) -> &'static str {
+    match fault {
+        signed_notes::Fault::Memory => "a request for memory was refused",
+        signed_notes::Fault::TooLong => "the note has more than 1,000,000 bytes",
+        signed_notes::Fault::NotText => "the note is no text",
+        signed_notes::Fault::NoSignatures => "the note has no signature",
+        signed_notes::Fault::Unfinished => "the note ends early",
+        signed_notes::Fault::TooMany => "the note has more than 100 signatures",
+        signed_notes::Fault::Line => "a line of the note is no signature",
+        signed_notes::Fault::Name =>
+            "the name of a key is empty, or has white space or a plus sign",
+        signed_notes::Fault::Base64 => "the Base64 is damaged",
+        signed_notes::Fault::Short => "a signature of the note is empty",
+        signed_notes::Fault::Key => "the key is none",
+        signed_notes::Fault::Algorithm => "the key is of another algorithm",
+        signed_notes::Fault::KeyHash => "the key has another hash",
+        signed_notes::Fault::BadSignature => "a signature by the key does not hold",
+        signed_notes::Fault::UnknownKey => "the key did not sign the note",
+        signed_notes::Fault::OtherOrigin => "the checkpoint is of another origin",
+        signed_notes::Fault::FewWitnesses => "too few witnesses signed the checkpoint",
+        signed_notes::Fault::Origin => "the origin is no line of text",
+        signed_notes::Fault::Size => "the size is no number",
+        signed_notes::Fault::Root => "the root has not 32 bytes",
+        signed_notes::Fault::Extensions => "a line behind the root is empty or no text",
+    }
+}
