@@ -6,6 +6,7 @@ use ark_crypto_primitives::digest::ByteDigest;
 use ark_crypto_primitives::ec::AdditiveGroup;
 use ark_crypto_primitives::encryption::AsymmetricEncryptionScheme;
 use ark_crypto_primitives::encryption::elgamal::{ElGamal, Randomness};
+use ark_crypto_primitives::ff::Field;
 use ark_crypto_primitives::signature::SignatureScheme;
 use ark_crypto_primitives::signature::ed25519::{public_key, sign, verify};
 use ark_crypto_primitives::signature::schnorr::Schnorr;
