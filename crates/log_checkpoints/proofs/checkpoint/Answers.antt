@@ -1,0 +1,35 @@
+use Rattle.std.proofs.Common.{◌≡◌, ℕ, not, nat_lt, [], Result, Ok, Err, ap, sym, ◌∙◌, arith}
+use Rattle.std.proofs.lemmas.Bool.{le-ltb}
+use Rattle.std.proofs.lemmas.List.{take_all}
+use Rattle.sha2.specs.Sha256.{sha256}
+use Rattle.ark_base.specs.Outcome.{◌>>=◌}
+use Rattle.ark_trees.specs.Rfc6962.{node_of}
+use Rattle.merkle_log.specs.Log.{merkle_tree_hash}
+use Rattle.paxlog_run.specs.Faults.{only_if}
+use Rattle.paxlog_run.specs.declared.fault.Fault.{Fault}
+use Rattle.paxlog_run.specs.declared.fault.Fault.TheVariants.{Size}
+use Rattle.log_checkpoints.proofs.checkpoint.Goals as goal
+
+-- Where no size is named it is that of the log.
+size-of-all : (o : Result ℕ Fault) (size : ℕ) → (o >>= λ n. only_if (not (nat_lt n n)) Size (Ok n)) ≡ Ok size
+    → o ≡ Ok size
+size-of-all (Ok n) size is = rw (le-ltb n n (omega arith)) at is
+size-of-all (Err fault) size is = is
+
+pub returns-in-Ok-sign_checkpoint-clause-signed : goal.returns-in-Ok-sign_checkpoint-clause-signed
+returns-in-Ok-sign_checkpoint-clause-signed g c = λ obeys.
+    let held = c.sync.ensures.obeys obeys in
+    let size_is = size-of-all _ c.in-Ok.root.0 (c.in-Ok.ensures.size held) in
+    record {
+      size = c.in-Ok.root.0;
+      root = c.in-Ok.root.1;
+      size_is = size_is;
+      stated = c.in-Ok.ensures.states held size_is;
+      root_is = λ leaves is.
+          let own = c.in-Ok.ensures.root held leaves is in (
+            sym own.0,
+            ap (merkle_tree_hash node_of (sha256 []))
+                (sym (take_all c.in-Ok.root.0 leaves (omega (arith, own.0)))) ∙ own.2,
+          );
+      signed = c.in-Ok-sign_checkpoint.ensures;
+    }
