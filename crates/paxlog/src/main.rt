@@ -274,7 +274,10 @@ fn say_checkpoint(
     opened: Result<(usize, [u8; 32]), signed_notes::Fault>,
 ) -> Result<u8, StopAt> {
     match opened {
-        Ok((size, root)) => say(rt, &line_of_root(rt.alloc(), size, &root)?),
+        Ok(stated) => {
+            let root = stated.1;
+            say(rt, &line_of_root(rt.alloc(), stated.0, &root)?)
+        }
         Err(signed_notes::Fault::Memory) => Err(StopAt::from(Fault::Memory)),
         Err(fault) => {
             let why = checkpoints::reason(fault);
