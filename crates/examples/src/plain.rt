@@ -1,18 +1,11 @@
-//! Trees over each kind of ready hash, and a signature over Jubjub, in plain functions: none has a line of proof.
+//! Trees over Poseidon hashes of three fields, and a signature over Jubjub, in plain functions: none has a line of proof.
 
 use ark_crypto_primitives::Error;
-use ark_crypto_primitives::crh::bowe_hopwood;
-use ark_crypto_primitives::crh::injective_map::{
-    PedersenCRHCompressor, PedersenTwoToOneCRHCompressor, TECompressor,
-};
-use ark_crypto_primitives::crh::pedersen::{Parameters, Windows4x256, Windows63x9};
 use ark_crypto_primitives::crh::poseidon::{CRH, TwoToOneCRH};
 use ark_crypto_primitives::ec::jubjub::Jubjub;
 use ark_crypto_primitives::ff::{Bls12_381Fr, Bn254Fr, Fp, Goldilocks};
-use ark_crypto_primitives::log::Log;
 use ark_crypto_primitives::merkle_tree::{
-    ByteDigestConverter, Config, ConfigHasher, IdentityDigestConverter, MerkleTree, Path,
-    is_tree_size,
+    Config, IdentityDigestConverter, MerkleTree, Path, is_tree_size,
 };
 use ark_crypto_primitives::prf::Blake2s256;
 use ark_crypto_primitives::signature::SignatureScheme;
@@ -57,40 +50,6 @@ impl Config for SmallNotes {
     type TwoToOneHash = TwoToOneCRH<Fp<Goldilocks>, Power>;
 }
 
-/// Trees over Pedersen hashes: a digest is the first coordinate of a sum, and a leaf at most 128 bytes.
-pub struct Sums;
-
-impl Config for Sums {
-    type Leaf = Vec<u8>;
-
-    type LeafDigest = Bls12_381Fr;
-
-    type LeafInnerDigestConverter = ByteDigestConverter<Bls12_381Fr>;
-
-    type InnerDigest = Bls12_381Fr;
-
-    type LeafHash = PedersenCRHCompressor<Jubjub, TECompressor, Windows4x256>;
-
-    type TwoToOneHash = PedersenTwoToOneCRHCompressor<Jubjub, TECompressor, Windows4x256>;
-}
-
-/// Trees over Bowe-Hopwood hashes.
-pub struct Chunks;
-
-impl Config for Chunks {
-    type Leaf = Vec<u8>;
-
-    type LeafDigest = Bls12_381Fr;
-
-    type LeafInnerDigestConverter = ByteDigestConverter<Bls12_381Fr>;
-
-    type InnerDigest = Bls12_381Fr;
-
-    type LeafHash = bowe_hopwood::CRH<Jubjub, Windows63x9>;
-
-    type TwoToOneHash = bowe_hopwood::TwoToOneCRH<Jubjub, Windows63x9>;
-}
-
 /// Returns the path of a leaf under circomlib's hash; `None` where the count of leaves is no power of two above one, or the
 /// index is not below it.
 pub fn circom_path(
@@ -119,21 +78,6 @@ pub fn circom_holds(
     path.verify(alloc, leaf, pair, root, note)
 }
 
-/// Returns the root of the log of some digests under circomlib's hash.
-pub fn circom_log_root(
-    alloc: Global,
-    leaf: &PoseidonConfig<Bn254Fr>,
-    pair: &PoseidonConfig<Bn254Fr>,
-    empty: Bn254Fr,
-    digests: &[Bn254Fr],
-) -> Result<Bn254Fr, Error> {
-    let mut log = Log::new(alloc, ConfigHasher::<CircomTree>::new(leaf, pair), empty);
-    for digest in digests {
-        log.append_digest(alloc, *digest)?;
-    }
-    log.root(alloc, log.size())
-}
-
 /// Returns the root of some notes; `None` where their count is no power of two above one.
 pub fn root_of_notes(
     alloc: Global,
@@ -157,34 +101,6 @@ pub fn root_of_small_notes(
         return Ok(None);
     }
     let tree = MerkleTree::<SmallNotes>::new(alloc, parameters, parameters, notes)?;
-    Ok(Some(*tree.root()))
-}
-
-/// Returns the root of some leaves under Pedersen hashes; `None` where their count is no power of two above one.
-pub fn root_of_sums(
-    alloc: Global,
-    leaf: &Parameters<Jubjub>,
-    pair: &Parameters<Jubjub>,
-    leaves: &[Vec<u8>],
-) -> Result<Option<Bls12_381Fr>, Error> {
-    if !is_tree_size(leaves.len()) {
-        return Ok(None);
-    }
-    let tree = MerkleTree::<Sums>::new(alloc, leaf, pair, leaves)?;
-    Ok(Some(*tree.root()))
-}
-
-/// Returns the root of some leaves under Bowe-Hopwood hashes; `None` where their count is no power of two above one.
-pub fn root_of_chunks(
-    alloc: Global,
-    leaf: &bowe_hopwood::Parameters<Jubjub>,
-    pair: &bowe_hopwood::Parameters<Jubjub>,
-    leaves: &[Vec<u8>],
-) -> Result<Option<Bls12_381Fr>, Error> {
-    if !is_tree_size(leaves.len()) {
-        return Ok(None);
-    }
-    let tree = MerkleTree::<Chunks>::new(alloc, leaf, pair, leaves)?;
     Ok(Some(*tree.root()))
 }
 
