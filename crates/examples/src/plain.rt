@@ -59,10 +59,13 @@ pub fn circom_path(
     leaves: &[Vec<Bn254Fr>],
     index: usize,
 ) -> Result<Option<Path<CircomTree>>, Error> {
-    if !is_tree_size(leaves.len()) || index >= leaves.len() {
+    if !is_tree_size(leaves.len()) {
         return Ok(None);
     }
     let tree = MerkleTree::<CircomTree>::new(alloc, leaf, pair, leaves)?;
+    if index >= tree.size() {
+        return Ok(None);
+    }
     Ok(Some(tree.generate_proof(alloc, index)?))
 }
 
