@@ -1,7 +1,7 @@
-/* Paxidore: Merkle trees over byte strings, clients and keepers of transparency logs, transcripts, SHA-256, BLAKE2s and commitments. The
- * code behind these calls is proved.
+/* Paxidore: Merkle trees over byte strings, clients and keepers of transparency logs, maps, transcripts, SHA-256, BLAKE2s, commitments
+ * and circomlib's Poseidon hash. The code behind these calls is proved.
  *
- * No call keeps memory or a pointer, and each may run in any thread at any time. The calls of trees, logs and transcripts allocate:
+ * No call keeps memory or a pointer, and each may run in any thread at any time. The calls of trees, logs, maps, transcripts and Poseidon allocate:
  * they stand on the process's malloc, realloc and free, so do not call them in a signal handler, nor in the child of a process with
  * threads between fork and exec. Where malloc returns NULL the answer is PAXIDORE_E_MEMORY; no clause says that enough memory is
  * not answered so. The calls of kept trees (paxidore_tree_..) but paxidore_tree_multi_path, of SHA-256, of BLAKE2s and of commitments
@@ -50,6 +50,11 @@ extern "C" {
 /* No inclusion proof and no consistency proof of a log of fewer than 2^63 entries has more bytes. */
 #define PAXIDORE_LOG_PATHBYTES_MAX (63U * 32U)
 #define PAXIDORE_LOG_PROOFBYTES_MAX (64U * 32U)
+
+/* No proof of one key of a map has more bytes; a row of a map's store has so many. */
+#define PAXIDORE_MAP_PROOFBYTES_MAX (3U + 64U + 32U + 256U * 32U)
+#define PAXIDORE_MAP_ROWBYTES 97U
+
 /* The digests of a kept tree of so many leaves, and their bytes. */
 #define PAXIDORE_TREE_DIGESTS(size) (2U * (size_t)(size) - 1U)
 #define PAXIDORE_TREEBYTES(size) (PAXIDORE_DIGESTBYTES * PAXIDORE_TREE_DIGESTS(size))
@@ -86,7 +91,7 @@ enum paxidore_hashing {
  * apply, the answer is the first of those that the comment of the call names, in its order; E_MEMORY may come in place of any. */
 enum paxidore_answer {
     PAXIDORE_OK = 0,           /* shown, or done */
-    PAXIDORE_NOT_SHOWN = 1,    /* a proof was read, and it does not lead from the leaves to the root */
+    PAXIDORE_NOT_SHOWN = 1,    /* a proof or a tree was read, and it does not lead to the root */
     PAXIDORE_E_MEMORY = -1,    /* a request for memory was refused */
     PAXIDORE_E_TRUNCATED = -2, /* the bytes of the proof end early */
     PAXIDORE_E_INVALID = -3,   /* the bytes are no proof for these indexes: of others, not canonical, or with bytes behind; or a
@@ -96,7 +101,7 @@ enum paxidore_answer {
                                 * the sizes, or the old one is above the new one, or fewer digests are kept than a log of the
                                 * size has stored */
     PAXIDORE_E_LENGTHS = -6,   /* the lengths of the leaves do not sum to that of their bytes */
-    PAXIDORE_E_COUNT = -7,     /* there are not as many leaves as indexes */
+    PAXIDORE_E_COUNT = -7,     /* there are not as many leaves as indexes, or more values than keys; or no hash takes so many elements */
     PAXIDORE_E_INDEX = -8,     /* an index is not below the count of leaves, or there is none */
     PAXIDORE_E_ROOM = -9,      /* the buffer is too short; the count that is needed was written; or the memory of a tree
                                 * has not as many digests as the tree above the leaves */
@@ -104,7 +109,8 @@ enum paxidore_answer {
     PAXIDORE_E_NO_LOG = -11,   /* the file is no log's */
     PAXIDORE_E_SHORT = -12,    /* the file of a log ends before the digests of the log's size */
     PAXIDORE_E_HEAD = -13,     /* the file has the title of a log's, and neither of its two slots is whole */
-    PAXIDORE_E_DAMAGED = -14   /* the file of a log has a digest that is not the one that was stored, or states another root */
+    PAXIDORE_E_DAMAGED = -14,  /* the file of a log has a digest that is not the one that was stored, or states another root */
+    PAXIDORE_E_HIDDEN = -15    /* the tree of a map hides what the call needs */
 };
 
 /* A few words on an answer, for people. Never NULL. */
@@ -379,6 +385,53 @@ int32_t paxidore_log_file_consistency(uint8_t *proof, size_t proof_room, size_t 
 PAXIDORE_ANSWERS
 int32_t paxidore_log_file_check(const uint8_t *file, size_t file_len);
 
+/* ---- Maps: one root for keys of 32 bytes with values of 32 bytes, whatever the order of changes, and proofs of what a map has at a
+ * key and of what it has not. Hash other values first. Keys should be hashes: whoever chooses keys can make a neighbour's proof longer.
+ *
+ * Entries are told apart by the bits of their keys, the first one the highest of the first byte. A node is nothing, the only entry, or
+ * a fork of two digests: of the entries whose next bit is 0, and of those whose next bit is 1. The digest of nothing is the SHA-256 of no
+ * bytes, that of an entry of a zero byte, key and value, that of a fork of a one byte and both digests.
+ *
+ * A tree is the bytes of a map's tree, of which parts may be hidden: byte 0 is nothing; 1 an entry, with key and value behind it; 2 a
+ * fork, with the tree of the bit 0 and that of the bit 1 behind it; 3 a hidden tree, with its digest behind it. A keeper has the nodes in a
+ * store of its own, by their digests: it walks from the root by the bits of the keys that a call is about, and hands over what it met,
+ * with the rest hidden. Where a key is removed, the tops of the trees beside its way are shown too. E_TRUNCATED and E_INVALID say of a
+ * tree, or of a proof, that the bytes are none. */
+
+/* PAXIDORE_OK where the bytes of a proof show that the map with this root has the value at the key: then every map with this root has it,
+ * or two different nodes with one SHA-256 are at hand. PAXIDORE_NOT_SHOWN, E_TRUNCATED, E_INVALID, E_MEMORY. */
+PAXIDORE_ANSWERS PAXIDORE_NOT_NULL((1, 2, 3))
+int32_t paxidore_map_verify(const uint8_t root[PAXIDORE_DIGESTBYTES], const uint8_t key[PAXIDORE_DIGESTBYTES],
+                            const uint8_t value[PAXIDORE_DIGESTBYTES], const uint8_t *proof, size_t proof_len);
+
+/* The same of nothing at the key. */
+PAXIDORE_ANSWERS PAXIDORE_NOT_NULL((1, 2))
+int32_t paxidore_map_verify_absent(const uint8_t root[PAXIDORE_DIGESTBYTES], const uint8_t key[PAXIDORE_DIGESTBYTES],
+                                   const uint8_t *proof, size_t proof_len);
+
+/* Writes the root of the maps that a tree shows: its digest. E_TRUNCATED, E_INVALID, E_MEMORY. */
+PAXIDORE_ANSWERS PAXIDORE_NOT_NULL((1))
+int32_t paxidore_map_root(uint8_t root[PAXIDORE_DIGESTBYTES], const uint8_t *tree, size_t tree_len);
+
+/* Writes the bytes of the proof of what a tree has at a key to the front of `proof`, which has room for `proof_room`, and their count to
+ * `proof_len`: at most PAXIDORE_MAP_PROOFBYTES_MAX. They are accepted under the tree's root. E_TRUNCATED, E_INVALID, E_HIDDEN, E_ROOM,
+ * E_MEMORY. */
+PAXIDORE_ANSWERS PAXIDORE_NOT_NULL((3, 6))
+int32_t paxidore_map_prove(uint8_t *proof, size_t proof_room, size_t *proof_len,
+                           const uint8_t *tree, size_t tree_len, const uint8_t key[PAXIDORE_DIGESTBYTES]);
+
+/* Makes changes of the map with the root `root`, of which `tree` shows what they need: the first `values_count` keys get the values, in
+ * turn, and the keys behind them are removed. PAXIDORE_NOT_SHOWN where the tree has another root. Writes the root after the changes to
+ * `new_root`, and to the front of `rows`, which has room for `rows_room` bytes, PAXIDORE_MAP_ROWBYTES for each entry and each fork of the
+ * new tree that is not hidden: its digest, and its 65 bytes, which are what the digest is of. Those are the nodes that a store is to have;
+ * those of `tree` that are not among them are no longer in the map. Each map with the old root has the new root after the changes, or two
+ * different nodes with one SHA-256 are at hand: so a client who has a keeper's tree checks the new root too. E_COUNT for more values than
+ * keys, E_TRUNCATED, E_INVALID, PAXIDORE_NOT_SHOWN, E_HIDDEN, E_ROOM, E_MEMORY. */
+PAXIDORE_ANSWERS PAXIDORE_NOT_NULL((1, 4, 5))
+int32_t paxidore_map_change(uint8_t new_root[PAXIDORE_DIGESTBYTES], uint8_t *rows, size_t rows_room, size_t *rows_len,
+                            const uint8_t root[PAXIDORE_DIGESTBYTES], const uint8_t *tree, size_t tree_len,
+                            const uint8_t *keys, size_t keys_count, const uint8_t *values, size_t values_count);
+
 /* ---- BLAKE2s with 32 bytes out and no key (RFC 7693). Nothing is refused. The standard defines it for inputs below 2^64 bytes:
  * of a longer text, which `update` can take in pieces, the count is kept modulo 2^64. */
 
@@ -417,8 +470,8 @@ int32_t paxidore_blake2s_opens(const uint8_t commitment[PAXIDORE_DIGESTBYTES], c
                                const uint8_t nonce[PAXIDORE_NONCEBYTES]);
 
 /* ---- Ed25519 (RFC 8032, section 5.1): signatures of 64 bytes under keys of 32 bytes, which a seed of 32 bytes makes. The seed is the
- * secret: the library keeps no copy, and wiping it is up to the caller. The time of `public_key` and of `sign` depends on the seed: do not
- * call them where an attacker can measure it. Nothing is refused. */
+ * secret: the library keeps no copy, and wiping it is up to the caller. No branch and no address of `public_key` and of `sign` depends on
+ * the seed, as is tested on the built code. Nothing is refused. */
 
 /* Writes the key that others are given. */
 PAXIDORE_NOT_NULL((1, 2))
@@ -500,6 +553,79 @@ int32_t paxidore_transcript_squeeze(uint8_t *out, size_t out_len, uint8_t *state
 PAXIDORE_ANSWERS
 int32_t paxidore_transcript_squeeze_bytes(uint8_t *out, size_t out_len, uint8_t *state, size_t state_len,
                                           uint32_t field, const uint8_t *parameters, size_t parameters_len);
+
+/* ---- Poseidon: circomlib's hash of 1 to 16 elements of the scalar field of BN254, as its template Poseidon gives it.
+ *
+ * An element is 32 bytes in a byte order, and below the modulus. The hash is written in the same order. */
+enum paxidore_byte_order {
+    PAXIDORE_LITTLE_ENDIAN = 1, /* the least byte first: the canonical bytes of PAXIDORE_BN254_FR */
+    PAXIDORE_BIG_ENDIAN = 2     /* the greatest byte first, as circom's tools print numbers */
+};
+
+/* A table has what the hash of so many inputs runs by: the count of inputs in a byte, and elements of 32 bytes. It is made once and
+ * copied or stored as you like; each call borrows it. No table of so many inputs has more bytes. */
+#define PAXIDORE_POSEIDON_TABLEBYTES(inputs) \
+    (1U + 32U * (((size_t)(inputs) + 1U) * ((size_t)(inputs) + 11U) + (size_t)(inputs) * (2U * (size_t)(inputs) + 1U) + 70U))
+
+/* Writes the table of so many inputs to the front of `table`, which has room for `table_room`, and its count of bytes to `table_len`.
+ * It generates circomlib's constants, which takes milliseconds. E_COUNT for another count than 1 to 16, E_ROOM, E_MEMORY. */
+PAXIDORE_ANSWERS PAXIDORE_NOT_NULL((3))
+int32_t paxidore_poseidon_table(uint8_t *table, size_t table_room, size_t *table_len, size_t inputs);
+
+/* Writes the hash of elements, one behind the other, to `digest`. E_INVALID for a number that names no byte order, E_TRUNCATED for bytes
+ * that are not whole elements, E_COUNT for another count of elements than the table's, E_INVALID for an element that is not below
+ * the modulus, E_MEMORY. Bytes that are no table are E_TRUNCATED or E_INVALID, or give some digest. */
+PAXIDORE_ANSWERS PAXIDORE_NOT_NULL((1))
+int32_t paxidore_poseidon(uint8_t digest[PAXIDORE_DIGESTBYTES], uint32_t order, const uint8_t *table, size_t table_len,
+                          const uint8_t *inputs, size_t inputs_len);
+
+/* ---- Trees and logs over this hash: LeanIMTs, as Semaphore has them. The elements are the leaves, 32 bytes each with the least byte
+ * first, and below the modulus: no other order is taken here. A node is the hash of its two children by the table of two inputs, and a
+ * node without a sibling is its own parent. One element is its own root; of no element there is no root.
+ *
+ * A path is its digests alone, 32 bytes each, from the element up, and no other byte. What is kept of a log are its stored digests, as
+ * above for logs over SHA-256: paxidore_log_kept counts them, and `kept_len`, `more_room` and `count` count digests and elements, not
+ * bytes. E_COUNT for the table of another count of inputs comes first in each call. */
+
+/* Writes the root of `count` elements. E_COUNT, E_SIZE for no element, E_INVALID for one that is not below the modulus, E_MEMORY. */
+PAXIDORE_ANSWERS PAXIDORE_NOT_NULL((1))
+int32_t paxidore_poseidon_root(uint8_t root[PAXIDORE_DIGESTBYTES], const uint8_t *table, size_t table_len,
+                               const uint8_t *elements, size_t count);
+
+/* Writes the bytes of the path of `index` in `count` elements to the front of `path`, which has room for `path_room`, and their count
+ * to `path_len`: at most PAXIDORE_LOG_PATHBYTES_MAX. E_COUNT, E_SIZE, E_INVALID, E_INDEX, E_ROOM, E_MEMORY. */
+PAXIDORE_ANSWERS PAXIDORE_NOT_NULL((3))
+int32_t paxidore_poseidon_path(uint8_t *path, size_t path_room, size_t *path_len, const uint8_t *table, size_t table_len,
+                               const uint8_t *elements, size_t count, size_t index);
+
+/* PAXIDORE_OK where the bytes of a path show that `element` stands at `index` among `size` elements with this root: then it does in
+ * every list of so many with this root, or two different pairs of elements with one hash are at hand. PAXIDORE_NOT_SHOWN, E_COUNT,
+ * E_INDEX for an index not below the size, E_TRUNCATED and E_INVALID for bytes of fewer or more digests than a path of this index and
+ * size has, E_INVALID for an element or a digest that is not below the modulus, E_MEMORY. */
+PAXIDORE_ANSWERS PAXIDORE_NOT_NULL((3, 6))
+int32_t paxidore_poseidon_verify(const uint8_t *table, size_t table_len, const uint8_t root[PAXIDORE_DIGESTBYTES],
+                                 size_t size, size_t index, const uint8_t element[PAXIDORE_DIGESTBYTES],
+                                 const uint8_t *path, size_t path_len);
+
+/* Writes the digests to put behind the stored ones of a log of `size` elements for `count` elements more to the front of `more`, and
+ * their count to `more_len`, as paxidore_log_append does. E_COUNT, E_SIZE, E_ROOM, E_INVALID for an element that is not below the
+ * modulus, or a stored digest that is not, E_MEMORY. */
+PAXIDORE_ANSWERS PAXIDORE_NOT_NULL((3))
+int32_t paxidore_poseidon_log_append(uint8_t *more, size_t more_room, size_t *more_len, const uint8_t *table, size_t table_len,
+                                     const uint8_t *kept, size_t kept_len, size_t size,
+                                     const uint8_t *elements, size_t count);
+
+/* Writes the root of the first `size` elements. E_COUNT, E_SIZE for fewer digests than a log of this size has stored and for no
+ * element, E_INVALID for a stored digest that is not below the modulus, E_MEMORY. */
+PAXIDORE_ANSWERS PAXIDORE_NOT_NULL((1))
+int32_t paxidore_poseidon_log_root(uint8_t root[PAXIDORE_DIGESTBYTES], const uint8_t *table, size_t table_len,
+                                   const uint8_t *kept, size_t kept_len, size_t size);
+
+/* Writes the bytes of the path of `index` in the first `size` elements, as paxidore_poseidon_path does. E_COUNT, E_SIZE, E_INDEX,
+ * E_INVALID as in paxidore_poseidon_log_root, E_ROOM, E_MEMORY. */
+PAXIDORE_ANSWERS PAXIDORE_NOT_NULL((3))
+int32_t paxidore_poseidon_log_inclusion(uint8_t *path, size_t path_room, size_t *path_len, const uint8_t *table, size_t table_len,
+                                        const uint8_t *kept, size_t kept_len, size_t size, size_t index);
 
 /* ---- Earlier names of the calls of trees: paxidore_sha256_.. is the plain hashing, paxidore_rfc6962_.. that of RFC 6962. */
 

@@ -13,7 +13,7 @@ const char *paxidore_strerror(int32_t answer) {
     case PAXIDORE_E_HEIGHT: return "the proof is for a tree of another size";
     case PAXIDORE_E_SIZE: return "no tree or log has this size";
     case PAXIDORE_E_LENGTHS: return "the lengths of the leaves do not sum to that of their bytes";
-    case PAXIDORE_E_COUNT: return "there are not as many leaves as indexes";
+    case PAXIDORE_E_COUNT: return "there are not as many leaves, or elements, as asked for";
     case PAXIDORE_E_INDEX: return "there is no index, or no leaf at one";
     case PAXIDORE_E_ROOM: return "the buffer is too short";
     case PAXIDORE_E_MORE: return "pieces of the file are to be read first";
@@ -21,6 +21,7 @@ const char *paxidore_strerror(int32_t answer) {
     case PAXIDORE_E_SHORT: return "the file of the log ends early";
     case PAXIDORE_E_HEAD: return "the head of the log's file is damaged";
     case PAXIDORE_E_DAMAGED: return "the file of the log is damaged";
+    case PAXIDORE_E_HIDDEN: return "the tree of the map hides what is needed";
     default: return "unknown answer";
     }
 }

@@ -405,7 +405,7 @@ int main(void) {
     snprintf(version, sizeof version, "%d.%d.%d", PAXIDORE_VERSION_MAJOR, PAXIDORE_VERSION_MINOR, PAXIDORE_VERSION_PATCH);
     CHECK(strcmp(version, PAXIDORE_VERSION_STRING) == 0);
     for (int32_t answer = -16; answer <= 2; answer++)
-        CHECK((strcmp(paxidore_strerror(answer), "unknown answer") == 0) == (answer < -14 || answer > 1));
+        CHECK((strcmp(paxidore_strerror(answer), "unknown answer") == 0) == (answer < -15 || answer > 1));
     printf("%d passed, %d failed\n", passed, failed);
     return failed != 0;
 }

@@ -38,11 +38,14 @@ void __wrap_free(void *block) {
 }
 
 static const uint8_t LEAVES[] = "aaabbbcccdddeeefffggghhh";
+static const uint8_t ZEROS[64];
 static const size_t LENGTHS[8] = {3, 3, 3, 3, 3, 3, 3, 3}, INDEXES[3] = {1, 4, 5}, SHOWN[3] = {3, 3, 3};
 static uint8_t root[32], path[112], proof[512], halves[2][32], log_path[96];
 static size_t path_len, proof_len;
 
 static uint8_t kept[32 * 15], to_more[32 * 8], tree[PAXIDORE_TREEBYTES(8)];
+static uint8_t table[PAXIDORE_POSEIDON_TABLEBYTES(2)], to_table[PAXIDORE_POSEIDON_TABLEBYTES(2)];
+static size_t table_len;
 static uint8_t to_root[32], to_path[112], to_proof[512];
 static size_t to_len;
 
@@ -50,6 +53,14 @@ static size_t to_len;
 static const uint64_t PARAMETERS[22] = {2, 1, 5, 3, 2, 5, 6, 2, 7, 8, 2, 9, 10, 2, 2, 1, 2, 2, 3, 4, 1, 1};
 static const uint8_t *const PARAMETER_BYTES = (const uint8_t *)PARAMETERS;
 static uint8_t begun[PAXIDORE_TRANSCRIPTBYTES(1, 1, 8)], to_state[sizeof begun];
+
+/* a map of two entries, whose keys differ in their first bit, and the proofs of one of them and of a third key */
+static uint8_t map_tree[131] = {2, 1}, map_root[32], map_proof[64], absent_proof[128], other_key[32] = {1}, to_rows[3 * PAXIDORE_MAP_ROWBYTES];
+static size_t map_proof_len, absent_len;
+
+/* four elements, and the log of them in the hash of two */
+static uint8_t elements[4 * 32], element_root[32], element_path[64], element_log[7 * 32];
+static size_t element_path_len;
 
 static int32_t call(int which) {
     switch (which) {
@@ -73,6 +84,20 @@ static int32_t call(int which) {
     case 14:
         return paxidore_transcript_squeeze(to_root, 32, to_state, sizeof to_state, 1, PARAMETER_BYTES, sizeof PARAMETERS);
     case 15: return paxidore_rfc6962_tree_multi_path(to_proof, sizeof to_proof, &to_len, tree, 15, INDEXES, 3);
+    case 16: return paxidore_map_verify(map_root, map_tree + 2, map_tree + 34, map_proof, map_proof_len);
+    case 17: return paxidore_map_verify_absent(map_root, other_key, absent_proof, absent_len);
+    case 18: return paxidore_map_root(to_root, map_tree, sizeof map_tree);
+    case 19: return paxidore_map_prove(to_proof, sizeof to_proof, &to_len, map_tree, sizeof map_tree, other_key);
+    case 20:
+        return paxidore_map_change(to_root, to_rows, sizeof to_rows, &to_len, map_root, map_tree, sizeof map_tree, map_tree + 2, 1, root, 1);
+    case 21: return paxidore_poseidon_table(to_table, sizeof to_table, &to_len, 2);
+    case 22: return paxidore_poseidon(to_root, PAXIDORE_LITTLE_ENDIAN, table, table_len, ZEROS, 64);
+    case 23: return paxidore_poseidon_root(to_root, table, table_len, elements, 4);
+    case 24: return paxidore_poseidon_path(to_path, sizeof to_path, &to_len, table, table_len, elements, 4, 2);
+    case 25: return paxidore_poseidon_verify(table, table_len, element_root, 4, 2, elements + 64, element_path, element_path_len);
+    case 26: return paxidore_poseidon_log_append(to_more, 8, &to_len, table, table_len, element_log, 3, 2, elements + 64, 2);
+    case 27: return paxidore_poseidon_log_root(to_root, table, table_len, element_log, 7, 4);
+    case 28: return paxidore_poseidon_log_inclusion(to_path, sizeof to_path, &to_len, table, table_len, element_log, 7, 4, 2);
     default:
         return paxidore_transcript_squeeze_bytes(to_root, 32, to_state, sizeof to_state, 1, PARAMETER_BYTES, sizeof PARAMETERS);
     }
@@ -107,7 +132,20 @@ int main(void) {
         to_len != sizeof begun ||
         paxidore_transcript_absorb(begun, sizeof begun, 1, PARAMETER_BYTES, sizeof PARAMETERS, LEAVES, 8) != PAXIDORE_OK)
         failed++;
-    for (int which = 0; which < 17; which++) {
+    map_tree[66] = 1;
+    map_tree[67] = 0x80;
+    if (paxidore_map_root(map_root, map_tree, sizeof map_tree) != PAXIDORE_OK ||
+        paxidore_map_prove(map_proof, sizeof map_proof, &map_proof_len, map_tree, sizeof map_tree, map_tree + 2) != PAXIDORE_OK ||
+        paxidore_map_prove(absent_proof, sizeof absent_proof, &absent_len, map_tree, sizeof map_tree, other_key) != PAXIDORE_OK)
+        failed++;
+    for (int i = 0; i < 4; i++)
+        elements[32 * i] = (uint8_t)(i + 1);
+    if (paxidore_poseidon_table(table, sizeof table, &table_len, 2) != PAXIDORE_OK ||
+        paxidore_poseidon_root(element_root, table, table_len, elements, 4) != PAXIDORE_OK ||
+        paxidore_poseidon_path(element_path, sizeof element_path, &element_path_len, table, table_len, elements, 4, 2) != PAXIDORE_OK ||
+        paxidore_poseidon_log_append(element_log, 7, &to_len, table, table_len, NULL, 0, 0, elements, 4) != PAXIDORE_OK)
+        failed++;
+    for (int which = 0; which < 30; which++) {
         memcpy(to_state, begun, sizeof begun);
         calls = 0;
         int is_well = call(which) == PAXIDORE_OK && calls > 0 && live == 0;
@@ -117,6 +155,8 @@ int main(void) {
             memset(to_path, 0xaa, sizeof to_path);
             memset(to_proof, 0xaa, sizeof to_proof);
             memset(to_more, 0xaa, sizeof to_more);
+            memset(to_rows, 0xaa, sizeof to_rows);
+            memset(to_table, 0xaa, sizeof to_table);
             memcpy(to_state, begun, sizeof begun);
             to_len = 7;
             left = refused;
@@ -125,6 +165,7 @@ int main(void) {
             is_well = is_well && answer == PAXIDORE_E_MEMORY && live == 0 && to_len == 7 &&
                       is_filled(to_root, sizeof to_root) && is_filled(to_path, sizeof to_path) &&
                       is_filled(to_proof, sizeof to_proof) && is_filled(to_more, sizeof to_more) &&
+                      is_filled(to_rows, sizeof to_rows) && is_filled(to_table, sizeof to_table) &&
                       memcmp(to_state, begun, sizeof begun) == 0;
         }
         if (is_well) {

@@ -19,6 +19,15 @@ static size_t bytes_of(const char *word, uint8_t *to) {
     return count;
 }
 
+/* The table of two inputs, made once. */
+static size_t two_inputs_len;
+
+static const uint8_t *two_inputs(void) {
+    static uint8_t table[PAXIDORE_POSEIDON_TABLEBYTES(2)];
+    if (two_inputs_len == 0 && paxidore_poseidon_table(table, sizeof table, &two_inputs_len, 2) != PAXIDORE_OK) exit(2);
+    return table;
+}
+
 static int is_right(char *line) {
     static uint8_t first[LONGEST], second[LONGEST], third[LONGEST];
     char *words[8] = {NULL};
@@ -57,6 +66,14 @@ static int is_right(char *line) {
         size_t message = bytes_of(words[2], second);
         return paxidore_ed25519_verify(first, second, message, third) == (strcmp(words[4], "yes") == 0 ? PAXIDORE_OK : PAXIDORE_NOT_SHOWN);
     }
+    if (count == 6 && strcmp(words[0], "lean-path") == 0) {
+        bytes_of(words[1], first);
+        bytes_of(words[4], second);
+        size_t path = bytes_of(words[5], third);
+        const uint8_t *table = two_inputs();
+        return paxidore_poseidon_verify(table, two_inputs_len, first, strtoull(words[2], NULL, 10),
+                                        strtoull(words[3], NULL, 10), second, third, path) == PAXIDORE_OK;
+    }
     if (count == 3) {
         size_t input = bytes_of(words[1], first);
         uint8_t digest[PAXIDORE_DIGESTBYTES];
@@ -65,6 +82,18 @@ static int is_right(char *line) {
             paxidore_sha256(digest, first, input);
         else if (strcmp(words[0], "blake2s") == 0)
             paxidore_blake2s(digest, first, input);
+        else if (strcmp(words[0], "lean-root") == 0) {
+            const uint8_t *table = two_inputs();
+            if (paxidore_poseidon_root(digest, table, two_inputs_len, first, input / 32) != PAXIDORE_OK)
+                return 0;
+        }
+        else if (strcmp(words[0], "poseidon") == 0) {
+            static uint8_t table[PAXIDORE_POSEIDON_TABLEBYTES(16)];
+            size_t table_len;
+            if (paxidore_poseidon_table(table, sizeof table, &table_len, input / 32) != PAXIDORE_OK ||
+                paxidore_poseidon(digest, PAXIDORE_BIG_ENDIAN, table, table_len, first, input) != PAXIDORE_OK)
+                return 0;
+        }
         else
             return 0;
         return memcmp(digest, second, sizeof digest) == 0;

@@ -1,5 +1,5 @@
-"""Merkle trees over byte strings, transparency logs, transcripts, SHA-256, BLAKE2s, commitments and Ed25519, by the proved code of
-libpaxidore.
+"""Merkle trees over byte strings, transparency logs, transcripts, SHA-256, BLAKE2s, commitments, Ed25519 and circomlib's Poseidon, by
+the proved code of libpaxidore.
 
 A log or a store publishes the root of its leaves and their count, and hands out paths::
 
@@ -14,19 +14,21 @@ Whoever has the root and the count checks them without the other leaves::
 
 ``sha256`` has the same calls for trees whose hashes are SHA-256 of a leaf, and of left followed by right. There are 2, 4, 8, 16 ..
 leaves in a tree. ``Tree`` keeps the digests of one in memory or in a file. ``Log`` is a log of any size, in memory or in a file, with
-the checks for its clients. ``Transcript`` is Poseidon's duplex sponge over a field. ``blake2s_commit`` commits to a value that is
-shown later. ``ed25519`` signs and verifies.
+the checks for its clients. ``Map`` is a map with one root, in memory or in a file, with proofs of what it has and has not.
+``Transcript`` is Poseidon's duplex sponge over a field. ``blake2s_commit`` commits to a value that is
+shown later. ``ed25519`` signs and verifies. ``poseidon`` has circomlib's hash.
 
 The library is found by the variable ``PAXIDORE_LIBRARY`` (a path), else beside this file, where a wheel has it, else as the
 system finds ``libpaxidore.so.1``. Where it is not there, or is older than this module, ``import paxidore`` raises
 ``ImportError``.
 """
-from . import ed25519
+from . import ed25519, poseidon
 from ._library import (
     CountError,
     DamagedHead,
     DamagedLog,
     HeightError,
+    HiddenTree,
     IndexBeyondSize,
     InvalidProof,
     LengthsError,
@@ -39,6 +41,7 @@ from ._library import (
 )
 from .hashes import Blake2s, blake2s, blake2s_commit, blake2s_opens, sha256_digest, version
 from .log import Log
+from .map import DamagedMap, Map, MapVersion
 from .transcript import Field, Transcript, TranscriptError, parameters_bytes, ready_parameters
 from .tree import Tree
 from .trees import Trees, rfc6962, sha256
@@ -50,12 +53,16 @@ __all__ = [
     "CountError",
     "DamagedHead",
     "DamagedLog",
+    "DamagedMap",
     "Field",
     "HeightError",
+    "HiddenTree",
     "IndexBeyondSize",
     "InvalidProof",
     "LengthsError",
     "Log",
+    "Map",
+    "MapVersion",
     "NoLog",
     "OutOfMemory",
     "Refused",
@@ -71,6 +78,7 @@ __all__ = [
     "blake2s_opens",
     "ed25519",
     "parameters_bytes",
+    "poseidon",
     "ready_parameters",
     "rfc6962",
     "sha256",

@@ -81,7 +81,7 @@ class LengthsError(Refused, ValueError):
 
 
 class CountError(Refused, ValueError):
-    """There are not as many leaves as indexes."""
+    """There are not as many leaves as indexes; or no hash takes so many elements."""
 
     code = -7
 
@@ -116,6 +116,12 @@ class DamagedLog(Refused, ValueError):
     code = -14
 
 
+class HiddenTree(Refused, ValueError):
+    """The witness of changes hides what they need."""
+
+    code = -15
+
+
 class OutOfMemory(Refused, MemoryError):
     """A request for memory was refused."""
 
@@ -137,6 +143,7 @@ _KINDS = {
         ShortLog,
         DamagedHead,
         DamagedLog,
+        HiddenTree,
     )
 }
 

@@ -76,11 +76,13 @@ class _Memory:
         if answer != 0:
             raise _refusal(answer)
         added = ctypes.string_at(more, DIGEST_BYTES * count.value)
+        # behind the stored ones, where an interrupted append may have left some
+        at = DIGEST_BYTES * _log_kept(self.own)
         try:
-            self.digests += added
+            self.digests[at:] = added
         except BufferError:
             # an interrupted call still has what was lent to it
-            self.digests = self.digests + added
+            self.digests = self.digests[:at] + added
         self.own = size
         return size
 

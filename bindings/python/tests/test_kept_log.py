@@ -154,6 +154,15 @@ class InMemory(unittest.TestCase):
             proofs_are(self, log, digests, size)
         self.assertTrue(log.check())
 
+    def test_what_an_interrupted_append_left(self):
+        entries = drawn(20)
+        log = Log()
+        log.append(entries[:11])
+        log._kept.digests += bytes(96)
+        log.append(entries[11:])
+        self.assertEqual(log.root(), mth(entry_digests(entries)))
+        self.assertEqual(bytes(log._kept.digests), b"".join(stored(entry_digests(entries))))
+
     def test_entries_as_they_come(self):
         entries = drawn(2500)
         digests, log, told = entry_digests(entries), Log(), []

@@ -11,7 +11,7 @@ pub type PublicKey = [u8; 32];
 /// A signature.
 pub type Signature = [u8; 64];
 
-/// The key of a seed. The time of this call and of `sign` depends on the seed.
+/// The key of a seed. No branch and no address of this call and of `sign` depends on the seed, as is tested.
 pub fn public_key(seed: &Seed) -> PublicKey {
     let mut key = [0; 32];
     // SAFETY: both pointers are to 32 bytes.

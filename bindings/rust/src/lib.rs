@@ -1,5 +1,5 @@
-//! Merkle trees over byte strings, transparency logs, transcripts, SHA-256, BLAKE2s, commitments and Ed25519, by the proved
-//! code of libpaxidore.
+//! Merkle trees over byte strings, transparency logs, maps, transcripts, SHA-256, BLAKE2s, commitments, Ed25519 and circomlib's
+//! Poseidon, by the proved code of libpaxidore.
 //!
 //! A log or a store publishes the root of its leaves and their count, and hands out paths. Whoever has the root and the count
 //! checks them without the other leaves:
@@ -15,7 +15,7 @@
 //! ```
 //!
 //! Without the feature `std`, which is on by default, the crate is `no_std` and allocates nothing of its own: it has the checks of
-//! proofs, the hashes, the commitments and Ed25519. The library still calls the `malloc`, `realloc` and `free` that are linked.
+//! proofs, the hashes, the commitments, Ed25519 and Poseidon. The library still calls the `malloc`, `realloc` and `free` that are linked.
 #![cfg_attr(not(feature = "std"), no_std)]
 #![warn(missing_docs)]
 
@@ -25,6 +25,8 @@ pub mod ed25519;
 mod log;
 #[cfg(feature = "std")]
 mod log_file;
+mod map;
+pub mod poseidon;
 #[cfg_attr(not(feature = "std"), allow(dead_code))]
 mod sys;
 #[cfg(feature = "std")]
@@ -39,6 +41,7 @@ use core::ffi::CStr;
 use core::fmt;
 #[cfg(feature = "std")]
 pub use log::{Log, LogError};
+pub use map::Map;
 #[cfg(feature = "std")]
 pub use transcript::{ready_parameters, Field, Transcript};
 #[cfg(feature = "std")]
@@ -67,7 +70,7 @@ pub enum Refused {
     Size,
     /// The lengths of the leaves do not sum to that of their bytes. Only `multi_verify_flat` gives it.
     Lengths,
-    /// There are not as many leaves as indexes.
+    /// There are not as many leaves as indexes; or no hash takes so many elements.
     Count,
     /// An index is not below the count of leaves, or there is none.
     Index,
@@ -81,6 +84,8 @@ pub enum Refused {
     DamagedHead,
     /// The file of a log has a digest that is not the one that was stored, or states another root.
     Damaged,
+    /// The witness of changes hides what they need.
+    Hidden,
     /// Another answer of a library that is newer than this crate.
     Other(i32),
 }
@@ -101,6 +106,7 @@ impl Refused {
             -12 => Refused::Short,
             -13 => Refused::DamagedHead,
             -14 => Refused::Damaged,
+            -15 => Refused::Hidden,
             other => Refused::Other(other),
         }
     }
@@ -117,13 +123,16 @@ impl fmt::Display for Refused {
             Refused::Lengths => {
                 f.write_str("the lengths of the leaves do not sum to that of their bytes")
             }
-            Refused::Count => f.write_str("there are not as many leaves as indexes"),
+            Refused::Count => {
+                f.write_str("there are not as many leaves, or elements, as asked for")
+            }
             Refused::Index => f.write_str("there is no index, or no leaf at one"),
             Refused::Room => f.write_str("the memory for a tree has another length"),
             Refused::NoLog => f.write_str("the file is no log"),
             Refused::Short => f.write_str("the file of the log ends early"),
             Refused::DamagedHead => f.write_str("the head of the log's file is damaged"),
             Refused::Damaged => f.write_str("the file of the log is damaged"),
+            Refused::Hidden => f.write_str("the tree of the map hides what is needed"),
             // a newer library has words for it
             Refused::Other(answer) => {
                 // SAFETY: the library answers a text of its own for each number, which ends with a zero byte and never changes.

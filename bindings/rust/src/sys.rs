@@ -221,6 +221,78 @@ extern "C" {
         parameters: *const u8,
         parameters_len: usize,
     ) -> i32;
+    pub fn paxidore_poseidon_table(
+        table: *mut u8,
+        table_room: usize,
+        table_len: *mut usize,
+        inputs: usize,
+    ) -> i32;
+    pub fn paxidore_poseidon(
+        digest: *mut u8,
+        order: u32,
+        table: *const u8,
+        table_len: usize,
+        inputs: *const u8,
+        inputs_len: usize,
+    ) -> i32;
+    pub fn paxidore_poseidon_root(
+        root: *mut u8,
+        table: *const u8,
+        table_len: usize,
+        elements: *const u8,
+        count: usize,
+    ) -> i32;
+    pub fn paxidore_poseidon_path(
+        path: *mut u8,
+        path_room: usize,
+        path_len: *mut usize,
+        table: *const u8,
+        table_len: usize,
+        elements: *const u8,
+        count: usize,
+        index: usize,
+    ) -> i32;
+    pub fn paxidore_poseidon_verify(
+        table: *const u8,
+        table_len: usize,
+        root: *const u8,
+        size: usize,
+        index: usize,
+        element: *const u8,
+        path: *const u8,
+        path_len: usize,
+    ) -> i32;
+    pub fn paxidore_poseidon_log_append(
+        more: *mut u8,
+        more_room: usize,
+        more_len: *mut usize,
+        table: *const u8,
+        table_len: usize,
+        kept: *const u8,
+        kept_len: usize,
+        size: usize,
+        elements: *const u8,
+        count: usize,
+    ) -> i32;
+    pub fn paxidore_poseidon_log_root(
+        root: *mut u8,
+        table: *const u8,
+        table_len: usize,
+        kept: *const u8,
+        kept_len: usize,
+        size: usize,
+    ) -> i32;
+    pub fn paxidore_poseidon_log_inclusion(
+        path: *mut u8,
+        path_room: usize,
+        path_len: *mut usize,
+        table: *const u8,
+        table_len: usize,
+        kept: *const u8,
+        kept_len: usize,
+        size: usize,
+        index: usize,
+    ) -> i32;
     pub fn paxidore_strerror(answer: i32) -> *const c_char;
     pub fn paxidore_version() -> *const c_char;
 }
@@ -364,4 +436,43 @@ pub const LOCK_UN: c_int = 8;
 
 extern "C" {
     pub fn flock(file: c_int, operation: c_int) -> c_int;
+}
+
+// Maps.
+extern "C" {
+    pub fn paxidore_map_verify(
+        root: *const u8,
+        key: *const u8,
+        value: *const u8,
+        proof: *const u8,
+        proof_len: usize,
+    ) -> i32;
+    pub fn paxidore_map_verify_absent(
+        root: *const u8,
+        key: *const u8,
+        proof: *const u8,
+        proof_len: usize,
+    ) -> i32;
+    pub fn paxidore_map_root(root: *mut u8, tree: *const u8, tree_len: usize) -> i32;
+    pub fn paxidore_map_prove(
+        proof: *mut u8,
+        proof_room: usize,
+        proof_len: *mut usize,
+        tree: *const u8,
+        tree_len: usize,
+        key: *const u8,
+    ) -> i32;
+    pub fn paxidore_map_change(
+        new_root: *mut u8,
+        rows: *mut u8,
+        rows_room: usize,
+        rows_len: *mut usize,
+        root: *const u8,
+        tree: *const u8,
+        tree_len: usize,
+        keys: *const u8,
+        keys_count: usize,
+        values: *const u8,
+        values_count: usize,
+    ) -> i32;
 }

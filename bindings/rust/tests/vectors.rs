@@ -1,5 +1,6 @@
 //! The lines of `tools/vectors --lines`, which the variable `PAXIDORE_VECTORS` names a file of.
 
+use paxidore::poseidon::{table_bytes, ByteOrder, Table};
 use paxidore::{blake2s, ed25519, sha256, Digest, Log, Trees};
 
 fn bytes(word: &str) -> Vec<u8> {
@@ -23,6 +24,7 @@ fn lines() {
     let Ok(place) = std::env::var("PAXIDORE_VECTORS") else {
         return;
     };
+    let two = Table::<{ table_bytes(2) }>::new(2).unwrap();
     let mut count = 0;
     for line in std::fs::read_to_string(place).unwrap().lines() {
         let words: Vec<&str> = line.split(' ').collect();
@@ -51,6 +53,23 @@ fn lines() {
                 Log::verify_consistency(old_size, &old_root, size, &root, &bytes(proof)) == Ok(true)
             }
             ["sha256", input, output] => sha256(&bytes(input)) == digest(output),
+            ["poseidon", inputs, output] => {
+                let inputs = bytes(inputs);
+                Table::<{ table_bytes(16) }>::new(inputs.len() / 32)
+                    .and_then(|table| table.hash(ByteOrder::BigEndian, &inputs))
+                    == Ok(digest(output))
+            }
+            ["lean-root", elements, root] => {
+                let elements: Vec<Digest> = bytes(elements)
+                    .chunks(32)
+                    .map(|one| one.try_into().unwrap())
+                    .collect();
+                two.root(&elements) == Ok(digest(root))
+            }
+            ["lean-path", root, size, index, element, path] => {
+                let (size, index) = (size.parse().unwrap(), index.parse().unwrap());
+                two.verify(&digest(root), size, index, &digest(element), &bytes(path)) == Ok(true)
+            }
             ["blake2s", input, output] => blake2s(&bytes(input)) == digest(output),
             ["ed25519-sign", seed, message, key, signature] => {
                 let (seed, message) = (digest(seed), bytes(message));

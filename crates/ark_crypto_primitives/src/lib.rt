@@ -1,6 +1,7 @@
 //! Cryptographic primitives that proof systems stand on, under the names of the Rust crate ark-crypto-primitives.
 #![tactic(auto)]
 
+mod ed25519_scheme;
 mod log_tree;
 
 pub use ark_absorb::{collect_sponge_bytes, collect_sponge_field_elements};
@@ -92,6 +93,11 @@ pub mod encryption {
 pub mod signature {
     pub use ark_signatures::signature::SignatureScheme;
     pub use ed25519;
+
+    /// Ed25519 as a `SignatureScheme`.
+    pub mod rfc8032 {
+        pub use crate::ed25519_scheme::{Ed25519, NOT_RANDOMIZED};
+    }
 
     /// Schnorr signatures.
     pub mod schnorr {
@@ -197,8 +203,8 @@ pub mod log {
 /// Maps from keys of 32 bytes to digests, with proofs of what they have at a key and of what they have not.
 pub mod map {
     pub use merkle_map::{
-        Change, End, Entry, KeptMap, KeyProof, MapHasher, MapTree, Sha256Map, verify_absent,
-        verify_other, verify_transition, verify_value,
+        Change, End, Entry, HIDDEN, HashedEntry, HashedPair, KeptMap, KeyProof, MapHasher, MapTree,
+        Sha256Map, change_from, verify_absent, verify_other, verify_transition, verify_value,
     };
 }
 

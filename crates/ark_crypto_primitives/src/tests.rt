@@ -1,5 +1,6 @@
 //! Rows that cross crates, by the names of this one.
 
+mod ed25519_scheme;
 mod pedersen;
 mod poseidon;
 mod trees;

@@ -7,7 +7,9 @@
 mod absorb;
 mod batch;
 mod certified;
+mod choices;
 mod fp256;
+mod inversion;
 mod moduli;
 mod modulus;
 mod montgomery;
@@ -16,7 +18,8 @@ mod prime;
 mod words;
 
 pub use batch::{NoInverses, batch_inverse};
-pub use fp256::Fp256;
+pub use choices::{mask_in_place, mask_of, words_under};
+pub use fp256::{Fp256, element_under, of_kept, prime_inverse};
 pub use moduli::{
     Bls12_381Fr, Bls12_381FrModulus, Bn254Fr, Bn254FrModulus, PallasFp, PallasFpModulus, VestaFp,
     VestaFpModulus,

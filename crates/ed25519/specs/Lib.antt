@@ -1,7 +1,11 @@
 pub mod Edwards25519
 pub mod Values
+pub mod SmallOrder
 pub mod Spelling
 pub mod Points
 pub mod Signatures
 pub mod Combined
+pub mod BaseTable
+pub mod Multiples
 pub mod Laws
+pub mod Claims

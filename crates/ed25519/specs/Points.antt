@@ -1,6 +1,6 @@
 -- What stands between the code and the points of edwards25519: coordinates of elements, and the exponents of square
 -- roots.
-use Rattle.std.specs.Prelude.{ℕ}
+use Rattle.std.specs.Prelude.{ℕ, ◌-◌, ◌^◌}
 use Rattle.edwards_numbers.specs.Edwards.{Coordinates}
 use Rattle.ed25519.specs.Values.{Fp, value}
 
@@ -15,3 +15,7 @@ half = 2894802230932904885589274625217197696331749616641014100986439600197828240
 -- (p + 3) / 8: the power to this of a square is a root, or one times a root of -1
 unfoldable pub eighth : ℕ
 eighth = 7237005577332262213973186563042994240829374041602535252466099000494570602494
+
+-- the number of n binary digits 1
+unfoldable pub ones : ℕ → ℕ
+ones n = 2 ^ n - 1

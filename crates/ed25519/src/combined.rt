@@ -10,7 +10,7 @@ ghost use Rattle.ed25519.specs.Combined.{combined, AreCombined};
 
 use crate::moduli::{Ed25519Fp, Ed25519FpModulus};
 use ark_groups::ff::Words;
-use edwards::{Extended, doubled, plus, zero};
+use edwards::{Extended, doubled_twice, plus, zero};
 
 /// Four coordinates of a point.
 pub type Four = Extended<Ed25519FpModulus>;
@@ -72,7 +72,7 @@ fn with_digits(twice: Ed25519Fp, table: &[Four; 16], sum: Four, i: usize, j: usi
         → AreCombined s t 16 table.now → Stands sum (combined m n s t)
         → Stands result (combined (4 * m + i) (4 * n + j) s t) }
 {
-    let four_times = doubled(doubled(sum));
+    let four_times = doubled_twice(sum);
     plus(twice, four_times, table[4 * i + j])
 }
 

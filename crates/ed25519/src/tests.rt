@@ -1,6 +1,6 @@
 //! The first two vectors of RFC 8032, section 7.1, and what is refused.
 
-use crate::{point_of, public_key, sign, verify};
+use crate::{Claim, has_small_order, point_of, public_key, sign, verify, verify_many};
 
 const SEED: [u8; 32] = [
     157, 97, 177, 157, 239, 253, 90, 96, 186, 132, 74, 244, 146, 236, 44, 196, 68, 73, 197, 105,
@@ -78,4 +78,39 @@ fn points_have_one_spelling(rt: HostRuntime) {
     assert!(rt; point_of(&bytes_of(1, 0, 128)).is_none());
     assert!(rt; point_of(&bytes_of(238, 255, 127)).is_none());
     assert!(rt; point_of(&bytes_of(2, 0, 0)).is_none());
+}
+
+#[test]
+fn first_of_many_that_fails(rt: HostRuntime) {
+    let one = Claim {
+        key: &KEY,
+        message: &[],
+        signature: &SIGNATURE,
+    };
+    let other = Claim {
+        key: &OTHER_KEY,
+        message: &[0x72],
+        signature: &OTHER_SIGNATURE,
+    };
+    let wrong = Claim {
+        key: &KEY,
+        message: &[0x72],
+        signature: &OTHER_SIGNATURE,
+    };
+    assert_eq!(rt; verify_many(&[]), None);
+    assert_eq!(rt; verify_many(&[one, other, one]), None);
+    assert_eq!(rt; verify_many(&[one, wrong, other, wrong]), Some(1));
+}
+
+// An element of order 8, by its canonical bytes.
+const OF_ORDER_EIGHT: [u8; 32] = [
+    199, 23, 106, 112, 61, 77, 216, 79, 186, 60, 11, 118, 13, 16, 103, 15, 42, 32, 83, 250, 44, 57,
+    204, 198, 78, 199, 253, 119, 146, 172, 3, 122,
+];
+
+#[test]
+fn small_orders(rt: HostRuntime) {
+    assert!(rt; has_small_order(&OF_ORDER_EIGHT));
+    assert!(rt; !has_small_order(&KEY));
+    assert!(rt; !has_small_order(&[2; 32]));
 }

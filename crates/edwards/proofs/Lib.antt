@@ -6,3 +6,5 @@ pub mod Sums
 pub mod Bits
 pub mod WithOne
 pub mod Neutral
+pub mod Digits
+pub mod Divided

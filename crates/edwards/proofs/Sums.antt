@@ -35,6 +35,18 @@ module _ {M : Type 0} {g : Ghosts M} (d : ℕ) (c : IsComplete (number g.P) d) w
       subst (Stands r) (multiples_add (number g.P) d c m m a on)
       (doubles (times (edwards (number g.P) d) m a) (multiple_on_curve (number g.P) d c m a on) of_e)
 
+  -- four coordinates are doubled twice
+  abbrev pub Quadruples : Extended M g → Extended M g → Type 0
+  Quadruples e r = (t : Coordinates) → IsOnCurve (number g.P) d t → Stands e t
+      → Stands r (sum (number g.P) d (sum (number g.P) d t t) (sum (number g.P) d t t))
+
+  pub four_times : (e r : Extended M g) (m : ℕ) (a : Coordinates) → IsOnCurve (number g.P) d a → Quadruples e r
+      → Stands e (times (edwards (number g.P) d) m a) → Stands r (times (edwards (number g.P) d) (m + m + (m + m)) a)
+  four_times e r m a on quadruples of_e =
+      let twice_is = multiples_add (number g.P) d c m m a on in
+      subst (Stands r) (ap (λ t. sum (number g.P) d t t) twice_is ∙ multiples_add (number g.P) d c (m + m) (m + m) a on)
+      (quadruples (times (edwards (number g.P) d) m a) (multiple_on_curve (number g.P) d c m a on) of_e)
+
   -- a multiple is added
   pub more : (r : Extended M g) (m k : ℕ) (a : Coordinates) → IsOnCurve (number g.P) d a
       → Stands r (sum (number g.P) d (times (edwards (number g.P) d) m a) (times (edwards (number g.P) d) k a))

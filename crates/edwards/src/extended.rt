@@ -3,14 +3,16 @@
 ghost use Rattle.std.specs.Prelude.{◌≡◌, ℕ, ◌*◌, ◌%◌, ⊤};
 ghost use Rattle.std.specs.Bool.{Decides};
 ghost use Rattle.ark_groups.specs.Words.{number};
+ghost use Rattle.ark_wide_fields.specs.Choices.{IsMask, ones};
 ghost use Rattle.edwards_numbers.specs.Edwards.{Coordinates, IsOnCurve, neutral, sum};
 ghost use Rattle.edwards_numbers.specs.Curves.{IsComplete};
-ghost use Rattle.edwards.specs.Extended.{Stands, point};
+ghost use Rattle.edwards.specs.Extended.{Stands, StandsApart, IsBlank, point};
+ghost use Rattle.edwards.specs.Prepared.{AreProducts};
 ghost use Rattle.edwards.specs.Values.{value};
 
-use crate::field::{crossed_products, inverse};
+use crate::field::crossed_products;
 use ark_groups::ff::Field;
-use ark_wide_fields::{Fp256, WideModulus};
+use ark_wide_fields::{Fp256, WideModulus, element_under, prime_inverse};
 use std::alloc::AllocError;
 
 /// Four coordinates X, Y, Z and T with x = X / Z, y = Y / Z and x y = T / Z.
@@ -42,6 +44,35 @@ pub fn zero<M: WideModulus>() -> Extended<M>
         y: Fp256::<M>::one(),
         z: Fp256::<M>::one(),
         t: Fp256::<M>::zero(),
+    }
+}
+
+/// Returns four zeros, which stand for no point.
+pub fn blank<M: WideModulus>() -> Extended<M>
+    ensures { IsBlank result }
+{
+    Extended {
+        x: Fp256::<M>::zero(),
+        y: Fp256::<M>::zero(),
+        z: Fp256::<M>::zero(),
+        t: Fp256::<M>::zero(),
+    }
+}
+
+/// Returns the first where the mask is ones and the other is blank; the other where the mask is 0. It takes no branch.
+#[inline(always)]
+pub fn point_under<M: WideModulus>(mask: u64, a: Extended<M>, so_far: Extended<M>) -> Extended<M>
+    requires mask { IsMask mask }
+    requires none { mask ≡ ones → IsBlank so_far }
+    ensures first { mask ≡ ones → (s : Coordinates) → Stands a s → Stands result s }
+    ensures second { mask ≡ 0 → (s : Coordinates) → Stands so_far s → Stands result s }
+    ensures blank { mask ≡ 0 → IsBlank so_far → IsBlank result }
+{
+    Extended {
+        x: element_under(mask, a.x, so_far.x),
+        y: element_under(mask, a.y, so_far.y),
+        z: element_under(mask, a.z, so_far.z),
+        t: element_under(mask, a.t, so_far.t),
     }
 }
 
@@ -102,10 +133,35 @@ pub fn plus_point<M: WideModulus>(
     joined(e, scale.sub(cross), scale.add(cross), h)
 }
 
-/// Returns the double of a point of the curve.
-pub fn doubled<M: WideModulus>(a: Extended<M>) -> Extended<M>
+/// Returns the sum of a point of the curve and of one by y - x, y + x, and 2 d x y, where d is the curve's coefficient.
+#[inline(always)]
+pub fn plus_products<M: WideModulus>(
+    a: Extended<M>,
+    less: Fp256<M>,
+    more: Fp256<M>,
+    cross: Fp256<M>,
+) -> Extended<M>
+    ensures { (d : ℕ) → IsComplete (number M.P) d
+        → (s t : Coordinates) → IsOnCurve (number M.P) d s → IsOnCurve (number M.P) d t
+        → Stands a s → AreProducts d less more cross t → Stands result (sum (number M.P) d s t) }
+{
+    let first = a.y.sub(a.x).mul(less);
+    let second = a.y.add(a.x).mul(more);
+    let third = a.t.mul(cross);
+    let scale = a.z.double();
+    joined(
+        second.sub(first),
+        scale.sub(third),
+        scale.add(third),
+        second.add(first),
+    )
+}
+
+// The double of a point by three coordinates X, Y and Z, with the fourth.
+#[inline(always)]
+fn doubled_of<M: WideModulus>(a: &Extended<M>) -> Extended<M>
     ensures { (d : ℕ) → IsComplete (number M.P) d → (s : Coordinates) → IsOnCurve (number M.P) d s
-        → Stands a s → Stands result (sum (number M.P) d s s) }
+        → StandsApart a.now s → Stands result (sum (number M.P) d s s) }
 {
     let x = a.x.mul(a.x);
     let y = a.y.mul(a.y);
@@ -114,15 +170,69 @@ pub fn doubled<M: WideModulus>(a: Extended<M>) -> Extended<M>
     joined(a.x.mul(a.y).double(), f, g, y.add(x))
 }
 
-/// Returns the point's coordinates.
+/// Returns the double of a point of the curve.
+pub fn doubled<M: WideModulus>(a: Extended<M>) -> Extended<M>
+    ensures { (d : ℕ) → IsComplete (number M.P) d → (s : Coordinates) → IsOnCurve (number M.P) d s
+        → Stands a s → Stands result (sum (number M.P) d s s) }
+{
+    doubled_of(&a)
+}
+
+// The double by three coordinates; the fourth is that of the point itself.
+fn doubled_apart<M: WideModulus>(a: &Extended<M>) -> Extended<M>
+    ensures { (d : ℕ) → IsComplete (number M.P) d → (s : Coordinates) → IsOnCurve (number M.P) d s
+        → StandsApart a.now s → StandsApart result (sum (number M.P) d s s) }
+{
+    let x = a.x.mul(a.x);
+    let y = a.y.mul(a.y);
+    let g = y.sub(x);
+    let f = a.z.mul(a.z).double().sub(g);
+    let e = a.x.mul(a.y).double();
+    Extended {
+        x: e.mul(f),
+        y: g.mul(y.add(x)),
+        z: f.mul(g),
+        t: a.t,
+    }
+}
+
+/// Returns four times a point of the curve. The double between takes no fourth coordinate.
+pub fn doubled_twice<M: WideModulus>(a: Extended<M>) -> Extended<M>
+    ensures { (d : ℕ) → IsComplete (number M.P) d → (s : Coordinates) → IsOnCurve (number M.P) d s
+        → Stands a s → (let t = sum (number M.P) d s s in Stands result (sum (number M.P) d t t)) }
+{
+    doubled_of(&doubled_apart(&a))
+}
+
+/// Returns the point's coordinates. It takes no branch.
 pub fn affine<M: WideModulus>(a: Extended<M>) -> (Fp256<M>, Fp256<M>)
     ensures x { (d : ℕ) → IsComplete (number M.P) d → (s : Coordinates) → IsOnCurve (number M.P) d s
         → Stands a s → value result.0 ≡ s.x }
     ensures y { (d : ℕ) → IsComplete (number M.P) d → (s : Coordinates) → IsOnCurve (number M.P) d s
         → Stands a s → value result.1 ≡ s.y }
 {
-    let z = inverse(a.z);
+    let z = prime_inverse(a.z);
     (a.x.mul(z), a.y.mul(z))
+}
+
+/// Returns the coordinates of two points, by one inversion. It takes no branch.
+pub fn affine_both<M: WideModulus>(
+    a: Extended<M>,
+    b: Extended<M>,
+) -> ((Fp256<M>, Fp256<M>), (Fp256<M>, Fp256<M>))
+    ensures first { (d : ℕ) → IsComplete (number M.P) d
+        → (s t : Coordinates) → IsOnCurve (number M.P) d s → IsOnCurve (number M.P) d t
+        → Stands a s → Stands b t → point result.0.0 result.0.1 ≡ s }
+    ensures second { (d : ℕ) → IsComplete (number M.P) d
+        → (s t : Coordinates) → IsOnCurve (number M.P) d s → IsOnCurve (number M.P) d t
+        → Stands a s → Stands b t → point result.1.0 result.1.1 ≡ t }
+{
+    let inverse = prime_inverse(a.z.mul(b.z));
+    let of_a = inverse.mul(b.z);
+    let of_b = inverse.mul(a.z);
+    let first = (a.x.mul(of_a), a.y.mul(of_a));
+    let second = (b.x.mul(of_b), b.y.mul(of_b));
+    (first, second)
 }
 
 /// Returns whether it is the neutral point.

@@ -4,7 +4,12 @@
 mod extended;
 mod field;
 mod multiples;
+mod prepared;
 
-pub use extended::{Extended, affine, doubled, is_neutral, lifted, plus, plus_point, zero};
+pub use extended::{
+    Extended, affine, affine_both, doubled, doubled_twice, is_neutral, lifted, plus, plus_point,
+    zero,
+};
 pub use field::{crossed_products, inverse};
-pub use multiples::multiple;
+pub use multiples::{highest_digit, multiple};
+pub use prepared::{Prepared, plus_prepared};

@@ -9,7 +9,7 @@ use crate::bytes::spelled;
 use crate::extended::{
     Extended, affine, doubled, is_neutral, lifted, plus_point, twice_coefficient,
 };
-use crate::multiple::{is_on_curve, multiple, order_of_subgroup};
+use crate::multiple::{is_on_curve, multiple, multiple_public, order_of_subgroup};
 use ark_groups::ff::{Field, Words};
 use ark_wide_fields::Bls12_381Fr;
 
@@ -146,12 +146,22 @@ impl Jubjub {
         Jubjub::of_extended(doubled(lifted(self.x, self.y)))
     }
 
-    /// Returns the element, added as often as the scalar says. The scalar may be any number of four words.
+    /// Returns the element, added as often as the scalar says. The scalar may be any number of four words. No branch and
+    /// no address depends on it or on the element.
     pub fn mul(self, scalar: Words) -> Jubjub
         ensures group { result ≡ times jubjub (number scalar) self }
         ensures coordinates { coordinates result ≡ times curve (number scalar) (coordinates self) }
     {
         Jubjub::of_extended(multiple(lifted(self.x, self.y), scalar))
+    }
+
+    /// Returns the element, added as often as a public scalar says, on which the time depends: it is shorter than that of
+    /// `mul`. The scalar may be any number of four words.
+    pub fn mul_public(self, scalar: Words) -> Jubjub
+        ensures group { result ≡ times jubjub (number scalar) self }
+        ensures coordinates { coordinates result ≡ times curve (number scalar) (coordinates self) }
+    {
+        Jubjub::of_extended(multiple_public(lifted(self.x, self.y), scalar))
     }
 
     /// Returns the element with these coordinates. `None` where they are not in the prime subgroup.
@@ -162,7 +172,7 @@ impl Jubjub {
         if !is_on_curve(x, y) {
             return None;
         }
-        if !is_neutral(multiple(lifted(x, y), order_of_subgroup())) {
+        if !is_neutral(multiple_public(lifted(x, y), order_of_subgroup())) {
             return None;
         }
         Some(Jubjub::of(x, y))

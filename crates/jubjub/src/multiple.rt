@@ -10,9 +10,10 @@ ghost use Rattle.jubjub.specs.Extended.{Stands, AreMultiples};
 ghost use Rattle.jubjub.specs.Values.{value};
 
 use crate::extended::{Extended, coefficient, doubled, plus, twice_coefficient, zero};
-use crate::scalar::{highest_digit, short};
+use crate::scalar::short;
 use ark_groups::ff::{Field, Words};
 use ark_wide_fields::Bls12_381Fr;
+use edwards::highest_digit;
 
 // How many digits to base 16 four words have.
 const DIGITS: u32 = 64;
@@ -115,8 +116,17 @@ fn by_bits(a: Extended, scalar: u64) -> Extended
     sum
 }
 
-/// Returns the point, added as often as the scalar says. A short scalar gains nothing by a table of multiples.
+/// Returns the point, added as often as the scalar says. No branch and no address depends on either.
 pub fn multiple(a: Extended, scalar: Words) -> Extended
+    ensures { (s : Coordinates) → IsOnJubjub s → Stands a s
+        → Stands result (times curve (number scalar) s) }
+{
+    edwards::multiple(twice_coefficient(), a, scalar)
+}
+
+/// Returns the point, added as often as a public scalar says, on which the time depends. A short scalar gains nothing by
+/// a table of multiples.
+pub fn multiple_public(a: Extended, scalar: Words) -> Extended
     ensures { (s : Coordinates) → IsOnJubjub s → Stands a s
         → Stands result (times curve (number scalar) s) }
 {

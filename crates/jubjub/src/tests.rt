@@ -125,6 +125,7 @@ fn large_multiples_agree_with_python(rt: HostRuntime) {
         )
     );
     let far = Jubjub::generator().mul(largest());
+    assert!(rt; Jubjub::generator().mul_public(largest()) == far);
     assert!(rt;
         is(
             alloc,

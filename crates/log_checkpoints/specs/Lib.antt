@@ -1,1 +1,2 @@
+pub mod Receipts
 pub mod Signing

@@ -1,4 +1,4 @@
-//! Checkpoints of a log that lies in a file.
+//! Checkpoints of a log that lies in a file, and receipts of entries.
 #![tactic(auto)]
 
 ghost use Rattle.std.specs.Prelude.{◌≡◌, IfOk, OnOk};
@@ -6,8 +6,11 @@ ghost use Rattle.log_checkpoints.specs.Signing.{IsCheckpointOf};
 ghost use Rattle.log_store.specs.Disk.{Only};
 ghost use Rattle.signed_notes.specs.Views.{signer_parts};
 
+mod receipts;
+
 use log_store::Disk;
 use paxlog_run::fault::Fault;
+pub use receipts::{Receipt, ReceiptFault, TITLE, read_receipt, verify_receipt, write_receipt};
 use signed_notes::{Checkpoint, Signer, sign_checkpoint};
 use std::alloc::Global;
 

@@ -75,9 +75,6 @@ pub own-more : (xs : List Spot) (spot : Spot) (digests : List Digest) → AreOf 
     → spot.digest ≡ get_or digests spot.position [] → AreOf (xs ++ (spot ∷ [])) digests
 own-more xs spot digests own is at digest told = own-at xs spot digests at digest (own at) is told
 
-pub own-none : (digests : List Digest) → AreOf [] digests
-own-none digests at digest told = absurd (cc)
-
 -- ---- the list
 
 module _ (size : ℕ) (spots : List Spot) (digests : List Digest) where

@@ -164,10 +164,6 @@ module _ {leaves more : List Digest} {file bytes : List ℕ} {second : Bool} (gr
   pub free-inside : next_slot second + 20 ≤ length file
   free-inside = omega (arith, slot-inside second, grow.log.head.long)
 
-  head-in : HasHead digests-written size grow.log.next
-  head-in = subst (λ f. HasHead f size grow.log.next) (sym digests-are)
-      (cut-head leaves old_root file (bytes ++ rest) grow.log.head.long grow.log.holds grow.log.next grow.log.head)
-
   uses-in : Uses digests-written size old_root second
   uses-in = subst (λ f. Uses f size old_root second) (sym digests-are)
       (cut-uses leaves old_root file (bytes ++ rest) grow.log.head.long grow.log.holds size old_root second uses)

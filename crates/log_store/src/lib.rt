@@ -22,6 +22,7 @@ mod tests;
 mod window;
 
 pub use disk::Disk;
+pub use edge::read_digest;
 pub use growth::{append, append_after};
 pub use head::size;
 pub use log::root;

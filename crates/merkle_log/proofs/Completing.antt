@@ -1,12 +1,14 @@
 -- A log's list while a leaf completes places.
-use Rattle.std.proofs.Common.{zero, suc, ◌≡◌, ℕ, ◌+◌, ◌-◌, ◌*◌, ◌/◌, ◌%◌, ◌<◌, ◌≤◌, ◌^◌, List, [], ◌∷◌, ◌++◌, length, map, take, get_or, Ok, arith, refl, ap, sym, ◌∙◌}
+use Rattle.std.proofs.Common.{zero, suc, ◌≡◌, ℕ, ◌+◌, ◌-◌, ◌*◌, ◌/◌, ◌%◌, ◌<◌, ◌≤◌, ◌^◌, List, [], ◌∷◌, ◌++◌, length, map, take, get_or, Ok, Err, arith, refl, ap, sym, ◌∙◌, inl, inr}
+use Rattle.std.proofs.lemmas.Bool.{cases_lt}
 use Rattle.std.proofs.lemmas.List.{length-map, length-append, map-append, append_assoc, get_or_append_left, get_or-append_right, take-append-le, take_all}
 use Rattle.ark_paths.specs.Pair.{Digest}
 use Rattle.merkle_log.specs.Log.{NodeHash}
 use Rattle.merkle_log.specs.Walk.{index_up}
 use Rattle.merkle_log.specs.Stored.{stored_count, position, StoredValue, row_of}
 use Rattle.std.proofs.lemmas.Nat.{ones_le_self}
-use Rattle.merkle_log.specs.Append.{Appends, Completes, pair_count, pushed_row}
+use Rattle.ark_base.specs.declared.error.Error.{Error}
+use Rattle.merkle_log.specs.Append.{Appends, Completes, RefusesCarry, pair_count, pushed_row}
 use Rattle.merkle_log.proofs.Carried.{CarriesTo, carries-first, carries-more, carries-end}
 use Rattle.merkle_log.proofs.Positions.{left_neighbour, length-row_of, row_of-at, position-within, up-more, count-more, rows-more}
 
@@ -107,6 +109,29 @@ module _ {A : Type 0} {numbers : A → Digest} {hash : NodeHash} {size : ℕ} {b
             (ap (λ d. hash d (get_or (map numbers at.made) level [])) (sym (own_left fits odd count))
             ∙ ap (hash (get_or (map numbers items) (position level (left - 1)) [])) (sym (own_right last is))
             ∙ hashed));
+      }
+
+  -- The hash refuses the next pair.
+  pub completing-refused : size < 2 ^ 64 → left % 2 ≡ 1 → length before ≡ stored_count size → (last : ℕ) → last
+      ≡ length items - 1 → (error : Error)
+      → hash (get_or (map numbers items) (position level (left - 1)) []) (get_or (map numbers items) last [])
+      ≡ Err error
+      → RefusesCarry hash rows digest error
+  completing-refused fits odd count last is error refused =
+      let row_odd : length (rows level) % 2 ≡ 1 = ap (λ n. n % 2) (length-row_of (stored_as numbers size before) level
+      ∙ sym at.left_is) ∙ odd in
+      record {
+        level = level;
+        made = map numbers at.made;
+        first = at.carried.first;
+        odd = λ k below. elim (cases_lt k level) [
+          | inl less ↦ at.carried.odd k less
+          | inr here ↦ let e : k ≡ level = omega arith in rw (e) row_odd
+        ];
+        hashed = at.carried.hashed;
+        refused = ap (λ d. hash d (get_or (map numbers at.made) level [])) (sym (own_left fits odd count))
+            ∙ ap (hash (get_or (map numbers items) (position level (left - 1)) [])) (sym (own_right last is))
+            ∙ refused;
       }
 
   pub completing-end : left % 2 ≡ 0 → Completes hash size (map numbers before) digest (map numbers items)

@@ -1,6 +1,6 @@
 -- Refusals that a `?` passes on, and what is known of an answer.
 use Rattle.std.proofs.Common.{◌≡◌, ◌⊎◌, Ok, Err}
-use Rattle.std.specs.Prelude.{Result, IfOk, OnOk}
+use Rattle.std.specs.Prelude.{Result, IfErr, IfOk, OnOk}
 use Rattle.std.proofs.Math.Logic.{⊎_map}
 use Rattle.std.proofs.lemmas.Result.{err_from_is_err_and}
 use Rattle.std.specs.Result.{IsErrAnd}
@@ -16,6 +16,11 @@ pub given_on : {A B P R : Type 0} (why : R → Error) (view : A → B) (outcome 
 given_on why view outcome result refusal is_err refused known =
     let p = err_from_is_err_and result is_err in
     rw (p.1, p.2) (⊎_map (λ memory. memory) known refused)
+
+-- what holds of a refusal that is passed on
+pub refused_on : {A R : Type 0} (P : R → Type 0) (result : Result A R) (refusal : R)
+    → IsErrAnd result (λ d. d ≡ refusal) → P refusal → IfErr result P
+refused_on P result refusal is_err known = let p = err_from_is_err_and result is_err in rw (p.1, p.2) known
 
 -- what holds of each value that is given
 pub given-each : {A B R : Type 0} (why : R → Error) (view : A → B) (outcome : Outcome B) (result : Result A R)

@@ -12,7 +12,7 @@ use Rattle.merkle_log.specs.Log.{NodeHash}
 use Rattle.merkle_log.specs.Stored.{stored_count, position, StoredValue, row_of, row_pairs, IsStored}
 use Rattle.merkle_log.specs.Walk.{index_up}
 use Rattle.merkle_log.proofs.Positions.{length-row_of, place-within, position-within, up-more}
-use Rattle.merkle_log.specs.Kept.{front, stored_front, Keeps}
+use Rattle.merkle_log.specs.Kept.{front, stored_front, Keeps, KeepsBy}
 
 -- ---- how long they are
 
@@ -117,35 +117,57 @@ stored-same hash rows others same stored = record {
 
 -- ---- what is kept, of fewer leaves
 
+-- what is kept by the hash of nodes, said of that hash, and back
+pub keeps-by : {leaves kept : List Digest} → Keeps leaves kept → KeepsBy node_of leaves kept
+keeps-by keeps = record { inside = keeps.inside; lowest = keeps.lowest; hashed = keeps.hashed }
+
+pub by-keeps : {leaves kept : List Digest} → KeepsBy node_of leaves kept → Keeps leaves kept
+by-keeps keeps = record { inside = keeps.inside; lowest = keeps.lowest; hashed = keeps.hashed }
+
+module _ {hash : NodeHash} {leaves kept : List Digest} (keeps : KeepsBy hash leaves kept) (size : ℕ)
+    (le : size ≤ length leaves) where
+  pub fewer-hashed-by : IsStored hash (row_of (front size kept))
+  fewer-hashed-by = stored-fewer hash size (length leaves) kept le keeps.hashed
+
+  pub fewer-lowest-by : row_of (front size kept) 0 ≡ take size leaves
+  fewer-lowest-by = rows-fewer size (length leaves) kept le 0 ∙ ap (take size) keeps.lowest
+
+  pub fewer-first-by : take size (row_of (front size kept) 0) ≡ take size leaves
+  fewer-first-by = ap (take size) fewer-lowest-by ∙ take-take size size leaves (omega arith)
+
 module _ {leaves kept : List Digest} (keeps : Keeps leaves kept) (size : ℕ) (le : size ≤ length leaves) where
   pub fewer-hashed : IsStored node_of (row_of (front size kept))
-  fewer-hashed = stored-fewer node_of size (length leaves) kept le keeps.hashed
-
-  pub fewer-lowest : row_of (front size kept) 0 ≡ take size leaves
-  fewer-lowest = rows-fewer size (length leaves) kept le 0 ∙ ap (take size) keeps.lowest
+  fewer-hashed = fewer-hashed-by (keeps-by keeps) size le
 
   pub fewer-first : take size (row_of (front size kept) 0) ≡ take size leaves
-  fewer-first = ap (take size) fewer-lowest ∙ take-take size size leaves (omega arith)
+  fewer-first = fewer-first-by (keeps-by keeps) size le
 
 -- ---- what is kept, and nothing behind it
 
-module _ {leaves kept : List Digest} (keeps : Keeps leaves kept) (size : ℕ) (count : length leaves ≡ size) where
+module _ {hash : NodeHash} {leaves kept : List Digest} (keeps : KeepsBy hash leaves kept) (size : ℕ)
+    (count : length leaves ≡ size) where
   same : (level : ℕ) → row_of (front size kept) level ≡ row_of (front size (take (stored_count size) kept)) level
   same level = rows-agree size kept (take (stored_count size) kept)
       (sym (take-take (stored_count size) (stored_count size) kept (omega arith))) level
 
-  pub cut-hashed : IsStored node_of (row_of (front size (take (stored_count size) kept)))
-  cut-hashed = stored-same node_of _ _ same (fewer-hashed keeps size (omega arith))
+  pub cut-hashed : IsStored hash (row_of (front size (take (stored_count size) kept)))
+  cut-hashed = stored-same hash _ _ same (fewer-hashed-by keeps size (omega arith))
 
   pub cut-lowest : row_of (front size (take (stored_count size) kept)) 0 ≡ leaves
-  cut-lowest = sym (same 0) ∙ fewer-lowest keeps size (omega arith) ∙ take_all size leaves (omega arith)
+  cut-lowest = sym (same 0) ∙ fewer-lowest-by keeps size (omega arith) ∙ take_all size leaves (omega arith)
 
 -- ---- what keeps a list
 
-pub keeps-of : (size : ℕ) (leaves kept : List Digest) → length leaves ≡ size → stored_count size ≤ length kept
-    → row_of (front size kept) 0 ≡ leaves → IsStored node_of (row_of (front size kept)) → Keeps leaves kept
-keeps-of size leaves kept count inside lowest hashed = record {
+pub kept-by : (hash : NodeHash) (size : ℕ) (leaves kept : List Digest) → length leaves ≡ size
+    → stored_count size ≤ length kept → row_of (front size kept) 0 ≡ leaves
+    → IsStored hash (row_of (front size kept)) → KeepsBy hash leaves kept
+kept-by hash size leaves kept count inside lowest hashed = record {
   inside = rw (count) inside;
   lowest = ap (λ n. row_of (front n kept) 0) count ∙ lowest;
   hashed = rw (count) hashed;
 }
+
+pub keeps-of : (size : ℕ) (leaves kept : List Digest) → length leaves ≡ size → stored_count size ≤ length kept
+    → row_of (front size kept) 0 ≡ leaves → IsStored node_of (row_of (front size kept)) → Keeps leaves kept
+keeps-of size leaves kept count inside lowest hashed =
+    by-keeps (kept-by node_of size leaves kept count inside lowest hashed)

@@ -1,14 +1,16 @@
 -- The digests that a leaf makes, while they are written to a buffer behind those that are kept.
-use Rattle.std.proofs.Common.{zero, suc, ◌≡◌, ℕ, ◌+◌, ◌-◌, ◌*◌, ◌/◌, ◌%◌, ◌<◌, ◌≤◌, ◌^◌, List, [], ◌∷◌, ◌++◌, length, map, take, drop, get_or, Ok, arith, refl, ap, sym, ◌∙◌, inl, inr}
+use Rattle.std.proofs.Common.{zero, suc, ◌≡◌, ℕ, ◌+◌, ◌-◌, ◌*◌, ◌/◌, ◌%◌, ◌<◌, ◌≤◌, ◌^◌, List, [], ◌∷◌, ◌++◌, length, map, take, drop, get_or, Ok, Err, arith, refl, ap, sym, ◌∙◌, inl, inr}
 use Rattle.std.proofs.lemmas.Bool.{cases_lt}
 use Rattle.std.proofs.lemmas.List.{length-append, length-take-le, append_assoc, drop-drop, get_or_append_left, get_or-append_right, get_or_push, get_or-take}
 use Rattle.ark_base.specs.Digits.{itself}
 use Rattle.ark_paths.specs.Pair.{Digest}
 use Rattle.ark_trees.specs.Rfc6962.{node_hash, node_of}
-use Rattle.merkle_log.specs.Append.{Completes}
-use Rattle.merkle_log.specs.Stored.{stored_count, position}
+use Rattle.ark_base.specs.declared.error.Error.{Error}
+use Rattle.merkle_log.specs.Append.{Completes, RefusesCarry}
+use Rattle.merkle_log.specs.Log.{NodeHash}
+use Rattle.merkle_log.specs.Stored.{stored_count, position, row_of}
 use Rattle.merkle_log.specs.Walk.{index_up}
-use Rattle.merkle_log.proofs.Completing.{Completing, stored_as, completing-first, completing-front, completing-place, completing-inside, completing-next, completing-end}
+use Rattle.merkle_log.proofs.Completing.{Completing, stored_as, completing-first, completing-front, completing-place, completing-inside, completing-next, completing-refused, completing-end}
 use Rattle.merkle_log.proofs.Positions.{count-half, count-more, count-rises, length-row_of}
 
 pub map-itself : (digests : List Digest) → map itself digests ≡ digests
@@ -57,9 +59,9 @@ read-items kept more at place below = elim (cases_lt place (length kept)) [
 
 -- `at` digests stand in the buffer, of which a leaf made those behind the first `made`, up to a level; `own` is the
 -- last.
-pub record Making (kept : List Digest) (size made : ℕ) (digest : Digest) (old more : List Digest) (at level left : ℕ)
-    (own : Digest) : Type 0 where
-  pub completing : Completing itself node_of size (items kept made old) digest (items kept at more) level left
+pub record Making (hash : NodeHash) (kept : List Digest) (size made : ℕ) (digest : Digest) (old more : List Digest)
+    (at level left : ℕ) (own : Digest) : Type 0 where
+  pub completing : Completing itself hash size (items kept made old) digest (items kept at more) level left
   pub count : at ≡ made + (level + 1)
   pub last : own ≡ get_or (items kept at more) (length (items kept at more) - 1) []
   pub behind : drop at more ≡ drop at old
@@ -76,21 +78,22 @@ last-more front all digest is =
     let long = ap length is ∙ length-append front (digest ∷ []) in
     sym (ap (λ l. get_or l (length all - 1) []) is ∙ get_or_push front digest [] (length all - 1) (omega arith))
 
-pub making-first : {kept old more : List Digest} {size made : ℕ} {digest : Digest} → take (made + 1) more
-    ≡ take made old ++ (digest ∷ []) → drop (made + 1) more ≡ drop (made + 1) old → length more ≡ length old
-    → Making kept size made digest old more (made + 1) 0 size digest
-making-first {kept} {old} {more} {size} {made} {digest} is behind same =
+pub making-first : {hash : NodeHash} {kept old more : List Digest} {size made : ℕ} {digest : Digest}
+    → take (made + 1) more ≡ take made old ++ (digest ∷ []) → drop (made + 1) more ≡ drop (made + 1) old
+    → length more ≡ length old → Making hash kept size made digest old more (made + 1) 0 size digest
+making-first {hash} {kept} {old} {more} {size} {made} {digest} is behind same =
     let all = items-more kept old more made digest is in
     record {
-      completing = completing-first itself node_of size (items kept made old) digest (items kept (made + 1) more) all;
+      completing = completing-first itself hash size (items kept made old) digest (items kept (made + 1) more) all;
       count = omega arith;
       last = last-more (items kept made old) (items kept (made + 1) more) digest all;
       behind = behind;
       same = same;
     }
 
-module _ {kept old more : List Digest} {size made at level left : ℕ} {digest own : Digest} (making : Making kept size
-    made digest old more at level left own) (whole : length kept + made ≡ stored_count size) (fits : size < 2 ^ 63)
+module _ {hash : NodeHash} {kept old more : List Digest} {size made at level left : ℕ} {digest own : Digest}
+    (making : Making hash kept size made digest old more at level left own)
+    (whole : length kept + made ≡ stored_count size) (fits : size < 2 ^ 63)
     (room : stored_count (size + 1) ≤ length kept + length old) where
   below_odd : (l : ℕ) → l < level → index_up l size % 2 ≡ 1
   below_odd l less = ap (λ n. n % 2) (sym (length-row_of (stored_as itself size (items kept made old)) l))
@@ -121,30 +124,44 @@ module _ {kept old more : List Digest} {size made at level left : ℕ} {digest o
       let within = place.1 in
       (place.0, omega arith, omega (arith, whole, before))
 
-  pub making-next : left % 2 ≡ 1 → (up : Digest) (next : List Digest)
-      → node_of (get_or (kept ++ more) (position level (left - 1)) []) own ≡ Ok up
-      → take (at + 1) next ≡ take at more ++ (up ∷ []) → drop (at + 1) next ≡ drop (at + 1) more → length next
-      ≡ length more → Making kept size made digest old next (at + 1) (level + 1) (left / 2) up
-  making-next odd up next hashed is behind same =
+  -- the pair that is hashed next
+  pair-read : left % 2 ≡ 1
+      → hash (get_or (map itself (items kept at more)) (position level (left - 1)) [])
+      (get_or (map itself (items kept at more)) (length (items kept at more) - 1) [])
+      ≡ hash (get_or (kept ++ more) (position level (left - 1)) []) own
+  pair-read odd =
       let inside = (making-place odd).2 in
+      ap (λ l. hash (get_or l (position level (left - 1)) []) (get_or l (length (items kept at more) - 1) []))
+      (map-itself (items kept at more))
+      ∙ ap (λ d. hash d (get_or (items kept at more) (length (items kept at more) - 1) []))
+      (sym (read-items kept more at (position level (left - 1)) (omega (arith, making.count))))
+      ∙ ap (hash (get_or (kept ++ more) (position level (left - 1)) [])) (sym making.last)
+
+  -- It is refused.
+  pub making-refused : left % 2 ≡ 1 → (error : Error)
+      → hash (get_or (kept ++ more) (position level (left - 1)) []) own ≡ Err error
+      → RefusesCarry hash (row_of (record { size = size; digests = items kept made old })) digest error
+  making-refused odd error refused = rw (map-itself (items kept made old)) at
+      (completing-refused making.completing (omega arith) odd before (length (items kept at more) - 1) refl error
+      (pair-read odd ∙ refused))
+
+  pub making-next : left % 2 ≡ 1 → (up : Digest) (next : List Digest)
+      → hash (get_or (kept ++ more) (position level (left - 1)) []) own ≡ Ok up
+      → take (at + 1) next ≡ take at more ++ (up ∷ []) → drop (at + 1) next ≡ drop (at + 1) more → length next
+      ≡ length more → Making hash kept size made digest old next (at + 1) (level + 1) (left / 2) up
+  making-next odd up next hashed is behind same =
       let all = items-more kept more next at up is in
       record {
         completing = completing-next making.completing (omega arith) odd before (length
             (items kept at more) - 1) refl up
-            (items kept (at + 1) next) all
-            (ap (λ l. node_of (get_or l (position level (left - 1)) []) (get_or l (length (items kept at more) - 1) []))
-            (map-itself (items kept at more))
-            ∙ ap (λ d. node_of d (get_or (items kept at more) (length (items kept at more) - 1) []))
-            (sym (read-items kept more at (position level (left - 1)) (omega (arith, making.count))))
-            ∙ ap (node_of (get_or (kept ++ more) (position level (left - 1)) [])) (sym making.last)
-            ∙ hashed);
+            (items kept (at + 1) next) all (pair-read odd ∙ hashed);
         count = omega (arith, making.count);
         last = last-more (items kept at more) (items kept (at + 1) next) up all;
         behind = behind ∙ sym (drop-drop 1 at more) ∙ ap (drop 1) making.behind ∙ drop-drop 1 at old;
         same = same ∙ making.same;
       }
 
-  pub making-end : left % 2 ≡ 0 → Completes node_of size (items kept made old) digest (items kept at more)
+  pub making-end : left % 2 ≡ 0 → Completes hash size (items kept made old) digest (items kept at more)
   making-end even = rw (map-itself (items kept made old), map-itself (items kept at more)) at
       (completing-end making.completing even)
 
@@ -156,8 +173,8 @@ module _ {kept old more : List Digest} {size made at level left : ℕ} {digest o
       omega (arith, whole, making.count)
 
 -- The digest of a left neighbour, which stood there before.
-pub neighbour-stays : {kept old more : List Digest} {size made : ℕ} {digest : Digest} → Making kept size made digest
-    old more (made + 1) 0 size digest → length kept + made ≡ stored_count size → size < 2 ^ 63
+pub neighbour-stays : {kept old more : List Digest} {size made : ℕ} {digest : Digest} → Making node_of kept size made
+    digest old more (made + 1) 0 size digest → length kept + made ≡ stored_count size → size < 2 ^ 63
     → stored_count (size + 1) ≤ length kept + length old → size % 2 ≡ 1
     → get_or (kept ++ more) (position 0 (size - 1)) [] ≡ get_or (items kept made old) (position 0 (size - 1)) []
 neighbour-stays {kept} {old} {more} {size} {made} making whole fits room odd =
@@ -170,13 +187,13 @@ neighbour-stays {kept} {old} {more} {size} {made} making whole fits room odd =
     ∙ ap (λ l. get_or l place []) (completing-front making.completing)
 
 -- Its lowest place is known.
-pub making-known : {kept old more next : List Digest} {size made : ℕ} {digest up : Digest} → Making kept size made
-    digest old more (made + 1) 0 size digest → length kept + made ≡ stored_count size → size < 2 ^ 63
+pub making-known : {kept old more next : List Digest} {size made : ℕ} {digest up : Digest} → Making node_of kept size
+    made digest old more (made + 1) 0 size digest → length kept + made ≡ stored_count size → size < 2 ^ 63
     → stored_count (size + 1) ≤ length kept + length old → size % 2 ≡ 1
     → up ≡ node_hash (get_or (items kept made old) (position 0 (size - 1)) []) digest
     → take (made + 1 + 1) next ≡ take (made + 1) more ++ (up ∷ [])
     → drop (made + 1 + 1) next ≡ drop (made + 1 + 1) more → length next ≡ length more
-    → Making kept size made digest old next (made + 1 + 1) 1 (size / 2) up
+    → Making node_of kept size made digest old next (made + 1 + 1) 1 (size / 2) up
 making-known {digest = digest} {up = up} making whole fits room odd known front behind same =
     making-next making whole fits room odd up _
     (ap (λ d. Ok (node_hash d digest)) (neighbour-stays making whole fits room odd) ∙ ap Ok (sym known))

@@ -51,6 +51,17 @@ pub record Refuses (hash : NodeHash) (error : Error) : Type 0 where
   pub right : Digest
   pub is : hash left right ≡ Err error
 
+-- An appended digest makes others up to a level, and there the hash refuses the pair of the row's last digest and the
+-- one that was made.
+pub record RefusesCarry (hash : NodeHash) (rows : ℕ → List Digest) (digest : Digest) (error : Error) : Type 0 where
+  pub level : ℕ
+  pub made : List Digest
+  pub first : get_or made 0 [] ≡ digest
+  pub odd : (k : ℕ) → k ≤ level → length (rows k) % 2 ≡ 1
+  pub hashed : (k : ℕ) → k < level → hash (get_or (rows k) (length (rows k) - 1) []) (get_or made k [])
+      ≡ Ok (get_or made (suc k) [])
+  pub refused : hash (get_or (rows level) (length (rows level) - 1) []) (get_or made level []) ≡ Err error
+
 -- how many pairs a log of so many leaves has hashed: each complete place above the leaves once
 abbrev pub pair_count : ℕ → ℕ
 pair_count size = size - count_ones size

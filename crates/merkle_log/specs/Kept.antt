@@ -1,7 +1,10 @@
 -- What is kept of a log: the stored digests of a list of leaf digests, in the hashing of RFC 6962 (section 2.1).
-use Rattle.std.specs.Prelude.{◌≡◌, ◌≤◌, ◌^◌, ◌&&◌, ℕ, nat_lt, not, Bool, List, length, take}
+use Rattle.std.specs.Prelude.{◌≡◌, ◌<◌, ◌≤◌, ◌+◌, ◌^◌, ◌&&◌, ℕ, nat_lt, not, Bool, List, [], ◌++◌, length, take, get_or}
+use Rattle.ark_base.specs.declared.error.Error.{Error}
 use Rattle.ark_paths.specs.Pair.{Digest}
 use Rattle.ark_trees.specs.Rfc6962.{node_of}
+use Rattle.merkle_log.specs.Append.{RefusesCarry}
+use Rattle.merkle_log.specs.Log.{NodeHash}
 use Rattle.merkle_log.specs.Stored.{stored_count, StoredValue, row_of, IsStored}
 
 -- the digests that stand in front for a log of this size
@@ -22,3 +25,17 @@ pub record Keeps (leaves kept : List Digest) : Type 0 where
   pub inside : stored_count (length leaves) ≤ length kept
   pub lowest : row_of (front (length leaves) kept) 0 ≡ leaves
   pub hashed : IsStored node_of (row_of (front (length leaves) kept))
+
+-- The same by any hash of pairs.
+pub record KeepsBy (hash : NodeHash) (leaves kept : List Digest) : Type 0 where
+  pub inside : stored_count (length leaves) ≤ length kept
+  pub lowest : row_of (front (length leaves) kept) 0 ≡ leaves
+  pub hashed : IsStored hash (row_of (front (length leaves) kept))
+
+-- Digests are appended to a list, the first one first, until the hash refuses a pair that one of them completes.
+pub record RefusesAppend (hash : NodeHash) (leaves digests : List Digest) (error : Error) : Type 0 where
+  pub place : ℕ
+  pub inside : place < length digests
+  pub before : List Digest
+  pub keeps : KeepsBy hash (leaves ++ take place digests) before
+  pub refused : RefusesCarry hash (row_of (front (length leaves + place) before)) (get_or digests place []) error

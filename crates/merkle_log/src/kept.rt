@@ -1,7 +1,7 @@
 //! Logs whose stored digests lie in the caller's memory: roots, proofs and growth, in the hashing of RFC 6962 (section 2.1).
 //!
 //! The stored digests are those of all complete subtrees, in the order in which they are completed. They only grow, so that
-//! they can lie in a file. Roots and checks allocate nothing and refuse nothing.
+//! they can lie in a file. Roots and checks allocate nothing and refuse nothing. `append_by` does it by any hash of pairs.
 
 ghost use Rattle.std.specs.Prelude.{◌≡◌, ◌<◌, ◌≤◌, ◌^◌, List, [], true, false, nat_lt, length, take, IfOk, MatchOption, Ok};
 ghost use Rattle.sha2.specs.Sha256.{sha256};
@@ -21,7 +21,7 @@ use crate::paths::{consistency_path_of, inclusion_path_of};
 use crate::places::digest_at;
 pub use crate::places::{position_of, stored_count};
 use crate::rows::{Rows, root_of};
-pub use growth::{append, append_over};
+pub use growth::{append, append_by, append_over};
 use sha2::{Digest, Sha256};
 use std::alloc::{AllocError, Global};
 use std::marker::Model;

@@ -1,5 +1,5 @@
 -- Answers of outcomes that are equal, or go on.
-use Rattle.std.proofs.Common.{◌≡◌, Ok, Err, inl, inr, ap, sym, ◌∙◌, subst}
+use Rattle.std.proofs.Common.{◌≡◌, Ok, Err, OnOk, inl, inr, ap, sym, ◌∙◌, subst}
 use Rattle.ark_base.specs.Outcome.{Outcome, ◌>>=◌, AnswersBy}
 
 pub answers_as : {A B : Type 0} (view : A → B) (a b : Outcome B) (result : Outcome A) → a ≡ b → AnswersBy view b result
@@ -16,3 +16,8 @@ answers_on before f a b (Err error) e (inr is) = inr (e ∙ ap (λ o. o >>= λ v
 -- a value as an outcome
 abbrev pub gives : {A : Type 0} → A → Outcome A
 gives value = Ok value
+
+-- what holds anyway holds of a value
+pub ok_anyway : {A : Type 0} (result : Outcome A) (P : Type 0) → P → OnOk result P
+ok_anyway (Ok value) P known = known
+ok_anyway (Err error) P known = tt

@@ -10,7 +10,7 @@ use Rattle.ark_base.specs.Laws.Steps.{bind_ok, done_injective}
 use Rattle.merkle_map.specs.Map.{Digest, Entry, MapHashes, IsMap}
 use Rattle.merkle_map.specs.Tree.{Shape, shape_digest, Shows}
 use Rattle.merkle_map.specs.Shown.{BindsTree, Follows, has_digest}
-use Rattle.merkle_map.specs.Transition.{ChangeSeen, Puts, Removes, changed_by, changed_by_all, tree_after, tree_after_all, LeadsTo}
+use Rattle.merkle_map.specs.Transition.{ChangeSeen, Puts, Removes, changed_by, changed_by_all, tree_after, tree_after_all, LeadsOn, LeadsTo}
 use Rattle.merkle_map.proofs.Entries.{map-put, map-without}
 use Rattle.merkle_map.proofs.Shows.{shows-digest}
 
@@ -106,4 +106,12 @@ leads h old new changes first after (Ok accepted) binds follows e = λ yes entri
       | inr found ↦ inr found
       | inl shown ↦ inl (shows-digest h 0 after (changed_by_all changes entries) (follows h entries is_map shown)
           ∙ digest.1 ∙ ap Ok same)
+    ]
+
+pub leads-on : (h : MapHashes) (old : Digest) (changes : List ChangeSeen) (first after : Shape) → BindsTree h old first
+    → Follows (changed_by_all changes) first after → LeadsOn h old first changes after
+leads-on h old changes first after binds follows = λ root is entries is_map is_old.
+    elim (binds entries is_old) [
+      | inr found ↦ inr found
+      | inl shown ↦ inl (shows-digest h 0 after (changed_by_all changes entries) (follows h entries is_map shown) ∙ is)
     ]

@@ -20,3 +20,7 @@ pub mod OwnProof
 pub mod Wholes
 pub mod Reading
 pub mod Keeping
+pub mod Masks
+pub mod ProofReading
+pub mod Hashed
+pub mod Back

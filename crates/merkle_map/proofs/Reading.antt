@@ -17,13 +17,13 @@ use Rattle.merkle_map.proofs.Wholes.{way-bit}
 abbrev pub Found : Type 0
 Found = Shape × List ℕ
 
-drop-none : (n : ℕ) → drop n (let xs : List ℕ = [] in xs) ≡ []
+drop-none : {A : Type 0} (n : ℕ) → drop n (let xs : List A = [] in xs) ≡ []
 drop-none zero = refl
 drop-none (suc n) = refl
 
-drop-twice : (a b : ℕ) (xs : List ℕ) → drop b (drop a xs) ≡ drop (a + b) xs
+pub drop-twice : {A : Type 0} (a b : ℕ) (xs : List A) → drop b (drop a xs) ≡ drop (a + b) xs
 drop-twice zero b xs = let e : b ≡ 0 + b = omega arith in ap (λ (n : ℕ). drop n xs) e
-drop-twice (suc a) b [] = drop-none b ∙ sym (drop-none (suc a + b))
+drop-twice {A} (suc a) b [] = drop-none {A = A} b ∙ sym (drop-none {A = A} (suc a + b))
 drop-twice (suc a) b (x ∷ xs) = let e : suc (a + b) ≡ suc a + b = omega arith in
     drop-twice a b xs ∙ ap (λ (n : ℕ). drop n (x ∷ xs)) e
 
@@ -113,7 +113,7 @@ read-fits (suc depth) level (tag ∷ rest) found sum e =
 
 -- ---- what is read is spelled so
 
-string-found : (bytes : List ℕ) (found : List ℕ × List ℕ) → string_read bytes ≡ Ok found → bytes ≡ found.0 ++ found.1
+pub string-found : (bytes : List ℕ) (found : List ℕ × List ℕ) → string_read bytes ≡ Ok found → bytes ≡ found.0 ++ found.1
 string-found bytes found e = by_test (nat_lt (length bytes) 32) e
   where
     by_test : (b : Bool) → (if b then Err truncated else Ok (take 32 bytes, drop 32 bytes)) ≡ Ok found
@@ -183,7 +183,7 @@ module _ where
 
 -- ---- what is spelled is read
 
-string-read-back : (value rest : List ℕ) → length value ≡ 32 → string_read (value ++ rest) ≡ Ok (value, rest)
+pub string-read-back : (value rest : List ℕ) → length value ≡ 32 → string_read (value ++ rest) ≡ Ok (value, rest)
 string-read-back value rest long =
     let sum = length-append value rest in
     let enough : nat_lt (length (value ++ rest)) 32 ≡ false = le-ltb (length (value ++ rest)) 32 (omega

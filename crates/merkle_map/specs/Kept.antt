@@ -2,10 +2,13 @@
 use Rattle.std.specs.Prelude.{◌≡◌, true, Option, Some, None, List, [], Ok}
 use Rattle.ark_base.specs.Outcome.{Outcome}
 use Rattle.merkle_map.specs.KeyProof.{ProofSeen, proof_verdict}
-use Rattle.merkle_map.specs.Map.{Digest, Entry, Key, MapHashes, root_of, value_at}
+use Rattle.merkle_map.specs.Map.{Digest, Entry, HaveSame, Key, MapHashes, root_of, value_at}
+use Rattle.merkle_map.specs.Transition.{ChangeSeen, Puts, Removes, changed_by}
 use Rattle.merkle_map.specs.Tree.{Fork, IsWhole, StandsAt, shape_digest}
 use Rattle.merkle_map.specs.Parts.{shape}
 use Rattle.merkle_map.specs.declared.part.Part.{Part, Empty as NoEntry, One as OneEntry, Fork' as TwoSides, Hidden as Behind}
+use Rattle.merkle_map.specs.declared.top.Top.{Top}
+use Rattle.merkle_map.specs.declared.top.Top.TheVariants.{Shown, Digest as Alone}
 
 -- A digest is what was to be kept, if one is kept.
 abbrev pub IsFor : {D : Type 0} → (D → Digest) → Outcome Digest → Option D → Type 0
@@ -16,16 +19,21 @@ IsFor numbers outcome (Some digest) = outcome ≡ Ok (numbers digest)
 abbrev pub IsKept : {D : Type 0} → (D → Digest) → MapHashes → Part D → Type 0
 IsKept numbers h NoEntry = Unit {0}
 IsKept numbers h (OneEntry entry) = Unit {0}
-IsKept numbers h (TwoSides p left q right digest) =
+IsKept numbers h (TwoSides p left right digest) =
     IsFor numbers (shape_digest h (Fork (shape numbers left) (shape numbers right))) digest
     × IsKept numbers h left × IsKept numbers h right
 IsKept numbers h (Behind digest) = Unit {0}
+
+-- It is so of a whole tree.
+abbrev pub IsTopKept : {D : Type 0} → (D → Digest) → MapHashes → Top D → Type 0
+IsTopKept numbers h (Shown part) = IsKept numbers h part
+IsTopKept numbers h (Alone digest) = Unit {0}
 
 -- It is so of both sides.
 abbrev pub AreKept : {D : Type 0} → (D → Digest) → MapHashes → Part D → Type 0
 AreKept numbers h NoEntry = Unit {0}
 AreKept numbers h (OneEntry entry) = Unit {0}
-AreKept numbers h (TwoSides p left q right digest) = IsKept numbers h left × IsKept numbers h right
+AreKept numbers h (TwoSides p left right digest) = IsKept numbers h left × IsKept numbers h right
 AreKept numbers h (Behind digest) = Unit {0}
 
 -- The tree of a store: it stands at the root, hides nothing, and keeps digests that are right.
@@ -43,3 +51,19 @@ pub record MapValue (T : Type 0) : Type 0 where
 abbrev pub IsShownIn : MapHashes → Key → List Entry → ProofSeen → Type 0
 IsShownIn h key entries proof = (root : Digest) → root_of h entries ≡ Ok root
     → proof_verdict h root key (value_at key entries) proof ≡ Ok true
+
+-- ---- changes that can be taken back
+
+-- the key of a change
+abbrev pub changed_key : ChangeSeen → Key
+changed_key (Puts key value) = key
+changed_key (Removes key) = key
+
+-- the change that gives a key what it had
+abbrev pub giving : Key → Option Digest → ChangeSeen
+giving key None = Removes key
+giving key (Some value) = Puts key value
+
+-- This change of the new map gives the old one.
+abbrev pub TakesBack : List Entry → List Entry → ChangeSeen → Type 0
+TakesBack old new change = HaveSame (changed_by change new) old

@@ -10,7 +10,10 @@ pub mod Shown
 pub mod Pruned
 pub mod Binding
 pub mod Sha256
+pub mod Together
 pub mod Transition
 pub mod KeyProof
 pub mod Whole
 pub mod Bytes
+pub mod ProofBytes
+pub mod Rows

@@ -6,6 +6,8 @@ use Rattle.merkle_map.specs.Tree.{Shape, Empty, One, Fork, Hidden}
 use Rattle.merkle_map.specs.Changes.{entry_of}
 use Rattle.merkle_map.specs.declared.part.Entry.{Entry as KeyAndValue}
 use Rattle.merkle_map.specs.declared.part.Part.{Part, Empty as NoEntry, One as OneEntry, Fork' as TwoSides, Hidden as Behind}
+use Rattle.merkle_map.specs.declared.top.Top.{Top}
+use Rattle.merkle_map.specs.declared.top.Top.TheVariants.{Shown, Digest as Alone}
 
 -- an entry, its value by its numbers
 abbrev pub entry_seen : {D : Type 0} → (D → Digest) → KeyAndValue D → Entry
@@ -14,9 +16,14 @@ entry_seen numbers entry = entry_of entry.key (numbers entry.value)
 -- a tree, its digests by their numbers
 abbrev pub shape : {D : Type 0} → (D → Digest) → Part D → Shape
 shape numbers NoEntry = Empty
-shape numbers (OneEntry entry) = One (entry_seen numbers entry)
-shape numbers (TwoSides p left q right digest) = Fork (shape numbers left) (shape numbers right)
-shape numbers (Behind digest) = Hidden (numbers digest)
+shape numbers (OneEntry entry) = One (entry_seen numbers entry.value)
+shape numbers (TwoSides p left right digest) = Fork (shape numbers left) (shape numbers right)
+shape numbers (Behind digest) = Hidden (numbers digest.value)
+
+-- a whole tree, its digests by their numbers
+abbrev pub top_shape : {D : Type 0} → (D → Digest) → Top D → Shape
+top_shape numbers (Shown part) = shape numbers part
+top_shape numbers (Alone digest) = Hidden (numbers digest)
 
 -- a value that may be there, by its numbers
 abbrev pub value_seen : {A : Type 0} → (A → Digest) → Option A → Option Digest

@@ -1,8 +1,8 @@
 -- Changes of a map, and what a checked transition says.
-use Rattle.std.specs.Prelude.{◌≡◌, ◌⊎◌, List, [], ◌∷◌, Bool, false, if◌then◌else◌, Ok}
+use Rattle.std.specs.Prelude.{◌≡◌, ◌⊎◌, List, [], ◌∷◌, Bool, false, if◌then◌else◌, Option, Some, None, Ok}
 use Rattle.ark_base.specs.Outcome.{Outcome, ◌>>=◌}
 use Rattle.merkle_map.specs.Map.{Key, Digest, Entry, MapHashes, root_of, IsMap, put, without}
-use Rattle.merkle_map.specs.Tree.{Shape, CollidesBelow}
+use Rattle.merkle_map.specs.Tree.{Shape, CollidesBelow, shape_digest}
 use Rattle.merkle_map.specs.Changes.{tree_with, tree_without}
 use Rattle.merkle_map.specs.Shown.{has_digest}
 use Rattle.merkle_map.specs.declared.transition.Change.{Change}
@@ -48,3 +48,12 @@ abbrev pub LeadsTo : MapHashes → Digest → Digest → Shape → List ChangeSe
 LeadsTo h old new tree changes = (entries : List Entry) → IsMap entries → root_of h entries ≡ Ok old
     → (root_of h (changed_by_all changes entries) ≡ Ok new)
     ⊎ ((bits : List Bool) × CollidesBelow h 0 bits tree entries)
+
+-- a tree after changes, if it has this root
+abbrev pub changed_tree : MapHashes → Digest → List ChangeSeen → Shape → Outcome (Option Shape)
+changed_tree h root changes tree = has_digest h root tree >>= λ is_it.
+    if is_it then (tree_after_all changes tree >>= λ new. Ok (Some new)) else Ok None
+
+-- Each map with the old root has the new tree's after the changes, or collides with the tree below bits that are named.
+abbrev pub LeadsOn : MapHashes → Digest → Shape → List ChangeSeen → Shape → Type 0
+LeadsOn h old tree changes new = (root : Digest) → shape_digest h new ≡ Ok root → LeadsTo h old root tree changes

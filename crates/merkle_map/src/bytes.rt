@@ -3,25 +3,36 @@
 ghost use Rattle.std.specs.Prelude.{◌≡◌, ◌<◌, ◌≤◌, ◌-◌, ◌++◌, drop, length, OnOk, IfErr, IfOk, Ok};
 ghost use Rattle.ark_base.specs.Outcome.{AnswersBy, IsMemory};
 ghost use Rattle.merkle_map.specs.Bytes.{all_have as all_have_in, is_placed as is_placed_in, invalid as is_invalid, itself, spelled, string_outcome, string_read, tree_of_bytes, tree_read, truncated as is_truncated, IsOf32};
+ghost use Rattle.merkle_map.specs.Changes.{entry_of};
 ghost use Rattle.merkle_map.specs.Kept.{IsKept};
 ghost use Rattle.merkle_map.specs.Map.{MapHashes};
 ghost use Rattle.merkle_map.specs.Parts.{shape};
 ghost use Rattle.merkle_map.specs.Pruned.{Fits};
-ghost use Rattle.merkle_map.specs.Tree.{weight, IsKey};
+ghost use Rattle.merkle_map.specs.Tree.{weight, Hidden, IsKey, One};
 
 use crate::key::has_bit;
-use crate::part::{Entry, Part, fork};
+use crate::part::{Entry, Part, Sides, behind, fork, one};
 use ark_base::error::{Error, SerializationError};
 use std::alloc::Global;
 
 // Writes 32 bytes behind others. The only error is `OutOfMemory`.
-fn push_string(string: &[u8; 32], dest: &mut Vec<u8>) -> Result<(), Error>
+pub fn push_string(string: &[u8; 32], dest: &mut Vec<u8>) -> Result<(), Error>
     ensures written { OnOk result (dest.new.items ≡ dest.old.items ++ string.now) }
     ensures memory { IfErr result IsMemory }
     ensures sized { IsKey string.now }
 {
     dest.extend_from_slice(string)?;
     Ok(())
+}
+
+// Writes a digest alone behind other bytes. The only error is `OutOfMemory`.
+pub fn push_hidden(digest: &[u8; 32], dest: &mut Vec<u8>) -> Result<(), Error>
+    ensures written { OnOk result (dest.new.items ≡ dest.old.items ++ spelled (Hidden digest.now)) }
+    ensures memory { IfErr result IsMemory }
+    ensures sized { IsOf32 (Hidden digest.now) }
+{
+    dest.push(3)?;
+    push_string(digest, dest)
 }
 
 // Writes a tree behind other bytes. The only error is `OutOfMemory`.
@@ -42,36 +53,32 @@ pub fn write_part(part: &Part<[u8; 32]>, dest: &mut Vec<u8>) -> Result<(), Error
             push_string(&entry.value, dest)?;
             Ok(())
         }
-        Part::Fork { left, right, .. } => {
+        Part::Fork { sides } => {
             dest.push(2)?;
-            write_part(left, dest)?;
-            write_part(right, dest)?;
+            write_part(&sides.left, dest)?;
+            write_part(&sides.right, dest)?;
             Ok(())
         }
-        Part::Hidden { digest } => {
-            dest.push(3)?;
-            push_string(digest, dest)?;
-            Ok(())
-        }
+        Part::Hidden { digest } => push_hidden(digest, dest),
     }
 }
 
 // The error of bytes that end too early.
-fn truncated() -> Error
+pub fn truncated() -> Error
     ensures { result ≡ is_truncated }
 {
     Error::SerializationError(SerializationError::Truncated)
 }
 
 // The error of bytes that no tree has.
-fn invalid() -> Error
+pub fn invalid() -> Error
     ensures { result ≡ is_invalid }
 {
     Error::SerializationError(SerializationError::InvalidData)
 }
 
 // Returns the bytes from an index on.
-fn from_index(bytes: &[u8], index: usize) -> &[u8]
+pub fn from_index(bytes: &[u8], index: usize) -> &[u8]
     requires { index ≤ length bytes.now }
     ensures { result.now ≡ drop index bytes.now }
 {
@@ -79,7 +86,7 @@ fn from_index(bytes: &[u8], index: usize) -> &[u8]
 }
 
 // Reads 32 bytes. The error is `Truncated`.
-fn read_string(bytes: &[u8]) -> Result<[u8; 32], Error>
+pub fn read_string(bytes: &[u8]) -> Result<[u8; 32], Error>
     ensures enough { IfOk result (λ _. 32 ≤ length bytes.now) }
     ensures answer { string_read bytes.now ≡ string_outcome bytes.now result }
 {
@@ -89,6 +96,15 @@ fn read_string(bytes: &[u8]) -> Result<[u8; 32], Error>
     let mut value = [0; 32];
     value.copy_from_slice(&bytes[..32]);
     Ok(value)
+}
+
+// Makes the tree of one entry. The only error is `OutOfMemory`.
+fn entry_tree(alloc: Global, key: [u8; 32], value: [u8; 32]) -> Result<Part<[u8; 32]>, Error>
+    ensures sized { IfOk result (λ new. IsOf32 (shape itself new)) }
+    ensures made { AnswersBy (shape itself) (Ok (One (entry_of key value))) result }
+    ensures digests { IfOk result (λ new. (h : MapHashes) → IsKept itself h new) }
+{
+    one(alloc, Entry { key, value })
 }
 
 // Reads the tree that the front of the bytes spells, which stands some levels below the root, and counts its bytes.
@@ -112,12 +128,8 @@ fn read_part(alloc: Global, bytes: &[u8], level: usize) -> Result<(Part<[u8; 32]
         1 => {
             let key = read_string(rest)?;
             let value = read_string(from_index(rest, 32))?;
-            Ok((
-                Part::One {
-                    entry: Entry { key, value },
-                },
-                65,
-            ))
+            let tree = entry_tree(alloc, key, value)?;
+            Ok((tree, 65))
         }
         2 => {
             if level == 256 {
@@ -130,7 +142,8 @@ fn read_part(alloc: Global, bytes: &[u8], level: usize) -> Result<(Part<[u8; 32]
         }
         3 => {
             let digest = read_string(rest)?;
-            Ok((Part::Hidden { digest }, 33))
+            let tree = behind(alloc, digest)?;
+            Ok((tree, 33))
         }
         _ => Err(invalid()),
     }
@@ -144,7 +157,9 @@ fn all_have(part: &Part<[u8; 32]>, level: usize, bit: bool) -> bool
     match part {
         Part::Empty => true,
         Part::One { entry } => has_bit(&entry.key, level, bit),
-        Part::Fork { left, right, .. } => all_have(left, level, bit) && all_have(right, level, bit),
+        Part::Fork { sides } => {
+            all_have(&sides.left, level, bit) && all_have(&sides.right, level, bit)
+        }
         Part::Hidden { .. } => true,
     }
 }
@@ -171,7 +186,8 @@ fn is_placed(part: &Part<[u8; 32]>, level: usize) -> bool
     match part {
         Part::Empty => true,
         Part::One { .. } => true,
-        Part::Fork { left, right, .. } => {
+        Part::Fork { sides } => {
+            let Sides { left, right, .. } = &**sides;
             if weight_of(left) + weight_of(right) < 2 {
                 return false;
             }

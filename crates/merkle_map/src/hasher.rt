@@ -1,19 +1,36 @@
 //! The hashes of a map's tree.
 
-ghost use Rattle.std.specs.Prelude.{◌≡◌, Ok};
+ghost use Rattle.std.specs.Prelude.{◌≡◌, All, IfOk, Ok};
 ghost use Rattle.ark_base.specs.Outcome.{AnswersBy};
 ghost use Rattle.merkle_map.specs.Map.{MapHashes, digest_of};
+ghost use Rattle.merkle_map.specs.Together.{IsHashed, IsHashedEntry};
 ghost use Rattle.merkle_map.specs.Way.{pair_on};
 
 use ark_base::error::Error;
 use ark_base::serialize::DigestItem;
 use std::alloc::Global;
 
+/// A key, its value, and the digest of both.
+#[derive(Drop)]
+pub struct HashedEntry<D> {
+    pub key: [u8; 32],
+    pub value: D,
+    pub digest: D,
+}
+
+/// Two digests, and the digest of both.
+#[derive(Drop)]
+pub struct HashedPair<D> {
+    pub left: D,
+    pub right: D,
+    pub digest: D,
+}
+
 /// Hashes entries and pairs of digests, and has a digest for a tree of nothing.
 ///
 /// A value is a digest: hash other values first.
 pub trait MapHasher<D: DigestItem> {
-    // What the three calls return.
+    // What the calls return.
     ghost hashes: { Self → MapHashes };
 
     /// Returns the digest of nothing. The only error is `OutOfMemory`.
@@ -29,6 +46,34 @@ pub trait MapHasher<D: DigestItem> {
     fn pair(&self, alloc: Global, left: &D, right: &D) -> Result<D, Error>
         ensures { AnswersBy D.numbers ((hashes self.now).pair (D.numbers left.now)
             (D.numbers right.now)) result };
+
+    /// Hashes entries together, and returns them with their digests: by default none. `KeptMap::root` hashes one by one what this
+    /// call and the next leave out.
+    ///
+    /// Errors, in any order: those of `hashes`; `OutOfMemory`.
+    fn entries_together(
+        &self,
+        alloc: Global,
+        _entries: &[(&[u8; 32], &D)],
+    ) -> Result<Vec<HashedEntry<D>>, Error>
+        ensures { IfOk result (λ made. All (IsHashedEntry D.numbers (hashes self.now))
+            made.items) }
+    {
+        Ok(Vec::new(alloc))
+    }
+
+    /// Hashes couples of digests together, and returns them with their digests: by default none.
+    ///
+    /// Errors, in any order: those of `hashes`; `OutOfMemory`.
+    fn pairs_together(
+        &self,
+        alloc: Global,
+        _couples: &[(&D, &D)],
+    ) -> Result<Vec<HashedPair<D>>, Error>
+        ensures { IfOk result (λ made. All (IsHashed D.numbers (hashes self.now)) made.items) }
+    {
+        Ok(Vec::new(alloc))
+    }
 }
 
 /// Hashes a digest and the one beside it, which stands left if the digest is the right one.

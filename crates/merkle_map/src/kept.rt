@@ -3,10 +3,11 @@
 
 ghost use Rattle.std.specs.Prelude.{◌≡◌, true, [], IfErr, IfOk, OnErr, OnOk, Ok};
 ghost use Rattle.ark_base.specs.Outcome.{AnswersBy, IsMemory};
-ghost use Rattle.merkle_map.specs.Kept.{IsKept, IsShownIn};
+ghost use Rattle.merkle_map.specs.Kept.{changed_key, giving, IsKept, IsShownIn, TakesBack};
 ghost use Rattle.merkle_map.specs.KeyProof.{proof_seen};
 ghost use Rattle.merkle_map.specs.Map.{put, root_of, value_at, without, HaveSame, IsMap};
 ghost use Rattle.merkle_map.specs.Parts.{shape, value_seen};
+ghost use Rattle.merkle_map.specs.Transition.{change_seen, changed_by};
 ghost use Rattle.merkle_map.specs.Tree.{shape_digest};
 
 use crate::hasher::MapHasher;
@@ -15,43 +16,29 @@ use crate::part::{Entry, Part, find};
 use crate::proof::{KeyProof, climb_down};
 use crate::put::put_in;
 use crate::remove::remove_from;
+use crate::together::{FEW, fill, fill_together};
+use crate::transition::Change;
 use ark_base::error::Error;
 use ark_base::serialize::DigestItem;
 use std::alloc::Global;
 use std::marker::Model;
 
-// Hashes a tree, as far as no digest is kept, and keeps the digest of each fork. Errors: as of `digest_of`.
-fn fill<D: DigestItem, T: MapHasher<D>>(
-    alloc: Global,
-    hasher: &T,
-    part: &mut Part<D>,
-) -> Result<D, Error>
-    requires { IsKept D.numbers (T.hashes hasher.now) part.old }
-    ensures digest { AnswersBy D.numbers (shape_digest (T.hashes hasher.now)
-        (shape D.numbers part.old)) result }
-    ensures same { shape D.numbers part.new ≡ shape D.numbers part.old }
-    ensures kept { IsKept D.numbers (T.hashes hasher.now) part.new }
+// The key of a change.
+fn key_of<D: DigestItem>(change: &Change<D>) -> &[u8; 32]
+    ensures { result.now ≡ changed_key (change_seen D.numbers change.now) }
 {
-    match part {
-        Part::Empty => hasher.nothing(alloc),
-        Part::One { entry } => hasher.leaf(alloc, &entry.key, &entry.value),
-        Part::Fork {
-            left,
-            right,
-            digest,
-        } => {
-            if let Some(digest) = digest {
-                return copy_of(alloc, digest);
-            }
-            let l = fill(alloc, hasher, left)?;
-            let r = fill(alloc, hasher, right)?;
-            let own = hasher.pair(alloc, &l, &r)?;
-            let copy = copy_of(alloc, &own)?;
-            *digest = Some(copy);
-            Ok(own)
-        }
-        Part::Hidden { digest } => copy_of(alloc, digest),
+    match change {
+        Change::Put { key, .. } => key,
+        Change::Remove { key } => key,
     }
+}
+
+// Counts one more change, up to `FEW`.
+fn one_more(changes: usize) -> usize {
+    if changes < FEW {
+        return changes + 1;
+    }
+    changes
 }
 
 /// A map in memory, with its hasher. Contracts see the map and the hasher.
@@ -59,6 +46,8 @@ fn fill<D: DigestItem, T: MapHasher<D>>(
 pub struct KeptMap<D: DigestItem, T: MapHasher<D>> {
     hasher: T,
     top: Part<D>,
+    // how often a part changed since the last root, up to `FEW`
+    changes: usize,
 }
 
 impl<D: DigestItem, T: MapHasher<D>> Model for KeptMap<D, T> {
@@ -84,6 +73,7 @@ impl<D: DigestItem, T: MapHasher<D>> KeptMap<D, T> {
         KeptMap {
             hasher,
             top: Part::Empty,
+            changes: 0,
         }
     }
 
@@ -109,6 +99,7 @@ impl<D: DigestItem, T: MapHasher<D>> KeptMap<D, T> {
         ensures kept { OnErr result (self.new ≡ self.old) }
         ensures memory { IfErr result IsMemory }
     {
+        self.changes = one_more(self.changes);
         put_in(alloc, &mut self.top, 0, Entry { key: *key, value })
     }
 
@@ -117,10 +108,65 @@ impl<D: DigestItem, T: MapHasher<D>> KeptMap<D, T> {
         ensures removed { HaveSame self.new.entries (without key.now self.old.entries) }
         ensures hasher { self.new.hasher ≡ self.old.hasher }
     {
+        self.changes = one_more(self.changes);
         match remove_from(&mut self.top, key) {
             Ok(()) => {}
             Err(_) => {}
         }
+    }
+
+    // Returns the change that gives a key what it has. The only error is `OutOfMemory`.
+    fn change_back(&self, alloc: Global, key: &[u8; 32]) -> Result<Change<D>, Error>
+        ensures { AnswersBy (change_seen D.numbers)
+            (Ok (giving key.now (value_at key.now self.now.entries))) result }
+    {
+        match self.get(key) {
+            Some(value) => {
+                let value = copy_of(alloc, value)?;
+                Ok(Change::Put { key: *key, value })
+            }
+            None => Ok(Change::Remove { key: *key }),
+        }
+    }
+
+    // Makes a change. The only error is `OutOfMemory`, and it leaves the map unchanged.
+    fn make(&mut self, alloc: Global, change: &Change<D>) -> Result<(), Error>
+        ensures changed { OnOk result (HaveSame self.new.entries
+            (changed_by (change_seen D.numbers change.now) self.old.entries)) }
+        ensures hasher { self.new.hasher ≡ self.old.hasher }
+        ensures kept { OnErr result (self.new ≡ self.old) }
+        ensures memory { IfErr result IsMemory }
+    {
+        match change {
+            Change::Put { key, value } => {
+                let value = copy_of(alloc, value)?;
+                self.insert(alloc, key, value)
+            }
+            Change::Remove { key } => {
+                self.remove(key);
+                Ok(())
+            }
+        }
+    }
+
+    /// Makes a change, and returns the one that takes it back. Who keeps these has each older version: taken back from the last one
+    /// on, the map has what it had, and so its root.
+    ///
+    /// The only error is `OutOfMemory`, and it leaves the map unchanged.
+    pub fn apply(&mut self, alloc: Global, change: &Change<D>) -> Result<Change<D>, Error>
+        ensures changed { OnOk result (HaveSame self.new.entries
+            (changed_by (change_seen D.numbers change.now) self.old.entries)) }
+
+        // With what is returned the map has what it had before.
+        ensures back { IfOk result (λ back. TakesBack self.old.entries self.new.entries
+            (change_seen D.numbers back)) }
+        ensures hasher { self.new.hasher ≡ self.old.hasher }
+        ensures kept { OnErr result (self.new ≡ self.old) }
+        ensures memory { IfErr result IsMemory }
+    {
+        let back = self.change_back(alloc, key_of(change))?;
+        self.make(alloc, change)?;
+        Ok(back)
     }
 
     /// Returns the root. It hashes each node once that changed since the last call, and leaves beside them.
@@ -131,7 +177,12 @@ impl<D: DigestItem, T: MapHasher<D>> KeptMap<D, T> {
             result }
         ensures same { self.new ≡ self.old }
     {
-        fill(alloc, &self.hasher, &mut self.top)
+        let are_few = self.changes < FEW;
+        self.changes = 0;
+        if are_few {
+            return fill(alloc, &self.hasher, &mut self.top);
+        }
+        fill_together(alloc, &self.hasher, &mut self.top)
     }
 
     /// Returns the proof of what the map has at a key. Behind a call of `root` it hashes leaves beside the key's way alone.

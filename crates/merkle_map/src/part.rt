@@ -5,8 +5,8 @@ ghost use Rattle.ark_base.specs.Outcome.{AnswersBy};
 ghost use Rattle.merkle_map.specs.Changes.{known_at, hides};
 ghost use Rattle.merkle_map.specs.Kept.{IsKept};
 ghost use Rattle.merkle_map.specs.Map.{MapHashes, bit_of as bit_in};
-ghost use Rattle.merkle_map.specs.Parts.{found_seen, shape};
-ghost use Rattle.merkle_map.specs.Tree.{shape_digest, way, StandsAt, Fork as ForkOf};
+ghost use Rattle.merkle_map.specs.Parts.{entry_seen, found_seen, shape};
+ghost use Rattle.merkle_map.specs.Tree.{shape_digest, way, StandsAt, Fork as ForkOf, Hidden as HiddenOf, One as OneOf};
 
 use crate::hasher::MapHasher;
 use crate::key::{are_same_keys, bit_of, copy_of};
@@ -21,32 +21,37 @@ pub struct Entry<D> {
     pub value: D,
 }
 
-/// A tree of keys with their values.
+/// A tree of keys with their values. One of no entry takes no memory of its own.
+#[cycle(tree)]
 #[derive(Drop)]
 pub enum Part<D> {
     /// No entry.
     Empty,
     /// One entry.
-    One {
-        entry: Entry<D>,
-    },
-    /// The entries whose next bit is 0, and those whose next bit is 1. The tree's digest may be kept.
-    Fork {
-        left: Box<Part<D>>,
-        right: Box<Part<D>>,
-        digest: Option<D>,
-    },
+    One { entry: Box<Entry<D>> },
+    /// The entries of two sides.
+    Fork { sides: Box<Sides<D>> },
     /// Entries of which only the digest is known.
-    Hidden {
-        digest: D,
-    },
+    Hidden { digest: Box<D> },
 }
 
-// The error of a call that needs what a tree hides.
+/// The entries whose next bit is 0, and those whose next bit is 1. The digest of both may be kept.
+#[cycle(tree)]
+#[derive(Drop)]
+pub struct Sides<D> {
+    pub left: Part<D>,
+    pub right: Part<D>,
+    pub digest: Option<D>,
+}
+
+/// The error of a call that needs what a tree hides. A hash of one's own refuses by another number.
+pub const HIDDEN: Error = Error::GenericError(Refusal::Custom(1));
+
+// Returns it.
 pub fn hidden() -> Error
     ensures { result ≡ hides }
 {
-    Error::GenericError(Refusal::Custom(1))
+    HIDDEN
 }
 
 // Joins two sides. The only error is `OutOfMemory`.
@@ -56,13 +61,33 @@ pub fn fork<D: DigestItem>(alloc: Global, left: Part<D>, right: Part<D>) -> Resu
     ensures kept { IfOk result (λ new. (h : MapHashes) → IsKept D.numbers h left
         → IsKept D.numbers h right → IsKept D.numbers h new) }
 {
-    let left = Box::new(alloc, left)?;
-    let right = Box::new(alloc, right)?;
-    Ok(Part::Fork {
-        left,
-        right,
-        digest: None,
-    })
+    let sides = Box::new(
+        alloc,
+        Sides {
+            left,
+            right,
+            digest: None,
+        },
+    )?;
+    Ok(Part::Fork { sides })
+}
+
+// Makes the tree of one entry. The only error is `OutOfMemory`.
+pub fn one<D: DigestItem>(alloc: Global, entry: Entry<D>) -> Result<Part<D>, Error>
+    ensures made { AnswersBy (shape D.numbers) (Ok (OneOf (entry_seen D.numbers entry))) result }
+    ensures kept { IfOk result (λ new. (h : MapHashes) → IsKept D.numbers h new) }
+{
+    let entry = Box::new(alloc, entry)?;
+    Ok(Part::One { entry })
+}
+
+// Makes a tree of which only the digest is known. The only error is `OutOfMemory`.
+pub fn behind<D: DigestItem>(alloc: Global, digest: D) -> Result<Part<D>, Error>
+    ensures made { AnswersBy (shape D.numbers) (Ok (HiddenOf (D.numbers digest))) result }
+    ensures kept { IfOk result (λ new. (h : MapHashes) → IsKept D.numbers h new) }
+{
+    let digest = Box::new(alloc, digest)?;
+    Ok(Part::Hidden { digest })
 }
 
 // Hashes a tree, as far as no digest is kept. Errors: those of the hashes, the lowest first, the left one among equals;
@@ -79,16 +104,12 @@ pub fn digest_of<D: DigestItem, T: MapHasher<D>>(
     match part {
         Part::Empty => hasher.nothing(alloc),
         Part::One { entry } => hasher.leaf(alloc, &entry.key, &entry.value),
-        Part::Fork {
-            left,
-            right,
-            digest,
-        } => {
-            if let Some(digest) = digest {
+        Part::Fork { sides } => {
+            if let Some(digest) = &sides.digest {
                 return copy_of(alloc, digest);
             }
-            let l = digest_of(alloc, hasher, left)?;
-            let r = digest_of(alloc, hasher, right)?;
+            let l = digest_of(alloc, hasher, &sides.left)?;
+            let r = digest_of(alloc, hasher, &sides.right)?;
             hasher.pair(alloc, &l, &r)
         }
         Part::Hidden { digest } => copy_of(alloc, digest),
@@ -113,7 +134,8 @@ pub fn find<'a, D: DigestItem>(
             }
             Ok(None)
         }
-        Part::Fork { left, right, .. } => {
+        Part::Fork { sides } => {
+            let Sides { left, right, .. } = &**sides;
             if bit_of(key, level) {
                 find(right, level + 1, key)
             } else {

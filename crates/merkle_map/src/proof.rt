@@ -1,16 +1,20 @@
 //! Proofs of what a map has at one key.
 
-ghost use Rattle.std.specs.Prelude.{◌≡◌, true, map, IfOk, Ok};
+ghost use Rattle.std.specs.Prelude.{◌≡◌, ◌≤◌, true, length, map, IfOk, Ok};
 ghost use Rattle.ark_base.specs.Outcome.{Answers, AnswersBy};
+ghost use Rattle.merkle_map.specs.Bytes.{itself};
 ghost use Rattle.merkle_map.specs.KeyProof.{behind_all, end_at, end_seen, proof_at, proof_seen, proof_verdict, seen_with, BindsBy};
 ghost use Rattle.merkle_map.specs.Kept.{IsKept};
 ghost use Rattle.merkle_map.specs.Parts.{entry_seen, shape, value_seen};
+ghost use Rattle.merkle_map.specs.ProofBytes.{proof_bytes, proof_of_bytes, proof_spelled, IsProofOf32, ReadsProofBack};
 ghost use Rattle.merkle_map.specs.Tree.{way, StandsAt};
 
+use crate::bytes::{from_index, invalid};
 use crate::hasher::MapHasher;
 use crate::key::{are_same_keys, bit_of, copy_of};
-use crate::part::{Entry, Part, digest_of, hidden};
-use crate::verify::{verify_absent, verify_other, verify_value};
+use crate::part::{Entry, Part, Sides, digest_of, hidden};
+use crate::proof_bytes::{push_end, push_siblings, read_end, read_siblings};
+use crate::verify::{KEY_BITS, verify_absent, verify_other, verify_value};
 use ark_base::error::Error;
 use ark_base::serialize::DigestItem;
 use std::alloc::Global;
@@ -51,7 +55,7 @@ fn end_of<D: DigestItem>(alloc: Global, key: &[u8; 32], entry: &Entry<D>) -> Res
 }
 
 // Finds the end of a key's way in a tree some levels below the root, and puts the digests beside the way behind others. Errors,
-// which may leave some: that of the highest side whose hash refuses; `Custom(1)`: the end is hidden; `OutOfMemory`.
+// which may leave some: that of the highest side whose hash refuses; `HIDDEN`: the end is hidden; `OutOfMemory`.
 pub fn climb_down<D: DigestItem, T: MapHasher<D>>(
     alloc: Global,
     hasher: &T,
@@ -69,7 +73,8 @@ pub fn climb_down<D: DigestItem, T: MapHasher<D>>(
     match part {
         Part::Empty => Ok(End::Nothing),
         Part::One { entry } => end_of(alloc, key, entry),
-        Part::Fork { left, right, .. } => {
+        Part::Fork { sides } => {
+            let Sides { left, right, .. } = &**sides;
             if bit_of(key, level) {
                 let digest = digest_of(alloc, hasher, left)?;
                 siblings.push(digest)?;
@@ -124,5 +129,54 @@ impl<D: DigestItem> KeyProof<D> {
                 Some(_) => Ok(false),
             },
         }
+    }
+}
+
+impl KeyProof<[u8; 32]> {
+    /// Returns the proof's bytes, in which a digest of nothing is a bit. Errors: `InvalidData` for more digests than a key has
+    /// bits; `OutOfMemory`.
+    pub fn to_bytes<T: MapHasher<[u8; 32]>>(
+        &self,
+        alloc: Global,
+        hasher: &T,
+    ) -> Result<Vec<u8>, Error>
+        ensures written { AnswersBy (λ bytes. bytes.items) (proof_bytes
+            (T.hashes hasher.now).nothing (proof_seen itself self.now)) result }
+        ensures sized { IfOk result (λ _. IsProofOf32 (proof_seen itself self.now)) }
+    {
+        if self.siblings.len() > KEY_BITS {
+            return Err(invalid());
+        }
+        let nothing = hasher.nothing(alloc)?;
+        let mut bytes = Vec::new(alloc);
+        push_end(&self.end, &mut bytes)?;
+        push_siblings(&nothing, &self.siblings, &mut bytes)?;
+        Ok(bytes)
+    }
+
+    /// Reads the proof that all the bytes spell.
+    ///
+    /// Errors: the first fault from the left: `Truncated`; `InvalidData`: a byte that stands for no end, or more digests than a key
+    /// has bits; else `InvalidData`: a bit that is set for the digest of nothing or behind the last digest, or bytes that are left;
+    /// `OutOfMemory`.
+    pub fn from_bytes<T: MapHasher<[u8; 32]>>(
+        alloc: Global,
+        hasher: &T,
+        bytes: &[u8],
+    ) -> Result<KeyProof<[u8; 32]>, Error>
+        ensures answer { AnswersBy (proof_seen itself) (proof_of_bytes
+            (T.hashes hasher.now).nothing bytes.now) result }
+
+        // The bytes are those of the proof, and of no other one.
+        ensures only { IfOk result (λ proof. bytes.now ≡ proof_spelled (T.hashes hasher.now).nothing
+            (proof_seen itself proof)) }
+
+        // What was written is read again.
+        ensures reads { ReadsProofBack (T.hashes hasher.now).nothing bytes.now }
+    {
+        let nothing = hasher.nothing(alloc)?;
+        let (end, used) = read_end(bytes)?;
+        let siblings = read_siblings(alloc, &nothing, from_index(bytes, used))?;
+        Ok(KeyProof { end, siblings })
     }
 }

@@ -5,12 +5,12 @@ ghost use Rattle.ark_base.specs.Outcome.{AnswersBy};
 ghost use Rattle.merkle_map.specs.Kept.{IsKept};
 ghost use Rattle.merkle_map.specs.Map.{MapHashes};
 ghost use Rattle.merkle_map.specs.Parts.{entry_seen, shape};
-ghost use Rattle.merkle_map.specs.Tree.{One};
+ghost use Rattle.merkle_map.specs.Tree.{Hidden, One};
 ghost use Rattle.merkle_map.specs.Pruned.{aside, covered, keys_with, pruned, Fits};
 
 use crate::hasher::MapHasher;
 use crate::key::{copy_of, has_bit};
-use crate::part::{Entry, Part, digest_of, fork};
+use crate::part::{Entry, Part, behind, digest_of, fork, one};
 use ark_base::error::Error;
 use ark_base::serialize::DigestItem;
 use std::alloc::Global;
@@ -41,12 +41,22 @@ fn copy_of_entry<D: DigestItem>(alloc: Global, entry: &Entry<D>) -> Result<Part<
     ensures digests { IfOk result (λ new. (h : MapHashes) → IsKept D.numbers h new) }
 {
     let value = copy_of(alloc, &entry.value)?;
-    Ok(Part::One {
-        entry: Entry {
+    one(
+        alloc,
+        Entry {
             key: entry.key,
             value,
         },
-    })
+    )
+}
+
+// Copies a tree of which only the digest is known. The only error is `OutOfMemory`.
+fn copy_behind<D: DigestItem>(alloc: Global, digest: &D) -> Result<Part<D>, Error>
+    ensures copied { AnswersBy (shape D.numbers) (Ok (Hidden (D.numbers digest.now))) result }
+    ensures digests { IfOk result (λ new. (h : MapHashes) → IsKept D.numbers h new) }
+{
+    let copy = copy_of(alloc, digest)?;
+    behind(alloc, copy)
 }
 
 // Hides a tree that forks, and copies another. Errors: those of the hashes, the lowest first, then the leftmost;
@@ -66,12 +76,9 @@ fn cover<D: DigestItem, T: MapHasher<D>>(
         Part::One { entry } => copy_of_entry(alloc, entry),
         Part::Fork { .. } => {
             let digest = digest_of(alloc, hasher, part)?;
-            Ok(Part::Hidden { digest })
+            behind(alloc, digest)
         }
-        Part::Hidden { digest } => {
-            let digest = copy_of(alloc, digest)?;
-            Ok(Part::Hidden { digest })
-        }
+        Part::Hidden { digest } => copy_behind(alloc, digest),
     }
 }
 
@@ -91,15 +98,12 @@ fn set_aside<D: DigestItem, T: MapHasher<D>>(
         match part {
             Part::Empty => Ok(Part::Empty),
             Part::One { entry } => copy_of_entry(alloc, entry),
-            Part::Fork { left, right, .. } => {
-                let l = cover(alloc, hasher, left)?;
-                let r = cover(alloc, hasher, right)?;
+            Part::Fork { sides } => {
+                let l = cover(alloc, hasher, &sides.left)?;
+                let r = cover(alloc, hasher, &sides.right)?;
                 fork(alloc, l, r)
             }
-            Part::Hidden { digest } => {
-                let digest = copy_of(alloc, digest)?;
-                Ok(Part::Hidden { digest })
-            }
+            Part::Hidden { digest } => copy_behind(alloc, digest),
         }
     } else {
         cover(alloc, hasher, part)
@@ -127,16 +131,13 @@ pub fn prune_in<D: DigestItem, T: MapHasher<D>>(
     match part {
         Part::Empty => Ok(Part::Empty),
         Part::One { entry } => copy_of_entry(alloc, entry),
-        Part::Fork { left, right, .. } => {
+        Part::Fork { sides } => {
             let on_left = keys_on(alloc, keys, level, false)?;
             let on_right = keys_on(alloc, keys, level, true)?;
-            let l = prune_in(alloc, hasher, tops, left, level + 1, &on_left)?;
-            let r = prune_in(alloc, hasher, tops, right, level + 1, &on_right)?;
+            let l = prune_in(alloc, hasher, tops, &sides.left, level + 1, &on_left)?;
+            let r = prune_in(alloc, hasher, tops, &sides.right, level + 1, &on_right)?;
             fork(alloc, l, r)
         }
-        Part::Hidden { digest } => {
-            let digest = copy_of(alloc, digest)?;
-            Ok(Part::Hidden { digest })
-        }
+        Part::Hidden { digest } => copy_behind(alloc, digest),
     }
 }

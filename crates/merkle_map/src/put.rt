@@ -7,10 +7,10 @@ ghost use Rattle.merkle_map.specs.Changes.{two_of, with_value};
 ghost use Rattle.merkle_map.specs.Kept.{IsKept};
 ghost use Rattle.merkle_map.specs.Map.{MapHashes, bit_of as bit_in};
 ghost use Rattle.merkle_map.specs.Parts.{entry_seen, shape};
-ghost use Rattle.merkle_map.specs.Tree.{way, IsKey, StandsAt};
+ghost use Rattle.merkle_map.specs.Tree.{way, Fork as ForkOf, IsKey, One as OneOf, StandsAt};
 
 use crate::key::{are_same_keys, bit_of, copy_of};
-use crate::part::{Entry, Part, fork, hidden};
+use crate::part::{Entry, Part, Sides, fork, hidden, one};
 use ark_base::error::Error;
 use ark_base::serialize::DigestItem;
 use std::alloc::Global;
@@ -25,6 +25,17 @@ fn have_same_bit(level: usize, a: &[u8; 32], b: &[u8; 32]) -> bool
     ensures other { result ≡ false → bit_in level b.now ≡ not (bit_in level a.now) }
 {
     bit_of(a, level) == bit_of(b, level)
+}
+
+// Joins two entries. The only error is `OutOfMemory`.
+fn two<D: DigestItem>(alloc: Global, left: Entry<D>, right: Entry<D>) -> Result<Part<D>, Error>
+    ensures made { AnswersBy (shape D.numbers) (Ok (ForkOf (OneOf (entry_seen D.numbers left))
+        (OneOf (entry_seen D.numbers right)))) result }
+    ensures kept { IfOk result (λ new. (h : MapHashes) → IsKept D.numbers h new) }
+{
+    let left = one(alloc, left)?;
+    let right = one(alloc, right)?;
+    fork(alloc, left, right)
 }
 
 // Makes the tree of two entries, which stands some levels below the root. The only error is `OutOfMemory`.
@@ -53,9 +64,9 @@ fn apart<D: DigestItem>(
         }
     } else {
         if bit_of(&own.key, level) {
-            return fork(alloc, Part::One { entry: other }, Part::One { entry: own });
+            return two(alloc, other, own);
         }
-        fork(alloc, Part::One { entry: own }, Part::One { entry: other })
+        two(alloc, own, other)
     }
 }
 
@@ -100,10 +111,12 @@ pub fn put_in<D: DigestItem>(
 {
     match part {
         Part::Empty => {
-            *part = Part::One { entry: own };
+            let new = one(alloc, own)?;
+            *part = new;
             Ok(())
         }
         Part::One { entry } => {
+            let entry = &mut **entry;
             if are_same_keys(&entry.key, &own.key) {
                 *entry = own;
                 return Ok(());
@@ -112,11 +125,12 @@ pub fn put_in<D: DigestItem>(
             *part = two;
             Ok(())
         }
-        Part::Fork {
-            left,
-            right,
-            digest,
-        } => {
+        Part::Fork { sides } => {
+            let Sides {
+                left,
+                right,
+                digest,
+            } = &mut **sides;
             *digest = None;
             if bit_of(&own.key, level) {
                 put_in(alloc, right, level + 1, own)

@@ -9,7 +9,7 @@ ghost use Rattle.merkle_map.specs.Rests.{is_hidden_rest, rest_of, rest_beside};
 ghost use Rattle.merkle_map.specs.Tree.{way, StandsAt};
 
 use crate::key::{are_same_keys, bit_of};
-use crate::part::{Part, find, hidden};
+use crate::part::{Part, Sides, find, hidden};
 use ark_base::error::Error;
 use ark_base::serialize::DigestItem;
 use std::mem;
@@ -92,7 +92,8 @@ fn rest_without<D: DigestItem>(part: &Part<D>, level: usize, key: &[u8; 32]) -> 
             }
             Rest::Lone
         }
-        Part::Fork { left, right, .. } => {
+        Part::Fork { sides } => {
+            let Sides { left, right, .. } = &**sides;
             if bit_of(key, level) {
                 rest_joined(rest_without(right, level + 1, key), rest_now(left))
             } else {
@@ -121,23 +122,20 @@ fn stands_alone<D: DigestItem>(part: &Part<D>, beside: &Part<D>) -> bool
 }
 
 // Joins two sides, of which one may have lost an entry, if what is hidden does not decide what they are together.
-fn join<D: DigestItem>(left: Box<Part<D>>, right: Box<Part<D>>) -> Part<D>
-    ensures joined { Becomes (joined (shape D.numbers left.value) (shape D.numbers right.value))
-        (shape D.numbers result) }
-    ensures digests { (h : MapHashes) → IsKept D.numbers h left.value
-        → IsKept D.numbers h right.value → IsKept D.numbers h result }
+fn join<D: DigestItem>(mut sides: Box<Sides<D>>) -> Part<D>
+    ensures joined { Becomes (joined (shape D.numbers sides.value.left)
+        (shape D.numbers sides.value.right)) (shape D.numbers result) }
+    ensures digests { (h : MapHashes) → IsKept D.numbers h sides.value.left
+        → IsKept D.numbers h sides.value.right → IsKept D.numbers h result }
 {
-    if stands_alone(&right, &left) {
-        return Box::into_inner(right);
+    if stands_alone(&sides.right, &sides.left) {
+        return Box::into_inner(sides).right;
     }
-    if stands_alone(&left, &right) {
-        return Box::into_inner(left);
+    if stands_alone(&sides.left, &sides.right) {
+        return Box::into_inner(sides).left;
     }
-    Part::Fork {
-        left,
-        right,
-        digest: None,
-    }
+    sides.digest = None;
+    Part::Fork { sides }
 }
 
 // Joins the two sides of a tree, of which one may have lost an entry.
@@ -148,7 +146,7 @@ fn collapse<D: DigestItem>(part: &mut Part<D>)
     match mem::replace(part, Part::Empty) {
         Part::Empty => {}
         Part::One { entry } => *part = Part::One { entry },
-        Part::Fork { left, right, .. } => *part = join(left, right),
+        Part::Fork { sides } => *part = join(sides),
         Part::Hidden { digest } => *part = Part::Hidden { digest },
     }
 }
@@ -163,11 +161,13 @@ fn remove_in<D: DigestItem>(part: &mut Part<D>, level: usize, key: &[u8; 32])
     match part {
         Part::Empty => {}
         Part::One { entry } => {
+            let entry = &mut **entry;
             if are_same_keys(&entry.key, key) {
                 *part = Part::Empty;
             }
         }
-        Part::Fork { left, right, .. } => {
+        Part::Fork { sides } => {
+            let Sides { left, right, .. } = &mut **sides;
             if bit_of(key, level) {
                 remove_in(right, level + 1, key);
                 collapse(part);

@@ -5,9 +5,9 @@ ghost use Rattle.merkle_map.specs.Map.{Node, digest_of};
 ghost use Rattle.merkle_map.specs.Sha256.{sha256_map, node_bytes, IsOf32};
 ghost use Rattle.sha2.specs.Sha256.{sha256};
 
-use crate::hasher::MapHasher;
+use crate::hasher::{HashedEntry, HashedPair, MapHasher};
 use ark_base::error::Error;
-use sha256_lanes::{digest_of_message, digest_of_pair};
+use sha256_lanes::{digest_of_message, digest_of_pair, digests_of_pairs};
 use std::alloc::Global;
 
 /// Hashes maps by SHA-256, with a byte before each node's parts as RFC 6962 has (section 2.1).
@@ -42,6 +42,44 @@ impl MapHasher<[u8; 32]> for Sha256Map {
 
     fn pair(&self, _alloc: Global, left: &[u8; 32], right: &[u8; 32]) -> Result<[u8; 32], Error> {
         Ok(digest_of_pair(Some(1), left, right))
+    }
+
+    fn entries_together(
+        &self,
+        alloc: Global,
+        entries: &[(&[u8; 32], &[u8; 32])],
+    ) -> Result<Vec<HashedEntry<[u8; 32]>>, Error> {
+        let mut digests = vec![in alloc; [0u8; 32]; entries.len()]?;
+        digests_of_pairs(Some(0), entries, &mut digests);
+        let mut made = Vec::with_capacity(alloc, entries.len())?;
+        'entries: for place in 0..entries.len() {
+            let (key, value) = entries[place];
+            made.push(HashedEntry {
+                key: *key,
+                value: *value,
+                digest: digests[place],
+            })?;
+        }
+        Ok(made)
+    }
+
+    fn pairs_together(
+        &self,
+        alloc: Global,
+        couples: &[(&[u8; 32], &[u8; 32])],
+    ) -> Result<Vec<HashedPair<[u8; 32]>>, Error> {
+        let mut digests = vec![in alloc; [0u8; 32]; couples.len()]?;
+        digests_of_pairs(Some(1), couples, &mut digests);
+        let mut made = Vec::with_capacity(alloc, couples.len())?;
+        'couples: for place in 0..couples.len() {
+            let (left, right) = couples[place];
+            made.push(HashedPair {
+                left: *left,
+                right: *right,
+                digest: digests[place],
+            })?;
+        }
+        Ok(made)
     }
 }
 

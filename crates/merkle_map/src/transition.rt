@@ -1,9 +1,9 @@
 //! Checks that a map with one root becomes, by some changes, a map with another.
 
-ghost use Rattle.std.specs.Prelude.{◌≡◌, true, List, map, IfOk, OnOk, Ok};
+ghost use Rattle.std.specs.Prelude.{◌≡◌, true, List, map, IfOk, IfSome, OnOk, Ok};
 ghost use Rattle.ark_base.specs.Outcome.{Answers, AnswersBy};
 ghost use Rattle.merkle_map.specs.Shown.{Follows};
-ghost use Rattle.merkle_map.specs.Transition.{change_seen, changed_by, changed_by_all, tree_after, tree_after_all, transition_verdict, LeadsTo};
+ghost use Rattle.merkle_map.specs.Transition.{change_seen, changed_by, changed_by_all, tree_after, tree_after_all, changed_tree, transition_verdict, LeadsOn, LeadsTo};
 
 use crate::hasher::MapHasher;
 use crate::key::copy_of;
@@ -61,7 +61,7 @@ fn change_all<D: DigestItem>(
 /// Returns whether changes lead from a map with the old root to one with the new root, by a tree that has the old root and shows
 /// what the changes need: a store, or its witness.
 ///
-/// Errors: those of the hashes, the lowest first, then the leftmost; `Custom(1)`: the tree hides what a change needs;
+/// Errors: those of the hashes, the lowest first, then the leftmost; `HIDDEN`: the tree hides what a change needs;
 /// `OutOfMemory`.
 pub fn verify_transition<D: DigestItem, T: MapHasher<D>>(
     alloc: Global,
@@ -85,4 +85,29 @@ pub fn verify_transition<D: DigestItem, T: MapHasher<D>>(
     }
     change_all(alloc, &mut tree, changes)?;
     tree.has_root(alloc, hasher, new_root)
+}
+
+/// Makes changes of a tree that has this root, and returns it; nothing, where the tree has another root.
+///
+/// Errors: as of `verify_transition`.
+pub fn change_from<D: DigestItem, T: MapHasher<D>>(
+    alloc: Global,
+    hasher: &T,
+    root: &D,
+    mut tree: MapTree<D>,
+    changes: &[Change<D>],
+) -> Result<Option<MapTree<D>>, Error>
+    ensures answer { AnswersBy (λ found. found) (changed_tree (T.hashes hasher.now)
+        (D.numbers root.now) (map (change_seen D.numbers) changes.now) tree) result }
+
+    // Each map with this root has, after the changes, the root of the tree that is returned, or below some bits the given tree and
+    // the map's own tree have two different nodes with one hash.
+    ensures bound { IfOk result (λ found. IfSome found (LeadsOn (T.hashes hasher.now)
+        (D.numbers root.now) tree (map (change_seen D.numbers) changes.now))) }
+{
+    if !tree.has_root(alloc, hasher, root)? {
+        return Ok(None);
+    }
+    change_all(alloc, &mut tree, changes)?;
+    Ok(Some(tree))
 }

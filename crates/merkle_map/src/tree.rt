@@ -8,18 +8,20 @@ ghost use Rattle.merkle_map.specs.KeyProof.{proof_at, proof_seen, IsAccepted};
 ghost use Rattle.merkle_map.specs.Map.{Entry as EntryOf, put, root_of, without};
 ghost use Rattle.merkle_map.specs.Parts.{found_seen, value_seen};
 ghost use Rattle.merkle_map.specs.Pruned.{pruned, CanLose, KnowsSame, ShowsSame};
+ghost use Rattle.merkle_map.specs.Rows.{rows_of};
 ghost use Rattle.merkle_map.specs.Shown.{BindsTree, Follows, Has, has_digest};
 ghost use Rattle.merkle_map.specs.Tree.{shape_digest, Empty, Hidden, IsWhole, Shows};
 ghost use Rattle.merkle_map.specs.Whole.{IsRootOf, Stores};
 
-use crate::bytes::{part_of_bytes, write_part};
+use crate::bytes::part_of_bytes;
 use crate::hasher::MapHasher;
 use crate::key::are_same_digests;
-use crate::part::{Entry, Part, digest_of, find};
-use crate::proof::{KeyProof, climb_down};
-use crate::prune::prune_in;
-use crate::put::put_in;
-use crate::remove::remove_from;
+use crate::part::{Entry, Part};
+use crate::proof::KeyProof;
+use crate::top::{
+    Top, climb_top, digest_of_top, find_top, prune_top, push_rows_of_top, put_top, remove_top,
+    write_top,
+};
 use ark_base::error::Error;
 use ark_base::serialize::DigestItem;
 use std::alloc::Global;
@@ -31,14 +33,14 @@ use std::marker::Model;
 /// keys, and the witness of their changes. Contracts see the tree, its digests by their numbers.
 #[derive(Drop)]
 pub struct MapTree<D: DigestItem> {
-    top: Part<D>,
+    top: Top<D>,
 }
 
 impl<D: DigestItem> Model for MapTree<D> {
     ghost use Rattle.std.specs.Prelude.{[]};
-    ghost use Rattle.merkle_map.specs.Kept.{IsKept};
+    ghost use Rattle.merkle_map.specs.Kept.{IsTopKept};
     ghost use Rattle.merkle_map.specs.Map.{MapHashes};
-    ghost use Rattle.merkle_map.specs.Parts.{shape};
+    ghost use Rattle.merkle_map.specs.Parts.{top_shape};
     ghost use Rattle.merkle_map.specs.Tree.{Shape, StandsAt};
     ghost use Rattle.merkle_map.specs.Coded.{shape_code};
 
@@ -46,11 +48,11 @@ impl<D: DigestItem> Model for MapTree<D> {
 
     ghost coded = { shape_code };
 
-    ghost view = { λ tree. shape D.numbers tree.top };
+    ghost view = { λ tree. top_shape D.numbers tree.top };
 
     // It keeps no digest, since its calls may take any hasher: what it kept would have to be the digest for each.
-    ghost invariant = { λ tree. StandsAt [] (shape D.numbers tree.top)
-        × ((h : MapHashes) → IsKept D.numbers h tree.top) };
+    ghost invariant = { λ tree. StandsAt [] (top_shape D.numbers tree.top)
+        × ((h : MapHashes) → IsTopKept D.numbers h tree.top) };
 }
 
 impl<D: DigestItem> MapTree<D> {
@@ -58,7 +60,9 @@ impl<D: DigestItem> MapTree<D> {
     pub fn new() -> MapTree<D>
         ensures { result ≡ Empty }
     {
-        MapTree { top: Part::Empty }
+        MapTree {
+            top: Top::Shown { part: Part::Empty },
+        }
     }
 
     /// Returns a tree of which only the digest is known.
@@ -66,11 +70,11 @@ impl<D: DigestItem> MapTree<D> {
         ensures { result ≡ Hidden (D.numbers digest) }
     {
         MapTree {
-            top: Part::Hidden { digest },
+            top: Top::Digest { digest },
         }
     }
 
-    /// Returns what the map has at a key. The error is `Custom(1)`: the tree hides it.
+    /// Returns what the map has at a key. The error is `HIDDEN`: the tree hides it.
     pub fn get(&self, key: &[u8; 32]) -> Result<Option<&D>, Error>
         ensures found { known_at 0 key.now self.now
             ≡ found_seen (λ value. D.numbers value.now) result }
@@ -79,12 +83,12 @@ impl<D: DigestItem> MapTree<D> {
         ensures maps { IfOk result (λ found. Has self.now key.now
             (value_seen (λ value. D.numbers value.now) found)) }
     {
-        find(&self.top, 0, key)
+        find_top(&self.top, key)
     }
 
     /// Puts a value at a key.
     ///
-    /// Errors, which leave the tree unchanged: `Custom(1)`: the tree hides the key's place; `OutOfMemory`.
+    /// Errors, which leave the tree unchanged: `HIDDEN`: the tree hides the key's place; `OutOfMemory`.
     pub fn insert(&mut self, alloc: Global, key: &[u8; 32], value: D) -> Result<(), Error>
         ensures changed { AnswersBy (λ _. self.new) (tree_with key.now (D.numbers value) self.old)
             result }
@@ -96,12 +100,12 @@ impl<D: DigestItem> MapTree<D> {
         // A store becomes the store of the map with the value.
         ensures store { Stores (put key.now (D.numbers value)) self.old self.new result }
     {
-        put_in(alloc, &mut self.top, 0, Entry { key: *key, value })
+        put_top(alloc, &mut self.top, Entry { key: *key, value })
     }
 
     /// Removes a key. A tree that has nothing at the key stays as it is.
     ///
-    /// The error, which leaves the tree unchanged, is `Custom(1)`: the tree hides what is at the key, or whether an entry is
+    /// The error, which leaves the tree unchanged, is `HIDDEN`: the tree hides what is at the key, or whether an entry is
     /// left alone.
     pub fn remove(&mut self, key: &[u8; 32]) -> Result<(), Error>
         ensures changed { tree_without key.now self.old ≡ outcome_with self.new result }
@@ -113,7 +117,7 @@ impl<D: DigestItem> MapTree<D> {
         // A store becomes the store of the map without the key.
         ensures store { Stores (without key.now) self.old self.new result }
     {
-        remove_from(&mut self.top, key)
+        remove_top(&mut self.top, key)
     }
 
     /// Returns the digest of the tree. Errors: those of the hashes, the lowest first, then the leftmost; `OutOfMemory`.
@@ -125,7 +129,7 @@ impl<D: DigestItem> MapTree<D> {
             → root_of (T.hashes hasher.now) entries ≡ shape_digest (T.hashes hasher.now) self.now }
         ensures store { IsRootOf (T.hashes hasher.now) self.now }
     {
-        digest_of(alloc, hasher, &self.top)
+        digest_of_top(alloc, hasher, &self.top)
     }
 
     /// Returns whether the tree has this root. Errors: as of `root`.
@@ -162,7 +166,7 @@ impl<D: DigestItem> MapTree<D> {
         ensures known { IfOk result (KnowsSame keys.now self.now) }
         ensures maps { IfOk result (ShowsSame (T.hashes hasher.now) self.now) }
     {
-        let top = prune_in(alloc, hasher, tops, &self.top, 0, keys)?;
+        let top = prune_top(alloc, hasher, tops, &self.top, keys)?;
         Ok(MapTree { top })
     }
 
@@ -211,7 +215,7 @@ impl<D: DigestItem> MapTree<D> {
 
     /// Returns the proof of what the map has at one key.
     ///
-    /// Errors: that of the highest side beside the key's way whose hash refuses; `Custom(1)`: the tree hides what is at the key;
+    /// Errors: that of the highest side beside the key's way whose hash refuses; `HIDDEN`: the tree hides what is at the key;
     /// `OutOfMemory`.
     pub fn prove_key<T: MapHasher<D>>(
         &self,
@@ -227,7 +231,7 @@ impl<D: DigestItem> MapTree<D> {
             (proof_seen D.numbers proof)) }
     {
         let mut siblings = Vec::new(alloc);
-        let end = climb_down(alloc, hasher, &self.top, 0, key, &mut siblings)?;
+        let end = climb_top(alloc, hasher, &self.top, key, &mut siblings)?;
         Ok(KeyProof { end, siblings })
     }
 }
@@ -239,8 +243,27 @@ impl MapTree<[u8; 32]> {
         ensures sized { IfOk result (λ _. IsOf32 self.now) }
     {
         let mut bytes = Vec::new(alloc);
-        write_part(&self.top, &mut bytes)?;
+        write_top(&self.top, &mut bytes)?;
         Ok(bytes)
+    }
+
+    /// Returns the tree's digest, and a row of 97 bytes for each of its nodes that it does not hide, those below before those
+    /// above: the node's digest, and the bytes that a store keeps: for an entry 0, key and value; for a fork 1 and two digests.
+    ///
+    /// Errors: those of the hashes, the lowest first, then the leftmost; `OutOfMemory`.
+    pub fn rows<T: MapHasher<[u8; 32]>>(
+        &self,
+        alloc: Global,
+        hasher: &T,
+    ) -> Result<([u8; 32], Vec<u8>), Error>
+        ensures rows { AnswersBy (λ made. (made.0, made.1.items)) (rows_of (T.hashes hasher.now)
+            self.now) result }
+        ensures digest { AnswersBy (λ made. made.0) (shape_digest (T.hashes hasher.now) self.now)
+            result }
+    {
+        let mut rows = Vec::new(alloc);
+        let digest = push_rows_of_top(alloc, hasher, &self.top, &mut rows)?;
+        Ok((digest, rows))
     }
 
     /// Reads the tree that all the bytes spell: a store, a proof or a witness.
@@ -257,7 +280,9 @@ impl MapTree<[u8; 32]> {
         // What was written is read again.
         ensures reads { ReadsBack bytes.now }
     {
-        let top = part_of_bytes(alloc, bytes)?;
-        Ok(MapTree { top })
+        let part = part_of_bytes(alloc, bytes)?;
+        Ok(MapTree {
+            top: Top::Shown { part },
+        })
     }
 }

@@ -1,6 +1,6 @@
 //! Keys and values that are drawn, and the map of the model's changes.
 
-use crate::model::CHANGES;
+use crate::model::changes::CHANGES;
 use ark_base::error::Error;
 use merkle_map::{MapTree, Sha256Map};
 use sha2::{Digest, Sha256};

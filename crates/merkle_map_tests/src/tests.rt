@@ -1,9 +1,12 @@
 //! Each call once, and what no clause says.
 
 use crate::drawn::{change, changed, drawn, is_shown, key_of};
-use crate::model::{CHANGES, PROOFS, PRUNED};
+use crate::model::changes::CHANGES;
+use crate::model::proofs::{PROOFS, PRUNED};
 use ark_base::error::Error;
-use merkle_map::{Change, End, KeptMap, KeyProof, MapTree, Sha256Map, verify_transition};
+use merkle_map::{
+    Change, End, KeptMap, KeyProof, MapTree, Sha256Map, change_from, verify_transition,
+};
 use sha2::{Digest, Sha256};
 use std::alloc::Global;
 use std::test::Fail;
@@ -30,6 +33,18 @@ fn sum_of(proof: &KeyProof<[u8; 32]>) -> [u8; 32] {
     hasher.finalize()
 }
 
+// Whether the bytes of a proof are the model's, are read as it, and are refused with one left out or one more.
+fn is_spelled(alloc: Global, proof: &KeyProof<[u8; 32]>, sum: &str) -> Result<bool, Error> {
+    let hasher = Sha256Map::new();
+    let mut bytes = proof.to_bytes(alloc, &hasher)?;
+    let again = KeyProof::from_bytes(alloc, &hasher, &bytes)?;
+    let short = KeyProof::from_bytes(alloc, &hasher, &bytes[..bytes.len() / 2]);
+    let is_own = is_shown(alloc, &Sha256::digest(bytes.as_slice()), sum)
+        && sum_of(&again) == sum_of(proof);
+    bytes.push(0)?;
+    Ok(is_own && short.is_err() && KeyProof::from_bytes(alloc, &hasher, &bytes).is_err())
+}
+
 // How many proofs are the model's, and are accepted for what the map has and for nothing else.
 fn agreed(alloc: Global) -> Result<usize, Error> {
     let hasher = Sha256Map::new();
@@ -37,13 +52,14 @@ fn agreed(alloc: Global) -> Result<usize, Error> {
     let root = tree.root(alloc, &hasher)?;
     let wrong = drawn("wrong", 0);
     let mut agree = 0usize;
-    for (number, end, count, sum) in PROOFS {
+    for (number, end, count, sum, spelled) in PROOFS {
         let key = key_of(*number);
         let value = tree.get(&key)?;
         let proof = tree.prove_key(alloc, &hasher, &key)?;
         let is_model = name_of(&proof.end) == *end
             && proof.siblings.len() == *count
-            && is_shown(alloc, &sum_of(&proof), sum);
+            && is_shown(alloc, &sum_of(&proof), sum)
+            && is_spelled(alloc, &proof, spelled)?;
         let is_proof = proof.verify(alloc, &hasher, &root, &key, value)?
             && !proof.verify(alloc, &hasher, &root, &key, Some(&wrong))?
             && !proof.verify(alloc, &hasher, &wrong, &key, value)?;
@@ -54,7 +70,7 @@ fn agreed(alloc: Global) -> Result<usize, Error> {
     Ok(agree)
 }
 
-// How many roots of the model's changes a map has that keeps its digests.
+// How many roots of the model's changes a map has that keeps its digests, if it is asked for each root.
 fn kept_agreed(alloc: Global) -> Result<usize, Error> {
     let mut map = KeptMap::new(Sha256Map::new());
     let mut agree = 0usize;
@@ -72,6 +88,50 @@ fn kept_agreed(alloc: Global) -> Result<usize, Error> {
         }
     }
     Ok(agree)
+}
+
+// The same, if it is asked for each eighth root alone: forks are hashed together then.
+fn kept_agreed_together(alloc: Global) -> Result<usize, Error> {
+    let mut map = KeptMap::new(Sha256Map::new());
+    let mut agree = 0usize;
+    let mut row = 0u64;
+    for (number, removed, root) in CHANGES {
+        let key = key_of(*number);
+        if *removed {
+            map.remove(&key);
+        } else {
+            map.insert(alloc, &key, drawn("value", row))?;
+        }
+        row = row.wrapping_add(1);
+        if row % 8 == 0 && is_shown(alloc, &map.root(alloc)?, root) {
+            agree = agree.wrapping_add(1);
+        }
+    }
+    Ok(agree)
+}
+
+#[test]
+fn digests_hashed_together_are_those_of_the_changed_map(rt: HostRuntime) {
+    assert!(rt;
+        matches!(kept_agreed_together(rt.alloc()), Ok(count) if count == CHANGES.len() / 8)
+    );
+}
+
+// Whether a map whose first root takes more than one pass has the root of the tree that is hashed one by one.
+fn many_agree(alloc: Global) -> Result<bool, Error> {
+    let hasher = Sha256Map::new();
+    let mut map = KeptMap::new(Sha256Map::new());
+    let mut tree = MapTree::new();
+    for number in 0..1500 {
+        map.insert(alloc, &key_of(number), drawn("value", number))?;
+        tree.insert(alloc, &key_of(number), drawn("value", number))?;
+    }
+    Ok(map.root(alloc)? == tree.root(alloc, &hasher)?)
+}
+
+#[test]
+fn many_digests_hashed_together_are_those_of_the_tree(rt: HostRuntime) {
+    assert!(rt; matches!(many_agree(rt.alloc()), Ok(true)));
 }
 
 #[test]
@@ -94,6 +154,29 @@ fn kept_shows(alloc: Global) -> Result<bool, Error> {
         None => false,
     };
     Ok(has_it && proof.verify(alloc, &hasher, &root, &key, Some(&value))?)
+}
+
+// Whether changes that are taken back leave the root that the map had.
+fn is_taken_back(alloc: Global) -> Result<bool, Error> {
+    let mut map = KeptMap::new(Sha256Map::new());
+    map.insert(alloc, &key_of(1), drawn("value", 1))?;
+    map.insert(alloc, &key_of(2), drawn("value", 2))?;
+    let before = map.root(alloc)?;
+    let put = Change::Put {
+        key: key_of(1),
+        value: drawn("value", 3),
+    };
+    let first = map.apply(alloc, &put)?;
+    let second = map.apply(alloc, &Change::Remove { key: key_of(2) })?;
+    let between = map.root(alloc)?;
+    map.apply(alloc, &second)?;
+    map.apply(alloc, &first)?;
+    Ok(between != before && map.root(alloc)? == before)
+}
+
+#[test]
+fn changes_are_taken_back(rt: HostRuntime) {
+    assert!(rt; matches!(is_taken_back(rt.alloc()), Ok(true)));
 }
 
 #[test]
@@ -182,6 +265,38 @@ fn bytes_are_the_models(rt: HostRuntime) -> Result<(), Fail> {
 fn witnesses_show_their_changes(rt: HostRuntime) -> Result<(), Fail> {
     assert!(rt; matches!(is_transition(rt.alloc()), Ok(true)));
     Ok(())
+}
+
+// Whether the rows of a changed tree begin with those of its nodes, and lead to its root; nothing where the tree has another root.
+fn is_changed(alloc: Global) -> Result<bool, Error> {
+    let hasher = Sha256Map::new();
+    let mut tree = changed(alloc, &hasher)?;
+    let old = tree.root(alloc, &hasher)?;
+    let keys = [key_of(1), key_of(2), key_of(7)];
+    let right = tree.witness(alloc, &hasher, &keys)?;
+    let wrong = tree.witness(alloc, &hasher, &keys)?;
+    let value = drawn("value", 1000);
+    tree.remove(&keys[0])?;
+    tree.remove(&keys[1])?;
+    tree.insert(alloc, &keys[2], value)?;
+    let new = tree.root(alloc, &hasher)?;
+    let given = changes(alloc, value)?;
+    let none = change_from(alloc, &hasher, &new, wrong, &given)?;
+    let is_none = none.is_none();
+    let Some(made) = change_from(alloc, &hasher, &old, right, &given)? else {
+        return Ok(false);
+    };
+    let (root, rows) = made.rows(alloc, &hasher)?;
+    if rows.len() < 97 || rows.len() % 97 != 0 {
+        return Ok(false);
+    }
+    let top = &rows[rows.len() - 97..];
+    Ok(is_none && root == new && top.starts_with(&root) && Sha256::digest(&top[32..]) == root)
+}
+
+#[test]
+fn changed_trees_have_the_new_root(rt: HostRuntime) {
+    assert!(rt; matches!(is_changed(rt.alloc()), Ok(true)));
 }
 
 #[test]

@@ -3,7 +3,7 @@ use Rattle.std.proofs.Common.{◌≡◌, ℤ, pos, w32, to_z, of_z, Bool, true, 
 use Rattle.ark_base.specs.Outcome.{Outcome}
 use Rattle.paxidore_c.specs.Answer.{refusal_code, refused_of, refusing, verdict_code}
 use Rattle.paxidore_c.specs.declared.refused.Refused.{Refused}
-use Rattle.paxidore_c.specs.declared.refused.Refused.TheVariants.{Memory, Truncated, Invalid, Height, Size, Lengths, Count, Index, Room, Other}
+use Rattle.paxidore_c.specs.declared.refused.Refused.TheVariants.{Memory, Truncated, Invalid, Height, Size, Lengths, Count, Index, Room, Hidden, Other}
 
 -- no refusal says yes
 pub refusal-no : (refused : Refused) → to_z w32 (of_z w32 (refusal_code refused)) ≡ pos 0 → ⊥
@@ -16,6 +16,7 @@ refusal-no Lengths zero = cc
 refusal-no Count zero = cc
 refusal-no Index zero = cc
 refusal-no Room zero = cc
+refusal-no Hidden zero = cc
 refusal-no Other zero = cc
 
 -- what an accepting verdict says, where the answer is 0

@@ -13,7 +13,7 @@ use Rattle.paxidore_c.specs.Answer.{Gives, all_shown, done_code, leaves_for, ref
 use Rattle.paxidore_c.proofs.Answering.{refusal-no, zero-says}
 use Rattle.paxidore_c.specs.Hashing.{Hashing, hashes_by, hashes_of, read_path, read_multi_path}
 use Rattle.paxidore_c.specs.declared.refused.Refused.{Refused}
-use Rattle.paxidore_c.specs.declared.refused.Refused.TheVariants.{Memory, Truncated, Invalid, Height, Size, Lengths, Count, Index, Room, Other}
+use Rattle.paxidore_c.specs.declared.refused.Refused.TheVariants.{Memory, Truncated, Invalid, Height, Size, Lengths, Count, Index, Room, Hidden, Other}
 
 -- a call that answers 0 in 32 bits answers 0
 pub done-zero : {A : Type 0} (outcome : Result A Refused) (code : ℤ) → Gives (done_code outcome) code → to_z w32
@@ -36,6 +36,7 @@ verdict-fits (Err Lengths) = refl
 verdict-fits (Err Count) = refl
 verdict-fits (Err Index) = refl
 verdict-fits (Err Room) = refl
+verdict-fits (Err Hidden) = refl
 verdict-fits (Err Other) = refl
 
 results-same : (leaves : Result (List (List ℕ)) Refused) → results_of (λ leaf. leaf) leaves ≡ leaves
@@ -43,7 +44,7 @@ results-same (Ok xs) = ap Ok (map-id xs)
 results-same (Err refused) = refl
 
 -- what an outcome gives, where the call answers it or memory was refused
-answers-give : (outcome result : Outcome Bool) → Answers outcome result → Gives (verdict_code (refusing outcome))
+pub answers-give : (outcome result : Outcome Bool) → Answers outcome result → Gives (verdict_code (refusing outcome))
     (verdict_code (refusing result))
 answers-give outcome (Ok accepted) is = inl (ap (λ o. verdict_code (refusing o)) (sym is))
 answers-give outcome (Err e) (inl memory) = inr (ap (λ e. refusal_code (refused_of e)) memory)

@@ -1,13 +1,17 @@
 pub mod Answering
 pub mod Codes
+pub mod Hashed
 pub mod Cutting
 pub mod Keeping
+pub mod KeptGiven
 pub mod KeptLogs
 pub mod Lengths
+pub mod MapLemmas
 pub mod Numbers
 pub mod Parts
 pub mod Plans
 pub mod Putting
 pub mod TreeLemmas
+pub mod TwoInputs
 pub mod Whole
 pub mod Written

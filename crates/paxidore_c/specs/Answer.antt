@@ -11,7 +11,7 @@ use Rattle.ark_paths.specs.Received.{received_verdict, received_multi_verdict}
 use Rattle.ark_paths.specs.Tree.{path_in}
 use Rattle.ark_merkle.specs.MultiProof.{multi_path_in}
 use Rattle.paxidore_c.specs.declared.refused.Refused.{Refused}
-use Rattle.paxidore_c.specs.declared.refused.Refused.TheVariants.{Memory, Truncated, Invalid, Height, Size, Lengths, Count, Index, Room, Other}
+use Rattle.paxidore_c.specs.declared.refused.Refused.TheVariants.{Memory, Truncated, Invalid, Height, Size, Lengths, Count, Index, Room, Hidden, Other}
 use Rattle.paxidore_c.specs.Cut.{parts_by}
 use Rattle.paxidore_c.specs.Hashing.{Hashing, sha256_hashing, rfc6962_hashing, hashes_of, tree_over, bytes_of_path, read_path, bytes_of_multi_path, read_multi_path}
 
@@ -28,6 +28,7 @@ refusal_code Lengths = negsuc 5
 refusal_code Count = negsuc 6
 refusal_code Index = negsuc 7
 refusal_code Room = negsuc 8
+refusal_code Hidden = negsuc 14
 refusal_code Other = negsuc 98
 
 -- a refusal of the library, where the size of the tree is one

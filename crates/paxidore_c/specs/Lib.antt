@@ -5,5 +5,8 @@ pub mod KeptAnswer
 pub mod KeptLog
 pub mod LogFiles
 pub mod LogProofs
+pub mod Maps
 pub mod Plan
+pub mod Poseidon
+pub mod PoseidonLog
 pub mod Transcript

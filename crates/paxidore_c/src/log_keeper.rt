@@ -58,7 +58,7 @@ pub extern "C" fn paxidore_log_root(root: &mut [u8; 32], kept: &[[u8; 32]], size
 }
 
 // The bytes of digests, one behind the other.
-fn bytes_of(alloc: Global, digests: &[[u8; 32]]) -> Result<Vec<u8>, Refused>
+pub(crate) fn bytes_of(alloc: Global, digests: &[[u8; 32]]) -> Result<Vec<u8>, Refused>
     ensures { GivesBy (λ bytes. bytes.items) (Ok (flat_map itself digests.now)) result }
 {
     let mut bytes = Vec::new(alloc);
@@ -170,7 +170,7 @@ pub extern "C" fn paxidore_log_consistency(
 }
 
 // How many digests stand behind the stored ones for so many leaves more; `None` where the sum is no size.
-fn more_count(size: usize, count: usize) -> Option<usize>
+pub(crate) fn more_count(size: usize, count: usize) -> Option<usize>
     requires { size < 2 ^ 63 }
     ensures { MatchOption result (takes size count ≡ false)
         (λ more. (takes size count ≡ true) × (more ≡ more_count size count)) }

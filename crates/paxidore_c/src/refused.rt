@@ -29,6 +29,8 @@ pub enum Refused {
     Index,
     /// The caller's buffer is too short.
     Room,
+    /// A tree hides what a call on its map needs.
+    Hidden,
     /// A refusal that no hash of this library gives.
     Other,
 }
@@ -48,6 +50,7 @@ impl Refused {
             Refused::Count => -7,
             Refused::Index => -8,
             Refused::Room => -9,
+            Refused::Hidden => -15,
             Refused::Other => -99,
         }
     }

@@ -1,9 +1,10 @@
 //! Keys, and checkpoints that are signed and verified.
 
+use crate::file_disk::FileDisk;
 use crate::stop::{Stop, StopAt};
 use crate::store::{created_secret, random_seed, unchanged};
-use log_checkpoints::checkpoint;
-use signed_notes::{Checkpoint, Policy, Signer, Verifier, open_checkpoint};
+use log_checkpoints::{ReceiptFault, checkpoint, verify_receipt};
+use signed_notes::{Checkpoint, Cosigner, Policy, Signer, Verifier, open_checkpoint};
 use std::alloc::Global;
 use std::fs;
 
@@ -14,26 +15,47 @@ fn with_feed(line: Vec<u8>) -> Result<Vec<u8>, Stop> {
     Ok(whole)
 }
 
-// A line without the line feed at its end.
-fn without_feed(bytes: &[u8]) -> &[u8] {
+/// Returns a line without the line feed at its end.
+pub fn without_feed(bytes: &[u8]) -> &[u8] {
     match bytes.last() {
         Some(b'\n') => &bytes[..bytes.len() - 1],
         _ => bytes,
     }
 }
 
-/// Makes a key of a name, writes it to a new file that only its owner reads, and returns the line of its verifier.
-pub fn keygen(rt: &HostRuntime, name: &str, path: &str) -> Result<Vec<u8>, StopAt> {
-    let alloc = rt.alloc();
-    let signer = Signer {
-        name,
-        seed: random_seed(rt)?,
+// The lines of a new key of a log or of a witness: its secret, and its verifier.
+fn key_lines(
+    alloc: Global,
+    name: &str,
+    seed: [u8; 32],
+    is_witness: bool,
+) -> Result<(Vec<u8>, Vec<u8>), Stop> {
+    if is_witness {
+        let cosigner = Cosigner { name, seed };
+        let secret = with_feed(of_note(cosigner.write(alloc))?)?;
+        return Ok((
+            secret,
+            with_feed(of_note(cosigner.verifier().write(alloc))?)?,
+        ));
+    }
+    let signer = Signer { name, seed };
+    let secret = with_feed(of_note(signer.write(alloc))?)?;
+    Ok((secret, with_feed(of_note(signer.verifier().write(alloc))?)?))
+}
+
+/// Makes a key of a name, of a log or of a witness, writes it to a new file that only its owner reads, and returns the line of its
+/// verifier.
+pub fn keygen(
+    rt: &HostRuntime,
+    name: &str,
+    path: &str,
+    is_witness: bool,
+) -> Result<Vec<u8>, StopAt> {
+    let seed = random_seed(rt)?;
+    let (secret, line) = match key_lines(rt.alloc(), name, seed, is_witness) {
+        Ok(lines) => lines,
+        Err(why) => return Err(why.at(1)),
     };
-    let secret = match signer.write(alloc) {
-        Ok(text) => with_feed(text)?,
-        Err(fault) => return Err(Stop::from(fault).at(1)),
-    };
-    let line = with_feed(of_note(signer.verifier().write(alloc))?)?;
     match created_secret(rt, path, &secret) {
         Ok(()) => Ok(line),
         Err(why) => Err(why.at(2)),
@@ -48,10 +70,19 @@ fn of_note<T: Drop>(said: Result<T, signed_notes::Fault>) -> Result<T, Stop> {
     }
 }
 
-// Signs the checkpoint of a log by a key that was read.
-fn signed(rt: &HostRuntime, path: &str, signer: &Signer, origin: &str) -> Result<Vec<u8>, Stop> {
-    let mut disk = unchanged(rt, path)?;
-    match checkpoint(rt.alloc(), &mut disk, signer, origin) {
+/// Returns the key that the text of a key file says.
+pub fn signed_by(alloc: Global, text: &[u8]) -> Result<Signer<'_>, Stop> {
+    of_note(Signer::read(alloc, without_feed(text)))
+}
+
+/// Signs the checkpoint of the log of a file by a key. Its origin is the name of the key where no other is named.
+pub fn note_of(
+    rt: &HostRuntime,
+    disk: &mut FileDisk,
+    signer: &Signer,
+    origin: Option<&str>,
+) -> Result<Vec<u8>, Stop> {
+    match checkpoint(rt.alloc(), disk, signer, origin.unwrap_or(signer.name)) {
         Ok(note) => Ok(note),
         Err(log_checkpoints::Stop::Fault(fault)) => Err(Stop::from(fault)),
         Err(log_checkpoints::Stop::Disk(error)) => Err(Stop::from(error)),
@@ -59,8 +90,7 @@ fn signed(rt: &HostRuntime, path: &str, signer: &Signer, origin: &str) -> Result
     }
 }
 
-/// Returns the checkpoint of the log of a file, signed by the key of another file. Its origin is the name of the key where no
-/// other is named.
+/// Returns the checkpoint of the log of a file, signed by the key of another file.
 pub fn sign(
     rt: &HostRuntime,
     path: &str,
@@ -71,11 +101,15 @@ pub fn sign(
         Ok(text) => text,
         Err(error) => return Err(Stop::from(error).at(3)),
     };
-    let signer = match Signer::read(rt.alloc(), without_feed(&text)) {
+    let signer = match signed_by(rt.alloc(), &text) {
         Ok(signer) => signer,
-        Err(fault) => return Err(Stop::from(fault).at(3)),
+        Err(why) => return Err(why.at(3)),
     };
-    match signed(rt, path, &signer, origin.unwrap_or(signer.name)) {
+    let mut disk = match unchanged(rt, path) {
+        Ok(disk) => disk,
+        Err(why) => return Err(why.at(1)),
+    };
+    match note_of(rt, &mut disk, &signer, origin) {
         Ok(note) => Ok(note),
         Err(why) => Err(why.at(1)),
     }
@@ -109,6 +143,23 @@ pub fn opened(
         &policy,
     )?;
     Ok((size, root))
+}
+
+/// Returns the size and the root of the log that a receipt shows an entry of, where the key signed its checkpoint and that is of the
+/// origin that is named, or of the name of the key.
+pub fn shown(
+    alloc: Global,
+    log: &Verifier,
+    receipt: &[u8],
+    entry: &[u8],
+    origin: Option<&str>,
+) -> Result<Option<(usize, [u8; 32])>, ReceiptFault> {
+    let policy = Policy {
+        log: *log,
+        witnesses: &[],
+        quorum: 0,
+    };
+    verify_receipt(alloc, receipt, entry, origin.unwrap_or(log.name), &policy)
 }
 
 /// Returns why a note or a key is none, or is not accepted.

@@ -3,7 +3,10 @@
 
 mod batches;
 mod checkpoints;
+mod complaints;
 mod file_disk;
+mod folders;
+mod followers;
 mod picture;
 mod progress;
 mod stop;
@@ -11,18 +14,23 @@ mod store;
 mod words;
 
 use crate::batches::{Batches, Source};
+use crate::complaints::{begin, complain, reason};
+use crate::followers::Audited;
 use crate::picture::{image_of, text_of};
 use crate::progress::OnTerminal;
 use crate::stop::{Stop, StopAt};
 use crate::store::Keeper;
 use crate::words::words;
 use ark_trees::digest_of_entry;
+use log_checkpoints::{ReceiptFault, write_receipt};
 use log_store::{InclusionProof, Recovered};
+use log_tiles::Head;
 use paxlog_run::entries::digests_of_lines;
 use paxlog_run::fault::Fault;
 use paxlog_run::replies::{line_of, line_of_root};
 use paxlog_run::request::{Options, Request, request_of, word};
 use paxlog_run::verdicts::{verify_consistency, verify_inclusion};
+use signed_notes::Verifier;
 use std::fs;
 use std::io::{Read, Write};
 use std::process::ExitCode;
@@ -39,8 +47,17 @@ const USAGE: &str = "usage: paxlog append LOG [--after SIZE ROOT] [--wait SECOND
        paxlog verify ROOT SIZE INDEX FILE PROOF
        paxlog verify-consistency OLD_SIZE OLD_ROOT SIZE ROOT PROOF
        paxlog keygen NAME KEYFILE
+       paxlog keygen-witness NAME KEYFILE
        paxlog checkpoint LOG --key KEYFILE [--origin ORIGIN]
        paxlog verify-checkpoint KEY FILE [ORIGIN]
+       paxlog tiles LOG FOLDER --key KEYFILE [--origin ORIGIN]
+       paxlog audit FOLDER KEY [ORIGIN]
+       paxlog keep FOLDER KEY FILE [ORIGIN]
+       paxlog follow FOLDER KEY STATE [ORIGIN]
+       paxlog tile-proof FOLDER KEY INDEX [ORIGIN]
+       paxlog receipt FOLDER KEY INDEX [ORIGIN]
+       paxlog verify-receipt KEY FILE RECEIPT [ORIGIN]
+       paxlog witness FOLDER KEY STATE --key KEYFILE [--origin ORIGIN]
        paxlog -h | --help | --version
 FILE - is standard input.
 ";
@@ -48,20 +65,8 @@ FILE - is standard input.
 const VERSION: &str = "paxlog 1.0.0
 ";
 
-// Exit statuses.
+// The status of a `no`.
 const NO: u8 = 1;
-
-const USED_WRONGLY: u8 = 2;
-
-const REFUSED: u8 = 3;
-
-const LOCKED: u8 = 4;
-
-const DAMAGED: u8 = 5;
-
-const SYSTEM: u8 = 6;
-
-const PERHAPS: u8 = 7;
 
 // The name of a file at a place of the words.
 fn name(words: &[Vec<u8>], place: usize) -> Result<&str, StopAt> {
@@ -287,6 +292,51 @@ fn say_checkpoint(
     }
 }
 
+// Writes the size and the root that a checkpoint states, and returns the status.
+fn say_head(rt: &HostRuntime, head: &Head) -> Result<u8, StopAt> {
+    say(rt, &line_of_root(rt.alloc(), head.size, &head.root)?)
+}
+
+// Writes the size and the root of the log that a receipt shows an entry of, or why it is not accepted.
+fn say_receipt(
+    rt: &HostRuntime,
+    found: Result<Option<(usize, [u8; 32])>, ReceiptFault>,
+) -> Result<u8, StopAt> {
+    match found {
+        Ok(Some(stated)) => {
+            let root = stated.1;
+            say(rt, &line_of_root(rt.alloc(), stated.0, &root)?)
+        }
+        Ok(None) => say_verdict(rt, false),
+        Err(ReceiptFault::Spelling) => {
+            let _ = eprintln!(rt; "paxlog: the receipt is none");
+            say_verdict(rt, false)
+        }
+        Err(ReceiptFault::Note(fault)) => say_checkpoint(rt, Err(fault)),
+    }
+}
+
+// Writes what an audit found: on standard error, of how many entries the bytes are kept, if not of all.
+fn say_audited(rt: &HostRuntime, words: &[Vec<u8>], found: &Audited) -> Result<u8, StopAt> {
+    if found.kept < found.head.size {
+        begin(rt, words, Some(1));
+        let _ = eprintln!(rt; "the bytes of the first {} entries are kept", found.kept);
+    }
+    say_head(rt, &found.head)
+}
+
+// The verifier's key at a place of the words.
+fn key_at<'a>(
+    rt: &HostRuntime,
+    words: &'a [Vec<u8>],
+    place: usize,
+) -> Result<Verifier<'a>, StopAt> {
+    match checkpoints::verifier(rt.alloc(), word(words, place)) {
+        Ok(key) => Ok(key),
+        Err(why) => Err(why.why.at(place)),
+    }
+}
+
 // Does what is asked for, and returns the status.
 fn answer(rt: &HostRuntime, request: Request, words: &[Vec<u8>]) -> Result<u8, StopAt> {
     match request {
@@ -342,9 +392,9 @@ fn answer(rt: &HostRuntime, request: Request, words: &[Vec<u8>]) -> Result<u8, S
             let verdict = verify_consistency(rt.alloc(), old_size, &old_root, size, &root, proof);
             say_proof(rt, verdict)
         }
-        Request::Keygen => say(
+        Request::Keygen { is_witness } => say(
             rt,
-            &checkpoints::keygen(rt, name(words, 1)?, name(words, 2)?)?,
+            &checkpoints::keygen(rt, name(words, 1)?, name(words, 2)?, is_witness)?,
         ),
         Request::Checkpoint { has_origin } => {
             let origin = optional(words, 5, has_origin)?;
@@ -357,87 +407,69 @@ fn answer(rt: &HostRuntime, request: Request, words: &[Vec<u8>]) -> Result<u8, S
             let note = bytes_of(rt, words, 2)?;
             say_checkpoint(rt, checkpoints::opened(rt.alloc(), &key, &note, origin))
         }
+        Request::Tiles { has_origin } => {
+            let origin = optional(words, 6, has_origin)?;
+            let (log, folder) = (name(words, 1)?, name(words, 2)?);
+            let head = followers::publish(rt, log, folder, name(words, 4)?, origin)?;
+            say_head(rt, &head)
+        }
+        Request::Audit { has_origin } => {
+            let origin = optional(words, 3, has_origin)?;
+            let key = key_at(rt, words, 2)?;
+            match of_log(followers::audit(rt, name(words, 1)?, &key, origin))? {
+                Some(found) => say_audited(rt, words, &found),
+                None => say_verdict(rt, false),
+            }
+        }
+        Request::Keep { has_origin } => {
+            let origin = optional(words, 4, has_origin)?;
+            let key = key_at(rt, words, 2)?;
+            let lines = bytes_of(rt, words, 3)?;
+            let head = of_log(followers::keep(rt, name(words, 1)?, &key, origin, &lines))?;
+            say_head(rt, &head)
+        }
+        Request::Follow { has_origin } => {
+            let origin = optional(words, 4, has_origin)?;
+            let key = key_at(rt, words, 2)?;
+            let (folder, state) = (name(words, 1)?, name(words, 3)?);
+            let new = followers::follow(rt, folder, &key, state, origin)?;
+            say_head(rt, &new.head)
+        }
+        Request::TileProof {
+            index,
+            has_origin,
+            is_receipt,
+        } => {
+            let origin = optional(words, 4, has_origin)?;
+            let key = key_at(rt, words, 2)?;
+            let folder = name(words, 1)?;
+            let proof = of_log(followers::prove(rt, folder, &key, origin, index))?;
+            if is_receipt {
+                say(
+                    rt,
+                    &write_receipt(rt.alloc(), index, &proof.path, &proof.note)?,
+                )
+            } else {
+                say(rt, &line_of(rt.alloc(), &proof.path)?)
+            }
+        }
+        Request::VerifyReceipt { has_origin } => {
+            let origin = optional(words, 4, has_origin)?;
+            let key = key_at(rt, words, 1)?;
+            let entry = bytes_of(rt, words, 2)?;
+            let receipt = bytes_of(rt, words, 3)?;
+            let found = checkpoints::shown(rt.alloc(), &key, &receipt, &entry, origin);
+            say_receipt(rt, found)
+        }
+        Request::Witness { has_origin } => {
+            let origin = optional(words, 7, has_origin)?;
+            let key = key_at(rt, words, 2)?;
+            let (folder, state) = (name(words, 1)?, name(words, 3)?);
+            let note = followers::witness(rt, folder, &key, state, name(words, 5)?, origin)?;
+            say(rt, &note)
+        }
         Request::Help => say(rt, USAGE.as_bytes()),
         Request::Version => say(rt, VERSION.as_bytes()),
-    }
-}
-
-// Why there is no answer.
-fn reason(fault: Fault) -> &'static str {
-    match fault {
-        Fault::Memory => "a request for memory was refused",
-        Fault::NoLog => "the file is no log",
-        Fault::HeadDamaged => "the head of the log is damaged",
-        Fault::Damaged => "a digest of the log is damaged",
-        Fault::Short => "the file of the log ends early",
-        Fault::Size => "the log has no such size",
-        Fault::Index => "the log has no entry at this index",
-        Fault::Other => "the log has another size or root",
-        Fault::Length => "a proof of these sizes has another length",
-        Fault::Word => "the proof is not hexadecimal",
-    }
-}
-
-// The status of a fault.
-fn status(fault: Fault) -> u8 {
-    match fault {
-        Fault::HeadDamaged | Fault::Damaged | Fault::Short => DAMAGED,
-        _ => REFUSED,
-    }
-}
-
-// Begins the line of why there is no answer: with the name of the file that it speaks of.
-fn begin(rt: &HostRuntime, words: &[Vec<u8>], place: Option<usize>) {
-    let _ = eprint!(rt; "paxlog: ");
-    if let Some(place) = place {
-        let _ = rt.stderr().write_all(word(words, place));
-        let _ = eprint!(rt; ": ");
-    }
-}
-
-// Writes why there is no answer, and returns the status.
-fn complain(rt: &HostRuntime, words: &[Vec<u8>], stop: StopAt) -> u8 {
-    let StopAt { why, place } = stop;
-    match why {
-        Stop::Words => {
-            let _ = eprint!(rt; "{USAGE}");
-            USED_WRONGLY
-        }
-        Stop::LongWord => {
-            let _ = eprintln!(rt; "paxlog: a word is longer than 8192 bytes");
-            USED_WRONGLY
-        }
-        Stop::Fault(fault) => {
-            let why = reason(fault);
-            begin(rt, words, place);
-            let _ = eprintln!(rt; "{why}");
-            status(fault)
-        }
-        Stop::Note(fault) => {
-            let why = checkpoints::reason(fault);
-            begin(rt, words, place);
-            let _ = eprintln!(rt; "{why}");
-            REFUSED
-        }
-        Stop::Locked => {
-            begin(rt, words, place);
-            let _ = eprintln!(rt; "another process appends to the log");
-            LOCKED
-        }
-        Stop::System(error) => {
-            begin(rt, words, place);
-            let _ = eprintln!(rt; "{error}");
-            SYSTEM
-        }
-        Stop::Perhaps(error) => {
-            begin(rt, words, place);
-            let _ = eprintln!(rt; "the entries are perhaps in the log: {error}");
-            PERHAPS
-        }
-        Stop::Unsaid => {
-            let _ = eprintln!(rt; "paxlog: the entries are in the log, and the output failed");
-            PERHAPS
-        }
     }
 }
 

@@ -1,5 +1,7 @@
 //! Why the command stops.
 
+use crate::folders::TileFault;
+use log_tiles::Unread;
 use paxlog_run::fault::Fault;
 use std::alloc::{AllocError, AllocFailed};
 use std::fs::TryLockError;
@@ -16,6 +18,14 @@ pub enum Stop {
     Fault(Fault),
     /// A note or a key is none.
     Note(signed_notes::Fault),
+    /// A tile was not read.
+    Tile(TileFault),
+    /// The lines are not the log's entries.
+    Entries,
+    /// The log has fewer entries than it had.
+    Shrunk,
+    /// The log does not continue the one that it was.
+    Fork,
     /// Another process appends.
     Locked,
     /// A call of the system failed.
@@ -141,6 +151,31 @@ impl From<signed_notes::Fault> for Stop {
         match fault {
             signed_notes::Fault::Memory => Stop::Fault(Fault::Memory),
             other => Stop::Note(other),
+        }
+    }
+}
+
+impl From<log_tiles::Stop<io::Error>> for Stop {
+    fn from(stop: log_tiles::Stop<io::Error>) -> Stop {
+        match stop {
+            log_tiles::Stop::Shrunk => Stop::Shrunk,
+            log_tiles::Stop::Fork => Stop::Fork,
+            log_tiles::Stop::Fault(fault) => Stop::Fault(fault),
+            log_tiles::Stop::Disk(error) => of_system(error),
+        }
+    }
+}
+
+impl From<log_tiles::Stop<Unread<TileFault>>> for Stop {
+    fn from(stop: log_tiles::Stop<Unread<TileFault>>) -> Stop {
+        match stop {
+            log_tiles::Stop::Shrunk => Stop::Shrunk,
+            log_tiles::Stop::Fork => Stop::Fork,
+            log_tiles::Stop::Fault(fault) => Stop::Fault(fault),
+            log_tiles::Stop::Disk(Unread::Tile(TileFault::Memory)) => Stop::Fault(Fault::Memory),
+            log_tiles::Stop::Disk(Unread::Tile(fault)) => Stop::Tile(fault),
+            log_tiles::Stop::Disk(Unread::Place) => Stop::Fault(Fault::Size),
+            log_tiles::Stop::Disk(Unread::ReadOnly) => Stop::Fault(Fault::Size),
         }
     }
 }

@@ -15,8 +15,8 @@ use std::time::{Duration, Instant};
 // For how many milliseconds nothing is tried while another process is waited for.
 const PAUSE: u64 = 20;
 
-// The folder of a file.
-fn folder_of(path: &str) -> &str {
+/// Returns the folder of a file.
+pub fn folder_of(path: &str) -> &str {
     match path.rsplit_once('/') {
         Some(("", _)) => "/",
         Some((folder, _)) => folder,
@@ -24,12 +24,18 @@ fn folder_of(path: &str) -> &str {
     }
 }
 
+/// Returns once the names in the folder of a file are on the disk.
+pub fn sync_folder_of(rt: &HostRuntime, path: &str) -> Result<(), Stop> {
+    File::open(rt, folder_of(path))?.sync_all()?;
+    Ok(())
+}
+
 // Writes the head of no entries to a file that has no byte, or no more than a part of that head, and syncs.
 fn make(rt: &HostRuntime, path: &str, disk: &mut FileDisk) -> Result<(), Stop> {
     let is_new = disk.length()? < START;
     log_store::make(disk)?;
     if is_new {
-        File::open(rt, folder_of(path))?.sync_all()?;
+        sync_folder_of(rt, path)?;
     }
     Ok(())
 }
@@ -121,8 +127,8 @@ impl Keeper {
     }
 }
 
-// The root of the first entries, one at least: by it the log that the file states continues them.
-fn root_of_first(rt: &HostRuntime, disk: &FileDisk, size: usize) -> Result<[u8; 32], Stop> {
+/// Returns the root of the first entries of the log of a disk, one at least: by it the log that the file states continues them.
+pub fn root_of_first(rt: &HostRuntime, disk: &FileDisk, size: usize) -> Result<[u8; 32], Stop> {
     Ok(log_store::consistency(rt.alloc(), disk, size, None)?.old_root)
 }
 
@@ -217,8 +223,7 @@ pub fn created_secret(rt: &HostRuntime, path: &str, bytes: &[u8]) -> Result<(), 
     let mut file = how.write(true).create_new(true).mode(0o600).open(rt, path)?;
     file.write_all(bytes)?;
     file.sync_all()?;
-    File::open(rt, folder_of(path))?.sync_all()?;
-    Ok(())
+    sync_folder_of(rt, path)
 }
 
 /// Makes a new file of what of a file can be recovered, and returns once it is on the disk. The error has the place of the file that
@@ -237,12 +242,9 @@ pub fn recover(rt: &HostRuntime, path: &str, new_path: &str) -> Result<Recovered
         Err(why) => return Err(why.at(2)),
     };
     match log_store::recover(&disk, &mut new) {
-        Ok(found) => match File::open(rt, folder_of(new_path)) {
-            Ok(folder) => match folder.sync_all() {
-                Ok(()) => Ok(found),
-                Err(error) => Err(Stop::from(error).at(2)),
-            },
-            Err(error) => Err(Stop::from(error).at(2)),
+        Ok(found) => match sync_folder_of(rt, new_path) {
+            Ok(()) => Ok(found),
+            Err(why) => Err(why.at(2)),
         },
         Err(why) => Err(Stop::from(why).at(if new.is_refused { 2 } else { 1 })),
     }

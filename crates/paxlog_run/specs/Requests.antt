@@ -8,7 +8,7 @@ use Rattle.ark_paths.specs.Pair.{Digest}
 use Rattle.paxlog_run.specs.declared.request.Request.{Request}
 use Rattle.paxlog_run.specs.declared.request.After.{After}
 use Rattle.paxlog_run.specs.declared.request.OptionsAt.{OptionsAt}
-use Rattle.paxlog_run.specs.declared.request.Request.TheVariants.{Append, AppendLines, Root, Prove, Show, Consistency, Check, Recover, Verify, VerifyConsistency, Keygen, Checkpoint, VerifyCheckpoint, Help, Version}
+use Rattle.paxlog_run.specs.declared.request.Request.TheVariants.{Append, AppendLines, Root, Prove, Show, Consistency, Check, Recover, Verify, VerifyConsistency, Keygen, Checkpoint, VerifyCheckpoint, Tiles, Audit, Follow, Keep, TileProof, VerifyReceipt, Witness, Help, Version}
 
 -- the digest that a word spells in hexadecimal
 abbrev pub digest_of : List ℕ → Option Digest
@@ -133,22 +133,46 @@ append_lines_in words = do
   at ← options_in words
   if at.place + 1 == length words then Some (AppendLines at.options at.place) else None
 
--- the checkpoint that they ask for, with an origin or without
-abbrev pub checkpoint_in : List (List ℕ) → Bool → Option Request
-checkpoint_in words has_origin =
-    if bytes_eq (get_or words 2 []) (codes "--key")
-    && (not has_origin || bytes_eq (get_or words 4 []) (codes "--origin"))
-    then Some (Checkpoint has_origin) else None
+-- whether an option for a key stands at a place, and behind it one for an origin, where there is one
+abbrev pub is_keyed : List (List ℕ) → ℕ → Bool → Bool
+is_keyed words place has_origin =
+    bytes_eq (get_or words place []) (codes "--key")
+    && (not has_origin || bytes_eq (get_or words (place + 2) []) (codes "--origin"))
+
+-- the inclusion proof by tiles that they ask for, with an origin or without, as a receipt or alone
+abbrev pub tile_proof_in : List (List ℕ) → Bool → Bool → Option Request
+tile_proof_in words has_origin is_receipt = do
+  index ← number_at words 3
+  Some (TileProof index has_origin is_receipt)
+
+-- what is asked for by a word about folders of tiles with so many others behind it
+abbrev pub asked_of_tiles : List ℕ → ℕ → List (List ℕ) → Option Request
+asked_of_tiles word count words =
+    if bytes_eq word (codes "tiles")
+    then (if (count == 4 || count == 6) && is_keyed words 3 (count == 6) then Some (Tiles (count == 6)) else None)
+    else if bytes_eq word (codes "audit") then (if count == 2 || count == 3 then Some (Audit (count == 3)) else None)
+    else if bytes_eq word (codes "follow") then (if count == 3 || count == 4 then Some (Follow (count == 4)) else None)
+    else if bytes_eq word (codes "keep") then (if count == 3 || count == 4 then Some (Keep (count == 4)) else None)
+    else if bytes_eq word (codes "tile-proof")
+    then (if count == 3 || count == 4 then tile_proof_in words (count == 4) false else None)
+    else if bytes_eq word (codes "receipt")
+    then (if count == 3 || count == 4 then tile_proof_in words (count == 4) true else None)
+    else if bytes_eq word (codes "verify-receipt")
+    then (if count == 3 || count == 4 then Some (VerifyReceipt (count == 4)) else None)
+    else if bytes_eq word (codes "witness")
+    then (if (count == 5 || count == 7) && is_keyed words 4 (count == 7) then Some (Witness (count == 7)) else None)
+    else None
 
 -- what is asked for by a word about checkpoints with so many others behind it
 abbrev pub asked_of_checkpoints : List ℕ → ℕ → List (List ℕ) → Option Request
 asked_of_checkpoints word count words =
-    if bytes_eq word (codes "keygen") then (if count == 2 then Some Keygen else None)
+    if bytes_eq word (codes "keygen") then (if count == 2 then Some (Keygen false) else None)
+    else if bytes_eq word (codes "keygen-witness") then (if count == 2 then Some (Keygen true) else None)
     else if bytes_eq word (codes "checkpoint")
-    then (if count == 3 || count == 5 then checkpoint_in words (count == 5) else None)
+    then (if (count == 3 || count == 5) && is_keyed words 2 (count == 5) then Some (Checkpoint (count == 5)) else None)
     else if bytes_eq word (codes "verify-checkpoint")
     then (if count == 2 || count == 3 then Some (VerifyCheckpoint (count == 3)) else None)
-    else None
+    else asked_of_tiles word count words
 
 -- what is asked for by a word with so many others behind it
 abbrev pub asked : List ℕ → ℕ → List (List ℕ) → Option Request

@@ -1,8 +1,11 @@
 //! What the words behind the command's name ask for.
 
 ghost use Rattle.std.specs.Prelude.{◌≡◌, ◌≤◌, ◌+◌, [], map, get_or, vec_items, IfSome};
-ghost use Rattle.paxlog_run.specs.Requests.{append_in, append_lines_in, asked, asked_of_checkpoints, checkpoint_in, consistency_in, digest_at, digest_of, files_at, number_at, option_more, options_in, prove_in, request_of, root_in, show_in, size_at, verify_consistency_in, verify_in};
+ghost use Rattle.paxlog_run.specs.Requests.{append_in, append_lines_in, asked, consistency_in, digest_at, digest_of, files_at, number_at, option_more, options_in, prove_in, request_of, root_in, show_in, size_at, verify_consistency_in, verify_in};
 
+mod signed;
+
+use crate::request::signed::asked_of_checkpoints;
 use decimals::number_of;
 
 /// The size and the root that a log has to have, so that entries are appended to it.
@@ -68,14 +71,47 @@ pub enum Request {
         size: usize,
         root: [u8; 32],
     },
-    /// A new key is asked for. NAME stands behind the first word, KEYFILE behind that.
-    Keygen,
+    /// A new key is asked for, of a log or of a witness. NAME stands behind the first word, KEYFILE behind that.
+    Keygen {
+        is_witness: bool,
+    },
     /// KEYFILE stands at place 3, an origin at place 5.
     Checkpoint {
         has_origin: bool,
     },
     /// KEY stands behind the first word, FILE behind that, an origin at place 3.
     VerifyCheckpoint {
+        has_origin: bool,
+    },
+    /// FOLDER stands at place 2, KEYFILE at place 4, an origin at place 6.
+    Tiles {
+        has_origin: bool,
+    },
+    /// FOLDER stands behind the first word, KEY behind that, an origin at place 3.
+    Audit {
+        has_origin: bool,
+    },
+    /// FOLDER stands behind the first word, KEY and STATE behind that, an origin at place 4.
+    Follow {
+        has_origin: bool,
+    },
+    /// FOLDER stands behind the first word, KEY and FILE behind that, an origin at place 4.
+    Keep {
+        has_origin: bool,
+    },
+    /// FOLDER stands behind the first word, KEY behind that, an origin at place 4.
+    TileProof {
+        index: usize,
+        has_origin: bool,
+        /// Whether with the checkpoint, as a receipt.
+        is_receipt: bool,
+    },
+    /// KEY stands behind the first word, FILE and RECEIPT behind that, an origin at place 4.
+    VerifyReceipt {
+        has_origin: bool,
+    },
+    /// FOLDER stands behind the first word, KEY and STATE behind that, KEYFILE at place 5, an origin at place 7.
+    Witness {
         has_origin: bool,
     },
     Help,
@@ -306,47 +342,6 @@ fn append_lines_in(words: &[Vec<u8>]) -> Option<Request>
             options,
             first: place,
         })
-    } else {
-        None
-    }
-}
-
-// The checkpoint that is asked for, with an origin or without.
-fn checkpoint_in(words: &[Vec<u8>], has_origin: bool) -> Option<Request>
-    ensures { result ≡ checkpoint_in (map vec_items words.now) has_origin }
-{
-    let has_key = word(words, 2) == b"--key".as_slice();
-    if has_key && (!has_origin || word(words, 4) == b"--origin".as_slice()) {
-        Some(Request::Checkpoint { has_origin })
-    } else {
-        None
-    }
-}
-
-// What is asked for by a word that is about checkpoints, with so many others behind it.
-fn asked_of_checkpoints(word: &[u8], count: usize, words: &[Vec<u8>]) -> Option<Request>
-    ensures { result ≡ asked_of_checkpoints word.now count (map vec_items words.now) }
-{
-    if word == b"keygen".as_slice() {
-        if count == 2 {
-            Some(Request::Keygen)
-        } else {
-            None
-        }
-    } else if word == b"checkpoint".as_slice() {
-        if count == 3 || count == 5 {
-            checkpoint_in(words, count == 5)
-        } else {
-            None
-        }
-    } else if word == b"verify-checkpoint".as_slice() {
-        if count == 2 || count == 3 {
-            Some(Request::VerifyCheckpoint {
-                has_origin: count == 3,
-            })
-        } else {
-            None
-        }
     } else {
         None
     }

@@ -113,9 +113,6 @@ abbrev pub fed : List (List ℕ) → List ℕ
 fed [] = []
 fed (line ∷ lines) = line ++ (10 ∷ fed lines)
 
-fed-onto : (b : ℕ) (line : List ℕ) (lines : List (List ℕ)) → fed (onto_first b (line ∷ lines)) ≡ b ∷ fed (line ∷ lines)
-fed-onto b line lines = refl
-
 some-lines : (b : ℕ) (bytes : List ℕ)
     → (line : List ℕ) × (lines : List (List ℕ)) × (lines_in (b ∷ bytes) ≡ line ∷ lines)
 some-lines b bytes =

@@ -65,14 +65,14 @@ pub struct Verifier<'a> {
     pub key: [u8; 32],
 }
 
-/// The key of who signs. The time of its calls depends on the seed: do not sign where it can be measured.
+/// The key of who signs, by its seed.
 #[derive(Clone, Copy)]
 pub struct Signer<'a> {
     pub name: &'a str,
     pub seed: [u8; 32],
 }
 
-/// The key of a witness, who states a time beside each signature. As with `Signer`, time depends on the seed.
+/// The key of a witness, who states a time beside each signature.
 #[derive(Clone, Copy)]
 pub struct Cosigner<'a> {
     pub name: &'a str,

@@ -7,6 +7,7 @@ ghost use Rattle.ark_sponge.specs.Permutation.{Parameters, width, permutation, p
 ghost use Rattle.ark_sponge.specs.Recurrence.{AreRounds};
 
 mod bytes;
+mod table;
 
 use crate::poseidon::permutation::{SBox, apply_rounds};
 use crate::poseidon::recurrence::Recurrence;

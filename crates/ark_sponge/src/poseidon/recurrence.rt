@@ -4,6 +4,7 @@ ghost use Rattle.std.specs.Prelude.{◌≡◌, ◌-◌, ◌≤◌, ◌∷◌, []
 ghost use Rattle.ark_sponge.specs.Permutation.{matrix_product};
 ghost use Rattle.ark_sponge.specs.Recurrence.{on_tail, short_round, short_rounds};
 
+mod listed;
 pub mod making;
 mod matrices;
 mod search;

@@ -9,7 +9,7 @@ ghost use Rattle.jubjub.specs.Draws.{element_draw};
 use crate::decoding::first_over;
 use crate::element::Jubjub;
 use crate::extended::{is_neutral, lifted};
-use crate::multiple::{multiple, order_of_subgroup};
+use crate::multiple::{multiple_public, order_of_subgroup};
 use ark_groups::ff::{UniformRand, Words};
 use ark_wide_fields::Bls12_381Fr;
 use rand::Rng;
@@ -31,11 +31,11 @@ pub fn cleared_over(y: Bls12_381Fr, odd: bool) -> Option<Jubjub>
     ensures { result ≡ cleared_over (value y) (from_bool odd) }
 {
     let x = first_over(y, odd)?;
-    let cleared = multiple(lifted(x, y), COFACTOR);
+    let cleared = multiple_public(lifted(x, y), COFACTOR);
     if is_neutral(cleared) {
         return None;
     }
-    if !is_neutral(multiple(cleared, order_of_subgroup())) {
+    if !is_neutral(multiple_public(cleared, order_of_subgroup())) {
         return None;
     }
     Some(Jubjub::of_extended(cleared))

@@ -9,7 +9,10 @@ ghost use Rattle.merkle_log.specs.Kept.{Keeps, stored_front};
 ghost use Rattle.merkle_log.specs.Stored.{position, stored_count};
 ghost use Rattle.merkle_log.specs.Walk.{index_up};
 
+mod by_hasher;
+
 use crate::kept::Kept;
+pub use crate::kept::growth::by_hasher::append_by;
 use crate::kept::node::node;
 use crate::places::{position_of, stored_count};
 use crate::rows::Rows;

@@ -205,7 +205,7 @@ fn kept<F: Field>(
 
 /// Returns the recurrence that the partial rounds are, with a matrix and these rows of constants.
 ///
-/// `None` where a state has fewer than three elements or more than 64, where there are fewer than four rounds, where no
+/// `None` where a state has fewer than two elements or more than 64, where there are fewer than four rounds, where no
 /// recurrence was found, and where memory is refused.
 pub fn recurrence_of<F: Field>(
     alloc: Global,
@@ -218,7 +218,7 @@ pub fn recurrence_of<F: Field>(
         (map (λ row. map F.value row.items) mds.now)
         (map (λ row. map F.value row.items) rows.now) recurrence) }
 {
-    if mds.len() < 3 || mds.len() > MOST_WIDE || rows.len() < 4 {
+    if mds.len() < 2 || mds.len() > MOST_WIDE || rows.len() < 4 {
         return None;
     }
     let Ok(found) = search(alloc, mds) else {

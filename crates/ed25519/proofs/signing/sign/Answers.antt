@@ -16,14 +16,14 @@ returns c =
     let seed = c.args.seed.now in
     let m = c.args.message.now in
     let s = c.expanded.ensures.scalar in
-    let key_is : c.multiple_bytes-key.result ≡ key_of seed =
-    c.multiple_bytes-key.ensures ∙ ap (λ n. spelling (times curve n base_point)) s in
+    let key_is : c.bytes_of_both.result.0 ≡ key_of seed =
+    c.bytes_of_both.ensures.first ∙ ap (λ n. spelling (times curve n base_point)) s in
     let nonce_is : scalar c.nonce_of-nonce.result ≡ nonce seed m =
     c.nonce_of-nonce.ensures ∙ ap (λ (s : List ℕ). number_of_bytes (sha512 (s ++ m)) % order)
     (c.as_slice.ensures ∙ c.expanded.ensures.prefix) in
     let first = spelling (times curve (nonce seed m) base_point) in
-    let first_is : c.multiple_bytes-first.result ≡ first =
-    c.multiple_bytes-first.ensures ∙ ap (λ n. spelling (times curve n base_point)) (c.words.ensures ∙ nonce_is) in
+    let first_is : c.bytes_of_both.result.1 ≡ first =
+    c.bytes_of_both.ensures.second ∙ ap (λ n. spelling (times curve n base_point)) (c.words.ensures ∙ nonce_is) in
     let k : ℕ = challenge first (key_of seed) m in
     let k_is : scalar c.challenge_of-k.result ≡ k =
     c.challenge_of-k.ensures ∙ ap₂ (λ f a. challenge f a m) (c.as_slice-2.ensures ∙ first_is)

@@ -16,20 +16,19 @@ placed-sides level l r heavy on_left on_right =
     rw (le-ltb (weight l + weight r) 2 heavy, on_left, on_right, next) refl
 
 both-sides : (t : _) (c : After-is_placed t) → is_placed c.args.level (shape itself c.args.part.now)
-    ≡ (is_placed (c.args.level + 1) (shape itself c.in-Fork.left.value)
-    && is_placed (c.args.level + 1) (shape itself c.in-Fork.right.value))
+    ≡ (is_placed (c.args.level + 1) (shape itself c.in-Fork.sides.value.left)
+    && is_placed (c.args.level + 1) (shape itself c.in-Fork.sides.value.right))
 both-sides t c =
     let level = c.args.level in
     ap (λ p. is_placed level (shape itself p)) c.in-Fork.is
-    ∙ placed-sides level (shape itself c.in-Fork.left.value) (shape itself c.in-Fork.right.value)
+    ∙ placed-sides level (shape itself c.in-Fork.sides.value.left) (shape itself c.in-Fork.sides.value.right)
     (rw (
       ← c.deref.ensures,
-      ← c.deref-in-Fork.ensures,
       ← c.weight_of.ensures.weighs,
       ← c.weight_of-in-Fork.ensures.weighs,
     ) c.if-weight_of-lt2.false)
-    (rw (← c.deref-in-Fork-2.ensures, ← c.all_have.ensures) c.if-not-all_have.false)
-    (rw (← c.deref-else-not-all_have.ensures, ← c.all_have-else-not-all_have.ensures) c.if-not-all_have-2.false)
+    (rw (← c.deref.ensures, ← c.all_have.ensures) c.if-not-all_have.false)
+    (rw (← c.deref.ensures, ← c.all_have-else-not-all_have.ensures) c.if-not-all_have-2.false)
 
 left-placed : (a b : Bool) → a ≡ true → (a && b) ≡ b
 left-placed a b is = rw (is) refl
@@ -40,16 +39,16 @@ left-misplaced a b is = rw (is) refl
 pub returns-then-is_placed : goal.returns-then-is_placed
 returns-then-is_placed t c =
     let at = c.args.level + 1 in
-    c.is_placed-then-is_placed.ensures ∙ ap (λ p. is_placed at (shape itself p)) c.deref-then-is_placed.ensures
-    ∙ sym (left-placed (is_placed at (shape itself c.in-Fork.left.value))
-    (is_placed at (shape itself c.in-Fork.right.value)) (ap (λ p. is_placed at (shape itself p))
-    (sym c.deref-in-Fork-3.ensures) ∙ sym c.is_placed.ensures ∙ c.if-is_placed.true))
+    c.is_placed-then-is_placed.ensures ∙ ap (λ s. is_placed at (shape itself s.right)) c.deref.ensures
+    ∙ sym (left-placed (is_placed at (shape itself c.in-Fork.sides.value.left))
+    (is_placed at (shape itself c.in-Fork.sides.value.right)) (ap (λ s. is_placed at (shape itself s.left))
+    (sym c.deref.ensures) ∙ sym c.is_placed.ensures ∙ c.if-is_placed.true))
     ∙ sym (both-sides t (goal.at.returns-then-is_placed t c).After-is_placed)
 
 pub returns-else-is_placed : goal.returns-else-is_placed
 returns-else-is_placed t c =
     let at = c.args.level + 1 in
-    let left = c.is_placed.ensures ∙ ap (λ p. is_placed at (shape itself p)) c.deref-in-Fork-3.ensures in
-    left ∙ sym (left-misplaced (is_placed at (shape itself c.in-Fork.left.value))
-    (is_placed at (shape itself c.in-Fork.right.value)) (sym left ∙ c.if-is_placed.false))
+    let left = c.is_placed.ensures ∙ ap (λ s. is_placed at (shape itself s.left)) c.deref.ensures in
+    left ∙ sym (left-misplaced (is_placed at (shape itself c.in-Fork.sides.value.left))
+    (is_placed at (shape itself c.in-Fork.sides.value.right)) (sym left ∙ c.if-is_placed.false))
     ∙ sym (both-sides t (goal.at.returns-else-is_placed t c).After-is_placed)

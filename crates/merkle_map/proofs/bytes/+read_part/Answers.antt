@@ -54,16 +54,16 @@ returns-in_ok-tree-in-2-clause-answer t c =
     ∙ ap (λ s. Ok (Fork l r, s)) (drops b a 1 bytes)
     ∙ ap (λ o. o >>= λ s. Ok (s, drop (1 + a + b) bytes)) c.in_ok-tree-in-2.ensures.made
 
-pub returns-in_ok-value-in-1-clause-within : goal.returns-in_ok-value-in-1-clause-within
-returns-in_ok-value-in-1-clause-within t c =
+pub returns-in_ok-tree-in-1-clause-within : goal.returns-in_ok-tree-in-1-clause-within
+returns-in_ok-tree-in-1-clause-within t c =
     let first = c.in_ok-key-in-1.ensures.enough in
     let second = c.in_ok-value-in-1.ensures.enough in
     let rest = ap length c.from_index-rest.ensures ∙ length-drop 1 c.args.bytes.now in
     let behind = ap length c.from_index.ensures ∙ length-drop 32 c.from_index-rest.result.now in
     omega (arith, first, second, rest, behind)
 
-pub returns-in_ok-value-in-1-clause-answer : goal.returns-in_ok-value-in-1-clause-answer
-returns-in_ok-value-in-1-clause-answer t c =
+pub returns-in_ok-tree-in-1-clause-answer : goal.returns-in_ok-tree-in-1-clause-answer
+returns-in_ok-tree-in-1-clause-answer t c =
     let there : 0 < length c.args.bytes.now = search rules in
     let bytes = c.args.bytes.now in
     let key = c.in_ok-key-in-1.key in
@@ -79,6 +79,7 @@ returns-in_ok-value-in-1-clause-answer t c =
     ∙ ap (λ s. Ok (One (record { key = key; value = value }), drop 32 s)) (c.from_index.ensures
     ∙ ap (drop 32) c.from_index-rest.ensures)
     ∙ ap (λ s. Ok (One (record { key = key; value = value }), s)) (drops 32 32 1 bytes)
+    ∙ ap (λ o. o >>= λ s. Ok (s, drop 65 bytes)) c.in_ok-tree-in-1.ensures.made
 
 pub returns-in_ok-tree-in-2-clause-digests : goal.returns-in_ok-tree-in-2-clause-digests
 returns-in_ok-tree-in-2-clause-digests t c = λ h.

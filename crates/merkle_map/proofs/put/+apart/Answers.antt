@@ -24,7 +24,7 @@ returns-then-bit_of-clause-made g t c =
     answers_as _ _ _ _ (ap Ok (first-right c.args.level (entry_seen numbers c.args.own)
     (entry_seen numbers c.args.other)
     c.have_same_bit.ensures.within own (c.have_same_bit.ensures.other c.if-have_same_bit.false
-    ∙ ap not own))) c.fork-then-bit_of.ensures.made
+    ∙ ap not own))) c.two.ensures.made
 
 pub returns-else-bit_of-clause-made : goal.returns-else-bit_of-clause-made
 returns-else-bit_of-clause-made g t c =
@@ -32,7 +32,7 @@ returns-else-bit_of-clause-made g t c =
     let own = sym c.bit_of.ensures ∙ c.if-bit_of.false in
     answers_as _ _ _ _ (ap Ok (first-left c.args.level (entry_seen numbers c.args.own) (entry_seen numbers c.args.other)
     c.have_same_bit.ensures.within own (c.have_same_bit.ensures.other c.if-have_same_bit.false
-    ∙ ap not own))) c.fork-else-have_same_bit.ensures.made
+    ∙ ap not own))) c.two-else-have_same_bit.ensures.made
 
 pub returns-then-is_right-clause-made : goal.returns-then-is_right-clause-made
 returns-then-is_right-clause-made g t c =

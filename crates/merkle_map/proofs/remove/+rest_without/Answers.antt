@@ -10,14 +10,14 @@ use Rattle.merkle_map.proofs.remove.+rest_without.Goals as goal
 pub bit_of-requires : goal.bit_of-requires
 bit_of-requires g t c =
     let numbers = g.D.Numbered.numbers in
-    fork_within c.args.level c.args.key.now (shape numbers c.in-Fork.left.value) (shape numbers c.in-Fork.right.value)
+    fork_within c.args.level c.args.key.now (shape numbers c.in-Fork.sides.value.left) (shape numbers c.in-Fork.sides.value.right)
     (subst (λ p. StandsAt (way c.args.level c.args.key.now) (shape numbers p)) c.in-Fork.is c.requires)
 
 pub overflow_add-level-else-bit_of : goal.overflow_add-level-else-bit_of
 overflow_add-level-else-bit_of g t c =
     let numbers = g.D.Numbered.numbers in
-    let inside = fork_within c.args.level c.args.key.now (shape numbers c.in-Fork.left.value)
-    (shape numbers c.in-Fork.right.value)
+    let inside = fork_within c.args.level c.args.key.now (shape numbers c.in-Fork.sides.value.left)
+    (shape numbers c.in-Fork.sides.value.right)
     (subst (λ p. StandsAt (way c.args.level c.args.key.now) (shape numbers p)) c.in-Fork.is c.requires) in
     omega (arith, inside)
 
@@ -26,13 +26,13 @@ returns-then-bit_of g t c =
     let numbers = g.D.Numbered.numbers in
     let level = c.args.level in
     let key = c.args.key.now in
-    let left = shape numbers c.in-Fork.left.value in
-    let right = shape numbers c.in-Fork.right.value in
+    let left = shape numbers c.in-Fork.sides.value.left in
+    let right = shape numbers c.in-Fork.sides.value.right in
     c.rest_joined.ensures
     ∙ ap (λ r. rest_beside r c.rest_now.result) (c.rest_without.ensures
-    ∙ ap (λ p. rest_of (losing (level + 1) key (shape numbers p))) c.deref.ensures)
+    ∙ ap (λ s. rest_of (losing (level + 1) key (shape numbers s.right))) c.deref-in-Fork.ensures)
     ∙ ap (rest_beside (rest_of (losing (level + 1) key right))) (c.rest_now.ensures
-    ∙ ap (λ p. rest_of (Ok (shape numbers p))) c.deref-then-bit_of.ensures)
+    ∙ ap (λ s. rest_of (Ok (shape numbers s.left))) c.deref-in-Fork.ensures)
     ∙ sym (rest-right level key left right (sym c.bit_of.ensures ∙ c.if-bit_of.true))
     ∙ ap (λ p. rest_of (losing level key (shape numbers p))) (sym c.in-Fork.is)
 
@@ -41,12 +41,12 @@ returns-else-bit_of g t c =
     let numbers = g.D.Numbered.numbers in
     let level = c.args.level in
     let key = c.args.key.now in
-    let left = shape numbers c.in-Fork.left.value in
-    let right = shape numbers c.in-Fork.right.value in
+    let left = shape numbers c.in-Fork.sides.value.left in
+    let right = shape numbers c.in-Fork.sides.value.right in
     c.rest_joined-else-bit_of.ensures
     ∙ ap (λ r. rest_beside r c.rest_now-else-bit_of.result) (c.rest_without-else-bit_of.ensures
-    ∙ ap (λ p. rest_of (losing (level + 1) key (shape numbers p))) c.deref-else-bit_of.ensures)
+    ∙ ap (λ s. rest_of (losing (level + 1) key (shape numbers s.left))) c.deref-in-Fork.ensures)
     ∙ ap (rest_beside (rest_of (losing (level + 1) key left))) (c.rest_now-else-bit_of.ensures
-    ∙ ap (λ p. rest_of (Ok (shape numbers p))) c.deref-else-bit_of-2.ensures)
+    ∙ ap (λ s. rest_of (Ok (shape numbers s.right))) c.deref-in-Fork.ensures)
     ∙ sym (rest-left level key left right (sym c.bit_of.ensures ∙ c.if-bit_of.false))
     ∙ ap (λ p. rest_of (losing level key (shape numbers p))) (sym c.in-Fork.is)

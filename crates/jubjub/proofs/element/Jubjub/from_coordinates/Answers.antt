@@ -8,8 +8,8 @@ pub returns-then-not-is_neutral-clause-none : goal.returns-then-not-is_neutral-c
 returns-then-not-is_neutral-clause-none c =
     let a = coordinates_of c.args.x c.args.y in (
       λ e s.
-          let shows = order_shows a s.on_curve c.multiple.result (number c.order_of_subgroup.result) c.is_neutral.result
-          c.order_of_subgroup.ensures (c.multiple.ensures a s.on_curve c.lifted.ensures) c.is_neutral.ensures in
+          let shows = order_shows a s.on_curve c.multiple_public.result (number c.order_of_subgroup.result) c.is_neutral.result
+          c.order_of_subgroup.ensures (c.multiple_public.ensures a s.on_curve c.lifted.ensures) c.is_neutral.ensures in
           let yes = shows.1 s.of_order in
           let no = c.if-not-is_neutral.true in
           cc,
@@ -20,6 +20,6 @@ pub of-requires : goal.of-requires
 of-requires c =
     let a = coordinates_of c.args.x c.args.y in
     let on = c.is_on_curve.ensures.0 c.if-not-is_on_curve.false in
-    let shows = order_shows a on c.multiple.result (number c.order_of_subgroup.result) c.is_neutral.result
-    c.order_of_subgroup.ensures (c.multiple.ensures a on c.lifted.ensures) c.is_neutral.ensures in
+    let shows = order_shows a on c.multiple_public.result (number c.order_of_subgroup.result) c.is_neutral.result
+    c.order_of_subgroup.ensures (c.multiple_public.ensures a on c.lifted.ensures) c.is_neutral.ensures in
     record { on_curve = on; of_order = shows.0 c.if-not-is_neutral.false }

@@ -24,7 +24,7 @@ returns-then-is_neutral c =
     let a : Coordinates = record { x = x; y = value c.args.y } in
     sym (zero_over (value c.args.y) (from_bool c.args.odd) x on c.in_ok-x.ensures.parity
     ((c.is_neutral.ensures (times curve 8 a) (multiple_on_curve 8 a on)
-    (c.multiple-cleared.ensures a on c.lifted.ensures)).0 c.if-is_neutral.true))
+    (c.multiple_public-cleared.ensures a on c.lifted.ensures)).0 c.if-is_neutral.true))
 
 pub returns-then-not-is_neutral : goal.returns-then-not-is_neutral
 returns-then-not-is_neutral c =
@@ -33,11 +33,11 @@ returns-then-not-is_neutral c =
     let a : Coordinates = record { x = x; y = value c.args.y } in
     let b : Coordinates = times curve 8 a in
     let on_b = multiple_on_curve 8 a on in
-    let stands = c.multiple-cleared.ensures a on c.lifted.ensures in
+    let stands = c.multiple_public-cleared.ensures a on c.lifted.ensures in
     sym (outside_over (value c.args.y) (from_bool c.args.odd) x on c.in_ok-x.ensures.parity
     (unless c.is_neutral.result (c.is_neutral.ensures b on_b stands) c.if-is_neutral.false)
-    (λ s. unless c.is_neutral-2.result (order_shows b on_b c.multiple.result (number c.order_of_subgroup.result)
-    c.is_neutral-2.result c.order_of_subgroup.ensures (c.multiple.ensures b on_b stands) c.is_neutral-2.ensures)
+    (λ s. unless c.is_neutral-2.result (order_shows b on_b c.multiple_public.result (number c.order_of_subgroup.result)
+    c.is_neutral-2.result c.order_of_subgroup.ensures (c.multiple_public.ensures b on_b stands) c.is_neutral-2.ensures)
     c.if-not-is_neutral.true s.of_order))
 
 pub of_extended-requires : goal.of_extended-requires
@@ -47,12 +47,12 @@ of_extended-requires c =
     let a : Coordinates = record { x = x; y = value c.args.y } in
     let b : Coordinates = times curve 8 a in
     let on_b = multiple_on_curve 8 a on in
-    let stands = c.multiple-cleared.ensures a on c.lifted.ensures in (
+    let stands = c.multiple_public-cleared.ensures a on c.lifted.ensures in (
       b,
       record {
         on_curve = on_b;
-        of_order = (order_shows b on_b c.multiple.result (number c.order_of_subgroup.result)
-            c.is_neutral-2.result c.order_of_subgroup.ensures (c.multiple.ensures b on_b stands)
+        of_order = (order_shows b on_b c.multiple_public.result (number c.order_of_subgroup.result)
+            c.is_neutral-2.result c.order_of_subgroup.ensures (c.multiple_public.ensures b on_b stands)
             c.is_neutral-2.ensures).0 c.if-not-is_neutral.false;
       },
       stands,
@@ -65,11 +65,11 @@ returns c =
     let a : Coordinates = record { x = x; y = value c.args.y } in
     let b : Coordinates = times curve 8 a in
     let on_b = multiple_on_curve 8 a on in
-    let stands = c.multiple-cleared.ensures a on c.lifted.ensures in
+    let stands = c.multiple_public-cleared.ensures a on c.lifted.ensures in
     let s : IsInSubgroup b = record {
       on_curve = on_b;
-      of_order = (order_shows b on_b c.multiple.result (number c.order_of_subgroup.result)
-          c.is_neutral-2.result c.order_of_subgroup.ensures (c.multiple.ensures b on_b stands)
+      of_order = (order_shows b on_b c.multiple_public.result (number c.order_of_subgroup.result)
+          c.is_neutral-2.result c.order_of_subgroup.ensures (c.multiple_public.ensures b on_b stands)
           c.is_neutral-2.ensures).0 c.if-not-is_neutral.false;
     } in
     sym (found_over (value c.args.y) (from_bool c.args.odd) x on c.in_ok-x.ensures.parity

@@ -1,4 +1,5 @@
 use Rattle.std.proofs.Common.{◌≡◌, ◌+◌, ◌-◌, ◌*◌, ◌<◌, ◌≤◌, length, refl, ap, arith}
+use Rattle.ark_trees.specs.Rfc6962.{node_of}
 use Rattle.merkle_log.specs.Kept.{stored_front}
 use Rattle.merkle_log.specs.Stored.{stored_count}
 use Rattle.merkle_log.proofs.Appending.{Appending, appending-first, appending-fits, appending-next, appending-room, appending-end}
@@ -16,8 +17,8 @@ leaves-init g c = (
 )
 
 -- the first of a couple is appended
-first-stands : (g : _) (c : After-complete-made g) → Appending (stored_front (g.R.Rows.stored c.args.rows.now)) c.args.size
-    c.args.digests.now c.args.more.now c.complete-made.new.more (c.leaves.place + 2 * c.couples.couple + 1)
+first-stands : (g : _) (c : After-complete-made g) → Appending node_of (stored_front (g.R.Rows.stored c.args.rows.now))
+    c.args.size c.args.digests.now c.args.more.now c.complete-made.new.more (c.leaves.place + 2 * c.couples.couple + 1)
     c.complete-made.result
 first-stands g c =
     let long = front-long _ c.args.size c.requires.size c.requires.stored in

@@ -1,11 +1,12 @@
 use Rattle.std.proofs.Common.{◌+◌, ◌-◌, ◌*◌, ◌≤◌, length}
+use Rattle.ark_trees.specs.Rfc6962.{node_of}
 use Rattle.merkle_log.specs.Kept.{stored_front}
 use Rattle.merkle_log.proofs.Appending.{Appending}
 use Rattle.merkle_log.proofs.kept.growth.append_over.Given as goal
 
 abbrev pub invariant-leaves : goal.invariant-leaves
 invariant-leaves g l =
-    (Appending (stored_front (g.R.Rows.stored l.rows)) l.size l.digests l.fn.more l.more l.place l.made)
+    (Appending node_of (stored_front (g.R.Rows.stored l.rows)) l.size l.digests l.fn.more l.more l.place l.made)
     × (l.place ≤ length l.digests)
 
 abbrev pub decreases-leaves : goal.decreases-leaves
@@ -13,5 +14,5 @@ decreases-leaves g l = length l.digests - l.place
 
 abbrev pub invariant-couples : goal.invariant-couples
 invariant-couples g l =
-    Appending (stored_front (g.R.Rows.stored l.rows)) l.size l.digests l.fn.more l.more (l.place + 2 * l.couple)
-    l.made
+    Appending node_of (stored_front (g.R.Rows.stored l.rows)) l.size l.digests l.fn.more l.more
+    (l.place + 2 * l.couple) l.made

@@ -1,5 +1,5 @@
 use Rattle.std.proofs.Common.{◌-◌, ap, ◌∙◌, Ok, sym, arith}
-use Rattle.ark_trees.specs.Rfc6962.{node_hash}
+use Rattle.ark_trees.specs.Rfc6962.{node_hash, node_of}
 use Rattle.merkle_log.specs.Kept.{stored_front}
 use Rattle.merkle_log.proofs.Asking.{peak-here-at}
 use Rattle.merkle_log.proofs.KeptRows.{front-long, up-rises}
@@ -14,13 +14,15 @@ pub put-requires-in-Some : goal.put-requires-in-Some
 put-requires-in-Some g c =
     let long = front-long _ c.args.first c.requires.size c.requires.stored in
     let known = rw (c.in-Some.is) at c.requires.known in
-    making-room {kept = stored_front (g.R.Rows.stored c.args.rows.now)} (making-first c.put.ensures.front c.put.ensures.behind c.put.ensures.same)
+    making-room {hash = node_of} {kept = stored_front (g.R.Rows.stored c.args.rows.now)}
+    (making-first c.put.ensures.front c.put.ensures.behind c.put.ensures.same)
     (omega (arith, c.requires.whole, long)) c.requires.fits (omega (arith, c.requires.room, long)) known.0
 
 pub odd-init : goal.odd-init
 odd-init g c =
     let long = front-long _ c.args.first c.requires.size c.requires.stored in
-    let first = making-first {kept = stored_front (g.R.Rows.stored c.args.rows.now)} c.put.ensures.front
+    let first = making-first {hash = node_of} {kept = stored_front (g.R.Rows.stored c.args.rows.now)}
+    c.put.ensures.front
     c.put.ensures.behind c.put.ensures.same in
     elim c.match-parent.branch [
       | in-Some w ↦

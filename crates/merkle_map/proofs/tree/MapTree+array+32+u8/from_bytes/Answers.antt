@@ -3,17 +3,17 @@ use Rattle.merkle_map.specs.Parts.{shape}
 use Rattle.merkle_map.proofs.Reading.{reads-back, bytes-spelled, bytes-stand}
 use Rattle.merkle_map.proofs.tree.MapTree+array+32+u8.from_bytes.Goals as goal
 
-pub returns-in_err-top-clause-reads : goal.returns-in_err-top-clause-reads
-returns-in_err-top-clause-reads c = reads-back c.args.bytes.now
+pub returns-in_err-part-clause-reads : goal.returns-in_err-part-clause-reads
+returns-in_err-part-clause-reads c = reads-back c.args.bytes.now
 
 pub returns-clause-reads : goal.returns-clause-reads
 returns-clause-reads c = reads-back c.args.bytes.now
 
 pub invariant_of-result : goal.invariant_of-result
 invariant_of-result c = (
-  bytes-stand c.args.bytes.now (shape itself c.in_ok-top.top) c.in_ok-top.ensures.sized c.in_ok-top.ensures.answer,
-  c.in_ok-top.ensures.digests,
+  bytes-stand c.args.bytes.now (shape itself c.in_ok-part.part) c.in_ok-part.ensures.sized c.in_ok-part.ensures.answer,
+  c.in_ok-part.ensures.digests,
 )
 
 pub returns-clause-only : goal.returns-clause-only
-returns-clause-only c = bytes-spelled c.args.bytes.now (shape itself c.in_ok-top.top) c.in_ok-top.ensures.answer
+returns-clause-only c = bytes-spelled c.args.bytes.now (shape itself c.in_ok-part.part) c.in_ok-part.ensures.answer

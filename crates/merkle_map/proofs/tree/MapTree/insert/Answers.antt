@@ -3,7 +3,7 @@ use Rattle.merkle_map.specs.Changes.{entry_of, with_value}
 use Rattle.merkle_map.specs.Whole.{Stores}
 use Rattle.merkle_map.proofs.Wholes.{stores, put-can}
 use Rattle.merkle_map.specs.Map.{put}
-use Rattle.merkle_map.specs.Parts.{shape}
+use Rattle.merkle_map.specs.Parts.{top_shape}
 use Rattle.merkle_map.specs.Shown.{Follows}
 use Rattle.merkle_map.proofs.Calls.{put-stands, put-follows}
 use Rattle.merkle_map.proofs.tree.MapTree.insert.Goals as goal
@@ -12,28 +12,28 @@ pub invariant_of-self : goal.invariant_of-self
 invariant_of-self g c =
     let numbers = g.D.Numbered.numbers in (
       put-stands (entry_of c.args.key.now (numbers c.args.value)) (c.told-key, c.fits-key)
-          (shape numbers c.self.inside.top)
-          (shape numbers c.put_in.new.part) c.self.invariant.0 c.put_in.result c.put_in.ensures.changed c.put_in.ensures.kept,
-      λ h. c.put_in.ensures.digests h (c.self.invariant.1 h),
+          (top_shape numbers c.self.inside.top)
+          (top_shape numbers c.put_top.new.top) c.self.invariant.0 c.put_top.result c.put_top.ensures.changed c.put_top.ensures.kept,
+      λ h. c.put_top.ensures.digests h (c.self.invariant.1 h),
     )
 
 pub returns-clause-maps : goal.returns-clause-maps
 returns-clause-maps g c =
     let numbers = g.D.Numbered.numbers in
-    let new = shape numbers c.put_in.new.part in
-    subst (λ old. OnOk c.put_in.result (Follows (put c.args.key.now (numbers c.args.value)) old new)) c.self.view_is
+    let new = top_shape numbers c.put_top.new.top in
+    subst (λ old. OnOk c.put_top.result (Follows (put c.args.key.now (numbers c.args.value)) old new)) c.self.view_is
     (put-follows (entry_of c.args.key.now (numbers c.args.value)) (c.told-key, c.fits-key)
-    (shape numbers c.self.inside.top) new
-    c.self.invariant.0 c.put_in.result c.put_in.ensures.changed)
+    (top_shape numbers c.self.inside.top) new
+    c.self.invariant.0 c.put_top.result c.put_top.ensures.changed)
 
 pub returns-clause-store : goal.returns-clause-store
 returns-clause-store g c =
     let numbers = g.D.Numbered.numbers in
     let own = entry_of c.args.key.now (numbers c.args.value) in
-    let old = shape numbers c.self.inside.top in
-    let new = shape numbers c.put_in.new.part in
-    subst (λ s. Stores (put c.args.key.now (numbers c.args.value)) s new c.put_in.result) c.self.view_is
+    let old = top_shape numbers c.self.inside.top in
+    let new = top_shape numbers c.put_top.new.top in
+    subst (λ s. Stores (put c.args.key.now (numbers c.args.value)) s new c.put_top.result) c.self.view_is
     (stores (put c.args.key.now (numbers c.args.value)) old new c.self.invariant.0 (invariant_of-self g c).0
     (with_value 0 own old)
-    c.put_in.result (put-can own old) c.put_in.ensures.changed
-    (put-follows own (c.told-key, c.fits-key) old new c.self.invariant.0 c.put_in.result c.put_in.ensures.changed))
+    c.put_top.result (put-can own old) c.put_top.ensures.changed
+    (put-follows own (c.told-key, c.fits-key) old new c.self.invariant.0 c.put_top.result c.put_top.ensures.changed))

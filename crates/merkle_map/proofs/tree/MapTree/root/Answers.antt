@@ -1,12 +1,12 @@
 use Rattle.std.proofs.Common.{subst}
-use Rattle.merkle_map.specs.Parts.{shape}
+use Rattle.merkle_map.specs.Parts.{top_shape}
 use Rattle.merkle_map.specs.Whole.{IsRootOf}
 use Rattle.merkle_map.proofs.Wholes.{root-of-store}
 use Rattle.merkle_map.proofs.Shows.{shows-digest}
 use Rattle.merkle_map.proofs.tree.MapTree.root.Goals as goal
 
-pub digest_of-requires : goal.digest_of-requires
-digest_of-requires g c = c.self.invariant.1 (g.T.MapHasher.hashes c.args.hasher.now)
+pub digest_of_top-requires : goal.digest_of_top-requires
+digest_of_top-requires g c = c.self.invariant.1 (g.T.MapHasher.hashes c.args.hasher.now)
 
 pub returns-clause-maps : goal.returns-clause-maps
 returns-clause-maps g c =
@@ -15,4 +15,4 @@ returns-clause-maps g c =
 pub returns-clause-store : goal.returns-clause-store
 returns-clause-store g c =
     let h = g.T.MapHasher.hashes c.args.hasher.now in
-    subst (IsRootOf h) c.self.view_is (root-of-store h (shape g.D.Numbered.numbers c.self.inside.top) c.self.invariant.0)
+    subst (IsRootOf h) c.self.view_is (root-of-store h (top_shape g.D.Numbered.numbers c.self.inside.top) c.self.invariant.0)

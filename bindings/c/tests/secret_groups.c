@@ -1,0 +1,77 @@
+/* One call over Jubjub with its secrets marked as undefined, as secrets.c has those of the library.
+
+   usage: secret_groups CALL */
+#include <stdint.h>
+#include <stdio.h>
+#include <string.h>
+#include <valgrind/memcheck.h>
+
+#define SECRET(of) (void)VALGRIND_MAKE_MEM_UNDEFINED(&(of), sizeof(of))
+#define PUBLIC(of) (void)VALGRIND_MAKE_MEM_DEFINED(&(of), sizeof(of))
+
+/* crates/secret_calls */
+void secret_key(uint8_t key[64], const uint8_t secret[32]);
+void secret_response(uint8_t response[32], const uint8_t nonce[32], const uint8_t secret[32], const uint8_t challenge[32]);
+void secret_encrypted(uint8_t part[64], const uint8_t randomness[32]);
+void secret_decrypted(uint8_t message[64], const uint8_t secret[32]);
+
+static const uint8_t ONE[32] = {1};
+
+/* Whether a call gives one answer for a small scalar in bytes that are undefined and in bytes that are not. */
+static int same(void (*call)(uint8_t out[64], const uint8_t scalar[32]), uint8_t lowest, uint8_t highest) {
+    uint8_t open[64], hidden[64], scalar[32] = {0};
+    scalar[0] = lowest;
+    scalar[31] = highest;
+    call(open, scalar);
+    SECRET(scalar);
+    call(hidden, scalar);
+    PUBLIC(hidden);
+    return memcmp(open, hidden, 64) == 0;
+}
+
+static int key(void) { return same(secret_key, 7, 0) && same(secret_key, 255, 14); }
+static int encrypted(void) { return same(secret_encrypted, 7, 0) && same(secret_encrypted, 255, 14); }
+static int decrypted(void) { return same(secret_decrypted, 7, 0) && same(secret_decrypted, 255, 14); }
+
+/* 9 - 2 3 = 3 */
+static int response(void) {
+    uint8_t nonce[32] = {9}, secret[32] = {2}, challenge[32] = {3}, answer[32], three[32] = {3};
+    SECRET(nonce);
+    SECRET(secret);
+    secret_response(answer, nonce, secret, challenge);
+    PUBLIC(answer);
+    return memcmp(answer, three, 32) == 0;
+}
+
+/* 1 times the generator, and a branch on the first byte of a secret key. */
+static int planted_branch(void) {
+    uint8_t secret[32], out[64];
+    memcpy(secret, ONE, 32);
+    SECRET(secret);
+    if (secret[0] & 1)
+        secret[1] ^= 1;
+    secret_key(out, secret);
+    return 1;
+}
+
+static const struct {
+    const char *name;
+    int (*call)(void);
+} CALLS[] = {
+    {"key", key},
+    {"response", response},
+    {"encrypted", encrypted},
+    {"decrypted", decrypted},
+    {"planted_branch", planted_branch},
+};
+
+int main(int argc, char **argv) {
+    size_t i;
+    for (i = 0; i < sizeof(CALLS) / sizeof(CALLS[0]); i++) {
+        if (argc == 1)
+            puts(CALLS[i].name);
+        else if (strcmp(argv[1], CALLS[i].name) == 0)
+            return CALLS[i].call() ? 0 : 1;
+    }
+    return argc == 1 ? 0 : 2;
+}

@@ -1,0 +1,3 @@
+from paxidore import poseidon
+
+print("%064x" % poseidon.hash([1, 2]))

@@ -1,0 +1,173 @@
+"""The nodes of a map in a database of SQLite, and the bytes of the trees that the library takes."""
+import contextlib
+import ctypes
+import io
+import os
+import pathlib
+import sqlite3
+from typing import Dict, Iterator, List, Optional, Sequence, Tuple
+
+from ._library import DIGEST_BYTES, _bytes, _call, _refusal, _size
+
+_map_root = _call("map_root", ctypes.c_int32, ctypes.c_void_p, _bytes, _size)
+
+# the bytes of a tree's parts
+_EMPTY, _ENTRY, _FORK, _HIDDEN = b"\0", b"\1", b"\2", b"\3"
+
+# what the file of a map says that it is: "PxMp", and the version of its tables
+_APPLICATION = 0x50784D70
+_TABLES = 1
+
+
+class DamagedMap(ValueError):
+    """The file is no map's, or a node of the map is not there or is another than its digest says."""
+
+
+def _root_of(tree: bytes) -> bytes:
+    root = ctypes.create_string_buffer(DIGEST_BYTES)
+    answer = _map_root(root, tree, len(tree))
+    if answer != 0:
+        raise _refusal(answer)
+    return root.raw
+
+
+_NOTHING = _root_of(_EMPTY)
+
+
+def _has_bit(key: bytes, level: int) -> bool:
+    return bool(key[level >> 3] >> (7 - (level & 7)) & 1)
+
+
+class _Store:
+    """The nodes of a map and the roots of its versions, in a database of SQLite."""
+
+    def __init__(self, path: "Optional[os.PathLike[str] | str]", read_only: bool, wait: float, versions: Optional[int]) -> None:
+        self.process = os.getpid()
+        self.read_only = read_only
+        self.versions = versions
+        if path is None:
+            name, is_name = ":memory:", False
+        else:
+            name, is_name = pathlib.Path(os.path.abspath(path)).as_uri() + ("?mode=ro" if read_only else "?mode=rwc"), True
+        self.base = sqlite3.connect(name, timeout=wait, isolation_level=None, check_same_thread=False, uri=is_name)
+        try:
+            if read_only:
+                self.look()
+            else:
+                self.make()
+        except BaseException:
+            self.base.close()
+            raise
+
+    def make(self) -> None:
+        # readers go on while a change is written, and a change that was cut off leaves nothing
+        self.base.execute("PRAGMA journal_mode = WAL")
+        self.base.execute("PRAGMA synchronous = FULL")
+        with self.change():
+            if self.base.execute("SELECT count(*) FROM sqlite_master").fetchone()[0] == 0:
+                self.base.execute("PRAGMA application_id = %d" % _APPLICATION)
+                self.base.execute("PRAGMA user_version = %d" % _TABLES)
+                # a node by its digest, and from which version on it is no longer in the map
+                self.base.execute("CREATE TABLE node (digest BLOB PRIMARY KEY, bytes BLOB NOT NULL, gone INTEGER) WITHOUT ROWID")
+                self.base.execute("CREATE INDEX node_gone ON node (gone) WHERE gone IS NOT NULL")
+                self.base.execute("CREATE TABLE version (number INTEGER PRIMARY KEY, root BLOB NOT NULL, entries INTEGER NOT NULL)")
+                self.base.execute("INSERT INTO version VALUES (0, ?, 0)", (_NOTHING,))
+            self.look()
+
+    def look(self) -> None:
+        if self.base.execute("PRAGMA application_id").fetchone()[0] != _APPLICATION:
+            raise DamagedMap("the file is no map's")
+        if self.base.execute("PRAGMA user_version").fetchone()[0] != _TABLES:
+            raise DamagedMap("the file is of another version of this module")
+
+    @contextlib.contextmanager
+    def change(self) -> Iterator[None]:
+        """What is done within is done whole or not at all."""
+        if self.read_only:
+            raise io.UnsupportedOperation("the map is open for reading only")
+        self.base.execute("BEGIN IMMEDIATE")
+        try:
+            yield
+        except BaseException:
+            self.base.execute("ROLLBACK")
+            raise
+        self.base.execute("COMMIT")
+
+    @contextlib.contextmanager
+    def look_up(self) -> Iterator[None]:
+        """What is read within is of one moment."""
+        if self.base.in_transaction:
+            yield
+            return
+        self.base.execute("BEGIN")
+        try:
+            yield
+        finally:
+            self.base.execute("COMMIT")
+
+    def head(self, number: Optional[int]) -> Tuple[int, bytes, int]:
+        """The number, the root and the count of entries of a version, the newest where none is given."""
+        if number is None:
+            row = self.base.execute("SELECT number, root, entries FROM version ORDER BY number DESC LIMIT 1").fetchone()
+        else:
+            row = self.base.execute("SELECT number, root, entries FROM version WHERE number = ?", (number,)).fetchone()
+            if row is None:
+                raise KeyError("version %d is not kept" % number)
+        if row is None or type(row[1]) is not bytes or len(row[1]) != DIGEST_BYTES:
+            raise DamagedMap("the map states no root")
+        return row
+
+    def node(self, digest: bytes) -> bytes:
+        row = self.base.execute("SELECT bytes FROM node WHERE digest = ?", (digest,)).fetchone()
+        if row is None or type(row[0]) is not bytes or len(row[0]) != 65 or row[0][0] > 1:
+            raise DamagedMap("a node of the map is not there")
+        node: bytes = row[0]
+        return node
+
+    def tree(self, root: bytes, keys: Sequence[bytes], removed: "frozenset[bytes]") -> Tuple[bytes, Dict[bytes, bytes]]:
+        """The bytes of the tree that shows the ways of keys, and the tops of what is beside those of removed ones; and its nodes."""
+        tree, met = bytearray(), {}
+        parts: List[Tuple[bytes, int, Sequence[bytes], bool]] = [(root, 0, keys, True)]
+        while parts:
+            digest, level, own, is_shown = parts.pop()
+            if digest == _NOTHING:
+                tree += _EMPTY
+                continue
+            if not is_shown:
+                tree += _HIDDEN + digest
+                continue
+            node = met[digest] = self.node(digest)
+            if node[0] == 0:
+                tree += _ENTRY + node[1:]
+                continue
+            if level == 256:
+                raise DamagedMap("a way of the map has no end")
+            tree += _FORK
+            left = [key for key in own if not _has_bit(key, level)]
+            right = [key for key in own if _has_bit(key, level)]
+            # beside the way of a key that is removed the top is shown
+            show_left = bool(left) or not removed.isdisjoint(right)
+            show_right = bool(right) or not removed.isdisjoint(left)
+            parts.append((node[33:], level + 1, right, show_right))
+            parts.append((node[1:33], level + 1, left, show_left))
+        return bytes(tree), met
+
+    def put(self, number: int, root: bytes, entries: int, new: Dict[bytes, bytes], old: Dict[bytes, bytes]) -> None:
+        """Writes a version: its nodes that it has in the place of old ones."""
+        added = ((digest, node) for digest, node in new.items() if digest not in old)
+        gone = [digest for digest in old if digest not in new]
+        # a node of a version before may come back
+        self.base.executemany(
+            "INSERT INTO node (digest, bytes) VALUES (?, ?) ON CONFLICT (digest) DO UPDATE SET gone = NULL", added
+        )
+        if self.versions == 1:
+            self.base.executemany("DELETE FROM node WHERE digest = ?", ((digest,) for digest in gone))
+        else:
+            self.base.executemany("UPDATE node SET gone = ? WHERE digest = ?", ((number, digest) for digest in gone))
+        self.base.execute("INSERT INTO version VALUES (?, ?, ?)", (number, root, entries))
+        if self.versions is not None:
+            self.forget(number - self.versions + 1)
+
+    def forget(self, number: int) -> None:
+        self.base.execute("DELETE FROM version WHERE number < ?", (number,))
+        self.base.execute("DELETE FROM node WHERE gone <= ?", (number,))

@@ -1,0 +1,358 @@
+"""Maps with one root, for whoever keeps one and for clients. ``paxidore.Map`` is the class of this module."""
+import contextlib
+import ctypes
+import os
+import sqlite3
+from typing import Any, Dict, Iterable, Iterator, Mapping, MutableMapping, Optional, Tuple
+
+from ._library import DIGEST_BYTES, _bytes, _call, _digest, _int, _refusal, _size, _sizes
+from ._nodes import _ENTRY, _FORK, _HIDDEN, _NOTHING, DamagedMap, _root_of, _Store
+from ._turn import Turn
+
+_map_verify = _call("map_verify", ctypes.c_int32, _bytes, _bytes, _bytes, _bytes, _size)
+_map_verify_absent = _call("map_verify_absent", ctypes.c_int32, _bytes, _bytes, _bytes, _size)
+_map_prove = _call("map_prove", ctypes.c_int32, ctypes.c_void_p, _size, _sizes, _bytes, _size, _bytes)
+# bytes, keys or values with their count
+_run = (_bytes, _size)
+_map_change = _call("map_change", ctypes.c_int32, ctypes.c_void_p, ctypes.c_void_p, _size, _sizes, _bytes, *_run, *_run, *_run)
+
+# as the header has them
+_PROOF_BYTES = 3 + 64 + 32 + 256 * 32
+_ROW_BYTES = 97
+_ROOM = -9
+
+
+class _Changes:
+    """Changes as the library takes them: the keys that get a value, with these, and behind them those that are removed."""
+
+    def __init__(self, changes: Mapping[bytes, Optional[bytes]]) -> None:
+        put = {_digest(key, "key"): _digest(value, "value") for key, value in changes.items() if value is not None}
+        self.removed = frozenset(_digest(key, "key") for key, value in changes.items() if value is None)
+        self.keys = [*put, *self.removed]
+        self.count = len(put)
+        self.flat_keys, self.flat_values = b"".join(self.keys), b"".join(put.values())
+
+    def make(self, root: bytes, tree: bytes) -> Tuple[int, bytes, bytes]:
+        """The answer of the library, the new root and the rows of the new tree."""
+        new_root, count = ctypes.create_string_buffer(DIGEST_BYTES), _size()
+        # each value may part two keys that share some bits; the library says where that is not enough
+        room = _ROW_BYTES * (len(tree) // 33 + 4 * self.count + 8)
+        while True:
+            rows = ctypes.create_string_buffer(room)
+            answer = _map_change(
+                new_root, rows, room, ctypes.byref(count), root, tree, len(tree),
+                self.flat_keys, len(self.keys), self.flat_values, self.count,
+            )  # fmt: skip
+            if answer != _ROOM:
+                return answer, new_root.raw, ctypes.string_at(rows, count.value) if answer == 0 else b""
+            room = count.value
+
+
+class MapVersion(Mapping[bytes, bytes]):
+    """A version of a map, as ``Map.at`` returns it: what it has, its root, and proofs of what it has and has not."""
+
+    def __init__(self, store: _Store, turn: Turn, number: Optional[int]) -> None:
+        self._store: Optional[_Store] = store
+        self._turn = turn
+        self._number = number
+
+    def _open(self) -> _Store:
+        if self._store is None:
+            raise ValueError("the map is closed")
+        if self._store.process != os.getpid():
+            raise ValueError("a forked process does not have the map of its parent")
+        return self._store
+
+    def _head(self) -> Tuple[int, bytes, int]:
+        with self._turn:
+            return self._open().head(self._number)
+
+    @property
+    def root(self) -> bytes:
+        """The root: 32 bytes."""
+        return self._head()[1]
+
+    @property
+    def version(self) -> int:
+        """The number of the version: how many changes there were before it."""
+        return self._head()[0]
+
+    def __len__(self) -> int:
+        return self._head()[2]
+
+    def _shown(self, key: bytes) -> Tuple[Optional[bytes], bytes]:
+        """What the map has at a key, and the bytes of the proof, which were checked."""
+        _digest(key, "key")
+        with self._turn:
+            store = self._open()
+            with store.look_up():
+                root = store.head(self._number)[1]
+                tree, met = store.tree(root, (key,), frozenset())
+        proof, count = ctypes.create_string_buffer(_PROOF_BYTES), _size()
+        answer = _map_prove(proof, _PROOF_BYTES, ctypes.byref(count), tree, len(tree), key)
+        if answer != 0:
+            raise _damage(answer)
+        shown = ctypes.string_at(proof, count.value)
+        value = next((node[33:] for node in met.values() if node[0] == 0 and node[1:33] == key), None)
+        if not Map.verify(root, key, value, shown):
+            raise DamagedMap("a node of the map is not the one that was stored")
+        return value, shown
+
+    def prove(self, key: bytes) -> bytes:
+        """The bytes of the proof of what the map has at the key, a value or nothing, for ``Map.verify``."""
+        return self._shown(key)[1]
+
+    def __getitem__(self, key: bytes) -> bytes:
+        value = self._shown(key)[0]
+        if value is None:
+            raise KeyError(key)
+        return value
+
+    def __contains__(self, key: object) -> bool:
+        return isinstance(key, bytes) and self._shown(key)[0] is not None
+
+    def _entries(self) -> Iterator[Tuple[bytes, bytes]]:
+        """The entries by rising keys, each node checked."""
+        parts = [(self.root, 0)]
+        while parts:
+            digest, level = parts.pop()
+            if digest == _NOTHING:
+                continue
+            with self._turn:
+                node = self._open().node(digest)
+            part = _ENTRY + node[1:] if node[0] == 0 else _FORK + _HIDDEN + node[1:33] + _HIDDEN + node[33:]
+            if _root_of(part) != digest or level > 256:
+                raise DamagedMap("a node of the map is not the one that was stored")
+            if node[0] == 0:
+                yield node[1:33], node[33:]
+            else:
+                parts += [(node[33:], level + 1), (node[1:33], level + 1)]
+
+    def __iter__(self) -> Iterator[bytes]:
+        """The keys, rising. The map is not to change meanwhile."""
+        return (key for key, _ in self._entries())
+
+    def check(self) -> None:
+        """Reads all nodes, and raises ``DamagedMap`` where one is not the one that was stored, or the count of entries is another."""
+        if sum(1 for _ in self._entries()) != len(self):
+            raise DamagedMap("the map states another count of entries")
+
+    def __repr__(self) -> str:
+        if self._store is None:
+            return "<paxidore.%s, closed>" % type(self).__name__
+        return "<paxidore.%s of %d entries>" % (type(self).__name__, len(self))
+
+    def __reduce__(self) -> str:
+        raise TypeError("a map is neither copied nor pickled")
+
+
+def _damage(answer: int) -> Exception:
+    # the library refuses a tree of nodes that are not the map's own, or memory
+    refused = _refusal(answer)
+    if isinstance(refused, MemoryError):
+        return refused
+    return DamagedMap("a node of the map is not the one that was stored (%s)" % refused)
+
+
+class Map(MapVersion, MutableMapping[bytes, bytes]):
+    """A map with one root, like a dict of keys of 32 bytes with values of 32 bytes, with proofs of what it has and has not.
+
+    ``Map()`` keeps its nodes in memory, ``Map.open(path)`` in a file of SQLite. Hash other values first. Keys should be hashes: whoever
+    chooses keys can make a neighbour's proof longer. ``map.root`` is the same for each map with these entries, whatever the order of
+    changes. ``map.prove(key)`` gives a proof of a value or of nothing, and ``Map.verify`` checks it for a client.
+
+    Each change is written whole or not at all, and makes a new version; ``update`` and ``batch`` make many changes one. What is read is
+    checked against the root. Threads may share a map: its calls run one after the other. A forked process does not have the map of its
+    parent: there each call raises ``ValueError``.
+    """
+
+    def __init__(self) -> None:
+        super().__init__(_Store(None, False, 0, 1), Turn(), None)
+        self._batch: Optional[Dict[bytes, Optional[bytes]]] = None
+
+    @classmethod
+    def open(
+        cls,
+        path: "os.PathLike[str] | str",
+        *,
+        read_only: bool = False,
+        wait: float = 5,
+        versions: Optional[int] = 1,
+        root: Optional[bytes] = None,
+    ) -> "Map":
+        """The map that a file keeps; a new one where there is no such file.
+
+        The map is as after the last change that returned, or also has the one that was under way. The newest ``versions`` are kept for
+        ``at``, all where that is None. A map that is open for reading only sees what its keeper changes; it has to be there. A change
+        waits for at most so many seconds while another process makes one. Where a root is given, it is to be the map's.
+
+        Raises ``DamagedMap``, which is ``ValueError``, where the file is no map's, the node of its root is damaged, or it has another
+        root; ``sqlite3.Error``.
+        """
+        if versions is not None and _int("versions", versions) < 1:
+            raise ValueError("versions is 1 or more")
+        self = cls.__new__(cls)
+        try:
+            MapVersion.__init__(self, _Store(path, read_only, wait, versions), Turn(), None)
+        except sqlite3.DatabaseError as error:
+            if isinstance(error, sqlite3.OperationalError):
+                raise
+            raise DamagedMap("the file is no map's (%s)" % error) from None
+        self._batch = None
+        try:
+            stated = self.root
+            if root is not None and stated != _digest(root):
+                raise DamagedMap("the map has another root")
+            if stated != _NOTHING:
+                self._shown(bytes(DIGEST_BYTES))
+        except BaseException:
+            self.close()
+            raise
+        return self
+
+    def close(self) -> None:
+        """Closes the file. The map cannot be used any more. A second call does nothing."""
+        with self._turn:
+            if self._store is not None and self._store.process == os.getpid():
+                self._store.base.close()
+            self._store = None
+
+    def __enter__(self) -> "Map":
+        return self
+
+    def __exit__(self, *error: object) -> None:
+        self.close()
+
+    @staticmethod
+    def verify(root: bytes, key: bytes, value: Optional[bytes], proof: bytes) -> bool:
+        """Whether the bytes of a proof show that the map with this root has this at the key: a value, or nothing where it is None.
+
+        Where it returns True, every map with this root has this at the key, or two different nodes with one SHA-256 are at hand. Raises
+        ``TruncatedProof`` and ``InvalidProof``, which are ``ValueError``, for bytes that are no proof; ``OutOfMemory``.
+        """
+        _digest(root), _digest(key, "key")
+        if type(proof) is not bytes:
+            raise TypeError("proof is bytes, not %s" % type(proof).__name__)
+        if value is None:
+            answer = _map_verify_absent(root, key, proof, len(proof))
+        else:
+            answer = _map_verify(root, key, _digest(value, "value"), proof, len(proof))
+        if answer < 0:
+            raise _refusal(answer)
+        return bool(answer == 0)
+
+    def at(self, version: int) -> MapVersion:
+        """A version that is kept. Raises ``KeyError`` where it is not."""
+        with self._turn:
+            store = self._open()
+            store.head(_int("version", version))
+        return MapVersion(store, self._turn, version)
+
+    def forget(self, version: int) -> None:
+        """Removes the versions before this one, but not the newest."""
+        with self._turn:
+            store = self._open()
+            with store.change():
+                store.forget(min(_int("version", version), store.head(None)[0]))
+
+    def _change(self, changes: Mapping[bytes, Optional[bytes]]) -> None:
+        """Makes changes in one step: a key gets its value, or is removed where that is None."""
+        asked = _Changes(changes)
+        if not asked.keys:
+            return
+        with self._turn:
+            store = self._open()
+            with store.change():
+                number, root, entries = store.head(None)
+                tree, old = store.tree(root, asked.keys, asked.removed)
+                answer, new_root, made = asked.make(root, tree)
+                if answer != 0:
+                    raise DamagedMap("a node of the map is not the one that was stored") if answer == 1 else _damage(answer)
+                new = {made[i : i + 32]: made[i + 32 : i + 97] for i in range(0, len(made), _ROW_BYTES)}
+                if new_root != root:
+                    entries += sum(node[0] == 0 for node in new.values()) - sum(node[0] == 0 for node in old.values())
+                    store.put(number + 1, new_root, entries, new, old)
+
+    def witness(self, changes: Mapping[bytes, Optional[bytes]]) -> bytes:
+        """The bytes of the tree that shows what changes need, from which ``Map.changed_root`` follows them without the map: a key gets
+        its value, or is removed where that is None."""
+        asked = _Changes(changes)
+        with self._turn:
+            store = self._open()
+            with store.look_up():
+                return store.tree(store.head(None)[1], asked.keys, asked.removed)[0]
+
+    @staticmethod
+    def changed_root(root: bytes, changes: Mapping[bytes, Optional[bytes]], witness: bytes) -> Optional[bytes]:
+        """The root after changes of the map with this root, by a witness of them; None where the witness has another root.
+
+        Each map with the old root has the new one after the changes, or two different nodes with one SHA-256 are at hand. Raises
+        ``TruncatedProof`` and ``InvalidProof`` for bytes that are no witness, ``HiddenTree`` for one that hides what the changes need,
+        all ``ValueError``; ``OutOfMemory``.
+        """
+        if type(witness) is not bytes:
+            raise TypeError("witness is bytes, not %s" % type(witness).__name__)
+        answer, new_root, _ = _Changes(changes).make(_digest(root), witness)
+        if answer < 0:
+            raise _refusal(answer)
+        return new_root if answer == 0 else None
+
+    def _set(self, changes: Mapping[bytes, Optional[bytes]]) -> None:
+        if self._batch is None:
+            self._change(changes)
+        else:
+            _Changes(changes)
+            self._batch.update(changes)
+
+    @contextlib.contextmanager
+    def batch(self) -> Iterator["Map"]:
+        """Makes all changes within one: they are written together at its end, or not at all where it ends by an exception.
+
+        ``map[key]`` and ``key in map`` see them before; the root, proofs, the length and iteration do not.
+        """
+        if self._batch is not None:
+            raise RuntimeError("the map is in a batch already")
+        self._batch = {}
+        try:
+            yield self
+            changes, self._batch = self._batch, None
+            self._change(changes)
+        finally:
+            self._batch = None
+
+    def __getitem__(self, key: bytes) -> bytes:
+        if self._batch is not None and key in self._batch:
+            value = self._batch[key]
+            if value is None:
+                raise KeyError(key)
+            return value
+        return super().__getitem__(key)
+
+    def __contains__(self, key: object) -> bool:
+        if self._batch is not None and key in self._batch:
+            return self._batch[key] is not None  # type: ignore[index]
+        return super().__contains__(key)
+
+    def __setitem__(self, key: bytes, value: bytes) -> None:
+        _digest(value, "value")
+        self._set({key: value})
+
+    def __delitem__(self, key: bytes) -> None:
+        if key not in self:
+            raise KeyError(key)
+        self._set({key: None})
+
+    def update(self, *others: Any, **more: Any) -> None:
+        """Puts many values in one change."""
+        changes: Dict[bytes, Optional[bytes]] = dict(*others, **more)
+        for value in changes.values():
+            _digest(value, "value")  # type: ignore[arg-type]
+        self._set(changes)
+
+    def remove(self, keys: Iterable[bytes]) -> None:
+        """Removes many keys in one change. A key that the map has not is left out of account."""
+        self._set(dict.fromkeys(keys))
+
+    def clear(self) -> None:
+        """Removes all keys in one change."""
+        self.remove(list(self))

@@ -1,0 +1,160 @@
+"""circomlib's hash against the vectors of tools/poseidon-model, and what is refused."""
+import json
+import os
+import threading
+import unittest
+
+from paxidore import CountError, IndexBeyondSize, InvalidProof, Refused, SizeError, TruncatedProof, poseidon
+
+FOLDER = os.path.join(os.path.dirname(os.path.abspath(__file__)), "..", "..", "..", "vectors")
+VECTORS, TREES = os.path.join(FOLDER, "poseidon.json"), os.path.join(FOLDER, "lean_imts.json")
+
+
+def little(text):
+    return int.from_bytes(bytes.fromhex(text), "little")
+
+
+class Number(int):
+    def __lt__(self, other):
+        return True
+
+    def __ge__(self, other):
+        return True
+
+    def to_bytes(self, *args, **kwargs):
+        return b"short"
+
+
+class Poseidon(unittest.TestCase):
+    def test_vectors(self):
+        with open(VECTORS, encoding="ascii") as file:
+            rows = json.load(file)["poseidon"]
+        self.assertEqual(len(rows), 100)
+        for row in rows:
+            numbers = [int(text, 16) for text in row["inputs"]]
+            self.assertEqual(poseidon.hash(numbers), int(row["hash"], 16))
+            inputs, digest = [bytes.fromhex(text) for text in row["inputs"]], bytes.fromhex(row["hash"])
+            self.assertEqual(poseidon.hash_bytes(inputs, "big"), digest)
+            self.assertEqual(poseidon.hash_bytes([each[::-1] for each in inputs], "little"), digest[::-1])
+
+    def test_refusals(self):
+        for numbers in ([], [0] * 17, [0] * 1000):
+            with self.assertRaises(CountError):
+                poseidon.hash(numbers)
+        for number in (poseidon.MODULUS, -1, 2**256, 2**10000):
+            with self.assertRaises(poseidon.ElementError):
+                poseidon.hash([1, number])
+        for order in ("big", "little"):
+            with self.assertRaises(poseidon.ElementError) as raised:
+                poseidon.hash_bytes([bytes(32), poseidon.MODULUS.to_bytes(32, order)], order)
+            self.assertIsInstance(raised.exception, Refused)
+            self.assertEqual(raised.exception.code, -3)
+        poseidon.hash([poseidon.MODULUS - 1] * 2)
+
+    def test_arguments(self):
+        for given in (["1"], [1.0], [None], [b"1"], "12", b"x", 5, None):
+            with self.assertRaises((TypeError, poseidon.ElementError) if given == b"x" else TypeError):
+                poseidon.hash(given) if given != b"x" else poseidon.hash([given])
+        for given in ([bytearray(32)], ["x" * 32], [5], 5):
+            with self.assertRaises(TypeError):
+                poseidon.hash_bytes(given, "big")
+        with self.assertRaises(ValueError):
+            poseidon.hash_bytes([bytes(31)], "big")
+        for order in ("BIG", "", None, 1):
+            with self.assertRaises(ValueError):
+                poseidon.hash_bytes([bytes(32)], order)
+        # a number of a class of its own is taken as the number that it is
+        self.assertEqual(poseidon.hash([Number(1), Number(2)]), poseidon.hash([1, 2]))
+        with self.assertRaises(poseidon.ElementError):
+            poseidon.hash([Number(poseidon.MODULUS)])
+
+    def test_threads(self):
+        poseidon._tables.clear()
+        found = []
+
+        def run():
+            found.extend(poseidon.hash([i % 7] * (1 + i % 4)) for i in range(40))
+
+        threads = [threading.Thread(target=run) for _ in range(4)]
+        for thread in threads:
+            thread.start()
+        for thread in threads:
+            thread.join()
+        self.assertEqual(len(set(found)), 28)
+
+
+class Logs(unittest.TestCase):
+    def test_vectors(self):
+        with open(TREES, encoding="ascii") as file:
+            given = json.load(file)["lean_imts"]
+        elements = list(map(little, given["elements"]))
+        self.assertEqual(len(given["trees"]), 64)
+        log, pieces = poseidon.Log(), poseidon.Log()
+        self.assertEqual(log.extend(iter(elements)), 64)
+        for tree in given["trees"]:
+            size, root = tree["size"], little(tree["root"])
+            self.assertEqual(poseidon.root(elements[:size]), root)
+            self.assertEqual(log.root(size), root)
+            self.assertEqual(pieces.append(elements[size - 1 : size]), size)
+            self.assertEqual((pieces.root(), len(pieces)), (root, size))
+            for index, path in enumerate(map(bytes.fromhex, tree["paths"])):
+                self.assertEqual(poseidon.path(elements[:size], index), path)
+                self.assertEqual(log.inclusion(index, size), path)
+                self.assertTrue(poseidon.verify(root, size, index, elements[index], path))
+                self.assertFalse(poseidon.verify(root, size, index, (elements[index] + 1) % poseidon.MODULUS, path))
+                self.assertFalse(poseidon.verify((root + 1) % poseidon.MODULUS, size, index, elements[index], path))
+
+    def test_steps(self):
+        elements = [number * number + 1 for number in range(100)]
+        for step in (2, 3, 7, 32, 100):
+            log = poseidon.Log()
+            for at in range(0, 100, step):
+                log.append(elements[at : at + step])
+            self.assertEqual(log.root(), poseidon.root(elements))
+            self.assertEqual([log.root(size) for size in (1, 33, 64)], [poseidon.root(elements[:size]) for size in (1, 33, 64)])
+            self.assertEqual(log.inclusion(57, 99), poseidon.path(elements[:99], 57))
+
+    def test_what_an_interrupted_append_left(self):
+        log = poseidon.Log()
+        log.append(range(1, 12))
+        log._digests += bytes(96)
+        log.append(range(12, 21))
+        self.assertEqual(log.root(), poseidon.root(range(1, 21)))
+
+    def test_refusals(self):
+        log = poseidon.Log()
+        for call in (log.root, lambda: log.root(1), lambda: poseidon.root([]), lambda: poseidon.path([], 0), lambda: log.inclusion(0, 1)):
+            with self.assertRaises(SizeError):
+                call()
+        for number in (poseidon.MODULUS, -1, 2**256):
+            for call in (log.append, poseidon.root, lambda given: poseidon.path(given, 0)):
+                with self.assertRaises(poseidon.ElementError):
+                    call([1, number])
+            for given in ((number, 1, 0, 1), (1, 1, 0, number)):
+                with self.assertRaises(poseidon.ElementError):
+                    poseidon.verify(*given, b"")
+        self.assertEqual((log.append([]), log.append([1, 2, 3]), len(log)), (0, 3, 3))
+        root, path = log.root(), log.inclusion(0)
+        for index in (3, 2**64 - 1):
+            for call in (log.inclusion, lambda index: poseidon.path([1, 2, 3], index), lambda index: poseidon.verify(root, 3, index, 1, path)):
+                with self.assertRaises(IndexBeyondSize):
+                    call(index)
+        for given in (path[:-1], path[:32], b""):
+            with self.assertRaises(TruncatedProof):
+                poseidon.verify(root, 3, 0, 1, given)
+        for given in (path + b"x", path + path, poseidon.MODULUS.to_bytes(32, "little") * 2):
+            with self.assertRaises(InvalidProof):
+                poseidon.verify(root, 3, 0, 1, given)
+        self.assertTrue(poseidon.verify(5, 1, 0, 5, b""))
+        for given in (["1"], [1.0], 5, None):
+            with self.assertRaises(TypeError):
+                log.append(given)
+        with self.assertRaises(OverflowError):
+            log.root(2**64)
+        with self.assertRaises(TypeError):
+            log.__reduce__()
+        self.assertEqual(repr(log), "<paxidore.poseidon.Log of 3 elements>")
+
+
+if __name__ == "__main__":
+    unittest.main()

@@ -1,0 +1,172 @@
+//! circomlib's hash. The numbers are circomlib's own.
+
+use paxidore::poseidon::{table_bytes, ByteOrder, Log, Table};
+use paxidore::{Digest, Refused};
+
+type Room = Table<{ table_bytes(16) }>;
+
+// So many elements, each one above the one before.
+fn inputs(first: u8, count: usize, order: ByteOrder) -> Vec<u8> {
+    let mut bytes = vec![0; 32 * count];
+    for (i, element) in bytes.chunks_mut(32).enumerate() {
+        element[if order == ByteOrder::BigEndian { 31 } else { 0 }] = first + i as u8;
+    }
+    bytes
+}
+
+fn hex(digest: Digest) -> String {
+    digest.iter().map(|byte| format!("{byte:02x}")).collect()
+}
+
+#[test]
+fn hashes_are_those_of_circomlib() -> Result<(), Refused> {
+    for (first, count, text) in [
+        (
+            1,
+            1,
+            "29176100eaa962bdc1fe6c654d6a3c130e96a4d1168b33848b897dc502820133",
+        ),
+        (
+            1,
+            2,
+            "115cc0f5e7d690413df64c6b9662e9cf2a3617f2743245519e19607a4417189a",
+        ),
+        (
+            1,
+            3,
+            "0e7732d89e6939c0ff03d5e58dab6302f3230e269dc5b968f725df34ab36d732",
+        ),
+        (
+            0,
+            16,
+            "1b733f2ff41971b23819a16bc8c16bbe13d98173358429fcc12f6f0826407a56",
+        ),
+    ] {
+        let table = Room::new(count)?;
+        let hash = table.hash(
+            ByteOrder::BigEndian,
+            &inputs(first, count, ByteOrder::BigEndian),
+        )?;
+        assert_eq!(hex(hash), text);
+        let mut hash = table.hash(
+            ByteOrder::LittleEndian,
+            &inputs(first, count, ByteOrder::LittleEndian),
+        )?;
+        hash.reverse();
+        assert_eq!(hex(hash), text);
+    }
+    Ok(())
+}
+
+#[test]
+fn refusals_have_names() -> Result<(), Refused> {
+    for count in [0, 17, usize::MAX] {
+        assert_eq!(Room::new(count).err(), Some(Refused::Count));
+    }
+    assert_eq!(Table::<64>::new(2).err(), Some(Refused::Room));
+    let table = Room::new(2)?;
+    for count in [0, 1, 3, 17] {
+        assert_eq!(
+            table.hash(ByteOrder::BigEndian, &vec![0; 32 * count]),
+            Err(Refused::Count)
+        );
+    }
+    assert_eq!(
+        table.hash(ByteOrder::BigEndian, &[0; 63]),
+        Err(Refused::Truncated)
+    );
+    assert_eq!(
+        table.hash(ByteOrder::BigEndian, &[255; 64]),
+        Err(Refused::Invalid)
+    );
+    assert_eq!(
+        table.hash(ByteOrder::LittleEndian, &[255; 64]),
+        Err(Refused::Invalid)
+    );
+    assert!(Table::<{ table_bytes(2) }>::new(2).is_ok());
+    Ok(())
+}
+
+// So many elements, with the least byte first.
+fn elements(count: u8) -> Vec<Digest> {
+    (0..count)
+        .map(|i| {
+            let mut element = [i; 32];
+            element[31] = 0;
+            element
+        })
+        .collect()
+}
+
+// The root by hashes of pairs, and the path of an index.
+fn model(
+    table: &Table<{ table_bytes(2) }>,
+    mut row: Vec<Digest>,
+    mut index: usize,
+) -> (Digest, Vec<u8>) {
+    let mut path = Vec::new();
+    while row.len() > 1 {
+        if let Some(beside) = row.get(index ^ 1) {
+            path.extend(beside);
+        }
+        row = row
+            .chunks(2)
+            .map(|pair| match pair {
+                [alone] => *alone,
+                _ => table.hash(ByteOrder::LittleEndian, &pair.concat()).unwrap(),
+            })
+            .collect();
+        index /= 2;
+    }
+    (row[0], path)
+}
+
+#[test]
+fn trees_are_those_of_a_model() -> Result<(), Refused> {
+    let table = Table::<{ table_bytes(2) }>::new(2)?;
+    let mut log = Log::new(&table);
+    for size in 1..20 {
+        let given = elements(size as u8);
+        assert_eq!(log.append(&given[size - 1..])?, size);
+        for index in 0..size {
+            let (root, path) = model(&table, given.clone(), index);
+            let mut room = [[0; 32]; 5];
+            let count = table.path(&mut room, &given, index)?;
+            assert_eq!(table.root(&given)?, root);
+            assert_eq!(log.root(size)?, root);
+            assert_eq!(room[..count].concat(), path);
+            assert_eq!(log.inclusion(index, size)?, path);
+            assert!(table.verify(&root, size, index, &given[index], &path)?);
+            assert!(!table.verify(&root, size, index, &[7; 32].map(|byte| byte / 7), &path)?);
+        }
+    }
+    Ok(())
+}
+
+#[test]
+fn trees_refuse() -> Result<(), Refused> {
+    let (two, three) = (Table::<{ table_bytes(2) }>::new(2)?, Room::new(3)?);
+    let (given, mut room) = (elements(3), [[0; 32]; 1]);
+    assert_eq!(three.root(&given), Err(Refused::Count));
+    assert_eq!(two.root(&[]), Err(Refused::Size));
+    assert_eq!(two.root(&[[255; 32]]), Err(Refused::Invalid));
+    assert_eq!(two.path(&mut room, &given, 3), Err(Refused::Index));
+    assert_eq!(two.path(&mut room, &given, 0), Err(Refused::Room));
+    assert_eq!(
+        two.verify(&given[0], 3, 0, &given[0], &[0; 63]),
+        Err(Refused::Truncated)
+    );
+    assert_eq!(
+        two.verify(&given[0], 3, 0, &given[0], &[255; 64]),
+        Err(Refused::Invalid)
+    );
+    let mut log = Log::new(&two);
+    assert_eq!(log.append(&[[0; 32], [255; 32]]), Err(Refused::Invalid));
+    assert_eq!(
+        (log.len(), log.is_empty(), log.root(0)),
+        (0, true, Err(Refused::Size))
+    );
+    assert_eq!(log.append(&[]), Ok(0));
+    assert_eq!(Log::new(&three).append(&given), Err(Refused::Count));
+    Ok(())
+}

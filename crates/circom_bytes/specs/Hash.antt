@@ -1,0 +1,84 @@
+-- circomlib's hash of elements that are bytes, and its tables.
+use Rattle.std.specs.Prelude.{◌≡◌, ℕ, ◌+◌, ◌/◌, ◌%◌, ◌^◌, ◌==◌, ◌<◌, ◌≤◌, nat_lt, Bool, if◌then◌else◌, List, [], ◌∷◌, length, All, get_or, Ok, Err}
+use Rattle.ark_base.specs.declared.error.Error.TheVariants.{IncorrectInputLength, SerializationError}
+use Rattle.ark_base.specs.declared.error.SerializationError.TheVariants.{Truncated}
+use Rattle.ark_base.specs.Digits.{number_of_bytes}
+use Rattle.ark_base.specs.Outcome.{Outcome, ◌>>=◌}
+use Rattle.ark_sponge.specs.Permutation.{Parameters}
+use Rattle.ark_sponge.specs.Table.{IsShortOf, IsTable, ShortParts, short_permutation}
+use Rattle.ark_poseidon.specs.Circom.{circom_outcome}
+use Rattle.poseidon_grain.specs.Constants.{AreParameters, asked_of}
+use Rattle.poseidon_grain.specs.Defaults.{circom_rounds}
+use Rattle.circom_bytes.specs.declared.elements.ByteOrder.{ByteOrder}
+use Rattle.circom_bytes.specs.declared.elements.ByteOrder.TheVariants.{LittleEndian}
+use Rattle.circom_bytes.specs.Elements.{element_bytes, element_in, elements_in, kept_bytes}
+
+-- the modulus of the scalar field of BN254
+abbrev pub modulus : ℕ
+modulus = 21888242871839275222246405745257275088548364400416034343698204186575808495617
+
+-- the S-box: a power
+abbrev pub power : ℕ → ℕ → ℕ
+power alpha x = x ^ alpha % modulus
+
+-- The parameters of circomlib's hash of so many inputs: those of the Grain LFSR, for a capacity of one element and
+-- fifth powers.
+abbrev pub AreCircom : ℕ → Parameters → Type 0
+AreCircom inputs c = AreParameters (asked_of modulus 254 (inputs + 1) 8 (circom_rounds inputs) 0) inputs 1 5 c
+
+-- the hash of so many elements that bytes in an order are
+abbrev pub elements_hashed : ℕ → (ℕ → ℕ → ℕ) → Parameters → ByteOrder → ℕ → List ℕ → Outcome (List ℕ)
+elements_hashed p sbox c order count bytes = elements_in p order count bytes >>= circom_outcome p sbox c
+
+-- the hash of elements that bytes in an order are, in the same order
+abbrev pub hash_outcome : ByteOrder → Parameters → List ℕ → Outcome (List ℕ)
+hash_outcome order c bytes =
+    if length bytes % 32 == 0 then
+    (if length bytes / 32 == c.rate then
+    (elements_hashed modulus power c order (length bytes / 32) bytes >>= λ digest.
+    Ok (element_bytes order (get_or digest 0 0)))
+    else Err (IncorrectInputLength (length bytes / 32)))
+    else Err (SerializationError Truncated)
+
+-- the hash of two elements, left first, with the least byte of each first
+abbrev pub node_outcome : Parameters → List ℕ → List ℕ → Outcome (List ℕ)
+node_outcome c left right = do
+  x ← element_in modulus LittleEndian left
+  y ← element_in modulus LittleEndian right
+  digest ← circom_outcome modulus power c (x ∷ y ∷ [])
+  Ok (element_bytes LittleEndian (get_or digest 0 0))
+
+-- a table: the count of inputs, and what the permutation runs by
+pub record TableValue : Type 0 where
+  pub inputs : ℕ
+  pub parts : ShortParts
+
+-- whether bytes are an element: a number below the modulus, the least byte first
+abbrev pub is_element : List ℕ → Bool
+is_element bytes = nat_lt (number_of_bytes bytes) modulus
+
+-- the hash of two elements by what a table runs by, left first, with the least byte of each first
+abbrev pub table_outcome : TableValue → List ℕ → List ℕ → Outcome (List ℕ)
+table_outcome table left right = do
+  x ← element_in modulus LittleEndian left
+  y ← element_in modulus LittleEndian right
+  if 2 == table.inputs
+      then Ok (element_bytes LittleEndian (get_or (short_permutation modulus power table.parts (0 ∷ x ∷ y ∷ [])) 0 0))
+      else Err (IncorrectInputLength 2)
+
+-- The table is that of circomlib's hash of so many inputs, at its parameters.
+pub record IsTableOf (c : Parameters) (table : TableValue) : Type 0 where
+  pub rate : c.rate ≡ table.inputs
+  pub capacity : c.capacity ≡ 1
+  pub short : IsShortOf modulus c table.parts
+
+-- The bytes are the table of circomlib's hash of so many inputs, at its parameters: the count, and the
+-- numbers of the table, each times 2^256 modulo the modulus.
+pub record SpellsTable (inputs : ℕ) (c : Parameters) (bytes : List ℕ) : Type 0 where
+  pub some : 1 ≤ inputs
+  pub few : inputs ≤ 16
+  pub circom : AreCircom inputs c
+  pub numbers : List ℕ
+  pub below : All (λ x. x < modulus) numbers
+  pub table : IsTable modulus c numbers
+  pub spelled : bytes ≡ inputs ∷ kept_bytes modulus numbers

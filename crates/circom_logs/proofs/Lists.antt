@@ -1,0 +1,50 @@
+-- Lists of elements, and the log of none.
+use Rattle.std.proofs.Common.{◌≡◌, ℕ, ◌&&◌, List, [], ◌∷◌, ◌++◌, length, take, Bool, true, false, Result, Ok, Err, refl, sym, ap, ◌∙◌, arith}
+use Rattle.std.proofs.lemmas.List.{take-append-le}
+use Rattle.std.specs.List.{list_all}
+use Rattle.ark_paths.specs.Pair.{Digest}
+use Rattle.ark_base.specs.declared.error.Error.{Error}
+use Rattle.ark_base.specs.Outcome.{Outcome}
+use Rattle.ark_base.specs.declared.error.Error.TheVariants.{OutOfMemory}
+use Rattle.circom_logs.specs.Nodes.{refusal_error}
+use Rattle.circom_logs.specs.declared.refusal.NodeRefusal.{NodeRefusal}
+use Rattle.circom_logs.specs.declared.refusal.NodeRefusal.TheVariants.{Element, Memory}
+use Rattle.merkle_log.specs.Given.{GivesBy}
+use Rattle.merkle_log.specs.Kept.{KeepsBy, front}
+use Rattle.merkle_log.specs.Log.{NodeHash}
+use Rattle.merkle_log.specs.Stored.{row_of}
+use Rattle.merkle_log.proofs.Carried.{stored-none}
+use Rattle.merkle_log.proofs.Positions.{no-count, no-rows}
+use Rattle.circom_logs.proofs.Closed.{Pass}
+
+both : (a b : Bool) → (a && b) ≡ true → (a ≡ true) × (b ≡ true)
+both true b is = (refl, is)
+both false b is = absurd cc
+
+pub pass-all : (test : Digest → Bool) (xs : List Digest) → list_all test xs ≡ true → Pass test xs
+pass-all test [] all = tt
+pass-all test (x ∷ xs) all = let p = both (test x) (list_all test xs) all in (p.0, pass-all test xs p.1)
+
+-- the stored digests of no leaves
+pub keeps-none : (hash : NodeHash) → KeepsBy hash [] []
+keeps-none hash = record {
+  inside = omega (arith, no-count);
+  lowest = no-rows 0;
+  hashed = stored-none hash (row_of (front 0 [])) no-rows;
+}
+
+-- what is given, seen in another way
+pub given-seen : {A B R : Type 0} (why : R → Error) (view other : A → B) (outcome : Outcome B) (result : Result A R)
+    → ((value : A) → view value ≡ other value) → GivesBy why view outcome result → GivesBy why other outcome result
+given-seen why view other outcome (Ok value) same given = given ∙ ap Ok (same value)
+given-seen why view other outcome (Err refusal) same given = given
+
+pub memory-only : (refusal : NodeRefusal) → refusal_error refusal ≡ OutOfMemory → refusal ≡ Memory
+memory-only Element is = absurd cc
+memory-only Memory is = refl
+
+-- a buffer that was written whole
+pub whole-written : (written rest : List Digest) (count made : ℕ) → length written ≡ count → made ≡ count
+    → take made written ≡ take count (written ++ rest)
+whole-written written rest count made long is =
+    ap (λ n. take n written) is ∙ sym (take-append-le count written rest (omega arith))

@@ -1,0 +1,34 @@
+//! Why a call on a log is refused.
+
+use std::alloc::{AllocError, AllocFailed};
+
+/// Why a call on a log is refused.
+#[derive(Clone, Copy, Debug, PartialEq, Eq)]
+pub enum NodeRefusal {
+    /// A digest that is hashed is no element: it is not below the modulus.
+    Element,
+    /// A request for memory was refused.
+    Memory,
+}
+
+impl From<AllocError> for NodeRefusal {
+    ghost use Rattle.std.specs.Prelude.{◌≡◌};
+    ghost use Rattle.circom_logs.specs.declared.refusal.NodeRefusal.TheVariants.{Memory};
+
+    ghost from_gives = { λ _ refusal. refusal ≡ Memory };
+
+    fn from(_refused: AllocError) -> NodeRefusal {
+        NodeRefusal::Memory
+    }
+}
+
+impl<T: Drop> From<AllocFailed<T>> for NodeRefusal {
+    ghost use Rattle.std.specs.Prelude.{◌≡◌};
+    ghost use Rattle.circom_logs.specs.declared.refusal.NodeRefusal.TheVariants.{Memory};
+
+    ghost from_gives = { λ _ refusal. refusal ≡ Memory };
+
+    fn from(_refused: AllocFailed<T>) -> NodeRefusal {
+        NodeRefusal::Memory
+    }
+}

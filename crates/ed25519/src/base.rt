@@ -1,0 +1,243 @@
+//! Multiples of the base point. No branch and no address depends on the scalar.
+
+ghost use Rattle.std.specs.Prelude.{◌≡◌, ℕ, ◌+◌, ◌-◌, ◌*◌, ◌/◌, ◌^◌, ◌<◌, ◌∷◌, [], get_or, length, slice_index, bit_and, bit_or};
+ghost use Rattle.ark_groups.specs.Group.{times};
+ghost use Rattle.ark_groups.specs.Words.{number};
+ghost use Rattle.ark_wide_fields.specs.Choices.{IsMask, ones};
+ghost use Rattle.edwards_numbers.specs.Edwards.{Coordinates, neutral};
+ghost use Rattle.edwards.specs.Extended.{Stands};
+ghost use Rattle.edwards.specs.Prepared.{IsPrepared};
+ghost use Rattle.ed25519.specs.Edwards25519.{d, curve, base_point, IsOnEd25519};
+ghost use Rattle.ed25519.specs.BaseTable.{entry_of, row_of};
+ghost use Rattle.ed25519.specs.Multiples.{every_fourth, no_entry, AreKept, AreMasksOf, IsBlank};
+
+use crate::base_table::{Row, row};
+use crate::combined::Four;
+use crate::moduli::Ed25519FpModulus;
+use ark_groups::ff::Words;
+use ark_wide_fields::{WideModulus, ZERO, mask_in_place, of_kept, words_under};
+use edwards::{Prepared, doubled_twice, plus_prepared, zero};
+use std::simd::u64x2;
+
+// Of a point y - x, y + x and 2 d x y, each times 2^256 modulo 2^255 - 19.
+#[derive(Clone, Copy)]
+struct Kept {
+    less: Words,
+    more: Words,
+    cross: Words,
+}
+
+// The numbers of an entry of a row.
+fn kept_at(entry: &[[u64; 2]; 6]) -> Kept
+    ensures kept { (a : Coordinates) → entry.now ≡ entry_of a → AreKept result a }
+    ensures blank { entry.now ≡ no_entry → IsBlank result }
+{
+    Kept {
+        less: Words {
+            w0: entry[0][0],
+            w1: entry[0][1],
+            w2: entry[1][0],
+            w3: entry[1][1],
+        },
+        more: Words {
+            w0: entry[2][0],
+            w1: entry[2][1],
+            w2: entry[3][0],
+            w3: entry[3][1],
+        },
+        cross: Words {
+            w0: entry[4][0],
+            w1: entry[4][1],
+            w2: entry[5][0],
+            w3: entry[5][1],
+        },
+    }
+}
+
+// The numbers of zero.
+fn kept_zero() -> Kept
+    ensures { AreKept result neutral }
+{
+    Kept {
+        less: Ed25519FpModulus::ONE,
+        more: Ed25519FpModulus::ONE,
+        cross: ZERO,
+    }
+}
+
+// The first where the mask is ones and the other is blank; the other where the mask is 0.
+#[inline(always)]
+fn kept_under(mask: u64, a: Kept, so_far: Kept) -> Kept
+    requires { IsMask mask }
+    ensures first { mask ≡ ones → IsBlank so_far → (s : Coordinates) → AreKept a s
+        → AreKept result s }
+    ensures second { mask ≡ 0 → (s : Coordinates) → AreKept so_far s → AreKept result s }
+{
+    Kept {
+        less: words_under(mask, a.less, so_far.less),
+        more: words_under(mask, a.more, so_far.more),
+        cross: words_under(mask, a.cross, so_far.cross),
+    }
+}
+
+// The masks of the digits below 16: 64 ones for this digit, else zeros. No compiler sees through the call, so that what
+// stands under the masks becomes no branch.
+#[inline(never)]
+fn masks_of(digit: usize) -> [u64; 16]
+    ensures { AreMasksOf digit result }
+{
+    let mut masks = [0; 16];
+    'digits: for j in 0..16 {
+        masks[j] = mask_in_place(j == digit);
+    }
+    masks
+}
+
+#[inline(always)]
+fn and(x: u64x2, y: u64x2) -> u64x2
+    ensures { (j : ℕ) → j < 2 → slice_index result j ≡ bit_and (slice_index x j) (slice_index y j) }
+{
+    x & y
+}
+
+#[inline(always)]
+fn or(x: u64x2, y: u64x2) -> u64x2
+    ensures lanes { (j : ℕ) → j < 2
+        → slice_index result j ≡ bit_or (slice_index x j) (slice_index y j) }
+    ensures wide { length result ≡ 2 }
+{
+    x | y
+}
+
+// A couple of words with the bits of another where the mask is ones.
+#[inline(always)]
+fn couple_under(mask: u64, couple: &[u64; 2], so_far: u64x2) -> u64x2
+    requires { IsMask mask }
+    ensures first { mask ≡ ones → so_far ≡ 0 ∷ 0 ∷ [] → result ≡ couple.now }
+    ensures second { mask ≡ 0 → result ≡ so_far }
+{
+    or(so_far, and(u64x2::from_array(*couple), u64x2::splat(mask)))
+}
+
+// An entry where the mask is ones and the other is blank; the other where the mask is 0.
+#[inline(always)]
+fn entry_under(mask: u64, entry: &[[u64; 2]; 6], so_far: &[u64x2; 6]) -> [u64x2; 6]
+    requires { IsMask mask }
+    ensures first { mask ≡ ones → so_far.now ≡ no_entry → result ≡ entry.now }
+    ensures second { mask ≡ 0 → result ≡ so_far.now }
+    ensures whole { length result ≡ 6 }
+{
+    [
+        couple_under(mask, &entry[0], so_far[0]),
+        couple_under(mask, &entry[1], so_far[1]),
+        couple_under(mask, &entry[2], so_far[2]),
+        couple_under(mask, &entry[3], so_far[3]),
+        couple_under(mask, &entry[4], so_far[4]),
+        couple_under(mask, &entry[5], so_far[5]),
+    ]
+}
+
+// The entry of a row for a digit, two words at a time, and none for 0. All of the row is read.
+fn entry_for(row: &Row, masks: &[u64; 16], digit: usize) -> [[u64; 2]; 6]
+    requires digit { digit < 16 }
+    requires masks { AreMasksOf digit masks.now }
+    ensures some { 0 < digit → result ≡ get_or row.now (digit - 1) [] }
+    ensures none { digit ≡ 0 → result ≡ no_entry }
+{
+    let mut found = [u64x2::splat(0); 6];
+    'entries: for j in 0..15 {
+        found = entry_under(masks[j + 1], &row[j], &found);
+    }
+    [
+        found[0].to_array(),
+        found[1].to_array(),
+        found[2].to_array(),
+        found[3].to_array(),
+        found[4].to_array(),
+        found[5].to_array(),
+    ]
+}
+
+// The multiple of a point by a digit, from the row of its multiples, all of which is read.
+fn kept_multiple(row: &Row, digit: usize) -> Kept
+    requires { digit < 16 }
+    ensures { (b : Coordinates) → IsOnEd25519 b → row.now ≡ row_of b
+        → AreKept result (times curve digit b) }
+{
+    let masks = masks_of(digit);
+    let entry = entry_for(row, &masks, digit);
+    kept_under(masks[0], kept_zero(), kept_at(&entry))
+}
+
+// The point, prepared for a sum.
+#[inline(always)]
+fn prepared(e: Kept) -> Prepared<Ed25519FpModulus>
+    requires { (a : Coordinates) × AreKept e a }
+    ensures { (a : Coordinates) → AreKept e a → IsPrepared d result a }
+{
+    Prepared {
+        less: of_kept(e.less),
+        more: of_kept(e.more),
+        cross: of_kept(e.cross),
+    }
+}
+
+// A number without its lowest four digits to base 16.
+#[inline(always)]
+fn without_four(a: Words) -> Words
+    ensures { number result ≡ number a / 65536 }
+{
+    Words {
+        w0: a.w0 / 65536 + a.w1 % 65536 * (1 << 48),
+        w1: a.w1 / 65536 + a.w2 % 65536 * (1 << 48),
+        w2: a.w2 / 65536 + a.w3 % 65536 * (1 << 48),
+        w3: a.w3 / 65536,
+    }
+}
+
+// A number without its lowest digit to base 16.
+#[inline(always)]
+fn without_one(a: Words) -> Words
+    ensures number { number result ≡ number a / 16 }
+    ensures fits { number a < 2 ^ 256 }
+{
+    Words {
+        w0: a.w0 / 16 + a.w1 % 16 * (1 << 60),
+        w1: a.w1 / 16 + a.w2 % 16 * (1 << 60),
+        w2: a.w2 / 16 + a.w3 % 16 * (1 << 60),
+        w3: a.w3 / 16,
+    }
+}
+
+// The sum with the base point's multiple by every fourth digit of the scalar.
+fn with_every_fourth(sum: Four, scalar: Words) -> Four
+    ensures { (m : ℕ) → Stands sum (times curve m base_point)
+        → Stands result (times curve (m + every_fourth 16 (number scalar)) base_point) }
+{
+    let mut so_far = sum;
+    let mut rest = scalar;
+    for i in 0..16 {
+        let digit = (rest.w0 % 16) as usize;
+        so_far = plus_prepared(so_far, prepared(kept_multiple(row(i), digit)));
+        rest = without_four(rest);
+    }
+    so_far
+}
+
+// Sixteen times a multiple of the base point, and its multiple by every fourth digit of the scalar more.
+fn moved_up(sum: Four, scalar: Words) -> Four
+    ensures { (m : ℕ) → Stands sum (times curve m base_point)
+        → Stands result (times curve (16 * m + every_fourth 16 (number scalar)) base_point) }
+{
+    with_every_fourth(doubled_twice(doubled_twice(sum)), scalar)
+}
+
+/// Returns the base point, added as often as the scalar says.
+pub fn multiple_of_base(scalar: Words) -> Four
+    ensures { Stands result (times curve (number scalar) base_point) }
+{
+    let second = without_one(scalar);
+    let third = without_one(second);
+    let sum = with_every_fourth(zero(), without_one(third));
+    moved_up(moved_up(moved_up(sum, third), second), scalar)
+}

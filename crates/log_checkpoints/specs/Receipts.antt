@@ -1,0 +1,33 @@
+-- Receipts of entries: proofs as files, as C2SP's tlog-proof has them.
+use Rattle.std.specs.Prelude.{◌≡◌, ℕ, true, List, [], ◌∷◌, ◌++◌, Ok, codes}
+use Rattle.std.specs.Fmt.{decimal}
+use Rattle.std.specs.List.{flat_map}
+use Rattle.base64.specs.GeneralPurpose.{encode_of}
+use Rattle.base64.specs.Engines.{standard}
+use Rattle.ark_paths.specs.Pair.{Digest}
+use Rattle.ark_trees.specs.Rfc6962.{entry_hash, node_of}
+use Rattle.merkle_log.specs.Verdict.{inclusion_verdict}
+use Rattle.signed_notes.specs.Checkpoints.{CheckpointParts}
+use Rattle.signed_notes.specs.Opening.{IsOpened, Policy}
+
+-- the line of a digest: its Base64
+abbrev pub digest_line : Digest → List ℕ
+digest_line digest = encode_of standard digest ++ (10 ∷ [])
+
+-- A receipt: a title, the index in decimal, a line for each digest of the path, an empty line, and the checkpoint's note.
+abbrev pub receipt_of : ℕ → List Digest → List ℕ → List ℕ
+receipt_of index path note =
+    codes "c2sp.org/tlog-proof@v1\nindex " ++ (decimal index ++ (10 ∷ (flat_map digest_line path ++ (10 ∷ note))))
+
+-- The bytes are a receipt of an entry: it has a checkpoint of this size and root, which is signed as a policy asks, and a path that
+-- is accepted for the entry at its index.
+pub record IsReceiptOf (policy : Policy) (origin bytes entry : List ℕ) (size : ℕ) (root : Digest) : Type 0 where
+  pub index : ℕ
+  pub path : List Digest
+  pub note : List ℕ
+  pub stated : CheckpointParts
+  pub spelled : bytes ≡ receipt_of index path note
+  pub opened : IsOpened policy origin note stated
+  pub size_is : stated.size ≡ size
+  pub root_is : stated.root ≡ root
+  pub accepted : inclusion_verdict node_of root size index (entry_hash entry) path ≡ Ok true

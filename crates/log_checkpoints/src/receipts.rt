@@ -1,0 +1,195 @@
+//! Receipts: that an entry stands at an index of a log, as one file (C2SP tlog-proof).
+
+ghost use Rattle.std.specs.Prelude.{◌≡◌, ◌++◌, ◌∷◌, [], true, IfOk, IfSome, OnOk, Ok};
+ghost use Rattle.std.specs.List.{flat_map};
+ghost use Rattle.ark_trees.specs.Rfc6962.{entry_hash, node_of};
+ghost use Rattle.log_checkpoints.specs.Receipts.{digest_line, receipt_of, IsReceiptOf};
+ghost use Rattle.merkle_log.specs.Verdict.{inclusion_verdict};
+ghost use Rattle.signed_notes.specs.Views.{policy_parts};
+
+use ark_trees::{LogHasher, digest_of_entry};
+use base64::DecodeAllocError;
+use base64::engine::general_purpose::STANDARD;
+use decimals::number_of;
+use memchr::memchr;
+use merkle_log::verify_inclusion_digest;
+use signed_notes::{Checkpoint, Fault, Policy, open_checkpoint};
+use std::alloc::{AllocError, Global};
+
+/// How a receipt begins, before its index.
+pub const TITLE: [u8; 29] = *b"c2sp.org/tlog-proof@v1\nindex ";
+
+/// Why a receipt is not accepted.
+#[derive(Drop)]
+pub enum ReceiptFault {
+    /// The bytes are no receipt.
+    Spelling,
+    /// The checkpoint is not accepted.
+    Note(Fault),
+}
+
+/// A receipt that was read.
+#[derive(Drop)]
+pub struct Receipt<'a> {
+    pub index: usize,
+    /// The digests beside the way of the entry, from it up.
+    pub path: Vec<[u8; 32]>,
+    /// The note of the checkpoint.
+    pub note: &'a [u8],
+}
+
+// Writes the lines of digests behind other bytes.
+fn push_path(alloc: Global, path: &[[u8; 32]], out: &mut Vec<u8>) -> Result<(), AllocError>
+    ensures { OnOk result (out.new.items ≡ out.old.items ++ flat_map digest_line path.now) }
+{
+    'digests: for digest in path {
+        let word = STANDARD.encode(alloc, digest)?;
+        out.extend_from_slice(word.as_bytes())?;
+        out.push(b'\n')?;
+    }
+    Ok(())
+}
+
+/// Writes a receipt. The error is a lack of memory.
+pub fn write_receipt(
+    alloc: Global,
+    index: usize,
+    path: &[[u8; 32]],
+    note: &[u8],
+) -> Result<Vec<u8>, AllocError>
+    ensures { IfOk result (λ bytes. bytes.items ≡ receipt_of index path.now note.now) }
+{
+    let mut out = Vec::new(alloc);
+    out.extend_from_slice(format!(in alloc;
+        "c2sp.org/tlog-proof@v1\nindex {index}\n"
+    )?.as_bytes())?;
+    push_path(alloc, path, &mut out)?;
+    out.push(b'\n')?;
+    out.extend_from_slice(note)?;
+    Ok(out)
+}
+
+// The line at the front of bytes, without its line feed, and what stands behind it.
+fn next_line(bytes: &[u8]) -> Option<(&[u8], &[u8])> {
+    let end = memchr(b'\n', bytes)?;
+    Some((&bytes[..end], &bytes[end + 1..]))
+}
+
+// The digest that a line spells.
+fn digest_in(alloc: Global, line: &[u8]) -> Result<[u8; 32], ReceiptFault> {
+    match STANDARD.decode(alloc, line) {
+        Ok(bytes) if bytes.len() == 32 => {
+            let mut digest = [0; 32];
+            digest.copy_from_slice(&bytes);
+            Ok(digest)
+        }
+        Ok(_) => Err(ReceiptFault::Spelling),
+        Err(DecodeAllocError::OutOfMemory) => Err(ReceiptFault::Note(Fault::Memory)),
+        Err(DecodeAllocError::DecodeError(_)) => Err(ReceiptFault::Spelling),
+    }
+}
+
+// What bytes say as a receipt, if they are one.
+fn parts_in(alloc: Global, bytes: &[u8]) -> Result<Receipt<'_>, ReceiptFault> {
+    if bytes.len() < TITLE.len() || bytes[..TITLE.len()] != TITLE[..] {
+        return Err(ReceiptFault::Spelling);
+    }
+    let Some((line, mut rest)) = next_line(&bytes[TITLE.len()..]) else {
+        return Err(ReceiptFault::Spelling);
+    };
+    let Some(index) = number_of(line) else {
+        return Err(ReceiptFault::Spelling);
+    };
+    let mut path = Vec::new(alloc);
+    // No path has more digests than a size has bits.
+    for _digest in 0..65 {
+        let Some((line, behind)) = next_line(rest) else {
+            return Err(ReceiptFault::Spelling);
+        };
+        if line.is_empty() {
+            return Ok(Receipt {
+                index,
+                path,
+                note: behind,
+            });
+        }
+        let digest = digest_in(alloc, line)?;
+        if path.push(digest).is_err() {
+            return Err(ReceiptFault::Note(Fault::Memory));
+        }
+        rest = behind;
+    }
+    Err(ReceiptFault::Spelling)
+}
+
+/// Reads a receipt. Errors: `Spelling` for bytes that are none; `Memory`.
+pub fn read_receipt(alloc: Global, bytes: &[u8]) -> Result<Receipt<'_>, ReceiptFault>
+    // A receipt has one spelling.
+    ensures { IfOk result (λ read.
+        bytes.now ≡ receipt_of read.index read.path.items read.note.now) }
+{
+    let read = parts_in(alloc, bytes)?;
+    let Ok(spelled) = write_receipt(alloc, read.index, &read.path, read.note) else {
+        return Err(ReceiptFault::Note(Fault::Memory));
+    };
+    if spelled.as_slice() == bytes {
+        Ok(read)
+    } else {
+        Err(ReceiptFault::Spelling)
+    }
+}
+
+// Whether a path shows an entry at an index of a log with this root and size.
+fn is_shown(
+    alloc: Global,
+    checkpoint: &Checkpoint,
+    index: usize,
+    entry: &[u8],
+    path: &[[u8; 32]],
+) -> Result<bool, ReceiptFault>
+    ensures { IfOk result (λ shown. inclusion_verdict node_of checkpoint.now.root
+        checkpoint.now.size index (entry_hash entry.now) path.now ≡ Ok shown) }
+{
+    let digest = digest_of_entry(entry);
+    let (size, index) = (checkpoint.size as u64, index as u64);
+    let shown = verify_inclusion_digest(
+        alloc,
+        &LogHasher,
+        &checkpoint.root,
+        size,
+        index,
+        &digest,
+        path,
+    );
+    match shown {
+        Ok(shown) => Ok(shown),
+        Err(_) => Err(ReceiptFault::Note(Fault::Memory)),
+    }
+}
+
+/// Returns the size and the root of the log that a receipt shows an entry of; `None` where its path does not lead from the entry to
+/// the root. The checkpoint has to be signed as a policy asks, and to be of an origin.
+///
+/// Errors, the first that applies: `Spelling`; those of `signed_notes::open_checkpoint`. `Memory` at any time.
+pub fn verify_receipt(
+    alloc: Global,
+    bytes: &[u8],
+    entry: &[u8],
+    origin: &str,
+    policy: &Policy,
+) -> Result<Option<(usize, [u8; 32])>, ReceiptFault>
+    ensures { let policy = policy_parts policy.now in IfOk result (λ found. IfSome found (λ head.
+        IsReceiptOf policy origin.now bytes.now entry.now head.0 head.1)) }
+{
+    let Receipt { index, path, note } = read_receipt(alloc, bytes)?;
+    let checkpoint = match open_checkpoint(alloc, note, origin, policy) {
+        Ok(checkpoint) => checkpoint,
+        Err(fault) => return Err(ReceiptFault::Note(fault)),
+    };
+    if is_shown(alloc, &checkpoint, index, entry, &path)? {
+        let root = checkpoint.root;
+        Ok(Some((checkpoint.size, root)))
+    } else {
+        Ok(None)
+    }
+}

@@ -1,0 +1,3 @@
+mod Bundled
+mod Rows
+mod Shown

@@ -1,0 +1,4 @@
+pub mod Bundles
+pub mod Following
+pub mod Names
+pub mod Tiles

@@ -1,0 +1,148 @@
+//! Followers of a log: whoever keeps its last size and root, and moves on by its tiles.
+
+ghost use Rattle.std.specs.Prelude.{◌≡◌, ◌≢◌, ◌<◌, true, IfOk, IfErr, OnOk, Ok, Err};
+ghost use Rattle.std.specs.Bool.{Decides};
+ghost use Rattle.ark_trees.specs.Rfc6962.{node_of};
+ghost use Rattle.log_tiles.specs.Following.{Continues, IsFork};
+ghost use Rattle.log_tiles.specs.declared.stop.Stop.TheVariants.{Fork, Shrunk};
+ghost use Rattle.merkle_log.specs.Verdict.{inclusion_verdict};
+
+use crate::growth::row_length;
+use crate::stop::{Stop, of_store};
+use crate::tile::FULL;
+use crate::tiled::{TileDisk, Tiles, Unread};
+use log_store::{Disk, InclusionProof};
+use paxlog_run::fault::Fault;
+use std::alloc::Global;
+
+/// What a checkpoint states of a log.
+#[derive(Clone, Copy)]
+pub struct Head {
+    pub size: usize,
+    pub root: [u8; 32],
+}
+
+/// Returns whether two digests are the same.
+pub fn are_same(a: &[u8; 32], b: &[u8; 32]) -> bool
+    ensures { Decides result (a.now ≡ b.now) }
+{
+    *a == *b
+}
+
+impl Head {
+    /// Returns whether it states this size and root.
+    pub fn is(&self, size: usize, root: &[u8; 32]) -> bool
+        ensures { Decides result ((self.now.size ≡ size) × (self.now.root ≡ root.now)) }
+    {
+        self.size == size && are_same(&self.root, root)
+    }
+}
+
+// Refuses a size and a root of what was read that are not those of the checkpoint.
+fn if_same<R: Drop>(head: &Head, size: usize, root: &[u8; 32]) -> Result<(), Stop<R>>
+    ensures same { OnOk result ((head.now.size ≡ size) × (head.now.root ≡ root.now)) }
+    ensures damaged { IfErr result (λ why. why ≢ Fork) }
+{
+    if head.is(size, root) {
+        Ok(())
+    } else {
+        Err(Stop::Fault(Fault::Damaged))
+    }
+}
+
+/// Returns the inclusion proof of an index in the log of a checkpoint, whose tiles the disk reads.
+///
+/// Errors, the first that applies: those of `log_store::prove`; `Damaged` where the tiles are of another log.
+pub fn prove<D: Disk>(
+    alloc: Global,
+    disk: &D,
+    head: &Head,
+    index: usize,
+) -> Result<InclusionProof, Stop<D::Refusal>>
+    // Whatever the tiles have, the proof is accepted under the root that the checkpoint states.
+    ensures accepted { IfOk result (λ proof. inclusion_verdict node_of head.now.root head.now.size
+        index proof.digest proof.path.items ≡ Ok true) }
+{
+    match log_store::prove(alloc, disk, index, None) {
+        Ok(proof) => {
+            if_same(head, proof.size, &proof.root)?;
+            Ok(proof)
+        }
+        Err(stop) => Err(of_store(stop)),
+    }
+}
+
+/// Checks that the log of a new checkpoint continues that of an old one. The disk reads the tiles of the new log.
+///
+/// Errors, the first that applies: `Shrunk` for fewer entries; `Fork` for another root of as many; those of
+/// `log_store::consistency`; `Damaged` where the tiles are of another log; `Fork` where the new log has another root of the old
+/// size.
+pub fn continues<D: Disk>(
+    alloc: Global,
+    disk: &D,
+    old: &Head,
+    new: &Head,
+) -> Result<(), Stop<D::Refusal>>
+    // Whatever the tiles have: a consistency proof of the two is accepted.
+    ensures continued { OnOk result (Continues old.now new.now) }
+    ensures shrunk { new.now.size < old.now.size → result ≡ Err Shrunk }
+
+    // No log has both: the new one has another root of the old size.
+    ensures fork { result ≡ Err Fork → IsFork old.now new.now }
+{
+    if new.size < old.size {
+        return Err(Stop::Shrunk);
+    }
+    if new.size == old.size {
+        return if are_same(&new.root, &old.root) {
+            Ok(())
+        } else {
+            Err(Stop::Fork)
+        };
+    }
+    if old.size == 0 {
+        let (size, root) = match log_store::root(disk, None) {
+            Ok(root) => root,
+            Err(stop) => return Err(of_store(stop)),
+        };
+        return if_same(new, size, &root);
+    }
+    let proof = match log_store::consistency(alloc, disk, old.size, None) {
+        Ok(proof) => proof,
+        Err(stop) => return Err(of_store(stop)),
+    };
+    if_same(new, proof.size, &proof.root)?;
+    if are_same(&proof.old_root, &old.root) {
+        Ok(())
+    } else {
+        Err(Stop::Fork)
+    }
+}
+
+/// Returns whether all tiles of the log of a checkpoint are those of one log with its root: the digests at its right edge lead to the
+/// root, and the root of each full tile is the digest above it. It reads each tile once.
+///
+/// Errors: those of `log_store::root`.
+pub fn audit<T: Tiles + Drop>(
+    disk: &TileDisk<T>,
+    head: &Head,
+) -> Result<bool, Stop<Unread<T::Refusal>>> {
+    let (size, root) = match log_store::root(disk, None) {
+        Ok(root) => root,
+        Err(log_store::Stop::Fault(Fault::Damaged)) => return Ok(false),
+        Err(stop) => return Err(of_store(stop)),
+    };
+    if !head.is(size, &root) {
+        return Ok(false);
+    }
+    'levels: for level in 0..7 {
+        'tiles: for index in 0..row_length(level, head.size) / FULL {
+            match disk.is_below_its_root(level, index) {
+                Ok(true) => (),
+                Ok(false) => return Ok(false),
+                Err(refusal) => return Err(Stop::Disk(refusal)),
+            }
+        }
+    }
+    Ok(true)
+}

@@ -1,0 +1,19 @@
+//! Logs in folders of tiles (C2SP tlog-tiles), as static file servers have them: the tiles of a log's file, and a log that is
+//! read of tiles by whoever follows it.
+#![tactic(auto)]
+
+mod bundles;
+mod following;
+mod growth;
+mod names;
+mod stop;
+mod tile;
+mod tiled;
+
+pub use bundles::{LONGEST, is_bundle, push_entry};
+pub use following::{Head, audit, continues, prove};
+pub use growth::{new_tiles, row_length};
+pub use names::{bundle_name, tile_name};
+pub use stop::Stop;
+pub use tile::{FULL, Tile, read_tile, width_of};
+pub use tiled::{TileDisk, Tiles, Unread};

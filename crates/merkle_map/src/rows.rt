@@ -1,0 +1,77 @@
+//! The nodes of a tree with their digests, for a store outside.
+
+ghost use Rattle.std.specs.Prelude.{◌≡◌, ◌++◌, IfErr, OnOk};
+ghost use Rattle.ark_base.specs.Outcome.{AnswersBy, IsMemory};
+ghost use Rattle.merkle_map.specs.Bytes.{itself};
+ghost use Rattle.merkle_map.specs.Map.{leaf_of, Pair};
+ghost use Rattle.merkle_map.specs.Parts.{shape};
+ghost use Rattle.merkle_map.specs.Rows.{row, rows_of, rows_behind};
+
+use crate::bytes::push_string;
+use crate::hasher::MapHasher;
+use crate::part::Part;
+use ark_base::error::Error;
+use std::alloc::Global;
+
+// Writes an entry's row behind others. The only error is `OutOfMemory`.
+fn push_entry(
+    digest: &[u8; 32],
+    key: &[u8; 32],
+    value: &[u8; 32],
+    rows: &mut Vec<u8>,
+) -> Result<(), Error>
+    ensures written { OnOk result (rows.new.items
+        ≡ rows.old.items ++ row digest.now (leaf_of key.now value.now)) }
+    ensures memory { IfErr result IsMemory }
+{
+    push_string(digest, rows)?;
+    rows.push(0)?;
+    push_string(key, rows)?;
+    push_string(value, rows)
+}
+
+// Writes a fork's row behind others. The only error is `OutOfMemory`.
+fn push_fork(
+    digest: &[u8; 32],
+    left: &[u8; 32],
+    right: &[u8; 32],
+    rows: &mut Vec<u8>,
+) -> Result<(), Error>
+    ensures written { OnOk result (rows.new.items
+        ≡ rows.old.items ++ row digest.now (Pair left.now right.now)) }
+    ensures memory { IfErr result IsMemory }
+{
+    push_string(digest, rows)?;
+    rows.push(1)?;
+    push_string(left, rows)?;
+    push_string(right, rows)
+}
+
+// Hashes a tree, and writes the rows of what it does not hide behind others. Errors, which may leave some: those of the hashes,
+// the lowest first, the left one among equals; `OutOfMemory`.
+pub fn push_rows<T: MapHasher<[u8; 32]>>(
+    alloc: Global,
+    hasher: &T,
+    part: &Part<[u8; 32]>,
+    rows: &mut Vec<u8>,
+) -> Result<[u8; 32], Error>
+    ensures { AnswersBy (λ digest. (digest, rows.new.items)) (rows_behind rows.old.items
+        (rows_of (T.hashes hasher.now) (shape itself part.now))) result }
+{
+    match part {
+        Part::Empty => hasher.nothing(alloc),
+        Part::One { entry } => {
+            let digest = hasher.leaf(alloc, &entry.key, &entry.value)?;
+            push_entry(&digest, &entry.key, &entry.value, rows)?;
+            Ok(digest)
+        }
+        Part::Fork { sides } => {
+            let l = push_rows(alloc, hasher, &sides.left, rows)?;
+            let r = push_rows(alloc, hasher, &sides.right, rows)?;
+            let digest = hasher.pair(alloc, &l, &r)?;
+            push_fork(&digest, &l, &r, rows)?;
+            Ok(digest)
+        }
+        Part::Hidden { digest } => Ok(**digest),
+    }
+}

@@ -1,0 +1,457 @@
+//! Roots of trees that keep digests. Where much has changed, forks whose sides have digests are hashed together.
+
+ghost use Rattle.std.specs.Prelude.{◌≡◌, All, IfOk};
+ghost use Rattle.ark_base.specs.Outcome.{AnswersBy};
+ghost use Rattle.merkle_map.specs.Kept.{IsFor, IsKept};
+ghost use Rattle.merkle_map.specs.Parts.{shape};
+ghost use Rattle.merkle_map.specs.Together.{IsHashed, IsHashedEntry};
+ghost use Rattle.merkle_map.specs.Tree.{shape_digest};
+
+use crate::hasher::{HashedEntry, HashedPair, MapHasher};
+use crate::key::{are_same_digests, are_same_keys, copy_of};
+use crate::part::{Entry, Part, Sides};
+use ark_base::error::Error;
+use ark_base::serialize::DigestItem;
+use std::alloc::Global;
+
+/// How many forks are hashed in a pass at most.
+const MOST: usize = 1024;
+
+/// After fewer changes the forks are hashed one by one.
+pub const FEW: usize = 4;
+
+// Hashes a tree, as far as no digest is kept, and keeps the digest of each fork. Errors: as of `digest_of`.
+pub fn fill<D: DigestItem, T: MapHasher<D>>(
+    alloc: Global,
+    hasher: &T,
+    part: &mut Part<D>,
+) -> Result<D, Error>
+    requires { IsKept D.numbers (T.hashes hasher.now) part.old }
+    ensures digest { AnswersBy D.numbers (shape_digest (T.hashes hasher.now)
+        (shape D.numbers part.old)) result }
+    ensures same { shape D.numbers part.new ≡ shape D.numbers part.old }
+    ensures kept { IsKept D.numbers (T.hashes hasher.now) part.new }
+{
+    match part {
+        Part::Empty => hasher.nothing(alloc),
+        Part::One { entry } => {
+            let entry = &mut **entry;
+            hasher.leaf(alloc, &entry.key, &entry.value)
+        }
+        Part::Fork { sides } => {
+            let Sides {
+                left,
+                right,
+                digest,
+            } = &mut **sides;
+            if let Some(digest) = digest {
+                return copy_of(alloc, digest);
+            }
+            let l = fill(alloc, hasher, left)?;
+            let r = fill(alloc, hasher, right)?;
+            let own = hasher.pair(alloc, &l, &r)?;
+            let copy = copy_of(alloc, &own)?;
+            *digest = Some(copy);
+            Ok(own)
+        }
+        Part::Hidden { digest } => {
+            let digest = &mut **digest;
+            copy_of(alloc, digest)
+        }
+    }
+}
+
+// Where a side's digest comes from.
+#[derive(Drop)]
+enum Source<D> {
+    // It is at hand.
+    Digest { digest: D },
+    // It is that of an entry that is to be hashed.
+    Entry { place: usize },
+    // It is that of a fork that is to be hashed.
+    Fork { place: usize, height: usize },
+    // It waits for the next pass.
+    Later,
+}
+
+// A fork that is to be hashed. Its height is 0 if no fork below it is.
+#[derive(Drop)]
+struct Task<D> {
+    left: Source<D>,
+    right: Source<D>,
+    height: usize,
+}
+
+// What is to be hashed: entries from the left, and forks, those below before those above and the left ones first. All forks are
+// lower than `heights`.
+#[derive(Drop)]
+struct Work<D> {
+    entries: Vec<([u8; 32], D)>,
+    forks: Vec<Task<D>>,
+    heights: usize,
+}
+
+// What was hashed, and of each fork in the order of its work where it is.
+#[derive(Drop)]
+struct Made<D> {
+    entries: Vec<HashedEntry<D>>,
+    forks: Vec<HashedPair<D>>,
+    places: Vec<usize>,
+}
+
+// How many entries and forks of the work stand to the left.
+#[derive(Drop)]
+struct Passed {
+    entries: usize,
+    forks: usize,
+}
+
+// Returns the height of a fork above this side, if it can be hashed in this pass.
+fn height_above<D: DigestItem>(side: &Source<D>) -> Option<usize> {
+    match side {
+        Source::Digest { .. } => Some(0),
+        Source::Entry { .. } => Some(0),
+        Source::Fork { height, .. } => {
+            if *height < MOST {
+                return Some(*height + 1);
+            }
+            None
+        }
+        Source::Later => None,
+    }
+}
+
+// Puts a fork behind the work, if it can be hashed in this pass. The only error is `OutOfMemory`.
+fn push_task<D: DigestItem>(
+    left: Source<D>,
+    right: Source<D>,
+    work: &mut Work<D>,
+) -> Result<Source<D>, Error> {
+    let Some(on_left) = height_above(&left) else {
+        return Ok(Source::Later);
+    };
+    let Some(on_right) = height_above(&right) else {
+        return Ok(Source::Later);
+    };
+    let height = if on_left < on_right {
+        on_right
+    } else {
+        on_left
+    };
+    let place = work.forks.len();
+    work.forks.push(Task {
+        left,
+        right,
+        height,
+    })?;
+    if work.heights <= height && height <= MOST {
+        work.heights = height + 1;
+    }
+    Ok(Source::Fork { place, height })
+}
+
+// Puts what a tree needs to have hashed behind the work, and returns where its digest comes from. The only error is `OutOfMemory`.
+fn gather<D: DigestItem, T: MapHasher<D>>(
+    alloc: Global,
+    hasher: &T,
+    part: &Part<D>,
+    work: &mut Work<D>,
+) -> Result<Source<D>, Error> {
+    match part {
+        Part::Empty => {
+            let digest = hasher.nothing(alloc)?;
+            Ok(Source::Digest { digest })
+        }
+        Part::One { entry } => {
+            let place = work.entries.len();
+            let value = copy_of(alloc, &entry.value)?;
+            work.entries.push((entry.key, value))?;
+            Ok(Source::Entry { place })
+        }
+        Part::Fork { sides } => {
+            let Sides {
+                left,
+                right,
+                digest,
+            } = &**sides;
+            if let Some(digest) = digest {
+                let digest = copy_of(alloc, digest)?;
+                return Ok(Source::Digest { digest });
+            }
+            if work.forks.len() >= MOST {
+                return Ok(Source::Later);
+            }
+            let on_left = gather(alloc, hasher, left, work)?;
+            let on_right = gather(alloc, hasher, right, work)?;
+            push_task(on_left, on_right, work)
+        }
+        Part::Hidden { digest } => {
+            let digest = copy_of::<D>(alloc, digest)?;
+            Ok(Source::Digest { digest })
+        }
+    }
+}
+
+// Hashes the entries of the work. Errors: as of `entries_together`.
+fn hash_entries<D: DigestItem, T: MapHasher<D>>(
+    alloc: Global,
+    hasher: &T,
+    work: &Work<D>,
+) -> Result<Vec<HashedEntry<D>>, Error>
+    ensures { IfOk result (λ made. All (IsHashedEntry D.numbers (T.hashes hasher.now))
+        made.items) }
+{
+    let mut run = Vec::with_capacity(alloc, work.entries.len())?;
+    'entries: for place in 0..work.entries.len() {
+        let (key, value) = &work.entries[place];
+        run.push((key, value))?;
+    }
+    hasher.entries_together(alloc, &run)
+}
+
+// Returns a side's digest, if it was hashed.
+fn digest_from<'a, D: DigestItem>(
+    side: &'a Source<D>,
+    entries: &'a [HashedEntry<D>],
+    forks: &'a [HashedPair<D>],
+    places: &[usize],
+) -> Option<&'a D> {
+    match side {
+        Source::Digest { digest } => Some(digest),
+        Source::Entry { place } => {
+            let made = entries.get(*place)?;
+            Some(&made.digest)
+        }
+        Source::Fork { place, .. } => {
+            let at = places.get(*place)?;
+            let made = forks.get(*at)?;
+            Some(&made.digest)
+        }
+        Source::Later => None,
+    }
+}
+
+// Hashes the forks of one height together, those of which lower ones were hashed, and notes where each will be behind these. Errors:
+// as of `pairs_together`.
+fn hash_height<D: DigestItem, T: MapHasher<D>>(
+    alloc: Global,
+    hasher: &T,
+    work: &Work<D>,
+    height: usize,
+    entries: &[HashedEntry<D>],
+    forks: &[HashedPair<D>],
+    places: &mut [usize],
+) -> Result<Vec<HashedPair<D>>, Error>
+    ensures { IfOk result (λ made. All (IsHashed D.numbers (T.hashes hasher.now)) made.items) }
+{
+    let mut run = Vec::new(alloc);
+    let mut next = forks.len();
+    'forks: for place in 0..work.forks.len() {
+        let task = &work.forks[place];
+        if task.height == height && place < places.len() {
+            let Some(left) = digest_from(&task.left, entries, forks, places) else {
+                return Ok(Vec::new(alloc));
+            };
+            let Some(right) = digest_from(&task.right, entries, forks, places) else {
+                return Ok(Vec::new(alloc));
+            };
+            run.push((left, right))?;
+            places[place] = next;
+            next = next.wrapping_add(1);
+        }
+    }
+    hasher.pairs_together(alloc, &run)
+}
+
+// Hashes the work, the lowest forks first. Errors: those of the hashes; `OutOfMemory`.
+fn hash_all<D: DigestItem, T: MapHasher<D>>(
+    alloc: Global,
+    hasher: &T,
+    work: &Work<D>,
+) -> Result<Made<D>, Error>
+    ensures entries { IfOk result (λ made. All (IsHashedEntry D.numbers (T.hashes hasher.now))
+        made.entries.items) }
+    ensures forks { IfOk result (λ made. All (IsHashed D.numbers (T.hashes hasher.now))
+        made.forks.items) }
+{
+    let entries = hash_entries(alloc, hasher, work)?;
+    let mut places = vec![in alloc; 0usize; work.forks.len()]?;
+    let mut forks = Vec::with_capacity(alloc, work.forks.len())?;
+    'heights: for height in 0..work.heights {
+        let mut more = hash_height(alloc, hasher, work, height, &entries, &forks, &mut places)?;
+        if more.is_empty() {
+            break;
+        }
+        forks.append(&mut more)?;
+    }
+    Ok(Made {
+        entries,
+        forks,
+        places,
+    })
+}
+
+// Returns an entry's digest, if it is the entry that was hashed at a place. The only error is `OutOfMemory`.
+fn entry_digest<D: DigestItem, T: MapHasher<D>>(
+    alloc: Global,
+    _hasher: &T,
+    entry: &Entry<D>,
+    entries: &[HashedEntry<D>],
+    place: usize,
+) -> Result<Option<D>, Error>
+    requires { All (IsHashedEntry D.numbers (T.hashes _hasher.now)) entries.now }
+    ensures { IfOk result (IsFor D.numbers ((T.hashes _hasher.now).leaf entry.now.key
+        (D.numbers entry.now.value))) }
+{
+    let Some(made) = entries.get(place) else {
+        return Ok(None);
+    };
+    if are_same_keys(&made.key, &entry.key) && are_same_digests(&made.value, &entry.value) {
+        let own = copy_of(alloc, &made.digest)?;
+        return Ok(Some(own));
+    }
+    Ok(None)
+}
+
+// Returns the digest of two, if they were hashed at a place. The only error is `OutOfMemory`.
+fn pair_digest<D: DigestItem, T: MapHasher<D>>(
+    alloc: Global,
+    _hasher: &T,
+    left: &D,
+    right: &D,
+    forks: &[HashedPair<D>],
+    place: usize,
+) -> Result<Option<D>, Error>
+    requires { All (IsHashed D.numbers (T.hashes _hasher.now)) forks.now }
+    ensures { IfOk result (IsFor D.numbers ((T.hashes _hasher.now).pair (D.numbers left.now)
+        (D.numbers right.now))) }
+{
+    let Some(made) = forks.get(place) else {
+        return Ok(None);
+    };
+    if are_same_digests(&made.left, left) && are_same_digests(&made.right, right) {
+        let own = copy_of(alloc, &made.digest)?;
+        return Ok(Some(own));
+    }
+    Ok(None)
+}
+
+// Keeps what was hashed, in the order of `gather`, and returns the tree's digest, if it is known now. The only error is
+// `OutOfMemory`.
+fn scatter<D: DigestItem, T: MapHasher<D>>(
+    alloc: Global,
+    hasher: &T,
+    part: &mut Part<D>,
+    made: &Made<D>,
+    passed: &mut Passed,
+) -> Result<Option<D>, Error>
+    requires kept { IsKept D.numbers (T.hashes hasher.now) part.old }
+    requires entries { All (IsHashedEntry D.numbers (T.hashes hasher.now)) made.now.entries.items }
+    requires forks { All (IsHashed D.numbers (T.hashes hasher.now)) made.now.forks.items }
+    ensures same { shape D.numbers part.new ≡ shape D.numbers part.old }
+    ensures kept { IsKept D.numbers (T.hashes hasher.now) part.new }
+    ensures digest { IfOk result (IsFor D.numbers (shape_digest (T.hashes hasher.now)
+        (shape D.numbers part.old))) }
+{
+    match part {
+        Part::Empty => {
+            let digest = hasher.nothing(alloc)?;
+            Ok(Some(digest))
+        }
+        Part::One { entry } => {
+            let entry = &mut **entry;
+            let place = passed.entries;
+            passed.entries = place.wrapping_add(1);
+            entry_digest(alloc, hasher, entry, &made.entries, place)
+        }
+        Part::Fork { sides } => {
+            let Sides {
+                left,
+                right,
+                digest,
+            } = &mut **sides;
+            if let Some(digest) = digest {
+                let digest = copy_of(alloc, digest)?;
+                return Ok(Some(digest));
+            }
+            if passed.forks >= made.places.len() {
+                return Ok(None);
+            }
+            let on_left = scatter(alloc, hasher, left, made, passed)?;
+            let on_right = scatter(alloc, hasher, right, made, passed)?;
+            let Some(l) = on_left else {
+                return Ok(None);
+            };
+            let Some(r) = on_right else {
+                return Ok(None);
+            };
+            let Some(place) = made.places.get(passed.forks) else {
+                return Ok(None);
+            };
+            passed.forks = passed.forks.wrapping_add(1);
+            let Some(own) = pair_digest(alloc, hasher, &l, &r, &made.forks, *place)? else {
+                return Ok(None);
+            };
+            let copy = copy_of(alloc, &own)?;
+            *digest = Some(copy);
+            Ok(Some(own))
+        }
+        Part::Hidden { digest } => {
+            let digest = &mut **digest;
+            let copy = copy_of(alloc, digest)?;
+            Ok(Some(copy))
+        }
+    }
+}
+
+// Hashes forks together once, and keeps their digests. Returns whether it was all that a pass takes.
+fn pass<D: DigestItem, T: MapHasher<D>>(
+    alloc: Global,
+    hasher: &T,
+    part: &mut Part<D>,
+) -> Result<bool, Error>
+    requires { IsKept D.numbers (T.hashes hasher.now) part.old }
+    ensures same { shape D.numbers part.new ≡ shape D.numbers part.old }
+    ensures kept { IsKept D.numbers (T.hashes hasher.now) part.new }
+{
+    let mut work = Work {
+        entries: Vec::new(alloc),
+        forks: Vec::new(alloc),
+        heights: 0,
+    };
+    gather(alloc, hasher, part, &mut work)?;
+    let made = hash_all(alloc, hasher, &work)?;
+    if made.forks.len() < work.forks.len() {
+        return Ok(false);
+    }
+    let mut passed = Passed {
+        entries: 0,
+        forks: 0,
+    };
+    scatter(alloc, hasher, part, &made, &mut passed)?;
+    Ok(work.forks.len() >= MOST)
+}
+
+// Hashes a tree, as far as no digest is kept, and keeps the digest of each fork. Errors: as of `digest_of`.
+#[inline(never)]
+pub fn fill_together<D: DigestItem, T: MapHasher<D>>(
+    alloc: Global,
+    hasher: &T,
+    part: &mut Part<D>,
+) -> Result<D, Error>
+    requires { IsKept D.numbers (T.hashes hasher.now) part.old }
+    ensures digest { AnswersBy D.numbers (shape_digest (T.hashes hasher.now)
+        (shape D.numbers part.old)) result }
+    ensures same { shape D.numbers part.new ≡ shape D.numbers part.old }
+    ensures kept { IsKept D.numbers (T.hashes hasher.now) part.new }
+{
+    // What a pass refuses, `fill` refuses again, or does without.
+    'passes: for _ in 0..u64::MAX {
+        match pass(alloc, hasher, part) {
+            Ok(true) => {}
+            Ok(false) => break,
+            Err(_) => break,
+        }
+    }
+    fill(alloc, hasher, part)
+}

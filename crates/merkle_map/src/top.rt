@@ -1,0 +1,169 @@
+//! Trees with a hidden top, of which the digest takes no memory of its own.
+
+ghost use Rattle.std.specs.Prelude.{◌≡◌, ◌++◌, [], map, IfErr, IfOk, OnErr, OnOk};
+ghost use Rattle.ark_base.specs.Outcome.{AnswersBy, IsMemory};
+ghost use Rattle.merkle_map.specs.Bytes.{itself, spelled, IsOf32};
+ghost use Rattle.merkle_map.specs.Changes.{known_at, outcome_with, tree_without, with_value};
+ghost use Rattle.merkle_map.specs.Kept.{IsTopKept};
+ghost use Rattle.merkle_map.specs.KeyProof.{behind_all, proof_at, seen_with};
+ghost use Rattle.merkle_map.specs.Map.{MapHashes};
+ghost use Rattle.merkle_map.specs.Parts.{entry_seen, found_seen, shape, top_shape};
+ghost use Rattle.merkle_map.specs.Pruned.{pruned, Fits};
+ghost use Rattle.merkle_map.specs.Rows.{rows_behind, rows_of};
+ghost use Rattle.merkle_map.specs.Tree.{shape_digest, IsKey, StandsAt};
+
+use crate::bytes::{push_hidden, write_part};
+use crate::hasher::MapHasher;
+use crate::key::copy_of;
+use crate::part::{Entry, Part, digest_of, find, hidden};
+use crate::proof::{End, climb_down};
+use crate::prune::prune_in;
+use crate::put::put_in;
+use crate::remove::remove_from;
+use crate::rows::push_rows;
+use ark_base::error::Error;
+use ark_base::serialize::DigestItem;
+use std::alloc::Global;
+
+/// A whole tree.
+#[derive(Drop)]
+pub enum Top<D> {
+    /// A tree in its parts.
+    Shown { part: Part<D> },
+    /// A digest alone.
+    Digest { digest: D },
+}
+
+// As `find`.
+pub fn find_top<'a, D: DigestItem>(top: &'a Top<D>, key: &[u8; 32]) -> Result<Option<&'a D>, Error>
+    requires { StandsAt [] (top_shape D.numbers top.now) }
+    ensures { known_at 0 key.now (top_shape D.numbers top.now)
+        ≡ found_seen (λ value. D.numbers value.now) result }
+{
+    match top {
+        Top::Shown { part } => find(part, 0, key),
+        Top::Digest { .. } => Err(hidden()),
+    }
+}
+
+// As `put_in`.
+pub fn put_top<D: DigestItem>(alloc: Global, top: &mut Top<D>, own: Entry<D>) -> Result<(), Error>
+    requires own_key { IsKey own.key }
+    requires stands { StandsAt [] (top_shape D.numbers top.old) }
+    ensures changed { AnswersBy (λ _. top_shape D.numbers top.new)
+        (with_value 0 (entry_seen D.numbers own) (top_shape D.numbers top.old)) result }
+    ensures kept { OnErr result (top_shape D.numbers top.new ≡ top_shape D.numbers top.old) }
+    ensures digests { (h : MapHashes) → IsTopKept D.numbers h top.old
+        → IsTopKept D.numbers h top.new }
+{
+    match top {
+        Top::Shown { part } => put_in(alloc, part, 0, own),
+        Top::Digest { .. } => Err(hidden()),
+    }
+}
+
+// As `remove_from`.
+pub fn remove_top<D: DigestItem>(top: &mut Top<D>, key: &[u8; 32]) -> Result<(), Error>
+    requires { StandsAt [] (top_shape D.numbers top.old) }
+    ensures changed { tree_without key.now (top_shape D.numbers top.old)
+        ≡ outcome_with (top_shape D.numbers top.new) result }
+    ensures kept { OnErr result (top_shape D.numbers top.new ≡ top_shape D.numbers top.old) }
+    ensures digests { (h : MapHashes) → IsTopKept D.numbers h top.old
+        → IsTopKept D.numbers h top.new }
+{
+    match top {
+        Top::Shown { part } => remove_from(part, key),
+        Top::Digest { .. } => Err(hidden()),
+    }
+}
+
+// As `digest_of`.
+pub fn digest_of_top<D: DigestItem, T: MapHasher<D>>(
+    alloc: Global,
+    hasher: &T,
+    top: &Top<D>,
+) -> Result<D, Error>
+    requires { IsTopKept D.numbers (T.hashes hasher.now) top.now }
+    ensures { AnswersBy D.numbers (shape_digest (T.hashes hasher.now)
+        (top_shape D.numbers top.now)) result }
+{
+    match top {
+        Top::Shown { part } => digest_of(alloc, hasher, part),
+        Top::Digest { digest } => copy_of(alloc, digest),
+    }
+}
+
+// As `prune_in`.
+pub fn prune_top<D: DigestItem, T: MapHasher<D>>(
+    alloc: Global,
+    hasher: &T,
+    tops: bool,
+    top: &Top<D>,
+    keys: &[[u8; 32]],
+) -> Result<Top<D>, Error>
+    requires fits { Fits 0 (top_shape D.numbers top.now) }
+    requires kept { IsTopKept D.numbers (T.hashes hasher.now) top.now }
+    ensures pruned { AnswersBy (top_shape D.numbers) (pruned (T.hashes hasher.now) tops 0 keys.now
+        (top_shape D.numbers top.now)) result }
+    ensures digests { IfOk result (λ new. (h : MapHashes) → IsTopKept D.numbers h new) }
+{
+    match top {
+        Top::Shown { part } => {
+            let part = prune_in(alloc, hasher, tops, part, 0, keys)?;
+            Ok(Top::Shown { part })
+        }
+        Top::Digest { digest } => {
+            let digest = copy_of(alloc, digest)?;
+            Ok(Top::Digest { digest })
+        }
+    }
+}
+
+// As `climb_down`.
+pub fn climb_top<D: DigestItem, T: MapHasher<D>>(
+    alloc: Global,
+    hasher: &T,
+    top: &Top<D>,
+    key: &[u8; 32],
+    siblings: &mut Vec<D>,
+) -> Result<End<D>, Error>
+    requires stands { StandsAt [] (top_shape D.numbers top.now) }
+    requires kept { IsTopKept D.numbers (T.hashes hasher.now) top.now }
+    ensures { AnswersBy (seen_with D.numbers (map D.numbers siblings.new.items))
+        (behind_all (map D.numbers siblings.old.items)
+        (proof_at (T.hashes hasher.now) 0 key.now (top_shape D.numbers top.now))) result }
+{
+    match top {
+        Top::Shown { part } => climb_down(alloc, hasher, part, 0, key, siblings),
+        Top::Digest { .. } => Err(hidden()),
+    }
+}
+
+// As `write_part`.
+pub fn write_top(top: &Top<[u8; 32]>, dest: &mut Vec<u8>) -> Result<(), Error>
+    ensures written { OnOk result (dest.new.items
+        ≡ dest.old.items ++ spelled (top_shape itself top.now)) }
+    ensures memory { IfErr result IsMemory }
+    ensures sized { OnOk result (IsOf32 (top_shape itself top.now)) }
+{
+    match top {
+        Top::Shown { part } => write_part(part, dest),
+        Top::Digest { digest } => push_hidden(digest, dest),
+    }
+}
+
+// As `push_rows`.
+pub fn push_rows_of_top<T: MapHasher<[u8; 32]>>(
+    alloc: Global,
+    hasher: &T,
+    top: &Top<[u8; 32]>,
+    rows: &mut Vec<u8>,
+) -> Result<[u8; 32], Error>
+    ensures { AnswersBy (λ digest. (digest, rows.new.items)) (rows_behind rows.old.items
+        (rows_of (T.hashes hasher.now) (top_shape itself top.now))) result }
+{
+    match top {
+        Top::Shown { part } => push_rows(alloc, hasher, part, rows),
+        Top::Digest { digest } => Ok(*digest),
+    }
+}

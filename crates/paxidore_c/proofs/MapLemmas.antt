@@ -1,0 +1,67 @@
+-- What calls on maps show.
+use Rattle.std.proofs.Common.{◌≡◌, ℕ, List, Bool, true, Option, Some, None, Result, Ok, Err, IfOk, IfSome, if◌then◌else◌, false, nat_lt, length, ap, sym, ◌∙◌, subst}
+use Rattle.ark_base.specs.declared.error.Error.{Error}
+use Rattle.ark_base.specs.Laws.Steps.{done_injective}
+use Rattle.ark_base.specs.Outcome.{Outcome, ◌>>=◌, AnswersBy}
+use Rattle.merkle_map.specs.Bytes.{invalid}
+use Rattle.merkle_map.specs.KeyProof.{ProofSeen, proof_verdict, IsAccepted}
+use Rattle.merkle_map.specs.Map.{Digest, Key, key_bits}
+use Rattle.merkle_map.specs.ProofBytes.{proof_bytes, proof_spelled, IsProofOf32}
+use Rattle.merkle_map.specs.Sha256.{sha256_map}
+use Rattle.merkle_map.specs.Transition.{ChangeSeen, LeadsOn, LeadsTo}
+use Rattle.merkle_map.specs.Tree.{Shape, shape_digest}
+use Rattle.merkle_map.proofs.ProofReading.{reads-proof-back}
+use Rattle.paxidore_c.specs.Answer.{GivesBy}
+use Rattle.paxidore_c.specs.Maps.{refusing_map, IsProvedBy}
+use Rattle.paxidore_c.specs.declared.refused.Refused.{Refused}
+
+-- what is shown of a proof that was read is shown of the bytes
+pub shown-read : (read : Outcome ProofSeen) (proof : ProofSeen) (P : ProofSeen → Type 0) (result : Outcome Bool)
+    → read ≡ Ok proof → IfOk result (λ accepted. accepted ≡ true → P proof)
+    → IfOk result (λ accepted. accepted ≡ true → IfOk read P)
+shown-read read proof P (Ok accepted) is known = λ yes. subst (λ o. IfOk o P) (sym is) (known yes)
+shown-read read proof P (Err error) is known = tt
+
+-- the bytes of a proof are its spelling
+bytes-spelled : (proof : ProofSeen) (bytes : List ℕ) → proof_bytes sha256_map.nothing proof ≡ Ok bytes
+    → bytes ≡ proof_spelled sha256_map.nothing proof
+bytes-spelled proof bytes e = by_test (nat_lt key_bits (length proof.siblings)) e
+  where
+    by_test : (b : Bool) → (if b then Err invalid else Ok (proof_spelled sha256_map.nothing proof)) ≡ Ok bytes
+        → bytes ≡ proof_spelled sha256_map.nothing proof
+    by_test true e = absurd cc
+    by_test false e = sym (done_injective {E = Error} (proof_spelled sha256_map.nothing proof) bytes e)
+
+-- the bytes of a tree's own proof are accepted
+pub proved-bytes : {A : Type 0} (items : A → List ℕ) (key : Key) (given : Outcome Shape) (tree : Shape)
+    (proof : ProofSeen) (result : Outcome A) → given ≡ Ok tree → IsAccepted sha256_map key tree proof
+    → AnswersBy items (proof_bytes sha256_map.nothing proof) result → IfOk result (λ _. IsProofOf32 proof)
+    → IfOk result (λ bytes. IfOk given (IsProvedBy key (items bytes)))
+proved-bytes items key given tree proof (Err error) is accepts written sized = tt
+proved-bytes items key given tree proof (Ok bytes) is accepts written sized =
+    let read = reads-proof-back sha256_map.nothing (items bytes) proof sized
+    (bytes-spelled proof (items bytes) written) in
+    subst (λ o. IfOk o (IsProvedBy key (items bytes))) (sym is)
+    (λ root value digest known. ap (λ o. o >>= proof_verdict sha256_map root key value) read
+    ∙ accepts root value digest known)
+
+-- what is said of the bytes that a call gives is said of the outcome
+pub given-said : {W : Type 0} (items : W → List ℕ) (outcome : Outcome (List ℕ)) (P : List ℕ → Type 0)
+    (result : Result W Refused) → GivesBy items (refusing_map outcome) result
+    → IfOk result (λ value. P (items value)) → IfOk result (λ value. IfOk outcome P)
+given-said items (Ok bytes) P (Ok value) is said =
+    let same : bytes ≡ items value = cc in subst P (sym same) said
+given-said items (Err error) P (Ok value) is said = absurd cc
+given-said items outcome P (Err refused) is said = tt
+
+-- what a changed tree leads to
+pub led : (root made : Digest) (given : Outcome Shape) (tree new : Shape) (own wanted : List ChangeSeen)
+    (found : Option Shape) → given ≡ Ok tree → found ≡ Some new → IfSome found (LeadsOn sha256_map root tree own)
+    → own ≡ wanted → shape_digest sha256_map new ≡ Ok made
+    → IfOk given (λ t. LeadsTo sha256_map root made t wanted)
+led root made given tree new own wanted None is there leads same digest = absurd cc
+led root made given tree new own wanted (Some other) is there leads same digest =
+    let e : other ≡ new = cc in
+    subst (λ o. IfOk o (λ t. LeadsTo sha256_map root made t wanted)) (sym is)
+    (subst (λ changes. LeadsTo sha256_map root made tree changes) same
+    (leads made (ap (shape_digest sha256_map) e ∙ digest)))

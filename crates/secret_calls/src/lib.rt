@@ -1,0 +1,47 @@
+//! Calls over Jubjub, exported to C so that `bindings/secrets-test` runs their machine code with the secrets marked as
+//! undefined. They stand in no library that is handed out, and promise nothing beyond what they call.
+#![tactic(auto)]
+
+use ark_groups::ec::AdditiveGroup;
+use ark_groups::ff::Field;
+use jubjub::{Jubjub, JubjubFr};
+
+fn scalar(bytes: &[u8; 32]) -> JubjubFr {
+    JubjubFr::from_le_bytes_mod_order(bytes)
+}
+
+/// Writes the public key of a secret key, as `keygen` of Schnorr and of ElGamal makes it.
+#[unsafe(no_mangle)]
+pub extern "C" fn secret_key(key: &mut [u8; 64], secret: &[u8; 32]) {
+    *key = AdditiveGroup::mul(Jubjub::generator(), scalar(secret)).to_bytes();
+}
+
+/// Writes Schnorr's response k - x e for a nonce k, a secret key x and a challenge e.
+#[unsafe(no_mangle)]
+pub extern "C" fn secret_response(
+    response: &mut [u8; 32],
+    nonce: &[u8; 32],
+    secret: &[u8; 32],
+    challenge: &[u8; 32],
+) {
+    let answer = scalar(nonce).sub(scalar(secret).mul(scalar(challenge)));
+    answer.write_low_bytes(response);
+}
+
+/// Writes the second part of ElGamal's ciphertext of the generator: it plus r times a public key, the generator's double.
+#[unsafe(no_mangle)]
+pub extern "C" fn secret_encrypted(part: &mut [u8; 64], randomness: &[u8; 32]) {
+    let generator = Jubjub::generator();
+    let key = generator.double();
+    *part = generator
+        .add(AdditiveGroup::mul(key, scalar(randomness)))
+        .to_bytes();
+}
+
+/// Writes the generator's double less s times the generator, as ElGamal decrypts these two parts by a secret key s.
+#[unsafe(no_mangle)]
+pub extern "C" fn secret_decrypted(message: &mut [u8; 64], secret: &[u8; 32]) {
+    let generator = Jubjub::generator();
+    let shared = AdditiveGroup::mul(generator, scalar(secret));
+    *message = generator.double().add(shared.neg()).to_bytes();
+}
