@@ -4,7 +4,8 @@ use Rattle.ark_base.specs.Outcome.{Outcome}
 use Rattle.merkle_map.specs.KeyProof.{ProofSeen, proof_verdict}
 use Rattle.merkle_map.specs.Map.{Digest, Entry, HaveSame, Key, MapHashes, root_of, value_at}
 use Rattle.merkle_map.specs.Transition.{ChangeSeen, Puts, Removes, changed_by}
-use Rattle.merkle_map.specs.Tree.{Fork, IsWhole, StandsAt, shape_digest}
+use Rattle.merkle_map.specs.Tree.{Fork, IsWhole, Shape, StandsAt, shape_digest}
+use Rattle.merkle_map.specs.Whole.{entries_of}
 use Rattle.merkle_map.specs.Parts.{shape}
 use Rattle.merkle_map.specs.declared.part.Part.{Part, Empty as NoEntry, One as OneEntry, Fork' as TwoSides, Hidden as Behind}
 use Rattle.merkle_map.specs.declared.top.Top.{Top}
@@ -46,6 +47,12 @@ pub record IsKeptStore {D : Type 0} (numbers : D → Digest) (h : MapHashes) (pa
 pub record MapValue (T : Type 0) : Type 0 where
   pub hasher : T
   pub entries : List Entry
+
+-- The tree is one of these entries: it stands at the root, hides nothing, and has them.
+pub record IsTreeOf (entries : List Entry) (tree : Shape) : Type 0 where
+  pub stands : StandsAt [] tree
+  pub whole : IsWhole tree
+  pub has : entries_of tree ≡ entries
 
 -- The map's root accepts the proof of what the map has at the key.
 abbrev pub IsShownIn : MapHashes → Key → List Entry → ProofSeen → Type 0

@@ -3,12 +3,12 @@
 
 ghost use Rattle.std.specs.Prelude.{◌≡◌, true, [], IfErr, IfOk, OnErr, OnOk, Ok};
 ghost use Rattle.ark_base.specs.Outcome.{AnswersBy, IsMemory};
-ghost use Rattle.merkle_map.specs.Kept.{changed_key, giving, IsKept, IsShownIn, TakesBack};
-ghost use Rattle.merkle_map.specs.KeyProof.{proof_seen};
+ghost use Rattle.merkle_map.specs.Kept.{changed_key, giving, IsKept, IsShownIn, IsTreeOf, TakesBack};
+ghost use Rattle.merkle_map.specs.KeyProof.{proof_at, proof_seen};
 ghost use Rattle.merkle_map.specs.Map.{put, root_of, value_at, without, HaveSame, IsMap};
 ghost use Rattle.merkle_map.specs.Parts.{shape, value_seen};
 ghost use Rattle.merkle_map.specs.Transition.{change_seen, changed_by};
-ghost use Rattle.merkle_map.specs.Tree.{shape_digest};
+ghost use Rattle.merkle_map.specs.Tree.{Shape, shape_digest};
 
 use crate::hasher::MapHasher;
 use crate::key::copy_of;
@@ -189,6 +189,11 @@ impl<D: DigestItem, T: MapHasher<D>> KeptMap<D, T> {
     ///
     /// Errors: that of the highest side beside the key's way whose hash refuses; `OutOfMemory`.
     pub fn prove_key(&self, alloc: Global, key: &[u8; 32]) -> Result<KeyProof<D>, Error>
+        // It is that of the map's tree.
+        ensures answer { (tree : Shape) × IsTreeOf self.now.entries tree
+            × AnswersBy (proof_seen D.numbers)
+            (proof_at (T.hashes self.now.hasher) 0 key.now tree) result }
+
         // The root accepts it.
         ensures accepted { IfOk result (λ proof. IsShownIn (T.hashes self.now.hasher) key.now
             self.now.entries (proof_seen D.numbers proof)) }

@@ -99,11 +99,12 @@ struct Made<D> {
     places: Vec<usize>,
 }
 
-// How many entries and forks of the work stand to the left.
+// How many entries and forks of the work stand to the left, and of how many forks the digest was kept.
 #[derive(Drop)]
 struct Passed {
     entries: usize,
     forks: usize,
+    kept: usize,
 }
 
 // Returns the height of a fork above this side, if it can be hashed in this pass.
@@ -394,6 +395,7 @@ fn scatter<D: DigestItem, T: MapHasher<D>>(
             };
             let copy = copy_of(alloc, &own)?;
             *digest = Some(copy);
+            passed.kept = passed.kept.wrapping_add(1);
             Ok(Some(own))
         }
         Part::Hidden { digest } => {
@@ -404,7 +406,8 @@ fn scatter<D: DigestItem, T: MapHasher<D>>(
     }
 }
 
-// Hashes forks together once, and keeps their digests. Returns whether it was all that a pass takes.
+// Hashes forks together once, and keeps their digests. Returns whether it kept all that a pass takes: then more may be left. A
+// hasher that returns its pairs in another order is asked once.
 fn pass<D: DigestItem, T: MapHasher<D>>(
     alloc: Global,
     hasher: &T,
@@ -427,9 +430,10 @@ fn pass<D: DigestItem, T: MapHasher<D>>(
     let mut passed = Passed {
         entries: 0,
         forks: 0,
+        kept: 0,
     };
     scatter(alloc, hasher, part, &made, &mut passed)?;
-    Ok(work.forks.len() >= MOST)
+    Ok(passed.kept >= MOST)
 }
 
 // Hashes a tree, as far as no digest is kept, and keeps the digest of each fork. Errors: as of `digest_of`.
