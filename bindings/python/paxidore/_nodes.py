@@ -5,7 +5,9 @@ import io
 import os
 import pathlib
 import sqlite3
-from typing import Dict, Iterator, List, Optional, Sequence, Tuple
+import time
+import weakref
+from typing import Dict, Iterator, List, Optional, Sequence, Tuple, Union
 
 from ._library import DIGEST_BYTES, _bytes, _call, _refusal, _size
 
@@ -18,9 +20,20 @@ _EMPTY, _ENTRY, _FORK, _HIDDEN = b"\0", b"\1", b"\2", b"\3"
 _APPLICATION = 0x50784D70
 _TABLES = 1
 
+# no version and no count of entries is as large
+_MOST = 2**62
+
 
 class DamagedMap(ValueError):
     """The file is no map's, or a node of the map is not there or is another than its digest says."""
+
+
+class AsKept:
+    """As many versions as the file was last asked to keep, 1 for a new one."""
+
+
+# how many versions are kept: all where it is None
+Versions = Union[int, None, AsKept]
 
 
 def _root_of(tree: bytes) -> bytes:
@@ -38,33 +51,70 @@ def _has_bit(key: bytes, level: int) -> bool:
     return bool(key[level >> 3] >> (7 - (level & 7)) & 1)
 
 
+# The stores that are open, and the connections that a forked process has of its parent.
+_stores: "weakref.WeakSet[_Store]" = weakref.WeakSet()
+_left_open: List[sqlite3.Connection] = []
+
+
+def _leave_open() -> None:
+    """Keeps a forked process from closing its parent's connections, also where it ends: SQLite would take itself for the last one that has
+    the database, and remove the log that others write."""
+    for store in list(_stores):
+        _left_open.append(store.base)
+        # where objects are counted, the interpreter's end would still close it
+        if hasattr(ctypes, "pythonapi"):
+            ctypes.pythonapi.Py_IncRef(ctypes.py_object(store.base))
+
+
+if hasattr(os, "register_at_fork"):
+    os.register_at_fork(after_in_child=_leave_open)
+
+
 class _Store:
     """The nodes of a map and the roots of its versions, in a database of SQLite."""
 
-    def __init__(self, path: "Optional[os.PathLike[str] | str]", read_only: bool, wait: float, versions: Optional[int]) -> None:
+    def __init__(self, path: "Optional[os.PathLike[str] | str]", read_only: bool, wait: float, versions: Versions) -> None:
         self.process = os.getpid()
+        self.is_closed = False
+        self.path = None if path is None else os.path.abspath(path)
         self.read_only = read_only
+        self.wait = wait
         self.versions = versions
-        if path is None:
+        if self.path is None:
             name, is_name = ":memory:", False
         else:
-            name, is_name = pathlib.Path(os.path.abspath(path)).as_uri() + ("?mode=ro" if read_only else "?mode=rwc"), True
+            name, is_name = pathlib.Path(self.path).as_uri() + ("?mode=ro" if read_only else "?mode=rwc"), True
         self.base = sqlite3.connect(name, timeout=wait, isolation_level=None, check_same_thread=False, uri=is_name)
+        _stores.add(self)
         try:
             if read_only:
                 self.look()
             else:
                 self.make()
         except BaseException:
-            self.base.close()
+            self.close()
             raise
 
+    def close(self) -> None:
+        self.is_closed = True
+        if self.process == os.getpid():
+            self.base.close()
+
+    def number(self, question: str) -> int:
+        answer: int = self.base.execute(question).fetchone()[0]
+        return answer
+
+    def is_new(self) -> bool:
+        return self.number("SELECT count(*) FROM sqlite_master") == 0 and self.number("PRAGMA application_id") == 0
+
     def make(self) -> None:
-        # readers go on while a change is written, and a change that was cut off leaves nothing
-        self.base.execute("PRAGMA journal_mode = WAL")
+        # nothing is written to a file that is another's
+        if not self.is_new():
+            self.look()
+        self.write_ahead()
         self.base.execute("PRAGMA synchronous = FULL")
         with self.change():
-            if self.base.execute("SELECT count(*) FROM sqlite_master").fetchone()[0] == 0:
+            if self.is_new():
                 self.base.execute("PRAGMA application_id = %d" % _APPLICATION)
                 self.base.execute("PRAGMA user_version = %d" % _TABLES)
                 # a node by its digest, and from which version on it is no longer in the map
@@ -72,49 +122,94 @@ class _Store:
                 self.base.execute("CREATE INDEX node_gone ON node (gone) WHERE gone IS NOT NULL")
                 self.base.execute("CREATE TABLE version (number INTEGER PRIMARY KEY, root BLOB NOT NULL, entries INTEGER NOT NULL)")
                 self.base.execute("INSERT INTO version VALUES (0, ?, 0)", (_NOTHING,))
+                # how many versions are kept, NULL for all
+                self.base.execute("CREATE TABLE kept (versions INTEGER)")
+                self.base.execute("INSERT INTO kept VALUES (1)")
             self.look()
+            if isinstance(self.versions, AsKept):
+                self.versions = self.base.execute("SELECT versions FROM kept").fetchone()[0]
+            else:
+                self.base.execute("UPDATE kept SET versions = ?", (self.versions,))
+
+    def write_ahead(self) -> None:
+        """Readers go on while a change is written, and a change that was cut off leaves nothing. SQLite itself waits for no other process
+        that switches to it."""
+        end = time.monotonic() + self.wait
+        while True:
+            try:
+                self.base.execute("PRAGMA journal_mode = WAL")
+                return
+            except sqlite3.OperationalError:
+                if time.monotonic() >= end:
+                    raise
+            time.sleep(0.01)
 
     def look(self) -> None:
-        if self.base.execute("PRAGMA application_id").fetchone()[0] != _APPLICATION:
+        if self.number("PRAGMA application_id") != _APPLICATION:
             raise DamagedMap("the file is no map's")
-        if self.base.execute("PRAGMA user_version").fetchone()[0] != _TABLES:
+        if self.number("PRAGMA user_version") != _TABLES:
             raise DamagedMap("the file is of another version of this module")
+
+    def settle(self) -> None:
+        """Ends a transaction that an interrupted call left."""
+        if self.base.in_transaction:
+            self.base.execute("ROLLBACK")
 
     @contextlib.contextmanager
     def change(self) -> Iterator[None]:
         """What is done within is done whole or not at all."""
         if self.read_only:
             raise io.UnsupportedOperation("the map is open for reading only")
-        self.base.execute("BEGIN IMMEDIATE")
         try:
+            self.settle()
+            self.base.execute("BEGIN IMMEDIATE")
             yield
+            self.base.execute("COMMIT")
         except BaseException:
-            self.base.execute("ROLLBACK")
+            # what failed is told, and not that it could not be taken back
+            with contextlib.suppress(sqlite3.Error):
+                self.settle()
             raise
-        self.base.execute("COMMIT")
 
     @contextlib.contextmanager
     def look_up(self) -> Iterator[None]:
         """What is read within is of one moment."""
-        if self.base.in_transaction:
-            yield
-            return
-        self.base.execute("BEGIN")
         try:
+            self.settle()
+            self.base.execute("BEGIN")
             yield
         finally:
-            self.base.execute("COMMIT")
+            self.settle()
+
+    @contextlib.contextmanager
+    def still(self) -> "Iterator[_Store]":
+        """A store that stays as it is now, whoever changes the map meanwhile. In memory it is this one."""
+        if self.path is None:
+            yield self
+            return
+        store = _Store(self.path, True, self.wait, None)
+        try:
+            store.base.execute("BEGIN")
+            store.head(None)
+            yield store
+        finally:
+            store.close()
 
     def head(self, number: Optional[int]) -> Tuple[int, bytes, int]:
         """The number, the root and the count of entries of a version, the newest where none is given."""
         if number is None:
             row = self.base.execute("SELECT number, root, entries FROM version ORDER BY number DESC LIMIT 1").fetchone()
         else:
-            row = self.base.execute("SELECT number, root, entries FROM version WHERE number = ?", (number,)).fetchone()
+            row = None
+            if 0 <= number < _MOST:
+                row = self.base.execute("SELECT number, root, entries FROM version WHERE number = ?", (number,)).fetchone()
             if row is None:
                 raise KeyError("version %d is not kept" % number)
         if row is None or type(row[1]) is not bytes or len(row[1]) != DIGEST_BYTES:
             raise DamagedMap("the map states no root")
+        # the next version has a number too
+        if not all(type(each) is int and 0 <= each < _MOST for each in (row[0], row[2])):
+            raise DamagedMap("the map states no version, or no count of entries")
         return row
 
     def node(self, digest: bytes) -> bytes:
@@ -165,7 +260,7 @@ class _Store:
         else:
             self.base.executemany("UPDATE node SET gone = ? WHERE digest = ?", ((number, digest) for digest in gone))
         self.base.execute("INSERT INTO version VALUES (?, ?, ?)", (number, root, entries))
-        if self.versions is not None:
+        if isinstance(self.versions, int):
             self.forget(number - self.versions + 1)
 
     def forget(self, number: int) -> None:

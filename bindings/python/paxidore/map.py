@@ -1,12 +1,14 @@
 """Maps with one root, for whoever keeps one and for clients. ``paxidore.Map`` is the class of this module."""
 import contextlib
 import ctypes
+import heapq
 import os
 import sqlite3
+import threading
 from typing import Any, Dict, Iterable, Iterator, Mapping, MutableMapping, Optional, Tuple
 
 from ._library import DIGEST_BYTES, _bytes, _call, _digest, _int, _refusal, _size, _sizes
-from ._nodes import _ENTRY, _FORK, _HIDDEN, _NOTHING, DamagedMap, _root_of, _Store
+from ._nodes import _ENTRY, _FORK, _HIDDEN, _NOTHING, AsKept, DamagedMap, Versions, _root_of, _Store
 from ._turn import Turn
 
 _map_verify = _call("map_verify", ctypes.c_int32, _bytes, _bytes, _bytes, _bytes, _size)
@@ -57,15 +59,19 @@ class MapVersion(Mapping[bytes, bytes]):
         self._number = number
 
     def _open(self) -> _Store:
-        if self._store is None:
+        if self._store is None or self._store.is_closed:
             raise ValueError("the map is closed")
         if self._store.process != os.getpid():
             raise ValueError("a forked process does not have the map of its parent")
         return self._store
 
-    def _head(self) -> Tuple[int, bytes, int]:
+    def _stated(self, store: _Store) -> Tuple[int, bytes, int]:
+        """The number, the root and the count of entries that a store states."""
         with self._turn:
-            return self._open().head(self._number)
+            return store.head(self._number)
+
+    def _head(self) -> Tuple[int, bytes, int]:
+        return self._stated(self._open())
 
     @property
     def root(self) -> bytes:
@@ -111,15 +117,25 @@ class MapVersion(Mapping[bytes, bytes]):
     def __contains__(self, key: object) -> bool:
         return isinstance(key, bytes) and self._shown(key)[0] is not None
 
-    def _entries(self) -> Iterator[Tuple[bytes, bytes]]:
-        """The entries by rising keys, each node checked."""
-        parts = [(self.root, 0)]
+    def _node(self, store: _Store, digest: bytes, root: bytes) -> bytes:
+        """A node of a map with this root, as it is stored."""
+        with self._turn:
+            self._open()
+            try:
+                return store.node(digest)
+            except DamagedMap:
+                if store is self._store and store.head(self._number)[1] != root:
+                    raise RuntimeError("the map changed during iteration") from None
+                raise
+
+    def _entries(self, store: _Store, root: bytes) -> Iterator[Tuple[bytes, bytes]]:
+        """The entries of the map with a root by rising keys, each node checked."""
+        parts = [(root, 0)]
         while parts:
             digest, level = parts.pop()
             if digest == _NOTHING:
                 continue
-            with self._turn:
-                node = self._open().node(digest)
+            node = self._node(store, digest, root)
             part = _ENTRY + node[1:] if node[0] == 0 else _FORK + _HIDDEN + node[1:33] + _HIDDEN + node[33:]
             if _root_of(part) != digest or level > 256:
                 raise DamagedMap("a node of the map is not the one that was stored")
@@ -129,13 +145,17 @@ class MapVersion(Mapping[bytes, bytes]):
                 parts += [(node[33:], level + 1), (node[1:33], level + 1)]
 
     def __iter__(self) -> Iterator[bytes]:
-        """The keys, rising. The map is not to change meanwhile."""
-        return (key for key, _ in self._entries())
+        """The keys, rising, of the map as it is when the first one is asked for. A map in memory is not to change meanwhile."""
+        with self._open().still() as store:
+            for key, _ in self._entries(store, self._stated(store)[1]):
+                yield key
 
     def check(self) -> None:
         """Reads all nodes, and raises ``DamagedMap`` where one is not the one that was stored, or the count of entries is another."""
-        if sum(1 for _ in self._entries()) != len(self):
-            raise DamagedMap("the map states another count of entries")
+        with self._open().still() as store:
+            _, root, entries = self._stated(store)
+            if sum(1 for _ in self._entries(store, root)) != entries:
+                raise DamagedMap("the map states another count of entries")
 
     def __repr__(self) -> str:
         if self._store is None:
@@ -162,13 +182,13 @@ class Map(MapVersion, MutableMapping[bytes, bytes]):
     changes. ``map.prove(key)`` gives a proof of a value or of nothing, and ``Map.verify`` checks it for a client.
 
     Each change is written whole or not at all, and makes a new version; ``update`` and ``batch`` make many changes one. What is read is
-    checked against the root. Threads may share a map: its calls run one after the other. A forked process does not have the map of its
-    parent: there each call raises ``ValueError``.
+    checked against the root. Threads may share a map: its calls run one after the other, and a batch is its thread's own. A forked process
+    does not have the map of its parent: there each call raises ``ValueError``.
     """
 
     def __init__(self) -> None:
         super().__init__(_Store(None, False, 0, 1), Turn(), None)
-        self._batch: Optional[Dict[bytes, Optional[bytes]]] = None
+        self._batches: Dict[int, Dict[bytes, Optional[bytes]]] = {}
 
     @classmethod
     def open(
@@ -177,19 +197,20 @@ class Map(MapVersion, MutableMapping[bytes, bytes]):
         *,
         read_only: bool = False,
         wait: float = 5,
-        versions: Optional[int] = 1,
+        versions: Versions = AsKept(),
         root: Optional[bytes] = None,
     ) -> "Map":
         """The map that a file keeps; a new one where there is no such file.
 
         The map is as after the last change that returned, or also has the one that was under way. The newest ``versions`` are kept for
-        ``at``, all where that is None. A map that is open for reading only sees what its keeper changes; it has to be there. A change
-        waits for at most so many seconds while another process makes one. Where a root is given, it is to be the map's.
+        ``at``, all where that is None; the file remembers how many, 1 where none was ever named. A map that is open for reading only sees
+        what its keeper changes; it has to be there. A change waits for at most so many seconds while another process makes one. Where a
+        root is given, it is to be the map's.
 
         Raises ``DamagedMap``, which is ``ValueError``, where the file is no map's, the node of its root is damaged, or it has another
         root; ``sqlite3.Error``.
         """
-        if versions is not None and _int("versions", versions) < 1:
+        if versions is not None and not isinstance(versions, AsKept) and _int("versions", versions) < 1:
             raise ValueError("versions is 1 or more")
         self = cls.__new__(cls)
         try:
@@ -198,7 +219,7 @@ class Map(MapVersion, MutableMapping[bytes, bytes]):
             if isinstance(error, sqlite3.OperationalError):
                 raise
             raise DamagedMap("the file is no map's (%s)" % error) from None
-        self._batch = None
+        self._batches = {}
         try:
             stated = self.root
             if root is not None and stated != _digest(root):
@@ -213,8 +234,8 @@ class Map(MapVersion, MutableMapping[bytes, bytes]):
     def close(self) -> None:
         """Closes the file. The map cannot be used any more. A second call does nothing."""
         with self._turn:
-            if self._store is not None and self._store.process == os.getpid():
-                self._store.base.close()
+            if self._store is not None:
+                self._store.close()
             self._store = None
 
     def __enter__(self) -> "Map":
@@ -297,41 +318,60 @@ class Map(MapVersion, MutableMapping[bytes, bytes]):
             raise _refusal(answer)
         return new_root if answer == 0 else None
 
+    def _batch(self) -> Optional[Dict[bytes, Optional[bytes]]]:
+        """The changes of the batch that this thread is in."""
+        return self._batches.get(threading.get_ident())
+
     def _set(self, changes: Mapping[bytes, Optional[bytes]]) -> None:
-        if self._batch is None:
+        batch = self._batch()
+        if batch is None:
             self._change(changes)
         else:
             _Changes(changes)
-            self._batch.update(changes)
+            batch.update(changes)
 
     @contextlib.contextmanager
     def batch(self) -> Iterator["Map"]:
-        """Makes all changes within one: they are written together at its end, or not at all where it ends by an exception.
+        """Makes all changes of this thread within one: they are written together at its end, or not at all where it ends by an exception.
 
-        ``map[key]`` and ``key in map`` see them before; the root, proofs, the length and iteration do not.
+        ``map[key]``, ``key in map``, the length and iteration see them before; the root, proofs and other threads do not.
         """
-        if self._batch is not None:
+        own = threading.get_ident()
+        if own in self._batches:
             raise RuntimeError("the map is in a batch already")
-        self._batch = {}
+        self._batches[own] = {}
         try:
             yield self
-            changes, self._batch = self._batch, None
-            self._change(changes)
+            self._change(self._batches[own])
         finally:
-            self._batch = None
+            del self._batches[own]
 
     def __getitem__(self, key: bytes) -> bytes:
-        if self._batch is not None and key in self._batch:
-            value = self._batch[key]
+        batch = self._batch()
+        if batch is not None and key in batch:
+            value = batch[key]
             if value is None:
                 raise KeyError(key)
             return value
         return super().__getitem__(key)
 
     def __contains__(self, key: object) -> bool:
-        if self._batch is not None and key in self._batch:
-            return self._batch[key] is not None  # type: ignore[index]
+        batch = self._batch()
+        if batch is not None and key in batch:
+            return batch[key] is not None  # type: ignore[index]
         return super().__contains__(key)
+
+    def __len__(self) -> int:
+        count = super().__len__()
+        for key, value in (self._batch() or {}).items():
+            count += (value is not None) - super().__contains__(key)
+        return count
+
+    def __iter__(self) -> Iterator[bytes]:
+        """The keys, rising, of the map as it is when the first one is asked for. A map in memory is not to change meanwhile."""
+        batch = dict(self._batch() or {})
+        stored = (key for key in super(Map, self).__iter__() if key not in batch)
+        return heapq.merge(stored, sorted(key for key, value in batch.items() if value is not None))
 
     def __setitem__(self, key: bytes, value: bytes) -> None:
         _digest(value, "value")

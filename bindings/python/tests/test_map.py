@@ -8,6 +8,7 @@ import pathlib
 import random
 import signal
 import sqlite3
+import subprocess
 import sys
 import tempfile
 import threading
@@ -33,6 +34,34 @@ def load_model():
 
 
 MODEL = load_model()
+
+# A process that has a map forks, and closes it; another one keeps it and is killed; then the forked one ends, with its objects.
+FORKS = """
+import os, signal, sys
+from paxidore import Map
+
+def key(number):
+    return bytes([number]) * 32
+
+own = Map.open(sys.argv[1])
+own[key(0)] = key(0)
+reads, writes = os.pipe()
+child = os.fork()
+if child == 0:
+    os.close(writes)
+    os.read(reads, 1)
+    sys.exit(0)
+own.close()
+keeper = os.fork()
+if keeper == 0:
+    other = Map.open(sys.argv[1])
+    for number in range(1, 30):
+        other[key(number)] = key(number)
+    os.kill(os.getpid(), signal.SIGKILL)
+os.waitpid(keeper, 0)
+os.close(writes)
+os.waitpid(child, 0)
+"""
 
 
 def sha(data):
@@ -122,6 +151,46 @@ class Agrees(unittest.TestCase):
                     Map.changed_root(root, changes, witness[:-1])
                 with self.assertRaises(paxidore.InvalidProof):
                     Map.changed_root(root, changes, witness + b"\0")
+
+    def test_a_batch_is_its_threads_own(self):
+        own, begun, written = Map(), threading.Event(), threading.Event()
+        failures = []
+
+        def write():
+            try:
+                begun.wait()
+                own[near(2)] = sha(b"2")
+                with own.batch():
+                    own[near(3)] = sha(b"3")
+            except BaseException as error:
+                failures.append(error)
+            written.set()
+
+        writer = threading.Thread(target=write)
+        writer.start()
+        with self.assertRaises(ZeroDivisionError):
+            with own.batch():
+                own[near(1)] = sha(b"1")
+                begun.set()
+                written.wait()
+                1 / 0
+        writer.join()
+        self.assertEqual(failures, [])
+        self.assertEqual(dict(own.items()), {near(2): sha(b"2"), near(3): sha(b"3")})
+
+    def test_a_batch_is_read_before_its_end(self):
+        own = Map()
+        own.update({near(i): sha(b"%d" % i) for i in range(9)})
+        with own.batch():
+            del own[near(3)]
+            own[near(40)] = sha(b"40")
+            own[near(5)] = sha(b"another")
+            entries = {near(i): sha(b"%d" % i) for i in range(9) if i != 3}
+            entries.update({near(40): sha(b"40"), near(5): sha(b"another")})
+            self.assertEqual((dict(own.items()), list(own), len(own)), (entries, sorted(entries), len(entries)))
+            own.clear()
+            self.assertEqual((dict(own), len(own)), ({}, 0))
+        self.assertEqual((dict(own), len(own)), ({}, 0))
 
     def test_an_exception_leaves_the_map(self):
         own = Map()
@@ -292,6 +361,91 @@ class Files(unittest.TestCase):
         with self.assertRaises(DamagedMap):
             Map.open(self.path + ".base")
 
+    def test_versions_are_remembered(self):
+        with Map.open(self.path, versions=None) as own:
+            own[near(1)] = sha(b"1")
+            first = own.version
+        with Map.open(self.path) as own:
+            own[near(2)] = sha(b"2")
+            self.assertEqual(dict(own.at(first).items()), {near(1): sha(b"1")})
+        with Map.open(self.path, versions=1) as own:
+            own[near(3)] = sha(b"3")
+        with Map.open(self.path) as own, self.assertRaises(KeyError):
+            own.at(first)
+
+    def test_other_databases(self):
+        """Nothing is written to a file that is another's."""
+        for name, made in (("table", "CREATE TABLE t (x)"), ("id", "PRAGMA application_id = 7")):
+            path = "%s.%s" % (self.path, name)
+            base = sqlite3.connect(path)
+            base.execute(made)
+            base.commit()
+            base.close()
+            before = pathlib.Path(path).read_bytes()
+            with self.assertRaises(DamagedMap):
+                Map.open(path)
+            self.assertEqual(pathlib.Path(path).read_bytes(), before)
+        with Map.open(self.path) as own:
+            own[near(1)] = sha(b"1")
+            for stated in ("root = x'00'", "entries = 'many'", "entries = -1", "number = 9223372036854775807"):
+                with self.subTest(stated):
+                    own._store.base.execute("BEGIN")
+                    own._store.base.execute("UPDATE version SET %s" % stated)
+                    with self.assertRaises(DamagedMap):
+                        own._store.head(None)
+                    own._store.base.execute("ROLLBACK")
+
+    def test_makers_at_once(self):
+        """Whoever makes a map's file waits for another who does."""
+        refused = []
+
+        def make(path):
+            try:
+                with Map.open(path, wait=20) as own:
+                    own[sha(b"%d" % threading.get_ident())] = sha(b"")
+            except BaseException as error:
+                refused.append(error)
+
+        for turn in range(8):
+            makers = [threading.Thread(target=make, args=("%s.%d" % (self.path, turn),)) for _ in range(4)]
+            for maker in makers:
+                maker.start()
+            for maker in makers:
+                maker.join()
+        self.assertEqual(refused, [])
+
+    @unittest.skipUnless(hasattr(os, "fork"), "no fork")
+    def test_forked_process_ends(self):
+        """The end of a forked process takes nothing from whoever keeps the map then, also where that one is killed."""
+        subprocess.run([sys.executable, "-c", FORKS, self.path], check=True)
+        with Map.open(self.path) as again:
+            self.assertEqual(len(again), 30)
+            again.check()
+
+    def test_interrupted_call(self):
+        """A call that an interrupt left in a transaction is no hindrance to the next one."""
+        with Map.open(self.path) as own, Map.open(self.path, read_only=True) as reader:
+            own[near(1)] = sha(b"1")
+            self.assertEqual(reader[near(1)], sha(b"1"))
+            for left in (own, reader):
+                left._store.base.execute("BEGIN")
+                left._store.head(None)
+            own[near(2)] = sha(b"2")
+            self.assertEqual(reader.prove(near(2)), own.prove(near(2)))
+            self.assertFalse(own._store.base.in_transaction or reader._store.base.in_transaction)
+
+    def test_closed_and_far(self):
+        own = Map.open(self.path, versions=None)
+        own[near(1)] = sha(b"1")
+        kept = own.at(own.version)
+        for version in (2**70, -1, 2**63):
+            with self.assertRaises(KeyError):
+                own.at(version)
+        own.close()
+        for call in (lambda: kept.root, lambda: kept[near(1)], lambda: list(kept), lambda: len(kept), kept.check):
+            with self.assertRaises(ValueError):
+                call()
+
     def test_readers_meanwhile(self):
         with Map.open(self.path) as own:
             own.update({near(i): sha(b"%d" % i) for i in range(40)})
@@ -301,6 +455,7 @@ class Files(unittest.TestCase):
                 try:
                     with Map.open(self.path, read_only=True) as reader:
                         while not stop.is_set() or not seen[0]:
+                            reader.check()
                             for i in range(40):
                                 value = reader.get(near(i))
                                 if value is not None:

@@ -1,5 +1,5 @@
 -- Receipts of entries: proofs as files, as C2SP's tlog-proof has them.
-use Rattle.std.specs.Prelude.{◌≡◌, ℕ, true, List, [], ◌∷◌, ◌++◌, Ok, codes}
+use Rattle.std.specs.Prelude.{◌≡◌, ℕ, false, true, List, [], ◌∷◌, ◌++◌, Ok, codes}
 use Rattle.std.specs.Fmt.{decimal}
 use Rattle.std.specs.List.{flat_map}
 use Rattle.base64.specs.GeneralPurpose.{encode_of}
@@ -31,3 +31,13 @@ pub record IsReceiptOf (policy : Policy) (origin bytes entry : List ℕ) (size :
   pub size_is : stated.size ≡ size
   pub root_is : stated.root ≡ root
   pub accepted : inclusion_verdict node_of root size index (entry_hash entry) path ≡ Ok true
+
+-- The bytes are a receipt whose checkpoint is signed as a policy asks, and whose path does not lead from the entry to its root.
+pub record LeadsElsewhere (policy : Policy) (origin bytes entry : List ℕ) : Type 0 where
+  pub index : ℕ
+  pub path : List Digest
+  pub note : List ℕ
+  pub stated : CheckpointParts
+  pub spelled : bytes ≡ receipt_of index path note
+  pub opened : IsOpened policy origin note stated
+  pub refused : inclusion_verdict node_of stated.root stated.size index (entry_hash entry) path ≡ Ok false

@@ -1,9 +1,9 @@
 //! Receipts: that an entry stands at an index of a log, as one file (C2SP tlog-proof).
 
-ghost use Rattle.std.specs.Prelude.{◌≡◌, ◌++◌, ◌∷◌, [], true, IfOk, IfSome, OnOk, Ok};
+ghost use Rattle.std.specs.Prelude.{◌≡◌, ◌++◌, ◌∷◌, [], true, IfOk, IfSome, IsNone, OnOk, Ok};
 ghost use Rattle.std.specs.List.{flat_map};
 ghost use Rattle.ark_trees.specs.Rfc6962.{entry_hash, node_of};
-ghost use Rattle.log_checkpoints.specs.Receipts.{digest_line, receipt_of, IsReceiptOf};
+ghost use Rattle.log_checkpoints.specs.Receipts.{digest_line, receipt_of, IsReceiptOf, LeadsElsewhere};
 ghost use Rattle.merkle_log.specs.Verdict.{inclusion_verdict};
 ghost use Rattle.signed_notes.specs.Views.{policy_parts};
 
@@ -178,8 +178,10 @@ pub fn verify_receipt(
     origin: &str,
     policy: &Policy,
 ) -> Result<Option<(usize, [u8; 32])>, ReceiptFault>
-    ensures { let policy = policy_parts policy.now in IfOk result (λ found. IfSome found (λ head.
-        IsReceiptOf policy origin.now bytes.now entry.now head.0 head.1)) }
+    ensures shown { IfOk result (λ found. IfSome found (λ head.
+        IsReceiptOf (policy_parts policy.now) origin.now bytes.now entry.now head.0 head.1)) }
+    ensures none { IfOk result (λ found. IsNone found
+        → LeadsElsewhere (policy_parts policy.now) origin.now bytes.now entry.now) }
 {
     let Receipt { index, path, note } = read_receipt(alloc, bytes)?;
     let checkpoint = match open_checkpoint(alloc, note, origin, policy) {

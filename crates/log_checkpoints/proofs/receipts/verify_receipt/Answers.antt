@@ -2,8 +2,8 @@ use Rattle.std.proofs.Common.{Ok, ap, refl, ◌∙◌}
 use Rattle.signed_notes.specs.Views.{checkpoint_parts}
 use Rattle.log_checkpoints.proofs.receipts.verify_receipt.Goals as goal
 
-pub returns-then-branch : goal.returns-then-branch
-returns-then-branch c =
+pub returns-then-branch-clause-shown : goal.returns-then-branch-clause-shown
+returns-then-branch-clause-shown c =
     let read = c.in_ok-index.field-0 in
     let path = c.deref.ensures.value in
     let shown = c.in_ok-is_shown.ensures ∙ ap Ok c.if-branch.true in
@@ -17,4 +17,19 @@ returns-then-branch c =
       size_is = refl;
       root_is = refl;
       accepted = rw path at shown;
+    }
+
+pub returns-clause-none : goal.returns-clause-none
+returns-clause-none c none =
+    let read = c.in_ok-index.field-0 in
+    let path = c.deref.ensures.value in
+    let shown = c.in_ok-is_shown.ensures ∙ ap Ok c.if-branch.false in
+    record {
+      index = read.index;
+      path = read.path.items;
+      note = read.note.now;
+      stated = checkpoint_parts c.in-Ok.checkpoint;
+      spelled = c.in_ok-index.ensures;
+      opened = c.in-Ok.ensures.opened;
+      refused = rw path at shown;
     }
