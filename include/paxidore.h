@@ -5,7 +5,7 @@
  * they stand on the process's malloc, realloc and free, so do not call them in a signal handler, nor in the child of a process with
  * threads between fork and exec. Where malloc returns NULL the answer is PAXIDORE_E_MEMORY; no clause says that enough memory is
  * not answered so. The calls of kept trees (paxidore_tree_..) but paxidore_tree_multi_path, of SHA-256, of BLAKE2s and of commitments
- * allocate nothing, nor does a kept log's root, its check or its count.
+ * allocate nothing, nor does the root of a kept log over SHA-256, its check or its count.
  *
  * size_t has 64 bits. Only inputs may overlap. A pointer to a first byte or number is not NULL and may be read, or written where
  * it is not const, for its length; with length 0 it is not looked at and may be NULL. */
