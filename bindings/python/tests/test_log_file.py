@@ -1,0 +1,421 @@
+"""Logs in files: their openers, locks, heads and processes."""
+import fcntl
+import io
+import os
+import signal
+import sys
+import tempfile
+import threading
+import time
+import unittest
+
+import paxidore
+from paxidore import Log
+from log_model import drawn, entry_digests, mth, proofs_are, ROUNDS, sha, stored
+
+
+class InFile(unittest.TestCase):
+    def setUp(self):
+        # in memory where there is such a folder, since a thousand processes sync several times each
+        shared = "/dev/shm"
+        self.room = tempfile.TemporaryDirectory(dir=shared if os.access(shared, os.W_OK) else None)
+        self.addCleanup(self.room.cleanup)
+        self.path = os.path.join(self.room.name, "log")
+
+    def test_it_is_read_again(self):
+        entries = drawn(70)
+        digests = entry_digests(entries)
+        for size in range(71):
+            with Log.open(self.path) as log:
+                self.assertEqual(len(log), size)
+                self.assertEqual(log.root(), mth(digests[:size]))
+                log.append(entries[size : size + 1])
+        with Log.open(self.path) as log:
+            for size in range(0, 71, 7):
+                proofs_are(self, log, digests, size)
+            self.assertTrue(log.check())
+        with open(self.path, "rb") as file:
+            self.assertTrue(file.read().endswith(b"".join(stored(digests))))
+        self.assertEqual(os.listdir(self.room.name), ["log"])
+
+    def test_it_is_locked(self):
+        with Log.open(self.path):
+            self.assertRaises(BlockingIOError, Log.open, self.path)
+        Log.open(self.path).close()
+
+    def test_files_of_others(self):
+        for content in (b"x", bytes(97), bytes(1000), b"paxidore log, digests of SHA-256" + bytes(63) + b"x"):
+            with open(self.path, "wb") as file:
+                file.write(content)
+            self.assertRaises(ValueError, Log.open, self.path)
+            with open(self.path, "rb") as file:
+                self.assertEqual(file.read(), content)
+        self.assertRaises(FileNotFoundError, Log.open, os.path.join(self.room.name, "none", "log"))
+        self.assertRaises(IsADirectoryError, Log.open, self.room.name)
+
+    def test_a_head_that_a_crash_left(self):
+        """Of a new log's head any part may be written: it has no entries, since none is appended before the head is synced."""
+        Log.open(self.path).close()
+        with open(self.path, "rb") as file:
+            head = file.read()
+        for end in range(len(head) + 1):
+            for content in (head[:end], bytes(end), head[:end] + bytes(len(head) - end), bytes(end) + head[end:]):
+                with open(self.path, "wb") as file:
+                    file.write(content)
+                with Log.open(self.path) as log:
+                    self.assertEqual((len(log), log.append([b"an entry"])), (0, 1))
+
+    def test_a_new_log_of_several_threads(self):
+        """What an append returned is in the file, whoever makes it."""
+        interval = sys.getswitchinterval()
+        self.addCleanup(sys.setswitchinterval, interval)
+        sys.setswitchinterval(1e-6)
+        for turn in range(ROUNDS):
+            path, done = "%s%d" % (self.path, turn), []
+
+            def opens():
+                try:
+                    with Log.open(path) as log:
+                        log.append([b"one", b"two"])
+                        done.append(log.root())
+                except BlockingIOError:
+                    pass
+
+            threads = [threading.Thread(target=opens) for _ in range(3)]
+            for thread in threads:
+                thread.start()
+            for thread in threads:
+                thread.join()
+            self.assertGreater(len(done), 0)
+            with Log.open(path) as log:
+                self.assertEqual(len(log), 2 * len(done))
+            os.unlink(path)
+        self.assertEqual(os.listdir(self.room.name), [])
+
+    def test_a_new_log_of_several_processes(self):
+        """The same of forked processes; who waits for the lock appends."""
+        for turn in range(ROUNDS // 6):
+            path, wait = "%s%d" % (self.path, turn), turn % 2 * 60
+            children = []
+            for _ in range(3):
+                child = os.fork()
+                if child == 0:
+                    done = 0
+                    try:
+                        with Log.open(path, wait=wait) as log:
+                            done = log.append([b"one", b"two"])
+                    except BlockingIOError:
+                        pass
+                    finally:
+                        os._exit(done)
+                children.append(child)
+            sizes = [os.waitstatus_to_exitcode(os.waitpid(child, 0)[1]) for child in children]
+            done = sorted(size for size in sizes if size)
+            self.assertEqual(done, list(range(2, 2 * len(done) + 1, 2)))
+            self.assertGreaterEqual(len(done), 3 if wait else 1)
+            with Log.open(path) as log:
+                self.assertEqual(len(log), 2 * len(done))
+            os.unlink(path)
+
+    def test_a_file_that_is_replaced(self):
+        """A log that was opened under a name that another file has now is none."""
+        real = fcntl.flock
+        other = self.path + ".other"
+        Log.open(other).close()
+
+        def flock(file, operation):
+            real(file, operation)
+            if os.path.exists(other):
+                os.rename(other, self.path)
+
+        fcntl.flock = flock
+        try:
+            with Log.open(self.path) as log:
+                log.append([b"an entry"])
+        finally:
+            fcntl.flock = real
+        with Log.open(self.path) as log:
+            self.assertEqual(len(log), 1)
+
+    def test_a_kept_exception(self):
+        """It holds neither the file nor what was lent, and the log goes on."""
+        for log in (Log(), Log.open(self.path)):
+            log.append([b"one", b"two"])
+            kept = []
+            for call in (
+                lambda: log.root(99),
+                lambda: log.inclusion(7),
+                lambda: log.consistency(9),
+                lambda: log.root("3"),
+                lambda: log.inclusion("1"),
+            ):
+                try:
+                    call()
+                except (paxidore.Refused, TypeError) as error:
+                    kept.append(error)
+            self.assertEqual((len(kept), log.append([b"three"])), (5, 3))
+            self.assertEqual(log.root(), mth(entry_digests([b"one", b"two", b"three"])))
+            log.close()
+        with Log.open(self.path) as log:
+            self.assertEqual(len(log), 3)
+        self.assertEqual(len(kept), 5)
+
+    def test_a_size_that_is_none(self):
+        """A head with a right sum and a size that no log has is damaged. Opening a log changes none of its bytes."""
+        with Log.open(self.path) as log:
+            log.append(drawn(5))
+        with open(self.path, "rb") as file:
+            whole = file.read()
+        for size in (1 << 63, (1 << 64) - 1, 1 << 62, 1 << 59, 1 << 58, 6):
+            word = size.to_bytes(8, "little")
+            for at in (32, 64):
+                content = whole[:at] + word + sha(word)[:24] + whole[at + 32 :]
+                with open(self.path, "wb") as file:
+                    file.write(content)
+                self.assertRaises(ValueError, Log.open, self.path)
+                with open(self.path, "rb") as file:
+                    self.assertEqual(file.read(), content)
+        for content in (whole + b"the rest of an append", whole[:64] + bytes(32) + whole[96:]):
+            with open(self.path, "wb") as file:
+                file.write(content)
+            with Log.open(self.path) as log:
+                log.root()
+            with open(self.path, "rb") as file:
+                self.assertEqual(file.read(), content)
+
+    def test_a_file_of_an_earlier_version(self):
+        """Its slots have 24 bytes of the sum of the size, and state no root. It goes on, and then states one."""
+        entries = drawn(12)
+        for size in range(len(entries)):
+            if os.path.exists(self.path):
+                os.remove(self.path)
+            with Log.open(self.path) as log:
+                log.append(entries[:size])
+            with open(self.path, "rb") as file:
+                whole = file.read()
+            word = size.to_bytes(8, "little")
+            for slots in (2 * (word + sha(word)[:24]), word + sha(word)[:24] + bytes(32)):
+                old = whole[:32] + slots + whole[96:]
+                with open(self.path, "wb") as file:
+                    file.write(old)
+                with Log.open(self.path) as log:
+                    self.assertEqual((len(log), log.root(), log.check()), (size, mth(entry_digests(entries[:size])), True))
+                    with open(self.path, "rb") as file:
+                        self.assertEqual(file.read(), old)
+                    for index in range(size):
+                        shown = log.inclusion(index)
+                        self.assertTrue(Log.verify_inclusion(log.root(), size, index, entries[index], shown))
+                    self.assertEqual(log.append(entries[size:]), len(entries))
+                    self.assertEqual(log.root(), mth(entry_digests(entries)))
+                with open(self.path, "rb") as file:
+                    head = file.read()[32:96]
+                statement = sha(len(entries).to_bytes(8, "little") + mth(entry_digests(entries)))[:12]
+                self.assertEqual((head[20:32], head[52:]), (statement, statement))
+
+    def test_damage(self):
+        """A digest that a root or a proof needs is told; a head without a whole slot has its own error."""
+        with Log.open(self.path) as log:
+            log.append(drawn(11))
+        with open(self.path, "rb") as file:
+            whole = file.read()
+        with open(self.path, "wb") as file:
+            file.write(whole[:-1] + bytes([whole[-1] ^ 1]))
+        with Log.open(self.path) as log:
+            for call in (log.root, lambda: log.inclusion(3), lambda: log.consistency(3), lambda: log.append([b"more"])):
+                self.assertRaises(paxidore.DamagedLog, call)
+            self.assertEqual(len(log), 11)
+        with open(self.path, "wb") as file:
+            file.write(whole[:96] + bytes([whole[96] ^ 1]) + whole[97:])
+        with Log.open(self.path) as log:
+            log.root()
+            log.inclusion(8)
+            self.assertRaises(paxidore.DamagedLog, log.inclusion, 1)
+            self.assertRaises(paxidore.DamagedLog, log.consistency, 1)
+        with open(self.path, "wb") as file:
+            file.write(whole[:32] + bytes(64) + whole[96:])
+        self.assertRaises(paxidore.DamagedHead, Log.open, self.path)
+
+    def test_a_forked_process(self):
+        """It does not have the log of its parent, nor its lock."""
+        with Log.open(self.path) as log:
+            log.append([b"one"])
+            child = os.fork()
+            if child == 0:
+                refused = 0
+                for call in (lambda: log.append([b"two"]), log.root, lambda: log.inclusion(0), log.check):
+                    try:
+                        call()
+                    except ValueError:
+                        refused += 1
+                log.close()
+                try:
+                    Log.open(self.path)
+                except BlockingIOError:
+                    refused += 1
+                os._exit(refused)
+            self.assertEqual(os.waitstatus_to_exitcode(os.waitpid(child, 0)[1]), 5)
+            self.assertEqual(log.append([b"two"]), 2)
+            reading, writing = os.pipe()
+            lives, alive = os.pipe()
+            child = os.fork()
+            if child == 0:
+                os.write(alive, b"x")
+                os.read(reading, 1)
+                os._exit(0)
+            os.read(lives, 1)
+        # the child that lives does not hold the lock
+        with Log.open(self.path) as log:
+            self.assertEqual(len(log), 2)
+        os.write(writing, b"x")
+        os.waitpid(child, 0)
+        for end in (reading, writing, lives, alive):
+            os.close(end)
+
+    def test_a_call_within_a_call(self):
+        """A signal's handler that asks the log does not wait for the call that it interrupts."""
+        log, seen = Log(), []
+
+        def handler(number, frame):
+            try:
+                seen.append(len(log))
+            except RuntimeError:
+                seen.append(None)
+
+        before = signal.signal(signal.SIGALRM, handler)
+        try:
+            signal.setitimer(signal.ITIMER_REAL, 0.0005, 0.0005)
+            for size in range(2000):
+                log.append([b"entry"])
+        finally:
+            signal.setitimer(signal.ITIMER_REAL, 0)
+            signal.signal(signal.SIGALRM, before)
+        self.assertEqual(len(log), 2000)
+        self.assertGreater(len(seen), 0)
+
+    def test_a_short_file_is_refused(self):
+        with Log.open(self.path) as log:
+            log.append(drawn(9))
+        os.truncate(self.path, os.path.getsize(self.path) - 1)
+        self.assertRaises(ValueError, Log.open, self.path)
+
+    def test_a_failed_sync(self):
+        entries = drawn(12)
+        digests = entry_digests(entries)
+        real = os.fsync
+        for fails_at in (1, 2, 3, 4):
+            if os.path.exists(self.path):
+                os.unlink(self.path)
+            with Log.open(self.path) as log:
+                log.append(entries[:5])
+                count = [0]
+
+                def sync(file):
+                    count[0] += 1
+                    if count[0] == fails_at:
+                        raise OSError("no space")
+                    real(file)
+
+                os.fsync = sync
+                try:
+                    self.assertRaises(OSError, log.append, entries[5:])
+                finally:
+                    os.fsync = real
+                if fails_at <= 2:
+                    # no size was written
+                    self.assertEqual(log.root(), mth(digests[:5]))
+                    self.assertEqual(log.append(entries[5:]), 12)
+                else:
+                    self.assertRaises(ValueError, log.root)
+                    self.assertRaises(ValueError, log.append, entries[5:])
+            with Log.open(self.path) as log:
+                self.assertIn(len(log), (5, 12))
+                self.assertEqual(log.root(), mth(digests[: len(log)]))
+
+    def test_for_reading_only(self):
+        """It needs no lock, sees what the keeper appends, and writes nothing."""
+        self.assertRaises(FileNotFoundError, Log.open, self.path, read_only=True)
+        self.assertEqual(os.listdir(self.room.name), [])
+        entries = drawn(40)
+        digests = entry_digests(entries)
+        with Log.open(self.path) as keeper, Log.open(self.path, read_only=True) as log:
+            for size in (0, 1, 7, 8, 33):
+                keeper.append(entries[len(keeper) : size])
+                self.assertEqual((len(log), log.root()), (size, mth(digests[:size])))
+                proofs_are(self, log, digests, size)
+                self.assertTrue(log.check())
+            self.assertRaises(io.UnsupportedOperation, log.append, entries[:1])
+            os.chmod(self.path, 0o444)
+            child = os.fork()
+            if child == 0:
+                os._exit(log.root() == mth(digests[:33]))
+            self.assertEqual(os.waitstatus_to_exitcode(os.waitpid(child, 0)[1]), 1)
+        with open(self.path, "wb") as file:
+            file.write(b"x")
+        self.assertRaises(paxidore.NoLog, Log.open, self.path, read_only=True)
+
+    def test_a_file_that_is_cut(self):
+        """A file that gets shorter while it is open is refused, and ends no process."""
+        entries = drawn(3000)
+        with Log.open(self.path) as log, Log.open(self.path, read_only=True) as reader:
+            log.append(entries)
+            for length in (os.path.getsize(self.path) - 1, 5000, 97, 10, 0):
+                os.truncate(self.path, length)
+                for each in (log, reader):
+                    self.assertRaises(ValueError, each.root)
+                    self.assertRaises(ValueError, each.inclusion, 7, 3000)
+                    self.assertRaises(ValueError, each.consistency, 7, 3000)
+                    self.assertRaises(ValueError, each.check)
+                self.assertRaises(ValueError, log.append, entries[:1])
+                self.assertEqual(os.path.getsize(self.path), length)
+
+    def test_a_file_that_is_cut_within_a_call(self):
+        real = os.pread
+        with Log.open(self.path) as log:
+            log.append(drawn(9))
+            os.pread = lambda file, count, at: b"" if at else real(file, count, at)
+            try:
+                self.assertRaisesRegex(ValueError, "shorter", log.root)
+                self.assertRaisesRegex(ValueError, "shorter", log.append, [b"x"])
+                # what is read in parts is read
+                os.pread = lambda file, count, at: real(file, min(count, 5), at)
+                self.assertEqual(log.append([b"x"]), 10)
+            finally:
+                os.pread = real
+            self.assertTrue(log.check())
+
+    def test_waiting_for_the_lock(self):
+        with Log.open(self.path) as log:
+            begin = time.monotonic()
+            self.assertRaises(BlockingIOError, Log.open, self.path, wait=0.05)
+            self.assertGreaterEqual(time.monotonic() - begin, 0.05)
+            opened = []
+            opener = threading.Thread(target=lambda: opened.append(Log.open(self.path, wait=60)))
+            opener.start()
+            log.append([b"one"])
+            self.assertEqual(opened, [])
+        opener.join()
+        self.assertEqual(opened[0].append([b"two"]), 2)
+        opened[0].close()
+
+    def test_no_descriptor_is_left(self):
+        before = sorted(os.listdir("/proc/self/fd"))
+        other = self.path + ".other"
+        with open(other, "wb") as file:
+            file.write(bytes(97))
+        with Log.open(self.path) as log:
+            for _ in range(50):
+                self.assertRaises(BlockingIOError, Log.open, self.path)
+                self.assertRaises(paxidore.NoLog, Log.open, other)
+                self.assertRaises(paxidore.NoLog, Log.open, other, read_only=True)
+                Log.open(self.path, read_only=True).close()
+            log.append([b"one"])
+        # one that is not closed
+        Log.open(self.path).append([b"two"])
+        Log.open(self.path, read_only=True).root()
+        self.assertRaises(NotADirectoryError, Log.open, other + "/none")
+        self.assertEqual(len(Log.open(self.path)), 2)
+        self.assertEqual(sorted(os.listdir("/proc/self/fd")), before)
+
+
+if __name__ == "__main__":
+    unittest.main()
