@@ -1,12 +1,12 @@
 //! A log that is read of its tiles: the disk on which its file would lie.
 
-ghost use Rattle.std.specs.Prelude.{◌≡◌, ◌<◌, ◌≤◌, ◌+◌, ◌*◌, ◌/◌, ◌%◌, ◌^◌, ℕ, List, [], true, length, take, drop, get_or, IfOk, MatchOption, OnOk, Ok};
+ghost use Rattle.std.specs.Prelude.{◌≡◌, ◌<◌, ◌≤◌, ◌+◌, ◌/◌, ◌%◌, ◌^◌, ℕ, List, [], true, length, take, drop, get_or, IfOk, MatchOption, OnOk, Ok};
 ghost use Rattle.std.specs.Bool.{Decides};
 ghost use Rattle.sha2.specs.Sha256.{sha256};
 ghost use Rattle.ark_paths.specs.Pair.{Digest};
 ghost use Rattle.ark_trees.specs.Rfc6962.{node_of};
 ghost use Rattle.log_tiles.specs.Audit.{before, roots_in, row_in, rows_over, tile_at, tile_of, AreRoots, AreRowsOf, AreWhole, IsWhole};
-ghost use Rattle.log_tiles.specs.Tiles.{row_length, width_in};
+ghost use Rattle.log_tiles.specs.Tiles.{row_length};
 ghost use Rattle.log_tiles.specs.declared.tile.Tile.{Tile};
 ghost use Rattle.merkle_log.specs.Asked.{IsPeak};
 ghost use Rattle.merkle_log.specs.Log.{merkle_tree_hash};
