@@ -23,7 +23,7 @@ up-sum (suc level) more n =
     ap (λ l. index_up l n) e ∙ up-sum level more (n / 2)
 
 -- the next level of tiles
-pub row_length-next : (level size : ℕ) → row_length (level + 1) size ≡ index_up 8 (row_length level size)
+row_length-next : (level size : ℕ) → row_length (level + 1) size ≡ index_up 8 (row_length level size)
 row_length-next level size =
     let e : 8 * (level + 1) ≡ 8 * level + 8 = omega arith in
     sym (up-div (8 * (level + 1)) size) ∙ ap (λ l. index_up l size) e ∙ up-sum (8 * level) 8 size
@@ -32,7 +32,7 @@ row_length-next level size =
 pub row_length-tiles : (level size : ℕ) → row_length (level + 1) size ≡ row_length level size / 256
 row_length-tiles level size = row_length-next level size ∙ up-div 8 (row_length level size)
 
--- the leaves of a level of tiles below a complete place, a tile has them all
+-- One tile has all digests below a complete place.
 aligned : (height place : ℕ) → height < 8 → place * 2 ^ height % 256 + 2 ^ height ≤ 256
 aligned zero place low = omega arith
 aligned (suc zero) place low = omega arith
@@ -44,7 +44,7 @@ aligned (suc (suc (suc (suc (suc (suc zero)))))) place low = omega arith
 aligned (suc (suc (suc (suc (suc (suc (suc zero))))))) place low = omega arith
 aligned (suc (suc (suc (suc (suc (suc (suc (suc height)))))))) place low = absurd (omega arith)
 
-pub complete : (level place size : ℕ) → place < index_up level size
+complete : (level place size : ℕ) → place < index_up level size
     → place * 2 ^ (level % 8) + 2 ^ (level % 8) ≤ row_length (level / 8) size
 complete level place size below =
     let e : level ≡ 8 * (level / 8) + level % 8 = omega arith in
@@ -70,6 +70,7 @@ no-larger level place size first count fits below many is =
     let product : place * count ≡ place * 2 ^ (level % 8) = ap (λ n. place * n) many in
     is ∙ omega arith
 
+-- The highest level of tiles has no full one.
 pub no-full : (level size : ℕ) → size < 2 ^ 57 → 7 ≤ level → row_length level size / 256 ≡ 0
 no-full level size fits high =
     sym (row_length-tiles level size) ∙ none-above (level + 1) size (omega arith) (omega arith)
@@ -109,7 +110,7 @@ module _ (has : Tile → List Digest) (size : ℕ) where
       ∙ sym (get_or-take count (drop first row) k [] under))
 
   -- The root of some digests of a tile is the digest of a row above.
-  pub root-of-tile : (level index from height place count : ℕ) → count ≡ 2 ^ height
+  root-of-tile : (level index from height place count : ℕ) → count ≡ 2 ^ height
       → place * 2 ^ height ≡ 256 * index + from → from + count ≤ 256
       → from + count ≤ length (has (tile_at size level index))
       → place * 2 ^ height + count ≤ row_length level size
@@ -147,7 +148,8 @@ module _ (has : Tile → List Digest) (size : ℕ) where
       let height = level % 8 in
       let own : 256 * (first / 256) + first % 256 ≡ first = omega arith in
       let low : first % 256 + count ≤ 256 = rw (is, many) (aligned height place (omega arith)) in
-      let inside : place * 2 ^ height + count ≤ row_length (level / 8) size = omega (arith, complete level place size below) in
+      let inside : place * 2 ^ height + count ≤ row_length (level / 8) size =
+      omega (arith, complete level place size below) in
       ap (λ n. get_or (rows_over (take n digests) height) 0 []) (sym many)
       ∙ ap (λ l. get_or (rows_over l height) 0 []) read
       ∙ root-of-tile (level / 8) (first / 256) (first % 256) height place count many (sym (own ∙ is)) low
@@ -163,7 +165,6 @@ module _ (has : Tile → List Digest) (size : ℕ) where
       ext_get_or [] (row_in has size (level + 1)) (roots_in has size level) (long ∙ sym all) (λ index below.
       each index (omega (arith, length-row_in (level + 1), row_length-tiles level size)))
 
-  -- The highest levels have none.
   pub roots-above : (level : ℕ) → size < 2 ^ 57 → 7 ≤ level → AreRoots has size level
   roots-above level fits high = roots-of level (λ index below. absurd (omega (arith, no-full level size fits high)))
 

@@ -20,7 +20,7 @@ drop-none : {A : Type 0} (n : ℕ) → drop {A = A} n [] ≡ []
 drop-none zero = refl
 drop-none (suc n) = refl
 
-pub take-pairs : {A : Type 0} (join : A → A → A) (c d : ℕ) (xs : List A) → d ≡ c + c → complete_pairs join (take d xs)
+take-pairs : {A : Type 0} (join : A → A → A) (c d : ℕ) (xs : List A) → d ≡ c + c → complete_pairs join (take d xs)
     ≡ take c (complete_pairs join xs)
 take-pairs join zero zero xs e = refl
 take-pairs join (suc c) (suc (suc d)) [] e = refl
@@ -29,7 +29,7 @@ take-pairs join (suc c) (suc (suc d)) (a ∷ b ∷ rest) e =
     ap (λ l. join a b ∷ l) (take-pairs join c d rest (omega arith))
 take-pairs join c d xs e = absurd (omega arith)
 
-pub drop-pairs : {A : Type 0} (join : A → A → A) (c d : ℕ) (xs : List A) → d ≡ c + c → complete_pairs join (drop d xs)
+drop-pairs : {A : Type 0} (join : A → A → A) (c d : ℕ) (xs : List A) → d ≡ c + c → complete_pairs join (drop d xs)
     ≡ drop c (complete_pairs join xs)
 drop-pairs join zero zero xs e = refl
 drop-pairs join (suc c) (suc (suc d)) [] e = refl
@@ -102,7 +102,7 @@ pairs-ok [] = refl
 pairs-ok (a ∷ []) = refl
 pairs-ok (a ∷ b ∷ row) = rw (pairs-ok row) refl
 
-pub over-next : (leaves : List Digest) (level : ℕ) → rows_over leaves (suc level)
+over-next : (leaves : List Digest) (level : ℕ) → rows_over leaves (suc level)
     ≡ complete_pairs node_hash (rows_over leaves level)
 over-next leaves zero = refl
 over-next leaves (suc level) = over-next (complete_pairs node_hash leaves) level

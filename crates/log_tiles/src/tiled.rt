@@ -188,8 +188,9 @@ impl<T: Tiles + Drop> TileDisk<T> {
 
     // Reads a digest of a level of tiles.
     fn digest_in(&self, level: usize, place: usize) -> Result<[u8; 32], Unread<T::Refusal>>
-        ensures { T.Obeys self.now.tiles → place < row_length level self.now.size → IfOk result
-            (λ digest. digest ≡ get_or (row_in (T.has self.now.tiles) self.now.size level) place []) }
+        ensures { T.Obeys self.now.tiles → place < row_length level self.now.size
+            → IfOk result (λ digest. digest
+            ≡ get_or (row_in (T.has self.now.tiles) self.now.size level) place []) }
     {
         let mut digest = [[0; 32]];
         self.read(level, place / FULL, place % FULL, &mut digest)?;

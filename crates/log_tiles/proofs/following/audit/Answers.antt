@@ -22,9 +22,10 @@ returns-in-Ok-is_hashed-clause-sound g c = λ obeys is.
     let all : c.in-Ok-is_hashed.all ≡ true = cc in
     let same = c.is.ensures.0 c.if-not-is.false in
     let fits : size < 2 ^ 57 = omega (arith, c.size.ensures.size, c.size.ensures.fits) in
-    rw (same.0, same.1, c.size.ensures.size) (tiles-found has size c.in-Ok.root fits
-    ((c.in-Ok-is_hashed.ensures.roots obeys).0 all) (c.in-Ok-is_hashed.ensures.whole obeys (ap Ok all)) (c.in-Ok.ensures.whole obeys)
-    (c.in-Ok.ensures.root obeys))
+    let roots = (c.in-Ok-is_hashed.ensures.roots obeys).0 all in
+    let whole = c.in-Ok-is_hashed.ensures.whole obeys (ap Ok all) in
+    rw (same.0, same.1, c.size.ensures.size) (tiles-found has size c.in-Ok.root fits roots whole
+    (c.in-Ok.ensures.whole obeys) (c.in-Ok.ensures.root obeys))
 
 pub returns-in-Ok-is_hashed-clause-honest : goal.returns-in-Ok-is_hashed-clause-honest
 returns-in-Ok-is_hashed-clause-honest g c = λ obeys same own is.

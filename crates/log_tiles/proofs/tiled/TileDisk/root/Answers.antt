@@ -14,7 +14,8 @@ levels-init g c = record {
   left_is = c.size-left.ensures.size;
   low = omega arith;
   whole = λ obeys level place below. absurd (omega arith);
-  leads = λ obeys leaves are long. leads-first leaves (sha256 []) c.size-left.result (long ∙ sym c.size-left.ensures.size);
+  leads = λ obeys leaves are long.
+      leads-first leaves (sha256 []) c.size-left.result (long ∙ sym c.size-left.ensures.size);
 }
 
 pub levels-preserved : goal.levels-preserved
