@@ -48,30 +48,34 @@ tile-is size tile own =
     ≡ record { level = tile.level; index = tile.index; width = tile.width } = cc in both
 
 module _ (has : Tile → List Digest) (size : ℕ) where
+  -- The tile at a level's right edge is whole where that of a last place is whose digest is above it.
+  edge-whole : (level l : ℕ) → l < 8 → index_up l (row_length level size) % 2 ≡ 1
+      → ((level place : ℕ) → IsPeak size level place → IsWhole has (tile_of size level place))
+      → IsWhole has (tile_at size level (row_length level size / 256))
+  edge-whole level l low odd edge =
+      let n = row_length level size in
+      let up = up-sum (8 * level) l size ∙ ap (index_up l) (up-div (8 * level) size) in
+      let here : (8 * level + l) / 8 ≡ level = omega arith in
+      let height : (8 * level + l) % 8 ≡ l = omega arith in
+      let peak : IsPeak size (8 * level + l) (index_up l n - 1) = (ap (λ m. m % 2) up ∙ odd, omega (arith, up)) in
+      let same = edge-below l n low odd in
+      rw (← same) (rw (here, height) at (edge (8 * level + l) (index_up l n - 1) peak))
+
   -- Where the full tiles are whole, and those of the last places, all tiles are.
   all-whole : size < 2 ^ 57 → ((level : ℕ) → level < 7 → AreWhole has size level)
       → ((level place : ℕ) → IsPeak size level place → IsWhole has (tile_of size level place))
       → (tile : Tile) → IsTileOf size tile → IsWhole has tile
-  all-whole fits full edge tile own = subst (IsWhole has) (tile-is size tile own) (elim (cases_lt tile.index
-      (row_length tile.level size / 256)) [
+  all-whole fits full edge tile own =
+      let n = row_length tile.level size in
+      subst (IsWhole has) (tile-is size tile own) (elim (cases_lt tile.index (n / 256)) [
         | inl below ↦ elim (cases_lt tile.level 7) [
           | inl low ↦ full tile.level low tile.index below
           | inr high ↦ absurd (omega (arith, no-full tile.level size fits high))
         ]
         | inr last ↦
-            let n = row_length tile.level size in
-            let here : tile.index ≡ n / 256 = omega (arith, own.0, own.1) in
+            let here : n / 256 ≡ tile.index = omega (arith, own.0, own.1) in
             let odd = odd-below 8 n (omega (arith, up-div 8 n, own.0, own.1)) in
-            let l = odd.0 in
-            let up = up-sum (8 * tile.level) l size ∙ ap (index_up l) (up-div (8 * tile.level) size) in
-            let level : (8 * tile.level + l) / 8 ≡ tile.level = omega (arith, odd.1.0) in
-            let height : (8 * tile.level + l) % 8 ≡ l = omega (arith, odd.1.0) in
-            let whole = edge (8 * tile.level + l) (index_up l n - 1) (
-              ap (λ m. m % 2) up ∙ odd.1.1,
-              omega (arith, up, odd.1.1),
-            ) in
-            subst (λ index. IsWhole has (tile_at size tile.level index)) (edge-below l n odd.1.0 odd.1.1 ∙ sym here)
-            (rw (level, height) at whole)
+            rw (← here) (edge-whole tile.level odd.0 odd.1.0 odd.1.1 edge)
       ])
 
   -- Where each level has the roots of the one below, they are rows over the lowest.
