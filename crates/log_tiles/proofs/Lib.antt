@@ -1,3 +1,7 @@
+mod Audited
 mod Bundled
+mod Leading
 mod Rows
 mod Shown
+mod TileRows
+mod Trees

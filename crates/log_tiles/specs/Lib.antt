@@ -1,3 +1,4 @@
+pub mod Audit
 pub mod Bundles
 pub mod Following
 pub mod Names

@@ -1,15 +1,14 @@
 //! Followers of a log: whoever keeps its last size and root, and moves on by its tiles.
 
-ghost use Rattle.std.specs.Prelude.{◌≡◌, ◌≢◌, ◌<◌, true, IfOk, IfErr, OnOk, Ok, Err};
+ghost use Rattle.std.specs.Prelude.{◌≡◌, ◌≢◌, ◌<◌, true, false, IfOk, IfErr, OnOk, Ok, Err};
 ghost use Rattle.std.specs.Bool.{Decides};
 ghost use Rattle.ark_trees.specs.Rfc6962.{node_of};
+ghost use Rattle.log_tiles.specs.Audit.{AreTilesOf};
 ghost use Rattle.log_tiles.specs.Following.{Continues, IsFork};
 ghost use Rattle.log_tiles.specs.declared.stop.Stop.TheVariants.{Fork, Shrunk};
 ghost use Rattle.merkle_log.specs.Verdict.{inclusion_verdict};
 
-use crate::growth::row_length;
 use crate::stop::{Stop, of_store};
-use crate::tile::FULL;
 use crate::tiled::{TileDisk, Tiles, Unread};
 use log_store::{Disk, InclusionProof};
 use paxlog_run::fault::Fault;
@@ -122,27 +121,28 @@ pub fn continues<D: Disk>(
 /// Returns whether all tiles of the log of a checkpoint are those of one log with its root: the digests at its right edge lead to the
 /// root, and the root of each full tile is the digest above it. It reads each tile once.
 ///
-/// Errors: those of `log_store::root`.
+/// The error is that of a tile that could not be read.
 pub fn audit<T: Tiles + Drop>(
     disk: &TileDisk<T>,
     head: &Head,
-) -> Result<bool, Stop<Unread<T::Refusal>>> {
-    let (size, root) = match log_store::root(disk, None) {
+) -> Result<bool, Stop<Unread<T::Refusal>>>
+    // Where the tiles obey, they are those of one log with the root.
+    ensures sound { T.Obeys disk.now.tiles → result ≡ Ok true
+        → AreTilesOf (T.has disk.now.tiles) head.now.size head.now.root }
+
+    // The tiles of a log with the root are never found to be others.
+    ensures honest { T.Obeys disk.now.tiles → disk.now.size ≡ head.now.size
+        → AreTilesOf (T.has disk.now.tiles) head.now.size head.now.root → result ≢ Ok false }
+{
+    let root = match disk.root() {
         Ok(root) => root,
-        Err(log_store::Stop::Fault(Fault::Damaged)) => return Ok(false),
-        Err(stop) => return Err(of_store(stop)),
+        Err(refusal) => return Err(Stop::Disk(refusal)),
     };
-    if !head.is(size, &root) {
+    if !head.is(disk.size(), &root) {
         return Ok(false);
     }
-    'levels: for level in 0..7 {
-        'tiles: for index in 0..row_length(level, head.size) / FULL {
-            match disk.is_below_its_root(level, index) {
-                Ok(true) => (),
-                Ok(false) => return Ok(false),
-                Err(refusal) => return Err(Stop::Disk(refusal)),
-            }
-        }
+    match disk.is_hashed() {
+        Ok(all) => Ok(all),
+        Err(refusal) => Err(Stop::Disk(refusal)),
     }
-    Ok(true)
 }

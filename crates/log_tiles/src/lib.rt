@@ -5,8 +5,11 @@
 mod bundles;
 mod following;
 mod growth;
+mod halving;
 mod names;
 mod stop;
+#[cfg(test)]
+mod tests;
 mod tile;
 mod tiled;
 

@@ -1,20 +1,48 @@
 //! A log that is read of its tiles: the disk on which its file would lie.
 
-ghost use Rattle.std.specs.Prelude.{◌≡◌, ◌<◌, ◌≤◌, ◌^◌, [], length};
+ghost use Rattle.std.specs.Prelude.{◌≡◌, ◌<◌, ◌≤◌, ◌+◌, ◌/◌, ◌%◌, ◌^◌, ℕ, List, [], true, length, take, drop, get_or, IfOk, MatchOption, OnOk, Ok};
+ghost use Rattle.std.specs.Bool.{Decides};
+ghost use Rattle.sha2.specs.Sha256.{sha256};
+ghost use Rattle.ark_paths.specs.Pair.{Digest};
+ghost use Rattle.ark_trees.specs.Rfc6962.{node_of};
+ghost use Rattle.log_tiles.specs.Audit.{before, roots_in, row_in, rows_over, tile_at, tile_of, AreRoots, AreRowsOf, AreWhole, IsWhole};
+ghost use Rattle.log_tiles.specs.Tiles.{row_length};
+ghost use Rattle.log_tiles.specs.declared.tile.Tile.{Tile};
+ghost use Rattle.merkle_log.specs.Asked.{IsPeak};
+ghost use Rattle.merkle_log.specs.Log.{merkle_tree_hash};
+ghost use Rattle.merkle_log.specs.Walk.{index_up};
 
+use crate::following::are_same;
+use crate::growth::row_length;
+use crate::halving::root_of;
 use crate::tile::{FULL, Tile, width_of};
 use ark_crh::ArrayHash;
 use ark_trees::LogHasher;
 use log_store::Disk;
 use merkle_log::kept::stored_count;
 use paxlog_run::head::{START, head_of};
+use sha2::{Digest as _, Sha256};
+use std::marker::Model;
 
 /// The tiles of a log, wherever they lie.
+///
+/// What the clauses say holds where the tiles obey. Of files of the operating system nothing is known: that they obey is what
+/// is left to trust.
 pub trait Tiles {
     type Refusal: Drop;
 
-    /// Reads digests of a tile from one of its places on, as many as there is room for.
-    fn read(&self, tile: Tile, from: usize, into: &mut [[u8; 32]]) -> Result<(), Self::Refusal>;
+    // Its reads do what is said of them.
+    ghost Obeys: { Self → Type 0 };
+
+    // The digests that a tile has.
+    ghost has: { Self → Tile → List Digest };
+
+    /// Reads digests of a tile from one of its places on, as many as there is room for. It refuses what the tile has not, and a
+    /// tile that has not as many digests as its width says.
+    fn read(&self, tile: Tile, from: usize, into: &mut [[u8; 32]]) -> Result<(), Self::Refusal>
+        ensures whole { Obeys self.now → OnOk result (IsWhole (has self.now) tile) }
+        ensures read { Obeys self.now → OnOk result
+            (into.new ≡ take (length into.old) (drop from (has self.now tile))) };
 }
 
 /// Why nothing was read of a log's tiles.
@@ -28,18 +56,14 @@ pub enum Unread<R: Drop> {
     ReadOnly,
 }
 
-// Returns the root of the first 2^height digests, of which the buffer keeps none.
-fn root_of(digests: &mut [[u8; 32]; FULL], height: usize) -> [u8; 32]
-    requires { height ≤ 8 }
+// The root of a complete subtree and what stands behind it, if something does, under one digest.
+fn joined(peak: [u8; 32], last: &Option<[u8; 32]>) -> [u8; 32]
+    ensures { result ≡ before peak last.now }
 {
-    let mut count = 1usize << height;
-    'levels: while count > 1 {
-        count /= 2;
-        'pairs: for pair in 0..count {
-            digests[pair] = LogHasher::node(&digests[2 * pair], &digests[2 * pair + 1]);
-        }
+    match last {
+        Some(last) => LogHasher::node(&peak, last),
+        None => peak,
     }
-    digests[0]
 }
 
 /// The log of a size and a root whose digests lie in tiles, as the file that it would have.
@@ -48,12 +72,28 @@ pub struct TileDisk<T: Tiles + Drop> {
     tiles: T,
     size: usize,
     head: [u8; START],
-    ghost fits: { size < 2 ^ 57 },
+}
+
+impl<T: Tiles + Drop> Model for TileDisk<T> {
+    ghost use Rattle.std.specs.Prelude.{◌<◌, ◌^◌};
+    ghost use Rattle.log_tiles.specs.Audit.{TiledValue};
+
+    ghost Value = { TiledValue T };
+
+    ghost view = { λ disk. record {
+      tiles = disk.tiles;
+      size = disk.size;
+    } };
+
+    ghost invariant = { λ disk. disk.size < 2 ^ 57 };
 }
 
 impl<T: Tiles + Drop> TileDisk<T> {
     /// Takes the tiles of a log of this size and root; `None` for a size of 2^57 and above, whose file no disk has.
-    pub fn new(tiles: T, size: usize, root: &[u8; 32]) -> Option<TileDisk<T>> {
+    pub fn new(tiles: T, size: usize, root: &[u8; 32]) -> Option<TileDisk<T>>
+        ensures { MatchOption result (2 ^ 57 ≤ size)
+            (λ disk. disk ≡ record { tiles = tiles; size = size }) }
+    {
         if size >= 144_115_188_075_855_872 {
             return None;
         }
@@ -64,6 +104,14 @@ impl<T: Tiles + Drop> TileDisk<T> {
         })
     }
 
+    /// Returns how many entries the log has.
+    pub fn size(&self) -> usize
+        ensures size { result ≡ self.now.size }
+        ensures fits { result < 2 ^ 57 }
+    {
+        self.size
+    }
+
     // Reads digests of the tile at an index, from one of its places on.
     fn read(
         &self,
@@ -71,7 +119,12 @@ impl<T: Tiles + Drop> TileDisk<T> {
         index: usize,
         from: usize,
         into: &mut [[u8; 32]],
-    ) -> Result<(), Unread<T::Refusal>> {
+    ) -> Result<(), Unread<T::Refusal>>
+        ensures whole { T.Obeys self.now.tiles → OnOk result
+            (IsWhole (T.has self.now.tiles) (tile_at self.now.size level index)) }
+        ensures read { T.Obeys self.now.tiles → OnOk result (into.new ≡ take (length into.old)
+            (drop from (T.has self.now.tiles (tile_at self.now.size level index)))) }
+    {
         let width = width_of(self.size, level, index);
         let tile = Tile {
             level,
@@ -84,26 +137,135 @@ impl<T: Tiles + Drop> TileDisk<T> {
         }
     }
 
+    // Reads so many digests of the tile at an index to the front of a buffer.
+    fn read_front(
+        &self,
+        level: usize,
+        index: usize,
+        from: usize,
+        count: usize,
+        into: &mut [[u8; 32]; FULL],
+    ) -> Result<(), Unread<T::Refusal>>
+        requires { count ≤ 256 }
+        ensures whole { T.Obeys self.now.tiles → OnOk result
+            (IsWhole (T.has self.now.tiles) (tile_at self.now.size level index)) }
+        ensures read { T.Obeys self.now.tiles → OnOk result (take count into.new ≡ take count
+            (drop from (T.has self.now.tiles (tile_at self.now.size level index)))) }
+    {
+        self.read(level, index, from, &mut into[..count])
+    }
+
     // Reads the digest of a complete place: the root of as many digests of one tile as stand below it.
     fn digest_of(&self, level: usize, place: usize) -> Result<[u8; 32], Unread<T::Refusal>>
         requires { level < 64 }
+        ensures whole { T.Obeys self.now.tiles → place < index_up level self.now.size
+            → OnOk result (IsWhole (T.has self.now.tiles) (tile_of self.now.size level place)) }
+        ensures digest { T.Obeys self.now.tiles → place < index_up level self.now.size
+            → IfOk result (λ digest. digest ≡ get_or (rows_over (row_in (T.has self.now.tiles)
+            self.now.size (level / 8)) (level % 8)) place []) }
+    {
+        // Its size has at most 57 bits, so that the product is not cut.
+        let _ = &self.size;
+        let mut digests = [[0; 32]; FULL];
+        let count = 1usize << (level % 8);
+        let first = place.saturating_mul(count);
+        self.read_front(level / 8, first / FULL, first % FULL, count, &mut digests)?;
+        Ok(root_of(&mut digests, level % 8))
+    }
+
+    // Reads the root of a full tile.
+    fn root_of_tile(&self, level: usize, index: usize) -> Result<[u8; 32], Unread<T::Refusal>>
+        ensures whole { T.Obeys self.now.tiles → OnOk result
+            (IsWhole (T.has self.now.tiles) (tile_at self.now.size level index)) }
+        ensures root { T.Obeys self.now.tiles → index < row_length level self.now.size / 256
+            → IfOk result (λ root. root
+            ≡ get_or (roots_in (T.has self.now.tiles) self.now.size level) index []) }
     {
         let mut digests = [[0; 32]; FULL];
-        let below = &mut digests[..1 << (level % 8)];
-        let first = place.saturating_mul(below.len());
-        self.read(level / 8, first / FULL, first % FULL, below)?;
-        Ok(root_of(&mut digests, level % 8))
+        self.read(level, index, 0, &mut digests)?;
+        Ok(root_of(&mut digests, 8))
+    }
+
+    // Reads a digest of a level of tiles.
+    fn digest_in(&self, level: usize, place: usize) -> Result<[u8; 32], Unread<T::Refusal>>
+        ensures { T.Obeys self.now.tiles → place < row_length level self.now.size
+            → IfOk result (λ digest. digest
+            ≡ get_or (row_in (T.has self.now.tiles) self.now.size level) place []) }
+    {
+        let mut digest = [[0; 32]];
+        self.read(level, place / FULL, place % FULL, &mut digest)?;
+        Ok(digest[0])
     }
 
     /// Returns whether the root of a full tile is the digest above it.
     pub fn is_below_its_root(&self, level: usize, index: usize) -> Result<bool, Unread<T::Refusal>>
         requires { level < 64 }
+        ensures whole { T.Obeys self.now.tiles → OnOk result
+            (IsWhole (T.has self.now.tiles) (tile_at self.now.size level index)) }
+        ensures root { T.Obeys self.now.tiles → index < row_length level self.now.size / 256
+            → IfOk result (λ same. Decides same
+            (get_or (row_in (T.has self.now.tiles) self.now.size (level + 1)) index []
+            ≡ get_or (roots_in (T.has self.now.tiles) self.now.size level) index [])) }
     {
-        let mut digests = [[0; 32]; FULL];
-        self.read(level, index, 0, &mut digests)?;
-        let mut above = [[0; 32]];
-        self.read(level + 1, index / FULL, index % FULL, &mut above)?;
-        Ok(root_of(&mut digests, 8) == above[0])
+        let root = self.root_of_tile(level, index)?;
+        Ok(are_same(&self.digest_in(level + 1, index)?, &root))
+    }
+
+    // Returns whether the root of each full tile of a level is the digest above it.
+    fn is_level_hashed(&self, level: usize) -> Result<bool, Unread<T::Refusal>>
+        requires { level < 7 }
+        ensures whole { T.Obeys self.now.tiles → result ≡ Ok true
+            → AreWhole (T.has self.now.tiles) self.now.size level }
+        ensures roots { T.Obeys self.now.tiles → IfOk result (λ all. Decides all
+            (AreRoots (T.has self.now.tiles) self.now.size level)) }
+    {
+        'tiles: for index in 0..row_length(level, self.size) / FULL {
+            if !self.is_below_its_root(level, index)? {
+                return Ok(false);
+            }
+        }
+        Ok(true)
+    }
+
+    /// Returns whether the root of each full tile is the digest above it. It reads each full tile once.
+    pub(crate) fn is_hashed(&self) -> Result<bool, Unread<T::Refusal>>
+        ensures whole { T.Obeys self.now.tiles → result ≡ Ok true → (level : ℕ) → level < 7
+            → AreWhole (T.has self.now.tiles) self.now.size level }
+        ensures roots { T.Obeys self.now.tiles → IfOk result (λ all. Decides all
+            ((level : ℕ) → level < 7 → AreRoots (T.has self.now.tiles) self.now.size level)) }
+    {
+        'levels: for level in 0..7 {
+            if !self.is_level_hashed(level)? {
+                return Ok(false);
+            }
+        }
+        Ok(true)
+    }
+
+    /// Returns the root to which the digests at the right edge lead: those of the complete subtrees into which the entries fall.
+    pub(crate) fn root(&self) -> Result<[u8; 32], Unread<T::Refusal>>
+        ensures whole { T.Obeys self.now.tiles → OnOk result
+            ((level place : ℕ) → IsPeak self.now.size level place
+            → IsWhole (T.has self.now.tiles) (tile_of self.now.size level place)) }
+        ensures root { T.Obeys self.now.tiles → (leaves : List Digest)
+            → AreRowsOf (T.has self.now.tiles) self.now.size leaves → length leaves ≡ self.now.size
+            → IfOk result (λ root. merkle_tree_hash node_of (sha256 []) leaves ≡ Ok root) }
+    {
+        let mut last = None;
+        let mut level = 0;
+        let mut left = self.size();
+        'levels: while left > 0 {
+            if left % 2 == 1 {
+                let peak = self.digest_of(level, left - 1)?;
+                last = Some(joined(peak, &last));
+            }
+            left /= 2;
+            level += 1;
+        }
+        match last {
+            Some(root) => Ok(root),
+            None => Ok(Sha256::digest([].as_slice())),
+        }
     }
 
     // Reads the digest at a position of the log's list.

@@ -1,6 +1,6 @@
 //! Folders of tiles: the files that a static server hands out.
 
-ghost use Rattle.std.specs.Prelude.{◌≡◌, ◌≤◌, ◌<◌, ◌^◌};
+ghost use Rattle.std.specs.Prelude.{◌≡◌, ◌≤◌, ◌<◌, ◌^◌, []};
 ghost use Rattle.paxlog_run.specs.LogFile.{file_end};
 
 use crate::file_disk::FileDisk;
@@ -49,7 +49,7 @@ fn path_of(alloc: Global, folder: &str, tile: Tile) -> Result<String, TileFault>
     }
 }
 
-/// The tiles of a log in a folder.
+/// The tiles of a log in a folder. Nothing is proved of it: that `read` does what `Tiles` says is trusted.
 #[derive(Drop)]
 pub struct FolderTiles<'a> {
     rt: &'a HostRuntime,
@@ -113,13 +113,18 @@ fn read_digests(file: &File, from: usize, into: &mut [[u8; 32]]) -> io::Result<(
 impl<'a> Tiles for FolderTiles<'a> {
     type Refusal = TileFault;
 
+    ghost Obeys = { λ _. ⊥ };
+
+    ghost has = { λ _ _. [] };
+
     fn read(&self, tile: Tile, from: usize, into: &mut [[u8; 32]]) -> Result<(), TileFault> {
         let TileFile { file, name, width } = self.open(tile)?;
         let length = match file.metadata() {
             Ok(about) => about.len() as usize,
             Err(error) => return Err(TileFault::System { name, error }),
         };
-        if length != width.saturating_mul(32) {
+        let is_inside = from.saturating_add(into.len()) <= tile.width.min(FULL);
+        if length != width.saturating_mul(32) || !is_inside {
             return Err(TileFault::Length { name });
         }
         match read_digests(&file, from, into) {

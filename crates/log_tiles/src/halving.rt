@@ -1,0 +1,33 @@
+//! The root of the digests of a tile.
+
+ghost use Rattle.std.specs.Prelude.{◌≡◌, ◌≤◌, ◌*◌, ◌^◌, [], take, get_or};
+ghost use Rattle.ark_trees.specs.Rfc6962.{node_hash};
+ghost use Rattle.log_tiles.specs.Audit.{rows_over};
+ghost use Rattle.merkle_log.specs.Frontier.{complete_pairs};
+
+use crate::tile::FULL;
+use ark_crh::ArrayHash;
+use ark_trees::LogHasher;
+
+// Puts the hashes of the first pairs, so many, to the front.
+fn halve(digests: &mut [[u8; 32]; FULL], count: usize)
+    requires { count ≤ 128 }
+    ensures { take count digests.new ≡ complete_pairs node_hash (take (2 * count) digests.old) }
+{
+    'pairs: for pair in 0..count {
+        digests[pair] = LogHasher::node(&digests[2 * pair], &digests[2 * pair + 1]);
+    }
+}
+
+/// Returns the root of the first 2^height digests, of which the buffer keeps none.
+pub fn root_of(digests: &mut [[u8; 32]; FULL], height: usize) -> [u8; 32]
+    requires { height ≤ 8 }
+    ensures { result ≡ get_or (rows_over (take (2 ^ height) digests.old) height) 0 [] }
+{
+    let mut left = height;
+    'levels: while left > 0 {
+        left -= 1;
+        halve(digests, 1usize << left);
+    }
+    digests[0]
+}
