@@ -8,9 +8,8 @@ use Rattle.std.proofs.Math.Nat.{div-div-eq-div-mul, div-eq_of_lt, div-one, pow-s
 use Rattle.ark_paths.specs.Pair.{Digest}
 use Rattle.merkle_log.specs.Walk.{index_up}
 use Rattle.merkle_log.proofs.KeptRows.{up-rises}
-use Rattle.merkle_log.proofs.Positions.{length-row_of}
 use Rattle.merkle_log.proofs.Tests.{power-rises}
-use Rattle.log_tiles.specs.Tiles.{row_length, rows_in, width_in, IsNewTile, IsTileOf}
+use Rattle.log_tiles.specs.Tiles.{row_length, width_in, IsNewTile, IsTileOf}
 use Rattle.log_tiles.specs.declared.tile.Tile.{Tile}
 
 -- an index some levels up, by division

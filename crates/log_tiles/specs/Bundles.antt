@@ -1,5 +1,5 @@
 -- Bundles of entries, as C2SP's tlog-tiles has them: the entries of a tile of the lowest level.
-use Rattle.std.specs.Prelude.{◌≡◌, ℕ, ◌<◌, ◌^◌, All, List, ◌++◌, length, map}
+use Rattle.std.specs.Prelude.{◌≡◌, ℕ, List, ◌++◌, length, map}
 use Rattle.std.specs.Int.{w16, to_be_bytes}
 use Rattle.std.specs.List.{flat_map}
 use Rattle.ark_paths.specs.Pair.{Digest}

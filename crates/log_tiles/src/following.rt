@@ -1,6 +1,6 @@
 //! Followers of a log: whoever keeps its last size and root, and moves on by its tiles.
 
-ghost use Rattle.std.specs.Prelude.{◌≡◌, ◌≢◌, ◌<◌, true, false, IfOk, IfErr, OnOk, Ok, Err};
+ghost use Rattle.std.specs.Prelude.{◌≡◌, ◌≢◌, ◌<◌, true, false, IfOk, IfErr, IsOk, OnOk, Ok, Err};
 ghost use Rattle.std.specs.Bool.{Decides};
 ghost use Rattle.ark_trees.specs.Rfc6962.{node_of};
 ghost use Rattle.log_tiles.specs.Audit.{AreTilesOf};
@@ -40,7 +40,7 @@ impl Head {
 // Refuses a size and a root of what was read that are not those of the checkpoint.
 fn if_same<R: Drop>(head: &Head, size: usize, root: &[u8; 32]) -> Result<(), Stop<R>>
     ensures same { OnOk result ((head.now.size ≡ size) × (head.now.root ≡ root.now)) }
-    ensures damaged { IfErr result (λ why. why ≢ Fork) }
+    ensures damaged { IfErr result (λ why. (why ≢ Fork) × (why ≢ Shrunk)) }
 {
     if head.is(size, root) {
         Ok(())
@@ -61,6 +61,7 @@ pub fn prove<D: Disk>(
     // Whatever the tiles have, the proof is accepted under the root that the checkpoint states.
     ensures accepted { IfOk result (λ proof. inclusion_verdict node_of head.now.root head.now.size
         index proof.digest proof.path.items ≡ Ok true) }
+    ensures refused { IfErr result (λ why. (why ≢ Fork) × (why ≢ Shrunk)) }
 {
     match log_store::prove(alloc, disk, index, None) {
         Ok(proof) => {
@@ -84,7 +85,10 @@ pub fn continues<D: Disk>(
 ) -> Result<(), Stop<D::Refusal>>
     // Whatever the tiles have: a consistency proof of the two is accepted.
     ensures continued { OnOk result (Continues old.now new.now) }
+    ensures same { new.now ≡ old.now → IsOk result }
+    ensures forked { new.now.size ≡ old.now.size → new.now.root ≢ old.now.root → result ≡ Err Fork }
     ensures shrunk { new.now.size < old.now.size → result ≡ Err Shrunk }
+    ensures shorter { result ≡ Err Shrunk → new.now.size < old.now.size }
 
     // No log has both: the new one has another root of the old size.
     ensures fork { result ≡ Err Fork → IsFork old.now new.now }

@@ -1,7 +1,7 @@
 //! Why a log of tiles is not followed.
 
 ghost use Rattle.std.specs.Prelude.{◌≡◌, ◌≢◌};
-ghost use Rattle.log_tiles.specs.declared.stop.Stop.TheVariants.{Fork};
+ghost use Rattle.log_tiles.specs.declared.stop.Stop.TheVariants.{Fork, Shrunk};
 
 use paxlog_run::fault::Fault;
 
@@ -20,7 +20,8 @@ pub enum Stop<R: Drop> {
 
 /// Returns why a call on a log's file stopped.
 pub fn of_store<R: Drop>(stop: log_store::Stop<R>) -> Stop<R>
-    ensures { result ≢ Fork }
+    ensures fork { result ≢ Fork }
+    ensures shrunk { result ≢ Shrunk }
 {
     match stop {
         log_store::Stop::Fault(fault) => Stop::Fault(fault),

@@ -1,6 +1,6 @@
 //! Tiles: which a log has, and their digests.
 
-ghost use Rattle.std.specs.Prelude.{◌≡◌, ◌≤◌, ◌<◌, ◌+◌, ◌^◌, ◌++◌, ◌∷◌, [], length, take, get_or, IfOk, OnOk};
+ghost use Rattle.std.specs.Prelude.{◌≡◌, ◌≢◌, ◌≤◌, ◌<◌, ◌+◌, ◌^◌, ◌++◌, ◌∷◌, [], length, take, get_or, IfOk, OnOk, Err};
 ghost use Rattle.log_tiles.specs.Tiles.{rows_in, tile_in, width_in, IsTileOf};
 ghost use Rattle.merkle_log.specs.Walk.{index_up};
 ghost use Rattle.paxlog_run.specs.LogFile.{file_end};
@@ -99,6 +99,7 @@ pub fn read_tile<D: Disk>(
     ensures tile { D.Obeys disk.now → file_end size ≤ length (D.seen disk.now) → OnOk result
         (take tile.width into.new ≡ tile_in (rows_in size (D.seen disk.now)) tile) }
     ensures refused { OnOk result (IsTileOf size tile) }
+    ensures index { IsTileOf size tile → result ≢ Err (Stop.Fault Fault.Index) }
 {
     if tile.width == 0 || tile.width != width_of(size, tile.level, tile.index) {
         return Err(Stop::Fault(Fault::Index));

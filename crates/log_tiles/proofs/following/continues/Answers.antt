@@ -1,4 +1,4 @@
-use Rattle.std.proofs.Common.{subst, inl, inr}
+use Rattle.std.proofs.Common.{subst, inr}
 use Rattle.log_tiles.specs.Following.{IsShown}
 use Rattle.log_tiles.proofs.Shown.{shown}
 use Rattle.log_tiles.proofs.following.continues.Goals as goal

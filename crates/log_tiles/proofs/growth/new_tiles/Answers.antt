@@ -1,4 +1,4 @@
-use Rattle.std.proofs.Common.{◌≡◌, ◌<◌, ◌-◌, ◌*◌, ◌/◌, ap, sym, ◌∙◌, arith}
+use Rattle.std.proofs.Common.{◌<◌, ◌-◌, ◌*◌, ◌/◌, ap, ◌∙◌, arith}
 use Rattle.std.specs.Prelude.{min}
 use Rattle.log_tiles.specs.Tiles.{row_length}
 use Rattle.log_tiles.proofs.Rows.{is-new, new-from, new-more, new-none}

@@ -1,4 +1,4 @@
-use Rattle.std.proofs.Common.{◌≡◌, arith}
+use Rattle.std.proofs.Common.{arith}
 use Rattle.log_tiles.proofs.Rows.{none-above}
 use Rattle.log_tiles.proofs.tile.width_of.Goals as goal
 
