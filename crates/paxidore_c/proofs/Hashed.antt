@@ -1,5 +1,5 @@
 -- What codes tell of hashes.
-use Rattle.std.proofs.Common.{◌≡◌, ◌⊎◌, inl, inr, ℤ, pos, ℕ, nat_lt, Bool, true, false, if◌then◌else◌, List, length, w32, to_z, of_z, Result, Ok, Err, IfErr, refl, ap, ◌∙◌}
+use Rattle.std.proofs.Common.{◌≡◌, ◌⊎◌, inl, inr, ℤ, pos, ℕ, nat_lt, Bool, true, false, if◌then◌else◌, List, length, w32, to_z, of_z, Result, Ok, Err, IfErr, IfOk, refl, ap, ◌∙◌}
 use Rattle.paxidore_c.proofs.Codes.{verdict-fits}
 use Rattle.paxidore_c.proofs.Written.{seen}
 use Rattle.paxidore_c.specs.Answer.{Gives, Hands, done_code, refusal_code}
@@ -12,6 +12,12 @@ pub refused-gives : {A : Type 0} (outcome : Result A Refused) (refused : Refused
     → Gives (done_code outcome) (to_z w32 (of_z w32 code))
 refused-gives outcome refused code (inl memory) is = inr (rw (is, verdict-fits (Err refused), memory) refl)
 refused-gives outcome refused code (inr same) is = inl (rw (is, verdict-fits (Err refused), same) refl)
+
+-- what is said of a result's value is said of the outcome
+pub said-of-seen : {W : Type 0} (items : W → List ℕ) (P : List ℕ → Type 0) (result : Result W Refused)
+    → IfOk result (λ value. P (items value)) → IfOk (seen items result) P
+said-of-seen items P (Ok value) said = said
+said-of-seen items P (Err refused) said = tt
 
 -- the same of a call that hands nothing over
 pub handed-none : {W : Type 0} (items : W → List ℕ) (result : Result W Refused) (refused : Refused)

@@ -1,9 +1,10 @@
 //! circomlib's hash of 1 to 16 elements of the scalar field of BN254, by a table in memory of the caller's.
 
-ghost use Rattle.std.specs.Prelude.{◌≡◌, ◌≢◌, ◌⊎◌, ◌<◌, ◌≤◌, ◌++◌, ℕ, List, length, drop, pos, IfOk, IfErr, Ok, Err};
+ghost use Rattle.std.specs.Prelude.{◌≡◌, ◌≢◌, ◌⊎◌, ◌<◌, ◌≤◌, ◌++◌, ℕ, List, length, drop, pos, IfOk, IfErr, Result, Ok, Err};
 ghost use Rattle.ark_sponge.specs.Permutation.{Parameters};
 ghost use Rattle.circom_bytes.specs.Hash.{SpellsTable, hash_outcome};
-ghost use Rattle.paxidore_c.specs.Answer.{Gives, GivesBy, done_code, refusal_code};
+ghost use Rattle.paxidore_c.specs.Answer.{Gives, GivesBy, Hands, done_code, refusal_code};
+ghost use Rattle.paxidore_c.specs.declared.refused.Refused.{Refused as Why};
 ghost use Rattle.paxidore_c.specs.declared.refused.Refused.TheVariants.{Count, Memory, Room};
 ghost use Rattle.paxidore_c.specs.Poseidon.{IsCircomTable, hashing_refused, poseidon_hash, refused_inputs};
 
@@ -41,6 +42,10 @@ pub extern "C" fn paxidore_poseidon_table(
     table_len: &mut usize,
     inputs: usize,
 ) -> i32
+    // Such a table is handed over, or there is none for so many inputs.
+    ensures handed { (made : Result (List ℕ) Why) × IfOk made (IsCircomTable inputs)
+        × Hands made table.old table.new table_len.old table_len.new result }
+
     // What is written is such a table.
     ensures ready { result ≡ pos 0 → (bytes : List ℕ) × IsCircomTable inputs bytes
         × (table.new ≡ bytes ++ drop (length bytes) table.old)

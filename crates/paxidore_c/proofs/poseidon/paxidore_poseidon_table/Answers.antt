@@ -1,9 +1,19 @@
 use Rattle.std.proofs.Common.{w32}
 use Rattle.std.proofs.lemmas.Int.{to_z-of_z}
-use Rattle.paxidore_c.proofs.Hashed.{handed-codes, handed-none}
+use Rattle.paxidore_c.proofs.Hashed.{handed-codes, handed-none, said-of-seen}
 use Rattle.paxidore_c.proofs.Written.{gives-itself, handed, seen}
 use Rattle.paxidore_c.specs.Poseidon.{IsCircomTable}
 use Rattle.paxidore_c.proofs.poseidon.paxidore_poseidon_table.Goals as goal
+
+pub returns-clause-handed : goal.returns-clause-handed
+returns-clause-handed c =
+    let hands = c.hand_over.ensures (seen (λ bytes. bytes.items) c.table_for.result)
+    (gives-itself (λ bytes. bytes.items) c.table_for.result) in
+    let fits = to_z-of_z w32 c.hand_over.result (record { sfits = c.hand_over.type_inv }) in (
+      seen (λ bytes. bytes.items) c.table_for.result,
+      said-of-seen (λ bytes. bytes.items) (IsCircomTable c.args.inputs) c.table_for.result c.table_for.ensures.made,
+      rw fits hands,
+    )
 
 pub returns-clause-ready : goal.returns-clause-ready
 returns-clause-ready c =
