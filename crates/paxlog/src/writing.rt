@@ -59,17 +59,27 @@ pub fn sync_way(rt: &HostRuntime, folder: &str, path: &str) -> Result<(), Stop> 
     Ok(())
 }
 
-/// Returns once the name of a folder, and that of each folder on the way to it, are on the disk. What lies above and may not be read is
-/// left out: another made it.
+// Returns once the names in a folder are on the disk. One that may not be read, or that is not written to a disk, is left out: the names
+// in it are another's.
+fn sync_if_any(rt: &HostRuntime, folder: &str) -> Result<(), Stop> {
+    let above = match File::open(rt, folder) {
+        Ok(above) => above,
+        Err(error) if error.kind() == io::ErrorKind::PermissionDenied => return Ok(()),
+        Err(error) => return Err(Stop::from(error)),
+    };
+    match above.sync_all() {
+        Ok(()) => Ok(()),
+        Err(error) if error.kind() == io::ErrorKind::InvalidInput => Ok(()),
+        Err(error) => Err(Stop::from(error)),
+    }
+}
+
+/// Returns once the name of a folder, and that of each folder on the way to it, are on the disk.
 pub fn sync_above(rt: &HostRuntime, folder: &str) -> Result<(), Stop> {
     let mut at = folder.trim_end_matches('/');
     for _folder in 0..folder.len() {
         at = folder_of(at);
-        match File::open(rt, at) {
-            Ok(above) => above.sync_all()?,
-            Err(error) if error.kind() == io::ErrorKind::PermissionDenied => (),
-            Err(error) => return Err(Stop::from(error)),
-        }
+        sync_if_any(rt, at)?;
         if at == "." || at == "/" {
             return Ok(());
         }
