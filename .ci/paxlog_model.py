@@ -12,6 +12,7 @@ SIZE = 21
 ROUNDS = int(os.environ.get("ROUNDS", "20"))
 KILLS = int(os.environ.get("KILLS", "60"))
 PATIENCE = int(os.environ.get("PATIENCE", "120"))
+LARGEST = int(os.environ.get("LARGEST", "66000"))
 LARGE = int(os.environ.get("LARGE", "1000000"))
 DRAWS = random.Random(61)
 passed = failed = 0

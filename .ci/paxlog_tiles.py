@@ -9,9 +9,9 @@ import subprocess
 import time
 
 import paxlog_folders
-from paxlog_model import DRAWS, KILLS, PROGRAM, ask, check, read, root, sha, write
+from paxlog_model import DRAWS, KILLS, LARGEST, PROGRAM, ask, check, read, root, sha, write
 
-SIZES = [0, 1, 2, 200, 256, 257, 600, 1024, 65536, 66000]
+SIZES = [size for size in (0, 1, 2, 200, 256, 257, 600, 1024, 65536, 66000) if size <= LARGEST]
 
 
 class Rows:
@@ -216,7 +216,7 @@ def has_receipts(room, verifier, rows):
     note = read(site + "/checkpoint")
     said = "%d %s\n" % (size, rows.root(size).hex())
     entry, place = room + "/entry", room + "/receipt"
-    for index in (0, 255, 256, 65536, size - 1):
+    for index in [index for index in (0, 255, 256, 65536) if index < size] + [size - 1]:
         path = bytes.fromhex(ask("prove", log, str(index))[1])
         lines = b"".join(base64.b64encode(path[at : at + 32]) + b"\n" for at in range(0, len(path), 32))
         receipt = b"c2sp.org/tlog-proof@v1\nindex %d\n%s\n%s" % (index, lines, note)
