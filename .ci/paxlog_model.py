@@ -11,6 +11,8 @@ TITLE = b"paxidore log, digests of SHA-256"
 SIZE = 21
 ROUNDS = int(os.environ.get("ROUNDS", "20"))
 KILLS = int(os.environ.get("KILLS", "60"))
+PATIENCE = int(os.environ.get("PATIENCE", "120"))
+LARGEST = int(os.environ.get("LARGEST", "66000"))
 LARGE = int(os.environ.get("LARGE", "1000000"))
 DRAWS = random.Random(61)
 passed = failed = 0
@@ -30,7 +32,7 @@ def check(what, holds):
 
 def ask(*words):
     try:
-        ran = subprocess.run([PROGRAM, *map(str, words)], stdout=subprocess.PIPE, stderr=subprocess.PIPE, timeout=120)
+        ran = subprocess.run([PROGRAM, *map(str, words)], stdout=subprocess.PIPE, stderr=subprocess.PIPE, timeout=PATIENCE)
     except subprocess.TimeoutExpired:
         return -1, "", "it does not end"
     return ran.returncode, ran.stdout.decode(), ran.stderr.decode()

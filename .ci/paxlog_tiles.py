@@ -8,9 +8,10 @@ import signal
 import subprocess
 import time
 
-from paxlog_model import DRAWS, KILLS, PROGRAM, ask, check, read, root, sha, write
+import paxlog_folders
+from paxlog_model import DRAWS, KILLS, LARGEST, PROGRAM, ask, check, read, root, sha, write
 
-SIZES = [0, 1, 2, 200, 256, 257, 600, 1024, 65536, 66000]
+SIZES = [size for size in (0, 1, 2, 200, 256, 257, 600, 1024, 65536, 66000) if size <= LARGEST]
 
 
 class Rows:
@@ -97,6 +98,7 @@ def is_served(room, verifier, rows):
         check("tiles of %d" % new, ask("tiles", log, site, "--key", key) == (0, said, ""))
         found = files_below(site)
         note = found.pop("checkpoint")
+        check("a lock without a byte", found.pop(".lock") == b"")
         check("the checkpoint of %d" % new, note.split(b"\n")[:3] == [b"example.com/tiles", b"%d" % new, base64.b64encode(rows.root(new))])
         seen.update(rows.tiles(new))
         check("the tiles of %d, and no other file" % new, found == seen)
@@ -165,6 +167,7 @@ def is_damaged(room, verifier, rows):
 
 def is_witnessed(room, verifier, cosigner, notes, rows):
     site, state = room + "/site", room + "/witness-state"
+    check("a witness has a state that a follower made", ask("follow", site, verifier, state)[0] == 0)
     before = int(time.time())
     status, note, why = ask("witness", site, verifier, state, "--key", room + "/witness-key")
     text = note.split("\n\n")[0] + "\n"
@@ -213,7 +216,7 @@ def has_receipts(room, verifier, rows):
     note = read(site + "/checkpoint")
     said = "%d %s\n" % (size, rows.root(size).hex())
     entry, place = room + "/entry", room + "/receipt"
-    for index in (0, 255, 256, 65536, size - 1):
+    for index in [index for index in (0, 255, 256, 65536) if index < size] + [size - 1]:
         path = bytes.fromhex(ask("prove", log, str(index))[1])
         lines = b"".join(base64.b64encode(path[at : at + 32]) + b"\n" for at in range(0, len(path), 32))
         receipt = b"c2sp.org/tlog-proof@v1\nindex %d\n%s\n%s" % (index, lines, note)
@@ -239,6 +242,17 @@ def has_receipts(room, verifier, rows):
     os.remove(entry), os.remove(place)
 
 
+def shows_a_fork(proof, old, new):
+    """The words that are kept show that the log of the new note has another root of the old size than the old note."""
+    words = proof.split(" ")
+    check("five words, and a line's end", len(words) == 5 and proof.count("\n") == 1 and proof.endswith("\n"))
+    size, top = (old.split(b"\n")[at].decode() for at in (1, 2))
+    check("another root of the old size", words[0] == size and bytes.fromhex(words[1]) != base64.b64decode(top))
+    size, top = (new.split(b"\n")[at].decode() for at in (1, 2))
+    check("the new size and root", words[2] == size and bytes.fromhex(words[3]) == base64.b64decode(top))
+    check("anyone can check it", ask("verify-consistency", *words[:4], words[4].strip()) == (0, "yes\n", ""))
+
+
 def is_forked(room, verifier, cosigner, rows):
     """Another log by the same key: neither a follower nor a witness takes it, and both notes stay."""
     state = read(room + "/state")
@@ -251,6 +265,10 @@ def is_forked(room, verifier, cosigner, rows):
         status, said, why = ask("follow", copy, verifier, room + "/state")
         check("a fork at %d" % size, (status, said, why) == (8, "", "paxlog: %s: the log does not continue the one that it was\n" % copy))
         check("both notes of %d" % size, (read(room + "/state"), read(room + "/state.fork")) == (state, note))
+        if size == SIZES[-1]:
+            check("of one size two notes are enough", not os.path.exists(room + "/state.fork-proof"))
+        else:
+            shows_a_fork(read(room + "/state.fork-proof").decode(), state, note)
         said = ask("witness", copy, verifier, room + "/witness-state", "--key", room + "/witness-key")
         check("no cosignature of it", said[:2] == (8, ""))
         check("a folder of another log", ask("tiles", room + "/log", copy, "--key", room + "/key")[0] == (8 if size == SIZES[-1] else 3))
@@ -318,6 +336,14 @@ def serves_tiles(room, notes):
     room = room + "/tiles"
     os.mkdir(room)
     verifier, cosigner = keys(room, notes)
+    paxlog_folders.signs_sound_tiles(room, verifier)
+    paxlog_folders.writes_what_lacks(room, verifier)
+    paxlog_folders.follows_no_link(room, verifier)
+    paxlog_folders.names_are_there(room, verifier)
+    paxlog_folders.reads_regular_files(room, verifier)
+    paxlog_folders.locks_folders(room, verifier)
+    paxlog_folders.needs_a_state(room, verifier, notes)
+    paxlog_folders.is_on_the_disk(room, verifier)
     rows = Rows()
     is_served(room, verifier, rows)
     is_damaged(room, verifier, rows)

@@ -123,7 +123,7 @@ pub fn continues<D: Disk>(
 }
 
 /// Returns whether all tiles of the log of a checkpoint are those of one log with its root: the digests at its right edge lead to the
-/// root, and the root of each full tile is the digest above it. It reads each tile once.
+/// root, and the root of each full tile is the digest above it. It reads each full tile once, and for each the digest above it.
 ///
 /// The error is that of a tile that could not be read.
 pub fn audit<T: Tiles + Drop>(

@@ -71,7 +71,21 @@ fn complain_of_tile(rt: &HostRuntime, fault: TileFault) -> u8 {
             let _ = eprintln!(rt; "paxlog: {name}: the tile has another length");
             DAMAGED
         }
+        TileFault::Kind { name } => complain_of_kind(rt, &name),
     }
+}
+
+// Writes that a file is no regular one, and returns the status.
+fn complain_of_kind(rt: &HostRuntime, name: &str) -> u8 {
+    let _ = eprintln!(rt; "paxlog: {name}: it is no regular file");
+    REFUSED
+}
+
+// Writes that another process does what one alone does at a time, and returns the status.
+fn complain_of_lock(rt: &HostRuntime, words: &[Vec<u8>], place: Option<usize>, what: &str) -> u8 {
+    begin(rt, words, place);
+    let _ = eprintln!(rt; "another process {what}");
+    LOCKED
 }
 
 /// Writes why there is no answer, and returns the status.
@@ -113,10 +127,19 @@ pub fn complain(rt: &HostRuntime, words: &[Vec<u8>], stop: StopAt) -> u8 {
             let _ = eprintln!(rt; "the log does not continue the one that it was");
             FORKED
         }
-        Stop::Locked => {
+        Stop::Locked => complain_of_lock(rt, words, place, "appends to the log"),
+        Stop::Written => complain_of_lock(rt, words, place, "writes the folder"),
+        Stop::Followed => complain_of_lock(rt, words, place, "moves the state on"),
+        Stop::Kind(name) => complain_of_kind(rt, &name),
+        Stop::Link => {
             begin(rt, words, place);
-            let _ = eprintln!(rt; "another process appends to the log");
-            LOCKED
+            let _ = eprintln!(rt; "the state is a symbolic link");
+            REFUSED
+        }
+        Stop::NoState => {
+            begin(rt, words, place);
+            let _ = eprintln!(rt; "no state: `paxlog follow` makes the first one");
+            REFUSED
         }
         Stop::System(error) => {
             begin(rt, words, place);

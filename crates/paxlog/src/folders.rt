@@ -1,28 +1,26 @@
 //! Folders of tiles: the files that a static server hands out.
 
 ghost use Rattle.std.specs.Prelude.{◌≡◌, ◌≤◌, ◌<◌, ◌^◌, []};
-ghost use Rattle.paxlog_run.specs.LogFile.{file_end};
 
-use crate::file_disk::FileDisk;
+use crate::reading::{Regular, bytes_of_at_most, if_found, open_regular};
 use crate::stop::Stop;
-use crate::store::{folder_of, sync_folder_of};
+use crate::store::folder_of;
+use crate::writing::{sync_way, write_whole};
 use log_tiles::{
-    FULL, LONGEST, Tile, Tiles, bundle_name, is_bundle, new_tiles, push_entry, read_tile,
-    tile_name, width_of,
+    FULL, LONGEST, Tile, Tiles, bundle_name, is_bundle, push_entry, tile_name, width_of,
 };
 use memchr::memchr;
 use paxlog_run::fault::Fault;
 use std::alloc::Global;
-use std::fs::{File, OpenOptions};
-use std::io::Write;
+use std::fs::File;
 use std::os::unix::fs::FileExt;
 use std::{fs, io};
 
-/// How many levels of tiles the largest log has.
-const LEVELS: usize = 8;
-
 /// The name of a checkpoint in its folder.
 pub const CHECKPOINT: &str = "checkpoint";
+
+// The bytes of the longest bundle.
+const LONGEST_BUNDLE: usize = FULL * (2 + LONGEST);
 
 /// Why a tile was not read.
 #[derive(Drop)]
@@ -33,10 +31,21 @@ pub enum TileFault {
     System { name: String, error: io::Error },
     /// Its file has another length.
     Length { name: String },
+    /// Its file is no regular one.
+    Kind { name: String },
 }
 
-// The name of a tile below a folder.
-fn path_of(alloc: Global, folder: &str, tile: Tile) -> Result<String, TileFault> {
+// Why a tile was not read whose file was not opened.
+fn of_open(name: String, why: Stop) -> TileFault {
+    match why {
+        Stop::System(error) => TileFault::System { name, error },
+        Stop::Kind(name) => TileFault::Kind { name },
+        _ => TileFault::Memory,
+    }
+}
+
+/// The name of a tile below a folder.
+pub fn path_of(alloc: Global, folder: &str, tile: Tile) -> Result<String, TileFault> {
     let Ok(name) = tile_name(alloc, tile) else {
         return Err(TileFault::Memory);
     };
@@ -59,7 +68,7 @@ pub struct FolderTiles<'a> {
 // The open file of a tile, its name, and how many digests it has.
 #[derive(Drop)]
 struct TileFile {
-    file: File,
+    opened: Regular,
     name: String,
     width: usize,
 }
@@ -73,28 +82,30 @@ impl<'a> FolderTiles<'a> {
     fn open(&self, tile: Tile) -> Result<TileFile, TileFault> {
         let alloc = self.rt.alloc();
         let name = path_of(alloc, self.folder, tile)?;
-        match File::open(self.rt, name.as_str()) {
-            Ok(file) => Ok(TileFile {
-                file,
+        match open_regular(self.rt, name.as_str()) {
+            Ok(opened) => Ok(TileFile {
+                opened,
                 name,
                 width: tile.width,
             }),
-            Err(error) if error.kind() == io::ErrorKind::NotFound && tile.width != FULL => {
+            Err(Stop::System(error))
+                if error.kind() == io::ErrorKind::NotFound && tile.width != FULL => {
                 let full = Tile {
                     width: FULL,
                     ..tile
                 };
                 let whole = path_of(alloc, self.folder, full)?;
-                match File::open(self.rt, whole.as_str()) {
-                    Ok(file) => Ok(TileFile {
-                        file,
+                match open_regular(self.rt, whole.as_str()) {
+                    Ok(opened) => Ok(TileFile {
+                        opened,
                         name: whole,
                         width: FULL,
                     }),
+                    Err(Stop::Kind(name)) => Err(TileFault::Kind { name }),
                     Err(_) => Err(TileFault::System { name, error }),
                 }
             }
-            Err(error) => Err(TileFault::System { name, error }),
+            Err(why) => Err(of_open(name, why)),
         }
     }
 }
@@ -118,16 +129,16 @@ impl<'a> Tiles for FolderTiles<'a> {
     ghost has = { λ _ _. [] };
 
     fn read(&self, tile: Tile, from: usize, into: &mut [[u8; 32]]) -> Result<(), TileFault> {
-        let TileFile { file, name, width } = self.open(tile)?;
-        let length = match file.metadata() {
-            Ok(about) => about.len() as usize,
-            Err(error) => return Err(TileFault::System { name, error }),
-        };
+        let TileFile {
+            opened,
+            name,
+            width,
+        } = self.open(tile)?;
         let is_inside = from.saturating_add(into.len()) <= tile.width.min(FULL);
-        if length != width.saturating_mul(32) || !is_inside {
+        if opened.length != width.saturating_mul(32) || !is_inside {
             return Err(TileFault::Length { name });
         }
-        match read_digests(&file, from, into) {
+        match read_digests(&opened.file, from, into) {
             Ok(()) => Ok(()),
             Err(error) => Err(TileFault::System { name, error }),
         }
@@ -174,12 +185,15 @@ fn first_line(lines: &[u8]) -> (&[u8], &[u8]) {
     }
 }
 
-// The bundle of the next entries, so many, of lines, and what stands behind them. A line that is too long is left out, and one that
-// lacks is empty: then the bundle is that of no tile.
+// The bundle of the next entries, so many, of lines, and what stands behind them. A line that is too long is left out: then the bundle
+// is that of no tile. The error is `Entries` for fewer lines.
 fn next_bundle(alloc: Global, lines: &[u8], count: usize) -> Result<(Vec<u8>, &[u8]), Stop> {
     let mut bundle = Vec::new(alloc);
     let mut rest = lines;
     for _entry in 0..count {
+        if rest.is_empty() {
+            return Err(Stop::Entries);
+        }
         let (line, behind) = first_line(rest);
         if line.len() <= LONGEST {
             push_entry(line, &mut bundle)?;
@@ -189,34 +203,46 @@ fn next_bundle(alloc: Global, lines: &[u8], count: usize) -> Result<(Vec<u8>, &[
     Ok((bundle, rest))
 }
 
-/// Writes to a folder the bundles of the entries of the log of this size, which are lines, those that it lacks, and returns once they
-/// are on the disk. Each entry has to have the digest that its tile has.
+// Writes a bundle, where the folder has not these bytes.
+fn keep_bundle(rt: &HostRuntime, path: &str, bundle: &[u8]) -> Result<(), Stop> {
+    match if_found(bytes_of_at_most(rt, path, bundle.len()))? {
+        Some(Some(kept)) if kept.as_slice() == bundle => Ok(()),
+        _ => {
+            fs::create_dir_all(rt, folder_of(path))?;
+            write_whole(rt, path, bundle)
+        }
+    }
+}
+
+/// Writes to a folder the bundles of the entries of the log of this size, which are lines: those that it lacks, and those that it has
+/// with other bytes. Returns once all are on the disk. Each entry has to have the digest that its tile has.
 pub fn keep_entries(rt: &HostRuntime, folder: &str, size: usize, lines: &[u8]) -> Result<(), Stop>
     requires { size < 2 ^ 63 }
 {
     let mut rest = lines;
+    let mut last = format!(in rt.alloc(); "{folder}/")?;
     for index in 0..size / FULL + 1 {
         let width = width_of(size, 0, index);
-        if width == 0 {
-            return Ok(());
+        if width != 0 {
+            let (bundle, behind) = next_bundle(rt.alloc(), rest, width)?;
+            if !is_bundle(&bundle, &digests_at(rt, folder, size, index)?) {
+                return Err(Stop::Entries);
+            }
+            let path = bundle_path(rt.alloc(), folder, index, width)?;
+            keep_bundle(rt, path.as_str(), &bundle)?;
+            // once for each folder
+            if folder_of(path.as_str()) != folder_of(last.as_str()) {
+                sync_way(rt, folder, last.as_str())?;
+            }
+            last = path;
+            rest = behind;
         }
-        let (bundle, behind) = next_bundle(rt.alloc(), rest, width)?;
-        if !is_bundle(&bundle, &digests_at(rt, folder, size, index)?) {
-            return Err(Stop::Entries);
-        }
-        let path = bundle_path(rt.alloc(), folder, index, width)?;
-        if File::open(rt, path.as_str()).is_err() {
-            fs::create_dir_all(rt, folder_of(path.as_str()))?;
-            write_whole(rt, path.as_str(), &bundle)?;
-            sync_folder_of(rt, path.as_str())?;
-        }
-        rest = behind;
     }
-    Ok(())
+    sync_way(rt, folder, last.as_str())
 }
 
-/// Returns how many entries of the log of this size a folder keeps, from the first one on; nothing where a bundle is another than that
-/// of its tile.
+/// Returns how many entries of the log of this size a folder keeps, from the first one on, by whole bundles; nothing where a bundle is
+/// another than that of its tile.
 pub fn kept_entries(rt: &HostRuntime, folder: &str, size: usize) -> Result<Option<usize>, Stop>
     requires { size < 2 ^ 63 }
 {
@@ -226,90 +252,15 @@ pub fn kept_entries(rt: &HostRuntime, folder: &str, size: usize) -> Result<Optio
             return Ok(Some(size));
         }
         let path = bundle_path(rt.alloc(), folder, index, width)?;
-        match fs::read(rt, path.as_str()) {
-            Ok(bundle) => {
+        match if_found(bytes_of_at_most(rt, path.as_str(), LONGEST_BUNDLE))? {
+            Some(Some(bundle)) => {
                 if !is_bundle(&bundle, &digests_at(rt, folder, size, index)?) {
                     return Ok(None);
                 }
             }
-            Err(error) if error.kind() == io::ErrorKind::NotFound => {
-                return Ok(Some(index.saturating_mul(FULL).min(size)));
-            }
-            Err(error) => return Err(Stop::from(error)),
+            Some(None) => return Ok(None),
+            None => return Ok(Some(index.saturating_mul(FULL).min(size))),
         }
     }
     Ok(Some(size))
-}
-
-/// Writes a file whole or not at all: behind another name first, whose bytes are on the disk when it is renamed.
-pub fn write_whole(rt: &HostRuntime, path: &str, bytes: &[u8]) -> Result<(), Stop> {
-    let beside = format!(in rt.alloc(); "{path}.new")?;
-    let mut how = OpenOptions::new();
-    let mut file = how
-        .write(true)
-        .create(true)
-        .truncate(true)
-        .open(rt, beside.as_str())?;
-    file.write_all(bytes)?;
-    file.sync_all()?;
-    fs::rename(rt, beside.as_str(), path)?;
-    Ok(())
-}
-
-// The bytes of digests, one behind the other.
-fn bytes_of(alloc: Global, digests: &[[u8; 32]]) -> Result<Vec<u8>, Stop> {
-    let mut bytes = Vec::new(alloc);
-    for digest in digests {
-        bytes.extend_from_slice(digest)?;
-    }
-    Ok(bytes)
-}
-
-// Writes a tile of a log of this size to a folder, and returns the name of its file.
-fn write_tile(
-    rt: &HostRuntime,
-    disk: &FileDisk,
-    size: usize,
-    folder: &str,
-    tile: Tile,
-) -> Result<String, Stop>
-    requires fits { size < 2 ^ 63 }
-    requires near { file_end size < 2 ^ 64 }
-{
-    let mut digests = [[0; 32]; FULL];
-    match read_tile(disk, size, tile, &mut digests) {
-        Ok(()) => (),
-        Err(stop) => return Err(Stop::from(stop)),
-    }
-    let Ok(path) = path_of(rt.alloc(), folder, tile) else {
-        return Err(Stop::Fault(Fault::Memory));
-    };
-    fs::create_dir_all(rt, folder_of(path.as_str()))?;
-    write_whole(
-        rt,
-        path.as_str(),
-        &bytes_of(rt.alloc(), &digests[..tile.width.min(FULL)])?,
-    )?;
-    Ok(path)
-}
-
-/// Writes to a folder the tiles that a log of this size has and one of the old size has not, and returns once they are on the disk.
-pub fn write_tiles(
-    rt: &HostRuntime,
-    disk: &FileDisk,
-    old_size: usize,
-    size: usize,
-    folder: &str,
-) -> Result<(), Stop>
-    requires grown { old_size ≤ size }
-    requires fits { size < 2 ^ 63 }
-    requires near { file_end size < 2 ^ 64 }
-{
-    for level in 0..LEVELS {
-        for tile in new_tiles(rt.alloc(), old_size, size, level)? {
-            let path = write_tile(rt, disk, size, folder, tile)?;
-            sync_folder_of(rt, path.as_str())?;
-        }
-    }
-    Ok(())
 }

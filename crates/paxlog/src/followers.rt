@@ -1,39 +1,31 @@
-//! Folders of tiles that are written, audited, followed and witnessed.
+//! Folders of tiles that are audited, followed and witnessed.
 
 ghost use Rattle.std.specs.Prelude.{◌<◌, ◌^◌, IfOk};
 
-use crate::checkpoints::{note_of, opened, signed_by};
-use crate::folders::{
-    CHECKPOINT, FolderTiles, keep_entries, kept_entries, write_tiles, write_whole,
-};
+use crate::checkpoints::{opened, without_feed};
+use crate::folders::{CHECKPOINT, FolderTiles, keep_entries, kept_entries};
+use crate::reading::{if_found, note_bytes};
 use crate::stop::{Stop, StopAt};
-use crate::store::{sync_folder_of, unchanged};
+use crate::store::sync_folder_of;
+use crate::writing::{locked, locked_folder, remove_whole, sync_file, write_whole};
 use log_store::InclusionProof;
 use log_tiles::{Head, TileDisk, audit as is_sound, continues, prove as proof_of};
 use merkle_log::kept::is_size;
 use paxlog_run::fault::Fault;
+use paxlog_run::replies::{line_of, line_of_root};
 use sha2::{Digest, Sha256};
 use signed_notes::{Cosigner, Verifier, cosign};
-use std::fs::{File, OpenOptions};
+use std::fs::File;
 use std::time::{SystemTime, UNIX_EPOCH};
 use std::{fs, io};
 
-// The name of a folder's checkpoint.
-fn checkpoint_in(rt: &HostRuntime, folder: &str) -> Result<String, Stop> {
+/// Returns the name of a folder's checkpoint.
+pub fn checkpoint_in(rt: &HostRuntime, folder: &str) -> Result<String, Stop> {
     Ok(format!(in rt.alloc(); "{folder}/{CHECKPOINT}")?)
 }
 
-// The bytes of a file; none where there is no such file.
-fn bytes_if_any(rt: &HostRuntime, path: &str) -> Result<Option<Vec<u8>>, Stop> {
-    match fs::read(rt, path) {
-        Ok(bytes) => Ok(Some(bytes)),
-        Err(error) if error.kind() == io::ErrorKind::NotFound => Ok(None),
-        Err(error) => Err(Stop::from(error)),
-    }
-}
-
-// What is known of a log before anything is: that it had no entry.
-fn nothing() -> Head {
+/// Returns what is known of a log before anything is: that it had no entry.
+pub fn nothing() -> Head {
     Head {
         size: 0,
         root: Sha256::digest([].as_slice()),
@@ -56,21 +48,21 @@ fn stated(
     }
 }
 
-// What the note of a file states, where the key signed it; that the log had no entry, where there is no such file.
-fn stated_in(
+/// Returns what the note of a file states, where the key signed it; that the log had no entry, where there is no such file.
+pub fn stated_in(
     rt: &HostRuntime,
     key: &Verifier,
     path: &str,
     origin: Option<&str>,
 ) -> Result<Head, Stop> {
-    match bytes_if_any(rt, path)? {
+    match if_found(note_bytes(rt, path))? {
         Some(note) => stated(rt, key, &note, origin),
         None => Ok(nothing()),
     }
 }
 
-// The log of a checkpoint, in the tiles of a folder.
-fn log_in<'a>(
+/// Returns the log of a checkpoint, in the tiles of a folder.
+pub fn log_in<'a>(
     rt: &'a HostRuntime,
     folder: &'a str,
     head: &Head,
@@ -96,76 +88,9 @@ pub fn read_checkpoint(
     origin: Option<&str>,
 ) -> Result<Published, Stop> {
     let path = checkpoint_in(rt, folder)?;
-    let note = fs::read(rt, path.as_str())?;
+    let note = note_bytes(rt, path.as_str())?;
     let head = stated(rt, key, &note, origin)?;
     Ok(Published { note, head })
-}
-
-/// Writes the tiles of the log of a file to a folder, those that it lacks, and then its signed checkpoint. Returns what that
-/// states.
-///
-/// The folder's checkpoint, if it has one, is one of the same log and key. A kill at any moment leaves it, or the new one with all
-/// its tiles.
-pub fn publish(
-    rt: &HostRuntime,
-    path: &str,
-    folder: &str,
-    key_path: &str,
-    origin: Option<&str>,
-) -> Result<Head, StopAt> {
-    let text = match fs::read(rt, key_path) {
-        Ok(text) => text,
-        Err(error) => return Err(Stop::from(error).at(4)),
-    };
-    let signer = match signed_by(rt.alloc(), &text) {
-        Ok(signer) => signer,
-        Err(why) => return Err(why.at(4)),
-    };
-    let mut disk = match unchanged(rt, path) {
-        Ok(disk) => disk,
-        Err(why) => return Err(why.at(1)),
-    };
-    let (size, root) = match log_store::root(&disk, None) {
-        Ok(root) => root,
-        Err(why) => return Err(Stop::from(why).at(1)),
-    };
-    let checkpoint = checkpoint_in(rt, folder)?;
-    let old = match stated_in(rt, &signer.verifier(), checkpoint.as_str(), origin) {
-        Ok(old) => old,
-        Err(why) => return Err(why.at(2)),
-    };
-    if old.size > size {
-        return Err(Stop::Shrunk.at(1));
-    }
-    if old.size > 0 {
-        let first = match crate::store::root_of_first(rt, &disk, old.size) {
-            Ok(first) => first,
-            Err(why) => return Err(why.at(1)),
-        };
-        if first != old.root {
-            return Err(Stop::Fork.at(1));
-        }
-    }
-    if let Err(error) = fs::create_dir_all(rt, folder) {
-        return Err(Stop::from(error).at(2));
-    }
-    if let Err(why) = write_tiles(rt, &disk, old.size, size, folder) {
-        return Err(why.at(2));
-    }
-    let note = match note_of(rt, &mut disk, &signer, origin) {
-        Ok(note) => note,
-        Err(why) => return Err(why.at(1)),
-    };
-    match write_note(rt, checkpoint.as_str(), &note) {
-        Ok(()) => Ok(Head { size, root }),
-        Err(why) => Err(why.at(2)),
-    }
-}
-
-// Writes a note to a file, whole or not at all, and returns once it is on the disk.
-fn write_note(rt: &HostRuntime, path: &str, note: &[u8]) -> Result<(), Stop> {
-    write_whole(rt, path, note)?;
-    sync_folder_of(rt, path)
 }
 
 /// What an audit found: what the checkpoint states, and of how many entries, from the first one on, the bytes are kept.
@@ -215,6 +140,7 @@ pub fn keep(
     lines: &[u8],
 ) -> Result<Head, Stop> {
     let Published { note: _, head } = read_checkpoint(rt, folder, key, origin)?;
+    let _lock = locked_folder(rt, folder)?;
     keep_entries(rt, folder, sized(&head)?, lines)?;
     Ok(head)
 }
@@ -245,25 +171,105 @@ pub fn prove(
     Ok(Proved { path, note })
 }
 
-// Locks the state of a follower, whose file is replaced when it moves on: a file beside it is locked.
-fn locked(rt: &HostRuntime, state: &str) -> Result<File, Stop> {
-    let path = format!(in rt.alloc(); "{state}.lock")?;
-    let mut how = OpenOptions::new();
-    let file = how.write(true).create(true).open(rt, path.as_str())?;
-    file.try_lock()?;
-    Ok(file)
+// Refuses a state that is a symbolic link, since a new one would take the link's place and leave the old one behind it; and that there
+// is none, unless the first one is to be made.
+fn check_state(rt: &HostRuntime, state: &str, makes_first: bool) -> Result<(), Stop> {
+    match fs::symlink_metadata(rt, state) {
+        Ok(about) if about.is_symlink() => Err(Stop::Link),
+        Ok(_) => Ok(()),
+        Err(error) if error.kind() == io::ErrorKind::NotFound => {
+            if makes_first {
+                Ok(())
+            } else {
+                Err(Stop::NoState)
+            }
+        }
+        Err(error) => Err(Stop::from(error)),
+    }
 }
 
-/// Moves a follower's state on to the checkpoint of a folder, which continues the one that it was left at, and returns it. Where no
-/// log has both, the new one is kept beside the state as evidence.
-pub fn follow(
+// Locks the state of a follower, whose file is replaced when it moves on: a file beside it is locked.
+fn locked_state(rt: &HostRuntime, state: &str, makes_first: bool) -> Result<File, Stop> {
+    check_state(rt, state, makes_first)?;
+    let path = format!(in rt.alloc(); "{state}.lock")?;
+    let lock = match locked(rt, path.as_str()) {
+        Ok(lock) => lock,
+        Err(Stop::Locked) => return Err(Stop::Followed),
+        Err(why) => return Err(why),
+    };
+    // it may have been removed before it was locked
+    check_state(rt, state, makes_first)?;
+    Ok(lock)
+}
+
+// The words behind `verify-consistency` by which anyone checks that the log of a new checkpoint, whose tiles the disk reads, has another
+// root of the old size.
+fn fork_words(
+    rt: &HostRuntime,
+    disk: &TileDisk<FolderTiles<'_>>,
+    old: &Head,
+) -> Result<Vec<u8>, Stop> {
+    let alloc = rt.alloc();
+    let proof = match log_store::consistency(alloc, disk, old.size, None) {
+        Ok(proof) => proof,
+        Err(log_store::Stop::Fault(fault)) => return Err(Stop::Fault(fault)),
+        Err(log_store::Stop::Disk(refusal)) => {
+            return Err(Stop::from(log_tiles::Stop::Disk(refusal)));
+        }
+    };
+    let first = line_of_root(alloc, old.size, &proof.old_root)?;
+    let mut words = Vec::new(alloc);
+    words.extend_from_slice(without_feed(&first))?;
+    words.push(b' ')?;
+    let second = line_of_root(alloc, proof.size, &proof.root)?;
+    words.extend_from_slice(without_feed(&second))?;
+    words.push(b' ')?;
+    words.extend_from_slice(&line_of(alloc, &proof.path)?)?;
+    Ok(words)
+}
+
+// Keeps the evidence of a fork beside a state: the new note, and, where the sizes differ, the words that show another root of the old
+// size. Of one size the two notes are enough.
+fn keep_evidence(
+    rt: &HostRuntime,
+    state: &str,
+    disk: &TileDisk<FolderTiles<'_>>,
+    old: &Head,
+    new: &Published,
+) -> Result<(), Stop> {
+    let note = format!(in rt.alloc(); "{state}.fork")?;
+    write_note(rt, note.as_str(), &new.note)?;
+    let proof = format!(in rt.alloc(); "{state}.fork-proof")?;
+    if old.size == new.head.size {
+        return remove_whole(rt, proof.as_str());
+    }
+    write_note(rt, proof.as_str(), &fork_words(rt, disk, old)?)
+}
+
+// Writes a note to a file, whole or not at all, and returns once it is on the disk.
+fn write_note(rt: &HostRuntime, path: &str, note: &[u8]) -> Result<(), Stop> {
+    write_whole(rt, path, note)?;
+    sync_folder_of(rt, path)
+}
+
+/// A step of a follower whose state is locked: the checkpoint at which it was left, and that of a folder, which continues it.
+#[derive(Drop)]
+struct Step {
+    _lock: File,
+    old: Head,
+    new: Published,
+}
+
+// Finds the next step of a follower. Where no log has both checkpoints, the evidence is kept beside the state.
+fn next_step(
     rt: &HostRuntime,
     folder: &str,
     key: &Verifier,
     state: &str,
     origin: Option<&str>,
-) -> Result<Published, StopAt> {
-    let _lock = match locked(rt, state) {
+    makes_first: bool,
+) -> Result<Step, StopAt> {
+    let lock = match locked_state(rt, state, makes_first) {
         Ok(lock) => lock,
         Err(why) => return Err(why.at(3)),
     };
@@ -277,25 +283,46 @@ pub fn follow(
     };
     let disk = log_in(rt, folder, &new.head)?;
     match continues(rt.alloc(), &disk, &old, &new.head) {
-        Ok(()) => (),
-        Err(log_tiles::Stop::Fork) => {
-            let beside = format!(in rt.alloc(); "{state}.fork")?;
-            return match write_note(rt, beside.as_str(), &new.note) {
-                Ok(()) => Err(Stop::Fork.at(1)),
-                Err(why) => Err(why.at(3)),
-            };
-        }
-        Err(stop) => return Err(Stop::from(stop).at(1)),
+        Ok(()) => Ok(Step {
+            _lock: lock,
+            old,
+            new,
+        }),
+        Err(log_tiles::Stop::Fork) => match keep_evidence(rt, state, &disk, &old, &new) {
+            Ok(()) => Err(Stop::Fork.at(1)),
+            Err(why) => Err(why.at(3)),
+        },
+        Err(stop) => Err(Stop::from(stop).at(1)),
     }
-    if old.size != new.head.size || old.size == 0 {
-        if let Err(why) = write_note(rt, state, &new.note) {
-            return Err(why.at(3));
-        }
-    }
-    Ok(new)
 }
 
-/// Moves a witness's state on as `follow`, and returns the checkpoint with the witness's signature and the time.
+// Moves a state on, and returns once it is on the disk. One that stays is synced too: who wrote it may have ended before it was.
+fn move_on(rt: &HostRuntime, state: &str, step: &Step) -> Result<(), Stop> {
+    if step.old.size != step.new.head.size || step.old.size == 0 {
+        write_note(rt, state, &step.new.note)
+    } else {
+        sync_file(rt, state)
+    }
+}
+
+/// Moves a follower's state on to the checkpoint of a folder, which continues the one that it was left at, and returns what that
+/// states. Where no log has both, the new one is kept beside the state as evidence.
+pub fn follow(
+    rt: &HostRuntime,
+    folder: &str,
+    key: &Verifier,
+    state: &str,
+    origin: Option<&str>,
+) -> Result<Head, StopAt> {
+    let step = next_step(rt, folder, key, state, origin, true)?;
+    match move_on(rt, state, &step) {
+        Ok(()) => Ok(step.new.head),
+        Err(why) => Err(why.at(3)),
+    }
+}
+
+/// Moves a witness's state on as `follow`, and returns the checkpoint with the witness's signature and the time. The state is there. It
+/// moves once the checkpoint is signed, and nothing is returned before that is on the disk.
 pub fn witness(
     rt: &HostRuntime,
     folder: &str,
@@ -308,17 +335,21 @@ pub fn witness(
         Ok(text) => text,
         Err(error) => return Err(Stop::from(error).at(5)),
     };
-    let cosigner = match Cosigner::read(rt.alloc(), crate::checkpoints::without_feed(&text)) {
+    let cosigner = match Cosigner::read(rt.alloc(), without_feed(&text)) {
         Ok(cosigner) => cosigner,
         Err(fault) => return Err(Stop::from(fault).at(5)),
     };
-    let new = follow(rt, folder, key, state, origin)?;
+    let step = next_step(rt, folder, key, state, origin, false)?;
     let time = match SystemTime::now(rt)?.duration_since(UNIX_EPOCH) {
         Ok(time) => time.as_secs(),
         Err(_) => 0,
     };
-    match cosign(rt.alloc(), &new.note, &cosigner, time) {
-        Ok(note) => Ok(note),
-        Err(fault) => Err(Stop::from(fault).at(1)),
+    let note = match cosign(rt.alloc(), &step.new.note, &cosigner, time) {
+        Ok(note) => note,
+        Err(fault) => return Err(Stop::from(fault).at(1)),
+    };
+    match move_on(rt, state, &step) {
+        Ok(()) => Ok(note),
+        Err(why) => Err(why.at(3)),
     }
 }

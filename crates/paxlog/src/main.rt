@@ -9,9 +9,12 @@ mod folders;
 mod followers;
 mod picture;
 mod progress;
+mod publishing;
+mod reading;
 mod stop;
 mod store;
 mod words;
+mod writing;
 
 use crate::batches::{Batches, Source};
 use crate::complaints::{begin, complain, reason};
@@ -20,7 +23,7 @@ use crate::picture::{image_of, text_of};
 use crate::progress::OnTerminal;
 use crate::stop::{Stop, StopAt};
 use crate::store::Keeper;
-use crate::words::words;
+use crate::words::{folder_name, name, words};
 use ark_trees::digest_of_entry;
 use log_checkpoints::{ReceiptFault, write_receipt};
 use log_store::{InclusionProof, Recovered};
@@ -67,14 +70,6 @@ const VERSION: &str = "paxlog 1.0.0
 
 // The status of a `no`.
 const NO: u8 = 1;
-
-// The name of a file at a place of the words.
-fn name(words: &[Vec<u8>], place: usize) -> Result<&str, StopAt> {
-    match str::from_utf8(word(words, place)) {
-        Ok(name) => Ok(name),
-        Err(_) => Err(Stop::Words.at(place)),
-    }
-}
 
 // The bytes of the file at a place of the words, or of standard input.
 fn bytes_of(rt: &HostRuntime, words: &[Vec<u8>], place: usize) -> Result<Vec<u8>, StopAt> {
@@ -409,14 +404,14 @@ fn answer(rt: &HostRuntime, request: Request, words: &[Vec<u8>]) -> Result<u8, S
         }
         Request::Tiles { has_origin } => {
             let origin = optional(words, 6, has_origin)?;
-            let (log, folder) = (name(words, 1)?, name(words, 2)?);
-            let head = followers::publish(rt, log, folder, name(words, 4)?, origin)?;
+            let (log, folder) = (name(words, 1)?, folder_name(words, 2)?);
+            let head = publishing::publish(rt, log, folder, name(words, 4)?, origin)?;
             say_head(rt, &head)
         }
         Request::Audit { has_origin } => {
             let origin = optional(words, 3, has_origin)?;
             let key = key_at(rt, words, 2)?;
-            match of_log(followers::audit(rt, name(words, 1)?, &key, origin))? {
+            match of_log(followers::audit(rt, folder_name(words, 1)?, &key, origin))? {
                 Some(found) => say_audited(rt, words, &found),
                 None => say_verdict(rt, false),
             }
@@ -424,16 +419,17 @@ fn answer(rt: &HostRuntime, request: Request, words: &[Vec<u8>]) -> Result<u8, S
         Request::Keep { has_origin } => {
             let origin = optional(words, 4, has_origin)?;
             let key = key_at(rt, words, 2)?;
+            let folder = folder_name(words, 1)?;
             let lines = bytes_of(rt, words, 3)?;
-            let head = of_log(followers::keep(rt, name(words, 1)?, &key, origin, &lines))?;
+            let head = of_log(followers::keep(rt, folder, &key, origin, &lines))?;
             say_head(rt, &head)
         }
         Request::Follow { has_origin } => {
             let origin = optional(words, 4, has_origin)?;
             let key = key_at(rt, words, 2)?;
-            let (folder, state) = (name(words, 1)?, name(words, 3)?);
-            let new = followers::follow(rt, folder, &key, state, origin)?;
-            say_head(rt, &new.head)
+            let (folder, state) = (folder_name(words, 1)?, folder_name(words, 3)?);
+            let head = followers::follow(rt, folder, &key, state, origin)?;
+            say_head(rt, &head)
         }
         Request::TileProof {
             index,
@@ -442,7 +438,7 @@ fn answer(rt: &HostRuntime, request: Request, words: &[Vec<u8>]) -> Result<u8, S
         } => {
             let origin = optional(words, 4, has_origin)?;
             let key = key_at(rt, words, 2)?;
-            let folder = name(words, 1)?;
+            let folder = folder_name(words, 1)?;
             let proof = of_log(followers::prove(rt, folder, &key, origin, index))?;
             if is_receipt {
                 say(
@@ -464,7 +460,7 @@ fn answer(rt: &HostRuntime, request: Request, words: &[Vec<u8>]) -> Result<u8, S
         Request::Witness { has_origin } => {
             let origin = optional(words, 7, has_origin)?;
             let key = key_at(rt, words, 2)?;
-            let (folder, state) = (name(words, 1)?, name(words, 3)?);
+            let (folder, state) = (folder_name(words, 1)?, folder_name(words, 3)?);
             let note = followers::witness(rt, folder, &key, state, name(words, 5)?, origin)?;
             say(rt, &note)
         }

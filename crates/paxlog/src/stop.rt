@@ -28,6 +28,16 @@ pub enum Stop {
     Fork,
     /// Another process appends.
     Locked,
+    /// Another process writes files in the folder.
+    Written,
+    /// Another process moves a follower's state on.
+    Followed,
+    /// A file of this name is no regular one.
+    Kind(String),
+    /// A follower's state is a symbolic link.
+    Link,
+    /// A witness has no state.
+    NoState,
     /// A call of the system failed.
     System(io::Error),
     /// A call of the system failed after a slot was begun: what was to be appended may be in the log.

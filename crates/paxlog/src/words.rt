@@ -1,6 +1,7 @@
 //! The words behind the command's name.
 
-use crate::stop::Stop;
+use crate::stop::{Stop, StopAt};
+use paxlog_run::request::word;
 use std::alloc::Global;
 use std::env::{Env, FillError};
 
@@ -20,4 +21,22 @@ pub fn words<E: Env>(alloc: Global, env: &E) -> Result<Vec<Vec<u8>>, Stop> {
         }
     }
     Ok(words)
+}
+
+/// Returns the name of a file at a place of the words.
+pub fn name(words: &[Vec<u8>], place: usize) -> Result<&str, StopAt> {
+    match str::from_utf8(word(words, place)) {
+        Ok(name) => Ok(name),
+        Err(_) => Err(Stop::Words.at(place)),
+    }
+}
+
+/// Returns the name of a folder or of a state at a place of the words: names are put behind it, and an empty one would make them those
+/// of the root's.
+pub fn folder_name(words: &[Vec<u8>], place: usize) -> Result<&str, StopAt> {
+    let name = name(words, place)?;
+    if name.is_empty() {
+        return Err(Stop::Words.at(place));
+    }
+    Ok(name)
 }
