@@ -119,6 +119,12 @@ const char *paxidore_strerror(int32_t answer);
 /* PAXIDORE_VERSION_STRING of the library that is linked. */
 const char *paxidore_version(void);
 
+/* The level of processor for which the code that runs was built. A library for x86-64 holds two builds, whose answers are the same.
+ * Where the processor has all of "x86-64-v3" and the system saves its registers, that one runs, else "x86-64-v2". It is chosen once,
+ * as the library is loaded; PAXIDORE_CPU=x86-64-v2 in the environment chooses the second one. Other libraries hold one build: the
+ * text is then its own, such as "aarch64". Never NULL. */
+const char *paxidore_cpu(void);
+
 /* ---- SHA-256 (FIPS 180-4). Nothing is refused. */
 
 PAXIDORE_NOT_NULL((1))

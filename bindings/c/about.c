@@ -3,6 +3,11 @@
 
 const char *paxidore_version(void) { return PAXIDORE_VERSION_STRING; }
 
+/* of a library of one build, as tools/build-library names it; choose.c says it of two */
+#ifdef ONE_BUILD
+const char *paxidore_cpu(void) { return ONE_BUILD; }
+#endif
+
 const char *paxidore_strerror(int32_t answer) {
     switch (answer) {
     case PAXIDORE_OK: return "shown, or done";

@@ -404,6 +404,9 @@ int main(void) {
     char version[32];
     snprintf(version, sizeof version, "%d.%d.%d", PAXIDORE_VERSION_MAJOR, PAXIDORE_VERSION_MINOR, PAXIDORE_VERSION_PATCH);
     CHECK(strcmp(version, PAXIDORE_VERSION_STRING) == 0);
+    /* the build that has to run, where the test of the bindings names one */
+    const char *build = getenv("PAXIDORE_BUILD");
+    CHECK(build ? strcmp(paxidore_cpu(), build) == 0 : paxidore_cpu() != NULL);
     for (int32_t answer = -16; answer <= 2; answer++)
         CHECK((strcmp(paxidore_strerror(answer), "unknown answer") == 0) == (answer < -15 || answer > 1));
     printf("%d passed, %d failed\n", passed, failed);

@@ -2,6 +2,7 @@
    jump and each address that depends on one. What a call gives is public, and is marked so before it is compared.
 
    usage: secrets CALL
+          secrets --cpu      prints which build of the library runs
    The calls that begin with `planted` depend on a secret: there memcheck has to report it. */
 #include <paxidore.h>
 #include <stdio.h>
@@ -137,6 +138,8 @@ int main(int argc, char **argv) {
     if (argc == 1)
         for (i = 0; i < sizeof(CALLS) / sizeof(CALLS[0]); i++)
             puts(CALLS[i].name);
+    if (argc == 2 && strcmp(argv[1], "--cpu") == 0)
+        return puts(paxidore_cpu()) < 0;
     for (i = 0; argc == 2 && i < sizeof(CALLS) / sizeof(CALLS[0]); i++)
         if (strcmp(argv[1], CALLS[i].name) == 0)
             return CALLS[i].call() ? 0 : 1;

@@ -39,7 +39,7 @@ from ._library import (
     SizeError,
     TruncatedProof,
 )
-from .hashes import Blake2s, blake2s, blake2s_commit, blake2s_opens, sha256_digest, version
+from .hashes import Blake2s, blake2s, blake2s_commit, blake2s_opens, cpu, sha256_digest, version
 from .log import Log
 from .map import DamagedMap, Map, MapVersion
 from .transcript import Field, Transcript, TranscriptError, parameters_bytes, ready_parameters
@@ -76,6 +76,7 @@ __all__ = [
     "blake2s",
     "blake2s_commit",
     "blake2s_opens",
+    "cpu",
     "ed25519",
     "parameters_bytes",
     "poseidon",

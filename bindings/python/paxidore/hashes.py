@@ -1,10 +1,11 @@
-"""SHA-256, BLAKE2s and commitments, and the version of the library."""
+"""SHA-256, BLAKE2s and commitments, the version of the library, and which of its builds runs."""
 import ctypes
 
 from ._library import DIGEST_BYTES, _bytes, _call, _digest, _exact, _size
 from ._turn import Turn
 
 _version = _call("version", ctypes.c_char_p)
+_cpu = _call("cpu", ctypes.c_char_p)
 _sha256 = _call("sha256", None, ctypes.c_void_p, _bytes, _size)
 _blake2s = _call("blake2s", None, ctypes.c_void_p, _bytes, _size)
 _blake2s_init = _call("blake2s_init", None, ctypes.c_void_p)
@@ -84,4 +85,12 @@ def blake2s_opens(commitment: bytes, value: bytes, nonce: bytes) -> bool:
 def version() -> str:
     """The version of the library that was found."""
     text: bytes = _version()
+    return text.decode("ascii")
+
+
+def cpu() -> str:
+    """The level of processor for which the code that runs was built: ``"x86-64-v3"`` where this processor has all of it, else
+    ``"x86-64-v2"``, on another machine its own, such as ``"aarch64"``. It is chosen as the library is loaded. With
+    ``PAXIDORE_CPU=x86-64-v2`` in the environment it is the second one."""
+    text: bytes = _cpu()
     return text.decode("ascii")

@@ -412,6 +412,11 @@ class Calls(unittest.TestCase):
         self.assertEqual(paxidore.version(), "1.0.0")
         self.assertEqual(paxidore.__version__, "1.0.0")
 
+    def test_the_build_that_runs(self):
+        # the test of the bindings names the one that has to run
+        self.assertEqual(paxidore.cpu(), os.environ.get("PAXIDORE_BUILD", paxidore.cpu()))
+        self.assertRegex(paxidore.cpu(), "^[a-z0-9_-]+$")
+
 
 if __name__ == "__main__":
     unittest.main()

@@ -474,3 +474,13 @@ pub fn version() -> &'static str {
         .to_str()
         .unwrap_or("")
 }
+
+/// The level of processor for which the code that runs was built: `x86-64-v3` where this processor has all of it, else
+/// `x86-64-v2`, on another machine its own, such as `aarch64`. It is chosen as the program begins. With
+/// `PAXIDORE_CPU=x86-64-v2` in the environment it is the second one.
+pub fn cpu() -> &'static str {
+    // SAFETY: as in `version`.
+    unsafe { CStr::from_ptr(sys::paxidore_cpu()) }
+        .to_str()
+        .unwrap_or("")
+}

@@ -295,6 +295,7 @@ extern "C" {
     ) -> i32;
     pub fn paxidore_strerror(answer: i32) -> *const c_char;
     pub fn paxidore_version() -> *const c_char;
+    pub fn paxidore_cpu() -> *const c_char;
 }
 
 // Keepers of logs. Lengths of stored digests and of `more` count digests.

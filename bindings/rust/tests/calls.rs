@@ -1,7 +1,7 @@
 //! Each call once, the refusals, and values of other implementations.
 
 use paxidore::{
-    blake2s, blake2s_commit, blake2s_opens, sha256, version, Blake2s, Log, Refused, Trees,
+    blake2s, blake2s_commit, blake2s_opens, cpu, sha256, version, Blake2s, Log, Refused, Trees,
 };
 
 fn hex(bytes: &[u8]) -> String {
@@ -204,6 +204,9 @@ fn others() {
     let abc = "508c5e8c327c14e2e1a72ba34eeb452f37458b209ed63a294d999b4c86675982";
     assert_eq!(hex(&blake2s(b"abc")), abc);
     assert_eq!(version(), "1.0.0");
+    // the test of the bindings names the build that has to run
+    let build = std::env::var("PAXIDORE_BUILD");
+    assert_eq!(cpu(), build.as_deref().unwrap_or(cpu()));
     assert_eq!(
         Refused::Size.to_string(),
         "no tree or log has this size"

@@ -1,7 +1,7 @@
 //! What there is without `std`: checks of proofs, hashes and commitments, against values that hashlib gives.
 
 use paxidore::{
-    blake2s, blake2s_commit, blake2s_opens, sha256, version, Digest, Log, Refused, Trees,
+    blake2s, blake2s_commit, blake2s_opens, cpu, sha256, version, Digest, Log, Refused, Trees,
 };
 
 fn bytes<const N: usize>(text: &str) -> [u8; N] {
@@ -99,4 +99,5 @@ fn hashes() {
         bytes("ba7816bf8f01cfea414140de5dae2223b00361a396177a9cb410ff61f20015ad")
     );
     assert!(version().starts_with(char::is_numeric));
+    assert!(cpu().is_ascii() && !cpu().is_empty());
 }
