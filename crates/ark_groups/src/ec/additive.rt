@@ -2,7 +2,7 @@
 
 ghost use Rattle.std.specs.Prelude.{◌≡◌};
 
-use crate::ec::{AdditiveGroup, CurveGroup};
+use crate::ec::{AdditiveGroup, CurveGroup, FixedBaseGroup};
 use crate::ff::{Fp, Modulus, PrimeField, UniformRand};
 use ark_base::error::Error;
 use ark_base::serialize::{
@@ -160,6 +160,21 @@ impl<M: Modulus, K> AdditiveGroup for Additive<M, K> {
     ghost is_spelled = { λ x. x.0.reduced };
 
     ghost same_view = { same_number };
+}
+
+/// The table of an element is the element: a product takes no less time by another.
+impl<M: Modulus, K> FixedBaseGroup for Additive<M, K> {
+    type Table = Additive<M, K>;
+
+    ghost base = { λ table. table };
+
+    fn table(self, _alloc: Global) -> Result<Additive<M, K>, Error> {
+        Ok(self)
+    }
+
+    fn mul_by_table(table: &Additive<M, K>, s: Fp<M>) -> Additive<M, K> {
+        CurveGroup::mul(*table, s)
+    }
 }
 
 impl<M: Modulus, K> Canonical for Additive<M, K> {

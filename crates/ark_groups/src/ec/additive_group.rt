@@ -1,13 +1,15 @@
 //! What schemes and hashes ask of a group, with scalars of one word or of four.
 
-ghost use Rattle.std.specs.Prelude.{◌≡◌};
+ghost use Rattle.std.specs.Prelude.{◌≡◌, map, IfOk, IfErr};
 ghost use Rattle.std.specs.Bool.{Decides};
 ghost use Rattle.rand_core.specs.Stream.{Stream};
 ghost use Rattle.ark_groups.specs.Group.{Group, IsCommutativeGroup, times};
 
 use crate::ff::Field;
+use ark_base::error::Error;
 use ark_base::serialize::CanonicalItem;
 use rand::Rng;
+use std::alloc::Global;
 use std::fmt::Debug;
 use std::hash::Hash;
 
@@ -51,6 +53,19 @@ pub trait AdditiveGroup: Copy + Eq + Debug + Hash + Default + CanonicalItem {
     fn mul(self, s: Self::ScalarField) -> Self
         ensures { result ≡ times group (Self.ScalarField.value s) self };
 
+    /// Returns the sum of two elements, each added as often as a public scalar says: the time may depend on the scalars.
+    fn sum_of_multiples_public(
+        self,
+        s: Self::ScalarField,
+        other: Self,
+        t: Self::ScalarField,
+    ) -> Self
+        ensures { let value = Self.ScalarField.value in
+            result ≡ group.plus (times group (value s) self) (times group (value t) other) }
+    {
+        self.mul(s).add(other.mul(t))
+    }
+
     /// Returns a sum under way that stands for the element.
     fn to_sum(self) -> Self::Sum
         ensures { total result ≡ self };
@@ -76,6 +91,18 @@ pub trait AdditiveGroup: Copy + Eq + Debug + Hash + Default + CanonicalItem {
     /// Returns the element that a sum under way stands for.
     fn from_sum(sum: Self::Sum) -> Self
         ensures { result ≡ total sum };
+
+    /// Returns the elements that sums under way stand for, place by place. The only error is `OutOfMemory`.
+    fn from_sums(alloc: Global, sums: &[Self::Sum]) -> Result<Vec<Self>, Error>
+        ensures made { IfOk result (λ list. list.items ≡ map total sums.now) }
+        ensures refused { IfErr result (λ error. error ≡ Error.OutOfMemory) }
+    {
+        let mut list = Vec::with_capacity(alloc, sums.len())?;
+        for sum in sums {
+            list.push(Self::from_sum(*sum))?;
+        }
+        Ok(list)
+    }
 
     /// Returns the element that comes next of the generator's stream.
     fn rand<R: Rng>(rng: &mut R) -> Self
