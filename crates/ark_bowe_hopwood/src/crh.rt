@@ -45,18 +45,18 @@ impl<G: AdditiveGroup + TECoordinates, W: Window> CRH<G, W> {
     }
 }
 
-// An element, then each sixteen times the one before, `count` in all. The only refusal is `OutOfMemory`.
+// An element, then each sixteen times the one before, `count` in all. The only error is `OutOfMemory`.
 fn segment<G: AdditiveGroup>(alloc: Global, count: usize, element: G) -> Result<Vec<G>, Error>
     ensures made { IfOk result (λ list. list.items ≡ sixteenfolds G.group count element) }
     ensures refused { IfErr result (λ error. error ≡ Error.OutOfMemory) }
 {
-    let mut list = Vec::with_capacity(alloc, count)?;
-    let mut last = element;
+    let mut sums = Vec::with_capacity(alloc, count)?;
+    let mut last = element.to_sum();
     for _ in 0..count {
-        list.push(last)?;
-        last = sixteenfold(last);
+        sums.push(last)?;
+        last = sixteenfold::<G>(last);
     }
-    Ok(list)
+    G::from_sums(alloc, &sums)
 }
 
 /// Returns parameters of the elements of the windows: of each, it and its sixteenfolds, as many as a window has chunks.
@@ -78,12 +78,12 @@ pub fn parameters_of<G: AdditiveGroup>(
     Ok(Parameters { generators })
 }
 
-// Sixteen times an element.
-fn sixteenfold<G: AdditiveGroup>(x: G) -> G
-    ensures { result ≡ times G.group 16 x }
+// Sixteen times a sum under way.
+fn sixteenfold<G: AdditiveGroup>(x: G::Sum) -> G::Sum
+    ensures { G.total result ≡ times G.group 16 (G.total x) }
 {
-    let fourfold = G::double_sum(G::double_sum(x.to_sum()));
-    G::from_sum(G::double_sum(G::double_sum(fourfold)))
+    let fourfold = G::double_sum(G::double_sum(x));
+    G::double_sum(G::double_sum(fourfold))
 }
 
 impl<G: AdditiveGroup + TECoordinates, W: Window> CRHScheme for CRH<G, W>

@@ -63,13 +63,13 @@ pub fn doublings_of<C: AdditiveGroup>(
     ensures made { IfOk result (λ list. list.items ≡ doublings C.group count element) }
     ensures refused { IfErr result (λ error. error ≡ Error.OutOfMemory) }
 {
-    let mut list = Vec::with_capacity(alloc, count)?;
-    let mut power = element;
+    let mut sums = Vec::with_capacity(alloc, count)?;
+    let mut power = element.to_sum();
     for _ in 0..count {
-        list.push(power)?;
-        power = power.double();
+        sums.push(power)?;
+        power = C::double_sum(power);
     }
-    Ok(list)
+    C::from_sums(alloc, &sums)
 }
 
 /// Returns parameters of the elements of the windows: of each, it and its doublings, as many as a window has bits.

@@ -11,7 +11,15 @@ use Rattle.ark_base.specs.declared.error.Refusal.TheVariants.{DrawsExhausted}
 use Rattle.ark_groups.specs.Bits.{bits_of_number, number_of_bits}
 use Rattle.ark_groups.specs.Field.{drawn_number}
 use Rattle.ark_groups.specs.Group.{Group, times}
+use Rattle.ark_signatures.specs.declared.signature.schnorr.generator.PreparedParameters.{PreparedParameters}
+use Rattle.ark_signatures.specs.declared.signature.schnorr.keys.Parameters.{Parameters}
 use Rattle.ark_signatures.specs.declared.signature.schnorr.keys.Signature.{Signature}
+
+-- ---- parameters with a table
+
+-- the parameters whose generator has the table
+abbrev pub parameters_of : {C F S T : Type 0} → (T → C) → PreparedParameters C T F S → Parameters C F S
+parameters_of base prepared = record { generator = base prepared.table; salt = prepared.salt }
 
 -- ---- challenges
 

@@ -8,6 +8,7 @@ ghost use Rattle.ark_signatures.specs.Schnorr.{randomised_key, randomised};
 
 mod bits;
 mod challenge;
+mod generator;
 mod keys;
 
 use crate::signature::SignatureScheme;
@@ -19,6 +20,7 @@ pub use bits::bytes_to_bits;
 use bits::multiplier;
 pub use challenge::Challenges;
 use challenge::{challenge_of, draw_nonce};
+pub use generator::{GeneratorMultiples, PreparedParameters};
 pub use keys::{Parameters, PublicKey, SecretKey, Signature};
 use rand::Rng;
 use std::alloc::Global;
@@ -116,11 +118,8 @@ impl<C: AdditiveGroup, D: ByteDigest> SignatureScheme for Schnorr<C, D> {
             let key = times C.group (value sk.now.0) generator in
             IfOk result (λ s. IsValid C.group challenge generator key (numbers_of value s)) }
     {
-        let (k, e) = draw_nonce::<C, D, R>(alloc, pp, message, rng)?;
-        Ok(Signature {
-            prover_response: k.sub(sk.0.mul(e)),
-            verifier_challenge: e,
-        })
+        let (k, e) = draw_nonce::<C, D, Parameters<C>, R>(alloc, pp, message, rng)?;
+        Ok(Signature::answering(k, sk, e))
     }
 
     /// Returns whether e is the challenge of the point s times the generator plus e times the public key, for a
@@ -135,7 +134,9 @@ impl<C: AdditiveGroup, D: ByteDigest> SignatureScheme for Schnorr<C, D> {
         signature: &Signature<C>,
     ) -> Result<bool, Error> {
         let e = signature.verifier_challenge;
-        let point = pp.generator.mul(signature.prover_response).add(pk.mul(e));
+        let point = pp
+            .generator
+            .sum_of_multiples_public(signature.prover_response, *pk, e);
         Ok(
             match challenge_of::<C, D>(alloc, &pp.salt, &point, message)? {
                 Some(found) => is_same(found, e),

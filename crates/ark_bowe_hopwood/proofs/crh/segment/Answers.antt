@@ -1,5 +1,6 @@
-use Rattle.std.proofs.Common.{◌≡◌, ℕ, suc, ◌+◌, ◌-◌, ◌≤◌, ◌++◌, ◌∷◌, List, [], ◌∙◌, sym, ap, append_assoc, arith}
-use Rattle.std.proofs.lemmas.List.{append-nil}
+use Rattle.std.proofs.Common.{◌≡◌, ℕ, suc, ◌+◌, ◌-◌, ◌≤◌, ◌++◌, ◌∷◌, List, [], ◌∙◌, map, sym, ap, append_assoc, arith}
+use Rattle.std.proofs.lemmas.List.{append-nil, map-append}
+use Rattle.std.proofs.lemmas.Result.{IfOk-weaker}
 use Rattle.ark_groups.specs.Group.{Group, times}
 use Rattle.ark_bowe_hopwood.specs.BoweHopwood.{sixteenfolds}
 use Rattle.ark_bowe_hopwood.proofs.crh.segment.Goals as goal
@@ -25,9 +26,16 @@ all {G} g front x count i whole done so_far =
 
 pub loop-preserved : goal.loop-preserved
 loop-preserved g c =
-    step g.G.AdditiveGroup.group c.loop.list.items c.push.new.self.items c.loop.last c.sixteenfold-last.result
-    c.args.count c.loop.counter _ (omega arith) c.in_ok-push.ensures.items c.sixteenfold-last.ensures c.loop.invariant
+    let total = g.G.AdditiveGroup.total in
+    let before = c.loop.sums.items in
+    step g.G.AdditiveGroup.group (map total before) (map total c.push.new.self.items) (total c.loop.last)
+    (total c.sixteenfold-last.result) c.args.count c.loop.counter _ (omega arith)
+    (ap (map total) c.in_ok-push.ensures.items ∙ map-append total before (c.loop.last ∷ []))
+    c.sixteenfold-last.ensures c.loop.invariant
 
 pub returns-clause-made : goal.returns-clause-made
-returns-clause-made g c = all g.G.AdditiveGroup.group c.loop.list.items c.loop.last c.args.count c.loop.counter _
-    (omega arith) c.loop.invariant
+returns-clause-made g c =
+    let total = g.G.AdditiveGroup.total in
+    IfOk-weaker c.from_sums.result _ _ (λ list made. made ∙ ap (map total) c.deref.ensures.value
+    ∙ all g.G.AdditiveGroup.group (map total c.loop.sums.items) (total c.loop.last) c.args.count c.loop.counter _
+    (omega arith) c.loop.invariant) c.from_sums.ensures.made

@@ -1,4 +1,4 @@
-use Rattle.std.proofs.Common.{◌≡◌, ◌-◌, ◌++◌}
+use Rattle.std.proofs.Common.{◌≡◌, ◌-◌, ◌++◌, map}
 use Rattle.ark_bowe_hopwood.specs.BoweHopwood.{sixteenfolds}
 use Rattle.ark_bowe_hopwood.proofs.crh.segment.Given as goal
 
@@ -6,4 +6,6 @@ use Rattle.ark_bowe_hopwood.proofs.crh.segment.Given as goal
 abbrev pub invariant-loop : goal.invariant-loop
 invariant-loop g l =
     let group = g.G.AdditiveGroup.group in
-    l.list.items ++ sixteenfolds group (l.count - l.counter) l.last ≡ sixteenfolds group l.count l.initial.last
+    let total = g.G.AdditiveGroup.total in
+    map total l.sums.items ++ sixteenfolds group (l.count - l.counter) (total l.last)
+    ≡ sixteenfolds group l.count l.fn.element

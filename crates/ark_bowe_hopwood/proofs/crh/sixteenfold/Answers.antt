@@ -13,8 +13,6 @@ doubled {G} {g} laws x a b c d first second third fourth =
 pub returns : goal.returns
 returns g c =
     let total = g.G.AdditiveGroup.total in
-    c.from_sum.ensures
-    ∙ doubled g.met.G.AdditiveGroup.laws (total c.to_sum.result) (total c.double_sum.result)
+    doubled g.met.G.AdditiveGroup.laws (total c.args.x) (total c.double_sum.result)
     (total c.double_sum-fourfold.result) (total c.double_sum-2.result) (total c.double_sum-3.result)
     c.double_sum.ensures c.double_sum-fourfold.ensures c.double_sum-2.ensures c.double_sum-3.ensures
-    ∙ ap (times g.G.AdditiveGroup.group 16) c.to_sum.ensures

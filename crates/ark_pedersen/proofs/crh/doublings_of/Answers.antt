@@ -1,5 +1,6 @@
-use Rattle.std.proofs.Common.{◌≡◌, ℕ, suc, ◌+◌, ◌-◌, ◌≤◌, ◌++◌, ◌∷◌, List, [], ◌∙◌, sym, ap, append_assoc, arith}
-use Rattle.std.proofs.lemmas.List.{append-nil}
+use Rattle.std.proofs.Common.{◌≡◌, ℕ, suc, ◌+◌, ◌-◌, ◌≤◌, ◌++◌, ◌∷◌, List, [], ◌∙◌, map, sym, ap, append_assoc, arith}
+use Rattle.std.proofs.lemmas.List.{append-nil, map-append}
+use Rattle.std.proofs.lemmas.Result.{IfOk-weaker}
 use Rattle.ark_groups.specs.Group.{Group}
 use Rattle.ark_pedersen.specs.Pedersen.{doublings}
 use Rattle.ark_pedersen.proofs.crh.doublings_of.Goals as goal
@@ -25,10 +26,16 @@ all {G} g front x count i whole done so_far =
 
 pub loop-preserved : goal.loop-preserved
 loop-preserved g c =
-    step g.C.AdditiveGroup.group c.loop.list.items c.push.new.self.items c.loop.power c.double-power.result c.args.count
-    c.loop.counter _ (omega arith) c.in_ok-push.ensures.items c.double-power.ensures c.loop.invariant
+    let total = g.C.AdditiveGroup.total in
+    let before = c.loop.sums.items in
+    step g.C.AdditiveGroup.group (map total before) (map total c.push.new.self.items) (total c.loop.power)
+    (total c.double_sum-power.result) c.args.count c.loop.counter _ (omega arith)
+    (ap (map total) c.in_ok-push.ensures.items ∙ map-append total before (c.loop.power ∷ []))
+    c.double_sum-power.ensures c.loop.invariant
 
 pub returns-clause-made : goal.returns-clause-made
 returns-clause-made g c =
-    all g.C.AdditiveGroup.group c.loop.list.items c.loop.power c.args.count c.loop.counter _
-    (omega arith) c.loop.invariant
+    let total = g.C.AdditiveGroup.total in
+    IfOk-weaker c.from_sums.result _ _ (λ list made. made ∙ ap (map total) c.deref.ensures.value
+    ∙ all g.C.AdditiveGroup.group (map total c.loop.sums.items) (total c.loop.power) c.args.count c.loop.counter _
+    (omega arith) c.loop.invariant) c.from_sums.ensures.made

@@ -1,4 +1,4 @@
-use Rattle.std.proofs.Common.{◌≡◌, ◌-◌, ◌++◌}
+use Rattle.std.proofs.Common.{◌≡◌, ◌-◌, ◌++◌, map}
 use Rattle.ark_pedersen.specs.Pedersen.{doublings}
 use Rattle.ark_pedersen.proofs.crh.doublings_of.Given as goal
 
@@ -6,4 +6,5 @@ use Rattle.ark_pedersen.proofs.crh.doublings_of.Given as goal
 abbrev pub invariant-loop : goal.invariant-loop
 invariant-loop g l =
     let group = g.C.AdditiveGroup.group in
-    l.list.items ++ doublings group (l.count - l.counter) l.power ≡ doublings group l.count l.initial.power
+    let total = g.C.AdditiveGroup.total in
+    map total l.sums.items ++ doublings group (l.count - l.counter) (total l.power) ≡ doublings group l.count l.fn.element

@@ -6,7 +6,7 @@ ghost use Rattle.ark_base.specs.Outcome.{Outcome, AnswersBy};
 ghost use Rattle.ark_groups.specs.Group.{times};
 ghost use Rattle.ark_signatures.specs.Schnorr.{challenge_text, challenge_of, first_nonce};
 
-use crate::signature::schnorr::Parameters;
+use crate::signature::schnorr::generator::GeneratorMultiples;
 use ark_base::error::{Error, Refusal};
 use ark_base::serialize::CanonicalSerialize;
 use ark_groups::digest::ByteDigest;
@@ -57,16 +57,16 @@ pub fn challenge_of<C: AdditiveGroup, D: ByteDigest>(
 ///
 /// Errors: the digest's at the first multiple that meets one; `DrawsExhausted` after 128 draws without a challenge;
 /// `OutOfMemory`.
-pub fn draw_nonce<C: AdditiveGroup, D: ByteDigest, R: Rng>(
+pub fn draw_nonce<C: AdditiveGroup, D: ByteDigest, P: GeneratorMultiples<C>, R: Rng>(
     alloc: Global,
-    pp: &Parameters<C>,
+    pp: &P,
     message: &[u8],
     rng: &mut R,
 ) -> Result<(C::ScalarField, C::ScalarField), Error>
     ensures { let value = C.ScalarField.value in
         let challenge : ℕ → Outcome (Option ℕ) = λ k.
-        ⟦<C as Challenges<D>>⟧.challenge pp.now.salt message.now
-        (times C.group k pp.now.generator) in
+        ⟦<C as Challenges<D>>⟧.challenge (P.salt pp.now) message.now
+        (times C.group k (P.generator pp.now)) in
         let nonce = first_nonce C.ScalarField.draw value challenge 128 (R.stream rng.old) in
         let left = R.stream rng.new in
         AnswersBy (λ pair. record {
@@ -77,8 +77,8 @@ pub fn draw_nonce<C: AdditiveGroup, D: ByteDigest, R: Rng>(
 {
     for _ in 0..DRAWS {
         let k = C::ScalarField::rand(rng);
-        let point = pp.generator.mul(k);
-        if let Some(e) = challenge_of::<C, D>(alloc, &pp.salt, &point, message)? {
+        let point = pp.generator_times(k);
+        if let Some(e) = challenge_of::<C, D>(alloc, pp.salt(), &point, message)? {
             return Ok((k, e));
         }
     }

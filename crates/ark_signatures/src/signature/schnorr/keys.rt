@@ -1,8 +1,12 @@
 //! Parameters, keys and signatures.
 
+ghost use Rattle.std.specs.Prelude.{◌≡◌};
+ghost use Rattle.ark_signatures.specs.Schnorr.{numbers_of, response};
+
 use ark_base::error::Error;
 use ark_base::serialize::{Canonical, CanonicalDeserialize, CanonicalItem, CanonicalSerialize};
 use ark_groups::ec::AdditiveGroup;
+use ark_groups::ff::Field;
 use std::alloc::Global;
 
 /// The element that public keys are multiples of, and what is digested before a point.
@@ -27,6 +31,20 @@ pub struct SecretKey<C: AdditiveGroup>(pub C::ScalarField);
 pub struct Signature<C: AdditiveGroup> {
     pub prover_response: C::ScalarField,
     pub verifier_challenge: C::ScalarField,
+}
+
+impl<C: AdditiveGroup> Signature<C> {
+    // The response k - x e to the challenge e, for the secret key x.
+    pub(crate) fn answering(k: C::ScalarField, sk: &SecretKey<C>, e: C::ScalarField) -> Signature<C>
+        ensures { let value = C.ScalarField.value in
+            let answer = response C.ScalarField.MODULUS (value sk.now.0) (value k) (value e) in
+            numbers_of value result ≡ (answer, value e) }
+    {
+        Signature {
+            prover_response: k.sub(sk.0.mul(e)),
+            verifier_challenge: e,
+        }
+    }
 }
 
 impl<C: AdditiveGroup> Canonical for SecretKey<C> {
