@@ -1,5 +1,5 @@
 -- Rows that stand one behind the other in a list, and the parts of a table.
-use Rattle.std.proofs.Common.{◌≡◌, map, slice_range, ℕ, zero, suc, ◌+◌, ◌-◌, ◌*◌, ◌/◌, ◌≤◌, ◌<◌, List, [], ◌∷◌, ◌++◌, length, take, drop, All, refl, sym, subst, ◌∙◌, ap, ap₂, arith, append_assoc, append-nil, length-drop, length-append, add-one}
+use Rattle.std.proofs.Common.{◌≡◌, map, slice_range, ℕ, suc, ◌+◌, ◌-◌, ◌*◌, ◌/◌, ◌≤◌, ◌<◌, List, [], ◌∷◌, ◌++◌, length, take, drop, All, refl, sym, subst, ◌∙◌, ap, ap₂, arith, append_assoc, append-nil, length-drop, length-append}
 use Rattle.std.specs.List.{flat_map}
 use Rattle.std.proofs.lemmas.List.{map-append, take-map, drop-map, length-map, length-take-le, take_all}
 use Rattle.std.proofs.lemmas.List.Elements.{All-head, All-tail, All-map, All-weaker, All-take, All-drop}

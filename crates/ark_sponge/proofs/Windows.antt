@@ -1,11 +1,11 @@
 -- A state as an image and a window.
-use Rattle.std.proofs.Common.{◌≡◌, ℕ, suc, ◌+◌, ◌-◌, ◌%◌, ◌≤◌, List, [], ◌∷◌, ◌++◌, length, get_or, set, take, drop, map, fold, refl, sym, ◌∙◌, ap, ap₂, arith}
+use Rattle.std.proofs.Common.{◌≡◌, ℕ, suc, ◌+◌, ◌-◌, ◌%◌, ◌≤◌, List, [], ◌∷◌, ◌++◌, length, get_or, set, take, drop, map, refl, sym, ◌∙◌, ap, ap₂, arith}
 use lib.Seq.{paste}
 use Rattle.std.proofs.Math.Nat.{add-mod-mod}
 use Rattle.std.proofs.lemmas.List.{append-nil, take_all, drop_all, map-append, drop-map}
 use Rattle.ark_groups.specs.Field.{dot_product}
-use Rattle.ark_sponge.specs.Permutation.{sums, matrix_product}
-use Rattle.ark_sponge.specs.Recurrence.{ShortRounds, on_tail, turned, short_round, short_rounds}
+use Rattle.ark_sponge.specs.Permutation.{matrix_product}
+use Rattle.ark_sponge.specs.Recurrence.{on_tail, turned, short_round}
 
 last-set : {X : Type 0} (b : X) (rest : List X) (y : X)
     → set (rest ++ drop (length rest) (b ∷ rest)) (length rest) y ≡ rest ++ y ∷ []

@@ -116,23 +116,6 @@ pub fn plus<M: WideModulus>(twice: Fp256<M>, a: Extended<M>, b: Extended<M>) -> 
     joined(e, scale.sub(cross), scale.add(cross), h)
 }
 
-/// Returns the sum of a point of the curve and of one by its coordinates, by twice the curve's coefficient.
-pub fn plus_point<M: WideModulus>(
-    twice: Fp256<M>,
-    a: Extended<M>,
-    x: Fp256<M>,
-    y: Fp256<M>,
-) -> Extended<M>
-    ensures { (d : ℕ) → IsComplete (number M.P) d → value twice ≡ 2 * d % number M.P
-        → (s : Coordinates) → IsOnCurve (number M.P) d s → IsOnCurve (number M.P) d (point x y)
-        → Stands a s → Stands result (sum (number M.P) d s (point x y)) }
-{
-    let cross = twice.mul(a.t).mul(x.mul(y));
-    let scale = a.z.double();
-    let (e, h) = crossed_products(a.x, a.y, x, y);
-    joined(e, scale.sub(cross), scale.add(cross), h)
-}
-
 /// Returns the sum of a point of the curve and of one by y - x, y + x, and 2 d x y, where d is the curve's coefficient.
 #[inline(always)]
 pub fn plus_products<M: WideModulus>(

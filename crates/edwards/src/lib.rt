@@ -7,7 +7,7 @@ mod multiples;
 mod prepared;
 
 pub use extended::{
-    Extended, affine, affine_both, doubled, doubled_twice, is_neutral, lifted, plus, plus_point,
+    Extended, affine, affine_both, doubled, doubled_twice, is_neutral, lifted, plus, plus_products,
     zero,
 };
 pub use field::{crossed_products, inverse};

@@ -1,14 +1,13 @@
 //! Elements of the prime subgroup.
 
+ghost use Rattle.std.specs.Prelude.{◌≡◌, ◌*◌, ◌%◌};
 ghost use Rattle.jubjub.specs.Edwards.{Coordinates};
-ghost use Rattle.jubjub.specs.Jubjub.{IsInSubgroup};
+ghost use Rattle.jubjub.specs.Jubjub.{p, d, IsInSubgroup};
 ghost use Rattle.jubjub.specs.Values.{value};
 ghost use Rattle.jubjub.specs.Laws.Points.{in_subgroup_alike};
 
 use crate::bytes::spelled;
-use crate::extended::{
-    Extended, affine, doubled, is_neutral, lifted, plus_point, twice_coefficient,
-};
+use crate::extended::{Extended, affine, crossed, doubled, is_neutral, lifted, plus_crossed};
 use crate::multiple::{is_on_curve, multiple, multiple_public, order_of_subgroup};
 use ark_groups::ff::{Field, Words};
 use ark_wide_fields::Bls12_381Fr;
@@ -38,19 +37,23 @@ const GENERATOR_Y: Words = Words {
 };
 
 /// A point of the prime subgroup, by its coordinates.
-#[derive(Clone, Copy, PartialEq, Eq, Hash, Debug)]
+#[derive(Clone, Copy)]
+#[derive_where(PartialEq, Eq, Hash, Debug)]
 pub struct Jubjub {
     x: Bls12_381Fr,
     y: Bls12_381Fr,
+    // 2 d x y, where d is the curve's coefficient: it saves two products for each sum with the element.
+    #[derive_where(skip)]
+    crossed: Bls12_381Fr,
     ghost in_subgroup: { IsInSubgroup (record {
       x = value x;
       y = value y;
     }) } by { in_subgroup_alike _ },
+    ghost crossed_is: { value crossed ≡ 2 * d * value x * value y % p },
 }
 
 /// Zero.
 impl Default for Jubjub {
-    ghost use Rattle.std.specs.Prelude.{◌≡◌};
     ghost use Rattle.jubjub.specs.Elements.{jubjub};
 
     ghost is_default = { λ x. x ≡ jubjub.identity };
@@ -61,12 +64,12 @@ impl Default for Jubjub {
 }
 
 impl Jubjub {
-    ghost use Rattle.std.specs.Prelude.{◌≡◌, ◌≢◌, ◌↔◌, IsNone, IfSome};
+    ghost use Rattle.std.specs.Prelude.{◌≢◌, ◌↔◌, IsNone, IfSome};
     ghost use Rattle.ark_groups.specs.Group.{times};
     ghost use Rattle.ark_groups.specs.Words.{number};
     ghost use Rattle.jubjub.specs.Edwards.{neutral, negative, sum};
     ghost use Rattle.jubjub.specs.Extended.{Stands};
-    ghost use Rattle.jubjub.specs.Jubjub.{p, d, curve, base_point};
+    ghost use Rattle.jubjub.specs.Jubjub.{curve, base_point};
     ghost use Rattle.jubjub.specs.declared.element.Jubjub.{Jubjub};
     ghost use Rattle.jubjub.specs.Elements.{coordinates, jubjub, base};
     ghost use Rattle.jubjub.specs.Spelling.{spelling};
@@ -76,7 +79,11 @@ impl Jubjub {
         requires { IsInSubgroup (record { x = value x; y = value y }) }
         ensures { coordinates result ≡ record { x = value x; y = value y } }
     {
-        Jubjub { x, y }
+        Jubjub {
+            x,
+            y,
+            crossed: crossed(x, y),
+        }
     }
 
     // The element of a point that is known to be in the subgroup, by its extended coordinates.
@@ -127,7 +134,7 @@ impl Jubjub {
         ensures coordinates { coordinates result ≡ sum p d (coordinates self) (coordinates other) }
     {
         let a = lifted(self.x, self.y);
-        Jubjub::of_extended(plus_point(twice_coefficient(), a, other.x, other.y))
+        Jubjub::of_extended(plus_crossed(a, other.x, other.y, other.crossed))
     }
 
     /// Returns the negative.

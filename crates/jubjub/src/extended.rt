@@ -46,15 +46,22 @@ pub fn plus(twice: Bls12_381Fr, a: Extended, b: Extended) -> Extended
     edwards::plus(twice, a, b)
 }
 
-/// Returns the sum of a point of the curve and of one by its coordinates, by twice the curve's coefficient.
+/// Returns 2 d x y, where d is the curve's coefficient.
+pub fn crossed(x: Bls12_381Fr, y: Bls12_381Fr) -> Bls12_381Fr
+    ensures { value result ≡ 2 * d * value x * value y % p }
+{
+    twice_coefficient().mul(x.mul(y))
+}
+
+/// Returns the sum of a point of the curve and of one by its coordinates and 2 d x y, where d is the curve's coefficient.
 #[inline(always)]
-pub fn plus_point(twice: Bls12_381Fr, a: Extended, x: Bls12_381Fr, y: Bls12_381Fr) -> Extended
-    requires { value twice ≡ 2 * d % p }
+pub fn plus_crossed(a: Extended, x: Bls12_381Fr, y: Bls12_381Fr, crossed: Bls12_381Fr) -> Extended
+    requires { value crossed ≡ 2 * d * value x * value y % p }
     ensures { let t : Coordinates = record { x = value x; y = value y } in
         (s : Coordinates) → IsOnJubjub s → IsOnJubjub t → Stands a s
         → Stands result (sum p d s t) }
 {
-    edwards::plus_point(twice, a, x, y)
+    edwards::plus_products(a, y.sub(x), y.add(x), crossed)
 }
 
 /// Returns the double of a point of the curve.

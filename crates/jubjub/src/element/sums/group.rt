@@ -9,7 +9,7 @@ ghost use Rattle.jubjub.specs.Laws.Elements.{same_element};
 
 use crate::element::found::element_drawn;
 use crate::element::{Jubjub, JubjubSum};
-use crate::extended::{doubled, lifted, plus, plus_point, twice_coefficient};
+use crate::extended::{doubled, lifted, plus, plus_crossed, twice_coefficient};
 use crate::fr::JubjubFr;
 use ark_groups::ec::{AdditiveGroup, TECoordinates};
 use ark_groups::ff::Field;
@@ -56,7 +56,7 @@ impl AdditiveGroup for Jubjub {
     }
 
     fn add_to_sum(sum: JubjubSum, element: Jubjub) -> JubjubSum {
-        let point = plus_point(sum.twice, sum.point, element.x, element.y);
+        let point = plus_crossed(sum.point, element.x, element.y, element.crossed);
         JubjubSum::of(sum.twice, point)
     }
 

@@ -1,4 +1,4 @@
-use Rattle.std.proofs.Common.{◌≡◌, map, ◌∙◌, arith}
+use Rattle.std.proofs.Common.{map, ◌∙◌, arith}
 use Rattle.std.proofs.lemmas.List.{length-map}
 use Rattle.ark_sponge.proofs.Permuting.{numbers-below}
 use Rattle.ark_sponge.proofs.poseidon.config.run_partial_rounds.Goals as goal

@@ -9,14 +9,14 @@ pub of_extended-requires : goal.of_extended-requires
 of_extended-requires c = (
   _,
   sum_in_subgroup _ _ c.args.self.in_subgroup c.args.other.in_subgroup,
-  c.plus_point.ensures (coordinates c.args.self) c.args.self.in_subgroup.on_curve c.args.other.in_subgroup.on_curve
+  c.plus_crossed.ensures (coordinates c.args.self) c.args.self.in_subgroup.on_curve c.args.other.in_subgroup.on_curve
       c.lifted-a.ensures,
 )
 
 pub returns-clause-coordinates : goal.returns-clause-coordinates
 returns-clause-coordinates c =
     c.of_extended.ensures _ (sum_in_subgroup _ _ c.args.self.in_subgroup c.args.other.in_subgroup)
-    (c.plus_point.ensures (coordinates c.args.self) c.args.self.in_subgroup.on_curve
+    (c.plus_crossed.ensures (coordinates c.args.self) c.args.self.in_subgroup.on_curve
     c.args.other.in_subgroup.on_curve c.lifted-a.ensures)
 
 pub returns-clause-group : goal.returns-clause-group

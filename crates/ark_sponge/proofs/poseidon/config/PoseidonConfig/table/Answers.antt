@@ -1,4 +1,4 @@
-use Rattle.std.proofs.Common.{◌≡◌, ◌+◌, ◌-◌, ◌/◌, ◌∙◌, ◌++◌, ◌<◌, length, take, drop, map, slice_range, vec_len, ap, sym, subst, arith}
+use Rattle.std.proofs.Common.{◌+◌, ◌/◌, ◌∙◌, ◌++◌, ◌<◌, take, drop, map, slice_range, vec_len, ap, sym, subst, arith}
 use Rattle.std.specs.List.{flat_map}
 use Rattle.ark_base.specs.Digits.{itself}
 use Rattle.ark_sponge.specs.Permutation.{Parameters}

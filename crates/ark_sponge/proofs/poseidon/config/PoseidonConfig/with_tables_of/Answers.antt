@@ -1,4 +1,4 @@
-use Rattle.std.proofs.Common.{◌≡◌, ℕ, ◌+◌, ◌/◌, List, Vec, Global, map, slice_range, refl, sym, ◌∙◌}
+use Rattle.std.proofs.Common.{ℕ, ◌+◌, ◌/◌, List, Vec, Global, map, slice_range, refl, sym, ◌∙◌}
 use Rattle.std.proofs.lemmas.Option.{IfSome_then}
 use Rattle.ark_groups.specs.Field.{IsField}
 use Rattle.ark_sponge.specs.Recurrence.{ShortRounds, AreRounds}

@@ -1,4 +1,4 @@
-use Rattle.std.proofs.Common.{◌≡◌, ℕ, List, fold, map, ap, ◌∙◌}
+use Rattle.std.proofs.Common.{fold, map, ap, ◌∙◌}
 use Rattle.ark_sponge.specs.Permutation.{sums, matrix_product}
 use Rattle.ark_sponge.specs.Recurrence.{on_tail, short_round, short_rounds}
 use Rattle.ark_sponge.proofs.poseidon.recurrence.Recurrence.apply.Goals as goal

@@ -1,4 +1,4 @@
-use Rattle.std.proofs.Common.{◌≡◌, ◌-◌, ◌*◌, map, refl, ap, ◌∙◌}
+use Rattle.std.proofs.Common.{◌-◌, ◌*◌, map, refl, ap, ◌∙◌}
 use Rattle.ark_sponge.specs.Table.{recurrence_in, rows_of}
 use Rattle.ark_sponge.proofs.TableRows.{part_read, behind_read}
 use Rattle.ark_sponge.proofs.poseidon.recurrence.Recurrence.of_list.Goals as goal

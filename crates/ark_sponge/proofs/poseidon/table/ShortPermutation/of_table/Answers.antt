@@ -1,4 +1,4 @@
-use Rattle.std.proofs.Common.{◌≡◌, ◌-◌, ◌*◌, map, refl, sym, ap, ◌∙◌}
+use Rattle.std.proofs.Common.{◌*◌, map, refl, sym, ap, ◌∙◌}
 use Rattle.ark_sponge.specs.Table.{parts_in, recurrence_in, rows_of}
 use Rattle.ark_sponge.proofs.TableRows.{behind_read}
 use Rattle.ark_sponge.proofs.poseidon.table.ShortPermutation.of_table.Goals as goal
