@@ -8,3 +8,8 @@ pub mod WithOne
 pub mod Neutral
 pub mod Digits
 pub mod Divided
+pub mod CachedSums
+pub mod SignedDigits
+pub mod Balance
+pub mod Reached
+pub mod OddMultiples

@@ -15,6 +15,10 @@ use ark_groups::ff::Field;
 use ark_wide_fields::{Fp256, WideModulus, element_under, prime_inverse};
 use std::alloc::AllocError;
 
+mod cached;
+
+pub use cached::{Cached, opposite, plus_cached, plus_cached_apart, to_cached};
+
 /// Four coordinates X, Y, Z and T with x = X / Z, y = Y / Z and x y = T / Z.
 pub struct Extended<M: WideModulus> {
     x: Fp256<M>,
@@ -140,9 +144,9 @@ pub fn plus_products<M: WideModulus>(
     )
 }
 
-// The double of a point by three coordinates X, Y and Z, with the fourth.
+/// Returns the double of a point by three coordinates X, Y and Z, with the fourth.
 #[inline(always)]
-fn doubled_of<M: WideModulus>(a: &Extended<M>) -> Extended<M>
+pub fn doubled_of<M: WideModulus>(a: &Extended<M>) -> Extended<M>
     ensures { (d : ℕ) → IsComplete (number M.P) d → (s : Coordinates) → IsOnCurve (number M.P) d s
         → StandsApart a.now s → Stands result (sum (number M.P) d s s) }
 {
@@ -161,8 +165,8 @@ pub fn doubled<M: WideModulus>(a: Extended<M>) -> Extended<M>
     doubled_of(&a)
 }
 
-// The double by three coordinates; the fourth is that of the point itself.
-fn doubled_apart<M: WideModulus>(a: &Extended<M>) -> Extended<M>
+/// Returns the double by three coordinates; the fourth is that of the point itself.
+pub fn doubled_apart<M: WideModulus>(a: &Extended<M>) -> Extended<M>
     ensures { (d : ℕ) → IsComplete (number M.P) d → (s : Coordinates) → IsOnCurve (number M.P) d s
         → StandsApart a.now s → StandsApart result (sum (number M.P) d s s) }
 {
@@ -185,6 +189,19 @@ pub fn doubled_twice<M: WideModulus>(a: Extended<M>) -> Extended<M>
         → Stands a s → (let t = sum (number M.P) d s s in Stands result (sum (number M.P) d t t)) }
 {
     doubled_of(&doubled_apart(&a))
+}
+
+/// Returns a point of which three coordinates stand for it, with the fourth.
+pub fn whole<M: WideModulus>(a: Extended<M>) -> Extended<M>
+    ensures { (d : ℕ) → IsComplete (number M.P) d → (s : Coordinates) → IsOnCurve (number M.P) d s
+        → StandsApart a s → Stands result s }
+{
+    Extended {
+        x: a.x.mul(a.z),
+        y: a.y.mul(a.z),
+        z: a.z.mul(a.z),
+        t: a.x.mul(a.y),
+    }
 }
 
 /// Returns the point's coordinates. It takes no branch.

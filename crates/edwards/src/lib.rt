@@ -5,6 +5,8 @@ mod extended;
 mod field;
 mod multiples;
 mod prepared;
+mod public;
+mod recoding;
 
 pub use extended::{
     Extended, affine, affine_both, doubled, doubled_twice, is_neutral, lifted, plus, plus_products,
@@ -13,3 +15,4 @@ pub use extended::{
 pub use field::{crossed_products, inverse};
 pub use multiples::{highest_digit, multiple};
 pub use prepared::{Prepared, plus_prepared};
+pub use public::{multiple_public, sum_of_multiples_public};
