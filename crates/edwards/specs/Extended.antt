@@ -13,6 +13,10 @@ use Rattle.edwards.specs.Values.{value}
 abbrev pub point : {M : Type 0} {g : Ghosts M} → Fp256 M g → Fp256 M g → Coordinates
 point x y = record { x = value x; y = value y }
 
+-- the third of four coordinates
+abbrev pub scale_of : {M : Type 0} {g : Ghosts M} → Extended M g → Fp256 M g
+scale_of e = e.z
+
 -- four coordinates stand for a point
 abbrev pub Stands : {M : Type 0} {g : Ghosts M} → Extended M g → Coordinates → Type 0
 Stands {M} {g} e a = StandFor (number g.P) (value e.x) (value e.y) (value e.z) (value e.t) a

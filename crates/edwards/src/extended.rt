@@ -6,7 +6,7 @@ ghost use Rattle.ark_groups.specs.Words.{number};
 ghost use Rattle.ark_wide_fields.specs.Choices.{IsMask, ones};
 ghost use Rattle.edwards_numbers.specs.Edwards.{Coordinates, IsOnCurve, neutral, sum};
 ghost use Rattle.edwards_numbers.specs.Curves.{IsComplete};
-ghost use Rattle.edwards.specs.Extended.{Stands, StandsApart, IsBlank, point};
+ghost use Rattle.edwards.specs.Extended.{Stands, StandsApart, IsBlank, point, scale_of};
 ghost use Rattle.edwards.specs.Prepared.{AreProducts};
 ghost use Rattle.edwards.specs.Values.{value};
 
@@ -213,6 +213,23 @@ pub fn affine<M: WideModulus>(a: Extended<M>) -> (Fp256<M>, Fp256<M>)
 {
     let z = prime_inverse(a.z);
     (a.x.mul(z), a.y.mul(z))
+}
+
+/// Returns Z, by whose inverse `affine_by` takes the coordinates.
+pub fn scale<M: WideModulus>(a: &Extended<M>) -> Fp256<M>
+    ensures { result ≡ scale_of a.now }
+{
+    a.z
+}
+
+/// Returns the point's coordinates, by the inverse of Z.
+pub fn affine_by<M: WideModulus>(a: &Extended<M>, one_over: Fp256<M>) -> (Fp256<M>, Fp256<M>)
+    ensures x { (d : ℕ) (s : Coordinates) → IsOnCurve (number M.P) d s → Stands a.now s
+        → value (scale_of a.now) * value one_over % number M.P ≡ 1 → value result.0 ≡ s.x }
+    ensures y { (d : ℕ) (s : Coordinates) → IsOnCurve (number M.P) d s → Stands a.now s
+        → value (scale_of a.now) * value one_over % number M.P ≡ 1 → value result.1 ≡ s.y }
+{
+    (a.x.mul(one_over), a.y.mul(one_over))
 }
 
 /// Returns the coordinates of two points, by one inversion. It takes no branch.

@@ -9,8 +9,8 @@ mod public;
 mod recoding;
 
 pub use extended::{
-    Extended, affine, affine_both, doubled, doubled_twice, is_neutral, lifted, plus, plus_products,
-    zero,
+    Extended, affine, affine_both, affine_by, doubled, doubled_twice, is_neutral, lifted, plus,
+    plus_products, scale, zero,
 };
 pub use field::{crossed_products, inverse};
 pub use multiples::{highest_digit, multiple};

@@ -11,6 +11,7 @@ use ark_wide_fields::Bls12_381Fr;
 
 mod group;
 mod laws;
+mod many;
 
 /// A sum under way of elements: a point of the prime subgroup by four coordinates, which are added without a division.
 #[derive(Clone, Copy)]

@@ -8,13 +8,16 @@ ghost use Rattle.jubjub.specs.Laws.Group.{jubjub_laws, of_modulus, same_if_equal
 ghost use Rattle.jubjub.specs.Laws.Elements.{same_element};
 
 use crate::element::found::element_drawn;
+use crate::element::sums::many::elements_of;
 use crate::element::{Jubjub, JubjubSum};
 use crate::extended::{doubled, lifted, plus, plus_crossed, twice_coefficient};
 use crate::fr::JubjubFr;
+use ark_base::error::Error;
 use ark_groups::ec::{AdditiveGroup, TECoordinates};
 use ark_groups::ff::Field;
 use ark_wide_fields::Bls12_381Fr;
 use rand::Rng;
+use std::alloc::Global;
 
 impl AdditiveGroup for Jubjub {
     type ScalarField = JubjubFr;
@@ -66,6 +69,10 @@ impl AdditiveGroup for Jubjub {
 
     fn from_sum(sum: JubjubSum) -> Jubjub {
         Jubjub::of_extended(sum.point)
+    }
+
+    fn from_sums(alloc: Global, sums: &[JubjubSum]) -> Result<Vec<Jubjub>, Error> {
+        elements_of(alloc, sums)
     }
 
     /// Takes 48 bytes of the generator's stream at each of at most 128 tries: the number that they are modulo p as a

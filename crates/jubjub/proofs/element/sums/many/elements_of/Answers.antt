@@ -1,0 +1,18 @@
+use Rattle.std.proofs.Common.{◌≡◌, List, ◌∷◌, [], map, refl, sym, ap, ◌∙◌, subst}
+use Rattle.ark_wide_fields.specs.Inverses.{AreInverses}
+use Rattle.jubjub.specs.Jubjub.{p}
+use Rattle.jubjub.specs.Sums.{scale_in}
+use Rattle.jubjub.specs.Values.{value}
+use Rattle.jubjub.proofs.element.sums.many.elements_of.Goals as goal
+
+map-map : {X Y Z : Type 0} (g : Y → Z) (f : X → Y) (xs : List X) → map g (map f xs) ≡ map (λ x. g (f x)) xs
+map-map g f [] = refl
+map-map g f (x ∷ xs) = ap (λ ys. g (f x) ∷ ys) (map-map g f xs)
+
+pub elements_by-requires : goal.elements_by-requires
+elements_by-requires c =
+    let scales = ap (map value) (c.deref.ensures.value ∙ c.in_ok-scales.ensures.made)
+    ∙ map-map value scale_in c.args.sums.now in
+    subst (λ ns. AreInverses p (map (λ sum. value (scale_in sum)) c.args.sums.now) ns)
+    (ap (map value) (sym c.deref-in-Ok.ensures.value))
+    (subst (λ ns. AreInverses p ns (map value c.in-Ok.inverses.items)) scales c.in-Ok.ensures.inverses)
