@@ -1,5 +1,5 @@
 pub mod GroupLaws
-pub mod Digits
+pub mod MultiplesOnCurve
 pub mod PointTests
 pub mod Spelled
 pub mod ItemBytes

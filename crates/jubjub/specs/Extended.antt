@@ -1,12 +1,10 @@
 -- Points by four coordinates, whose sums need no division.
-use Rattle.std.specs.Prelude.{ℕ, ◌<◌, List, get_or}
-use Rattle.ark_groups.specs.Group.{times}
 use Rattle.ark_wide_fields.specs.declared.moduli.Bls12_381FrModulus.{Bls12_381FrModulus}
 use Rattle.ark_wide_fields.specs.contracts.moduli.Bls12_381FrModulusWideModulus.TheImpl.{ghosts}
 use Rattle.edwards.specs.declared.extended.Extended.{Extended as ExtendedOf}
 use Rattle.edwards.specs.Stands.{StandFor}
 use Rattle.jubjub.specs.Edwards.{Coordinates, over}
-use Rattle.jubjub.specs.Jubjub.{p, curve, IsInSubgroup}
+use Rattle.jubjub.specs.Jubjub.{p, IsInSubgroup}
 use Rattle.jubjub.specs.Values.{value}
 
 -- four coordinates
@@ -25,7 +23,3 @@ affine_at e = record { x = over p (value e.x) (value e.z); y = over p (value e.y
 pub record IsInside (e : Extended) : Type 0 where
   pub stands : Stands e (affine_at e)
   pub in_subgroup : IsInSubgroup (affine_at e)
-
--- the first n of a list stand for the multiples of a point by 0, 1, 2 ..
-abbrev pub AreMultiples : Coordinates → ℕ → List Extended → Type 0
-AreMultiples a n table = (k : ℕ) (e : Extended) → k < n → Stands (get_or table k e) (times curve k a)

@@ -8,7 +8,9 @@ ghost use Rattle.jubjub.specs.Laws.Points.{in_subgroup_alike};
 
 use crate::bytes::spelled;
 use crate::extended::{Extended, affine, crossed, doubled, is_neutral, lifted, plus_crossed};
-use crate::multiple::{is_on_curve, multiple, multiple_public, order_of_subgroup};
+use crate::multiple::{
+    is_on_curve, multiple, multiple_public, order_of_subgroup, sum_of_multiples_public,
+};
 use ark_groups::ff::{Field, Words};
 use ark_wide_fields::Bls12_381Fr;
 
@@ -169,6 +171,19 @@ impl Jubjub {
         ensures coordinates { coordinates result ≡ times curve (number scalar) (coordinates self) }
     {
         Jubjub::of_extended(multiple_public(lifted(self.x, self.y), scalar))
+    }
+
+    /// Returns the sum of the element and of another, each added as often as a public scalar says, on which the time
+    /// depends: it is shorter than that of two multiples. The scalars may be any numbers of four words.
+    pub fn sum_of_multiples_public(self, m: Words, other: Jubjub, n: Words) -> Jubjub
+        ensures group { result ≡ jubjub.plus (times jubjub (number m) self)
+            (times jubjub (number n) other) }
+        ensures coordinates { coordinates result ≡ sum p d
+            (times curve (number m) (coordinates self)) (times curve (number n) (coordinates other)) }
+    {
+        let a = lifted(self.x, self.y);
+        let b = lifted(other.x, other.y);
+        Jubjub::of_extended(sum_of_multiples_public(a, m, b, n))
     }
 
     /// Returns the element with these coordinates. `None` where they are not in the prime subgroup.

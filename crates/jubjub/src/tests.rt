@@ -7,6 +7,7 @@ use std::alloc::Global;
 
 mod bytes;
 mod group;
+mod public;
 
 // Whether an element of a field has this text.
 fn is<F: Field>(alloc: Global, element: F, text: &str) -> bool {

@@ -50,6 +50,10 @@ impl AdditiveGroup for Jubjub {
         Jubjub::mul(self, s.words())
     }
 
+    fn sum_of_multiples_public(self, s: JubjubFr, other: Jubjub, t: JubjubFr) -> Jubjub {
+        Jubjub::sum_of_multiples_public(self, s.words(), other, t.words())
+    }
+
     fn to_sum(self) -> JubjubSum {
         JubjubSum::of(twice_coefficient(), lifted(self.x, self.y))
     }

@@ -7,7 +7,7 @@ use Rattle.ark_wide_fields.proofs.PowerSteps.{unless}
 use Rattle.jubjub.specs.Edwards.{Coordinates}
 use Rattle.jubjub.specs.Jubjub.{curve, IsInSubgroup}
 use Rattle.jubjub.specs.Values.{value}
-use Rattle.jubjub.proofs.Digits.{multiple_on_curve}
+use Rattle.jubjub.proofs.MultiplesOnCurve.{multiple_on_curve}
 use Rattle.jubjub.proofs.GroupLaws.{order_shows}
 use Rattle.jubjub.proofs.Decoded.{none_over, zero_over, outside_over, found_over}
 use Rattle.jubjub.proofs.element.found.cleared_over.Goals as goal
