@@ -1,9 +1,8 @@
 -- Sums of multiples of two points.
-use Rattle.std.specs.Prelude.{ℕ, ◌/◌, ◌%◌, ◌<◌, List, get_or}
+use Rattle.std.specs.Prelude.{ℕ}
 use Rattle.ark_groups.specs.Group.{times}
 use Rattle.edwards_numbers.specs.Edwards.{Coordinates}
 use Rattle.edwards.specs.declared.extended.Extended.{Extended}
-use Rattle.edwards.specs.Extended.{Stands}
 use Rattle.ed25519.specs.declared.moduli.Ed25519FpModulus.{Ed25519FpModulus}
 use Rattle.ed25519.specs.contracts.moduli.Ed25519FpModulusWideModulus.TheImpl.{ghosts}
 use Rattle.ed25519.specs.Edwards25519.{curve}
@@ -15,7 +14,3 @@ combined m n a b = curve.plus (times curve m a) (times curve n b)
 -- four coordinates of a point
 abbrev pub Four : Type 0
 Four = Extended Ed25519FpModulus ghosts
-
--- the first n of a list stand for sums of multiples of two points, that by i and j at 4 i + j
-abbrev pub AreCombined : Coordinates → Coordinates → ℕ → List Four → Type 0
-AreCombined a b n table = (k : ℕ) (e : Four) → k < n → Stands (get_or table k e) (combined (k / 4) (k % 4) a b)
