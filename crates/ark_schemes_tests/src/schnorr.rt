@@ -10,11 +10,13 @@ use crate::samples::Numeral;
 use ark_base::error::{Error, Refusal};
 use ark_base::serialize::{CanonicalDeserialize, canonical_bytes};
 use ark_groups::digest::ByteDigest;
-use ark_groups::ec::{AdditiveGroup, Residues};
+use ark_groups::ec::{AdditiveGroup, FixedBaseGroup, Residues};
 use ark_groups::ff::{Field, M61, UniformRand};
 use ark_schemes::prf::Blake2s256;
 use ark_signatures::signature::SignatureScheme;
-use ark_signatures::signature::schnorr::{Parameters, Schnorr, SecretKey, Signature};
+use ark_signatures::signature::schnorr::{
+    Parameters, PreparedParameters, Schnorr, SecretKey, Signature,
+};
 use rand::{Rng, SeedableRng};
 use rand_chacha::ChaCha20Rng;
 use std::alloc::Global;
@@ -183,6 +185,37 @@ fn keys_and_nonces_are_drawn(rt: HostRuntime) {
     let mut rng = ChaCha20Rng::seed_from_u64(24);
     let mut twin = ChaCha20Rng::seed_from_u64(24);
     assert!(rt; all_is_drawn::<G61, Blake2s256, ChaCha20Rng>(rt.alloc(), &mut rng, &mut twin));
+}
+
+// Whether parameters with a table draw the same key and make the same signature.
+fn signs_alike<C: FixedBaseGroup, D: ByteDigest, R: Rng>(
+    alloc: Global,
+    pp: &Parameters<C>,
+    rng: &mut R,
+    twin: &mut R,
+) -> Result<bool, Error> {
+    let prepared = PreparedParameters::new(alloc, pp)?;
+    let (pk, sk) = prepared.keygen(rng);
+    let made = prepared.sign::<D, R>(alloc, &sk, TEXT, rng)?;
+    let (key, secret) = Schnorr::<C, D>::keygen(alloc, pp, twin)?;
+    let signature = Schnorr::<C, D>::sign(alloc, pp, &secret, TEXT, twin)?;
+    Ok(pk == key
+        && made.prover_response == signature.prover_response
+        && made.verifier_challenge == signature.verifier_challenge)
+}
+
+#[test]
+fn parameters_with_a_table_sign_alike(rt: HostRuntime) {
+    let mut rng = ChaCha20Rng::seed_from_u64(27);
+    let mut twin = ChaCha20Rng::seed_from_u64(27);
+    assert!(rt;
+        signs_alike::<G61, Blake2s256, ChaCha20Rng>(
+            rt.alloc(),
+            &parameters(),
+            &mut rng,
+            &mut twin,
+        ) == Ok(true)
+    );
 }
 
 // Why a text is not signed under a digest, and whether this count of draws was taken.

@@ -10,7 +10,7 @@ use std::alloc::Global;
 /// A group whose elements have tables, by which they are multiplied in less time.
 pub trait FixedBaseGroup: AdditiveGroup {
     /// What an element's owner keeps for its multiples.
-    type Table;
+    type Table: Drop;
 
     // The element that a table is of.
     ghost base: { Self.Table → Self };
