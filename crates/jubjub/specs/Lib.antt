@@ -5,6 +5,7 @@ pub mod Extended
 pub mod Elements
 pub mod Spelling
 pub mod Sums
+pub mod Tables
 pub mod Compressed
 pub mod Decoding
 pub mod Draws

@@ -21,7 +21,7 @@ mod from_digest;
 mod item;
 mod sums;
 
-pub use sums::JubjubSum;
+pub use sums::{JubjubSum, JubjubTable};
 
 // The coordinates of the generator.
 const GENERATOR_X: Words = Words {

@@ -12,6 +12,9 @@ use ark_wide_fields::Bls12_381Fr;
 mod group;
 mod laws;
 mod many;
+mod table;
+
+pub use table::JubjubTable;
 
 /// A sum under way of elements: a point of the prime subgroup by four coordinates, which are added without a division.
 #[derive(Clone, Copy)]
