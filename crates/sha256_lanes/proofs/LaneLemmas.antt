@@ -1,39 +1,41 @@
--- Lane by lane.
-use Rattle.std.proofs.Common.{◌≡◌, ℕ, zero, suc, ◌<◌, ◌≤◌, ◌+◌, ◌-◌, List, [], ◌∷◌, length, slice_index, slice_index_or, slice_set, arith, refl, ap, ap₂, sym, ◌∙◌, inl, inr}
+-- What holds in each lane, and the words of the padding block.
+use Rattle.std.proofs.Common.{◌≡◌, ℕ, zero, suc, ◌<◌, ◌≤◌, ◌+◌, ◌-◌, List, [], ◌∷◌, length, map, slice_index, slice_index_or, slice_set, arith, refl, ap, ap₂, sym, ◌∙◌, inl, inr}
 use Rattle.std.proofs.lemmas.Bool.{cases_lt}
-use Rattle.std.proofs.lemmas.List.{get_or-map, map-set}
-use Rattle.std.proofs.lemmas.Simd.{get_or-zip2, get_or-replicate}
+use Rattle.std.proofs.lemmas.List.{get_or-set_same, get_or-set_other, get_or_default}
+use Rattle.std.proofs.lemmas.Simd.{get_or-zip2}
 use Rattle.std.specs.Simd.Lanes.{zip2}
 use Rattle.sha2.specs.Sha256.{add32, first_words, round_constants, schedule}
 use Rattle.sha2.proofs.Schedule256.{length-schedule}
 use Rattle.sha256_lanes.specs.declared.constants.TheConstants.{PADDED}
-use Rattle.sha256_lanes.specs.Lanes.{lane, pad, pad_schedule, words}
+use Rattle.sha256_lanes.specs.Lanes.{pad, pad_schedule}
 
--- a lane of a vector that has k in each
-pub splat_lane : (k j : ℕ) → j < 4 → slice_index (k ∷ k ∷ k ∷ k ∷ []) j ≡ k
-splat_lane k j lt = get_or-replicate 4 j k 0 lt
+-- what holds of the items before place k, and of what is written there
+pub each_more : {A : Type 0} (P : ℕ → A → Type 0) (xs : List A) (k : ℕ) (x d : A) → k < length xs
+    → ((j : ℕ) → j < k → P j (slice_index_or xs j d)) → P k x
+    → (j : ℕ) → j < k + 1 → P j (slice_index_or (slice_set xs k x) j d)
+each_more P xs k x d inside before here j lt = elim (cases_lt j k) [
+  | inl a ↦ rw (get_or-set_other xs k j x d (omega arith)) (before j a)
+  | inr b ↦
+      let e : k ≡ j = omega arith in
+      rw (← e, get_or-set_same xs k x d inside) here
+]
 
--- a shift of each lane by k
-pub shifted : (f : ℕ → ℕ → ℕ) (x : List ℕ) (k j : ℕ) → length x ≡ 4 → j < 4
-    → slice_index (zip2 f x (k ∷ k ∷ k ∷ k ∷ [])) j ≡ f (slice_index x j) k
-shifted f x k j size lt =
-    get_or-zip2 f x (k ∷ k ∷ k ∷ k ∷ []) j 0 0 0 (omega arith) lt ∙ ap (f (slice_index x j)) (splat_lane k j lt)
+-- what holds of an item holds of it, whatever is named for a place that has none
+pub at_any : {A : Type 0} (P : A → Type 0) (xs : List A) (k : ℕ) (d e : A) → k < length xs → P (slice_index_or xs k d)
+    → P (slice_index_or xs k e)
+at_any P xs k d e inside so = rw (get_or_default xs k e d inside) so
 
--- word t of message j
-pub slice_index-words : (w : List (List ℕ)) (j t : ℕ) → t < length w → slice_index (words j w) t
-    ≡ slice_index (slice_index_or w t []) j
-slice_index-words w j t lt = get_or-map (λ vector. slice_index vector j) w t [] 0 lt
-
--- a word of each message is replaced
-pub words-set : (w : List (List ℕ)) (j t : ℕ) (vector : List ℕ) → words j (slice_set w t vector) ≡ slice_set (words j w)
-    t (slice_index vector j)
-words-set w j t vector = map-set (λ vector. slice_index vector j) w t vector
-
--- a round's constant and its word of each message, added
-pub lane_sum : (w : List (List ℕ)) (k j t : ℕ) (sum : List ℕ) → j < 4 → t < length w
-    → slice_index sum j ≡ add32 (slice_index (k ∷ k ∷ k ∷ k ∷ []) j) (slice_index (slice_index_or w t []) j)
-    → slice_index sum j ≡ add32 k (slice_index (words j w) t)
-lane_sum w k j t sum lt inside e = e ∙ ap₂ add32 (splat_lane k j lt) (sym (slice_index-words w j t inside))
+-- the digests of the states are those of the items, lane by lane
+pub lanes_done : {A : Type 0} (g : List ℕ → List ℕ) (f : A → List ℕ) (states : List (List ℕ)) (xs : List A)
+    → length states ≡ length xs
+    → ((d : A) (j : ℕ) → j < length xs → g (slice_index_or states j []) ≡ f (slice_index_or xs j d))
+    → map g states ≡ map f xs
+lanes_done g f [] [] size so = refl
+lanes_done g f [] (x ∷ xs) size so = absurd (omega arith)
+lanes_done g f (s ∷ states) [] size so = absurd (omega arith)
+lanes_done g f (s ∷ states) (x ∷ xs) size so =
+    ap₂ (λ y ys. y ∷ ys) (so x 0 (omega arith))
+    (lanes_done g f states xs (omega arith) (λ d j lt. so d (suc j) (omega arith)))
 
 -- the constants of the padding block's rounds, with its words added
 padded_sums : zip2 add32 round_constants pad_schedule ≡ PADDED
@@ -72,16 +74,3 @@ module _ (P : ℕ → Type 0) (p0 : P 0) (p1 : P 1) (p2 : P 2) (p3 : P 3) (p4 : 
             ]
           ]
         ]
-
--- word i of the state in lane j
-pub slice_index-lane : (x : List (List ℕ)) (j i : ℕ) → i < 8 → slice_index (lane j x) i
-    ≡ slice_index (slice_index_or x i []) j
-slice_index-lane x j zero h = refl
-slice_index-lane x j (suc zero) h = refl
-slice_index-lane x j (suc (suc zero)) h = refl
-slice_index-lane x j (suc (suc (suc zero))) h = refl
-slice_index-lane x j (suc (suc (suc (suc zero)))) h = refl
-slice_index-lane x j (suc (suc (suc (suc (suc zero))))) h = refl
-slice_index-lane x j (suc (suc (suc (suc (suc (suc zero)))))) h = refl
-slice_index-lane x j (suc (suc (suc (suc (suc (suc (suc zero))))))) h = refl
-slice_index-lane x j (suc (suc (suc (suc (suc (suc (suc (suc n)))))))) h = absurd (omega arith)

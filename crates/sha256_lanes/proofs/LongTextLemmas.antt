@@ -4,28 +4,20 @@ use Rattle.std.proofs.Math.Seq.{set-append_seam, take-append-add}
 use Rattle.std.proofs.lemmas.Simd.{length-replicate}
 use Rattle.std.proofs.Common.{replicate, suc, ℕ, ◌≡◌, ◌<◌, ◌≤◌, ◌+◌, ◌-◌, ◌*◌, ◌/◌, ◌%◌, ◌^◌, List, [], ◌∷◌, ◌++◌, length, take, drop, slice_index, slice_set, arith, refl, ap, sym, ◌∙◌}
 use Rattle.std.proofs.lemmas.List.{get_or-drop, length-append, length-take, take-append-drop, length-drop, take_all, drop_all, drop-drop, drop-replicate, take-replicate, append_assoc, append-nil}
-use Rattle.sha2.specs.Sha256.{compress, digest_bytes, hash_after, initial_hash_256, padded_message, padding, sha256, word_at}
+use Rattle.sha2.specs.Sha256.{compress, digest_bytes, hash_after, initial_hash_256, padded_message, sha256, word_at}
 use Rattle.sha256_lanes.specs.Lanes.{AreWords}
 use Rattle.sha256_lanes.proofs.PairLemmas.{word_at-left}
 
--- the digest of a message that makes two blocks with its padding
-pub sha256_long : (m : List ℕ) → length (m ++ padding (length m)) ≡ 128
-    → sha256 m ≡ digest_bytes (compress (compress initial_hash_256 (take 64 (m ++ padding (length m))))
-    (drop 64 (m ++ padding (length m)))) 8
+-- the digest of a message that makes two blocks with its padding, from the states before, between and after them
+pub sha256_long : (m initial middle last : List ℕ) → length (padded_message m) ≡ 128 → initial ≡ initial_hash_256
+    → middle ≡ compress initial (take 64 (padded_message m)) → last ≡ compress middle (drop 64 (padded_message m))
+    → digest_bytes last 8 ≡ sha256 m
 unfolding sha256 hash_after
-sha256_long m size =
-    let p : List ℕ = m ++ padding (length m) in
+sha256_long m initial middle last size ei em el =
+    let p : List ℕ = padded_message m in
     let count : length p / 64 ≡ 2 = omega arith in
     let rest : take 64 (drop 64 p) ≡ drop 64 p = take_all 64 (drop 64 p) (omega (arith, length-drop 64 p)) in
-    rw (count, rest) refl
-
--- the same, from the states after each step
-pub sha256_longs : (m blocks initial middle last digest : List ℕ) → length blocks ≡ 128 → blocks ≡ m ++ padding
-    (length m) → initial ≡ initial_hash_256
-    → middle ≡ compress initial (take 64 blocks) → last ≡ compress middle (drop 64 blocks) → digest ≡ digest_bytes last
-    8 → digest ≡ sha256 m
-sha256_longs m blocks initial middle last digest size eb ei em el ed =
-    rw (sha256_long m (ap length (sym eb) ∙ size), ← eb, ← ei, ← em, ← el) ed
+    rw (count, rest, el, em, ei) refl
 
 -- the bytes of the blocks: the message, a bit 1, zeros, and the length in bits
 pub blocks_are : (m placed t : List ℕ) (n : ℕ) → n ≡ length m → 56 ≤ n → n ≤ 119

@@ -1,6 +1,8 @@
 -- Results that are written one after the other.
-use Rattle.std.proofs.Common.{zero, suc, ◌≡◌, ℕ, ◌+◌, ◌*◌, List, [], ◌∷◌, ◌++◌, map, take, drop, refl, ap, sym, ◌∙◌, arith, zero-add}
+use Rattle.std.proofs.Common.{zero, suc, ◌≡◌, ℕ, ◌+◌, ◌≤◌, List, [], ◌∷◌, ◌++◌, length, map, take, drop, refl, ap, sym, ◌∙◌, arith, zero-add}
 use Rattle.std.proofs.lemmas.List.{map-append}
+use Rattle.std.proofs.lemmas.Slice.{take-put_mid}
+use borrow.Rule.Slice.PartMut.{put_mid}
 
 take-nil : {A : Type 0} (b : ℕ) → take {A = A} b [] ≡ []
 take-nil zero = refl
@@ -17,16 +19,11 @@ module _ {A B : Type 0} (f : A → B) (xs : List A) where
   abbrev pub AreWritten : List B → ℕ → Type 0
   AreWritten ys n = take n ys ≡ map f (take n xs)
 
-  pub written-more : (old new : List B) (n k : ℕ) → AreWritten old n
-      → take (n + k) new ≡ take n old ++ map f (take k (drop n xs)) → AreWritten new (n + k)
-  written-more old new n k so is =
-      is ∙ ap (λ ys. ys ++ map f (take k (drop n xs))) so ∙ sym (map-append f (take n xs) (take k (drop n xs)))
-      ∙ ap (map f) (take-both n k xs)
-
-  -- the next four
-  pub written-four : (old new : List B) (group : ℕ) → AreWritten old (4 * group)
-      → take (4 * group + 4) new ≡ take (4 * group) old ++ map f (take 4 (drop (4 * group) xs))
-      → AreWritten new (4 * (group + 1))
-  written-four old new group so is =
-      let next : 4 * group + 4 ≡ 4 * (group + 1) = omega arith in
-      rw (← next) (written-more old new (4 * group) 4 so is)
+  -- a part is written behind them
+  pub written-part : (old part : List B) (n k m : ℕ) → n ≤ length old → length part ≡ k → m ≡ n + k → AreWritten old n
+      → part ≡ map f (take k (drop n xs)) → AreWritten (put_mid n k old part) m
+  written-part old part n k m inside size em so is =
+      let end : n + k ≡ n + length part = omega arith in
+      rw em (take-put_mid n k old part (n + k) end inside ∙ ap (λ ys. ys ++ part) so
+      ∙ ap (λ ys. map f (take n xs) ++ ys) is ∙ sym (map-append f (take n xs) (take k (drop n xs)))
+      ∙ ap (map f) (take-both n k xs))

@@ -2,48 +2,18 @@
 use Rattle.std.specs.Int.{w64, to_be_bytes}
 use Rattle.std.proofs.Math.Seq.{set-append_seam, take-append_seam, take-append-add, drop-append_seam}
 use Rattle.std.proofs.lemmas.Simd.{length-replicate}
-use Rattle.std.proofs.Common.{replicate, suc, ◌^◌, ℕ, ◌≡◌, ◌<◌, ◌≤◌, ◌+◌, ◌-◌, ◌*◌, ◌/◌, ◌%◌, List, [], ◌∷◌, ◌++◌, length, take, drop, slice_index, slice_index_or, slice_set, arith, refl, ap, sym, ◌∙◌, inl, inr}
-use Rattle.std.proofs.lemmas.Bool.{cases_lt}
-use Rattle.std.proofs.lemmas.List.{get_or-set_same, get_or-set_other, length-append, take_all, drop_all, drop-drop, drop-replicate, take-replicate, append_assoc, append-nil}
-use Rattle.sha2.specs.Sha256.{compress, digest_bytes, hash_after, initial_hash_256, padded_message, padding, sha256, word_at}
-use Rattle.sha256_lanes.specs.Lanes.{AreWords, words}
-use Rattle.sha256_lanes.proofs.LaneLemmas.{slice_index-words}
+use Rattle.std.proofs.Common.{replicate, suc, ◌^◌, ℕ, ◌≡◌, ◌≤◌, ◌+◌, ◌-◌, ◌*◌, ◌/◌, ◌%◌, List, [], ◌∷◌, ◌++◌, length, take, drop, slice_set, arith, refl, ap, sym, ◌∙◌}
+use Rattle.std.proofs.lemmas.List.{length-append, take_all, drop_all, drop-drop, drop-replicate, take-replicate, append_assoc, append-nil}
+use Rattle.sha2.specs.Sha256.{compress, digest_bytes, hash_after, initial_hash_256, padded_message, sha256}
 
--- the first k words of a block stand in lane j
-abbrev pub AreFilled : List ℕ → ℕ → ℕ → List (List ℕ) → Type 0
-AreFilled b j k w = (i : ℕ) → i < k → slice_index (slice_index_or w i []) j ≡ word_at b (4 * i)
-
-pub AreFilled_more : (b word : List ℕ) (j k : ℕ) (w : List (List ℕ)) → length w ≡ 16 → k < 16 → AreFilled b j k w
-    → slice_index word j ≡ word_at b (4 * k) → AreFilled b j (k + 1) (slice_set w k word)
-AreFilled_more b word j k w size small so e =
-    let at = λ (vector : List ℕ). slice_index vector j in
-    λ i lt. elim (cases_lt i k) [
-      | inl a ↦ ap at (get_or-set_other w k i word [] (omega arith)) ∙ so i a
-      | inr c ↦
-          let same : k ≡ i = omega arith in
-          rw (← same) (ap at (get_or-set_same w k word [] (omega arith)) ∙ e)
-    ]
-
-pub AreFilled-all : (b : List ℕ) (j : ℕ) (w : List (List ℕ)) → length w ≡ 16 → AreFilled b j 16 w
-    → AreWords b (words j w)
-AreFilled-all b j w size so = λ k lt. slice_index-words w j k (omega arith) ∙ so k lt
-
--- the digest of a message that makes one block with its padding
-pub sha256_short : (m : List ℕ) → length (m ++ padding (length m)) ≡ 64 → sha256 m ≡ digest_bytes
-    (compress initial_hash_256 (m ++ padding (length m))) 8
+-- the digest of a message that makes one block with its padding, from the states before and after it
+pub sha256_short : (m initial last : List ℕ) → length (padded_message m) ≡ 64 → initial ≡ initial_hash_256
+    → last ≡ compress initial (padded_message m) → digest_bytes last 8 ≡ sha256 m
 unfolding sha256 hash_after
-sha256_short m size =
-    let count : length (m ++ padding (length m)) / 64 ≡ 1 = omega arith in
-    let first : take 64 (m ++ padding (length m)) ≡ m ++ padding (length m) =
-    take_all 64 (m ++ padding (length m)) (omega arith) in
-    rw (count, first) refl
-
--- the same, from the states after each step
-pub sha256_shorts : (m block initial last digest : List ℕ) → length block ≡ 64 → block ≡ m ++ padding (length m)
-    → initial ≡ initial_hash_256
-    → last ≡ compress initial block → digest ≡ digest_bytes last 8 → digest ≡ sha256 m
-sha256_shorts m block initial last digest size eb ei el ed =
-    rw (sha256_short m (ap length (sym eb) ∙ size), ← eb, ← ei, ← el) ed
+sha256_short m initial last size ei el =
+    let count : length (padded_message m) / 64 ≡ 1 = omega arith in
+    let first : take 64 (padded_message m) ≡ padded_message m = take_all 64 (padded_message m) (omega arith) in
+    rw (count, first, el, ei) refl
 
 -- a head and a tail, written to the front of zs
 pub headed : (h m zs front mid : List ℕ) (e : ℕ) → e ≡ length h + length m → front ≡ h → mid ≡ m

@@ -1,4 +1,5 @@
-//! SHA-256 (FIPS 180-4) of many messages, some of them together: a lane of a vector for each.
+//! SHA-256 (FIPS 180-4) of many messages, some of them together: a lane of a vector for each, of so many lanes as the
+//! processor's vectors have.
 //!
 //! Each result is the digest that the kit's `sha2` gives: no caller can tell the two apart but by the time.
 #![tactic(auto)]
@@ -12,6 +13,7 @@ mod prefixed_pairs;
 #[cfg(test)]
 mod prefixed_tests;
 mod runs;
+mod states;
 #[cfg(test)]
 mod tests;
 mod texts;

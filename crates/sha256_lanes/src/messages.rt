@@ -1,10 +1,12 @@
-//! Four messages of any lengths, each behind the same head or none.
+//! Messages of any lengths, each behind the same head or none.
 
-ghost use Rattle.std.specs.Prelude.{◌≡◌, ◌≤◌, ◌+◌, ◌∷◌, ◌++◌, ◌↔◌, IsTrue, length};
+ghost use Rattle.std.specs.Prelude.{◌≡◌, Option, ◌++◌, ◌+◌, ◌↔◌, ◌≤◌, IsTrue, length, map};
+ghost use Rattle.std.specs.List.{All};
 ghost use Rattle.sha2.specs.Sha256.{sha256};
+ghost use Rattle.sha256_lanes.specs.Runs.{IsLong, IsShort, hash_behind, headed_hash};
 
-use crate::long_texts::four_long_texts;
-use crate::texts::four_texts;
+use crate::long_texts::put_long_texts;
+use crate::texts::put_texts;
 use sha2::{Digest, Sha256};
 
 // Whether a head and a tail make one block with their padding.
@@ -25,6 +27,38 @@ fn is_long(head: &[u8], tail: &[u8]) -> bool
     used >= 56 && used <= 119
 }
 
+// Whether all messages are short, behind the head.
+#[inline(always)]
+fn are_short(head: &[u8], messages: &[&[u8]]) -> bool
+    ensures { IsTrue result → All (IsShort head.now) messages.now }
+{
+    'each: for place in 0..messages.len() {
+        if !is_short(head, messages[place]) {
+            return false;
+        }
+    }
+    true
+}
+
+// Whether all messages are long, behind the head.
+#[inline(always)]
+fn are_long(head: &[u8], messages: &[&[u8]]) -> bool
+    ensures { IsTrue result → All (IsLong head.now) messages.now }
+{
+    'each: for place in 0..messages.len() {
+        if !is_long(head, messages[place]) {
+            return false;
+        }
+    }
+    true
+}
+
+/// Whether messages are hashed together: all have at most 55 bytes, or all have 56 to 119, the prefix counted.
+pub fn go_together(prefix: Option<u8>, messages: &[&[u8]]) -> bool {
+    let head: &[u8] = if prefix.is_some() { &[0] } else { &[] };
+    are_short(head, messages) || are_long(head, messages)
+}
+
 /// Hashes a head followed by a tail.
 pub fn digest_of(head: &[u8], tail: &[u8]) -> [u8; 32]
     ensures { result ≡ sha256 (head.now ++ tail.now) }
@@ -37,60 +71,37 @@ pub fn digest_of(head: &[u8], tail: &[u8]) -> [u8; 32]
 
 // It is inlined so that the copy of a head of no bytes is none, and that of one byte a store.
 #[inline(always)]
-fn four_headed(
-    head: &[u8],
-    a: &[u8],
-    b: &[u8],
-    c: &[u8],
-    d: &[u8],
-) -> ([u8; 32], [u8; 32], [u8; 32], [u8; 32])
-    ensures a { result.0 ≡ sha256 (head.now ++ a.now) }
-    ensures b { result.1 ≡ sha256 (head.now ++ b.now) }
-    ensures c { result.2 ≡ sha256 (head.now ++ c.now) }
-    ensures d { result.3 ≡ sha256 (head.now ++ d.now) }
+fn put_headed<const LANES: usize>(head: &[u8], messages: &[&[u8]], digests: &mut [[u8; 32]])
+    requires lanes { LANES ≤ 8 }
+    requires messages { length messages.now ≡ LANES }
+    requires digests { length digests.old ≡ LANES }
+    ensures { digests.new ≡ map (headed_hash head.now) messages.now }
 {
-    if is_short(head, a) && is_short(head, b) && is_short(head, c) && is_short(head, d) {
-        four_texts(head, a, b, c, d)
-    } else if is_long(head, a) && is_long(head, b) && is_long(head, c) && is_long(head, d) {
-        four_long_texts(head, a, b, c, d)
+    if are_short(head, messages) {
+        put_texts::<LANES>(head, messages, digests);
+    } else if are_long(head, messages) {
+        put_long_texts::<LANES>(head, messages, digests);
     } else {
-        (
-            digest_of(head, a),
-            digest_of(head, b),
-            digest_of(head, c),
-            digest_of(head, d),
-        )
+        'each: for place in 0..messages.len() {
+            digests[place] = digest_of(head, messages[place]);
+        }
     }
 }
 
-/// Hashes four messages. They are hashed together where all have at most 55 bytes, or all have 56 to 119.
-pub fn four_messages(
-    a: &[u8],
-    b: &[u8],
-    c: &[u8],
-    d: &[u8],
-) -> ([u8; 32], [u8; 32], [u8; 32], [u8; 32])
-    ensures a { result.0 ≡ sha256 a.now }
-    ensures b { result.1 ≡ sha256 b.now }
-    ensures c { result.2 ≡ sha256 c.now }
-    ensures d { result.3 ≡ sha256 d.now }
+/// Writes the digests of so many messages as there are lanes, each behind the byte `prefix` if there is one. They are
+/// hashed together where `go_together` says so.
+pub fn put_messages<const LANES: usize>(
+    prefix: Option<u8>,
+    messages: &[&[u8]],
+    digests: &mut [[u8; 32]],
+)
+    requires lanes { LANES ≤ 8 }
+    requires messages { length messages.now ≡ LANES }
+    requires digests { length digests.old ≡ LANES }
+    ensures { digests.new ≡ map (hash_behind prefix) messages.now }
 {
-    four_headed(&[], a, b, c, d)
-}
-
-/// Hashes four messages, each behind the byte `prefix`. They are hashed together where all have at most 54 bytes, or
-/// all have 55 to 118: the prefix does not count.
-pub fn four_prefixed(
-    prefix: u8,
-    a: &[u8],
-    b: &[u8],
-    c: &[u8],
-    d: &[u8],
-) -> ([u8; 32], [u8; 32], [u8; 32], [u8; 32])
-    ensures a { result.0 ≡ sha256 (prefix ∷ a.now) }
-    ensures b { result.1 ≡ sha256 (prefix ∷ b.now) }
-    ensures c { result.2 ≡ sha256 (prefix ∷ c.now) }
-    ensures d { result.3 ≡ sha256 (prefix ∷ d.now) }
-{
-    four_headed(&[prefix], a, b, c, d)
+    match prefix {
+        None => put_headed::<LANES>(&[], messages, digests),
+        Some(byte) => put_headed::<LANES>(&[byte], messages, digests),
+    }
 }

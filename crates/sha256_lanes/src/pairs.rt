@@ -1,11 +1,11 @@
-//! Four pairs of digests: messages of 64 bytes, whose second block is padding alone.
+//! Pairs of digests: messages of 64 bytes, whose second block is padding alone.
 
-ghost use Rattle.std.specs.Prelude.{◌≡◌, ℕ, [], ◌∷◌, ◌++◌, ◌*◌, ◌<◌, slice_index, slice_index_or};
-ghost use Rattle.sha2.specs.Sha256.{digest_bytes, sha256, word_at};
-ghost use Rattle.sha256_lanes.specs.Lanes.{AreWords, lane, words};
+ghost use Rattle.std.specs.Prelude.{◌≡◌, None, ◌++◌, ◌*◌, ◌<◌, ◌≤◌, length, map};
+ghost use Rattle.sha2.specs.Sha256.{word_at};
+ghost use Rattle.sha256_lanes.specs.Lanes.{AreWhole};
+ghost use Rattle.sha256_lanes.specs.Runs.{pair_behind};
 
-use crate::lanes::{compress_block, compress_padding, initial_states};
-use std::simd::u32x4;
+use crate::states::{put_states, whole_states};
 
 // Word `k` of a digest.
 #[inline(always)]
@@ -21,82 +21,47 @@ fn load_be(digest: &[u8; 32], k: usize) -> u32
     ])
 }
 
-// Word `k` of four digests.
+// The words of the block that a pair makes.
 #[inline(always)]
-fn load_four(a: &[u8; 32], b: &[u8; 32], c: &[u8; 32], d: &[u8; 32], k: usize) -> u32x4
-    requires { k < 8 }
-    ensures { (j : ℕ) → j < 4 → slice_index result j
-        ≡ word_at (slice_index_or (a.now ∷ b.now ∷ c.now ∷ d.now ∷ []) j []) (4 * k) }
+fn pair_words(left: &[u8; 32], right: &[u8; 32]) -> [u32; 16]
+    ensures { AreWhole (left.now ++ right.now) result }
 {
-    u32x4::from_array([load_be(a, k), load_be(b, k), load_be(c, k), load_be(d, k)])
+    [
+        load_be(left, 0),
+        load_be(left, 1),
+        load_be(left, 2),
+        load_be(left, 3),
+        load_be(left, 4),
+        load_be(left, 5),
+        load_be(left, 6),
+        load_be(left, 7),
+        load_be(right, 0),
+        load_be(right, 1),
+        load_be(right, 2),
+        load_be(right, 3),
+        load_be(right, 4),
+        load_be(right, 5),
+        load_be(right, 6),
+        load_be(right, 7),
+    ]
 }
 
-// The words of the blocks that four pairs make.
-#[inline(always)]
-fn load_pairs(
-    a: &[u8; 32],
-    a_right: &[u8; 32],
-    b: &[u8; 32],
-    b_right: &[u8; 32],
-    c: &[u8; 32],
-    c_right: &[u8; 32],
-    d: &[u8; 32],
-    d_right: &[u8; 32],
-) -> [u32x4; 16]
-    ensures { let pairs = (a.now ++ a_right.now) ∷ (b.now ++ b_right.now)
-        ∷ (c.now ++ c_right.now) ∷ (d.now ++ d_right.now) ∷ [] in
-        (j : ℕ) → j < 4 → AreWords (slice_index_or pairs j []) (words j result) }
+/// Writes the digests of so many pairs as there are lanes, each of left followed by right.
+pub fn put_plain_pairs<const LANES: usize>(
+    couples: &[(&[u8; 32], &[u8; 32])],
+    digests: &mut [[u8; 32]],
+)
+    requires lanes { LANES ≤ 8 }
+    requires couples { length couples.now ≡ LANES }
+    requires digests { length digests.old ≡ LANES }
+    ensures { digests.new ≡ map (pair_behind None) couples.now }
 {
-    let mut w = [u32x4::splat(0); 16];
-    'load: for k in 0..8 {
-        let left = load_four(a, b, c, d, k);
-        let right = load_four(a_right, b_right, c_right, d_right, k);
-        w[k] = left;
-        w[8 + k] = right;
+    let mut words = [[0u32; 16]; LANES];
+    'load: for lane in 0..LANES {
+        let (left, right) = couples[lane];
+        let block = pair_words(left, right);
+        words[lane] = block;
     }
-    w
-}
-
-// The digest that stands in lane `j`.
-#[inline(always)]
-pub(crate) fn digest_in(states: &[u32x4; 8], j: usize) -> [u8; 32]
-    requires { j < 4 }
-    ensures { result ≡ digest_bytes (lane j states.now) 8 }
-{
-    let mut out = [0u8; 32];
-    'words: for i in 0..8 {
-        let lanes = states[i].to_array();
-        let word = lanes[j];
-        out[4 * i..4 * i + 4].copy_from_slice(&word.to_be_bytes());
-    }
-    out
-}
-
-/// Hashes four pairs of digests, each the left one followed by the right one.
-pub fn four_pairs(
-    a: &[u8; 32],
-    a_right: &[u8; 32],
-    b: &[u8; 32],
-    b_right: &[u8; 32],
-    c: &[u8; 32],
-    c_right: &[u8; 32],
-    d: &[u8; 32],
-    d_right: &[u8; 32],
-) -> ([u8; 32], [u8; 32], [u8; 32], [u8; 32])
-    ensures a { result.0 ≡ sha256 (a.now ++ a_right.now) }
-    ensures b { result.1 ≡ sha256 (b.now ++ b_right.now) }
-    ensures c { result.2 ≡ sha256 (c.now ++ c_right.now) }
-    ensures d { result.3 ≡ sha256 (d.now ++ d_right.now) }
-{
-    let middle = compress_block(
-        load_pairs(a, a_right, b, b_right, c, c_right, d, d_right),
-        initial_states(),
-    );
-    let states = compress_padding(middle);
-    (
-        digest_in(&states, 0),
-        digest_in(&states, 1),
-        digest_in(&states, 2),
-        digest_in(&states, 3),
-    )
+    let states = whole_states(&words);
+    put_states(&states, digests);
 }

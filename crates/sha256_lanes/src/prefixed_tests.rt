@@ -1,7 +1,6 @@
 //! Messages and pairs behind a byte: digests as another implementation has them.
 
-use crate::messages::four_prefixed;
-use crate::prefixed_pairs::four_prefixed_pairs;
+use crate::tests::{are_hashed, are_paired};
 use std::test::Fail;
 
 // The digest of a zero byte.
@@ -73,98 +72,70 @@ const ONE_AND_RIGHT_LEFT: [u8; 32] = [
 // Both lengths in each lane, in one block each.
 #[test]
 fn one_block_in_each_lane(rt: HostRuntime) -> Result<(), Fail> {
-    let (a, b, c, d) = four_prefixed(0, &[], &[b'a'; 54], &[], &[b'a'; 54]);
-    assert_eq!(rt; a, EMPTY);
-    assert_eq!(rt; b, BYTES_54);
-    assert_eq!(rt; c, EMPTY);
-    assert_eq!(rt; d, BYTES_54);
-    let (a, b, c, d) = four_prefixed(0, &[b'a'; 54], &[], &[b'a'; 54], &[]);
-    assert_eq!(rt; a, BYTES_54);
-    assert_eq!(rt; b, EMPTY);
-    assert_eq!(rt; c, BYTES_54);
-    assert_eq!(rt; d, EMPTY);
+    assert!(rt; are_hashed(Some(0), [&[], &[b'a'; 54]], [EMPTY, BYTES_54]));
     Ok(())
 }
 
 // Both lengths in each lane, in two blocks each.
 #[test]
 fn two_blocks_in_each_lane(rt: HostRuntime) -> Result<(), Fail> {
-    let (a, b, c, d) = four_prefixed(0, &[b'a'; 55], &[b'a'; 118], &[b'a'; 55], &[b'a'; 118]);
-    assert_eq!(rt; a, BYTES_55);
-    assert_eq!(rt; b, BYTES_118);
-    assert_eq!(rt; c, BYTES_55);
-    assert_eq!(rt; d, BYTES_118);
-    let (a, b, c, d) = four_prefixed(0, &[b'a'; 118], &[b'a'; 55], &[b'a'; 118], &[b'a'; 55]);
-    assert_eq!(rt; a, BYTES_118);
-    assert_eq!(rt; b, BYTES_55);
-    assert_eq!(rt; c, BYTES_118);
-    assert_eq!(rt; d, BYTES_55);
+    assert!(rt; are_hashed(Some(0), [&[b'a'; 55], &[b'a'; 118]], [BYTES_55, BYTES_118]));
     Ok(())
 }
 
 // One by one.
 #[test]
 fn three_blocks_in_each_lane(rt: HostRuntime) -> Result<(), Fail> {
-    let (a, b, c, d) = four_prefixed(0, &[b'a'; 119], &[b'a'; 119], &[b'a'; 119], &[b'a'; 119]);
-    assert_eq!(rt; a, BYTES_119);
-    assert_eq!(rt; b, BYTES_119);
-    assert_eq!(rt; c, BYTES_119);
-    assert_eq!(rt; d, BYTES_119);
+    assert!(rt;
+        are_hashed(
+            Some(0),
+            [&[b'a'; 119], &[b'a'; 119]],
+            [BYTES_119, BYTES_119]
+        )
+    );
     Ok(())
 }
 
 // Lengths that do not go together are hashed one by one.
 #[test]
 fn lengths_that_differ(rt: HostRuntime) -> Result<(), Fail> {
-    let (a, b, c, d) = four_prefixed(0, &[], &[b'a'; 119], &[b'a'; 54], &[b'a'; 55]);
-    assert_eq!(rt; a, EMPTY);
-    assert_eq!(rt; b, BYTES_119);
-    assert_eq!(rt; c, BYTES_54);
-    assert_eq!(rt; d, BYTES_55);
-    let (a, b, c, d) = four_prefixed(0, &[b'a'; 55], &[], &[b'a'; 118], &[b'a'; 54]);
-    assert_eq!(rt; a, BYTES_55);
-    assert_eq!(rt; b, EMPTY);
-    assert_eq!(rt; c, BYTES_118);
-    assert_eq!(rt; d, BYTES_54);
-    let (a, b, c, d) = four_prefixed(0, &[b'a'; 54], &[b'a'; 55], &[], &[b'a'; 118]);
-    assert_eq!(rt; a, BYTES_54);
-    assert_eq!(rt; b, BYTES_55);
-    assert_eq!(rt; c, EMPTY);
-    assert_eq!(rt; d, BYTES_118);
+    assert!(rt; are_hashed(Some(0), [&[], &[b'a'; 119]], [EMPTY, BYTES_119]));
+    assert!(rt; are_hashed(Some(0), [&[b'a'; 54], &[b'a'; 55]], [BYTES_54, BYTES_55]));
+    assert!(rt; are_hashed(Some(0), [&[b'a'; 118], &[]], [BYTES_118, EMPTY]));
     Ok(())
 }
 
 // The prefix is part of the message.
 #[test]
 fn the_prefix_counts(rt: HostRuntime) -> Result<(), Fail> {
-    let (a, b, c, d) = four_prefixed(1, &[b'a'; 54], &[b'a'; 54], &[b'a'; 54], &[b'a'; 54]);
-    assert_eq!(rt; a, ONE_AND_BYTES_54);
-    assert_eq!(rt; b, ONE_AND_BYTES_54);
-    assert_eq!(rt; c, ONE_AND_BYTES_54);
-    assert_eq!(rt; d, ONE_AND_BYTES_54);
-    let (a, b, c, d) = four_prefixed(1, &[b'a'; 118], &[b'a'; 118], &[b'a'; 118], &[b'a'; 118]);
-    assert_eq!(rt; a, ONE_AND_BYTES_118);
-    assert_eq!(rt; b, ONE_AND_BYTES_118);
-    assert_eq!(rt; c, ONE_AND_BYTES_118);
-    assert_eq!(rt; d, ONE_AND_BYTES_118);
+    assert!(rt;
+        are_hashed(
+            Some(1),
+            [&[b'a'; 54], &[b'a'; 54]],
+            [ONE_AND_BYTES_54, ONE_AND_BYTES_54]
+        )
+    );
+    assert!(rt;
+        are_hashed(
+            Some(1),
+            [&[b'a'; 118], &[b'a'; 118]],
+            [ONE_AND_BYTES_118, ONE_AND_BYTES_118]
+        )
+    );
     Ok(())
 }
 
 #[test]
 fn pairs_in_each_lane(rt: HostRuntime) -> Result<(), Fail> {
-    let (a, b, c, d) = four_prefixed_pairs(
-        0, &EMPTY, &BYTES_54, &BYTES_54, &EMPTY, &EMPTY, &BYTES_54, &BYTES_54, &EMPTY,
+    let (left, right) = ([&EMPTY, &BYTES_54], [&BYTES_54, &EMPTY]);
+    assert!(rt; are_paired(Some(0), left, right, [LEFT_RIGHT, RIGHT_LEFT]));
+    assert!(rt;
+        are_paired(
+            Some(1),
+            left,
+            right,
+            [ONE_AND_LEFT_RIGHT, ONE_AND_RIGHT_LEFT]
+        )
     );
-    assert_eq!(rt; a, LEFT_RIGHT);
-    assert_eq!(rt; b, RIGHT_LEFT);
-    assert_eq!(rt; c, LEFT_RIGHT);
-    assert_eq!(rt; d, RIGHT_LEFT);
-    let (a, b, c, d) = four_prefixed_pairs(
-        1, &BYTES_54, &EMPTY, &EMPTY, &BYTES_54, &BYTES_54, &EMPTY, &EMPTY, &BYTES_54,
-    );
-    assert_eq!(rt; a, ONE_AND_RIGHT_LEFT);
-    assert_eq!(rt; b, ONE_AND_LEFT_RIGHT);
-    assert_eq!(rt; c, ONE_AND_RIGHT_LEFT);
-    assert_eq!(rt; d, ONE_AND_LEFT_RIGHT);
     Ok(())
 }

@@ -1,13 +1,16 @@
-//! Any number of messages, and of pairs of digests. Those that make whole groups are hashed together, the others one by one:
-//! nothing outside this file knows how many messages a group has.
+//! Any number of messages, and of pairs of digests. Those that make whole groups are hashed together, the others one by
+//! one: nothing outside this file knows how many messages a group has.
+//!
+//! A group has eight, which are two vectors' lanes where the processor is x86-64-v2. One of four comes behind them, and
+//! two stand for a group of eight messages that do not go together.
 
-ghost use Rattle.std.specs.Prelude.{◌≡◌, ◌+◌, ◌≤◌, ◌++◌, ◌∷◌, [], length, map, take, drop};
+ghost use Rattle.std.specs.Prelude.{◌≡◌, ◌++◌, ◌≤◌, length, map};
 ghost use Rattle.sha2.specs.Sha256.{sha256};
 ghost use Rattle.sha256_lanes.specs.Runs.{behind, hash_behind, pair_behind};
 
-use crate::messages::{digest_of, four_messages, four_prefixed};
-use crate::pairs::four_pairs;
-use crate::prefixed_pairs::four_prefixed_pairs;
+use crate::messages::{digest_of, go_together, put_messages};
+use crate::pairs::put_plain_pairs;
+use crate::prefixed_pairs::put_prefixed_pairs;
 use sha2::{Digest, Sha256};
 
 /// Hashes a message, behind the byte `prefix` if there is one.
@@ -35,36 +38,18 @@ pub fn digest_of_pair(prefix: Option<u8>, left: &[u8], right: &[u8]) -> [u8; 32]
     hasher.finalize()
 }
 
-// Writes four digests from a place on.
-#[inline(always)]
-fn put_four(digests: &mut [[u8; 32]], place: usize, four: ([u8; 32], [u8; 32], [u8; 32], [u8; 32]))
-    requires { place + 4 ≤ length digests.old }
-    ensures { take (place + 4) digests.new
-        ≡ take place digests.old ++ (four.0 ∷ four.1 ∷ four.2 ∷ four.3 ∷ []) }
+// Writes the digests of a group of messages, by halves where they do not go together.
+fn put_eight_messages(prefix: Option<u8>, messages: &[&[u8]], digests: &mut [[u8; 32]])
+    requires messages { length messages.now ≡ 8 }
+    requires digests { length digests.old ≡ 8 }
+    ensures { digests.new ≡ map (hash_behind prefix) messages.now }
 {
-    let (first, second, third, fourth) = four;
-    digests[place] = first;
-    digests[place + 1] = second;
-    digests[place + 2] = third;
-    digests[place + 3] = fourth;
-}
-
-// Writes the digests of a group of messages.
-fn put_messages(prefix: Option<u8>, messages: &[&[u8]], digests: &mut [[u8; 32]], first: usize)
-    requires messages { first + 4 ≤ length messages.now }
-    requires digests { first + 4 ≤ length digests.old }
-    ensures { take (first + 4) digests.new ≡ take first digests.old
-        ++ map (hash_behind prefix) (take 4 (drop first messages.now)) }
-{
-    let a = messages[first];
-    let b = messages[first + 1];
-    let c = messages[first + 2];
-    let d = messages[first + 3];
-    let four = match prefix {
-        None => four_messages(a, b, c, d),
-        Some(byte) => four_prefixed(byte, a, b, c, d),
-    };
-    put_four(digests, first, four);
+    if go_together(prefix, messages) {
+        put_messages::<8>(prefix, messages, digests);
+    } else {
+        put_messages::<4>(prefix, &messages[..4], &mut digests[..4]);
+        put_messages::<4>(prefix, &messages[4..], &mut digests[4..]);
+    }
 }
 
 /// Writes the digest of each message, behind the byte `prefix` if there is one.
@@ -72,36 +57,44 @@ pub fn digests_of_messages(prefix: Option<u8>, messages: &[&[u8]], digests: &mut
     requires { length digests.old ≡ length messages.now }
     ensures { digests.new ≡ map (hash_behind prefix) messages.now }
 {
-    let groups = messages.len() / 4;
+    let groups = messages.len() / 8;
     'groups: for group in 0..groups {
-        put_messages(prefix, messages, digests, 4 * group);
+        let first = 8 * group;
+        put_eight_messages(
+            prefix,
+            &messages[first..first + 8],
+            &mut digests[first..first + 8],
+        );
     }
-    'rest: for place in 4 * groups..messages.len() {
+    let mut done = 8 * groups;
+    if messages.len() - done >= 4 {
+        put_messages::<4>(
+            prefix,
+            &messages[done..done + 4],
+            &mut digests[done..done + 4],
+        );
+        done += 4;
+    }
+    'rest: for place in done..messages.len() {
         digests[place] = digest_of_message(prefix, messages[place]);
     }
 }
 
 // Writes the digests of a group of pairs.
-fn put_pairs(
+fn put_pairs<const LANES: usize>(
     prefix: Option<u8>,
     couples: &[(&[u8; 32], &[u8; 32])],
     digests: &mut [[u8; 32]],
-    first: usize,
 )
-    requires couples { first + 4 ≤ length couples.now }
-    requires digests { first + 4 ≤ length digests.old }
-    ensures { take (first + 4) digests.new ≡ take first digests.old
-        ++ map (pair_behind prefix) (take 4 (drop first couples.now)) }
+    requires lanes { LANES ≤ 8 }
+    requires couples { length couples.now ≡ LANES }
+    requires digests { length digests.old ≡ LANES }
+    ensures { digests.new ≡ map (pair_behind prefix) couples.now }
 {
-    let a = couples[first];
-    let b = couples[first + 1];
-    let c = couples[first + 2];
-    let d = couples[first + 3];
-    let four = match prefix {
-        None => four_pairs(a.0, a.1, b.0, b.1, c.0, c.1, d.0, d.1),
-        Some(byte) => four_prefixed_pairs(byte, a.0, a.1, b.0, b.1, c.0, c.1, d.0, d.1),
-    };
-    put_four(digests, first, four);
+    match prefix {
+        None => put_plain_pairs::<LANES>(couples, digests),
+        Some(byte) => put_prefixed_pairs::<LANES>(byte, couples, digests),
+    }
 }
 
 /// Writes the digest of left followed by right of each pair, behind the byte `prefix` if there is one.
@@ -113,11 +106,25 @@ pub fn digests_of_pairs(
     requires { length digests.old ≡ length couples.now }
     ensures { digests.new ≡ map (pair_behind prefix) couples.now }
 {
-    let groups = couples.len() / 4;
+    let groups = couples.len() / 8;
     'groups: for group in 0..groups {
-        put_pairs(prefix, couples, digests, 4 * group);
+        let first = 8 * group;
+        put_pairs::<8>(
+            prefix,
+            &couples[first..first + 8],
+            &mut digests[first..first + 8],
+        );
     }
-    'rest: for place in 4 * groups..couples.len() {
+    let mut done = 8 * groups;
+    if couples.len() - done >= 4 {
+        put_pairs::<4>(
+            prefix,
+            &couples[done..done + 4],
+            &mut digests[done..done + 4],
+        );
+        done += 4;
+    }
+    'rest: for place in done..couples.len() {
         let (left, right) = couples[place];
         digests[place] = digest_of_pair(prefix, left, right);
     }

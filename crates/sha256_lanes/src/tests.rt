@@ -1,7 +1,8 @@
-//! Vectors of FIPS 180-4, in every lane.
+//! Vectors of FIPS 180-4 in every lane, and runs against their messages one by one.
 
-use crate::messages::four_messages;
-use crate::pairs::four_pairs;
+ghost use Rattle.std.specs.Prelude.{◌≤◌, ◌<◌};
+
+use crate::{digest_of_message, digest_of_pair, digests_of_messages, digests_of_pairs};
 use std::test::Fail;
 
 // The digest of no bytes.
@@ -42,43 +43,151 @@ const ONES: [u8; 32] = [
 
 const LONG: &[u8] = b"abcdbcdecdefdefgefghfghighijhijkijkljklmklmnlmnomnopnopq";
 
+// Whether a run of thirteen messages, these two by turns, has these two digests by turns: a group of eight, one of
+// four, and one more.
+pub(crate) fn are_hashed(prefix: Option<u8>, two: [&[u8]; 2], wanted: [[u8; 32]; 2]) -> bool {
+    for turned in 0..2 {
+        let mut messages: [&[u8]; 13] = [&[]; 13];
+        for place in 0..13 {
+            messages[place] = two[(place + turned) % 2];
+        }
+        let mut digests = [[0u8; 32]; 13];
+        digests_of_messages(prefix, &messages, &mut digests);
+        for place in 0..13 {
+            if digests[place] != wanted[(place + turned) % 2] {
+                return false;
+            }
+        }
+    }
+    true
+}
+
+// Whether a run of thirteen pairs, these two by turns, has these two digests by turns.
+pub(crate) fn are_paired(
+    prefix: Option<u8>,
+    left: [&[u8; 32]; 2],
+    right: [&[u8; 32]; 2],
+    wanted: [[u8; 32]; 2],
+) -> bool {
+    for turned in 0..2 {
+        let mut couples: [(&[u8; 32], &[u8; 32]); 13] = [(left[0], right[0]); 13];
+        for place in 0..13 {
+            let which = (place + turned) % 2;
+            couples[place] = (left[which], right[which]);
+        }
+        let mut digests = [[0u8; 32]; 13];
+        digests_of_pairs(prefix, &couples, &mut digests);
+        for place in 0..13 {
+            if digests[place] != wanted[(place + turned) % 2] {
+                return false;
+            }
+        }
+    }
+    true
+}
+
 #[test]
 fn one_block_in_every_lane(rt: HostRuntime) -> Result<(), Fail> {
-    let (a, b, c, d) = four_messages(b"abc", b"", b"", b"abc");
-    assert_eq!(rt; a, ABC);
-    assert_eq!(rt; b, EMPTY);
-    assert_eq!(rt; c, EMPTY);
-    assert_eq!(rt; d, ABC);
+    assert!(rt; are_hashed(None, [b"abc", b""], [ABC, EMPTY]));
     Ok(())
 }
 
 #[test]
 fn two_blocks_in_every_lane(rt: HostRuntime) -> Result<(), Fail> {
-    let (a, b, c, d) = four_messages(LONG, LONG, LONG, LONG);
-    assert_eq!(rt; a, TWO_BLOCKS);
-    assert_eq!(rt; b, TWO_BLOCKS);
-    assert_eq!(rt; c, TWO_BLOCKS);
-    assert_eq!(rt; d, TWO_BLOCKS);
+    assert!(rt; are_hashed(None, [LONG, LONG], [TWO_BLOCKS, TWO_BLOCKS]));
     Ok(())
 }
 
 #[test]
 fn lengths_that_differ(rt: HostRuntime) -> Result<(), Fail> {
-    let (a, b, c, d) = four_messages(b"abc", LONG, &[b'a'; 120], b"");
-    assert_eq!(rt; a, ABC);
-    assert_eq!(rt; b, TWO_BLOCKS);
-    assert_eq!(rt; c, THREE_BLOCKS);
-    assert_eq!(rt; d, EMPTY);
+    assert!(rt; are_hashed(None, [b"abc", LONG], [ABC, TWO_BLOCKS]));
+    assert!(rt; are_hashed(None, [&[b'a'; 120], b""], [THREE_BLOCKS, EMPTY]));
     Ok(())
 }
 
 #[test]
 fn pairs_in_every_lane(rt: HostRuntime) -> Result<(), Fail> {
     let (zeros, ones) = ([0; 32], [1; 32]);
-    let (a, b, c, d) = four_pairs(&zeros, &zeros, &zeros, &ones, &zeros, &ones, &zeros, &zeros);
-    assert_eq!(rt; a, ZEROS);
-    assert_eq!(rt; b, ONES);
-    assert_eq!(rt; c, ONES);
-    assert_eq!(rt; d, ZEROS);
+    assert!(rt; are_paired(None, [&zeros, &zeros], [&zeros, &ones], [ZEROS, ONES]));
+    Ok(())
+}
+
+// How long the messages of a run are: short, long, four short ones and four long ones by turns, or all mixed.
+fn length_at(kind: u32, place: usize) -> usize
+    requires { place < 40 }
+    ensures { result ≤ 139 }
+{
+    match kind {
+        0 => place,
+        1 => 60 + place,
+        2 if place % 8 < 4 => place,
+        2 => 60 + place,
+        _ => 100 * (place % 2) + place,
+    }
+}
+
+// The bytes that messages are parts of, no two of them alike.
+fn many_bytes() -> [u8; 200] {
+    let mut bytes = [0u8; 200];
+    for place in 0..200 {
+        bytes[place] = place as u8;
+    }
+    bytes
+}
+
+// Whether runs of 0 to 40 messages have the digests of their messages.
+fn messages_agree(prefix: Option<u8>, kind: u32) -> bool {
+    let bytes = many_bytes();
+    let mut messages: [&[u8]; 40] = [&[]; 40];
+    for place in 0..40 {
+        messages[place] = &bytes[place..place + length_at(kind, place)];
+    }
+    for count in 0..41 {
+        let mut digests = [[0u8; 32]; 40];
+        digests_of_messages(prefix, &messages[..count], &mut digests[..count]);
+        for place in 0..count {
+            if digests[place] != digest_of_message(prefix, messages[place]) {
+                return false;
+            }
+        }
+    }
+    true
+}
+
+// Whether runs of 0 to 40 pairs have the digests of their pairs.
+fn pairs_agree(prefix: Option<u8>) -> bool {
+    let mut row = [[0u8; 32]; 41];
+    for place in 0..41 {
+        row[place] = [place as u8; 32];
+    }
+    let mut couples: [(&[u8; 32], &[u8; 32]); 40] = [(&row[0], &row[0]); 40];
+    for place in 0..40 {
+        couples[place] = (&row[place], &row[place + 1]);
+    }
+    for count in 0..41 {
+        let mut digests = [[0u8; 32]; 40];
+        digests_of_pairs(prefix, &couples[..count], &mut digests[..count]);
+        for place in 0..count {
+            if digests[place] != digest_of_pair(prefix, &row[place], &row[place + 1]) {
+                return false;
+            }
+        }
+    }
+    true
+}
+
+#[test]
+fn runs_of_messages_of_each_length(rt: HostRuntime) -> Result<(), Fail> {
+    for kind in 0..4 {
+        assert!(rt; messages_agree(None, kind));
+        assert!(rt; messages_agree(Some(7), kind));
+    }
+    Ok(())
+}
+
+#[test]
+fn runs_of_pairs_of_each_length(rt: HostRuntime) -> Result<(), Fail> {
+    assert!(rt; pairs_agree(None));
+    assert!(rt; pairs_agree(Some(7)));
     Ok(())
 }

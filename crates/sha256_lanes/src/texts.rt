@@ -1,12 +1,12 @@
-//! Four messages that make one block each with their padding.
+//! Messages that make one block each with their padding.
 
-ghost use Rattle.std.specs.Prelude.{◌≡◌, ℕ, [], ◌∷◌, ◌++◌, ◌+◌, ◌*◌, ◌<◌, ◌≤◌, length, slice_index, slice_index_or};
-ghost use Rattle.sha2.specs.Sha256.{padded_message, sha256, word_at};
-ghost use Rattle.sha256_lanes.specs.Lanes.{AreWords, words};
+ghost use Rattle.std.specs.Prelude.{◌≡◌, ◌++◌, ◌+◌, ◌*◌, ◌<◌, ◌≤◌, length, map};
+ghost use Rattle.std.specs.List.{All};
+ghost use Rattle.sha2.specs.Sha256.{padded_message, word_at};
+ghost use Rattle.sha256_lanes.specs.Lanes.{AreShort};
+ghost use Rattle.sha256_lanes.specs.Runs.{headed_hash, IsShort};
 
-use crate::lanes::{compress_block, initial_states};
-use crate::pairs::digest_in;
-use std::simd::u32x4;
+use crate::states::{put_states, short_states};
 
 // A message and its padding: the message is a head and a tail.
 #[inline(always)]
@@ -37,59 +37,34 @@ fn load_be(block: &[u8; 64], k: usize) -> u32
     ])
 }
 
-// Word `k` of four blocks.
+// The words of a message with its padding.
 #[inline(always)]
-fn load_four(a: &[u8; 64], b: &[u8; 64], c: &[u8; 64], d: &[u8; 64], k: usize) -> u32x4
-    requires { k < 16 }
-    ensures { (j : ℕ) → j < 4 → slice_index result j
-        ≡ word_at (slice_index_or (a.now ∷ b.now ∷ c.now ∷ d.now ∷ []) j []) (4 * k) }
+fn text_words(head: &[u8], tail: &[u8]) -> [u32; 16]
+    requires { length head.now + length tail.now ≤ 55 }
+    ensures { AreShort (head.now ++ tail.now) result }
 {
-    u32x4::from_array([load_be(a, k), load_be(b, k), load_be(c, k), load_be(d, k)])
-}
-
-// The words of four blocks.
-#[inline(always)]
-fn load_blocks(a: &[u8; 64], b: &[u8; 64], c: &[u8; 64], d: &[u8; 64]) -> [u32x4; 16]
-    ensures { (j : ℕ) → j < 4
-        → AreWords (slice_index_or (a.now ∷ b.now ∷ c.now ∷ d.now ∷ []) j []) (words j result) }
-{
-    let mut w = [u32x4::splat(0); 16];
+    let block = block_of(head, tail);
+    let mut w = [0u32; 16];
     'load: for k in 0..16 {
-        let word = load_four(a, b, c, d, k);
-        w[k] = word;
+        w[k] = load_be(&block, k);
     }
     w
 }
 
-/// Hashes four messages of at most 55 bytes each, a head and a tail of each lane. The tails may differ in length.
+/// Writes the digests of so many messages as there are lanes, each of at most 55 bytes behind the same head.
 #[inline(always)]
-pub fn four_texts(
-    head: &[u8],
-    a: &[u8],
-    b: &[u8],
-    c: &[u8],
-    d: &[u8],
-) -> ([u8; 32], [u8; 32], [u8; 32], [u8; 32])
-    requires a { length head.now + length a.now ≤ 55 }
-    requires b { length head.now + length b.now ≤ 55 }
-    requires c { length head.now + length c.now ≤ 55 }
-    requires d { length head.now + length d.now ≤ 55 }
-    ensures a { result.0 ≡ sha256 (head.now ++ a.now) }
-    ensures b { result.1 ≡ sha256 (head.now ++ b.now) }
-    ensures c { result.2 ≡ sha256 (head.now ++ c.now) }
-    ensures d { result.3 ≡ sha256 (head.now ++ d.now) }
+pub fn put_texts<const LANES: usize>(head: &[u8], messages: &[&[u8]], digests: &mut [[u8; 32]])
+    requires lanes { LANES ≤ 8 }
+    requires messages { length messages.now ≡ LANES }
+    requires digests { length digests.old ≡ LANES }
+    requires short { All (IsShort head.now) messages.now }
+    ensures { digests.new ≡ map (headed_hash head.now) messages.now }
 {
-    let blocks = load_blocks(
-        &block_of(head, a),
-        &block_of(head, b),
-        &block_of(head, c),
-        &block_of(head, d),
-    );
-    let states = compress_block(blocks, initial_states());
-    (
-        digest_in(&states, 0),
-        digest_in(&states, 1),
-        digest_in(&states, 2),
-        digest_in(&states, 3),
-    )
+    let mut words = [[0u32; 16]; LANES];
+    'load: for lane in 0..LANES {
+        let block = text_words(head, messages[lane]);
+        words[lane] = block;
+    }
+    let states = short_states(&words);
+    put_states(&states, digests);
 }

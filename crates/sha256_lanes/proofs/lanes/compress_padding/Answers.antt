@@ -1,21 +1,12 @@
-use Rattle.std.proofs.Common.{◌≡◌, ◌*◌, ◌∙◌, ap, arith, refl}
-use Rattle.sha2.specs.Sha256.{add_state, compress, rounds}
-use Rattle.sha256_lanes.specs.Lanes.{lane, pad_schedule}
+use Rattle.std.proofs.Common.{◌≡◌, [], arith, rules, slice_index_or}
+use Rattle.sha2.specs.Sha256.{compress}
+use Rattle.sha256_lanes.specs.Lanes.{pad}
+use Rattle.sha256_lanes.proofs.LaneLemmas.{each_more}
 use Rattle.sha256_lanes.proofs.lanes.compress_padding.Goals as goal
 
-pub rounds-init : goal.rounds-init
-unfolding rounds
-rounds-init c = λ j lt. refl
-
-pub rounds-preserved : goal.rounds-preserved
-rounds-preserved c = λ j lt.
-    let h = lane j c.args.h in
-    let after = rounds h pad_schedule in
-    c.four_padded_steps-next-in-rounds.ensures j lt h (c.four_padded_steps-next.ensures j lt h
-    (c.rounds.invariant j lt)) ∙ ap after (omega arith)
-
-pub returns : goal.returns
-unfolding compress
-returns c = λ j lt.
-    let done : 8 * c.rounds.turn ≡ 64 = omega (arith, c.rounds.auto.turn-end) in
-    c.add_state.ensures j lt ∙ ap (add_state (lane j c.args.h)) (rw done at c.rounds.invariant j lt)
+pub lanes-preserved : goal.lanes-preserved
+lanes-preserved g c = (
+  search rules,
+  each_more (λ j after. after ≡ compress (slice_index_or c.args.states.now j []) pad) c.lanes.after c.lanes.lane _ []
+      (omega arith) c.lanes.invariant.1 c.compress_pad-state.ensures,
+)

@@ -1,7 +1,8 @@
-use Rattle.std.proofs.Common.{◌≡◌, ℕ, ◌*◌, ◌<◌}
-use Rattle.sha2.specs.Sha256.{rounds}
-use Rattle.sha256_lanes.specs.Lanes.{lane, pad_schedule}
+use Rattle.std.proofs.Common.{◌≡◌, ℕ, [], ◌<◌, length, slice_index_or}
+use Rattle.sha2.specs.Sha256.{compress}
+use Rattle.sha256_lanes.specs.Lanes.{pad}
 use Rattle.sha256_lanes.proofs.lanes.compress_padding.Given as goal
 
-abbrev pub invariant-rounds : goal.invariant-rounds
-invariant-rounds l = (j : ℕ) → j < 4 → lane j l.v ≡ rounds (lane j l.h) pad_schedule (8 * l.turn)
+abbrev pub invariant-lanes : goal.invariant-lanes
+invariant-lanes g l = (length l.after ≡ g.row.LANES) × ((j : ℕ) → j < l.lane → slice_index_or l.after j []
+    ≡ compress (slice_index_or l.states j []) pad)

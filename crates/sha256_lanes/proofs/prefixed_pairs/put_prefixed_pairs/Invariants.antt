@@ -1,0 +1,9 @@
+use Rattle.std.proofs.Common.{◌≡◌, ℕ, List, [], ◌∷◌, ◌++◌, ◌<◌, length, slice_index_or}
+use Rattle.std.specs.Borrow.{Bor}
+use Rattle.sha256_lanes.specs.Lanes.{AreLong}
+use Rattle.sha256_lanes.proofs.prefixed_pairs.put_prefixed_pairs.Given as goal
+
+abbrev pub invariant-load : goal.invariant-load
+invariant-load g l = (length l.first ≡ g.row.LANES) × (length l.second ≡ g.row.LANES)
+    × ((d : Bor (List ℕ) × Bor (List ℕ)) (j : ℕ) → j < l.lane → (let couple = slice_index_or l.couples j d in
+    AreLong (l.prefix ∷ couple.0.now ++ couple.1.now) (slice_index_or l.first j []) (slice_index_or l.second j [])))
