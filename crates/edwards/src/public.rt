@@ -151,8 +151,8 @@ fn by_digits<M: WideModulus>(
     whole(sum)
 }
 
-/// Returns the point, added as often as a public scalar says, on which the time depends. It is taken by twice the curve's
-/// coefficient. The scalar may be any number of four words.
+/// Returns the point, added as often as a public scalar says, by twice the curve's coefficient. The time depends on the
+/// scalar, which may be any number of four words.
 pub fn multiple_public<M: WideModulus>(
     twice: Fp256<M>,
     a: Extended<M>,
@@ -177,8 +177,8 @@ pub fn multiple_public<M: WideModulus>(
     )
 }
 
-/// Returns the sum of two points, each added as often as a public scalar says, on which the time depends. It is shorter
-/// than that of two multiples: both are doubled at once.
+/// Returns the sum of two points, each added as often as a public scalar says, by twice the curve's coefficient. The
+/// time depends on the scalars. It is shorter than that of two multiples: both are doubled at once.
 pub fn sum_of_multiples_public<M: WideModulus>(
     twice: Fp256<M>,
     a: Extended<M>,
