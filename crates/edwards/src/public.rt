@@ -12,7 +12,7 @@ ghost use Rattle.edwards.specs.Extended.{Stands, StandsApart};
 ghost use Rattle.edwards.specs.Values.{value};
 
 use crate::extended::{
-    Cached, Extended, doubled, doubled_apart, doubled_of, opposite, plus_cached, plus_cached_apart,
+    Cached, Extended, double_apart, doubled, doubled_of, opposite, plus_cached, plus_cached_apart,
     to_cached, whole, zero,
 };
 use crate::recoding::signed_digits;
@@ -84,33 +84,35 @@ fn with_last_digit<M: WideModulus>(
     }
 }
 
-// Twice a point, and the multiples of two others by a digit each. A double to which nothing is added takes no fourth
-// coordinate, and neither does the last sum.
+// Doubles a point, and adds the multiples of two others by a digit each. A double to which nothing is added takes no
+// fourth coordinate, and neither does the last sum.
 #[inline(always)]
-fn with_digits<M: WideModulus>(
+fn add_digits<M: WideModulus>(
     first: &[Cached<M>; 8],
     second: &[Cached<M>; 8],
-    sum: Extended<M>,
+    sum: &mut Extended<M>,
     i: u8,
     j: u8,
-) -> Extended<M>
+)
     requires first { IsDigit i }
     requires second { IsDigit j }
     ensures { (d : ℕ) (k : IsComplete (number M.P) d) (s t q : Point (number M.P) d k)
         → AreOddMultiples d k s 8 first.now → AreOddMultiples d k t 8 second.now
-        → StandsApart sum q.at
-        → StandsApart result (let group = points (number M.P) d k in
+        → StandsApart sum.old q.at
+        → StandsApart sum.new (let group = points (number M.P) d k in
         group.plus (group.plus (group.plus q q) (signed_multiple (number M.P) d k i s))
         (signed_multiple (number M.P) d k j t)).at }
 {
     if i == 0 && j == 0 {
-        return doubled_apart(&sum);
+        double_apart(sum);
+        return;
     }
-    let twice = doubled_of(&sum);
+    let twice = doubled_of(sum);
     if j == 0 {
-        return with_last_digit(first, twice, i);
+        *sum = with_last_digit(first, twice, i);
+        return;
     }
-    with_last_digit(second, with_digit(first, twice, i), j)
+    *sum = with_last_digit(second, with_digit(first, twice, i), j);
 }
 
 // The place behind the highest digit of two numbers that is not 0.
@@ -146,7 +148,7 @@ fn by_digits<M: WideModulus>(
     let mut i = highest(m, n);
     while i > 0 {
         i -= 1;
-        sum = with_digits(first, second, sum, m[i], n[i]);
+        add_digits(first, second, &mut sum, m[i], n[i]);
     }
     whole(sum)
 }
