@@ -15,8 +15,8 @@ use edwards::{Extended, sum_of_multiples_public};
 /// Four coordinates of a point.
 pub type Four = Extended<Ed25519FpModulus>;
 
-/// Returns the sum of the multiples of two points by two public scalars, on which the time depends. It is taken by twice
-/// the curve's coefficient.
+/// Returns the sum of the multiples of two points by two public scalars, on which the time depends, by twice the
+/// curve's coefficient.
 pub fn sum_of_multiples(twice: Ed25519Fp, a: Four, m: Words, b: Four, n: Words) -> Four
     requires { value twice ≡ 2 * d % p }
     ensures { (s t : Coordinates) → IsOnEd25519 s → IsOnEd25519 t → Stands a s → Stands b t

@@ -91,7 +91,8 @@ module _ {G : Type 0} (g : Group G) (laws : IsCommutativeGroup g) (s t : G) wher
 
 -- the multiple by a digit
 pub by_digit : (p d : ℕ) (k : IsComplete p d) (c : ℕ) (s : Point p d k)
-    → (points p d k).plus (signed_multiple p d k c s) (times (points p d k) (taken c) s) ≡ times (points p d k) (added c) s
+    → (points p d k).plus (signed_multiple p d k c s) (times (points p d k) (taken c) s)
+    ≡ times (points p d k) (added c) s
 unfolding signed_multiple
 by_digit p d k c s =
     elim (cases_lt c 16) [

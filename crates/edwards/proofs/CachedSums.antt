@@ -94,7 +94,8 @@ module _ (p d : ℕ) (c : IsComplete p d) where
   pub whole_stands : (X Y Z : ℕ) (r : Four) → r.x ≡ X * Z % p → r.y ≡ Y * Z % p → r.z ≡ Z * Z % p → r.t ≡ X * Y % p
       → (s : Coordinates) → StandForApart p X Y Z s → FourStand p r s
   whole_stands X Y Z r is_x is_y is_z is_t s of_e = record {
-    some = λ none. product_some p (has_inverses p d c) Z Z of_e.some of_e.some (sym (reduced p r.z (Z * Z) is_z) ∙ none);
+    some = λ none. product_some p (has_inverses p d c) Z Z of_e.some of_e.some
+        (sym (reduced p r.z (Z * Z) is_z) ∙ none);
     first = scaled_by X s.x Z r.x r.z is_x is_z of_e.first;
     second = scaled_by Y s.y Z r.y r.z is_y is_z of_e.second;
     both = reduced p r.t (X * Y) is_t ∙ products p X (s.x * Z) Y (s.y * Z) of_e.first of_e.second

@@ -29,8 +29,8 @@ abbrev pub IsCached : {M : Type 0} {g : Ghosts M} → ℕ → Cached M g → Coo
 IsCached {M} {g} d b a = AreCached (number g.P) d (value b.less) (value b.more) (value b.scale) (value b.cross) a
 
 -- the first n of a list are the multiples of a point by 1, 3, 5 ..
-abbrev pub AreOddMultiples : {M : Type 0} {g : Ghosts M} (d : ℕ) (k : IsComplete (number g.P) d) → Point (number g.P) d k
-    → ℕ → List (Cached M g) → Type 0
+abbrev pub AreOddMultiples : {M : Type 0} {g : Ghosts M} (d : ℕ) (k : IsComplete (number g.P) d)
+    → Point (number g.P) d k → ℕ → List (Cached M g) → Type 0
 AreOddMultiples {M} {g} d k s n table =
     (i : ℕ) (e : Cached M g) → i < n → IsCached d (get_or table i e) (times (points (number g.P) d k) (2 * i + 1) s).at
 

@@ -165,22 +165,19 @@ pub fn doubled<M: WideModulus>(a: Extended<M>) -> Extended<M>
     doubled_of(&a)
 }
 
-/// Returns the double by three coordinates; the fourth is that of the point itself.
-pub fn doubled_apart<M: WideModulus>(a: &Extended<M>) -> Extended<M>
+/// Doubles a point by three coordinates. The fourth stays that of the point itself.
+pub fn double_apart<M: WideModulus>(a: &mut Extended<M>)
     ensures { (d : ℕ) → IsComplete (number M.P) d → (s : Coordinates) → IsOnCurve (number M.P) d s
-        → StandsApart a.now s → StandsApart result (sum (number M.P) d s s) }
+        → StandsApart a.old s → StandsApart a.new (sum (number M.P) d s s) }
 {
     let x = a.x.mul(a.x);
     let y = a.y.mul(a.y);
     let g = y.sub(x);
     let f = a.z.mul(a.z).double().sub(g);
     let e = a.x.mul(a.y).double();
-    Extended {
-        x: e.mul(f),
-        y: g.mul(y.add(x)),
-        z: f.mul(g),
-        t: a.t,
-    }
+    a.x = e.mul(f);
+    a.y = g.mul(y.add(x));
+    a.z = f.mul(g);
 }
 
 /// Returns four times a point of the curve. The double between takes no fourth coordinate.
@@ -188,7 +185,9 @@ pub fn doubled_twice<M: WideModulus>(a: Extended<M>) -> Extended<M>
     ensures { (d : ℕ) → IsComplete (number M.P) d → (s : Coordinates) → IsOnCurve (number M.P) d s
         → Stands a s → (let t = sum (number M.P) d s s in Stands result (sum (number M.P) d t t)) }
 {
-    doubled_of(&doubled_apart(&a))
+    let mut between = a;
+    double_apart(&mut between);
+    doubled_of(&between)
 }
 
 /// Returns a point of which three coordinates stand for it, with the fourth.

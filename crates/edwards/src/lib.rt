@@ -13,6 +13,6 @@ pub use extended::{
     plus_products, scale, zero,
 };
 pub use field::{crossed_products, inverse};
-pub use multiples::{highest_digit, multiple};
+pub use multiples::multiple;
 pub use prepared::{Prepared, plus_prepared};
 pub use public::{multiple_public, sum_of_multiples_public};

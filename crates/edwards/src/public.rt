@@ -12,7 +12,7 @@ ghost use Rattle.edwards.specs.Extended.{Stands, StandsApart};
 ghost use Rattle.edwards.specs.Values.{value};
 
 use crate::extended::{
-    Cached, Extended, doubled, doubled_apart, doubled_of, opposite, plus_cached, plus_cached_apart,
+    Cached, Extended, double_apart, doubled, doubled_of, opposite, plus_cached, plus_cached_apart,
     to_cached, whole, zero,
 };
 use crate::recoding::signed_digits;
@@ -84,33 +84,35 @@ fn with_last_digit<M: WideModulus>(
     }
 }
 
-// Twice a point, and the multiples of two others by a digit each. A double to which nothing is added takes no fourth
-// coordinate, and neither does the last sum.
+// Doubles a point, and adds the multiples of two others by a digit each. A double to which nothing is added takes no
+// fourth coordinate, and neither does the last sum.
 #[inline(always)]
-fn with_digits<M: WideModulus>(
+fn add_digits<M: WideModulus>(
     first: &[Cached<M>; 8],
     second: &[Cached<M>; 8],
-    sum: Extended<M>,
+    sum: &mut Extended<M>,
     i: u8,
     j: u8,
-) -> Extended<M>
+)
     requires first { IsDigit i }
     requires second { IsDigit j }
     ensures { (d : ℕ) (k : IsComplete (number M.P) d) (s t q : Point (number M.P) d k)
         → AreOddMultiples d k s 8 first.now → AreOddMultiples d k t 8 second.now
-        → StandsApart sum q.at
-        → StandsApart result (let group = points (number M.P) d k in
+        → StandsApart sum.old q.at
+        → StandsApart sum.new (let group = points (number M.P) d k in
         group.plus (group.plus (group.plus q q) (signed_multiple (number M.P) d k i s))
         (signed_multiple (number M.P) d k j t)).at }
 {
     if i == 0 && j == 0 {
-        return doubled_apart(&sum);
+        double_apart(sum);
+        return;
     }
-    let twice = doubled_of(&sum);
+    let twice = doubled_of(sum);
     if j == 0 {
-        return with_last_digit(first, twice, i);
+        *sum = with_last_digit(first, twice, i);
+        return;
     }
-    with_last_digit(second, with_digit(first, twice, i), j)
+    *sum = with_last_digit(second, with_digit(first, twice, i), j);
 }
 
 // The place behind the highest digit of two numbers that is not 0.
@@ -146,13 +148,13 @@ fn by_digits<M: WideModulus>(
     let mut i = highest(m, n);
     while i > 0 {
         i -= 1;
-        sum = with_digits(first, second, sum, m[i], n[i]);
+        add_digits(first, second, &mut sum, m[i], n[i]);
     }
     whole(sum)
 }
 
-/// Returns the point, added as often as a public scalar says, on which the time depends. It is taken by twice the curve's
-/// coefficient. The scalar may be any number of four words.
+/// Returns the point, added as often as a public scalar says, by twice the curve's coefficient. The time depends on the
+/// scalar, which may be any number of four words.
 pub fn multiple_public<M: WideModulus>(
     twice: Fp256<M>,
     a: Extended<M>,
@@ -177,8 +179,8 @@ pub fn multiple_public<M: WideModulus>(
     )
 }
 
-/// Returns the sum of two points, each added as often as a public scalar says, on which the time depends. It is shorter
-/// than that of two multiples: both are doubled at once.
+/// Returns the sum of two points, each added as often as a public scalar says, by twice the curve's coefficient. The
+/// time depends on the scalars. It is shorter than that of two multiples: both are doubled at once.
 pub fn sum_of_multiples_public<M: WideModulus>(
     twice: Fp256<M>,
     a: Extended<M>,

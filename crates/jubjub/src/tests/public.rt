@@ -8,7 +8,7 @@ use ark_groups::ff::{Field, UniformRand, Words};
 use rand::SeedableRng;
 use rand::rngs::SmallRng;
 
-// Scalars at the ends, one whose digits are all below 0 but the last, and two that are drawn.
+// Scalars at the ends and at the ends of the digits, and two that are drawn.
 fn scalars() -> [Words; 9] {
     let mut rng = SmallRng::seed_from_u64(17);
     let first = JubjubFr::rand(&mut rng).words();

@@ -8,5 +8,5 @@ pub returns : goal.returns
 returns g c d k s on of_a =
     let p = number g.M.WideModulus.P in
     c.doubled_of.ensures d k (sum p d s s) (sum_closed p d (has_inverses p d k) (complete p d k) s s on on)
-    (c.doubled_apart.ensures d k s on
+    (c.double_apart.ensures d k s on
     (record { some = of_a.some; first = of_a.first; second = of_a.second }))

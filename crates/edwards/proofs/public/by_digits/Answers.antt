@@ -35,7 +35,7 @@ loop-i-preserved g c = (
       let q = before.point in
       record {
         point = (points p d k).plus ((points p d k).plus ((points p d k).plus q q) e) f;
-        stands = c.with_digits-sum.ensures d k s t q first second before.stands;
+        stands = c.add_digits.ensures d k s t q first second before.stands;
         reached = next_reached (points p d k) (points_laws p d k) s t m n i q e f (omega arith) (omega arith)
             (subst (λ j. Reached (points p d k) (points_laws p d k) s t m n j q) next before.reached)
             (by_digit p d k (get_or m i 0) s) (by_digit p d k (get_or n i 0) t);

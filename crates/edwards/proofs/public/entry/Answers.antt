@@ -12,7 +12,8 @@ returns-then-digit-lt16 g c d k s table =
     let digit = c.args.digit in
     let same : 2 * (digit / 2) + 1 ≡ digit = omega (arith, c.requires.odd) in
     let e = c.index-table-digit.result in
-    subst (λ (q : Point p d k). IsCached d (get_or c.args.table.now (digit / 2) e) q.at) (multiple_low p d k digit s c.if-digit-lt16.true)
+    subst (λ (q : Point p d k). IsCached d (get_or c.args.table.now (digit / 2) e) q.at)
+    (multiple_low p d k digit s c.if-digit-lt16.true)
     (subst (λ n. IsCached d (get_or c.args.table.now (digit / 2) e) (times (points p d k) n s).at) same
     (table (digit / 2) e (omega (arith, c.if-digit-lt16.true))))
 

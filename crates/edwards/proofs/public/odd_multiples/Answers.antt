@@ -31,7 +31,8 @@ loop-i-preserved g c =
           let double : Point p d k = (points p d k).plus s s in
           let next : Point p d k = times (points p d k) (2 * (i + 1) - 1) s in
           let of_next : Stands c.plus_cached-last.result next.at =
-          subst (λ (q : Point p d k). Stands c.plus_cached-last.result q.at) (two_more p d k i s (omega (arith, before.auto.i)))
+          subst (λ (q : Point p d k). Stands c.plus_cached-last.result q.at)
+          (two_more p d k i s (omega (arith, before.auto.i)))
           (c.plus_cached-last.ensures d k last.at double.at last.on double.on so_far.0
           (c.to_cached-by.ensures d is_twice double.at (c.doubled.ensures d k s.at s.on of_a))) in
           let same : 2 * (i + 1) - 1 ≡ 2 * i + 1 = omega arith in (

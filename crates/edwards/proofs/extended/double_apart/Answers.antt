@@ -2,7 +2,7 @@ use Rattle.std.proofs.Common.{◌*◌, ◌%◌, refl, ◌∙◌, ap}
 use Rattle.ark_groups.specs.Words.{number}
 use Rattle.edwards.specs.Values.{value}
 use Rattle.edwards.proofs.ExtendedLaws.{Four, double_stands}
-use Rattle.edwards.proofs.extended.doubled_apart.Goals as goal
+use Rattle.edwards.proofs.extended.double_apart.Goals as goal
 
 pub returns : goal.returns
 returns g c d complete s on of_a =
@@ -13,9 +13,9 @@ returns g c d complete s on of_a =
     let G = value c.sub-g.result in
     let H = value c.add.result in
     let r : Four = record {
-      x = value c.mul-3.result;
-      y = value c.mul-4.result;
-      z = value c.mul-5.result;
+      x = value c.mul-a.result;
+      y = value c.mul-a-2.result;
+      z = value c.mul-a-3.result;
       t = E * H % p;
     } in
     let stands = double_stands p d complete
@@ -37,9 +37,9 @@ returns g c d complete s on of_a =
       is_G = c.sub-g.ensures;
       is_H = c.add.ensures;
       joins = record {
-        x = c.mul-3.ensures;
-        y = c.mul-4.ensures;
-        z = c.mul-5.ensures;
+        x = c.mul-a.ensures;
+        y = c.mul-a-2.ensures;
+        z = c.mul-a-3.ensures;
         t = refl;
       };
     }) s on (record { some = of_a.some; first = of_a.first; second = of_a.second; both = refl }) in
