@@ -4,6 +4,7 @@ ghost use Rattle.std.specs.Prelude.{◌≡◌, ℕ, ◌+◌, ◌-◌, ◌*◌, �
 ghost use Rattle.ark_groups.specs.Group.{times};
 ghost use Rattle.ark_groups.specs.Words.{number};
 ghost use Rattle.ark_wide_fields.specs.Choices.{IsMask, ones};
+ghost use Rattle.jubjub.specs.declared.element.Jubjub.{Jubjub};
 ghost use Rattle.jubjub.specs.Elements.{jubjub};
 ghost use Rattle.jubjub.specs.Sums.{total};
 ghost use Rattle.jubjub.specs.Tables.{IsChosen, IsNothing, entry_at, row_of, rows_of};
