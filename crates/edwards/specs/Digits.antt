@@ -20,6 +20,7 @@ pub record IsDigit (c : ℕ) : Type 0 where
   pub below : c < 32
   pub odd : 0 < c → c % 2 ≡ 1
 
+-- each is 0, or odd and below 32
 abbrev pub AreDigits : List ℕ → Type 0
 AreDigits digits = (k : ℕ) → IsDigit (slice_index digits k)
 
