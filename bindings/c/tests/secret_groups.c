@@ -11,6 +11,7 @@
 
 /* crates/secret_calls */
 void secret_key(uint8_t key[64], const uint8_t secret[32]);
+int32_t secret_key_by_table(uint8_t key[64], const uint8_t secret[32]);
 void secret_response(uint8_t response[32], const uint8_t nonce[32], const uint8_t secret[32], const uint8_t challenge[32]);
 void secret_encrypted(uint8_t part[64], const uint8_t randomness[32]);
 void secret_decrypted(uint8_t message[64], const uint8_t secret[32]);
@@ -27,6 +28,19 @@ static int same(void (*call)(uint8_t out[64], const uint8_t scalar[32]), uint8_t
     call(hidden, scalar);
     PUBLIC(hidden);
     return memcmp(open, hidden, 64) == 0;
+}
+
+static void key_by_table(uint8_t key[64], const uint8_t secret[32]) {
+    if (secret_key_by_table(key, secret) != 0)
+        memset(key, 0, 64);
+}
+
+/* The key by the table is the key without one. */
+static int by_table(void) {
+    uint8_t one[64], other[64], scalar[32] = {255, 1, 2, 3};
+    secret_key(one, scalar);
+    key_by_table(other, scalar);
+    return memcmp(one, other, 64) == 0 && same(key_by_table, 7, 0) && same(key_by_table, 255, 14);
 }
 
 static int key(void) { return same(secret_key, 7, 0) && same(secret_key, 255, 14); }
@@ -59,6 +73,7 @@ static const struct {
     int (*call)(void);
 } CALLS[] = {
     {"key", key},
+    {"by_table", by_table},
     {"response", response},
     {"encrypted", encrypted},
     {"decrypted", decrypted},

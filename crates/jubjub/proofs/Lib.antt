@@ -4,6 +4,7 @@ pub mod PointTests
 pub mod Spelled
 pub mod ItemBytes
 pub mod Totals
+pub mod TableRows
 pub mod Decoded
 pub mod Drawn
 pub mod CompressedFacts

@@ -3,11 +3,11 @@
 use crate::samples::power;
 use ark_base::error::Error;
 use ark_groups::digest::ByteDigest;
-use ark_groups::ec::AdditiveGroup;
+use ark_groups::ec::{AdditiveGroup, FixedBaseGroup};
 use ark_groups::ff::Field;
 use ark_schemes::prf::Blake2s256;
 use ark_signatures::signature::SignatureScheme;
-use ark_signatures::signature::schnorr::{Parameters, Schnorr, Signature};
+use ark_signatures::signature::schnorr::{Parameters, PreparedParameters, Schnorr, Signature};
 use jubjub::Jubjub;
 use rand::rngs::SmallRng;
 use rand::{Rng, SeedableRng};
@@ -76,5 +76,25 @@ fn what_is_signed_is_valid(rt: HostRuntime) {
     );
     assert!(rt;
         is_valid::<Jubjub, Blake2s256, SmallRng>(alloc, &mut rng, b"Bad", &[9; 32]) == Ok(false)
+    );
+}
+
+// Whether what is signed by a table of the generator is valid.
+fn is_valid_by_table<C: FixedBaseGroup, D: ByteDigest, R: Rng>(
+    alloc: Global,
+    rng: &mut R,
+) -> Result<bool, Error> {
+    let pp = Schnorr::<C, D>::setup(alloc, rng)?;
+    let prepared = PreparedParameters::new(alloc, &pp)?;
+    let (pk, sk) = prepared.keygen(rng);
+    let signature = prepared.sign::<D, R>(alloc, &sk, TEXT, rng)?;
+    Schnorr::<C, D>::verify(alloc, &pp, &pk, TEXT, &signature)
+}
+
+#[test]
+fn what_is_signed_by_a_table_is_valid(rt: HostRuntime) {
+    let mut rng = SmallRng::seed_from_u64(43);
+    assert!(rt;
+        is_valid_by_table::<Jubjub, Blake2s256, SmallRng>(rt.alloc(), &mut rng) == Ok(true)
     );
 }

@@ -2,9 +2,10 @@
 //! undefined. They stand in no library that is handed out, and promise nothing beyond what they call.
 #![tactic(auto)]
 
-use ark_groups::ec::AdditiveGroup;
+use ark_groups::ec::{AdditiveGroup, FixedBaseGroup};
 use ark_groups::ff::Field;
 use jubjub::{Jubjub, JubjubFr};
+use std::alloc::Global;
 
 fn scalar(bytes: &[u8; 32]) -> JubjubFr {
     JubjubFr::from_le_bytes_mod_order(bytes)
@@ -14,6 +15,19 @@ fn scalar(bytes: &[u8; 32]) -> JubjubFr {
 #[unsafe(no_mangle)]
 pub extern "C" fn secret_key(key: &mut [u8; 64], secret: &[u8; 32]) {
     *key = AdditiveGroup::mul(Jubjub::generator(), scalar(secret)).to_bytes();
+}
+
+/// Writes the public key of a secret key, as Schnorr's parameters with a table of the generator make it. Returns 0, or 1
+/// where memory is refused.
+#[unsafe(no_mangle)]
+pub extern "C" fn secret_key_by_table(alloc: Global, key: &mut [u8; 64], secret: &[u8; 32]) -> i32 {
+    match Jubjub::generator().table(alloc) {
+        Ok(table) => {
+            *key = Jubjub::mul_by_table(&table, scalar(secret)).to_bytes();
+            0
+        }
+        Err(_) => 1,
+    }
 }
 
 /// Writes Schnorr's response k - x e for a nonce k, a secret key x and a challenge e.

@@ -1,12 +1,15 @@
-//! Multiples by public scalars, and sums of two, beside those that hide their scalars.
+//! Multiples by public scalars, sums of two, and multiples by tables, beside those that need no table.
 
 use crate::element::Jubjub;
 use crate::fr::JubjubFr;
 use crate::multiple::order_of_subgroup;
 use crate::tests::{largest, last, small};
+use ark_base::error::Error;
+use ark_groups::ec::{AdditiveGroup, FixedBaseGroup};
 use ark_groups::ff::{Field, UniformRand, Words};
 use rand::SeedableRng;
 use rand::rngs::SmallRng;
+use std::alloc::Global;
 
 // Scalars at the ends and at the ends of the digits, and two that are drawn.
 fn scalars() -> [Words; 9] {
@@ -44,4 +47,36 @@ fn public_scalars_agree_with_secret_ones(rt: HostRuntime) {
         assert!(rt; agrees(b, all[i], b, all[i]));
         assert!(rt; agrees(b, all[i], b.neg(), all[i]));
     }
+}
+
+// Whether multiples by an element's table are its multiples.
+fn agree_by_table<G: FixedBaseGroup>(
+    alloc: Global,
+    element: G,
+    scalars: &[G::ScalarField],
+) -> Result<bool, Error> {
+    let table = element.table(alloc)?;
+    for s in scalars {
+        if G::mul_by_table(&table, *s) != element.mul(*s) {
+            return Ok(false);
+        }
+    }
+    Ok(true)
+}
+
+#[test]
+fn tables_agree_with_multiples(rt: HostRuntime) {
+    let mut rng = SmallRng::seed_from_u64(18);
+    let drawn = JubjubFr::rand(&mut rng);
+    let scalars = [
+        JubjubFr::zero(),
+        JubjubFr::one(),
+        JubjubFr::one().neg(),
+        JubjubFr::from_u64(16),
+        JubjubFr::from_u64(u64::MAX),
+        drawn,
+    ];
+    let element = Jubjub::generator().mul(small(29));
+    assert!(rt; agree_by_table(rt.alloc(), element, &scalars) == Ok(true));
+    assert!(rt; agree_by_table(rt.alloc(), Jubjub::zero(), &scalars) == Ok(true));
 }

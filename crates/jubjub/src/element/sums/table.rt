@@ -132,7 +132,6 @@ fn with_digit(sum: JubjubSum, multiples: &[Jubjub], first: usize, digit: usize) 
 fn parted(a: Words) -> (usize, Words)
     ensures digit { result.0 < 16 }
     ensures whole { result.0 + 16 * number result.1 ≡ number a }
-    ensures fits { number a < 2 ^ 256 }
 {
     let rest = Words {
         w0: a.w0 / 16 + a.w1 % 16 * (1 << 60),
@@ -145,7 +144,8 @@ fn parted(a: Words) -> (usize, Words)
 
 // The multiple by a scalar, from the rows of an element.
 fn multiple_by(multiples: &[Jubjub], scalar: Words) -> JubjubSum
-    requires { length multiples.now ≡ 960 }
+    requires length { length multiples.now ≡ 960 }
+    requires fits { number scalar < 2 ^ 256 }
     ensures { (x : Jubjub) → multiples.now ≡ rows_of 64 x
         → total result ≡ times jubjub (number scalar) x }
 {
