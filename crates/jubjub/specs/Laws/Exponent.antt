@@ -1,8 +1,7 @@
 -- In a group that is told apart by fewer numbers than 24 r, where an element has the order 8 r and is no double, 8 r
 -- times each element is zero: else the sums of multiples of both were too many.
-use Rattle.std.proofs.Common.{◌≡◌, ℕ, zero, suc, ◌+◌, ◌-◌, ◌*◌, ◌/◌, ◌%◌, ◌<◌, ◌≤◌, sym, ◌∙◌, ap, ap₂, arith, mod-lt}
-use Rattle.std.proofs.Common.{div-add-mod', mul_comm, ◌⊎◌, inl, inr, ⊎_elim, refl, lit<}
-use Rattle.std.proofs.Math.Nat.{div-lt_iff_lt-mul}
+use Rattle.std.proofs.Common.{◌≡◌, ℕ, zero, suc, ◌+◌, ◌-◌, ◌*◌, ◌/◌, ◌%◌, ◌<◌, ◌≤◌, sym, ◌∙◌, ap, ap₂, arith}
+use Rattle.std.proofs.Common.{div-add-mod', mul_comm, ⊎_elim}
 use Rattle.std.proofs.lemmas.Bool.{cases_lt, cases_eq}
 use Rattle.number_facts.proofs.Pigeonhole.{Apart, taken}
 use Rattle.ark_groups.specs.Group.{Group, IsCommutativeGroup, times}
