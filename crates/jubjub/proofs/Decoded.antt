@@ -96,21 +96,10 @@ tested_found : (a : Coordinates) (t : Bool) (inside : t ≡ true → IsInSubgrou
 tested_found a true inside is e made = ap (λ x. Some x) (same_element _ e (kept a (inside refl) ∙ sym made))
 tested_found a false inside is e made = absurd (true≢false (sym is))
 
-tested_none : (a : Coordinates) (t : Bool) (inside : t ≡ true → IsInSubgroup a) → t ≡ false
-    → tested_element a t inside ≡ None
-tested_none a true inside is = absurd (true≢false is)
-tested_none a false inside is = refl
-
 pub element_found_with : (a : Coordinates) → IsInSubgroup a → (e : Jubjub) → coordinates e ≡ a → element_with a ≡ Some e
 unfolding element_with
 element_found_with a s e made =
     tested_found a (is_in_subgroup a) (λ t. (in_subgroup-Decides a).0 t) ((in_subgroup-Decides a).1 s) e made
-
-pub no_element_with : (a : Coordinates) → (IsInSubgroup a → ⊥) → element_with a ≡ None
-unfolding element_with
-no_element_with a outside =
-    tested_none a (is_in_subgroup a) (λ t. (in_subgroup-Decides a).0 t)
-    (refuted (is_in_subgroup a) (λ t. outside ((in_subgroup-Decides a).0 t)))
 
 pub zero_at-Decides : (a : Coordinates) → Decides (is_zero_at a) (a ≡ neutral)
 zero_at-Decides a = (
@@ -146,9 +135,6 @@ module _ (y parity : ℕ) where
     otherwise some =
         over ∙ ap (λ b. if b then None else element_with (cleared y x))
         (refuted (is_zero_at (cleared y x)) (λ t. some ((zero_at-Decides (cleared y x)).0 t)))
-
-    pub outside_over : (cleared y x ≡ neutral → ⊥) → (IsInSubgroup (cleared y x) → ⊥) → cleared_over y parity ≡ None
-    outside_over some outside = otherwise some ∙ no_element_with (cleared y x) outside
 
     pub found_over : (cleared y x ≡ neutral → ⊥) → IsInSubgroup (cleared y x) → (e : Jubjub)
         → coordinates e ≡ cleared y x → cleared_over y parity ≡ Some e

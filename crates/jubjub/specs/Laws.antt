@@ -14,3 +14,7 @@ pub mod SameFirst
 pub mod PrimeOrder
 pub mod Covering
 pub mod Generates
+pub mod Exponent
+pub mod Doubles
+pub mod Whole
+pub mod Cofactor

@@ -4,7 +4,7 @@ use Rattle.ark_groups.specs.Group.{times}
 pub use Rattle.edwards_numbers.specs.Curves.{IsCommutativeGroupOn}
 use Rattle.jubjub.specs.declared.element.Jubjub.{Jubjub}
 use Rattle.jubjub.specs.Edwards.{Coordinates, cross, over}
-use Rattle.jubjub.specs.Jubjub.{p, d, order, IsOnJubjub, IsInSubgroup}
+use Rattle.jubjub.specs.Jubjub.{p, d, order, curve, IsOnJubjub, IsInSubgroup}
 use Rattle.jubjub.specs.Elements.{coordinates, jubjub, base}
 
 -- a quotient times its divisor is the dividend, modulo p, if p does not divide the divisor
@@ -15,6 +15,10 @@ QuotientsAreRight = (a b : ℕ) → (b % p ≡ 0 → ⊥) → over p a b * b % p
 abbrev pub IsComplete : Type 0
 IsComplete = (a b : Coordinates) → IsOnJubjub a → IsOnJubjub b
     → ((1 + cross d a b) % p ≡ 0 → ⊥) × ((1 + (p - cross d a b % p)) % p ≡ 0 → ⊥)
+
+-- eight times each point of the curve is in the subgroup
+abbrev pub CofactorClears : Type 0
+CofactorClears = (a : Coordinates) → IsOnJubjub a → IsInSubgroup (times curve 8 a)
 
 -- an element is its coordinates: these are in the subgroup, each pair in it is one element's, and no other's
 pub record ElementsAreCoordinates : Type 0 where

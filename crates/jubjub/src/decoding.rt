@@ -8,8 +8,7 @@ ghost use Rattle.jubjub.specs.Values.{value};
 
 use crate::extended::coefficient;
 use ark_groups::ff::Field;
-use ark_wide_fields::{Bls12_381Fr, is_odd, is_zero, square_root};
-use edwards::inverse;
+use ark_wide_fields::{Bls12_381Fr, is_odd, is_zero, prime_inverse, square_root};
 
 // The root of the given parity, by one of the two roots. `None` where the roots are 0 and the parity is odd.
 fn of_parity(root: Bls12_381Fr, odd: bool) -> Option<Bls12_381Fr>
@@ -35,7 +34,7 @@ fn square_over(y: Bls12_381Fr) -> Bls12_381Fr
     let square = y.mul(y);
     let numerator = square.sub(Bls12_381Fr::one());
     let denominator = Bls12_381Fr::one().add(coefficient().mul(square));
-    numerator.mul(inverse(denominator))
+    numerator.mul(prime_inverse(denominator))
 }
 
 /// Returns the first coordinate of this parity of a point over y. `None` where there is no such point.

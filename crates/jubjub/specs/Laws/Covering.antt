@@ -20,7 +20,7 @@ module _ {G : Type 0} (g : Group G) (laws : IsCommutativeGroup g) where
   cancel u v w e = sym (back u w) ∙ ap (g.plus (g.opposite w)) e ∙ back v w
 
   -- a multiple is the multiple by the difference, and the rest
-  parted : (m n : ℕ) (x : G) → n ≤ m → times g m x ≡ g.plus (times g (m - n) x) (times g n x)
+  pub parted : (m n : ℕ) (x : G) → n ≤ m → times g m x ≡ g.plus (times g (m - n) x) (times g n x)
   parted m n x l = ap (λ k. times g k x) (whole m n l) ∙ times-add laws (m - n) n x
     where
       whole : (m n : ℕ) → n ≤ m → m ≡ m - n + n

@@ -10,7 +10,6 @@ use Rattle.std.proofs.lemmas.Bool.{cases_eq, cases_lt}
 use Rattle.number_facts.proofs.CongruenceLaws.{sums, products, without, multiples}
 use Rattle.number_facts.proofs.Units.{no_root}
 use Rattle.ark_wide_fields.specs.Laws.Bls12_381Fr.{prime_factors, seven_generates}
-use Rattle.jubjub.specs.Edwards.{inverse}
 use Rattle.jubjub.specs.Jubjub.{p, d}
 use Rattle.jubjub.specs.Laws.Modulus.{d_is_no_square}
 use Rattle.edwards_numbers.specs.Laws.Quotients.{HasInverses, product_some, cancelled}
@@ -150,8 +149,8 @@ module _ (m d : ℕ) (f : HasInverses m) (y : ℕ) (some : (1 + d * (y * y)) % m
       ∙ sums m (b * b * (1 + d * (y * y))) (a * a * (1 + d * (y * y))) 1 1
       (multiples m (b * b) (a * a) (1 + d * (y * y)) (sym same)) refl ∙ ap (λ t. t % m) (apart a) ∙ on
 
-  module _ (s n c k r : ℕ) (is_s : s ≡ y * y % m) (is_n : n ≡ (s + (m - 1)) % m) (is_c : c ≡ d * s % m)
-      (is_k : k ≡ (1 + c) % m) (is_r : r ≡ n * inverse m k % m) where
+  module _ (s n c k : ℕ) (is_s : s ≡ y * y % m) (is_n : n ≡ (s + (m - 1)) % m) (is_c : c ≡ d * s % m)
+      (is_k : k ≡ (1 + c) % m) where
     k_is : k % m ≡ (1 + d * (y * y)) % m
     k_is =
         ap (λ t. t % m) is_k ∙ again (1 + c) m
@@ -169,35 +168,40 @@ module _ (m d : ℕ) (f : HasInverses m) (y : ℕ) (some : (1 + d * (y * y)) % m
         whole : (s : ℕ) → s + (m - 1) + 1 ≡ s + 1 * m
         whole s = omega (arith, positive)
 
-    r_times : r * k % m ≡ n % m
-    r_times =
-        ap (λ t. t * k % m) is_r ∙ mul-mod_first (n * inverse m k) k m ∙ ap (λ t. t % m) (turn n (inverse m k) k)
-        ∙ products m n n (k * inverse m k) 1 refl (f.inverts k k_some ∙ sym (mod-eq_of_lt (omega (arith, f.two))))
-        ∙ ap (λ t. t % m) (once n)
-      where
-        turn : (n i k : ℕ) → n * i * k ≡ n * (k * i)
-        turn n i k = omega arith
-
-        once : (n : ℕ) → n * 1 ≡ n
-        once n = omega arith
-
     x_times : (x : ℕ) → x * x * k % m ≡ x * x * (1 + d * (y * y)) % m
     x_times x = products m (x * x) (x * x) k (1 + d * (y * y)) refl k_is
 
-    pub over_from : (x : ℕ) → x * x % m ≡ r → (x * x + 1 + d * x * x * y * y) % m ≡ y * y % m
-    over_from x e =
-        ap (λ t. t % m) (sym (apart x))
-        ∙ sums m (x * x * (1 + d * (y * y))) n 1 1 (sym (x_times x)
-        ∙ multiples m (x * x) r k (e ∙ ap (λ t. t) (sym below)) ∙ r_times) refl ∙ n_is
-      where
-        below : r % m ≡ r
-        below = ap (λ t. t % m) is_r ∙ again (n * inverse m k) m ∙ sym is_r
+    -- the numerator times an inverse of the denominator
+    module _ (r i : ℕ) (inverts : (k ≡ 0 → ⊥) → k * i % m ≡ 1) (is_r : r ≡ n * i % m) where
+      one : k * i % m ≡ 1
+      one = inverts (λ none. k_some (ap (λ t. t % m) none ∙ zero-mod m))
 
-    pub over_square : (x : ℕ) → (x * x + 1 + d * x * x * y * y) % m ≡ y * y % m → x * x % m ≡ r
-    over_square x on =
-        cancelled m f (x * x) r k k_some (x_times x
-        ∙ cancel_one m (x * x * (1 + d * (y * y))) n positive (ap (λ t. t % m) (apart x) ∙ on ∙ sym n_is)
-        ∙ sym r_times) ∙ ap (λ t. t % m) is_r ∙ again (n * inverse m k) m ∙ sym is_r
+      r_times : r * k % m ≡ n % m
+      r_times =
+          ap (λ t. t * k % m) is_r ∙ mul-mod_first (n * i) k m ∙ ap (λ t. t % m) (turn n i k)
+          ∙ products m n n (k * i) 1 refl (one ∙ sym (mod-eq_of_lt (omega (arith, f.two))))
+          ∙ ap (λ t. t % m) (once n)
+        where
+          turn : (n i k : ℕ) → n * i * k ≡ n * (k * i)
+          turn n i k = omega arith
+
+          once : (n : ℕ) → n * 1 ≡ n
+          once n = omega arith
+
+      pub over_from : (x : ℕ) → x * x % m ≡ r → (x * x + 1 + d * x * x * y * y) % m ≡ y * y % m
+      over_from x e =
+          ap (λ t. t % m) (sym (apart x))
+          ∙ sums m (x * x * (1 + d * (y * y))) n 1 1 (sym (x_times x)
+          ∙ multiples m (x * x) r k (e ∙ ap (λ t. t) (sym below)) ∙ r_times) refl ∙ n_is
+        where
+          below : r % m ≡ r
+          below = ap (λ t. t % m) is_r ∙ again (n * i) m ∙ sym is_r
+
+      pub over_square : (x : ℕ) → (x * x + 1 + d * x * x * y * y) % m ≡ y * y % m → x * x % m ≡ r
+      over_square x on =
+          cancelled m f (x * x) r k k_some (x_times x
+          ∙ cancel_one m (x * x * (1 + d * (y * y))) n positive (ap (λ t. t % m) (apart x) ∙ on ∙ sym n_is)
+          ∙ sym r_times) ∙ ap (λ t. t % m) is_r ∙ again (n * i) m ∙ sym is_r
 
 -- ---- Jubjub
 

@@ -13,16 +13,16 @@ use Rattle.jubjub.specs.Laws.Completeness.{complete, jubjub_is_complete}
 
 -- ---- the points on the curve
 
-abbrev Point : Type 0
+abbrev pub Point : Type 0
 Point = curves.Point p d jubjub_is_complete
 
-abbrev points : Group Point
+abbrev pub points : Group Point
 points = curves.points p d jubjub_is_complete
 
-points_laws : IsCommutativeGroup points
+pub points_laws : IsCommutativeGroup points
 points_laws = curves.points_laws p d jubjub_is_complete
 
-at-times : (n : ℕ) (a : Point) → (times points n a).at ≡ times curve n a.at
+pub at-times : (n : ℕ) (a : Point) → (times points n a).at ≡ times curve n a.at
 at-times = curves.at-times p d jubjub_is_complete
 
 -- ---- the prime subgroup

@@ -9,7 +9,7 @@ ghost use Rattle.jubjub.specs.Draws.{element_draw};
 use crate::decoding::first_over;
 use crate::element::Jubjub;
 use crate::extended::{is_neutral, lifted};
-use crate::multiple::{multiple_public, order_of_subgroup};
+use crate::multiple::multiple_public;
 use ark_groups::ff::{UniformRand, Words};
 use ark_wide_fields::Bls12_381Fr;
 use rand::Rng;
@@ -25,17 +25,14 @@ const COFACTOR: Words = Words {
     w3: 0,
 };
 
-/// Returns 8 times the point over y with a first coordinate of this parity. `None` where there is no such point, or
-/// where that is zero or outside the subgroup.
+/// Returns 8 times the point over y with a first coordinate of this parity, which is an element. `None` where there is
+/// no such point, or where that is zero.
 pub fn cleared_over(y: Bls12_381Fr, odd: bool) -> Option<Jubjub>
     ensures { result ≡ cleared_over (value y) (from_bool odd) }
 {
     let x = first_over(y, odd)?;
     let cleared = multiple_public(lifted(x, y), COFACTOR);
     if is_neutral(cleared) {
-        return None;
-    }
-    if !is_neutral(multiple_public(cleared, order_of_subgroup())) {
         return None;
     }
     Some(Jubjub::of_extended(cleared))

@@ -13,7 +13,7 @@ impl FromDigest for Jubjub {
     ghost found_in = { found_in };
 
     /// Returns 8 times the point that the bytes are the compressed bytes of. `None` where they are none of a point, or
-    /// where that is zero or outside the subgroup.
+    /// where that is zero.
     fn from_digest(digest: &[u8; 32]) -> Option<Jubjub> {
         let (y, odd) = told(digest);
         if is_below(y, Bls12_381Fr::modulus()) {

@@ -1,7 +1,7 @@
 use Rattle.std.proofs.Common.{◌+◌, ◌-◌, ◌*◌, ◌%◌, ◌∙◌, ap}
 use Rattle.jubjub.specs.Jubjub.{p, d}
 use Rattle.jubjub.specs.Values.{value}
-use Rattle.jubjub.specs.Laws.Modulus.{has_inverses}
+use Rattle.jubjub.specs.Laws.Modulus.{has_inverses, modulus_is_prime}
 use Rattle.jubjub.specs.Laws.FirstCoordinates.{denominator_some, over_from, over_square}
 use Rattle.jubjub.proofs.decoding.square_over.Goals as goal
 
@@ -11,11 +11,11 @@ returns-clause-point c =
     let s = value c.mul-square.result in
     let n = value c.sub-numerator.result in
     let k = value c.add-denominator.result in
-    over_from p d has_inverses y (denominator_some y) s n (value c.mul.result) k (value c.mul-2.result)
+    over_from p d has_inverses y (denominator_some y) s n (value c.mul.result) k
     c.mul-square.ensures (c.sub-numerator.ensures ∙ ap (λ t. (s + (p - t)) % p) c.one.ensures)
     (c.mul.ensures ∙ ap (λ t. t * s % p) c.coefficient.ensures)
     (c.add-denominator.ensures ∙ ap (λ t. (t + value c.mul.result) % p) c.one-2.ensures)
-    (c.mul-2.ensures ∙ ap (λ t. n * t % p) c.inverse.ensures)
+    (value c.mul-2.result) (value c.prime_inverse.result) (c.prime_inverse.ensures modulus_is_prime) c.mul-2.ensures
 
 pub returns-clause-square : goal.returns-clause-square
 returns-clause-square c =
@@ -23,8 +23,8 @@ returns-clause-square c =
     let s = value c.mul-square.result in
     let n = value c.sub-numerator.result in
     let k = value c.add-denominator.result in
-    over_square p d has_inverses y (denominator_some y) s n (value c.mul.result) k (value c.mul-2.result)
+    over_square p d has_inverses y (denominator_some y) s n (value c.mul.result) k
     c.mul-square.ensures (c.sub-numerator.ensures ∙ ap (λ t. (s + (p - t)) % p) c.one.ensures)
     (c.mul.ensures ∙ ap (λ t. t * s % p) c.coefficient.ensures)
     (c.add-denominator.ensures ∙ ap (λ t. (t + value c.mul.result) % p) c.one-2.ensures)
-    (c.mul-2.ensures ∙ ap (λ t. n * t % p) c.inverse.ensures)
+    (value c.mul-2.result) (value c.prime_inverse.result) (c.prime_inverse.ensures modulus_is_prime) c.mul-2.ensures

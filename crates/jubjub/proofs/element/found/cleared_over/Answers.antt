@@ -1,15 +1,13 @@
 use Rattle.std.proofs.Common.{sym, ◌∙◌, refl}
 use Rattle.std.specs.Int.{from_bool}
-use Rattle.ark_groups.specs.Words.{number}
 use Rattle.ark_groups.specs.Group.{times}
 use Rattle.ark_wide_fields.specs.Laws.Fp256.{wide_below}
 use Rattle.ark_wide_fields.proofs.PowerSteps.{unless}
 use Rattle.jubjub.specs.Edwards.{Coordinates}
-use Rattle.jubjub.specs.Jubjub.{curve, IsInSubgroup}
+use Rattle.jubjub.specs.Jubjub.{curve}
+use Rattle.jubjub.specs.Laws.Cofactor.{cofactor_clears}
 use Rattle.jubjub.specs.Values.{value}
-use Rattle.jubjub.proofs.MultiplesOnCurve.{multiple_on_curve}
-use Rattle.jubjub.proofs.GroupLaws.{order_shows}
-use Rattle.jubjub.proofs.Decoded.{none_over, zero_over, outside_over, found_over}
+use Rattle.jubjub.proofs.Decoded.{none_over, zero_over, found_over}
 use Rattle.jubjub.proofs.element.found.cleared_over.Goals as goal
 
 pub returns-in_err-x : goal.returns-in_err-x
@@ -23,40 +21,14 @@ returns-then-is_neutral c =
     let on = c.in_ok-x.ensures.some in
     let a : Coordinates = record { x = x; y = value c.args.y } in
     sym (zero_over (value c.args.y) (from_bool c.args.odd) x on c.in_ok-x.ensures.parity
-    ((c.is_neutral.ensures (times curve 8 a) (multiple_on_curve 8 a on)
+    ((c.is_neutral.ensures (times curve 8 a) (cofactor_clears a on).on_curve
     (c.multiple_public-cleared.ensures a on c.lifted.ensures)).0 c.if-is_neutral.true))
-
-pub returns-then-not-is_neutral : goal.returns-then-not-is_neutral
-returns-then-not-is_neutral c =
-    let x = value c.in_ok-x.x in
-    let on = c.in_ok-x.ensures.some in
-    let a : Coordinates = record { x = x; y = value c.args.y } in
-    let b : Coordinates = times curve 8 a in
-    let on_b = multiple_on_curve 8 a on in
-    let stands = c.multiple_public-cleared.ensures a on c.lifted.ensures in
-    sym (outside_over (value c.args.y) (from_bool c.args.odd) x on c.in_ok-x.ensures.parity
-    (unless c.is_neutral.result (c.is_neutral.ensures b on_b stands) c.if-is_neutral.false)
-    (λ s. unless c.is_neutral-2.result (order_shows b on_b c.multiple_public.result (number c.order_of_subgroup.result)
-    c.is_neutral-2.result c.order_of_subgroup.ensures (c.multiple_public.ensures b on_b stands) c.is_neutral-2.ensures)
-    c.if-not-is_neutral.true s.of_order))
 
 pub of_extended-requires : goal.of_extended-requires
 of_extended-requires c =
-    let x = value c.in_ok-x.x in
     let on = c.in_ok-x.ensures.some in
-    let a : Coordinates = record { x = x; y = value c.args.y } in
-    let b : Coordinates = times curve 8 a in
-    let on_b = multiple_on_curve 8 a on in
-    let stands = c.multiple_public-cleared.ensures a on c.lifted.ensures in (
-      b,
-      record {
-        on_curve = on_b;
-        of_order = (order_shows b on_b c.multiple_public.result (number c.order_of_subgroup.result)
-            c.is_neutral-2.result c.order_of_subgroup.ensures (c.multiple_public.ensures b on_b stands)
-            c.is_neutral-2.ensures).0 c.if-not-is_neutral.false;
-      },
-      stands,
-    )
+    let a : Coordinates = record { x = value c.in_ok-x.x; y = value c.args.y } in
+    (times curve 8 a, cofactor_clears a on, c.multiple_public-cleared.ensures a on c.lifted.ensures)
 
 pub returns : goal.returns
 returns c =
@@ -64,14 +36,8 @@ returns c =
     let on = c.in_ok-x.ensures.some in
     let a : Coordinates = record { x = x; y = value c.args.y } in
     let b : Coordinates = times curve 8 a in
-    let on_b = multiple_on_curve 8 a on in
+    let inside = cofactor_clears a on in
     let stands = c.multiple_public-cleared.ensures a on c.lifted.ensures in
-    let s : IsInSubgroup b = record {
-      on_curve = on_b;
-      of_order = (order_shows b on_b c.multiple_public.result (number c.order_of_subgroup.result)
-          c.is_neutral-2.result c.order_of_subgroup.ensures (c.multiple_public.ensures b on_b stands)
-          c.is_neutral-2.ensures).0 c.if-not-is_neutral.false;
-    } in
     sym (found_over (value c.args.y) (from_bool c.args.odd) x on c.in_ok-x.ensures.parity
-    (unless c.is_neutral.result (c.is_neutral.ensures b on_b stands) c.if-is_neutral.false) s c.of_extended.result
-    (c.of_extended.ensures b s stands))
+    (unless c.is_neutral.result (c.is_neutral.ensures b inside.on_curve stands) c.if-is_neutral.false) inside
+    c.of_extended.result (c.of_extended.ensures b inside stands))
