@@ -32,8 +32,8 @@ pub mod ff {
 /// Groups.
 pub mod ec {
     pub use ark_groups::ec::{
-        Additive, AdditiveGroup, CurveGroup, FromDigest, PrimeOrderGroup, Residues, SWCoordinates,
-        SWPoint, Small, SmallModulus, TECoordinates, TEPoint, ToldByX,
+        Additive, AdditiveGroup, CurveGroup, FixedBaseGroup, FromDigest, PrimeOrderGroup, Residues,
+        SWCoordinates, SWPoint, Small, SmallModulus, TECoordinates, TEPoint, ToldByX,
     };
     pub use ark_schemes::from_label::{elements_of_label, group_hash};
     pub use jubjub;
@@ -102,7 +102,8 @@ pub mod signature {
     /// Schnorr signatures.
     pub mod schnorr {
         pub use ark_signatures::signature::schnorr::{
-            Challenges, Parameters, PublicKey, Schnorr, SecretKey, Signature, bytes_to_bits,
+            Challenges, Parameters, PreparedParameters, PublicKey, Schnorr, SecretKey, Signature,
+            bytes_to_bits,
         };
     }
 }
