@@ -1,6 +1,5 @@
 -- Eight times each point of the curve is in the prime subgroup.
-use Rattle.std.proofs.Common.{◌≡◌, ℕ, ◌+◌, ◌-◌, ◌*◌, ◌%◌, ◌^◌, ◌<◌, refl, sym, ◌∙◌, ap, subst, arith, lit<, mul_comm}
-use Rattle.number_facts.proofs.Units.{power_inverse}
+use Rattle.std.proofs.Common.{◌≡◌, ℕ, ◌+◌, ◌*◌, ◌%◌, ◌<◌, refl, sym, ◌∙◌, ap, subst, arith, lit<, mul_comm}
 use Rattle.ark_groups.specs.Group.{times}
 use Rattle.ark_groups.proofs.Multiples.{times-mul}
 use Rattle.edwards_numbers.specs.Laws.CurveLaws.{same_coordinates}
@@ -11,8 +10,8 @@ use Rattle.jubjub.specs.Laws.Completeness.{jubjub_is_complete}
 use Rattle.jubjub.specs.Laws.Exponent.{zero_for_all}
 use Rattle.jubjub.specs.Laws.FirstCoordinates.{denominator_some, one_square, same_root}
 use Rattle.jubjub.specs.Laws.Modulus.{has_inverses}
-use Rattle.jubjub.specs.Laws.OrderPrime.{base as root, order_factors, order_certificate}
 use Rattle.jubjub.specs.Laws.Points.{Point, points, points_laws, at-times}
+use Rattle.jubjub.specs.Laws.PrimeOrder.{inverse}
 use Rattle.jubjub.specs.Laws.Whole.{whole, full_order}
 
 -- a point's second coordinate, with the parity of the first
@@ -47,10 +46,6 @@ below a = small a.at.y a.at.x a.on.y_below
 few : 2 * p < 8 * order * 3
 unfolding order
 few = lit< tt
-
-inverse : (n : ℕ) → (n % order ≡ 0 → ⊥) → (z : ℕ) × (n * z % order ≡ 1)
-inverse n other =
-    (n ^ (order - 2) % order, power_inverse order root (order - 1) order_factors order_certificate n other)
 
 zero_for_points : (a : Point) → times points (8 * order) a ≡ points.identity
 zero_for_points = zero_for_all points points_laws order inverse whole full_order number (2 * p) tells below few

@@ -9,6 +9,9 @@ use Rattle.number_facts.proofs.Pigeonhole.{Apart, taken}
 use Rattle.ark_groups.specs.Group.{Group, IsCommutativeGroup, times}
 use Rattle.ark_groups.proofs.Multiples.{times-add, times-mul, times-mod}
 
+pub strict : (m n : ℕ) → (m ≡ n → ⊥) → n ≤ m → n < m
+strict m n other l = ⊎_elim {C = n < m} (λ s. s) (λ s. absurd (other (omega (arith, l, s)))) (cases_lt n m)
+
 module _ {G : Type 0} (g : Group G) (laws : IsCommutativeGroup g) where
   back : (u w : G) → g.plus (g.opposite w) (g.plus u w) ≡ u
   back u w =
@@ -20,11 +23,52 @@ module _ {G : Type 0} (g : Group G) (laws : IsCommutativeGroup g) where
   cancel u v w e = sym (back u w) ∙ ap (g.plus (g.opposite w)) e ∙ back v w
 
   -- a multiple is the multiple by the difference, and the rest
-  pub parted : (m n : ℕ) (x : G) → n ≤ m → times g m x ≡ g.plus (times g (m - n) x) (times g n x)
+  parted : (m n : ℕ) (x : G) → n ≤ m → times g m x ≡ g.plus (times g (m - n) x) (times g n x)
   parted m n x l = ap (λ k. times g k x) (whole m n l) ∙ times-add laws (m - n) n x
     where
       whole : (m n : ℕ) → n ≤ m → m ≡ m - n + n
       whole m n l = omega (arith, l)
+
+  -- where no smaller count makes zero of x, no two multiples below s are the same
+  module _ (s : ℕ) (x : G) (least : (n : ℕ) → 0 < n → n < s → times g n x ≡ g.identity → ⊥) where
+    apart_from : (m n : ℕ) → n < m → m < s → times g m x ≡ times g n x → ⊥
+    apart_from m n l h e =
+        least (m - n) (positive m n l) (smaller m n s h)
+        (cancel (times g (m - n) x) g.identity (times g n x)
+        (sym (parted m n x (weak m n l)) ∙ e ∙ sym (laws.left_identity (times g n x))))
+      where
+        weak : (m n : ℕ) → n < m → n ≤ m
+        weak m n l = omega (arith, l)
+
+        positive : (m n : ℕ) → n < m → 0 < m - n
+        positive m n l = omega (arith, l)
+
+        smaller : (m n s : ℕ) → m < s → m - n < s
+        smaller m n s l = omega (arith, l)
+
+    pub apart_below : (m n : ℕ) → m < s → n < s → times g m x ≡ times g n x → m ≡ n
+    apart_below m n h k e =
+        ⊎_elim {C = m ≡ n} (λ s. s)
+        (λ other. ⊎_elim {C = m ≡ n} (λ l. absurd (apart_from n m l k (sym e)))
+        (λ l. absurd (apart_from m n (strict m n other l) h e)) (cases_lt m n))
+        (cases_eq m n)
+
+  -- where s times x is zero, two sums that are the same make the difference of the multiples of y one of x
+  pub solved : (s : ℕ) (x y : G) → times g s x ≡ g.identity → (a b c d : ℕ) → a < s → d < b
+      → g.plus (times g a x) (times g b y) ≡ g.plus (times g c x) (times g d y)
+      → times g (b - d) y ≡ times g (s - a + c) x
+  solved s x y none a b c d h l e =
+      let n : ℕ = b - d in
+      let first : g.plus (times g a x) (times g n y) ≡ times g c x =
+      cancel (g.plus (times g a x) (times g n y)) (times g c x) (times g d y)
+      (laws.assoc (times g a x) (times g n y) (times g d y)
+      ∙ ap (g.plus (times g a x)) (sym (parted b d y (weak d b l))) ∙ e) in
+      sym (laws.left_identity (times g n y)) ∙ ap (λ t. g.plus t (times g n y)) (sym none
+      ∙ parted s a x (weak a s h)) ∙ laws.assoc (times g (s - a) x) (times g a x) (times g n y)
+      ∙ ap (g.plus (times g (s - a) x)) first ∙ sym (times-add laws (s - a) c x)
+    where
+      weak : (m n : ℕ) → m < n → m ≤ n
+      weak m n l = omega (arith, l)
 
   module _ (number : G → ℕ) (p r : ℕ) (tells : (a b : G) → number a ≡ number b → a ≡ b)
       (below : (a : G) → number a < p) (few : p < r * r) (pos : 0 < r)
@@ -39,32 +83,8 @@ module _ {G : Type 0} (g : Group G) (laws : IsCommutativeGroup g) where
         clash n l e = omega (arith, l, e)
 
     -- no two multiples below the order are the same
-    apart_from : (m n : ℕ) → n < m → m < r → times g m x ≡ times g n x → ⊥
-    apart_from m n l h e =
-        some (prime (m - n) x
-        (cancel (times g (m - n) x) g.identity (times g n x)
-        (sym (parted m n x (weak m n l)) ∙ e ∙ sym (laws.left_identity (times g n x))))
-        (not_zero (m - n) (positive m n l) (smaller m n r h)))
-      where
-        weak : (m n : ℕ) → n < m → n ≤ m
-        weak m n l = omega (arith, l)
-
-        positive : (m n : ℕ) → n < m → 0 < m - n
-        positive m n l = omega (arith, l)
-
-        smaller : (m n r : ℕ) → m < r → m - n < r
-        smaller m n r l = omega (arith, l)
-
     pub multiples_apart : (m n : ℕ) → m < r → n < r → times g m x ≡ times g n x → m ≡ n
-    multiples_apart m n h k e =
-        ⊎_elim {C = m ≡ n} (λ s. s)
-        (λ other. ⊎_elim {C = m ≡ n} (λ l. absurd (apart_from n m l k (sym e)))
-        (λ l. absurd (apart_from m n (strict m n other l) h e)) (cases_lt m n))
-        (cases_eq m n)
-      where
-        strict : (m n : ℕ) → (m ≡ n → ⊥) → n ≤ m → n < m
-        strict m n other l =
-            ⊎_elim {C = n < m} (λ s. s) (λ s. absurd (other (omega (arith, l, s)))) (cases_lt n m)
+    multiples_apart = apart_below r x (λ n l h e. some (prime n x e (not_zero n l h)))
 
     module _ (y : G) where
       -- the multiple's count
@@ -82,14 +102,7 @@ module _ {G : Type 0} (g : Group G) (laws : IsCommutativeGroup g) where
           let one = inverse n (not_zero n (positive b d l) (smaller b d r k)) in
           let z = one.0 in
           let m : ℕ = r - a + c in
-          let first : g.plus (times g a x) (times g n y) ≡ times g c x =
-          cancel (g.plus (times g a x) (times g n y)) (times g c x) (times g d y)
-          (laws.assoc (times g a x) (times g n y) (times g d y)
-          ∙ ap (g.plus (times g a x)) (sym (parted b d y (weak b d l))) ∙ e) in
-          let second : times g n y ≡ times g m x =
-          sym (laws.left_identity (times g n y)) ∙ ap (λ t. g.plus t (times g n y)) (sym (of_order x)
-          ∙ parted r a x (weak r a h)) ∙ laws.assoc (times g (r - a) x) (times g a x) (times g n y)
-          ∙ ap (g.plus (times g (r - a) x)) first ∙ sym (times-add laws (r - a) c x) in (
+          let second = solved r x y (of_order x) a b c d h l e in (
             z * m % r,
             mod-lt (z * m) pos,
             times-mod laws r (z * m) x (of_order x) ∙ times-mul laws z m x ∙ ap (times g z) (sym second)
@@ -102,9 +115,6 @@ module _ {G : Type 0} (g : Group G) (laws : IsCommutativeGroup g) where
 
           smaller : (b d r : ℕ) → b < r → b - d < r
           smaller b d r l = omega (arith, l)
-
-          weak : (b d : ℕ) → d < b → d ≤ b
-          weak b d l = omega (arith, l)
 
       -- a multiple below a bound is y, or none is
       decided : (n : ℕ) → n ≤ r → IsMultiple ⊎ ((k : ℕ) → k < n → times g k x ≡ y → ⊥)
@@ -153,10 +163,6 @@ module _ {G : Type 0} (g : Group G) (laws : IsCommutativeGroup g) where
         where
           later : (i j n : ℕ) → i < j → j < n → i < n
           later i j n l h = omega (arith, l, h)
-
-          strict : (m n : ℕ) → (m ≡ n → ⊥) → n ≤ m → n < m
-          strict m n other l =
-              ⊎_elim {C = n < m} (λ s. s) (λ s. absurd (other (omega (arith, l, s)))) (cases_lt n m)
 
           different : (i j : ℕ) → i < j → i / r ≡ j / r → i % r ≡ j % r → ⊥
           different i j l e h =

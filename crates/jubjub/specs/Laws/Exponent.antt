@@ -1,12 +1,12 @@
 -- In a group that is told apart by fewer numbers than 24 r, where an element has the order 8 r and is no double, 8 r
 -- times each element is zero: else the sums of multiples of both were too many.
-use Rattle.std.proofs.Common.{◌≡◌, ℕ, zero, suc, ◌+◌, ◌-◌, ◌*◌, ◌/◌, ◌%◌, ◌<◌, ◌≤◌, sym, ◌∙◌, ap, ap₂, arith}
+use Rattle.std.proofs.Common.{◌≡◌, ℕ, zero, suc, ◌+◌, ◌-◌, ◌*◌, ◌/◌, ◌%◌, ◌<◌, sym, ◌∙◌, ap, ap₂, arith}
 use Rattle.std.proofs.Common.{div-add-mod', mul_comm, ⊎_elim}
 use Rattle.std.proofs.lemmas.Bool.{cases_lt, cases_eq}
 use Rattle.number_facts.proofs.Pigeonhole.{Apart, taken}
 use Rattle.ark_groups.specs.Group.{Group, IsCommutativeGroup, times}
 use Rattle.ark_groups.proofs.Multiples.{times-add, times-mul, times-mod, times-plus, times-identity, right_identity}
-use Rattle.jubjub.specs.Laws.Covering.{cancel, parted}
+use Rattle.jubjub.specs.Laws.Covering.{strict, cancel, apart_below, solved}
 
 -- 8 r times w is zero, 8 times and 4 r times are not, and w is no double
 pub record HasFullOrder {G : Type 0} (g : Group G) (r : ℕ) (w : G) : Type 0 where
@@ -94,33 +94,6 @@ module _ {G : Type 0} (g : Group G) (laws : IsCommutativeGroup g) (r : ℕ)
           less : (n a b : ℕ) → n ≡ a + b → n < a → ⊥
           less n a b h l = omega (arith, h, l)
 
-  -- no two multiples of w below 8 r are the same
-  apart_from : (m n : ℕ) → n < m → m < 8 * r → times g m w ≡ times g n w → ⊥
-  apart_from m n l h e =
-      not_zero (m - n) (positive m n l) (smaller m n (8 * r) h)
-      (cancel g laws (times g (m - n) w) g.identity (times g n w)
-      (sym (parted g laws m n w (weak m n l)) ∙ e ∙ sym (laws.left_identity (times g n w))))
-    where
-      weak : (m n : ℕ) → n < m → n ≤ m
-      weak m n l = omega (arith, l)
-
-      positive : (m n : ℕ) → n < m → 0 < m - n
-      positive m n l = omega (arith, l)
-
-      smaller : (m n s : ℕ) → m < s → m - n < s
-      smaller m n s l = omega (arith, l)
-
-  multiples_apart : (m n : ℕ) → m < 8 * r → n < 8 * r → times g m w ≡ times g n w → m ≡ n
-  multiples_apart m n h k e =
-      ⊎_elim {C = m ≡ n} (λ s. s)
-      (λ other. ⊎_elim {C = m ≡ n} (λ l. absurd (apart_from n m l k (sym e)))
-      (λ l. absurd (apart_from m n (strict m n other l) h e)) (cases_lt m n))
-      (cases_eq m n)
-    where
-      strict : (m n : ℕ) → (m ≡ n → ⊥) → n ≤ m → n < m
-      strict m n other l =
-          ⊎_elim {C = n < m} (λ s. s) (λ s. absurd (other (omega (arith, l, s)))) (cases_lt n m)
-
   -- ---- an element that is not zero 8 r times
 
   module _ (x : G) (some : times g (8 * r) x ≡ g.identity → ⊥) where
@@ -179,16 +152,8 @@ module _ {G : Type 0} (g : Group G) (laws : IsCommutativeGroup g) (r : ℕ)
     sums_differ : (a b c d : ℕ) → a < 8 * r → d < b → b < 3 → sum_of a b ≡ sum_of c d → ⊥
     unfolding sum_of
     sums_differ a b c d h l k e =
-        let n : ℕ = b - d in
-        let s : ℕ = 8 * r in
-        let first : g.plus (times g a w) (times g n x) ≡ times g c w =
-        cancel g laws (g.plus (times g a w) (times g n x)) (times g c w) (times g d x)
-        (laws.assoc (times g a w) (times g n x) (times g d x)
-        ∙ ap (g.plus (times g a w)) (sym (parted g laws b d x (weak b d l))) ∙ e) in
-        no_multiple n (s - a + c) (positive b d l) (smaller b d k)
-        (sym (laws.left_identity (times g n x)) ∙ ap (λ t. g.plus t (times g n x)) (sym full.zero
-        ∙ parted g laws s a w (weak s a h)) ∙ laws.assoc (times g (s - a) w) (times g a w) (times g n x)
-        ∙ ap (g.plus (times g (s - a) w)) first ∙ sym (times-add laws (s - a) c w))
+        no_multiple (b - d) (8 * r - a + c) (positive b d l) (smaller b d k)
+        (solved g laws (8 * r) w x full.zero a b c d h l e)
       where
         positive : (b d : ℕ) → d < b → 0 < b - d
         positive b d l = omega (arith, l)
@@ -196,16 +161,13 @@ module _ {G : Type 0} (g : Group G) (laws : IsCommutativeGroup g) (r : ℕ)
         smaller : (b d : ℕ) → b < 3 → b - d < 3
         smaller b d l = omega (arith, l)
 
-        weak : (b d : ℕ) → d < b → d ≤ b
-        weak b d l = omega (arith, l)
-
     -- so 24 r sums are apart
     apart : (i j : ℕ) → i < j → j < 8 * r * 3 → sum_of (i / 3) (i % 3) ≡ sum_of (j / 3) (j % 3) → ⊥
     unfolding sum_of
     apart i j l h same =
         let in_i : i < 8 * r * 3 = later i j (8 * r * 3) l h in
         ⊎_elim {C = ⊥}
-        (λ even. different i j l (multiples_apart (i / 3) (j / 3) (high i in_i) (high j h)
+        (λ even. different i j l (apart_below g laws (8 * r) w not_zero (i / 3) (j / 3) (high i in_i) (high j h)
         (cancel g laws (times g (i / 3) w) (times g (j / 3) w) (times g (j % 3) x)
         (ap (λ t. sum_of (i / 3) t) (sym even) ∙ same))) even)
         (λ other. ⊎_elim {C = ⊥}
@@ -226,10 +188,6 @@ module _ {G : Type 0} (g : Group G) (laws : IsCommutativeGroup g) (r : ℕ)
 
         later : (i j n : ℕ) → i < j → j < n → i < n
         later i j n l h = omega (arith, l, h)
-
-        strict : (m n : ℕ) → (m ≡ n → ⊥) → n ≤ m → n < m
-        strict m n other l =
-            ⊎_elim {C = n < m} (λ s. s) (λ s. absurd (other (omega (arith, l, s)))) (cases_lt n m)
 
         different : (i j : ℕ) → i < j → i / 3 ≡ j / 3 → i % 3 ≡ j % 3 → ⊥
         different i j l e h = omega (arith, l, e, h)

@@ -1,6 +1,5 @@
 -- Each element is one multiple of the generator below the order, and no other one.
-use Rattle.std.proofs.Common.{◌≡◌, ℕ, ◌-◌, ◌*◌, ◌%◌, ◌^◌, ◌<◌, sym, ◌∙◌, ap, arith, lit<}
-use Rattle.number_facts.proofs.Units.{power_inverse}
+use Rattle.std.proofs.Common.{◌≡◌, ℕ, ◌*◌, ◌<◌, sym, ◌∙◌, ap, arith, lit<}
 use Rattle.jubjub.specs.declared.element.Jubjub.{Jubjub}
 use Rattle.jubjub.specs.Edwards.{Coordinates}
 use Rattle.jubjub.specs.Jubjub.{p, order, base_point}
@@ -10,8 +9,7 @@ use Rattle.jubjub.specs.Laws.Covering.{multiples_apart, is_multiple}
 use Rattle.jubjub.specs.Laws.Elements.{kept}
 use Rattle.jubjub.specs.Laws.Generator.{generator_in_subgroup}
 use Rattle.jubjub.specs.Laws.Group.{jubjub_laws, of_order, at-identity}
-use Rattle.jubjub.specs.Laws.OrderPrime.{base as root, order_factors, order_certificate}
-use Rattle.jubjub.specs.Laws.PrimeOrder.{of_prime_order}
+use Rattle.jubjub.specs.Laws.PrimeOrder.{inverse, of_prime_order}
 use Rattle.jubjub.specs.Laws.SameFirst.{same_first}
 
 -- fewer first coordinates than pairs of multiples
@@ -32,10 +30,6 @@ differs e =
   where
     clash : ◌≡◌ {A = ℕ} base_point.x 0 → ⊥
     clash h = omega (arith, h)
-
-inverse : (n : ℕ) → (n % order ≡ 0 → ⊥) → (z : ℕ) × (n * z % order ≡ 1)
-inverse n other =
-    (n ^ (order - 2) % order, power_inverse order root (order - 1) order_factors order_certificate n other)
 
 below : (e : Jubjub) → (coordinates e).x < p
 below e = e.in_subgroup.on_curve.x_below

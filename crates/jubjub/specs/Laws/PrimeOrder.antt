@@ -11,14 +11,18 @@ use Rattle.jubjub.specs.Elements.{jubjub}
 use Rattle.jubjub.specs.Laws.Group.{jubjub_laws, of_order, modulus_is_order}
 use Rattle.jubjub.specs.Laws.OrderPrime.{base, order_factors, order_certificate}
 
+-- what the order does not divide has an inverse modulo it
+pub inverse : (n : ℕ) → (n % order ≡ 0 → ⊥) → (z : ℕ) × (n * z % order ≡ 1)
+inverse n some =
+    (n ^ (order - 2) % order, power_inverse order base (order - 1) order_factors order_certificate n some)
+
 pub of_prime_order : (n : ℕ) (x : Jubjub) → times jubjub n x ≡ jubjub.identity → (n % order ≡ 0 → ⊥)
     → x ≡ jubjub.identity
 of_prime_order n x zero some =
-    let z : ℕ = n ^ (order - 2) % order in
-    sym (jubjub_laws.left_identity x)
-    ∙ ap (λ k. times jubjub k x) (sym (power_inverse order base (order - 1) order_factors order_certificate n some))
-    ∙ times-mod jubjub_laws order (n * z) x (of_order x) ∙ ap (λ k. times jubjub k x) (mul_comm n z)
-    ∙ times-mul jubjub_laws z n x ∙ ap (times jubjub z) zero ∙ times-identity jubjub_laws z
+    let z = inverse n some in
+    sym (jubjub_laws.left_identity x) ∙ ap (λ k. times jubjub k x) (sym z.1)
+    ∙ times-mod jubjub_laws order (n * z.0) x (of_order x) ∙ ap (λ k. times jubjub k x) (mul_comm n z.0)
+    ∙ times-mul jubjub_laws z.0 n x ∙ ap (times jubjub z.0) zero ∙ times-identity jubjub_laws z.0
 
 -- the same by the modulus of the scalars
 pub prime_order : (n : ℕ) (x : Jubjub) → times jubjub n x ≡ jubjub.identity
