@@ -2,17 +2,16 @@
 use Rattle.std.proofs.Common.{◌≡◌, ℕ, ◌+◌, ◌-◌, ◌<◌, ◌≤◌, List, [], ◌++◌, length, take, drop, get_or, arith, refl, ap, sym, ◌∙◌}
 use Rattle.std.proofs.lemmas.List.{append-nil, drop-drop, length-append, length-take-le, take_all, take_more}
 use Rattle.ark_paths.specs.Pair.{Digest}
-use Rattle.ark_trees.specs.Rfc6962.{node_of}
 use Rattle.ark_base.specs.declared.error.Error.{Error}
 use Rattle.merkle_log.specs.Append.{AppendsAll, Completes, RefusesCarry}
 use Rattle.merkle_log.specs.Stored.{stored_count, row_of, IsStored}
 use Rattle.merkle_log.proofs.Completing.{completes-appends}
 use Rattle.merkle_log.proofs.Growing.{all-next, extends-itself}
-use Rattle.merkle_log.specs.Kept.{front, Keeps, KeepsBy, RefusesAppend}
+use Rattle.merkle_log.specs.Kept.{front, KeepsBy, RefusesAppend}
 use Rattle.merkle_log.specs.Log.{NodeHash}
 use Rattle.merkle_log.proofs.Making.{items, length-items, room-first}
 use Rattle.merkle_log.proofs.Positions.{count-rises}
-use Rattle.merkle_log.proofs.KeptRows.{by-keeps, cut-hashed, cut-lowest, kept-by, keeps-by}
+use Rattle.merkle_log.proofs.KeptRows.{cut-hashed, cut-lowest, kept-by}
 
 -- So many leaves are appended behind the stored digests, and the buffer has so many digests for them.
 pub record Appending (hash : NodeHash) (stored : List Digest) (size : ℕ) (digests old more : List Digest)
@@ -111,9 +110,3 @@ module _ {hash : NodeHash} {leaves kept digests old more : List Digest} {size pl
     keeps = appending-keeps;
     refused = rw (count) refused;
   }
-
-pub appending-end : {leaves kept digests old more : List Digest} {size place made : ℕ} → Appending node_of
-    (take (stored_count size) kept) size digests old more place made → made ≤ length more → place ≡ length digests
-    → length leaves ≡ size → Keeps leaves kept
-    → Keeps (leaves ++ digests) (take (stored_count size) kept ++ take made more)
-appending-end at room all count keeps = by-keeps (appending-all at room (omega arith) count (keeps-by keeps) all)

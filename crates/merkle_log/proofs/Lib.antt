@@ -39,3 +39,4 @@ pub mod Appending
 pub mod Asking
 pub mod Givens
 pub mod KeptPlaces
+pub mod Levels

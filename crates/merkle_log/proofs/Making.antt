@@ -4,13 +4,12 @@ use Rattle.std.proofs.lemmas.Bool.{cases_lt}
 use Rattle.std.proofs.lemmas.List.{length-append, length-take-le, append_assoc, drop-drop, get_or_append_left, get_or-append_right, get_or_push, get_or-take}
 use Rattle.ark_base.specs.Digits.{itself}
 use Rattle.ark_paths.specs.Pair.{Digest}
-use Rattle.ark_trees.specs.Rfc6962.{node_hash, node_of}
 use Rattle.ark_base.specs.declared.error.Error.{Error}
 use Rattle.merkle_log.specs.Append.{Completes, RefusesCarry}
 use Rattle.merkle_log.specs.Log.{NodeHash}
 use Rattle.merkle_log.specs.Stored.{stored_count, position, row_of}
 use Rattle.merkle_log.specs.Walk.{index_up}
-use Rattle.merkle_log.proofs.Completing.{Completing, stored_as, completing-first, completing-front, completing-place, completing-inside, completing-next, completing-refused, completing-end}
+use Rattle.merkle_log.proofs.Completing.{Completing, stored_as, completing-first, completing-place, completing-inside, completing-next, completing-refused, completing-end}
 use Rattle.merkle_log.proofs.Positions.{count-half, count-more, count-rises, length-row_of}
 
 pub map-itself : (digests : List Digest) → map itself digests ≡ digests
@@ -171,45 +170,3 @@ module _ {hash : NodeHash} {kept old more : List Digest} {size made at level lef
       let more = count-more level size (λ l below. below_odd l below) (ap (λ n. n % 2)
       (sym making.completing.left_is) ∙ even) in
       omega (arith, whole, making.count)
-
--- The digest of a left neighbour, which stood there before.
-pub neighbour-stays : {kept old more : List Digest} {size made : ℕ} {digest : Digest} → Making node_of kept size made
-    digest old more (made + 1) 0 size digest → length kept + made ≡ stored_count size → size < 2 ^ 63
-    → stored_count (size + 1) ≤ length kept + length old → size % 2 ≡ 1
-    → get_or (kept ++ more) (position 0 (size - 1)) [] ≡ get_or (items kept made old) (position 0 (size - 1)) []
-neighbour-stays {kept} {old} {more} {size} {made} making whole fits room odd =
-    let place = position 0 (size - 1) in
-    let below = (making-place making whole fits room odd).2 in
-    let long = room-first size in
-    let front : length (items kept made old) ≡ length kept + made = length-items kept old made (omega arith) in
-    read-items kept more (made + 1) place (omega arith)
-    ∙ sym (get_or-take (length (items kept made old)) (items kept (made + 1) more) place [] (omega arith))
-    ∙ ap (λ l. get_or l place []) (completing-front making.completing)
-
--- Its lowest place is known.
-pub making-known : {kept old more next : List Digest} {size made : ℕ} {digest up : Digest} → Making node_of kept size
-    made digest old more (made + 1) 0 size digest → length kept + made ≡ stored_count size → size < 2 ^ 63
-    → stored_count (size + 1) ≤ length kept + length old → size % 2 ≡ 1
-    → up ≡ node_hash (get_or (items kept made old) (position 0 (size - 1)) []) digest
-    → take (made + 1 + 1) next ≡ take (made + 1) more ++ (up ∷ [])
-    → drop (made + 1 + 1) next ≡ drop (made + 1 + 1) more → length next ≡ length more
-    → Making node_of kept size made digest old next (made + 1 + 1) 1 (size / 2) up
-making-known {digest = digest} {up = up} making whole fits room odd known front behind same =
-    making-next making whole fits room odd up _
-    (ap (λ d. Ok (node_hash d digest)) (neighbour-stays making whole fits room odd) ∙ ap Ok (sym known))
-    front behind same
-
--- A leaf's digest stands at its place once it was completed.
-pub completed-leaf : (kept old more : List Digest) (size made at : ℕ) {digest : Digest}
-    → Completes node_of size (items kept made old) digest (items kept at more)
-    → made ≤ length old → length kept + made ≡ stored_count size
-    → get_or (items kept at more) (position 0 size) [] ≡ digest
-completed-leaf kept old more size made at done room whole =
-    let front = length-items kept old made room in
-    let one : (size + 1) * 2 ^ 0 - 1 ≡ size = omega arith in
-    let here : position 0 size ≡ length (items kept made old) = omega (arith, ap stored_count one, whole, front) in
-    ap (λ l. get_or l (position 0 size) []) done.is
-    ∙ get_or-append_right (items kept made old) done.made (length (items kept made old)) (position 0 size) [] refl
-    (omega (arith, here))
-    ∙ ap (λ n. get_or done.made n []) (omega (arith, here))
-    ∙ done.carried.first

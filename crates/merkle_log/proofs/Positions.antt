@@ -50,7 +50,7 @@ some-below zero place = omega arith
 some-below (suc level) place = omega (arith, below-up level place, some-below level place)
 
 -- a place stands before what later leaves complete
-position-next : (level place : ℕ) → position level place < stored_count ((place + 1) * 2 ^ level)
+pub position-next : (level place : ℕ) → position level place < stored_count ((place + 1) * 2 ^ level)
 position-next zero place =
     let e : (place + 1) * 2 ^ 0 ≡ place + 1 = omega arith in
     let f : place + 1 - 1 ≡ place = omega arith in

@@ -14,3 +14,4 @@ pub mod Binding
 pub mod Given
 pub mod Asked
 pub mod Kept
+pub mod Levels

@@ -6,6 +6,8 @@ mod damage;
 #[cfg(test)]
 mod drawn;
 #[cfg(test)]
+mod growth;
+#[cfg(test)]
 mod hasher;
 #[cfg(test)]
 mod model;

@@ -1,0 +1,14 @@
+use Rattle.std.proofs.Common.{◌≡◌, ◌+◌, ◌++◌, length}
+use Rattle.merkle_log.specs.Kept.{stored_front}
+use Rattle.merkle_log.proofs.Levels.{Risen}
+use Rattle.merkle_log.proofs.kept.growth.levels.grow.Given as goal
+
+abbrev pub invariant-levels : goal.invariant-levels
+invariant-levels g l = record {
+  same : length l.more ≡ length l.fn.more;
+  risen : Risen (stored_front (g.R.Rows.stored l.rows) ++ l.more) l.size (l.size + length l.digests) l.digests l.level
+      l.first l.end;
+}
+
+abbrev pub decreases-levels : goal.decreases-levels
+decreases-levels g l = l.end
