@@ -26,5 +26,5 @@ pub use moduli::{
 };
 pub use modulus::WideModulus;
 pub use powers::{is_zero, power, squared};
-pub use prime::{InvertibleField, inverse, inverse_of_some, quotient, square_root};
+pub use prime::{InvertibleField, inverse, quotient, square_root};
 pub use words::{ZERO, is_below, is_nothing, is_odd, low_bits, plus, words_of};
