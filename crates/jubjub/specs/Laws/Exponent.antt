@@ -200,7 +200,8 @@ module _ {G : Type 0} (g : Group G) (laws : IsCommutativeGroup g) (r : ℕ)
     too_many : (x : G) → Apart (8 * r * 3) (number_of x) → ⊥
     unfolding number_of
     too_many x all =
-        let at = taken (8 * r * 3) (number_of x) (λ i h. under (number_of x i) p (8 * r * 3) (within i) few) all p few in
+        let n : ℕ = 8 * r * 3 in
+        let at = taken n (number_of x) (λ i h. under (number_of x i) p n (within i) few) all p few in
         clash (number_of x at.0) p (within at.0) at.2
       where
         within : (i : ℕ) → number_of x i < p
