@@ -40,3 +40,4 @@ pub mod Asking
 pub mod Givens
 pub mod KeptPlaces
 pub mod Levels
+pub mod MadeAhead

@@ -15,3 +15,4 @@ pub mod Given
 pub mod Asked
 pub mod Kept
 pub mod Levels
+pub mod Ahead

@@ -2,6 +2,7 @@
 //! front of another (RFC 6962 and RFC 9162, section 2.1).
 #![tactic(auto)]
 
+mod ahead;
 pub mod bind;
 pub mod consistency;
 mod digests;

@@ -16,6 +16,7 @@ ghost use Rattle.merkle_log.specs.Log.{LogValue, both_levels, inclusion_path, co
 ghost use Rattle.merkle_log.specs.Stored.{row_of, IsStored};
 ghost use Rattle.merkle_log.specs.Verdict.{inclusion_verdict, consistency_verdict};
 
+use crate::ahead::Ahead;
 use crate::bind::{LogBinding, binding_of};
 use crate::digests::copy_of;
 use crate::paths::{consistency_path_of, inclusion_path_of};
@@ -83,38 +84,38 @@ fn append_run<D: DigestItem, W: PairHasher<D, D>>(
     Ok(())
 }
 
-// Puts the digests of leaves behind a list, and hashes the pairs that they complete by a second hasher. An error may leave some
-// of them.
-fn append_each<D: DigestItem, T: TreeHasher<D, D>, W: PairHasher<D, D>>(
+// Puts the digests of leaves behind a list, and hashes the pairs that they complete, a run of leaves at a time; returns how many
+// pairs. An error may leave some of them.
+fn append_each<D: DigestItem, T: TreeHasher<D, D>>(
     alloc: Global,
     hasher: &T,
-    pairs: &mut W,
     stored: &mut Stored<D>,
     leaves: &[T::Leaf],
-) -> Result<(), Error>
+) -> Result<usize, Error>
     requires whole { IsWhole stored.old }
     requires stored { IsStored (T.hashes hasher.now).pair.upper (row_of stored.old) }
-    requires same { (W.pair pairs.old).upper ≡ (T.hashes hasher.now).pair.upper }
     requires fits { stored.old.size < 2 ^ 64 }
-    requires counted { W.counted pairs.old < 2 ^ 64 }
     ensures appended { OnOk result (AppendsLeaves (T.hashes hasher.now) stored.old leaves.now
         stored.new) }
     ensures extends { GrowsTo stored.old stored.new }
     ensures refused { IfErr result (λ error. (error ≡ OutOfMemory)
         ⊎ (all_hashes (T.hashes hasher.now).leaf leaves.now ≡ Err error)
         ⊎ Refuses (T.hashes hasher.now).pair.upper error) }
-    ensures counts { OnOk result (W.counted pairs.new ≡ counted_after (W.counted pairs.old)
-        (pair_count stored.new.size - pair_count stored.old.size)) }
+    ensures counts { IfOk result
+        (λ count. pair_count stored.old.size + count ≡ pair_count stored.new.size) }
     ensures fits { stored.new.size < 2 ^ 64 }
 {
     let mut first = 0;
+    let mut calls = 0;
     'runs: while first < leaves.len() {
         let count = (leaves.len() - first).min(RUN);
         let made = leaf_row(alloc, hasher, part_of(leaves, first, count))?;
-        append_run(alloc, pairs, stored, made)?;
+        let mut pairs = Ahead::new(alloc, hasher, stored.size(), &made)?;
+        append_run(alloc, &mut pairs, stored, made)?;
+        calls += pairs.calls();
         first += count;
     }
-    Ok(())
+    Ok(calls)
 }
 
 impl<D: DigestItem, T: TreeHasher<D, D>> Log<D, T> {
@@ -228,9 +229,8 @@ impl<D: DigestItem, T: TreeHasher<D, D>> Log<D, T> {
     {
         let size = self.stored.size();
         self.stored.reserve(leaves.len())?;
-        let mut pairs = Counting::new(&self.hasher);
-        match append_each(alloc, &self.hasher, &mut pairs, &mut self.stored, leaves) {
-            Ok(()) => Ok(pairs.calls()),
+        match append_each(alloc, &self.hasher, &mut self.stored, leaves) {
+            Ok(count) => Ok(count),
             Err(error) => {
                 self.stored.cut(size);
                 Err(error)

@@ -1,6 +1,4 @@
-use Rattle.std.proofs.Common.{◌≡◌, ◌-◌, length, ap, sym, ◌∙◌}
-use Rattle.merkle_log.specs.Append.{counted_after, pair_count}
-use Rattle.merkle_log.proofs.Counted.{counted-growth}
+use Rattle.std.proofs.Common.{◌≡◌, length, ap, sym, ◌∙◌}
 use Rattle.merkle_log.proofs.Positions.{length-row_of}
 use Rattle.merkle_log.proofs.log.Log.append_many_counting.Goals as goal
 
@@ -11,6 +9,4 @@ returns-in-Ok-clause-count g c =
     let before : length c.args.self.now.digests ≡ old.size =
     sym (ap (λ log. length log.digests) c.self.view_is) ∙ length-row_of c.self.inside.stored 0
     ∙ sym (ap (λ stored. stored.size) c.in_ok-reserve.ensures.same) in
-    let none = ap (λ n. counted_after n (pair_count new.size - pair_count old.size)) c.new-pairs.ensures.none in
-    rw (before, length-row_of new 0) (counted-growth c.calls.result _ old.size new.size c.in-Ok.ensures.extends.size
-    c.in-Ok.ensures.fits c.calls.ensures (c.in-Ok.ensures.counts ∙ none))
+    rw (before, length-row_of new 0) c.in-Ok.ensures.counts
