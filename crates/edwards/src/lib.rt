@@ -12,7 +12,7 @@ pub use extended::{
     Extended, affine, affine_both, affine_by, doubled, doubled_twice, is_neutral, lifted, plus,
     plus_products, scale, zero,
 };
-pub use field::{crossed_products, inverse};
+pub use field::crossed_products;
 pub use multiples::multiple;
 pub use prepared::{Prepared, plus_prepared};
 pub use public::{multiple_public, sum_of_multiples_public};
