@@ -4,6 +4,7 @@
 
 mod blake2s;
 mod bowe_hopwood;
+mod curve;
 mod fields;
 mod logs;
 mod pedersen;

@@ -112,6 +112,17 @@ fn pedersen_hashes<C: AdditiveGroup + DigestItem + Number, W: Window>(
     hashes::<CRH<C, W>>(alloc, &parameters, input, count)
 }
 
+/// Makes parameters of 256 windows of four bits, `count` times. Returns how many lists they had.
+pub fn setups<C: AdditiveGroup + DigestItem>(alloc: Global, count: u64) -> Result<u64, Error> {
+    let mut rng = SmallRng::seed_from_u64(4);
+    let mut lists = 0u64;
+    for _ in 0..count {
+        let parameters = CRH::<C, Wide>::setup(alloc, &mut rng)?;
+        lists = lists.wrapping_add(parameters.generators.len() as u64);
+    }
+    Ok(lists)
+}
+
 // Commitments to an input, `count` times, the first byte being that of the commitment before.
 fn commitments<C: AdditiveGroup + Number, W: Window>(
     alloc: Global,

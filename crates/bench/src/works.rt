@@ -3,7 +3,7 @@
 use crate::poseidon::{Fifth, Seventh};
 use crate::single::Single;
 use crate::{
-    blake2s, bowe_hopwood, fields, logs, pedersen, poseidon, signatures, trees, wide_fields,
+    blake2s, bowe_hopwood, curve, fields, logs, pedersen, poseidon, signatures, trees, wide_fields,
 };
 use ark_crypto_primitives::Error;
 use ark_crypto_primitives::ec::Residues;
@@ -52,7 +52,8 @@ pub fn checksum(alloc: Global, words: &[String]) -> Result<Option<u64>, Error> {
 fn jubjub_checksum(alloc: Global, work: &str, count: u64) -> Result<Option<u64>, Error> {
     match work {
         "hash" | "commitment" => pedersen::jubjub_checksum(alloc, work, count),
-        _ => signatures::signing::<Jubjub, Blake2s256>(alloc, work, count),
+        "sign" | "verify" => signatures::signing::<Jubjub, Blake2s256>(alloc, work, count),
+        _ => curve::checksum(alloc, work, count),
     }
 }
 
