@@ -64,8 +64,3 @@ counted-growth calls counted first last le fits same so =
 
 pub counted-within : (a x n : ℕ) → n ≡ counted_after a x → n < 2 ^ 64
 counted-within a x n is = let le = min-le_right (a + x) 18446744073709551615 in omega arith
-
-pub counted-none : (c n : ℕ) → c < 2 ^ 64 → c ≡ counted_after c (pair_count n - pair_count n)
-counted-none c n fits =
-    let none : 0 ≡ pair_count n - pair_count n = omega arith in
-    counted-same c fits ∙ ap (counted_after c) none
