@@ -199,9 +199,11 @@ fn signs_alike<C: FixedBaseGroup, D: ByteDigest, R: Rng>(
     let made = prepared.sign::<D, R>(alloc, &sk, TEXT, rng)?;
     let (key, secret) = Schnorr::<C, D>::keygen(alloc, pp, twin)?;
     let signature = Schnorr::<C, D>::sign(alloc, pp, &secret, TEXT, twin)?;
-    Ok(pk == key
-        && made.prover_response == signature.prover_response
-        && made.verifier_challenge == signature.verifier_challenge)
+    Ok(
+        pk == key
+            && made.prover_response == signature.prover_response
+            && made.verifier_challenge == signature.verifier_challenge,
+    )
 }
 
 #[test]
@@ -209,12 +211,8 @@ fn parameters_with_a_table_sign_alike(rt: HostRuntime) {
     let mut rng = ChaCha20Rng::seed_from_u64(27);
     let mut twin = ChaCha20Rng::seed_from_u64(27);
     assert!(rt;
-        signs_alike::<G61, Blake2s256, ChaCha20Rng>(
-            rt.alloc(),
-            &parameters(),
-            &mut rng,
-            &mut twin,
-        ) == Ok(true)
+        signs_alike::<G61, Blake2s256, ChaCha20Rng>(rt.alloc(), &parameters(), &mut rng, &mut twin,)
+            == Ok(true)
     );
 }
 
