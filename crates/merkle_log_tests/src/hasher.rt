@@ -13,7 +13,7 @@ use std::alloc::Global;
 pub struct Rfc6962;
 
 // The digest of a one byte, left and right.
-pub fn node_digest(left: &[u8; 32], right: &[u8; 32]) -> [u8; 32]
+fn node_digest(left: &[u8; 32], right: &[u8; 32]) -> [u8; 32]
     ensures { result ≡ sha256 (1 ∷ [] ++ left.now ++ right.now) }
 {
     let mut hasher = Sha256::new();

@@ -6,8 +6,6 @@ mod damage;
 #[cfg(test)]
 mod drawn;
 #[cfg(test)]
-mod growth;
-#[cfg(test)]
 mod hasher;
 #[cfg(test)]
 mod model;
