@@ -93,35 +93,6 @@ module _ (p : ℕ) where
   unfolding SumsUpTo
   sums_up_to-none factors rows start xs = ap (λ n. n % p) (omega arith)
 
-  pub sums_up_to-more : (factors : List ℕ) (rows : List (List ℕ)) (i m : ℕ) (start sum row scaled next : List ℕ)
-      → i < length factors → length factors ≡ length rows → m ≡ get_or factors i 0 → row ≡ get_or rows i []
-      → length row ≤ length sum → SumsUpTo factors rows i start sum → scaled ≡ map (λ x. (x * m) % p) row
-      → next ≡ sums p sum scaled → SumsUpTo factors rows (i + 1) start next
-  unfolding SumsUpTo
-  sums_up_to-more factors rows i m start sum row scaled next within same is_m is_row short so_far is_scaled is_next xs =
-      let product = λ (r : List ℕ). dot_product r xs % p in
-      let front = take i factors in
-      let images = map product (take i rows) in
-      let in_rows : i < length rows = omega (arith, within, same) in
-      let long : length front ≡ length images =
-      length-take i factors ∙ omega (arith, within, in_rows, length-take i rows, length-map (take i rows) product) in
-      let left : dot_product next xs % p ≡ (dot_product sum xs + dot_product scaled xs) % p =
-      ap (λ r. dot_product r xs % p) is_next
-      ∙ dot-sums p sum scaled xs (omega (arith, short, ap length is_scaled, length-map row (λ x. (x * m) % p))) in
-      let one : dot_product scaled xs % p ≡ (m * product row) % p =
-      ap (λ r. dot_product r xs % p) is_scaled ∙ dot-scaled p m row xs ∙ sym (mul-mod_second m (dot_product row xs) p)
-      in
-      let middle : (dot_product sum xs + dot_product scaled xs) % p
-      ≡ (dot_product start xs + dot_product front images + m * product row) % p =
-      same_sum p (dot_product sum xs) (dot_product start xs + dot_product front images) (dot_product scaled xs)
-      (m * product row) (so_far xs) one in
-      let right : dot_product (take (i + 1) factors) (matrix_product p (take (i + 1) rows) xs)
-      ≡ dot_product front images + m * product row =
-      ap₂ dot_product (take_more factors i 0 within ∙ ap (λ n. front ++ n ∷ []) (sym is_m))
-      (map_more product rows i [] in_rows ∙ ap (λ r. images ++ product r ∷ []) (sym is_row))
-      ∙ dot-snoc front images m (product row) long in
-      left ∙ middle ∙ ap (λ n. n % p) (omega (arith, right))
-
   pub sums_up_to-all : (factors : List ℕ) (rows : List (List ℕ)) (i : ℕ) (start sum : List ℕ) → length factors ≤ i
       → length rows ≤ i → SumsUpTo factors rows i start sum → (xs : List ℕ) → dot_product sum xs % p
       ≡ (dot_product start xs + dot_product factors (matrix_product p rows xs)) % p
@@ -190,3 +161,33 @@ module _ (p : ℕ) where
   unfolding UnitsUpTo
   units_up_to-all n i rows all whole xs same below =
       whole xs same below ∙ take_all i xs (omega (arith, all, same))
+
+-- one factor more
+module _ (p : ℕ) (factors : List ℕ) (rows : List (List ℕ)) (same : length factors ≡ length rows) where
+  pub sums_up_to-more : (i m : ℕ) (start sum row scaled next : List ℕ) → i < length factors
+      → m ≡ get_or factors i 0 → row ≡ get_or rows i [] → length row ≤ length sum → SumsUpTo p factors rows i start sum → scaled ≡ map (λ x. (x * m) % p) row
+      → next ≡ sums p sum scaled → SumsUpTo p factors rows (i + 1) start next
+  unfolding SumsUpTo
+  sums_up_to-more i m start sum row scaled next within is_m is_row short so_far is_scaled is_next xs =
+      let product = λ (r : List ℕ). dot_product r xs % p in
+      let front = take i factors in
+      let images = map product (take i rows) in
+      let in_rows : i < length rows = omega (arith, within, same) in
+      let long : length front ≡ length images =
+      length-take i factors ∙ omega (arith, within, in_rows, length-take i rows, length-map (take i rows) product) in
+      let left : dot_product next xs % p ≡ (dot_product sum xs + dot_product scaled xs) % p =
+      ap (λ r. dot_product r xs % p) is_next
+      ∙ dot-sums p sum scaled xs (omega (arith, short, ap length is_scaled, length-map row (λ x. (x * m) % p))) in
+      let one : dot_product scaled xs % p ≡ (m * product row) % p =
+      ap (λ r. dot_product r xs % p) is_scaled ∙ dot-scaled p m row xs ∙ sym (mul-mod_second m (dot_product row xs) p)
+      in
+      let middle : (dot_product sum xs + dot_product scaled xs) % p
+      ≡ (dot_product start xs + dot_product front images + m * product row) % p =
+      same_sum p (dot_product sum xs) (dot_product start xs + dot_product front images) (dot_product scaled xs)
+      (m * product row) (so_far xs) one in
+      let right : dot_product (take (i + 1) factors) (matrix_product p (take (i + 1) rows) xs)
+      ≡ dot_product front images + m * product row =
+      ap₂ dot_product (take_more factors i 0 within ∙ ap (λ n. front ++ n ∷ []) (sym is_m))
+      (map_more product rows i [] in_rows ∙ ap (λ r. images ++ product r ∷ []) (sym is_row))
+      ∙ dot-snoc front images m (product row) long in
+      left ∙ middle ∙ ap (λ n. n % p) (omega (arith, right))

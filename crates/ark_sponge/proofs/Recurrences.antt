@@ -171,17 +171,17 @@ fold-push : {X : Type 0} (f : X → ℕ → X) (a : X) (ks : List ℕ) (k : ℕ)
 fold-push f a [] k = refl
 fold-push f a (j ∷ ks) k = fold-push f (f a j) ks k
 
-pub are_moved-more : (p : ℕ) (mds rows : List (List ℕ)) (i : ℕ) (constants offset row : List ℕ) (constant : ℕ)
-    (next : List ℕ) → 0 < p → 1 ≤ length mds → i < length rows → row ≡ get_or rows i row
-    → AreMoved p mds (take i rows) constants offset → MovesOne p mds row offset constant next
-    → AreMoved p mds (take (i + 1) rows) (constants ++ constant ∷ []) next
-are_moved-more p mds rows i constants offset row constant next some two within is so_far one sbox xs same below =
-    let z = fold (plain_round p sbox mds) xs constants in
-    let step = poseidon_round p sbox mds 1 in
-    ap (λ t. sums p t next) (fold-push (plain_round p sbox mds) xs constants constant)
-    ∙ one sbox z (length-plains p some sbox mds two constants xs same)
-    ∙ ap₂ step (so_far sbox xs same below) is
-    ∙ sym (fold_more step xs rows i row within)
+module _ (p : ℕ) (mds rows : List (List ℕ)) (some : 0 < p) (two : 1 ≤ length mds) where
+  pub are_moved-more : (i : ℕ) (constants offset row : List ℕ) (constant : ℕ) (next : List ℕ) → i < length rows
+      → row ≡ get_or rows i row → AreMoved p mds (take i rows) constants offset
+      → MovesOne p mds row offset constant next → AreMoved p mds (take (i + 1) rows) (constants ++ constant ∷ []) next
+  are_moved-more i constants offset row constant next within is so_far one sbox xs same below =
+      let z = fold (plain_round p sbox mds) xs constants in
+      let step = poseidon_round p sbox mds 1 in
+      ap (λ t. sums p t next) (fold-push (plain_round p sbox mds) xs constants constant)
+      ∙ one sbox z (length-plains p some sbox mds two constants xs same)
+      ∙ ap₂ step (so_far sbox xs same below) is
+      ∙ sym (fold_more step xs rows i row within)
 
 pub are_moved-all : (p : ℕ) (mds rows : List (List ℕ)) (i : ℕ) (constants offset : List ℕ) → length rows ≤ i
     → AreMoved p mds (take i rows) constants offset → AreMoved p mds rows constants offset

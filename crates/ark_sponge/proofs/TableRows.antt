@@ -285,26 +285,27 @@ put_table first mds last xs l0 l1 l2 l3 l4 e0 e1 e2 e3 e4 =
     ∙ append_assoc (flat first) (flat mds) (flat last ++ xs)
 
 -- the three runs, over rows that items reads
-pub short_runs : {R : Type 0} (items : R → List ℕ) (p : ℕ) (sbox : ℕ → ℕ → ℕ) (alpha : ℕ) (mds first last mds' first'
-    last' : List R) (r : ShortRounds) (s0 s1 s2 s3 : List ℕ) → mds' ≡ mds → first' ≡ first → last' ≡ last
-    → s1 ≡ poseidon_rounds p (sbox alpha) (map items mds') (length mds') (map items first') s0
-    → s2 ≡ short_rounds p (sbox alpha) r s1
-    → s3 ≡ poseidon_rounds p (sbox alpha) (map items mds') (length mds') (map items last') s2
-    → s3 ≡ short_permutation p sbox (record {
-      alpha = alpha;
-      mds = map items mds;
-      first = map items first;
-      partial = r;
-      last = map items last;
-    }) s0
-unfolding short_permutation
-short_runs items p sbox alpha mds first last mds' first' last' r s0 s1 s2 s3 is_mds is_first is_last run_1 run_2 run_3 =
-    let run = λ (m rows : List (List ℕ)) (n : ℕ) (s : List ℕ). poseidon_rounds p (sbox alpha) m n rows s in
-    let same : (rows rows' : List _) (s : List ℕ) → rows' ≡ rows
-    → run (map items mds') (map items rows') (length mds') s ≡ run (map items mds) (map items rows)
-    (length (map items mds)) s = λ rows rows' s e.
-    ap₂ (λ m t. run (map items m) (map items t) (length m) s) is_mds e
-    ∙ ap (λ n. run (map items mds) (map items rows) n s) (sym (length-map mds items)) in
-    run_3 ∙ same last last' s2 is_last
-    ∙ ap (run (map items mds) (map items last) (length (map items mds)))
-    (run_2 ∙ ap (short_rounds p (sbox alpha) r) (run_1 ∙ same first first' s0 is_first))
+module _ {R : Type 0} (items : R → List ℕ) (p : ℕ) (sbox : ℕ → ℕ → ℕ) (alpha : ℕ) (mds first last : List R)
+    (r : ShortRounds) where
+  pub short_runs : (mds' first' last' : List R) (s0 s1 s2 s3 : List ℕ) → mds' ≡ mds → first' ≡ first → last' ≡ last
+      → s1 ≡ poseidon_rounds p (sbox alpha) (map items mds') (length mds') (map items first') s0
+      → s2 ≡ short_rounds p (sbox alpha) r s1
+      → s3 ≡ poseidon_rounds p (sbox alpha) (map items mds') (length mds') (map items last') s2
+      → s3 ≡ short_permutation p sbox (record {
+        alpha = alpha;
+        mds = map items mds;
+        first = map items first;
+        partial = r;
+        last = map items last;
+      }) s0
+  unfolding short_permutation
+  short_runs mds' first' last' s0 s1 s2 s3 is_mds is_first is_last run_1 run_2 run_3 =
+      let run = λ (m rows : List (List ℕ)) (n : ℕ) (s : List ℕ). poseidon_rounds p (sbox alpha) m n rows s in
+      let same : (rows rows' : List _) (s : List ℕ) → rows' ≡ rows
+      → run (map items mds') (map items rows') (length mds') s ≡ run (map items mds) (map items rows)
+      (length (map items mds)) s = λ rows rows' s e.
+      ap₂ (λ m t. run (map items m) (map items t) (length m) s) is_mds e
+      ∙ ap (λ n. run (map items mds) (map items rows) n s) (sym (length-map mds items)) in
+      run_3 ∙ same last last' s2 is_last
+      ∙ ap (run (map items mds) (map items last) (length (map items mds)))
+      (run_2 ∙ ap (short_rounds p (sbox alpha) r) (run_1 ∙ same first first' s0 is_first))

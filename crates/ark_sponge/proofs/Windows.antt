@@ -42,19 +42,18 @@ module _ {F : Type 0} (f : F → ℕ) (p : ℕ) where
       ap (λ t. map f (x ∷ (new ++ t))) none ∙ ap (λ t. map f (x ∷ t)) (append-nil new)
       ∙ ap₂ (λ n ts. n ∷ ts) (ap f is_x) (is ∙ ap (λ t. matrix_product p rows (map f t)) whole)
 
-  pub turned-of : (sbox : ℕ → ℕ) (output feedback state : List F) (k : ℕ) (x sum image first product last : F)
-      → 2 ≤ length state → x ≡ get_or state 0 x → f sum ≡ (f x + k) % p → f image ≡ sbox (f sum)
+module _ {F : Type 0} (f : F → ℕ) (p : ℕ) (sbox : ℕ → ℕ) (output feedback : List F) (k : ℕ) where
+  pub turned-of : (state : List F) (x sum image first product last : F) → 2 ≤ length state
+      → x ≡ get_or state 0 x → f sum ≡ (f x + k) % p → f image ≡ sbox (f sum)
       → f first ≡ dot_product (map f output) (map f (set state 0 image)) % p
       → f product ≡ dot_product (map f feedback)
       (map f (take (length (set state 0 image) - 1) (drop 1 (set state 0 image)))) % p
       → f last ≡ (f image + f product) % p
       → map f (first ∷ (drop 2 (set state 0 image) ++ last ∷ []))
       ≡ short_round p sbox (map f output) (map f feedback) (map f state) k
-  turned-of sbox output feedback [] k x sum image first product last two is_x is_sum is_image is_first is_product
-      is_last =
+  turned-of [] x sum image first product last two is_x is_sum is_image is_first is_product is_last =
       absurd (omega (arith, two))
-  turned-of sbox output feedback (y ∷ rest) k x sum image first product last two is_x is_sum is_image is_first
-      is_product is_last =
+  turned-of (y ∷ rest) x sum image first product last two is_x is_sum is_image is_first is_product is_last =
       let numbers = map f rest in
       let whole : take (length (image ∷ rest) - 1) rest ≡ rest = take_all (length (image ∷ rest) - 1) rest (omega arith)
       in

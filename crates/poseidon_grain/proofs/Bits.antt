@@ -139,25 +139,44 @@ shifted_by high low x below (inr none) =
     let nothing : x ≡ 0 = omega (arith, below, ap (λ (n : ℕ). 2 ^ n) none) in
     ap (λ (n : ℕ). n * 2 ^ low) nothing ∙ omega (arith, nothing)
 
-pub four_words : (count a b c d first x3 r3 x2 r2 x1 r1 x0 r0 : ℕ) → a ≡ count - 192
-    → b ≡ min (count - 128) 64 → c ≡ min (count - 64) 64 → d ≡ min count 64
-    → ◌≡◌ {A = ℕ × ℕ} (x3, r3) (number_drawn a first) → ◌≡◌ {A = ℕ × ℕ} (x2, r2) (number_drawn b r3)
-    → ◌≡◌ {A = ℕ × ℕ} (x1, r1) (number_drawn c r2) → ◌≡◌ {A = ℕ × ℕ} (x0, r0) (number_drawn d r1)
-    → count ≤ 256 → ◌≡◌ {A = ℕ × ℕ} (four x0 x1 x2 x3, r0) (number_drawn count first)
-four_words count a b c d first x3 r3 x2 r2 x1 r1 x0 r0 is_a is_b is_c is_d top upper lower lowest fits =
-    let two = number_in_parts a b first x3 r3 x2 r2 top upper in
-    let three = number_in_parts (a + b) c first (x3 * 2 ^ b + x2) r2 x1 r1 two lower in
-    let all = number_in_parts (a + b + c) d first ((x3 * 2 ^ b + x2) * 2 ^ c + x1) r1 x0 r0 three lowest in
-    let sum : a + b + c + d ≡ count = omega (arith, is_a, is_b, is_c, is_d, fits) in
+-- four words drawn one behind the other, of so many digits each, from one register to the next
+pub record FourDrawn (count first x3 x2 x1 x0 last : ℕ) : Type 0 where
+  pub a : ℕ
+  pub b : ℕ
+  pub c : ℕ
+  pub d : ℕ
+  pub r3 : ℕ
+  pub r2 : ℕ
+  pub r1 : ℕ
+  pub is_a : a ≡ count - 192
+  pub is_b : b ≡ min (count - 128) 64
+  pub is_c : c ≡ min (count - 64) 64
+  pub is_d : d ≡ min count 64
+  pub top : ◌≡◌ {A = ℕ × ℕ} (x3, r3) (number_drawn a first)
+  pub upper : ◌≡◌ {A = ℕ × ℕ} (x2, r2) (number_drawn b r3)
+  pub lower : ◌≡◌ {A = ℕ × ℕ} (x1, r1) (number_drawn c r2)
+  pub lowest : ◌≡◌ {A = ℕ × ℕ} (x0, last) (number_drawn d r1)
+
+-- they are one number
+pub four_words : (count first x3 x2 x1 x0 last : ℕ) → FourDrawn count first x3 x2 x1 x0 last → count ≤ 256
+    → ◌≡◌ {A = ℕ × ℕ} (four x0 x1 x2 x3, last) (number_drawn count first)
+four_words count first x3 x2 x1 x0 last m fits =
+    let two = number_in_parts m.a m.b first x3 m.r3 x2 m.r2 m.top m.upper in
+    let three = number_in_parts (m.a + m.b) m.c first (x3 * 2 ^ m.b + x2) m.r2 x1 m.r1 two m.lower in
+    let all =
+    number_in_parts (m.a + m.b + m.c) m.d first ((x3 * 2 ^ m.b + x2) * 2 ^ m.c + x1) m.r1 x0 last three m.lowest in
+    let sum : m.a + m.b + m.c + m.d ≡ count = omega (arith, m.is_a, m.is_b, m.is_c, m.is_d, fits) in
     let below : (n x r : ℕ) → ◌≡◌ {A = ℕ × ℕ} (x, r) (number_drawn n first) → x < 2 ^ n =
     λ n x r e. rw (ap (λ (z : ℕ × ℕ). z.0) e) (number_drawn-below n first) in
-    let first_shift = shifted_by a b x3 (below a x3 r3 top) (whole_or_none (count - 128) b a is_b (omega (arith, is_a))) in
+    let first_shift =
+    shifted_by m.a m.b x3 (below m.a x3 m.r3 m.top)
+    (whole_or_none (count - 128) m.b m.a m.is_b (omega (arith, m.is_a))) in
     let second_shift =
-    shifted_by (a + b) c (x3 * 2 ^ b + x2) (below (a + b) _ r2 two)
-    (whole_or_none (count - 64) c (a + b) is_c (omega (arith, is_a, is_b))) in
+    shifted_by (m.a + m.b) m.c (x3 * 2 ^ m.b + x2) (below (m.a + m.b) _ m.r2 two)
+    (whole_or_none (count - 64) m.c (m.a + m.b) m.is_c (omega (arith, m.is_a, m.is_b))) in
     let third_shift =
-    shifted_by (a + b + c) d ((x3 * 2 ^ b + x2) * 2 ^ c + x1) (below (a + b + c) _ r1 three)
-    (whole_or_none count d (a + b + c) is_d (omega (arith, is_a, is_b, is_c))) in
-    ap (λ (n : ℕ). (n, r0)) {x = four x0 x1 x2 x3} {y = ((x3 * 2 ^ b + x2) * 2 ^ c + x1) * 2 ^ d + x0}
+    shifted_by (m.a + m.b + m.c) m.d ((x3 * 2 ^ m.b + x2) * 2 ^ m.c + x1) (below (m.a + m.b + m.c) _ m.r1 three)
+    (whole_or_none count m.d (m.a + m.b + m.c) m.is_d (omega (arith, m.is_a, m.is_b, m.is_c))) in
+    ap (λ (n : ℕ). (n, last)) {x = four x0 x1 x2 x3} {y = ((x3 * 2 ^ m.b + x2) * 2 ^ m.c + x1) * 2 ^ m.d + x0}
     (omega (arith, first_shift, second_shift, third_shift))
     ∙ all ∙ ap (λ (n : ℕ). number_drawn n first) sum

@@ -27,8 +27,9 @@ loop-row-preserved g c =
     let constant = c.move_row-constant.result in
     let in_rows : i < length c.args.rows.now = omega arith in
     let one = rw (c.deref_mut.ensures.value) at c.move_row-constant.ensures.moved in
-    let more = are_moved-more p mds rows i constants (map f c.loop-row.offset.items) (map f row) (f constant)
-    (map f next) (omega (arith, g.met.F.Field.laws.below c.zero.result)) (rw length-map c.requires.some) (rw length-map in_rows)
+    let more = are_moved-more p mds rows (omega (arith, g.met.F.Field.laws.below c.zero.result))
+    (rw length-map c.requires.some) i constants (map f c.loop-row.offset.items) (map f row) (f constant) (map f next)
+    (rw length-map in_rows)
     (row_read f p (λ v. v.items) c.args.rows.now i c.row-item.result row in_rows c.row-item.is c.deref.ensures.value)
     c.loop-row.invariant one in
     let pushed = ap (map f) c.in_ok-push.ensures.items ∙ map_push f c.loop-row.constants.items constant in

@@ -20,9 +20,9 @@ loop-i-preserved g c =
     let scaled : ℕ → ℕ = λ x. (x * f factor) % p in
     let in_factors : i < length factors = omega arith in
     let in_rows : i < length rows = omega (arith, in_factors, c.requires.factors) in
-    sums_up_to-more p (map f factors) (map (λ v. map f v.items) rows) i (f factor) (map f c.args.sum.now)
-    (map f c.loop-i.sum) (map f row) (map f c.scale.new.out) _ (rw length-map in_factors)
-    (omega (arith, length-map factors f, length-map rows (λ v. map f v.items), c.requires.factors))
+    sums_up_to-more p (map f factors) (map (λ v. map f v.items) rows)
+    (omega (arith, length-map factors f, length-map rows (λ v. map f v.items), c.requires.factors)) i (f factor)
+    (map f c.args.sum.now) (map f c.loop-i.sum) (map f row) (map f c.scale.new.out) _ (rw length-map in_factors)
     (read f factors i factor in_factors c.index-factors-i.is)
     (ap (map f) c.deref.ensures.value ∙ row_at f (λ v. v.items) rows i c.index-rows-i.result in_rows c.index-rows-i.is)
     (omega (
