@@ -6,4 +6,5 @@ pub mod PrimeLaws
 pub mod Pigeonhole
 pub mod Orders
 pub mod Units
+pub mod Certificates
 pub mod SquareRoots

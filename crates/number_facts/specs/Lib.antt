@@ -3,4 +3,5 @@ pub mod Congruences
 pub mod Powers
 pub mod Primes
 pub mod Generators
+pub mod Certificates
 pub mod Roots

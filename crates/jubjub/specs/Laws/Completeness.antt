@@ -3,7 +3,7 @@ use Rattle.std.proofs.Common.{◌-◌, ◌/◌, refl, lit<}
 use Rattle.edwards_numbers.specs.Curves.{IsComplete}
 use Rattle.edwards_numbers.specs.Laws.CurveLaws.{NoCrossIsOne}
 use Rattle.edwards_numbers.specs.Laws.Completeness as curves
-use Rattle.ark_wide_fields.specs.Laws.Bls12_381Fr.{prime_factors, seven_generates}
+use Rattle.ark_wide_fields.specs.Laws.Bls12_381Fr.{prime_factors, generates}
 use Rattle.jubjub.specs.Jubjub.{p, d}
 use Rattle.jubjub.specs.Laws.Modulus.{d_is_no_square}
 
@@ -11,7 +11,7 @@ pub jubjub_is_complete : IsComplete p d
 jubjub_is_complete = record {
   generator = 7;
   factors = prime_factors;
-  generates = seven_generates;
+  generates = generates;
   big = lit< tt;
   half = (p - 1) / 2;
   halves = refl;

@@ -9,7 +9,7 @@ use Rattle.std.proofs.lemmas.Nat.{mul-mod_first}
 use Rattle.std.proofs.lemmas.Bool.{cases_eq, cases_lt}
 use Rattle.number_facts.proofs.CongruenceLaws.{sums, products, without, multiples}
 use Rattle.number_facts.proofs.Units.{no_root}
-use Rattle.ark_wide_fields.specs.Laws.Bls12_381Fr.{prime_factors, seven_generates}
+use Rattle.ark_wide_fields.specs.Laws.Bls12_381Fr.{prime_factors, generates}
 use Rattle.jubjub.specs.Jubjub.{p, d}
 use Rattle.jubjub.specs.Laws.Modulus.{d_is_no_square}
 use Rattle.edwards_numbers.specs.Laws.Quotients.{HasInverses, product_some, cancelled}
@@ -223,7 +223,7 @@ denominator_some y e = ends zero_y
     same = cancel_one p (d * (y * y)) (root * root) (lit< tt) (ap (λ t. t % p) (turn (d * (y * y))) ∙ e ∙ sym minus)
 
     zero_y : y % p ≡ 0
-    zero_y = no_root p 7 (p - 1) prime_factors seven_generates d ((p - 1) / 2) refl (lit< tt) (lit< tt) d_is_no_square y
+    zero_y = no_root p 7 (p - 1) prime_factors generates d ((p - 1) / 2) refl (lit< tt) (lit< tt) d_is_no_square y
         root same
 
     ends : y % p ≡ 0 → ⊥

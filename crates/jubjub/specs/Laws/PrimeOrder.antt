@@ -9,12 +9,12 @@ use Rattle.jubjub.specs.contracts.fr.JubjubFrModulusWideModulus.TheImpl.{ghosts 
 use Rattle.jubjub.specs.Jubjub.{order}
 use Rattle.jubjub.specs.Elements.{jubjub}
 use Rattle.jubjub.specs.Laws.Group.{jubjub_laws, of_order, modulus_is_order}
-use Rattle.jubjub.specs.Laws.OrderPrime.{base, order_factors, order_certificate}
+use Rattle.jubjub.specs.Laws.OrderPrime.{factors_order, generates_order}
 
 -- what the order does not divide has an inverse modulo it
 pub inverse : (n : ℕ) → (n % order ≡ 0 → ⊥) → (z : ℕ) × (n * z % order ≡ 1)
 inverse n some =
-    (n ^ (order - 2) % order, power_inverse order base (order - 1) order_factors order_certificate n some)
+    (n ^ (order - 2) % order, power_inverse order 6 (order - 1) factors_order generates_order n some)
 
 pub of_prime_order : (n : ℕ) (x : Jubjub) → times jubjub n x ≡ jubjub.identity → (n % order ≡ 0 → ⊥)
     → x ≡ jubjub.identity

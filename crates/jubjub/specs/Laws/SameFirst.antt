@@ -4,7 +4,7 @@ use Rattle.std.proofs.Common.{arith, lit<}
 use Rattle.std.proofs.Math.Nat.{zero-mod, add-mul-mod_self_right, mul-mod_left}
 use Rattle.number_facts.proofs.CongruenceLaws.{sums, products}
 use Rattle.number_facts.proofs.Units.{no_root}
-use Rattle.ark_wide_fields.specs.Laws.Bls12_381Fr.{prime_factors, seven_generates}
+use Rattle.ark_wide_fields.specs.Laws.Bls12_381Fr.{prime_factors, generates}
 use Rattle.jubjub.specs.declared.element.Jubjub.{Jubjub}
 use Rattle.jubjub.specs.Edwards.{Coordinates, cross, sum, neutral}
 use Rattle.jubjub.specs.Jubjub.{p, d, order, IsOnJubjub}
@@ -65,7 +65,7 @@ coefficient_differs x e = ends zero_x
     turn a x = omega arith
 
     zero_x : x % p ≡ 0
-    zero_x = no_root p 7 (p - 1) prime_factors seven_generates d ((p - 1) / 2) refl (lit< tt) (lit< tt) d_is_no_square x
+    zero_x = no_root p 7 (p - 1) prime_factors generates d ((p - 1) / 2) refl (lit< tt) (lit< tt) d_is_no_square x
         1 (ap (λ t. t % p) (turn d x) ∙ e ∙ refl)
 
     ends : x % p ≡ 0 → ⊥

@@ -5,7 +5,7 @@ use Rattle.std.proofs.Common.{eqb, false, true≢false}
 use Rattle.std.proofs.lemmas.Bool.{eq-eqb}
 use Rattle.number_facts.specs.Powers.{power_mod}
 use Rattle.number_facts.proofs.Units.{no_root}
-use Rattle.ark_wide_fields.specs.Laws.Bls12_381Fr.{prime_factors, seven_generates}
+use Rattle.ark_wide_fields.specs.Laws.Bls12_381Fr.{prime_factors, generates}
 use Rattle.ark_groups.specs.Group.{times}
 use Rattle.edwards_numbers.specs.Laws.CurveLaws.{above_some, x_of, y_of}
 use Rattle.edwards_numbers.specs.Laws.Ladder.{ladder, multiple_is}
@@ -60,7 +60,7 @@ no_square = refl
 no_double : (a : Coordinates) → IsOnJubjub a → sum p d a a ≡ whole_point → ⊥
 no_double a on e =
     above_some p d has_inverses complete a a on on
-    (no_root p 7 (p - 1) prime_factors seven_generates (1 + whole_point.x * whole_point.x) ((p - 1) / 2) refl (lit< tt)
+    (no_root p 7 (p - 1) prime_factors generates (1 + whole_point.x * whole_point.x) ((p - 1) / 2) refl (lit< tt)
     (lit< tt) no_square (1 + cross d a a) (whole_point.y * (1 + (p - cross d a a % p)))
     (double_squares p whole_point.x whole_point.y (1 + cross d a a) (1 + (p - cross d a a % p)) a.x a.y
     (ap (λ (c : Coordinates). c.x * (1 + cross d a a) % p) (sym e) ∙ x_of p d has_inverses complete a a on on)
