@@ -23,8 +23,8 @@ use std::marker::Model;
 // How many signed digits to base 32 a scalar has.
 const PLACES: usize = 51;
 
-// The size of the largest digit.
-const DIGITS: usize = 16;
+// How many multiples a row has: by 1 to the size of the largest digit.
+const ENTRIES: usize = 16;
 
 /// The multiples of an element by 1 to 16 at each of 51 places to base 32: 78,336 bytes. Contracts see the element.
 #[derive(Drop)]
@@ -50,7 +50,7 @@ fn push_row(sums: &mut Vec<JubjubSum>, unit: JubjubSum) -> Result<JubjubSum, Err
 {
     sums.push(unit)?;
     let mut last = unit;
-    for _ in 1..DIGITS {
+    for _ in 1..ENTRIES {
         last = Jubjub::add_sums(last, unit);
         sums.push(last)?;
     }
@@ -62,7 +62,7 @@ fn multiples_of(alloc: Global, element: Jubjub) -> Result<Vec<JubjubSum>, Error>
     ensures made { IfOk result (λ sums. map total sums.items ≡ rows_of 51 element) }
     ensures refused { IfErr result (λ error. error ≡ Error.OutOfMemory) }
 {
-    let mut sums = Vec::with_capacity(alloc, PLACES * DIGITS)?;
+    let mut sums = Vec::with_capacity(alloc, PLACES * ENTRIES)?;
     let mut unit = element.to_sum();
     for _ in 0..PLACES {
         unit = push_row(&mut sums, unit)?;
@@ -90,7 +90,7 @@ fn multiple_by(multiples: &[Jubjub], scalar: Words) -> JubjubSum
     let mut sum = Jubjub::zero().to_sum();
     let mut rest = scalar;
     for place in 0..PLACES {
-        sum = with_digit(sum, multiples, DIGITS * place, rest.w0 % 32);
+        sum = with_digit(sum, multiples, ENTRIES * place, rest.w0 % 32);
         rest = without_signed_digit(rest);
     }
     sum
