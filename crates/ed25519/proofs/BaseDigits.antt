@@ -1,12 +1,9 @@
 -- The base point's multiples by digits.
 use Rattle.std.proofs.Common.{◌≡◌, ℕ, zero, suc, ◌+◌, ◌*◌, ◌/◌, ◌%◌, ◌^◌, ◌<◌, Bool, true, false, eqb, refl, sym, ◌∙◌}
-use Rattle.std.proofs.Common.{List, length, slice_index, slice_set}
 use Rattle.std.proofs.Common.{ap, subst, arith, pow-suc}
 use Rattle.std.proofs.Math.Nat.{div-div-eq-div-mul, mul_comm, mod-eq_of_lt}
 use Rattle.std.proofs.Math.Arith.{mod-mul}
 use Rattle.std.proofs.lemmas.Bool.{eqb-true, eqb-false}
-use Rattle.std.proofs.lemmas.Grind.{get_or-set_at}
-use Rattle.std.proofs.lemmas.List.{get_or-set_other}
 use Rattle.ark_groups.specs.Group.{times}
 use Rattle.ark_wide_fields.specs.Choices.{ones, mask_for}
 use Rattle.edwards_numbers.specs.Edwards.{Coordinates, sum, neutral}
@@ -20,20 +17,6 @@ use Rattle.ed25519.specs.BaseTable.{unit}
 use Rattle.ed25519.specs.Combined.{Four}
 use Rattle.ed25519.specs.Multiples.{AreKept, IsBlank, every_fourth}
 use Rattle.ed25519.proofs.BaseRows.{unit_times}
-
--- one mask more
-pub mask_next : (masks : List ℕ) (j digit mask : ℕ) → j < length masks → mask ≡ mask_for (eqb j digit)
-    → ((k : ℕ) → k < j → slice_index masks k ≡ mask_for (eqb k digit))
-    → (k : ℕ) → k < j + 1 → slice_index (slice_set masks j mask) k ≡ mask_for (eqb k digit)
-mask_next masks j digit mask inside bits before k below = step (eqb k j) refl
-  where
-    step : (c : Bool) → eqb k j ≡ c → slice_index (slice_set masks j mask) k ≡ mask_for (eqb k digit)
-    step true is =
-        let same : k ≡ j = eqb-true k j is in
-        get_or-set_at masks j k mask 0 same inside ∙ bits ∙ ap (λ n. mask_for (eqb n digit)) (sym same)
-    step false is =
-        let other : k ≡ j → ⊥ = eqb-false k j is in
-        get_or-set_other masks j k mask 0 other ∙ before k (omega (arith, below, other))
 
 -- the multiple by a digit is that of its entry, and zero's for none
 pub kept_found : (digit mask : ℕ) (of_zero of_entry kept : Kept) (b : Coordinates) → mask ≡ mask_for (eqb 0 digit)

@@ -1,17 +1,14 @@
 -- The multiples of the base point that signing adds up, by computation.
-use Rattle.std.specs.Prelude.{ℕ, zero, suc, ◌+◌, ◌-◌, ◌*◌, ◌/◌, ◌%◌, ◌^◌, List, [], ◌∷◌}
+use Rattle.std.specs.Prelude.{ℕ, zero, suc, ◌+◌, ◌-◌, ◌*◌, ◌%◌, ◌^◌, List, [], ◌∷◌}
 use Rattle.edwards_numbers.specs.Edwards.{Coordinates}
 use Rattle.edwards_numbers.specs.Laws.Ladder.{quick_sum}
+use Rattle.edwards.specs.Entries.{couples}
 use Rattle.ed25519.specs.Edwards25519.{p, d, base_point}
 use Rattle.ed25519.specs.Laws.Curve.{ed25519_is_complete}
 
 -- what the field keeps for a number
 abbrev pub kept : ℕ → ℕ
 kept n = n * 2 ^ 256 % p
-
--- four words, the least first, as two couples, before others
-abbrev pub couples : ℕ → List (List ℕ) → List (List ℕ)
-couples n more = (n % 2 ^ 64 ∷ n / 2 ^ 64 % 2 ^ 64 ∷ []) ∷ (n / 2 ^ 128 % 2 ^ 64 ∷ n / 2 ^ 192 ∷ []) ∷ more
 
 -- y - x, y + x and 2 d x y as the field keeps them
 abbrev pub entry_of : Coordinates → List (List ℕ)

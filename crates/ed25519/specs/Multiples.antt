@@ -1,6 +1,5 @@
 -- Multiples of the base point by digits to base 16.
-use Rattle.std.specs.Prelude.{◌≡◌, ℕ, zero, suc, ◌+◌, ◌-◌, ◌*◌, ◌/◌, ◌%◌, ◌^◌, ◌<◌, List, [], ◌∷◌, replicate, eqb, slice_index}
-use Rattle.ark_wide_fields.specs.Choices.{mask_for}
+use Rattle.std.specs.Prelude.{◌≡◌, ℕ, zero, suc, ◌+◌, ◌-◌, ◌*◌, ◌/◌, ◌%◌, ◌^◌}
 use Rattle.ark_groups.specs.Words.{number}
 use Rattle.edwards_numbers.specs.Edwards.{Coordinates}
 use Rattle.ed25519.specs.declared.base.Kept.{Kept}
@@ -24,11 +23,3 @@ pub record IsBlank (e : Kept) : Type 0 where
   pub less : number e.less ≡ 0
   pub more : number e.more ≡ 0
   pub cross : number e.cross ≡ 0
-
--- an entry of zeros, which no point has
-abbrev pub no_entry : List (List ℕ)
-no_entry = replicate 6 (0 ∷ 0 ∷ [])
-
--- the masks of the digits below 16 are ones for this digit, else zeros
-abbrev pub AreMasksOf : ℕ → List ℕ → Type 0
-AreMasksOf digit masks = (j : ℕ) → j < 16 → slice_index masks j ≡ mask_for (eqb j digit)

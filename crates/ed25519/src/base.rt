@@ -1,22 +1,25 @@
 //! Multiples of the base point. No branch and no address depends on the scalar.
 
-ghost use Rattle.std.specs.Prelude.{◌≡◌, ℕ, ◌+◌, ◌-◌, ◌*◌, ◌/◌, ◌^◌, ◌<◌, ◌∷◌, [], get_or, length, slice_index, bit_and, bit_or};
+ghost use Rattle.std.specs.Prelude.{◌≡◌, ℕ, ◌+◌, ◌-◌, ◌*◌, ◌/◌, ◌^◌, ◌<◌, [], get_or};
 ghost use Rattle.ark_groups.specs.Group.{times};
 ghost use Rattle.ark_groups.specs.Words.{number};
 ghost use Rattle.ark_wide_fields.specs.Choices.{IsMask, ones};
 ghost use Rattle.edwards_numbers.specs.Edwards.{Coordinates, neutral};
+ghost use Rattle.edwards.specs.Entries.{no_entry, AreMasksOf};
 ghost use Rattle.edwards.specs.Extended.{Stands};
 ghost use Rattle.edwards.specs.Prepared.{IsPrepared};
 ghost use Rattle.ed25519.specs.Edwards25519.{d, curve, base_point, IsOnEd25519};
 ghost use Rattle.ed25519.specs.BaseTable.{entry_of, row_of};
-ghost use Rattle.ed25519.specs.Multiples.{every_fourth, no_entry, AreKept, AreMasksOf, IsBlank};
+ghost use Rattle.ed25519.specs.Multiples.{every_fourth, AreKept, IsBlank};
 
 use crate::base_table::{Row, row};
 use crate::combined::Four;
 use crate::moduli::Ed25519FpModulus;
 use ark_groups::ff::Words;
-use ark_wide_fields::{WideModulus, ZERO, mask_in_place, of_kept, words_under};
-use edwards::{Prepared, doubled_twice, plus_prepared, zero};
+use ark_wide_fields::{WideModulus, ZERO, of_kept, words_under};
+use edwards::{
+    Entry, Prepared, doubled_twice, entry_under, found_entry, masks_of, plus_prepared, zero,
+};
 use std::simd::u64x2;
 
 // Of a point y - x, y + x and 2 d x y, each times 2^256 modulo 2^255 - 19.
@@ -28,7 +31,7 @@ struct Kept {
 }
 
 // The numbers of an entry of a row.
-fn kept_at(entry: &[[u64; 2]; 6]) -> Kept
+fn kept_at(entry: &Entry) -> Kept
     ensures kept { (a : Coordinates) → entry.now ≡ entry_of a → AreKept result a }
     ensures blank { entry.now ≡ no_entry → IsBlank result }
 {
@@ -80,65 +83,8 @@ fn kept_under(mask: u64, a: Kept, so_far: Kept) -> Kept
     }
 }
 
-// The masks of the digits below 16: 64 ones for this digit, else zeros. No compiler sees through the call, so that what
-// stands under the masks becomes no branch.
-#[inline(never)]
-fn masks_of(digit: usize) -> [u64; 16]
-    ensures { AreMasksOf digit result }
-{
-    let mut masks = [0; 16];
-    'digits: for j in 0..16 {
-        masks[j] = mask_in_place(j == digit);
-    }
-    masks
-}
-
-#[inline(always)]
-fn and(x: u64x2, y: u64x2) -> u64x2
-    ensures { (j : ℕ) → j < 2 → slice_index result j ≡ bit_and (slice_index x j) (slice_index y j) }
-{
-    x & y
-}
-
-#[inline(always)]
-fn or(x: u64x2, y: u64x2) -> u64x2
-    ensures lanes { (j : ℕ) → j < 2
-        → slice_index result j ≡ bit_or (slice_index x j) (slice_index y j) }
-    ensures wide { length result ≡ 2 }
-{
-    x | y
-}
-
-// A couple of words with the bits of another where the mask is ones.
-#[inline(always)]
-fn couple_under(mask: u64, couple: &[u64; 2], so_far: u64x2) -> u64x2
-    requires { IsMask mask }
-    ensures first { mask ≡ ones → so_far ≡ 0 ∷ 0 ∷ [] → result ≡ couple.now }
-    ensures second { mask ≡ 0 → result ≡ so_far }
-{
-    or(so_far, and(u64x2::from_array(*couple), u64x2::splat(mask)))
-}
-
-// An entry where the mask is ones and the other is blank; the other where the mask is 0.
-#[inline(always)]
-fn entry_under(mask: u64, entry: &[[u64; 2]; 6], so_far: &[u64x2; 6]) -> [u64x2; 6]
-    requires { IsMask mask }
-    ensures first { mask ≡ ones → so_far.now ≡ no_entry → result ≡ entry.now }
-    ensures second { mask ≡ 0 → result ≡ so_far.now }
-    ensures whole { length result ≡ 6 }
-{
-    [
-        couple_under(mask, &entry[0], so_far[0]),
-        couple_under(mask, &entry[1], so_far[1]),
-        couple_under(mask, &entry[2], so_far[2]),
-        couple_under(mask, &entry[3], so_far[3]),
-        couple_under(mask, &entry[4], so_far[4]),
-        couple_under(mask, &entry[5], so_far[5]),
-    ]
-}
-
 // The entry of a row for a digit, two words at a time, and none for 0. All of the row is read.
-fn entry_for(row: &Row, masks: &[u64; 16], digit: usize) -> [[u64; 2]; 6]
+fn entry_for(row: &Row, masks: &[u64; 16], digit: usize) -> Entry
     requires digit { digit < 16 }
     requires masks { AreMasksOf digit masks.now }
     ensures some { 0 < digit → result ≡ get_or row.now (digit - 1) [] }
@@ -148,14 +94,7 @@ fn entry_for(row: &Row, masks: &[u64; 16], digit: usize) -> [[u64; 2]; 6]
     'entries: for j in 0..15 {
         found = entry_under(masks[j + 1], &row[j], &found);
     }
-    [
-        found[0].to_array(),
-        found[1].to_array(),
-        found[2].to_array(),
-        found[3].to_array(),
-        found[4].to_array(),
-        found[5].to_array(),
-    ]
+    found_entry(&found)
 }
 
 // The multiple of a point by a digit, from the row of its multiples, all of which is read.

@@ -11,7 +11,7 @@ use Rattle.edwards.specs.Digits.{added, taken, weighed, IsBlankFrom}
 use Rattle.edwards.proofs.SignedDigits.{added-low, added-high, taken-low, taken-high, weighed_more}
 
 module _ {G : Type 0} (g : Group G) (laws : IsCommutativeGroup g) (s t : G) where
-  swap_inner : (a b c d : G) → g.plus (g.plus a b) (g.plus c d) ≡ g.plus (g.plus a c) (g.plus b d)
+  pub swap_inner : (a b c d : G) → g.plus (g.plus a b) (g.plus c d) ≡ g.plus (g.plus a c) (g.plus b d)
   swap_inner a b c d =
       laws.assoc a b (g.plus c d)
       ∙ ap (g.plus a) (sym (laws.assoc b c d) ∙ ap (λ x. g.plus x d) (laws.comm b c) ∙ laws.assoc c b d)
@@ -22,7 +22,7 @@ module _ {G : Type 0} (g : Group G) (laws : IsCommutativeGroup g) (s t : G) wher
       sym (right_identity laws x) ∙ ap (g.plus x) (sym (laws.left_opposite z) ∙ laws.comm (g.opposite z) z)
       ∙ sym (laws.assoc x z (g.opposite z))
 
-  cancelled : (x y z : G) → g.plus x z ≡ g.plus y z → x ≡ y
+  pub cancelled : (x y z : G) → g.plus x z ≡ g.plus y z → x ≡ y
   cancelled x y z e = taken_off x z ∙ ap (λ w. g.plus w (g.opposite z)) e ∙ sym (taken_off y z)
 
   -- m s + n t

@@ -13,3 +13,4 @@ pub mod SignedDigits
 pub mod Balance
 pub mod Reached
 pub mod OddMultiples
+pub mod Couples

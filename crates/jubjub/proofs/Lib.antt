@@ -5,6 +5,7 @@ pub mod Spelled
 pub mod ItemBytes
 pub mod Totals
 pub mod TableRows
+pub mod TableDigits
 pub mod Decoded
 pub mod Drawn
 pub mod CompressedFacts

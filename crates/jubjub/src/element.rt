@@ -179,7 +179,8 @@ impl Jubjub {
         ensures group { result ≡ jubjub.plus (times jubjub (number m) self)
             (times jubjub (number n) other) }
         ensures coordinates { coordinates result ≡ sum p d
-            (times curve (number m) (coordinates self)) (times curve (number n) (coordinates other)) }
+            (times curve (number m) (coordinates self))
+            (times curve (number n) (coordinates other)) }
     {
         let a = lifted(self.x, self.y);
         let b = lifted(other.x, other.y);

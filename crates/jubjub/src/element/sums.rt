@@ -9,6 +9,7 @@ ghost use Rattle.jubjub.specs.Laws.Extended.{inside_alike};
 use crate::extended::Extended;
 use ark_wide_fields::Bls12_381Fr;
 
+mod chosen;
 mod group;
 mod laws;
 mod many;

@@ -1,13 +1,10 @@
-use Rattle.std.proofs.Common.{◌≡◌, List, ◌∷◌, [], map, refl, sym, ap, ◌∙◌, subst}
+use Rattle.std.proofs.Common.{map, sym, ap, ◌∙◌, subst}
+use Rattle.std.proofs.lemmas.Simd.{map-map}
 use Rattle.ark_wide_fields.specs.Inverses.{AreInverses}
 use Rattle.jubjub.specs.Jubjub.{p}
 use Rattle.jubjub.specs.Sums.{scale_in}
 use Rattle.jubjub.specs.Values.{value}
 use Rattle.jubjub.proofs.element.sums.many.elements_of.Goals as goal
-
-map-map : {X Y Z : Type 0} (g : Y → Z) (f : X → Y) (xs : List X) → map g (map f xs) ≡ map (λ x. g (f x)) xs
-map-map g f [] = refl
-map-map g f (x ∷ xs) = ap (λ ys. g (f x) ∷ ys) (map-map g f xs)
 
 pub elements_by-requires : goal.elements_by-requires
 elements_by-requires c =

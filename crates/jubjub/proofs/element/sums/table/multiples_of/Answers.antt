@@ -6,7 +6,7 @@ use Rattle.jubjub.proofs.element.sums.table.multiples_of.Goals as goal
 
 pub loop-init : goal.loop-init
 loop-init c =
-    ap₂ (λ front x. front ++ rows_of 64 x) (ap (map total) c.in_ok-sums.ensures.items) c.to_sum-unit.ensures
+    ap₂ (λ front x. front ++ rows_of 51 x) (ap (map total) c.in_ok-sums.ensures.items) c.to_sum-unit.ensures
 
 pub loop-preserved : goal.loop-preserved
 loop-preserved c =

@@ -6,4 +6,4 @@ use Rattle.jubjub.proofs.element.sums.table.multiples_of.Given as goal
 -- what was put, and what is still to be put, are the whole
 abbrev pub invariant-loop : goal.invariant-loop
 invariant-loop l =
-    map total l.sums.items ++ rows_of (64 - l.counter) (total l.unit) ≡ rows_of 64 l.fn.element
+    map total l.sums.items ++ rows_of (51 - l.counter) (total l.unit) ≡ rows_of 51 l.fn.element

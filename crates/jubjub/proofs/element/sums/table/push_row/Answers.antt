@@ -3,7 +3,7 @@ use Rattle.std.specs.List.{range_with_len}
 use Rattle.std.proofs.lemmas.List.{map-append}
 use Rattle.std.proofs.lemmas.List.FromFn.{map-range_with_len_more}
 use Rattle.ark_groups.specs.Group.{times}
-use Rattle.ark_groups.proofs.Multiples.{times_at}
+use Rattle.ark_groups.proofs.Multiples.{times-add, times_at}
 use Rattle.jubjub.specs.declared.element.Jubjub.{Jubjub}
 use Rattle.jubjub.specs.declared.element.sums.JubjubSum.{JubjubSum}
 use Rattle.jubjub.specs.Elements.{jubjub}
@@ -24,34 +24,43 @@ one_more before next start last x n put is_last so_far =
     ∙ ap (λ t. start ++ t) (sym (map-range_with_len_more (λ k. times jubjub k x) 1 n (1 + n) refl))
 
 pub loop-init : goal.loop-init
-loop-init c = (
-  sym (append-nil (map total c.args.sums.now.items)),
-  sym (jubjub_laws.left_identity (total c.args.unit)),
-)
+loop-init c =
+    let first = sym (jubjub_laws.left_identity (total c.args.unit)) in (
+      one_more c.args.sums.now.items c.push.new.self.items (map total c.args.sums.now.items) c.args.unit
+          (total c.args.unit) 0 c.in_ok-push.ensures.items first (sym (append-nil (map total c.args.sums.now.items))),
+      first,
+    )
 
 pub loop-preserved : goal.loop-preserved
-loop-preserved c = (
-  one_more c.loop.sums.items c.push.new.self.items (map total c.args.sums.now.items) c.loop.last (total c.args.unit)
-      c.loop.counter c.in_ok-push.ensures.items c.loop.invariant.1 c.loop.invariant.0,
-  c.add_sums-last.ensures ∙ ap (λ s. jubjub.plus s (total c.args.unit)) c.loop.invariant.1
-      ∙ times_at jubjub_laws (total c.args.unit) (next c.loop.counter),
-)
+loop-preserved c =
+    let n = c.loop.counter in
+    let x = total c.args.unit in
+    let next = c.add_sums-last.ensures ∙ ap (λ s. jubjub.plus s x) c.loop.invariant.1
+    ∙ times_at jubjub_laws x (one_on n) in (
+      one_more c.loop.sums.items c.push-in-loop.new.self.items (map total c.args.sums.now.items)
+          c.add_sums-last.result x n c.in_ok-push-2.ensures.items next c.loop.invariant.0,
+      next ∙ times_at jubjub_laws x (turned n),
+    )
   where
-    next : (n : ℕ) → suc (1 + n) ≡ 1 + (n + 1)
-    next n = omega arith
+    one_on : (n : ℕ) → suc n ≡ 1 + n
+    one_on n = omega arith
+
+    turned : (n : ℕ) → 1 + n ≡ n + 1
+    turned n = omega arith
 
 -- all digits were passed
-all : (n : ℕ) → 15 ≤ n → n ≤ 15 → n ≡ 15
+all : (n : ℕ) → 16 ≤ n → n ≤ 16 → n ≡ 16
 all n past within = omega (arith, past, within)
 
 pub returns-clause-row : goal.returns-clause-row
 returns-clause-row c =
     c.loop.invariant.0
     ∙ ap (λ n. map total c.args.sums.now.items ++ multiples (total c.args.unit) n)
-    (all c.loop.counter c.loop-test.false c.loop.auto.counter-end)
+    (all c.loop.counter c.loop-test.false (c.loop.auto.counter-end (omega arith)))
 
 pub returns-clause-next : goal.returns-clause-next
 returns-clause-next c =
-    c.loop.invariant.1
-    ∙ ap (λ n. times jubjub (1 + n) (total c.args.unit))
-    (all c.loop.counter c.loop-test.false c.loop.auto.counter-end)
+    let x = total c.args.unit in
+    let last = c.loop.invariant.1
+    ∙ ap (λ n. times jubjub n x) (all c.loop.counter c.loop-test.false (c.loop.auto.counter-end (omega arith))) in
+    c.double_sum.ensures ∙ ap₂ jubjub.plus last last ∙ sym (times-add jubjub_laws 16 16 x)

@@ -1,12 +1,15 @@
--- Couples of words under masks.
-use Rattle.std.proofs.Common.{◌≡◌, ℕ, ◌+◌, ◌-◌, ◌^◌, ◌<◌, ◌≤◌, List, [], ◌∷◌, length, get_or, slice_index, Bool, true, false, eqb, refl, sym, ◌∙◌, ap, ap₂, arith}
+-- Entries of tables under masks.
+use Rattle.std.proofs.Common.{◌≡◌, ℕ, ◌+◌, ◌-◌, ◌/◌, ◌%◌, ◌^◌, ◌<◌, ◌≤◌, List, [], ◌∷◌, length, get_or, slice_index, Bool, true, false, eqb, refl, sym, ◌∙◌, ap, ap₂, arith}
 use Rattle.std.proofs.Math.Nat.{mod-eq_of_lt}
-use Rattle.std.proofs.lemmas.List.{ext_get_or, get_or-replicate}
+use Rattle.std.proofs.Common.{slice_set}
+use Rattle.std.proofs.lemmas.Grind.{get_or-set_at}
+use Rattle.std.proofs.lemmas.List.{ext_get_or, get_or-replicate, get_or-set_other}
 use Rattle.std.proofs.lemmas.Nat.{and_mask}
 use Rattle.std.specs.Int.Bits.{bit_and, bit_or, or_zero_l, or_zero_r, and_zero_r}
 use Rattle.std.proofs.lemmas.Bool.{eqb-true, eqb-false}
+use Rattle.ark_groups.specs.Words.{four}
 use Rattle.ark_wide_fields.specs.Choices.{ones, mask_for}
-use Rattle.ed25519.specs.Multiples.{no_entry}
+use Rattle.edwards.specs.Entries.{couples, no_entry}
 
 -- a word, and one behind it, under a mask
 module _ (mask : ℕ) (couple so_far under result : List ℕ)
@@ -49,26 +52,47 @@ six_are (a ∷ b ∷ c ∷ e ∷ f ∷ []) long = absurd (omega (arith, long))
 six_are (a ∷ b ∷ c ∷ e ∷ f ∷ g ∷ []) long = refl
 six_are (a ∷ b ∷ c ∷ e ∷ f ∷ g ∷ h ∷ more) long = absurd (omega (arith, long))
 
--- the entry for a digit was found where it was passed, and else none
-pub record FoundSoFar (j digit : ℕ) (row : List (List (List ℕ))) (found : List (List ℕ)) : Type 0 where
+-- one mask more
+pub mask_next : (masks : List ℕ) (j number mask : ℕ) → j < length masks → mask ≡ mask_for (eqb j number)
+    → ((k : ℕ) → k < j → slice_index masks k ≡ mask_for (eqb k number))
+    → (k : ℕ) → k < j + 1 → slice_index (slice_set masks j mask) k ≡ mask_for (eqb k number)
+mask_next masks j number mask inside bits before k below = step (eqb k j) refl
+  where
+    step : (c : Bool) → eqb k j ≡ c → slice_index (slice_set masks j mask) k ≡ mask_for (eqb k number)
+    step true is =
+        let same : k ≡ j = eqb-true k j is in
+        get_or-set_at masks j k mask 0 same inside ∙ bits ∙ ap (λ n. mask_for (eqb n number)) (sym same)
+    step false is =
+        let other : k ≡ j → ⊥ = eqb-false k j is in
+        get_or-set_other masks j k mask 0 other ∙ before k (omega (arith, below, other))
+
+-- the entry for a digit, which is that of the number before it, was found where it was passed, and else none
+pub record FoundSoFar (j digit : ℕ) (entry : ℕ → List (List ℕ)) (found : List (List ℕ)) : Type 0 where
   pub whole : length found ≡ 6
-  pub some : 0 < digit → digit ≤ j → found ≡ get_or row (digit - 1) []
+  pub some : 0 < digit → digit ≤ j → found ≡ entry (digit - 1)
   pub before : j < digit → found ≡ no_entry
   pub none : digit ≡ 0 → found ≡ no_entry
 
-pub entry_next : (mask j digit : ℕ) (row : List (List (List ℕ))) (found next : List (List ℕ))
-    → mask ≡ mask_for (eqb (j + 1) digit) → length next ≡ 6
-    → (mask ≡ ones → found ≡ no_entry → next ≡ get_or row j []) → (mask ≡ 0 → next ≡ found)
-    → FoundSoFar j digit row found → FoundSoFar (j + 1) digit row next
-entry_next mask j digit row found next bits long first second so_far = step (eqb (j + 1) digit) refl
+pub none_found : (digit : ℕ) (entry : ℕ → List (List ℕ)) → FoundSoFar 0 digit entry no_entry
+none_found digit entry = record {
+  whole = refl;
+  some = λ some reached. absurd (omega (arith, some, reached));
+  before = λ _. refl;
+  none = λ _. refl;
+}
+
+pub entry_next : (mask j digit : ℕ) (entry : ℕ → List (List ℕ)) (found next : List (List ℕ))
+    → mask ≡ mask_for (eqb (j + 1) digit) → length next ≡ 6 → (mask ≡ ones → found ≡ no_entry → next ≡ entry j)
+    → (mask ≡ 0 → next ≡ found) → FoundSoFar j digit entry found → FoundSoFar (j + 1) digit entry next
+entry_next mask j digit entry found next bits long first second so_far = step (eqb (j + 1) digit) refl
   where
-    step : (c : Bool) → eqb (j + 1) digit ≡ c → FoundSoFar (j + 1) digit row next
+    step : (c : Bool) → eqb (j + 1) digit ≡ c → FoundSoFar (j + 1) digit entry next
     step true is =
         let same : j + 1 ≡ digit = eqb-true (j + 1) digit is in
         record {
           whole = long;
           some = λ _ _. first (bits ∙ ap mask_for is) (so_far.before (omega (arith, same)))
-              ∙ ap (λ k. get_or row k []) (omega (arith, same));
+              ∙ ap entry (omega (arith, same));
           before = λ below. absurd (omega (arith, same, below));
           none = λ nothing. absurd (omega (arith, same, nothing));
         }
@@ -81,3 +105,24 @@ entry_next mask j digit row found next bits long first second so_far = step (eqb
           before = λ below. kept ∙ so_far.before (omega (arith, below));
           none = λ nothing. kept ∙ so_far.none nothing;
         }
+
+-- four words are couples of their number, and their number is that of the couples
+module _ (a b c e n : ℕ) (whole : four a b c e ≡ n) (a_fits : a < 2 ^ 64) (b_fits : b < 2 ^ 64) (c_fits : c < 2 ^ 64)
+    (more : List (List ℕ)) where
+  pub words_are : (a ∷ b ∷ []) ∷ (c ∷ e ∷ []) ∷ more ≡ couples n more
+  words_are =
+      ap₂ (λ low high. low ∷ high ∷ more)
+      (ap₂ (λ x y. x ∷ y ∷ []) (omega (arith, whole, a_fits)) (omega (arith, whole, a_fits, b_fits)))
+      (ap₂ (λ x y. x ∷ y ∷ []) (omega (arith, whole, a_fits, b_fits, c_fits))
+      (omega (arith, whole, a_fits, b_fits, c_fits)))
+
+pub couples_number : (low high : List ℕ) (n : ℕ) → low ∷ high ∷ [] ≡ couples n []
+    → four (get_or low 0 0) (get_or low 1 0) (get_or high 0 0) (get_or high 1 0) ≡ n
+couples_number low high n is =
+    let first : low ≡ n % 2 ^ 64 ∷ n / 2 ^ 64 % 2 ^ 64 ∷ [] = ap (λ l. get_or l 0 []) is in
+    let second : high ≡ n / 2 ^ 128 % 2 ^ 64 ∷ n / 2 ^ 192 ∷ [] = ap (λ l. get_or l 1 []) is in
+    ap₂ (λ l h. four (get_or l 0 0) (get_or l 1 0) (get_or h 0 0) (get_or h 1 0)) first second
+    ∙ parts n
+  where
+    parts : (n : ℕ) → four (n % 2 ^ 64) (n / 2 ^ 64 % 2 ^ 64) (n / 2 ^ 128 % 2 ^ 64) (n / 2 ^ 192) ≡ n
+    parts n = omega arith

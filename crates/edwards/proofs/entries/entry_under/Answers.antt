@@ -1,6 +1,6 @@
 use Rattle.std.proofs.Common.{◌≡◌, ℕ, List, [], ◌∷◌, get_or, ◌∙◌, ap, ap₂}
-use Rattle.ed25519.proofs.Couples.{six_are}
-use Rattle.ed25519.proofs.base.entry_under.Goals as goal
+use Rattle.edwards.proofs.Couples.{six_are}
+use Rattle.edwards.proofs.entries.entry_under.Goals as goal
 
 same_six : {a b c d e f g h i j k l : List ℕ} → a ≡ g → b ≡ h → c ≡ i → d ≡ j → e ≡ k → f ≡ l
     → a ∷ b ∷ c ∷ d ∷ e ∷ f ∷ [] ≡ g ∷ h ∷ i ∷ j ∷ k ∷ l ∷ []

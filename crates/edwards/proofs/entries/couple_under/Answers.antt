@@ -1,5 +1,5 @@
-use Rattle.ed25519.proofs.Couples.{couple_first, couple_second}
-use Rattle.ed25519.proofs.base.couple_under.Goals as goal
+use Rattle.edwards.proofs.Couples.{couple_first, couple_second}
+use Rattle.edwards.proofs.entries.couple_under.Goals as goal
 
 pub returns-clause-first : goal.returns-clause-first
 returns-clause-first c =

@@ -1,8 +1,0 @@
-use Rattle.std.proofs.Common.{◌≡◌, ℕ, ◌<◌, eqb, slice_index, length}
-use Rattle.ark_wide_fields.specs.Choices.{mask_for}
-use Rattle.ed25519.proofs.base.masks_of.Given as goal
-
--- the masks that were written are those of the digits that were passed
-abbrev pub invariant-digits : goal.invariant-digits
-invariant-digits l =
-    (length l.masks ≡ 16) × ((k : ℕ) → k < l.j → slice_index l.masks k ≡ mask_for (eqb k l.digit))
