@@ -3,10 +3,10 @@ use Rattle.std.proofs.Common.{◌≡◌, ℕ, ◌+◌, ◌-◌, ◌<◌, ◌≤�
 use Rattle.std.proofs.lemmas.List.{append-nil, drop-drop, length-append, length-take-le, take_all, take_more}
 use Rattle.ark_paths.specs.Pair.{Digest}
 use Rattle.ark_base.specs.declared.error.Error.{Error}
-use Rattle.merkle_log.specs.Append.{AppendsAll, Completes, RefusesCarry}
+use Rattle.merkle_log.specs.Append.{Completes, RefusesCarry}
 use Rattle.merkle_log.specs.Stored.{stored_count, row_of, IsStored}
 use Rattle.merkle_log.proofs.Completing.{completes-appends}
-use Rattle.merkle_log.proofs.Growing.{all-next, extends-itself}
+use Rattle.merkle_log.proofs.Growing.{AppendsAll, all-next, extends-itself}
 use Rattle.merkle_log.specs.Kept.{front, KeepsBy, RefusesAppend}
 use Rattle.merkle_log.specs.Log.{NodeHash}
 use Rattle.merkle_log.proofs.Making.{items, length-items, room-first}
