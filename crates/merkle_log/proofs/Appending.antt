@@ -3,10 +3,10 @@ use Rattle.std.proofs.Common.{◌≡◌, ℕ, ◌+◌, ◌-◌, ◌<◌, ◌≤�
 use Rattle.std.proofs.lemmas.List.{append-nil, drop-drop, length-append, length-take-le, take_all, take_more}
 use Rattle.ark_paths.specs.Pair.{Digest}
 use Rattle.ark_base.specs.declared.error.Error.{Error}
-use Rattle.merkle_log.specs.Append.{AppendsAll, Completes, RefusesCarry}
+use Rattle.merkle_log.specs.Append.{Completes, RefusesCarry}
 use Rattle.merkle_log.specs.Stored.{stored_count, row_of, IsStored}
 use Rattle.merkle_log.proofs.Completing.{completes-appends}
-use Rattle.merkle_log.proofs.Growing.{all-next, extends-itself}
+use Rattle.merkle_log.proofs.Growing.{AppendsAll, all-next, extends-itself}
 use Rattle.merkle_log.specs.Kept.{front, KeepsBy, RefusesAppend}
 use Rattle.merkle_log.specs.Log.{NodeHash}
 use Rattle.merkle_log.proofs.Making.{items, length-items, room-first}
@@ -38,46 +38,48 @@ appending-first stored size digests old whole =
       same = refl;
     }
 
-pub appending-next : {hash : NodeHash} {stored digests old more next : List Digest} {size place made after : ℕ}
-    {digest : Digest} → Appending hash stored size digests old more place made → made ≤ length more
-    → place < length digests → digest ≡ get_or digests place []
-    → Completes hash (size + place) (items stored made more) digest (items stored after next)
-    → length stored + after ≡ stored_count (size + place + 1) → drop after next ≡ drop after more → length next
-    ≡ length more → Appending hash stored size digests old next (place + 1) after
-appending-next {stored = stored} {digests = digests} {old = old} {more = more} {next = next} {size = size}
-    {place = place}
-    {made = made} {after = after} {digest = digest} at room inside is done whole behind same =
-    let one : size + place + 1 ≡ size + (place + 1) = omega arith in
-    let rises = room-first (size + place) in
-    let less : made + (after - made) ≡ after = omega (arith, at.count) in
-    record {
-      count = whole ∙ ap stored_count one;
-      grows = λ hashed. rw (← one, take_more digests place [] inside, ← is) (all-next (front size stored)
-          (front (size + place) (items stored made more)) (front (size + place + 1) (items stored after next))
-          (take place digests) digest (at.grows hashed)
-          (completes-appends done (length-items stored more made room ∙ at.count)));
-      behind = behind ∙ ap (λ n. drop n more) (sym less) ∙ sym (drop-drop (after - made) made more)
-          ∙ ap (drop (after - made)) at.behind ∙ drop-drop (after - made) made old ∙ ap (λ n. drop n old) less;
-      same = same ∙ at.same;
-    }
+-- One digest more is appended, and the buffer has those that it makes.
+pub record OneMore (hash : NodeHash) (stored : List Digest) (size : ℕ) (digest : Digest) (more next : List Digest)
+    (made after : ℕ) : Type 0 where
+  pub completed : Completes hash size (items stored made more) digest (items stored after next)
+  pub whole : length stored + after ≡ stored_count (size + 1)
+  pub behind : drop after next ≡ drop after more
+  pub same : length next ≡ length more
 
--- The digests that were made are in the buffer.
-pub appending-fits : {hash : NodeHash} {stored digests old more : List Digest} {size place made : ℕ}
-    → Appending hash stored size digests old more place made → length stored ≡ stored_count size
-    → stored_count (size + length digests) ≤ stored_count size + length old → place ≤ length digests
-    → made ≤ length more
-appending-fits {digests = digests} {size = size} {place = place} at long room inside =
-    let rises = count-rises (size + place) (size + length digests) (omega arith) in
-    omega (arith, at.same, at.count)
+module _ {hash : NodeHash} {stored digests old more : List Digest} {size place made : ℕ}
+    (at : Appending hash stored size digests old more place made) where
+  pub appending-next : {next : List Digest} {after : ℕ} → made ≤ length more → place < length digests
+      → OneMore hash stored (size + place) (get_or digests place []) more next made after
+      → Appending hash stored size digests old next (place + 1) after
+  appending-next {next} {after} room inside one_more =
+      let one : size + place + 1 ≡ size + (place + 1) = omega arith in
+      let rises = room-first (size + place) in
+      let less : made + (after - made) ≡ after = omega (arith, at.count, one_more.whole) in
+      record {
+        count = one_more.whole ∙ ap stored_count one;
+        grows = λ hashed. rw (← one, take_more digests place [] inside) (all-next (front size stored)
+            (front (size + place) (items stored made more)) (front (size + place + 1) (items stored after next))
+            (take place digests) (get_or digests place []) (at.grows hashed)
+            (completes-appends one_more.completed (length-items stored more made room ∙ at.count)));
+        behind = one_more.behind ∙ ap (λ n. drop n more) (sym less) ∙ sym (drop-drop (after - made) made more)
+            ∙ ap (drop (after - made)) at.behind ∙ drop-drop (after - made) made old ∙ ap (λ n. drop n old) less;
+        same = one_more.same ∙ at.same;
+      }
 
--- There is room for the digests of one more.
-pub appending-room : {hash : NodeHash} {stored digests old more : List Digest} {size place made : ℕ}
-    → Appending hash stored size digests old more place made
-    → stored_count (size + length digests) ≤ stored_count size + length old
-    → place < length digests → stored_count (size + place + 1) ≤ stored_count size + length more
-appending-room {digests = digests} {size = size} {place = place} at room inside =
-    let rises = count-rises (size + place + 1) (size + length digests) (omega arith) in
-    omega (arith, at.same)
+  -- The digests that were made are in the buffer.
+  pub appending-fits : length stored ≡ stored_count size
+      → stored_count (size + length digests) ≤ stored_count size + length old → place ≤ length digests
+      → made ≤ length more
+  appending-fits long room inside =
+      let rises = count-rises (size + place) (size + length digests) (omega arith) in
+      omega (arith, at.same, at.count)
+
+  -- There is room for the digests of one more.
+  pub appending-room : stored_count (size + length digests) ≤ stored_count size + length old
+      → place < length digests → stored_count (size + place + 1) ≤ stored_count size + length more
+  appending-room room inside =
+      let rises = count-rises (size + place + 1) (size + length digests) (omega arith) in
+      omega (arith, at.same)
 
 module _ {hash : NodeHash} {leaves kept digests old more : List Digest} {size place made : ℕ}
     (at : Appending hash (take (stored_count size) kept) size digests old more place made) (room : made ≤ length more)

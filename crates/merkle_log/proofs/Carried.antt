@@ -88,11 +88,11 @@ row_pairs-even hash (a ∷ b ∷ row) next digest is even =
 
 -- ---- rows with one more each
 
-pushed-in : (rows : ℕ → List Digest) (made : List Digest) (level : ℕ) → level < length made → pushed_row rows made level
+pub pushed-in : (rows : ℕ → List Digest) (made : List Digest) (level : ℕ) → level < length made → pushed_row rows made level
     ≡ rows level ++ (get_or made level [] ∷ [])
 pushed-in rows made level under = rw (lt-ltb level (length made) under) refl
 
-pushed-out : (rows : ℕ → List Digest) (made : List Digest) (level : ℕ) → length made ≤ level → pushed_row rows made
+pub pushed-out : (rows : ℕ → List Digest) (made : List Digest) (level : ℕ) → length made ≤ level → pushed_row rows made
     level ≡ rows level
 pushed-out rows made level over = rw (le-ltb level (length made) over) refl
 

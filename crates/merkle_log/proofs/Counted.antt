@@ -2,7 +2,7 @@
 use Rattle.std.proofs.Common.{◌≡◌, ℕ, ◌+◌, ◌-◌, ◌/◌, ◌<◌, ◌≤◌, ◌^◌, ap, sym, ◌∙◌, arith, inl, inr}
 use Rattle.std.proofs.lemmas.Bool.{cases_lt}
 use Rattle.std.proofs.lemmas.Nat.{ones_le_self}
-use Rattle.std.proofs.Math.Nat.{min-eq_left, min-eq_right, min-le_right}
+use Rattle.std.proofs.Math.Nat.{min-eq_left, min-eq_right}
 use Rattle.std.specs.Prelude.{min}
 use Rattle.merkle_log.specs.Append.{counted_after, pair_count}
 use Rattle.merkle_log.specs.Stored.{stored_count}
@@ -41,18 +41,6 @@ counted-same c fits =
 pub counted-all : (x : ℕ) → x < 2 ^ 64 → counted_after 0 x ≡ x
 counted-all x fits = let same : 0 + x ≡ x = omega arith in min-eq_left (omega arith) ∙ same
 
--- what a list's growth hashes, in two parts
-pub counted-parts : (c a first mid last n : ℕ) → first ≤ mid → mid ≤ last
-    → c ≡ counted_after a (pair_count mid - pair_count first) → n ≡ counted_after c (pair_count last - pair_count mid)
-    → n ≡ counted_after a (pair_count last - pair_count first)
-counted-parts c a first mid last n less more so next =
-    let p = pair-rises first mid less in
-    let q = pair-rises mid last more in
-    let sum : pair_count mid - pair_count first + (pair_count last - pair_count mid)
-    ≡ pair_count last - pair_count first = omega arith in
-    next ∙ ap (λ m. counted_after m (pair_count last - pair_count mid)) so
-    ∙ counted-more a (pair_count mid - pair_count first) (pair_count last - pair_count mid) ∙ ap (counted_after a) sum
-
 -- what is counted from none on
 pub counted-growth : (calls counted first last : ℕ) → first ≤ last → last < 2 ^ 64 → calls ≡ counted
     → counted ≡ counted_after 0 (pair_count last - pair_count first) → pair_count first + calls ≡ pair_count last
@@ -61,6 +49,3 @@ counted-growth calls counted first last le fits same so =
     let q = pair-within last in
     let all = counted-all (pair_count last - pair_count first) (omega arith) in
     let e = same ∙ so ∙ all in omega arith
-
-pub counted-within : (a x n : ℕ) → n ≡ counted_after a x → n < 2 ^ 64
-counted-within a x n is = let le = min-le_right (a + x) 18446744073709551615 in omega arith

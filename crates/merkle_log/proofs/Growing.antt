@@ -6,7 +6,9 @@ use Rattle.ark_paths.specs.Pair.{Digest, Hashes}
 use Rattle.ark_paths.proofs.ListOutcomes.{IsSoFar, IsSoFar-none, IsSoFar-all}
 use Rattle.merkle_log.specs.Log.{NodeHash}
 use Rattle.merkle_log.specs.Stored.{StoredValue, stored_count, row_of, IsStored}
-use Rattle.merkle_log.specs.Append.{Appends, AppendsAll, AppendsLeaves, GrowsTo, IsWhole}
+use Rattle.merkle_log.specs.Append.{Appends, AppendsLeaves, GrowsTo, IsWhole}
+use Rattle.merkle_log.specs.Rising.{with_rows}
+use Rattle.merkle_log.proofs.KeptRows.{stored-same}
 use Rattle.merkle_log.proofs.Positions.{count-rises}
 use Rattle.merkle_log.proofs.Carried.{stored-pushed, pushed-first}
 
@@ -30,6 +32,14 @@ module _ {V : Type 0} (hash : NodeHash) (old new : StoredValue) (digest : Digest
       by_result (Err e) appended same = rw (same) kept
 
 -- ---- many leaves
+
+-- A log's list is followed by more leaves' digests and those that they make.
+pub record AppendsAll (hash : NodeHash) (old : StoredValue) (digests : List Digest) (new : StoredValue) :
+    Type 0 where
+  pub first_row : row_of new 0 ≡ row_of old 0 ++ digests
+  pub whole : IsWhole new
+  pub stored : IsStored hash (row_of new)
+  pub extends : GrowsTo old new
 
 pub extends-itself : (stored : StoredValue) → IsWhole stored → GrowsTo stored stored
 extends-itself stored whole = record {
@@ -72,6 +82,18 @@ module _ {hash : NodeHash} where
   all-next old mid new digests digest first appended =
       all-more old mid new digests (digest ∷ []) first
       (all-first mid new digest first.stored appended)
+
+-- Rows were laid behind those of a list.
+pub laid-all : (hash : NodeHash) (old new : StoredValue) (left : ℕ → List Digest) (digests : List Digest)
+    → left 0 ≡ digests → IsStored hash (with_rows (row_of old) left)
+    → ((level : ℕ) → row_of new level ≡ with_rows (row_of old) left level) → IsWhole new → GrowsTo old new
+    → AppendsAll hash old digests new
+laid-all hash old new left digests lowest hashed laid whole extends = record {
+  first_row = laid 0 ∙ ap (λ l. row_of old 0 ++ l) lowest;
+  whole = whole;
+  stored = stored-same hash (with_rows (row_of old) left) (row_of new) (λ level. sym (laid level)) hashed;
+  extends = extends;
+}
 
 -- The list has the digests of the first leaves behind.
 pub record AppendsFirst {A : Type 0} (hashes : Hashes A) (old : StoredValue) (leaves : List A) (count : ℕ)

@@ -40,4 +40,5 @@ pub mod Asking
 pub mod Givens
 pub mod KeptPlaces
 pub mod Levels
-pub mod MadeAhead
+pub mod RisenRows
+pub mod LaidRows

@@ -99,11 +99,3 @@ pub record AppendsLeaves {A : Type 0} (hashes : Hashes A) (old : StoredValue) (l
   pub first_row : row_of new 0 ≡ row_of old 0 ++ digests
   pub whole : IsWhole new
   pub stored : IsStored hashes.pair.upper (row_of new)
-
--- A log's list is followed by more leaves' digests and those that they make.
-pub record AppendsAll (hash : NodeHash) (old : StoredValue) (digests : List Digest) (new : StoredValue) :
-    Type 0 where
-  pub first_row : row_of new 0 ≡ row_of old 0 ++ digests
-  pub whole : IsWhole new
-  pub stored : IsStored hash (row_of new)
-  pub extends : GrowsTo old new

@@ -15,4 +15,4 @@ pub mod Given
 pub mod Asked
 pub mod Kept
 pub mod Levels
-pub mod Ahead
+pub mod Rising

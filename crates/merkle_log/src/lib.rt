@@ -2,19 +2,20 @@
 //! front of another (RFC 6962 and RFC 9162, section 2.1).
 #![tactic(auto)]
 
-mod ahead;
 pub mod bind;
 pub mod consistency;
 mod digests;
 pub mod frontier;
 pub mod inclusion;
 pub mod kept;
+mod laying;
 pub mod log;
 pub mod nodes;
 pub mod paths;
 mod places;
 pub mod received;
 mod refusing;
+mod rising;
 pub mod rows;
 mod stored;
 mod way;

@@ -8,7 +8,7 @@ ghost use Rattle.ark_paths.specs.Pair.{Digest};
 ghost use Rattle.ark_paths.specs.Root.{all_hashes, root_of};
 ghost use Rattle.ark_paths.specs.Rows.{digests_of};
 ghost use Rattle.ark_paths.specs.Tree.{halves_beside};
-ghost use Rattle.merkle_log.specs.Append.{AppendsAll, AppendsLeaves, GrowsTo, HasLeaf, HasLeaves, IsWhole, KeepsSizes, Refuses, counted_after, pair_count};
+ghost use Rattle.merkle_log.specs.Append.{AppendsLeaves, GrowsTo, HasLeaf, HasLeaves, IsWhole, KeepsSizes, Refuses, pair_count};
 ghost use Rattle.merkle_log.specs.Binding.{is_accepted, HighestIn, LeafHighestIn, leaf_verdict_in, verdict_in};
 ghost use Rattle.merkle_log.specs.declared.bind.LogBinding.TheVariants.{Rejected, Stands, Collides};
 ghost use Rattle.merkle_log.specs.Edge.{all_of, beside_pairs, root_pairs};
@@ -16,11 +16,11 @@ ghost use Rattle.merkle_log.specs.Log.{LogValue, both_levels, inclusion_path, co
 ghost use Rattle.merkle_log.specs.Stored.{row_of, IsStored};
 ghost use Rattle.merkle_log.specs.Verdict.{inclusion_verdict, consistency_verdict};
 
-use crate::ahead::Ahead;
 use crate::bind::{LogBinding, binding_of};
 use crate::digests::copy_of;
 use crate::paths::{consistency_path_of, inclusion_path_of};
 use crate::refusing::Refusing;
+use crate::rising::rows_over;
 use crate::rows::root_of;
 use crate::stored::Stored;
 use ark_base::error::Error;
@@ -57,33 +57,6 @@ impl<D: DigestItem, T: TreeHasher<D, D>> Model for Log<D, T> {
     } };
 }
 
-// Puts digests behind a list, the first one first, and hashes the pairs that they complete. An error may leave some.
-fn append_run<D: DigestItem, W: PairHasher<D, D>>(
-    alloc: Global,
-    pairs: &mut W,
-    stored: &mut Stored<D>,
-    digests: Vec<D>,
-) -> Result<(), Error>
-    requires whole { IsWhole stored.old }
-    requires stored { IsStored (W.pair pairs.old).upper (row_of stored.old) }
-    requires counted { W.counted pairs.old < 2 ^ 64 }
-    requires fits { stored.old.size < 2 ^ 64 }
-    ensures appended { OnOk result (AppendsAll (W.pair pairs.old).upper stored.old
-        (digests_of D.numbers digests) stored.new) }
-    ensures extends { GrowsTo stored.old stored.new }
-    ensures refused { IfErr result (λ error. (error ≡ OutOfMemory)
-        ⊎ Refuses (W.pair pairs.old).upper error) }
-    ensures same { OnOk result (W.pair pairs.new ≡ W.pair pairs.old) }
-    ensures counts { OnOk result (W.counted pairs.new ≡ counted_after (W.counted pairs.old)
-        (pair_count stored.new.size - pair_count stored.old.size)) }
-    ensures fits { stored.new.size < 2 ^ 64 }
-{
-    'digests: for digest in digests {
-        stored.append(alloc, pairs, digest)?;
-    }
-    Ok(())
-}
-
 // Puts the digests of leaves behind a list, and hashes the pairs that they complete, a run of leaves at a time; returns how many
 // pairs. An error may leave some of them.
 fn append_each<D: DigestItem, T: TreeHasher<D, D>>(
@@ -110,9 +83,8 @@ fn append_each<D: DigestItem, T: TreeHasher<D, D>>(
     'runs: while first < leaves.len() {
         let count = (leaves.len() - first).min(RUN);
         let made = leaf_row(alloc, hasher, part_of(leaves, first, count))?;
-        let mut pairs = Ahead::new(alloc, hasher, stored.size(), &made)?;
-        append_run(alloc, &mut pairs, stored, made)?;
-        calls += pairs.calls();
+        let mut rows = rows_over(alloc, hasher, stored, made)?;
+        calls += stored.lay(count, &mut rows)?;
         first += count;
     }
     Ok(calls)

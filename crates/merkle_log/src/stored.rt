@@ -1,12 +1,14 @@
 //! The list of a log: the digests of all complete places, in the order in which they were completed.
 
-ghost use Rattle.std.specs.Prelude.{◌≡◌, ◌⊎◌, ◌<◌, ◌≤◌, ◌+◌, ◌-◌, ◌*◌, ◌^◌, ◌++◌, ℕ, List, [], length, map, take, get_or, IfErr, OnOk, OnErr, Ok};
+ghost use Rattle.std.specs.Prelude.{◌≡◌, ◌⊎◌, ◌<◌, ◌≤◌, ◌+◌, ◌-◌, ◌*◌, ◌^◌, ◌++◌, ℕ, List, [], length, map, take, get_or, IfOk, IfErr, OnOk, OnErr, Ok};
 ghost use Rattle.ark_base.specs.declared.error.Error.TheVariants.{OutOfMemory};
 ghost use Rattle.ark_paths.specs.Pair.{Digest};
 ghost use Rattle.ark_paths.specs.Rows.{digests_of};
-ghost use Rattle.merkle_log.specs.Append.{Appends, Completes, Refuses, counted_after, pair_count};
+ghost use Rattle.merkle_log.specs.Append.{Appends, Completes, GrowsTo, IsWhole, Refuses, counted_after, pair_count};
+ghost use Rattle.merkle_log.specs.Rising.{left_of, with_rows, AreOfSize};
 ghost use Rattle.merkle_log.specs.Stored.{position, stored_count, StoredValue, row_of};
 
+use crate::laying::lay_rows;
 use crate::places::digest_at;
 use crate::rows::Rows;
 use ark_base::error::Error;
@@ -14,6 +16,7 @@ use ark_base::serialize::DigestItem;
 use ark_paths::PairHasher;
 use std::alloc::Global;
 use std::marker::Model;
+use std::vec::IntoIter;
 
 /// The digests of a log's complete places, and the count of its leaves.
 #[derive(Drop)]
@@ -109,6 +112,33 @@ impl<D: DigestItem> Stored<D> {
             }
             Err(error) => {
                 self.digests.truncate(count);
+                Err(error)
+            }
+        }
+    }
+
+    /// Lays rows behind its own, so many digests of leaves and all of those that they complete; returns how many these are. An
+    /// error, `OutOfMemory`, leaves the list.
+    pub fn lay(&mut self, count: usize, rows: &mut [IntoIter<D>]) -> Result<usize, Error>
+        requires { AreOfSize (self.old.size + count)
+            (with_rows (row_of self.old) (left_of D.numbers rows.old)) }
+        ensures laid { OnOk result ((level : ℕ) → row_of self.new level ≡ with_rows
+            (row_of self.old) (left_of D.numbers rows.old) level) }
+        ensures whole { IsWhole self.new }
+        ensures extends { GrowsTo self.old self.new }
+        ensures refused { IfErr result (λ error. error ≡ OutOfMemory) }
+        ensures count { IfOk result
+            (λ pairs. pair_count self.old.size + pairs ≡ pair_count self.new.size) }
+        ensures fits { self.new.size < 2 ^ 64 }
+    {
+        let before = self.digests.len();
+        match lay_rows(&mut self.digests, self.size, count, rows) {
+            Ok(()) => {
+                self.size += count;
+                Ok(self.digests.len() - before - count)
+            }
+            Err(error) => {
+                self.digests.truncate(before);
                 Err(error)
             }
         }

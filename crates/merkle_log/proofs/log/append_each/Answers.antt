@@ -1,11 +1,13 @@
-use Rattle.std.proofs.Common.{◌-◌, ap, sym, subst, ◌∙◌, inl, inr, arith}
+use Rattle.std.proofs.Common.{◌≡◌, length, take, drop, ap, sym, ◌∙◌, inl, inr, arith}
+use Rattle.std.proofs.lemmas.List.{length-drop, length-take-le}
 use Rattle.std.proofs.lemmas.Result.{err_from_is_err_and}
 use Rattle.ark_paths.specs.Root.{all_hashes}
 use Rattle.ark_paths.specs.Rows.{digests_of}
 use Rattle.ark_paths.proofs.Ahead.{so_far-run, so_far-run_refused}
-use Rattle.merkle_log.specs.Append.{AppendsAll, counted_after, pair_count}
-use Rattle.merkle_log.proofs.Counted.{counted-growth}
-use Rattle.merkle_log.proofs.Growing.{appends-none, appends-run, appends-all}
+use Rattle.ark_paths.proofs.ListOutcomes.{length-each}
+use Rattle.merkle_log.specs.Rising.{left_of}
+use Rattle.merkle_log.proofs.Growing.{AppendsAll, appends-none, appends-run, appends-all, laid-all}
+use Rattle.merkle_log.proofs.RisenRows.{sizes-of}
 use Rattle.merkle_log.proofs.log.append_each.Goals as goal
 
 pub runs-init : goal.runs-init
@@ -18,23 +20,31 @@ runs-init g c = record {
 pub runs-preserved : goal.runs-preserved
 runs-preserved g c =
     let hash = (g.T.TreeHasher.hashes c.args.hasher.now).leaf in
-    let appended : AppendsAll (g.T.TreeHasher.hashes c.args.hasher.now).pair.upper c.runs.stored
-    (digests_of g.D.Numbered.numbers c.in_ok-made.made) c.append_run.new.stored =
-    subst (λ hasher. AppendsAll (g.T.TreeHasher.hashes hasher).pair.upper c.runs.stored
-    (digests_of g.D.Numbered.numbers c.in_ok-made.made) c.append_run.new.stored) c.in_ok-pairs.ensures.hasher
-    c.in_ok-append_run.ensures.appended in
-    let old = c.runs.stored in
-    let new = c.append_run.new.stored in
-    let none = ap (λ n. counted_after n (pair_count new.size - pair_count old.size)) c.in_ok-pairs.ensures.none in
-    let more = counted-growth c.calls-calls.result _ old.size new.size c.in_ok-append_run.ensures.extends.size
-    c.in_ok-append_run.ensures.fits c.calls-calls.ensures (c.in_ok-append_run.ensures.counts ∙ none) in
+    let digests = digests_of g.D.Numbered.numbers c.in_ok-made.made in
+    let appended : AppendsAll (g.T.TreeHasher.hashes c.args.hasher.now).pair.upper c.runs.stored digests c.lay.new.self =
+    laid-all _ _ _ (left_of g.D.Numbered.numbers c.in_ok-rows.rows.items) digests c.in_ok-rows.ensures.lowest
+    c.in_ok-rows.ensures.hashed (rw (c.deref_mut.ensures.value) at c.in_ok-calls.ensures.laid)
+    c.in_ok-calls.ensures.whole c.in_ok-calls.ensures.extends in
     record {
-      at = appends-run c.min-count.result c.runs.invariant.at (digests_of g.D.Numbered.numbers c.in_ok-made.made)
+      at = appends-run c.min-count.result c.runs.invariant.at digests
           (λ done so. so_far-run hash c.args.leaves.now c.runs.first _ done so _
           (ap (all_hashes hash) (sym c.part_of.ensures) ∙ c.in_ok-made.ensures)) appended;
-      counted = omega (arith, more, c.runs.invariant.counted);
-      fits = c.in_ok-append_run.ensures.fits;
+      counted = omega (arith, c.in_ok-calls.ensures.count, c.runs.invariant.counted);
+      fits = c.in_ok-calls.ensures.fits;
     }
+
+pub lay-requires : goal.lay-requires
+lay-requires g c =
+    let leaves = c.args.leaves.now in
+    let numbers = g.D.Numbered.numbers in
+    let count = c.min-count.result in
+    let long : length (take count (drop c.runs.first leaves)) ≡ count =
+    length-take-le count (drop c.runs.first leaves) (omega (arith, length-drop c.runs.first leaves)) in
+    let made = length-each (g.T.TreeHasher.hashes c.args.hasher.now).leaf c.part_of.result.now
+    (digests_of numbers c.in_ok-made.made) c.in_ok-made.ensures in
+    rw (c.deref_mut.ensures.value) (sizes-of _ c.runs.stored (left_of numbers c.in_ok-rows.rows.items) count
+    (ap length c.in_ok-rows.ensures.lowest ∙ made ∙ ap length c.part_of.ensures ∙ long)
+    c.in_ok-rows.ensures.hashed)
 
 pub returns-in_err-made-clause-refused : goal.returns-in_err-made-clause-refused
 returns-in_err-made-clause-refused g c =

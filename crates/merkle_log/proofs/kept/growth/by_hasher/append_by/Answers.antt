@@ -36,9 +36,12 @@ leaves-preserved g c =
     record {
       same = c.in_ok-made.ensures.same ∙ c.leaves.invariant.same;
       at = appending-next c.leaves.invariant.at
-          (appending-fits c.leaves.invariant.at long c.requires.room (omega arith)) (omega arith) refl
-          (rw (c.leaves.invariant.same) at c.in_ok-made.ensures.completed)
-          (omega (arith, long, c.in_ok-made.ensures.whole)) c.in_ok-made.ensures.behind c.in_ok-made.ensures.length;
+          (appending-fits c.leaves.invariant.at long c.requires.room (omega arith)) (omega arith) (record {
+            completed = rw (c.leaves.invariant.same) at c.in_ok-made.ensures.completed;
+            whole = omega (arith, long, c.in_ok-made.ensures.whole);
+            behind = c.in_ok-made.ensures.behind;
+            same = c.in_ok-made.ensures.length;
+          });
     }
 
 pub returns-clause-count : goal.returns-clause-count

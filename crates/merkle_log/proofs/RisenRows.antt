@@ -1,0 +1,194 @@
+-- The rows that more leaves put behind those of a log, level by level.
+use Rattle.std.proofs.Common.{zero, suc, ◌≡◌, ℕ, ◌+◌, ◌*◌, ◌/◌, ◌<◌, ◌≤◌, List, [], ◌∷◌, ◌++◌, length, map, drop, get_or, Ok, Err, IfOk, IfErr, ◌⊎◌, arith, refl, ap, sym, ◌∙◌, inl, inr}
+use Rattle.std.proofs.lemmas.Bool.{cases_lt}
+use Rattle.std.proofs.lemmas.List.{append-nil, get_or_append_left, get_or_past, get_or_push, length-append}
+use Rattle.ark_base.specs.declared.error.Error.{Error}
+use Rattle.ark_base.specs.declared.error.Error.TheVariants.{OutOfMemory}
+use Rattle.ark_base.specs.Outcome.{AnswersBy, Outcome, ◌>>=◌}
+use Rattle.ark_base.specs.Laws.Steps.{done_injective}
+use Rattle.ark_crh.specs.Ahead.{of_couple}
+use Rattle.ark_paths.specs.Pair.{Digest}
+use Rattle.ark_paths.specs.Root.{all_hashes}
+use Rattle.ark_paths.specs.Rows.{couples}
+use Rattle.merkle_log.specs.Append.{Refuses}
+use Rattle.merkle_log.specs.Log.{NodeHash}
+use Rattle.merkle_log.specs.Rising.{AreOfSize, with_rows}
+use Rattle.merkle_log.specs.Stored.{row_of, row_pairs, IsStored, StoredValue}
+use Rattle.merkle_log.specs.Walk.{index_up}
+use Rattle.merkle_log.proofs.KeptRows.{length-up}
+use Rattle.merkle_log.proofs.Lasts.{length-row_pairs, pairs_parts}
+use Rattle.merkle_log.proofs.Positions.{length-row_of, up-more}
+
+-- ---- a row
+
+module _ (hash : NodeHash) where
+  pairs-are : (row : List Digest) → row_pairs hash row ≡ all_hashes (of_couple hash) (couples row)
+  pairs-are [] = refl
+  pairs-are (a ∷ []) = refl
+  pairs-are (a ∷ b ∷ row) = ap (λ o. hash a b >>= λ c. o >>= λ next. Ok (c ∷ next)) (pairs-are row)
+
+  -- A row with more behind it has the pairs that it had, and those that the others complete.
+  pub pairs-over : (row next more above : List Digest) → row_pairs hash row ≡ Ok next
+      → all_hashes (of_couple hash) (couples (drop (2 * (length row / 2)) row ++ more)) ≡ Ok above
+      → row_pairs hash (row ++ more) ≡ Ok (next ++ above)
+  pairs-over [] next more above is over =
+      pairs-are more ∙ over ∙ ap (λ l. Ok (l ++ above)) (done_injective {E = Error} [] next is)
+  pairs-over (a ∷ []) next more above is over =
+      pairs-are (a ∷ more) ∙ over ∙ ap (λ l. Ok (l ++ above)) (done_injective {E = Error} [] next is)
+  pairs-over (a ∷ b ∷ row) next more above is over =
+      let p = pairs_parts hash a b row next is in
+      let two : 2 * (length (a ∷ b ∷ row) / 2) ≡ suc (suc (2 * (length row / 2))) = omega arith in
+      rw (p.2, pairs-over row p.1 more above p.3 (rw (two) at over)) (ap (λ l. Ok (l ++ above)) p.4)
+
+  refuses-next : (couple : Digest × Digest) (error : Error) (o : Outcome Digest) (others : Outcome (List Digest))
+      → hash couple.0 couple.1 ≡ o → (others ≡ Err error → Refuses hash error)
+      → (o >>= λ digest. others >>= λ digests. Ok (digest ∷ digests)) ≡ Err error → Refuses hash error
+  refuses-next couple error (Ok digest) (Ok digests) here rest is = absurd cc
+  refuses-next couple error (Ok digest) (Err e) here rest is = rest is
+  refuses-next couple error (Err e) others here rest is = record {
+    left = couple.0;
+    right = couple.1;
+    is = here ∙ cc;
+  }
+
+  -- What refuses couples refuses one of them.
+  refuses-some : (all : List (Digest × Digest)) (error : Error) → all_hashes (of_couple hash) all ≡ Err error
+      → Refuses hash error
+  refuses-some [] error is = absurd cc
+  refuses-some (couple ∷ all) error is =
+      refuses-next couple error (hash couple.0 couple.1) (all_hashes (of_couple hash) all) refl
+      (refuses-some all error) is
+
+  -- what the hashes of the couples say
+  module _ {R : Type 0} (view : R → List Digest) (all : List (Digest × Digest)) where
+    pub over-hashed : (row next more : List Digest) → row_pairs hash row ≡ Ok next
+        → couples (drop (2 * (length row / 2)) row ++ more) ≡ all
+        → (result : Outcome R) → AnswersBy view (all_hashes (of_couple hash) all) result
+        → IfOk result (λ above. row_pairs hash (row ++ more) ≡ Ok (next ++ view above))
+    over-hashed row next more is same (Ok above) answer =
+        pairs-over row next more (view above) is (ap (all_hashes (of_couple hash)) same ∙ answer)
+    over-hashed row next more is same (Err e) answer = tt
+
+    pub over-refused : (result : Outcome R) → AnswersBy view (all_hashes (of_couple hash) all) result
+        → IfErr result (λ error. (error ≡ OutOfMemory) ⊎ Refuses hash error)
+    over-refused (Ok above) answer = tt
+    over-refused (Err e) answer = elim answer [
+      | inl memory ↦ inl memory
+      | inr refused ↦ inr (refuses-some all e refused)
+    ]
+
+  -- A row and what others put behind the one above are fewer than the row and these.
+  pub over-fewer : (stored : StoredValue) (level count : ℕ) (more above : List Digest)
+      → count ≡ length (row_of stored level) → 0 < length more
+      → row_pairs hash (row_of stored level ++ more) ≡ Ok (row_of stored (level + 1) ++ above)
+      → count / 2 + length above < count + length more
+  over-fewer stored level count more above is some over = omega (
+    arith,
+    length-row_pairs hash _ _ over,
+    length-append (row_of stored level) more,
+    length-append (row_of stored (level + 1)) above,
+    length-up stored level,
+  )
+
+-- ---- level by level
+
+-- what stands on a level of such rows
+abbrev pub standing : {A : Type 0} → (A → Digest) → List (List A) → ℕ → List Digest
+standing numbers lists level = map numbers (get_or lists level [])
+
+-- the same, the last of them apart
+abbrev pub risen : {A : Type 0} → (A → Digest) → List (List A) → List A → ℕ → List Digest
+risen numbers lists row level = standing numbers (lists ++ row ∷ []) level
+
+-- The rows so far have the hashes of the pairs below them.
+pub record Rising {A : Type 0} (numbers : A → Digest) (hash : NodeHash) (rows : ℕ → List Digest)
+    (leaves : List Digest) (lists : List (List A)) (row : List A) : Type 0 where
+  pub lowest : risen numbers lists row 0 ≡ leaves
+  pub hashed : (l : ℕ) → l < length lists
+      → row_pairs hash (with_rows rows (risen numbers lists row) l)
+      ≡ Ok (with_rows rows (risen numbers lists row) (l + 1))
+
+module _ {A : Type 0} {numbers : A → Digest} {hash : NodeHash} {rows : ℕ → List Digest} {leaves : List Digest} where
+  pub rising-first : (row : List A) → map numbers row ≡ leaves → Rising numbers hash rows leaves [] row
+  rising-first row is = record { lowest = is; hashed = λ l below. absurd (omega arith) }
+
+  module _ {lists : List (List A)} {row : List A} (at : Rising numbers hash rows leaves lists row) where
+    -- the row that was the last one
+    top : (level : ℕ) → level ≡ length lists → get_or (lists ++ row ∷ []) level [] ≡ row
+    top level is = get_or_push lists row [] level (sym is)
+
+    pub rising-next : (above : List A) → row_pairs hash (rows (length lists) ++ map numbers row)
+        ≡ Ok (rows (length lists + 1) ++ map numbers above)
+        → Rising numbers hash rows leaves (lists ++ row ∷ []) above
+    rising-next above is = record {
+      lowest = stays 0 (omega arith) ∙ at.lowest;
+      hashed = λ l below. elim (cases_lt l (length lists)) [
+        | inl less ↦
+            ap (λ d. row_pairs hash (rows l ++ d)) (stays l (omega arith)) ∙ at.hashed l less
+            ∙ ap (λ d. Ok (rows (l + 1) ++ d)) (sym (stays (l + 1) (omega arith)))
+        | inr ge ↦
+            let e : l ≡ length lists = omega (arith, long) in
+            ap (λ d. row_pairs hash (rows l ++ d)) (stays l (omega arith) ∙ ap (map numbers) (top l e))
+            ∙ ap (λ n. row_pairs hash (rows n ++ map numbers row)) e ∙ is
+            ∙ ap (λ n. Ok (rows (n + 1) ++ map numbers above)) (sym e)
+            ∙ ap (λ d. Ok (rows (l + 1) ++ map numbers d))
+            (sym (get_or_push (lists ++ row ∷ []) above [] (l + 1) (omega (arith, long))))
+      ];
+    }
+      where
+        long : length (lists ++ row ∷ []) ≡ length lists + 1
+        long = length-append lists (row ∷ [])
+
+        stays : (l : ℕ) → l < length lists + 1 → risen numbers (lists ++ row ∷ []) above l
+            ≡ risen numbers lists row l
+        stays l below = ap (map numbers) (get_or_append_left (lists ++ row ∷ []) (above ∷ []) [] l
+            (omega (arith, long)))
+
+    -- The last row has no digests.
+    module _ (none : length row ≡ 0) where
+      nothing : (xs : List A) → length xs ≡ 0 → xs ≡ []
+      nothing [] is = refl
+      nothing (x ∷ xs) is = absurd (omega arith)
+
+      over : (l : ℕ) → length lists ≤ l → standing numbers lists l ≡ []
+      over l past = ap (map numbers) (get_or_past lists l [] past)
+
+      same : (l : ℕ) → risen numbers lists row l ≡ standing numbers lists l
+      same l = elim (cases_lt l (length lists)) [
+        | inl less ↦ ap (map numbers) (get_or_append_left lists (row ∷ []) [] l less)
+        | inr ge ↦ elim (cases_lt (length lists) l) [
+          | inl past ↦
+              ap (map numbers) (get_or_past (lists ++ row ∷ []) l [] (omega (arith, length-append lists (row ∷ []))))
+              ∙ sym (over l ge)
+          | inr le ↦ ap (map numbers) (top l (omega arith) ∙ nothing row none) ∙ sym (over l ge)
+        ]
+      ]
+
+      pub risen-stored : IsStored hash rows → IsStored hash (with_rows rows (standing numbers lists))
+      risen-stored stored = record {
+        pairs = λ l.
+            let e : l + 1 ≡ suc l = omega arith in
+            elim (cases_lt l (length lists)) [
+              | inl less ↦
+                  ap (λ d. row_pairs hash (rows l ++ d)) (sym (same l)) ∙ at.hashed l less
+                  ∙ ap (λ n. Ok (rows n ++ risen numbers lists row n)) e
+                  ∙ ap (λ d. Ok (rows (suc l) ++ d)) (same (suc l))
+              | inr ge ↦
+                  ap (λ d. row_pairs hash (rows l ++ d)) (over l ge) ∙ ap (row_pairs hash) (append-nil (rows l))
+                  ∙ stored.pairs l ∙ ap Ok (sym (append-nil (rows (suc l))))
+                  ∙ ap (λ d. Ok (rows (suc l) ++ d)) (sym (over (suc l) (omega arith)))
+            ];
+      }
+
+-- ---- how long the rows are
+
+pub sizes-of : (hash : NodeHash) (stored : StoredValue) (left : ℕ → List Digest) (count : ℕ) → length (left 0) ≡ count
+    → IsStored hash (with_rows (row_of stored) left) → AreOfSize (stored.size + count) (with_rows (row_of stored) left)
+sizes-of hash stored left count long hashed zero =
+    omega (arith, length-append (row_of stored 0) (left 0), length-row_of stored 0)
+sizes-of hash stored left count long hashed (suc level) =
+    let e : level + 1 ≡ suc level = omega arith in
+    length-row_pairs hash (with_rows (row_of stored) left level) (with_rows (row_of stored) left (suc level))
+    (hashed.pairs level)
+    ∙ ap (λ n. n / 2) (sizes-of hash stored left count long hashed level)
+    ∙ sym (up-more level (stored.size + count)) ∙ ap (λ l. index_up l (stored.size + count)) e
