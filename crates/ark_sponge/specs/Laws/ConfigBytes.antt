@@ -18,7 +18,7 @@ use Rattle.ark_groups.specs.Field.{IsFieldModulus}
 use Rattle.ark_groups.specs.Laws.Fp.{below_modulus_laws}
 use Rattle.ark_sponge.specs.Permutation.{Parameters, has_poseidon_shape, lawful_parameters}
 use Rattle.ark_sponge.specs.ConfigBytes.{fields_of, of_fields, HaveSpelling, fields_spelling, fields_at}
-use Rattle.ark_sponge.specs.ConfigBytes.{let_through, tested_at, IsSpelled, parameters_spelling, parameters_at}
+use Rattle.ark_sponge.specs.ConfigBytes.{let_through, tested_at, IsSpelled, parameters_spelling, parameters_by, parameters_at}
 
 -- ---- the fields in turn
 
@@ -105,16 +105,22 @@ lawful_parameters-same bits c d e =
     let begun = guarded-Ok (eqb c.rate 0) (GenericError ZeroRate) _ d wide in
     kept-Ok (has_poseidon_shape c) (GenericError ParameterShape) c d begun
 
-pub parameters_laws : (p bits : ℕ) → IsFieldModulus p bits
-    → IsCanonical (IsSpelled p bits) (parameters_spelling bits) (parameters_at p bits)
-parameters_laws p bits modulus =
-    let fits = IsBelow p in
-    let spell = bytes_of_number (bytes_for bits) in
-    let reads = below_at p (bytes_for bits) in
+-- elements that have one spelling each make parameters that have one
+pub parameters_by_laws : (bits : ℕ) (fits : ℕ → Type 0) (spell : ℕ → List ℕ) (reads : List ℕ → Reading ℕ)
+    → IsCanonical fits spell reads
+    → IsCanonical (λ c. HaveSpelling fits (fields_of c) × (lawful_parameters bits c ≡ Ok c))
+    (λ c. fields_spelling spell (fields_of c)) (parameters_by reads bits)
+parameters_by_laws bits fits spell reads laws =
     tested_laws (lawful_parameters bits) (lawful_parameters-same bits) (λ c. HaveSpelling fits (fields_of c))
     (λ c. fields_spelling spell (fields_of c)) (made_at of_fields (fields_at reads))
     (made_laws of_fields fields_of (λ c. refl) (λ f. refl) (HaveSpelling fits) (fields_spelling spell) (fields_at reads)
-    (fields_laws fits spell reads (below_modulus_laws p bits modulus.digits)))
+    (fields_laws fits spell reads laws))
+
+pub parameters_laws : (p bits : ℕ) → IsFieldModulus p bits
+    → IsCanonical (IsSpelled p bits) (parameters_spelling bits) (parameters_at p bits)
+parameters_laws p bits modulus =
+    parameters_by_laws bits (IsBelow p) (bytes_of_number (bytes_for bits)) (below_at p (bytes_for bits))
+    (below_modulus_laws p bits modulus.digits)
 
 both_are_long : {A B : Type 0} (first : A → List ℕ) (second : B → List ℕ) (m n : ℕ) (x : A × B)
     → m ≤ length (first x.0) → n ≤ length (second x.1) → m + n ≤ length (both first second x)

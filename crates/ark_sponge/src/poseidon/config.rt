@@ -174,8 +174,10 @@ impl<F: Field> PoseidonConfig<F> {
         }
     }
 
-    /// Acts as `new`, but for `prepared`. It allocates nothing.
-    pub(crate) fn plain(
+    /// Returns the parameters of `new` without the tables of `prepared`. It allocates nothing.
+    ///
+    /// Errors: those of `new`.
+    pub fn plain(
         full_rounds: usize,
         partial_rounds: usize,
         alpha: u64,
