@@ -507,6 +507,10 @@ enum paxidore_field {
     PAXIDORE_BN254_FR = 4      /* the scalar field of BN254: 32 bytes */
 };
 
+/* Added to the number of a field, it says that the parameters are prepared ones. Each call takes them so, but
+ * paxidore_transcript_ready_parameters and _prepare. */
+#define PAXIDORE_PREPARED 256U
+
 /* The parameters of a permutation, as bytes; a count or a number has 8 of them, the least first: the counts of full and of partial
  * rounds; the exponent of the S-box; the count of all rounds, and of each the count of elements of a state and so many constants;
  * the count of rows of the matrix, and of each its count and its elements; how many elements are absorbed or squeezed before a
@@ -527,6 +531,15 @@ enum paxidore_field {
 PAXIDORE_ANSWERS PAXIDORE_NOT_NULL((3))
 int32_t paxidore_transcript_ready_parameters(uint8_t *parameters, size_t parameters_room, size_t *parameters_len,
                                              uint32_t field, size_t rate);
+
+/* Writes prepared parameters to the front of `prepared`, which has room for `prepared_room`, and their count of bytes to `prepared_len`:
+ * as many as the parameters have. Over PAXIDORE_BLS12_381_FR and PAXIDORE_BN254_FR each element n stands there as n * 2^256 modulo
+ * the modulus, and a call reads it without a product; over the other two fields they are the parameters' own bytes. Prepare once, and
+ * hand them to each call with PAXIDORE_PREPARED added to the field's number: it answers as for the parameters. Where the room is too
+ * short, the answer is E_ROOM and `prepared_len` is what is needed. E_TRUNCATED, E_INVALID, E_ROOM, E_MEMORY. */
+PAXIDORE_ANSWERS PAXIDORE_NOT_NULL((3))
+int32_t paxidore_transcript_prepare(uint8_t *prepared, size_t prepared_room, size_t *prepared_len,
+                                    uint32_t field, const uint8_t *parameters, size_t parameters_len);
 
 /* Writes the state that has absorbed nothing to the front of `state`, which has room for `state_room`, and its count of bytes to
  * `state_len`. Where the room is too short, the answer is E_ROOM and `state_len` is what is needed. E_TRUNCATED, E_INVALID, E_ROOM,

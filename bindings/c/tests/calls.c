@@ -387,7 +387,47 @@ static void transcripts(void) {
     CHECK(paxidore_transcript_ready_parameters(ready, sizeof ready, &len, 1, 2) == PAXIDORE_E_INVALID);
 }
 
+/* Under prepared parameters each call answers as under the parameters, and what is damaged is refused. */
+static void prepared_parameters(uint32_t field, size_t rate, const uint8_t modulus[32]) {
+    static uint8_t given[24000], made[24000], damaged[24000];
+    const uint32_t named = field + PAXIDORE_PREPARED;
+    uint8_t state[2][PAXIDORE_TRANSCRIPTBYTES(8, 1, 32)], out[2][160], elements[96] = {3};
+    size_t len, made_len = 7, state_len[2];
+    CHECK(paxidore_transcript_ready_parameters(given, sizeof given, &len, field, rate) == PAXIDORE_OK);
+    CHECK(paxidore_transcript_prepare(made, len - 1, &made_len, field, given, len) == PAXIDORE_E_ROOM && made_len == len);
+    CHECK(paxidore_transcript_prepare(made, sizeof made, &made_len, field, given, len) == PAXIDORE_OK && made_len == len);
+    CHECK(paxidore_transcript_prepare(damaged, sizeof damaged, &made_len, named, given, len) == PAXIDORE_E_INVALID);
+    CHECK(paxidore_transcript_prepare(damaged, sizeof damaged, &made_len, field, given, len - 1) == PAXIDORE_E_TRUNCATED);
+    CHECK(paxidore_transcript_prepare(damaged, sizeof damaged, &made_len, field, given, len + 1) == PAXIDORE_E_INVALID);
+    CHECK(memcmp(made, given, 40) == 0 && memcmp(made + 40, given + 40, 32) != 0);
+    for (int i = 0; i < 2; i++) {
+        const uint8_t *parameters = i ? made : given;
+        const uint32_t name = i ? named : field;
+        CHECK(paxidore_transcript_init(state[i], sizeof state[i], &state_len[i], name, parameters, len) == PAXIDORE_OK);
+        CHECK(paxidore_transcript_absorb(state[i], state_len[i], name, parameters, len, elements, 96) == PAXIDORE_OK);
+        CHECK(paxidore_transcript_absorb_bytes(state[i], state_len[i], name, parameters, len, given, 100) == PAXIDORE_OK);
+        CHECK(paxidore_transcript_squeeze(out[i], 96, state[i], state_len[i], name, parameters, len) == PAXIDORE_OK);
+        CHECK(paxidore_transcript_squeeze_bytes(out[i] + 96, 64, state[i], state_len[i], name, parameters, len) == PAXIDORE_OK);
+    }
+    CHECK(state_len[0] == state_len[1] && memcmp(state[0], state[1], state_len[0]) == 0);
+    CHECK(memcmp(out[0], out[1], sizeof out[0]) == 0);
+    CHECK(paxidore_transcript_absorb(state[1], state_len[1], named, made, len - 1, elements, 32) == PAXIDORE_E_TRUNCATED);
+    CHECK(paxidore_transcript_absorb(state[1], state_len[1], named, made, len + 1, elements, 32) == PAXIDORE_E_INVALID);
+    memcpy(damaged, made, len);
+    memcpy(damaged + 40, modulus, 32);
+    CHECK(paxidore_transcript_absorb(state[1], state_len[1], named, damaged, len, elements, 32) == PAXIDORE_E_INVALID);
+    damaged[40]--;
+    CHECK(paxidore_transcript_absorb(state[1], state_len[1], named, damaged, len, elements, 32) == PAXIDORE_OK);
+    memcpy(damaged, made, len);
+    damaged[len - 16] = 0; /* a rate of 0 */
+    CHECK(paxidore_transcript_init(state[1], sizeof state[1], &state_len[1], named, damaged, len) == PAXIDORE_E_INVALID);
+}
+
 int main(void) {
+    static const uint8_t bls12_381_fr[32] = {0x01, 0x00, 0x00, 0x00, 0xff, 0xff, 0xff, 0xff, 0xfe, 0x5b, 0xfe, 0xff, 0x02, 0xa4, 0xbd, 0x53,
+                                             0x05, 0xd8, 0xa1, 0x09, 0x08, 0xd8, 0x39, 0x33, 0x48, 0x7d, 0x9d, 0x29, 0x53, 0xa7, 0xed, 0x73};
+    static const uint8_t bn254_fr[32] = {0x01, 0x00, 0x00, 0xf0, 0x93, 0xf5, 0xe1, 0x43, 0x91, 0x70, 0xb9, 0x79, 0x48, 0xe8, 0x33, 0x28,
+                                         0x5d, 0x58, 0x81, 0x81, 0xb6, 0x45, 0x50, 0xb8, 0x29, 0xa0, 0x31, 0xe1, 0x72, 0x4e, 0x64, 0x30};
     const struct hashing *all[2] = {&sha256, &rfc6962};
     for (int i = 0; i < 2; i++) {
         roots(all[i]);
@@ -400,6 +440,8 @@ int main(void) {
     commitments();
     hashings();
     transcripts();
+    prepared_parameters(PAXIDORE_BLS12_381_FR, 2, bls12_381_fr);
+    prepared_parameters(PAXIDORE_BN254_FR, 8, bn254_fr);
     CHECK(strcmp(paxidore_version(), PAXIDORE_VERSION_STRING) == 0);
     char version[32];
     snprintf(version, sizeof version, "%d.%d.%d", PAXIDORE_VERSION_MAJOR, PAXIDORE_VERSION_MINOR, PAXIDORE_VERSION_PATCH);

@@ -52,7 +52,7 @@ static size_t to_len;
 /* two full rounds and a partial one of a state of two elements; its state after it has absorbed one */
 static const uint64_t PARAMETERS[22] = {2, 1, 5, 3, 2, 5, 6, 2, 7, 8, 2, 9, 10, 2, 2, 1, 2, 2, 3, 4, 1, 1};
 static const uint8_t *const PARAMETER_BYTES = (const uint8_t *)PARAMETERS;
-static uint8_t begun[PAXIDORE_TRANSCRIPTBYTES(1, 1, 8)], to_state[sizeof begun];
+static uint8_t begun[PAXIDORE_TRANSCRIPTBYTES(1, 1, 8)], to_state[sizeof begun], to_prepared[sizeof PARAMETERS];
 
 /* a map of two entries, whose keys differ in their first bit, and the proofs of one of them and of a third key */
 static uint8_t map_tree[131] = {2, 1}, map_root[32], map_proof[64], absent_proof[128], other_key[32] = {1}, to_rows[3 * PAXIDORE_MAP_ROWBYTES];
@@ -98,6 +98,7 @@ static int32_t call(int which) {
     case 26: return paxidore_poseidon_log_append(to_more, 8, &to_len, table, table_len, element_log, 3, 2, elements + 64, 2);
     case 27: return paxidore_poseidon_log_root(to_root, table, table_len, element_log, 7, 4);
     case 28: return paxidore_poseidon_log_inclusion(to_path, sizeof to_path, &to_len, table, table_len, element_log, 7, 4, 2);
+    case 29: return paxidore_transcript_prepare(to_prepared, sizeof to_prepared, &to_len, 1, PARAMETER_BYTES, sizeof PARAMETERS);
     default:
         return paxidore_transcript_squeeze_bytes(to_root, 32, to_state, sizeof to_state, 1, PARAMETER_BYTES, sizeof PARAMETERS);
     }
@@ -145,7 +146,7 @@ int main(void) {
         paxidore_poseidon_path(element_path, sizeof element_path, &element_path_len, table, table_len, elements, 4, 2) != PAXIDORE_OK ||
         paxidore_poseidon_log_append(element_log, 7, &to_len, table, table_len, NULL, 0, 0, elements, 4) != PAXIDORE_OK)
         failed++;
-    for (int which = 0; which < 30; which++) {
+    for (int which = 0; which < 31; which++) {
         memcpy(to_state, begun, sizeof begun);
         calls = 0;
         int is_well = call(which) == PAXIDORE_OK && calls > 0 && live == 0;
@@ -157,6 +158,7 @@ int main(void) {
             memset(to_more, 0xaa, sizeof to_more);
             memset(to_rows, 0xaa, sizeof to_rows);
             memset(to_table, 0xaa, sizeof to_table);
+            memset(to_prepared, 0xaa, sizeof to_prepared);
             memcpy(to_state, begun, sizeof begun);
             to_len = 7;
             left = refused;
@@ -166,6 +168,7 @@ int main(void) {
                       is_filled(to_root, sizeof to_root) && is_filled(to_path, sizeof to_path) &&
                       is_filled(to_proof, sizeof to_proof) && is_filled(to_more, sizeof to_more) &&
                       is_filled(to_rows, sizeof to_rows) && is_filled(to_table, sizeof to_table) &&
+                      is_filled(to_prepared, sizeof to_prepared) &&
                       memcmp(to_state, begun, sizeof begun) == 0;
         }
         if (is_well) {

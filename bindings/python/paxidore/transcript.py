@@ -21,6 +21,7 @@ _room = ctypes.c_void_p
 _field = ctypes.c_uint32
 _code = ctypes.c_int32
 _ready = _call("transcript_ready_parameters", _code, _room, _size, ctypes.POINTER(_size), _field, _size)
+_prepare = _call("transcript_prepare", _code, _room, _size, ctypes.POINTER(_size), _field, _bytes, _size)
 _init = _call("transcript_init", _code, _room, _size, ctypes.POINTER(_size), _field, _bytes, _size)
 _absorb = _call("transcript_absorb", _code, _room, _size, _field, _bytes, _size, _bytes, _size)
 _absorb_bytes = _call("transcript_absorb_bytes", _code, _room, _size, _field, _bytes, _size, _bytes, _size)
@@ -28,6 +29,9 @@ _squeeze = _call("transcript_squeeze", _code, _room, _size, _room, _size, _field
 _squeeze_bytes = _call("transcript_squeeze_bytes", _code, _room, _size, _room, _size, _field, _bytes, _size)
 
 OUT_OF_MEMORY = -1
+
+# added to a field's number, it names that field with prepared parameters
+_PREPARED = 256
 
 
 class TranscriptError(Refused, ValueError):
@@ -130,11 +134,14 @@ class Transcript:
 
     def __init__(self, field: Field, parameters: bytes) -> None:
         self._field = Field(field)
-        self._parameters = _exact("parameters", parameters)
+        given = _exact("parameters", parameters)
         size = _size(0)
-        room = ctypes.create_string_buffer(len(parameters))
-        # parameters have a row for each element of the state: its state is the shorter one
-        _done(_init(room, len(room), ctypes.byref(size), self._field, parameters, len(parameters)))
+        # prepared parameters are as long, and a state is shorter: parameters have a row for each element of it
+        room = ctypes.create_string_buffer(len(given))
+        _done(_prepare(room, len(room), ctypes.byref(size), self._field, given, len(given)))
+        self._prepared = room.raw[: size.value]
+        self._name = self._field + _PREPARED
+        _done(_init(room, len(room), ctypes.byref(size), self._name, self._prepared, len(self._prepared)))
         self._state = ctypes.create_string_buffer(room.raw[: size.value], size.value)
         self._turn = Turn()
 
@@ -142,7 +149,7 @@ class Transcript:
         return "<paxidore.Transcript over %s>" % self._field.name
 
     def _of(self) -> Tuple[Any, ...]:
-        return self._state, len(self._state), self._field, self._parameters, len(self._parameters)
+        return self._state, len(self._state), self._name, self._prepared, len(self._prepared)
 
     def absorb(self, elements: Sequence[int]) -> None:
         """Absorbs elements of the field. An error leaves the transcript as before. ``TranscriptError``, ``OutOfMemory``."""
@@ -174,7 +181,7 @@ class Transcript:
     def copy(self) -> "Transcript":
         """Returns a transcript that has absorbed and squeezed the same."""
         other = object.__new__(Transcript)
-        other._field, other._parameters = self._field, self._parameters
+        other._field, other._name, other._prepared = self._field, self._name, self._prepared
         other._turn = Turn()
         with self._turn:
             other._state = ctypes.create_string_buffer(self._state.raw, len(self._state))

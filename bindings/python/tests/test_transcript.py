@@ -1,5 +1,6 @@
 """Transcripts against the duplex sponge as its paper has it, in plain Python."""
 import copy
+import ctypes
 import pickle
 import random
 import sys
@@ -7,6 +8,7 @@ import threading
 import unittest
 
 from paxidore import Field, Transcript, TranscriptError, parameters_bytes, ready_parameters
+from paxidore import transcript as calls
 
 
 class Model:
@@ -167,6 +169,69 @@ class Transcripts(unittest.TestCase):
             Transcript(9, good)
         with self.assertRaises(TypeError):
             Transcript(field, bytearray(good))
+
+    def test_prepared_parameters_answer_as_the_parameters(self):
+        rng = random.Random(12)
+        for field in Field:
+            for rate, capacity in ((1, 1), (2, 1), (4, 2)):
+                width = rate + capacity
+                rows = [[[rng.randrange(field.modulus) for _ in range(width)] for _ in range(count)] for count in (width, 9)]
+                given = parameters_bytes(field, 4, 5, 5, rate, capacity, *rows)
+                if field.element_bytes == 32:
+                    rows = [[[n * 2**256 % field.modulus for n in row] for row in part] for part in rows]
+                wanted = parameters_bytes(field, 4, 5, 5, rate, capacity, *rows)
+                self.assertEqual(self.prepared(field, given), (0, wanted))
+                inputs = rng.randbytes(4), rng.randrange(field.modulus).to_bytes(field.element_bytes, "little")
+                plain = self.answers(field, given, *inputs)
+                self.assertEqual(plain[0], 0)
+                self.assertEqual(self.answers(field + 256, wanted, *inputs), plain)
+
+    def test_damaged_prepared_parameters_are_refused(self):
+        field = Field.BN254_FR
+        given = parameters_bytes(field, 2, 1, 5, 1, 1, [[1, 2], [3, 4]], [[5, 6], [7, 8], [9, 10]])
+        _, good = self.prepared(field, given)
+        inputs = b"a", bytes(32)
+
+        def answer(parameters):
+            return self.answers(field + 256, parameters, *inputs)[0]
+
+        self.assertEqual(answer(good), 0)
+        for end in range(len(good)):
+            self.assertEqual(answer(good[:end]), -2)
+        self.assertEqual(answer(good + b"\0"), -3)
+        for at in [40 + 72 * row + 32 * i for row in range(3) for i in range(2)]:
+            for number, wanted in ((field.modulus - 1, 0), (field.modulus, -3), (2**256 - 1, -3)):
+                self.assertEqual(answer(good[:at] + number.to_bytes(32, "little") + good[at + 32 :]), wanted)
+        # a rate of 0, a round more, and a field that no number names
+        self.assertEqual(answer(good[:-16] + bytes(8) + good[-8:]), -3)
+        self.assertEqual(answer(b"\3" + good[1:]), -3)
+        for name in (256, 261):
+            self.assertEqual(self.answers(name, good, *inputs)[0], -3)
+        for name in (0, 5, 256, 257, 260):
+            self.assertEqual(self.prepared(name, good)[0], -3)
+
+    def prepared(self, field, parameters):
+        size, room = ctypes.c_size_t(0), ctypes.create_string_buffer(len(parameters))
+        answer = calls._prepare(room, len(room), ctypes.byref(size), field, parameters, len(parameters))
+        return answer, room.raw[: size.value]
+
+    def answers(self, name, parameters, data, element):
+        """The first refusal, or the state after each call and all that was squeezed."""
+        size, room = ctypes.c_size_t(0), ctypes.create_string_buffer(4096)
+        answer = calls._init(room, len(room), ctypes.byref(size), name, parameters, len(parameters))
+        if answer:
+            return (answer,)
+        state = ctypes.create_string_buffer(room.raw[: size.value], size.value)
+        args = state, len(state), name, parameters, len(parameters)
+        seen = [state.raw]
+        for call, given in ((calls._absorb, element), (calls._absorb_bytes, data)):
+            self.assertEqual(call(*args, given, len(given)), 0)
+            seen.append(state.raw)
+        for call, count in ((calls._squeeze, 3 * len(element)), (calls._squeeze_bytes, 50)):
+            out = ctypes.create_string_buffer(count)
+            self.assertEqual(call(out, count, *args), 0)
+            seen += [out.raw, state.raw]
+        return (0, *seen)
 
     def test_ready_parameters_are_arkworks(self):
         # what arkworks' sponge over BLS12-381 gives after 0, 1, 2

@@ -177,6 +177,14 @@ extern "C" {
         field: u32,
         rate: usize,
     ) -> i32;
+    pub fn paxidore_transcript_prepare(
+        prepared: *mut u8,
+        prepared_room: usize,
+        prepared_len: *mut usize,
+        field: u32,
+        parameters: *const u8,
+        parameters_len: usize,
+    ) -> i32;
     pub fn paxidore_transcript_init(
         state: *mut u8,
         state_room: usize,

@@ -1,6 +1,11 @@
 //! Transcripts: the duplex sponge over Poseidon's permutation.
 
 use crate::{sys, Refused};
+use std::marker::PhantomData;
+use std::sync::Arc;
+
+// Added to a field's number, it names that field with prepared parameters.
+const PREPARED: u32 = 256;
 
 /// The fields that transcripts have.
 #[derive(Debug, Clone, Copy, PartialEq, Eq, Hash)]
@@ -53,11 +58,14 @@ pub fn ready_parameters(field: Field, rate: usize) -> Result<Vec<u8>, Refused> {
 /// are absorbed behind their length, and squeezed out of whole elements.
 ///
 /// An element is its canonical bytes, the least first, and below the modulus.
+///
+/// The parameters are read once, by `new`; clones share what was made of them.
 #[derive(Debug, Clone)]
 pub struct Transcript<'a> {
     field: Field,
-    parameters: &'a [u8],
+    prepared: Arc<[u8]>,
     state: Vec<u8>,
+    parameters: PhantomData<&'a [u8]>,
 }
 
 impl<'a> Transcript<'a> {
@@ -65,25 +73,39 @@ impl<'a> Transcript<'a> {
     ///
     /// Refusals: `Truncated`, `Invalid` of bytes that are no parameters over the field, `Memory`.
     pub fn new(field: Field, parameters: &'a [u8]) -> Result<Transcript<'a>, Refused> {
-        // parameters have a row for each element of the state: its state is the shorter one
-        let mut state = vec![0; parameters.len()];
+        let mut prepared = vec![0; parameters.len()];
         let mut len = 0;
         // SAFETY: the pointers are those of values that live through the call, with their lengths.
         done(unsafe {
-            sys::paxidore_transcript_init(
-                state.as_mut_ptr(),
-                state.len(),
+            sys::paxidore_transcript_prepare(
+                prepared.as_mut_ptr(),
+                prepared.len(),
                 &mut len,
                 field as u32,
                 parameters.as_ptr(),
                 parameters.len(),
             )
         })?;
+        prepared.truncate(len);
+        // parameters have a row for each element of the state: its state is the shorter one
+        let mut state = vec![0; prepared.len()];
+        // SAFETY: as above.
+        done(unsafe {
+            sys::paxidore_transcript_init(
+                state.as_mut_ptr(),
+                state.len(),
+                &mut len,
+                field as u32 + PREPARED,
+                prepared.as_ptr(),
+                prepared.len(),
+            )
+        })?;
         state.truncate(len);
         Ok(Transcript {
             field,
-            parameters,
+            prepared: prepared.into(),
             state,
+            parameters: PhantomData,
         })
     }
 
@@ -96,9 +118,9 @@ impl<'a> Transcript<'a> {
             sys::paxidore_transcript_absorb(
                 self.state.as_mut_ptr(),
                 self.state.len(),
-                self.field as u32,
-                self.parameters.as_ptr(),
-                self.parameters.len(),
+                self.field as u32 + PREPARED,
+                self.prepared.as_ptr(),
+                self.prepared.len(),
                 elements.as_ptr(),
                 elements.len(),
             )
@@ -112,9 +134,9 @@ impl<'a> Transcript<'a> {
             sys::paxidore_transcript_absorb_bytes(
                 self.state.as_mut_ptr(),
                 self.state.len(),
-                self.field as u32,
-                self.parameters.as_ptr(),
-                self.parameters.len(),
+                self.field as u32 + PREPARED,
+                self.prepared.as_ptr(),
+                self.prepared.len(),
                 bytes.as_ptr(),
                 bytes.len(),
             )
@@ -132,9 +154,9 @@ impl<'a> Transcript<'a> {
                 out.len(),
                 self.state.as_mut_ptr(),
                 self.state.len(),
-                self.field as u32,
-                self.parameters.as_ptr(),
-                self.parameters.len(),
+                self.field as u32 + PREPARED,
+                self.prepared.as_ptr(),
+                self.prepared.len(),
             )
         })
     }
@@ -148,9 +170,9 @@ impl<'a> Transcript<'a> {
                 out.len(),
                 self.state.as_mut_ptr(),
                 self.state.len(),
-                self.field as u32,
-                self.parameters.as_ptr(),
-                self.parameters.len(),
+                self.field as u32 + PREPARED,
+                self.prepared.as_ptr(),
+                self.prepared.len(),
             )
         })
     }

@@ -49,6 +49,25 @@ fn ready_parameters_are_arkworks() -> Result<(), Refused> {
     Ok(())
 }
 
+// Clones share the parameters, which were read once, and each goes on alone.
+#[test]
+fn clones_go_on_alone() -> Result<(), Refused> {
+    let parameters = ready_parameters(Field::Bn254Fr, 3)?;
+    let mut first = Transcript::new(Field::Bn254Fr, &parameters)?;
+    first.absorb_bytes(b"a message")?;
+    let mut second = first.clone();
+    first.absorb_bytes(b"one more")?;
+    let mut whole = Transcript::new(Field::Bn254Fr, &parameters)?;
+    whole.absorb_bytes(b"a message")?;
+    let mut out = [[0; 64]; 3];
+    for (transcript, out) in [&mut first, &mut second, &mut whole].into_iter().zip(&mut out) {
+        transcript.squeeze(out)?;
+    }
+    assert_eq!(out[1], out[2]);
+    assert_ne!(out[0], out[1]);
+    Ok(())
+}
+
 #[test]
 fn what_is_no_transcript_is_refused() -> Result<(), Refused> {
     let mut parameters = parameters();

@@ -10,6 +10,7 @@ pub mod MapLemmas
 pub mod Numbers
 pub mod Parts
 pub mod Plans
+pub mod Prepared
 pub mod Putting
 pub mod TreeLemmas
 pub mod TwoInputs

@@ -1,5 +1,5 @@
 -- Elements are read and written by their numbers.
-use Rattle.std.proofs.Common.{◌≡◌, ℕ, zero, suc, ◌*◌, ◌/◌, ◌<◌, List, [], ◌∷◌, length, map, take, Ok, Err, refl, sym, ap, ◌∙◌, arith}
+use Rattle.std.proofs.Common.{◌≡◌, ℕ, zero, suc, ◌*◌, ◌/◌, ◌<◌, List, [], ◌∷◌, length, map, take, drop, Ok, Err, refl, sym, ap, ◌∙◌, inl, inr, arith}
 use Rattle.std.specs.List.{flat_map}
 use Rattle.std.proofs.lemmas.List.{length-append, length-take-le}
 use Rattle.std.specs.Int.{div_ceil}
@@ -8,7 +8,7 @@ use Rattle.std.proofs.Math.Nat.{suc-mul}
 use Rattle.ark_base.specs.declared.error.Error.{Error}
 use Rattle.ark_base.specs.declared.error.Error.TheVariants.{SerializationError as OfBytes}
 use Rattle.ark_base.specs.Digits.{bytes_of_number, below_at, bytes_for}
-use Rattle.ark_base.specs.Outcome.{◌>>=◌}
+use Rattle.ark_base.specs.Outcome.{AnswersBy, Outcome, ◌>>=◌}
 use Rattle.ark_base.specs.Reading.{Reading, reading_outcome}
 use Rattle.ark_base.specs.Spelling.{items_at, made_at}
 use Rattle.ark_groups.specs.Field.{ReadsNumbers}
@@ -78,6 +78,14 @@ module _ {F V : Type 0} (p bits : ℕ) (view : F → V) (reads : List ℕ → Re
       by_reading : (r : Reading (List V)) → reading_outcome r ≡ Err error → reading_outcome (numbered r) ≡ Err error
       by_reading (Ok x) h = absurd cc
       by_reading (Err fault) h = let same : OfBytes fault ≡ error = cc in ap Err same
+
+  -- what a call answers of elements, it answers of their numbers
+  pub elements_answer : {A : Type 0} (count : ℕ) (bytes : List ℕ) (items : A → List F) (result : Outcome (A × ℕ))
+      → AnswersBy (λ x. (map view (items x.0), drop x.1 bytes)) (reading_outcome (items_at reads count bytes)) result
+      → AnswersBy (λ x. (map value (items x.0), drop x.1 bytes)) (reading_outcome (items_at numbers_at count bytes)) result
+  elements_answer count bytes items (Ok x) is = elements_read count bytes (drop x.1 bytes) (items x.0) is
+  elements_answer count bytes items (Err error) (inl memory) = inl memory
+  elements_answer count bytes items (Err error) (inr refused) = inr (elements_fault count bytes error refused)
 
 -- the bytes of elements are those of their numbers
 pub elements_spelled : {F V : Type 0} (view : F → V) (value : F → ℕ) (spell : V → List ℕ) (of_number : ℕ → List ℕ)

@@ -1,8 +1,10 @@
 pub mod Answer
 pub mod Cut
+pub mod Forms
 pub mod Hashing
 pub mod KeptAnswer
 pub mod KeptLog
+pub mod Laws
 pub mod LogFiles
 pub mod LogProofs
 pub mod Maps

@@ -1,12 +1,12 @@
 -- Transcripts: the duplex sponge over a field that a number names, by the bytes of its parameters and of its state.
-use Rattle.std.specs.Prelude.{◌≡◌, ◌≢◌, ◌⊎◌, ℕ, ◌-◌, ◌/◌, ◌%◌, ◌^◌, ◌==◌, if◌then◌else◌, List, [], ◌∷◌, ◌++◌, length, drop, Bool, true, false, ℤ, pos, Result, Ok, Err, IfOk}
+use Rattle.std.specs.Prelude.{◌≡◌, ◌≢◌, ◌⊎◌, ℕ, ◌+◌, ◌-◌, ◌/◌, ◌%◌, ◌^◌, ◌==◌, if◌then◌else◌, List, [], ◌∷◌, ◌++◌, length, drop, Bool, true, false, ℤ, pos, Result, Ok, Err, IfOk}
 use Rattle.std.specs.List.{flat_map}
 use Rattle.ark_base.specs.Digits.{bytes_of_number, bytes_for, below_at, flag, flag_at}
 use Rattle.ark_base.specs.Outcome.{Outcome, ◌>>=◌}
 use Rattle.ark_base.specs.Reading.{Reading, reading_outcome}
 use Rattle.ark_base.specs.Spelling.{word, word_at, items_at, both_at}
 use Rattle.ark_absorb.specs.Elements.{piece_numbers, text_bytes}
-use Rattle.ark_sponge.specs.ConfigBytes.{parameters_at, parameters_spelling}
+use Rattle.ark_sponge.specs.ConfigBytes.{fields_of, fields_spelling, parameters_at, parameters_by, parameters_spelling}
 use Rattle.ark_poseidon_parameters.specs.Ready.{AreReady, bls12_381_fr_alpha, bls12_381_fr_rounds, bn254_fr_rounds}
 use Rattle.ark_sponge.specs.Mode.{mode_index}
 use Rattle.ark_sponge.specs.Permutation.{Parameters, width}
@@ -15,19 +15,29 @@ use Rattle.ark_sponge.specs.Squeezing.{native_squeezed, bytes_squeezed}
 use Rattle.ark_sponge.specs.declared.mode.DuplexSpongeMode.{DuplexSpongeMode}
 use Rattle.ark_sponge.specs.declared.mode.DuplexSpongeMode.TheVariants.{Absorbing, Squeezing}
 use Rattle.paxidore_c.specs.Answer.{Gives, only_if, refusing, written_code}
+use Rattle.paxidore_c.specs.Forms.{Form, kept_form, own_form}
 use Rattle.paxidore_c.specs.declared.refused.Refused.{Refused}
 use Rattle.paxidore_c.specs.declared.refused.Refused.TheVariants.{Invalid, Truncated}
 
 -- ---- fields
 
--- a field: its modulus, and how many binary digits that has
+-- a field: its modulus, how many binary digits that has, and how the elements of parameters stand in their bytes
 pub record FieldSize : Type 0 where
   pub modulus : ℕ
   pub bits : ℕ
+  pub form : Form
 
--- a field of this modulus, which has so many binary digits
+-- a field of this modulus, which has so many binary digits, with parameters in a form
+abbrev pub formed : ℕ → ℕ → Form → FieldSize
+formed modulus bits form = record { modulus = modulus; bits = bits; form = form }
+
+-- the same with parameters as their canonical bytes
 abbrev pub field_size : ℕ → ℕ → FieldSize
-field_size modulus bits = record { modulus = modulus; bits = bits }
+field_size modulus bits = formed modulus bits (own_form modulus bits)
+
+-- a field of four words, with prepared parameters
+abbrev pub with_prepared : FieldSize → FieldSize
+with_prepared f = formed f.modulus f.bits (kept_form f.modulus f.bits)
 
 -- 2^64 - 2^32 + 1
 abbrev pub goldilocks : FieldSize
@@ -45,13 +55,18 @@ bls12_381_fr = field_size 524358751751261904794477405081859658376905525005276378
 abbrev pub bn254_fr : FieldSize
 bn254_fr = field_size 21888242871839275222246405745257275088548364400416034343698204186575808495617 254
 
--- what is said over the field that a number names; no other number names one
+-- What is said over the field that a number names; no other number names one. A number from 257 on names the field of
+-- the number that is 256 less, with prepared parameters: for a field of one word these are the canonical bytes.
 abbrev pub in_field : {A : Type 0} → ℕ → (FieldSize → Result A Refused) → Result A Refused
 in_field name outcome =
     if name == 1 then outcome goldilocks
     else if name == 2 then outcome babybear
     else if name == 3 then outcome bls12_381_fr
     else if name == 4 then outcome bn254_fr
+    else if name == 257 then outcome goldilocks
+    else if name == 258 then outcome babybear
+    else if name == 259 then outcome (with_prepared bls12_381_fr)
+    else if name == 260 then outcome (with_prepared bn254_fr)
     else Err Invalid
 
 -- how many bytes an element takes
@@ -105,10 +120,14 @@ abbrev pub valid : {A : Type 0} → Outcome A → Result A Refused
 valid (Ok value) = Ok value
 valid (Err error) = Err Invalid
 
+-- the parameters that bytes spell
+abbrev pub parameters_in : FieldSize → List ℕ → Result Parameters Refused
+parameters_in f bytes = whole_of (parameters_by f.form.reads f.bits bytes)
+
 -- the sponge that the bytes of parameters and of a state spell
 abbrev pub sponge_in : FieldSize → List ℕ → List ℕ → Result Sponge Refused
 sponge_in f parameters state = do
-  c ← whole_of (parameters_at f.modulus f.bits parameters)
+  c ← parameters_in f parameters
   held ← state_in f (width c) state
   valid (restored_sponge held c)
 
@@ -128,7 +147,7 @@ state_bytes f s = elements_bytes f s.state ++ (word (mode_index s.mode) ++ flag 
 -- a transcript that has absorbed nothing
 abbrev pub begun : List ℕ → FieldSize → Result (List ℕ) Refused
 begun parameters f = do
-  c ← whole_of (parameters_at f.modulus f.bits parameters)
+  c ← parameters_in f parameters
   Ok (state_bytes f (new_sponge c))
 
 -- the transcript that has absorbed elements
@@ -164,6 +183,33 @@ bytes_given sbox parameters state count f = do
   s ← sponge_in f parameters state
   let squeezed = bytes_squeezed f.modulus f.bits sbox s count in
       Ok (record { given = squeezed.0; state = state_bytes f squeezed.1 })
+
+-- ---- prepared parameters
+
+-- the bytes of parameters: their fields in turn, the elements in the form that the field has
+abbrev pub prepared_spelling : FieldSize → Parameters → List ℕ
+prepared_spelling f c = fields_spelling f.form.spells (fields_of c)
+
+-- canonical bytes of parameters as prepared ones
+abbrev pub prepared_bytes : List ℕ → FieldSize → Result (List ℕ) Refused
+prepared_bytes parameters f = do
+  c ← whole_of (parameters_at f.modulus f.bits parameters)
+  Ok (prepared_spelling f c)
+
+-- Each call over a field with prepared parameters is the call over that field with canonical ones.
+pub record ServeAs (name : ℕ) (parameters prepared : List ℕ) : Type 0 where
+  pub starts : in_field (name + 256) (begun prepared) ≡ in_field name (begun parameters)
+  pub absorbs : (state elements : List ℕ)
+      → in_field (name + 256) (λ f. with_elements (power f) prepared state elements f)
+      ≡ in_field name (λ f. with_elements (power f) parameters state elements f)
+  pub absorbs_bytes : (state text : List ℕ) → in_field (name + 256) (λ f. with_bytes (power f) prepared state text f)
+      ≡ in_field name (λ f. with_bytes (power f) parameters state text f)
+  pub squeezes : (state : List ℕ) (count : ℕ)
+      → in_field (name + 256) (λ f. elements_squeezed (power f) prepared state count f)
+      ≡ in_field name (λ f. elements_squeezed (power f) parameters state count f)
+  pub squeezes_bytes : (state : List ℕ) (count : ℕ)
+      → in_field (name + 256) (λ f. bytes_given (power f) prepared state count f)
+      ≡ in_field name (λ f. bytes_given (power f) parameters state count f)
 
 -- ---- ready parameters
 

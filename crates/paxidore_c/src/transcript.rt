@@ -1,18 +1,23 @@
 //! Transcripts: Poseidon's duplex sponge over a field that a number names, by the bytes of its parameters and of its state,
 //! in memory of the caller's.
 
-ghost use Rattle.std.specs.Prelude.{◌≡◌, ◌≢◌, ◌++◌, ℕ, List, length, drop, pos, Result, Ok, IfOk, IfSome, IsSome};
+ghost use Rattle.std.specs.Prelude.{◌≡◌, ◌≢◌, ◌++◌, ℕ, ◌+◌, List, length, drop, pos, Result, Ok, IfOk, IfSome, IsSome};
 ghost use Rattle.ark_sponge.specs.ConfigBytes.{parameters_spelling};
 ghost use Rattle.paxidore_c.specs.Answer.{GivesBy, Hands};
 ghost use Rattle.paxidore_c.specs.declared.refused.Refused.{Refused as Why};
-ghost use Rattle.paxidore_c.specs.Transcript.{Replaces, SpellReady, begun, bytes_given, elements_squeezed, in_field, left_by, power, with_bytes, with_elements};
+ghost use Rattle.paxidore_c.specs.Transcript.{Replaces, ServeAs, SpellReady, begun, bytes_given, elements_squeezed, in_field, left_by, power, prepared_bytes, with_bytes, with_elements};
 
+mod forms;
+mod items;
+mod parameters;
 mod reading;
 mod steps;
 mod writing;
 
 use crate::buffer::hand_over;
 use crate::refused::Refused;
+use crate::transcript::forms::{Kept, Own};
+use crate::transcript::parameters::prepared_bytes;
 use crate::transcript::steps::{
     Given, begun, bytes_given, elements_squeezed, with_bytes, with_elements,
 };
@@ -24,14 +29,19 @@ use ark_sponge::poseidon::PoseidonConfig;
 use ark_wide_fields::{Bls12_381Fr, Bn254Fr};
 use std::alloc::Global;
 
-// Calls a function over the field that a number names; `Invalid` where it names none.
+// Calls a function over the field that a number names, with parameters as they stand in their bytes under this number;
+// `Invalid` where it names none.
 macro_rules! in_field {
     ($field:expr, $call:ident($($argument:expr),+)) => {
         match $field {
-            1 => $call::<Fp<Goldilocks>, Power>($($argument),+),
-            2 => $call::<Fp<BabyBear>, Power>($($argument),+),
-            3 => $call::<Bls12_381Fr, Power>($($argument),+),
-            4 => $call::<Bn254Fr, Power>($($argument),+),
+            1 => $call::<Fp<Goldilocks>, Power, Own>($($argument),+),
+            2 => $call::<Fp<BabyBear>, Power, Own>($($argument),+),
+            3 => $call::<Bls12_381Fr, Power, Own>($($argument),+),
+            4 => $call::<Bn254Fr, Power, Own>($($argument),+),
+            257 => $call::<Fp<Goldilocks>, Power, Own>($($argument),+),
+            258 => $call::<Fp<BabyBear>, Power, Own>($($argument),+),
+            259 => $call::<Bls12_381Fr, Power, Kept>($($argument),+),
+            260 => $call::<Bn254Fr, Power, Kept>($($argument),+),
             _ => Err(Refused::Invalid),
         }
     };
@@ -276,4 +286,48 @@ pub extern "C" fn paxidore_transcript_ready_parameters(
     ensures kept { result ≢ pos 0 → parameters.new ≡ parameters.old }
 {
     hand_over(ready_over(alloc, field, rate), parameters, parameters_len)
+}
+
+// Returns canonical bytes of parameters as prepared ones.
+fn prepared_over(alloc: Global, field: u32, parameters: &[u8]) -> Result<Vec<u8>, Refused>
+    ensures given { GivesBy (λ bytes. bytes.items) (in_field (field + 256)
+        (prepared_bytes parameters.now)) result }
+    ensures serve { IfOk result (λ bytes. ServeAs field parameters.now bytes.items) }
+{
+    match field {
+        1 => prepared_bytes::<Fp<Goldilocks>, Own>(alloc, parameters),
+        2 => prepared_bytes::<Fp<BabyBear>, Own>(alloc, parameters),
+        3 => prepared_bytes::<Bls12_381Fr, Kept>(alloc, parameters),
+        4 => prepared_bytes::<Bn254Fr, Kept>(alloc, parameters),
+        _ => Err(Refused::Invalid),
+    }
+}
+
+/// Writes prepared parameters to the front of `prepared`, and their count of bytes to `prepared_len`: canonical bytes of
+/// parameters with each element of a field of four words as the number that it is kept as, so that a call reads it without
+/// a product. A call takes them under the number of the field and 256.
+///
+/// Answers: 0, or the first of `E_TRUNCATED` and `E_INVALID` for a number that names no field and for bytes that are no
+/// parameters; `E_ROOM`, where `prepared_len` is what is needed; `E_MEMORY` in place of any.
+#[unsafe(no_mangle)]
+pub extern "C" fn paxidore_transcript_prepare(
+    alloc: Global,
+    prepared: &mut [u8],
+    prepared_len: &mut usize,
+    field: u32,
+    parameters: &[u8],
+) -> i32
+    ensures prepared { Hands (in_field (field + 256) (prepared_bytes parameters.now)) prepared.old
+        prepared.new prepared_len.old prepared_len.new result }
+
+    // Under the number of the field and 256 each call answers as under the number of the field.
+    ensures serve { result ≡ pos 0 → (bytes : List ℕ) × ServeAs field parameters.now bytes
+        × (prepared.new ≡ bytes ++ drop (length bytes) prepared.old)
+        × (prepared_len.new ≡ length bytes) }
+{
+    hand_over(
+        prepared_over(alloc, field, parameters),
+        prepared,
+        prepared_len,
+    )
 }

@@ -1,20 +1,23 @@
 //! Sponges and elements that bytes spell.
 
-ghost use Rattle.std.specs.Prelude.{◌≡◌, map};
+ghost use Rattle.std.specs.Prelude.{◌≡◌, map, IfOk};
 ghost use Rattle.paxidore_c.specs.Answer.{GivesBy};
-ghost use Rattle.paxidore_c.specs.Transcript.{element_length, elements_in, field_size, mode_of, sponge_in, state_in, whole_of};
+ghost use Rattle.paxidore_c.specs.Transcript.{element_length, elements_in, field_size, formed, mode_of, sponge_in, state_in, whole_of};
 
 use crate::refused::Refused;
+use crate::transcript::forms::ElementForm;
+use crate::transcript::parameters::parameters_of;
 use ark_base::error::Error;
 use ark_base::serialize::{CanonicalDeserialize, rest_of};
 use ark_groups::ff::Field;
-use ark_sponge::poseidon::{PoseidonConfig, PoseidonSponge, PoseidonSpongeState, SBox};
+use ark_sponge::poseidon::{PoseidonSponge, PoseidonSpongeState, SBox};
 use ark_sponge::{DuplexSpongeMode, SpongeExt};
 use std::alloc::Global;
 
 /// Returns the value that the bytes spell, where nothing stands behind it.
 pub fn whole<T: CanonicalDeserialize + Drop>(alloc: Global, bytes: &[u8]) -> Result<T, Refused>
-    ensures { GivesBy T.view (whole_of (T.reads bytes.now)) result }
+    ensures given { GivesBy T.view (whole_of (T.reads bytes.now)) result }
+    ensures spelled { IfOk result (λ value. T.has_spelling (T.view value)) }
 {
     let (value, used) = T::deserialize(alloc, bytes)?;
     if used < bytes.len() {
@@ -77,15 +80,15 @@ fn mode_of(next: (usize, bool)) -> DuplexSpongeMode
 }
 
 /// Returns the sponge that the bytes of parameters and of a state spell.
-pub fn sponge_of<F: Field, S: SBox<F>>(
+pub fn sponge_of<F: Field, S: SBox<F>, E: ElementForm<F>>(
     alloc: Global,
     parameters: &[u8],
     state: &[u8],
 ) -> Result<PoseidonSponge<F, S>, Refused>
-    ensures { GivesBy (λ sponge. sponge) (sponge_in (field_size F.MODULUS F.MODULUS_BIT_SIZE)
+    ensures { GivesBy (λ sponge. sponge) (sponge_in (formed F.MODULUS F.MODULUS_BIT_SIZE E.form)
         parameters.now state.now) result }
 {
-    let parameters = whole::<PoseidonConfig<F>>(alloc, parameters)?;
+    let parameters = parameters_of::<F, E>(alloc, parameters)?;
     let width = parameters.rate() + parameters.capacity();
     let state = state_of::<F>(alloc, width, state)?;
     match PoseidonSponge::from_state(alloc, state, &parameters) {

@@ -2,53 +2,58 @@
 
 ghost use Rattle.std.specs.Prelude.{◌≡◌, length, IfOk};
 ghost use Rattle.paxidore_c.specs.Answer.{GivesBy};
-ghost use Rattle.paxidore_c.specs.Transcript.{begun, bytes_given, elements_squeezed, field_size, Squeezed, with_bytes, with_elements};
+ghost use Rattle.paxidore_c.specs.Transcript.{begun, bytes_given, elements_squeezed, formed, Squeezed, with_bytes, with_elements};
 
 use crate::refused::Refused;
-use crate::transcript::reading::{element_length, elements_of, sponge_of, whole};
+use crate::transcript::forms::ElementForm;
+use crate::transcript::parameters::parameters_of;
+use crate::transcript::reading::{element_length, elements_of, sponge_of};
 use crate::transcript::writing::{bytes_of_elements, state_bytes};
 use ark_groups::ff::Field;
 use ark_sponge::CryptographicSponge;
-use ark_sponge::poseidon::{PoseidonConfig, PoseidonSponge, SBox};
+use ark_sponge::poseidon::{PoseidonSponge, SBox};
 use std::alloc::Global;
 use std::marker::Model;
 
 /// Returns the state of a sponge that has absorbed nothing.
-pub fn begun<F: Field, S: SBox<F>>(alloc: Global, parameters: &[u8]) -> Result<Vec<u8>, Refused>
+pub fn begun<F: Field, S: SBox<F>, E: ElementForm<F>>(
+    alloc: Global,
+    parameters: &[u8],
+) -> Result<Vec<u8>, Refused>
     ensures { GivesBy (λ bytes. bytes.items)
-        (begun parameters.now (field_size F.MODULUS F.MODULUS_BIT_SIZE)) result }
+        (begun parameters.now (formed F.MODULUS F.MODULUS_BIT_SIZE E.form)) result }
 {
-    let parameters = whole::<PoseidonConfig<F>>(alloc, parameters)?;
+    let parameters = parameters_of::<F, E>(alloc, parameters)?;
     state_bytes(alloc, &PoseidonSponge::<F, S>::over(alloc, parameters)?)
 }
 
 /// Returns the state that has absorbed elements.
-pub fn with_elements<F: Field, S: SBox<F>>(
+pub fn with_elements<F: Field, S: SBox<F>, E: ElementForm<F>>(
     alloc: Global,
     parameters: &[u8],
     state: &[u8],
     elements: &[u8],
 ) -> Result<Vec<u8>, Refused>
     ensures { GivesBy (λ bytes. bytes.items) (with_elements S.image parameters.now state.now
-        elements.now (field_size F.MODULUS F.MODULUS_BIT_SIZE)) result }
+        elements.now (formed F.MODULUS F.MODULUS_BIT_SIZE E.form)) result }
 {
-    let mut sponge = sponge_of::<F, S>(alloc, parameters, state)?;
+    let mut sponge = sponge_of::<F, S, E>(alloc, parameters, state)?;
     let elements = elements_of::<F>(alloc, elements)?;
     sponge.absorb_native(&elements);
     state_bytes(alloc, &sponge)
 }
 
 /// Returns the state that has absorbed bytes.
-pub fn with_bytes<F: Field, S: SBox<F>>(
+pub fn with_bytes<F: Field, S: SBox<F>, E: ElementForm<F>>(
     alloc: Global,
     parameters: &[u8],
     state: &[u8],
     text: &[u8],
 ) -> Result<Vec<u8>, Refused>
     ensures { GivesBy (λ bytes. bytes.items) (with_bytes S.image parameters.now state.now text.now
-        (field_size F.MODULUS F.MODULUS_BIT_SIZE)) result }
+        (formed F.MODULUS F.MODULUS_BIT_SIZE E.form)) result }
 {
-    let mut sponge = sponge_of::<F, S>(alloc, parameters, state)?;
+    let mut sponge = sponge_of::<F, S, E>(alloc, parameters, state)?;
     let text = Vec::from_slice(alloc, text)?;
     sponge.absorb(&text)?;
     state_bytes(alloc, &sponge)
@@ -68,21 +73,21 @@ impl Model for Given {
 }
 
 /// Returns the next elements as so many bytes, and the state behind them.
-pub fn elements_squeezed<F: Field, S: SBox<F>>(
+pub fn elements_squeezed<F: Field, S: SBox<F>, E: ElementForm<F>>(
     alloc: Global,
     parameters: &[u8],
     state: &[u8],
     count: usize,
 ) -> Result<Given, Refused>
     ensures given { GivesBy (λ given. given) (elements_squeezed S.image parameters.now state.now
-        count (field_size F.MODULUS F.MODULUS_BIT_SIZE)) result }
+        count (formed F.MODULUS F.MODULUS_BIT_SIZE E.form)) result }
     ensures len { IfOk result (λ given. length given.given ≡ count) }
 {
     let len = element_length::<F>();
     if count % len != 0 {
         return Err(Refused::Truncated);
     }
-    let mut sponge = sponge_of::<F, S>(alloc, parameters, state)?;
+    let mut sponge = sponge_of::<F, S, E>(alloc, parameters, state)?;
     let mut elements = vec![in alloc; F::zero(); count / len]?;
     sponge.squeeze_into(&mut elements);
     let bytes = bytes_of_elements(alloc, &elements)?;
@@ -91,17 +96,17 @@ pub fn elements_squeezed<F: Field, S: SBox<F>>(
 }
 
 /// Returns so many of the next bytes, and the state behind them.
-pub fn bytes_given<F: Field, S: SBox<F>>(
+pub fn bytes_given<F: Field, S: SBox<F>, E: ElementForm<F>>(
     alloc: Global,
     parameters: &[u8],
     state: &[u8],
     count: usize,
 ) -> Result<Given, Refused>
     ensures given { GivesBy (λ given. given) (bytes_given S.image parameters.now state.now count
-        (field_size F.MODULUS F.MODULUS_BIT_SIZE)) result }
+        (formed F.MODULUS F.MODULUS_BIT_SIZE E.form)) result }
     ensures len { IfOk result (λ given. length given.given ≡ count) }
 {
-    let mut sponge = sponge_of::<F, S>(alloc, parameters, state)?;
+    let mut sponge = sponge_of::<F, S, E>(alloc, parameters, state)?;
     // The call tells the proof that the field has nine bits.
     let _known = sponge.parameters().rate();
     let bytes = sponge.squeeze_bytes(count)?;

@@ -14,7 +14,7 @@ returns-in_err-elements g c =
 pub returns-in_err-next : goal.returns-in_err-next
 returns-in_err-next g c =
     refusal_passed _ _ c.from_residual-in_err-next.result c.in_err-next.field-0.0
-    c.from_residual-in_err-next.ensures.1 (rw c.rest_of.ensures at c.in_err-next.ensures)
+    c.from_residual-in_err-next.ensures.1 (rw c.rest_of.ensures at c.in_err-next.ensures.given)
     (next-fault (field_size g.F.Field.MODULUS g.F.Field.MODULUS_BIT_SIZE) c.args.width c.args.bytes.now _ _
     c.in_err-next.field-0.0 (elements_read _ _ _ _ _ g.met.F.Field.reads_numbers c.args.width c.args.bytes.now _
     c.in_ok-elements.elements.items c.in_ok-elements.ensures.answer))
@@ -25,4 +25,4 @@ returns g c =
     c.args.width c.args.bytes.now _ _ c.in_ok-next.next
     (elements_read _ _ _ _ _ g.met.F.Field.reads_numbers c.args.width c.args.bytes.now _
     c.in_ok-elements.elements.items c.in_ok-elements.ensures.answer)
-    (rw c.rest_of.ensures at c.in_ok-next.ensures))
+    (rw c.rest_of.ensures at c.in_ok-next.ensures.given))
