@@ -11,7 +11,7 @@ use ark_base::error::Error;
 use ark_base::serialize::{CanonicalDeserialize, rest_of};
 use ark_groups::ff::Field;
 use ark_sponge::poseidon::{PoseidonSponge, PoseidonSpongeState, SBox};
-use ark_sponge::{DuplexSpongeMode, SpongeExt};
+use ark_sponge::DuplexSpongeMode;
 use std::alloc::Global;
 
 /// Returns the value that the bytes spell, where nothing stands behind it.
@@ -91,7 +91,7 @@ pub fn sponge_of<F: Field, S: SBox<F>, E: ElementForm<F>>(
     let parameters = parameters_of::<F, E>(alloc, parameters)?;
     let width = parameters.rate() + parameters.capacity();
     let state = state_of::<F>(alloc, width, state)?;
-    match PoseidonSponge::from_state(alloc, state, &parameters) {
+    match PoseidonSponge::resumed(alloc, state, parameters) {
         Ok(sponge) => Ok(sponge),
         Err(Error::OutOfMemory) => Err(Refused::Memory),
         Err(_) => Err(Refused::Invalid),

@@ -69,6 +69,33 @@ impl<F: Field> Duplicate for PoseidonSpongeState<F> {
     }
 }
 
+impl<F: Field, S: SBox<F>> PoseidonSponge<F, S> {
+    /// Returns the sponge with a state and parameters, as `from_state` does, and takes the parameters as they are.
+    ///
+    /// Errors: those of `from_state`.
+    pub fn resumed(
+        alloc: Global,
+        state: PoseidonSpongeState<F>,
+        parameters: PoseidonConfig<F>,
+    ) -> Result<Self, Error>
+        ensures { AnswersBy (λ sponge. sponge) (restored_sponge state parameters) result }
+    {
+        let PoseidonSpongeState { state, mode } = state;
+        let width = parameters.rate() + parameters.capacity();
+        if state.len() != width || mode_index(mode) > parameters.rate() {
+            return Err(Error::GenericError(Refusal::StateShape));
+        }
+        let scratch = vec![in alloc; F::zero(); width]?;
+        Ok(PoseidonSponge {
+            parameters,
+            state,
+            scratch,
+            mode,
+            sbox: PhantomData,
+        })
+    }
+}
+
 impl<F: Field, S: SBox<F>> SpongeExt for PoseidonSponge<F, S> {
     ghost use Rattle.std.specs.Prelude.{◌≡◌};
     ghost use Rattle.std.proofs.Common.{ap};
@@ -90,19 +117,7 @@ impl<F: Field, S: SBox<F>> SpongeExt for PoseidonSponge<F, S> {
         state: PoseidonSpongeState<F>,
         parameters: &PoseidonConfig<F>,
     ) -> Result<PoseidonSponge<F, S>, Error> {
-        let PoseidonSpongeState { state, mode } = state;
-        let width = parameters.rate() + parameters.capacity();
-        if state.len() != width || mode_index(mode) > parameters.rate() {
-            return Err(Error::GenericError(Refusal::StateShape));
-        }
-        let scratch = vec![in alloc; F::zero(); width]?;
-        Ok(PoseidonSponge {
-            parameters: parameters.duplicate(alloc)?,
-            state,
-            scratch,
-            mode,
-            sbox: PhantomData,
-        })
+        PoseidonSponge::resumed(alloc, state, parameters.duplicate(alloc)?)
     }
 
     fn into_state(self) -> PoseidonSpongeState<F>
