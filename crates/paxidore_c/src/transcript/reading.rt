@@ -10,8 +10,8 @@ use crate::transcript::parameters::parameters_of;
 use ark_base::error::Error;
 use ark_base::serialize::{CanonicalDeserialize, rest_of};
 use ark_groups::ff::Field;
-use ark_sponge::poseidon::{PoseidonSponge, PoseidonSpongeState, SBox};
 use ark_sponge::DuplexSpongeMode;
+use ark_sponge::poseidon::{PoseidonSponge, PoseidonSpongeState, SBox};
 use std::alloc::Global;
 
 /// Returns the value that the bytes spell, where nothing stands behind it.
