@@ -1,5 +1,5 @@
 -- How a run of calls of a disk goes on.
-use Rattle.std.proofs.Common.{◌≡◌, refl, subst, inl, inr, ⊎_elim, ℕ, List, length, arith}
+use Rattle.std.proofs.Common.{◌≡◌, refl, subst, inl, inr, ⊎_elim, ℕ, List, arith}
 use Rattle.log_store.specs.Disk.{Elapses, Follows, LeavesOnly, Only, Torn, TornTwice}
 use Rattle.log_store.specs.declared.disk.Disk.{Ghosts as Disks}
 use Rattle.log_store.proofs.Tearing.{torn-not, torn-once}

@@ -1,15 +1,14 @@
-use Rattle.std.proofs.Common.{◌≡◌, ◌≤◌, ◌+◌, ◌++◌, ℕ, Bool, List, [], length, sym, subst, Ok, ◌∙◌, ap}
-use Rattle.std.specs.Prelude.{not}
+use Rattle.std.proofs.Common.{◌≡◌, ◌≤◌, ◌++◌, ℕ, Bool, List, [], length, sym, subst, Ok}
 use Rattle.sha2.specs.Sha256.{sha256}
 use Rattle.ark_paths.specs.Pair.{Digest}
 use Rattle.ark_trees.specs.Rfc6962.{node_of}
 use Rattle.merkle_log.specs.Log.{merkle_tree_hash}
 use Rattle.merkle_log.proofs.Givens.{known_if_ok}
-use Rattle.paxlog_run.specs.LogFile.{file_end, next_slot, written}
+use Rattle.paxlog_run.specs.LogFile.{file_end, written}
 use Rattle.log_store.specs.Disk.{LeavesOnly, Only}
 use Rattle.log_store.specs.Store.{IsBeforeOrAfter, IsGrowth, IsSettled}
 use Rattle.log_store.proofs.Moments.{then_on, weaker}
-use Rattle.log_store.proofs.Tearing.{both-settled, crash-behind, crash-both, crash-slot, digests-written, end-written, first-inside, free-inside, front-long-of, growing, more-inside, more-keeps, second-inside, slot-long-of, slot-written, third-inside, Growing}
+use Rattle.log_store.proofs.Tearing.{both-settled, crash-behind, crash-both, crash-slot, end-written, first-inside, free-inside, front-long-of, growing, more-inside, more-keeps, second-inside, slot-long-of, slot-written, third-inside, Growing}
 use Rattle.log_store.proofs.growth.write_all.Goals.{After-write_behind, After-write_durably, In_ok-root, In_ok-write_durably}
 use Rattle.log_store.proofs.growth.write_all.Goals as goal
 
