@@ -15,7 +15,7 @@ use Rattle.merkle_log.specs.Stored.{position, stored_count, row_of, IsStored}
 use Rattle.merkle_log.specs.Walk.{index_up}
 use Rattle.merkle_log.proofs.KeptPlaces.{above-up}
 use Rattle.merkle_log.proofs.KeptRows.{fewer-first, fewer-hashed, rows-agree, stored-same}
-use Rattle.merkle_log.proofs.Positions.{count-rises, place-within, position-within, row_of-at, up-times}
+use Rattle.merkle_log.proofs.Positions.{count-rises, level-fits, place-within, position-within, row_of-at, up-times}
 use Rattle.merkle_log.proofs.Tests.{power-rises}
 use Rattle.paxlog_run.specs.Faults.{log_size, no_head, only_if}
 use Rattle.paxlog_run.specs.LogFile.{digest_count, file_head, slot_to_take, slots_head, stored_in}
@@ -125,6 +125,20 @@ peak-low level place size fits peak =
 pub up-less : (level n : ℕ) → index_up level n ≤ n
 up-less zero n = omega arith
 up-less (suc level) n = omega (arith, up-less level (n / 2))
+
+-- where the digest of a complete place stands
+pub record Stands (size level place : ℕ) : Type 0 where
+  pub low : level < 64
+  pub below : (place + 1) * 2 ^ level < 2 ^ 64
+  pub within : position level place < stored_count size
+
+pub stands : (size level place : ℕ) → size < 2 ^ 63 → (place + 1) * 2 ^ level ≤ size → Stands size level place
+stands size level place fits le =
+    let below : (place + 1) * 2 ^ level < 2 ^ 64 = omega (arith, fits, le) in
+    record { low = level-fits level place below; below = below; within = position-within level place size le }
+
+pub place-stands : (size level place : ℕ) → size < 2 ^ 63 → place < index_up level size → Stands size level place
+place-stands size level place fits below = stands size level place fits (place-within level place size below)
 
 -- A level with a place stands below one that has none.
 pub level-below : (level last size : ℕ) → 0 < index_up level size → index_up last size ≡ 0 → level < last

@@ -15,14 +15,14 @@ use Rattle.merkle_log.specs.Walk.{index_up}
 use Rattle.merkle_log.proofs.Edges.{row_pair}
 use Rattle.merkle_log.proofs.Hashed.{hashed-all, HashedTo}
 use Rattle.merkle_log.proofs.KeptRows.{keeps-of, up-rises}
-use Rattle.merkle_log.proofs.Positions.{length-row_of, level-fits, place-within, position-within, row_of-at, up-carry, up-more, up-same, up-times, up-times_all}
+use Rattle.merkle_log.proofs.Positions.{length-row_of, place-within, position-within, row_of-at, up-carry, up-more, up-same, up-times_all}
 use Rattle.paxlog_run.specs.Faults.{log_size, only_if}
 use Rattle.paxlog_run.specs.LogFile.{digest_count, file_end, file_head, slot_to_take, stored_in, IsLogFile}
 use Rattle.paxlog_run.specs.declared.fault.Fault.{Fault}
 use Rattle.paxlog_run.specs.declared.fault.Fault.TheVariants.{Short}
 use Rattle.paxlog_run.proofs.Files.{known}
 use Rattle.log_store.specs.Sound.{placed, AreNodes, HasStored, IsAhead, IsNode}
-use Rattle.log_store.proofs.Reading.{length-chunks, stored-at, up-less}
+use Rattle.log_store.proofs.Reading.{length-chunks, stands, stored-at, up-less, Stands}
 
 -- ---- digests by their places
 
@@ -148,33 +148,23 @@ climb index level left at odd = record {
   ];
 }
 
--- where the digest of a place stands
-pub record Stands (index level place : ℕ) : Type 0 where
-  pub low : level < 64
-  pub below : (place + 1) * 2 ^ level < 2 ^ 64
-  pub within : position level place < stored_count (index + 1)
-
-stands : (index level place : ℕ) → index + 1 < 2 ^ 63 → (place + 1) * 2 ^ level ≤ index + 1 → Stands index level place
-stands index level place fits le =
-    let below : (place + 1) * 2 ^ level < 2 ^ 64 = omega (arith, fits, le) in
-    record {
-      low = level-fits level place below;
-      below = below;
-      within = position-within level place (index + 1) le;
-    }
-
--- that of a place that the entry completes
-pub own-stands : (index level left : ℕ) → Climbs index level left → index + 1 < 2 ^ 63 → Stands index level left
+-- where the digest of a place stands that the entry completes
+pub own-stands : (index level left : ℕ) → Climbs index level left → index + 1 < 2 ^ 63 → Stands (index + 1) level left
 own-stands index level left at fits =
     let all = up-times_all level index at.odd in
-    stands index level left fits (rw (at.left_is) (omega (arith, all)))
+    stands (index + 1) level left fits (rw (at.left_is) (omega (arith, all)))
 
--- that of the one on its left
+-- and that of the one on its left
 pub other-stands : (index level left : ℕ) → Climbs index level left → left % 2 ≡ 1 → index + 1 < 2 ^ 63
-    → Stands index level (left - 1)
+    → Stands (index + 1) level (left - 1)
 other-stands index level left at odd fits =
-    let one : left - 1 + 1 ≡ index_up level index = omega (arith, odd, at.left_is) in
-    stands index level (left - 1) fits (rw (one) (omega (arith, up-times level index)))
+    let le = place-within level (left - 1) index (omega (arith, odd, at.left_is)) in
+    stands (index + 1) level (left - 1) fits (omega (arith, le))
+
+-- and of the one above both
+pub up-stands : (index level left : ℕ) → Climbs index level left → left % 2 ≡ 1 → index + 1 < 2 ^ 63
+    → Stands (index + 1) (level + 1) (left / 2)
+up-stands index level left at odd fits = own-stands index (level + 1) (left / 2) (climb index level left at odd) fits
 
 -- What is compared with the digest of a place is the hash of its two.
 pub record Compares (file : List ℕ) (index level : ℕ) (made above : Digest) : Type 0 where

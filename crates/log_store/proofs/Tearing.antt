@@ -14,7 +14,7 @@ use Rattle.paxlog_run.specs.LogFile.{file_end, next_slot, slot, slot_front, slot
 use Rattle.paxlog_run.proofs.Files.{cut-head, cut-holds, cut-uses, holds-slot, keeps-more, known, known-free, log-holds, slot-torn, Holds, Known}
 use Rattle.paxlog_run.proofs.Heads.{fits-size, fits-stated, head-kept, is_headed, length-front, length-slot, length-statement, size-begins, slot-begin, slot-end, slot-fits, uses-kept, uses-turned, HasHead, Uses}
 use Rattle.paxlog_run.proofs.Pieces.{piece-written}
-use Rattle.log_store.specs.Disk.{Follows, Only, Torn, TornTwice}
+use Rattle.log_store.specs.Disk.{Torn, TornTwice}
 use Rattle.log_store.specs.Store.{IsBeforeOrAfter, IsGrowth, IsSettled}
 
 -- nothing was written
@@ -26,24 +26,9 @@ torn-not at n file left is = rw (is) (record {
   no_longer = le-max_left (length file) (at + n);
 })
 
--- what a crash leaves of a file that was on the disk
-pub torn-from : (at n : ℕ) (file left : List ℕ) (old new : List ℕ → Type 0) → Only file old → Follows (Torn at n) old
-    new
-    → new left → Torn at n file left
-torn-from at n file left old new only follows now =
-    let from = follows left now in
-    subst (λ f. Torn at n f left) (only from.0 from.1) from.2
-
 -- one write was cut short, and the next was none
 pub torn-once : (at n to m : ℕ) (file left : List ℕ) → Torn at n file left → TornTwice at n to m file left
 torn-once at n to m file left torn = (left, torn, torn-not to m left left refl)
-
--- and then the next was
-pub torn-then : (at n to m : ℕ) (file left : List ℕ) (mid new : List ℕ → Type 0)
-    → ((before : List ℕ) → mid before → Torn at n file before) → Follows (Torn to m) mid new → new left
-    → TornTwice at n to m file left
-torn-then at n to m file left mid new first follows now =
-    let from = follows left now in (from.0, first from.0 from.1, from.2)
 
 -- What is written makes a file no shorter.
 pub longer-written : (file bytes : List ℕ) (at : ℕ) → at ≤ length file → length file ≤ length (written file at bytes)

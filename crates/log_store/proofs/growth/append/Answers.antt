@@ -1,12 +1,14 @@
-use Rattle.std.proofs.Common.{◌≡◌, ℕ, ◌+◌, ◌*◌, ◌<◌, ◌^◌, inl, length, ap, sym, ◌∙◌, arith}
+use Rattle.std.proofs.Common.{◌≡◌, ℕ, List, ◌+◌, ◌*◌, ◌<◌, ◌^◌, inl, length, ap, sym, ◌∙◌, arith}
 use Rattle.std.specs.Prelude.{min}
 use Rattle.merkle_log.specs.Stored.{stored_count}
-use Rattle.paxlog_run.specs.LogFile.{file_end, stored_in}
+use Rattle.ark_paths.specs.Pair.{Digest}
+use Rattle.paxlog_run.specs.LogFile.{file_end, stored_in, IsLogFile}
 use Rattle.log_store.specs.Store.{IsBeforeOrAfter}
-use Rattle.log_store.proofs.Growths.{made-of}
+use Rattle.log_store.proofs.Growths.{made-of, IsMade}
 use Rattle.log_store.proofs.Moments.{unmoved}
 use Rattle.log_store.proofs.Overlaid.{overlay-long, overlay-peak}
 use Rattle.log_store.proofs.Reading.{peak-low}
+use Rattle.log_store.proofs.growth.append.Goals.{After-write_all}
 use Rattle.log_store.proofs.growth.append.Goals as goal
 
 sum_is : (size more new : ℕ) → new ≡ min (size + more) 18446744073709551615 → new < 2 ^ 63 → new ≡ size + more
@@ -29,60 +31,49 @@ bytes_over-requires-clause-peaks g c = λ level place peak.
 
 pub returns-in_err-log-clause-any_moment : goal.returns-in_err-log-clause-any_moment
 returns-in_err-log-clause-any_moment g c = λ obeys leaves log only.
-    unmoved g.D.Disk.moment g.D.Disk.left_since c.args.disk.now (IsBeforeOrAfter leaves c.args.digests.now)
-    (g.D.Disk.may_leave c.args.disk.now) (g.D.Disk.seen c.args.disk.now) only (g.met.D.Disk.only_now c.args.disk.now)
-    (inl log)
+    unmoved g.D.Disk c.args.disk.now (IsBeforeOrAfter leaves c.args.digests.now) only
+    (g.met.D.Disk.only_now c.args.disk.now) (inl log)
 
 pub returns-in-Err-clause-any_moment : goal.returns-in-Err-clause-any_moment
 returns-in-Err-clause-any_moment g c = λ obeys leaves log only.
-    unmoved g.D.Disk.moment g.D.Disk.left_since c.args.disk.now (IsBeforeOrAfter leaves c.args.digests.now)
-    (g.D.Disk.may_leave c.args.disk.now) (g.D.Disk.seen c.args.disk.now) only (g.met.D.Disk.only_now c.args.disk.now)
-    (inl log)
+    unmoved g.D.Disk c.args.disk.now (IsBeforeOrAfter leaves c.args.digests.now) only
+    (g.met.D.Disk.only_now c.args.disk.now) (inl log)
+
+-- What is written is the log's growth, and begins where its digests end.
+growth : (g : _) (c : After-write_all g) (leaves : List Digest) → g.D.Disk.Obeys c.write_all.new.disk
+    → IsLogFile leaves (g.D.Disk.seen c.args.disk.now)
+    → IsMade leaves c.args.digests.now (g.D.Disk.seen c.args.disk.now) c.deref.result.now c.saturating_add-size.result
+    c.in_ok-log.log.is_second_free × (96 + 32 * c.stored_count.result ≡ file_end (length leaves))
+growth g c leaves obeys log =
+    let before = c.write_all.ensures.obeys obeys in
+    let size = c.in_ok-log.log.size in
+    let fits : c.saturating_add-size.result < 2 ^ 63 = omega (arith, c.if-not-is_size.ensures.fits) in
+    let known = c.in_ok-log.ensures.log before leaves log in
+    let made = made-of log known.0 known.1 (c.in_ok-log.ensures.states before) c.args.digests.now c.in_ok-log.log.peaks
+    (c.in_ok-log.ensures.peaks before) c.in-Ok.ensures.bytes
+    (sum_is size (length c.args.digests.now) c.saturating_add-size.result c.saturating_add-size.ensures fits) fits
+    c.requires in (
+      rw (c.deref.ensures.value) made,
+      ap (λ n. 96 + 32 * n) (c.stored_count.ensures ∙ ap stored_count (sym known.0)),
+    )
 
 pub returns-in-Ok-write_all-clause-acknowledged : goal.returns-in-Ok-write_all-clause-acknowledged
 returns-in-Ok-write_all-clause-acknowledged g c = λ obeys leaves log.
-    let before = c.write_all.ensures.obeys obeys in
-    let fits : c.saturating_add-size.result < 2 ^ 63 = omega (arith, c.if-not-is_size.ensures.fits) in
-    let known = c.in_ok-log.ensures.log before leaves log in
-    let made = made-of c.in_ok-log.log.peaks log known.0 known.1 (c.in_ok-log.ensures.states before)
-    (c.in_ok-log.ensures.peaks before) c.in-Ok.ensures.bytes
-    (sum_is c.in_ok-log.log.size (length c.args.digests.now) c.saturating_add-size.result
-    c.saturating_add-size.ensures fits) fits c.requires in
-    let place : 96 + 32 * c.stored_count.result ≡ file_end (length leaves) =
-    ap (λ n. 96 + 32 * n) (c.stored_count.ensures ∙ ap stored_count (sym known.0)) in
-    c.in-Ok-write_all.ensures.acknowledged obeys leaves c.args.digests.now (rw (c.deref.ensures.value) made.growth)
-    place made.sum
+    let at = goal.at.returns-in-Ok-write_all-clause-acknowledged g c in
+    let made = growth g at.After-write_all leaves obeys log in
+    c.in-Ok-write_all.ensures.acknowledged obeys leaves c.args.digests.now made.0.growth made.1 made.0.sum
 
 pub returns-in-Ok-write_all-clause-any_moment : goal.returns-in-Ok-write_all-clause-any_moment
 returns-in-Ok-write_all-clause-any_moment g c = λ obeys leaves log only.
-    let before = c.write_all.ensures.obeys obeys in
-    let fits : c.saturating_add-size.result < 2 ^ 63 = omega (arith, c.if-not-is_size.ensures.fits) in
-    let known = c.in_ok-log.ensures.log before leaves log in
-    let made = made-of c.in_ok-log.log.peaks log known.0 known.1 (c.in_ok-log.ensures.states before)
-    (c.in_ok-log.ensures.peaks before) c.in-Ok.ensures.bytes
-    (sum_is c.in_ok-log.log.size (length c.args.digests.now) c.saturating_add-size.result
-    c.saturating_add-size.ensures fits) fits c.requires in
-    let place : 96 + 32 * c.stored_count.result ≡ file_end (length leaves) =
-    ap (λ n. 96 + 32 * n) (c.stored_count.ensures ∙ ap stored_count (sym known.0)) in
-    c.write_all.ensures.any_moment obeys leaves c.args.digests.now (rw (c.deref.ensures.value) made.growth) place
-    made.sum only
+    let made = growth g (goal.at.returns-in-Ok-write_all-clause-any_moment g c).After-write_all leaves obeys log in
+    c.write_all.ensures.any_moment obeys leaves c.args.digests.now made.0.growth made.1 made.0.sum only
 
 pub returns-clause-any_moment : goal.returns-clause-any_moment
 returns-clause-any_moment g c = λ obeys leaves log only.
-    let before = c.write_all.ensures.obeys obeys in
-    let fits : c.saturating_add-size.result < 2 ^ 63 = omega (arith, c.if-not-is_size.ensures.fits) in
-    let known = c.in_ok-log.ensures.log before leaves log in
-    let made = made-of c.in_ok-log.log.peaks log known.0 known.1 (c.in_ok-log.ensures.states before)
-    (c.in_ok-log.ensures.peaks before) c.in-Ok.ensures.bytes
-    (sum_is c.in_ok-log.log.size (length c.args.digests.now) c.saturating_add-size.result
-    c.saturating_add-size.ensures fits) fits c.requires in
-    let place : 96 + 32 * c.stored_count.result ≡ file_end (length leaves) =
-    ap (λ n. 96 + 32 * n) (c.stored_count.ensures ∙ ap stored_count (sym known.0)) in
-    c.write_all.ensures.any_moment obeys leaves c.args.digests.now (rw (c.deref.ensures.value) made.growth) place
-    made.sum only
+    let made = growth g (goal.at.returns-clause-any_moment g c).After-write_all leaves obeys log in
+    c.write_all.ensures.any_moment obeys leaves c.args.digests.now made.0.growth made.1 made.0.sum only
 
 pub returns-then-not-is_near-clause-any_moment : goal.returns-then-not-is_near-clause-any_moment
 returns-then-not-is_near-clause-any_moment g c = λ obeys leaves log only.
-    unmoved g.D.Disk.moment g.D.Disk.left_since c.args.disk.now (IsBeforeOrAfter leaves c.args.digests.now)
-    (g.D.Disk.may_leave c.args.disk.now) (g.D.Disk.seen c.args.disk.now) only (g.met.D.Disk.only_now c.args.disk.now)
-    (inl log)
+    unmoved g.D.Disk c.args.disk.now (IsBeforeOrAfter leaves c.args.digests.now) only
+    (g.met.D.Disk.only_now c.args.disk.now) (inl log)

@@ -7,15 +7,13 @@ use Rattle.log_store.proofs.growth.append_after.Goals as goal
 
 pub returns-in_err-log-clause-any_moment : goal.returns-in_err-log-clause-any_moment
 returns-in_err-log-clause-any_moment g c = λ obeys leaves log only.
-    unmoved g.D.Disk.moment g.D.Disk.left_since c.args.disk.now (IsBeforeOrAfter leaves c.args.digests.now)
-    (g.D.Disk.may_leave c.args.disk.now) (g.D.Disk.seen c.args.disk.now) only (g.met.D.Disk.only_now c.args.disk.now)
-    (inl log)
+    unmoved g.D.Disk c.args.disk.now (IsBeforeOrAfter leaves c.args.digests.now) only
+    (g.met.D.Disk.only_now c.args.disk.now) (inl log)
 
 pub returns-then-not-is-clause-any_moment : goal.returns-then-not-is-clause-any_moment
 returns-then-not-is-clause-any_moment g c = λ obeys leaves log only.
-    unmoved g.D.Disk.moment g.D.Disk.left_since c.args.disk.now (IsBeforeOrAfter leaves c.args.digests.now)
-    (g.D.Disk.may_leave c.args.disk.now) (g.D.Disk.seen c.args.disk.now) only (g.met.D.Disk.only_now c.args.disk.now)
-    (inl log)
+    unmoved g.D.Disk c.args.disk.now (IsBeforeOrAfter leaves c.args.digests.now) only
+    (g.met.D.Disk.only_now c.args.disk.now) (inl log)
 
 pub returns-clause-after : goal.returns-clause-after
 returns-clause-after g c = λ obeys.

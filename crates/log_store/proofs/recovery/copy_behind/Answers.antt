@@ -1,4 +1,4 @@
-use Rattle.std.proofs.Common.{◌+◌, ◌-◌, ◌≤◌, length, take, sym, subst, arith}
+use Rattle.std.proofs.Common.{◌+◌, ◌≤◌, length, take, sym, subst, arith}
 use Rattle.log_store.proofs.Recovering.{copied-more, IsCopied}
 use Rattle.log_store.proofs.recovery.copy_behind.Goals as goal
 

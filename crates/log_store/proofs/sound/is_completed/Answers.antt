@@ -1,7 +1,10 @@
-use Rattle.std.proofs.Common.{◌≡◌, ◌+◌, ◌-◌, ◌*◌, ◌/◌, ◌%◌, take, drop, ap, sym, ◌∙◌, inl, inr, arith}
+use Rattle.std.proofs.Common.{◌≡◌, ◌≤◌, ◌+◌, ◌*◌, ◌/◌, ◌%◌, length, take, drop, ap, ◌∙◌, inl, inr, arith}
 use Rattle.std.proofs.lemmas.Bool.{cases_lt}
+use Rattle.paxlog_run.specs.LogFile.{file_end}
+use Rattle.log_store.specs.Sound.{placed, IsAhead}
 use Rattle.merkle_log.proofs.Hashed.{other-says, same-says}
-use Rattle.log_store.proofs.Sounding.{climb, climbs, compares, entry-damaged, entry-hashed, other-stands, own-stands}
+use Rattle.log_store.proofs.Sounding.{climb, climbs, compares, entry-damaged, entry-hashed, other-stands, own-stands, up-stands, Compares}
+use Rattle.log_store.proofs.sound.is_completed.Goals.{After-ne}
 use Rattle.log_store.proofs.sound.is_completed.Goals as goal
 
 pub digest_in-requires-clause-near : goal.digest_in-requires-clause-near
@@ -44,74 +47,63 @@ overflow_add-level g c =
 
 pub position_of-requires-in-odd-2-clause-level : goal.position_of-requires-in-odd-2-clause-level
 position_of-requires-in-odd-2-clause-level g c =
-    let up = climb c.args.index c.odd.level c.odd.left c.odd.invariant.at c.odd-test.true in
-    (own-stands c.args.index (c.odd.level + 1) (c.odd.left / 2) up c.requires.fits).low
+    (up-stands c.args.index c.odd.level c.odd.left c.odd.invariant.at c.odd-test.true c.requires.fits).low
 
 pub position_of-requires-in-odd-2-clause-below : goal.position_of-requires-in-odd-2-clause-below
 position_of-requires-in-odd-2-clause-below g c =
-    let up = climb c.args.index c.odd.level c.odd.left c.odd.invariant.at c.odd-test.true in
-    (own-stands c.args.index (c.odd.level + 1) (c.odd.left / 2) up c.requires.fits).below
+    (up-stands c.args.index c.odd.level c.odd.left c.odd.invariant.at c.odd-test.true c.requires.fits).below
 
 pub position_of-requires-in-odd-2-clause-fits : goal.position_of-requires-in-odd-2-clause-fits
 position_of-requires-in-odd-2-clause-fits g c =
-    let up = climb c.args.index c.odd.level c.odd.left c.odd.invariant.at c.odd-test.true in
-    let at = own-stands c.args.index (c.odd.level + 1) (c.odd.left / 2) up c.requires.fits in
+    let at = up-stands c.args.index c.odd.level c.odd.left c.odd.invariant.at c.odd-test.true c.requires.fits in
     omega (arith, at.within, c.requires.near)
 
 pub digest_in-requires-in-odd-2-clause-near : goal.digest_in-requires-in-odd-2-clause-near
 digest_in-requires-in-odd-2-clause-near g c =
-    let up = climb c.args.index c.odd.level c.odd.left c.odd.invariant.at c.odd-test.true in
-    let at = own-stands c.args.index (c.odd.level + 1) (c.odd.left / 2) up c.requires.fits in
+    let at = up-stands c.args.index c.odd.level c.odd.left c.odd.invariant.at c.odd-test.true c.requires.fits in
     omega (arith, at.within, c.position_of-in-odd-2.ensures, c.requires.near)
 
-pub returns-then-ne-clause-damaged : goal.returns-then-ne-clause-damaged
-returns-then-ne-clause-damaged g c = λ obeys ahead inside no_one are.
+-- what is read above, and what is compared with it
+compared : (g : _) (c : After-ne g) → g.D.Disk.Obeys c.args.disk.now
+    → IsAhead c.args.window.now.start c.args.window.now.count c.args.window.now.bytes (g.D.Disk.seen c.args.disk.now)
+    → file_end (c.args.index + 1) ≤ length (g.D.Disk.seen c.args.disk.now)
+    → (c.in_ok-above.above ≡ placed (g.D.Disk.seen c.args.disk.now) (c.odd.level + 1) (c.odd.left / 2))
+    × Compares (g.D.Disk.seen c.args.disk.now) c.args.index c.odd.level c.node.result c.in_ok-above.above
+compared g c obeys ahead inside =
     let seen = g.D.Disk.seen c.args.disk.now in
     let index = c.args.index in
     let level = c.odd.level in
     let left = c.odd.left in
     let at = c.odd.invariant.at in
-    let up = climb index level left at c.odd-test.true in
     let one = other-stands index level left at c.odd-test.true c.requires.fits in
-    let two = own-stands index (level + 1) (left / 2) up c.requires.fits in
+    let two = up-stands index level left at c.odd-test.true c.requires.fits in
     let other = c.in_ok-other.ensures obeys ahead (omega (arith, one.within, c.position_of-in-odd.ensures, inside))
     ∙ ap (λ p. take 32 (drop (96 + 32 * p) seen)) c.position_of-in-odd.ensures in
     let above = c.in_ok-above.ensures obeys ahead (omega (arith, two.within, c.position_of-in-odd-2.ensures, inside))
-    ∙ ap (λ p. take 32 (drop (96 + 32 * p) seen)) c.position_of-in-odd-2.ensures in
-    let said = compares seen index level left c.in_ok-other.other c.odd.own c.in_ok-above.above at c.odd-test.true other
-    (c.odd.invariant.own obeys ahead inside) above in
-    entry-damaged seen index level (λ l le. up.odd l (omega (arith, le)))
-    (λ is. other-says c.node.result c.in_ok-above.above c.ne.result c.ne.ensures c.if-ne.true
-    (c.node.ensures ∙ said.back is)) are
+    ∙ ap (λ p. take 32 (drop (96 + 32 * p) seen)) c.position_of-in-odd-2.ensures in (
+      above,
+      rw (c.node.ensures) (compares seen index level left c.in_ok-other.other c.odd.own c.in_ok-above.above at
+          c.odd-test.true other (c.odd.invariant.own obeys ahead inside) above),
+    )
+
+pub returns-then-ne-clause-damaged : goal.returns-then-ne-clause-damaged
+returns-then-ne-clause-damaged g c = λ obeys ahead inside no_one are.
+    let up = climb c.args.index c.odd.level c.odd.left c.odd.invariant.at c.odd-test.true in
+    let said = (compared g (goal.at.returns-then-ne-clause-damaged g c).After-ne obeys ahead inside).1 in
+    entry-damaged (g.D.Disk.seen c.args.disk.now) c.args.index c.odd.level (λ l le. up.odd l (omega (arith, le)))
+    (λ is. other-says c.node.result c.in_ok-above.above c.ne.result c.ne.ensures c.if-ne.true (said.back is)) are
 
 pub odd-preserved : goal.odd-preserved
 odd-preserved g c =
-    let seen = g.D.Disk.seen c.args.disk.now in
-    let index = c.args.index in
-    let level = c.odd.level in
-    let left = c.odd.left in
-    let at = c.odd.invariant.at in
-    let up = climb index level left at c.odd-test.true in
-    let one = other-stands index level left at c.odd-test.true c.requires.fits in
-    let two = own-stands index (level + 1) (left / 2) up c.requires.fits in
+    let at = (goal.at.odd-preserved g c).After-ne in
     record {
-      at = up;
-      own = λ obeys ahead inside.
-          c.in_ok-above.ensures obeys ahead (omega (arith, two.within, c.position_of-in-odd-2.ensures, inside))
-          ∙ ap (λ p. take 32 (drop (96 + 32 * p) seen)) c.position_of-in-odd-2.ensures;
-      hashed = λ obeys ahead inside k below. elim (cases_lt k level) [
+      at = climb c.args.index c.odd.level c.odd.left c.odd.invariant.at c.odd-test.true;
+      own = λ obeys ahead inside. (compared g at obeys ahead inside).0;
+      hashed = λ obeys ahead inside k below. elim (cases_lt k c.odd.level) [
         | inl less ↦ c.odd.invariant.hashed obeys ahead inside k less
         | inr here ↦
-            let e : k ≡ level = omega (arith, here, below) in
-            let other = c.in_ok-other.ensures obeys ahead
-            (omega (arith, one.within, c.position_of-in-odd.ensures, inside))
-            ∙ ap (λ p. take 32 (drop (96 + 32 * p) seen)) c.position_of-in-odd.ensures in
-            let above = c.in_ok-above.ensures obeys ahead
-            (omega (arith, two.within, c.position_of-in-odd-2.ensures, inside))
-            ∙ ap (λ p. take 32 (drop (96 + 32 * p) seen)) c.position_of-in-odd-2.ensures in
-            let said = compares seen index level left c.in_ok-other.other c.odd.own c.in_ok-above.above at
-            c.odd-test.true other (c.odd.invariant.own obeys ahead inside) above in
-            rw (e) (said.same (sym c.node.ensures ∙ same-says c.node.result c.in_ok-above.above c.ne.result
+            let e : k ≡ c.odd.level = omega (arith, here, below) in
+            rw (e) ((compared g at obeys ahead inside).1.same (same-says c.node.result c.in_ok-above.above c.ne.result
             c.ne.ensures c.if-ne.false))
       ];
     }

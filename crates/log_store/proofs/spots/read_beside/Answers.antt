@@ -1,11 +1,11 @@
-use Rattle.std.proofs.Common.{◌≡◌, ◌/◌, ◌<◌, ◌∙◌, ap, sym, inl, inr, arith}
+use Rattle.std.proofs.Common.{◌≡◌, ◌/◌, ◌∙◌, ap, sym, inl, inr, arith}
 use Rattle.std.proofs.lemmas.Bool.{cases_lt}
 use Rattle.merkle_log.specs.Binding.{index_beside}
 use Rattle.merkle_log.specs.Stored.{position}
 use Rattle.merkle_log.specs.Walk.{index_up}
 use Rattle.merkle_log.proofs.KeptRows.{up-rises}
-use Rattle.merkle_log.proofs.Positions.{place-within, position-within, up-more}
-use Rattle.log_store.proofs.Reading.{level-below, level-low, up-less}
+use Rattle.merkle_log.proofs.Positions.{up-more}
+use Rattle.log_store.proofs.Reading.{level-below, level-low, place-stands, up-less}
 use Rattle.log_store.proofs.spots.read_beside.Goals as goal
 use Rattle.log_store.proofs.spots.read_beside.Goals.{then-other-left+in_ok-read_spot, else-other-left}
 
@@ -21,25 +21,20 @@ beside-other-requires g c = omega (
 
 pub position_of-requires-clause-below : goal.position_of-requires-clause-below
 position_of-requires-clause-below g c =
-    let below : c.beside-other.result < index_up c.levels.level c.args.size =
-    omega (arith, c.levels.invariant.left_is, c.if-other-left.true) in
-    omega (arith, place-within c.levels.level c.beside-other.result c.args.size below, c.requires.fits)
+    (place-stands c.args.size c.levels.level c.beside-other.result c.requires.fits
+    (omega (arith, c.levels.invariant.left_is, c.if-other-left.true))).below
 
 pub position_of-requires-clause-fits : goal.position_of-requires-clause-fits
 position_of-requires-clause-fits g c =
-    let below : c.beside-other.result < index_up c.levels.level c.args.size =
-    omega (arith, c.levels.invariant.left_is, c.if-other-left.true) in
-    let within = position-within c.levels.level c.beside-other.result c.args.size
-    (place-within c.levels.level c.beside-other.result c.args.size below) in
-    omega (arith, c.requires.fits)
+    let at = place-stands c.args.size c.levels.level c.beside-other.result c.requires.fits
+    (omega (arith, c.levels.invariant.left_is, c.if-other-left.true)) in
+    omega (arith, at.within, c.requires.fits)
 
 pub read_spot-requires : goal.read_spot-requires
 read_spot-requires g c =
-    let below : c.beside-other.result < index_up c.levels.level c.args.size =
-    omega (arith, c.levels.invariant.left_is, c.if-other-left.true) in
-    let within = position-within c.levels.level c.beside-other.result c.args.size
-    (place-within c.levels.level c.beside-other.result c.args.size below) in
-    omega (arith, c.requires.inside, c.position_of.ensures)
+    let at = place-stands c.args.size c.levels.level c.beside-other.result c.requires.fits
+    (omega (arith, c.levels.invariant.left_is, c.if-other-left.true)) in
+    omega (arith, at.within, c.requires.inside, c.position_of.ensures)
 
 pub levels-preserved : goal.levels-preserved
 levels-preserved g c =
@@ -50,16 +45,14 @@ levels-preserved g c =
     let half-own = ap (λ n. n / 2) at.own_is ∙ sym (up-more c.levels.level c.args.index) in
     elim c.if-other-left.branch [
       | then-other-left+in_ok-read_spot w ↦
-          let below : c.beside-other.result < index_up c.levels.level size =
-          omega (arith, at.left_is, w.if-other-left.true) in
-          let within = position-within c.levels.level c.beside-other.result size
-          (place-within c.levels.level c.beside-other.result size below) in
+          let stands = place-stands size c.levels.level c.beside-other.result c.requires.fits
+          (omega (arith, at.left_is, w.if-other-left.true)) in
           record {
             left_is = half;
             own_is = half-own;
             low = omega arith;
             own = rw (w.spots-is) (λ obeys inside own. w.in_ok-read_spot.ensures.own obeys size inside
-                (omega (arith, w.position_of.ensures, within)) (at.own obeys inside own));
+                (omega (arith, w.position_of.ensures, stands.within)) (at.own obeys inside own));
             read = rw (w.spots-is) (λ level place under beside. elim (cases_lt level c.levels.level) [
               | inl less ↦ w.in_ok-read_spot.ensures.more (position level place) (at.read level place less beside)
               | inr here ↦

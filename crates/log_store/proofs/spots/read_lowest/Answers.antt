@@ -1,12 +1,12 @@
-use Rattle.std.proofs.Common.{◌≡◌, ◌+◌, ◌-◌, ◌/◌, ◌∙◌, ℕ, ap, sym, inl, inr, arith}
+use Rattle.std.proofs.Common.{◌≡◌, ◌-◌, ◌/◌, ◌∙◌, ℕ, ap, sym, inl, inr, arith}
 use Rattle.std.proofs.lemmas.Bool.{cases_lt}
 use Rattle.merkle_log.specs.Asked.{IsLowest}
 use Rattle.merkle_log.specs.Stored.{position}
 use Rattle.merkle_log.specs.Walk.{index_up}
-use Rattle.merkle_log.proofs.Positions.{count-rises, position-within, up-more, up-times}
+use Rattle.merkle_log.proofs.Positions.{count-rises, up-more}
 use Rattle.log_store.specs.Spots.{IsRead}
 use Rattle.merkle_log.proofs.Givens.{known_if_ok}
-use Rattle.log_store.proofs.Reading.{level-low}
+use Rattle.log_store.proofs.Reading.{level-low, place-stands}
 use Rattle.log_store.proofs.spots.read_lowest.Goals as goal
 
 pub levels-preserved : goal.levels-preserved
@@ -27,34 +27,27 @@ levels-preserved g c =
 
 pub position_of-requires-clause-below : goal.position_of-requires-clause-below
 position_of-requires-clause-below g c =
-    let one : c.levels.left - 1 + 1 ≡ index_up c.levels.level c.args.size =
-    omega (arith, c.levels.invariant.left_is, c.levels.invariant.some) in
-    rw (one) (omega (arith, up-times c.levels.level c.args.size, c.requires.fits))
+    (place-stands c.args.size c.levels.level (c.levels.left - 1) c.requires.fits
+    (omega (arith, c.levels.invariant.left_is, c.levels.invariant.some))).below
 
 pub position_of-requires-clause-fits : goal.position_of-requires-clause-fits
 position_of-requires-clause-fits g c =
-    let one : c.levels.left - 1 + 1 ≡ index_up c.levels.level c.args.size =
-    omega (arith, c.levels.invariant.left_is, c.levels.invariant.some) in
-    let within = position-within c.levels.level (c.levels.left - 1) c.args.size
-    (rw (one) (up-times c.levels.level c.args.size)) in
-    omega (arith, c.requires.fits)
+    let at = place-stands c.args.size c.levels.level (c.levels.left - 1) c.requires.fits
+    (omega (arith, c.levels.invariant.left_is, c.levels.invariant.some)) in
+    omega (arith, at.within, c.requires.fits)
 
 pub read_spot-requires : goal.read_spot-requires
 read_spot-requires g c =
-    let one : c.levels.left - 1 + 1 ≡ index_up c.levels.level c.args.size =
-    omega (arith, c.levels.invariant.left_is, c.levels.invariant.some) in
-    let within = position-within c.levels.level (c.levels.left - 1) c.args.size
-    (rw (one) (up-times c.levels.level c.args.size)) in
-    omega (arith, c.requires.inside, c.position_of.ensures)
+    let at = place-stands c.args.size c.levels.level (c.levels.left - 1) c.requires.fits
+    (omega (arith, c.levels.invariant.left_is, c.levels.invariant.some)) in
+    omega (arith, at.within, c.requires.inside, c.position_of.ensures)
 
 pub returns-clause-own : goal.returns-clause-own
 returns-clause-own g c = λ obeys all le inside own.
-    let one : c.levels.left - 1 + 1 ≡ index_up c.levels.level c.args.size =
-    omega (arith, c.levels.invariant.left_is, c.levels.invariant.some) in
-    let within = position-within c.levels.level (c.levels.left - 1) c.args.size
-    (rw (one) (up-times c.levels.level c.args.size)) in
+    let at = place-stands c.args.size c.levels.level (c.levels.left - 1) c.requires.fits
+    (omega (arith, c.levels.invariant.left_is, c.levels.invariant.some)) in
     c.read_spot.ensures.own obeys all inside
-    (omega (arith, c.position_of.ensures, within, count-rises c.args.size all le)) own
+    (omega (arith, c.position_of.ensures, at.within, count-rises c.args.size all le)) own
 
 pub returns-clause-read : goal.returns-clause-read
 returns-clause-read g c = known_if_ok c.read_spot.result (λ read level place lowest. by_level level place lowest read)

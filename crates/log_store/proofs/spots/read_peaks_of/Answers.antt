@@ -1,50 +1,44 @@
-use Rattle.std.proofs.Common.{◌≡◌, ◌+◌, ◌-◌, ◌/◌, ◌∙◌, ap, sym, inl, inr, arith}
+use Rattle.std.proofs.Common.{◌≡◌, ◌-◌, ◌/◌, ◌∙◌, ap, sym, inl, inr, arith}
 use Rattle.std.proofs.lemmas.Bool.{cases_lt}
 use Rattle.merkle_log.specs.Stored.{position}
 use Rattle.merkle_log.specs.Walk.{index_up}
-use Rattle.merkle_log.proofs.Positions.{position-within, up-more, up-times}
-use Rattle.log_store.proofs.Reading.{level-below, level-low}
+use Rattle.merkle_log.proofs.Positions.{up-more}
+use Rattle.log_store.proofs.Reading.{level-below, level-low, place-stands}
 use Rattle.log_store.proofs.spots.read_peaks_of.Goals as goal
 use Rattle.log_store.proofs.spots.read_peaks_of.Goals.{then-left-eq1+in_ok-read_spot, else-left-eq1}
 
 pub position_of-requires-clause-below : goal.position_of-requires-clause-below
 position_of-requires-clause-below g c =
-    let one : c.levels.left - 1 + 1 ≡ index_up c.levels.level c.args.size =
-    omega (arith, c.levels.invariant.left_is, c.levels-test.true) in
-    rw (one) (omega (arith, up-times c.levels.level c.args.size, c.requires.fits))
+    (place-stands c.args.size c.levels.level (c.levels.left - 1) c.requires.fits
+    (omega (arith, c.levels.invariant.left_is, c.levels-test.true))).below
 
 pub position_of-requires-clause-fits : goal.position_of-requires-clause-fits
 position_of-requires-clause-fits g c =
-    let one : c.levels.left - 1 + 1 ≡ index_up c.levels.level c.args.size =
-    omega (arith, c.levels.invariant.left_is, c.levels-test.true) in
-    let within = position-within c.levels.level (c.levels.left - 1) c.args.size
-    (rw (one) (up-times c.levels.level c.args.size)) in
-    omega (arith, c.requires.fits)
+    let at = place-stands c.args.size c.levels.level (c.levels.left - 1) c.requires.fits
+    (omega (arith, c.levels.invariant.left_is, c.levels-test.true)) in
+    omega (arith, at.within, c.requires.fits)
 
 pub read_spot-requires : goal.read_spot-requires
 read_spot-requires g c =
-    let one : c.levels.left - 1 + 1 ≡ index_up c.levels.level c.args.size =
-    omega (arith, c.levels.invariant.left_is, c.levels-test.true) in
-    let within = position-within c.levels.level (c.levels.left - 1) c.args.size
-    (rw (one) (up-times c.levels.level c.args.size)) in
-    omega (arith, c.requires.inside, c.position_of.ensures)
+    let at = place-stands c.args.size c.levels.level (c.levels.left - 1) c.requires.fits
+    (omega (arith, c.levels.invariant.left_is, c.levels-test.true)) in
+    omega (arith, at.within, c.requires.inside, c.position_of.ensures)
 
 pub levels-preserved : goal.levels-preserved
 levels-preserved g c =
     let at = c.levels.invariant in
     let size = c.args.size in
-    let one : c.levels.left - 1 + 1 ≡ index_up c.levels.level size = omega (arith, at.left_is, c.levels-test.true) in
+    let stands = place-stands size c.levels.level (c.levels.left - 1) c.requires.fits
+    (omega (arith, at.left_is, c.levels-test.true)) in
     let low = level-low c.levels.level size c.requires.fits (omega (arith, at.left_is, c.levels-test.true)) in
     let half = ap (λ n. n / 2) at.left_is ∙ sym (up-more c.levels.level size) in
     elim c.if-left-eq1.branch [
       | then-left-eq1+in_ok-read_spot w ↦
-          let within = position-within c.levels.level (c.levels.left - 1) size
-          (rw (one) (up-times c.levels.level size)) in
           record {
             left_is = half;
             low = omega arith;
             own = rw (w.spots-is) (λ obeys inside own. w.in_ok-read_spot.ensures.own obeys size inside
-                (omega (arith, w.position_of.ensures, within)) (at.own obeys inside own));
+                (omega (arith, w.position_of.ensures, stands.within)) (at.own obeys inside own));
             read = rw (w.spots-is) (λ level place under peak. elim (cases_lt level c.levels.level) [
               | inl less ↦ w.in_ok-read_spot.ensures.more (position level place) (at.read level place less peak)
               | inr here ↦
