@@ -17,7 +17,8 @@ behind : (g : _) (c : After-write_behind g) {leaves more : List Digest}
     → IsGrowth leaves more (g.D.Disk.seen c.args.disk.now) c.args.bytes.now c.args.is_second_free
     → c.args.place ≡ file_end (length leaves) → g.D.Disk.Obeys c.write_behind.new.disk
     → Only (g.D.Disk.seen c.args.disk.now) (g.D.Disk.may_leave c.args.disk.now)
-    → LeavesOnly g.D.Disk.moment g.D.Disk.left_since c.args.disk.now c.write_behind.new.disk (IsBeforeOrAfter leaves more)
+    → LeavesOnly g.D.Disk.moment g.D.Disk.left_since c.args.disk.now c.write_behind.new.disk
+    (IsBeforeOrAfter leaves more)
 behind g c {leaves} {more} growth place_is obeys only =
     let grow = growing growth in
     weaker g.D.Disk c.args.disk.now c.write_behind.new.disk (IsBeforeOrAfter leaves more) _
@@ -50,7 +51,8 @@ stated g c {leaves} {more} growth place_is size_is obeys =
 front : (g : _) (c : After-write_durably g) {leaves more : List Digest} {file bytes : List ℕ}
     (grow : Growing leaves more file bytes c.args.is_second_free)
     → Stated grow c.in_ok-root.root (g.D.Disk.seen c.write_behind.new.disk) → g.D.Disk.Obeys c.write_durably.new.disk
-    → LeavesOnly g.D.Disk.moment g.D.Disk.left_since c.args.disk.now c.write_behind.new.disk (IsBeforeOrAfter leaves more)
+    → LeavesOnly g.D.Disk.moment g.D.Disk.left_since c.args.disk.now c.write_behind.new.disk
+    (IsBeforeOrAfter leaves more)
     → LeavesOnly g.D.Disk.moment g.D.Disk.left_since c.args.disk.now c.write_durably.new.disk
     (IsBeforeOrAfter leaves more)
 front g c {leaves} {more} grow end obeys so_far =
@@ -59,7 +61,8 @@ front g c {leaves} {more} grow end obeys so_far =
     (rw (end.file_is, c.next_slot-free.ensures) (second-inside grow c.in_ok-root.root end.root_is))
     (c.in_ok-root.ensures.durable (c.write_durably.ensures.obeys obeys)))
     (λ left torn. crash-slot grow c.in_ok-root.root end.root_is left
-    (rw (end.file_is, c.next_slot-free.ensures, front-long-of c.front_of.result c.args.size c.front_of.ensures) at torn))
+    (rw (end.file_is, c.next_slot-free.ensures, front-long-of c.front_of.result c.args.size c.front_of.ensures) at
+    torn))
 
 -- the file with the slot
 slot-there : (g : _) (c : In_ok-write_durably g) {leaves more : List Digest} {file bytes : List ℕ}
@@ -110,4 +113,5 @@ returns-clause-any_moment g c = λ obeys leaves more growth place_is size_is onl
     (rw (two, c.next_slot.ensures) (third-inside grow c.in_ok-root.root end.root_is))
     (c.in_ok-write_durably.ensures.durable early))
     (λ left torn. crash-both grow c.in_ok-root.root end.root_is left
-    (rw (two, c.next_slot.ensures, slot-long-of c.slot_of.result c.args.size c.in_ok-root.root c.slot_of.ensures) at torn))
+    (rw (two, c.next_slot.ensures, slot-long-of c.slot_of.result c.args.size c.in_ok-root.root c.slot_of.ensures) at
+    torn))
