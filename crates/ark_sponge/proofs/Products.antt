@@ -165,7 +165,8 @@ module _ (p : ℕ) where
 -- one factor more
 module _ (p : ℕ) (factors : List ℕ) (rows : List (List ℕ)) (same : length factors ≡ length rows) where
   pub sums_up_to-more : (i m : ℕ) (start sum row scaled next : List ℕ) → i < length factors
-      → m ≡ get_or factors i 0 → row ≡ get_or rows i [] → length row ≤ length sum → SumsUpTo p factors rows i start sum → scaled ≡ map (λ x. (x * m) % p) row
+      → m ≡ get_or factors i 0 → row ≡ get_or rows i [] → length row ≤ length sum
+      → SumsUpTo p factors rows i start sum → scaled ≡ map (λ x. (x * m) % p) row
       → next ≡ sums p sum scaled → SumsUpTo p factors rows (i + 1) start next
   unfolding SumsUpTo
   sums_up_to-more i m start sum row scaled next within is_m is_row short so_far is_scaled is_next xs =

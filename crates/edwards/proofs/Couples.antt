@@ -1,5 +1,5 @@
 -- Entries of tables under masks.
-use Rattle.std.proofs.Common.{◌≡◌, ℕ, ◌+◌, ◌-◌, ◌/◌, ◌%◌, ◌^◌, ◌<◌, ◌≤◌, List, [], ◌∷◌, length, get_or, slice_index, Bool, true, false, eqb, refl, sym, ◌∙◌, ap, ap₂, arith}
+use Rattle.std.proofs.Common.{◌≡◌, ℕ, ◌+◌, ◌-◌, ◌^◌, ◌<◌, ◌≤◌, List, [], ◌∷◌, length, get_or, slice_index, Bool, true, false, eqb, refl, sym, ◌∙◌, ap, ap₂, arith}
 use Rattle.std.proofs.Math.Nat.{mod-eq_of_lt}
 use Rattle.std.proofs.Common.{slice_set}
 use Rattle.std.proofs.lemmas.Grind.{get_or-set_at}
@@ -115,14 +115,3 @@ module _ (a b c e n : ℕ) (whole : four a b c e ≡ n) (a_fits : a < 2 ^ 64) (b
       (ap₂ (λ x y. x ∷ y ∷ []) (omega (arith, whole, a_fits)) (omega (arith, whole, a_fits, b_fits)))
       (ap₂ (λ x y. x ∷ y ∷ []) (omega (arith, whole, a_fits, b_fits, c_fits))
       (omega (arith, whole, a_fits, b_fits, c_fits)))
-
-pub couples_number : (low high : List ℕ) (n : ℕ) → low ∷ high ∷ [] ≡ couples n []
-    → four (get_or low 0 0) (get_or low 1 0) (get_or high 0 0) (get_or high 1 0) ≡ n
-couples_number low high n is =
-    let first : low ≡ n % 2 ^ 64 ∷ n / 2 ^ 64 % 2 ^ 64 ∷ [] = ap (λ l. get_or l 0 []) is in
-    let second : high ≡ n / 2 ^ 128 % 2 ^ 64 ∷ n / 2 ^ 192 ∷ [] = ap (λ l. get_or l 1 []) is in
-    ap₂ (λ l h. four (get_or l 0 0) (get_or l 1 0) (get_or h 0 0) (get_or h 1 0)) first second
-    ∙ parts n
-  where
-    parts : (n : ℕ) → four (n % 2 ^ 64) (n / 2 ^ 64 % 2 ^ 64) (n / 2 ^ 128 % 2 ^ 64) (n / 2 ^ 192) ≡ n
-    parts n = omega arith

@@ -56,7 +56,8 @@ fn with_digit<M: WideModulus>(table: &[Cached<M>; 8], sum: Extended<M>, digit: u
     requires { IsDigit digit }
     ensures { (d : ℕ) (k : IsComplete (number M.P) d) (s q : Point (number M.P) d k)
         → AreOddMultiples d k s 8 table.now → Stands sum q.at
-        → Stands result ((points (number M.P) d k).plus q (signed_multiple (number M.P) d k digit s)).at }
+        → Stands result ((points (number M.P) d k).plus q
+        (signed_multiple (number M.P) d k digit s)).at }
 {
     if digit == 0 {
         sum
