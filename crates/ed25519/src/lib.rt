@@ -25,6 +25,3 @@ pub use roots::root_of_ratio;
 pub use signatures::{challenge_of, commitment, verify};
 pub use signing::{multiple_bytes, public_key, sign};
 pub use small_order::has_small_order;
-
-#[cfg(test)]
-mod tests;

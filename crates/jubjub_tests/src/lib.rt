@@ -24,4 +24,6 @@ mod schnorr;
 #[cfg(test)]
 mod seed;
 #[cfg(test)]
+mod tests;
+#[cfg(test)]
 mod tree;

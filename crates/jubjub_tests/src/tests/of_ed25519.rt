@@ -1,6 +1,6 @@
 //! The first two vectors of RFC 8032, section 7.1, and what is refused.
 
-use crate::{Claim, has_small_order, point_of, public_key, sign, verify, verify_many};
+use ed25519::{Claim, has_small_order, point_of, public_key, sign, verify, verify_many};
 
 const SEED: [u8; 32] = [
     157, 97, 177, 157, 239, 253, 90, 96, 186, 132, 74, 244, 146, 236, 44, 196, 68, 73, 197, 105,

@@ -1,12 +1,10 @@
 //! Multiples by public scalars, sums of two, and multiples by tables, beside those that need no table.
 
-use crate::element::Jubjub;
-use crate::fr::JubjubFr;
-use crate::multiple::order_of_subgroup;
-use crate::tests::{largest, last, small};
+use crate::tests::curve::{largest, last, small};
 use ark_base::error::Error;
 use ark_groups::ec::{AdditiveGroup, FixedBaseGroup};
 use ark_groups::ff::{Field, UniformRand, Words};
+use jubjub::{Jubjub, JubjubFr, order_of_subgroup};
 use rand::SeedableRng;
 use rand::rngs::SmallRng;
 use std::alloc::Global;

@@ -1,10 +1,9 @@
 //! The group through its trait. What Python computed, `tools/jubjub-model` prints.
 
-use crate::element::Jubjub;
-use crate::fr::JubjubFr;
-use crate::tests::is;
+use crate::tests::curve::is;
 use ark_groups::ec::{AdditiveGroup, TECoordinates};
 use ark_groups::ff::{Field, UniformRand, Words};
+use jubjub::{Jubjub, JubjubFr};
 use rand::rngs::SmallRng;
 use rand::{Rng, SeedableRng};
 use std::alloc::Global;

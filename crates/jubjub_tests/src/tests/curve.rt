@@ -1,8 +1,8 @@
 //! Multiples and points that were computed by Python's integers, and what is refused.
 
-use crate::element::Jubjub;
 use ark_groups::ff::{Field, Words};
 use ark_wide_fields::Bls12_381Fr;
+use jubjub::Jubjub;
 use std::alloc::Global;
 
 mod bytes;

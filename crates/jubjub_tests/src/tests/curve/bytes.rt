@@ -1,11 +1,10 @@
 //! Canonical bytes: what is written is read, and what is no element's is refused.
 
-use crate::compressed::PointFault;
-use crate::element::Jubjub;
-use crate::tests::raised;
+use crate::tests::curve::raised;
 use ark_base::error::{Error, SerializationError};
 use ark_base::serialize::{CanonicalDeserialize, DigestItem, canonical_bytes};
 use ark_groups::ff::{Words, write_bytes};
+use jubjub::{Jubjub, PointFault};
 use std::alloc::Global;
 
 const INVALID: Option<Error> = Some(Error::SerializationError(SerializationError::InvalidData));
