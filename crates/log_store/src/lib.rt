@@ -17,8 +17,6 @@ mod sound;
 mod spots;
 mod steps;
 mod stop;
-#[cfg(test)]
-mod tests;
 mod window;
 
 pub use disk::Disk;

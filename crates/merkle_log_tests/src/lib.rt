@@ -1,4 +1,4 @@
-//! Tests of `merkle_log` at SHA-256 as RFC 6962 takes it.
+//! Tests of `merkle_log` at SHA-256 as RFC 6962 takes it, and of `log_store` over a disk that stops.
 #![tactic(auto)]
 
 #[cfg(test)]
@@ -9,6 +9,8 @@ mod drawn;
 mod hasher;
 #[cfg(test)]
 mod model;
+#[cfg(test)]
+mod stops;
 #[cfg(test)]
 mod tests;
 #[cfg(test)]

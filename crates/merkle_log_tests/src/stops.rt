@@ -1,8 +1,7 @@
 //! Appends over a disk that stops at a call, and writes a part of what that call was to write.
 
-use crate::disk::Disk;
-use crate::{append, check, consistency, prove, recover, root};
 use ark_trees::digest_of_entry;
+use log_store::{Disk, append, check, consistency, prove, recover, root};
 use paxlog_run::head::{TITLE, slot_of};
 use sha2::{Digest as _, Sha256};
 use std::alloc::{AllocError, Global};
