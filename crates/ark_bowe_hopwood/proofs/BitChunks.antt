@@ -1,6 +1,7 @@
 -- Chunks of bits from a place on.
 use Rattle.std.proofs.Common.{◌≡◌, ℕ, zero, suc, ◌+◌, ◌*◌, ◌<◌, ◌≤◌, Bool, false, List, [], ◌∷◌, length, drop, get_or, refl, sym, ap, ◌∙◌, arith}
 use Rattle.std.proofs.Common.{drop-cons}
+use Rattle.std.proofs.lemmas.List.{drop_all}
 use Rattle.ark_groups.specs.Group.{Group, IsCommutativeGroup}
 use Rattle.ark_groups.proofs.Multiples.{right_identity}
 use Rattle.ark_bowe_hopwood.specs.BoweHopwood.{Chunk, chunks_of, digit, signed_times, digits_sum}
@@ -24,12 +25,6 @@ chunk_at (a ∷ bits) (suc i) l =
     let three : suc (i + 3) ≡ suc i + 3 = omega arith in
     chunk_at bits i (omega (arith, l)) ∙ ap (λ m. tail m (suc (i + 2)) (suc (i + 3))) one
     ∙ ap (λ n. tail (suc i + 1) n (suc (i + 3))) two ∙ ap (λ k. tail (suc i + 1) (suc i + 2) k) three
-
-drop_past : (bits : List Bool) (i : ℕ) → length bits ≤ i → drop i bits ≡ []
-drop_past [] zero l = refl
-drop_past [] (suc i) l = refl
-drop_past (b ∷ bits) zero l = absurd (omega (arith, l))
-drop_past (b ∷ bits) (suc i) l = drop_past bits i (omega (arith, l))
 
 module _ {G : Type 0} {g : Group G} (laws : IsCommutativeGroup g) (all : List G) (bits : List Bool) where
   -- one more chunk
@@ -69,4 +64,4 @@ module _ {G : Type 0} {g : Group G} (laws : IsCommutativeGroup g) (all : List G)
   unfolding chunks_of
   no_chunk sum whole place past so_far =
       sym (right_identity laws sum) ∙ ap (g.plus sum) (sym (ap (λ (t : List Bool). digits_sum g (drop place all)
-      (chunks_of t)) (drop_past bits (3 * place) past) ∙ digits_sum-none laws (drop place all))) ∙ so_far
+      (chunks_of t)) (drop_all (3 * place) bits past) ∙ digits_sum-none laws (drop place all))) ∙ so_far

@@ -1,10 +1,9 @@
 -- Two inputs with one hash give a relation among the elements of the segments.
-use Rattle.std.proofs.Common.{◌≡◌, ℕ, zero, suc, ◌+◌, ◌-◌, ◌*◌, ◌/◌, ◌<◌, ◌≤◌, Bool, false, List, [], ◌∷◌, ◌++◌, All}
+use Rattle.std.proofs.Common.{◌≡◌, ℕ, zero, suc, ◌+◌, ◌-◌, ◌*◌, ◌/◌, ◌<◌, ◌≤◌, Bool, false, List, [], ◌∷◌, All}
 use Rattle.std.proofs.Common.{length, take, drop, ℤ, pos, negsuc, ◌+ℤ◌, ◌-ℤ◌, refl, sym, ◌∙◌, ap, ap₂, arith, mod-eq_of_lt, cond, Ok, Err}
 use Rattle.std.specs.Int.{int_rem_euclid}
 use Rattle.std.proofs.lemmas.Int.{ints}
 use Rattle.std.proofs.lemmas.Bool.{leb-true, le-ltb}
-use Rattle.std.proofs.lemmas.List.{take-append-drop, length-drop}
 use Rattle.ark_base.specs.Outcome.{Outcome}
 use Rattle.ark_base.specs.Laws.Steps.{done_injective}
 use Rattle.ark_base.specs.declared.error.Error.TheVariants.{IncorrectInputLength}
@@ -12,7 +11,7 @@ use Rattle.ark_groups.specs.Group.{Group, IsCommutativeGroup}
 use Rattle.ark_pedersen.specs.Pedersen.{bits_of_bytes}
 use Rattle.ark_pedersen.specs.declared.window.Window.{Ghosts as Windows}
 use Rattle.ark_pedersen.proofs.Halves.{length-bits_of_bytes}
-use Rattle.ark_pedersen.proofs.Relations.{adds_nothing, crossed, length-take-short, same_bytes}
+use Rattle.ark_pedersen.proofs.Relations.{adds_nothing, crossed, length-take-short, both_empty, same_parts, same_bytes}
 use Rattle.ark_bowe_hopwood.specs.BoweHopwood.{Chunk, chunks_of, segment_scalar, signed_times, segments_sum, segments_hash}
 use Rattle.ark_bowe_hopwood.specs.BoweHopwood.{greatest_scalar, is_fitting}
 use Rattle.ark_bowe_hopwood.specs.Binding.{segment_scalars, scalar_differences, signed_combination}
@@ -170,33 +169,15 @@ module _ (order size : ℕ) (half : 2 * greatest_scalar size < order) where
       → All (λ z. int_rem_euclid z (pos order) ≡ pos 0)
       (scalar_differences (segment_scalars size count a) (segment_scalars size count b)) → a ≡ b
   unfolding scalar_differences segment_scalars
-  same_chunks zero a b long within none = nothing a b long (omega (arith, within))
-    where
-      nothing : (a b : List Chunk) → length a ≡ length b → length a ≤ 0 → a ≡ b
-      nothing [] [] long within = refl
-      nothing [] (b ∷ bs) long within = absurd (omega (arith, long))
-      nothing (a ∷ as_chunks) bs long within = absurd (omega (arith, within))
+  same_chunks zero a b long within none = both_empty a b long (omega (arith, within))
   same_chunks (suc count) a b long within none =
       let here : segment_scalar (take size a) ≡ segment_scalar (take size b) =
       same_scalar (greatest_scalar size) order (segment_scalar (take size a)) (segment_scalar (take size b)) half
       (scalar-within (take size a) size (length-take-short size a))
       (scalar-within (take size b) size (length-take-short size b)) (none 0 (pos 0) (omega arith)) in
-      let front : take size a ≡ take size b = alone (take size a) (take size b) (same_front size a b long) here in
-      let behind' : drop size a ≡ drop size b = same_chunks count (drop size a) (drop size b)
-      (length-drop size a ∙ ap (λ n. n - size) long ∙ sym (length-drop size b))
-      (shorter (length-drop size a) within) (λ k d l. none (suc k) d (omega (arith, l))) in
-      sym (take-append-drop size a) ∙ ap₂ (λ (s t : List Chunk). s ++ t) front behind' ∙ take-append-drop size b
-    where
-      same_front : (n : ℕ) (a b : List Chunk) → length a ≡ length b → length (take n a) ≡ length (take n b)
-      same_front zero a b long = refl
-      same_front (suc n) [] [] long = refl
-      same_front (suc n) [] (b ∷ bs) long = absurd (omega (arith, long))
-      same_front (suc n) (a ∷ as_chunks) [] long = absurd (omega (arith, long))
-      same_front (suc n) (a ∷ as_chunks) (b ∷ bs) long = ap suc (same_front n as_chunks bs (omega (arith, long)))
-
-      shorter : length (drop size a) ≡ length a - size → length a ≤ size * suc count → length (drop size a)
-          ≤ size * count
-      shorter e l = let more : size * suc count ≡ size * count + size = omega arith in omega (arith, e, l, more)
+      same_parts size count a b long within (λ same. alone (take size a) (take size b) same here)
+      (λ same short. same_chunks count (drop size a) (drop size b) same short
+      (λ k d l. none (suc k) d (omega (arith, l))))
 
 pub are_some : {W : Type 0} (order : ℕ) (windows : Windows W) → 0 < order → RelationsAreSome order windows
 unfolding is_fitting

@@ -2,7 +2,9 @@
 use Rattle.std.proofs.Common.{◌≡◌, ℕ, suc, ◌+◌, ◌*◌, Bool, true, false, cond, ℤ, pos, negsuc, ◌+ℤ◌, ◌*ℤ◌, refl, sym, ap, ◌∙◌, arith}
 use Rattle.std.proofs.lemmas.Int.{ints}
 use Rattle.ark_groups.specs.Group.{Group, IsCommutativeGroup, times}
-use Rattle.ark_groups.proofs.Multiples.{right_identity, swap_last, times_at, times-add, times-plus, times-identity, times-mul}
+use Rattle.ark_groups.proofs.Multiples.{right_identity, times_at, times-add, times-plus, times-identity, times-mul}
+use Rattle.ark_pedersen.proofs.Iterates.{twice}
+use Rattle.ark_pedersen.proofs.Relations.{crossed}
 use Rattle.ark_bowe_hopwood.specs.BoweHopwood.{digit, signed_times}
 
 -- a whole number is the difference of two naturals
@@ -43,35 +45,21 @@ module _ {G : Type 0} {g : Group G} (laws : IsCommutativeGroup g) where
   once : (x : G) → times g 1 x ≡ x
   once x = laws.left_identity x
 
-  twice : (x : G) → times g 2 x ≡ g.plus x x
-  twice x = ap (λ y. g.plus y x) (once x)
-
   -- one or two of an element are added, then none or two of it
   pub digit-added : (a b : Bool) (sum x : G) → g.plus sum (times g (suc (cond a 1 0 + cond b 2 0)) x)
       ≡ cond b (g.plus (g.plus sum (cond a (g.plus x x) x)) (g.plus x x)) (g.plus sum (cond a (g.plus x x) x))
-  digit-added true true sum x = ap (g.plus sum) (times-add laws 2 2 x ∙ ap (g.plus (times g 2 x)) (twice x)
-      ∙ ap (λ y. g.plus y (g.plus x x)) (twice x)) ∙ sym (laws.assoc _ _ _)
-  digit-added true false sum x = ap (g.plus sum) (twice x)
-  digit-added false true sum x = ap (g.plus sum) (times-add laws 1 2 x ∙ ap (g.plus (times g 1 x)) (twice x)
+  digit-added true true sum x = ap (g.plus sum) (times-add laws 2 2 x ∙ ap (g.plus (times g 2 x)) (twice laws x)
+      ∙ ap (λ y. g.plus y (g.plus x x)) (twice laws x)) ∙ sym (laws.assoc _ _ _)
+  digit-added true false sum x = ap (g.plus sum) (twice laws x)
+  digit-added false true sum x = ap (g.plus sum) (times-add laws 1 2 x ∙ ap (g.plus (times g 1 x)) (twice laws x)
       ∙ ap (λ y. g.plus y (g.plus x x)) (once x)) ∙ sym (laws.assoc _ _ _)
   digit-added false false sum x = ap (g.plus sum) (once x)
-
-  -- doubled four times
-  pub sixteen : (x : G) → (let a = g.plus x x in let b = g.plus a a in let c = g.plus b b in g.plus c c) ≡ times g 16 x
-  sixteen x =
-      sym (times-mul laws 2 8 x ∙ twice (times g 8 x)
-      ∙ ap (λ y. g.plus y y) (times-mul laws 2 4 x ∙ twice (times g 4 x)
-      ∙ ap (λ y. g.plus y y) (times-mul laws 2 2 x ∙ twice (times g 2 x)
-      ∙ ap (λ y. g.plus y y) (twice x))))
 
   -- ---- sums and products of whole numbers
 
   -- m of an element, and n of its opposite
   abbrev less : ℕ → ℕ → G → G
   less m n x = g.plus (times g m x) (times g n (g.opposite x))
-
-  cross : (a b c d : G) → g.plus (g.plus a b) (g.plus c d) ≡ g.plus (g.plus a c) (g.plus b d)
-  cross a b c d = sym (laws.assoc _ _ _) ∙ ap (λ y. g.plus y d) (swap_last laws a b c) ∙ laws.assoc _ _ _
 
   none-left : (n : ℕ) (x : G) → g.plus (times g n x) (times g n (g.opposite x)) ≡ g.identity
   none-left n x = ap (g.plus (times g n x)) (times-opposite n x) ∙ laws.comm _ _ ∙ laws.left_opposite _
@@ -104,7 +92,7 @@ module _ {G : Type 0} {g : Group G} (laws : IsCommutativeGroup g) where
       signed_times-less (a +ℤ b) (up a + up b) (down a + down b) x (omega (arith, ints))
       ∙ ap (λ y. g.plus y (times g (down a + down b) (g.opposite x))) (times-add laws (up a) (up b) x)
       ∙ ap (g.plus (g.plus (times g (up a) x) (times g (up b) x))) (times-add laws (down a) (down b) (g.opposite x))
-      ∙ cross _ _ _ _
+      ∙ crossed laws _ _ _ _
       ∙ ap (λ y. g.plus y (less (up b) (down b) x)) (sym (signed_times-parts a x))
       ∙ ap (g.plus (signed_times g a x)) (sym (signed_times-parts b x))
 

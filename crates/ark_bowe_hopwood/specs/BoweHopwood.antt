@@ -1,5 +1,5 @@
 -- Bowe-Hopwood hashes: the first coordinate of a sum of elements, each as often as a signed digit of three bits says.
-use Rattle.std.specs.Prelude.{◌≡◌, ℕ, zero, suc, ◌*◌, ◌-◌, ◌/◌, ◌^◌, ◌≤◌, nat_lt, nat_le, Bool, false, if◌then◌else◌}
+use Rattle.std.specs.Prelude.{◌≡◌, ℕ, suc, ◌*◌, ◌-◌, ◌/◌, ◌^◌, ◌≤◌, nat_lt, nat_le, Bool, false, if◌then◌else◌}
 use Rattle.std.specs.Prelude.{List, [], ◌∷◌, length, map, take, drop, ℤ, pos, negsuc, ◌+ℤ◌, ◌-ℤ◌, ◌*ℤ◌, Ok, Err}
 use Rattle.std.specs.Int.{int_rem_euclid}
 use Rattle.ark_base.specs.Outcome.{Outcome}
@@ -7,7 +7,7 @@ use Rattle.ark_base.specs.declared.error.Error.TheVariants.{IncorrectInputLength
 use Rattle.ark_base.specs.declared.error.Refusal.TheVariants.{ParameterShape, WindowTooLarge}
 use Rattle.rand_core.specs.Stream.{Stream}
 use Rattle.ark_groups.specs.Group.{Group, times}
-use Rattle.ark_pedersen.specs.Pedersen.{bits_of_bytes, concatenation, has_shape, window_elements}
+use Rattle.ark_pedersen.specs.Pedersen.{bits_of_bytes, iterates, concatenation, has_shape, window_elements}
 use Rattle.ark_pedersen.specs.declared.window.Window.{Ghosts as Windows}
 
 -- ---- digits
@@ -64,9 +64,8 @@ digits_sum g (x ∷ xs) [] = g.identity
 digits_sum g (x ∷ xs) (chunk ∷ chunks) = g.plus (signed_times g (digit chunk) x) (digits_sum g xs chunks)
 
 -- an element, sixteen times it, sixteen times that, up to a count of elements
-unfoldable pub sixteenfolds : {G : Type 0} → Group G → ℕ → G → List G
-sixteenfolds g zero x = []
-sixteenfolds g (suc count) x = x ∷ sixteenfolds g count (times g 16 x)
+abbrev pub sixteenfolds : {G : Type 0} → Group G → ℕ → G → List G
+sixteenfolds g count x = iterates (times g 16) count x
 
 -- the sum over segments of one size, each element as often as the scalar of its segment says
 unfoldable pub segments_sum : {G : Type 0} → Group G → ℕ → List G → List Chunk → G

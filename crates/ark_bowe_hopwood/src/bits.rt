@@ -9,7 +9,7 @@ use crate::CHUNK_SIZE;
 use crate::sums::add_digit;
 use ark_base::error::{Error, Refusal};
 use ark_groups::ec::{AdditiveGroup, TECoordinates};
-use ark_pedersen::{Window, has_shape};
+use ark_pedersen::{Window, generator_at, has_shape};
 
 /// Returns the hash of bits, as many as there are. It allocates nothing.
 ///
@@ -47,7 +47,7 @@ fn sum_of_bits<G: AdditiveGroup, W: Window>(generators: &[Vec<G>], bits: &[bool]
 {
     let mut sum = G::zero().to_sum();
     for place in 0..bits.len().div_ceil(CHUNK_SIZE) {
-        let x = generators[place / W::WINDOW_SIZE][place % W::WINDOW_SIZE];
+        let x = generator_at::<G, W>(generators, place);
         let a = bit_at(bits, 3 * place);
         let b = bit_at(bits, 3 * place + 1);
         let is_negative = bit_at(bits, 3 * place + 2);

@@ -2,7 +2,6 @@
 
 ghost use Rattle.std.specs.Prelude.{◌≡◌, ◌∷◌, [], ℕ, List, map, IfOk, OnOk, IfErr};
 ghost use Rattle.ark_base.specs.Outcome.{AnswersBy};
-ghost use Rattle.ark_groups.specs.Group.{times};
 ghost use Rattle.ark_pedersen.specs.Pedersen.{lists_in, window_elements, seen_by};
 ghost use Rattle.ark_bowe_hopwood.specs.BoweHopwood.{sixteenfolds, TellsChunksApart};
 ghost use Rattle.ark_bowe_hopwood.specs.BoweHopwood.{AreSegmentsOf, AreDrawnSegments, segments_outcome};
@@ -16,7 +15,7 @@ use ark_base::serialize::DigestItem;
 use ark_crh::CRHScheme;
 use ark_groups::ec::{AdditiveGroup, TECoordinates};
 use ark_groups::ff::Field;
-use ark_pedersen::Window;
+use ark_pedersen::{Window, drawn_lists, lists_of};
 use rand::Rng;
 use std::alloc::Global;
 use std::marker::PhantomData;
@@ -37,26 +36,8 @@ impl<G: AdditiveGroup + TECoordinates, W: Window> CRH<G, W> {
             (R.stream rng.new ≡ (window_elements G.draw W.Window (R.stream rng.old)).1) }
         ensures refused { IfErr result (λ error. error ≡ Error.OutOfMemory) }
     {
-        let mut lists = Vec::with_capacity(alloc, W::NUM_WINDOWS)?;
-        for _ in 0..W::NUM_WINDOWS {
-            lists.push(segment(alloc, W::WINDOW_SIZE, G::rand(rng))?)?;
-        }
-        Ok(lists)
+        drawn_lists::<G, W, R>(alloc, 4, rng)
     }
-}
-
-// An element, then each sixteen times the one before, `count` in all. The only error is `OutOfMemory`.
-fn segment<G: AdditiveGroup>(alloc: Global, count: usize, element: G) -> Result<Vec<G>, Error>
-    ensures made { IfOk result (λ list. list.items ≡ sixteenfolds G.group count element) }
-    ensures refused { IfErr result (λ error. error ≡ Error.OutOfMemory) }
-{
-    let mut sums = Vec::with_capacity(alloc, count)?;
-    let mut last = element.to_sum();
-    for _ in 0..count {
-        sums.push(last)?;
-        last = sixteenfold::<G>(last);
-    }
-    G::from_sums(alloc, &sums)
 }
 
 /// Returns parameters of the elements of the windows: of each, it and its sixteenfolds, as many as a window has chunks.
@@ -71,19 +52,9 @@ pub fn parameters_of<G: AdditiveGroup>(
         lists_in parameters.generators.items ≡ map (sixteenfolds G.group size) elements.now) }
     ensures refused { IfErr result (λ error. error ≡ Error.OutOfMemory) }
 {
-    let mut generators = Vec::with_capacity(alloc, elements.len())?;
-    for element in elements {
-        generators.push(segment(alloc, size, *element)?)?;
-    }
-    Ok(Parameters { generators })
-}
-
-// Sixteen times a sum under way.
-fn sixteenfold<G: AdditiveGroup>(x: G::Sum) -> G::Sum
-    ensures { G.total result ≡ times G.group 16 (G.total x) }
-{
-    let fourfold = G::double_sum(G::double_sum(x));
-    G::double_sum(G::double_sum(fourfold))
+    Ok(Parameters {
+        generators: lists_of(alloc, size, 4, elements)?,
+    })
 }
 
 impl<G: AdditiveGroup + TECoordinates, W: Window> CRHScheme for CRH<G, W>

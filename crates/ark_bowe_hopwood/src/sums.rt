@@ -11,7 +11,7 @@ use crate::CHUNK_SIZE;
 use crate::text::number_at;
 use ark_base::error::{Error, Refusal};
 use ark_groups::ec::{AdditiveGroup, TECoordinates};
-use ark_pedersen::{Window, has_shape};
+use ark_pedersen::{Window, generator_at, has_shape};
 
 /// Returns the hash of the input. It allocates nothing.
 ///
@@ -104,7 +104,7 @@ fn add_chunks<G: AdditiveGroup, W: Window>(
         G.total result ≡ G.group.plus (G.total sum) (digits_sum G.group behind chunks) }
 {
     for place in first..end {
-        let x = generators[place / W::WINDOW_SIZE][place % W::WINDOW_SIZE];
+        let x = generator_at::<G, W>(generators, place);
         sum = add_digit::<G>(
             sum,
             x,
@@ -125,7 +125,15 @@ pub fn add_digit<G: AdditiveGroup>(sum: G::Sum, x: G, a: bool, b: bool, is_negat
     let once = signed(x, is_negative).to_sum();
     let twice = G::double_sum(once);
     let more = G::add_sums(sum, if a { twice } else { once });
-    if b { G::add_sums(more, twice) } else { more }
+    added_if::<G>(more, twice, b)
+}
+
+// The sum, with another added to it where a bit is set.
+fn added_if<G: AdditiveGroup>(sum: G::Sum, more: G::Sum, is_set: bool) -> G::Sum
+    ensures { let whole = G.group.plus (G.total sum) (G.total more) in
+        G.total result ≡ (if is_set then whole else G.total sum) }
+{
+    if is_set { G::add_sums(sum, more) } else { sum }
 }
 
 // The element or its opposite.

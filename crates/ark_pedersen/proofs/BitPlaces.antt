@@ -1,6 +1,7 @@
 -- Sums of the elements at set bits, place by place.
 use Rattle.std.proofs.Common.{◌≡◌, ℕ, zero, suc, ◌+◌, ◌<◌, ◌≤◌, Bool, true, false, List, [], ◌∷◌, length, drop, get_or}
-use Rattle.std.proofs.Common.{refl, sym, ap, ◌∙◌, arith, cond}
+use Rattle.std.proofs.Common.{sym, ap, ◌∙◌, arith, cond}
+use Rattle.std.proofs.lemmas.List.{drop_all}
 use Rattle.ark_groups.specs.Group.{Group, IsCommutativeGroup}
 use Rattle.ark_groups.proofs.Multiples.{right_identity}
 use Rattle.ark_pedersen.specs.Pedersen.{pedersen_sum}
@@ -18,12 +19,6 @@ module _ {G : Type 0} (g : Group G) where
   sum_at (y ∷ xs) (b ∷ bits) zero x l h is =
       ap (λ t. cond b (g.plus t (pedersen_sum g xs bits)) (pedersen_sum g xs bits)) is
   sum_at (y ∷ xs) (b ∷ bits) (suc i) x l h is = sum_at xs bits i x (omega (arith, l)) (omega (arith, h)) is
-
-  drop_past : (bits : List Bool) (i : ℕ) → length bits ≤ i → drop i bits ≡ []
-  drop_past [] zero l = refl
-  drop_past [] (suc i) l = refl
-  drop_past (b ∷ bits) zero l = absurd (omega (arith, l))
-  drop_past (b ∷ bits) (suc i) l = drop_past bits i (omega (arith, l))
 
   module _ (laws : IsCommutativeGroup g) (xs : List G) (bits : List Bool) where
     abbrev pub rest : ℕ → G
@@ -50,6 +45,6 @@ module _ {G : Type 0} (g : Group G) where
     -- nothing is left in the end
     pub all_added : (sum whole : G) (i : ℕ) → length bits ≤ i → g.plus sum (rest i) ≡ whole → sum ≡ whole
     all_added sum whole i l e =
-        sym (ap (g.plus sum) (ap (pedersen_sum g (drop i xs)) (drop_past bits i l) ∙ pedersen_sum-none laws (drop i xs))
+        sym (ap (g.plus sum) (ap (pedersen_sum g (drop i xs)) (drop_all i bits l) ∙ pedersen_sum-none laws (drop i xs))
         ∙ right_identity laws sum)
         ∙ e

@@ -1,5 +1,5 @@
 -- Sums of the elements at the set bits of a number, from its lowest set bit on.
-use Rattle.std.proofs.Common.{◌≡◌, ℕ, zero, suc, ◌+◌, ◌-◌, ◌*◌, ◌/◌, ◌%◌, ◌^◌, ◌<◌, ◌≤◌, Bool, true, false, eqb, List, [], ◌∷◌, ◌++◌, length, take, drop, get_or, refl, sym, ap, subst, ◌∙◌, lit<, arith, inl, inr}
+use Rattle.std.proofs.Common.{◌≡◌, ℕ, zero, suc, ◌+◌, ◌-◌, ◌*◌, ◌/◌, ◌%◌, ◌^◌, ◌<◌, ◌≤◌, Bool, true, false, eqb, List, [], ◌∷◌, ◌++◌, length, take, drop, get_or, length-drop, get_or-drop, refl, sym, ap, subst, ◌∙◌, lit<, arith, inl, inr}
 use Rattle.std.specs.Int.{w64}
 use Rattle.std.specs.Int.Bits.{bit_and, and_step, and_self}
 use Rattle.std.specs.Int.Count.{count_trailing_zeros, under}
@@ -175,3 +175,26 @@ pedersen_sum-word {G} {g} laws xs bytes n fits within short =
     ∙ ap (λ (s : G). g.plus s (pedersen_sum g (drop (8 * n) xs) behind))
     (sym (ap (λ (k : ℕ). pedersen_sum g xs (bits_of_number k word)) whole ∙ pedersen_sum-more g xs (8 * n)
     (64 - 8 * n) word below))
+
+-- ---- the element at the lowest set bit
+
+-- the lowest set bit stands at an element
+pub place_in : (first all rest word : ℕ) → 0 < rest → rest < 2 ^ 64 → rest ≤ word → word < 2 ^ (all - first)
+    → first + count_trailing_zeros 64 rest < all
+place_in first all rest word some fits below small =
+    let low = trailing_below (all - first) rest some fits (omega arith) in
+    omega arith
+
+-- its element is added
+pub lowest_added : {G : Type 0} {g : Group G} (laws : IsCommutativeGroup g) (xs : List G) (sum x : G) (first rest : ℕ)
+    → 0 < rest → rest < 2 ^ 64 → first + count_trailing_zeros 64 rest < length xs
+    → x ≡ get_or xs (first + count_trailing_zeros 64 rest) x
+    → g.plus (g.plus sum x) (pedersen_sum g (drop first xs) (bits_of_number 64 (bit_and rest (rest - 1))))
+    ≡ g.plus sum (pedersen_sum g (drop first xs) (bits_of_number 64 rest))
+lowest_added {G} {g} laws xs sum x first rest some fits within is =
+    let t = count_trailing_zeros 64 rest in
+    let others : G = pedersen_sum g (drop first xs) (bits_of_number 64 (bit_and rest (rest - 1))) in
+    let low : t < length (drop first xs) = omega (arith, length-drop first xs) in
+    let here : get_or (drop first xs) t x ≡ x = get_or-drop first xs t x ∙ sym is in
+    laws.assoc _ _ _ ∙ ap (g.plus sum) (sym (pedersen_sum-lowest g (drop first xs) x 64 rest some fits low
+    ∙ ap (λ (y : G). g.plus y others) here))

@@ -2,6 +2,7 @@ pub mod BitSums
 pub mod Copies
 pub mod DrawnLists
 pub mod Halves
+pub mod Iterates
 pub mod PedersenSums
 pub mod Shapes
 pub mod Windows

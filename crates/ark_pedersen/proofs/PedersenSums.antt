@@ -3,12 +3,13 @@ use Rattle.std.proofs.Common.{◌≡◌, ℕ, zero, suc, ◌+◌, ◌*◌, Bool,
 use Rattle.ark_groups.specs.Group.{Group, IsCommutativeGroup, times}
 use Rattle.ark_groups.proofs.Multiples.{times_at, times-plus, times-add}
 use Rattle.ark_groups.specs.Bits.{number_of_bits}
-use Rattle.ark_pedersen.specs.Pedersen.{union, AreDisjoint, pedersen_sum, doublings, windows_sum, concatenation}
+use Rattle.ark_pedersen.specs.Pedersen.{union, AreDisjoint, pedersen_sum, iterates, doublings, windows_sum, concatenation}
+use Rattle.ark_pedersen.proofs.Iterates.{length-iterates}
 
-pub length-doublings : {G : Type 0} (g : Group G) (count : ℕ) (x : G) → length (doublings g count x) ≡ count
-unfolding doublings
-length-doublings g zero x = refl
-length-doublings g (suc count) x = ap suc (length-doublings g count (g.plus x x))
+pub take-take : {A : Type 0} (n : ℕ) (xs : List A) → take n (take n xs) ≡ take n xs
+take-take zero xs = refl
+take-take (suc n) [] = refl
+take-take (suc n) (x ∷ xs) = ap (λ t. x ∷ t) (take-take n xs)
 
 module _ {G : Type 0} {g : Group G} (laws : IsCommutativeGroup g) where
   pub pedersen_sum-none : (xs : List G) → pedersen_sum g xs [] ≡ g.identity
@@ -61,7 +62,7 @@ module _ {G : Type 0} {g : Group G} (laws : IsCommutativeGroup g) where
   -- over an element with its doublings, the sum is a multiple of it
   pub pedersen_sum-doublings : (count : ℕ) (x : G) (bits : List Bool) → pedersen_sum g (doublings g count x) bits
       ≡ times g (number_of_bits (take count bits)) x
-  unfolding pedersen_sum doublings number_of_bits
+  unfolding pedersen_sum iterates number_of_bits
   pedersen_sum-doublings zero x bits = refl
   pedersen_sum-doublings (suc count) x [] = refl
   pedersen_sum-doublings (suc count) x (b ∷ bits) =
@@ -87,7 +88,7 @@ module _ {G : Type 0} {g : Group G} (laws : IsCommutativeGroup g) where
   pedersen_sum-windows size [] bits = refl
   pedersen_sum-windows size (x ∷ elements) bits =
       let here = doublings g size x in
-      let long : length here ≡ size = length-doublings g size x in
+      let long : length here ≡ size = length-iterates (λ y. g.plus y y) size x in
       pedersen_sum-append here (concatenation (map (doublings g size) elements)) bits
       ∙ ap (λ (n : ℕ). g.plus (pedersen_sum g here (take n bits))
       (pedersen_sum g (concatenation (map (doublings g size) elements)) (drop n bits))) long
@@ -95,8 +96,3 @@ module _ {G : Type 0} {g : Group G} (laws : IsCommutativeGroup g) where
       (pedersen_sum-doublings size x (take size bits) ∙ ap (λ (t : List Bool). times g (number_of_bits t) x)
       (take-take size bits))
       ∙ ap (g.plus (times g (number_of_bits (take size bits)) x)) (pedersen_sum-windows size elements (drop size bits))
-    where
-      take-take : (n : ℕ) (bits : List Bool) → take n (take n bits) ≡ take n bits
-      take-take zero bits = refl
-      take-take (suc n) [] = refl
-      take-take (suc n) (b ∷ bits) = ap (λ t. b ∷ t) (take-take n bits)

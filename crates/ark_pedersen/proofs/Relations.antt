@@ -2,7 +2,7 @@
 use Rattle.std.proofs.Common.{◌≡◌, ℕ, zero, suc, ◌+◌, ◌-◌, ◌*◌, ◌/◌, ◌%◌, ◌^◌, ◌<◌, ◌≤◌, Bool, true, false, List, [], ◌∷◌}
 use Rattle.std.proofs.Common.{◌++◌, length, take, drop, refl, sym, ◌∙◌, ap, ap₂, arith, mod-lt, mod-eq_of_lt, div-add-mod'}
 use Rattle.std.proofs.Common.{pow-suc, lit<, eqb, All, ◌⊎◌, inl, inr, subst, cond, append_assoc, Ok, Err}
-use Rattle.std.specs.Prelude.{if◌then◌else◌, nat_lt, nat_le}
+use Rattle.std.specs.Prelude.{if◌then◌else◌, nat_lt, nat_le, IfOk}
 use Rattle.std.proofs.Math.Nat.{add-mul-mod_self_right}
 use Rattle.std.proofs.lemmas.List.{take-append-drop, length-drop, drop-drop, append-nil}
 use Rattle.std.proofs.lemmas.Bool.{cases_lt, lt-ltb, le-ltb, le-leb, lt-leb, leb-true, ltb-false}
@@ -13,7 +13,7 @@ use Rattle.ark_base.specs.Laws.Digits.{bytes_of_number-number_of_bytes}
 use Rattle.ark_groups.specs.Bits.{bits_of_number, number_of_bits}
 use Rattle.ark_groups.specs.Group.{Group, IsCommutativeGroup, times}
 use Rattle.ark_groups.proofs.Multiples.{right_identity, times-add, times-mod, times_at}
-use Rattle.ark_base.specs.Outcome.{Outcome}
+use Rattle.ark_base.specs.Outcome.{Outcome, AnswersBy}
 use Rattle.ark_base.specs.Laws.Steps.{done_injective}
 use Rattle.ark_base.specs.declared.error.Error.TheVariants.{IncorrectInputLength, GenericError}
 use Rattle.ark_base.specs.declared.error.Refusal.TheVariants.{WindowTooLarge}
@@ -132,6 +132,36 @@ length-take-short zero xs = omega arith
 length-take-short (suc n) [] = omega arith
 length-take-short (suc n) (x ∷ xs) = omega (arith, length-take-short n xs)
 
+-- ---- lists of one length
+
+module _ {A : Type 0} where
+  pub both_empty : (a b : List A) → length a ≡ length b → length a ≤ 0 → a ≡ b
+  both_empty [] [] long within = refl
+  both_empty [] (b ∷ bs) long within = absurd (omega (arith, long))
+  both_empty (a ∷ others) bs long within = absurd (omega (arith, within))
+
+  length-take-same : (n : ℕ) (a b : List A) → length a ≡ length b → length (take n a) ≡ length (take n b)
+  length-take-same zero a b long = refl
+  length-take-same (suc n) [] [] long = refl
+  length-take-same (suc n) [] (b ∷ bs) long = absurd (omega (arith, long))
+  length-take-same (suc n) (a ∷ others) [] long = absurd (omega (arith, long))
+  length-take-same (suc n) (a ∷ others) (b ∷ bs) long = ap suc (length-take-same n others bs (omega (arith, long)))
+
+  -- lists are the same where their first parts and those behind are
+  pub same_parts : (size count : ℕ) (a b : List A) → length a ≡ length b → length a ≤ size * suc count
+      → (length (take size a) ≡ length (take size b) → take size a ≡ take size b)
+      → (length (drop size a) ≡ length (drop size b) → length (drop size a) ≤ size * count → drop size a ≡ drop size b)
+      → a ≡ b
+  same_parts size count a b long within first others =
+      sym (take-append-drop size a)
+      ∙ ap₂ (λ (s t : List A). s ++ t) (first (length-take-same size a b long))
+      (others (length-drop size a ∙ ap (λ n. n - size) long ∙ sym (length-drop size b))
+      (shorter (length-drop size a) within)) ∙ take-append-drop size b
+    where
+      shorter : length (drop size a) ≡ length a - size → length a ≤ size * suc count → length (drop size a)
+          ≤ size * count
+      shorter e l = let more : size * suc count ≡ size * count + size = omega arith in omega (arith, e, l, more)
+
 module _ (r size : ℕ) (pos : 0 < r) (fits : 2 ^ size ≤ r) where
   window_below : (bits : List Bool) → number_of_bits (take size bits) < r
   window_below bits =
@@ -163,33 +193,14 @@ module _ (r size : ℕ) (pos : 0 < r) (fits : 2 ^ size ≤ r) where
   pub same_bits : (count : ℕ) (a b : List Bool) → length a ≡ length b → length a ≤ size * count
       → All (λ c. c ≡ 0) (differences r (window_numbers size count a) (window_numbers size count b)) → a ≡ b
   unfolding differences window_numbers
-  same_bits zero a b long within none = nothing a b long (omega (arith, within))
-    where
-      nothing : (a b : List Bool) → length a ≡ length b → length a ≤ 0 → a ≡ b
-      nothing [] [] long within = refl
-      nothing [] (b ∷ bs) long within = absurd (omega (arith, long))
-      nothing (a ∷ as_bits) bs long within = absurd (omega (arith, within))
+  same_bits zero a b long within none = both_empty a b long (omega (arith, within))
   same_bits (suc count) a b long within none =
       let here : number_of_bits (take size a) ≡ number_of_bits (take size b) =
       no_difference (number_of_bits (take size a)) (number_of_bits (take size b)) (window_below a) (window_below b)
       (none 0 0 (omega arith)) in
-      let front : take size a ≡ take size b = number_of_bits-same (take size a) (take size b)
-      (same_front size a b long) here in
-      let behind : drop size a ≡ drop size b = same_bits count (drop size a) (drop size b)
-      (length-drop size a ∙ ap (λ n. n - size) long ∙ sym (length-drop size b))
-      (shorter (length-drop size a) within) (λ k d l. none (suc k) d (omega (arith, l))) in
-      sym (take-append-drop size a) ∙ ap₂ (λ (s t : List Bool). s ++ t) front behind ∙ take-append-drop size b
-    where
-      same_front : (n : ℕ) (a b : List Bool) → length a ≡ length b → length (take n a) ≡ length (take n b)
-      same_front zero a b long = refl
-      same_front (suc n) [] [] long = refl
-      same_front (suc n) [] (b ∷ bs) long = absurd (omega (arith, long))
-      same_front (suc n) (a ∷ as_bits) [] long = absurd (omega (arith, long))
-      same_front (suc n) (a ∷ as_bits) (b ∷ bs) long = ap suc (same_front n as_bits bs (omega (arith, long)))
-
-      shorter : length (drop size a) ≡ length a - size → length a ≤ size * suc count → length (drop size a)
-          ≤ size * count
-      shorter e l = let more : size * suc count ≡ size * count + size = omega arith in omega (arith, e, l, more)
+      same_parts size count a b long within
+      (λ same. number_of_bits-same (take size a) (take size b) same here)
+      (λ same short. same_bits count (drop size a) (drop size b) same short (λ k d l. none (suc k) d (omega (arith, l))))
 
 -- ---- bytes
 
@@ -401,3 +412,9 @@ answered r windows left right found e =
       right_in = ltb-false (window_bits windows) (8 * length right) parts.1.1.0;
       are = sym parts.1.1.1;
     }
+
+-- what holds of each value that answers an outcome
+pub answers_give : {A B : Type 0} (see : A → B) (outcome : Outcome B) (P : A → Type 0) (result : Outcome A)
+    → AnswersBy see outcome result → ((value : A) → outcome ≡ Ok (see value) → P value) → IfOk result P
+answers_give see outcome P (Ok value) answers give = give value answers
+answers_give see outcome P (Err error) answers give = tt

@@ -37,10 +37,14 @@ pedersen_sum g [] bits = g.identity
 pedersen_sum g (x ∷ xs) [] = g.identity
 pedersen_sum g (x ∷ xs) (b ∷ bits) = if b then g.plus x (pedersen_sum g xs bits) else pedersen_sum g xs bits
 
+-- a value, what a map makes of it, what it makes of that, up to a count of values
+unfoldable pub iterates : {A : Type 0} → (A → A) → ℕ → A → List A
+iterates next zero x = []
+iterates next (suc count) x = x ∷ iterates next count (next x)
+
 -- an element, its double, the double of that, up to a count of elements
-unfoldable pub doublings : {G : Type 0} → Group G → ℕ → G → List G
-doublings g zero x = []
-doublings g (suc count) x = x ∷ doublings g count (g.plus x x)
+abbrev pub doublings : {G : Type 0} → Group G → ℕ → G → List G
+doublings g count x = iterates (λ y. g.plus y y) count x
 
 -- the sum over windows of one size of the window's number times its element
 unfoldable pub windows_sum : {G : Type 0} → Group G → ℕ → List G → List Bool → G

@@ -53,6 +53,19 @@ pub fn relation_of<C: AdditiveGroup, W: Window>(
         AreAllZero (map C.ScalarField.value found.items)
         → length left.now ≡ length right.now → left.now ≡ right.now) }
 {
+    coefficients_of::<C, W>(alloc, left, right)
+}
+
+// The coefficients of the relation.
+fn coefficients_of<C: AdditiveGroup, W: Window>(
+    alloc: Global,
+    left: &[u8],
+    right: &[u8],
+) -> Result<Vec<C::ScalarField>, Error>
+    ensures { let outcome = relation_outcome C.ScalarField.MODULUS W.Window in
+        AnswersBy (λ found. map C.ScalarField.value found.items)
+        (outcome left.now right.now) result }
+{
     if !windows_fit::<C, W>() {
         return Err(Error::GenericError(Refusal::WindowTooLarge));
     }

@@ -5,6 +5,7 @@ ghost use Rattle.ark_pedersen.specs.Pedersen.{bits_of_bytes, window_bits, concat
 ghost use Rattle.ark_pedersen.specs.Pedersen.{pedersen_sum, AreGeneratorsOf, seen_by};
 ghost use Rattle.ark_pedersen.specs.BitHashes.{bits_hash, bit_windows_hash};
 
+use crate::generators::generator_at;
 use crate::sums::has_shape;
 use crate::window::Window;
 use ark_base::error::{Error, Refusal};
@@ -70,7 +71,7 @@ fn sum_of_bits<C: AdditiveGroup, W: Window>(generators: &[Vec<C>], bits: &[bool]
 {
     let mut sum = C::zero().to_sum();
     for place in 0..bits.len() {
-        let x = generators[place / W::WINDOW_SIZE][place % W::WINDOW_SIZE];
+        let x = generator_at::<C, W>(generators, place);
         if bits[place] {
             sum = C::add_to_sum(sum, x);
         }

@@ -5,6 +5,7 @@ ghost use Rattle.ark_pedersen.specs.Pedersen.{lists_in, generators_in, doublings
 ghost use Rattle.ark_pedersen.specs.Pedersen.{window_elements, AreDrawn};
 ghost use Rattle.ark_pedersen.specs.Pedersen.{pedersen_hash, windows_hash, seen_by};
 
+use crate::generators::{drawn_lists, iterates_of, lists_of};
 use crate::parameters::Parameters;
 use crate::sums::hash_bytes;
 use crate::window::Window;
@@ -31,11 +32,7 @@ impl<C: AdditiveGroup, W: Window> CRH<C, W> {
             (R.stream rng.new ≡ (window_elements C.draw W.Window (R.stream rng.old)).1) }
         ensures refused { IfErr result (λ error. error ≡ Error.OutOfMemory) }
     {
-        let mut lists = Vec::with_capacity(alloc, W::NUM_WINDOWS)?;
-        for _ in 0..W::NUM_WINDOWS {
-            lists.push(Self::generator_powers(alloc, W::WINDOW_SIZE, rng)?)?;
-        }
-        Ok(lists)
+        drawn_lists::<C, W, R>(alloc, 1, rng)
     }
 
     /// Returns an element that is drawn, then its doublings, `count` in all. The only error is `OutOfMemory`.
@@ -63,13 +60,7 @@ pub fn doublings_of<C: AdditiveGroup>(
     ensures made { IfOk result (λ list. list.items ≡ doublings C.group count element) }
     ensures refused { IfErr result (λ error. error ≡ Error.OutOfMemory) }
 {
-    let mut sums = Vec::with_capacity(alloc, count)?;
-    let mut power = element.to_sum();
-    for _ in 0..count {
-        sums.push(power)?;
-        power = C::double_sum(power);
-    }
-    C::from_sums(alloc, &sums)
+    iterates_of(alloc, count, 1, element)
 }
 
 /// Returns parameters of the elements of the windows: of each, it and its doublings, as many as a window has bits.
@@ -84,11 +75,9 @@ pub fn parameters_of<C: AdditiveGroup>(
         generators_in parameters ≡ map (doublings C.group size) elements.now) }
     ensures refused { IfErr result (λ error. error ≡ Error.OutOfMemory) }
 {
-    let mut generators = Vec::with_capacity(alloc, elements.len())?;
-    for element in elements {
-        generators.push(doublings_of(alloc, size, *element)?)?;
-    }
-    Ok(Parameters { generators })
+    Ok(Parameters {
+        generators: lists_of(alloc, size, 1, elements)?,
+    })
 }
 
 impl<C: AdditiveGroup + DigestItem, W: Window> CRHScheme for CRH<C, W> {

@@ -4,6 +4,7 @@
 mod binding;
 mod bits;
 mod crh;
+mod generators;
 pub mod injective_map;
 mod parameters;
 mod sums;
@@ -13,6 +14,7 @@ mod window;
 pub use binding::{relation_of, windows_fit};
 pub use bits::{bytes_to_bits, hash_bits};
 pub use crh::{CRH, doublings_of, parameters_of};
+pub use generators::{drawn_lists, generator_at, iterates_of, lists_of};
 pub use parameters::Parameters;
 pub use sums::{has_shape, hash_bytes, hash_halves, sum_of_bytes};
 pub use two_to_one::TwoToOneCRH;

@@ -6,6 +6,7 @@ ghost use Rattle.ark_pedersen.specs.Pedersen.{bits_of_bytes, window_bits, lists_
 ghost use Rattle.ark_pedersen.specs.Pedersen.{sum_from, pedersen_hash, of_halves, seen_by};
 
 use crate::Window;
+use crate::generators::generator_at;
 use ark_base::error::{Error, Refusal};
 use ark_base::serialize::number_of;
 use ark_groups::ec::AdditiveGroup;
@@ -114,10 +115,7 @@ fn add_word<C: AdditiveGroup, W: Window>(
 {
     while word > 0 {
         let place = first + word.trailing_zeros() as usize;
-        sum = C::add_to_sum(
-            sum,
-            generators[place / W::WINDOW_SIZE][place % W::WINDOW_SIZE],
-        );
+        sum = C::add_to_sum(sum, generator_at::<C, W>(generators, place));
         word &= word - 1;
     }
     sum

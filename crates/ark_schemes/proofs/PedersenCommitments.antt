@@ -13,7 +13,8 @@ use Rattle.ark_pedersen.specs.Pedersen.{bits_of_bytes, pedersen_sum, doublings, 
 use Rattle.ark_pedersen.specs.declared.window.Window.{Ghosts as Windows}
 use Rattle.ark_pedersen.proofs.BitSums.{pedersen_sum-more}
 use Rattle.ark_pedersen.proofs.Halves.{length-bits_of_bytes}
-use Rattle.ark_pedersen.proofs.PedersenSums.{length-doublings, pedersen_sum-doublings, pedersen_sum-union}
+use Rattle.ark_pedersen.proofs.Iterates.{length-iterates}
+use Rattle.ark_pedersen.proofs.PedersenSums.{pedersen_sum-doublings, pedersen_sum-union}
 use Rattle.ark_pedersen.proofs.Windows.{pedersen_hash-windows}
 use Rattle.ark_schemes.specs.PedersenCommitments.{Generators, randomness_sum, pedersen_commitment, windows_commitment, sum_of, IsUnion}
 
@@ -93,7 +94,7 @@ module _ {G W : Type 0} {g : Group G} (laws : IsCommutativeGroup g) (bits : ℕ)
       sum_is : randomness_sum g bits lists.randomness n ≡ Ok (times g n element)
       sum_is =
           ap (λ (elements : List G). randomness_sum g bits elements n) doubled
-          ∙ randomness_sum-long g bits (doublings g bits element) n (length-doublings g bits element)
+          ∙ randomness_sum-long g bits (doublings g bits element) n (length-iterates (λ y. g.plus y y) bits element)
           ∙ ap (λ (y : G). let o : Outcome G = Ok y in o) sum
 
   -- the sum over the windows, and n times the element

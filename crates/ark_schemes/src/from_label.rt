@@ -3,7 +3,7 @@
 //! They are found by trying one digest of BLAKE2s after another, as Zcash's group hash does. Who knows the label knows no
 //! relation among them.
 
-ghost use Rattle.std.specs.Prelude.{◌≡◌, ◌<◌, ◌≤◌, ◌^◌, List, true, false, Err, IfOk, OnOk, IfErr};
+ghost use Rattle.std.specs.Prelude.{◌≡◌, ◌<◌, ◌≤◌, ◌^◌, List, length, true, false, Err, IfOk, OnOk, IfErr};
 ghost use Rattle.ark_base.specs.Digits.{bytes_of_number};
 ghost use Rattle.ark_schemes.specs.GroupHash.{group_digest, group_hash, AreOfLabel, IsLabelFault};
 ghost use Rattle.ark_pedersen.specs.Pedersen.{generators_in, lists_in, AreGeneratorsOf};
@@ -92,6 +92,18 @@ fn count_of<W: Window>() -> Result<u32, Error>
     }
 }
 
+// The elements of a label, one for each window.
+fn window_elements<C: FromDigest, W: Window>(
+    alloc: Global,
+    label: &[u8; 8],
+) -> Result<Vec<C>, Error>
+    ensures made { IfOk result (λ elements.
+        AreOfLabel C.found_in label.now W.NUM_WINDOWS elements.items) }
+    ensures long { IfOk result (λ elements. length elements.items ≡ W.NUM_WINDOWS) }
+{
+    elements_of_label(alloc, label, count_of::<W>()?)
+}
+
 /// Returns the parameters of a Pedersen hash of a label: those of the label's elements, with their doublings. Take these:
 /// nobody has to trust who made them.
 ///
@@ -111,7 +123,7 @@ pub fn pedersen_from_label<C: FromDigest, W: Window>(
     if !windows_fit::<C, W>() {
         return Err(Error::GenericError(Refusal::WindowTooLarge));
     }
-    let elements = elements_of_label::<C>(alloc, label, count_of::<W>()?)?;
+    let elements = window_elements::<C, W>(alloc, label)?;
     ark_pedersen::parameters_of(alloc, W::WINDOW_SIZE, &elements)
 }
 
@@ -133,6 +145,6 @@ pub fn bowe_hopwood_from_label<C: FromDigest, W: Window>(
     if !ark_bowe_hopwood::is_fitting(C::ScalarField::modulus(), W::WINDOW_SIZE) {
         return Err(Error::GenericError(Refusal::WindowTooLarge));
     }
-    let elements = elements_of_label::<C>(alloc, label, count_of::<W>()?)?;
+    let elements = window_elements::<C, W>(alloc, label)?;
     ark_bowe_hopwood::parameters_of(alloc, W::WINDOW_SIZE, &elements)
 }

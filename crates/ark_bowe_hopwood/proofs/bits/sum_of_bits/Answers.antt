@@ -1,8 +1,7 @@
-use Rattle.std.proofs.Common.{◌≡◌, ℕ, ◌*◌, ◌<◌, ◌≤◌, Bool, length, get_or, sym, ap, ◌∙◌, arith}
+use Rattle.std.proofs.Common.{◌≡◌, ℕ, ◌*◌, ◌<◌, ◌≤◌, Bool, length, sym, ap, ◌∙◌, arith}
 use Rattle.std.specs.Int.{div_ceil}
 use Rattle.ark_groups.specs.Group.{Group}
 use Rattle.ark_pedersen.specs.Pedersen.{lists_in, concatenation}
-use Rattle.ark_pedersen.proofs.Shapes.{shape_all, element_in, element_at}
 use Rattle.ark_bowe_hopwood.specs.BoweHopwood.{digit, signed_times}
 use Rattle.ark_bowe_hopwood.proofs.BitChunks.{one_chunk, no_chunk}
 use Rattle.ark_bowe_hopwood.proofs.bits.sum_of_bits.Goals as goal
@@ -24,35 +23,20 @@ by_bits g sum new x a b c a' b' c' is_a is_b is_c e =
     ∙ ap (λ k. g.plus sum (signed_times g (digit (a', k, c)) x)) is_b
     ∙ ap (λ k. g.plus sum (signed_times g (digit (a', b', k)) x)) is_c
 
-pub index-x-requires : goal.index-x-requires
-index-x-requires g c =
-    let W = g.W.Window in
-    let list = c.index-generators-place.result in
-    let is = rw c.WINDOW_SIZE.ensures at c.index-generators-place.is in
-    let low = element_in W.NUM_WINDOWS W.WINDOW_SIZE (λ list. list.items) c.args.generators.now c.requires.shape
-    c.loop-place.place (in_all c.loop-place.place c.div_ceil-place-end.result (length c.args.bits.now) _
-    c.loop-place-test.true c.div_ceil-place-end.ensures c.requires.within) list is in
-    rw c.WINDOW_SIZE-in-loop-place.ensures (omega (arith, list.ok.0, low))
+pub generator_at-x-requires-clause-within : goal.generator_at-x-requires-clause-within
+generator_at-x-requires-clause-within g c =
+    in_all c.loop-place.place c.div_ceil-place-end.result (length c.args.bits.now) _ c.loop-place-test.true
+    c.div_ceil-place-end.ensures c.requires.within
 
 pub loop-place-preserved : goal.loop-place-preserved
 loop-place-preserved g c =
-    let W = g.W.Window in
-    let lists = lists_in c.args.generators.now in
-    let list = c.index-generators-place.result in
-    let is = rw c.WINDOW_SIZE.ensures at c.index-generators-place.is in
-    let x = c.index-x.result.now in
-    let within = in_all c.loop-place.place c.div_ceil-place-end.result (length c.args.bits.now) _
-    c.loop-place-test.true c.div_ceil-place-end.ensures c.requires.within in
-    let here : get_or (concatenation lists) c.loop-place.place x ≡ x =
-    element_at W.NUM_WINDOWS W.WINDOW_SIZE (λ list. list.items) c.args.generators.now c.requires.shape
-    c.loop-place.place within list is x
-    ∙ sym (rw c.WINDOW_SIZE-in-loop-place.ensures at c.index-x.ensures) in
-    let long = shape_all W.NUM_WINDOWS W.WINDOW_SIZE lists c.requires.shape in
+    let all = concatenation (lists_in c.args.generators.now) in
+    let x = c.generator_at-x.result in
     let total = g.G.AdditiveGroup.total in
-    one_chunk g.met.G.AdditiveGroup.laws (concatenation lists) c.args.bits.now (total c.loop-place.sum)
-    (total c.add_digit-sum.result) x c.loop-place.place _
+    one_chunk g.met.G.AdditiveGroup.laws all c.args.bits.now (total c.loop-place.sum) (total c.add_digit-sum.result) x
+    c.loop-place.place _
     (in_bits c.loop-place.place c.div_ceil-place-end.result (length c.args.bits.now) c.loop-place-test.true
-    c.div_ceil-place-end.ensures) (omega (arith, within, long)) here
+    c.div_ceil-place-end.ensures) c.generator_at-x.ensures.within (sym c.generator_at-x.ensures.is)
     (by_bits g.G.AdditiveGroup.group (total c.loop-place.sum) (total c.add_digit-sum.result) x c.bit_at-a.result
     c.bit_at-b.result c.bit_at-is_negative.result _ _ _ c.bit_at-a.ensures c.bit_at-b.ensures
     c.bit_at-is_negative.ensures c.add_digit-sum.ensures) c.loop-place.invariant

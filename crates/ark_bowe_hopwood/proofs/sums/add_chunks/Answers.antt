@@ -1,15 +1,14 @@
-use Rattle.std.proofs.Common.{◌≡◌, ℕ, suc, ◌+◌, ◌-◌, ◌*◌, ◌/◌, ◌<◌, ◌≤◌, List, ◌∷◌, length, drop, get_or, sym, ap, ◌∙◌, arith, drop-cons}
+use Rattle.std.proofs.Common.{◌≡◌, ℕ, suc, ◌+◌, ◌-◌, ◌*◌, ◌/◌, ◌<◌, List, ◌∷◌, length, drop, get_or, sym, ap, ◌∙◌, arith, drop-cons}
 use Rattle.ark_groups.specs.Group.{Group, IsCommutativeGroup}
 use Rattle.ark_groups.specs.Bits.{bits_of_number}
 use Rattle.ark_pedersen.specs.Pedersen.{lists_in, concatenation}
-use Rattle.ark_pedersen.proofs.Shapes.{shape_all, element_in, element_at}
 use Rattle.ark_bowe_hopwood.specs.BoweHopwood.{Chunk, chunks_of, digit, signed_times, digits_sum}
 use Rattle.ark_bowe_hopwood.proofs.Chunks.{lowest, chunks_of-first, digits_sum-done}
 use Rattle.ark_bowe_hopwood.proofs.sums.add_chunks.Goals as goal
 
 -- the element at a place is added as often as the lowest chunk says
 step : {G : Type 0} {g : Group G} (laws : IsCommutativeGroup g) (all : List G) (sum new x : G) (place end number : ℕ)
-    → place < end → end ≤ length all → get_or all place x ≡ x
+    → place < end → place < length all → get_or all place x ≡ x
     → new ≡ g.plus sum (signed_times g (digit (lowest number)) x)
     → g.plus new (digits_sum g (drop (place + 1) all) (chunks_of (bits_of_number (3 * (end - (place + 1)))
     (number / 8)))) ≡ g.plus sum (digits_sum g (drop place all)
@@ -28,31 +27,15 @@ step {G} {g} laws all sum new x place end number before within same added =
     ∙ ap (digits_sum g (drop place all)) (chunks_of-first (end - (place + 1)) number)
     ∙ ap (λ (t : List G). digits_sum g t (lowest number ∷ rest)) here))
 
-pub index-x-requires : goal.index-x-requires
-index-x-requires g c =
-    let W = g.W.Window in
-    let list = c.index-generators-place.result in
-    let is = rw c.WINDOW_SIZE.ensures at c.index-generators-place.is in
-    let low = element_in W.NUM_WINDOWS W.WINDOW_SIZE (λ list. list.items) c.args.generators.now c.requires.shape
-    c.loop-place.place (omega (arith, c.loop-place-test.true, c.requires.within)) list is in
-    rw c.WINDOW_SIZE-in-loop-place.ensures (omega (arith, list.ok.0, low))
+pub generator_at-x-requires-clause-within : goal.generator_at-x-requires-clause-within
+generator_at-x-requires-clause-within g c = omega (arith, c.loop-place-test.true, c.requires.within)
 
 pub loop-place-preserved : goal.loop-place-preserved
 loop-place-preserved g c =
-    let W = g.W.Window in
-    let lists = lists_in c.args.generators.now in
-    let list = c.index-generators-place.result in
-    let is = rw c.WINDOW_SIZE.ensures at c.index-generators-place.is in
-    let x = c.index-x.result.now in
-    let here : get_or (concatenation lists) c.loop-place.place x ≡ x =
-    element_at W.NUM_WINDOWS W.WINDOW_SIZE (λ list. list.items) c.args.generators.now c.requires.shape
-    c.loop-place.place (omega (arith, c.loop-place-test.true, c.requires.within)) list is x
-    ∙ sym (rw c.WINDOW_SIZE-in-loop-place.ensures at c.index-x.ensures) in
-    let long = shape_all W.NUM_WINDOWS W.WINDOW_SIZE lists c.requires.shape in
     let total = g.G.AdditiveGroup.total in
-    step g.met.G.AdditiveGroup.laws (concatenation lists) (total c.loop-place.sum) (total c.add_digit-sum.result) x
-    c.loop-place.place c.args.end c.loop-place.number (omega (arith, c.loop-place-test.true)) (omega
-    (arith, c.requires.within)) here
+    step g.met.G.AdditiveGroup.laws (concatenation (lists_in c.args.generators.now)) (total c.loop-place.sum)
+    (total c.add_digit-sum.result) c.generator_at-x.result c.loop-place.place c.args.end c.loop-place.number
+    (omega (arith, c.loop-place-test.true)) c.generator_at-x.ensures.within (sym c.generator_at-x.ensures.is)
     c.add_digit-sum.ensures
     ∙ c.loop-place.invariant
 

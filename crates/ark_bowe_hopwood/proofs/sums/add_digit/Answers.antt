@@ -18,22 +18,12 @@ module _ {G : Type 0} {g : Group G} (laws : IsCommutativeGroup g) (sum x once tw
       is ∙ rw (is_first, is_twice, is_once) (sym (ap (g.plus sum) (digit-times laws a b c x) ∙ digit-added laws a b
       sum signed))
 
-pub returns-then-b : goal.returns-then-b
-returns-then-b g c =
+pub returns : goal.returns
+returns g c =
     let total = g.G.AdditiveGroup.total in
     added g.met.G.AdditiveGroup.laws (total c.args.sum) c.args.x (total c.to_sum-once.result)
     (total c.double_sum-twice.result) (total c.if-a.add_sums) _ c.args.a c.args.b c.args.is_negative
     (c.to_sum-once.ensures ∙ c.signed.ensures) c.double_sum-twice.ensures (elim c.if-a.branch
     [ then-a w ↦ rw (w.add_sums-is, w.if-a.true) refl | else-a w ↦ rw (w.add_sums-is, w.if-a.false) refl ])
-    (rw c.if-b.true (c.add_sums.ensures
-    ∙ ap (λ (m : g.row.G.Denot). g.G.AdditiveGroup.group.plus m (total c.double_sum-twice.result))
-    c.add_sums-more.ensures))
-
-pub returns-else-b : goal.returns-else-b
-returns-else-b g c =
-    let total = g.G.AdditiveGroup.total in
-    added g.met.G.AdditiveGroup.laws (total c.args.sum) c.args.x (total c.to_sum-once.result)
-    (total c.double_sum-twice.result) (total c.if-a.add_sums) _ c.args.a c.args.b c.args.is_negative
-    (c.to_sum-once.ensures ∙ c.signed.ensures) c.double_sum-twice.ensures (elim c.if-a.branch
-    [ then-a w ↦ rw (w.add_sums-is, w.if-a.true) refl | else-a w ↦ rw (w.add_sums-is, w.if-a.false) refl ])
-    (rw c.if-b.false c.add_sums-more.ensures)
+    (c.added_if.ensures ∙ ap (λ (m : g.row.G.Denot). cond c.args.b (g.G.AdditiveGroup.group.plus m
+    (total c.double_sum-twice.result)) m) c.add_sums-more.ensures)

@@ -1,11 +1,8 @@
-use Rattle.std.proofs.Common.{Ok, sym, ap}
-use Rattle.std.proofs.lemmas.List.Elements.{same_from_all_zip}
-use Rattle.ark_pedersen.proofs.Copies.{map-seen}
+use Rattle.std.proofs.Common.{Ok, ap}
+use Rattle.ark_pedersen.proofs.Copies.{copies-same}
 use Rattle.ark_pedersen.proofs.parameters.ParametersDuplicate.duplicate.Goals as goal
 
 pub returns : goal.returns
 returns g c =
-    let clones = g.met.C.AdditiveGroup.clones in
-    ap Ok (map-seen (λ list. list.items) _ (λ v w alike. sym (same_from_all_zip g.C.Clone.is_clone v.items w.items
-    alike.0 (λ x y clone. sym (clones x y clone)))) c.args.self.now.generators.items
-    c.in_ok-generators.generators.items c.in_ok-generators.ensures.cases.0)
+    ap Ok (copies-same g.C.Clone.is_clone g.met.C.AdditiveGroup.clones _ (λ v w alike. alike.0) _ _
+    c.in_ok-generators.ensures.cases.0)
