@@ -1,5 +1,5 @@
 -- What the digests beside a way make of its end's digest.
-use Rattle.std.proofs.Common.{suc, ◌≡◌, ℕ, ◌+◌, ◌<◌, Bool, true, false, nat_lt, if◌then◌else◌, List, [], ◌∷◌, ◌++◌, length, map, take, get_or, Ok, Err, IfOk, Some, None, arith, refl, ap, sym, ◌∙◌}
+use Rattle.std.proofs.Common.{suc, ◌≡◌, ℕ, ◌+◌, ◌<◌, Bool, true, false, nat_lt, if◌then◌else◌, List, [], ◌∷◌, ◌++◌, length, map, take, get_or, Ok, Err, IfOk, Option, Some, None, arith, refl, ap, sym, ◌∙◌, subst}
 use Rattle.std.proofs.Math.Seq.{take-suc}
 use Rattle.std.proofs.lemmas.List.{length-take-le, map-append, length-map}
 use Rattle.std.proofs.lemmas.Slice.Eq.{bytes_eq-Decides}
@@ -8,6 +8,7 @@ use Rattle.ark_base.specs.declared.error.Error.{Error}
 use Rattle.ark_base.specs.Outcome.{Outcome, ◌>>=◌, Answers}
 use Rattle.ark_base.specs.Laws.Steps.{bind_ok, done_injective}
 use Rattle.merkle_map.specs.Map.{Key, Digest, Node, MapHashes, digest_of, bit_of, leaf_of, key_bits}
+use Rattle.merkle_map.specs.KeyProof.{EndSeen, end_node}
 use Rattle.merkle_map.specs.Way.{pair_on, way_node, is_end, value_in, climb, verdict, verdict_from}
 use Rattle.merkle_map.specs.Binding.{BindsValue}
 use Rattle.merkle_map.proofs.Bound.{binds}
@@ -118,3 +119,13 @@ pub answered : {P : Type 0} (outcome : Outcome Bool) (result : Outcome Bool) →
     → Answers outcome result → IfOk result (λ accepted. accepted ≡ true → P)
 answered outcome (Ok accepted) shows e = λ is. shows (e ∙ ap Ok is)
 answered outcome (Err error) shows e = tt
+
+-- what a call binds of a proof, it binds of one that is seen so
+pub bound_as : (h : MapHashes) (root : Digest) (key : Key) (result : Outcome Bool) {value seen : Option Digest}
+    {siblings own : List Digest} {end given : EndSeen} → value ≡ seen → siblings ≡ own → end ≡ given
+    → IfOk result (λ accepted. accepted ≡ true → BindsValue h root key value siblings (end_node key value end))
+    → IfOk result (λ accepted. accepted ≡ true → BindsValue h root key seen own (end_node key seen given))
+bound_as h root key result {value = value} {siblings = siblings} {own = own} {given = given} v s e bound =
+    subst (λ o. IfOk result (λ a. a ≡ true → BindsValue h root key o own (end_node key o given))) v
+    (subst (λ l. IfOk result (λ a. a ≡ true → BindsValue h root key value l (end_node key value given))) s
+    (subst (λ n. IfOk result (λ a. a ≡ true → BindsValue h root key value siblings (end_node key value n))) e bound))

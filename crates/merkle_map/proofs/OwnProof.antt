@@ -13,7 +13,7 @@ use Rattle.merkle_map.specs.Changes.{known_at, own_value}
 use Rattle.merkle_map.specs.Way.{pair_on, climb, verdict, verdict_from}
 use Rattle.merkle_map.specs.KeyProof.{EndSeen, AtNothing, AtOwn, AtOther, ProofSeen, proof_at, end_at, end_node, below, behind, behind_all, end_verdict, IsAccepted}
 use Rattle.merkle_map.proofs.Climb.{climb-refused}
-use Rattle.merkle_map.proofs.Places.{if_true, if_false}
+use Rattle.merkle_map.proofs.Places.{if_false}
 
 -- ---- digests behind others
 
@@ -30,32 +30,24 @@ one-more a d (Ok proof) =
     ap (λ (l : List Digest). Ok (record { end = proof.end; siblings = l })) (sym (append_assoc a
     (d ∷ []) proof.siblings))
 
-module _ (h : MapHashes) (level : ℕ) (key : Key) (left right : Shape) where
-  -- one level down
-  pub down-right : (digests : List Digest) (d : Digest) → bit_of level key ≡ true → shape_digest h left ≡ Ok d
-      → behind_all digests (proof_at h level key (Fork left right))
-      ≡ behind_all (digests ++ d ∷ []) (proof_at h (level + 1) key right)
-  down-right digests d bit is =
+-- one level down, in a tree that forks
+module _ (h : MapHashes) (level : ℕ) (key : Key) {whole left right : Shape} (fork : whole ≡ Fork left right) where
+  pub down-on : (b : Bool) (digests : List Digest) (d : Digest) → bit_of level key ≡ b
+      → shape_digest h (if b then left else right) ≡ Ok d
+      → behind_all digests (proof_at h level key whole)
+      ≡ behind_all (digests ++ d ∷ []) (proof_at h (level + 1) key (if b then right else left))
+  down-on b digests d bit is =
       let e : suc level ≡ level + 1 = omega arith in
-      ap (behind_all digests) (if_true (bit_of level key) (shape_digest h left >>= λ d. proof_at h (suc level) key right
-      >>= λ p. Ok (below d p)) (shape_digest h right >>= λ d. proof_at h (suc level) key left >>= λ p. Ok
-      (below d p)) bit
-      ∙ ap (λ o. o >>= λ d. proof_at h (suc level) key right >>= λ p. Ok (below d p)) is)
-      ∙ one-more digests d (proof_at h (suc level) key right)
-      ∙ ap (λ (n : ℕ). behind_all (digests ++ d ∷ []) (proof_at h n key right)) e
-
-  pub down-left : (digests : List Digest) (d : Digest) → bit_of level key ≡ false → shape_digest h right ≡ Ok d
-      → behind_all digests (proof_at h level key (Fork left right))
-      ≡ behind_all (digests ++ d ∷ []) (proof_at h (level + 1) key left)
-  down-left digests d bit is =
-      let e : suc level ≡ level + 1 = omega arith in
-      ap (behind_all digests) (if_false (bit_of level key) (shape_digest h left >>= λ d. proof_at h
-      (suc level) key right
-      >>= λ p. Ok (below d p)) (shape_digest h right >>= λ d. proof_at h (suc level) key left >>= λ p. Ok
-      (below d p)) bit
-      ∙ ap (λ o. o >>= λ d. proof_at h (suc level) key left >>= λ p. Ok (below d p)) is)
-      ∙ one-more digests d (proof_at h (suc level) key left)
-      ∙ ap (λ (n : ℕ). behind_all (digests ++ d ∷ []) (proof_at h n key left)) e
+      ap (behind_all digests) (ap (proof_at h level key) fork ∙ chosen b bit
+      ∙ ap (λ o. o >>= λ d. proof_at h (suc level) key (if b then right else left) >>= λ p. Ok (below d p)) is)
+      ∙ one-more digests d (proof_at h (suc level) key (if b then right else left))
+      ∙ ap (λ (n : ℕ). behind_all (digests ++ d ∷ []) (proof_at h n key (if b then right else left))) e
+    where
+      chosen : (b : Bool) → bit_of level key ≡ b → proof_at h level key (Fork left right)
+          ≡ (shape_digest h (if b then left else right) >>= λ d.
+          proof_at h (suc level) key (if b then right else left) >>= λ p. Ok (below d p))
+      chosen true bit = rw bit refl
+      chosen false bit = rw bit refl
 
 -- ---- the tree's root accepts
 
@@ -72,6 +64,16 @@ module _ (h : MapHashes) (key : Key) where
           ≡ h.leaf entry.key entry.value
       by_test true e = ap (λ (k : Key). h.leaf k entry.value) (sym ((bytes_eq-Decides entry.key key).0 e))
       by_test false e = refl
+
+  -- the proof of a fork is that of the key's side, below the digest of the other one
+  below-parts : (level : ℕ) (other side : Shape) (proof : ProofSeen)
+      → (shape_digest h other >>= λ d. proof_at h (suc level) key side >>= λ p. Ok (below d p)) ≡ Ok proof
+      → (d : Digest) × (p : ProofSeen) × (shape_digest h other ≡ Ok d) × (proof_at h (suc level) key side ≡ Ok p)
+      × (below d p ≡ proof)
+  below-parts level other side proof is =
+      let d = bind_ok (shape_digest h other) _ proof is in
+      let p = bind_ok (proof_at h (suc level) key side) (λ p. Ok (below d.0 p)) proof d.2 in
+      (d.0, p.0, d.1, p.1, done_injective {E = Error} (below d.0 p.0) proof p.2)
 
   climb-below : (level : ℕ) (shape : Shape) (proof : ProofSeen) (value : Option Digest)
       → proof_at h level key shape ≡ Ok proof
@@ -92,6 +94,16 @@ module _ (h : MapHashes) (key : Key) where
       by_bit (climb-below (suc level) left) (climb-below (suc level) right)
       (bit_of level key) refl is known
     where
+      -- what leads to the key's side leads on to the fork
+      up : (b : Bool) (side : Shape) (d : Digest) (p : ProofSeen) → bit_of level key ≡ b → below d p ≡ proof
+          → climb h key (suc level) p.siblings (end_digest value p.end) ≡ shape_digest h side
+          → climb h key level proof.siblings (end_digest value proof.end)
+          ≡ (shape_digest h side >>= λ own. digest_of h (pair_on b own d))
+      up b side d p bit whole leads =
+          ap (λ (p : ProofSeen). climb h key level p.siblings (end_digest value p.end)) (sym whole)
+          ∙ ap (λ o. o >>= λ own. digest_of h (pair_on (bit_of level key) own d)) leads
+          ∙ ap (λ (c : Bool). shape_digest h side >>= λ own. digest_of h (pair_on c own d)) bit
+
       by_bit : ((proof : ProofSeen) (value : Option Digest) → proof_at h (suc level) key left ≡ Ok proof
           → known_at (suc level) key left ≡ Ok value
           → climb h key (suc level) proof.siblings (end_digest value proof.end) ≡ shape_digest h left)
@@ -104,21 +116,13 @@ module _ (h : MapHashes) (key : Key) where
           → (if b then known_at (suc level) key right else known_at (suc level) key left) ≡ Ok value
           → climb h key level proof.siblings (end_digest value proof.end) ≡ shape_digest h (Fork left right)
       by_bit on_left on_right true bit is known =
-          let d = bind_ok (shape_digest h left) _ proof is in
-          let p = bind_ok (proof_at h (suc level) key right) (λ p. Ok (below d.0 p)) proof d.2 in
-          let whole = done_injective {E = Error} (below d.0 p.0) proof p.2 in
-          ap (λ (p : ProofSeen). climb h key level p.siblings (end_digest value p.end)) (sym whole)
-          ∙ ap (λ o. o >>= λ own. digest_of h (pair_on (bit_of level key) own d.0)) (on_right p.0 value p.1 known)
-          ∙ ap (λ (b : Bool). shape_digest h right >>= λ own. digest_of h (pair_on b own d.0)) bit
-          ∙ ap (λ o. o >>= λ a. shape_digest h right >>= λ b. h.pair a b) (sym d.1)
+          let parts = below-parts level left right proof is in
+          up true right parts.0 parts.1 bit parts.4 (on_right parts.1 value parts.3 known)
+          ∙ ap (λ o. o >>= λ a. shape_digest h right >>= λ b. h.pair a b) (sym parts.2)
       by_bit on_left on_right false bit is known =
-          let d = bind_ok (shape_digest h right) _ proof is in
-          let p = bind_ok (proof_at h (suc level) key left) (λ p. Ok (below d.0 p)) proof d.2 in
-          let whole = done_injective {E = Error} (below d.0 p.0) proof p.2 in
-          ap (λ (p : ProofSeen). climb h key level p.siblings (end_digest value p.end)) (sym whole)
-          ∙ ap (λ o. o >>= λ own. digest_of h (pair_on (bit_of level key) own d.0)) (on_left p.0 value p.1 known)
-          ∙ ap (λ (b : Bool). shape_digest h left >>= λ own. digest_of h (pair_on b own d.0)) bit
-          ∙ ap (λ o. shape_digest h left >>= λ a. o >>= λ b. h.pair a b) (sym d.1)
+          let parts = below-parts level right left proof is in
+          up false left parts.0 parts.1 bit parts.4 (on_left parts.1 value parts.3 known)
+          ∙ ap (λ o. shape_digest h left >>= λ a. o >>= λ b. h.pair a b) (sym parts.2)
 
   -- no proof is longer than a key
   long-below : (bits : List Bool) (level : ℕ) (shape : Shape) (proof : ProofSeen) → length bits ≡ level → level ≤ 256
@@ -145,17 +149,13 @@ module _ (h : MapHashes) (key : Key) where
           else (shape_digest h right >>= λ d. proof_at h (suc level) key left >>= λ p. Ok (below d p))) ≡ Ok proof
           → length proof.siblings + level ≤ 256
       by_bit on_left on_right true is =
-          let d = bind_ok (shape_digest h left) _ proof is in
-          let p = bind_ok (proof_at h (suc level) key right) (λ p. Ok (below d.0 p)) proof d.2 in
-          let whole = ap (λ (p : ProofSeen). length p.siblings) (done_injective {E = Error}
-          (below d.0 p.0) proof p.2) in
-          omega (arith, whole, on_right p.0 p.1)
+          let parts = below-parts level left right proof is in
+          let whole = ap (λ (p : ProofSeen). length p.siblings) parts.4 in
+          omega (arith, whole, on_right parts.1 parts.3)
       by_bit on_left on_right false is =
-          let d = bind_ok (shape_digest h right) _ proof is in
-          let p = bind_ok (proof_at h (suc level) key left) (λ p. Ok (below d.0 p)) proof d.2 in
-          let whole = ap (λ (p : ProofSeen). length p.siblings) (done_injective {E = Error}
-          (below d.0 p.0) proof p.2) in
-          omega (arith, whole, on_left p.0 p.1)
+          let parts = below-parts level right left proof is in
+          let whole = ap (λ (p : ProofSeen). length p.siblings) parts.4 in
+          omega (arith, whole, on_left parts.1 parts.3)
 
   reaches : (root : Digest) (siblings : List Digest) (end : Node) (own : Outcome Digest) → digest_of h end ≡ own
       → climb h key 0 siblings own ≡ Ok root → length siblings ≤ 256 → verdict h root key siblings end ≡ Ok true
@@ -217,15 +217,11 @@ module _ (h : MapHashes) (key : Key) where
           → (if b then known_at (suc level) key right else known_at
           (suc level) key left) ≡ Ok value → Fits value proof.end
       by_bit on_left on_right true is known =
-          let d = bind_ok (shape_digest h left) _ proof is in
-          let p = bind_ok (proof_at h (suc level) key right) (λ p. Ok (below d.0 p)) proof d.2 in
-          subst (λ (p : ProofSeen). Fits value p.end) (done_injective {E = Error} (below d.0 p.0) proof p.2)
-          (on_right p.0 p.1 known)
+          let parts = below-parts level left right proof is in
+          subst (λ (p : ProofSeen). Fits value p.end) parts.4 (on_right parts.1 parts.3 known)
       by_bit on_left on_right false is known =
-          let d = bind_ok (shape_digest h right) _ proof is in
-          let p = bind_ok (proof_at h (suc level) key left) (λ p. Ok (below d.0 p)) proof d.2 in
-          subst (λ (p : ProofSeen). Fits value p.end) (done_injective {E = Error} (below d.0 p.0) proof p.2)
-          (on_left p.0 p.1 known)
+          let parts = below-parts level right left proof is in
+          subst (λ (p : ProofSeen). Fits value p.end) parts.4 (on_left parts.1 parts.3 known)
 
   pub accepts : (shape : Shape) (proof : ProofSeen) → StandsAt [] shape → proof_at h 0 key shape ≡ Ok proof
       → IsAccepted h key shape proof

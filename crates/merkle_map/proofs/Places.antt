@@ -1,9 +1,10 @@
 -- Trees on the way of a key.
-use Rattle.std.proofs.Common.{suc, ◌≡◌, ℕ, ◌+◌, ◌<◌, Bool, true, false, if◌then◌else◌, Ok, arith, refl, ap, ◌∙◌}
-use Rattle.ark_base.specs.Outcome.{◌>>=◌}
+use Rattle.std.proofs.Common.{suc, ◌≡◌, ℕ, ◌+◌, ◌<◌, Bool, true, false, if◌then◌else◌, Ok, arith, refl, ap, ◌∙◌, subst}
+use Rattle.ark_base.specs.Outcome.{Outcome, ◌>>=◌, AnswersBy}
 use Rattle.merkle_map.specs.Map.{Key, Entry, bit_of}
 use Rattle.merkle_map.specs.Tree.{Shape, Fork, way, StandsAt}
 use Rattle.merkle_map.specs.Changes.{known_at, with_value, losing, joined}
+use Rattle.merkle_map.proofs.Answered.{answers_on}
 use Rattle.merkle_map.proofs.Keys.{length-way}
 
 pub if_true : {A : Type 0} (b : Bool) (x y : A) → b ≡ true → (if b then x else y) ≡ x
@@ -12,56 +13,50 @@ if_true b x y e = rw e refl
 pub if_false : {A : Type 0} (b : Bool) (x y : A) → b ≡ false → (if b then x else y) ≡ y
 if_false b x y e = rw e refl
 
-module _ (level : ℕ) (key : Key) (left right : Shape) (stands : StandsAt (way level key) (Fork left right)) where
-  pub fork_within : level < 256
-  fork_within = let long = length-way level key in omega (arith, stands.0, long)
+-- the choice of a bit that is known, one level down
+on_bit : {A : Type 0} (level : ℕ) (bit b : Bool) (on_right on_left : ℕ → A) → bit ≡ b
+    → (if bit then on_right (suc level) else on_left (suc level))
+    ≡ (if b then on_right (level + 1) else on_left (level + 1))
+on_bit level bit b on_right on_left is =
+    let next : suc level ≡ level + 1 = omega arith in
+    ap (λ (c : Bool). if c then on_right (suc level) else on_left (suc level)) is
+    ∙ ap (λ (n : ℕ). if b then on_right n else on_left n) next
 
--- a function of a fork goes on at the key's side
-module _ (level : ℕ) (key : Key) (left right : Shape) where
-  pub known-right : bit_of level key ≡ true → known_at level key (Fork left right) ≡ known_at (level + 1) key right
-  known-right bit =
-      let e : suc level ≡ level + 1 = omega arith in
-      if_true (bit_of level key) (known_at (suc level) key right) (known_at (suc level) key left) bit
-      ∙ ap (λ (n : ℕ). known_at n key right) e
+-- a tree that forks, some levels below the root
+module _ (level : ℕ) {whole left right : Shape} (fork : whole ≡ Fork left right) where
+  -- it stands above the last bit of a key
+  pub fork_within : (key : Key) → StandsAt (way level key) whole → level < 256
+  fork_within key stands =
+      let long = length-way level key in
+      let inside = subst (StandsAt (way level key)) fork stands in omega (arith, inside.0, long)
 
-  pub known-left : bit_of level key ≡ false → known_at level key (Fork left right) ≡ known_at (level + 1) key left
-  known-left bit =
-      let e : suc level ≡ level + 1 = omega arith in
-      if_false (bit_of level key) (known_at (suc level) key right) (known_at (suc level) key left) bit
-      ∙ ap (λ (n : ℕ). known_at n key left) e
+  -- what it has at a key, the key's side has
+  pub known-on : (key : Key) (b : Bool) → bit_of level key ≡ b
+      → known_at level key whole ≡ (if b then known_at (level + 1) key right else known_at (level + 1) key left)
+  known-on key b bit = ap (known_at level key) fork
+      ∙ on_bit level (bit_of level key) b (λ n. known_at n key right) (λ n. known_at n key left) bit
 
--- the same of a value that is put
-module _ (level : ℕ) (own : Entry) (left right : Shape) where
-  pub with-right : bit_of level own.key ≡ true
-      → with_value level own (Fork left right) ≡ (with_value (level + 1) own right >>= λ r. Ok (Fork left r))
-  with-right bit =
-      let e : suc level ≡ level + 1 = omega arith in
-      if_true (bit_of level own.key) (with_value (suc level) own right >>= λ r. Ok (Fork left r))
-      (with_value (suc level) own left >>= λ l. Ok (Fork l right)) bit
-      ∙ ap (λ (n : ℕ). with_value n own right >>= λ r. Ok (Fork left r)) e
+  -- a key is removed from its side
+  pub losing-on : (key : Key) (b : Bool) → bit_of level key ≡ b
+      → losing level key whole ≡ (if b then (losing (level + 1) key right >>= λ r. joined left r)
+      else (losing (level + 1) key left >>= λ l. joined l right))
+  losing-on key b bit = ap (losing level key) fork
+      ∙ on_bit level (bit_of level key) b (λ n. losing n key right >>= λ r. joined left r)
+      (λ n. losing n key left >>= λ l. joined l right) bit
 
-  pub with-left : bit_of level own.key ≡ false
-      → with_value level own (Fork left right) ≡ (with_value (level + 1) own left >>= λ l. Ok (Fork l right))
-  with-left bit =
-      let e : suc level ≡ level + 1 = omega arith in
-      if_false (bit_of level own.key) (with_value (suc level) own right >>= λ r. Ok (Fork left r))
-      (with_value (suc level) own left >>= λ l. Ok (Fork l right)) bit
-      ∙ ap (λ (n : ℕ). with_value n own left >>= λ l. Ok (Fork l right)) e
+  -- a value is put into its key's side
+  with-on : (own : Entry) (b : Bool) → bit_of level own.key ≡ b
+      → with_value level own whole ≡ (if b then (with_value (level + 1) own right >>= λ r. Ok (Fork left r))
+      else (with_value (level + 1) own left >>= λ l. Ok (Fork l right)))
+  with-on own b bit = ap (with_value level own) fork
+      ∙ on_bit level (bit_of level own.key) b (λ n. with_value n own right >>= λ r. Ok (Fork left r))
+      (λ n. with_value n own left >>= λ l. Ok (Fork l right)) bit
 
--- the same of a key that is removed
-module _ (level : ℕ) (key : Key) (left right : Shape) where
-  pub losing-right : bit_of level key ≡ true
-      → losing level key (Fork left right) ≡ (losing (level + 1) key right >>= λ r. joined left r)
-  losing-right bit =
-      let e : suc level ≡ level + 1 = omega arith in
-      if_true (bit_of level key) (losing (suc level) key right >>= λ r. joined left r)
-      (losing (suc level) key left >>= λ l. joined l right) bit
-      ∙ ap (λ (n : ℕ). losing n key right >>= λ r. joined left r) e
-
-  pub losing-left : bit_of level key ≡ false
-      → losing level key (Fork left right) ≡ (losing (level + 1) key left >>= λ l. joined l right)
-  losing-left bit =
-      let e : suc level ≡ level + 1 = omega arith in
-      if_false (bit_of level key) (losing (suc level) key right >>= λ r. joined left r)
-      (losing (suc level) key left >>= λ l. joined l right) bit
-      ∙ ap (λ (n : ℕ). losing n key left >>= λ l. joined l right) e
+  -- a call that puts a value into its key's side puts it into the tree
+  pub answers_side : {A : Type 0} (own : Entry) (b : Bool) (result : Outcome A) (new : Shape) → bit_of level own.key ≡ b
+      → AnswersBy (λ _. new) (with_value (level + 1) own (if b then right else left)) result
+      → AnswersBy (λ _. if b then Fork left new else Fork new right) (with_value level own whole) result
+  answers_side own true result new bit known = answers_on new (λ r. Fork left r) (with_value (level + 1) own right)
+      (with_value level own whole) result (with-on own true bit) known
+  answers_side own false result new bit known = answers_on new (λ l. Fork l right) (with_value (level + 1) own left)
+      (with_value level own whole) result (with-on own false bit) known

@@ -109,7 +109,7 @@ module _ (nothing : Digest) (mask : List ℕ) where
     opened = let e : count ≡ suc (count - 1) = omega (arith, some) in
         ap (λ (n : ℕ). given_read nothing n level mask bytes) e
 
-    pub given-set : (digest rest : List ℕ) → bit_of level mask ≡ true → string_read bytes ≡ Ok (digest, rest)
+    given-set : (digest rest : List ℕ) → bit_of level mask ≡ true → string_read bytes ≡ Ok (digest, rest)
         → found_behind before (given_read nothing count level mask bytes)
         ≡ found_behind (before ++ digest ∷ []) (given_read nothing (count - 1) (level + 1) mask rest)
     given-set digest rest bit is =
@@ -122,6 +122,16 @@ module _ (nothing : Digest) (mask : List ℕ) where
         Ok (digest.0 ∷ more.0, more.1)) is
         ∙ ap (λ (n : ℕ). given_read nothing (count - 1) n mask rest >>= λ more. Ok (digest ∷ more.0, more.1)) e)
         ∙ behind-more before digest (given_read nothing (count - 1) (level + 1) mask rest)
+
+    -- the same, of what a call pushed and went on with
+    pub given-next : (digest : Digest) (next : List ℕ) (after : List Digest) → bit_of level mask ≡ true
+        → string_read bytes ≡ Ok (digest, drop 32 bytes) → after ≡ before ++ digest ∷ [] → next ≡ drop 32 bytes
+        → found_behind before (given_read nothing count level mask bytes)
+        ≡ found_behind after (given_read nothing (count - 1) (level + 1) mask next)
+    given-next digest next after bit is pushed dropped =
+        given-set digest (drop 32 bytes) bit is
+        ∙ ap (λ l. found_behind l (given_read nothing (count - 1) (level + 1) mask (drop 32 bytes))) (sym pushed)
+        ∙ ap (λ l. found_behind after (given_read nothing (count - 1) (level + 1) mask l)) (sym dropped)
 
     pub given-set-error : (error : Error) → bit_of level mask ≡ true → string_read bytes ≡ Err error
         → found_behind before (given_read nothing count level mask bytes) ≡ Err error

@@ -1,5 +1,5 @@
 -- What a tree shows of a map after a change.
-use Rattle.std.proofs.Common.{zero, suc, ◌≡◌, ℕ, ◌+◌, ◌-◌, ◌<◌, ◌≤◌, Bool, true, false, not, cond, if◌then◌else◌, Ok, List, [], ◌∷◌, arith, refl, ap, sym, ◌∙◌, subst}
+use Rattle.std.proofs.Common.{suc, ◌≡◌, ℕ, ◌+◌, ◌-◌, ◌<◌, ◌≤◌, Bool, true, false, not, cond, if◌then◌else◌, Ok, List, [], ◌∷◌, arith, refl, ap, sym, ◌∙◌, subst}
 use Rattle.std.proofs.lemmas.Slice.Eq.{bytes_eq-Decides}
 use Rattle.std.specs.Str.{bytes_eq}
 use Rattle.ark_base.specs.declared.error.Error.{Error}
@@ -8,7 +8,8 @@ use Rattle.ark_base.specs.Laws.Steps.{bind_ok, done_injective}
 use Rattle.merkle_map.specs.Map.{Key, Digest, Entry, MapHashes, bit_of, has_bit, side, key_bits, IsMap, put}
 use Rattle.merkle_map.specs.Tree.{Shape, Empty, One, Fork, Hidden, Shows, way, IsKey, StandsAt}
 use Rattle.merkle_map.specs.Changes.{two_of, with_value}
-use Rattle.merkle_map.proofs.Keys.{bits_left, length-way}
+use Rattle.merkle_map.proofs.Keys.{length-way}
+use Rattle.merkle_map.proofs.Two.{two_holds}
 use Rattle.merkle_map.proofs.Answered.{gives}
 use Rattle.merkle_map.proofs.Entries.{own_bit, other_bit, side-put, other-put, map-filter, length-without}
 
@@ -61,25 +62,19 @@ module _ (h : MapHashes) (level : ℕ) where
   put-other key value entry entries other is = rw (is, other) refl
 
   -- on the key's side a changed tree shows what is put, and the other side is as it was
-  pub put-right : (key : Key) (value : Digest) (left right new : Shape) (entries : List Entry) → bit_of level key ≡ true
-      → IsMap entries → Shows h level (Fork left right) entries
-      → (IsMap (side true level entries) → Shows h (suc level) right (side true level entries)
-      → Shows h (suc level) new (put key value (side true level entries)))
-      → Shows h level (Fork left new) (put key value entries)
-  put-right key value left right new entries bit is shown below = (
+  pub put-on : (b : Bool) (key : Key) (value : Digest) (left right new : Shape) (entries : List Entry)
+      → bit_of level key ≡ b → IsMap entries → Shows h level (Fork left right) entries
+      → (IsMap (side b level entries) → Shows h (suc level) (cond b right left) (side b level entries)
+      → Shows h (suc level) new (put key value (side b level entries)))
+      → Shows h level (cond b (Fork left new) (Fork new right)) (put key value entries)
+  put-on true key value left right new entries bit is shown below = (
     shown.0,
     omega (arith, shown.1, length-without key entries is),
     subst (Shows h (suc level) left) (sym (other-put key level true bit entries value)) shown.2,
     subst (Shows h (suc level) new) (sym (side-put key level true bit entries value))
         (below (map-filter (λ e. has_bit true level e.key) entries is) shown.3),
   )
-
-  pub put-left : (key : Key) (value : Digest) (left right new : Shape) (entries : List Entry) → bit_of level key ≡ false
-      → IsMap entries → Shows h level (Fork left right) entries
-      → (IsMap (side false level entries) → Shows h (suc level) left (side false level entries)
-      → Shows h (suc level) new (put key value (side false level entries)))
-      → Shows h level (Fork new right) (put key value entries)
-  put-left key value left right new entries bit is shown below = (
+  put-on false key value left right new entries bit is shown below = (
     shown.0,
     omega (arith, shown.1, length-without key entries is),
     subst (Shows h (suc level) new) (sym (side-put key level false bit entries value))
@@ -93,28 +88,9 @@ module _ (h : MapHashes) (x y : Entry) (x_key : IsKey x.key) (y_key : IsKey y.ke
     false) where
   pub two-shows : (bits level : ℕ) → bits + level ≡ 256 → way level x.key ≡ way level y.key
       → Shows h level (two_of bits level x y) (x ∷ y ∷ [])
-  two-shows zero level sum together =
-      let inside = bits_left level x.key y.key x_key y_key (omega (arith, sum)) together differ in absurd (omega
-      (arith, sum, inside))
-  two-shows (suc bits) level sum together = by_bits
-      (λ same. two-shows bits (suc level) (omega (arith, sum)) (ap (λ (b : Bool). b ∷ way level x.key) same
-      ∙ ap (λ (bits : List Bool). bit_of level y.key ∷ bits) together))
-      (bit_of level x.key) (bit_of level y.key) refl refl
-    where
-      inside : level < key_bits
-      inside = omega (arith, sum)
-
-      by_bits : (bit_of level x.key ≡ bit_of level y.key
-          → Shows h (suc level) (two_of bits (suc level) x y) (x ∷ y ∷ []))
-          → (p q : Bool) → bit_of level x.key ≡ p → bit_of level y.key ≡ q
-          → Shows h level (if p then (if q then Fork Empty (two_of bits (suc level) x y) else Fork (One y) (One x))
-          else (if q then Fork (One x) (One y) else Fork (two_of bits (suc level) x y) Empty)) (x ∷ y ∷ [])
-      by_bits below true true p q =
-          both_on h level true x y (two_of bits (suc level) x y) inside p q (below (p ∙ sym q))
-      by_bits below true false p q = parted h level true x y inside p q
-      by_bits below false true p q = parted h level false x y inside p q
-      by_bits below false false p q =
-          both_on h level false x y (two_of bits (suc level) x y) inside p q (below (p ∙ sym q))
+  two-shows = two_holds x y x_key y_key differ (λ level tree. Shows h level tree (x ∷ y ∷ []))
+      (λ bits level b inside together p q. both_on h level b x y (two_of bits (suc level) x y) inside p q)
+      (λ level b inside together. parted h level b x y inside)
 
 -- a tree with a value that is put shows the map with it
 module _ (h : MapHashes) (own : Entry) (own_key : IsKey own.key) where
@@ -154,21 +130,22 @@ module _ (h : MapHashes) (own : Entry) (own_key : IsKey own.key) where
       (λ after. with-shows (suc level) right after (side true level entries) (omega (arith, shown.0)))
       (bit_of level own.key) refl is
     where
+      by_side : (b : Bool) → bit_of level own.key ≡ b → StandsAt (b ∷ way level own.key) (cond b right left)
+          → Below level entries b (cond b right left)
+          → (with_value (suc level) own (cond b right left) >>= λ s. Ok (cond b (Fork left s) (Fork s right))) ≡ Ok new
+          → Shows h level new (put own.key own.value entries)
+      by_side b bit there on_side is =
+          let below = bind_ok (with_value (suc level) own (cond b right left))
+          (λ s. Ok (cond b (Fork left s) (Fork s right))) new is in
+          let at = subst (λ (c : Bool). StandsAt (c ∷ way level own.key) (cond b right left)) (sym bit) there in
+          subst (λ s. Shows h level s (put own.key own.value entries)) (done_injective {E = Error}
+          (cond b (Fork left below.0) (Fork below.0 right)) new below.2)
+          (put-on h level b own.key own.value left right below.0 entries bit map shown
+          (λ m s. on_side below.0 at below.1 m s))
+
       by_bit : Below level entries false left → Below level entries true right → (b : Bool) → bit_of level own.key ≡ b
           → (if b then (with_value (suc level) own right >>= λ r. Ok (Fork left r))
           else (with_value (suc level) own left >>= λ l. Ok (Fork l right))) ≡ Ok new
           → Shows h level new (put own.key own.value entries)
-      by_bit on_left on_right true bit is =
-          let below = bind_ok (with_value (suc level) own right) (λ r. Ok (Fork left r)) new is in
-          let at = subst (λ (b : Bool). StandsAt (b ∷ way level own.key) right) (sym bit) stands.3 in
-          subst (λ s. Shows h level s (put own.key own.value entries)) (done_injective {E = Error}
-          (Fork left below.0) new below.2)
-          (put-right h level own.key own.value left right below.0 entries bit map shown
-          (λ m s. on_right below.0 at below.1 m s))
-      by_bit on_left on_right false bit is =
-          let below = bind_ok (with_value (suc level) own left) (λ l. Ok (Fork l right)) new is in
-          let at = subst (λ (b : Bool). StandsAt (b ∷ way level own.key) left) (sym bit) stands.2 in
-          subst (λ s. Shows h level s (put own.key own.value entries)) (done_injective {E = Error}
-          (Fork below.0 right) new below.2)
-          (put-left h level own.key own.value left right below.0 entries bit map shown
-          (λ m s. on_left below.0 at below.1 m s))
+      by_bit on_left on_right true bit is = by_side true bit stands.3 on_right is
+      by_bit on_left on_right false bit is = by_side false bit stands.2 on_left is

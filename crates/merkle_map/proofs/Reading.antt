@@ -1,5 +1,5 @@
 -- Trees that are read from bytes.
-use Rattle.std.proofs.Common.{zero, suc, ◌≡◌, ℕ, ◌+◌, ◌-◌, ◌<◌, ◌≤◌, ◌==◌, nat_lt, Bool, true, false, not, ◌&&◌, if◌then◌else◌, List, [], ◌∷◌, ◌++◌, length, take, drop, get_or, Ok, Err, arith, refl, ap, sym, ◌∙◌, subst, take-append-drop, length-append, append_assoc, append-nil}
+use Rattle.std.proofs.Common.{zero, suc, ◌≡◌, ℕ, ◌+◌, ◌-◌, ◌<◌, ◌≤◌, ◌==◌, nat_lt, Bool, true, false, not, ◌&&◌, if◌then◌else◌, List, [], ◌∷◌, ◌++◌, length, take, drop, get_or, Ok, Err, arith, refl, ap, sym, ◌∙◌, subst, take-append-drop, length-append, length-drop, append_assoc, append-nil}
 use Rattle.std.proofs.Math.Seq.{drop-cons, take-append_seam, drop-append_seam}
 use Rattle.std.proofs.lemmas.Bool.{le-ltb, ltb-false}
 use Rattle.std.proofs.lemmas.Bool.Decides.{Decides-eqb}
@@ -31,10 +31,36 @@ drop-twice (suc a) b (x ∷ xs) = let e : suc (a + b) ≡ suc a + b = omega arit
 pub drops : (c b a : ℕ) (xs : List ℕ) → drop c (drop b (drop a xs)) ≡ drop (a + b + c) xs
 drops c b a xs = ap (drop c) (drop-twice a b xs) ∙ drop-twice (a + b) c xs
 
+-- what is made of a string and of the one behind it
+abbrev of_both : {A : Type 0} → (List ℕ → List ℕ → A) → List ℕ → List ℕ × List ℕ → Outcome (A × List ℕ)
+of_both made first second = Ok (made first second.0, second.1)
+
+-- two strings behind a byte
+module _ (bytes rest last : List ℕ) (behind : rest ≡ drop 1 bytes) (next : last ≡ drop 32 rest) where
+  pub strings-within : 32 ≤ length rest → 32 ≤ length last → 65 ≤ length bytes
+  strings-within first second =
+      let a = ap length behind ∙ length-drop 1 bytes in
+      let b = ap length next ∙ length-drop 32 rest in omega (arith, first, second, a, b)
+
+  pub strings-read : {A : Type 0} (made : List ℕ → List ℕ → A) (key value : List ℕ)
+      → string_read rest ≡ Ok (key, drop 32 rest) → string_read last ≡ Ok (value, drop 32 last)
+      → (string_read rest >>= λ k. string_read k.1 >>= of_both made k.0) ≡ of_both made key (value, drop 65 bytes)
+  strings-read made key value first second =
+      ap (λ o. o >>= λ k. string_read k.1 >>= of_both made k.0) first
+      ∙ ap (λ s. string_read s >>= of_both made key) (sym next) ∙ ap (λ o. o >>= of_both made key) second
+      ∙ ap (λ s. of_both made key (value, s)) (ap (drop 32) (next ∙ ap (drop 32) behind) ∙ drops 32 32 1 bytes)
+
 -- both sides of a fork, one behind the other
 abbrev pub sides_read : ℕ → List ℕ → Outcome Found
 sides_read depth rest =
     tree_read depth rest >>= λ left. tree_read depth left.1 >>= λ right. Ok (Fork left.0 right.0, right.1)
+
+-- the left side is read
+pub left-read : (depth : ℕ) (rest last next : List ℕ) (left : Shape) → tree_read depth rest ≡ Ok (left, last)
+    → next ≡ last → sides_read depth rest ≡ (tree_read depth next >>= λ right. Ok (Fork left right.0, right.1))
+left-read depth rest last next left is e =
+    ap (λ o. o >>= λ left. tree_read depth left.1 >>= λ right. Ok (Fork left.0 right.0, right.1)) is
+    ∙ ap (λ l. tree_read depth l >>= λ right. Ok (Fork left right.0, right.1)) (sym e)
 
 module _ (bytes : List ℕ) (there : 0 < length bytes) where
   opened : (tag : ℕ) → get_or bytes 0 0 ≡ tag → bytes ≡ tag ∷ drop 1 bytes
@@ -70,8 +96,17 @@ by_tag P tag rest sides found nothing one two hidden e = first (tag == 0) (tag =
     first false false false true e = hidden e
     first false false false false e = absurd cc
 
-entry-found : (rest : List ℕ) (found : Found) → entry_read rest ≡ Ok found → (key value : List ℕ)
-    × (found.0 ≡ One (record { key = key; value = value }))
+pub string-found : (bytes : List ℕ) (found : List ℕ × List ℕ) → string_read bytes ≡ Ok found → bytes ≡ found.0 ++ found.1
+string-found bytes found e = by_test (nat_lt (length bytes) 32) e
+  where
+    by_test : (b : Bool) → (if b then Err truncated else Ok (take 32 bytes, drop 32 bytes)) ≡ Ok found
+        → bytes ≡ found.0 ++ found.1
+    by_test true e = absurd cc
+    by_test false e = sym (take-append-drop 32 bytes)
+        ∙ ap (λ (f : List ℕ × List ℕ). f.0 ++ f.1) (done_injective {E = Error} (take 32 bytes, drop 32 bytes) found e)
+
+entry-found : (rest : List ℕ) (found : Found) → entry_read rest ≡ Ok found → (key value last : List ℕ)
+    × (rest ≡ (key ++ value) ++ last) × ((One (record { key = key; value = value }), last) ≡ found)
 entry-found rest found e =
     let k = bind_ok (string_read rest) _ found e in
     let v = bind_ok (string_read k.0.1) (λ value. Ok (
@@ -81,8 +116,10 @@ entry-found rest found e =
     )) found k.2 in (
       k.0.0,
       v.0.0,
-      sym (ap (λ (f : Found). f.0)
-          (done_injective {E = Error} (One (record { key = k.0.0; value = v.0.0 }), v.0.1) found v.2)),
+      v.0.1,
+      string-found rest k.0 k.1 ∙ ap (λ (l : List ℕ). k.0.0 ++ l) (string-found k.0.1 v.0 v.1)
+          ∙ sym (append_assoc k.0.0 v.0.0 v.0.1),
+      done_injective {E = Error} (One (record { key = k.0.0; value = v.0.0 }), v.0.1) found v.2,
     )
 
 pub read-fits : (depth level : ℕ) (bytes : List ℕ) (found : Found) → depth + level ≡ 256
@@ -94,12 +131,12 @@ read-fits depth level [] found sum e = none depth e
     none zero e = absurd cc
     none (suc depth) e = absurd cc
 read-fits zero level (tag ∷ rest) found sum e = by_tag (λ (f : Found). Fits level f.0) tag rest (Err invalid) found tt
-    (λ one. let f = entry-found rest found one in subst (Fits level) (sym f.2) tt) (λ two. absurd cc)
+    (λ one. let f = entry-found rest found one in subst (λ (f : Found). Fits level f.0) f.4 tt) (λ two. absurd cc)
     (λ hidden. let d = bind_ok (string_read rest) _ found hidden in
     subst (λ (f : Found). Fits level f.0) (done_injective {E = Error} (Hidden d.0.0, d.0.1) found d.2) tt) e
 read-fits (suc depth) level (tag ∷ rest) found sum e =
     by_tag (λ (f : Found). Fits level f.0) tag rest (sides_read depth rest) found tt
-    (λ one. let f = entry-found rest found one in subst (Fits level) (sym f.2) tt)
+    (λ one. let f = entry-found rest found one in subst (λ (f : Found). Fits level f.0) f.4 tt)
     (λ two.
     let l = bind_ok (tree_read depth rest) _ found two in
     let r = bind_ok (tree_read depth l.0.1) (λ right. Ok (Fork l.0.0 right.0, right.1)) found l.2 in
@@ -113,32 +150,13 @@ read-fits (suc depth) level (tag ∷ rest) found sum e =
 
 -- ---- what is read is spelled so
 
-pub string-found : (bytes : List ℕ) (found : List ℕ × List ℕ) → string_read bytes ≡ Ok found → bytes ≡ found.0 ++ found.1
-string-found bytes found e = by_test (nat_lt (length bytes) 32) e
-  where
-    by_test : (b : Bool) → (if b then Err truncated else Ok (take 32 bytes, drop 32 bytes)) ≡ Ok found
-        → bytes ≡ found.0 ++ found.1
-    by_test true e = absurd cc
-    by_test false e = sym (take-append-drop 32 bytes)
-        ∙ ap (λ (f : List ℕ × List ℕ). f.0 ++ f.1) (done_injective {E = Error} (take 32 bytes, drop 32 bytes) found e)
-
 module _ where
   abbrev IsSpelled : List ℕ → Found → Type 0
   IsSpelled bytes found = bytes ≡ spelled found.0 ++ found.1
 
   entry-spelled : (rest : List ℕ) (found : Found) → entry_read rest ≡ Ok found → IsSpelled (1 ∷ rest) found
-  entry-spelled rest found e =
-      let k = bind_ok (string_read rest) _ found e in
-      let v = bind_ok (string_read k.0.1) (λ value. Ok (
-        One
-            (record { key = k.0.0; value = value.0 }),
-        value.1,
-      )) found k.2 in
-      ap (λ (l : List ℕ). 1 ∷ l) (string-found rest k.0 k.1 ∙ ap (λ (l : List ℕ). k.0.0 ++ l) (string-found k.0.1 v.0
-      v.1)
-      ∙ sym (append_assoc k.0.0 v.0.0 v.0.1))
-      ∙ ap (λ (f : Found). spelled f.0 ++ f.1)
-      (done_injective {E = Error} (One (record { key = k.0.0; value = v.0.0 }), v.0.1) found v.2)
+  entry-spelled rest found e = let f = entry-found rest found e in
+      ap (λ (l : List ℕ). 1 ∷ l) f.3 ∙ ap (λ (f : Found). spelled f.0 ++ f.1) f.4
 
   digest-spelled : (rest : List ℕ) (found : Found) → digest_read rest ≡ Ok found → IsSpelled (3 ∷ rest) found
   digest-spelled rest found e =

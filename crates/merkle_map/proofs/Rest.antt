@@ -8,7 +8,7 @@ use Rattle.merkle_map.specs.Map.{Key, bit_of}
 use Rattle.merkle_map.specs.Tree.{Shape, Empty, One, Fork, Hidden}
 use Rattle.merkle_map.specs.Changes.{joined, losing, is_alone, hides, Becomes}
 use Rattle.merkle_map.specs.Rests.{rest_of, rest_beside}
-use Rattle.merkle_map.proofs.Places.{losing-right, losing-left}
+use Rattle.merkle_map.proofs.Places.{losing-on}
 
 abbrev failed : Error → Outcome Shape
 failed error = Err error
@@ -138,17 +138,6 @@ beside_right (Fork a b) (Ok (Fork x y)) seen = refl
 beside_right (Hidden d) (Ok (Fork x y)) seen = refl
 beside_right right (Ok (Hidden d)) seen = absurd seen
 
-module _ (level : ℕ) (key : Key) (left right : Shape) where
-  pub rest-right : bit_of level key ≡ true → rest_of (losing level key (Fork left right))
-      ≡ rest_beside (rest_of (losing (level + 1) key right)) (rest_of (Ok left))
-  rest-right bit = ap rest_of (losing-right level key left right bit)
-      ∙ beside_left left (losing (level + 1) key right) (seen-losing (level + 1) key right)
-
-  pub rest-left : bit_of level key ≡ false → rest_of (losing level key (Fork left right))
-      ≡ rest_beside (rest_of (losing (level + 1) key left)) (rest_of (Ok right))
-  rest-left bit = ap rest_of (losing-left level key left right bit)
-      ∙ beside_right right (losing (level + 1) key left) (seen-losing (level + 1) key left)
-
 -- ---- two sides are joined
 
 pub joined-right : (left right : Shape) → is_alone right left ≡ true → joined left right ≡ Ok right
@@ -212,7 +201,27 @@ becomes_is (Ok s) new e = done_injective {E = Error} s new e
 becomes_is (Err error) new e = absurd cc
 
 -- what comes of a tree that is changed and then joined
-pub becomes_on : (o : Outcome Shape) (next : Shape → Outcome Shape) (between new : Shape) → Becomes o between
+becomes_on : (o : Outcome Shape) (next : Shape → Outcome Shape) (between new : Shape) → Becomes o between
     → Becomes (next between) new → Becomes (o >>= next) new
 becomes_on (Ok s) next between new e f = subst (λ (t : Shape). Becomes (next t) new) (sym e) f
 becomes_on (Err error) next between new e f = tt
+
+-- a tree that forks, some levels below the root, and a key that is removed from its side
+module _ (level : ℕ) {whole left right : Shape} (fork : whole ≡ Fork left right) (key : Key) where
+  pub rest-on : (b : Bool) → bit_of level key ≡ b → rest_of (losing level key whole)
+      ≡ (if b then rest_beside (rest_of (losing (level + 1) key right)) (rest_of (Ok left))
+      else rest_beside (rest_of (losing (level + 1) key left)) (rest_of (Ok right)))
+  rest-on true bit = ap rest_of (losing-on level fork key true bit)
+      ∙ beside_left left (losing (level + 1) key right) (seen-losing (level + 1) key right)
+  rest-on false bit = ap rest_of (losing-on level fork key false bit)
+      ∙ beside_right right (losing (level + 1) key left) (seen-losing (level + 1) key left)
+
+  pub becomes_side : (b : Bool) (between new : Shape) → bit_of level key ≡ b
+      → Becomes (losing (level + 1) key (if b then right else left)) between
+      → Becomes (if b then joined left between else joined between right) new → Becomes (losing level key whole) new
+  becomes_side true between new bit lost join =
+      subst (λ o. Becomes o new) (sym (losing-on level fork key true bit))
+      (becomes_on (losing (level + 1) key right) (λ r. joined left r) between new lost join)
+  becomes_side false between new bit lost join =
+      subst (λ o. Becomes o new) (sym (losing-on level fork key false bit))
+      (becomes_on (losing (level + 1) key left) (λ l. joined l right) between new lost join)

@@ -1,5 +1,5 @@
 -- Changed trees stand where they stood.
-use Rattle.std.proofs.Common.{zero, suc, ◌≡◌, ℕ, ◌+◌, ◌-◌, ◌<◌, ◌≤◌, Bool, true, false, if◌then◌else◌, Ok, List, [], ◌∷◌, length, arith, refl, ap, sym, ◌∙◌, subst}
+use Rattle.std.proofs.Common.{zero, suc, ◌≡◌, ℕ, ◌+◌, ◌-◌, ◌<◌, ◌≤◌, Bool, true, false, not, cond, if◌then◌else◌, Ok, List, [], ◌∷◌, length, arith, refl, ap, sym, ◌∙◌, subst}
 use Rattle.std.specs.Str.{bytes_eq}
 use Rattle.ark_base.specs.declared.error.Error.{Error}
 use Rattle.ark_base.specs.Outcome.{◌>>=◌}
@@ -7,7 +7,8 @@ use Rattle.ark_base.specs.Laws.Steps.{bind_ok, done_injective}
 use Rattle.merkle_map.specs.Map.{Key, Entry, bit_of, key_bits}
 use Rattle.merkle_map.specs.Tree.{Shape, Empty, One, Fork, Hidden, way, weight, IsKey, StandsAt}
 use Rattle.merkle_map.specs.Changes.{two_of, with_value, joined, losing}
-use Rattle.merkle_map.proofs.Keys.{bits_left, length-way}
+use Rattle.merkle_map.proofs.Keys.{length-way}
+use Rattle.merkle_map.proofs.Two.{two_holds}
 use Rattle.merkle_map.proofs.Answered.{gives}
 
 -- an entry on its way
@@ -35,49 +36,49 @@ weight-two (suc bits) level x y = by_bits (bit_of level x.key) (bit_of level y.k
 module _ (x y : Entry) (x_key : IsKey x.key) (y_key : IsKey y.key) (differ : bytes_eq y.key x.key ≡ false) where
   two-stands : (bits level : ℕ) → bits + level ≡ 256 → way level x.key ≡ way level y.key
       → StandsAt (way level x.key) (two_of bits level x y)
-  two-stands zero level sum together =
-      let inside = bits_left level x.key y.key x_key y_key (omega (arith, sum)) together differ in absurd (omega
-      (arith, sum, inside))
-  two-stands (suc bits) level sum together = by_bits
-      (λ same. two-stands bits (suc level) (omega (arith, sum)) (ap (λ (c : Bool). c ∷ way level x.key) same
-      ∙ ap (λ (bits : List Bool). bit_of level y.key ∷ bits) together))
-      (bit_of level x.key) (bit_of level y.key) refl refl
+  two-stands = two_holds x y x_key y_key differ (λ level tree. StandsAt (way level x.key) tree) beside apart
     where
-      at : List Bool
-      at = way level x.key
+      within : (level : ℕ) → level < key_bits → length (way level x.key) < key_bits
+      within level inside = let long = length-way level x.key in omega (arith, inside, long)
 
-      inside : length (way level x.key) < key_bits
-      inside = let long = length-way level x.key in omega (arith, sum, long)
+      next : (level : ℕ) (b : Bool) → length (b ∷ way level x.key) ≡ suc level
+      next level b = let long = length-way level x.key in omega (arith, long)
 
-      next : (b : Bool) → length (b ∷ way level x.key) ≡ suc level
-      next b = let long = length-way level x.key in omega (arith, long)
+      here : (level : ℕ) (b : Bool) → bit_of level x.key ≡ b → StandsAt (b ∷ way level x.key) (One x)
+      here level b is = one-stands x (b ∷ way level x.key) (suc level) x_key (next level b)
+          (ap (λ (c : Bool). c ∷ way level x.key) is)
 
-      here : (b : Bool) → bit_of level x.key ≡ b → StandsAt (b ∷ way level x.key) (One x)
-      here b is =
-          one-stands x (b ∷ way level x.key) (suc level) x_key (next b) (ap (λ (c : Bool). c ∷ way level x.key) is)
-
-      there : (b : Bool) → bit_of level y.key ≡ b → StandsAt (b ∷ way level x.key) (One y)
-      there b is = one-stands y (b ∷ way level x.key) (suc level) y_key (next b)
+      there : (level : ℕ) (b : Bool) → way level x.key ≡ way level y.key → bit_of level y.key ≡ b
+          → StandsAt (b ∷ way level x.key) (One y)
+      there level b together is = one-stands y (b ∷ way level x.key) (suc level) y_key (next level b)
           (ap (λ (c : Bool). c ∷ way level y.key) is ∙ ap (λ (bits : List Bool). b ∷ bits) (sym together))
 
-      below : (bit_of level x.key ≡ bit_of level y.key → StandsAt (way (suc level) x.key) (two_of bits (suc level) x y))
-          → (b : Bool) → bit_of level x.key ≡ b → bit_of level y.key ≡ b
+      two : (bits level : ℕ) → 2 ≤ weight (two_of bits (suc level) x y)
+      two bits level = let w = weight-two bits (suc level) x y in omega (arith, w)
+
+      below : (bits level : ℕ) (b : Bool) → bit_of level x.key ≡ b
+          → StandsAt (way (suc level) x.key) (two_of bits (suc level) x y)
           → StandsAt (b ∷ way level x.key) (two_of bits (suc level) x y)
-      below ih b p q =
-          subst (λ (c : Bool). StandsAt (c ∷ way level x.key) (two_of bits (suc level) x y)) p (ih (p ∙ sym q))
+      below bits level b p stands =
+          subst (λ (c : Bool). StandsAt (c ∷ way level x.key) (two_of bits (suc level) x y)) p stands
 
-      two : 2 ≤ weight (two_of bits (suc level) x y)
-      two = let w = weight-two bits (suc level) x y in omega (arith, w)
+      beside : (bits level : ℕ) (b : Bool) → level < key_bits → way level x.key ≡ way level y.key
+          → bit_of level x.key ≡ b → bit_of level y.key ≡ b
+          → StandsAt (way (suc level) x.key) (two_of bits (suc level) x y)
+          → StandsAt (way level x.key)
+          (cond b (Fork Empty (two_of bits (suc level) x y)) (Fork (two_of bits (suc level) x y) Empty))
+      beside bits level true inside together p q stands =
+          (within level inside, omega (arith, two bits level), tt, below bits level true p stands)
+      beside bits level false inside together p q stands =
+          (within level inside, omega (arith, two bits level), below bits level false p stands, tt)
 
-      by_bits : (bit_of level x.key ≡ bit_of level y.key
-          → StandsAt (way (suc level) x.key) (two_of bits (suc level) x y))
-          → (p q : Bool) → bit_of level x.key ≡ p → bit_of level y.key ≡ q → StandsAt (way level x.key)
-          (if p then (if q then Fork Empty (two_of bits (suc level) x y) else Fork (One y) (One x))
-          else (if q then Fork (One x) (One y) else Fork (two_of bits (suc level) x y) Empty))
-      by_bits ih true true p q = (inside, omega (arith, two), tt, below ih true p q)
-      by_bits ih true false p q = (inside, omega arith, there false q, here true p)
-      by_bits ih false true p q = (inside, omega arith, here false p, there true q)
-      by_bits ih false false p q = (inside, omega (arith, two), below ih false p q, tt)
+      apart : (level : ℕ) (b : Bool) → level < key_bits → way level x.key ≡ way level y.key
+          → bit_of level x.key ≡ b → bit_of level y.key ≡ not b
+          → StandsAt (way level x.key) (cond b (Fork (One y) (One x)) (Fork (One x) (One y)))
+      apart level true inside together p q =
+          (within level inside, omega arith, there level false together q, here level true p)
+      apart level false inside together p q =
+          (within level inside, omega arith, here level false p, there level true together q)
 
 module _ (own : Entry) (own_key : IsKey own.key) where
   -- a tree grows no lighter
@@ -133,25 +134,26 @@ module _ (own : Entry) (own_key : IsKey own.key) where
       next : suc level ≤ 256
       next = let long = length-way level own.key in omega (arith, stands.0, long)
 
+      -- the key's side grows, and the tree is made of it again
+      by_side : (b : Bool) (side : Shape) (made : Shape → Shape) → bit_of level own.key ≡ b
+          → StandsAt (b ∷ way level own.key) side → Below level side
+          → (with_value (suc level) own side >>= λ s. Ok (made s)) ≡ Ok new
+          → ((after : Shape) → weight side ≤ weight after → StandsAt (b ∷ way level own.key) after
+          → StandsAt (way level own.key) (made after)) → StandsAt (way level own.key) new
+      by_side b side made bit there on_side is fits =
+          let below = bind_ok (with_value (suc level) own side) (λ s. Ok (made s)) new is in
+          let at = subst (λ (c : Bool). StandsAt (c ∷ way level own.key) side) (sym bit) there in
+          subst (StandsAt (way level own.key)) (done_injective {E = Error} (made below.0) new below.2)
+          (fits below.0 (weight-with (suc level) side below.0 below.1)
+          (subst (λ (c : Bool). StandsAt (c ∷ way level own.key) below.0) bit (on_side below.0 next at below.1)))
+
       by_bit : Below level left → Below level right → (b : Bool) → bit_of level own.key ≡ b
           → (if b then (with_value (suc level) own right >>= λ r. Ok (Fork left r))
           else (with_value (suc level) own left >>= λ l. Ok (Fork l right))) ≡ Ok new → StandsAt (way level own.key) new
-      by_bit on_left on_right true bit is =
-          let below = bind_ok (with_value (suc level) own right) (λ r. Ok (Fork left r)) new is in
-          let at = subst (λ (b : Bool). StandsAt (b ∷ way level own.key) right) (sym bit) stands.3 in
-          let grows = weight-with (suc level) right below.0 below.1 in
-          let after = subst (λ (b : Bool). StandsAt (b ∷ way level own.key) below.0) bit
-          (on_right below.0 next at below.1) in
-          subst (StandsAt (way level own.key)) (done_injective {E = Error} (Fork left below.0) new below.2)
-          (stands.0, omega (arith, stands.1, grows), stands.2, after)
-      by_bit on_left on_right false bit is =
-          let below = bind_ok (with_value (suc level) own left) (λ l. Ok (Fork l right)) new is in
-          let at = subst (λ (b : Bool). StandsAt (b ∷ way level own.key) left) (sym bit) stands.2 in
-          let grows = weight-with (suc level) left below.0 below.1 in
-          let after = subst (λ (b : Bool). StandsAt (b ∷ way level own.key) below.0) bit
-          (on_left below.0 next at below.1) in
-          subst (StandsAt (way level own.key)) (done_injective {E = Error} (Fork below.0 right) new below.2)
-          (stands.0, omega (arith, stands.1, grows), after, stands.3)
+      by_bit on_left on_right true bit is = by_side true right (λ r. Fork left r) bit stands.3 on_right is
+          (λ r grows after. (stands.0, omega (arith, stands.1, grows), stands.2, after))
+      by_bit on_left on_right false bit is = by_side false left (λ l. Fork l right) bit stands.2 on_left is
+          (λ l grows after. (stands.0, omega (arith, stands.1, grows), after, stands.3))
 
 -- ---- a key is removed
 

@@ -107,24 +107,17 @@ module _ (h : MapHashes) (level : ℕ) where
   take-other key entry entries other is = rw (is, other) refl
 
   -- both sides, where the key is taken out of its own
-  pub take-right : (key : Key) (left right new : Shape) (entries : List Entry) → bit_of level key ≡ true
+  take-on : (b : Bool) (key : Key) (left right new : Shape) (entries : List Entry) → bit_of level key ≡ b
       → Shows h level (Fork left right) entries
-      → (Shows h (suc level) right (side true level entries)
-      → Shows h (suc level) new (without key (side true level entries)))
-      → Shows h (suc level) left (side false level (without key entries))
-      × Shows h (suc level) new (side true level (without key entries))
-  take-right key left right new entries bit shown below = (
+      → (Shows h (suc level) (cond b right left) (side b level entries)
+      → Shows h (suc level) new (without key (side b level entries)))
+      → Shows h (suc level) (cond b left new) (side false level (without key entries))
+      × Shows h (suc level) (cond b new right) (side true level (without key entries))
+  take-on true key left right new entries bit shown below = (
     subst (Shows h (suc level) left) (sym (other-without key level true bit entries)) shown.2,
     subst (Shows h (suc level) new) (sym (side-without key level true bit entries)) (below shown.3),
   )
-
-  pub take-left : (key : Key) (left right new : Shape) (entries : List Entry) → bit_of level key ≡ false
-      → Shows h level (Fork left right) entries
-      → (Shows h (suc level) left (side false level entries)
-      → Shows h (suc level) new (without key (side false level entries)))
-      → Shows h (suc level) new (side false level (without key entries))
-      × Shows h (suc level) right (side true level (without key entries))
-  take-left key left right new entries bit shown below = (
+  take-on false key left right new entries bit shown below = (
     subst (Shows h (suc level) new) (sym (side-without key level false bit entries)) (below shown.2),
     subst (Shows h (suc level) right) (sym (other-without key level false bit entries)) shown.3,
   )
@@ -162,11 +155,9 @@ module _ (h : MapHashes) where
           else (losing (suc level) key left >>= λ l. joined l right)) ≡ Ok new → Shows h level new (without key entries)
       by_bit on_left on_right true bit is =
           let below = bind_ok (losing (suc level) key right) (λ r. joined left r) new is in
-          let sides = take-right h level key left right below.0 entries bit shown
-          (on_right below.0 below.1) in
+          let sides = take-on h level true key left right below.0 entries bit shown (on_right below.0 below.1) in
           joined-shows h level left below.0 new (without key entries) shown.0 below.2 sides.0 sides.1
       by_bit on_left on_right false bit is =
           let below = bind_ok (losing (suc level) key left) (λ l. joined l right) new is in
-          let sides = take-left h level key left right below.0 entries bit shown
-          (on_left below.0 below.1) in
+          let sides = take-on h level false key left right below.0 entries bit shown (on_left below.0 below.1) in
           joined-shows h level below.0 right new (without key entries) shown.0 below.2 sides.0 sides.1

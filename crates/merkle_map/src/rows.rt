@@ -1,11 +1,10 @@
 //! The nodes of a tree with their digests, for a store outside.
 
-ghost use Rattle.std.specs.Prelude.{◌≡◌, ◌++◌, IfErr, OnOk};
+ghost use Rattle.std.specs.Prelude.{◌≡◌, ◌∷◌, ◌++◌, IfErr, OnOk};
 ghost use Rattle.ark_base.specs.Outcome.{AnswersBy, IsMemory};
 ghost use Rattle.merkle_map.specs.Bytes.{itself};
-ghost use Rattle.merkle_map.specs.Map.{leaf_of, Pair};
 ghost use Rattle.merkle_map.specs.Parts.{shape};
-ghost use Rattle.merkle_map.specs.Rows.{row, rows_of, rows_behind};
+ghost use Rattle.merkle_map.specs.Rows.{rows_of, rows_behind};
 
 use crate::bytes::push_string;
 use crate::hasher::MapHasher;
@@ -13,38 +12,22 @@ use crate::part::Part;
 use ark_base::error::Error;
 use std::alloc::Global;
 
-// Writes an entry's row behind others. The only error is `OutOfMemory`.
-fn push_entry(
+// Writes a node's row behind others: its digest, its byte, and its two parts. The only error is `OutOfMemory`.
+fn push_row(
     digest: &[u8; 32],
-    key: &[u8; 32],
-    value: &[u8; 32],
+    byte: u8,
+    first: &[u8; 32],
+    second: &[u8; 32],
     rows: &mut Vec<u8>,
 ) -> Result<(), Error>
     ensures written { OnOk result (rows.new.items
-        ≡ rows.old.items ++ row digest.now (leaf_of key.now value.now)) }
+        ≡ rows.old.items ++ (digest.now ++ (byte ∷ (first.now ++ second.now)))) }
     ensures memory { IfErr result IsMemory }
 {
     push_string(digest, rows)?;
-    rows.push(0)?;
-    push_string(key, rows)?;
-    push_string(value, rows)
-}
-
-// Writes a fork's row behind others. The only error is `OutOfMemory`.
-fn push_fork(
-    digest: &[u8; 32],
-    left: &[u8; 32],
-    right: &[u8; 32],
-    rows: &mut Vec<u8>,
-) -> Result<(), Error>
-    ensures written { OnOk result (rows.new.items
-        ≡ rows.old.items ++ row digest.now (Pair left.now right.now)) }
-    ensures memory { IfErr result IsMemory }
-{
-    push_string(digest, rows)?;
-    rows.push(1)?;
-    push_string(left, rows)?;
-    push_string(right, rows)
+    rows.push(byte)?;
+    push_string(first, rows)?;
+    push_string(second, rows)
 }
 
 // Hashes a tree, and writes the rows of what it does not hide behind others. Errors, which may leave some: those of the hashes,
@@ -62,14 +45,14 @@ pub fn push_rows<T: MapHasher<[u8; 32]>>(
         Part::Empty => hasher.nothing(alloc),
         Part::One { entry } => {
             let digest = hasher.leaf(alloc, &entry.key, &entry.value)?;
-            push_entry(&digest, &entry.key, &entry.value, rows)?;
+            push_row(&digest, 0, &entry.key, &entry.value, rows)?;
             Ok(digest)
         }
         Part::Fork { sides } => {
             let l = push_rows(alloc, hasher, &sides.left, rows)?;
             let r = push_rows(alloc, hasher, &sides.right, rows)?;
             let digest = hasher.pair(alloc, &l, &r)?;
-            push_fork(&digest, &l, &r, rows)?;
+            push_row(&digest, 1, &l, &r, rows)?;
             Ok(digest)
         }
         Part::Hidden { digest } => Ok(**digest),

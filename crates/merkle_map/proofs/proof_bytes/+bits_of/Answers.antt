@@ -1,4 +1,4 @@
-use Rattle.std.proofs.Common.{◌^◌, ◌-◌, ◌+◌, ◌%◌, ◌*◌, ◌<◌, ◌≡◌, length, map, sym, ◌∙◌, ap, arith, rules}
+use Rattle.std.proofs.Common.{◌^◌, ◌-◌, ◌+◌, ◌%◌, ◌*◌, ◌<◌, ◌≡◌, map, sym, ◌∙◌, ap, arith, rules}
 use Rattle.merkle_map.specs.ProofBytes.{is_given, number_of}
 use Rattle.merkle_map.proofs.Masks.{number-small}
 use Rattle.merkle_map.proofs.ProofReading.{number-none, number-nil, number-given, number-other, fits-sum}
@@ -15,20 +15,14 @@ returns-then-is_empty t c =
 pub returns-then-is_given : goal.returns-then-is_given
 returns-then-is_given t c =
     let f = is_given c.args.nothing.now in
-    let xs = c.args.siblings.now in
-    let some : 0 < c.args.count = search rules in
-    let there : 0 < length xs = search rules in
-    number-given f c.args.count xs _ some there c.bits_of-below.result
+    number-given f c.args.count c.args.siblings.now _ (search rules) (search rules) c.bits_of-below.result
     (c.bits_of-below.ensures ∙ ap (λ l. number_of (c.args.count - 1) (map f l)) c.behind.ensures) c.requires
     (sym c.is_given.ensures ∙ c.if-is_given.true)
 
 pub returns-else-is_given : goal.returns-else-is_given
 returns-else-is_given t c =
     let f = is_given c.args.nothing.now in
-    let xs = c.args.siblings.now in
-    let some : 0 < c.args.count = search rules in
-    let there : 0 < length xs = search rules in
-    number-other f c.args.count xs _ some there c.bits_of-below.result
+    number-other f c.args.count c.args.siblings.now _ (search rules) (search rules) c.bits_of-below.result
     (c.bits_of-below.ensures ∙ ap (λ l. number_of (c.args.count - 1) (map f l)) c.behind.ensures)
     (sym c.is_given.ensures ∙ c.if-is_given.false)
 

@@ -1,8 +1,8 @@
-use Rattle.std.proofs.Common.{◌<◌, ◌+◌, ◌-◌, length, drop, Ok, ap, sym, ◌∙◌, arith, rules, length-drop}
+use Rattle.std.proofs.Common.{◌+◌, ◌-◌, length, drop, Ok, ap, sym, ◌∙◌, arith, rules, length-drop}
 use Rattle.ark_base.proofs.Refusals.{passed_on}
 use Rattle.merkle_map.specs.ProofBytes.{given_read, found_behind}
 use Rattle.merkle_map.proofs.Answered.{answers_as}
-use Rattle.merkle_map.proofs.ProofReading.{given-set, given-clear}
+use Rattle.merkle_map.proofs.ProofReading.{given-next, given-clear}
 use Rattle.merkle_map.proofs.Reading.{drop-twice}
 use Rattle.merkle_map.proofs.proof_bytes.+read_given.Goals as goal
 
@@ -15,45 +15,26 @@ returns-in_ok-used-clause-within t c =
 
 pub returns-in_ok-used-clause-answer : goal.returns-in_ok-used-clause-answer
 returns-in_ok-used-clause-answer t c =
-    let some : 0 < c.args.count = search rules in
-    let nothing = c.args.nothing.now in
-    let mask = c.args.mask.now in
-    let old = c.args.siblings.now.items in
-    given-set nothing mask c.args.count c.args.level some c.args.bytes.now old c.in_ok-digest.digest
-    (drop 32 c.args.bytes.now) (sym c.bit_of.ensures ∙ c.if-bit_of.true) c.in_ok-digest.ensures.answer
-    ∙ ap (λ l. found_behind l (given_read nothing (c.args.count - 1) (c.args.level + 1) mask (drop 32 c.args.bytes.now)))
-    (sym c.in_ok-push.ensures.items)
-    ∙ ap (λ l. found_behind c.push.new.self.items (given_read nothing (c.args.count - 1) (c.args.level + 1) mask l))
-    (sym c.from_index-rest.ensures)
+    given-next c.args.nothing.now c.args.mask.now c.args.count c.args.level (search rules) c.args.bytes.now
+    c.args.siblings.now.items _ _ _ (sym c.bit_of.ensures ∙ c.if-bit_of.true) c.in_ok-digest.ensures.answer
+    c.in_ok-push.ensures.items c.from_index-rest.ensures
     ∙ c.in_ok-used.ensures.answer
     ∙ ap (λ l. Ok (c.read_given.new.siblings.items, drop c.in_ok-used.used l)) c.from_index-rest.ensures
     ∙ ap (λ l. Ok (c.read_given.new.siblings.items, l)) (drop-twice 32 c.in_ok-used.used c.args.bytes.now)
 
 pub returns-in_err-used-clause-answer : goal.returns-in_err-used-clause-answer
 returns-in_err-used-clause-answer t c =
-    let some : 0 < c.args.count = search rules in
-    let nothing = c.args.nothing.now in
-    let mask = c.args.mask.now in
-    let old = c.args.siblings.now.items in
     passed_on _ _ c.from_residual-in_err-used.result c.in_err-used.field-0.0 c.from_residual-in_err-used.ensures.1
     c.in_err-used.ensures.answer (λ why.
-    given-set nothing mask c.args.count c.args.level some c.args.bytes.now old c.in_ok-digest.digest
-    (drop 32 c.args.bytes.now) (sym c.bit_of.ensures ∙ c.if-bit_of.true) c.in_ok-digest.ensures.answer
-    ∙ ap (λ l. found_behind l (given_read nothing (c.args.count - 1) (c.args.level + 1) mask (drop 32 c.args.bytes.now)))
-    (sym c.in_ok-push.ensures.items)
-    ∙ ap (λ l. found_behind c.push.new.self.items (given_read nothing (c.args.count - 1) (c.args.level + 1) mask l))
-    (sym c.from_index-rest.ensures)
-    ∙ why)
+    given-next c.args.nothing.now c.args.mask.now c.args.count c.args.level (search rules) c.args.bytes.now
+    c.args.siblings.now.items _ _ _ (sym c.bit_of.ensures ∙ c.if-bit_of.true) c.in_ok-digest.ensures.answer
+    c.in_ok-push.ensures.items c.from_index-rest.ensures ∙ why)
 
 pub returns-in_ok-push-2-clause-answer : goal.returns-in_ok-push-2-clause-answer
 returns-in_ok-push-2-clause-answer t c =
-    let some : 0 < c.args.count = search rules in
-    let nothing = c.args.nothing.now in
-    let mask = c.args.mask.now in
-    let old = c.args.siblings.now.items in
     answers_as _ _ _ c.read_given-else-bit_of.result
-    (given-clear nothing mask c.args.count c.args.level some c.args.bytes.now old
-    (sym c.bit_of.ensures ∙ c.if-bit_of.false)
-    ∙ ap (λ l. found_behind l (given_read nothing (c.args.count - 1) (c.args.level + 1) mask c.args.bytes.now))
-    (sym c.in_ok-push-2.ensures.items))
+    (given-clear c.args.nothing.now c.args.mask.now c.args.count c.args.level (search rules) c.args.bytes.now
+    c.args.siblings.now.items (sym c.bit_of.ensures ∙ c.if-bit_of.false)
+    ∙ ap (λ l. found_behind l (given_read c.args.nothing.now (c.args.count - 1) (c.args.level + 1) c.args.mask.now
+    c.args.bytes.now)) (sym c.in_ok-push-2.ensures.items))
     c.read_given-else-bit_of.ensures.answer

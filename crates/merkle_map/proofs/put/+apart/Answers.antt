@@ -1,9 +1,8 @@
-use Rattle.std.proofs.Common.{not, Ok, ap, sym, ◌∙◌}
+use Rattle.std.proofs.Common.{true, false, not, Ok, ap, sym, ◌∙◌}
 use Rattle.ark_base.specs.Outcome.{◌>>=◌}
-use Rattle.merkle_map.specs.Parts.{entry_seen}
 use Rattle.merkle_map.specs.Tree.{Empty, Fork}
 use Rattle.merkle_map.proofs.Keys.{bits_left}
-use Rattle.merkle_map.proofs.Two.{both-right, both-left, first-right, first-left}
+use Rattle.merkle_map.proofs.Two.{two-next}
 use Rattle.merkle_map.proofs.Answered.{answers_as}
 use Rattle.merkle_map.specs.declared.part.Part.{Empty as NoEntry}
 use Rattle.merkle_map.proofs.Keeping.{kept-above}
@@ -19,35 +18,28 @@ have_same_bit-requires g t c = record {
 
 pub returns-then-bit_of-clause-made : goal.returns-then-bit_of-clause-made
 returns-then-bit_of-clause-made g t c =
-    let numbers = g.D.Numbered.numbers in
     let own = sym c.bit_of.ensures ∙ c.if-bit_of.true in
-    answers_as _ _ _ _ (ap Ok (first-right c.args.level (entry_seen numbers c.args.own)
-    (entry_seen numbers c.args.other)
-    c.have_same_bit.ensures.within own (c.have_same_bit.ensures.other c.if-have_same_bit.false
-    ∙ ap not own))) c.two.ensures.made
+    answers_as _ _ _ _ (ap Ok (two-next c.args.level _ _ c.have_same_bit.ensures.within true false own
+    (c.have_same_bit.ensures.other c.if-have_same_bit.false ∙ ap not own))) c.two.ensures.made
 
 pub returns-else-bit_of-clause-made : goal.returns-else-bit_of-clause-made
 returns-else-bit_of-clause-made g t c =
-    let numbers = g.D.Numbered.numbers in
     let own = sym c.bit_of.ensures ∙ c.if-bit_of.false in
-    answers_as _ _ _ _ (ap Ok (first-left c.args.level (entry_seen numbers c.args.own) (entry_seen numbers c.args.other)
-    c.have_same_bit.ensures.within own (c.have_same_bit.ensures.other c.if-have_same_bit.false
-    ∙ ap not own))) c.two-else-have_same_bit.ensures.made
+    answers_as _ _ _ _ (ap Ok (two-next c.args.level _ _ c.have_same_bit.ensures.within false true own
+    (c.have_same_bit.ensures.other c.if-have_same_bit.false ∙ ap not own))) c.two-else-have_same_bit.ensures.made
 
 pub returns-then-is_right-clause-made : goal.returns-then-is_right-clause-made
 returns-then-is_right-clause-made g t c =
-    let numbers = g.D.Numbered.numbers in
     let own = sym c.bit_of-is_right.ensures ∙ c.if-is_right.true in
-    answers_as _ _ _ _ (ap Ok (both-right c.args.level (entry_seen numbers c.args.own) (entry_seen numbers c.args.other)
-    c.have_same_bit.ensures.within own (c.have_same_bit.ensures.same c.if-have_same_bit.true ∙ own))
+    answers_as _ _ _ _ (ap Ok (two-next c.args.level _ _ c.have_same_bit.ensures.within true true own
+    (c.have_same_bit.ensures.same c.if-have_same_bit.true ∙ own))
     ∙ ap (λ o. o >>= λ s. Ok (Fork Empty s)) c.in_ok-below.ensures.made) c.fork.ensures.made
 
 pub returns-else-is_right-clause-made : goal.returns-else-is_right-clause-made
 returns-else-is_right-clause-made g t c =
-    let numbers = g.D.Numbered.numbers in
     let own = sym c.bit_of-is_right.ensures ∙ c.if-is_right.false in
-    answers_as _ _ _ _ (ap Ok (both-left c.args.level (entry_seen numbers c.args.own) (entry_seen numbers c.args.other)
-    c.have_same_bit.ensures.within own (c.have_same_bit.ensures.same c.if-have_same_bit.true ∙ own))
+    answers_as _ _ _ _ (ap Ok (two-next c.args.level _ _ c.have_same_bit.ensures.within false false own
+    (c.have_same_bit.ensures.same c.if-have_same_bit.true ∙ own))
     ∙ ap (λ o. o >>= λ s. Ok (Fork s Empty)) c.in_ok-below.ensures.made) c.fork-else-is_right.ensures.made
 
 pub returns-then-is_right-clause-kept : goal.returns-then-is_right-clause-kept
