@@ -37,13 +37,12 @@ levels-known count levels is levels_are =
     let tree = has_levels count is in
     omega (arith, tree.some, levels_are ∙ ap (λ (n : ℕ). log2 n - 1) tree.half)
 
-pub levels-above : (count levels : ℕ) → is_tree_length count ≡ true → levels ≡ log2 (count / 2 + 1) - 1
-    → log2 (leaf_count count) - 1 ≡ levels
-levels-above count levels is levels_are = omega (arith, levels-known count levels is levels_are)
+pub levels-above : (count levels : ℕ) → levels + 1 ≡ log2 (leaf_count count) → log2 (leaf_count count) - 1 ≡ levels
+levels-above count levels known = omega (arith, known)
 
-pub levels-found : (count levels : ℕ) → is_tree_length count ≡ true → levels ≡ log2 (count / 2 + 1) - 1
+pub levels-found : (count levels : ℕ) → is_tree_length count ≡ true → levels + 1 ≡ log2 (leaf_count count)
     → HasLevels count (levels + 1)
-levels-found count levels is levels_are = rw (levels-known count levels is levels_are) (has_levels count is)
+levels-found count levels is known = rw known (has_levels count is)
 
 -- half of memory, and one more, is a tree's size
 pub half-size : (count : ℕ) → is_tree_length count ≡ true → IsTreeSize (count / 2 + 1)

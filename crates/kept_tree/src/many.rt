@@ -6,8 +6,8 @@ ghost use Rattle.ark_paths.specs.Index.{log2};
 ghost use Rattle.kept_tree.specs.KeptTree.{LevelHashed, Rehashes, RehashesAbove, is_tree_length, leaf_count};
 
 use crate::build::hash_at;
+use crate::path::levels_of;
 use ark_crh::ArrayHash;
-use ark_paths::index::levels_between;
 
 // Writes the hash of the two digests below a place to that place, unless it is the one before.
 fn hash_next<H: ArrayHash>(memory: &mut [[u8; 32]], place: usize, before: usize)
@@ -44,7 +44,7 @@ pub fn rehash_above<H: ArrayHash>(memory: &mut [[u8; 32]], indexes: &[usize])
     requires indexes { All (λ index. index < leaf_count (length memory.old)) indexes.now }
     ensures { RehashesAbove H.node_hash memory.old memory.new indexes.now }
 {
-    let levels = levels_between(memory.len() / 2 + 1) + 1;
+    let levels = levels_of(memory) + 1;
     'levels: for level in 0..levels {
         hash_level::<H>(memory, indexes, level + 1);
     }

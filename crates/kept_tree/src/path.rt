@@ -34,6 +34,14 @@ pub(crate) fn beside(memory: &[[u8; 32]], index: usize, level: usize) -> &[u8; 3
     &memory[neighbour_of((size + index) >> level) - 1]
 }
 
+// How many levels stand between the leaf digests and the root.
+pub(crate) fn levels_of(memory: &[[u8; 32]]) -> usize
+    requires { is_tree_length (length memory.now) ≡ true }
+    ensures { result + 1 ≡ log2 (leaf_count (length memory.now)) }
+{
+    levels_between(memory.len() / 2 + 1)
+}
+
 // Writes bytes to a place of a buffer.
 fn put(buffer: &mut [u8], at: usize, bytes: &[u8])
     requires { at + length bytes.now ≤ length buffer.old }
@@ -60,7 +68,7 @@ pub fn path_len(memory: &[[u8; 32]], index: usize) -> usize
     ensures count { result ≡ 16 + 32 * log2 (leaf_count (length memory.now)) }
     ensures bytes { length (way_bytes itself itself (kept_way memory.now index)) ≡ result }
 {
-    48 + 32 * levels_between(memory.len() / 2 + 1)
+    48 + 32 * levels_of(memory)
 }
 
 /// Writes the canonical bytes of the path of an index to the front of a buffer: the digests beside its way, as they stand
@@ -76,7 +84,7 @@ pub fn write_path(buffer: &mut [u8], memory: &[[u8; 32]], index: usize)
     ensures tree { (node : NodeHash) (leaves : List Digest) → HoldsTree node memory.now leaves
         → own_path (alike node) index leaves ≡ kept_way memory.now index }
 {
-    let levels = levels_between(memory.len() / 2 + 1);
+    let levels = levels_of(memory);
     put_digest(buffer, 0, beside(memory, index, 0));
     put(buffer, 32, &levels.to_le_bytes());
     'levels: for done in 0..levels {

@@ -2,37 +2,19 @@ use Rattle.std.proofs.Common.{◌≡◌, ◌∙◌, ◌++◌, ℕ, List, [], ◌
 use Rattle.std.proofs.lemmas.List.{map_push}
 use Rattle.ark_base.specs.Laws.Steps.{done_injective}
 use Rattle.ark_paths.specs.Pair.{Digest}
-use Rattle.kept_tree.proofs.Besides.{half-size, levels-above, levels-known}
+use Rattle.kept_tree.proofs.Besides.{levels-above}
 use Rattle.kept_tree.proofs.MultiPaths.{drop-above}
 use Rattle.kept_tree.specs.KeptTree.{digests_above}
 use Rattle.kept_tree.proofs.multi_path.above_each.Goals as goal
-
-pub levels_between-levels-requires : goal.levels_between-levels-requires
-levels_between-levels-requires c = half-size (length c.args.memory.now) c.requires.size
-
-pub overflow_sub-levels : goal.overflow_sub-levels
-overflow_sub-levels c = omega (
-  arith,
-  c.prefix_at-prefix.ensures.within,
-  levels-known (length c.args.memory.now) c.levels_between-levels.result c.requires.size
-      c.levels_between-levels.ensures,
-)
-
-pub above_from-requires-clause-levels : goal.above_from-requires-clause-levels
-above_from-requires-clause-levels c = omega (
-  arith,
-  levels-known (length c.args.memory.now) c.levels_between-levels.result c.requires.size
-      c.levels_between-levels.ensures,
-)
 
 pub places-preserved : goal.places-preserved
 places-preserved c =
     let prefix = c.prefix_at-prefix.result in
     let made = c.in_ok-above_from.field-0 in
     let index = get_or c.args.indexes.now c.places.place 0 in
-    let levels = levels-above (length c.args.memory.now) _ c.requires.size c.levels_between-levels.ensures in
+    let levels = levels-above (length c.args.memory.now) _ c.levels_of-levels.ensures in
     let rest : drop prefix (digests_above c.args.memory.now index) ≡ made.items =
-    rw levels (drop-above c.args.memory.now index prefix c.levels_between-levels.result
+    rw levels (drop-above c.args.memory.now index prefix c.levels_of-levels.result
     (omega (arith, levels, c.prefix_at-prefix.ensures.within)))
     ∙ done_injective _ _ c.in_ok-above_from.ensures in
     record {

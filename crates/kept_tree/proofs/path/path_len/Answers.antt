@@ -1,17 +1,10 @@
 use Rattle.std.proofs.Common.{◌+◌, length, arith}
-use Rattle.kept_tree.proofs.Besides.{half-size, level-small, levels-found, levels-known}
+use Rattle.kept_tree.proofs.Besides.{level-small, levels-found}
 use Rattle.kept_tree.proofs.PathWrites.{path-long}
 use Rattle.kept_tree.proofs.path.path_len.Goals as goal
 
-pub levels_between-requires : goal.levels_between-requires
-levels_between-requires c = half-size (length c.args.memory.now) c.requires.size
-
 pub returns-clause-count : goal.returns-clause-count
-returns-clause-count c = omega (
-  arith,
-  levels-known (length c.args.memory.now) c.levels_between.result c.requires.size
-      c.levels_between.ensures,
-)
+returns-clause-count c = omega (arith, c.levels_of.ensures)
 
 pub returns-clause-bytes : goal.returns-clause-bytes
 returns-clause-bytes c = omega (
@@ -22,10 +15,10 @@ returns-clause-bytes c = omega (
 
 pub overflow_mul-result : goal.overflow_mul-result
 overflow_mul-result c =
-    let tree = levels-found (length c.args.memory.now) _ c.requires.size c.levels_between.ensures in
-    omega (arith, level-small {level = c.levels_between.result + 1} tree (omega arith) (omega (arith, c.well_formed)))
+    let tree = levels-found (length c.args.memory.now) _ c.requires.size c.levels_of.ensures in
+    omega (arith, level-small {level = c.levels_of.result + 1} tree (omega arith) (omega (arith, c.well_formed)))
 
 pub overflow_add-result : goal.overflow_add-result
 overflow_add-result c =
-    let tree = levels-found (length c.args.memory.now) _ c.requires.size c.levels_between.ensures in
-    omega (arith, level-small {level = c.levels_between.result + 1} tree (omega arith) (omega (arith, c.well_formed)))
+    let tree = levels-found (length c.args.memory.now) _ c.requires.size c.levels_of.ensures in
+    omega (arith, level-small {level = c.levels_of.result + 1} tree (omega arith) (omega (arith, c.well_formed)))

@@ -1,75 +1,37 @@
 use Rattle.std.proofs.Common.{◌≡◌, length, arith}
 use Rattle.ark_base.specs.Laws.Numbers.{length-word}
-use Rattle.kept_tree.proofs.Besides.{half-size, levels-known}
 use Rattle.kept_tree.proofs.HeldTrees.{held-path}
 use Rattle.kept_tree.proofs.PathWrites.{path-all, path-more, path-none, word-bytes}
 use Rattle.kept_tree.proofs.path.write_path.Goals as goal
 
-pub levels_between-levels-requires : goal.levels_between-levels-requires
-levels_between-levels-requires c = half-size (length c.args.memory.now) c.requires.size
-
-pub beside-requires-clause-level : goal.beside-requires-clause-level
-beside-requires-clause-level c = omega (
-  arith,
-  levels-known (length c.args.memory.now) c.levels_between-levels.result
-      c.requires.size c.levels_between-levels.ensures,
-)
-
-pub put_digest-requires : goal.put_digest-requires
-put_digest-requires c = omega (
-  arith,
-  levels-known (length c.args.memory.now) c.levels_between-levels.result
-      c.requires.size c.levels_between-levels.ensures,
-)
-
 pub put-requires : goal.put-requires
 put-requires c =
-    let levels = levels-known (length c.args.memory.now) c.levels_between-levels.result c.requires.size
-    c.levels_between-levels.ensures in
     let long : length c.to_le_bytes.result ≡ 8 =
-    rw (word-bytes c.levels_between-levels.result c.to_le_bytes.result c.to_le_bytes.ensures)
-    (length-word c.levels_between-levels.result) in
-    omega (arith, levels)
+    rw (word-bytes c.levels_of-levels.result c.to_le_bytes.result c.to_le_bytes.ensures)
+    (length-word c.levels_of-levels.result) in
+    omega (arith, c.levels_of-levels.ensures)
 
 pub levels-init : goal.levels-init
-levels-init c = path-none c.args.buffer.now c.args.memory.now c.args.index c.levels_between-levels.result
+levels-init c = path-none c.args.buffer.now c.args.memory.now c.args.index c.levels_of-levels.result
     c.beside.result.now c.to_le_bytes.result c.put_digest.new.buffer c.put.new.buffer c.beside.ensures
-    c.put_digest.ensures.count (word-bytes c.levels_between-levels.result c.to_le_bytes.result c.to_le_bytes.ensures)
+    c.put_digest.ensures.count (word-bytes c.levels_of-levels.result c.to_le_bytes.result c.to_le_bytes.ensures)
     c.put_digest.ensures.bytes c.put.ensures
 
-pub beside-requires-in-levels-clause-level : goal.beside-requires-in-levels-clause-level
-beside-requires-in-levels-clause-level c = omega (
-  arith,
-  levels-known (length c.args.memory.now) c.levels_between-levels.result c.requires.size
-      c.levels_between-levels.ensures,
-)
-
-pub put_digest-requires-in-levels : goal.put_digest-requires-in-levels
-put_digest-requires-in-levels c = omega (
-  arith,
-  levels-known (length c.args.memory.now) c.levels_between-levels.result c.requires.size
-      c.levels_between-levels.ensures,
-)
-
 pub levels-preserved : goal.levels-preserved
-levels-preserved c = path-more c.args.buffer.now c.args.memory.now c.args.index c.levels_between-levels.result
+levels-preserved c = path-more c.args.buffer.now c.args.memory.now c.args.index c.levels_of-levels.result
     c.beside-in-levels.result.now c.levels.buffer c.put_digest-in-levels.new.buffer c.levels.done c.levels-test.true
     c.levels.invariant c.beside-in-levels.ensures c.put_digest-in-levels.ensures.count
     c.put_digest-in-levels.ensures.bytes
 
 pub put-requires-2 : goal.put-requires-2
 put-requires-2 c =
-    let levels = levels-known (length c.args.memory.now) c.levels_between-levels.result c.requires.size
-    c.levels_between-levels.ensures in
     let long : length c.to_le_bytes-2.result ≡ 8 =
     rw (word-bytes c.args.index c.to_le_bytes-2.result c.to_le_bytes-2.ensures) (length-word c.args.index) in
-    omega (arith, levels)
+    omega (arith, c.levels_of-levels.ensures)
 
 pub returns-clause-bytes : goal.returns-clause-bytes
 returns-clause-bytes c =
-    let levels = levels-known (length c.args.memory.now) c.levels_between-levels.result c.requires.size
-    c.levels_between-levels.ensures in
-    path-all c.args.buffer.now c.args.memory.now c.args.index c.levels_between-levels.result (omega (arith, levels))
+    path-all c.args.buffer.now c.args.memory.now c.args.index c.levels_of-levels.result (omega (arith, c.levels_of-levels.ensures))
     c.to_le_bytes-2.result c.levels.buffer c.put-2.new.buffer c.levels.done (omega arith) c.levels.invariant
     (word-bytes c.args.index c.to_le_bytes-2.result c.to_le_bytes-2.ensures) c.put-2.ensures
 
