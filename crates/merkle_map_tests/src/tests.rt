@@ -70,8 +70,9 @@ fn agreed(alloc: Global) -> Result<usize, Error> {
     Ok(agree)
 }
 
-// How many roots of the model's changes a map has that keeps its digests, if it is asked for each root.
-fn kept_agreed(alloc: Global) -> Result<usize, Error> {
+// How many roots of the model's changes a map has that keeps its digests, if it is asked for each root, or for each eighth alone:
+// forks are hashed together then.
+fn kept_agreed(alloc: Global, each: bool) -> Result<usize, Error> {
     let mut map = KeptMap::new(Sha256Map::new());
     let mut agree = 0usize;
     let mut row = 0u64;
@@ -83,27 +84,7 @@ fn kept_agreed(alloc: Global) -> Result<usize, Error> {
             map.insert(alloc, &key, drawn("value", row))?;
         }
         row = row.wrapping_add(1);
-        if is_shown(alloc, &map.root(alloc)?, root) {
-            agree = agree.wrapping_add(1);
-        }
-    }
-    Ok(agree)
-}
-
-// The same, if it is asked for each eighth root alone: forks are hashed together then.
-fn kept_agreed_together(alloc: Global) -> Result<usize, Error> {
-    let mut map = KeptMap::new(Sha256Map::new());
-    let mut agree = 0usize;
-    let mut row = 0u64;
-    for (number, removed, root) in CHANGES {
-        let key = key_of(*number);
-        if *removed {
-            map.remove(&key);
-        } else {
-            map.insert(alloc, &key, drawn("value", row))?;
-        }
-        row = row.wrapping_add(1);
-        if row % 8 == 0 && is_shown(alloc, &map.root(alloc)?, root) {
+        if (each || row % 8 == 0) && is_shown(alloc, &map.root(alloc)?, root) {
             agree = agree.wrapping_add(1);
         }
     }
@@ -112,9 +93,7 @@ fn kept_agreed_together(alloc: Global) -> Result<usize, Error> {
 
 #[test]
 fn digests_hashed_together_are_those_of_the_changed_map(rt: HostRuntime) {
-    assert!(rt;
-        matches!(kept_agreed_together(rt.alloc()), Ok(count) if count == CHANGES.len() / 8)
-    );
+    assert!(rt; matches!(kept_agreed(rt.alloc(), false), Ok(count) if count == CHANGES.len() / 8));
 }
 
 // Whether a map whose first root takes more than one pass has the root of the tree that is hashed one by one.
@@ -136,7 +115,7 @@ fn many_digests_hashed_together_are_those_of_the_tree(rt: HostRuntime) {
 
 #[test]
 fn kept_digests_are_those_of_the_changed_map(rt: HostRuntime) {
-    assert!(rt; matches!(kept_agreed(rt.alloc()), Ok(count) if count == CHANGES.len()));
+    assert!(rt; matches!(kept_agreed(rt.alloc(), true), Ok(count) if count == CHANGES.len()));
 }
 
 // Whether a map that keeps its digests has a value, and its proof of it is accepted.
@@ -218,24 +197,34 @@ fn changes(alloc: Global, last: [u8; 32]) -> Result<Vec<Change<[u8; 32]>>, Error
     Ok(changes)
 }
 
-// Whether a witness shows its changes, and no others.
-fn is_transition(alloc: Global) -> Result<bool, Error> {
+// The roots of a tree before and after the changes that put this value last, and two of its witnesses.
+fn step(
+    alloc: Global,
+    last: [u8; 32],
+) -> Result<([u8; 32], [u8; 32], MapTree<[u8; 32]>, MapTree<[u8; 32]>), Error> {
     let hasher = Sha256Map::new();
     let mut tree = changed(alloc, &hasher)?;
     let old = tree.root(alloc, &hasher)?;
     let keys = [key_of(1), key_of(2), key_of(7)];
-    let right = tree.witness(alloc, &hasher, &keys)?;
-    let wrong = tree.witness(alloc, &hasher, &keys)?;
-    let value = drawn("value", 1000);
+    let first = tree.witness(alloc, &hasher, &keys)?;
+    let second = tree.witness(alloc, &hasher, &keys)?;
     tree.remove(&keys[0])?;
     tree.remove(&keys[1])?;
-    tree.insert(alloc, &keys[2], value)?;
+    tree.insert(alloc, &keys[2], last)?;
     let new = tree.root(alloc, &hasher)?;
+    Ok((old, new, first, second))
+}
+
+// Whether a witness shows its changes, and no others.
+fn is_transition(alloc: Global) -> Result<bool, Error> {
+    let hasher = Sha256Map::new();
+    let value = drawn("value", 1000);
+    let (old, new, first, second) = step(alloc, value)?;
     let given = changes(alloc, value)?;
     let others = changes(alloc, old)?;
     Ok(
-        verify_transition(alloc, &hasher, &old, &new, right, &given)?
-            && !verify_transition(alloc, &hasher, &old, &new, wrong, &others)?,
+        verify_transition(alloc, &hasher, &old, &new, first, &given)?
+            && !verify_transition(alloc, &hasher, &old, &new, second, &others)?,
     )
 }
 
@@ -270,20 +259,12 @@ fn witnesses_show_their_changes(rt: HostRuntime) -> Result<(), Fail> {
 // Whether the rows of a changed tree begin with those of its nodes, and lead to its root; nothing where the tree has another root.
 fn is_changed(alloc: Global) -> Result<bool, Error> {
     let hasher = Sha256Map::new();
-    let mut tree = changed(alloc, &hasher)?;
-    let old = tree.root(alloc, &hasher)?;
-    let keys = [key_of(1), key_of(2), key_of(7)];
-    let right = tree.witness(alloc, &hasher, &keys)?;
-    let wrong = tree.witness(alloc, &hasher, &keys)?;
     let value = drawn("value", 1000);
-    tree.remove(&keys[0])?;
-    tree.remove(&keys[1])?;
-    tree.insert(alloc, &keys[2], value)?;
-    let new = tree.root(alloc, &hasher)?;
+    let (old, new, first, second) = step(alloc, value)?;
     let given = changes(alloc, value)?;
-    let none = change_from(alloc, &hasher, &new, wrong, &given)?;
+    let none = change_from(alloc, &hasher, &new, first, &given)?;
     let is_none = none.is_none();
-    let Some(made) = change_from(alloc, &hasher, &old, right, &given)? else {
+    let Some(made) = change_from(alloc, &hasher, &old, second, &given)? else {
         return Ok(false);
     };
     let (root, rows) = made.rows(alloc, &hasher)?;

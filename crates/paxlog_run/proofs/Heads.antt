@@ -235,83 +235,81 @@ reads-of file size seen long begins (inl (next, found)) =
 reads-of file size seen long begins (inr (other, is, less, (next, found))) =
     inr (other, is, less, (next, record { long = long; begins = begins; slots = found }))
 
+-- The next slot stands behind the title, and ends with the head.
+slot-place : (second : Bool) → (32 ≤ next_slot second) × (next_slot second ≤ 64)
+slot-place true = (omega arith, omega arith)
+slot-place false = (omega arith, omega arith)
+
+-- Where it is written, the file keeps its title, and is no shorter.
+module _ (file part : List ℕ) (size : ℕ) (root : Digest) (second : Bool) (head : Uses file size root second)
+    (long : length part ≡ 32) where
+  slot-long : 96 ≤ length (written file (next_slot second) part)
+  slot-long =
+      let place = slot-place second in
+      let inside : next_slot second + length part ≤ length file = omega (arith, head.long, long, place.1) in
+      omega (arith, head.long, length-written file part (next_slot second) inside)
+
+  slot-begins : bytes_eq (take 32 (written file (next_slot second) part)) title ≡ true
+  slot-begins =
+      let place = slot-place second in
+      let begins : take 32 (written file (next_slot second) part) ≡ take 32 file =
+      piece-before file part (next_slot second) 0 32 (omega (arith, place.0)) (omega (arith, head.long, place.1)) in
+      rw begins head.begins
+
 -- Whatever stands in the place of the next slot.
 pub slot-part : (file part : List ℕ) (size : ℕ) (root : Digest) (second : Bool) → Uses file size root second
     → length part ≡ 32 → ReadsOr (written file (next_slot second) part) size (slot_size part)
 slot-part file part size root true head long =
-    let inside : 64 + length part ≤ length file = omega (arith, head.long, long) in
     let first : take 32 (drop 32 (written file 64 part)) ≡ take 32 (drop 32 file) =
     piece-before file part 64 32 32 (omega arith) (omega (arith, head.long)) in
     let other : take 32 (drop 64 (written file 64 part)) ≡ part =
     piece-written file part 64 32 long (omega (arith, head.long)) in
-    let begins : take 32 (written file 64 part) ≡ take 32 file =
-    piece-before file part 64 0 32 (omega arith) (omega (arith, head.long)) in
-    reads-of (written file 64 part) size (slot_size part) (omega (arith, head.long, length-written file part 64 inside))
-    (rw begins head.begins)
+    reads-of (written file 64 part) size (slot_size part) (slot-long file part size root true head long)
+    (slot-begins file part size root true head long)
     (rw (first, other, uses-size file size root true head) (larger-left size (slot_size part)))
 slot-part file part size root false head long =
-    let inside : 32 + length part ≤ length file = omega (arith, head.long, long) in
-    let begins : take 32 (written file 32 part) ≡ take 32 file =
-    piece-before file part 32 0 32 (omega arith) (omega (arith, head.long)) in
     let first : take 32 (drop 32 (written file 32 part)) ≡ part =
     piece-written file part 32 32 long (omega (arith, head.long)) in
     let behind : drop 64 (written file 32 part) ≡ drop 64 file =
     behind-written file part 32 64 (omega (arith, long)) (omega (arith, head.long)) in
-    reads-of (written file 32 part) size (slot_size part) (omega (arith, head.long, length-written file part 32 inside))
-    (rw begins head.begins)
+    reads-of (written file 32 part) size (slot_size part) (slot-long file part size root false head long)
+    (slot-begins file part size root false head long)
     (rw (first, behind, uses-size file size root false head) (larger-right size (slot_size part)))
 
 -- The next slot was written, so that it fits: now the other one is the next.
 pub uses-turned : (file part : List ℕ) (size new : ℕ) (root top : Digest) (second : Bool)
     → Uses file size root second → length part ≡ 32 → new < 2 ^ 64 → slot_fits part new top ≡ true
     → Uses (written file (next_slot second) part) new top (not second)
-uses-turned file part size new root top true head long small fits =
-    let inside : 64 + length part ≤ length file = omega (arith, head.long, long) in
-    let begins : take 32 (written file 64 part) ≡ take 32 file =
-    piece-before file part 64 0 32 (omega arith) (omega (arith, head.long)) in
+uses-turned file part size new root top second head long small fits =
+    let place = slot-place second in
+    let stands = piece-written file part (next_slot second) 32 long (omega (arith, head.long, place.1)) in
     record {
-      long = omega (arith, head.long, length-written file part 64 inside);
-      begins = rw begins head.begins;
+      long = slot-long file part size root second head long;
+      begins = slot-begins file part size root second head long;
       small = small;
-      fits = ap (λ l. slot_fits l new top) (piece-written file part 64 32 long (omega (arith, head.long))) ∙ fits;
+      fits = ap (λ n. slot_fits (take 32 (drop n (written file (next_slot second) part))) new top) (turned second)
+          ∙ ap (λ l. slot_fits l new top) stands ∙ fits;
     }
-uses-turned file part size new root top false head long small fits =
-    let inside : 32 + length part ≤ length file = omega (arith, head.long, long) in
-    let begins : take 32 (written file 32 part) ≡ take 32 file =
-    piece-before file part 32 0 32 (omega arith) (omega (arith, head.long)) in
-    record {
-      long = omega (arith, head.long, length-written file part 32 inside);
-      begins = rw begins head.begins;
-      small = small;
-      fits = ap (λ l. slot_fits l new top) (piece-written file part 32 32 long (omega (arith, head.long))) ∙ fits;
-    }
+  where
+    turned : (second : Bool) → used_slot (not second) ≡ next_slot second
+    turned true = refl
+    turned false = refl
 
 -- The slot in use stays while the other one is written.
 pub uses-kept : (file part : List ℕ) (size : ℕ) (root : Digest) (second : Bool) → Uses file size root second
     → length part ≡ 32 → Uses (written file (next_slot second) part) size root second
-uses-kept file part size root true head long =
-    let inside : 64 + length part ≤ length file = omega (arith, head.long, long) in
-    let begins : take 32 (written file 64 part) ≡ take 32 file =
-    piece-before file part 64 0 32 (omega arith) (omega (arith, head.long)) in
-    record {
-      long = omega (arith, head.long, length-written file part 64 inside);
-      begins = rw begins head.begins;
-      small = head.small;
-      fits = ap (λ l. slot_fits l size root) (piece-before file part 64 32 32 (omega arith) (omega (arith, head.long)))
-          ∙ head.fits;
-    }
-uses-kept file part size root false head long =
-    let inside : 32 + length part ≤ length file = omega (arith, head.long, long) in
-    let begins : take 32 (written file 32 part) ≡ take 32 file =
-    piece-before file part 32 0 32 (omega arith) (omega (arith, head.long)) in
-    let behind : drop 64 (written file 32 part) ≡ drop 64 file =
-    behind-written file part 32 64 (omega (arith, long)) (omega (arith, head.long)) in
-    record {
-      long = omega (arith, head.long, length-written file part 32 inside);
-      begins = rw begins head.begins;
-      small = head.small;
-      fits = ap (λ l. slot_fits (take 32 l) size root) behind ∙ head.fits;
-    }
+uses-kept file part size root second head long = record {
+  long = slot-long file part size root second head long;
+  begins = slot-begins file part size root second head long;
+  small = head.small;
+  fits = ap (λ l. slot_fits l size root) (same second head) ∙ head.fits;
+}
+  where
+    same : (second : Bool) → Uses file size root second
+        → take 32 (drop (used_slot second) (written file (next_slot second) part))
+        ≡ take 32 (drop (used_slot second) file)
+    same true head = piece-before file part 64 32 32 (omega arith) (omega (arith, head.long))
+    same false head = ap (take 32) (behind-written file part 32 64 (omega (arith, long)) (omega (arith, head.long)))
 
 -- ---- a slot of which a part is written
 
