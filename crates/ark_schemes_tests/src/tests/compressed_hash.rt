@@ -14,7 +14,7 @@ use rand::Rng;
 use std::alloc::Global;
 
 // Over two windows.
-const ROWS: [Row; 3] = [
+static ROWS: [Row; 3] = [
     (Given::Bytes(&[0x25]), Ok(211)),
     (Given::Bytes(&[]), Ok(0)),
     (
@@ -24,7 +24,7 @@ const ROWS: [Row; 3] = [
 ];
 
 // Over eight windows: the bytes of the digests 211 and 11, and the digests.
-const ROWS_OF_TWO: [Row; 2] = [
+static ROWS_OF_TWO: [Row; 2] = [
     (Given::Inputs(&[211, 0], &[11, 0]), Ok(11)),
     (Given::Digests(211, 11), Ok(11)),
 ];

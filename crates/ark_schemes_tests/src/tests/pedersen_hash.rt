@@ -18,7 +18,7 @@ const SHAPE: Result<u64, Error> = Err(Error::GenericError(Refusal::ParameterShap
 const LONG: Result<u64, Error> = Err(Error::IncorrectInputLength(2));
 
 // The leaves of a tree of four, by hand, and a full byte, each with the sum of its generators.
-const ROWS: [Row; 6] = [
+static ROWS: [Row; 6] = [
     (Given::Bytes(&[0x25]), Ok(9)),
     (Given::Bytes(&[0x01]), Ok(1)),
     (Given::Bytes(&[]), Ok(0)),
@@ -28,13 +28,13 @@ const ROWS: [Row; 6] = [
 ];
 
 // Under generators of another shape.
-const REFUSED: [Row; 2] = [
+static REFUSED: [Row; 2] = [
     (Given::Bytes(&[0x25]), SHAPE),
     (Given::Bytes(&[0x25, 0x25]), LONG),
 ];
 
 // Two equal halves, and the three pairs above the leaves, and two digests.
-const ROWS_OF_TWO: [Row; 7] = [
+static ROWS_OF_TWO: [Row; 7] = [
     (Given::Inputs(&[5], &[5]), Ok(10)),
     (Given::Inputs(&[9], &[1]), Ok(10)),
     (Given::Inputs(&[0], &[8]), Ok(8)),
@@ -47,7 +47,7 @@ const ROWS_OF_TWO: [Row; 7] = [
     (Given::Digests(5, 9), Ok(1)),
 ];
 
-const UNFIT: [Row; 1] = [(Given::Inputs(&[], &[]), SHAPE)];
+static UNFIT: [Row; 1] = [(Given::Inputs(&[], &[]), SHAPE)];
 
 fn are_digests<C: AdditiveGroup + DigestItem + Numeral, W: Window>(
     alloc: Global,

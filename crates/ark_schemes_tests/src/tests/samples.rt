@@ -108,13 +108,13 @@ pub const TWO: [&[u64]; 2] = [&[1, 2, 4, 8], &[2, 4, 8, 3]];
 pub const THREE: [&[u64]; 3] = [&[1, 2, 4, 8], &[2, 4, 8, 3], &[1, 2, 4, 8]];
 
 /// Generators of two windows and a half-filled third one.
-pub const UNEVEN: [&[u64]; 3] = [&[1, 2, 4, 8], &[2, 4, 8, 3], &[1, 2, 4]];
+pub static UNEVEN: [&[u64]; 3] = [&[1, 2, 4, 8], &[2, 4, 8, 3], &[1, 2, 4]];
 
 /// Generators of four windows.
-pub const FOUR: [&[u64]; 4] = [&[1, 2, 4, 8]; 4];
+pub static FOUR: [&[u64]; 4] = [&[1, 2, 4, 8]; 4];
 
 /// Generators of eight windows.
-pub const EIGHT: [&[u64]; 8] = [&[1, 2, 4, 8]; 8];
+pub static EIGHT: [&[u64]; 8] = [&[1, 2, 4, 8]; 8];
 
 /// Parameters that are lists of elements.
 pub trait Listed<C>: Drop + Sized {

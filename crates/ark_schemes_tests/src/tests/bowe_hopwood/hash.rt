@@ -17,15 +17,15 @@ const SHAPE: Result<u64, Error> = Err(Error::GenericError(Refusal::ParameterShap
 const LONG: Result<u64, Error> = Err(Error::IncorrectInputLength(2));
 
 // Digits count the elements.
-const THREES: [Row; 2] = [(Given::Bytes(&[5]), Ok(47)), (Given::Bytes(&[]), Ok(0))];
+static THREES: [Row; 2] = [(Given::Bytes(&[5]), Ok(47)), (Given::Bytes(&[]), Ok(0))];
 
-const ONES: [Row; 1] = [(
+static ONES: [Row; 1] = [(
     Given::Bytes(&[0; 189]),
     Err(Error::IncorrectInputLength(189)),
 )];
 
 // Segments stand behind one another.
-const SEVENS: [Row; 8] = [
+static SEVENS: [Row; 8] = [
     (Given::Bytes(&[255]), Ok(0)),
     (Given::Bytes(&[1, 2, 3]), Ok(71)),
     (Given::Bytes(&[1, 2, 3, 4]), Ok(47)),
@@ -37,7 +37,7 @@ const SEVENS: [Row; 8] = [
 ];
 
 // Halves are filled up with zeros; digests are hashed by their bytes, which here are too long.
-const SIXTEENS: [Row; 6] = [
+static SIXTEENS: [Row; 6] = [
     (Given::Inputs(&[0], &[0]), Ok(131)),
     (Given::Inputs(&[], &[]), Ok(131)),
     (
@@ -52,22 +52,22 @@ const SIXTEENS: [Row; 6] = [
     (Given::Digests(5, 9), LONG),
 ];
 
-const TWELVES: [Row; 3] = [
+static TWELVES: [Row; 3] = [
     (Given::Inputs(&[1, 2, 3], &[4, 5, 6]), Ok(101)),
     (Given::Inputs(&[255, 0, 17], &[128, 64, 32]), Ok(47)),
     (Given::Inputs(&[7], &[9]), Ok(101)),
 ];
 
 // Under generators of another shape.
-const REFUSED: [Row; 2] = [
+static REFUSED: [Row; 2] = [
     (Given::Bytes(&[]), SHAPE),
     (Given::Bytes(&[1; 8]), Err(Error::IncorrectInputLength(8))),
 ];
 
 // Under generators of another shape.
-const FIVE: [Row; 1] = [(Given::Bytes(&[5]), SHAPE)];
+static FIVE: [Row; 1] = [(Given::Bytes(&[5]), SHAPE)];
 
-const ZEROS: [Row; 1] = [(Given::Inputs(&[0], &[0]), SHAPE)];
+static ZEROS: [Row; 1] = [(Given::Inputs(&[0], &[0]), SHAPE)];
 
 // Two digests, and their bytes.
 const DIGESTS: Given = Given::Digests(71, 256);

@@ -86,20 +86,20 @@ impl SmallModulus for M9 {
 }
 
 /// Generators of one window of one chunk.
-pub const ONE: [&[u64]; 1] = [&[1]];
+pub static ONE: [&[u64]; 1] = [&[1]];
 
 /// Generators of three windows of one chunk.
-pub const THREE: [&[u64]; 3] = [&[1], &[2], &[3]];
+pub static THREE: [&[u64]; 3] = [&[1], &[2], &[3]];
 
 /// Generators of sixteen windows of one chunk.
-pub const SIXTEEN: [&[u64]; 16] = [&[1]; 16];
+pub static SIXTEEN: [&[u64]; 16] = [&[1]; 16];
 
 /// Generators of three windows of seven chunks.
-pub const SEVEN: [&[u64]; 3] = [
+pub static SEVEN: [&[u64]; 3] = [
     &[1, 2, 3, 4, 5, 6, 7],
     &[8, 9, 10, 11, 12, 0, 1],
     &[2, 4, 6, 8, 10, 12, 1],
 ];
 
 /// Generators of twelve windows of four chunks.
-pub const TWELVE: [&[u64]; 12] = [&[1, 3, 9, 1]; 12];
+pub static TWELVE: [&[u64]; 12] = [&[1, 3, 9, 1]; 12];
