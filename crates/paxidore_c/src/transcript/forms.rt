@@ -11,9 +11,9 @@ ghost use Rattle.ark_wide_fields.specs.Values.{value};
 ghost use Rattle.paxidore_c.specs.Forms.{Form, HasForm, divided, kept_form, own_form};
 
 use crate::transcript::items::{ReadsItem, read_each};
-use ark_base::error::{Error, SerializationError};
+use ark_base::error::Error;
 use ark_groups::ff::{Field, Words, write_bytes};
-use ark_wide_fields::{Fp256, WideModulus, is_below, words_of};
+use ark_wide_fields::{Fp256, WideModulus, byte_len, read_below};
 use std::alloc::Global;
 
 /// A form of the elements of parameters, as they stand in their bytes.
@@ -69,13 +69,13 @@ impl<F: Field> ElementForm<F> for Own {
 /// The numbers that a field of four words keeps: each element times 2^256, modulo the modulus. Reading takes no product.
 pub struct Kept;
 
-// Returns how many bytes an element takes.
+// Returns how many bytes an element takes, which are some.
 fn kept_len<M: WideModulus>() -> usize
     ensures exact { result ≡ bytes_for M.BITS }
     ensures some { 0 < result }
     ensures short { result ≤ 32 }
 {
-    M::BITS.div_ceil(8) as usize
+    byte_len::<M>()
 }
 
 // Returns the element that is kept as a number.
@@ -109,17 +109,10 @@ impl<M: WideModulus> ReadsItem<Fp256<M>> for Kept {
 
     ghost reads = { (kept_form (number M.P) M.BITS).reads };
 
-    #[tactic(auto, unfolding(ark_base::specs::Spelling::fixed_at, ark_base::specs::Spelling::made_at, ark_base::specs::Digits::below_of))]
+    #[tactic(auto, unfolding(ark_base::specs::Spelling::made_at))]
     fn read_item(_alloc: Global, bytes: &[u8]) -> Result<(Fp256<M>, usize), Error> {
-        let len = kept_len::<M>();
-        if bytes.len() < len {
-            return Err(Error::SerializationError(SerializationError::Truncated));
-        }
-        let words = words_of(&bytes[..len]);
-        if !is_below(words, M::P) {
-            return Err(Error::SerializationError(SerializationError::InvalidData));
-        }
-        Ok((kept_element(words), len))
+        let (words, used) = read_below(M::P, byte_len::<M>(), bytes)?;
+        Ok((kept_element(words), used))
     }
 }
 

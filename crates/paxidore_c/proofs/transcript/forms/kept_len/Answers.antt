@@ -1,9 +1,6 @@
 use Rattle.std.proofs.Common.{arith}
-use Rattle.ark_wide_fields.specs.Laws.Moduli.{few_bits, some_bits}
+use Rattle.ark_wide_fields.specs.Laws.Moduli.{some_bits}
 use Rattle.paxidore_c.proofs.transcript.forms.kept_len.Goals as goal
 
-pub returns-clause-short : goal.returns-clause-short
-returns-clause-short g c = omega (arith, few_bits g.M.WideModulus.laws)
-
 pub returns-clause-some : goal.returns-clause-some
-returns-clause-some g c = omega (arith, some_bits g.M.WideModulus.laws)
+returns-clause-some g c = omega (arith, some_bits g.M.WideModulus.laws, c.byte_len.ensures.exact)
