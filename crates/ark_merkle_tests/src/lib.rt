@@ -2,28 +2,6 @@
 #![tactic(auto)]
 
 #[cfg(test)]
-mod batches;
-#[cfg(test)]
-mod clients;
-#[cfg(test)]
-mod converted;
-#[cfg(test)]
-mod multi_counts;
-#[cfg(test)]
-mod multi_paths;
-#[cfg(test)]
-mod paths;
-#[cfg(test)]
-mod plain;
-#[cfg(test)]
-mod refusals;
-#[cfg(test)]
-mod rows;
-#[cfg(test)]
 mod salted;
 #[cfg(test)]
-mod samples;
-#[cfg(test)]
-mod strict;
-#[cfg(test)]
-mod toy;
+mod tests;

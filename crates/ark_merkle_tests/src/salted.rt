@@ -4,7 +4,7 @@ ghost use Rattle.std.specs.Prelude.{◌≡◌, ◌++◌, Ok};
 ghost use Rattle.rand_core.specs.Stream.{fill_bytes};
 ghost use Rattle.sha2.specs.Sha256.{sha256};
 
-use crate::samples::{leaves_of, proof_of, tree_over};
+use crate::tests::samples::{leaves_of, proof_of, tree_over};
 use ark_base::error::Error;
 use ark_base::serialize::{CanonicalDeserialize, CanonicalSerialize};
 use ark_crh::CRHScheme;
@@ -83,7 +83,7 @@ fn judged<P: Config<Leaf = Vec<u8>, InnerDigest = [u8; 32]>>(
     pair_parameters: &TwoToOneParam<P>,
 ) -> Result<(bool, bool), Error> {
     let leaves = leaves_of(alloc, &[0, 1, 2, 3])?;
-    let tree = tree_over::<P>(alloc, salt, pair_parameters, &leaves)?;
+    let tree = tree_over::<P>(alloc, (salt, pair_parameters), &leaves)?;
     let path = proof_of(alloc, &tree, 2)?;
     let third = vec![in alloc; 2]?;
     Ok((

@@ -3,11 +3,10 @@
 ghost use Rattle.std.specs.Prelude.{◌↔◌, ◌<◌, IsTrue};
 ghost use Rattle.std.specs.List.{All};
 
-use crate::samples::{drawn, places_above, proof_of, tree_over};
+use crate::tests::samples::{Parameters, drawn, places_above, proof_of, tree_over};
 use ark_base::error::{Error, Refusal};
-use ark_groups::ff::{Fp, PrimeField};
-use ark_merkle::{Config, LeafParam, MerkleTree, TwoToOneParam};
-use ark_trees::toy::{Refusing, Toy};
+use ark_groups::ff::{Fp, M257, PrimeField};
+use ark_merkle::{Config, MerkleTree};
 use rand::SeedableRng;
 use rand::rngs::SmallRng;
 use std::alloc::Global;
@@ -34,13 +33,12 @@ fn counted_in<P: Config>(
 // How many pairs the changes of the tree of some leaves have hashed, and whether the root is then this one.
 fn counted<P: Config>(
     alloc: Global,
-    leaf_parameters: &LeafParam<P>,
-    pair_parameters: &TwoToOneParam<P>,
+    parameters: Parameters<P>,
     leaves: &[P::Leaf],
     changes: &[(usize, P::Leaf)],
     root: &P::InnerDigest,
 ) -> Result<(Result<usize, Error>, bool), Error> {
-    let mut tree = tree_over::<P>(alloc, leaf_parameters, pair_parameters, leaves)?;
+    let mut tree = tree_over::<P>(alloc, parameters, leaves)?;
     let count = counted_in(alloc, &mut tree, changes);
     Ok((count, *tree.root() == *root))
 }
@@ -72,65 +70,57 @@ const BATCHES: [(&[u64], &[(usize, u64)], Result<usize, Error>, u64); 6] = [
     ),
 ];
 
-#[test]
-fn each_place_above_the_changes_is_hashed_once(rt: HostRuntime) {
+/// Returns whether each place above the changes is hashed once.
+pub fn are_hashed_once<P: Config<Leaf = u64, LeafDigest = Fp<M257>, InnerDigest = Fp<M257>>>(
+    alloc: Global,
+    parameters: Parameters<P>,
+) -> bool {
     for (leaves, changes, count, root) in BATCHES {
-        assert_eq!(rt;
-            counted::<Toy>(rt.alloc(), &(), &(), leaves, changes, &Fp::from_u64(root)),
-            Ok((count, true)),
-            "{changes:?}"
-        );
+        let root = Fp::from_u64(root);
+        if counted::<P>(alloc, parameters, leaves, changes, &root) != Ok((count, true)) {
+            return false;
+        }
     }
+    true
 }
 
-// Over 249 and 4 stands 0, which refuses: the first change alone is refused.
-#[test]
-fn pairs_of_the_final_digests_alone_are_hashed(rt: HostRuntime) {
-    assert_eq!(rt;
-        counted::<Refusing>(
-            rt.alloc(),
-            &(),
-            &(),
-            &[1, 2, 3, 4],
-            &[(2, 249), (3, 5)],
-            &Fp::from_u64(9)
-        ),
-        Ok((Ok(2), true))
-    );
+/// Returns whether pairs of the final digests alone are hashed. Over 249 and 4 stands 0, which refuses: the first change alone is
+/// refused.
+pub fn final_pairs_are_hashed<P: Config<Leaf = u64, LeafDigest = Fp<M257>, InnerDigest = Fp<M257>>>(
+    alloc: Global,
+    parameters: Parameters<P>,
+) -> bool {
+    counted::<P>(
+        alloc,
+        parameters,
+        &[1, 2, 3, 4],
+        &[(2, 249), (3, 5)],
+        &Fp::from_u64(9),
+    ) == Ok((Ok(2), true))
 }
 
 // Whether a tree's path of an index shows a leaf under a root.
 fn shows_leaf<P: Config>(
     alloc: Global,
-    leaf_parameters: &LeafParam<P>,
-    pair_parameters: &TwoToOneParam<P>,
+    parameters: Parameters<P>,
     tree: &MerkleTree<P>,
     root: &P::InnerDigest,
     index: usize,
     leaf: &P::Leaf,
 ) -> Result<bool, Error> {
-    proof_of(alloc, tree, index)?.verify(alloc, leaf_parameters, pair_parameters, root, leaf)
+    proof_of(alloc, tree, index)?.verify(alloc, parameters.0, parameters.1, root, leaf)
 }
 
 // Whether a tree has a root, and its paths show these leaves under it.
 fn shows<P: Config>(
     alloc: Global,
-    leaf_parameters: &LeafParam<P>,
-    pair_parameters: &TwoToOneParam<P>,
+    parameters: Parameters<P>,
     tree: &MerkleTree<P>,
     root: &P::InnerDigest,
     leaves: &[P::Leaf],
 ) -> Result<bool, Error> {
     for (index, leaf) in leaves.iter().enumerate() {
-        if !shows_leaf(
-            alloc,
-            leaf_parameters,
-            pair_parameters,
-            tree,
-            root,
-            index,
-            leaf,
-        )? {
+        if !shows_leaf(alloc, parameters, tree, root, index, leaf)? {
             return Ok(false);
         }
     }
@@ -140,20 +130,12 @@ fn shows<P: Config>(
 // Whether a tree has the root of a new tree of these leaves, and its paths show them.
 fn is_of_leaves<P: Config>(
     alloc: Global,
-    leaf_parameters: &LeafParam<P>,
-    pair_parameters: &TwoToOneParam<P>,
+    parameters: Parameters<P>,
     tree: &MerkleTree<P>,
     leaves: &[P::Leaf],
 ) -> Result<bool, Error> {
-    let new = tree_over::<P>(alloc, leaf_parameters, pair_parameters, leaves)?;
-    shows(
-        alloc,
-        leaf_parameters,
-        pair_parameters,
-        tree,
-        new.root(),
-        leaves,
-    )
+    let new = tree_over::<P>(alloc, parameters, leaves)?;
+    shows(alloc, parameters, tree, new.root(), leaves)
 }
 
 /// Returns the leaves 1, 2 and so on.
@@ -174,8 +156,7 @@ fn put(leaves: &mut [u64], index: usize, leaf: u64) {
 // Changes a tree and the list of its leaves one by one. Tells whether each step is the tree of the leaves then.
 fn change_in_turn<P: Config<Leaf = u64>>(
     alloc: Global,
-    leaf_parameters: &LeafParam<P>,
-    pair_parameters: &TwoToOneParam<P>,
+    parameters: Parameters<P>,
     tree: &mut MerkleTree<P>,
     leaves: &mut [u64],
     changes: &[(usize, u64)],
@@ -186,7 +167,7 @@ fn change_in_turn<P: Config<Leaf = u64>>(
             tree.update(alloc, *index, leaf)?;
         }
         put(leaves, *index, *leaf);
-        alike &= is_of_leaves(alloc, leaf_parameters, pair_parameters, tree, leaves)?;
+        alike &= is_of_leaves(alloc, parameters, tree, leaves)?;
     }
     Ok(alike)
 }
@@ -194,71 +175,41 @@ fn change_in_turn<P: Config<Leaf = u64>>(
 // The same of the tree of the leaves 1, 2 and so on.
 fn one_by_one<P: Config<Leaf = u64>>(
     alloc: Global,
-    leaf_parameters: &LeafParam<P>,
-    pair_parameters: &TwoToOneParam<P>,
+    parameters: Parameters<P>,
     size: u64,
     changes: &[(usize, u64)],
 ) -> Result<bool, Error> {
     let mut leaves = numbers(alloc, size)?;
-    let mut tree = tree_over::<P>(alloc, leaf_parameters, pair_parameters, &leaves)?;
-    change_in_turn(
-        alloc,
-        leaf_parameters,
-        pair_parameters,
-        &mut tree,
-        &mut leaves,
-        changes,
-    )
+    let mut tree = tree_over::<P>(alloc, parameters, &leaves)?;
+    change_in_turn(alloc, parameters, &mut tree, &mut leaves, changes)
 }
 
 // Changes a tree at once. Tells whether it is then the tree of these leaves, and how many pairs it has hashed.
 fn change_at_once<P: Config<Leaf = u64>>(
     alloc: Global,
-    leaf_parameters: &LeafParam<P>,
-    pair_parameters: &TwoToOneParam<P>,
+    parameters: Parameters<P>,
     tree: &mut MerkleTree<P>,
     leaves: &[u64],
     changes: &[(usize, u64)],
 ) -> Result<(bool, usize), Error> {
     let count = counted_in(alloc, tree, changes)?;
-    let alike = is_of_leaves(alloc, leaf_parameters, pair_parameters, tree, leaves)?;
+    let alike = is_of_leaves(alloc, parameters, tree, leaves)?;
     Ok((alike, count))
 }
 
 // The same of the tree of the leaves 1, 2 and so on.
 fn at_once<P: Config<Leaf = u64>>(
     alloc: Global,
-    leaf_parameters: &LeafParam<P>,
-    pair_parameters: &TwoToOneParam<P>,
+    parameters: Parameters<P>,
     size: u64,
     changes: &[(usize, u64)],
 ) -> Result<(bool, usize), Error> {
     let mut leaves = numbers(alloc, size)?;
-    let mut tree = tree_over::<P>(alloc, leaf_parameters, pair_parameters, &leaves)?;
+    let mut tree = tree_over::<P>(alloc, parameters, &leaves)?;
     for (index, leaf) in changes {
         put(&mut leaves, *index, *leaf);
     }
-    change_at_once(
-        alloc,
-        leaf_parameters,
-        pair_parameters,
-        &mut tree,
-        &leaves,
-        changes,
-    )
-}
-
-#[test]
-fn changes_go_alike_one_by_one_and_at_once(rt: HostRuntime) {
-    let changes = [(2, 200), (3, 200), (5, 200), (111, 200), (127, 200)];
-    assert_eq!(rt;
-        one_by_one::<Toy>(rt.alloc(), &(), &(), 128, &changes),
-        Ok(true)
-    );
-    assert_eq!(rt;
-        at_once::<Toy>(rt.alloc(), &(), &(), 128, &changes),
-        Ok((true, 19))
-    );
+    change_at_once(alloc, parameters, &mut tree, &leaves, changes)
 }
 
 // Changes at these indexes, at most a thousand, each to a leaf of its own.
@@ -273,8 +224,7 @@ fn changes_at(alloc: Global, indexes: &[usize]) -> Result<Vec<(usize, u64)>, Err
 // Whether drawn changes go alike one by one and at once, and hash a pair for each place above them.
 fn drawn_go_alike<P: Config<Leaf = u64>>(
     alloc: Global,
-    leaf_parameters: &LeafParam<P>,
-    pair_parameters: &TwoToOneParam<P>,
+    parameters: Parameters<P>,
     size: u64,
     levels: usize,
     count: usize,
@@ -283,20 +233,21 @@ fn drawn_go_alike<P: Config<Leaf = u64>>(
     let indexes = drawn(alloc, &mut rng, count, levels)?;
     let changes = changes_at(alloc, &indexes)?;
     let places = places_above(alloc, &indexes, levels)?;
-    let alike = one_by_one::<P>(alloc, leaf_parameters, pair_parameters, size, &changes)?;
-    let answer = at_once::<P>(alloc, leaf_parameters, pair_parameters, size, &changes)?;
+    let alike = one_by_one::<P>(alloc, parameters, size, &changes)?;
+    let answer = at_once::<P>(alloc, parameters, size, &changes)?;
     Ok(alike && answer == (true, places))
 }
 
-#[test]
-fn drawn_changes_go_alike(rt: HostRuntime) {
+/// Returns whether changes go alike one by one and at once, and drawn ones do.
+pub fn go_alike<P: Config<Leaf = u64>>(alloc: Global, parameters: Parameters<P>) -> bool {
+    let changes = [(2, 200), (3, 200), (5, 200), (111, 200), (127, 200)];
     for count in 0..40usize {
         let levels = 1 + count % 6;
         let size = 2 << count % 6;
-        assert_eq!(rt;
-            drawn_go_alike::<Toy>(rt.alloc(), &(), &(), size, levels, count),
-            Ok(true),
-            "{count} of {size}"
-        );
+        if drawn_go_alike::<P>(alloc, parameters, size, levels, count) != Ok(true) {
+            return false;
+        }
     }
+    one_by_one::<P>(alloc, parameters, 128, &changes) == Ok(true)
+        && at_once::<P>(alloc, parameters, 128, &changes) == Ok((true, 19))
 }

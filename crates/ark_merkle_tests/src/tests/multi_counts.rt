@@ -3,14 +3,15 @@
 ghost use Rattle.std.specs.Prelude.{◌≡◌};
 ghost use Rattle.ark_merkle_tests.specs.Weights.{weighted, weighted_sum};
 
-use crate::batches::numbers;
-use crate::samples::{
-    blanks, drawn, leaves_of, multi_proof_of, no_places, places_above, push_place, tree_over,
+use crate::tests::batches::numbers;
+use crate::tests::samples::{
+    Parameters, blanks, drawn, leaves_of, multi_proof_of, no_places, places_above, push_place,
+    tree_over,
 };
 use ark_base::error::Error;
 use ark_groups::ff::{Fp, M257, PrimeField};
 use ark_merkle::multi_path::hasher::PairHasher;
-use ark_merkle::{Config, LeafParam, MerkleTree, MultiPath, TwoToOneParam};
+use ark_merkle::{Config, MerkleTree, MultiPath};
 use ark_trees::Sha256Strings;
 use ark_trees::toy::Toy;
 use rand::SeedableRng;
@@ -85,8 +86,7 @@ fn leaves_at<'a, L>(
 // What the check of a multi-proof with its leaves answers.
 fn counted<P: Config>(
     alloc: Global,
-    leaf_parameters: &LeafParam<P>,
-    pair_parameters: &TwoToOneParam<P>,
+    parameters: Parameters<P>,
     root: &P::InnerDigest,
     proof: &MultiPath<P>,
     leaves: &[P::Leaf],
@@ -94,8 +94,8 @@ fn counted<P: Config>(
     let asked = leaves_at(alloc, leaves, &proof.leaf_indexes)?;
     proof.verify_counting(
         alloc,
-        leaf_parameters,
-        pair_parameters,
+        parameters.0,
+        parameters.1,
         root,
         asked.iter().copied(),
     )
@@ -104,68 +104,41 @@ fn counted<P: Config>(
 // What it answers of a tree's own multi-proof of these indexes.
 fn counted_in<P: Config>(
     alloc: Global,
-    leaf_parameters: &LeafParam<P>,
-    pair_parameters: &TwoToOneParam<P>,
+    parameters: Parameters<P>,
     tree: &MerkleTree<P>,
     leaves: &[P::Leaf],
     indexes: &[usize],
 ) -> Result<(bool, usize), Error> {
     let proof = multi_proof_of(alloc, tree, indexes)?;
-    counted(
-        alloc,
-        leaf_parameters,
-        pair_parameters,
-        tree.root(),
-        &proof,
-        leaves,
-    )
+    counted(alloc, parameters, tree.root(), &proof, leaves)
 }
 
 // The same of the tree of these leaves.
 fn own<P: Config>(
     alloc: Global,
-    leaf_parameters: &LeafParam<P>,
-    pair_parameters: &TwoToOneParam<P>,
+    parameters: Parameters<P>,
     leaves: &[P::Leaf],
     indexes: &[usize],
 ) -> Result<(bool, usize), Error> {
-    let tree = tree_over::<P>(alloc, leaf_parameters, pair_parameters, leaves)?;
-    counted_in(
-        alloc,
-        leaf_parameters,
-        pair_parameters,
-        &tree,
-        leaves,
-        indexes,
-    )
+    let tree = tree_over::<P>(alloc, parameters, leaves)?;
+    counted_in(alloc, parameters, &tree, leaves, indexes)
 }
 
 // Whether trees of these leaves, of which there are 64, hash each place above drawn indexes once.
 fn drawn_are_counted<P: Config>(
     alloc: Global,
-    leaf_parameters: &LeafParam<P>,
-    pair_parameters: &TwoToOneParam<P>,
+    parameters: Parameters<P>,
     leaves: &[P::Leaf],
 ) -> Result<bool, Error> {
     let mut rng = SmallRng::seed_from_u64(64);
     for count in 1..24usize {
         let indexes = drawn(alloc, &mut rng, count, 6)?;
-        let answer = own::<P>(alloc, leaf_parameters, pair_parameters, leaves, &indexes)?;
+        let answer = own::<P>(alloc, parameters, leaves, &indexes)?;
         if answer != (true, places_above(alloc, &indexes, 6)?) {
             return Ok(false);
         }
     }
     Ok(true)
-}
-
-fn toys_are_counted(alloc: Global) -> Result<bool, Error> {
-    let leaves = numbers(alloc, 64)?;
-    drawn_are_counted::<Toy>(alloc, &(), &(), &leaves)
-}
-
-fn byte_strings_are_counted(alloc: Global) -> Result<bool, Error> {
-    let leaves = leaves_of(alloc, &BYTES)?;
-    drawn_are_counted::<Sha256Strings>(alloc, &(), &(), &leaves)
 }
 
 const BYTES: [u8; 64] = [
@@ -183,17 +156,34 @@ const OWN: [(&[u64], &[usize], usize); 5] = [
     (&[1, 2, 3, 4, 5, 6, 7, 8], &[0, 1, 2, 3, 4, 5, 6, 7], 7),
 ];
 
-#[test]
-fn own_proofs_hash_each_place_once(rt: HostRuntime) {
+/// Returns whether own proofs hash each place once, also of drawn indexes.
+pub fn are_own<P: Config<Leaf = u64>>(
+    alloc: Global,
+    parameters: Parameters<P>,
+) -> Result<bool, Error> {
     for (leaves, indexes, count) in OWN {
-        assert_eq!(rt;
-            own::<Toy>(rt.alloc(), &(), &(), leaves, indexes),
-            Ok((true, count)),
-            "{indexes:?}"
-        );
+        if own::<P>(alloc, parameters, leaves, indexes) != Ok((true, count)) {
+            return Ok(false);
+        }
     }
-    assert_eq!(rt; toys_are_counted(rt.alloc()), Ok(true));
-    assert_eq!(rt; byte_strings_are_counted(rt.alloc()), Ok(true));
+    let leaves = numbers(alloc, 64)?;
+    drawn_are_counted::<P>(alloc, parameters, &leaves)
+}
+
+fn byte_strings_are_counted<P: Config<Leaf = Vec<u8>>>(
+    alloc: Global,
+    parameters: Parameters<P>,
+) -> Result<bool, Error> {
+    let leaves = leaves_of(alloc, &BYTES)?;
+    drawn_are_counted::<P>(alloc, parameters, &leaves)
+}
+
+#[test]
+fn own_proofs_of_byte_strings_hash_each_place_once(rt: HostRuntime) {
+    assert_eq!(rt;
+        byte_strings_are_counted::<Sha256Strings>(rt.alloc(), (&(), &())),
+        Ok(true)
+    );
 }
 
 // An index, the sibling of its leaf, and the digest above.

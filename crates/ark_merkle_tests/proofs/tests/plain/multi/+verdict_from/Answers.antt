@@ -6,7 +6,7 @@ use Rattle.ark_paths.specs.Pair.{Digest, pair_of}
 use Rattle.ark_paths.specs.Path.{Way}
 use Rattle.ark_paths.specs.Rows.{digests_of, rows_seen}
 use Rattle.ark_merkle_tests.proofs.PlainMulti.{decoded_path-alike, place-refused, place-accepted}
-use Rattle.ark_merkle_tests.proofs.plain.multi.+verdict_from.Goals as goal
+use Rattle.ark_merkle_tests.proofs.tests.plain.multi.+verdict_from.Goals as goal
 
 pub returns-in_err-verify : goal.returns-in_err-verify
 returns-in_err-verify g t c =

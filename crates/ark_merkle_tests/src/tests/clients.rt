@@ -1,10 +1,8 @@
 //! What a client answers who has a root alone and is sent the bytes of a multi-proof.
 
-use crate::samples::{EIGHT, Question, asked, leaves_of};
+use crate::tests::samples::{Answer, EIGHT, Proof, Question, Tree, asked, leaves_of};
 use ark_base::error::{Error, SerializationError};
 use ark_base::serialize::canonical_bytes;
-use ark_merkle::{MerkleTree, MultiPath};
-use ark_trees::Sha256Arrays;
 use std::alloc::Global;
 
 // A proof is sent with zeros behind it to a client who was told the size, the indexes 1 and this one, and leaves of one byte.
@@ -17,13 +15,7 @@ struct Sent {
 }
 
 impl Question for Sent {
-    fn answer(
-        &self,
-        alloc: Global,
-        tree: &MerkleTree<Sha256Arrays>,
-        _leaves: &[Vec<u8>],
-        proof: &mut MultiPath<Sha256Arrays>,
-    ) -> Result<(bool, bool), Error> {
+    fn answer(&self, alloc: Global, tree: &Tree, _leaves: &[Vec<u8>], proof: &mut Proof) -> Answer {
         let bytes = bytes_sent(alloc, proof, self.zeros)?;
         let accepted = judged(
             alloc,
@@ -38,7 +30,7 @@ impl Question for Sent {
 }
 
 // A proof's canonical bytes, with zeros behind them.
-fn bytes_sent(alloc: Global, proof: &MultiPath<Sha256Arrays>, zeros: u8) -> Result<Vec<u8>, Error> {
+fn bytes_sent(alloc: Global, proof: &Proof, zeros: u8) -> Result<Vec<u8>, Error> {
     let mut bytes = canonical_bytes(alloc, proof)?;
     for _ in 0..zeros {
         bytes.push(0)?;
@@ -55,7 +47,7 @@ fn judged(
     leaves: &[u8],
 ) -> Result<bool, Error> {
     let leaves = leaves_of(alloc, leaves)?;
-    MultiPath::<Sha256Arrays>::verify_bytes(alloc, &(), &(), root, size, indexes, bytes, &leaves)
+    Proof::verify_bytes(alloc, &(), &(), root, size, indexes, bytes, &leaves)
 }
 
 const INVALID: Error = Error::SerializationError(SerializationError::InvalidData);

@@ -1,12 +1,11 @@
 //! Worked rows over numbers below 257: paths and multi-proofs that are longer than a tree, or cut short.
 
-use crate::samples::{multi_proof_of, tree_over};
-use crate::toy::copies_of_one;
+use crate::tests::samples::{Parameters, multi_proof_of, tree_over};
+use crate::tests::toy::copies_of_one;
 use ark_base::error::{Error, SerializationError};
 use ark_base::serialize::{CanonicalDeserialize, Duplicate};
-use ark_groups::ff::{Fp, PrimeField};
-use ark_merkle::{Config, LeafParam, MerkleTree, MultiPath, Path, TwoToOneParam};
-use ark_trees::toy::Toy;
+use ark_groups::ff::{Fp, M257, PrimeField};
+use ark_merkle::{Config, MerkleTree, MultiPath, Path};
 use std::alloc::Global;
 
 const TRUNCATED: Error = Error::SerializationError(SerializationError::Truncated);
@@ -28,8 +27,7 @@ fn path_of_seventy<P: Config>(
 
 fn seventy_give<P: Config>(
     alloc: Global,
-    leaf_parameters: &LeafParam<P>,
-    pair_parameters: &TwoToOneParam<P>,
+    parameters: Parameters<P>,
     sibling: &P::LeafDigest,
     digest: &P::InnerDigest,
     leaf: &P::Leaf,
@@ -37,47 +35,25 @@ fn seventy_give<P: Config>(
 ) -> Result<bool, Error> {
     path_of_seventy::<P>(alloc, sibling, digest)?.verify(
         alloc,
-        leaf_parameters,
-        pair_parameters,
+        parameters.0,
+        parameters.1,
         root,
         leaf,
     )
 }
 
-// The leaf 1 is doubled on 64 levels, since the index has 64 bits; 2 ^ 64 is 1 modulo 257.
-#[test]
-fn a_path_of_seventy_digests(rt: HostRuntime) {
-    let zero = Fp::from_u64(0);
-    for (root, accepted) in [(1u64, true), (128, false)] {
-        assert_eq!(rt;
-            seventy_give::<Toy>(rt.alloc(), &(), &(), &zero, &zero, &1, &Fp::from_u64(root)),
-            Ok(accepted)
-        );
-    }
-}
-
 // The refusal of such a path where it is to be bound to a tree.
 fn bound<P: Config>(
     alloc: Global,
-    leaf_parameters: &LeafParam<P>,
-    pair_parameters: &TwoToOneParam<P>,
+    parameters: Parameters<P>,
     leaves: &[P::Leaf],
     digest: &P::LeafDigest,
     above: &P::InnerDigest,
     leaf: &P::Leaf,
 ) -> Result<Option<Error>, Error> {
-    let tree = tree_over::<P>(alloc, leaf_parameters, pair_parameters, leaves)?;
+    let tree = tree_over::<P>(alloc, parameters, leaves)?;
     let path = path_of_seventy::<P>(alloc, digest, above)?;
     Ok(tree.bind(alloc, &path, leaf).err())
-}
-
-#[test]
-fn a_path_of_seventy_digests_is_of_no_tree(rt: HostRuntime) {
-    let zero = Fp::from_u64(0);
-    assert_eq!(rt;
-        bound::<Toy>(rt.alloc(), &(), &(), &[1, 2, 3, 4], &zero, &zero, &1),
-        Ok(Some(Error::IncorrectInputLength(70)))
-    );
 }
 
 // Makes the second prefix the largest number, and the second suffix longer by a digest.
@@ -98,8 +74,7 @@ fn lengthen_second<P: Config>(
 // What such a proof of both leaves of a tree says of them.
 fn lengthened_says<P: Config>(
     alloc: Global,
-    leaf_parameters: &LeafParam<P>,
-    pair_parameters: &TwoToOneParam<P>,
+    parameters: Parameters<P>,
     tree: &MerkleTree<P>,
     leaves: &[P::Leaf],
     digest: &P::InnerDigest,
@@ -108,8 +83,8 @@ fn lengthened_says<P: Config>(
     lengthen_second::<P>(alloc, &mut proof, digest)?;
     proof.verify(
         alloc,
-        leaf_parameters,
-        pair_parameters,
+        parameters.0,
+        parameters.1,
         tree.root(),
         leaves.iter(),
     )
@@ -118,28 +93,12 @@ fn lengthened_says<P: Config>(
 // The same of the tree of these leaves.
 fn second_prefix_is_largest<P: Config>(
     alloc: Global,
-    leaf_parameters: &LeafParam<P>,
-    pair_parameters: &TwoToOneParam<P>,
+    parameters: Parameters<P>,
     leaves: &[P::Leaf],
     digest: &P::InnerDigest,
 ) -> Result<bool, Error> {
-    let tree = tree_over::<P>(alloc, leaf_parameters, pair_parameters, leaves)?;
-    lengthened_says(
-        alloc,
-        leaf_parameters,
-        pair_parameters,
-        &tree,
-        leaves,
-        digest,
-    )
-}
-
-#[test]
-fn a_prefix_past_the_path_before(rt: HostRuntime) {
-    assert_eq!(rt;
-        second_prefix_is_largest::<Toy>(rt.alloc(), &(), &(), &[1, 2], &Fp::from_u64(5)),
-        Err(Error::IncorrectInputLength(1))
-    );
+    let tree = tree_over::<P>(alloc, parameters, leaves)?;
+    lengthened_says(alloc, parameters, &tree, leaves, digest)
 }
 
 // The refusals of bytes where a path is read, and where a multi-proof is.
@@ -153,31 +112,34 @@ fn refusals<P: Config>(alloc: Global, bytes: &[u8]) -> (Option<Error>, Option<Er
 // The path of the third leaf of the tree of 1 2 3 4.
 const PATH: [u8; 20] = [4, 0, 1, 0, 0, 0, 0, 0, 0, 0, 5, 0, 2, 0, 0, 0, 0, 0, 0, 0];
 
-#[test]
-fn each_beginning_of_a_path_is_cut_short(rt: HostRuntime) {
-    for len in 0..20usize {
-        assert_eq!(rt;
-            refusals::<Toy>(rt.alloc(), &PATH[..len]).0,
-            Some(TRUNCATED),
-            "{len}"
-        );
-    }
-}
-
 // The digest 257, in front of a path.
 const LARGE_IN_PATH: [u8; 20] = [1, 1, 1, 0, 0, 0, 0, 0, 0, 0, 5, 0, 2, 0, 0, 0, 0, 0, 0, 0];
 
 // The same behind the count of a multi-proof's digests.
 const LARGE_IN_MULTI_PROOF: [u8; 10] = [1, 0, 0, 0, 0, 0, 0, 0, 1, 1];
 
-#[test]
-fn digests_are_below_the_modulus(rt: HostRuntime) {
-    assert_eq!(rt;
-        refusals::<Toy>(rt.alloc(), &LARGE_IN_PATH).0,
-        Some(INVALID)
-    );
-    assert_eq!(rt;
-        refusals::<Toy>(rt.alloc(), &LARGE_IN_MULTI_PROOF).1,
-        Some(INVALID)
-    );
+/// Returns whether bytes are refused: each beginning of a path, and digests that are not below the modulus.
+pub fn bytes_are_refused<P: Config>(alloc: Global) -> bool {
+    for len in 0..20usize {
+        if refusals::<P>(alloc, &PATH[..len]).0 != Some(TRUNCATED) {
+            return false;
+        }
+    }
+    refusals::<P>(alloc, &LARGE_IN_PATH).0 == Some(INVALID)
+        && refusals::<P>(alloc, &LARGE_IN_MULTI_PROOF).1 == Some(INVALID)
+}
+
+/// Returns whether a path of 70 digests gives a root, and is of no tree, and a prefix past the path before is refused. The leaf 1 is
+/// doubled on 64 levels, since the index has 64 bits; 2 ^ 64 is 1 modulo 257.
+pub fn seventy_are_right<P: Config<Leaf = u64, LeafDigest = Fp<M257>, InnerDigest = Fp<M257>>>(
+    alloc: Global,
+    parameters: Parameters<P>,
+) -> bool {
+    let (zero, one, other) = (Fp::from_u64(0), Fp::from_u64(1), Fp::from_u64(128));
+    seventy_give::<P>(alloc, parameters, &zero, &zero, &1, &one) == Ok(true)
+        && seventy_give::<P>(alloc, parameters, &zero, &zero, &1, &other) == Ok(false)
+        && bound::<P>(alloc, parameters, &[1, 2, 3, 4], &zero, &zero, &1)
+            == Ok(Some(Error::IncorrectInputLength(70)))
+        && second_prefix_is_largest::<P>(alloc, parameters, &[1, 2], &Fp::from_u64(5))
+            == Err(Error::IncorrectInputLength(1))
 }

@@ -1,7 +1,7 @@
 use Rattle.std.proofs.Common.{refl}
 use Rattle.ark_paths.specs.Pair.{pair_of}
 use Rattle.ark_merkle_tests.proofs.PlainPlaces.{place-halves}
-use Rattle.ark_merkle_tests.proofs.plain.+place.Goals as goal
+use Rattle.ark_merkle_tests.proofs.tests.plain.+place.Goals as goal
 
 pub returns : goal.returns
 returns g t c =

@@ -1,10 +1,9 @@
 //! Hashes that refuse, in the tree and outside it.
 
-use crate::samples::tree_over;
+use crate::tests::samples::{Parameters, tree_over};
 use ark_base::error::{Error, Refusal};
 use ark_groups::ff::{Fp, M257, PrimeField};
-use ark_merkle::{Config, LeafParam, MerkleTree, Path, TwoToOneParam};
-use ark_trees::toy::{Refusing, Toy};
+use ark_merkle::{Config, MerkleTree, Path};
 use std::alloc::Global;
 
 // Whether a tree takes a leaf, under the asserted root if there is one.
@@ -29,15 +28,14 @@ fn takes<P: Config>(
 // that.
 fn changed<P: Config>(
     alloc: Global,
-    leaf_parameters: &LeafParam<P>,
-    pair_parameters: &TwoToOneParam<P>,
+    parameters: Parameters<P>,
     leaves: &[P::Leaf],
     index: usize,
     leaf: &P::Leaf,
     asserted: Option<&P::InnerDigest>,
     root: &P::InnerDigest,
 ) -> Result<(Result<bool, Error>, bool), Error> {
-    let mut tree = tree_over::<P>(alloc, leaf_parameters, pair_parameters, leaves)?;
+    let mut tree = tree_over::<P>(alloc, parameters, leaves)?;
     let taken = takes(alloc, &mut tree, index, leaf, asserted);
     Ok((taken, *tree.root() == *root))
 }
@@ -57,31 +55,36 @@ const SIX: Error = Error::GenericError(Refusal::Custom(6));
 const SEVEN: Error = Error::GenericError(Refusal::Custom(7));
 
 // An index, the leaf for it, the root that is asserted, whether the tree of 1 2 3 4 takes the leaf, and the root behind that.
-const CHANGES: [(usize, u64, Option<u64>, Result<bool, Error>, u64); 4] = [
+type Change = (usize, u64, Option<u64>, Result<bool, Error>, u64);
+
+static CHANGES: [Change; 4] = [
     (0, 5, Some(30), Ok(false), 27),
     (0, 5, Some(31), Ok(true), 31),
     (1, 999, None, Err(ONE), 27),
     (0, 5, None, Ok(true), 31),
 ];
 
-#[test]
-fn updates_where_the_new_root_is_the_asserted_one(rt: HostRuntime) {
-    for (index, leaf, asserted, taken, root) in CHANGES {
-        assert_eq!(rt;
-            changed::<Toy>(
-                rt.alloc(),
-                &(),
-                &(),
-                &[1, 2, 3, 4],
-                index,
-                &leaf,
-                element(asserted).as_ref(),
-                &Fp::from_u64(root)
-            ),
-            Ok((taken, true)),
-            "{leaf} at {index}"
-        );
+// Whether changes of the tree of 1 2 3 4 are as they say.
+fn are_changed<P: Config<Leaf = u64, LeafDigest = Fp<M257>, InnerDigest = Fp<M257>>>(
+    alloc: Global,
+    parameters: Parameters<P>,
+    changes: &[Change],
+) -> bool {
+    for (index, leaf, asserted, taken, root) in changes {
+        if changed::<P>(
+            alloc,
+            parameters,
+            &[1, 2, 3, 4],
+            *index,
+            leaf,
+            element(*asserted).as_ref(),
+            &Fp::from_u64(*root),
+        ) != Ok((*taken, true))
+        {
+            return false;
+        }
     }
+    true
 }
 
 // The leaves of a tree, and what its building is refused with. The lowest pair that refuses is named, and the leftmost of its row,
@@ -98,45 +101,17 @@ const BUILT: [(&[u64], Error); 8] = [
 ];
 
 // The same of leaves for the tree of 1 2 3 4.
-const REFUSED: [(usize, u64, Option<u64>, Result<bool, Error>, u64); 4] = [
+static REFUSED: [Change; 4] = [
     (3, 0, None, Err(THREE), 27),
     (2, 249, None, Err(FIVE), 27),
     (2, 249, Some(0), Err(FIVE), 27),
     (0, 5, None, Ok(true), 31),
 ];
 
-#[test]
-fn the_lowest_refusal_decides(rt: HostRuntime) {
-    for (leaves, refusal) in BUILT {
-        assert_eq!(rt;
-            changed::<Refusing>(rt.alloc(), &(), &(), leaves, 0, &1, None, &Fp::from_u64(0)),
-            Err(refusal),
-            "{leaves:?}"
-        );
-    }
-    for (index, leaf, asserted, taken, root) in REFUSED {
-        assert_eq!(rt;
-            changed::<Refusing>(
-                rt.alloc(),
-                &(),
-                &(),
-                &[1, 2, 3, 4],
-                index,
-                &leaf,
-                element(asserted).as_ref(),
-                &Fp::from_u64(root)
-            ),
-            Ok((taken, true)),
-            "{leaf} at {index}"
-        );
-    }
-}
-
 // Whether a leaf is accepted with a path of one digest.
 fn is_accepted<P: Config>(
     alloc: Global,
-    leaf_parameters: &LeafParam<P>,
-    pair_parameters: &TwoToOneParam<P>,
+    parameters: Parameters<P>,
     leaf_sibling_hash: P::LeafDigest,
     leaf_index: usize,
     leaf: &P::Leaf,
@@ -147,22 +122,31 @@ fn is_accepted<P: Config>(
         auth_path: Vec::new(alloc),
         leaf_index,
     };
-    path.verify(alloc, leaf_parameters, pair_parameters, root, leaf)
+    path.verify(alloc, parameters.0, parameters.1, root, leaf)
 }
 
-#[test]
-fn the_pair_of_a_path_can_refuse(rt: HostRuntime) {
+/// Returns whether the tree takes leaves where the new root is the asserted one, and no pair of a path refuses.
+pub fn nothing_refuses<P: Config<Leaf = u64, LeafDigest = Fp<M257>, InnerDigest = Fp<M257>>>(
+    alloc: Global,
+    parameters: Parameters<P>,
+) -> bool {
     let six = Fp::from_u64(6);
-    assert_eq!(rt;
-        is_accepted::<Refusing>(rt.alloc(), &(), &(), six, 1, &0, &six),
-        Err(SIX)
-    );
-    assert_eq!(rt;
-        is_accepted::<Refusing>(rt.alloc(), &(), &(), six, 0, &0, &six),
-        Ok(false)
-    );
-    assert_eq!(rt;
-        is_accepted::<Toy>(rt.alloc(), &(), &(), six, 1, &0, &six),
-        Ok(true)
-    );
+    are_changed::<P>(alloc, parameters, &CHANGES)
+        && is_accepted::<P>(alloc, parameters, six, 1, &0, &six) == Ok(true)
+}
+
+/// Returns whether the lowest refusal decides, and the pair of a path can refuse.
+pub fn the_lowest_refuses<P: Config<Leaf = u64, LeafDigest = Fp<M257>, InnerDigest = Fp<M257>>>(
+    alloc: Global,
+    parameters: Parameters<P>,
+) -> bool {
+    let (zero, six) = (Fp::from_u64(0), Fp::from_u64(6));
+    for (leaves, refusal) in BUILT {
+        if changed::<P>(alloc, parameters, leaves, 0, &1, None, &zero) != Err(refusal) {
+            return false;
+        }
+    }
+    are_changed::<P>(alloc, parameters, &REFUSED)
+        && is_accepted::<P>(alloc, parameters, six, 1, &0, &six) == Err(SIX)
+        && is_accepted::<P>(alloc, parameters, six, 0, &0, &six) == Ok(false)
 }

@@ -1,13 +1,15 @@
 //! Trees and their paths.
 
-use crate::plain;
-use crate::samples::{EIGHT, Question, asked, has_text, multi_proof_of, proof_of};
+use crate::tests::plain;
+use crate::tests::samples::{
+    Answer, EIGHT, Proof, Question, Tree, asked, has_text, multi_proof_of, proof_of,
+};
 use ark_base::error::{Error, SerializationError};
 use ark_base::serialize::{CanonicalDeserialize, CanonicalItem, Duplicate, canonical_bytes};
 use ark_crh::CRHScheme;
 use ark_merkle::index::is_bit_set;
 use ark_merkle::pair::hash_bottom;
-use ark_merkle::{IdentityDigestConverter, MerkleTree, MultiPath, Path};
+use ark_merkle::{IdentityDigestConverter, Path};
 use ark_trees::{ArraySha256, Sha256Arrays, Sha256Strings};
 use std::alloc::Global;
 
@@ -27,13 +29,7 @@ enum Asked {
 }
 
 impl Question for Asked {
-    fn answer(
-        &self,
-        alloc: Global,
-        tree: &MerkleTree<Sha256Arrays>,
-        leaves: &[Vec<u8>],
-        _proof: &mut MultiPath<Sha256Arrays>,
-    ) -> Result<(bool, bool), Error> {
+    fn answer(&self, alloc: Global, tree: &Tree, leaves: &[Vec<u8>], _proof: &mut Proof) -> Answer {
         match *self {
             Asked::Defined(index) => { eight_are_right(alloc, tree, leaves, index) }
             Asked::At(index) => { is_accepted_at(alloc, tree, index, leaves) }
@@ -130,7 +126,7 @@ fn is_right(
 
 fn path_is_right(
     alloc: Global,
-    tree: &MerkleTree<Sha256Arrays>,
+    tree: &Tree,
     leaves: &[Vec<u8>],
     digests: &[[u8; 32]],
     index: usize,
@@ -142,33 +138,23 @@ fn path_is_right(
 // Whether a tree of eight has the place of the definition over these digests, and the path of an index.
 fn is_right_over(
     alloc: Global,
-    tree: &MerkleTree<Sha256Arrays>,
+    tree: &Tree,
     leaves: &[Vec<u8>],
     digests: &[[u8; 32]],
     index: usize,
-) -> Result<(bool, bool), Error> {
+) -> Answer {
     Ok((
         is_defined(alloc, 2, digests, Some(tree.root()))?,
         path_is_right(alloc, tree, leaves, digests, index)?,
     ))
 }
 
-fn eight_are_right(
-    alloc: Global,
-    tree: &MerkleTree<Sha256Arrays>,
-    leaves: &[Vec<u8>],
-    index: usize,
-) -> Result<(bool, bool), Error> {
+fn eight_are_right(alloc: Global, tree: &Tree, leaves: &[Vec<u8>], index: usize) -> Answer {
     let digests = digests_of::<ArraySha256>(alloc, &(), leaves)?;
     is_right_over(alloc, tree, leaves, &digests, index)
 }
 
-fn is_accepted_at(
-    alloc: Global,
-    tree: &MerkleTree<Sha256Arrays>,
-    index: usize,
-    leaves: &[Vec<u8>],
-) -> Result<(bool, bool), Error> {
+fn is_accepted_at(alloc: Global, tree: &Tree, index: usize, leaves: &[Vec<u8>]) -> Answer {
     let Some(leaf) = leaves.get(2) else {
         return Err(Error::IncorrectInputLength(2));
     };
@@ -217,7 +203,7 @@ fn top_of(alloc: Global, path: &Path<Sha256Arrays>, leaf: &Vec<u8>) -> Result<[u
 }
 
 // Whether a path is accepted with its top, and with 32 zeros.
-fn path_is_accepted(alloc: Global, path: &Path<Sha256Arrays>) -> Result<(bool, bool), Error> {
+fn path_is_accepted(alloc: Global, path: &Path<Sha256Arrays>) -> Answer {
     let leaf = Vec::new(alloc);
     let top = top_of(alloc, path, &leaf)?;
     Ok((
@@ -229,7 +215,7 @@ fn path_is_accepted(alloc: Global, path: &Path<Sha256Arrays>) -> Result<(bool, b
 // Whether a tree and its copy have one root and the same path at an index, which is its own copy.
 fn copy_is_the_same(
     alloc: Global,
-    tree: &MerkleTree<Sha256Arrays>,
+    tree: &Tree,
     path: &Path<Sha256Arrays>,
     index: usize,
 ) -> Result<bool, Error> {
@@ -241,12 +227,7 @@ fn copy_is_the_same(
     )
 }
 
-fn copies_in(
-    alloc: Global,
-    tree: &MerkleTree<Sha256Arrays>,
-    index: usize,
-    other: usize,
-) -> Result<(bool, bool), Error> {
+fn copies_in(alloc: Global, tree: &Tree, index: usize, other: usize) -> Answer {
     let path = proof_of(alloc, tree, index)?;
     Ok((
         copy_is_the_same(alloc, tree, &path, index)?,
@@ -256,7 +237,7 @@ fn copies_in(
 
 fn is_path_of(
     alloc: Global,
-    tree: &MerkleTree<Sha256Arrays>,
+    tree: &Tree,
     path: &Path<Sha256Arrays>,
     index: usize,
 ) -> Result<bool, Error> {
@@ -292,11 +273,7 @@ fn are_listed<T: CanonicalItem + Drop>(alloc: Global, items: &[T]) -> Result<boo
     Ok(are_truncated::<T>(alloc, &bytes[..early]) && are_read::<T>(alloc, &bytes)?)
 }
 
-fn paths_are_listed(
-    alloc: Global,
-    tree: &MerkleTree<Sha256Arrays>,
-    indexes: &[usize],
-) -> Result<bool, Error> {
+fn paths_are_listed(alloc: Global, tree: &Tree, indexes: &[usize]) -> Result<bool, Error> {
     let mut paths = Vec::new(alloc);
     for index in indexes {
         paths.push(proof_of(alloc, tree, *index)?)?;
@@ -304,11 +281,7 @@ fn paths_are_listed(
     are_listed(alloc, &paths)
 }
 
-fn multi_proofs_are_listed(
-    alloc: Global,
-    tree: &MerkleTree<Sha256Arrays>,
-    indexes: &[usize],
-) -> Result<bool, Error> {
+fn multi_proofs_are_listed(alloc: Global, tree: &Tree, indexes: &[usize]) -> Result<bool, Error> {
     let mut proofs = Vec::new(alloc);
     for index in indexes {
         proofs.push(multi_proof_of(alloc, tree, &[*index])?)?;

@@ -2,11 +2,11 @@
 
 ghost use Rattle.std.specs.Prelude.{◌<◌};
 
-use crate::samples::{EIGHT, Question, asked, multi_proof_of, push_place};
+use crate::tests::samples::{
+    Answer, EIGHT, Proof, Question, Tree, asked, multi_proof_of, push_place,
+};
 use ark_base::error::{Error, SerializationError};
 use ark_base::serialize::{CanonicalSerialize, Duplicate};
-use ark_merkle::{MerkleTree, MultiPath};
-use ark_trees::Sha256Arrays;
 use std::alloc::Global;
 
 // What is asked of a multi-proof.
@@ -24,13 +24,7 @@ enum Asked {
 }
 
 impl Question for Asked {
-    fn answer(
-        &self,
-        alloc: Global,
-        tree: &MerkleTree<Sha256Arrays>,
-        leaves: &[Vec<u8>],
-        proof: &mut MultiPath<Sha256Arrays>,
-    ) -> Result<(bool, bool), Error> {
+    fn answer(&self, alloc: Global, tree: &Tree, leaves: &[Vec<u8>], proof: &mut Proof) -> Answer {
         match *self {
             Asked::Sets(count) => Ok((
                 sets_are_strict(alloc, tree, count)?,
@@ -54,12 +48,12 @@ impl Question for Asked {
 }
 
 // Whether the canonical bytes of a multi-proof, with another byte behind them, are read strictly and to their end.
-fn is_read(alloc: Global, proof: &MultiPath<Sha256Arrays>) -> Result<bool, Error> {
+fn is_read(alloc: Global, proof: &Proof) -> Result<bool, Error> {
     let mut bytes = Vec::new(alloc);
     proof.serialize(&mut bytes)?;
     let len = bytes.len();
     bytes.push(0)?;
-    match MultiPath::<Sha256Arrays>::read_strict(alloc, &bytes) {
+    match Proof::read_strict(alloc, &bytes) {
         Ok((_, used)) => Ok(used == len),
         Err(Error::SerializationError(SerializationError::InvalidData)) => Ok(false),
         Err(error) => Err(error),
@@ -78,21 +72,13 @@ fn indexes_of(alloc: Global, set: usize) -> Result<Vec<usize>, Error> {
 }
 
 // Whether the tree's own proof of a set of indexes is strict.
-fn set_is_strict(
-    alloc: Global,
-    tree: &MerkleTree<Sha256Arrays>,
-    set: usize,
-) -> Result<bool, Error> {
+fn set_is_strict(alloc: Global, tree: &Tree, set: usize) -> Result<bool, Error> {
     let indexes = indexes_of(alloc, set)?;
     let proof = multi_proof_of(alloc, tree, &indexes)?;
     is_read(alloc, &proof)
 }
 
-fn sets_are_strict(
-    alloc: Global,
-    tree: &MerkleTree<Sha256Arrays>,
-    count: usize,
-) -> Result<bool, Error> {
+fn sets_are_strict(alloc: Global, tree: &Tree, count: usize) -> Result<bool, Error> {
     for set in 1..count {
         if !set_is_strict(alloc, tree, set)? {
             return Ok(false);
@@ -102,7 +88,7 @@ fn sets_are_strict(
 }
 
 // Damages a proof of four leaves in one of sixteen ways.
-fn damage(alloc: Global, proof: &mut MultiPath<Sha256Arrays>, way: usize) -> Result<(), Error> {
+fn damage(alloc: Global, proof: &mut Proof, way: usize) -> Result<(), Error> {
     match way {
         0 => proof.leaf_siblings_hashes.push([0; 32])?,
         1 => proof.auth_paths_prefix_lenghts.push(0)?,
@@ -124,17 +110,13 @@ fn damage(alloc: Global, proof: &mut MultiPath<Sha256Arrays>, way: usize) -> Res
     Ok(())
 }
 
-fn damaged_is_strict(
-    alloc: Global,
-    proof: &MultiPath<Sha256Arrays>,
-    way: usize,
-) -> Result<bool, Error> {
+fn damaged_is_strict(alloc: Global, proof: &Proof, way: usize) -> Result<bool, Error> {
     let mut copy = proof.duplicate(alloc)?;
     damage(alloc, &mut copy, way)?;
     is_read(alloc, &copy)
 }
 
-fn none_is_strict(alloc: Global, proof: &MultiPath<Sha256Arrays>) -> Result<bool, Error> {
+fn none_is_strict(alloc: Global, proof: &Proof) -> Result<bool, Error> {
     for way in 0..16usize {
         if damaged_is_strict(alloc, proof, way)? {
             return Ok(false);
@@ -144,12 +126,7 @@ fn none_is_strict(alloc: Global, proof: &MultiPath<Sha256Arrays>) -> Result<bool
 }
 
 // Makes of the proof of all indexes that of the indexes up to a place, the last of which takes nothing from the path before.
-fn shorten(
-    alloc: Global,
-    tree: &MerkleTree<Sha256Arrays>,
-    proof: &mut MultiPath<Sha256Arrays>,
-    place: usize,
-) -> Result<(), Error> {
+fn shorten(alloc: Global, tree: &Tree, proof: &mut Proof, place: usize) -> Result<(), Error> {
     let mut alone = multi_proof_of(alloc, tree, &[place])?;
     proof.auth_paths_suffixes.truncate(place);
     proof
@@ -172,7 +149,7 @@ fn fives(alloc: Global, count: usize) -> Result<Vec<[u8; 32]>, Error> {
 
 fn take_fives(
     alloc: Global,
-    proof: &mut MultiPath<Sha256Arrays>,
+    proof: &mut Proof,
     len: usize,
     prefix: usize,
     first: usize,

@@ -2,11 +2,11 @@
 
 ghost use Rattle.std.specs.Prelude.{[], ◌∷◌, Ok};
 
-use crate::samples::tree_over;
-use crate::toy::copies_of_one;
+use crate::tests::samples::{Parameters, tree_over};
+use crate::tests::toy::copies_of_one;
 use ark_base::error::Error;
 use ark_groups::ff::{Fp, M257, PrimeField};
-use ark_merkle::{Binding, Config, DigestConverter, LeafParam, MerkleTree, Path, TwoToOneParam};
+use ark_merkle::{Binding, Config, DigestConverter, MerkleTree, Path};
 use ark_trees::toy::{ToyLeafHash, ToyPairHash};
 use std::alloc::Global;
 
@@ -51,14 +51,13 @@ fn path_of_zeros(alloc: Global, len: usize) -> Result<Path<Forgetting>, Error> {
 // Whether a path shows a leaf in a tree, and what it binds it to.
 fn bound_in<P: Config>(
     alloc: Global,
-    leaf_parameters: &LeafParam<P>,
-    pair_parameters: &TwoToOneParam<P>,
+    parameters: Parameters<P>,
     tree: &MerkleTree<P>,
     path: &Path<P>,
     leaf: &P::Leaf,
 ) -> Result<(bool, Result<Binding, Error>), Error> {
     Ok((
-        path.verify(alloc, leaf_parameters, pair_parameters, tree.root(), leaf)?,
+        path.verify(alloc, parameters.0, parameters.1, tree.root(), leaf)?,
         tree.bind(alloc, path, leaf),
     ))
 }
@@ -66,20 +65,19 @@ fn bound_in<P: Config>(
 // The same in the tree of some leaves.
 fn bound<P: Config>(
     alloc: Global,
-    leaf_parameters: &LeafParam<P>,
-    pair_parameters: &TwoToOneParam<P>,
+    parameters: Parameters<P>,
     leaves: &[P::Leaf],
     path: &Path<P>,
     leaf: &P::Leaf,
 ) -> Result<(bool, Result<Binding, Error>), Error> {
-    let tree = tree_over::<P>(alloc, leaf_parameters, pair_parameters, leaves)?;
-    bound_in(alloc, leaf_parameters, pair_parameters, &tree, path, leaf)
+    let tree = tree_over::<P>(alloc, parameters, leaves)?;
+    bound_in(alloc, parameters, &tree, path, leaf)
 }
 
 // The same of a path of zeros in the tree of 1 2, whose root is 0.
 fn bound_by_zeros(alloc: Global, len: usize) -> Result<(bool, Result<Binding, Error>), Error> {
     let path = path_of_zeros(alloc, len)?;
-    bound::<Forgetting>(alloc, &(), &(), &[1, 2], &path, &9)
+    bound::<Forgetting>(alloc, (&(), &()), &[1, 2], &path, &9)
 }
 
 // The length of a path of zeros, which gives the root of zeros whatever the leaf, and what `bind` says of it. At the last level

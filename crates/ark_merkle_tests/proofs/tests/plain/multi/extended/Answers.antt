@@ -2,7 +2,7 @@ use Rattle.std.proofs.Common.{◌≡◌, ◌++◌, List, map, take, Ok, ap, sym,
 use Rattle.std.proofs.lemmas.List.{map-append, take-map}
 use Rattle.ark_base.specs.Laws.Steps.{done_injective}
 use Rattle.ark_paths.specs.Pair.{Digest}
-use Rattle.ark_merkle_tests.proofs.plain.multi.extended.Goals as goal
+use Rattle.ark_merkle_tests.proofs.tests.plain.multi.extended.Goals as goal
 
 pub returns : goal.returns
 returns g c =

@@ -24,17 +24,28 @@ pub fn leaves_of(alloc: Global, bytes: &[u8]) -> Result<Vec<Vec<u8>>, Error> {
     Ok(leaves)
 }
 
+/// The parameters of both hashes.
+pub type Parameters<'a, P> = (&'a LeafParam<P>, &'a TwoToOneParam<P>);
+
+/// A tree over arrays.
+pub type Tree = MerkleTree<Sha256Arrays>;
+
+/// A multi-proof of such a tree.
+pub type Proof = MultiPath<Sha256Arrays>;
+
+/// Two truths, or why there are none.
+pub type Answer = Result<(bool, bool), Error>;
+
 /// Returns the tree of these leaves.
 pub fn tree_over<P: Config>(
     alloc: Global,
-    leaf_parameters: &LeafParam<P>,
-    pair_parameters: &TwoToOneParam<P>,
+    parameters: Parameters<P>,
     leaves: &[P::Leaf],
 ) -> Result<MerkleTree<P>, Error> {
     if !is_tree_size(leaves.len()) {
         return Err(Error::IncorrectInputLength(leaves.len()));
     }
-    MerkleTree::<P>::new(alloc, leaf_parameters, pair_parameters, leaves)
+    MerkleTree::<P>::new(alloc, parameters.0, parameters.1, leaves)
 }
 
 /// Returns whether a value has this text.
@@ -45,34 +56,23 @@ pub fn has_text<T: Debug>(alloc: Global, value: &T, text: &str) -> Result<bool, 
 /// What is asked of a tree, its leaves and one of its multi-proofs. Each module asks through one type, and each answer is two
 /// truths: so a single function owns a tree.
 pub trait Question {
-    fn answer(
-        &self,
-        alloc: Global,
-        tree: &MerkleTree<Sha256Arrays>,
-        leaves: &[Vec<u8>],
-        proof: &mut MultiPath<Sha256Arrays>,
-    ) -> Result<(bool, bool), Error>;
+    fn answer(&self, alloc: Global, tree: &Tree, leaves: &[Vec<u8>], proof: &mut Proof) -> Answer;
 }
 
 /// Returns the answer of the tree of leaves of these bytes, and its multi-proof of these indexes.
-pub fn asked<Q: Question>(
-    alloc: Global,
-    bytes: &[u8],
-    indexes: &[usize],
-    question: &Q,
-) -> Result<(bool, bool), Error> {
+pub fn asked<Q: Question>(alloc: Global, bytes: &[u8], indexes: &[usize], question: &Q) -> Answer {
     let leaves = leaves_of(alloc, bytes)?;
-    let tree = tree_over::<Sha256Arrays>(alloc, &(), &(), &leaves)?;
+    let tree = tree_over::<Sha256Arrays>(alloc, (&(), &()), &leaves)?;
     asked_of(alloc, &tree, &leaves, indexes, question)
 }
 
 fn asked_of<Q: Question>(
     alloc: Global,
-    tree: &MerkleTree<Sha256Arrays>,
+    tree: &Tree,
     leaves: &[Vec<u8>],
     indexes: &[usize],
     question: &Q,
-) -> Result<(bool, bool), Error> {
+) -> Answer {
     let mut proof = multi_proof_of(alloc, tree, indexes)?;
     question.answer(alloc, tree, leaves, &mut proof)
 }

@@ -1,14 +1,12 @@
 //! Trees of numbers whose digests can be reckoned by hand.
 
-use crate::samples::proof_of;
+use crate::tests::samples::{Parameters, proof_of};
 use ark_base::error::Error;
 use ark_base::serialize::{CanonicalDeserialize, DigestItem};
 use ark_crh::{CRHScheme, TwoToOneCRHScheme};
-use ark_groups::ff::{Fp, PrimeField};
-use ark_merkle::{Config, LeafParam, MerkleTree, Path, TwoToOneParam, is_tree_size};
-use ark_trees::toy::{Refusing, Toy};
-use rand::rngs::SmallRng;
-use rand::{Rng, SeedableRng};
+use ark_groups::ff::{Fp, M257, PrimeField};
+use ark_merkle::{Config, MerkleTree, Path, is_tree_size};
+use rand::Rng;
 use std::alloc::Global;
 
 /// Returns a digest, so many times.
@@ -39,8 +37,7 @@ fn is_beside<P: Config>(
 // Whether the tree of four leaf digests that are the same has this root, and whether it and that leaf digest stand beside a leaf.
 fn four_are<P: Config>(
     alloc: Global,
-    leaf_parameters: &LeafParam<P>,
-    pair_parameters: &TwoToOneParam<P>,
+    parameters: Parameters<P>,
     index: usize,
     digest: &P::LeafDigest,
     root: &P::InnerDigest,
@@ -49,46 +46,21 @@ fn four_are<P: Config>(
     if !is_tree_size(digests.len()) {
         return Err(Error::IncorrectInputLength(digests.len()));
     }
-    let tree = MerkleTree::<P>::new_with_leaf_digest(
-        alloc,
-        leaf_parameters,
-        pair_parameters,
-        digests,
-    )?;
+    let tree = MerkleTree::<P>::new_with_leaf_digest(alloc, parameters.0, parameters.1, digests)?;
     Ok((
         *tree.root() == *root,
         is_beside(alloc, &tree, index, digest, root)?,
     ))
 }
 
-#[test]
-fn pairs_of_four_zeros(rt: HostRuntime) {
-    let zero = Fp::from_u64(0);
-    for index in 0..4usize {
-        assert_eq!(rt;
-            four_are::<Toy>(rt.alloc(), &(), &(), index, &zero, &zero),
-            Ok((true, true)),
-            "{index}"
-        );
-    }
-}
-
 // The size and the height of the blank tree of eight, and whether this is its root.
 fn blank<P: Config>(
     alloc: Global,
-    leaf_parameters: &LeafParam<P>,
-    pair_parameters: &TwoToOneParam<P>,
+    parameters: Parameters<P>,
     root: &P::InnerDigest,
 ) -> Result<(usize, usize, bool), Error> {
-    let tree = MerkleTree::<P>::blank(alloc, leaf_parameters, pair_parameters, 4)?;
+    let tree = MerkleTree::<P>::blank(alloc, parameters.0, parameters.1, 4)?;
     Ok((tree.size(), tree.height(), *tree.root() == *root))
-}
-
-// All digests are 0.
-#[test]
-fn a_blank_tree(rt: HostRuntime) {
-    let zero = Fp::from_u64(0);
-    assert_eq!(rt; blank::<Toy>(rt.alloc(), &(), &(), &zero), Ok((8, 4, true)));
 }
 
 // Where three bytes stand behind a path, how many are read, and the path's index.
@@ -97,25 +69,29 @@ fn read_front<P: Config>(alloc: Global, bytes: &[u8]) -> Result<(usize, usize), 
     Ok((used, path.leaf_index))
 }
 
-#[test]
-fn three_bytes_are_left_behind_a_path(rt: HostRuntime) {
-    let bytes = [
-        4, 0, 1, 0, 0, 0, 0, 0, 0, 0, 5, 0, 2, 0, 0, 0, 0, 0, 0, 0, 7, 8, 9,
-    ];
-    assert_eq!(rt; read_front::<Toy>(rt.alloc(), &bytes), Ok((20, 2)));
-}
-
-// Whether the setups of both hashes give parameters and draw nothing.
-fn sets_up<P: Config, R: Rng>(alloc: Global, rng: &mut R, twin: &mut R) -> bool {
+/// Returns whether the setups of both hashes give parameters and draw nothing.
+pub fn sets_up<P: Config, R: Rng>(alloc: Global, rng: &mut R, twin: &mut R) -> bool {
     P::LeafHash::setup(alloc, rng).is_ok()
         && P::TwoToOneHash::setup(alloc, rng).is_ok()
         && rng.next_u64() == twin.next_u64()
 }
 
-#[test]
-fn setups_draw_nothing(rt: HostRuntime) {
-    let mut rng = SmallRng::seed_from_u64(8);
-    let mut twin = SmallRng::seed_from_u64(8);
-    assert!(rt; sets_up::<Toy, SmallRng>(rt.alloc(), &mut rng, &mut twin));
-    assert!(rt; sets_up::<Refusing, SmallRng>(rt.alloc(), &mut rng, &mut twin));
+// A path of the index 2, with three bytes behind it.
+const FRONT: [u8; 23] = [
+    4, 0, 1, 0, 0, 0, 0, 0, 0, 0, 5, 0, 2, 0, 0, 0, 0, 0, 0, 0, 7, 8, 9,
+];
+
+/// Returns whether pairs of zeros are zeros, the blank tree has a root of 0, and three bytes are left behind a path.
+pub fn are_zeros<P: Config<Leaf = u64, LeafDigest = Fp<M257>, InnerDigest = Fp<M257>>>(
+    alloc: Global,
+    parameters: Parameters<P>,
+) -> bool {
+    let zero = Fp::from_u64(0);
+    for index in 0..4usize {
+        if four_are::<P>(alloc, parameters, index, &zero, &zero) != Ok((true, true)) {
+            return false;
+        }
+    }
+    blank::<P>(alloc, parameters, &zero) == Ok((8, 4, true))
+        && read_front::<P>(alloc, &FRONT) == Ok((20, 2))
 }
