@@ -8,7 +8,7 @@ use crate::shell::Shell;
 use crate::tokens::{number_of_token, some_bytes_of};
 use ark_base::error::Error;
 use ark_base::serialize::CanonicalDeserialize;
-use ark_groups::ff::{Fp, M257, PrimeField};
+use ark_groups::ff::{Field, Fp, M257, PrimeField};
 use ark_trees::toy::Toy;
 use std::alloc::{AllocError, Global};
 

@@ -9,7 +9,7 @@ use acp_session::shell::Shell;
 use acp_session::tokens::number_of_token;
 use ark_base::error::Error;
 use ark_crh::CRHScheme;
-use ark_groups::ff::{Fp, M257, PrimeField};
+use ark_groups::ff::{Field, Fp, M257};
 use ark_merkle::{Config, IdentityDigestConverter};
 use ark_trees::toy::{Toy, ToyPairHash};
 use rand::Rng;
@@ -53,7 +53,7 @@ impl CRHScheme for KeyedLeafHash {
     }
 
     fn evaluate(_alloc: Global, key: &Fp<M257>, input: &u64) -> Result<Fp<M257>, Error> {
-        Ok(PrimeField::add(*key, Fp::from_u64(*input)))
+        Ok(Field::add(*key, Fp::from_u64(*input)))
     }
 
     ghost meaning_decided = { λ _ _. tt };

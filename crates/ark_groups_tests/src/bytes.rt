@@ -8,7 +8,7 @@ use ark_base::serialize::{
 };
 use ark_base::to_uncompressed_bytes;
 use ark_groups::ec::{Residues, Small};
-use ark_groups::ff::{Fp, M13, M257, PrimeField};
+use ark_groups::ff::{Field, Fp, M13, M257};
 use std::alloc::Global;
 
 const TRUNCATED: Error = Error::SerializationError(SerializationError::Truncated);

@@ -4,10 +4,10 @@ use crate::asked::{INVALID, TRUNCATED, fault, is_digest, is_spelled};
 use crate::plain;
 use ark_base::serialize::DigestItem;
 use ark_groups::ec::{
-    Additive, CurveGroup, Residues, SWCoordinates, SWPoint, Small, SmallModulus, TECoordinates,
-    TEPoint, WithCoordinates, WithoutCoordinates,
+    Additive, AdditiveGroup, CurveGroup, Residues, SWCoordinates, SWPoint, Small, SmallModulus,
+    TECoordinates, TEPoint, WithCoordinates, WithoutCoordinates,
 };
-use ark_groups::ff::{Fp, M7, M13, M61, M257, Modulus, PrimeField};
+use ark_groups::ff::{Field, Fp, M7, M13, M61, M257, Modulus, PrimeField};
 use rand::rngs::SmallRng;
 use rand::{Rng, RngExt, SeedableRng};
 use std::alloc::Global;
@@ -195,7 +195,7 @@ fn small_elements_have_coordinates(rt: HostRuntime) {
 fn draws_each<M: Modulus, K, R: Rng>(rng: &mut R) -> bool {
     let mut seen = [false; 13];
     for _ in 0..1000 {
-        let number = <Additive<M, K> as CurveGroup>::rand(rng).0.value();
+        let number = <Additive<M, K> as AdditiveGroup>::rand(rng).0.value();
         match seen.get_mut(number as usize) {
             Some(place) => *place = true,
             None => return false,
@@ -216,7 +216,7 @@ fn each_element_is_drawn(rt: HostRuntime) {
 // Whether elements are numbers below 2^61 - 1 as the generator itself draws them, one for each.
 fn draws_numbers<M: Modulus, R: Rng>(rng: &mut R, twin: &mut R) -> bool {
     for _ in 0..200 {
-        let drawn = <Residues<M> as CurveGroup>::rand(rng);
+        let drawn = <Residues<M> as AdditiveGroup>::rand(rng);
         let number: u64 = twin.random_range(0..2305843009213693951);
         if drawn.0.value() != number {
             return false;

@@ -5,7 +5,7 @@ ghost use Rattle.std.proofs.Common.{lit<, lit≤};
 use crate::asked::{INVALID, TRUNCATED, fault, is_digest, is_spelled};
 use crate::plain;
 use ark_base::serialize::DigestItem;
-use ark_groups::ff::{Fp, M7, M13, M61, M257, M65537, Modulus, PrimeField, UniformRand};
+use ark_groups::ff::{Field, Fp, M7, M13, M61, M257, M65537, Modulus, PrimeField, UniformRand};
 use rand::rngs::SmallRng;
 use rand::{Rng, RngExt, SeedableRng};
 use std::alloc::Global;

@@ -3,7 +3,7 @@
 use crate::crh::pedersen::{CRH, Parameters, TwoToOneCRH, Window};
 use crate::crh::{CRHScheme, TwoToOneCRHScheme};
 use crate::ec::Residues;
-use crate::ff::{Fp, M13, M61, PrimeField, UniformRand};
+use crate::ff::{Field, Fp, M13, M61, UniformRand};
 use crate::merkle_tree::{
     ByteDigestConverter, Config, LeafParam, MerkleTree, MultiPath, Path, TwoToOneParam,
 };

@@ -2,8 +2,8 @@
 
 ghost use Rattle.std.specs.Prelude.{◌≡◌};
 
-use crate::ec::{AdditiveGroup, CurveGroup, FixedBaseGroup};
-use crate::ff::{Fp, Modulus, PrimeField, UniformRand};
+use crate::ec::{AdditiveGroup, FixedBaseGroup};
+use crate::ff::{Field, Fp, Modulus, UniformRand};
 use ark_base::error::Error;
 use ark_base::serialize::{
     Canonical, CanonicalDeserialize, CanonicalItem, CanonicalSerialize, DigestItem, Duplicate,
@@ -40,85 +40,35 @@ impl<M: Modulus, K> fmt::Debug for Additive<M, K> {
     }
 }
 
-impl<M: Modulus, K> CurveGroup for Additive<M, K> {
+impl<M: Modulus, K> AdditiveGroup for Additive<M, K> {
     ghost use Rattle.ark_groups.specs.Laws.NumberGroups.{number_group, number_laws, number_order, same_element, same_number, is_identity, number-Decides};
     ghost use Rattle.ark_groups.specs.Laws.NumberGroups.{wrapping};
     ghost use Rattle.rand.specs.Draw.{draw_map};
 
     type ScalarField = Fp<M>;
 
+    type Sum = Additive<M, K>;
+
     ghost group = { number_group };
 
     ghost draw = { draw_map wrapping.wrap ⟦<Fp<M> as UniformRand>⟧.draw };
 
-    fn zero() -> Additive<M, K> {
-        Additive::new(<Fp<M> as PrimeField>::zero())
-    }
-
-    fn add(self, other: Additive<M, K>) -> Additive<M, K> {
-        Additive::new(PrimeField::add(self.0, other.0))
-    }
-
-    fn neg(self) -> Additive<M, K> {
-        Additive::new(PrimeField::neg(self.0))
-    }
-
-    fn mul(self, s: Fp<M>) -> Additive<M, K> {
-        Additive::new(PrimeField::mul(s, self.0))
-    }
-
-    fn rand<R: Rng>(rng: &mut R) -> Additive<M, K> {
-        Additive::new(Fp::rand(rng))
-    }
-
-    ghost laws = { number_laws };
-
-    ghost order = { number_order };
-
-    ghost equal_if_same = { number-Decides };
-
-    ghost clones = { λ x y same. same_element x y same.0 };
-
-    ghost clones_always = { λ x. (tt, tt) };
-
-    ghost default_is_zero = { λ x zero. is_identity x zero.0 };
-
-    ghost is_spelled = { λ x. x.0.reduced };
-
-    ghost same_view = { same_number };
-}
-
-impl<M: Modulus, K> AdditiveGroup for Additive<M, K> {
-    ghost use Rattle.ark_groups.specs.Laws.NumberGroups.{number_laws, number_order, same_element, same_number, is_identity, number-Decides};
-
-    type ScalarField = Fp<M>;
-
-    type Sum = Additive<M, K>;
-
-    ghost group = { ⟦<Additive<M, K> as CurveGroup>⟧.group };
-
-    ghost draw = { ⟦<Additive<M, K> as CurveGroup>⟧.draw };
-
     ghost total = { λ sum. sum };
 
     fn zero() -> Additive<M, K> {
-        <Additive<M, K> as CurveGroup>::zero()
+        Additive::new(Fp::zero())
     }
 
     fn add(self, other: Additive<M, K>) -> Additive<M, K> {
-        CurveGroup::add(self, other)
+        Additive::new(self.0.add(other.0))
     }
 
     fn neg(self) -> Additive<M, K> {
-        CurveGroup::neg(self)
-    }
-
-    fn double(self) -> Additive<M, K> {
-        CurveGroup::double(self)
+        Additive::new(self.0.neg())
     }
 
     fn mul(self, s: Fp<M>) -> Additive<M, K> {
-        CurveGroup::mul(self, s)
+        Additive::new(s.mul(self.0))
     }
 
     fn to_sum(self) -> Additive<M, K> {
@@ -126,15 +76,7 @@ impl<M: Modulus, K> AdditiveGroup for Additive<M, K> {
     }
 
     fn add_sums(a: Additive<M, K>, b: Additive<M, K>) -> Additive<M, K> {
-        CurveGroup::add(a, b)
-    }
-
-    fn add_to_sum(sum: Additive<M, K>, element: Additive<M, K>) -> Additive<M, K> {
-        CurveGroup::add(sum, element)
-    }
-
-    fn double_sum(a: Additive<M, K>) -> Additive<M, K> {
-        CurveGroup::double(a)
+        a.add(b)
     }
 
     fn from_sum(sum: Additive<M, K>) -> Additive<M, K> {
@@ -142,7 +84,7 @@ impl<M: Modulus, K> AdditiveGroup for Additive<M, K> {
     }
 
     fn rand<R: Rng>(rng: &mut R) -> Additive<M, K> {
-        <Additive<M, K> as CurveGroup>::rand(rng)
+        Additive::new(Fp::rand(rng))
     }
 
     ghost laws = { number_laws };
@@ -173,7 +115,7 @@ impl<M: Modulus, K> FixedBaseGroup for Additive<M, K> {
     }
 
     fn mul_by_table(table: &Additive<M, K>, s: Fp<M>) -> Additive<M, K> {
-        CurveGroup::mul(*table, s)
+        table.mul(s)
     }
 }
 

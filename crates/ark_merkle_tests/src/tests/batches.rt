@@ -5,7 +5,7 @@ ghost use Rattle.std.specs.List.{All};
 
 use crate::tests::samples::{Parameters, drawn, places_above, proof_of, tree_over};
 use ark_base::error::{Error, Refusal};
-use ark_groups::ff::{Fp, M257, PrimeField};
+use ark_groups::ff::{Field, Fp, M257};
 use ark_merkle::{Config, MerkleTree};
 use rand::SeedableRng;
 use rand::rngs::SmallRng;

@@ -5,7 +5,7 @@ ghost use Rattle.std.specs.Prelude.{[], ◌∷◌, Ok};
 use crate::tests::samples::{Parameters, tree_over};
 use crate::tests::toy::copies_of_one;
 use ark_base::error::Error;
-use ark_groups::ff::{Fp, M257, PrimeField};
+use ark_groups::ff::{Field, Fp, M257};
 use ark_merkle::{Binding, Config, DigestConverter, MerkleTree, Path};
 use ark_trees::toy::{ToyLeafHash, ToyPairHash};
 use std::alloc::Global;
@@ -33,7 +33,7 @@ impl DigestConverter<Fp<M257>, Fp<M257>> for Zero {
     ghost conversion = { λ _. Ok (0 ∷ []) };
 
     fn convert(_alloc: Global, _item: Fp<M257>) -> Result<Fp<M257>, Error> {
-        Ok(<Fp<M257> as PrimeField>::zero())
+        Ok(<Fp<M257> as Field>::zero())
     }
 
     ghost conversion_is_decided = { λ _. tt };

@@ -9,7 +9,7 @@ use crate::tests::samples::{
     tree_over,
 };
 use ark_base::error::Error;
-use ark_groups::ff::{Fp, M257, PrimeField};
+use ark_groups::ff::{Field, Fp, M257};
 use ark_merkle::multi_path::hasher::PairHasher;
 use ark_merkle::{Config, MerkleTree, MultiPath};
 use ark_trees::Sha256Strings;
@@ -31,10 +31,7 @@ impl Weights {
         ensures { result.value
             ≡ weighted_sum self.now.left.value self.now.right.value left.now.value right.now.value }
     {
-        PrimeField::add(
-            PrimeField::mul(self.left, *left),
-            PrimeField::mul(self.right, *right),
-        )
+        Field::add(Field::mul(self.left, *left), Field::mul(self.right, *right))
     }
 }
 

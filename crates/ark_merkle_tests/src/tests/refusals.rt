@@ -2,7 +2,7 @@
 
 use crate::tests::samples::{Parameters, tree_over};
 use ark_base::error::{Error, Refusal};
-use ark_groups::ff::{Fp, M257, PrimeField};
+use ark_groups::ff::{Field, Fp, M257};
 use ark_merkle::{Config, MerkleTree, Path};
 use std::alloc::Global;
 

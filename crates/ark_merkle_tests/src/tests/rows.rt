@@ -4,7 +4,7 @@ use crate::tests::samples::{Parameters, multi_proof_of, tree_over};
 use crate::tests::toy::copies_of_one;
 use ark_base::error::{Error, SerializationError};
 use ark_base::serialize::{CanonicalDeserialize, Duplicate};
-use ark_groups::ff::{Fp, M257, PrimeField};
+use ark_groups::ff::{Field, Fp, M257};
 use ark_merkle::{Config, MerkleTree, MultiPath, Path};
 use std::alloc::Global;
 

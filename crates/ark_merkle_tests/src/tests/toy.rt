@@ -4,7 +4,7 @@ use crate::tests::samples::{Parameters, proof_of};
 use ark_base::error::Error;
 use ark_base::serialize::{CanonicalDeserialize, DigestItem};
 use ark_crh::{CRHScheme, TwoToOneCRHScheme};
-use ark_groups::ff::{Fp, M257, PrimeField};
+use ark_groups::ff::{Field, Fp, M257};
 use ark_merkle::{Config, MerkleTree, Path, is_tree_size};
 use rand::Rng;
 use std::alloc::Global;

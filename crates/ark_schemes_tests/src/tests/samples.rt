@@ -3,7 +3,7 @@
 use crate::tests::asked::Alike;
 use ark_base::error::Error;
 use ark_groups::ec::{Additive, AdditiveGroup};
-use ark_groups::ff::{Fp, Modulus, PrimeField};
+use ark_groups::ff::{Field, Fp, Modulus, PrimeField};
 use ark_pedersen::Window;
 use rand::Rng;
 use std::alloc::Global;

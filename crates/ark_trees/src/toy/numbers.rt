@@ -6,7 +6,7 @@ ghost use Rattle.ark_trees.specs.Toy.{toy_leaf, toy_pair};
 
 use ark_base::error::{Error, Refusal};
 use ark_crh::{CRHScheme, TwoToOneCRHScheme};
-use ark_groups::ff::{Fp, M257, PrimeField};
+use ark_groups::ff::{Field, Fp, M257};
 use ark_paths::{Config, IdentityDigestConverter};
 use rand::Rng;
 use std::alloc::Global;
@@ -93,7 +93,7 @@ impl TwoToOneCRHScheme for ToyPairHash {
         left: &Fp<M257>,
         right: &Fp<M257>,
     ) -> Result<Fp<M257>, Error> {
-        Ok(PrimeField::add(*left, PrimeField::double(*right)))
+        Ok(Field::add(*left, Field::double(*right)))
     }
 
     fn compress(

@@ -7,7 +7,7 @@ ghost use Rattle.ark_trees.specs.Toy.{refusing_pair};
 use super::numbers::{ToyLeafHash, ToyPairHash};
 use ark_base::error::{Error, Refusal};
 use ark_crh::TwoToOneCRHScheme;
-use ark_groups::ff::{Fp, M257, PrimeField};
+use ark_groups::ff::{Field, Fp, M257, PrimeField};
 use ark_paths::{Config, IdentityDigestConverter};
 use rand::Rng;
 use std::alloc::Global;

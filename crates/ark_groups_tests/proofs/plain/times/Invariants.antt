@@ -3,4 +3,4 @@ use Rattle.ark_groups.specs.Group.{times}
 use Rattle.ark_groups_tests.proofs.plain.times.Given as goal
 
 abbrev pub invariant-loop : goal.invariant-loop
-invariant-loop g l = l.sum ≡ times g.C.CurveGroup.group l.counter l.x
+invariant-loop g l = l.sum ≡ times g.C.AdditiveGroup.group l.counter l.x

@@ -1,6 +1,6 @@
 use Rattle.std.proofs.Common.{arith}
 use Rattle.ark_groups.proofs.Reduction.{kept}
-use Rattle.ark_groups.proofs.ff.fp.field.FpField.from_words.Goals as goal
+use Rattle.ark_groups.proofs.ff.fp.FpField.from_words.Goals as goal
 
 pub returns : goal.returns
 returns g c =
