@@ -1,12 +1,12 @@
 //! Examples of library use: each a few proved functions to copy.
 #![tactic(auto)]
 
+pub mod directory;
 pub mod growing_log;
 pub mod log;
+pub mod own;
 pub mod plain;
 pub mod reveal;
 pub mod store;
-#[cfg(test)]
-mod tests;
 pub mod transcript;
 pub mod wide_hash;

@@ -8,8 +8,6 @@ mod growth;
 mod halving;
 mod names;
 mod stop;
-#[cfg(test)]
-mod tests;
 mod tile;
 mod tiled;
 

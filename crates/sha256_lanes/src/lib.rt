@@ -10,12 +10,8 @@ mod long_texts;
 mod messages;
 mod pairs;
 mod prefixed_pairs;
-#[cfg(test)]
-mod prefixed_tests;
 mod runs;
 mod states;
-#[cfg(test)]
-mod tests;
 mod texts;
 
 pub use runs::{digest_of_message, digest_of_pair, digests_of_messages, digests_of_pairs};

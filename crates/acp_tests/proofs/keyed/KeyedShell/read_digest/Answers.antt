@@ -1,5 +1,0 @@
-use Rattle.std.proofs.lemmas.Result.{IfOk-weaker}
-use Rattle.acp_tests.proofs.keyed.KeyedShell.read_digest.Goals as goal
-
-pub returns : goal.returns
-returns c = IfOk-weaker c.read_digest.result _ _ (λ x is p q. is tt tt) c.read_digest.ensures

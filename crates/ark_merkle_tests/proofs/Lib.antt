@@ -1,2 +1,0 @@
-pub mod PlainMulti
-pub mod PlainPlaces

@@ -1,5 +1,0 @@
-use Rattle.std.proofs.Common.{length}
-use Rattle.ark_merkle_tests.proofs.tests.plain.multi.+verdict_from.Given as goal
-
-abbrev pub decreases-verdict_from : goal.decreases-verdict_from
-decreases-verdict_from g l = length l.indexes.now

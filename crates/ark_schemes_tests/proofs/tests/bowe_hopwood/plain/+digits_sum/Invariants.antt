@@ -1,5 +1,0 @@
-use Rattle.std.proofs.Common.{length}
-use Rattle.ark_schemes_tests.proofs.tests.bowe_hopwood.plain.+digits_sum.Given as goal
-
-abbrev pub decreases-digits_sum : goal.decreases-digits_sum
-decreases-digits_sum g l = length l.elements.now

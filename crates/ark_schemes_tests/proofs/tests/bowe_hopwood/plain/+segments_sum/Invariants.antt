@@ -1,5 +1,0 @@
-use Rattle.std.proofs.Common.{length}
-use Rattle.ark_schemes_tests.proofs.tests.bowe_hopwood.plain.+segments_sum.Given as goal
-
-abbrev pub decreases-segments_sum : goal.decreases-segments_sum
-decreases-segments_sum g l = length l.elements.now

@@ -1,6 +1,0 @@
-use Rattle.std.proofs.Common.{◌≡◌, take}
-use Rattle.ark_pedersen.specs.Pedersen.{bits_of_bytes}
-use Rattle.ark_schemes_tests.proofs.tests.bowe_hopwood.plain.bits_of.Given as goal
-
-abbrev pub invariant-loop-byte : goal.invariant-loop-byte
-invariant-loop-byte l = l.bits.items ≡ bits_of_bytes (take l.byte-index l.bytes)

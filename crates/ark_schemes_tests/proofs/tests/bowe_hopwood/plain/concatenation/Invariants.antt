@@ -1,6 +1,0 @@
-use Rattle.std.proofs.Common.{◌≡◌, take}
-use Rattle.ark_pedersen.specs.Pedersen.{lists_in, concatenation}
-use Rattle.ark_schemes_tests.proofs.tests.bowe_hopwood.plain.concatenation.Given as goal
-
-abbrev pub invariant-loop-list : goal.invariant-loop-list
-invariant-loop-list g l = l.all.items ≡ concatenation (lists_in (take l.list-index l.lists))

@@ -1,6 +1,0 @@
-use Rattle.std.proofs.Common.{◌≡◌}
-use Rattle.ark_groups.specs.Group.{times}
-use Rattle.ark_schemes_tests.proofs.tests.bowe_hopwood.plain.signed_times.Given as goal
-
-abbrev pub invariant-loop : goal.invariant-loop
-invariant-loop g l = l.sum ≡ times g.G.AdditiveGroup.group l.counter l.x

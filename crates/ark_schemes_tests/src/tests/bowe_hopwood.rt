@@ -1,8 +1,0 @@
-//! Tests of the Bowe-Hopwood hashes.
-
-pub mod drawn;
-pub mod hash;
-pub mod parameters;
-mod plain;
-mod samples;
-pub mod setup;

@@ -1,0 +1,3 @@
+pub mod PlainBlocks
+pub mod PlainMulti
+pub mod PlainPlaces

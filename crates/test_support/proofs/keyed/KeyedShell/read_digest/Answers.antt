@@ -1,0 +1,5 @@
+use Rattle.std.proofs.lemmas.Result.{IfOk-weaker}
+use Rattle.test_support.proofs.keyed.KeyedShell.read_digest.Goals as goal
+
+pub returns : goal.returns
+returns c = IfOk-weaker c.read_digest.result _ _ (λ x is p q. is tt tt) c.read_digest.ensures

@@ -1,0 +1,4 @@
+pub mod Keyed
+pub mod RefusedDigest
+pub mod Refusing
+pub mod Weights
