@@ -56,7 +56,7 @@ CONTROLS = {
     "false": ("u64::from(n) + u64::from(n)", "u64::from(n)", {GATE: "`returns`"}, "REFUSED control/false: returns"),
     "same": ("if a < b { b } else { a }", "if b < a { a } else { b }", {GATE: "`left`"}, "FAILED control/same: MISSED"),
     "same_above": ("doubled(n) + u64::from(n)", "u64::from(n) + doubled(n)", {GATE: "`returns`"}, "FAILED control/same_above: MISSED"),
-    "of_no_goal": ("if a < b { a } else { b }", "if a < b { b } else { a }", {GATE: "`middle`"}, "FAILED control/of_no_goal: its row"),
+    "of_no_goal": ("if a < b { a } else { b }", "a", {GATE: "`middle`"}, "FAILED control/of_no_goal: its row"),
     "unreadable": ("u64::from(a) + u64::from(b)", "u64::from(c)", {GATE: "`returns`"}, "FAILED control/unreadable: BAD EDIT"),
     "nowhere": ("u64::from(m)", "0", {GATE: "`returns`"}, "FAILED control/nowhere: BAD EDIT"),
     "no_row": ("u64::from(b)", "0", {}, "FAILED control/no_row: it has no row"),

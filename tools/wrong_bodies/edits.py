@@ -29,9 +29,13 @@ class Edit:
                 is_shown = not file.startswith("src/") or now[file].startswith("pub ", now[file].rfind("\n", 0, at) + 1)
                 self.items.add(None if is_shown else module_of(file) or None)
             now[file] = now[file].replace(old, new)
-        self.modules = {module_of(file) or None for file, _, _ in self.pairs}
         # What the check is asked for by --only; with None it is asked for the whole crate.
         self.only = self.functions | self.items
+
+    def take_modules(self):
+        """Has the edit checked by its modules, as one of items outside of functions."""
+        self.functions = set()
+        self.only = self.items = {module_of(file) or None for file, _, _ in self.pairs}
 
     def is_of(self, path):
         """Returns whether the function with this path is one that the edit changes, or stands in one. An edit of an item outside of

@@ -1,12 +1,12 @@
 """Tries the wrong bodies of crates, and counts them."""
+import contextlib
 import glob
 import os
-import re
 import shutil
 import tempfile
 import threading
 
-from wrong_bodies.checks import ABOVE, BAD, REFUSED, UNSURE, checked, judged
+from wrong_bodies.checks import ABOVE, BAD, BY_A_NAME, REFUSED, UNSURE, checked, judged
 from wrong_bodies.edits import Edit, Rows, groups_of
 from wrong_bodies.functions import Sources
 from wrong_bodies.kit import rt
@@ -64,11 +64,10 @@ class Tries:
             for part in rt.rtlib.PARTS:
                 if os.path.isdir(f"{self.crate.folder}/{part}"):
                     shutil.copytree(f"{self.crate.folder}/{part}", f"{room}/{part}")
-            kept = f"{self.crate.folder}/out/incremental"
-            if is_begun and os.path.isdir(kept):
-                rt.linked(kept, f"{room}/kept")
-            else:
-                os.mkdir(f"{room}/kept")
+            if is_begun:
+                with contextlib.suppress(OSError, shutil.Error):
+                    rt.linked(f"{self.crate.folder}/out/incremental", f"{room}/kept")
+            os.makedirs(f"{room}/kept", exist_ok=True)
             for group in groups_of(ready, self.sources):
                 self.try_group(room, group)
         say(f"{self.crate.name}: {len(self.edits)} edits in {self.checks} checks, CPU {self.seconds:.0f} s")
@@ -80,19 +79,24 @@ class Tries:
 
     def try_group(self, room, group):
         """Tries a group, and once more those of its edits that it says nothing of."""
-        ran = self.check(room, group)
-        verdicts = {edit.name: judged(edit, ran, self.sources, len(group) == 1) for edit in group}
+        ran, is_alone = self.check(room, group), len(group) == 1
+        lost = [it for it in group if ran.status == 2 and not it.items and any(f"`{path}`" in line for path in it.only for line in ran.lines)]
+        if lost:
+            # No function has the path, or several, which ends the check of the whole group: such an edit is judged by its modules.
+            for edit in lost:
+                edit.take_modules()
+            for more in [*([it] for it in lost), [it for it in group if it not in lost]]:
+                self.try_group(room, more) if more else None
+            return
+        verdicts = {edit.name: judged(edit, ran, self.sources, is_alone) for edit in group}
         bad = [it for it in group if verdicts[it.name][0] == BAD]
         again = [it for it in group if it not in bad] if bad and not ran.functions else []
         for edit in group:
             verdict, shown = verdicts[edit.name]
             if edit in again:
                 continue
-            if verdict in (ABOVE, UNSURE):
+            if verdict == UNSURE or verdict in (ABOVE, BY_A_NAME) and not is_alone:
                 say(f"{edit.label}: once more, alone: {shown[:200]}")
-                # A path that no function has ends the check of the whole group: its edit is judged by its modules.
-                if any(f"has no function `{it}`" in line for it in edit.only for line in ran.lines):
-                    edit.only = edit.modules
                 verdict, shown = judged(edit, self.check(room, [edit]), self.sources, is_alone=True)
             self.settle(edit, verdict, shown)
         if again:
