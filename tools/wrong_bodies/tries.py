@@ -80,7 +80,8 @@ class Tries:
     def try_group(self, room, group):
         """Tries a group, and once more those of its edits that it says nothing of."""
         ran, is_alone = self.check(room, group), len(group) == 1
-        lost = [it for it in group if ran.status == 2 and not it.items and any(f"`{path}`" in line for path in it.only for line in ran.lines)]
+        named = "\n".join(ran.lines) if ran.status == 2 else ""
+        lost = [it for it in group if not it.items and any(f"`{path}`" in named for path in it.only)]
         if lost:
             # No function has the path, or several, which ends the check of the whole group: such an edit is judged by its modules.
             for edit in lost:
@@ -127,8 +128,8 @@ def try_crates(tries, start):
             how = "begin once more with `rt ci`" if start is not None else "run `rt all check`, or `rt ci` and then this with --libraries"
             it.fail("*", f"the library {stale} is not there as it stands now: {how}")
             continue
-        weight = it.crate.count(rb"\n") * (1 + len(it.edits))
-        tasks[it.crate.name, "edits"] = [], weight, rt.need(it.crate), lambda given, jobs, it=it: it.try_all(is_begun=start is None)
+        weight, memory = it.crate.count(rb"\n") * (1 + len(it.edits)), rt.OVER * rt.need(it.crate)
+        tasks[it.crate.name, "edits"] = [], weight, memory, lambda given, jobs, it=it: it.try_all(is_begun=start is None)
     rt.in_lanes(tasks)
     passed, failed = (sum(getattr(it, word) for it in tries) for word in ("passed", "failed"))
     print(f"CPU {sum(it.seconds for it in tries):.0f} s in {sum(it.checks for it in tries)} checks")
