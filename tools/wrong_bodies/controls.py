@@ -43,6 +43,14 @@ pub fn smaller(a: u32, b: u32) -> u32
     if a < b { a } else { b }
 }
 
+/// Returns the number that is no more, with a proof of its own.
+pub fn least(a: u32, b: u32) -> u32
+    ensures left { result ≤ a }
+    ensures right { result ≤ b }
+{
+    if a <= b { a } else { b }
+}
+
 /// Returns the sum.
 pub fn sum(a: u32, b: u32) -> u64
     ensures { result ≡ a + b }
@@ -50,13 +58,21 @@ pub fn sum(a: u32, b: u32) -> u64
     u64::from(a) + u64::from(b)
 }
 """
+PROOF = """use Rattle.std.proofs.Common.{rules}
+use Rattle.control.proofs.least.Goals as goal
+
+pub returns-then-a-b-clause-right : goal.returns-then-a-b-clause-right
+returns-then-a-b-clause-right c = search rules
+"""
 GATE, RELEASE = TABLES
 # For each control its old and its new text, what its row names in each table, and how the line begins that the tool prints of it.
 CONTROLS = {
     "false": ("u64::from(n) + u64::from(n)", "u64::from(n)", {GATE: "`returns`"}, "REFUSED control/false: returns"),
+    # An edit that means the same as before, whatever a check says of it, must not be told as refused.
     "same": ("if a < b { b } else { a }", "if b < a { a } else { b }", {GATE: "`left`"}, "FAILED control/same: MISSED"),
     "same_above": ("doubled(n) + u64::from(n)", "u64::from(n) + doubled(n)", {GATE: "`returns`"}, "FAILED control/same_above: MISSED"),
     "of_no_goal": ("if a < b { a } else { b }", "a", {GATE: "`middle`"}, "FAILED control/of_no_goal: its row"),
+    "same_renamed": ("if a <= b { a }", "if b >= a { a }", {GATE: "`returns`"}, "FAILED control/same_renamed: BY A NAME"),
     "unreadable": ("u64::from(a) + u64::from(b)", "u64::from(c)", {GATE: "`returns`"}, "FAILED control/unreadable: BAD EDIT"),
     "nowhere": ("u64::from(m)", "0", {GATE: "`returns`"}, "FAILED control/nowhere: BAD EDIT"),
     "no_row": ("u64::from(b)", "0", {}, "FAILED control/no_row: it has no row"),
@@ -69,13 +85,14 @@ TOLD_APART = "control/same_above: once more, alone: tripled: no proof: it calls"
 
 def write_crate(top):
     folder = f"{top}/crates/control"
-    os.makedirs(f"{folder}/src")
-    os.mkdir(f"{folder}/wrong-bodies")
+    for part in ("src", "proofs/least", "wrong-bodies"):
+        os.makedirs(f"{folder}/{part}")
     readme = ""
     for table in TABLES:
         rows = [f"| `{name}` | the edit {name} | {rows[table]} |\n" for name, (_, _, rows, _) in CONTROLS.items() if table in rows]
         readme += f"## {table}\n\n{''.join(rows)}"
     texts = {f"{top}/crates.txt": "control:\n", f"{folder}/src/lib.rt": SOURCE, f"{folder}/wrong-bodies/README.md": readme}
+    texts[f"{folder}/proofs/least/Answers.antt"] = PROOF
     for name, (old, new, _, _) in CONTROLS.items():
         if old:
             texts[f"{folder}/wrong-bodies/{name}.edit"] = f"file: src/lib.rt\nold: {old}\nnew: {new}\n"

@@ -40,7 +40,10 @@ class Edit:
     def is_of(self, path):
         """Returns whether the function with this path is one that the edit changes, or stands in one. An edit of an item outside of
         functions is checked alone, so that it changes each function that fails."""
-        return bool(self.items) or any(f"::{it}::" in f"::{path}::" for it in self.functions)
+        # A path that begins with a type is the end of one, where no library names the functions.
+        return bool(self.items) or any(
+            f"{path}::".startswith(f"{it}::") or it[0].isupper() and f"::{it}::" in f"::{path}::" for it in self.functions
+        )
 
 
 def pairs_of(path):

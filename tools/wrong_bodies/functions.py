@@ -5,7 +5,7 @@ import json
 import re
 
 HEADER = re.compile(r'^( *)(?:pub(?:\([^)]*\))? )?(?:(?:const|final|unsafe|extern "C") )*fn (\w+)', re.M)
-OWNER = re.compile(r"^(?:pub(?:\([^)]*\))? )?(?:unsafe )?(impl|trait)\b([^{;]*)", re.M)
+OWNER = re.compile(r"^(?:pub(?:\([^)]*\))? )?(?:unsafe )?(impl|trait)\b([^{]*)", re.M)
 # What a function's text says of its path: its name, the type of its impl (or its trait), and the trait of its impl.
 Header = collections.namedtuple("Header", "name owner trait")
 

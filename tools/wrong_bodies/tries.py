@@ -125,8 +125,9 @@ def try_crates(tries, start):
     for it in tries:
         stale = stale_library(it.crate, start) if it.edits else None
         if stale:
-            how = "begin once more with `rt ci`" if start is not None else "run `rt all check`, or `rt ci` and then this with --libraries"
-            it.fail("*", f"the library {stale} is not there as it stands now: {how}")
+            # `rt ci` puts back what stood in out/ before it.
+            how = "run `rt all check` first" if start is None else "remove crates/*/out, and begin with `rt ci` again"
+            it.fail("*", f"the library {stale} is not there as the last run has proved it: {how}")
             continue
         weight, memory = it.crate.count(rb"\n") * (1 + len(it.edits)), rt.OVER * rt.need(it.crate)
         tasks[it.crate.name, "edits"] = [], weight, memory, lambda given, jobs, it=it: it.try_all(is_begun=start is None)
