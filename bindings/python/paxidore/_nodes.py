@@ -1,5 +1,4 @@
 """The nodes of a map in a database of SQLite, and the bytes of the trees that the library takes."""
-import contextlib
 import ctypes
 import io
 import os
@@ -7,9 +6,11 @@ import pathlib
 import sqlite3
 import time
 import weakref
-from typing import Dict, Iterator, List, Optional, Sequence, Tuple, Union
+from typing import Any, Callable, Dict, List, Optional, Sequence, Tuple, TypeVar, Union
 
 from ._library import DIGEST_BYTES, _bytes, _call, _refusal, _size
+
+_Result = TypeVar("_Result")
 
 _map_root = _call("map_root", ctypes.c_int32, ctypes.c_void_p, _bytes, _size)
 
@@ -113,23 +114,25 @@ class _Store:
             self.look()
         self.write_ahead()
         self.base.execute("PRAGMA synchronous = FULL")
-        with self.change():
-            if self.is_new():
-                self.base.execute("PRAGMA application_id = %d" % _APPLICATION)
-                self.base.execute("PRAGMA user_version = %d" % _TABLES)
-                # a node by its digest, and from which version on it is no longer in the map
-                self.base.execute("CREATE TABLE node (digest BLOB PRIMARY KEY, bytes BLOB NOT NULL, gone INTEGER) WITHOUT ROWID")
-                self.base.execute("CREATE INDEX node_gone ON node (gone) WHERE gone IS NOT NULL")
-                self.base.execute("CREATE TABLE version (number INTEGER PRIMARY KEY, root BLOB NOT NULL, entries INTEGER NOT NULL)")
-                self.base.execute("INSERT INTO version VALUES (0, ?, 0)", (_NOTHING,))
-                # how many versions are kept, NULL for all
-                self.base.execute("CREATE TABLE kept (versions INTEGER)")
-                self.base.execute("INSERT INTO kept VALUES (1)")
-            self.look()
-            if isinstance(self.versions, AsKept):
-                self.versions = self.base.execute("SELECT versions FROM kept").fetchone()[0]
-            else:
-                self.base.execute("UPDATE kept SET versions = ?", (self.versions,))
+        self.change(self.make_tables)
+
+    def make_tables(self) -> None:
+        if self.is_new():
+            self.base.execute("PRAGMA application_id = %d" % _APPLICATION)
+            self.base.execute("PRAGMA user_version = %d" % _TABLES)
+            # a node by its digest, and from which version on it is no longer in the map
+            self.base.execute("CREATE TABLE node (digest BLOB PRIMARY KEY, bytes BLOB NOT NULL, gone INTEGER) WITHOUT ROWID")
+            self.base.execute("CREATE INDEX node_gone ON node (gone) WHERE gone IS NOT NULL")
+            self.base.execute("CREATE TABLE version (number INTEGER PRIMARY KEY, root BLOB NOT NULL, entries INTEGER NOT NULL)")
+            self.base.execute("INSERT INTO version VALUES (0, ?, 0)", (_NOTHING,))
+            # how many versions are kept, NULL for all
+            self.base.execute("CREATE TABLE kept (versions INTEGER)")
+            self.base.execute("INSERT INTO kept VALUES (1)")
+        self.look()
+        if isinstance(self.versions, AsKept):
+            self.versions = self.base.execute("SELECT versions FROM kept").fetchone()[0]
+        else:
+            self.base.execute("UPDATE kept SET versions = ?", (self.versions,))
 
     def write_ahead(self) -> None:
         """Readers go on while a change is written, and a change that was cut off leaves nothing. SQLite itself waits for no other process
@@ -151,49 +154,33 @@ class _Store:
             raise DamagedMap("the file is of another version of this module")
 
     def settle(self) -> None:
-        """Ends a transaction that an interrupted call left."""
+        """Ends a transaction that is left of a call that was cut off."""
         if self.base.in_transaction:
             self.base.execute("ROLLBACK")
 
-    @contextlib.contextmanager
-    def change(self) -> Iterator[None]:
-        """What is done within is done whole or not at all."""
+    def change(self, call: Callable[..., _Result], *given: Any) -> _Result:
+        """Calls, and returns what that returns: what is written within is written whole or not at all."""
         if self.read_only:
             raise io.UnsupportedOperation("the map is open for reading only")
-        try:
-            self.settle()
-            self.base.execute("BEGIN IMMEDIATE")
-            yield
-            self.base.execute("COMMIT")
-        except BaseException:
-            # what failed is told, and not that it could not be taken back
-            with contextlib.suppress(sqlite3.Error):
-                self.settle()
-            raise
+        return self.within("BEGIN IMMEDIATE", call, given)
 
-    @contextlib.contextmanager
-    def look_up(self) -> Iterator[None]:
-        """What is read within is of one moment."""
-        try:
-            self.settle()
-            self.base.execute("BEGIN")
-            yield
-        finally:
-            self.settle()
+    def look_up(self, call: Callable[..., _Result], *given: Any) -> _Result:
+        """Calls, and returns what that returns: what is read within is of one moment."""
+        return self.within("BEGIN", call, given)
 
-    @contextlib.contextmanager
-    def still(self) -> "Iterator[_Store]":
-        """A store that stays as it is now, whoever changes the map meanwhile. In memory it is this one."""
-        if self.path is None:
-            yield self
-            return
-        store = _Store(self.path, True, self.wait, None)
-        try:
-            store.base.execute("BEGIN")
-            store.head(None)
-            yield store
-        finally:
-            store.close()
+    def within(self, begin: str, call: Callable[..., _Result], given: Tuple[Any, ...]) -> _Result:
+        self.settle()
+        # The `with` of a connection ends its transaction in C, before an exception that came within has left this call. On one line, so
+        # that no trace function, which may raise too, is called between the call and the end of the transaction.
+        with self.base: return self.begun(begin, call, given)  # fmt: skip
+
+    def begun(self, begin: str, call: Callable[..., _Result], given: Tuple[Any, ...]) -> _Result:
+        self.base.execute(begin)
+        return call(*given)
+
+    def beside(self) -> "_Store":
+        """A second store of the same file, for one that reads for long. Of a map in memory it is this one."""
+        return self if self.path is None else _Store(self.path, True, self.wait, None)
 
     def head(self, number: Optional[int]) -> Tuple[int, bytes, int]:
         """The number, the root and the count of entries of a version, the newest where none is given."""
