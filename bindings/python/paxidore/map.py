@@ -4,12 +4,14 @@ import heapq
 import os
 import sqlite3
 import threading
-from typing import Any, ContextManager, Dict, Iterable, Iterator, Mapping, MutableMapping, Optional, Sequence, Tuple
+from typing import Any, Callable, ContextManager, Dict, Iterable, Iterator, Mapping, MutableMapping, Optional, Sequence, Tuple, TypeVar
 
 from ._batch import Batch, Changed, Entered
 from ._library import DIGEST_BYTES, _bytes, _call, _digest, _int, _refusal, _size, _sizes
-from ._nodes import _ENTRY, _FORK, _HIDDEN, _NOTHING, AsKept, DamagedMap, Versions, _root_of, _Store
+from ._nodes import _ENTRY, _FORK, _HIDDEN, _MOST, _NOTHING, AsKept, DamagedMap, Versions, _root_of, _Store
 from ._turn import Turn
+
+_Result = TypeVar("_Result")
 
 _map_verify = _call("map_verify", ctypes.c_int32, _bytes, _bytes, _bytes, _bytes, _size)
 _map_verify_absent = _call("map_verify_absent", ctypes.c_int32, _bytes, _bytes, _bytes, _size)
@@ -67,7 +69,17 @@ class MapVersion(Mapping[bytes, bytes]):
 
     def _head(self) -> Tuple[int, bytes, int]:
         """The number, the root and the count of entries."""
-        return self._turn.run(self._stated)
+        return self._asked(self._stated)
+
+    def _asked(self, call: Callable[..., _Result], *given: Any) -> _Result:
+        """Calls within a turn. SQLite's word for a file that it cannot read is this module's."""
+        try:
+            return self._turn.run(call, *given)
+        except sqlite3.DatabaseError as error:
+            # its classes below are of what is locked, full or used in another way
+            if type(error) is not sqlite3.DatabaseError:
+                raise
+            raise DamagedMap("the file is damaged (%s)" % error) from None
 
     def _stated(self) -> Tuple[int, bytes, int]:
         store = self._open()
@@ -76,7 +88,7 @@ class MapVersion(Mapping[bytes, bytes]):
 
     def _look_up(self, keys: Sequence[bytes], removed: "frozenset[bytes]") -> "Tuple[bytes, bytes, Dict[bytes, bytes]]":
         """The root, the bytes of the tree that shows what is at keys, and its nodes."""
-        return self._turn.run(self._looked_up, keys, removed)
+        return self._asked(self._looked_up, keys, removed)
 
     def _looked_up(self, keys: Sequence[bytes], removed: "frozenset[bytes]") -> "Tuple[bytes, bytes, Dict[bytes, bytes]]":
         store = self._open()
@@ -146,7 +158,7 @@ class MapVersion(Mapping[bytes, bytes]):
             digest, level = parts.pop()
             if digest == _NOTHING:
                 continue
-            node = self._turn.run(self._node, store, digest, root)
+            node = self._asked(self._node, store, digest, root)
             part = _ENTRY + node[1:] if node[0] == 0 else _FORK + _HIDDEN + node[1:33] + _HIDDEN + node[33:]
             if _root_of(part) != digest or level > 256:
                 raise DamagedMap("a node of the map is not the one that was stored")
@@ -228,7 +240,7 @@ class Map(MapVersion, MutableMapping[bytes, bytes]):
     @classmethod
     def open(
         cls,
-        path: "os.PathLike[str] | str",
+        path: "os.PathLike[str] | os.PathLike[bytes] | str | bytes",
         *,
         read_only: bool = False,
         wait: float = 5,
@@ -242,11 +254,19 @@ class Map(MapVersion, MutableMapping[bytes, bytes]):
         what its keeper changes; it has to be there. A change waits for at most so many seconds while another process makes one. Where a
         root is given, it is to be the map's.
 
-        Raises ``DamagedMap``, which is ``ValueError``, where the file is no map's, the node of its root is damaged, or it has another
-        root; ``sqlite3.Error``.
+        A file has a map's tables and nothing else, or it is refused here, and nothing is written to it. One that lies on media where
+        nothing can be written is read where it was closed.
+
+        Raises ``DamagedMap``, which is ``ValueError``, where the file is no map's, what it states cannot be, the node of its root is
+        damaged, or it has another root; ``OSError`` where it is not there or cannot be written; ``sqlite3.Error`` where another process
+        has it for too long.
         """
-        if versions is not None and not isinstance(versions, AsKept) and _int("versions", versions) < 1:
-            raise ValueError("versions is 1 or more")
+        if versions is not None and not isinstance(versions, AsKept):
+            versions = _int("versions", versions)
+            if versions < 1:
+                raise ValueError("versions is 1 or more")
+            if versions >= _MOST:
+                raise OverflowError("versions is below 2^62")
         self = cls.__new__(cls)
         try:
             MapVersion.__init__(self, _Store(path, read_only, wait, versions), Turn(), None)
@@ -302,7 +322,7 @@ class Map(MapVersion, MutableMapping[bytes, bytes]):
     def at(self, version: int) -> MapVersion:
         """A version that is kept. Raises ``KeyError`` where it is not."""
         number = _int("version", version)
-        return MapVersion(self._turn.run(self._kept, number), self._turn, number)
+        return MapVersion(self._asked(self._kept, number), self._turn, number)
 
     def _kept(self, number: int) -> _Store:
         store = self._open()
@@ -312,17 +332,17 @@ class Map(MapVersion, MutableMapping[bytes, bytes]):
 
     def forget(self, version: int) -> None:
         """Removes the versions before this one, but not the newest."""
-        self._turn.run(self._forget, _int("version", version))
+        self._asked(self._forget, _int("version", version))
 
     def _forget(self, number: int) -> None:
         store = self._open()
-        store.change(lambda: store.forget(min(number, store.head(None)[0])))
+        store.change(lambda: store.forget(max(0, min(number, store.head(None)[0]))))
 
     def _change(self, changes: Mapping[bytes, Optional[bytes]]) -> None:
         """Makes changes in one step: a key gets its value, or is removed where that is None."""
         asked = _Changes(changes)
         if asked.keys:
-            self._turn.run(self._make, asked)
+            self._asked(self._make, asked)
 
     def _make(self, asked: _Changes) -> None:
         store = self._open()
@@ -405,7 +425,7 @@ class Map(MapVersion, MutableMapping[bytes, bytes]):
         if entered is None:
             return super().__len__()
         changes = dict(entered.changes)
-        count, had = self._turn.run(self._counted, entered, changes)
+        count, had = self._asked(self._counted, entered, changes)
         return count + sum((value is not None) - had[key] for key, value in changes.items())
 
     def _counted(self, entered: Entered, keys: Iterable[bytes]) -> Tuple[int, Dict[bytes, bool]]:

@@ -68,8 +68,9 @@ class Files(unittest.TestCase):
             Map.open(self.path, root=root)
         with self.assertRaises(ValueError):
             own[near(8)]
-        with self.assertRaises(sqlite3.OperationalError):
+        with self.assertRaises(FileNotFoundError):
             Map.open(self.path + ".none", read_only=True)
+        self.assertFalse(os.path.exists(self.path + ".none"))
 
     def test_versions(self):
         states = []
