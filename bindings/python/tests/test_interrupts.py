@@ -226,18 +226,24 @@ class ByTimers(unittest.TestCase):
                     made.close()
                 made = subject.make()
                 for _ in range(20):
-                    error = None
+                    error, is_over = None, False
+                    # an interrupt that comes where Python ends an object is none of the call's
+                    last = time.monotonic() + 0.05
                     try:
-                        signal.setitimer(signal.ITIMER_REAL, draws.uniform(0.0001, 0.0011))
-                        while True:
-                            subject.call(made)
-                            calls += 1
+                        try:
+                            signal.setitimer(signal.ITIMER_REAL, draws.uniform(0.0001, 0.0011))
+                            while time.monotonic() < last:
+                                subject.call(made)
+                                calls += 1
+                        except (KeyError, ValueError):
+                            # there is nothing more to be removed; or the log is to be opened again
+                            is_over = True
+                        signal.setitimer(signal.ITIMER_REAL, 0)
                     except Interrupt as caught:
                         error = caught
-                    except (KeyError, ValueError):
-                        # there is nothing more to be removed; or the log is to be opened again
-                        signal.setitimer(signal.ITIMER_REAL, 0)
+                    if is_over:
                         made, _ = of(subject, made)
+                    if error is None:
                         continue
                     interrupts += 1
                     error.self = error
