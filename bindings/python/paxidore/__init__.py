@@ -20,8 +20,13 @@ shown later. ``ed25519`` signs and verifies. ``poseidon`` has circomlib's hash.
 
 The library is found by the variable ``PAXIDORE_LIBRARY`` (a path), else beside this file, where a wheel has it, else as the
 system finds ``libpaxidore.so.1``. Where it is not there, or is older than this module, ``import paxidore`` raises
-``ImportError``.
+``ImportError``; so it does where Python runs without its global lock, under which the module was not tested.
 """
+import sys
+
+if not getattr(sys, "_is_gil_enabled", lambda: True)():
+    raise ImportError("paxidore was not tested without Python's global lock: set PYTHON_GIL=1")
+
 from . import ed25519, poseidon
 from ._library import (
     CountError,

@@ -1,15 +1,18 @@
 """The nodes of a map in a database of SQLite, and the bytes of the trees that the library takes."""
-import contextlib
 import ctypes
+import errno
 import io
 import os
 import pathlib
 import sqlite3
+import stat
 import time
 import weakref
-from typing import Dict, Iterator, List, Optional, Sequence, Tuple, Union
+from typing import Any, Callable, Dict, List, Optional, Sequence, Tuple, TypeVar, Union
 
 from ._library import DIGEST_BYTES, _bytes, _call, _refusal, _size
+
+_Result = TypeVar("_Result")
 
 _map_root = _call("map_root", ctypes.c_int32, ctypes.c_void_p, _bytes, _size)
 
@@ -20,7 +23,16 @@ _EMPTY, _ENTRY, _FORK, _HIDDEN = b"\0", b"\1", b"\2", b"\3"
 _APPLICATION = 0x50784D70
 _TABLES = 1
 
-# no version and no count of entries is as large
+# A node by its digest, and from which version on it is no longer in the map; the roots of versions; how many versions are kept, NULL for
+# all. A file has these and nothing else: a trigger could change what was not asked for.
+_OBJECTS = {
+    "node": "CREATE TABLE node (digest BLOB PRIMARY KEY, bytes BLOB NOT NULL, gone INTEGER) WITHOUT ROWID",
+    "node_gone": "CREATE INDEX node_gone ON node (gone) WHERE gone IS NOT NULL",
+    "version": "CREATE TABLE version (number INTEGER PRIMARY KEY, root BLOB NOT NULL, entries INTEGER NOT NULL)",
+    "kept": "CREATE TABLE kept (versions INTEGER)",
+}
+
+# no version, no count of versions and no count of entries is as large
 _MOST = 2**62
 
 
@@ -51,6 +63,39 @@ def _has_bit(key: bytes, level: int) -> bool:
     return bool(key[level >> 3] >> (7 - (level & 7)) & 1)
 
 
+def _is_count(number: object, least: int) -> bool:
+    return type(number) is int and least <= number < _MOST
+
+
+def _file_of(path: "os.PathLike[str] | os.PathLike[bytes] | str | bytes", is_there: bool) -> str:
+    """The whole name of a map's file. It is a regular one, or there is none yet: to open a pipe would wait for another process."""
+    name = os.path.abspath(os.fsdecode(path))
+    if "\0" in name:
+        # SQLite would end the name there
+        raise ValueError("embedded null byte")
+    try:
+        kind = os.stat(name).st_mode
+    except FileNotFoundError:
+        if is_there:
+            raise
+        os.stat(os.path.dirname(name))
+        return name
+    if not stat.S_ISREG(kind):
+        raise DamagedMap("the file is no map's: it is no regular file")
+    if not is_there and not os.access(name, os.W_OK):
+        raise _denied(name, "the file cannot be written: open it with read_only=True")
+    return name
+
+
+def _is_fixed(path: str) -> bool:
+    """Whether the file is on media on which nothing can be written."""
+    return bool(os.statvfs(path).f_flag & os.ST_RDONLY)
+
+
+def _denied(path: str, why: str) -> OSError:
+    return OSError(errno.EROFS if _is_fixed(path) else errno.EACCES, why, path)
+
+
 # The stores that are open, and the connections that a forked process has of its parent.
 _stores: "weakref.WeakSet[_Store]" = weakref.WeakSet()
 _left_open: List[sqlite3.Connection] = []
@@ -73,27 +118,49 @@ if hasattr(os, "register_at_fork"):
 class _Store:
     """The nodes of a map and the roots of its versions, in a database of SQLite."""
 
-    def __init__(self, path: "Optional[os.PathLike[str] | str]", read_only: bool, wait: float, versions: Versions) -> None:
+    def __init__(self, path: "Optional[os.PathLike[str] | os.PathLike[bytes] | str | bytes]", read_only: bool, wait: float, versions: Versions) -> None:
         self.process = os.getpid()
         self.is_closed = False
-        self.path = None if path is None else os.path.abspath(path)
+        self.path = None if path is None else _file_of(path, read_only)
         self.read_only = read_only
         self.wait = wait
         self.versions = versions
-        if self.path is None:
-            name, is_name = ":memory:", False
-        else:
-            name, is_name = pathlib.Path(self.path).as_uri() + ("?mode=ro" if read_only else "?mode=rwc"), True
-        self.base = sqlite3.connect(name, timeout=wait, isolation_level=None, check_same_thread=False, uri=is_name)
-        _stores.add(self)
+        self.connect("?mode=ro" if read_only else "?mode=rwc")
         try:
             if read_only:
-                self.look()
+                self.look_only()
             else:
                 self.make()
         except BaseException:
             self.close()
             raise
+
+    def connect(self, mode: str) -> None:
+        name = ":memory:" if self.path is None else pathlib.Path(self.path).as_uri() + mode
+        is_name = self.path is not None
+        self.base = sqlite3.connect(name, timeout=self.wait, isolation_level=None, check_same_thread=False, uri=is_name)
+        _stores.add(self)
+        # no function of this process is called by what a file has
+        self.base.execute("PRAGMA trusted_schema = OFF")
+
+    def look_only(self) -> None:
+        assert self.path is not None
+        try:
+            self.look_up(self.look)
+        except sqlite3.OperationalError as error:
+            # SQLite keeps its log and what readers share beside the file
+            if os.access(os.path.dirname(self.path), os.W_OK) and not _is_fixed(self.path):
+                raise
+            if not _is_fixed(self.path):
+                raise _denied(self.path, "the folder of the file cannot be written, which SQLite needs (%s)" % error) from None
+            if os.path.exists(self.path + "-wal") and os.path.getsize(self.path + "-wal"):
+                raise _denied(
+                    self.path, "the newest changes are in the log beside the file, which is read where it can be written: copy both"
+                ) from None
+            # it changes no more
+            self.base.close()
+            self.connect("?mode=ro&immutable=1")
+            self.look_up(self.look)
 
     def close(self) -> None:
         self.is_closed = True
@@ -110,26 +177,24 @@ class _Store:
     def make(self) -> None:
         # nothing is written to a file that is another's
         if not self.is_new():
-            self.look()
+            self.look_up(self.look)
         self.write_ahead()
         self.base.execute("PRAGMA synchronous = FULL")
-        with self.change():
-            if self.is_new():
-                self.base.execute("PRAGMA application_id = %d" % _APPLICATION)
-                self.base.execute("PRAGMA user_version = %d" % _TABLES)
-                # a node by its digest, and from which version on it is no longer in the map
-                self.base.execute("CREATE TABLE node (digest BLOB PRIMARY KEY, bytes BLOB NOT NULL, gone INTEGER) WITHOUT ROWID")
-                self.base.execute("CREATE INDEX node_gone ON node (gone) WHERE gone IS NOT NULL")
-                self.base.execute("CREATE TABLE version (number INTEGER PRIMARY KEY, root BLOB NOT NULL, entries INTEGER NOT NULL)")
-                self.base.execute("INSERT INTO version VALUES (0, ?, 0)", (_NOTHING,))
-                # how many versions are kept, NULL for all
-                self.base.execute("CREATE TABLE kept (versions INTEGER)")
-                self.base.execute("INSERT INTO kept VALUES (1)")
-            self.look()
-            if isinstance(self.versions, AsKept):
-                self.versions = self.base.execute("SELECT versions FROM kept").fetchone()[0]
-            else:
-                self.base.execute("UPDATE kept SET versions = ?", (self.versions,))
+        self.change(self.make_tables)
+
+    def make_tables(self) -> None:
+        if self.is_new():
+            self.base.execute("PRAGMA application_id = %d" % _APPLICATION)
+            self.base.execute("PRAGMA user_version = %d" % _TABLES)
+            for made in _OBJECTS.values():
+                self.base.execute(made)
+            self.base.execute("INSERT INTO version VALUES (0, ?, 0)", (_NOTHING,))
+            self.base.execute("INSERT INTO kept VALUES (1)")
+        self.look()
+        if isinstance(self.versions, AsKept):
+            self.versions = self.stated_versions()
+        else:
+            self.base.execute("UPDATE kept SET versions = ?", (self.versions,))
 
     def write_ahead(self) -> None:
         """Readers go on while a change is written, and a change that was cut off leaves nothing. SQLite itself waits for no other process
@@ -149,51 +214,50 @@ class _Store:
             raise DamagedMap("the file is no map's")
         if self.number("PRAGMA user_version") != _TABLES:
             raise DamagedMap("the file is of another version of this module")
+        if dict(self.base.execute("SELECT name, sql FROM sqlite_master")) != _OBJECTS:
+            raise DamagedMap("the file has other tables than a map's")
+        self.stated_versions()
+        newest, oldest = self.head(None)[0], self.number("SELECT min(number) FROM version")
+        first, last = self.base.execute("SELECT min(gone), max(gone) FROM node WHERE gone IS NOT NULL").fetchone()
+        # a node that is gone was in the oldest version, or came later
+        if oldest < 0 or not (first is None or (_is_count(first, oldest + 1) and _is_count(last, first) and last <= newest)):
+            raise DamagedMap("the map states versions that it does not have")
+
+    def stated_versions(self) -> Optional[int]:
+        rows = self.base.execute("SELECT versions FROM kept LIMIT 2").fetchall()
+        if len(rows) != 1 or not (rows[0][0] is None or _is_count(rows[0][0], 1)):
+            raise DamagedMap("the map does not state how many versions it keeps")
+        versions: Optional[int] = rows[0][0]
+        return versions
 
     def settle(self) -> None:
-        """Ends a transaction that an interrupted call left."""
+        """Ends a transaction that is left of a call that was cut off."""
         if self.base.in_transaction:
             self.base.execute("ROLLBACK")
 
-    @contextlib.contextmanager
-    def change(self) -> Iterator[None]:
-        """What is done within is done whole or not at all."""
+    def change(self, call: Callable[..., _Result], *given: Any) -> _Result:
+        """Calls, and returns what that returns: what is written within is written whole or not at all."""
         if self.read_only:
             raise io.UnsupportedOperation("the map is open for reading only")
-        try:
-            self.settle()
-            self.base.execute("BEGIN IMMEDIATE")
-            yield
-            self.base.execute("COMMIT")
-        except BaseException:
-            # what failed is told, and not that it could not be taken back
-            with contextlib.suppress(sqlite3.Error):
-                self.settle()
-            raise
+        return self.within("BEGIN IMMEDIATE", call, given)
 
-    @contextlib.contextmanager
-    def look_up(self) -> Iterator[None]:
-        """What is read within is of one moment."""
-        try:
-            self.settle()
-            self.base.execute("BEGIN")
-            yield
-        finally:
-            self.settle()
+    def look_up(self, call: Callable[..., _Result], *given: Any) -> _Result:
+        """Calls, and returns what that returns: what is read within is of one moment."""
+        return self.within("BEGIN", call, given)
 
-    @contextlib.contextmanager
-    def still(self) -> "Iterator[_Store]":
-        """A store that stays as it is now, whoever changes the map meanwhile. In memory it is this one."""
-        if self.path is None:
-            yield self
-            return
-        store = _Store(self.path, True, self.wait, None)
-        try:
-            store.base.execute("BEGIN")
-            store.head(None)
-            yield store
-        finally:
-            store.close()
+    def within(self, begin: str, call: Callable[..., _Result], given: Tuple[Any, ...]) -> _Result:
+        self.settle()
+        # The `with` of a connection ends its transaction in C, before an exception that came within has left this call. On one line, so
+        # that no trace function, which may raise too, is called between the call and the end of the transaction.
+        with self.base: return self.begun(begin, call, given)  # fmt: skip
+
+    def begun(self, begin: str, call: Callable[..., _Result], given: Tuple[Any, ...]) -> _Result:
+        self.base.execute(begin)
+        return call(*given)
+
+    def beside(self) -> "_Store":
+        """A second store of the same file, for one that reads for long. Of a map in memory it is this one."""
+        return self if self.path is None else _Store(self.path, True, self.wait, None)
 
     def head(self, number: Optional[int]) -> Tuple[int, bytes, int]:
         """The number, the root and the count of entries of a version, the newest where none is given."""
@@ -204,11 +268,12 @@ class _Store:
             if 0 <= number < _MOST:
                 row = self.base.execute("SELECT number, root, entries FROM version WHERE number = ?", (number,)).fetchone()
             if row is None:
-                raise KeyError("version %d is not kept" % number)
+                # a number may be too long to be printed
+                raise KeyError("version %s is not kept" % (number if abs(number) < 1 << 64 else "of that number"))
         if row is None or type(row[1]) is not bytes or len(row[1]) != DIGEST_BYTES:
             raise DamagedMap("the map states no root")
-        # the next version has a number too
-        if not all(type(each) is int and 0 <= each < _MOST for each in (row[0], row[2])):
+        # so that the next version has a number too
+        if not (_is_count(row[0], 0) and _is_count(row[2], 0) and row[0] < _MOST - 1) or (row[1] == _NOTHING) != (row[2] == 0):
             raise DamagedMap("the map states no version, or no count of entries")
         return row
 
@@ -248,12 +313,17 @@ class _Store:
         return bytes(tree), met
 
     def put(self, number: int, root: bytes, entries: int, new: Dict[bytes, bytes], old: Dict[bytes, bytes]) -> None:
-        """Writes a version: its nodes that it has in the place of old ones."""
+        """Writes a version: its nodes that it has in the place of old ones. Nothing is written that would be refused when it is read."""
+        if number >= _MOST - 1 or not _is_count(entries, 0) or (root == _NOTHING) != (entries == 0):
+            raise DamagedMap("the map states another count of entries, or its version is the last one")
+        for digest in old:
+            if self.base.execute("SELECT gone FROM node WHERE digest = ?", (digest,)).fetchone()[0] is not None:
+                raise DamagedMap("a node of the map is stated to be gone")
         added = ((digest, node) for digest, node in new.items() if digest not in old)
         gone = [digest for digest in old if digest not in new]
         # a node of a version before may come back
         self.base.executemany(
-            "INSERT INTO node (digest, bytes) VALUES (?, ?) ON CONFLICT (digest) DO UPDATE SET gone = NULL", added
+            "INSERT INTO node (digest, bytes) VALUES (?, ?) ON CONFLICT (digest) DO UPDATE SET bytes = excluded.bytes, gone = NULL", added
         )
         if self.versions == 1:
             self.base.executemany("DELETE FROM node WHERE digest = ?", ((digest,) for digest in gone))

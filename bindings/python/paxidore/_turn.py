@@ -1,40 +1,51 @@
-"""One call after another, over what several threads, a signal handler or a forked process may share."""
+"""One call after another, over what several threads, a signal's handler or a forked process may share."""
 import os
+import sys
 import threading
-from types import TracebackType
-from typing import Optional, Type
+from types import FrameType
+from typing import Any, Callable, Optional, TypeVar
+
+_Result = TypeVar("_Result")
 
 
 class Turn:
-    """A turn in what is shared: ``with`` takes it and gives it back.
+    """A turn in what is shared: ``run`` makes a call while no other call of ``run`` is under way.
 
-    A second thread waits. ``RuntimeError`` where this thread has the turn already, as in a signal handler that runs within a call, and
-    in a forked process where another thread of its parent had it: there, waiting would never end.
+    A second thread waits. ``RuntimeError`` where this thread is in a call already, as in a signal's handler that runs within one, and in a
+    forked process where another thread of its parent was in one: there, waiting would never end.
+
+    A signal's handler may raise between any two instructions of Python. So nothing of Python's own stands between the lock and its
+    taker: a ``with`` of an ``RLock`` takes it and gives it back in C.
     """
 
-    __slots__ = ("_lock", "_is_taken", "_process")
+    __slots__ = ("_lock", "_process")
 
     def __init__(self) -> None:
-        self._lock = threading.RLock()
-        self._is_taken = False
+        self._lock: Any = threading.RLock()
         self._process = os.getpid()
 
-    def __enter__(self) -> None:
+    def run(self, call: Callable[..., _Result], *given: Any) -> _Result:
+        """Returns what the call returns."""
         if self._process != os.getpid():
-            # the one thread of a forked process waits for no other
-            if not self._lock.acquire(blocking=False):
-                raise RuntimeError("the process was forked while another thread was in a call")
-            self._process = os.getpid()
-        else:
-            self._lock.acquire()
-        # a signal's handler may take a turn between these lines, and then gives it back before the next one
-        if self._is_taken:
-            self._lock.release()
-            raise RuntimeError("this thread is in a call already")
-        self._is_taken = True
+            self._begin_again()
+        if self._lock._is_owned():
+            self._look_for_another()
+        # on one line, so that no trace function, which may raise too, is called between the call and the end of the turn
+        with self._lock: return call(*given)  # fmt: skip
 
-    def __exit__(
-        self, kind: Optional[Type[BaseException]], error: Optional[BaseException], trace: Optional[TracebackType]
-    ) -> None:
-        self._is_taken = False
+    def _begin_again(self) -> None:
+        # the one thread of a forked process waits for no other
+        if not self._lock.acquire(blocking=False):
+            raise RuntimeError("the process was forked while another thread was in a call")
+        self._process = os.getpid()
         self._lock.release()
+
+    def _look_for_another(self) -> None:
+        """Raises where a call of this thread is under way: then its ``run`` is on the stack. Else what was left of the turn is given back."""
+        frame: Optional[FrameType] = sys._getframe(2)
+        while frame is not None:
+            if frame.f_code is Turn.run.__code__ and frame.f_locals["self"] is self:
+                raise RuntimeError("this thread is in a call already")
+            frame = frame.f_back
+        while self._lock._is_owned():
+            self._lock.release()

@@ -41,14 +41,12 @@ class Blake2s:
 
     def update(self, data: bytes) -> None:
         """Takes the next bytes of the text."""
-        with self._turn:
-            _blake2s_update(self._state, _exact("data", data), len(data))
+        self._turn.run(_blake2s_update, self._state, _exact("data", data), len(data))
 
     def copy(self) -> "Blake2s":
         """A second text that begins as this one."""
         other = Blake2s()
-        with self._turn:
-            ctypes.memmove(other._state, self._state, ctypes.sizeof(self._state))
+        self._turn.run(ctypes.memmove, other._state, self._state, ctypes.sizeof(self._state))
         return other
 
     def digest(self) -> bytes:

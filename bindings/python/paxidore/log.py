@@ -1,16 +1,11 @@
 """Logs of any size, for whoever keeps one and for clients. ``paxidore.Log`` is the class of this module."""
 import ctypes
-import fcntl
-import io
 import itertools
 import os
-import time
-import weakref
-from typing import Any, Callable, Iterable, List, Optional, Sequence, Tuple
+from typing import Callable, Iterable, Optional, Sequence
 
 from ._library import (
     DIGEST_BYTES,
-    MORE,
     _bytes,
     _call,
     _digest,
@@ -22,6 +17,7 @@ from ._library import (
     _sizes,
     _word,
 )
+from ._log_file import _File, _Flat
 from ._turn import Turn
 
 _log_kept = _call("log_kept", _size, _size)
@@ -31,24 +27,6 @@ _log_path = (ctypes.c_void_p, _size, _sizes, ctypes.c_void_p, _size, _size, _siz
 _log_inclusion = _call("log_inclusion", ctypes.c_int32, *_log_path)
 _log_consistency = _call("log_consistency", ctypes.c_int32, *_log_path)
 _log_check = _call("log_check", ctypes.c_int32, ctypes.c_void_p, _size, _size)
-
-_Flat = Tuple[bytes, int, "ctypes.Array[ctypes.c_size_t]", int]
-
-# how many pieces and steps are enough, as the header has them
-_PIECES = 384
-_STEPS = 8
-
-_file_room = _call("log_file_room", _size, _size)
-_pieces = (_sizes, _size, _sizes, _size, _bytes, _size)
-_steps = (ctypes.c_void_p, _size, _sizes, _sizes, _size, _sizes)
-_file_make = _call("log_file_make", ctypes.c_int32, *_steps, *_pieces)
-_file_size = _call("log_file_size", ctypes.c_int32, _sizes, *_pieces)
-_file_append = _call("log_file_append", ctypes.c_int32, *_steps, _sizes, *_pieces, *_leaves)
-_file_root = _call("log_file_root", ctypes.c_int32, ctypes.c_void_p, *_pieces, _size)
-_file_path = (ctypes.c_void_p, _size, _sizes, *_pieces, _size, _size)
-_file_inclusion = _call("log_file_inclusion", ctypes.c_int32, *_file_path)
-_file_consistency = _call("log_file_consistency", ctypes.c_int32, *_file_path)
-_file_check = _call("log_file_check", ctypes.c_int32, _bytes, _size)
 
 
 class _Memory:
@@ -61,6 +39,9 @@ class _Memory:
     # What is lent is an argument of the call alone: no frame keeps it, so that an exception which is kept holds nothing.
     def lent(self) -> "ctypes.Array[ctypes.c_char]":
         return (ctypes.c_char * len(self.digests)).from_buffer(self.digests)
+
+    def opened(self) -> "_Memory":
+        return self
 
     def count(self) -> int:
         return len(self.digests) // DIGEST_BYTES
@@ -106,199 +87,6 @@ class _Memory:
         self.digests = bytearray()
 
 
-class _File:
-    """A log in a file. The library says what is to be read of it and what is to be written, and this class does that."""
-
-    file = -1
-
-    def __init__(self, path: "os.PathLike[str] | str", read_only: bool, wait: float) -> None:
-        self.read_only = read_only
-        self.is_unknown = False
-        self.places = (_size * (2 * _PIECES))()
-        self.file = os.open(path, os.O_RDONLY | os.O_CLOEXEC) if read_only else _locked(path, wait)
-        try:
-            if not read_only:
-                self.make(path)
-            self.own = self.asked_size()
-        except BaseException:
-            self.close()
-            raise
-        if not read_only:
-            _files.add(self)
-
-    def opened(self) -> int:
-        if self.file < 0:
-            raise ValueError("the log was opened before the process was forked: open it again")
-        if self.is_unknown:
-            raise ValueError("an append to the file of this log failed: open it again")
-        return self.file
-
-    def asking(self, call: Callable[..., Any]) -> int:
-        # the answer of a call, for which the pieces of the file are read that it asks for
-        file, places, count = self.opened(), self.places, _size()
-        length, pieces, read = os.fstat(file).st_size, b"", 0
-        while True:
-            answer: int = call(places, _PIECES, ctypes.byref(count), length, pieces, len(pieces))
-            if answer != MORE:
-                return answer
-            asked = iter(places[2 * read : 2 * count.value])
-            pieces += b"".join([_read(file, wanted, place) for place, wanted in zip(asked, asked)])
-            read = count.value
-
-    def steps_of(self, call: Callable[..., Any], room: int) -> "List[Tuple[int, memoryview]]":
-        # the places and the bytes that a call hands over to be written
-        data, data_len, steps, steps_len = ctypes.create_string_buffer(room), _size(), (_size * (2 * _STEPS))(), _size()
-        answer = self.asking(
-            lambda *pieces: call(data, room, ctypes.byref(data_len), steps, _STEPS, ctypes.byref(steps_len), *pieces)
-        )
-        if answer != 0:
-            raise _refusal(answer)
-        begin, whole, found = 0, memoryview(data), []
-        for place, count in zip(*[iter(steps[: 2 * steps_len.value])] * 2):
-            found.append((place, whole[begin : begin + count]))
-            begin += count
-        return found
-
-    def carry_out(self, steps: "List[Tuple[int, memoryview]]") -> None:
-        for place, part in steps:
-            _write(self.file, part, place)
-            os.fsync(self.file)
-
-    def make(self, path: "os.PathLike[str] | str") -> None:
-        steps = self.steps_of(_file_make, _file_room(0))
-        self.carry_out(steps)
-        if any(part for _, part in steps):
-            folder = os.open(os.path.dirname(os.path.abspath(path)), os.O_RDONLY | os.O_CLOEXEC)
-            try:
-                os.fsync(folder)
-            finally:
-                os.close(folder)
-
-    def asked_size(self) -> int:
-        size = _size()
-        answer = self.asking(lambda *pieces: _file_size(ctypes.byref(size), *pieces))
-        if answer != 0:
-            raise _refusal(answer)
-        return size.value
-
-    def size(self) -> int:
-        # a keeper may have appended to what is open for reading
-        return self.asked_size() if self.read_only else self.own
-
-    def append(self, flat: "_Flat") -> int:
-        if self.read_only:
-            raise io.UnsupportedOperation("the log is open for reading only")
-        size = _size()
-        steps = self.steps_of(
-            lambda *of: _file_append(*of[:6], ctypes.byref(size), *of[6:], *flat), _file_room(flat[3])
-        )
-        try:
-            self.carry_out(steps)
-            self.own = size.value
-        except BaseException as error:
-            # what was written is no part of the log, where the file has the size that it had
-            self.is_unknown = not isinstance(error, OSError) or self.is_other()
-            raise
-        return size.value
-
-    def is_other(self) -> bool:
-        try:
-            return self.asked_size() != self.own
-        except Exception:
-            return True
-
-    def root(self, root: "ctypes.Array[ctypes.c_char]", size: int) -> int:
-        return self.asking(lambda *pieces: _file_root(root, *pieces, size))
-
-    def inclusion(self, path: "ctypes.Array[ctypes.c_char]", count: _size, size: int, index: int) -> int:
-        return self.asking(lambda *pieces: _file_inclusion(path, len(path), ctypes.byref(count), *pieces, size, index))
-
-    def consistency(self, proof: "ctypes.Array[ctypes.c_char]", count: _size, old_size: int, size: int) -> int:
-        return self.asking(
-            lambda *pieces: _file_consistency(proof, len(proof), ctypes.byref(count), *pieces, old_size, size)
-        )
-
-    def check(self) -> int:
-        file = self.opened()
-        whole = _read(file, os.fstat(file).st_size, 0)
-        answer: int = _file_check(whole, len(whole))
-        return answer
-
-    def close(self) -> None:
-        file = self.file
-        if file >= 0 and not self.read_only:
-            # the lock would last while a process that was forked meanwhile has the file too
-            fcntl.flock(file, fcntl.LOCK_UN)
-        self.leave()
-
-    def __del__(self) -> None:
-        # at the end of the interpreter its modules may be gone, and the system closes what is open
-        if self.file >= 0 and os is not None and fcntl is not None:
-            self.close()
-
-    def leave(self) -> None:
-        file, self.file = self.file, -1
-        if file >= 0:
-            os.close(file)
-
-
-_files: "weakref.WeakSet[_File]" = weakref.WeakSet()
-
-
-def _leave_files() -> None:
-    # a forked process has its parent's locks as well: it lets go of them, so that they are the parent's alone
-    for file in list(_files):
-        file.leave()
-
-
-os.register_at_fork(after_in_child=_leave_files)
-
-
-def _locked(path: "os.PathLike[str] | str", wait: float) -> int:
-    # the file at a path, made where there is none, and locked
-    until = time.monotonic() + wait
-    while True:
-        file = os.open(path, os.O_RDWR | os.O_CREAT | os.O_CLOEXEC, 0o666)
-        try:
-            _lock(file, until)
-            if os.path.samestat(os.fstat(file), os.stat(path)):
-                return file
-        except FileNotFoundError:
-            pass
-        except BaseException:
-            os.close(file)
-            raise
-        # another file took its place before it was locked
-        os.close(file)
-
-
-def _lock(file: int, until: float) -> None:
-    while True:
-        try:
-            return fcntl.flock(file, fcntl.LOCK_EX | fcntl.LOCK_NB)
-        except BlockingIOError:
-            left = until - time.monotonic()
-            if left <= 0:
-                raise
-            time.sleep(min(left, 0.005))
-
-
-def _read(file: int, count: int, at: int) -> bytes:
-    part = os.pread(file, count, at)
-    while len(part) < count:
-        more = os.pread(file, count - len(part), at + len(part))
-        if not more:
-            raise ValueError("the file of the log ends early: it was made shorter")
-        part += more
-    return part
-
-
-def _write(file: int, view: "memoryview", at: int) -> None:
-    while view:
-        count = os.pwrite(file, view, at)
-        view, at = view[count:], at + count
-
-
 # how many entries `Log.extend` appends at once
 _BATCH = 1024
 
@@ -338,16 +126,22 @@ class Log:
         or it ends early; ``BlockingIOError`` where it is still open, ``OSError``.
         """
         log = cls.__new__(cls)
-        log._kept = _File(path, read_only, wait)
-        log._turn = Turn()
-        return log
+        log._kept, log._turn = None, Turn()
+        try:
+            log._kept = _File(path, read_only, wait)
+            return log
+        except BaseException:
+            log.close()
+            raise
 
     def close(self) -> None:
         """Closes the file. The log cannot be used any more. A second call does nothing."""
-        with self._turn:
-            if self._kept is not None:
-                self._kept.close()
-            self._kept = None
+        self._turn.run(self._close)
+
+    def _close(self) -> None:
+        if self._kept is not None:
+            self._kept.close()
+        self._kept = None
 
     def __enter__(self) -> "Log":
         return self
@@ -358,11 +152,13 @@ class Log:
     def _open(self) -> "_Memory | _File":
         if self._kept is None:
             raise ValueError("the log is closed")
-        return self._kept
+        return self._kept.opened()
 
     def __len__(self) -> int:
-        with self._turn:
-            return self._open().size()
+        return self._turn.run(self._count)
+
+    def _count(self) -> int:
+        return self._open().size()
 
     def __repr__(self) -> str:
         if self._kept is None:
@@ -378,9 +174,10 @@ class Log:
         Raises ``SizeError`` for a size of 2^63 and above, ``OutOfMemory``; ``OSError``, after which a log in a file has the entries or
         has them not: where it has to be opened again, each call says so.
         """
-        flat = _flat(tuple(entries))
-        with self._turn:
-            return self._open().append(flat)
+        return self._turn.run(self._append, _flat(tuple(entries)))
+
+    def _append(self, flat: _Flat) -> int:
+        return self._open().append(flat)
 
     def extend(self, entries: Iterable[bytes], *, progress: Optional[Callable[[int], object]] = None) -> int:
         """Appends entries as they come, 1,024 at a time, and returns the new size. ``progress`` is called with the size after each append.
@@ -397,12 +194,14 @@ class Log:
     def root(self, size: "Optional[int]" = None) -> bytes:
         """The root of the first ``size`` entries, of all where none is given. Raises ``SizeError`` for more than there are."""
         root = ctypes.create_string_buffer(DIGEST_BYTES)
-        with self._turn:
-            kept = self._open()
-            answer = kept.root(root, self._of(kept, size))
+        answer = self._turn.run(self._root, root, size)
         if answer != 0:
             raise _refusal(answer)
         return root.raw
+
+    def _root(self, root: "ctypes.Array[ctypes.c_char]", size: "Optional[int]") -> int:
+        kept = self._open()
+        return kept.root(root, self._of(kept, size))
 
     @staticmethod
     def _of(kept: "_Memory | _File", size: "Optional[int]") -> int:
@@ -414,12 +213,14 @@ class Log:
         Raises ``SizeError`` for more than there are, ``IndexBeyondSize``, ``OutOfMemory``.
         """
         path, count = ctypes.create_string_buffer(_PROOF_BYTES), _size()
-        with self._turn:
-            kept = self._open()
-            answer = kept.inclusion(path, count, self._of(kept, size), _word("index", index))
+        answer = self._turn.run(self._path, path, count, _word("index", index), size)
         if answer != 0:
             raise _refusal(answer)
         return ctypes.string_at(path, count.value)
+
+    def _path(self, path: "ctypes.Array[ctypes.c_char]", count: _size, index: int, size: "Optional[int]") -> int:
+        kept = self._open()
+        return kept.inclusion(path, count, self._of(kept, size), index)
 
     def consistency(self, old_size: int, size: "Optional[int]" = None) -> bytes:
         """The bytes of the proof that the first ``size`` entries continue the first ``old_size`` ones.
@@ -427,20 +228,24 @@ class Log:
         Raises ``SizeError`` also for the old size 0 and for one above the size; ``OutOfMemory``.
         """
         proof, count = ctypes.create_string_buffer(_PROOF_BYTES), _size()
-        with self._turn:
-            kept = self._open()
-            answer = kept.consistency(proof, count, _word("old_size", old_size), self._of(kept, size))
+        answer = self._turn.run(self._continued, proof, count, _word("old_size", old_size), size)
         if answer != 0:
             raise _refusal(answer)
         return ctypes.string_at(proof, count.value)
 
+    def _continued(self, proof: "ctypes.Array[ctypes.c_char]", count: _size, old: int, size: "Optional[int]") -> int:
+        kept = self._open()
+        return kept.consistency(proof, count, old, self._of(kept, size))
+
     def check(self) -> bool:
         """Whether each stored digest of two others is their hash. All of them are read and hashed."""
-        with self._turn:
-            answer = self._open().check()
+        answer = self._turn.run(self._checked)
         if answer < 0:
             raise _refusal(answer)
         return answer == 0
+
+    def _checked(self) -> int:
+        return self._open().check()
 
     @staticmethod
     def verify_inclusion_digest(root: bytes, size: int, index: int, digest: bytes, path: bytes) -> bool:

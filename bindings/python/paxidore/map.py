@@ -1,15 +1,17 @@
 """Maps with one root, for whoever keeps one and for clients. ``paxidore.Map`` is the class of this module."""
-import contextlib
 import ctypes
 import heapq
 import os
 import sqlite3
 import threading
-from typing import Any, Dict, Iterable, Iterator, Mapping, MutableMapping, Optional, Tuple
+from typing import Any, Callable, ContextManager, Dict, Iterable, Iterator, Mapping, MutableMapping, Optional, Sequence, Tuple, TypeVar
 
+from ._batch import Batch, Changed, Entered
 from ._library import DIGEST_BYTES, _bytes, _call, _digest, _int, _refusal, _size, _sizes
-from ._nodes import _ENTRY, _FORK, _HIDDEN, _NOTHING, AsKept, DamagedMap, Versions, _root_of, _Store
+from ._nodes import _ENTRY, _FORK, _HIDDEN, _MOST, _NOTHING, AsKept, DamagedMap, Versions, _root_of, _Store
 from ._turn import Turn
+
+_Result = TypeVar("_Result")
 
 _map_verify = _call("map_verify", ctypes.c_int32, _bytes, _bytes, _bytes, _bytes, _size)
 _map_verify_absent = _call("map_verify_absent", ctypes.c_int32, _bytes, _bytes, _bytes, _size)
@@ -65,13 +67,39 @@ class MapVersion(Mapping[bytes, bytes]):
             raise ValueError("a forked process does not have the map of its parent")
         return self._store
 
-    def _stated(self, store: _Store) -> Tuple[int, bytes, int]:
-        """The number, the root and the count of entries that a store states."""
-        with self._turn:
-            return store.head(self._number)
-
     def _head(self) -> Tuple[int, bytes, int]:
-        return self._stated(self._open())
+        """The number, the root and the count of entries."""
+        return self._asked(self._stated)
+
+    def _asked(self, call: Callable[..., _Result], *given: Any) -> _Result:
+        """Calls within a turn. SQLite's word for a file that it cannot read is this module's."""
+        try:
+            return self._turn.run(call, *given)
+        except sqlite3.DatabaseError as error:
+            # its classes below are of what is locked, full or used in another way
+            if type(error) is not sqlite3.DatabaseError:
+                raise
+            raise DamagedMap("the file is damaged (%s)" % error) from None
+
+    def _stated(self) -> Tuple[int, bytes, int]:
+        store = self._open()
+        store.settle()
+        return store.head(self._number)
+
+    def _look_up(self, keys: Sequence[bytes], removed: "frozenset[bytes]") -> "Tuple[bytes, bytes, Dict[bytes, bytes]]":
+        """The root, the bytes of the tree that shows what is at keys, and its nodes."""
+        return self._asked(self._looked_up, keys, removed)
+
+    def _looked_up(self, keys: Sequence[bytes], removed: "frozenset[bytes]") -> "Tuple[bytes, bytes, Dict[bytes, bytes]]":
+        store = self._open()
+        return store.look_up(self._ways, store, keys, removed)
+
+    def _ways(
+        self, store: _Store, keys: Sequence[bytes], removed: "frozenset[bytes]"
+    ) -> "Tuple[bytes, bytes, Dict[bytes, bytes]]":
+        root = store.head(self._number)[1]
+        tree, met = store.tree(root, keys, removed)
+        return root, tree, met
 
     @property
     def root(self) -> bytes:
@@ -89,11 +117,7 @@ class MapVersion(Mapping[bytes, bytes]):
     def _shown(self, key: bytes) -> Tuple[Optional[bytes], bytes]:
         """What the map has at a key, and the bytes of the proof, which were checked."""
         _digest(key, "key")
-        with self._turn:
-            store = self._open()
-            with store.look_up():
-                root = store.head(self._number)[1]
-                tree, met = store.tree(root, (key,), frozenset())
+        root, tree, met = self._look_up((key,), frozenset())
         proof, count = ctypes.create_string_buffer(_PROOF_BYTES), _size()
         answer = _map_prove(proof, _PROOF_BYTES, ctypes.byref(count), tree, len(tree), key)
         if answer != 0:
@@ -119,14 +143,13 @@ class MapVersion(Mapping[bytes, bytes]):
 
     def _node(self, store: _Store, digest: bytes, root: bytes) -> bytes:
         """A node of a map with this root, as it is stored."""
-        with self._turn:
-            self._open()
-            try:
-                return store.node(digest)
-            except DamagedMap:
-                if store is self._store and store.head(self._number)[1] != root:
-                    raise RuntimeError("the map changed during iteration") from None
-                raise
+        self._open()
+        try:
+            return store.node(digest)
+        except DamagedMap:
+            if store is self._store and store.head(self._number)[1] != root:
+                raise RuntimeError("the map changed during iteration") from None
+            raise
 
     def _entries(self, store: _Store, root: bytes) -> Iterator[Tuple[bytes, bytes]]:
         """The entries of the map with a root by rising keys, each node checked."""
@@ -135,7 +158,7 @@ class MapVersion(Mapping[bytes, bytes]):
             digest, level = parts.pop()
             if digest == _NOTHING:
                 continue
-            node = self._node(store, digest, root)
+            node = self._asked(self._node, store, digest, root)
             part = _ENTRY + node[1:] if node[0] == 0 else _FORK + _HIDDEN + node[1:33] + _HIDDEN + node[33:]
             if _root_of(part) != digest or level > 256:
                 raise DamagedMap("a node of the map is not the one that was stored")
@@ -144,17 +167,41 @@ class MapVersion(Mapping[bytes, bytes]):
             else:
                 parts += [(node[33:], level + 1), (node[1:33], level + 1)]
 
+    def _still(self) -> Iterator[Tuple[Optional[bytes], int]]:
+        """The keys, rising, of the map as it is when the first one is asked for, and behind them None with the count that it states."""
+        own = self._open()
+        if own.path is None:
+            yield from self._keys(own, self._head())
+            return
+        store = own.beside()
+        try:
+            # on one line, as in _Store.within: nothing keeps what was deleted meanwhile once the iteration has ended
+            with store.base: yield from self._still_keys(store)  # fmt: skip
+        finally:
+            store.close()
+
+    def _still_keys(self, store: _Store) -> Iterator[Tuple[Optional[bytes], int]]:
+        store.base.execute("BEGIN")
+        yield from self._keys(store, store.head(self._number))
+
+    def _keys(self, store: _Store, head: Tuple[int, bytes, int]) -> Iterator[Tuple[Optional[bytes], int]]:
+        for key, _ in self._entries(store, head[1]):
+            yield key, 0
+        yield None, head[2]
+
     def __iter__(self) -> Iterator[bytes]:
         """The keys, rising, of the map as it is when the first one is asked for. A map in memory is not to change meanwhile."""
-        with self._open().still() as store:
-            for key, _ in self._entries(store, self._stated(store)[1]):
+        for key, _ in self._still():
+            if key is not None:
                 yield key
 
     def check(self) -> None:
         """Reads all nodes, and raises ``DamagedMap`` where one is not the one that was stored, or the count of entries is another."""
-        with self._open().still() as store:
-            _, root, entries = self._stated(store)
-            if sum(1 for _ in self._entries(store, root)) != entries:
+        found = 0
+        for key, stated in self._still():
+            if key is not None:
+                found += 1
+            elif found != stated:
                 raise DamagedMap("the map states another count of entries")
 
     def __repr__(self) -> str:
@@ -188,12 +235,12 @@ class Map(MapVersion, MutableMapping[bytes, bytes]):
 
     def __init__(self) -> None:
         super().__init__(_Store(None, False, 0, 1), Turn(), None)
-        self._batches: Dict[int, Dict[bytes, Optional[bytes]]] = {}
+        self._batches: Dict[int, Entered] = {}
 
     @classmethod
     def open(
         cls,
-        path: "os.PathLike[str] | str",
+        path: "os.PathLike[str] | os.PathLike[bytes] | str | bytes",
         *,
         read_only: bool = False,
         wait: float = 5,
@@ -207,11 +254,19 @@ class Map(MapVersion, MutableMapping[bytes, bytes]):
         what its keeper changes; it has to be there. A change waits for at most so many seconds while another process makes one. Where a
         root is given, it is to be the map's.
 
-        Raises ``DamagedMap``, which is ``ValueError``, where the file is no map's, the node of its root is damaged, or it has another
-        root; ``sqlite3.Error``.
+        A file has a map's tables and nothing else, or it is refused here, and nothing is written to it. One that lies on media where
+        nothing can be written is read where it was closed.
+
+        Raises ``DamagedMap``, which is ``ValueError``, where the file is no map's, what it states cannot be, the node of its root is
+        damaged, or it has another root; ``OSError`` where it is not there or cannot be written; ``sqlite3.Error`` where another process
+        has it for too long.
         """
-        if versions is not None and not isinstance(versions, AsKept) and _int("versions", versions) < 1:
-            raise ValueError("versions is 1 or more")
+        if versions is not None and not isinstance(versions, AsKept):
+            versions = _int("versions", versions)
+            if versions < 1:
+                raise ValueError("versions is 1 or more")
+            if versions >= _MOST:
+                raise OverflowError("versions is below 2^62")
         self = cls.__new__(cls)
         try:
             MapVersion.__init__(self, _Store(path, read_only, wait, versions), Turn(), None)
@@ -233,10 +288,12 @@ class Map(MapVersion, MutableMapping[bytes, bytes]):
 
     def close(self) -> None:
         """Closes the file. The map cannot be used any more. A second call does nothing."""
-        with self._turn:
-            if self._store is not None:
-                self._store.close()
-            self._store = None
+        self._turn.run(self._close)
+
+    def _close(self) -> None:
+        if self._store is not None:
+            self._store.close()
+        self._store = None
 
     def __enter__(self) -> "Map":
         return self
@@ -264,44 +321,49 @@ class Map(MapVersion, MutableMapping[bytes, bytes]):
 
     def at(self, version: int) -> MapVersion:
         """A version that is kept. Raises ``KeyError`` where it is not."""
-        with self._turn:
-            store = self._open()
-            store.head(_int("version", version))
-        return MapVersion(store, self._turn, version)
+        number = _int("version", version)
+        return MapVersion(self._asked(self._kept, number), self._turn, number)
+
+    def _kept(self, number: int) -> _Store:
+        store = self._open()
+        store.settle()
+        store.head(number)
+        return store
 
     def forget(self, version: int) -> None:
         """Removes the versions before this one, but not the newest."""
-        with self._turn:
-            store = self._open()
-            with store.change():
-                store.forget(min(_int("version", version), store.head(None)[0]))
+        self._asked(self._forget, _int("version", version))
+
+    def _forget(self, number: int) -> None:
+        store = self._open()
+        store.change(lambda: store.forget(max(0, min(number, store.head(None)[0]))))
 
     def _change(self, changes: Mapping[bytes, Optional[bytes]]) -> None:
         """Makes changes in one step: a key gets its value, or is removed where that is None."""
         asked = _Changes(changes)
-        if not asked.keys:
-            return
-        with self._turn:
-            store = self._open()
-            with store.change():
-                number, root, entries = store.head(None)
-                tree, old = store.tree(root, asked.keys, asked.removed)
-                answer, new_root, made = asked.make(root, tree)
-                if answer != 0:
-                    raise DamagedMap("a node of the map is not the one that was stored") if answer == 1 else _damage(answer)
-                new = {made[i : i + 32]: made[i + 32 : i + 97] for i in range(0, len(made), _ROW_BYTES)}
-                if new_root != root:
-                    entries += sum(node[0] == 0 for node in new.values()) - sum(node[0] == 0 for node in old.values())
-                    store.put(number + 1, new_root, entries, new, old)
+        if asked.keys:
+            self._asked(self._make, asked)
+
+    def _make(self, asked: _Changes) -> None:
+        store = self._open()
+        store.change(self._write, store, asked)
+
+    def _write(self, store: _Store, asked: _Changes) -> None:
+        number, root, entries = store.head(None)
+        tree, old = store.tree(root, asked.keys, asked.removed)
+        answer, new_root, made = asked.make(root, tree)
+        if answer != 0:
+            raise DamagedMap("a node of the map is not the one that was stored") if answer == 1 else _damage(answer)
+        new = {made[i : i + 32]: made[i + 32 : i + 97] for i in range(0, len(made), _ROW_BYTES)}
+        if new_root != root:
+            entries += sum(node[0] == 0 for node in new.values()) - sum(node[0] == 0 for node in old.values())
+            store.put(number + 1, new_root, entries, new, old)
 
     def witness(self, changes: Mapping[bytes, Optional[bytes]]) -> bytes:
         """The bytes of the tree that shows what changes need, from which ``Map.changed_root`` follows them without the map: a key gets
         its value, or is removed where that is None."""
         asked = _Changes(changes)
-        with self._turn:
-            store = self._open()
-            with store.look_up():
-                return store.tree(store.head(None)[1], asked.keys, asked.removed)[0]
+        return self._look_up(asked.keys, asked.removed)[1]
 
     @staticmethod
     def changed_root(root: bytes, changes: Mapping[bytes, Optional[bytes]], witness: bytes) -> Optional[bytes]:
@@ -318,9 +380,15 @@ class Map(MapVersion, MutableMapping[bytes, bytes]):
             raise _refusal(answer)
         return new_root if answer == 0 else None
 
-    def _batch(self) -> Optional[Dict[bytes, Optional[bytes]]]:
+    def _entered(self) -> Optional[Entered]:
+        """The batch that this thread is in."""
+        entered = self._batches.get(threading.get_ident())
+        return entered if entered is not None and entered.end() is not None else None
+
+    def _batch(self) -> Optional[Changed]:
         """The changes of the batch that this thread is in."""
-        return self._batches.get(threading.get_ident())
+        entered = self._entered()
+        return None if entered is None else entered.changes
 
     def _set(self, changes: Mapping[bytes, Optional[bytes]]) -> None:
         batch = self._batch()
@@ -330,21 +398,12 @@ class Map(MapVersion, MutableMapping[bytes, bytes]):
             _Changes(changes)
             batch.update(changes)
 
-    @contextlib.contextmanager
-    def batch(self) -> Iterator["Map"]:
+    def batch(self) -> "ContextManager[Map]":
         """Makes all changes of this thread within one: they are written together at its end, or not at all where it ends by an exception.
 
         ``map[key]``, ``key in map``, the length and iteration see them before; the root, proofs and other threads do not.
         """
-        own = threading.get_ident()
-        if own in self._batches:
-            raise RuntimeError("the map is in a batch already")
-        self._batches[own] = {}
-        try:
-            yield self
-            self._change(self._batches[own])
-        finally:
-            del self._batches[own]
+        return Batch(self)
 
     def __getitem__(self, key: bytes) -> bytes:
         batch = self._batch()
@@ -362,10 +421,33 @@ class Map(MapVersion, MutableMapping[bytes, bytes]):
         return super().__contains__(key)
 
     def __len__(self) -> int:
-        count = super().__len__()
-        for key, value in (self._batch() or {}).items():
-            count += (value is not None) - super().__contains__(key)
-        return count
+        entered = self._entered()
+        if entered is None:
+            return super().__len__()
+        changes = dict(entered.changes)
+        count, had = self._asked(self._counted, entered, changes)
+        return count + sum((value is not None) - had[key] for key, value in changes.items())
+
+    def _counted(self, entered: Entered, keys: Iterable[bytes]) -> Tuple[int, Dict[bytes, bool]]:
+        """The count of entries without a batch, and which of the batch's keys the map has."""
+        store = self._open()
+        return store.look_up(self._had, store, entered, keys)
+
+    def _had(self, store: _Store, entered: Entered, changed: Iterable[bytes]) -> Tuple[int, Dict[bytes, bool]]:
+        _, root, count = store.head(None)
+        # what was looked up for an earlier length is known, while the map has the root of then
+        known = entered.had if entered.root == root else {}
+        keys = [key for key in changed if key not in known]
+        tree, met = store.tree(root, keys, frozenset())
+        if _root_of(tree) != root:
+            raise DamagedMap("a node of the map is not the one that was stored")
+        found = {node[1:33] for node in met.values() if node[0] == 0}
+        had = {**known, **{key: key in found for key in keys}}
+        # not at once: between the two the answers would be taken for those of another root
+        entered.root = b""
+        entered.had = had
+        entered.root = root
+        return count, had
 
     def __iter__(self) -> Iterator[bytes]:
         """The keys, rising, of the map as it is when the first one is asked for. A map in memory is not to change meanwhile."""

@@ -18,7 +18,7 @@ The first hash of so many elements generates the constants for that count, which
 """
 import ctypes
 import itertools
-from typing import Dict, Iterable, Optional, Sequence, Tuple
+from typing import Any, Dict, Iterable, Optional, Sequence, Tuple
 
 from ._library import (
     DIGEST_BYTES,
@@ -178,8 +178,8 @@ class Log:
         self._turn = Turn()
 
     def __len__(self) -> int:
-        with self._turn:
-            return self._size
+        size: int = self._turn.run(getattr, self, "_size")
+        return size
 
     def __repr__(self) -> str:
         return "<paxidore.poseidon.Log of %d elements>" % self._size
@@ -194,25 +194,26 @@ class Log:
 
     def append(self, elements: Sequence[int]) -> int:
         """Appends numbers below ``MODULUS``, whole or not at all, and returns the new size. ``ElementError``, ``OutOfMemory``."""
-        given, written = b"".join(map(_element, elements)), _size()
-        count = len(given) // DIGEST_BYTES
-        with self._turn:
-            # no append writes more
-            room = 2 * count + 62
-            more = ctypes.create_string_buffer(DIGEST_BYTES * room)
-            answer = _log_append(more, room, ctypes.byref(written), *self._lent(self._size), given, count)
-            if answer != 0:
-                raise _refusal(answer)
-            added = ctypes.string_at(more, DIGEST_BYTES * written.value)
-            # behind the stored ones, where an interrupted append may have left some
-            at = DIGEST_BYTES * _log_kept(self._size)
-            try:
-                self._digests[at:] = added
-            except BufferError:
-                # an interrupted call still has what was lent to it
-                self._digests = self._digests[:at] + added
-            self._size += count
-            return self._size
+        return self._turn.run(self._append, b"".join(map(_element, elements)))
+
+    def _append(self, given: bytes) -> int:
+        count, written = len(given) // DIGEST_BYTES, _size()
+        # no append writes more
+        room = 2 * count + 62
+        more = ctypes.create_string_buffer(DIGEST_BYTES * room)
+        answer = _log_append(more, room, ctypes.byref(written), *self._lent(self._size), given, count)
+        if answer != 0:
+            raise _refusal(answer)
+        added = ctypes.string_at(more, DIGEST_BYTES * written.value)
+        # behind the stored ones, where an interrupted append may have left some
+        at = DIGEST_BYTES * _log_kept(self._size)
+        try:
+            self._digests[at:] = added
+        except BufferError:
+            # an interrupted call still has what was lent to it
+            self._digests = self._digests[:at] + added
+        self._size += count
+        return self._size
 
     def extend(self, elements: Iterable[int]) -> int:
         """Appends numbers as they come, 1,024 at a time, and returns the new size. An error leaves those of the appends before."""
@@ -224,8 +225,7 @@ class Log:
     def root(self, size: "Optional[int]" = None) -> int:
         """The root of the first ``size`` elements, of all where none is given. ``SizeError`` for more than there are, and for none."""
         written = ctypes.create_string_buffer(DIGEST_BYTES)
-        with self._turn:
-            answer = _log_root(written, *self._lent(self._size if size is None else _word("size", size)))
+        answer = self._turn.run(self._asked, _log_root, (written,), size)
         if answer != 0:
             raise _refusal(answer)
         return int.from_bytes(written.raw, "little")
@@ -235,9 +235,10 @@ class Log:
 
         ``SizeError`` for more than there are, ``IndexBeyondSize``, ``OutOfMemory``."""
         written, length, place = ctypes.create_string_buffer(_PATH_BYTES), _size(), _word("index", index)
-        with self._turn:
-            own = self._size if size is None else _word("size", size)
-            answer = _log_inclusion(written, _PATH_BYTES, ctypes.byref(length), *self._lent(own), place)
+        answer = self._turn.run(self._asked, _log_inclusion, (written, _PATH_BYTES, ctypes.byref(length)), size, place)
         if answer != 0:
             raise _refusal(answer)
         return ctypes.string_at(written, length.value)
+
+    def _asked(self, call: Any, before: Any, size: "Optional[int]", *behind: int) -> Any:
+        return call(*before, *self._lent(self._size if size is None else _word("size", size)), *behind)

@@ -154,13 +154,11 @@ class Transcript:
     def absorb(self, elements: Sequence[int]) -> None:
         """Absorbs elements of the field. An error leaves the transcript as before. ``TranscriptError``, ``OutOfMemory``."""
         given = _elements(self._field, tuple(elements))
-        with self._turn:
-            _done(_absorb(*self._of(), given, len(given)))
+        _done(self._turn.run(_absorb, *self._of(), given, len(given)))
 
     def absorb_bytes(self, data: bytes) -> None:
         """Absorbs bytes, behind their length. ``OutOfMemory``."""
-        with self._turn:
-            _done(_absorb_bytes(*self._of(), _exact("data", data), len(data)))
+        _done(self._turn.run(_absorb_bytes, *self._of(), _exact("data", data), len(data)))
 
     def squeeze(self, count: int) -> List[int]:
         """Returns the next elements. ``OutOfMemory``."""
@@ -174,8 +172,7 @@ class Transcript:
 
     def _given(self, call: Any, count: int) -> bytes:
         out = ctypes.create_string_buffer(count) if count else None
-        with self._turn:
-            _done(call(out, count, *self._of()))
+        _done(self._turn.run(call, out, count, *self._of()))
         return out.raw if out else b""
 
     def copy(self) -> "Transcript":
@@ -183,8 +180,8 @@ class Transcript:
         other = object.__new__(Transcript)
         other._field, other._name, other._prepared = self._field, self._name, self._prepared
         other._turn = Turn()
-        with self._turn:
-            other._state = ctypes.create_string_buffer(self._state.raw, len(self._state))
+        state = self._turn.run(bytes, self._state)
+        other._state = ctypes.create_string_buffer(state, len(state))
         return other
 
     __copy__ = copy

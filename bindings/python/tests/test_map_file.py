@@ -68,8 +68,9 @@ class Files(unittest.TestCase):
             Map.open(self.path, root=root)
         with self.assertRaises(ValueError):
             own[near(8)]
-        with self.assertRaises(sqlite3.OperationalError):
+        with self.assertRaises(FileNotFoundError):
             Map.open(self.path + ".none", read_only=True)
+        self.assertFalse(os.path.exists(self.path + ".none"))
 
     def test_versions(self):
         states = []
@@ -251,7 +252,8 @@ class Files(unittest.TestCase):
         draws = random.Random(11)
         with Map.open(self.path) as own:
             own.update({near(i): sha(b"first %d" % i) for i in range(64)})
-        number, changed = 0, 0
+        # on a slow machine a keeper is given more time
+        number, changed, pause = 0, 0, 1.0
         for _ in range(KILLS):
             read_end, write_end = os.pipe()
             child = os.fork()
@@ -272,7 +274,7 @@ class Files(unittest.TestCase):
                 finally:
                     os._exit(1)
             os.close(write_end)
-            time.sleep(0.02 + draws.random() * 0.03)
+            time.sleep(pause * (0.02 + draws.random() * 0.03))
             os.kill(child, signal.SIGKILL)
             os.waitpid(child, 0)
             returned = 0
@@ -288,6 +290,8 @@ class Files(unittest.TestCase):
                 last = int.from_bytes(own[near(0)], "big") if own.version > 1 else -1
                 done = last - number + 1 if own.version > 1 else 0
                 self.assertIn(done, (returned, returned + 1))
+                if done == 0:
+                    pause = min(2 * pause, 100)
                 if done > 0:
                     changed += done
                     number = last + 1

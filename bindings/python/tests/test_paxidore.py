@@ -359,6 +359,48 @@ class Calls(unittest.TestCase):
             last = ran.stderr.decode().splitlines()[-1]
             self.assertRegex(last, "^ImportError: .*%s.*: build .* with tools/build-library, and set PAXIDORE_LIBRARY" % said)
 
+    def test_what_is_there(self):
+        """`python -m paxidore` says it."""
+        said = subprocess.run([sys.executable, "-m", "paxidore"], capture_output=True, text=True, check=True).stdout
+        self.assertIn(paxidore.version(), said)
+        self.assertIn(paxidore.cpu(), said)
+        self.assertIn("Map, MapVersion", said)
+
+    def test_no_global_lock(self):
+        """Where Python runs without its global lock the import is refused by a sentence."""
+        script = "import sys; sys._is_gil_enabled = lambda: False; import paxidore"
+        ran = subprocess.run([sys.executable, "-c", script], capture_output=True, text=True)
+        self.assertIn("ImportError: paxidore was not tested without Python's global lock", ran.stderr)
+
+    def test_a_subinterpreter(self):
+        """A second interpreter of the process has a module of its own."""
+        try:
+            import _xxsubinterpreters as interpreters
+        except ImportError:
+            self.skipTest("no subinterpreters under that name")
+        script = (
+            "from paxidore import Log, Map\n"
+            "log, own = Log(), Map()\n"
+            "log.append([b'one'])\n"
+            "own[bytes(32)] = bytes(32)\n"
+            "assert len(log) == len(own) == 1 and log.check() and own.check() is None\n"
+        )
+        other = interpreters.create(isolated=False)
+        try:
+            interpreters.run_string(other, script)
+        finally:
+            interpreters.destroy(other)
+
+    def test_names_of_arguments(self):
+        """Where the order is another one than the library's for C, arguments are named."""
+        log = paxidore.Log()
+        log.append([b"one", b"two", b"three"])
+        self.assertEqual(log.inclusion(size=2, index=1), log.inclusion(1, 2))
+        self.assertEqual(log.consistency(size=3, old_size=2), log.consistency(2, 3))
+        own = paxidore.poseidon.Log()
+        own.append([1, 2, 3])
+        self.assertEqual(own.inclusion(size=2, index=1), own.inclusion(1, 2))
+
     def test_digests(self):
         for length in list(range(260)) + [1 << 16]:
             data = DRAWS.randbytes(length)
