@@ -1,4 +1,4 @@
-use Rattle.std.proofs.Common.{◌≡◌, ◌+◌, ◌*◌, ◌%◌, ◌∙◌, sym, ap, ℕ, arith}
+use Rattle.std.proofs.Common.{◌+◌, ◌%◌, ◌∙◌, sym, ap, ℕ, arith}
 use Rattle.std.proofs.Math.Nat.{mod-eq_of_lt, mod-mod, add-mod-mod}
 use Rattle.ark_groups.proofs.Products.{product_more}
 use Rattle.examples.proofs.bounds.number.NumberField.sum_of_products.Goals as goal
