@@ -1,2 +1,4 @@
 pub mod Change
+pub mod Numbers
+pub mod Shifts
 pub mod Transcript

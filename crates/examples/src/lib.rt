@@ -1,6 +1,7 @@
 //! Examples of library use: each a few proved functions to copy.
 #![tactic(auto)]
 
+pub mod bounds;
 pub mod directory;
 pub mod growing_log;
 pub mod log;
