@@ -12,7 +12,7 @@ from unittest import mock
 
 from paxidore import Log, Map, _batch, _nodes, _turn, hashes
 from interrupted_calls import KEYS, of_hashes, of_logs, of_maps, of_poseidon, of_transcripts, of_trees, sha
-from interrupts import Interrupt, faults, in_thread, interrupted, of, states_of, traced
+from interrupts import Interrupt, faults, in_thread, interrupted, of, traced
 
 # for how many seconds timers interrupt each class; where it is named, each place is taken each time that a call comes to it
 SECONDS = float(os.environ.get("PAXIDORE_INTERRUPTS", "2"))
@@ -208,7 +208,7 @@ class Kept(unittest.TestCase):
 
 @unittest.skipUnless(hasattr(signal, "setitimer"), "no timers")
 class ByTimers(unittest.TestCase):
-    """Signals at times that are drawn, while another thread calls too. Exceptions are kept in cycles, which the collector frees."""
+    """Signals at times that are drawn. Behind them another thread is served too. Exceptions are kept in cycles, which the collector frees."""
 
     def by_timers(self, subjects):
         draws, interrupts, calls = random.Random(7), 0, 0
@@ -219,8 +219,7 @@ class ByTimers(unittest.TestCase):
         before = signal.signal(signal.SIGALRM, handle)
         self.addCleanup(signal.signal, signal.SIGALRM, before)
         for subject in subjects:
-            states = states_of(subject)
-            end, kept, made, others = time.monotonic() + SECONDS / len(subjects), [], None, []
+            end, kept, made = time.monotonic() + SECONDS / len(subjects), [], None
             while made is None or time.monotonic() < end:
                 if made is not None and hasattr(made, "close"):
                     made.close()
