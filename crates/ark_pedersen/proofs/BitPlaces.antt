@@ -26,7 +26,8 @@ module _ {G : Type 0} (g : Group G) where
 
     -- the element at a set bit is added
     pub one_added : (sum new x whole : G) (i : ℕ) → i < length xs → i < length bits → get_or xs i x ≡ x
-        → get_or bits i false ≡ true → new ≡ g.plus sum x → g.plus sum (rest i) ≡ whole → g.plus new (rest (i + 1)) ≡ whole
+        → get_or bits i false ≡ true → new ≡ g.plus sum x → g.plus sum (rest i) ≡ whole
+        → g.plus new (rest (i + 1)) ≡ whole
     one_added sum new x whole i l h is on is_new e =
         let next : i + 1 ≡ suc i = omega arith in
         let behind = rest (suc i) in

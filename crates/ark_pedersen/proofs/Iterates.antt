@@ -11,7 +11,8 @@ module _ {A : Type 0} (next : A → A) where
   length-iterates (suc count) x = ap suc (length-iterates count (next x))
 
   -- one value more was put
-  pub one_put : (front new : List A) (x after : A) (count i : ℕ) (whole : List A) → i + 1 ≤ count → new ≡ front ++ x ∷ []
+  pub one_put : (front new : List A) (x after : A) (count i : ℕ) (whole : List A) → i + 1 ≤ count
+      → new ≡ front ++ x ∷ []
       → after ≡ next x → front ++ iterates next (count - i) x ≡ whole
       → new ++ iterates next (count - (i + 1)) after ≡ whole
   unfolding iterates

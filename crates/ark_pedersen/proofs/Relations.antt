@@ -200,7 +200,8 @@ module _ (r size : ℕ) (pos : 0 < r) (fits : 2 ^ size ≤ r) where
       (none 0 0 (omega arith)) in
       same_parts size count a b long within
       (λ same. number_of_bits-same (take size a) (take size b) same here)
-      (λ same short. same_bits count (drop size a) (drop size b) same short (λ k d l. none (suc k) d (omega (arith, l))))
+      (λ same short. same_bits count (drop size a) (drop size b) same short
+      (λ k d l. none (suc k) d (omega (arith, l))))
 
 -- ---- bytes
 

@@ -29,7 +29,8 @@ group_hash find label text = first_found find label text 0 256
 -- why a label has no elements: memory was refused, or the text of a place has none
 abbrev pub IsLabelFault : {G : Type 0} → (List ℕ → Option G) → List ℕ → ℕ → Error → Type 0
 IsLabelFault find label count error = (error ≡ OutOfMemory)
-    ⊎ ((error ≡ GenericError DrawsExhausted) × ((i : ℕ) × (i < count) × (group_hash find label (bytes_of_number 4 i) ≡ None)))
+    ⊎ ((error ≡ GenericError DrawsExhausted) ×
+    ((i : ℕ) × (i < count) × (group_hash find label (bytes_of_number 4 i) ≡ None)))
 
 -- the elements of a label: of each place its hash, with the place's 4 bytes as the text
 abbrev pub AreOfLabel : {G : Type 0} → (List ℕ → Option G) → List ℕ → ℕ → List G → Type 0

@@ -87,7 +87,8 @@ is_chosen i index mask bits full = step (eqb i index) refl
         clash : ◌≡◌ {A = ℕ} 0 18446744073709551615 → ⊥
         clash e = omega (arith, e)
 
-pub found_next : {M : Type 0} {g : Ghosts M} (table : List (Extended M g)) (i index mask : ℕ) (e found next : Extended M g)
+pub found_next : {M : Type 0} {g : Ghosts M} (table : List (Extended M g)) (i index mask : ℕ)
+    (e found next : Extended M g)
     → mask ≡ mask_for (eqb i index)
     → (mask ≡ ones → (s : Coordinates) → Stands (get_or table i e) s → Stands next s)
     → (mask ≡ 0 → (s : Coordinates) → Stands found s → Stands next s)

@@ -14,13 +14,14 @@ use Rattle.signed_notes.specs.Opening.{IsOpened, Policy}
 abbrev pub digest_line : Digest → List ℕ
 digest_line digest = encode_of standard digest ++ (10 ∷ [])
 
--- A receipt: a title, the index in decimal, a line for each digest of the path, an empty line, and the checkpoint's note.
+-- A receipt: a title, the index in decimal, a line for each digest of the path, an empty line, and the checkpoint's
+-- note.
 abbrev pub receipt_of : ℕ → List Digest → List ℕ → List ℕ
 receipt_of index path note =
     codes "c2sp.org/tlog-proof@v1\nindex " ++ (decimal index ++ (10 ∷ (flat_map digest_line path ++ (10 ∷ note))))
 
--- The bytes are a receipt of an entry: it has a checkpoint of this size and root, which is signed as a policy asks, and a path that
--- is accepted for the entry at its index.
+-- The bytes are a receipt of an entry: it has a checkpoint of this size and root, which is signed as a policy asks,
+-- and a path that is accepted for the entry at its index.
 pub record IsReceiptOf (policy : Policy) (origin bytes entry : List ℕ) (size : ℕ) (root : Digest) : Type 0 where
   pub index : ℕ
   pub path : List Digest
@@ -32,7 +33,8 @@ pub record IsReceiptOf (policy : Policy) (origin bytes entry : List ℕ) (size :
   pub root_is : stated.root ≡ root
   pub accepted : inclusion_verdict node_of root size index (entry_hash entry) path ≡ Ok true
 
--- The bytes are a receipt whose checkpoint is signed as a policy asks, and whose path does not lead from the entry to its root.
+-- The bytes are a receipt whose checkpoint is signed as a policy asks, and whose path does not lead from the entry to
+-- its root.
 pub record LeadsElsewhere (policy : Policy) (origin bytes entry : List ℕ) : Type 0 where
   pub index : ℕ
   pub path : List Digest

@@ -14,8 +14,8 @@ use Rattle.signed_notes.specs.Verifying.{sign_checkpoint}
 abbrev pub plain : List ℕ → ℕ → Digest → CheckpointParts
 plain origin size root = record { origin = origin; size = size; root = root; extensions = [] }
 
--- A note is the checkpoint of the log of a file, signed by a key: of the size that the head says, and of the root that it
--- states, which is that of the log's leaves.
+-- A note is the checkpoint of the log of a file, signed by a key: of the size that the head says, and of the root that
+-- it states, which is that of the log's leaves.
 pub record IsCheckpointOf (file origin : List ℕ) (key : KeyParts) (note : List ℕ) : Type 0 where
   pub size : ℕ
   pub root : Digest

@@ -12,7 +12,8 @@ use Rattle.log_store.specs.declared.stop.Stop.TheVariants.{Fault, Disk}
 
 -- a fault of the file before the sizes are compared
 pub refused-first : (A B : Type 0) {R : Type 0} (file : List ℕ) (named : Option ℕ) (stop : Stop R)
-    → IsRefusedFor {A = A} file (log_size file) (Err stop) → IsRefusedFor {A = B} file (of_first file named Ok) (Err stop)
+    → IsRefusedFor {A = A} file (log_size file) (Err stop) → IsRefusedFor {A = B} file (of_first file named Ok)
+    (Err stop)
 refused-first A B file named (Fault fault) (inl memory) = inl memory
 refused-first A B file named (Fault fault) (inr (inl is)) = inr (inl (rw (is) refl))
 refused-first A B file named (Fault fault) (inr (inr damaged)) = inr (inr damaged)

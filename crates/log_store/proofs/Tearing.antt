@@ -158,7 +158,8 @@ module _ {leaves more : List Digest} {file bytes : List ℕ} {second : Bool} (gr
       (cut-holds leaves old_root file (bytes ++ rest) grow.log.head.long grow.log.holds)
 
   -- a crash while the digests and a slot's end are written
-  pub crash-behind : (n : ℕ) (left : List ℕ) → TornTwice (file_end (length leaves)) n (next_slot second + 20) 12 file left
+  pub crash-behind : (n : ℕ) (left : List ℕ) → TornTwice (file_end (length leaves)) n (next_slot second + 20) 12 file
+      left
       → IsBeforeOrAfter leaves more left
   crash-behind n left (mid, first, then) =
       let behind = drop (file_end size) mid in
@@ -206,7 +207,8 @@ module _ {leaves more : List Digest} {file bytes : List ℕ} {second : Bool} (gr
     end-part = take 20 (drop free digests-written) ++ statement new root
 
     end-count : length (take 20 (drop free digests-written)) ≡ 20
-    end-count = length-take-le 20 (drop free digests-written) (omega (arith, inside-in, length-drop free digests-written))
+    end-count = length-take-le 20 (drop free digests-written)
+      (omega (arith, inside-in, length-drop free digests-written))
 
     end-long : length end-part ≡ 32
     end-long = omega (
@@ -257,7 +259,8 @@ module _ {leaves more : List Digest} {file bytes : List ℕ} {second : Bool} (gr
 
     slot-holds : Holds (leaves ++ more) root slot-written
     slot-holds = subst (Holds (leaves ++ more) root) (sym slot-is)
-        (holds-slot (leaves ++ more) root end-written (slot new root) second end-uses.long (length-slot new root) end-more)
+        (holds-slot (leaves ++ more) root end-written (slot new root) second end-uses.long (length-slot new root)
+        end-more)
 
     both-holds : Holds (leaves ++ more) root both-written
     both-holds = holds-slot (leaves ++ more) root slot-written (slot new root) (not second) slot-uses.long
@@ -307,7 +310,8 @@ module _ {leaves more : List Digest} {file bytes : List ℕ} {second : Bool} (gr
                 let fits = fits-stated part new root begins (drop_at front (statement new root) 20 count) in
                 inr (inl (log-holds (leaves ++ more) root (written end-written free part) next (not second)
                 (subst (λ k. HasHead (written end-written free part) k next) e head)
-                (uses-turned end-written part size new old_root root second end-uses (front-long front count) small fits)
+                (uses-turned end-written part size new old_root root second end-uses (front-long front count) small
+                fits)
                 (holds-slot (leaves ++ more) root end-written part second end-uses.long (front-long front count)
                 end-more)))
           ]
@@ -319,7 +323,8 @@ module _ {leaves more : List Digest} {file bytes : List ℕ} {second : Bool} (gr
     crash-both left torn =
         let piece = torn-piece (next_slot (not second)) 32 slot-written left
         (omega (arith, slot-inside (not second), slot-uses.long)) torn in
-        subst (IsBeforeOrAfter leaves more) (sym piece.2) (elim (slot-torn (leaves ++ more) root slot-written piece.0 (not
+        subst (IsBeforeOrAfter leaves more) (sym piece.2)
+          (elim (slot-torn (leaves ++ more) root slot-written piece.0 (not
         second)
         slot-uses piece.1 slot-holds) [
           | inl same ↦ inr (inl same)

@@ -54,7 +54,8 @@ module _ (leaves : List Digest) (old_size size : ℕ) (path : List Digest) (old 
         let long : length (take size leaves) ≡ size = length-take-le size leaves le in
         let none : [] ≡ path = done_injective {E = Error} [] path
         (ap all_of (sym (path-whole node_of (sha256 []) (take size leaves) old_size (omega (arith, e, long)))) ∙ is) in
-        let tops : old ≡ root = roots-same old root (ap (λ n. merkle_tree_hash node_of (sha256 []) (take n leaves)) (sym e)
+        let tops : old ≡ root = roots-same old root (ap (λ n. merkle_tree_hash node_of (sha256 []) (take n leaves))
+          (sym e)
         ∙ old_is) new_is in
         rw (e, tops, ← none) (same-accepted size root (omega (arith, some, e)))
   ]

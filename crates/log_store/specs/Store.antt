@@ -4,8 +4,8 @@ use Rattle.ark_paths.specs.Pair.{Digest}
 use Rattle.paxlog_run.specs.Append.{HasBehind}
 use Rattle.paxlog_run.specs.LogFile.{file_head, next_slot, stored_in, written, IsLogFile}
 
--- A whole slot says a size that nobody wrote there, larger than the log's own: torn bytes have its check sum. That takes
--- a coincidence of 12 bytes of SHA-256.
+-- A whole slot says a size that nobody wrote there, larger than the log's own: torn bytes have its check sum. That
+-- takes a coincidence of 12 bytes of SHA-256.
 abbrev pub IsForged : ℕ → ℕ → List ℕ → Type 0
 IsForged size new file =
     (other : ℕ) × (second : Bool) × (file_head file ≡ Some (other, second)) × (size < other) × (other ≢ new)

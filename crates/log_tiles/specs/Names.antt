@@ -7,7 +7,8 @@ use Rattle.log_tiles.specs.declared.tile.Tile.{Tile}
 abbrev pub three : ℕ → List ℕ
 three n = (48 + n / 100) ∷ ((48 + n / 10 % 10) ∷ ((48 + n % 10) ∷ []))
 
--- a group of three digits of an index, behind an x and before a slash: that of so many thousands, where the index has some
+-- a group of three digits of an index, behind an x and before a slash: that of so many thousands, where the index has
+-- some
 abbrev pub group : ℕ → ℕ → List ℕ
 group n unit = if nat_lt n unit then [] else (120 ∷ (three (n / unit % 1000) ++ (47 ∷ [])))
 

@@ -1,4 +1,5 @@
--- The tiles of a log, as C2SP's tlog-tiles has them: 256 digests of a level at a time, of every eighth level of the log's tree.
+-- The tiles of a log, as C2SP's tlog-tiles has them: 256 digests of a level at a time, of every eighth level of the
+-- log's tree.
 use Rattle.std.specs.Prelude.{◌≡◌, ℕ, ◌-◌, ◌*◌, ◌/◌, ◌^◌, ◌<◌, min, List, take, drop}
 use Rattle.ark_paths.specs.Pair.{Digest}
 use Rattle.merkle_log.specs.Kept.{front}

@@ -88,7 +88,8 @@ row_pairs-even hash (a ∷ b ∷ row) next digest is even =
 
 -- ---- rows with one more each
 
-pub pushed-in : (rows : ℕ → List Digest) (made : List Digest) (level : ℕ) → level < length made → pushed_row rows made level
+pub pushed-in : (rows : ℕ → List Digest) (made : List Digest) (level : ℕ) → level < length made
+    → pushed_row rows made level
     ≡ rows level ++ (get_or made level [] ∷ [])
 pushed-in rows made level under = rw (lt-ltb level (length made) under) refl
 

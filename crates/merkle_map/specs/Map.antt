@@ -62,9 +62,9 @@ digest_of h Nothing = Ok h.nothing
 digest_of h (Leaf entry) = h.leaf entry.key entry.value
 digest_of h (Pair left right) = h.pair left right
 
--- The node of the entries below a place: nothing, the only entry, or two digests. The first is that of the entries whose
--- next bit is 0, the second that of those whose next bit is 1. The place lies some levels below the root, and so many
--- bits are left: with none left, two entries have no node.
+-- The node of the entries below a place: nothing, the only entry, or two digests. The first is that of the entries
+-- whose next bit is 0, the second that of those whose next bit is 1. The place lies some levels below the root, and so
+-- many bits are left: with none left, two entries have no node.
 abbrev pub node_of : MapHashes → ℕ → ℕ → List Entry → Outcome Node
 node_of h bits level [] = Ok Nothing
 node_of h bits level (entry ∷ []) = Ok (Leaf entry)

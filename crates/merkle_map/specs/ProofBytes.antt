@@ -90,8 +90,8 @@ count_read bytes = if nat_lt (length bytes) 2 then Err truncated else
 abbrev pub front_read : ℕ → List ℕ → Outcome (List ℕ)
 front_read count bytes = if nat_lt (length bytes) count then Err truncated else Ok (take count bytes)
 
--- So many digests and the bytes behind them: where a bit of the mask is set, from this level on, the next 32 bytes, else
--- that of nothing.
+-- So many digests and the bytes behind them: where a bit of the mask is set, from this level on, the next 32 bytes,
+-- else that of nothing.
 abbrev pub given_read : Digest → ℕ → ℕ → List ℕ → List ℕ → Outcome (List Digest × List ℕ)
 given_read nothing zero level mask bytes = Ok ([], bytes)
 given_read nothing (suc count) level mask bytes = if bit_of level mask

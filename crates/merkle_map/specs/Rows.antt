@@ -13,8 +13,8 @@ row digest node = digest ++ node_bytes node
 abbrev pub row_behind : MapHashes → List ℕ → Node → Outcome (Digest × List ℕ)
 row_behind h rows node = digest_of h node >>= λ digest. Ok (digest, rows ++ row digest node)
 
--- The digest of a tree, or the lowest and then leftmost error; and a row for each entry and each fork that the tree does
--- not hide: the left side's, the right side's, the fork's.
+-- The digest of a tree, or the lowest and then leftmost error; and a row for each entry and each fork that the tree
+-- does not hide: the left side's, the right side's, the fork's.
 abbrev pub rows_of : MapHashes → Shape → Outcome (Digest × List ℕ)
 rows_of h Empty = Ok (h.nothing, [])
 rows_of h (One entry) = row_behind h [] (Leaf entry)

@@ -82,7 +82,8 @@ module _ {F V : Type 0} (p bits : ℕ) (view : F → V) (reads : List ℕ → Re
   -- what a call answers of elements, it answers of their numbers
   pub elements_answer : {A : Type 0} (count : ℕ) (bytes : List ℕ) (items : A → List F) (result : Outcome (A × ℕ))
       → AnswersBy (λ x. (map view (items x.0), drop x.1 bytes)) (reading_outcome (items_at reads count bytes)) result
-      → AnswersBy (λ x. (map value (items x.0), drop x.1 bytes)) (reading_outcome (items_at numbers_at count bytes)) result
+      → AnswersBy (λ x. (map value (items x.0), drop x.1 bytes)) (reading_outcome (items_at numbers_at count bytes))
+      result
   elements_answer count bytes items (Ok x) is = elements_read count bytes (drop x.1 bytes) (items x.0) is
   elements_answer count bytes items (Err error) (inl memory) = inl memory
   elements_answer count bytes items (Err error) (inr refused) = inr (elements_fault count bytes error refused)

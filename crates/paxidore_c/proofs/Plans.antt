@@ -109,7 +109,8 @@ module _ (n : ℕ) (xs : List Step) (step : Step) (file : List ℕ) (le : n ≤ 
   as_more : (t : ℕ) (left : List ℕ) → t ≤ n → left_from t more file left
       → IsStopped (drop t xs ++ step ∷ []) (carried (take t xs) file) left
   as_more t left before stopped = subst (λ f. IsStopped (drop t xs ++ step ∷ []) (carried f file) left)
-      (take-append-le t xs (step ∷ []) (omega (arith, before, le))) (subst (λ s. IsStopped s (carried (take t more) file)
+      (take-append-le t xs (step ∷ []) (omega (arith, before, le)))
+      (subst (λ s. IsStopped s (carried (take t more) file)
       left) (drop-append-le t xs (step ∷ []) (omega (arith, before, le))) stopped)
 
   from_more : (t : ℕ) (left : List ℕ) → t ≤ n → IsStopped (drop t xs ++ step ∷ []) (carried (take t xs) file) left

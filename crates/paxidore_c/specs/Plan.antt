@@ -19,7 +19,8 @@ abbrev pub carried : List Step → List ℕ → List ℕ
 carried [] file = file
 carried (step ∷ steps) file = carried steps (written file step.at step.bytes.items)
 
--- What may stand in the file where the caller stops, or a crash comes: some of the steps are done, and the next one in part.
+-- What may stand in the file where the caller stops, or a crash comes: some of the steps are done, and the next one in
+-- part.
 abbrev pub IsStopped : List Step → List ℕ → List ℕ → Type 0
 IsStopped [] file left = left ≡ file
 IsStopped (step ∷ steps) file left = Torn step.at (length step.bytes.items) file left

@@ -168,7 +168,8 @@ module _ (leaves : List Digest) (root : Digest) (file rest : List ℕ) (long : 9
   cut-holds = record {
     fits = has.fits;
     inside = omega (arith, length-cut);
-    keeps = subst (Keeps leaves) (sym (stored-kept (take (file_end (length leaves)) file ++ rest) cut-behind)) has.keeps;
+    keeps = subst (Keeps leaves) (sym (stored-kept (take (file_end (length leaves)) file ++ rest) cut-behind))
+      has.keeps;
     root_is = has.root_is;
   }
 

@@ -31,7 +31,8 @@ one_row p xs ys rows new row count x so_far put is inverses = record {
         get_or-append_right rows (row ∷ []) count i [] so_far.long (omega (arith, here))
         ∙ ap (λ (n : ℕ). get_or (row ∷ []) n []) {x = i - count} {y = 0} (omega (arith, here)) in
         subst (λ (t : List ℕ). AreInverses p (sums_with p (get_or xs i 0) ys) t) (sym at)
-        (subst (λ (n : ℕ). AreInverses p (sums_with p n ys) row) (sym (ap (λ (n : ℕ). get_or xs n 0) here ∙ is)) inverses)
+        (subst (λ (n : ℕ). AreInverses p (sums_with p n ys) row) (sym (ap (λ (n : ℕ). get_or xs n 0) here ∙ is))
+        inverses)
 
 pub all_rows : (p : ℕ) (xs ys : List ℕ) (rows : List (List ℕ)) (count : ℕ) → count ≡ length xs
     → AreRows p xs ys rows count → IsCauchy p xs ys rows

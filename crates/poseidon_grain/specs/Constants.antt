@@ -1,12 +1,13 @@
--- The constants and the matrix of Poseidon, of the bits of the Grain LFSR (the Poseidon paper, section 2.3 and appendix F).
+-- The constants and the matrix of Poseidon, of the bits of the Grain LFSR (the Poseidon paper, section 2.3 and
+-- appendix F).
 use Rattle.std.specs.Prelude.{◌≡◌, ℕ, ◌+◌, ◌*◌, ◌%◌, ◌==◌, ◌<◌, ◌&&◌, nat_lt, Bool, true, false, ◌||◌, ◌⊎◌, List, [], ◌∷◌, length, map, get_or}
 use Rattle.std.specs.List.{list_any}
 use Rattle.ark_sponge.specs.Permutation.{Parameters}
 use Rattle.ark_wide_fields.specs.Inverses.{AreInverses}
 use Rattle.poseidon_grain.specs.Grain.{seeded, below_drawn, remainder_drawn, list_drawn}
 
--- What the generator is asked for: the modulus, its count of digits, the width of a state, the counts of rounds, and how
--- many matrices are passed over.
+-- What the generator is asked for: the modulus, its count of digits, the width of a state, the counts of rounds, and
+-- how many matrices are passed over.
 pub record Asked : Type 0 where
   pub modulus : ℕ
   pub digits : ℕ
@@ -56,7 +57,8 @@ abbrev pub MeetsZero : ℕ → List ℕ → List ℕ → Type 0
 MeetsZero p xs ys =
     (i j : ℕ) × (i < length xs) × (j < length ys) × ((get_or xs i 0 + get_or ys j 0) % p ≡ 0)
 
--- Two lists give no matrix whose inverse exists: two rows or two columns would be the same, or a number have no inverse.
+-- Two lists give no matrix whose inverse exists: two rows or two columns would be the same, or a number have no
+-- inverse.
 abbrev pub IsRefused : ℕ → List ℕ → List ℕ → Type 0
 IsRefused p xs ys = (has_twice xs ≡ true) ⊎ (has_twice ys ≡ true) ⊎ MeetsZero p xs ys
 
@@ -66,8 +68,8 @@ HasZero xs = (i : ℕ) × (i < length xs) × (get_or xs i 0 ≡ 0)
 
 -- ---- what is asked for, and what is answered
 
--- The counts fit: a width of two or more and below 2^12, counts of rounds below 2^10, of which a full one, and fewer than
--- 2^16 matrices to be passed over.
+-- The counts fit: a width of two or more and below 2^12, counts of rounds below 2^10, of which a full one, and fewer
+-- than 2^16 matrices to be passed over.
 abbrev pub counts_fit : ℕ → ℕ → ℕ → ℕ → Bool
 counts_fit width full partial passed_over =
     nat_lt 1 width && nat_lt width 4096 && nat_lt 0 full && nat_lt full 1024 && nat_lt partial 1024

@@ -1,5 +1,5 @@
--- The Grain LFSR in self-shrinking mode, which gives the bits that Poseidon's constants are made of (the Poseidon paper,
--- appendix F). Its register of 80 bits is a number: the oldest bit, b0, is the lowest binary digit.
+-- The Grain LFSR in self-shrinking mode, which gives the bits that Poseidon's constants are made of (the Poseidon
+-- paper, appendix F). Its register of 80 bits is a number: the oldest bit, b0, is the lowest binary digit.
 use Rattle.std.specs.Prelude.{ℕ, zero, suc, ◌+◌, ◌-◌, ◌*◌, ◌/◌, ◌%◌, ◌^◌, ◌==◌, nat_lt, if◌then◌else◌, List, [], ◌∷◌}
 
 -- the bit of a number at a place, 0 being the lowest
@@ -11,9 +11,9 @@ unfoldable pub turned : ℕ → ℕ → ℕ
 turned zero number = 0
 turned (suc place) number = bit place number + 2 * turned place number
 
--- The register at the start: b0 and b1 are 0 and 1, for a prime field; b2 to b5 are 0, for an S-box that is a power; then
--- the modulus's count of digits in 12 bits, the width in 12, the counts of full and of partial rounds in 10 each, the
--- highest bit first; the last 30 bits are ones.
+-- The register at the start: b0 and b1 are 0 and 1, for a prime field; b2 to b5 are 0, for an S-box that is a power;
+-- then the modulus's count of digits in 12 bits, the width in 12, the counts of full and of partial rounds in 10 each,
+-- the highest bit first; the last 30 bits are ones.
 abbrev pub start : ℕ → ℕ → ℕ → ℕ → ℕ
 start digits width full partial =
     2 + 2 ^ 6 * turned 12 digits + 2 ^ 18 * turned 12 width + 2 ^ 30 * turned 10 full + 2 ^ 40 * turned 10 partial

@@ -24,7 +24,8 @@ returns c =
     c.moved_up-3.ensures three (c.moved_up-2.ensures two (c.moved_up.ensures one
     (c.with_every_fourth-sum.ensures 0 c.zero.ensures))) in
     subst (λ k. Stands c.moved_up-3.result (times curve k base_point))
-    (ap (λ k. 16 * (16 * (16 * (0 + every_fourth 16 k) + every_fourth 16 b) + every_fourth 16 a) + every_fourth 16 n) e_is
+    (ap (λ k. 16 * (16 * (16 * (0 + every_fourth 16 k) + every_fourth 16 b) + every_fourth 16 a) + every_fourth 16 n)
+    e_is
     ∙ ap (λ k. 16 * (16 * (16 * (0 + every_fourth 16 (n / 16 / 16 / 16)) + every_fourth 16 k) + every_fourth 16 a)
     + every_fourth 16 n) b_is
     ∙ ap (λ k. 16 * (16 * (16 * (0 + every_fourth 16 (n / 16 / 16 / 16)) + every_fourth 16 (n / 16 / 16))

@@ -41,13 +41,15 @@ returns g c d complete s t on_s on_t of_a of_b =
           c.mul-third.ensures;
       is_scale = single_scale p (value a.z) (value c.double-scale.result) c.double-scale.ensures;
       is_E = crossed_is p (value a.x) (value a.y) t.x t.y (value c.sub.result) (value c.args.less) (value c.add.result)
-          (value c.args.more) (value c.mul-first.result) (value c.mul-second.result) (omega (arith, two)) (wide_below a.x)
+          (value c.args.more) (value c.mul-first.result) (value c.mul-second.result) (omega (arith, two))
+          (wide_below a.x)
           on_t.x_below c.sub.ensures of_b.less_is c.mul-first.ensures c.add.ensures of_b.more_is c.mul-second.ensures
           (value c.sub-2.result) c.sub-2.ensures;
       is_F = c.sub-3.ensures;
       is_G = c.add-2.ensures;
       is_H = straight_is p (value a.x) (value a.y) t.x t.y (value c.sub.result) (value c.args.less) (value c.add.result)
-          (value c.args.more) (value c.mul-first.result) (value c.mul-second.result) (omega (arith, two)) (wide_below a.x)
+          (value c.args.more) (value c.mul-first.result) (value c.mul-second.result) (omega (arith, two))
+          (wide_below a.x)
           on_t.x_below c.sub.ensures of_b.less_is c.mul-first.ensures c.add.ensures of_b.more_is c.mul-second.ensures
           (value c.add-3.result) c.add-3.ensures;
       joins = record {

@@ -18,6 +18,7 @@ root_over-requires-clause-peaks g c = λ level place peak.
 pub returns : goal.returns
 returns g c = λ leaves le keeps own.
     let file = g.D.Disk.seen c.args.disk.now in
-    ap (merkle_tree_hash node_of (sha256 [])) (sym (whole-first {leaves = leaves} file c.args.size c.args.peaks.now keeps
+    ap (merkle_tree_hash node_of (sha256 []))
+      (sym (whole-first {leaves = leaves} file c.args.size c.args.peaks.now keeps
     le own))
     ∙ c.root_over.ensures (whole-stored {leaves = leaves} file c.args.size c.args.peaks.now keeps le own)

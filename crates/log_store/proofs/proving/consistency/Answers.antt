@@ -25,7 +25,8 @@ returns-then-old_size-eq0-clause-refused g c = λ obeys. inr (inl (old-none (g.D
     c.in_ok-size.size (c.in_ok-size.ensures.size obeys) c.args.old_size c.if-old_size-eq0.true))
 
 pub returns-then-size-old_size-clause-refused : goal.returns-then-size-old_size-clause-refused
-returns-then-size-old_size-clause-refused g c = λ obeys. inr (inl (old-above (g.D.Disk.seen c.args.disk.now) c.args.named
+returns-then-size-old_size-clause-refused g c = λ obeys. inr
+    (inl (old-above (g.D.Disk.seen c.args.disk.now) c.args.named
     c.in_ok-size.size (c.in_ok-size.ensures.size obeys) c.args.old_size c.if-size-old_size.true))
 
 pub root_at-requires-clause-near : goal.root_at-requires-clause-near
@@ -61,6 +62,7 @@ returns-in-Ok-false-clause-refused g c = λ obeys. inr (inr (
       (continued leaves old_size size c.in-Ok.path.items c.in-Ok-root_at.old_root c.in_ok-size.root
       (omega (arith, c.if-old_size-eq0.false)) older first.1
       (c.in-Ok.ensures.path obeys inside leaves first.1 log.keeps) old first.2)
-      (ap (consistency_verdict node_of old_size c.in-Ok-root_at.old_root size c.in_ok-size.root) (sym c.deref.ensures.value)
+      (ap (consistency_verdict node_of old_size c.in-Ok-root_at.old_root size c.in_ok-size.root)
+      (sym c.deref.ensures.value)
       ∙ c.in-Ok-false.ensures.verdict) c.in-Ok-false.field-0-test,
 ))

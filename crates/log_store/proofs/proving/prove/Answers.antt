@@ -36,7 +36,8 @@ returns-in_err-size-clause-refused g c = λ obeys.
     (λ size. only_if (nat_lt c.args.index size) Index (Ok size)) _ (c.in_err-size.ensures.refused obeys))
 
 pub returns-then-index-size-clause-refused : goal.returns-then-index-size-clause-refused
-returns-then-index-size-clause-refused g c = λ obeys. inr (inl (index-beyond (g.D.Disk.seen c.args.disk.now) c.args.named
+returns-then-index-size-clause-refused g c = λ obeys. inr
+    (inl (index-beyond (g.D.Disk.seen c.args.disk.now) c.args.named
     c.in_ok-size.size (c.in_ok-size.ensures.size obeys) c.args.index c.if-index-size.true))
 
 pub read_digest-requires : goal.read_digest-requires

@@ -14,7 +14,8 @@ invariant-levels g l = record {
   own : g.D.Disk.Obeys l.disk → file_end l.size ≤ length (g.D.Disk.seen l.disk)
       → AreOf l.initial.spots.items (stored_in l.size (g.D.Disk.seen l.disk))
       → AreOf l.spots.items (stored_in l.size (g.D.Disk.seen l.disk));
-  read : (level place : ℕ) → level < l.level → IsBeside l.index l.size level place → IsRead l.spots.items (position level place);
+  read : (level place : ℕ) → level < l.level → IsBeside l.index l.size level place → IsRead l.spots.items
+    (position level place);
   more : AreMore l.initial.spots.items l.spots.items;
 }
 

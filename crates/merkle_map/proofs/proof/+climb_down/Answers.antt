@@ -23,7 +23,8 @@ returns-in_ok-push-in-Fork g t c =
     let proof = proof_at h (c.args.level + 1) c.args.key.now in
     answers_as _ _ _ c.climb_down.result
     (down-on h c.args.level c.args.key.now (ap (shape numbers) c.in-Fork.is) true
-    (map numbers c.args.siblings.now.items) (numbers c.in_ok-digest-in-Fork.digest) (sym c.bit_of.ensures ∙ c.if-bit_of.true)
+    (map numbers c.args.siblings.now.items) (numbers c.in_ok-digest-in-Fork.digest)
+    (sym c.bit_of.ensures ∙ c.if-bit_of.true)
     (ap (λ s. shape_digest h (shape numbers s.left)) (sym c.deref-in-Fork.ensures) ∙ c.in_ok-digest-in-Fork.ensures)
     ∙ ap (λ l. behind_all l (proof (shape numbers c.in-Fork.sides.value.right)))
     (sym (map-append numbers c.args.siblings.now.items (c.in_ok-digest-in-Fork.digest ∷ []))

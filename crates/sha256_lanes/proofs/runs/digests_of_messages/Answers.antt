@@ -16,7 +16,8 @@ rest-init c =
     elim c.if-messages-done-ge4.branch [
       | then-messages-done-ge4 w ↦
           rw (w.digests-is, w.done-is)
-          (written-part (hash_behind c.args.prefix) c.args.messages.now c.groups.digests _ _ _ _ (omega arith) (omega arith)
+          (written-part (hash_behind c.args.prefix) c.args.messages.now c.groups.digests _ _ _ _ (omega arith)
+          (omega arith)
           (omega arith) written w.put_messages.ensures)
       | else-messages-done-ge4 w ↦ rw (w.digests-is, w.done-is) written
     ]

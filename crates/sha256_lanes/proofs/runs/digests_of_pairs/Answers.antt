@@ -16,7 +16,8 @@ rest-init c =
     elim c.if-couples-done-ge4.branch [
       | then-couples-done-ge4 w ↦
           rw (w.digests-is, w.done-is)
-          (written-part (pair_behind c.args.prefix) c.args.couples.now c.groups.digests _ _ _ _ (omega arith) (omega arith)
+          (written-part (pair_behind c.args.prefix) c.args.couples.now c.groups.digests _ _ _ _ (omega arith)
+          (omega arith)
           (omega arith) written w.put_pairs-then-couples-done-ge4.ensures)
       | else-couples-done-ge4 w ↦ rw (w.digests-is, w.done-is) written
     ]

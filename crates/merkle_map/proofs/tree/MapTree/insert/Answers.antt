@@ -13,7 +13,8 @@ invariant_of-self g c =
     let numbers = g.D.Numbered.numbers in (
       put-stands (entry_of c.args.key.now (numbers c.args.value)) (c.told-key, c.fits-key)
           (top_shape numbers c.self.inside.top)
-          (top_shape numbers c.put_top.new.top) c.self.invariant.0 c.put_top.result c.put_top.ensures.changed c.put_top.ensures.kept,
+          (top_shape numbers c.put_top.new.top) c.self.invariant.0 c.put_top.result c.put_top.ensures.changed
+          c.put_top.ensures.kept,
       λ h. c.put_top.ensures.digests h (c.self.invariant.1 h),
     )
 

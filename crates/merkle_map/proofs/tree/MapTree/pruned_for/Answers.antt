@@ -15,7 +15,8 @@ pub invariant_of-result : goal.invariant_of-result
 invariant_of-result g c =
     let numbers = g.D.Numbered.numbers in
     let h = g.T.MapHasher.hashes c.args.hasher.now in (
-      (prunes h c.args.tops 0 [] c.args.keys.now (top_shape numbers c.self.inside.top) (top_shape numbers c.in_ok-top.top)
+      (prunes h c.args.tops 0 [] c.args.keys.now (top_shape numbers c.self.inside.top)
+          (top_shape numbers c.in_ok-top.top)
           c.in_ok-top.ensures.pruned).stands c.self.invariant.0,
       c.in_ok-top.ensures.digests,
     )

@@ -32,6 +32,7 @@ returns-clause-store g c =
     let old = top_shape numbers c.self.inside.top in
     let new = top_shape numbers c.remove_top.new.top in
     subst (λ s. Stores (without key) s new c.remove_top.result) c.self.view_is
-    (stores (without key) old new c.self.invariant.0 (invariant_of-self g c).0 (tree_without key old) c.remove_top.result
+    (stores (without key) old new c.self.invariant.0 (invariant_of-self g c).0 (tree_without key old)
+    c.remove_top.result
     (remove-can key old) (exact new (tree_without key old) c.remove_top.result c.remove_top.ensures.changed)
     (without-follows key old new c.remove_top.result c.remove_top.ensures.changed))

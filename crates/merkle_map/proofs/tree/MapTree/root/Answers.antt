@@ -15,4 +15,5 @@ returns-clause-maps g c =
 pub returns-clause-store : goal.returns-clause-store
 returns-clause-store g c =
     let h = g.T.MapHasher.hashes c.args.hasher.now in
-    subst (IsRootOf h) c.self.view_is (root-of-store h (top_shape g.D.Numbered.numbers c.self.inside.top) c.self.invariant.0)
+    subst (IsRootOf h) c.self.view_is (root-of-store h (top_shape g.D.Numbered.numbers c.self.inside.top)
+      c.self.invariant.0)

@@ -9,7 +9,8 @@ loop-i-preserved g c =
     let l = c.loop-i in
     let new = c.add-sum.result.value in
     sym (mod-eq_of_lt c.add-sum.result.reduced)
-    ∙ product_more (λ x. x.0.value) p c.args.xs.now c.args.ys.now l.i c.index-xs-i.result c.index-ys-i.result l.sum.value
+    ∙ product_more (λ x. x.0.value) p c.args.xs.now c.args.ys.now l.i c.index-xs-i.result c.index-ys-i.result
+    l.sum.value
     new c.loop-i-test.true (omega (arith, c.loop-i-test.true, c.requires)) c.index-xs-i.is
     (ap (λ (n : ℕ). n % p) l.invariant ∙ mod-mod _ p)
     (ap (λ (n : ℕ). n % p) c.add-sum.ensures ∙ mod-mod _ p ∙ ap (λ n. (l.sum.value + n) % p) c.mul.ensures

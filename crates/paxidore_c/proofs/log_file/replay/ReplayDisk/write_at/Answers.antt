@@ -16,7 +16,8 @@ returns-clause-crash g c = λ obeys inside left stopped.
     let step : Step = record { at = c.args.at; bytes = c.in-Ok.bytes } in
     let le : c.args.self.now.done ≤ length c.args.self.now.steps =
     subst (λ noted. noted.done ≤ length noted.steps) c.self.view_is c.self.invariant.3 in
-    rw (← c.in-Ok.ensures.items) (write-crash c.args.self.now.done c.args.self.now.steps step g.F.Held.file le inside left
+    rw (← c.in-Ok.ensures.items) (write-crash c.args.self.now.done c.args.self.now.steps step g.F.Held.file le inside
+      left
     (rw (c.if-not-put_step.ensures.steps, c.if-not-put_step.ensures.done) at stopped))
 
 pub returns-clause-time : goal.returns-clause-time
