@@ -102,6 +102,7 @@ fn window_elements<C: FromDigest, W: Window>(
     ensures made { IfOk result (λ elements.
         AreOfLabel C.found_in label.now W.NUM_WINDOWS elements.items) }
     ensures long { IfOk result (λ elements. length elements.items ≡ W.NUM_WINDOWS) }
+    ensures few { OnOk result (W.NUM_WINDOWS < 2 ^ 32) }
     ensures refused { IfErr result (λ error.
         IsWindowsFault C.found_in label.now W.NUM_WINDOWS error) }
 {

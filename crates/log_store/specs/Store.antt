@@ -1,8 +1,18 @@
 -- What a log's file is after an append that was cut short, and after one that returned.
-use Rattle.std.specs.Prelude.{◌≡◌, ◌≢◌, ◌⊎◌, ◌<◌, ◌^◌, ℕ, Bool, List, ◌++◌, length, Some}
+use Rattle.std.specs.Prelude.{◌≡◌, ◌≢◌, ◌⊎◌, ◌<◌, ◌≤◌, ◌^◌, ℕ, Bool, List, [], ◌++◌, length, get_or, Some}
+use Rattle.sha2.specs.Sha256.{sha256}
 use Rattle.ark_paths.specs.Pair.{Digest}
 use Rattle.log_file.specs.Append.{HasBehind}
-use Rattle.log_file.specs.LogFile.{file_head, next_slot, stored_in, written, IsLogFile}
+use Rattle.log_file.specs.LogFile.{file_head, next_slot, slot, stored_in, title, written, IsLogFile}
+
+-- the head of a log of no entries
+abbrev pub new_head : List ℕ
+new_head = title ++ (slot 0 (sha256 []) ++ slot 0 (sha256 []))
+
+-- The file has no more than a part of a head: no byte behind it, and each byte is that of the head or zero.
+pub record IsPartOf (head file : List ℕ) : Type 0 where
+  pub short : length file ≤ 96
+  pub bytes : (n : ℕ) → n < length file → (get_or file n 0 ≡ get_or head n 0) ⊎ (get_or file n 0 ≡ 0)
 
 -- A whole slot says a size that nobody wrote there, larger than the log's own: torn bytes have its check sum. That
 -- takes a coincidence of 12 bytes of SHA-256.

@@ -10,7 +10,7 @@ ghost use Rattle.merkle_log.specs.Asked.{IsPeak};
 ghost use Rattle.merkle_log.specs.Kept.{Keeps, stored_front};
 ghost use Rattle.merkle_log.specs.Log.{merkle_tree_hash};
 ghost use Rattle.merkle_log.specs.Stored.{row_of, stored_count};
-ghost use Rattle.log_store.specs.Refused.{IsRefusedFor};
+ghost use Rattle.log_store.specs.Refused.{IsRefusedAfter, IsRefusedFor};
 ghost use Rattle.log_file.specs.Append.{appended_size, HasBehind};
 ghost use Rattle.log_file.specs.declared.fault.Fault.TheVariants.{Memory};
 ghost use Rattle.log_file.specs.Faults.{log_size};
@@ -115,6 +115,9 @@ pub fn append<D: Disk>(
     ensures size { D.Obeys disk.new → (leaves : List Digest) → IsLogFile leaves (D.seen disk.old)
         → IfOk result (λ size. size ≡ length leaves + length digests.now) }
 
+    ensures gives { let file = D.seen disk.old in D.Obeys disk.new
+        → IfOk result (λ new_size. appended_size file (length digests.now) ≡ Ok new_size) }
+
     // A crash at any moment leaves the log as it was, or with the entries.
     ensures any_moment { D.Obeys disk.new → (leaves : List Digest)
         → IsLogFile leaves (D.seen disk.old) → Only (D.seen disk.old) (D.may_leave disk.old)
@@ -150,6 +153,9 @@ pub fn append_after<D: Disk>(
     digests: &[[u8; 32]],
 ) -> Result<usize, Stop<D::Refusal>>
     requires { 0 < length digests.now }
+    ensures obeys { D.Obeys disk.new → D.Obeys disk.old }
+    ensures refused { let file = D.seen disk.old in D.Obeys disk.new → IsRefusedAfter file size
+        root.now (appended_size file (length digests.now)) result }
 
     // Of every file: a slot has this size, and states this root or none.
     ensures after { D.Obeys disk.new → OnOk result ((log_size (D.seen disk.old) ≡ Ok size)
@@ -157,6 +163,8 @@ pub fn append_after<D: Disk>(
     ensures log { D.Obeys disk.new → (leaves : List Digest) → IsLogFile leaves (D.seen disk.old)
         → OnOk result ((length leaves ≡ size)
         × (merkle_tree_hash node_of (sha256 []) leaves ≡ Ok root.now)) }
+    ensures gives { let file = D.seen disk.old in D.Obeys disk.new
+        → IfOk result (λ new_size. appended_size file (length digests.now) ≡ Ok new_size) }
     ensures acknowledged { D.Obeys disk.new → (leaves : List Digest)
         → IsLogFile leaves (D.seen disk.old)
         → OnOk result (IsSettled (leaves ++ digests.now) (D.seen disk.new)) }

@@ -68,8 +68,13 @@ pub fn read_head<D: Disk>(disk: &D) -> Result<ReadHead, Stop<D::Refusal>>
 
 /// Returns how many entries the log of a file has. Errors: `NoLog`; `Short`; the disk's refusal.
 pub fn size<D: Disk>(disk: &D) -> Result<usize, Stop<D::Refusal>>
-    ensures { D.Obeys disk.now → (leaves : List Digest) → IsLogFile leaves (D.seen disk.now)
+    ensures size { D.Obeys disk.now → (leaves : List Digest) → IsLogFile leaves (D.seen disk.now)
         → IfOk result (λ size. size ≡ length leaves) }
+
+    // Of every file: the size is the one that its head says.
+    ensures gives { D.Obeys disk.now → IfOk result (λ size. log_size (D.seen disk.now) ≡ Ok size) }
+    ensures refused { let file = D.seen disk.now in
+        D.Obeys disk.now → IsRefusedFor file (log_size file) result }
 {
     Ok(read_head(disk)?.head.size)
 }

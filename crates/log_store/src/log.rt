@@ -1,6 +1,7 @@
 //! A log's file whose head and right edge are read, and whose root is the one that its head states.
 
 ghost use Rattle.std.specs.Prelude.{◌≡◌, ◌≤◌, ◌<◌, ◌^◌, ℕ, Bool, true, List, [], length, take, get_or, unwrap_or, IfOk, MatchResult, Ok, Err, Some};
+ghost use Rattle.std.specs.Bool.{Decides};
 ghost use Rattle.sha2.specs.Sha256.{sha256};
 ghost use Rattle.ark_paths.specs.Pair.{Digest};
 ghost use Rattle.ark_trees.specs.Rfc6962.{node_of};
@@ -34,7 +35,7 @@ pub struct Log {
 impl Log {
     /// Returns whether it has this size and root.
     pub fn is(&self, size: usize, root: &[u8; 32]) -> bool
-        ensures { result ≡ true → (self.now.size ≡ size) × (self.now.root ≡ root.now) }
+        ensures { Decides result ((self.now.size ≡ size) × (self.now.root ≡ root.now)) }
     {
         self.size == size && self.root == *root
     }

@@ -1,9 +1,10 @@
 //! The head of a new log's file.
 
-ghost use Rattle.std.specs.Prelude.{◌≡◌, List, [], true, false, IfOk, OnOk};
+ghost use Rattle.std.specs.Prelude.{◌≡◌, ◌⊎◌, List, [], true, false, IfOk, OnOk};
 ghost use Rattle.ark_paths.specs.Pair.{Digest};
 ghost use Rattle.log_store.specs.Disk.{Only};
-ghost use Rattle.log_store.specs.Store.{IsSettled};
+ghost use Rattle.log_store.specs.Refused.{IsOfDisk};
+ghost use Rattle.log_store.specs.Store.{new_head, IsPartOf, IsSettled};
 ghost use Rattle.log_file.specs.LogFile.{IsLogFile};
 
 use crate::disk::Disk;
@@ -15,8 +16,9 @@ use sha2::{Digest as _, Sha256};
 
 // Whether a file has no log.
 fn lacks_log<D: Disk>(disk: &D) -> Result<bool, Stop<D::Refusal>>
-    ensures { D.Obeys disk.now → (leaves : List Digest) → IsLogFile leaves (D.seen disk.now)
+    ensures log { D.Obeys disk.now → (leaves : List Digest) → IsLogFile leaves (D.seen disk.now)
         → IfOk result (λ lacks. lacks ≡ false) }
+    ensures refused { IsOfDisk result }
 {
     match read_log(disk) {
         Ok(_) => Ok(false),
@@ -29,7 +31,10 @@ fn lacks_log<D: Disk>(disk: &D) -> Result<bool, Stop<D::Refusal>>
 }
 
 // Whether a file has no byte, or no more than those of a head: each byte is that of the head or zero.
-fn is_part<D: Disk>(disk: &D, head: &[u8; START]) -> Result<bool, D::Refusal> {
+fn is_part<D: Disk>(disk: &D, head: &[u8; START]) -> Result<bool, D::Refusal>
+    ensures { D.Obeys disk.now → IfOk result (λ part.
+        part ≡ true → IsPartOf head.now (D.seen disk.now)) }
+{
     let count = disk.length()?;
     if count > START {
         return Ok(false);
@@ -50,6 +55,9 @@ fn is_begun<D: Disk>(disk: &D, head: &[u8; START]) -> Result<bool, Stop<D::Refus
         → IfOk result (λ begun. begun ≡ false) }
     ensures empty { D.Obeys disk.now → D.seen disk.now ≡ []
         → IfOk result (λ begun. begun ≡ true) }
+    ensures part { D.Obeys disk.now → IfOk result (λ begun.
+        begun ≡ true → IsPartOf head.now (D.seen disk.now)) }
+    ensures refused { IsOfDisk result }
 {
     let count = match disk.length() {
         Ok(count) => count,
@@ -75,9 +83,14 @@ pub fn make<D: Disk>(disk: &mut D) -> Result<(), Stop<D::Refusal>>
     ensures kept { D.Obeys disk.new → (leaves : List Digest) → IsLogFile leaves (D.seen disk.old)
         → OnOk result (D.seen disk.new ≡ D.seen disk.old) }
 
+    // What is neither empty nor a part of that head stays as it is.
+    ensures others { D.Obeys disk.new
+        → IsPartOf new_head (D.seen disk.old) ⊎ (D.seen disk.new ≡ D.seen disk.old) }
+
     // A file that has no byte has the log of no entries, and stays it if one of its slots is lost.
     ensures made { D.Obeys disk.new → D.seen disk.old ≡ []
         → OnOk result (IsSettled [] (D.seen disk.new)) }
+    ensures refused { IsOfDisk result }
     ensures durable { D.Obeys disk.new
         → OnOk result (Only (D.seen disk.new) (D.may_leave disk.new)) }
 {

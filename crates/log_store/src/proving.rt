@@ -6,7 +6,7 @@ ghost use Rattle.ark_paths.specs.Pair.{Digest};
 ghost use Rattle.ark_trees.specs.Rfc6962.{node_of};
 ghost use Rattle.merkle_log.specs.Asked.{IsBeside, IsLowest, IsPeak};
 ghost use Rattle.merkle_log.specs.Edge.{all_of};
-ghost use Rattle.merkle_log.specs.Log.{consistency_path, inclusion_path};
+ghost use Rattle.merkle_log.specs.Log.{consistency_path, inclusion_path, merkle_tree_hash};
 ghost use Rattle.merkle_log.specs.Kept.{Keeps};
 ghost use Rattle.merkle_log.specs.Stored.{position, row_of, IsStored};
 ghost use Rattle.merkle_log.specs.Verdict.{consistency_verdict, inclusion_verdict};
@@ -221,6 +221,9 @@ pub fn prove<D: Disk>(
         → let size = unwrap_or named (length leaves) in
         let path = inclusion_path node_of (sha256 []) index (take size leaves) in
         IfOk result (λ proof. all_of path ≡ Ok proof.path.items) }
+    ensures root { D.Obeys disk.now → (leaves : List Digest) → IsLogFile leaves (D.seen disk.now)
+        → IfOk result (λ proof. (proof.size ≡ unwrap_or named (length leaves))
+        × (merkle_tree_hash node_of (sha256 []) (take proof.size leaves) ≡ Ok proof.root)) }
 
     // Of every file: the proof is accepted for the digest that the disk has at the index, under the root that is returned; if
     // that is the root of all entries, a slot states it or none.
@@ -276,6 +279,9 @@ pub fn consistency<D: Disk>(
         → let size = unwrap_or named (length leaves) in
         let path = consistency_path node_of (sha256 []) old_size (take size leaves) in
         IfOk result (λ proof. all_of path ≡ Ok proof.path.items) }
+    ensures root { D.Obeys disk.now → (leaves : List Digest) → IsLogFile leaves (D.seen disk.now)
+        → IfOk result (λ proof. (proof.size ≡ unwrap_or named (length leaves))
+        × (merkle_tree_hash node_of (sha256 []) (take proof.size leaves) ≡ Ok proof.root)) }
 
     // Of every file: the proof is accepted under the roots that are returned; if the new one is the root of all entries, a slot
     // states it or none.

@@ -7,6 +7,7 @@ ghost use Rattle.ark_paths.specs.Pair.{Digest};
 ghost use Rattle.ark_trees.specs.Rfc6962.{node_of};
 ghost use Rattle.merkle_log.specs.Log.{merkle_tree_hash};
 ghost use Rattle.log_store.specs.Disk.{Only};
+ghost use Rattle.log_store.specs.Refused.{IsUnrecovered};
 ghost use Rattle.log_store.specs.Sound.{HasStored};
 ghost use Rattle.log_store.specs.Store.{IsSettled};
 ghost use Rattle.log_file.specs.LogFile.{file_end, slots_head, IsLogFile};
@@ -75,6 +76,7 @@ pub fn recoverable<D: Disk>(disk: &D) -> Result<Recovered, Stop<D::Refusal>>
     ensures log { D.Obeys disk.now → (leaves : List Digest) → IsLogFile leaves (D.seen disk.now)
         → IfOk result (λ found. (found.size ≡ length leaves)
         × (merkle_tree_hash node_of (sha256 []) leaves ≡ Ok found.root)) }
+    ensures refused { D.Obeys disk.now → IsUnrecovered (D.seen disk.now) result }
     ensures fits { IfOk result (λ found. found.size < 2 ^ 63) }
     ensures near { IfOk result (λ found. file_end found.size < 2 ^ 64) }
     ensures inside { D.Obeys disk.now → IfOk result (λ found.
@@ -141,6 +143,7 @@ pub fn recover<D: Disk>(disk: &D, new: &mut D) -> Result<Recovered, Stop<D::Refu
     ensures log { D.Obeys new.new → D.Obeys disk.now → D.seen new.old ≡ []
         → (leaves : List Digest) → IsLogFile leaves (D.seen disk.now)
         → OnOk result (IsSettled leaves (D.seen new.new)) }
+    ensures refused { D.Obeys disk.now → IsUnrecovered (D.seen disk.now) result }
     ensures durable { D.Obeys new.new
         → OnOk result (Only (D.seen new.new) (D.may_leave new.new)) }
 {

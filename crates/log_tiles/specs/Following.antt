@@ -1,10 +1,16 @@
 -- Logs that continue others, as whoever follows a log finds them.
-use Rattle.std.specs.Prelude.{◌≡◌, ◌≢◌, ◌⊎◌, true, List, Ok}
+use Rattle.std.specs.Prelude.{◌≡◌, ◌≢◌, ◌⊎◌, ◌<◌, ℕ, true, List, None, Ok, Err}
 use Rattle.ark_paths.specs.Pair.{Digest}
 use Rattle.ark_trees.specs.Rfc6962.{node_of}
 use Rattle.merkle_log.specs.Bind.{BindsFront}
 use Rattle.merkle_log.specs.Verdict.{consistency_verdict}
+use Rattle.log_file.specs.Faults.{log_size}
+use Rattle.log_file.specs.declared.fault.Fault.TheVariants.{Damaged}
+use Rattle.log_store.specs.Refused.{index_outcome, older_outcome, IsNotOf, IsRefusedFor}
+use Rattle.log_store.specs.declared.stop.Stop.TheVariants.{Fault}
 use Rattle.log_tiles.specs.declared.following.Head.{Head}
+use Rattle.log_tiles.specs.declared.unfollowed.Unfollowed.{Unfollowed}
+use Rattle.log_tiles.specs.declared.unfollowed.Unfollowed.TheVariants.{Shrunk, Fork, Stopped}
 
 -- A consistency proof of an old root of as many entries as the old head's, and of the new head, is accepted.
 pub record IsShown (old_root : Digest) (old new : Head) : Type 0 where
@@ -21,3 +27,20 @@ Continues old new = (old ≡ new) ⊎ ((old.size ≡ 0) ⊎ IsShown old.root old
 abbrev pub IsFork : Head → Head → Type 0
 IsFork old new = ((old.size ≡ new.size) × (old.root ≢ new.root))
     ⊎ ((other : Digest) × ((other ≢ old.root) × IsShown other old new))
+
+-- Why there is no proof of an index of the log of a head, whose tiles are those of a file: as of that file, or it is
+-- not that of the head's log.
+abbrev pub IsUnproved : {R : Type 0} → List ℕ → Head → ℕ → Unfollowed R → Type 0
+IsUnproved file head index Shrunk = ⊥
+IsUnproved file head index Fork = ⊥
+IsUnproved {R} file head index (Stopped stop) = IsRefusedFor {A = ℕ} file (index_outcome file None index) (Err stop)
+    ⊎ (stop ≡ Fault Damaged) × IsNotOf file head.size head.root
+
+-- Why it is not found whether the log of a new head continues that of an old one: the new one has fewer entries, no log
+-- has both, or as of the file that has the tiles, which may be that of another log.
+abbrev pub IsUncontinued : {R : Type 0} → List ℕ → Head → Head → Unfollowed R → Type 0
+IsUncontinued file old new Shrunk = new.size < old.size
+IsUncontinued file old new Fork = IsFork old new
+IsUncontinued file old new (Stopped stop) = IsRefusedFor {A = ℕ} file (log_size file) (Err stop)
+    ⊎ IsRefusedFor {A = ℕ} file (older_outcome file None old.size) (Err stop)
+    ⊎ (stop ≡ Fault Damaged) × IsNotOf file new.size new.root

@@ -1,10 +1,13 @@
 -- The tiles of a log, as C2SP's tlog-tiles has them: 256 digests of a level at a time, of every eighth level of the
 -- log's tree.
-use Rattle.std.specs.Prelude.{◌≡◌, ℕ, ◌-◌, ◌*◌, ◌/◌, ◌^◌, ◌<◌, min, List, take, drop}
+use Rattle.std.specs.Prelude.{◌≡◌, ℕ, ◌-◌, ◌*◌, ◌/◌, ◌^◌, ◌<◌, min, List, take, drop, Result, Ok, Err}
 use Rattle.ark_paths.specs.Pair.{Digest}
 use Rattle.merkle_log.specs.Kept.{front}
 use Rattle.merkle_log.specs.Stored.{row_of}
 use Rattle.log_file.specs.LogFile.{stored_in}
+use Rattle.log_file.specs.declared.fault.Fault.TheVariants.{Index}
+use Rattle.log_store.specs.declared.stop.Stop.{Stop}
+use Rattle.log_store.specs.declared.stop.Stop.TheVariants.{Fault, Disk}
 use Rattle.log_tiles.specs.declared.tile.Tile.{Tile}
 
 -- how many digests a level of tiles has in a log of this size: its complete subtrees of 256^level entries
@@ -18,6 +21,12 @@ width_in size level index = min 256 (row_length level size - 256 * index)
 -- The tile is one of a log of this size: it has a digest, and as many as there are.
 abbrev pub IsTileOf : ℕ → Tile → Type 0
 IsTileOf size tile = (0 < tile.width) × (tile.width ≡ width_in size tile.level tile.index)
+
+-- The only fault is that the log has no such tile.
+abbrev pub IsUntiled : {A R : Type 0} → Result A (Stop R) → Type 0
+IsUntiled (Ok value) = Unit {0}
+IsUntiled (Err (Fault fault)) = fault ≡ Index
+IsUntiled (Err (Disk refusal)) = Unit {0}
 
 -- The tile is one of a level of the new log, and none of the old one.
 abbrev pub IsNewTile : ℕ → ℕ → ℕ → Tile → Type 0

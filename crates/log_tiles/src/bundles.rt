@@ -1,6 +1,7 @@
 //! Bundles: the entries of a tile of the lowest level (C2SP tlog-tiles).
 
-ghost use Rattle.std.specs.Prelude.{◌≡◌, ◌<◌, ◌≤◌, ◌+◌, ◌^◌, ◌++◌, true, length, IfSome, OnOk};
+ghost use Rattle.std.specs.Prelude.{◌≡◌, ◌≢◌, ◌<◌, ◌≤◌, ◌+◌, ◌^◌, ◌++◌, ℕ, List, length, IfSome, IsNone, OnOk};
+ghost use Rattle.std.specs.Bool.{Decides};
 ghost use Rattle.log_tiles.specs.Bundles.{entry_bytes, IsBundleOf};
 
 use crate::following::are_same;
@@ -22,7 +23,10 @@ pub fn push_entry(entry: &[u8], bundle: &mut Vec<u8>) -> Result<(), AllocError>
 
 // The entry at the front of bytes, and what stands behind it.
 fn first_entry(bytes: &[u8]) -> Option<(&[u8], &[u8])>
-    ensures { IfSome result (λ found. bytes.now ≡ entry_bytes found.0.now ++ found.1.now) }
+    ensures front { IfSome result (λ found. (length found.0.now ≤ 65535)
+        × (bytes.now ≡ entry_bytes found.0.now ++ found.1.now)) }
+    ensures none { IsNone result → (entry rest : List ℕ) → length entry ≤ 65535
+        → bytes.now ≢ entry_bytes entry ++ rest }
 {
     if bytes.len() < 2 {
         return None;
@@ -39,7 +43,7 @@ fn first_entry(bytes: &[u8]) -> Option<(&[u8], &[u8])>
 
 /// Returns whether bytes are a bundle of entries that have these digests.
 pub fn is_bundle(bytes: &[u8], digests: &[[u8; 32]]) -> bool
-    ensures { result ≡ true → IsBundleOf digests.now bytes.now }
+    ensures { Decides result (IsBundleOf digests.now bytes.now) }
 {
     let mut rest = bytes;
     'digests: for digest in digests {

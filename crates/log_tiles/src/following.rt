@@ -4,14 +4,14 @@ ghost use Rattle.std.specs.Prelude.{◌≡◌, ◌≢◌, ◌<◌, true, false, 
 ghost use Rattle.std.specs.Bool.{Decides};
 ghost use Rattle.ark_trees.specs.Rfc6962.{node_of};
 ghost use Rattle.log_tiles.specs.Audit.{AreTilesOf};
-ghost use Rattle.log_tiles.specs.Following.{Continues, IsFork};
-ghost use Rattle.log_tiles.specs.declared.stop.Stop.TheVariants.{Fork, Shrunk};
+ghost use Rattle.log_tiles.specs.Following.{Continues, IsFork, IsUncontinued, IsUnproved};
+ghost use Rattle.log_tiles.specs.declared.unfollowed.Unfollowed.TheVariants.{Fork, Shrunk};
 ghost use Rattle.merkle_log.specs.Verdict.{inclusion_verdict};
 
-use crate::stop::{Stop, of_store};
-use crate::tiled::{TileDisk, Tiles, Unread};
+use crate::tiled::{TileDisk, Tiles};
+use crate::unfollowed::Unfollowed;
 use log_file::fault::Fault;
-use log_store::{Disk, InclusionProof};
+use log_store::{Disk, InclusionProof, Stop};
 use std::alloc::Global;
 
 /// What a checkpoint states of a log.
@@ -38,14 +38,15 @@ impl Head {
 }
 
 // Refuses a size and a root of what was read that are not those of the checkpoint.
-fn if_same<R: Drop>(head: &Head, size: usize, root: &[u8; 32]) -> Result<(), Stop<R>>
+fn if_same<R: Drop>(head: &Head, size: usize, root: &[u8; 32]) -> Result<(), Unfollowed<R>>
     ensures same { OnOk result ((head.now.size ≡ size) × (head.now.root ≡ root.now)) }
-    ensures damaged { IfErr result (λ why. (why ≢ Fork) × (why ≢ Shrunk)) }
+    ensures damaged { IfErr result (λ why. why ≡ Stopped (Stop.Fault Fault.Damaged)) }
+    ensures other { IsErr result → (head.now.size ≡ size) × (head.now.root ≡ root.now) → ⊥ }
 {
     if head.is(size, root) {
         Ok(())
     } else {
-        Err(Stop::Fault(Fault::Damaged))
+        Err(Unfollowed::Stopped(Stop::Fault(Fault::Damaged)))
     }
 }
 
@@ -57,18 +58,20 @@ pub fn prove<D: Disk>(
     disk: &D,
     head: &Head,
     index: usize,
-) -> Result<InclusionProof, Stop<D::Refusal>>
+) -> Result<InclusionProof, Unfollowed<D::Refusal>>
     // Whatever the tiles have, the proof is accepted under the root that the checkpoint states.
     ensures accepted { IfOk result (λ proof. inclusion_verdict node_of head.now.root head.now.size
         index proof.digest proof.path.items ≡ Ok true) }
-    ensures refused { IfErr result (λ why. (why ≢ Fork) × (why ≢ Shrunk)) }
+    ensures refused { D.Obeys disk.now
+        → IfErr result (IsUnproved (D.seen disk.now) head.now index) }
+    ensures followed { IfErr result (λ why. (why ≢ Fork) × (why ≢ Shrunk)) }
 {
     match log_store::prove(alloc, disk, index, None) {
         Ok(proof) => {
             if_same(head, proof.size, &proof.root)?;
             Ok(proof)
         }
-        Err(stop) => Err(of_store(stop)),
+        Err(stop) => Err(Unfollowed::Stopped(stop)),
     }
 }
 
@@ -82,7 +85,7 @@ pub fn continues<D: Disk>(
     disk: &D,
     old: &Head,
     new: &Head,
-) -> Result<(), Stop<D::Refusal>>
+) -> Result<(), Unfollowed<D::Refusal>>
     // Whatever the tiles have: a consistency proof of the two is accepted.
     ensures continued { OnOk result (Continues old.now new.now) }
     ensures same { new.now ≡ old.now → IsOk result }
@@ -90,35 +93,38 @@ pub fn continues<D: Disk>(
     ensures shrunk { new.now.size < old.now.size → result ≡ Err Shrunk }
     ensures shorter { result ≡ Err Shrunk → new.now.size < old.now.size }
 
+    ensures refused { D.Obeys disk.now
+        → IfErr result (IsUncontinued (D.seen disk.now) old.now new.now) }
+
     // No log has both: the new one has another root of the old size.
     ensures fork { result ≡ Err Fork → IsFork old.now new.now }
 {
     if new.size < old.size {
-        return Err(Stop::Shrunk);
+        return Err(Unfollowed::Shrunk);
     }
     if new.size == old.size {
         return if are_same(&new.root, &old.root) {
             Ok(())
         } else {
-            Err(Stop::Fork)
+            Err(Unfollowed::Fork)
         };
     }
     if old.size == 0 {
         let (size, root) = match log_store::root(disk, None) {
             Ok(root) => root,
-            Err(stop) => return Err(of_store(stop)),
+            Err(stop) => return Err(Unfollowed::Stopped(stop)),
         };
         return if_same(new, size, &root);
     }
     let proof = match log_store::consistency(alloc, disk, old.size, None) {
         Ok(proof) => proof,
-        Err(stop) => return Err(of_store(stop)),
+        Err(stop) => return Err(Unfollowed::Stopped(stop)),
     };
     if_same(new, proof.size, &proof.root)?;
     if are_same(&proof.old_root, &old.root) {
         Ok(())
     } else {
-        Err(Stop::Fork)
+        Err(Unfollowed::Fork)
     }
 }
 
@@ -129,7 +135,7 @@ pub fn continues<D: Disk>(
 pub fn audit<T: Tiles + Drop>(
     disk: &TileDisk<T>,
     head: &Head,
-) -> Result<bool, Stop<Unread<T::Refusal>>>
+) -> Result<bool, T::Refusal>
     // Where the tiles obey, they are those of one log with the root.
     ensures sound { T.Obeys disk.now.tiles → result ≡ Ok true
         → AreTilesOf (T.has disk.now.tiles) head.now.size head.now.root }
@@ -140,13 +146,13 @@ pub fn audit<T: Tiles + Drop>(
 {
     let root = match disk.root() {
         Ok(root) => root,
-        Err(refusal) => return Err(Stop::Disk(refusal)),
+        Err(refusal) => return Err(refusal),
     };
     if !head.is(disk.size(), &root) {
         return Ok(false);
     }
     match disk.is_hashed() {
         Ok(all) => Ok(all),
-        Err(refusal) => Err(Stop::Disk(refusal)),
+        Err(refusal) => Err(refusal),
     }
 }

@@ -7,14 +7,14 @@ mod following;
 mod growth;
 mod halving;
 mod names;
-mod stop;
 mod tile;
 mod tiled;
+mod unfollowed;
 
 pub use bundles::{LONGEST, is_bundle, push_entry};
 pub use following::{Head, audit, continues, prove};
 pub use growth::{new_tiles, row_length};
 pub use names::{bundle_name, tile_name};
-pub use stop::Stop;
 pub use tile::{FULL, Tile, read_tile, width_of};
 pub use tiled::{TileDisk, Tiles, Unread};
+pub use unfollowed::Unfollowed;

@@ -1,14 +1,13 @@
 //! Tiles: which a log has, and their digests.
 
 ghost use Rattle.std.specs.Prelude.{◌≡◌, ◌≢◌, ◌≤◌, ◌<◌, ◌+◌, ◌^◌, ◌++◌, ◌∷◌, [], length, take, get_or, IfOk, OnOk, Err};
-ghost use Rattle.log_tiles.specs.Tiles.{rows_in, tile_in, width_in, IsTileOf};
+ghost use Rattle.log_tiles.specs.Tiles.{rows_in, tile_in, width_in, IsTileOf, IsUntiled};
 ghost use Rattle.merkle_log.specs.Walk.{index_up};
 ghost use Rattle.log_file.specs.LogFile.{file_end};
 
 use crate::growth::row_length;
-use crate::stop::Stop;
 use log_file::fault::Fault;
-use log_store::{Disk, read_digest};
+use log_store::{Disk, Stop, read_digest};
 use merkle_log::kept::position_of;
 
 /// How many digests a full tile has.
@@ -100,6 +99,7 @@ pub fn read_tile<D: Disk>(
         (take tile.width into.new ≡ tile_in (rows_in size (D.seen disk.now)) tile) }
     ensures refused { OnOk result (IsTileOf size tile) }
     ensures index { IsTileOf size tile → result ≢ Err (Stop.Fault Fault.Index) }
+    ensures named { IsUntiled result }
 {
     if tile.width == 0 || tile.width != width_of(size, tile.level, tile.index) {
         return Err(Stop::Fault(Fault::Index));

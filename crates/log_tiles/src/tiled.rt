@@ -119,7 +119,7 @@ impl<T: Tiles + Drop> TileDisk<T> {
         index: usize,
         from: usize,
         into: &mut [[u8; 32]],
-    ) -> Result<(), Unread<T::Refusal>>
+    ) -> Result<(), T::Refusal>
         ensures whole { T.Obeys self.now.tiles → OnOk result
             (IsWhole (T.has self.now.tiles) (tile_at self.now.size level index)) }
         ensures read { T.Obeys self.now.tiles → OnOk result (into.new ≡ take (length into.old)
@@ -131,10 +131,7 @@ impl<T: Tiles + Drop> TileDisk<T> {
             index,
             width,
         };
-        match self.tiles.read(tile, from, into) {
-            Ok(()) => Ok(()),
-            Err(refusal) => Err(Unread::Tile(refusal)),
-        }
+        self.tiles.read(tile, from, into)
     }
 
     // Reads so many digests of the tile at an index to the front of a buffer.
@@ -145,7 +142,7 @@ impl<T: Tiles + Drop> TileDisk<T> {
         from: usize,
         count: usize,
         into: &mut [[u8; 32]; FULL],
-    ) -> Result<(), Unread<T::Refusal>>
+    ) -> Result<(), T::Refusal>
         requires { count ≤ 256 }
         ensures whole { T.Obeys self.now.tiles → OnOk result
             (IsWhole (T.has self.now.tiles) (tile_at self.now.size level index)) }
@@ -156,7 +153,7 @@ impl<T: Tiles + Drop> TileDisk<T> {
     }
 
     // Reads the digest of a complete place: the root of as many digests of one tile as stand below it.
-    fn digest_of(&self, level: usize, place: usize) -> Result<[u8; 32], Unread<T::Refusal>>
+    fn digest_of(&self, level: usize, place: usize) -> Result<[u8; 32], T::Refusal>
         requires { level < 64 }
         ensures whole { T.Obeys self.now.tiles → place < index_up level self.now.size
             → OnOk result (IsWhole (T.has self.now.tiles) (tile_of self.now.size level place)) }
@@ -174,7 +171,7 @@ impl<T: Tiles + Drop> TileDisk<T> {
     }
 
     // Reads the root of a full tile.
-    fn root_of_tile(&self, level: usize, index: usize) -> Result<[u8; 32], Unread<T::Refusal>>
+    fn root_of_tile(&self, level: usize, index: usize) -> Result<[u8; 32], T::Refusal>
         ensures whole { T.Obeys self.now.tiles → OnOk result
             (IsWhole (T.has self.now.tiles) (tile_at self.now.size level index)) }
         ensures root { T.Obeys self.now.tiles → index < row_length level self.now.size / 256
@@ -187,7 +184,7 @@ impl<T: Tiles + Drop> TileDisk<T> {
     }
 
     // Reads a digest of a level of tiles.
-    fn digest_in(&self, level: usize, place: usize) -> Result<[u8; 32], Unread<T::Refusal>>
+    fn digest_in(&self, level: usize, place: usize) -> Result<[u8; 32], T::Refusal>
         ensures { T.Obeys self.now.tiles → place < row_length level self.now.size
             → IfOk result (λ digest. digest
             ≡ get_or (row_in (T.has self.now.tiles) self.now.size level) place []) }
@@ -198,7 +195,7 @@ impl<T: Tiles + Drop> TileDisk<T> {
     }
 
     /// Returns whether the root of a full tile is the digest above it.
-    pub fn is_below_its_root(&self, level: usize, index: usize) -> Result<bool, Unread<T::Refusal>>
+    pub fn is_below_its_root(&self, level: usize, index: usize) -> Result<bool, T::Refusal>
         requires { level < 64 }
         ensures whole { T.Obeys self.now.tiles → OnOk result
             (IsWhole (T.has self.now.tiles) (tile_at self.now.size level index)) }
@@ -212,7 +209,7 @@ impl<T: Tiles + Drop> TileDisk<T> {
     }
 
     // Returns whether the root of each full tile of a level is the digest above it.
-    fn is_level_hashed(&self, level: usize) -> Result<bool, Unread<T::Refusal>>
+    fn is_level_hashed(&self, level: usize) -> Result<bool, T::Refusal>
         requires { level < 7 }
         ensures whole { T.Obeys self.now.tiles → result ≡ Ok true
             → AreWhole (T.has self.now.tiles) self.now.size level }
@@ -228,7 +225,7 @@ impl<T: Tiles + Drop> TileDisk<T> {
     }
 
     /// Returns whether the root of each full tile is the digest above it. It reads each full tile once.
-    pub(crate) fn is_hashed(&self) -> Result<bool, Unread<T::Refusal>>
+    pub(crate) fn is_hashed(&self) -> Result<bool, T::Refusal>
         ensures whole { T.Obeys self.now.tiles → result ≡ Ok true → (level : ℕ) → level < 7
             → AreWhole (T.has self.now.tiles) self.now.size level }
         ensures roots { T.Obeys self.now.tiles → IfOk result (λ all. Decides all
@@ -243,7 +240,7 @@ impl<T: Tiles + Drop> TileDisk<T> {
     }
 
     /// Returns the root to which the digests at the right edge lead: those of the complete subtrees into which the entries fall.
-    pub(crate) fn root(&self) -> Result<[u8; 32], Unread<T::Refusal>>
+    pub(crate) fn root(&self) -> Result<[u8; 32], T::Refusal>
         ensures whole { T.Obeys self.now.tiles → OnOk result
             ((level place : ℕ) → IsPeak self.now.size level place
             → IsWhole (T.has self.now.tiles) (tile_of self.now.size level place)) }
@@ -283,7 +280,10 @@ impl<T: Tiles + Drop> TileDisk<T> {
         if level >= 64 {
             return Err(Unread::Place);
         }
-        self.digest_of(level, ((last + 1) >> level).saturating_sub(1))
+        match self.digest_of(level, ((last + 1) >> level).saturating_sub(1)) {
+            Ok(digest) => Ok(digest),
+            Err(refusal) => Err(Unread::Tile(refusal)),
+        }
     }
 }
 

@@ -1,5 +1,5 @@
-use Rattle.std.proofs.Common.{ℕ, map, ◌∙◌, ap₂}
-use Rattle.std.proofs.lemmas.Result.{IfOk-weaker}
+use Rattle.std.proofs.Common.{ℕ, map, ◌∙◌, ap₂, inl, inr}
+use Rattle.std.proofs.lemmas.Result.{IfErr-weaker, IfOk-weaker}
 use Rattle.ark_bowe_hopwood.specs.BoweHopwood.{sixteenfolds}
 use Rattle.ark_schemes.proofs.from_label.bowe_hopwood_from_label.Goals as goal
 
@@ -14,3 +14,8 @@ returns-clause-made g c =
             c.WINDOW_SIZE-2.ensures c.deref.ensures.value,
       ),
     )) c.parameters_of.ensures.made
+
+pub returns-clause-refused : goal.returns-clause-refused
+returns-clause-refused g c = λ fits.
+    IfErr-weaker c.parameters_of.result _ _ (λ error is. inr (c.in_ok-elements.ensures.few, inl is))
+    c.parameters_of.ensures.refused

@@ -1,4 +1,4 @@
-use Rattle.std.proofs.Common.{inl, refl, Ok, ap, sym, ◌∙◌}
+use Rattle.std.proofs.Common.{inl, inr, refl, Ok, ap, sym, ◌∙◌}
 use Rattle.merkle_log.proofs.Givens.{known_anyway}
 use Rattle.log_file.specs.LogFile.{slot_to_take}
 use Rattle.log_store.specs.Store.{IsBeforeOrAfter}
@@ -19,7 +19,7 @@ pub returns-clause-after : goal.returns-clause-after
 returns-clause-after g c = λ obeys.
     let seen = g.D.Disk.seen c.args.disk.now in
     let before = c.append.ensures.obeys obeys in
-    let same = c.if-not-is.ensures refl in
+    let same = c.is.ensures.0 c.if-not-is.false in
     known_anyway c.append.result (
       c.in_ok-log.ensures.size before ∙ ap Ok same.0,
       (
@@ -32,5 +32,5 @@ returns-clause-after g c = λ obeys.
 pub returns-clause-log : goal.returns-clause-log
 returns-clause-log g c = λ obeys leaves log.
     let known = c.in_ok-log.ensures.log (c.append.ensures.obeys obeys) leaves log in
-    let same = c.if-not-is.ensures refl in
+    let same = c.is.ensures.0 c.if-not-is.false in
     known_anyway c.append.result (known.0 ∙ same.0, known.1 ∙ ap Ok same.1)
