@@ -1,5 +1,6 @@
 -- What is read of a log's file: its head, and digests at positions.
-use Rattle.std.proofs.Common.{zero, suc, ◌≡◌, ◌==◌, true, map, ℕ, ◌+◌, ◌*◌, ◌/◌, ◌<◌, ◌≤◌, ◌^◌, Bool, List, [], ◌∷◌, length, take, drop, get_or, Some, None, Ok, Err, refl, ap, sym, ◌∙◌, subst, inl, inr, arith}
+use Rattle.std.proofs.Common.{zero, suc, ◌≡◌, ◌==◌, true, false, map, ℕ, ◌+◌, ◌*◌, ◌/◌, ◌<◌, ◌≤◌, ◌^◌, Bool, List, [], ◌∷◌, length, take, drop, get_or, Option, Some, None, Ok, Err, refl, ap, sym, ◌∙◌, subst, inl, inr, arith}
+use Rattle.std.specs.Option.{is_some, option_map}
 use Rattle.std.specs.Simd.{first_chunks}
 use Rattle.std.proofs.lemmas.Bool.{cases_lt, le-ltb, lt-ltb}
 use Rattle.std.proofs.lemmas.Bool.Decides.{nat_tests}
@@ -68,6 +69,15 @@ stated-read file bytes read long =
     let cut : (at : ℕ) → at + 32 ≤ 96 → take 32 (drop at bytes) ≡ take 32 (drop at file) = λ at le.
     ap (λ l. take 32 (drop at l)) (read ∙ sym (append-nil (take 96 file))) ∙ piece-cut file [] at 32 96 le long in
     rw (cut 32 (omega arith), cut 64 (omega arith)) refl
+
+-- and their title
+pub title-read : (file bytes : List ℕ) → bytes ≡ take 96 (drop 0 file) → take 32 bytes ≡ take 32 file
+title-read file bytes read = ap (take 32) read ∙ take-take 32 96 file (omega arith)
+
+-- no slot is whole where none states a size
+pub no-slot : (slots : Option (ℕ × Bool)) → is_some (option_map (λ head. head.0) slots) ≡ false → slots ≡ None
+no-slot None none = refl
+no-slot (Some head) none = absurd cc
 
 pub size-none : (file : List ℕ) → file_head file ≡ None → log_size file ≡ Err (no_head file)
 size-none file none = rw (none) refl

@@ -1,4 +1,6 @@
 use Rattle.std.proofs.Common.{inl, inr, refl, Ok, ap, sym, ◌∙◌}
+use Rattle.ark_base.specs.Laws.Steps.{done_injective}
+use Rattle.ark_base.specs.declared.error.Error.{Error}
 use Rattle.merkle_log.proofs.Givens.{known_anyway}
 use Rattle.log_file.specs.LogFile.{slot_to_take}
 use Rattle.log_store.specs.Store.{IsBeforeOrAfter}
@@ -34,3 +36,13 @@ returns-clause-log g c = λ obeys leaves log.
     let known = c.in_ok-log.ensures.log (c.append.ensures.obeys obeys) leaves log in
     let same = c.is.ensures.0 c.if-not-is.false in
     known_anyway c.append.result (known.0 ∙ same.0, known.1 ∙ ap Ok same.1)
+
+pub returns-then-not-is-clause-refused : goal.returns-then-not-is-clause-refused
+returns-then-not-is-clause-refused g c = λ obeys. inr (
+  refl,
+  λ leaves log count top.
+      let known = c.in_ok-log.ensures.log obeys leaves log in
+      let same = c.is.ensures.1 (sym known.0 ∙ count, done_injective {E = Error} _ _ (sym known.1 ∙ top)) in
+      let not = c.if-not-is.true in
+      cc,
+)

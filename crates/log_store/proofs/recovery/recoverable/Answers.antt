@@ -1,11 +1,13 @@
-use Rattle.std.proofs.Common.{◌≡◌, ◌+◌, ◌*◌, ◌≤◌, length, unwrap_or, ap, sym, ◌∙◌, subst, inl, inr, arith}
-use Rattle.std.specs.Option.{option_map}
+use Rattle.std.proofs.Common.{◌≡◌, ◌+◌, ◌*◌, ◌≤◌, length, unwrap_or, not, refl, ap, sym, ◌∙◌, subst, inl, inr, arith}
+use Rattle.std.specs.Option.{is_some, option_map}
+use Rattle.std.specs.Str.{bytes_eq}
 use Rattle.std.proofs.lemmas.Bool.{cases_lt}
 use Rattle.merkle_log.proofs.Positions.{count-rises}
 use Rattle.merkle_log.specs.Stored.{stored_count}
+use Rattle.log_file.specs.LogFile.{title as title_of_logs}
 use Rattle.log_file.proofs.Files.{enough-digests, known}
 use Rattle.log_store.proofs.Growths.{top-of}
-use Rattle.log_store.proofs.Reading.{stated-read}
+use Rattle.log_store.proofs.Reading.{no-slot, stated-read, title-read}
 use Rattle.log_store.proofs.Sounding.{first-long, front-of, keeps-hashed, log-stored, rows}
 use Rattle.log_store.proofs.recovery.recoverable.Goals as goal
 
@@ -68,4 +70,20 @@ returns-in-Ok-root_at-clause-log g c = λ obeys leaves log.
       same,
       top-of leaves size (sym same) (c.in-Ok-root_at.ensures obeys leaves (omega (arith, same))
           (omega (arith, own.holds.inside, ap stored_count same)) log.keeps),
+    )
+
+pub returns-then-not-has_title-clause-refused : goal.returns-then-not-has_title-clause-refused
+returns-then-not-has_title-clause-refused g c = λ obeys.
+    let seen = g.D.Disk.seen c.args.disk.now in
+    let long = c.in-Ok.ensures obeys in
+    let read = c.in_default.ensures obeys (omega (arith, long, c.if-count-lt-START.false)) in
+    let stated = c.stated_in-stated.ensures
+    ∙ ap (option_map (λ head. head.0)) (stated-read seen c.read_at.new.into read
+    (omega (arith, long, c.if-count-lt-START.false))) in
+    let title = title-read seen c.read_at.new.into read in (
+      refl,
+      inr (
+        no-slot _ (sym (ap is_some stated) ∙ c.is_none.ensures ∙ ap not c.if-is_none.true),
+        ap (λ t. bytes_eq t title_of_logs) (sym title) ∙ sym c.has_title.ensures ∙ c.if-not-has_title.true,
+      ),
     )
