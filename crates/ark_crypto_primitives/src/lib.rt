@@ -111,6 +111,7 @@ pub mod signature {
 /// Hashes of one input and of two.
 pub mod crh {
     pub use ark_crh::{ArrayHash, CRHScheme, PlainSha256, TwoToOneCRHScheme};
+    pub use jubjub_hashes;
 
     /// SHA-256 (FIPS 180-4).
     pub mod sha256 {

@@ -4,6 +4,7 @@
 pub mod bounds;
 pub mod directory;
 pub mod growing_log;
+pub mod jubjub_trees;
 pub mod log;
 pub mod own;
 pub mod plain;

@@ -1,5 +1,5 @@
 -- Receipts of entries: proofs as files, as C2SP's tlog-proof has them.
-use Rattle.std.specs.Prelude.{◌≡◌, ℕ, false, true, List, [], ◌∷◌, ◌++◌, Ok, codes}
+use Rattle.std.specs.Prelude.{◌≡◌, ◌⊎◌, ℕ, false, true, List, [], ◌∷◌, ◌++◌, Ok, codes}
 use Rattle.std.specs.Fmt.{decimal}
 use Rattle.std.specs.List.{flat_map}
 use Rattle.base64.specs.GeneralPurpose.{encode_of}
@@ -8,7 +8,11 @@ use Rattle.ark_paths.specs.Pair.{Digest}
 use Rattle.ark_trees.specs.Rfc6962.{entry_hash, node_of}
 use Rattle.merkle_log.specs.Verdict.{inclusion_verdict}
 use Rattle.signed_notes.specs.Checkpoints.{CheckpointParts}
-use Rattle.signed_notes.specs.Opening.{IsOpened, Policy}
+use Rattle.log_checkpoints.specs.declared.receipts.ReceiptFault.{ReceiptFault}
+use Rattle.log_checkpoints.specs.declared.receipts.ReceiptFault.TheVariants.{Spelling, Note}
+use Rattle.signed_notes.specs.Opening.{IsClosed, IsOpened, Policy}
+use Rattle.signed_notes.specs.declared.fault.Fault.{Fault}
+use Rattle.signed_notes.specs.declared.fault.Fault.TheVariants.{Memory}
 
 -- the line of a digest: its Base64
 abbrev pub digest_line : Digest → List ℕ
@@ -43,3 +47,21 @@ pub record LeadsElsewhere (policy : Policy) (origin bytes entry : List ℕ) : Ty
   pub spelled : bytes ≡ receipt_of index path note
   pub opened : IsOpened policy origin note stated
   pub refused : inclusion_verdict node_of stated.root stated.size index (entry_hash entry) path ≡ Ok false
+
+-- Why bytes are not read as a receipt: they are none, or memory was refused.
+abbrev pub IsUnread : ReceiptFault → Type 0
+IsUnread why = (why ≡ Spelling) ⊎ (why ≡ Note Memory)
+
+-- The bytes are a receipt whose checkpoint is not accepted: it is not signed as a policy asks, or is none of an origin.
+pub record IsUnsignedReceipt (policy : Policy) (origin bytes : List ℕ) (why : ReceiptFault) : Type 0 where
+  pub index : ℕ
+  pub path : List Digest
+  pub note : List ℕ
+  pub fault : Fault
+  pub spelled : bytes ≡ receipt_of index path note
+  pub told : why ≡ Note fault
+  pub closed : IsClosed policy origin note fault
+
+-- Why a receipt is not accepted, whatever its entry.
+abbrev pub IsUnaccepted : Policy → List ℕ → List ℕ → ReceiptFault → Type 0
+IsUnaccepted policy origin bytes why = IsUnread why ⊎ IsUnsignedReceipt policy origin bytes why

@@ -1,14 +1,18 @@
 -- What the checkpoint of a log's file states.
-use Rattle.std.specs.Prelude.{◌≡◌, ℕ, Bool, List, [], ◌∷◌, length, Some, Ok}
+use Rattle.std.specs.Prelude.{◌≡◌, ◌⊎◌, ℕ, Bool, List, [], ◌∷◌, length, Some, None, Ok, Err}
 use Rattle.sha2.specs.Sha256.{sha256}
 use Rattle.ark_paths.specs.Pair.{Digest}
 use Rattle.ark_trees.specs.Rfc6962.{node_of}
 use Rattle.merkle_log.specs.Log.{merkle_tree_hash}
-use Rattle.log_file.specs.Faults.{log_size}
+use Rattle.log_file.specs.Faults.{log_size, of_first}
 use Rattle.log_file.specs.LogFile.{slot_to_take, IsLogFile}
+use Rattle.log_checkpoints.specs.declared.Unsigned.{Unsigned}
+use Rattle.log_checkpoints.specs.declared.Unsigned.TheVariants.{Stopped, Note}
+use Rattle.log_store.specs.Refused.{IsRefusedFor}
 use Rattle.signed_notes.specs.Checkpoints.{CheckpointParts}
 use Rattle.signed_notes.specs.Keys.{KeyParts}
 use Rattle.signed_notes.specs.Verifying.{sign_checkpoint}
+use Rattle.signed_notes.specs.declared.fault.Fault.TheVariants.{Memory}
 
 -- a checkpoint without extensions
 abbrev pub plain : List ℕ → ℕ → Digest → CheckpointParts
@@ -24,3 +28,10 @@ pub record IsCheckpointOf (file origin : List ℕ) (key : KeyParts) (note : List
   pub root_is : (leaves : List Digest) → IsLogFile leaves file
       → (length leaves ≡ size) × (merkle_tree_hash node_of (sha256 []) leaves ≡ Ok root)
   pub signed : sign_checkpoint (plain origin size root) (key ∷ []) ≡ Ok note
+
+-- Why the checkpoint of the log of a file is not signed: as of that file; the origin or the key's name is none; or
+-- memory was refused.
+abbrev pub IsUnsigned : {R : Type 0} → List ℕ → List ℕ → KeyParts → Unsigned R → Type 0
+IsUnsigned file origin key (Stopped stop) = IsRefusedFor {A = ℕ} file (of_first file None Ok) (Err stop)
+IsUnsigned file origin key (Note fault) = (fault ≡ Memory) ⊎ ((size : ℕ) × (root : Digest)
+    × (log_size file ≡ Ok size) × (sign_checkpoint (plain origin size root) (key ∷ []) ≡ Err fault))

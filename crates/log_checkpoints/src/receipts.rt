@@ -1,9 +1,9 @@
 //! Receipts: that an entry stands at an index of a log, as one file (C2SP tlog-proof).
 
-ghost use Rattle.std.specs.Prelude.{◌≡◌, ◌++◌, ◌∷◌, [], true, IfOk, IfSome, IsNone, OnOk, Ok};
+ghost use Rattle.std.specs.Prelude.{◌≡◌, ◌++◌, ◌∷◌, [], true, IfErr, IfOk, IfSome, IsNone, OnOk, Ok};
 ghost use Rattle.std.specs.List.{flat_map};
 ghost use Rattle.ark_trees.specs.Rfc6962.{entry_hash, node_of};
-ghost use Rattle.log_checkpoints.specs.Receipts.{digest_line, receipt_of, IsReceiptOf, LeadsElsewhere};
+ghost use Rattle.log_checkpoints.specs.Receipts.{digest_line, receipt_of, IsReceiptOf, IsUnaccepted, IsUnread, LeadsElsewhere};
 ghost use Rattle.merkle_log.specs.Verdict.{inclusion_verdict};
 ghost use Rattle.signed_notes.specs.Views.{policy_parts};
 
@@ -76,7 +76,9 @@ fn next_line(bytes: &[u8]) -> Option<(&[u8], &[u8])> {
 }
 
 // The digest that a line spells.
-fn digest_in(alloc: Global, line: &[u8]) -> Result<[u8; 32], ReceiptFault> {
+fn digest_in(alloc: Global, line: &[u8]) -> Result<[u8; 32], ReceiptFault>
+    ensures { IfErr result IsUnread }
+{
     match STANDARD.decode(alloc, line) {
         Ok(bytes) if bytes.len() == 32 => {
             let mut digest = [0; 32];
@@ -90,7 +92,9 @@ fn digest_in(alloc: Global, line: &[u8]) -> Result<[u8; 32], ReceiptFault> {
 }
 
 // What bytes say as a receipt, if they are one.
-fn parts_in(alloc: Global, bytes: &[u8]) -> Result<Receipt<'_>, ReceiptFault> {
+fn parts_in(alloc: Global, bytes: &[u8]) -> Result<Receipt<'_>, ReceiptFault>
+    ensures { IfErr result IsUnread }
+{
     if bytes.len() < TITLE.len() || bytes[..TITLE.len()] != TITLE[..] {
         return Err(ReceiptFault::Spelling);
     }
@@ -125,8 +129,9 @@ fn parts_in(alloc: Global, bytes: &[u8]) -> Result<Receipt<'_>, ReceiptFault> {
 /// Reads a receipt. Errors: `Spelling` for bytes that are none; `Memory`.
 pub fn read_receipt(alloc: Global, bytes: &[u8]) -> Result<Receipt<'_>, ReceiptFault>
     // A receipt has one spelling.
-    ensures { IfOk result (λ read.
+    ensures read { IfOk result (λ read.
         bytes.now ≡ receipt_of read.index read.path.items read.note.now) }
+    ensures refused { IfErr result IsUnread }
 {
     let read = parts_in(alloc, bytes)?;
     let Ok(spelled) = write_receipt(alloc, read.index, &read.path, read.note) else {
@@ -147,8 +152,9 @@ fn is_shown(
     entry: &[u8],
     path: &[[u8; 32]],
 ) -> Result<bool, ReceiptFault>
-    ensures { IfOk result (λ shown. inclusion_verdict node_of checkpoint.now.root
+    ensures shown { IfOk result (λ shown. inclusion_verdict node_of checkpoint.now.root
         checkpoint.now.size index (entry_hash entry.now) path.now ≡ Ok shown) }
+    ensures refused { IfErr result IsUnread }
 {
     let digest = digest_of_entry(entry);
     let (size, index) = (checkpoint.size as u64, index as u64);
@@ -182,6 +188,8 @@ pub fn verify_receipt(
         IsReceiptOf (policy_parts policy.now) origin.now bytes.now entry.now head.0 head.1)) }
     ensures none { IfOk result (λ found. IsNone found
         → LeadsElsewhere (policy_parts policy.now) origin.now bytes.now entry.now) }
+    ensures refused { IfErr result
+        (IsUnaccepted (policy_parts policy.now) origin.now bytes.now) }
 {
     let Receipt { index, path, note } = read_receipt(alloc, bytes)?;
     let checkpoint = match open_checkpoint(alloc, note, origin, policy) {

@@ -1,11 +1,11 @@
 //! Followers of a log: whoever keeps its last size and root, and moves on by its tiles.
 
-ghost use Rattle.std.specs.Prelude.{◌≡◌, ◌≢◌, ◌<◌, true, false, IfOk, IfErr, IsOk, OnOk, Ok, Err};
+ghost use Rattle.std.specs.Prelude.{◌≡◌, ◌≢◌, ◌<◌, true, false, IfOk, IfErr, IsErr, IsOk, OnOk, Ok, Err};
 ghost use Rattle.std.specs.Bool.{Decides};
 ghost use Rattle.ark_trees.specs.Rfc6962.{node_of};
 ghost use Rattle.log_tiles.specs.Audit.{AreTilesOf};
 ghost use Rattle.log_tiles.specs.Following.{Continues, IsFork, IsUncontinued, IsUnproved};
-ghost use Rattle.log_tiles.specs.declared.unfollowed.Unfollowed.TheVariants.{Fork, Shrunk};
+ghost use Rattle.log_tiles.specs.declared.unfollowed.Unfollowed.TheVariants.{Fork, Shrunk, Stopped};
 ghost use Rattle.merkle_log.specs.Verdict.{inclusion_verdict};
 
 use crate::tiled::{TileDisk, Tiles};
@@ -132,10 +132,7 @@ pub fn continues<D: Disk>(
 /// root, and the root of each full tile is the digest above it. It reads each full tile once, and for each the digest above it.
 ///
 /// The error is that of a tile that could not be read.
-pub fn audit<T: Tiles + Drop>(
-    disk: &TileDisk<T>,
-    head: &Head,
-) -> Result<bool, T::Refusal>
+pub fn audit<T: Tiles + Drop>(disk: &TileDisk<T>, head: &Head) -> Result<bool, T::Refusal>
     // Where the tiles obey, they are those of one log with the root.
     ensures sound { T.Obeys disk.now.tiles → result ≡ Ok true
         → AreTilesOf (T.has disk.now.tiles) head.now.size head.now.root }

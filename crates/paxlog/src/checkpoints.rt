@@ -3,7 +3,7 @@
 use crate::file_disk::FileDisk;
 use crate::stop::{Stop, StopAt};
 use crate::store::{created_secret, random_seed, unchanged};
-use log_checkpoints::{ReceiptFault, checkpoint, verify_receipt};
+use log_checkpoints::{ReceiptFault, Unsigned, checkpoint, verify_receipt};
 use signed_notes::{Checkpoint, Cosigner, Policy, Signer, Verifier, open_checkpoint};
 use std::alloc::Global;
 use std::fs;
@@ -84,9 +84,8 @@ pub fn note_of(
 ) -> Result<Vec<u8>, Stop> {
     match checkpoint(rt.alloc(), disk, signer, origin.unwrap_or(signer.name)) {
         Ok(note) => Ok(note),
-        Err(log_checkpoints::Stop::Fault(fault)) => Err(Stop::from(fault)),
-        Err(log_checkpoints::Stop::Disk(error)) => Err(Stop::from(error)),
-        Err(log_checkpoints::Stop::Note(fault)) => Err(Stop::from(fault)),
+        Err(Unsigned::Stopped(stop)) => Err(Stop::from(stop)),
+        Err(Unsigned::Note(fault)) => Err(Stop::from(fault)),
     }
 }
 

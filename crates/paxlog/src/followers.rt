@@ -10,7 +10,7 @@ use crate::store::sync_folder_of;
 use crate::writing::{locked, locked_folder, remove_whole, sync_file, write_whole};
 use log_file::fault::Fault;
 use log_store::InclusionProof;
-use log_tiles::{Head, TileDisk, audit as is_sound, continues, prove as proof_of};
+use log_tiles::{Head, TileDisk, Unfollowed, audit as is_sound, continues, prove as proof_of};
 use merkle_log::kept::is_size;
 use paxlog_run::replies::{line_of, line_of_root};
 use sha2::{Digest, Sha256};
@@ -212,10 +212,7 @@ fn fork_words(
     let alloc = rt.alloc();
     let proof = match log_store::consistency(alloc, disk, old.size, None) {
         Ok(proof) => proof,
-        Err(log_store::Stop::Fault(fault)) => return Err(Stop::Fault(fault)),
-        Err(log_store::Stop::Disk(refusal)) => {
-            return Err(Stop::from(log_tiles::Stop::Disk(refusal)));
-        }
+        Err(stop) => return Err(Stop::from(stop)),
     };
     let first = line_of_root(alloc, old.size, &proof.old_root)?;
     let mut words = Vec::new(alloc);
@@ -288,7 +285,7 @@ fn next_step(
             old,
             new,
         }),
-        Err(log_tiles::Stop::Fork) => match keep_evidence(rt, state, &disk, &old, &new) {
+        Err(Unfollowed::Fork) => match keep_evidence(rt, state, &disk, &old, &new) {
             Ok(()) => Err(Stop::Fork.at(1)),
             Err(why) => Err(why.at(3)),
         },

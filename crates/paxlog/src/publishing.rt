@@ -12,7 +12,9 @@ use crate::stop::{Stop, StopAt};
 use crate::store::{folder_of, root_of_first, sync_folder_of, unchanged};
 use crate::writing::{locked_folder, sync_above, sync_way, write_whole};
 use log_file::fault::Fault;
-use log_tiles::{FULL, Head, Tile, continues, new_tiles, read_tile, row_length, width_of};
+use log_tiles::{
+    FULL, Head, Tile, Unfollowed, continues, new_tiles, read_tile, row_length, width_of,
+};
 use std::alloc::Global;
 use std::fs;
 
@@ -163,7 +165,7 @@ fn lead_to_root(
     let disk = log_in(rt, folder, head)?;
     match continues(rt.alloc(), &disk, &nothing(), head) {
         Ok(()) => (),
-        Err(log_tiles::Stop::Fault(Fault::Damaged)) => return Ok(false),
+        Err(Unfollowed::Stopped(log_store::Stop::Fault(Fault::Damaged))) => return Ok(false),
         Err(stop) => return Err(Stop::from(stop)),
     }
     for tile in written {
@@ -171,7 +173,7 @@ fn lead_to_root(
             match disk.is_below_its_root(tile.level, tile.index) {
                 Ok(true) => (),
                 Ok(false) => return Ok(false),
-                Err(refusal) => return Err(Stop::from(log_tiles::Stop::Disk(refusal))),
+                Err(fault) => return Err(Stop::from(fault)),
             }
         }
     }

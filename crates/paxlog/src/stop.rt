@@ -2,7 +2,7 @@
 
 use crate::folders::TileFault;
 use log_file::fault::Fault;
-use log_tiles::Unread;
+use log_tiles::{Unfollowed, Unread};
 use std::alloc::{AllocError, AllocFailed};
 use std::fs::TryLockError;
 use std::io;
@@ -165,27 +165,32 @@ impl From<signed_notes::Fault> for Stop {
     }
 }
 
-impl From<log_tiles::Stop<io::Error>> for Stop {
-    fn from(stop: log_tiles::Stop<io::Error>) -> Stop {
-        match stop {
-            log_tiles::Stop::Shrunk => Stop::Shrunk,
-            log_tiles::Stop::Fork => Stop::Fork,
-            log_tiles::Stop::Fault(fault) => Stop::Fault(fault),
-            log_tiles::Stop::Disk(error) => of_system(error),
+impl From<TileFault> for Stop {
+    fn from(fault: TileFault) -> Stop {
+        match fault {
+            TileFault::Memory => Stop::Fault(Fault::Memory),
+            other => Stop::Tile(other),
         }
     }
 }
 
-impl From<log_tiles::Stop<Unread<TileFault>>> for Stop {
-    fn from(stop: log_tiles::Stop<Unread<TileFault>>) -> Stop {
+impl From<log_store::Stop<Unread<TileFault>>> for Stop {
+    fn from(stop: log_store::Stop<Unread<TileFault>>) -> Stop {
         match stop {
-            log_tiles::Stop::Shrunk => Stop::Shrunk,
-            log_tiles::Stop::Fork => Stop::Fork,
-            log_tiles::Stop::Fault(fault) => Stop::Fault(fault),
-            log_tiles::Stop::Disk(Unread::Tile(TileFault::Memory)) => Stop::Fault(Fault::Memory),
-            log_tiles::Stop::Disk(Unread::Tile(fault)) => Stop::Tile(fault),
-            log_tiles::Stop::Disk(Unread::Place) => Stop::Fault(Fault::Size),
-            log_tiles::Stop::Disk(Unread::ReadOnly) => Stop::Fault(Fault::Size),
+            log_store::Stop::Fault(fault) => Stop::Fault(fault),
+            log_store::Stop::Disk(Unread::Tile(fault)) => Stop::from(fault),
+            log_store::Stop::Disk(Unread::Place) => Stop::Fault(Fault::Size),
+            log_store::Stop::Disk(Unread::ReadOnly) => Stop::Fault(Fault::Size),
+        }
+    }
+}
+
+impl From<Unfollowed<Unread<TileFault>>> for Stop {
+    fn from(why: Unfollowed<Unread<TileFault>>) -> Stop {
+        match why {
+            Unfollowed::Shrunk => Stop::Shrunk,
+            Unfollowed::Fork => Stop::Fork,
+            Unfollowed::Stopped(stop) => Stop::from(stop),
         }
     }
 }

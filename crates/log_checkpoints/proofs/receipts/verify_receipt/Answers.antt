@@ -6,13 +6,13 @@ pub returns-then-branch-clause-shown : goal.returns-then-branch-clause-shown
 returns-then-branch-clause-shown c =
     let read = c.in_ok-index.field-0 in
     let path = c.deref.ensures.value in
-    let shown = c.in_ok-is_shown.ensures ∙ ap Ok c.if-branch.true in
+    let shown = c.in_ok-is_shown.ensures.shown ∙ ap Ok c.if-branch.true in
     record {
       index = read.index;
       path = read.path.items;
       note = read.note.now;
       stated = checkpoint_parts c.in-Ok.checkpoint;
-      spelled = c.in_ok-index.ensures;
+      spelled = c.in_ok-index.ensures.read;
       opened = c.in-Ok.ensures.opened;
       size_is = refl;
       root_is = refl;
@@ -23,13 +23,13 @@ pub returns-clause-none : goal.returns-clause-none
 returns-clause-none c none =
     let read = c.in_ok-index.field-0 in
     let path = c.deref.ensures.value in
-    let shown = c.in_ok-is_shown.ensures ∙ ap Ok c.if-branch.false in
+    let shown = c.in_ok-is_shown.ensures.shown ∙ ap Ok c.if-branch.false in
     record {
       index = read.index;
       path = read.path.items;
       note = read.note.now;
       stated = checkpoint_parts c.in-Ok.checkpoint;
-      spelled = c.in_ok-index.ensures;
+      spelled = c.in_ok-index.ensures.read;
       opened = c.in-Ok.ensures.opened;
       refused = rw path at shown;
     }
