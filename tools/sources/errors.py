@@ -4,8 +4,7 @@ import re
 from sources.functions import closing, masked, split_at
 from sources.scopes import Item, leads, read, scope_of
 
-# The words of specs/ that say of a result also which errors it may be, and why. In each the result stands last, but in IsOkUnless
-# and LacksMemoryOnly.
+# The words of specs/ that say of a result, which is one of their arguments, also which errors it may be, and why.
 WORDS = {
     "AnswersBy": "the error is the outcome's or OutOfMemory (ark_base, Outcome)",
     "Answers": "AnswersBy, the value as it is (ark_base, Outcome)",
@@ -23,7 +22,7 @@ WORDS = {
     "IsOkUnless": "the only error is the one that it names (the kit's Prelude)",
 }
 # Views of a result that keep its error: an equation of such a view says which one it is.
-VIEWS = ("seen_by", "found_seen", "outcome_with", "string_outcome")
+VIEWS = ("seen_by", "found_seen", "outcome_with", "string_outcome", "result_map_both")
 # The words that say which code a call for C returns.
 CODES = {
     "Gives": "this code, or that of a lack of memory (paxidore_c, Answer)",
@@ -72,10 +71,10 @@ def arguments(text, at):
     """Yields the arguments that follow a word of a clause: names, or texts in brackets."""
     while True:
         at += len(re.match(r"\s*", text[at:])[0])
-        if at < len(text) and text[at] in "({⟦":
-            end = text.index("⟧", at) + 1 if text[at] == "⟦" else closing(text, at)
-        else:
-            end = at + len(re.match(r"[\w.'\[\]]*", text[at:])[0])
+        end = at
+        # `⟦<T as Trait>⟧.member` and `(f x).member` are one argument
+        while end < len(text) and re.match(r"[({⟦\w.'\[\]]", text[end]):
+            end = text.index("⟧", end) + 1 if text[end] == "⟦" else closing(text, end) if text[end] in "({" else end + 1
         if end == at:
             return
         yield text[at:end]
@@ -92,8 +91,9 @@ def says_which(clause):
     """Returns whether a clause says of an error which one it is, so that another one in its place would break it."""
     if re.search(r"\bresult\b", clause) is None:
         return False
-    if any(re.search(rf"(?<![\w.]){word}\b", clause) for word in WORDS) or re.search(r"\w_gives\b", clause):
-        return True
+    for found in re.finditer(rf"(?<![\w.])(?:{'|'.join(WORDS)}|\w+_gives|gives)\b", clause):
+        if any(it == "result" or it.endswith(" result)") and it[1:].split()[0] in VIEWS for it in arguments(clause, found.end())):
+            return True
     for word, place in (("IfErr", 1), ("MatchResult", 2), ("ForErr", 1)):
         for found in re.finditer(rf"\b{word}\b", clause):
             given = list(arguments(clause, found.end()))
