@@ -1,11 +1,11 @@
 -- Elements from labels: try and increment over BLAKE2s. Zcash's protocol specification, 5.4.9.5.
-use Rattle.std.specs.Prelude.{◌≡◌, ℕ, zero, suc, ◌+◌, ◌<◌, ◌⊎◌, List, [], ◌∷◌, ◌++◌, map, replicate, codes, Option, Some, None}
+use Rattle.std.specs.Prelude.{◌≡◌, ℕ, zero, suc, ◌+◌, ◌^◌, ◌<◌, ◌≤◌, ◌⊎◌, List, [], ◌∷◌, ◌++◌, map, replicate, codes, Option, Some, None}
 use Rattle.std.specs.Option.{option_map_or}
 use Rattle.std.specs.List.{range_with_len}
 use Rattle.ark_base.specs.Digits.{bytes_of_number}
 use Rattle.ark_base.specs.declared.error.Error.{Error}
 use Rattle.ark_base.specs.declared.error.Error.TheVariants.{OutOfMemory, GenericError}
-use Rattle.ark_base.specs.declared.error.Refusal.TheVariants.{DrawsExhausted}
+use Rattle.ark_base.specs.declared.error.Refusal.TheVariants.{DrawsExhausted, LengthOverflow}
 use Rattle.ark_schemes.specs.Blake2s.{blake2s_with}
 
 -- the random beacon that stands before each text: 64 hexadecimal digits (5.9)
@@ -31,6 +31,15 @@ abbrev pub IsLabelFault : {G : Type 0} → (List ℕ → Option G) → List ℕ 
 IsLabelFault find label count error = (error ≡ OutOfMemory)
     ⊎ ((error ≡ GenericError DrawsExhausted) ×
     ((i : ℕ) × (i < count) × (group_hash find label (bytes_of_number 4 i) ≡ None)))
+
+-- why no label has elements for so many windows: their places have over 32 bits
+abbrev pub IsTooMany : ℕ → Error → Type 0
+IsTooMany count error = (2 ^ 32 ≤ count) × (error ≡ GenericError LengthOverflow)
+
+-- why a label has no elements for so many windows
+abbrev pub IsWindowsFault : {G : Type 0} → (List ℕ → Option G) → List ℕ → ℕ → Error → Type 0
+IsWindowsFault find label count error =
+    IsTooMany count error ⊎ ((count < 2 ^ 32) × IsLabelFault find label count error)
 
 -- the elements of a label: of each place its hash, with the place's 4 bytes as the text
 abbrev pub AreOfLabel : {G : Type 0} → (List ℕ → Option G) → List ℕ → ℕ → List G → Type 0

@@ -5,7 +5,7 @@
 
 ghost use Rattle.std.specs.Prelude.{◌≡◌, ◌<◌, ◌≤◌, ◌^◌, List, length, true, false, Err, IfOk, OnOk, IfErr};
 ghost use Rattle.ark_base.specs.Digits.{bytes_of_number};
-ghost use Rattle.ark_schemes.specs.GroupHash.{group_digest, group_hash, AreOfLabel, IsLabelFault};
+ghost use Rattle.ark_schemes.specs.GroupHash.{group_digest, group_hash, AreOfLabel, IsLabelFault, IsTooMany, IsWindowsFault};
 ghost use Rattle.ark_pedersen.specs.Pedersen.{generators_in, lists_in, AreGeneratorsOf};
 ghost use Rattle.ark_pedersen.specs.Binding.{windows_fit};
 ghost use Rattle.ark_bowe_hopwood.specs.BoweHopwood.{AreSegmentsOf, is_fitting};
@@ -83,7 +83,9 @@ pub fn elements_of_label<C: FromDigest>(
 
 // The count of windows.
 fn count_of<W: Window>() -> Result<u32, Error>
-    ensures { IfOk result (λ count. count ≡ W.NUM_WINDOWS) }
+    ensures count { IfOk result (λ count. count ≡ W.NUM_WINDOWS) }
+    ensures few { OnOk result (W.NUM_WINDOWS < 2 ^ 32) }
+    ensures refused { IfErr result (λ error. IsTooMany W.NUM_WINDOWS error) }
 {
     if W::NUM_WINDOWS < 1 << 32 {
         Ok(W::NUM_WINDOWS as u32)
@@ -100,6 +102,8 @@ fn window_elements<C: FromDigest, W: Window>(
     ensures made { IfOk result (λ elements.
         AreOfLabel C.found_in label.now W.NUM_WINDOWS elements.items) }
     ensures long { IfOk result (λ elements. length elements.items ≡ W.NUM_WINDOWS) }
+    ensures refused { IfErr result (λ error.
+        IsWindowsFault C.found_in label.now W.NUM_WINDOWS error) }
 {
     elements_of_label(alloc, label, count_of::<W>()?)
 }
@@ -119,6 +123,8 @@ pub fn pedersen_from_label<C: FromDigest, W: Window>(
     ensures fits { OnOk result (windows_fit C.ScalarField.MODULUS W.Window ≡ true) }
     ensures too_large { windows_fit C.ScalarField.MODULUS W.Window ≡ false
         → result ≡ Err (Error.GenericError Refusal.WindowTooLarge) }
+    ensures refused { windows_fit C.ScalarField.MODULUS W.Window ≡ true
+        → IfErr result (λ error. IsWindowsFault C.found_in label.now W.NUM_WINDOWS error) }
 {
     if !windows_fit::<C, W>() {
         return Err(Error::GenericError(Refusal::WindowTooLarge));
@@ -141,6 +147,8 @@ pub fn bowe_hopwood_from_label<C: FromDigest, W: Window>(
     ensures fits { OnOk result (is_fitting C.ScalarField.MODULUS W.WINDOW_SIZE ≡ true) }
     ensures too_large { is_fitting C.ScalarField.MODULUS W.WINDOW_SIZE ≡ false
         → result ≡ Err (Error.GenericError Refusal.WindowTooLarge) }
+    ensures refused { is_fitting C.ScalarField.MODULUS W.WINDOW_SIZE ≡ true
+        → IfErr result (λ error. IsWindowsFault C.found_in label.now W.NUM_WINDOWS error) }
 {
     if !ark_bowe_hopwood::is_fitting(C::ScalarField::modulus(), W::WINDOW_SIZE) {
         return Err(Error::GenericError(Refusal::WindowTooLarge));

@@ -65,7 +65,7 @@ digit_added r m i n of_r =
 -- the places of the digits move up
 pub place_next : (n i : ℕ) → n / 65536 ^ i / 65536 ≡ n / 65536 ^ (i + 1)
 place_next n i = div-div-eq-div-mul n (65536 ^ i) 65536 ∙ ap (λ k. n / k) (sym (pow-suc 65536 i))
-  ∙ ap (λ k. n / 65536 ^ k) (next i)
+    ∙ ap (λ k. n / 65536 ^ k) (next i)
   where
     next : (i : ℕ) → suc i ≡ i + 1
     next i = omega arith
@@ -101,7 +101,7 @@ all_up_to (suc k) n =
     (mul_comm 65536 q ∙ sym (pow-suc 65536 k))
   where
     digits : (t : ℕ) → t % 65536 ≡ t % 16 + 16 * (t / 16 % 16) + 256 * (t / 16 / 16 % 16) + 4096 *
-      (t / 16 / 16 / 16 % 16)
+        (t / 16 / 16 / 16 % 16)
     digits t = omega arith
 
     gathered : (a b c e f g h i q t r : ℕ) → a + 16 * b + 256 * c + 4096 * e ≡ r → t ≡ f + 16 * g + 256 * h + 4096 * i

@@ -4,8 +4,8 @@ use Rattle.sha2.specs.Sha256.{sha256}
 use Rattle.ark_paths.specs.Pair.{Digest}
 use Rattle.ark_trees.specs.Rfc6962.{node_of}
 use Rattle.merkle_log.specs.Log.{merkle_tree_hash}
-use Rattle.paxlog_run.specs.Faults.{log_size}
-use Rattle.paxlog_run.specs.LogFile.{slot_to_take, IsLogFile}
+use Rattle.log_file.specs.Faults.{log_size}
+use Rattle.log_file.specs.LogFile.{slot_to_take, IsLogFile}
 use Rattle.signed_notes.specs.Checkpoints.{CheckpointParts}
 use Rattle.signed_notes.specs.Keys.{KeyParts}
 use Rattle.signed_notes.specs.Verifying.{sign_checkpoint}

@@ -8,8 +8,8 @@ ghost use Rattle.signed_notes.specs.Views.{signer_parts};
 
 mod receipts;
 
+use log_file::fault::Fault;
 use log_store::Disk;
-use paxlog_run::fault::Fault;
 pub use receipts::{Receipt, ReceiptFault, TITLE, read_receipt, verify_receipt, write_receipt};
 use signed_notes::{Checkpoint, Signer, sign_checkpoint};
 use std::alloc::Global;

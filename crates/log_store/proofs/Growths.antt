@@ -11,8 +11,8 @@ use Rattle.merkle_log.specs.Asked.{IsPeak}
 use Rattle.merkle_log.specs.Kept.{stored_front, Keeps}
 use Rattle.merkle_log.specs.Log.{merkle_tree_hash}
 use Rattle.merkle_log.specs.Stored.{position}
-use Rattle.paxlog_run.specs.Append.{HasBehind}
-use Rattle.paxlog_run.specs.LogFile.{slot_to_take, stored_in, IsLogFile}
+use Rattle.log_file.specs.Append.{HasBehind}
+use Rattle.log_file.specs.LogFile.{slot_to_take, stored_in, IsLogFile}
 use Rattle.log_store.specs.Overlay.{overlay}
 use Rattle.log_store.specs.Store.{IsGrowth}
 use Rattle.log_store.proofs.Reading.{whole-front, whole-keeps}

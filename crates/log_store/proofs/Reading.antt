@@ -17,10 +17,10 @@ use Rattle.merkle_log.proofs.KeptPlaces.{above-up}
 use Rattle.merkle_log.proofs.KeptRows.{fewer-first, fewer-hashed, rows-agree, stored-same}
 use Rattle.merkle_log.proofs.Positions.{count-rises, level-fits, place-within, position-within, row_of-at, up-times}
 use Rattle.merkle_log.proofs.Tests.{power-rises}
-use Rattle.paxlog_run.specs.Faults.{log_size, no_head, only_if}
-use Rattle.paxlog_run.specs.LogFile.{digest_count, file_head, slot_to_take, slots_head, stored_in}
-use Rattle.paxlog_run.specs.declared.fault.Fault.TheVariants.{NoLog, Short}
-use Rattle.paxlog_run.proofs.Pieces.{piece-cut}
+use Rattle.log_file.specs.Faults.{log_size, no_head, only_if}
+use Rattle.log_file.specs.LogFile.{digest_count, file_head, slot_to_take, slots_head, stored_in}
+use Rattle.log_file.specs.declared.fault.Fault.TheVariants.{NoLog, Short}
+use Rattle.log_file.proofs.Pieces.{piece-cut}
 use Rattle.log_store.specs.Overlay.{overlay}
 use Rattle.log_store.specs.Spots.{spotted, AreOf}
 use Rattle.log_store.specs.declared.spots.Spot.{Spot}

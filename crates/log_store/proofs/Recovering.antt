@@ -11,9 +11,9 @@ use Rattle.merkle_log.specs.Kept.{Keeps}
 use Rattle.merkle_log.specs.Log.{merkle_tree_hash}
 use Rattle.merkle_log.specs.Stored.{stored_count}
 use Rattle.merkle_log.proofs.Positions.{no-count}
-use Rattle.paxlog_run.specs.LogFile.{larger, slot, slot_fits, slot_size, title, written}
-use Rattle.paxlog_run.proofs.Files.{log-holds, slot-torn, stored-same, Holds}
-use Rattle.paxlog_run.proofs.Heads.{fits-size, is_headed, length-slot, same_bytes, slot-fits, HasHead, Uses}
+use Rattle.log_file.specs.LogFile.{larger, slot, slot_fits, slot_size, title, written}
+use Rattle.log_file.proofs.Files.{log-holds, slot-torn, stored-same, Holds}
+use Rattle.log_file.proofs.Heads.{fits-size, is_headed, length-slot, same_bytes, slot-fits, HasHead, Uses}
 use Rattle.log_store.specs.Sound.{HasStored}
 use Rattle.log_store.specs.Store.{IsSettled}
 use Rattle.log_store.proofs.Sounding.{front-of, none-hashed}

@@ -1,11 +1,11 @@
 -- Faults of a log's file.
 use Rattle.std.proofs.Common.{◌≡◌, ℕ, List, Option, Result, Ok, Err, refl, inl, inr}
 use Rattle.ark_paths.specs.Pair.{Digest}
-use Rattle.paxlog_run.specs.Faults.{log_size, of_first}
-use Rattle.paxlog_run.specs.declared.fault.Fault as fault_of_files
-use Rattle.paxlog_run.specs.declared.fault.Fault.TheVariants.{Damaged}
-use Rattle.paxlog_run.specs.LogFile.{IsLogFile}
-use Rattle.paxlog_run.proofs.Sizes.{given-refused}
+use Rattle.log_file.specs.Faults.{log_size, of_first}
+use Rattle.log_file.specs.declared.fault.Fault as fault_of_files
+use Rattle.log_file.specs.declared.fault.Fault.TheVariants.{Damaged}
+use Rattle.log_file.specs.LogFile.{IsLogFile}
+use Rattle.log_file.proofs.Sizes.{given-refused}
 use Rattle.log_store.specs.Refused.{IsRefusedFor}
 use Rattle.log_store.specs.declared.stop.Stop.{Stop}
 use Rattle.log_store.specs.declared.stop.Stop.TheVariants.{Fault, Disk}

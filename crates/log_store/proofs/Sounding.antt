@@ -16,11 +16,11 @@ use Rattle.merkle_log.proofs.Edges.{row_pair}
 use Rattle.merkle_log.proofs.Hashed.{hashed-all, HashedTo}
 use Rattle.merkle_log.proofs.KeptRows.{keeps-of, up-rises}
 use Rattle.merkle_log.proofs.Positions.{length-row_of, place-within, position-within, row_of-at, up-carry, up-more, up-same, up-times_all}
-use Rattle.paxlog_run.specs.Faults.{log_size, only_if}
-use Rattle.paxlog_run.specs.LogFile.{digest_count, file_end, file_head, slot_to_take, stored_in, IsLogFile}
-use Rattle.paxlog_run.specs.declared.fault.Fault.{Fault}
-use Rattle.paxlog_run.specs.declared.fault.Fault.TheVariants.{Short}
-use Rattle.paxlog_run.proofs.Files.{known}
+use Rattle.log_file.specs.Faults.{log_size, only_if}
+use Rattle.log_file.specs.LogFile.{digest_count, file_end, file_head, slot_to_take, stored_in, IsLogFile}
+use Rattle.log_file.specs.declared.fault.Fault.{Fault}
+use Rattle.log_file.specs.declared.fault.Fault.TheVariants.{Short}
+use Rattle.log_file.proofs.Files.{known}
 use Rattle.log_store.specs.Sound.{placed, AreNodes, HasStored, IsAhead, IsNode}
 use Rattle.log_store.proofs.Reading.{length-chunks, stands, stored-at, up-less, Stands}
 

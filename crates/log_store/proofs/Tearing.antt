@@ -5,15 +5,15 @@ use Rattle.std.proofs.lemmas.Bool.{cases_lt}
 use Rattle.std.proofs.lemmas.List.{length-append, length-drop, length-take-le, take-append-drop, drop-drop, take_at, drop_at}
 use Rattle.std.proofs.Math.Nat.{max-eq_left, le-max_left}
 use Rattle.ark_paths.specs.Pair.{Digest}
-use Rattle.paxlog_run.specs.Append.{HasBehind}
+use Rattle.log_file.specs.Append.{HasBehind}
 use Rattle.sha2.specs.Sha256.{sha256}
 use Rattle.ark_trees.specs.Rfc6962.{node_of}
 use Rattle.merkle_log.specs.Kept.{Keeps}
 use Rattle.merkle_log.specs.Log.{merkle_tree_hash}
-use Rattle.paxlog_run.specs.LogFile.{file_end, next_slot, slot, slot_front, slot_size, statement, stored_in, written, IsLogFile}
-use Rattle.paxlog_run.proofs.Files.{cut-head, cut-holds, cut-uses, holds-slot, keeps-more, known, known-free, log-holds, slot-torn, Holds, Known}
-use Rattle.paxlog_run.proofs.Heads.{fits-size, fits-stated, head-kept, is_headed, length-front, length-slot, length-statement, size-begins, slot-begin, slot-end, slot-fits, uses-kept, uses-turned, HasHead, Uses}
-use Rattle.paxlog_run.proofs.Pieces.{piece-written}
+use Rattle.log_file.specs.LogFile.{file_end, next_slot, slot, slot_front, slot_size, statement, stored_in, written, IsLogFile}
+use Rattle.log_file.proofs.Files.{cut-head, cut-holds, cut-uses, holds-slot, keeps-more, known, known-free, log-holds, slot-torn, Holds, Known}
+use Rattle.log_file.proofs.Heads.{fits-size, fits-stated, head-kept, is_headed, length-front, length-slot, length-statement, size-begins, slot-begin, slot-end, slot-fits, uses-kept, uses-turned, HasHead, Uses}
+use Rattle.log_file.proofs.Pieces.{piece-written}
 use Rattle.log_store.specs.Disk.{Torn, TornTwice}
 use Rattle.log_store.specs.Store.{IsBeforeOrAfter, IsGrowth, IsSettled}
 
@@ -208,7 +208,7 @@ module _ {leaves more : List Digest} {file bytes : List ℕ} {second : Bool} (gr
 
     end-count : length (take 20 (drop free digests-written)) ≡ 20
     end-count = length-take-le 20 (drop free digests-written)
-      (omega (arith, inside-in, length-drop free digests-written))
+        (omega (arith, inside-in, length-drop free digests-written))
 
     end-long : length end-part ≡ 32
     end-long = omega (
@@ -324,7 +324,7 @@ module _ {leaves more : List Digest} {file bytes : List ℕ} {second : Bool} (gr
         let piece = torn-piece (next_slot (not second)) 32 slot-written left
         (omega (arith, slot-inside (not second), slot-uses.long)) torn in
         subst (IsBeforeOrAfter leaves more) (sym piece.2)
-          (elim (slot-torn (leaves ++ more) root slot-written piece.0 (not
+        (elim (slot-torn (leaves ++ more) root slot-written piece.0 (not
         second)
         slot-uses piece.1 slot-holds) [
           | inl same ↦ inr (inl same)

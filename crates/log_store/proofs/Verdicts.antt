@@ -55,7 +55,7 @@ module _ (leaves : List Digest) (old_size size : ℕ) (path : List Digest) (old 
         let none : [] ≡ path = done_injective {E = Error} [] path
         (ap all_of (sym (path-whole node_of (sha256 []) (take size leaves) old_size (omega (arith, e, long)))) ∙ is) in
         let tops : old ≡ root = roots-same old root (ap (λ n. merkle_tree_hash node_of (sha256 []) (take n leaves))
-          (sym e)
+        (sym e)
         ∙ old_is) new_is in
         rw (e, tops, ← none) (same-accepted size root (omega (arith, some, e)))
   ]

@@ -1,9 +1,9 @@
 -- Why a call on a log's file stopped.
 use Rattle.std.specs.Prelude.{◌≡◌, ◌⊎◌, ℕ, List, Result, Ok, Err}
 use Rattle.ark_paths.specs.Pair.{Digest}
-use Rattle.paxlog_run.specs.LogFile.{IsLogFile}
-use Rattle.paxlog_run.specs.declared.fault.Fault.TheVariants.{Damaged, Memory}
-use Rattle.paxlog_run.specs.declared.fault.Fault as fault_of_files
+use Rattle.log_file.specs.LogFile.{IsLogFile}
+use Rattle.log_file.specs.declared.fault.Fault.TheVariants.{Damaged, Memory}
+use Rattle.log_file.specs.declared.fault.Fault as fault_of_files
 use Rattle.log_store.specs.declared.stop.Stop.{Stop}
 use Rattle.log_store.specs.declared.stop.Stop.TheVariants.{Fault, Disk}
 

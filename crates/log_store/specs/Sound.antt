@@ -5,7 +5,7 @@ use Rattle.ark_trees.specs.Rfc6962.{node_hash}
 use Rattle.merkle_log.specs.Kept.{Keeps}
 use Rattle.merkle_log.specs.Stored.{position}
 use Rattle.merkle_log.specs.Walk.{index_up}
-use Rattle.paxlog_run.specs.LogFile.{file_end, stored_in}
+use Rattle.log_file.specs.LogFile.{file_end, stored_in}
 
 -- the digest of a place, some levels up
 abbrev pub placed : List ℕ → ℕ → ℕ → Digest

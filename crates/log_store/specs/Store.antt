@@ -1,8 +1,8 @@
 -- What a log's file is after an append that was cut short, and after one that returned.
 use Rattle.std.specs.Prelude.{◌≡◌, ◌≢◌, ◌⊎◌, ◌<◌, ◌^◌, ℕ, Bool, List, ◌++◌, length, Some}
 use Rattle.ark_paths.specs.Pair.{Digest}
-use Rattle.paxlog_run.specs.Append.{HasBehind}
-use Rattle.paxlog_run.specs.LogFile.{file_head, next_slot, stored_in, written, IsLogFile}
+use Rattle.log_file.specs.Append.{HasBehind}
+use Rattle.log_file.specs.LogFile.{file_head, next_slot, stored_in, written, IsLogFile}
 
 -- A whole slot says a size that nobody wrote there, larger than the log's own: torn bytes have its check sum. That
 -- takes a coincidence of 12 bytes of SHA-256.

@@ -2,7 +2,7 @@
 
 ghost use Rattle.std.specs.Prelude.{◌≡◌, ◌≤◌, ◌+◌, ℕ, List, length, take, drop, IfOk, OnOk};
 ghost use Rattle.log_store.specs.Disk.{Elapses, Follows, Only, Torn};
-ghost use Rattle.paxlog_run.specs.LogFile.{written};
+ghost use Rattle.log_file.specs.LogFile.{written};
 
 /// A file: its length, and bytes that are read, written and synced. Each call may fail with the system's refusal.
 ///

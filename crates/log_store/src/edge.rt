@@ -8,12 +8,12 @@ ghost use Rattle.merkle_log.specs.Asked.{IsPeak};
 ghost use Rattle.merkle_log.specs.Log.{merkle_tree_hash};
 ghost use Rattle.merkle_log.specs.Stored.{position, row_of, IsStored, StoredValue};
 ghost use Rattle.merkle_log.specs.Kept.{Keeps};
-ghost use Rattle.paxlog_run.specs.LogFile.{file_end, stored_in};
+ghost use Rattle.log_file.specs.LogFile.{file_end, stored_in};
 
 use crate::disk::Disk;
+use log_file::head::START;
 use merkle_log::kept::{KeptNodes, position_of};
 use merkle_log::rows::{Rows, root_of};
-use paxlog_run::head::START;
 use sha2::{Digest as _, Sha256};
 use std::marker::{Brand, PhantomData};
 

@@ -11,10 +11,10 @@ ghost use Rattle.merkle_log.specs.Kept.{Keeps, stored_front};
 ghost use Rattle.merkle_log.specs.Log.{merkle_tree_hash};
 ghost use Rattle.merkle_log.specs.Stored.{row_of, stored_count};
 ghost use Rattle.log_store.specs.Refused.{IsRefusedFor};
-ghost use Rattle.paxlog_run.specs.Append.{appended_size, HasBehind};
-ghost use Rattle.paxlog_run.specs.declared.fault.Fault.TheVariants.{Memory};
-ghost use Rattle.paxlog_run.specs.Faults.{log_size};
-ghost use Rattle.paxlog_run.specs.LogFile.{file_end, slot_to_take, statement, stored_in, written, IsLogFile};
+ghost use Rattle.log_file.specs.Append.{appended_size, HasBehind};
+ghost use Rattle.log_file.specs.declared.fault.Fault.TheVariants.{Memory};
+ghost use Rattle.log_file.specs.Faults.{log_size};
+ghost use Rattle.log_file.specs.LogFile.{file_end, slot_to_take, statement, stored_in, written, IsLogFile};
 
 use crate::disk::Disk;
 use crate::edge::{Edge, Whole, root_at};
@@ -22,9 +22,9 @@ use crate::log::read_log;
 use crate::steps::write_durably;
 use crate::stop::Stop;
 use ark_base::serialize::CanonicalItem;
+use log_file::fault::Fault;
+use log_file::head::{START, front_of, next_slot, slot_of, statement_of};
 use merkle_log::kept::{append_over, is_size, stored_count};
-use paxlog_run::fault::Fault;
-use paxlog_run::head::{START, front_of, next_slot, slot_of, statement_of};
 use std::alloc::Global;
 use std::marker::{Brand, PhantomData};
 

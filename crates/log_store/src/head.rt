@@ -5,14 +5,14 @@ ghost use Rattle.ark_paths.specs.Pair.{Digest};
 ghost use Rattle.log_store.specs.Refused.{IsRefusedFor};
 ghost use Rattle.merkle_log.specs.Kept.{has_front};
 ghost use Rattle.merkle_log.specs.Stored.{stored_count};
-ghost use Rattle.paxlog_run.specs.Faults.{log_size};
-ghost use Rattle.paxlog_run.specs.LogFile.{file_end, file_head, IsLogFile};
+ghost use Rattle.log_file.specs.Faults.{log_size};
+ghost use Rattle.log_file.specs.LogFile.{file_end, file_head, IsLogFile};
 
 use crate::disk::Disk;
 use crate::stop::Stop;
+use log_file::fault::Fault;
+use log_file::head::{Head, START, fault_without_head, head_in};
 use merkle_log::kept::{is_size, stored_count};
-use paxlog_run::fault::Fault;
-use paxlog_run::head::{Head, START, fault_without_head, head_in};
 
 // Returns whether so many digests are as many as a log of this size has.
 fn has_front(size: usize, count: usize) -> bool

@@ -9,15 +9,15 @@ ghost use Rattle.merkle_log.specs.Kept.{Keeps};
 ghost use Rattle.merkle_log.specs.Log.{merkle_tree_hash};
 ghost use Rattle.merkle_log.specs.Stored.{position};
 ghost use Rattle.log_store.specs.Refused.{IsRefusedFor};
-ghost use Rattle.paxlog_run.specs.Faults.{log_size, of_first};
-ghost use Rattle.paxlog_run.specs.LogFile.{file_end, slot_to_take, stored_in, IsLogFile};
+ghost use Rattle.log_file.specs.Faults.{log_size, of_first};
+ghost use Rattle.log_file.specs.LogFile.{file_end, slot_to_take, stored_in, IsLogFile};
 
 use crate::disk::Disk;
 use crate::edge::{read_peaks, root_at, root_with};
 use crate::head::read_head;
 use crate::stop::Stop;
-use paxlog_run::fault::Fault;
-use paxlog_run::head::slot_to_take;
+use log_file::fault::Fault;
+use log_file::head::slot_to_take;
 
 /// The log of a file.
 #[derive(Clone, Copy)]

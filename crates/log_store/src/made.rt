@@ -4,13 +4,13 @@ ghost use Rattle.std.specs.Prelude.{◌≡◌, List, [], true, false, IfOk, OnOk
 ghost use Rattle.ark_paths.specs.Pair.{Digest};
 ghost use Rattle.log_store.specs.Disk.{Only};
 ghost use Rattle.log_store.specs.Store.{IsSettled};
-ghost use Rattle.paxlog_run.specs.LogFile.{IsLogFile};
+ghost use Rattle.log_file.specs.LogFile.{IsLogFile};
 
 use crate::disk::Disk;
 use crate::log::read_log;
 use crate::stop::Stop;
-use paxlog_run::fault::Fault;
-use paxlog_run::head::{START, head_of};
+use log_file::fault::Fault;
+use log_file::head::{START, head_of};
 use sha2::{Digest as _, Sha256};
 
 // Whether a file has no log.

@@ -12,9 +12,9 @@ ghost use Rattle.merkle_log.specs.Stored.{position, row_of, IsStored};
 ghost use Rattle.merkle_log.specs.Verdict.{consistency_verdict, inclusion_verdict};
 ghost use Rattle.log_store.specs.Refused.{IsOnlyMemory, IsRefusedFor};
 ghost use Rattle.log_store.specs.Spots.{found, AreOf, IsRead};
-ghost use Rattle.paxlog_run.specs.Faults.{is_older, log_size, of_first, only_if};
-ghost use Rattle.paxlog_run.specs.LogFile.{file_end, slot_to_take, stored_in, IsLogFile};
-ghost use Rattle.paxlog_run.specs.declared.fault.Fault.TheVariants.{Index, Memory, Size};
+ghost use Rattle.log_file.specs.Faults.{is_older, log_size, of_first, only_if};
+ghost use Rattle.log_file.specs.LogFile.{file_end, slot_to_take, stored_in, IsLogFile};
+ghost use Rattle.log_file.specs.declared.fault.Fault.TheVariants.{Index, Memory, Size};
 
 use crate::disk::Disk;
 use crate::edge::{Whole, read_digest, root_at};
@@ -22,10 +22,10 @@ use crate::log::root;
 use crate::spots::{Spot, Spots, read_beside, read_lowest, read_peaks_of};
 use crate::stop::Stop;
 use ark_trees::LogHasher;
+use log_file::fault::Fault;
 use merkle_log::kept::{KeptPaths, position_of};
 use merkle_log::paths::{consistency_path_of, inclusion_path_of};
 use merkle_log::{verify_consistency, verify_inclusion_digest};
-use paxlog_run::fault::Fault;
 use std::alloc::Global;
 use std::marker::{Brand, PhantomData};
 

@@ -9,7 +9,7 @@ ghost use Rattle.merkle_log.specs.Log.{merkle_tree_hash};
 ghost use Rattle.log_store.specs.Disk.{Only};
 ghost use Rattle.log_store.specs.Sound.{HasStored};
 ghost use Rattle.log_store.specs.Store.{IsSettled};
-ghost use Rattle.paxlog_run.specs.LogFile.{file_end, slots_head, IsLogFile};
+ghost use Rattle.log_file.specs.LogFile.{file_end, slots_head, IsLogFile};
 
 use crate::disk::Disk;
 use crate::edge::root_at;
@@ -17,9 +17,9 @@ use crate::sound::sound_front;
 use crate::steps::write_durably;
 use crate::stop::Stop;
 use crate::window::{PART, read_part};
+use log_file::fault::Fault;
+use log_file::head::{START, has_title, head_of, slots_in};
 use merkle_log::kept::stored_count;
-use paxlog_run::fault::Fault;
-use paxlog_run::head::{START, has_title, head_of, slots_in};
 
 /// What of a file can be recovered.
 #[derive(Clone, Copy)]

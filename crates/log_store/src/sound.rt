@@ -5,8 +5,8 @@ ghost use Rattle.ark_paths.specs.Pair.{Digest};
 ghost use Rattle.merkle_log.specs.Stored.{stored_count};
 ghost use Rattle.log_store.specs.Refused.{IsDamaged, IsRefusedFor};
 ghost use Rattle.log_store.specs.Sound.{AreNodes, IsAhead};
-ghost use Rattle.paxlog_run.specs.Faults.{log_size};
-ghost use Rattle.paxlog_run.specs.LogFile.{file_end, IsLogFile};
+ghost use Rattle.log_file.specs.Faults.{log_size};
+ghost use Rattle.log_file.specs.LogFile.{file_end, IsLogFile};
 
 use crate::disk::Disk;
 use crate::log::read_log;
@@ -14,8 +14,8 @@ use crate::stop::Stop;
 use crate::window::{Window, digest_in, no_window, window_at};
 use ark_crh::ArrayHash;
 use ark_trees::LogHasher;
+use log_file::fault::Fault;
 use merkle_log::kept::{position_of, stored_count};
-use paxlog_run::fault::Fault;
 
 // Returns whether each digest that an entry completes is the hash of its two.
 fn is_completed<D: Disk>(disk: &D, window: &Window, index: usize) -> Result<bool, D::Refusal>

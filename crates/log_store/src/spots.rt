@@ -7,14 +7,14 @@ ghost use Rattle.merkle_log.specs.Binding.{index_beside};
 ghost use Rattle.merkle_log.specs.Stored.{position, row_of, stored_count};
 ghost use Rattle.log_store.specs.Refused.{IsOnlyMemory};
 ghost use Rattle.log_store.specs.Spots.{found, AreMore, AreOf, IsRead};
-ghost use Rattle.paxlog_run.specs.LogFile.{file_end, stored_in};
+ghost use Rattle.log_file.specs.LogFile.{file_end, stored_in};
 
 use crate::disk::Disk;
 use crate::edge::{Whole, read_digest};
 use crate::stop::Stop;
+use log_file::fault::Fault;
 use merkle_log::kept::position_of;
 use merkle_log::rows::Rows;
-use paxlog_run::fault::Fault;
 use std::marker::PhantomData;
 
 /// A digest that was read, and its position in the log's list.

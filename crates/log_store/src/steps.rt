@@ -2,7 +2,7 @@
 
 ghost use Rattle.std.specs.Prelude.{◌≤◌, ◌≡◌, length, OnOk};
 ghost use Rattle.log_store.specs.Disk.{LeavesOnly, Only, Torn};
-ghost use Rattle.paxlog_run.specs.LogFile.{written};
+ghost use Rattle.log_file.specs.LogFile.{written};
 
 use crate::disk::Disk;
 

@@ -2,7 +2,7 @@
 
 ghost use Rattle.std.specs.Prelude.{◌≡◌};
 
-use paxlog_run::fault::Fault;
+use log_file::fault::Fault;
 
 /// Why a call on a log's file stops before it is done.
 #[derive(Drop)]

@@ -5,7 +5,7 @@ ghost use Rattle.log_store.specs.Sound.{IsAhead};
 
 use crate::disk::Disk;
 use crate::edge::read_digest;
-use paxlog_run::head::START;
+use log_file::head::START;
 
 /// How many bytes are read at once at most: those of 128 digests.
 pub const PART: usize = 4096;

@@ -4,7 +4,7 @@ use Rattle.std.specs.Prelude.{◌≡◌, ℕ, ◌-◌, ◌*◌, ◌/◌, ◌^◌
 use Rattle.ark_paths.specs.Pair.{Digest}
 use Rattle.merkle_log.specs.Kept.{front}
 use Rattle.merkle_log.specs.Stored.{row_of}
-use Rattle.paxlog_run.specs.LogFile.{stored_in}
+use Rattle.log_file.specs.LogFile.{stored_in}
 use Rattle.log_tiles.specs.declared.tile.Tile.{Tile}
 
 -- how many digests a level of tiles has in a log of this size: its complete subtrees of 256^level entries

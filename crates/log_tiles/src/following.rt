@@ -10,8 +10,8 @@ ghost use Rattle.merkle_log.specs.Verdict.{inclusion_verdict};
 
 use crate::stop::{Stop, of_store};
 use crate::tiled::{TileDisk, Tiles, Unread};
+use log_file::fault::Fault;
 use log_store::{Disk, InclusionProof};
-use paxlog_run::fault::Fault;
 use std::alloc::Global;
 
 /// What a checkpoint states of a log.

@@ -3,7 +3,7 @@
 ghost use Rattle.std.specs.Prelude.{◌≡◌, ◌≢◌};
 ghost use Rattle.log_tiles.specs.declared.stop.Stop.TheVariants.{Fork, Shrunk};
 
-use paxlog_run::fault::Fault;
+use log_file::fault::Fault;
 
 /// Why a log of tiles is not followed.
 #[derive(Drop)]

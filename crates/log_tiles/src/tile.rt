@@ -3,13 +3,13 @@
 ghost use Rattle.std.specs.Prelude.{◌≡◌, ◌≢◌, ◌≤◌, ◌<◌, ◌+◌, ◌^◌, ◌++◌, ◌∷◌, [], length, take, get_or, IfOk, OnOk, Err};
 ghost use Rattle.log_tiles.specs.Tiles.{rows_in, tile_in, width_in, IsTileOf};
 ghost use Rattle.merkle_log.specs.Walk.{index_up};
-ghost use Rattle.paxlog_run.specs.LogFile.{file_end};
+ghost use Rattle.log_file.specs.LogFile.{file_end};
 
 use crate::growth::row_length;
 use crate::stop::Stop;
+use log_file::fault::Fault;
 use log_store::{Disk, read_digest};
 use merkle_log::kept::position_of;
-use paxlog_run::fault::Fault;
 
 /// How many digests a full tile has.
 pub const FULL: usize = 256;

@@ -18,9 +18,9 @@ use crate::halving::root_of;
 use crate::tile::{FULL, Tile, width_of};
 use ark_crh::ArrayHash;
 use ark_trees::LogHasher;
+use log_file::head::{START, head_of};
 use log_store::Disk;
 use merkle_log::kept::stored_count;
-use paxlog_run::head::{START, head_of};
 use sha2::{Digest as _, Sha256};
 use std::marker::Model;
 

@@ -20,7 +20,7 @@ others-without key other (x ∷ xs) differ =
         → value_at other (cond (not a) (x ∷ without key xs) (without key xs))
         ≡ (if b then Some x.value else value_at other xs)
     by_tests false false p q ih = if_false (bytes_eq x.key other) (Some x.value) (value_at other (without key xs)) q
-      ∙ ih
+        ∙ ih
     by_tests false true p q ih = if_true (bytes_eq x.key other) (Some x.value) (value_at other (without key xs)) q
     by_tests true false p q ih = ih
     by_tests true true p q ih =
@@ -54,7 +54,7 @@ takes-back change old new same = λ q. by_key q (bytes_eq (changed_key change) q
     by_key q true is =
         let e = (bytes_eq-Decides (changed_key change) q).0 is in
         subst (λ (k : Key). value_at k (changed_by (giving (changed_key change) (value_at (changed_key change) old))
-          new)
+        new)
         ≡ value_at k old) e (given (changed_key change) (value_at (changed_key change) old) new)
     by_key q false is =
         others (giving (changed_key change) (value_at (changed_key change) old)) q new

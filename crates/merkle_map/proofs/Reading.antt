@@ -97,7 +97,7 @@ by_tag P tag rest sides found nothing one two hidden e = first (tag == 0) (tag =
     first false false false false e = absurd cc
 
 pub string-found : (bytes : List ℕ) (found : List ℕ × List ℕ) → string_read bytes ≡ Ok found
-  → bytes ≡ found.0 ++ found.1
+    → bytes ≡ found.0 ++ found.1
 string-found bytes found e = by_test (nat_lt (length bytes) 32) e
   where
     by_test : (b : Bool) → (if b then Err truncated else Ok (take 32 bytes, drop 32 bytes)) ≡ Ok found

@@ -17,6 +17,9 @@ use std::alloc::Global;
 /// How many forks are hashed in a pass at most.
 const MOST: usize = 1024;
 
+// How many passes there are at most: those of a tree of 2^30 forks.
+const PASSES: usize = 1 << 20;
+
 /// After fewer changes the forks are hashed one by one.
 pub const FEW: usize = 4;
 
@@ -449,8 +452,8 @@ pub fn fill_together<D: DigestItem, T: MapHasher<D>>(
     ensures same { shape D.numbers part.new ≡ shape D.numbers part.old }
     ensures kept { IsKept D.numbers (T.hashes hasher.now) part.new }
 {
-    // What a pass refuses, `fill` refuses again, or does without.
-    'passes: for _ in 0..u64::MAX {
+    // What a pass refuses, `fill` refuses again, or does without; and it hashes what is left behind the last pass.
+    'passes: for _ in 0..PASSES {
         match pass(alloc, hasher, part) {
             Ok(true) => {}
             Ok(false) => break,

@@ -5,9 +5,9 @@ use Rattle.std.proofs.lemmas.List.{drop-append-le, drop-drop, drop-take, length-
 use Rattle.std.proofs.Math.Nat.{le-max_left, le-max_right}
 use Rattle.std.proofs.Math.Seq.{drop-append_seam}
 use Rattle.log_store.specs.Disk.{Elapses, Torn}
-use Rattle.paxlog_run.specs.LogFile.{written}
+use Rattle.log_file.specs.LogFile.{written}
 use Rattle.paxidore_c.specs.Plan.{IsReadOf, IsStopped, carried}
-use Rattle.paxidore_c.specs.declared.log_file.replay.Step.{Step}
+use Rattle.paxidore_c.specs.declared.file_calls.replay.Step.{Step}
 
 -- ---- a write that was cut short
 

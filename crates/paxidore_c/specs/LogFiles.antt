@@ -2,8 +2,8 @@
 use Rattle.std.specs.Prelude.{◌≡◌, ◌<◌, ◌≤◌, ◌-◌, ◌&&◌, ℕ, nat_lt, not, Bool, true, List, length, take, get_or, ℤ, pos, negsuc, Result, Ok, Err}
 use Rattle.std.specs.List.{between, list_all}
 use Rattle.paxidore_c.specs.Answer.{refusal_code}
-use Rattle.paxidore_c.specs.declared.log_file.not_done.NotDone.{NotDone}
-use Rattle.paxidore_c.specs.declared.log_file.not_done.NotDone.TheVariants.{Refusal, More, NoLog, Short, HeadDamaged, Damaged}
+use Rattle.paxidore_c.specs.declared.file_calls.not_done.NotDone.{NotDone}
+use Rattle.paxidore_c.specs.declared.file_calls.not_done.NotDone.TheVariants.{Refusal, More, NoLog, Short, HeadDamaged, Damaged}
 
 -- the code of why a call is not done
 abbrev pub not_done_code : NotDone → ℤ

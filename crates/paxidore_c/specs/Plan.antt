@@ -4,8 +4,8 @@ use Rattle.std.specs.List.{flat_map}
 use Rattle.ark_paths.specs.Pair.{Digest}
 use Rattle.log_store.specs.Disk.{Torn}
 use Rattle.log_store.specs.Store.{IsBeforeOrAfter, IsSettled}
-use Rattle.paxlog_run.specs.LogFile.{written}
-use Rattle.paxidore_c.specs.declared.log_file.replay.Step.{Step}
+use Rattle.log_file.specs.LogFile.{written}
+use Rattle.paxidore_c.specs.declared.file_calls.replay.Step.{Step}
 
 -- The bytes are those of pieces of a file, one behind the other. A piece is a place and a count.
 abbrev pub IsReadOf : List (List ℕ) → List ℕ → List ℕ → Type 0

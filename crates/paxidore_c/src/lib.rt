@@ -7,13 +7,13 @@
 
 pub mod blake2s;
 mod buffer;
+pub mod file_calls;
 mod hashing;
 pub mod kept_changes;
 pub mod kept_proofs;
 pub mod kept_trees;
 mod leaves;
 pub mod log;
-pub mod log_file;
 pub mod log_keeper;
 pub mod map;
 pub mod poseidon;

@@ -3,7 +3,7 @@
 use crate::folders::TileFault;
 use crate::stop::{Stop, StopAt};
 use crate::{USAGE, checkpoints};
-use paxlog_run::fault::Fault;
+use log_file::fault::Fault;
 use paxlog_run::request::word;
 use std::io::Write;
 

@@ -2,8 +2,8 @@
 
 ghost use Rattle.std.specs.Prelude.{[]};
 
+use log_file::head::START;
 use log_store::Disk;
-use paxlog_run::head::START;
 use std::fs::File;
 use std::io;
 use std::os::unix::fs::FileExt;

@@ -6,11 +6,11 @@ use crate::reading::{Regular, bytes_of_at_most, if_found, open_regular};
 use crate::stop::Stop;
 use crate::store::folder_of;
 use crate::writing::{sync_way, write_whole};
+use log_file::fault::Fault;
 use log_tiles::{
     FULL, LONGEST, Tile, Tiles, bundle_name, is_bundle, push_entry, tile_name, width_of,
 };
 use memchr::memchr;
-use paxlog_run::fault::Fault;
 use std::alloc::Global;
 use std::fs::File;
 use std::os::unix::fs::FileExt;

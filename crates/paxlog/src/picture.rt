@@ -2,7 +2,7 @@
 
 use ark_crh::ArrayHash;
 use ark_trees::LogHasher;
-use paxlog_run::fault::Fault;
+use log_file::fault::Fault;
 use std::alloc::Global;
 
 // The digest of the entries from `start` up to `end`, some levels below the root.

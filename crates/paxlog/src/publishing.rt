@@ -1,7 +1,7 @@
 //! Logs that are written to folders of tiles, and the checkpoints above them.
 
 ghost use Rattle.std.specs.Prelude.{◌≡◌, ◌≤◌, ◌<◌, ◌^◌};
-ghost use Rattle.paxlog_run.specs.LogFile.{file_end};
+ghost use Rattle.log_file.specs.LogFile.{file_end};
 
 use crate::checkpoints::{note_of, signed_by};
 use crate::file_disk::FileDisk;
@@ -11,8 +11,8 @@ use crate::reading::is_there;
 use crate::stop::{Stop, StopAt};
 use crate::store::{folder_of, root_of_first, sync_folder_of, unchanged};
 use crate::writing::{locked_folder, sync_above, sync_way, write_whole};
+use log_file::fault::Fault;
 use log_tiles::{FULL, Head, Tile, continues, new_tiles, read_tile, row_length, width_of};
-use paxlog_run::fault::Fault;
 use std::alloc::Global;
 use std::fs;
 

@@ -1,8 +1,8 @@
 //! Why the command stops.
 
 use crate::folders::TileFault;
+use log_file::fault::Fault;
 use log_tiles::Unread;
-use paxlog_run::fault::Fault;
 use std::alloc::{AllocError, AllocFailed};
 use std::fs::TryLockError;
 use std::io;

@@ -2,9 +2,9 @@
 
 use crate::file_disk::FileDisk;
 use crate::stop::{Stop, StopAt};
+use log_file::fault::Fault;
+use log_file::head::START;
 use log_store::{Disk, InclusionProof, Recovered};
-use paxlog_run::fault::Fault;
-use paxlog_run::head::START;
 use paxlog_run::request::{After, Options};
 use std::fs::{File, OpenOptions, TryLockError};
 use std::io::{Read, Write};

@@ -1,9 +1,2 @@
-pub mod Chunks
-pub mod Files
-pub mod Growing
-pub mod Heads
 pub mod Lines
-pub mod Pieces
-pub mod Saying
-pub mod Sizes
 pub mod Words

@@ -2,28 +2,18 @@
 use Rattle.std.specs.Prelude.{ℕ, nat_lt, List, Bool, Result, Ok, Err}
 use Rattle.hex.specs.Hex.{decode_of}
 use Rattle.hex.specs.declared.error.FromHexError.{FromHexError}
-use Rattle.ark_base.specs.declared.error.Error.{Error}
-use Rattle.ark_base.specs.declared.error.Error.TheVariants.{OutOfMemory, IncorrectInputLength, NotPrimeOrder, GenericError, SerializationError}
 use Rattle.ark_base.specs.Digits.{itself, bytes_at}
 use Rattle.ark_base.specs.Outcome.{Outcome, ◌>>=◌}
 use Rattle.ark_paths.specs.Pair.{Digest}
 use Rattle.ark_trees.specs.Rfc6962.{log_hashes, node_of}
 use Rattle.merkle_log.specs.Received.{digests_in, inclusion_length, consistency_length, received_inclusion, received_consistency}
-use Rattle.paxlog_run.specs.Faults.{is_older, only_if}
-use Rattle.paxlog_run.specs.declared.fault.Fault.{Fault}
-use Rattle.paxlog_run.specs.declared.fault.Fault.TheVariants.{Memory, Index, Size, Length, Word}
+use Rattle.log_file.specs.Faults.{fault_of, is_older, only_if}
+use Rattle.log_file.specs.declared.fault.Fault.{Fault}
+use Rattle.log_file.specs.declared.fault.Fault.TheVariants.{Index, Size, Word}
 
 -- the digests of 32 bytes that bytes are, so many of them and nothing else
 abbrev pub proof_digests : ℕ → List ℕ → Outcome (List Digest)
 proof_digests count bytes = digests_in (bytes_at 32) itself count bytes
-
--- an error of a check, where index and sizes are good: the proof has another length
-abbrev pub fault_of : Error → Fault
-fault_of OutOfMemory = Memory
-fault_of (SerializationError error) = Length
-fault_of (IncorrectInputLength n) = Length
-fault_of (GenericError refusal) = Length
-fault_of NotPrimeOrder = Length
 
 -- a verdict with such faults
 abbrev pub with_fault : Outcome Bool → Result Bool Fault

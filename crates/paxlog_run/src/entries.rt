@@ -4,13 +4,13 @@ ghost use Rattle.std.specs.Prelude.{◌≡◌, ◌<◌, ◌≤◌, ◌∷◌, �
 ghost use Rattle.ark_crh.specs.Ahead.{lent};
 ghost use Rattle.ark_trees.specs.Rfc6962.{entry_hash};
 ghost use Rattle.paxlog_run.specs.Entries.{lines_of};
-ghost use Rattle.paxlog_run.specs.Faults.{GivesBy};
-ghost use Rattle.paxlog_run.specs.declared.fault.Fault.TheVariants.{Memory};
+ghost use Rattle.log_file.specs.Faults.{GivesBy};
+ghost use Rattle.log_file.specs.declared.fault.Fault.TheVariants.{Memory};
 
-use crate::fault::Fault;
 use ark_crh::ArrayHash;
 use ark_paths::runs::RUN;
 use ark_trees::LogHasher;
+use log_file::fault::Fault;
 use memchr::memchr;
 use std::alloc::Global;
 

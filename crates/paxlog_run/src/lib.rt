@@ -1,10 +1,7 @@
-//! What the command `paxlog` does with a transparency log whose stored digests lie in a file.
+//! What the command `paxlog` is asked for, and what it says of a log: words, entries, lines and verdicts.
 #![tactic(auto)]
 
 pub mod entries;
-pub mod fault;
-pub mod file;
-pub mod head;
 pub mod replies;
 pub mod request;
 pub mod verdicts;

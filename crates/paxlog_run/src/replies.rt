@@ -4,11 +4,11 @@ ghost use Rattle.std.specs.Prelude.{◌≡◌, ◌++◌, ◌∷◌, Ok};
 ghost use Rattle.std.specs.Fmt.{decimal};
 ghost use Rattle.std.specs.List.{flat_map};
 ghost use Rattle.ark_base.specs.Digits.{itself};
-ghost use Rattle.paxlog_run.specs.Faults.{GivesBy};
+ghost use Rattle.log_file.specs.Faults.{GivesBy};
 ghost use Rattle.paxlog_run.specs.Replies.{hex_line};
 
-use crate::fault::Fault;
 use ark_base::serialize::CanonicalItem;
+use log_file::fault::Fault;
 use std::alloc::Global;
 
 /// Returns the line of a root: the count of entries in decimal, a space, and the root in hexadecimal. The only error is `Memory`.

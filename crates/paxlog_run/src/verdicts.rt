@@ -4,12 +4,12 @@ ghost use Rattle.std.specs.Prelude.{◌≡◌, ℕ, List, true, Ok, IfOk};
 ghost use Rattle.hex.specs.Hex.{decode_of};
 ghost use Rattle.ark_trees.specs.Rfc6962.{log_hashes, node_of};
 ghost use Rattle.merkle_log.specs.Received.{ShowsFront, ShowsLogLeaf, consistency_length, inclusion_length};
-ghost use Rattle.paxlog_run.specs.Faults.{GivesBy};
+ghost use Rattle.log_file.specs.Faults.{GivesBy};
 ghost use Rattle.paxlog_run.specs.Verdicts.{continuing_shown, continuing_shown_by, entry_shown, entry_shown_by, proof_digests, spelled};
 
-use crate::fault::Fault;
 use ark_trees::LogHasher;
 use hex::FromHexError;
+use log_file::fault::Fault;
 use merkle_log::{verify_consistency_bytes, verify_inclusion_bytes};
 use std::alloc::Global;
 

@@ -5,9 +5,9 @@ use Rattle.sha2.specs.Sha256.{sha256}
 use Rattle.ark_base.specs.Outcome.{◌>>=◌}
 use Rattle.ark_trees.specs.Rfc6962.{node_of}
 use Rattle.merkle_log.specs.Log.{merkle_tree_hash}
-use Rattle.paxlog_run.specs.Faults.{only_if}
-use Rattle.paxlog_run.specs.declared.fault.Fault.{Fault}
-use Rattle.paxlog_run.specs.declared.fault.Fault.TheVariants.{Size}
+use Rattle.log_file.specs.Faults.{only_if}
+use Rattle.log_file.specs.declared.fault.Fault.{Fault}
+use Rattle.log_file.specs.declared.fault.Fault.TheVariants.{Size}
 use Rattle.log_checkpoints.proofs.checkpoint.Goals as goal
 
 -- Where no size is named it is that of the log.

@@ -9,7 +9,7 @@ once_more : {G : Type 0} {g : Group G} (laws : IsCommutativeGroup g) (x sum new 
     → sum ≡ times g (2 ^ i) x → new ≡ g.plus sum sum → new ≡ times g (2 ^ (i + 1)) x
 once_more {G} {g} laws x sum new i is is_new =
     let power : 2 ^ (i + 1) ≡ 2 ^ i * 2 = ap (λ n. 2 ^ n) (let one : i + 1 ≡ suc i = omega arith in one)
-      ∙ pow-suc 2 i in
+    ∙ pow-suc 2 i in
     is_new ∙ ap (λ (y : G). g.plus y y) is ∙ sym (times-add laws (2 ^ i) (2 ^ i) x)
     ∙ times_at laws {m = 2 ^ i + 2 ^ i} {n = 2 ^ (i + 1)} x (omega (arith, power))
 

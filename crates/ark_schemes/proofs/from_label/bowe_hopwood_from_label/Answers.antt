@@ -8,6 +8,9 @@ returns-clause-made g c =
     IfOk-weaker c.parameters_of.result _ _ (λ parameters made. (
       c.in_ok-elements.elements.items,
       c.in_ok-elements.ensures.made,
-      (c.in_ok-elements.ensures.long, made ∙ ap₂ (λ (n : ℕ) xs. map (sixteenfolds g.C.AdditiveGroup.group n) xs)
-      c.WINDOW_SIZE-2.ensures c.deref.ensures.value),
+      (
+        c.in_ok-elements.ensures.long,
+        made ∙ ap₂ (λ (n : ℕ) xs. map (sixteenfolds g.C.AdditiveGroup.group n) xs)
+            c.WINDOW_SIZE-2.ensures c.deref.ensures.value,
+      ),
     )) c.parameters_of.ensures.made

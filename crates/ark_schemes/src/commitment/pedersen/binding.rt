@@ -1,7 +1,7 @@
 //! What two openings of one commitment give: a relation among its elements.
 
-ghost use Rattle.std.specs.Prelude.{◌≡◌, map, length, IfOk};
-ghost use Rattle.ark_pedersen.specs.Binding.{AreAllZero};
+ghost use Rattle.std.specs.Prelude.{◌≡◌, ◌⊎◌, map, length, Err, IfErr, IfOk};
+ghost use Rattle.ark_pedersen.specs.Binding.{relation_outcome, AreAllZero};
 ghost use Rattle.ark_schemes.specs.CommitmentBinding.{IsCommitmentRelation};
 
 use crate::commitment::pedersen::Randomness;
@@ -33,6 +33,9 @@ pub fn opening_relation_of<C: AdditiveGroup, W: Window>(
         → (left.now ≡ right.now)
         × (C.ScalarField.value left_randomness.now.0
         ≡ C.ScalarField.value right_randomness.now.0)) }
+    ensures refused { let outcome = relation_outcome C.ScalarField.MODULUS W.Window in
+        IfErr result (λ error. (error ≡ Error.OutOfMemory)
+        ⊎ (outcome left.now right.now ≡ Err error)) }
 {
     let mut found = relation_of::<C, W>(alloc, left, right)?;
     found.insert(0, left_randomness.0.sub(right_randomness.0))?;

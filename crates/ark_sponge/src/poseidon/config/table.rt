@@ -1,6 +1,8 @@
 //! The table of parameters.
 
-ghost use Rattle.std.specs.Prelude.{map, IfOk, ◌≡◌};
+ghost use Rattle.std.specs.Prelude.{map, IfErr, IfOk, ◌≡◌, ◌⊎◌};
+ghost use Rattle.ark_base.specs.declared.error.Error.TheVariants.{GenericError, OutOfMemory};
+ghost use Rattle.ark_base.specs.declared.error.Refusal.TheVariants.{ParameterShape};
 ghost use Rattle.ark_sponge.specs.Table.{IsTable, shape_of};
 
 use crate::poseidon::config::PoseidonConfig;
@@ -27,7 +29,10 @@ impl<F: Field> PoseidonConfig<F> {
     ///
     /// Errors: `ParameterShape` for parameters that are not `prepared`; `OutOfMemory`.
     pub fn table(&self, alloc: Global) -> Result<Vec<F>, Error>
-        ensures { IfOk result (λ table. IsTable F.MODULUS self.now (map F.value table.items)) }
+        ensures made { IfOk result (λ table.
+            IsTable F.MODULUS self.now (map F.value table.items)) }
+        ensures refused { IfErr result (λ error.
+            (error ≡ OutOfMemory) ⊎ (error ≡ GenericError ParameterShape)) }
     {
         let Some(recurrence) = &self.recurrence else {
             return Err(Error::GenericError(Refusal::ParameterShape));

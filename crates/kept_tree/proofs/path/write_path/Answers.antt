@@ -32,7 +32,7 @@ put-requires-2 c =
 pub returns-clause-bytes : goal.returns-clause-bytes
 returns-clause-bytes c =
     path-all c.args.buffer.now c.args.memory.now c.args.index c.levels_of-levels.result
-      (omega (arith, c.levels_of-levels.ensures))
+    (omega (arith, c.levels_of-levels.ensures))
     c.to_le_bytes-2.result c.levels.buffer c.put-2.new.buffer c.levels.done (omega arith) c.levels.invariant
     (word-bytes c.args.index c.to_le_bytes-2.result c.to_le_bytes-2.ensures) c.put-2.ensures
 

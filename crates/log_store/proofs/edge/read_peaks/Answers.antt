@@ -2,7 +2,7 @@ use Rattle.std.proofs.Common.{◌≡◌, ◌-◌, ◌/◌, ◌∙◌, [], get_or
 use Rattle.std.proofs.lemmas.Bool.{cases_lt}
 use Rattle.merkle_log.specs.Walk.{index_up}
 use Rattle.merkle_log.proofs.Positions.{up-more}
-use Rattle.paxlog_run.specs.LogFile.{stored_in}
+use Rattle.log_file.specs.LogFile.{stored_in}
 use Rattle.log_store.proofs.Reading.{level-below, level-low, place-stands, stored-at}
 use Rattle.log_store.proofs.edge.read_peaks.Goals as goal
 use Rattle.log_store.proofs.edge.read_peaks.Goals.{then-left-eq1+in_ok-digest, else-left-eq1}

@@ -2,7 +2,7 @@ use Rattle.std.proofs.Common.{◌≡◌, ◌<◌, ◌≤◌, ℕ, [], length, ge
 use Rattle.merkle_log.specs.Asked.{IsPeak}
 use Rattle.merkle_log.specs.Stored.{position}
 use Rattle.merkle_log.specs.Walk.{index_up}
-use Rattle.paxlog_run.specs.LogFile.{file_end, stored_in}
+use Rattle.log_file.specs.LogFile.{file_end, stored_in}
 use Rattle.log_store.proofs.edge.read_peaks.Given as goal
 
 abbrev pub invariant-levels : goal.invariant-levels

@@ -1,5 +1,5 @@
 use Rattle.log_store.specs.Overlay.{overlay}
-use Rattle.paxlog_run.specs.LogFile.{stored_in}
+use Rattle.log_file.specs.LogFile.{stored_in}
 use Rattle.log_store.proofs.edge.root_with.Given as goal
 
 abbrev pub ghosts-root_over : goal.ghosts-root_over

@@ -2,7 +2,7 @@ use Rattle.std.proofs.Common.{◌≡◌, ℕ, List, ◌+◌, ◌*◌, ◌<◌, �
 use Rattle.std.specs.Prelude.{min}
 use Rattle.merkle_log.specs.Stored.{stored_count}
 use Rattle.ark_paths.specs.Pair.{Digest}
-use Rattle.paxlog_run.specs.LogFile.{file_end, stored_in, IsLogFile}
+use Rattle.log_file.specs.LogFile.{file_end, stored_in, IsLogFile}
 use Rattle.log_store.specs.Store.{IsBeforeOrAfter}
 use Rattle.log_store.proofs.Growths.{made-of, IsMade}
 use Rattle.log_store.proofs.Moments.{unmoved}

@@ -1,5 +1,5 @@
 use Rattle.log_store.specs.Overlay.{overlay}
-use Rattle.paxlog_run.specs.LogFile.{stored_in}
+use Rattle.log_file.specs.LogFile.{stored_in}
 use Rattle.log_store.proofs.growth.append.Given as goal
 
 abbrev pub ghosts-bytes_over : goal.ghosts-bytes_over

@@ -1,6 +1,6 @@
 use Rattle.std.proofs.Common.{inl, refl, Ok, ap, sym, ◌∙◌}
 use Rattle.merkle_log.proofs.Givens.{known_anyway}
-use Rattle.paxlog_run.specs.LogFile.{slot_to_take}
+use Rattle.log_file.specs.LogFile.{slot_to_take}
 use Rattle.log_store.specs.Store.{IsBeforeOrAfter}
 use Rattle.log_store.proofs.Moments.{unmoved}
 use Rattle.log_store.proofs.growth.append_after.Goals as goal

@@ -2,7 +2,7 @@ use Rattle.std.proofs.Common.{◌≡◌, ◌+◌, ◌<◌, ◌≤◌, [], length
 use Rattle.std.proofs.lemmas.List.{length-take-le}
 use Rattle.merkle_log.specs.Kept.{stored_front}
 use Rattle.merkle_log.specs.Stored.{row_of}
-use Rattle.paxlog_run.proofs.Growing.{behind-of}
+use Rattle.log_file.proofs.Growing.{behind-of}
 use Rattle.log_store.proofs.growth.bytes_made.Goals as goal
 
 pub append_over-made-requires-clause-held : goal.append_over-made-requires-clause-held

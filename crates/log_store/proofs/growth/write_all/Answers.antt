@@ -4,7 +4,7 @@ use Rattle.ark_paths.specs.Pair.{Digest}
 use Rattle.ark_trees.specs.Rfc6962.{node_of}
 use Rattle.merkle_log.specs.Log.{merkle_tree_hash}
 use Rattle.merkle_log.proofs.Givens.{known_if_ok}
-use Rattle.paxlog_run.specs.LogFile.{file_end, written}
+use Rattle.log_file.specs.LogFile.{file_end, written}
 use Rattle.log_store.specs.Disk.{LeavesOnly, Only}
 use Rattle.log_store.specs.Store.{IsBeforeOrAfter, IsGrowth, IsSettled}
 use Rattle.log_store.proofs.Moments.{then_on, weaker}

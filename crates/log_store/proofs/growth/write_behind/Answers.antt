@@ -1,6 +1,6 @@
 use Rattle.std.proofs.Common.{◌≡◌, ◌≤◌, length, ap, ◌∙◌, arith}
 use Rattle.log_store.specs.Disk.{Only, TornTwice}
-use Rattle.paxlog_run.proofs.Heads.{length-statement}
+use Rattle.log_file.proofs.Heads.{length-statement}
 use Rattle.log_store.proofs.Moments.{synced, weaker, written_once, written_twice, Ran}
 use Rattle.log_store.proofs.Tearing.{longer-written, torn-once}
 use Rattle.log_store.proofs.growth.write_behind.Goals.{After-write_at-2}

@@ -1,6 +1,6 @@
 use Rattle.std.proofs.Common.{◌≡◌, ◌-◌, ◌/◌, true, false, Some, None, Err, inl, inr, ap, sym, ◌∙◌, arith}
 use Rattle.merkle_log.specs.Kept.{has_front}
-use Rattle.paxlog_run.specs.LogFile.{digest_count, file_head}
+use Rattle.log_file.specs.LogFile.{digest_count, file_head}
 use Rattle.log_store.proofs.Reading.{head-read, none-read, size-none, size-of, size-short}
 use Rattle.log_store.proofs.head.read_head.Goals as goal
 

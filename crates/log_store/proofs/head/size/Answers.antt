@@ -1,5 +1,5 @@
 use Rattle.std.proofs.Common.{length, sym}
-use Rattle.paxlog_run.proofs.Files.{sizes-same}
+use Rattle.log_file.proofs.Files.{sizes-same}
 use Rattle.log_store.proofs.head.size.Goals as goal
 
 pub returns : goal.returns

@@ -1,4 +1,4 @@
-use Rattle.paxlog_run.proofs.Sizes.{size-above, size-inside}
+use Rattle.log_file.proofs.Sizes.{size-above, size-inside}
 use Rattle.log_store.proofs.log.first_of.Goals as goal
 
 pub returns-then-size-all-clause-refused : goal.returns-then-size-all-clause-refused

@@ -1,7 +1,7 @@
 use Rattle.std.proofs.Common.{◌≡◌, length, inr, refl, sym, ◌∙◌, subst, arith}
 use Rattle.merkle_log.specs.Kept.{Keeps}
-use Rattle.paxlog_run.specs.LogFile.{stored_in}
-use Rattle.paxlog_run.proofs.Files.{sizes-same}
+use Rattle.log_file.specs.LogFile.{stored_in}
+use Rattle.log_file.proofs.Files.{sizes-same}
 use Rattle.log_store.proofs.Growths.{none-states, top-of}
 use Rattle.log_store.proofs.Reading.{slots-read}
 use Rattle.log_store.proofs.log.read_log.Goals as goal

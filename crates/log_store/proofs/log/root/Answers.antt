@@ -9,7 +9,7 @@ use Rattle.merkle_log.specs.Log.{merkle_tree_hash}
 use Rattle.merkle_log.proofs.Positions.{count-rises}
 use Rattle.log_store.specs.declared.log.Log.{Log}
 use Rattle.log_store.proofs.Refusals.{refused-first}
-use Rattle.paxlog_run.specs.LogFile.{slot_to_take}
+use Rattle.log_file.specs.LogFile.{slot_to_take}
 use Rattle.log_store.proofs.log.root.Goals as goal
 
 pub returns-in_err-log-clause-refused : goal.returns-in_err-log-clause-refused

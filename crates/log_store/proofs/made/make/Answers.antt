@@ -1,6 +1,6 @@
 use Rattle.std.proofs.Common.{◌++◌, [], sym, ◌∙◌, subst, ap, arith}
 use Rattle.sha2.specs.Sha256.{sha256}
-use Rattle.paxlog_run.specs.LogFile.{slot, title}
+use Rattle.log_file.specs.LogFile.{slot, title}
 use Rattle.log_store.specs.Store.{IsSettled}
 use Rattle.log_store.proofs.Recovering.{new-settled}
 use Rattle.log_store.proofs.made.make.Goals as goal

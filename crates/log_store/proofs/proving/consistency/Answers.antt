@@ -6,9 +6,9 @@ use Rattle.ark_trees.specs.Rfc6962.{node_of}
 use Rattle.merkle_log.specs.Edge.{all_of}
 use Rattle.merkle_log.specs.Log.{consistency_path}
 use Rattle.merkle_log.proofs.Positions.{count-rises}
-use Rattle.paxlog_run.proofs.Saying.{old-above, old-none}
-use Rattle.paxlog_run.specs.Faults.{is_older, only_if}
-use Rattle.paxlog_run.specs.declared.fault.Fault.TheVariants.{Size}
+use Rattle.log_file.proofs.Saying.{old-above, old-none}
+use Rattle.log_file.specs.Faults.{is_older, only_if}
+use Rattle.log_file.specs.declared.fault.Fault.TheVariants.{Size}
 use Rattle.log_store.proofs.Refusals.{refused-given}
 use Rattle.merkle_log.specs.Verdict.{consistency_verdict}
 use Rattle.log_store.proofs.Verdicts.{continued, not_both}

@@ -6,7 +6,7 @@ use Rattle.merkle_log.specs.Edge.{all_of}
 use Rattle.merkle_log.specs.Log.{consistency_path}
 use Rattle.merkle_log.proofs.KeptRows.{up-rises}
 use Rattle.merkle_log.proofs.Positions.{count-rises}
-use Rattle.paxlog_run.specs.LogFile.{stored_in}
+use Rattle.log_file.specs.LogFile.{stored_in}
 use Rattle.log_store.specs.Spots.{AreOf}
 use Rattle.log_store.proofs.Reading.{path-whole, spotted-first, spotted-stored}
 use Rattle.log_store.proofs.Spotted.{spotted-held}

@@ -1,5 +1,5 @@
 use Rattle.log_store.specs.Spots.{spotted}
-use Rattle.paxlog_run.specs.LogFile.{stored_in}
+use Rattle.log_file.specs.LogFile.{stored_in}
 use Rattle.log_store.proofs.proving.consistency_at.Given as goal
 
 abbrev pub ghosts-consistency_over : goal.ghosts-consistency_over

@@ -6,10 +6,10 @@ use Rattle.ark_trees.specs.Rfc6962.{node_of}
 use Rattle.merkle_log.specs.Edge.{all_of}
 use Rattle.merkle_log.specs.Log.{inclusion_path}
 use Rattle.merkle_log.proofs.Positions.{place-within, position-within}
-use Rattle.paxlog_run.proofs.Saying.{index-beyond}
-use Rattle.paxlog_run.specs.Faults.{only_if}
-use Rattle.paxlog_run.specs.LogFile.{stored_in}
-use Rattle.paxlog_run.specs.declared.fault.Fault.TheVariants.{Index}
+use Rattle.log_file.proofs.Saying.{index-beyond}
+use Rattle.log_file.specs.Faults.{only_if}
+use Rattle.log_file.specs.LogFile.{stored_in}
+use Rattle.log_file.specs.declared.fault.Fault.TheVariants.{Index}
 use Rattle.log_store.specs.Spots.{AreOf}
 use Rattle.log_store.proofs.Reading.{entry-at, spotted-first, spotted-stored}
 use Rattle.log_store.proofs.Refusals.{refused-given}

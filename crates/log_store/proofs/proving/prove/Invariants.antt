@@ -1,5 +1,5 @@
 use Rattle.log_store.specs.Spots.{spotted}
-use Rattle.paxlog_run.specs.LogFile.{stored_in}
+use Rattle.log_file.specs.LogFile.{stored_in}
 use Rattle.log_store.proofs.proving.prove.Given as goal
 
 abbrev pub ghosts-inclusion_over : goal.ghosts-inclusion_over

@@ -3,7 +3,7 @@ use Rattle.std.specs.Option.{option_map}
 use Rattle.std.proofs.lemmas.Bool.{cases_lt}
 use Rattle.merkle_log.proofs.Positions.{count-rises}
 use Rattle.merkle_log.specs.Stored.{stored_count}
-use Rattle.paxlog_run.proofs.Files.{enough-digests, known}
+use Rattle.log_file.proofs.Files.{enough-digests, known}
 use Rattle.log_store.proofs.Growths.{top-of}
 use Rattle.log_store.proofs.Reading.{stated-read}
 use Rattle.log_store.proofs.Sounding.{first-long, front-of, keeps-hashed, log-stored, rows}

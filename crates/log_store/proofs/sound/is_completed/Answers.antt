@@ -1,6 +1,6 @@
 use Rattle.std.proofs.Common.{◌≡◌, ◌≤◌, ◌+◌, ◌*◌, ◌/◌, ◌%◌, length, take, drop, ap, ◌∙◌, inl, inr, arith}
 use Rattle.std.proofs.lemmas.Bool.{cases_lt}
-use Rattle.paxlog_run.specs.LogFile.{file_end}
+use Rattle.log_file.specs.LogFile.{file_end}
 use Rattle.log_store.specs.Sound.{placed, IsAhead}
 use Rattle.merkle_log.proofs.Hashed.{other-says, same-says}
 use Rattle.log_store.proofs.Sounding.{climb, climbs, compares, entry-damaged, entry-hashed, other-stands, own-stands, up-stands, Compares}

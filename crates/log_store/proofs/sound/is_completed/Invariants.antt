@@ -1,6 +1,6 @@
 use Rattle.std.proofs.Common.{suc, ◌≡◌, ◌<◌, ◌≤◌, ◌+◌, ℕ, length}
 use Rattle.merkle_log.specs.Walk.{index_up}
-use Rattle.paxlog_run.specs.LogFile.{file_end}
+use Rattle.log_file.specs.LogFile.{file_end}
 use Rattle.log_store.specs.Sound.{placed, IsAhead, IsNode}
 use Rattle.log_store.proofs.Sounding.{Climbs}
 use Rattle.log_store.proofs.sound.is_completed.Given as goal

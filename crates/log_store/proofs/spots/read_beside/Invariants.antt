@@ -3,7 +3,7 @@ use Rattle.merkle_log.specs.Asked.{IsBeside}
 use Rattle.merkle_log.specs.Stored.{position}
 use Rattle.merkle_log.specs.Walk.{index_up}
 use Rattle.log_store.specs.Spots.{AreMore, AreOf, IsRead}
-use Rattle.paxlog_run.specs.LogFile.{file_end, stored_in}
+use Rattle.log_file.specs.LogFile.{file_end, stored_in}
 use Rattle.log_store.proofs.spots.read_beside.Given as goal
 
 abbrev pub invariant-levels : goal.invariant-levels
@@ -15,7 +15,7 @@ invariant-levels g l = record {
       → AreOf l.initial.spots.items (stored_in l.size (g.D.Disk.seen l.disk))
       → AreOf l.spots.items (stored_in l.size (g.D.Disk.seen l.disk));
   read : (level place : ℕ) → level < l.level → IsBeside l.index l.size level place → IsRead l.spots.items
-    (position level place);
+      (position level place);
   more : AreMore l.initial.spots.items l.spots.items;
 }
 

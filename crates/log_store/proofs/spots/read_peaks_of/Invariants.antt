@@ -3,7 +3,7 @@ use Rattle.merkle_log.specs.Asked.{IsPeak}
 use Rattle.merkle_log.specs.Stored.{position}
 use Rattle.merkle_log.specs.Walk.{index_up}
 use Rattle.log_store.specs.Spots.{AreMore, AreOf, IsRead}
-use Rattle.paxlog_run.specs.LogFile.{file_end, stored_in}
+use Rattle.log_file.specs.LogFile.{file_end, stored_in}
 use Rattle.log_store.proofs.spots.read_peaks_of.Given as goal
 
 abbrev pub invariant-levels : goal.invariant-levels

@@ -1,5 +1,5 @@
 use Rattle.std.proofs.Common.{sym, subst, ◌∙◌, arith}
-use Rattle.paxlog_run.specs.LogFile.{stored_in}
+use Rattle.log_file.specs.LogFile.{stored_in}
 use Rattle.log_store.specs.Spots.{AreMore, AreOf, IsRead}
 use Rattle.log_store.proofs.Reading.{stored-at}
 use Rattle.log_store.proofs.Spotted.{own-more, read-last, read-more}

@@ -1,7 +1,7 @@
 use Rattle.std.proofs.Common.{ap, arith, sym, ◌∙◌, [], get_or}
 use Rattle.merkle_log.specs.Kept.{front}
 use Rattle.merkle_log.proofs.Positions.{place-within, position-within, row_of-at}
-use Rattle.paxlog_run.specs.LogFile.{stored_in}
+use Rattle.log_file.specs.LogFile.{stored_in}
 use Rattle.log_store.proofs.Reading.{level-low, stored-at}
 use Rattle.log_tiles.proofs.tile.read_place.Goals as goal
 

@@ -1,7 +1,7 @@
 use Rattle.std.proofs.Common.{◌∷◌, ◌++◌, ◌*◌, [], take, drop, ap, arith, sym, ◌∙◌}
 use Rattle.merkle_log.specs.Kept.{front}
 use Rattle.merkle_log.proofs.Positions.{length-row_of}
-use Rattle.paxlog_run.specs.LogFile.{stored_in}
+use Rattle.log_file.specs.LogFile.{stored_in}
 use Rattle.log_tiles.specs.Tiles.{rows_in}
 use Rattle.log_tiles.proofs.Rows.{more-of, tile-inside, tile-level}
 use Rattle.log_tiles.proofs.tile.read_places.Goals as goal

@@ -1,6 +1,6 @@
 use Rattle.std.proofs.Common.{◌≡◌, ◌≤◌, ◌*◌, length, take, drop}
 use Rattle.log_tiles.specs.Tiles.{rows_in}
-use Rattle.paxlog_run.specs.LogFile.{file_end}
+use Rattle.log_file.specs.LogFile.{file_end}
 use Rattle.log_tiles.proofs.tile.read_places.Given as goal
 
 abbrev pub invariant-places : goal.invariant-places

@@ -22,7 +22,7 @@ runs-preserved g c =
     let hash = (g.T.TreeHasher.hashes c.args.hasher.now).leaf in
     let digests = digests_of g.D.Numbered.numbers c.in_ok-made.made in
     let appended : AppendsAll (g.T.TreeHasher.hashes c.args.hasher.now).pair.upper c.runs.stored digests
-      c.lay.new.self =
+    c.lay.new.self =
     laid-all _ _ _ (left_of g.D.Numbered.numbers c.in_ok-rows.rows.items) digests c.in_ok-rows.ensures.lowest
     c.in_ok-rows.ensures.hashed (rw (c.deref_mut.ensures.value) at c.in_ok-calls.ensures.laid)
     c.in_ok-calls.ensures.whole c.in_ok-calls.ensures.extends in

@@ -25,7 +25,7 @@ returns-clause-answer c = λ parameters of.
     (answers-give outcome c.verify_inclusion_bytes.result
     (subst (λ (hash : NodeHash). Answers (received_inclusion (element_hashes hash) c.args.root.now c.args.size
     c.args.index c.args.element.now path) c.verify_inclusion_bytes.result) same
-      c.verify_inclusion_bytes.ensures.answer))
+    c.verify_inclusion_bytes.ensures.answer))
 
 pub returns-clause-shows : goal.returns-clause-shows
 returns-clause-shows c = λ parameters of zero.

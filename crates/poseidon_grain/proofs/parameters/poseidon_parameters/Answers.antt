@@ -8,7 +8,7 @@ returns-in_ok-new-in-Some-found-clause-generated g c =
     let a = c.args in
     let value = g.F.Valued.value in
     let asked = asked_of g.F.Field.MODULUS g.F.Field.MODULUS_BIT_SIZE (a.rate + a.capacity) a.full_rounds
-      a.partial_rounds
+    a.partial_rounds
     a.skip_matrices in
     subst (AreParameters asked a.rate a.capacity a.alpha)
     (made_same g.F.Field.MODULUS_BIT_SIZE (record {

@@ -9,7 +9,7 @@ returns-then-not-is_neutral-clause-none c =
     let a = coordinates_of c.args.x c.args.y in (
       λ e s.
           let shows = order_shows a s.on_curve c.multiple_public.result (number c.order_of_subgroup.result)
-            c.is_neutral.result
+          c.is_neutral.result
           c.order_of_subgroup.ensures (c.multiple_public.ensures a s.on_curve c.lifted.ensures) c.is_neutral.ensures in
           let yes = shows.1 s.of_order in
           let no = c.if-not-is_neutral.true in

@@ -15,7 +15,7 @@ returns-in-Ok-clause-found g c =
     let is = store-found (g.T.MapHasher.hashes c.self.inside.hasher) own key c.self.invariant.stands
     c.self.invariant.whole _ c.in-Ok.ensures in
     done_injective {E = Error} _ (value_at key (entries_of own)) is ∙ ap (λ map. value_at key map.entries)
-      c.self.view_is
+    c.self.view_is
 
 pub returns-in-Err-clause-found : goal.returns-in-Err-clause-found
 returns-in-Err-clause-found g c =

@@ -36,7 +36,7 @@ returns-clause-only g c =
     let items = c.in_ok-siblings.siblings.items in
     let small : IsBytes bytes = λ i. omega (arith, c.type_inv.bytes i) in
     proof-only own bytes (proof_seen itself (record { end = c.in_ok-end.end; siblings = c.in_ok-siblings.siblings }))
-      small
+    small
     (ap (λ (n : Digest). proof_of_bytes n bytes) (done_injective {E = Error} own nothing c.in_ok-nothing.ensures)
     ∙ ap (λ o. o >>= λ end. siblings_read nothing end.1 >>= λ siblings. Ok
     (record { end = end.0; siblings = siblings })) c.in_ok-end.ensures.answer

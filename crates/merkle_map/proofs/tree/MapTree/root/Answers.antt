@@ -16,4 +16,4 @@ pub returns-clause-store : goal.returns-clause-store
 returns-clause-store g c =
     let h = g.T.MapHasher.hashes c.args.hasher.now in
     subst (IsRootOf h) c.self.view_is (root-of-store h (top_shape g.D.Numbered.numbers c.self.inside.top)
-      c.self.invariant.0)
+    c.self.invariant.0)

@@ -21,6 +21,6 @@ abbrev pub invariant-loop : goal.invariant-loop
 invariant-loop g l =
     let field = g.C.ScalarField in
     let found = first_nonce field.UniformRand.draw field.Valued.value
-      (challenge_times g (g.P.GeneratorMultiples.salt l.pp) l.message
+    (challenge_times g (g.P.GeneratorMultiples.salt l.pp) l.message
     (g.P.GeneratorMultiples.generator l.pp)) in
     found (128 - l.counter) (g.R.Rng.stream l.rng) ≡ found 128 (g.R.Rng.stream l.initial.rng)

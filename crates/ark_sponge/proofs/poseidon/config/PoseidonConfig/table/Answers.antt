@@ -8,8 +8,8 @@ use Rattle.ark_sponge.proofs.Rows.{slice_range-map}
 use Rattle.ark_sponge.proofs.TableRows.{first_part, is_table, last_part, put_table, rows_read}
 use Rattle.ark_sponge.proofs.poseidon.config.PoseidonConfig.table.Goals as goal
 
-pub returns : goal.returns
-returns g c =
+pub returns-clause-made : goal.returns-clause-made
+returns-clause-made g c =
     let f = g.F.Valued.value in
     let p = g.F.Field.MODULUS in
     let i = c.self.inside in

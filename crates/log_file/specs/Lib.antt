@@ -1,0 +1,3 @@
+pub mod Append
+pub mod Faults
+pub mod LogFile

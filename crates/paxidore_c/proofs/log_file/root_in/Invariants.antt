@@ -1,5 +1,0 @@
-use Rattle.std.proofs.Common.{[]}
-use Rattle.paxidore_c.proofs.log_file.root_in.Given as goal
-
-abbrev pub ghosts-root_of : goal.ghosts-root_of
-ghosts-root_of a = record { file = []; places = a.places.now; pieces = a.pieces.now; size = a.file_len }

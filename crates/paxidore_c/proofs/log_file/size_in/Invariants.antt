@@ -1,5 +1,0 @@
-use Rattle.std.proofs.Common.{[]}
-use Rattle.paxidore_c.proofs.log_file.size_in.Given as goal
-
-abbrev pub ghosts-size_of : goal.ghosts-size_of
-ghosts-size_of a = record { file = []; places = a.places.now; pieces = a.pieces.now; size = a.file_len }

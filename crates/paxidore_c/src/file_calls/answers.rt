@@ -1,0 +1,192 @@
+//! What is said of a log's file by what was read of it, and what is to be written there. The file is that of the caller, whole.
+
+ghost use Rattle.std.specs.Prelude.{◌≡◌, ◌≢◌, ◌≤◌, ◌<◌, ◌+◌, ◌++◌, List, ℕ, [], length, take, true, IfOk, Ok, Err};
+ghost use Rattle.sha2.specs.Sha256.{sha256};
+ghost use Rattle.ark_paths.specs.Pair.{Digest};
+ghost use Rattle.ark_trees.specs.Rfc6962.{node_of};
+ghost use Rattle.log_store.specs.Store.{IsBeforeOrAfter, IsSettled};
+ghost use Rattle.merkle_log.specs.Edge.{all_of};
+ghost use Rattle.merkle_log.specs.Log.{consistency_path, inclusion_path, merkle_tree_hash};
+ghost use Rattle.merkle_log.specs.Verdict.{consistency_verdict, inclusion_verdict};
+ghost use Rattle.paxidore_c.specs.Plan.{IsReadOf, IsStopped, carried};
+ghost use Rattle.paxidore_c.specs.declared.file_calls.not_done.NotDone.TheVariants.{More};
+ghost use Rattle.log_file.specs.LogFile.{IsLogFile};
+
+use crate::file_calls::not_done::NotDone;
+use crate::file_calls::replay::{Held, Replay, Step};
+use log_store::{ConsistencyProof, InclusionProof};
+use std::alloc::Global;
+
+/// What is to be written to the file of a log, and its size then.
+#[derive(Drop)]
+pub struct Growth {
+    pub size: usize,
+    pub steps: Vec<Step>,
+}
+
+/// Returns what is to be written to the file of a log for entries with these digests, one at least.
+pub fn growth_of<F: Held>(
+    alloc: Global,
+    file_len: usize,
+    places: &[[usize; 2]],
+    pieces: &[u8],
+    digests: &[[u8; 32]],
+) -> Result<Growth, NotDone>
+    requires places { places.now ≡ F.places }
+    requires pieces { pieces.now ≡ F.pieces }
+    requires bytes { file_len ≡ F.size }
+    requires some { 0 < length digests.now }
+
+    // Once all is carried out, the file is that of the log with the entries; and so it is if one of its two slots is lost.
+    ensures grown { IsReadOf F.places F.pieces F.file → F.size ≡ length F.file
+        → (leaves : List Digest) → IsLogFile leaves F.file
+        → IfOk result (λ growth. IsSettled (leaves ++ digests.now)
+        (carried growth.steps.items F.file)) }
+    ensures size { IsReadOf F.places F.pieces F.file → F.size ≡ length F.file
+        → (leaves : List Digest) → IsLogFile leaves F.file
+        → IfOk result (λ growth. growth.size ≡ length leaves + length digests.now) }
+
+    // Wherever that stops, the log is as it was, or with the entries.
+    ensures stopped { IsReadOf F.places F.pieces F.file → F.size ≡ length F.file
+        → (leaves : List Digest) → IsLogFile leaves F.file
+        → IfOk result (λ growth. (left : List ℕ) → IsStopped growth.steps.items F.file left
+        → IsBeforeOrAfter leaves digests.now left) }
+    ensures done { result ≢ Err More }
+{
+    let mut disk = Replay::<F>::new(alloc, file_len, places, pieces);
+    match log_store::append(alloc, &mut disk, digests) {
+        Ok(size) => Ok(Growth {
+            size,
+            steps: disk.into_steps(),
+        }),
+        Err(stop) => Err(NotDone::from(stop)),
+    }
+}
+
+/// Returns how many entries the log of a file has.
+pub fn size_of<F: Held>(
+    alloc: Global,
+    file_len: usize,
+    places: &[[usize; 2]],
+    pieces: &[u8],
+) -> Result<usize, NotDone>
+    requires places { places.now ≡ F.places }
+    requires pieces { pieces.now ≡ F.pieces }
+    requires bytes { file_len ≡ F.size }
+    ensures size { IsReadOf F.places F.pieces F.file → F.size ≡ length F.file
+        → (leaves : List Digest) → IsLogFile leaves F.file
+        → IfOk result (λ size. size ≡ length leaves) }
+    ensures done { result ≢ Err More }
+{
+    let disk = Replay::<F>::new(alloc, file_len, places, pieces);
+    match log_store::size(&disk) {
+        Ok(size) => Ok(size),
+        Err(stop) => Err(NotDone::from(stop)),
+    }
+}
+
+/// Returns the root of the first entries of the log of a file.
+pub fn root_of<F: Held>(
+    alloc: Global,
+    file_len: usize,
+    places: &[[usize; 2]],
+    pieces: &[u8],
+    size: usize,
+) -> Result<[u8; 32], NotDone>
+    requires places { places.now ≡ F.places }
+    requires pieces { pieces.now ≡ F.pieces }
+    requires bytes { file_len ≡ F.size }
+    ensures root { IsReadOf F.places F.pieces F.file → F.size ≡ length F.file
+        → (leaves : List Digest) → IsLogFile leaves F.file → IfOk result (λ root.
+        (size ≤ length leaves)
+        × (merkle_tree_hash node_of (sha256 []) (take size leaves) ≡ Ok root)) }
+    ensures done { result ≢ Err More }
+{
+    let disk = Replay::<F>::new(alloc, file_len, places, pieces);
+    match log_store::root(&disk, Some(size)) {
+        Ok(found) => Ok(found.1),
+        Err(stop) => Err(NotDone::from(stop)),
+    }
+}
+
+/// Returns what is to be written to a file before it is appended to: the head of a new log, or nothing.
+pub fn made_of<F: Held>(
+    alloc: Global,
+    file_len: usize,
+    places: &[[usize; 2]],
+    pieces: &[u8],
+) -> Result<Vec<Step>, NotDone>
+    requires places { places.now ≡ F.places }
+    requires pieces { pieces.now ≡ F.pieces }
+    requires bytes { file_len ≡ F.size }
+
+    // The file of a log stays as it is.
+    ensures kept { IsReadOf F.places F.pieces F.file → F.size ≡ length F.file
+        → (leaves : List Digest) → IsLogFile leaves F.file
+        → IfOk result (λ steps. carried steps.items F.file ≡ F.file) }
+    ensures done { result ≢ Err More }
+{
+    let mut disk = Replay::<F>::new(alloc, file_len, places, pieces);
+    match log_store::make(&mut disk) {
+        Ok(()) => Ok(disk.into_steps()),
+        Err(stop) => Err(NotDone::from(stop)),
+    }
+}
+
+/// Returns the inclusion proof of an index in the first entries of the log of a file.
+pub fn path_of<F: Held>(
+    alloc: Global,
+    file_len: usize,
+    places: &[[usize; 2]],
+    pieces: &[u8],
+    index: usize,
+    size: usize,
+) -> Result<InclusionProof, NotDone>
+    requires places { places.now ≡ F.places }
+    requires pieces { pieces.now ≡ F.pieces }
+    requires bytes { file_len ≡ F.size }
+    ensures path { IsReadOf F.places F.pieces F.file → F.size ≡ length F.file
+        → (leaves : List Digest) → IsLogFile leaves F.file
+        → let path = inclusion_path node_of (sha256 []) index (take size leaves) in
+        IfOk result (λ proof. all_of path ≡ Ok proof.path.items) }
+
+    // Of every file: the proof is accepted.
+    ensures accepted { IfOk result (λ proof. let verdict = inclusion_verdict node_of proof.root in
+        verdict proof.size index proof.digest proof.path.items ≡ Ok true) }
+    ensures done { result ≢ Err More }
+{
+    let disk = Replay::<F>::new(alloc, file_len, places, pieces);
+    match log_store::prove(alloc, &disk, index, Some(size)) {
+        Ok(proof) => Ok(proof),
+        Err(stop) => Err(NotDone::from(stop)),
+    }
+}
+
+/// Returns the proof that the first entries of the log of a file continue the first old ones.
+pub fn proof_of<F: Held>(
+    alloc: Global,
+    file_len: usize,
+    places: &[[usize; 2]],
+    pieces: &[u8],
+    old_size: usize,
+    size: usize,
+) -> Result<ConsistencyProof, NotDone>
+    requires places { places.now ≡ F.places }
+    requires pieces { pieces.now ≡ F.pieces }
+    requires bytes { file_len ≡ F.size }
+    ensures path { IsReadOf F.places F.pieces F.file → F.size ≡ length F.file
+        → (leaves : List Digest) → IsLogFile leaves F.file
+        → let path = consistency_path node_of (sha256 []) old_size (take size leaves) in
+        IfOk result (λ proof. all_of path ≡ Ok proof.path.items) }
+
+    // Of every file: the proof is accepted.
+    ensures accepted { IfOk result (λ proof. let verdict = consistency_verdict node_of old_size in
+        verdict proof.old_root proof.size proof.root proof.path.items ≡ Ok true) }
+    ensures done { result ≢ Err More }
+{
+    let disk = Replay::<F>::new(alloc, file_len, places, pieces);
+    match log_store::consistency(alloc, &disk, old_size, Some(size)) {
+        Ok(proof) => Ok(proof),
+        Err(stop) => Err(NotDone::from(stop)),
+    }
+}

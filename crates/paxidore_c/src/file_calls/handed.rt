@@ -1,0 +1,77 @@
+//! Steps, in a caller's buffers.
+
+ghost use Rattle.std.specs.Prelude.{◌≡◌, ◌≢◌, ◌≤◌, ◌++◌, length, drop, Err, IfOk, OnOk};
+ghost use Rattle.paxidore_c.specs.Plan.{IsHanded, bytes_of_steps, places_of_steps};
+ghost use Rattle.paxidore_c.specs.declared.file_calls.not_done.NotDone.TheVariants.{More};
+
+use crate::file_calls::not_done::NotDone;
+use crate::file_calls::replay::Step;
+use crate::refused::Refused;
+use std::alloc::Global;
+
+// The bytes of steps, one behind the other, and their places and counts.
+#[derive(Drop)]
+struct Flat {
+    bytes: Vec<u8>,
+    places: Vec<[usize; 2]>,
+}
+
+// Puts the steps one behind the other.
+fn flat_of(alloc: Global, plan: &[Step]) -> Result<Flat, NotDone>
+    ensures bytes { IfOk result (λ flat. flat.bytes.items ≡ bytes_of_steps plan.now) }
+    ensures places { IfOk result (λ flat. flat.places.items ≡ places_of_steps plan.now) }
+    ensures done { result ≢ Err More }
+{
+    let mut bytes = Vec::new(alloc);
+    let mut places = Vec::new(alloc);
+    for step in plan {
+        if bytes.extend_from_slice(&step.bytes).is_err() {
+            return Err(NotDone::Refusal(Refused::Memory));
+        }
+        if places.push([step.at, step.bytes.len()]).is_err() {
+            return Err(NotDone::Refusal(Refused::Memory));
+        }
+    }
+    Ok(Flat { bytes, places })
+}
+
+// Writes bytes to the front of a buffer.
+fn put_bytes(buffer: &mut [u8], bytes: &[u8])
+    requires { length bytes.now ≤ length buffer.old }
+    ensures { buffer.new ≡ bytes.now ++ drop (length bytes.now) buffer.old }
+{
+    buffer[..bytes.len()].copy_from_slice(bytes);
+}
+
+// Writes places to the front of a buffer.
+fn put_places(buffer: &mut [[usize; 2]], places: &[[usize; 2]])
+    requires { length places.now ≤ length buffer.old }
+    ensures { buffer.new ≡ places.now ++ drop (length places.now) buffer.old }
+{
+    buffer[..places.len()].copy_from_slice(places);
+}
+
+/// Writes what is to be written to the fronts of the caller's buffers, with the counts. Errors: `Memory`, `Room` where one of them is
+/// too short.
+pub fn hand_over_steps(
+    alloc: Global,
+    plan: &[Step],
+    bytes: &mut [u8],
+    bytes_len: &mut usize,
+    steps: &mut [[usize; 2]],
+    steps_len: &mut usize,
+) -> Result<(), NotDone>
+    ensures handed { OnOk result (IsHanded plan.now bytes.old bytes.new bytes_len.new steps.old
+        steps.new steps_len.new) }
+    ensures done { result ≢ Err More }
+{
+    let flat = flat_of(alloc, plan)?;
+    *bytes_len = flat.bytes.len();
+    *steps_len = flat.places.len();
+    if bytes.len() < flat.bytes.len() || steps.len() < flat.places.len() {
+        return Err(NotDone::Refusal(Refused::Room));
+    }
+    put_bytes(bytes, &flat.bytes);
+    put_places(steps, &flat.places);
+    Ok(())
+}

@@ -1,0 +1,91 @@
+//! Why a call on a log's file is not done, and the codes of answers.
+
+ghost use Rattle.std.specs.Prelude.{◌≡◌, ◌≢◌};
+ghost use Rattle.paxidore_c.specs.LogFiles.{not_done_code};
+ghost use Rattle.paxidore_c.specs.declared.file_calls.not_done.NotDone.TheVariants.{More};
+
+use crate::file_calls::replay::Halt;
+use crate::refused::Refused;
+use log_file::fault::Fault;
+use log_store::Stop;
+use std::alloc::AllocFailed;
+
+/// Why a call on a log's file is not done.
+#[derive(Clone, Copy, Debug, PartialEq, Eq)]
+pub enum NotDone {
+    /// As other calls are refused.
+    Refusal(Refused),
+    /// Pieces of the file are to be read first.
+    More,
+    /// The file is no log's.
+    NoLog,
+    /// The file ends before the digests of the log's size.
+    Short,
+    /// The file has the title of a log's, and no slot is whole.
+    HeadDamaged,
+    /// A digest of the log is another than the one that was stored, or a slot states another root.
+    Damaged,
+}
+
+impl NotDone {
+    /// Returns the code of the answer.
+    pub fn code(self) -> i32
+        ensures { result ≡ not_done_code self }
+    {
+        match self {
+            NotDone::Refusal(refused) => refused.code(),
+            NotDone::More => -10,
+            NotDone::NoLog => -11,
+            NotDone::Short => -12,
+            NotDone::HeadDamaged => -13,
+            NotDone::Damaged => -14,
+        }
+    }
+}
+
+impl From<Refused> for NotDone {
+    ghost from_gives = { λ _ not_done. not_done ≢ More };
+
+    fn from(refused: Refused) -> NotDone {
+        NotDone::Refusal(refused)
+    }
+}
+
+impl From<Fault> for NotDone {
+    ghost from_gives = { λ _ not_done. not_done ≢ More };
+
+    fn from(fault: Fault) -> NotDone {
+        match fault {
+            Fault::Memory => NotDone::Refusal(Refused::Memory),
+            Fault::NoLog => NotDone::NoLog,
+            Fault::HeadDamaged => NotDone::HeadDamaged,
+            Fault::Short => NotDone::Short,
+            Fault::Damaged => NotDone::Damaged,
+            Fault::Size => NotDone::Refusal(Refused::Size),
+            Fault::Index => NotDone::Refusal(Refused::Index),
+            Fault::Other | Fault::Length | Fault::Word => NotDone::Refusal(Refused::Other),
+        }
+    }
+}
+
+impl From<Stop<Halt>> for NotDone {
+    ghost from_gives = { λ _ not_done. not_done ≢ More };
+
+    fn from(stop: Stop<Halt>) -> NotDone {
+        match stop {
+            Stop::Fault(fault) => NotDone::from(fault),
+            Stop::Disk(Halt::Memory) => NotDone::Refusal(Refused::Memory),
+            Stop::Disk(Halt::Ended) => NotDone::Short,
+            // what is asked for is read before
+            Stop::Disk(Halt::Missing) => NotDone::Refusal(Refused::Other),
+        }
+    }
+}
+
+impl<T: Drop> From<AllocFailed<T>> for NotDone {
+    ghost from_gives = { λ _ not_done. not_done ≢ More };
+
+    fn from(_refused: AllocFailed<T>) -> NotDone {
+        NotDone::Refusal(Refused::Memory)
+    }
+}
