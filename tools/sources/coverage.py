@@ -55,6 +55,35 @@ def lacks(scope, it):
     return "no clause says which errors come" if any(map(speaks_of_errors, clauses)) else "no clause of an error"
 
 
+def premises(clause):
+    """Returns what stands before the arrows of a clause, outside of brackets and functions."""
+    text, depth, start, found = " ".join(clause.split()), 0, 0, []
+    for at, letter in enumerate(text):
+        depth += (letter in "([{⟦") - (letter in ")]}⟧")
+        if letter == "λ" and not depth:
+            break
+        if letter == "→" and not depth:
+            found.append(text[start:at].strip())
+            start = at + 1
+    return found
+
+
+def conditional():
+    """Yields a line for each call whose errors or codes are decided under conditions alone, with those of the first such clause. That a
+    disk or tiles obey is no condition on the arguments."""
+    for crate in sorted({crate for crate, _ in SCOPES} - set(OWN)):
+        for path, scope, name, it in asked(crate):
+            clauses = [text for kind, _, text in it.clauses if kind == "ensures"]
+            is_code = it.returns == "i32" and 'extern "C"' in it.words
+            error = result_of(it.returns)
+            if not is_code and (error is None or not has_several(scope, error)):
+                continue
+            deciding = [premises(re.sub(r"^\s*let .*? in\b", "", text, flags=re.S)) for text in clauses if (decides_codes([text]) if is_code else says_which(text))]
+            deciding = [[it for it in part if not re.search(r"\bObeys\b|^(\([^()]*:[^()]*\) ?)+$", it)] for part in deciding]
+            if deciding and all(deciding):
+                yield f"{os.path.relpath(path, TOP)}:{it.line}: {name}: {' → '.join(deciding[0])}"
+
+
 def open_meanings(crate):
     """Yields the ghost members `.._gives` of a crate's impls that leave open which error comes: such a member is the trait's clause."""
     for path in files(crate, "src", ".rt"):
