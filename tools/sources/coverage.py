@@ -104,6 +104,8 @@ def lacking():
     for crate in sorted({crate for crate, _ in SCOPES} - set(OWN)):
         for path, scope, name, it in asked(crate):
             count += 1
+            # without any clause each call lacks one, else this check is blind
+            assert lacks(scope, it._replace(clauses=[])), f"{path}:{it.line}: {name}"
             if lack := lacks(scope, it):
                 said[f"{crate}::{name}"] = f"{os.path.relpath(path, TOP)}:{it.line}: {name}: {lack}"
         for path, line, name, lack in open_meanings(crate):
