@@ -5,3 +5,4 @@ mod Rows
 mod Shown
 mod TileRows
 mod Trees
+pub mod OtherLogs

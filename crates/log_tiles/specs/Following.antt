@@ -4,7 +4,7 @@ use Rattle.ark_paths.specs.Pair.{Digest}
 use Rattle.ark_trees.specs.Rfc6962.{node_of}
 use Rattle.merkle_log.specs.Bind.{BindsFront}
 use Rattle.merkle_log.specs.Verdict.{consistency_verdict}
-use Rattle.log_file.specs.Faults.{log_size}
+use Rattle.log_file.specs.Faults.{of_first}
 use Rattle.log_file.specs.declared.fault.Fault.TheVariants.{Damaged}
 use Rattle.log_store.specs.Refused.{index_outcome, older_outcome, IsNotOf, IsRefusedFor}
 use Rattle.log_store.specs.declared.stop.Stop.TheVariants.{Fault}
@@ -41,6 +41,6 @@ IsUnproved {R} file head index (Stopped stop) = IsRefusedFor {A = ℕ} file (ind
 abbrev pub IsUncontinued : {R : Type 0} → List ℕ → Head → Head → Unfollowed R → Type 0
 IsUncontinued file old new Shrunk = new.size < old.size
 IsUncontinued file old new Fork = IsFork old new
-IsUncontinued file old new (Stopped stop) = IsRefusedFor {A = ℕ} file (log_size file) (Err stop)
+IsUncontinued file old new (Stopped stop) = IsRefusedFor {A = ℕ} file (of_first file None Ok) (Err stop)
     ⊎ IsRefusedFor {A = ℕ} file (older_outcome file None old.size) (Err stop)
     ⊎ (stop ≡ Fault Damaged) × IsNotOf file new.size new.root

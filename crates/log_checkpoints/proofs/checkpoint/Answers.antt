@@ -1,4 +1,4 @@
-use Rattle.std.proofs.Common.{◌≡◌, ℕ, not, nat_lt, [], Result, Ok, Err, ap, sym, ◌∙◌, arith}
+use Rattle.std.proofs.Common.{◌≡◌, ℕ, not, nat_lt, [], Result, Ok, Err, inl, inr, ap, sym, ◌∙◌, arith}
 use Rattle.std.proofs.lemmas.Bool.{le-ltb}
 use Rattle.std.proofs.lemmas.List.{take_all}
 use Rattle.sha2.specs.Sha256.{sha256}
@@ -33,3 +33,12 @@ returns-in-Ok-sign_checkpoint-clause-signed g c = λ obeys.
           );
       signed = c.in-Ok-sign_checkpoint.ensures;
     }
+
+pub returns-in-Err-sign_checkpoint-clause-refused : goal.returns-in-Err-sign_checkpoint-clause-refused
+returns-in-Err-sign_checkpoint-clause-refused g c = λ obeys.
+    let held = c.sync.ensures.obeys obeys in
+    let size_is = size-of-all _ c.in-Ok.root.0 (c.in-Ok.ensures.size held) in
+    elim c.in-Err-sign_checkpoint.ensures [
+      | inl memory ↦ inl memory
+      | inr refused ↦ inr (c.in-Ok.root.0, c.in-Ok.root.1, size_is, refused)
+    ]

@@ -1,6 +1,8 @@
-use Rattle.std.proofs.Common.{subst, inr}
+use Rattle.std.proofs.Common.{◌≡◌, inl, inr, refl, subst}
+use Rattle.std.proofs.lemmas.Result.{err_from_is_err_and}
 use Rattle.log_tiles.specs.Following.{IsShown}
 use Rattle.log_tiles.proofs.Shown.{shown}
+use Rattle.log_tiles.proofs.OtherLogs.{if-uncontinued, not-of, uncontinued}
 use Rattle.log_tiles.proofs.following.continues.Goals as goal
 
 pub returns-then-are_same-2-clause-continued : goal.returns-then-are_same-2-clause-continued
@@ -27,3 +29,24 @@ returns-clause-fork g c = λ is.
             c.in-Ok-consistency.proof.path.items same.0 same.1 c.in-Ok-consistency.ensures.accepted,
       ),
     )
+
+pub returns-in-Err-clause-refused : goal.returns-in-Err-clause-refused
+returns-in-Err-clause-refused g c = λ obeys. inl (c.in-Err.ensures.refused obeys)
+
+pub returns-then-old-eq0-clause-refused : goal.returns-then-old-eq0-clause-refused
+returns-then-old-eq0-clause-refused g c = λ obeys.
+    if-uncontinued (g.D.Disk.seen c.args.disk.now) c.args.old.now c.args.new.now c.in-Ok.root.0 c.in-Ok.root.1
+    c.if_same.result (λ leaves log. let own = c.in-Ok.ensures.root obeys leaves log in (own.0, own.2))
+    c.if_same.ensures.damaged c.if_same.ensures.other
+
+pub returns-in_err-if_same-clause-refused : goal.returns-in_err-if_same-clause-refused
+returns-in_err-if_same-clause-refused g c = λ obeys.
+    let file = g.D.Disk.seen c.args.disk.now in
+    let proof = c.in-Ok-consistency.proof in
+    let e = err_from_is_err_and c.from_residual.result c.from_residual.ensures.1 in
+    rw (e.1, e.2) (uncontinued file c.args.old.now c.args.new.now _ c.in_err-if_same.ensures.damaged
+    (not-of file c.args.new.now proof.size proof.root (c.in-Ok-consistency.ensures.root obeys)
+    (c.in_err-if_same.ensures.other refl)))
+
+pub returns-clause-refused : goal.returns-clause-refused
+returns-clause-refused g c = λ obeys. returns-clause-fork g c refl
