@@ -25,8 +25,9 @@ class Edit:
             if header:
                 self.functions |= sources.paths(file, header)
             else:
-                # What is private is seen by its module alone.
-                is_shown = not file.startswith("src/") or now[file].startswith("pub ", now[file].rfind("\n", 0, at) + 1)
+                # What is private is seen by its module alone. An item begins at the last line above that is not set in.
+                heads = re.findall(r"^[^\s})\]].*", now[file][: now[file].find("\n", at)], re.M)
+                is_shown = not file.startswith("src/") or bool(heads) and heads[-1].startswith("pub")
                 self.items.add(None if is_shown else module_of(file) or None)
             now[file] = now[file].replace(old, new)
         # What the check is asked for by --only; with None it is asked for the whole crate.
