@@ -1,4 +1,5 @@
 """Faults of the system, of memory and of a file, many processes at once, and damage. .ci/paxlog calls these checks."""
+import fcntl
 import os
 import re
 import resource
@@ -61,11 +62,14 @@ def keeps_the_order(room, names, digests):
     hashed = digests[:6]
     log, seen = room + "/traced", room + "/trace"
     ask("append", log, *names[:5])
+    write(log + "-bare", file_of([]))
     for words, order in (
         (["append", log, names[5]], "O O L S (R )+W (R )*W S W S W S "),
         (["append", log, "--after", 6, root(hashed).hex(), names[5]], "O O L S (R )+W (R )*W S W S W S "),
         (["append-lines", log, "--batch", 1, names[5]], "O O L S (R )+W (R )*W S W S W S "),
         (["append", log + "-new", names[5]], "O O L (R )*W S O S (R )*W (R )*W S W S W S "),
+        # a log of no entries, whose name may not be on the disk
+        (["append", log + "-bare", names[5]], "O O L (R )*(W )?S O S (R )*W (R )*W S W S W S "),
         (["root", log], "O (R )+"),
         (["recover", log, log + "-other"], "O L (R )*O L (R )*W (R W )*S W S O S "),
     ):
@@ -78,7 +82,7 @@ def keeps_the_order(room, names, digests):
         did = [short[line.split("(")[0]] for line in lines[first:]]
         shown = " ".join(did)
         check("the order of calls: " + shown, re.fullmatch(order, shown + " ") is not None)
-    for name in (log, log + "-new", log + "-other", seen):
+    for name in (log, log + "-new", log + "-bare", log + "-other", seen):
         os.remove(name)
 
 
@@ -169,6 +173,48 @@ def opens_at_once(room, names):
             check("what returned is there", ask("root", log)[1].split(" ")[0] == str(len(appended)))
             check("nothing else is left", [name for name in os.listdir(room) if name.startswith("new-")] == ["new-%d" % turn])
             os.remove(log)
+
+
+def is_replaced(room, names, digests):
+    """Another file takes the log's name, or none has it: what is acknowledged is in the log of that name."""
+    log, new = room + "/replaced", room + "/replaced-new"
+    piped = {"stdin": subprocess.PIPE, "stdout": subprocess.PIPE, "stderr": subprocess.PIPE}
+    why = b"paxlog: %s: another file has this name now, or none: nothing more is acknowledged\n" % log.encode()
+    for turn in range(4):
+        # while an append waits
+        write(log, file_of(digests[:5]))
+        with open(log, "rb") as held:
+            fcntl.flock(held, fcntl.LOCK_SH)
+            ran = subprocess.Popen([PROGRAM, "append", log, "--wait", "60", names[5]], **piped)
+            time.sleep(0.05 * turn)
+            check("it is recovered", ask("recover", log, new)[0] == 0)
+            ask("append", new, names[6])
+            os.rename(new, log)
+        said = ran.communicate()[0]
+        check("who waited appends to the file of that name", (ran.returncode, said) == (0, b"7\n"))
+        check("and it is there", ask("root", log)[1] == "7 %s\n" % root(digests[:5] + [digests[6], digests[5]]).hex())
+    for gone in (False, True):
+        # while lines are streamed
+        write(log, file_of(digests[:5]))
+        ran = subprocess.Popen([PROGRAM, "append-lines", log, "--batch", "1", "-"], **piped)
+        ran.stdin.write(b"one\n")
+        ran.stdin.flush()
+        check("a line is appended", ran.stdout.readline() == b"6\n")
+        if gone:
+            os.remove(log)
+        else:
+            write(new, file_of(digests[:3]))
+            os.rename(new, log)
+        try:
+            ran.stdin.write(b"two\nthree\n")
+            ran.stdin.flush()
+        except BrokenPipeError:
+            pass
+        said, told = ran.communicate()
+        check("nothing more is acknowledged", (ran.returncode, said, told) == (3, b"", why))
+        check("the file of that name is as it was", not os.path.exists(log) if gone else read(log) == file_of(digests[:3]))
+    if os.path.exists(log):
+        os.remove(log)
 
 
 def is_killed(room):

@@ -127,6 +127,13 @@ pub fn complain(rt: &HostRuntime, words: &[Vec<u8>], stop: StopAt) -> u8 {
             let _ = eprintln!(rt; "the log does not continue the one that it was");
             FORKED
         }
+        Stop::Replaced => {
+            begin(rt, words, place);
+            let _ = eprintln!(rt;
+                "another file has this name now, or none: nothing more is acknowledged"
+            );
+            REFUSED
+        }
         Stop::Locked => complain_of_lock(rt, words, place, "appends to the log"),
         Stop::Written => complain_of_lock(rt, words, place, "writes the folder"),
         Stop::Followed => complain_of_lock(rt, words, place, "moves the state on"),

@@ -26,6 +26,8 @@ pub enum Stop {
     Shrunk,
     /// The log does not continue the one that it was.
     Fork,
+    /// Another file has the log's name now, or none has it.
+    Replaced,
     /// Another process appends.
     Locked,
     /// Another process writes files in the folder.

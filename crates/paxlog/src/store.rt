@@ -8,12 +8,15 @@ use log_store::{Disk, InclusionProof, Recovered};
 use paxlog_run::request::{After, Options};
 use std::fs::{File, OpenOptions, TryLockError};
 use std::io::{Read, Write};
-use std::os::unix::fs::OpenOptionsExt;
-use std::thread;
+use std::os::unix::fs::{MetadataExt, OpenOptionsExt};
 use std::time::{Duration, Instant};
+use std::{fs, io, thread};
 
 // For how many milliseconds nothing is tried while another process is waited for.
 const PAUSE: u64 = 20;
+
+// How often a file is opened whose name another file takes before it is locked.
+const TURNS: usize = 64;
 
 /// Returns the folder of a file.
 pub fn folder_of(path: &str) -> &str {
@@ -30,14 +33,25 @@ pub fn sync_folder_of(rt: &HostRuntime, path: &str) -> Result<(), Stop> {
     Ok(())
 }
 
-// Writes the head of no entries to a file that has no byte, or no more than a part of that head, and syncs.
+// Writes the head of no entries to a file that has no byte, or no more than a part of that head, and syncs. The folder is synced
+// too as long as the log has no entry: whoever made the file may have ended before its name was on the disk.
 fn make(rt: &HostRuntime, path: &str, disk: &mut FileDisk) -> Result<(), Stop> {
-    let is_new = disk.length()? < START;
+    let has_entries = disk.length()? > START;
     log_store::make(disk)?;
-    if is_new {
+    if !has_entries {
         sync_folder_of(rt, path)?;
     }
     Ok(())
+}
+
+// Whether a path names an open file. One that was moved or removed meanwhile has another file, or none, under its name.
+fn is_named(rt: &HostRuntime, path: &str, file: &File) -> Result<bool, Stop> {
+    let own = file.metadata()?;
+    match fs::metadata(rt, path) {
+        Ok(named) => Ok(named.dev() == own.dev() && named.ino() == own.ino()),
+        Err(error) if error.kind() == io::ErrorKind::NotFound => Ok(false),
+        Err(error) => Err(Stop::from(error)),
+    }
 }
 
 // Whether a log with this size and root is the one after which entries are to be appended.
@@ -63,16 +77,10 @@ fn lock(rt: &HostRuntime, file: &File, seconds: usize) -> Result<(), Stop> {
     Err(Stop::Locked)
 }
 
-/// A log's file that is locked, so that entries are appended to it.
-#[derive(Drop)]
-pub struct Keeper {
-    disk: FileDisk,
-    after: Option<After>,
-}
-
-impl Keeper {
-    /// Opens and locks the file of a log, which is made where there is none and no log is named after which to append.
-    pub fn open(rt: &HostRuntime, path: &str, options: &Options) -> Result<Keeper, Stop> {
+// Opens and locks the file of a log, which is made where there is none and no log is named after which to append. While it was
+// waited for, another file may have taken the name: then that one is opened.
+fn locked(rt: &HostRuntime, path: &str, options: &Options) -> Result<File, Stop> {
+    for _turn in 0..TURNS {
         let mut how = OpenOptions::new();
         let file = how
             .read(true)
@@ -80,16 +88,44 @@ impl Keeper {
             .create(options.after.is_none())
             .open(rt, path)?;
         lock(rt, &file, options.wait)?;
-        let mut disk = FileDisk::new(file);
+        if is_named(rt, path, &file)? {
+            return Ok(file);
+        }
+    }
+    Err(Stop::Replaced)
+}
+
+/// A log's file that is locked, so that entries are appended to it.
+#[derive(Drop)]
+pub struct Keeper<'a> {
+    path: &'a str,
+    disk: FileDisk,
+    after: Option<After>,
+}
+
+impl<'a> Keeper<'a> {
+    /// Opens and locks the file of a log, which is made where there is none and no log is named after which to append.
+    pub fn open(rt: &HostRuntime, path: &'a str, options: &Options) -> Result<Keeper<'a>, Stop> {
+        let mut disk = FileDisk::new(locked(rt, path, options)?);
         if options.after.is_none() {
             make(rt, path, &mut disk)?;
         } else {
             disk.sync()?;
         }
         Ok(Keeper {
+            path,
             disk,
             after: options.after,
         })
+    }
+
+    // Refuses a file that no longer has its name: what is appended to it is not in the log that the name has.
+    fn keep_name(&self, rt: &HostRuntime) -> Result<(), Stop> {
+        if is_named(rt, self.path, &self.disk.file)? {
+            Ok(())
+        } else {
+            Err(Stop::Replaced)
+        }
     }
 
     // The size of the log, where it is the one after which entries are to be appended.
@@ -102,10 +138,12 @@ impl Keeper {
     }
 
     /// Appends entries with these digests, and returns the new size. The first append is to the log that was named, if one was.
+    /// The file has its name before and after: else the error is `Replaced`.
     pub fn append(&mut self, rt: &HostRuntime, digests: &[[u8; 32]]) -> Result<usize, Stop> {
         if digests.is_empty() {
             return self.size();
         }
+        self.keep_name(rt)?;
         let disk = &mut self.disk;
         disk.is_slot_begun = false;
         let alloc = rt.alloc();
@@ -116,6 +154,7 @@ impl Keeper {
         match appended {
             Ok(size) => {
                 self.after = None;
+                self.keep_name(rt)?;
                 Ok(size)
             }
             Err(log_store::Stop::Fault(fault)) => Err(Stop::Fault(fault)),
@@ -191,9 +230,14 @@ pub fn check(rt: &HostRuntime, path: &str) -> Result<bool, Stop> {
 
 /// Opens the file of a log, to which nobody appends meanwhile.
 pub fn unchanged(rt: &HostRuntime, path: &str) -> Result<FileDisk, Stop> {
-    let file = File::open(rt, path)?;
-    file.try_lock_shared()?;
-    Ok(FileDisk::new(file))
+    for _turn in 0..TURNS {
+        let file = File::open(rt, path)?;
+        file.try_lock_shared()?;
+        if is_named(rt, path, &file)? {
+            return Ok(FileDisk::new(file));
+        }
+    }
+    Err(Stop::Replaced)
 }
 
 /// Returns what of a file can be recovered.
