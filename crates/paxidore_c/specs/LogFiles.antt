@@ -94,10 +94,10 @@ pub record Asks (file_len count_before count_after : ℕ) (before after : List (
 
 -- A call whose answer is that pieces are to be read first asks for them; any other leaves the places as before.
 pub record AsksFirst (IsMore : Type 0) (file_len count_before count_after : ℕ) (before after : List (List ℕ)) : Type 0
-    where
-  pub asked : IsMore → Asks file_len count_before count_after before after
-  pub kept : (IsMore → ⊥) → after ≡ before
-  pub uncounted : (IsMore → ⊥) → count_after ≡ count_before
+  where
+    pub asked : IsMore → Asks file_len count_before count_after before after
+    pub kept : (IsMore → ⊥) → after ≡ before
+    pub uncounted : (IsMore → ⊥) → count_after ≡ count_before
 
 -- ---- what is handed over
 

@@ -4,20 +4,19 @@
 //! first, and puts their places behind those of the ones that were read. What is to be written is handed over in steps, each a
 //! place and a count of bytes. What the clauses say of a file holds of whichever file the pieces are of.
 
-ghost use Rattle.std.specs.Prelude.{◌≡◌, ◌≢◌, ◌<◌, ◌≤◌, ◌+◌, ◌*◌, ◌^◌, List, ℕ, [], Bool, length, map, nat_lt, pos, negsuc, IfErr, IfOk, OnOk, Ok, Err, Some};
+ghost use Rattle.std.specs.Prelude.{◌≡◌, ◌≢◌, ◌<◌, ◌≤◌, ◌+◌, ◌*◌, ◌^◌, List, ℕ, [], Bool, length, map, pos, negsuc, IfErr, OnOk, Ok, Err, Some};
 ghost use Rattle.ark_paths.specs.Pair.{Digest};
 ghost use Rattle.ark_trees.specs.Rfc6962.{entry_hash};
 ghost use Rattle.log_file.specs.Append.{appended_size};
-ghost use Rattle.log_file.specs.Faults.{is_older, log_size, of_first, only_if};
+ghost use Rattle.log_file.specs.Faults.{log_size, of_first};
 ghost use Rattle.log_file.specs.LogFile.{stored_in, IsLogFile};
-ghost use Rattle.log_file.specs.declared.fault.Fault.TheVariants.{Index, Size};
 ghost use Rattle.log_store.specs.Store.{IsSettled};
 ghost use Rattle.merkle_log.specs.Kept.{front, Keeps};
 ghost use Rattle.merkle_log.specs.Stored.{row_of};
 ghost use Rattle.paxidore_c.specs.Answer.{leaves_in, refusal_code};
 ghost use Rattle.paxidore_c.specs.Cut.{parts_by};
-ghost use Rattle.paxidore_c.specs.KeptLog.{consistency_bytes, inclusion_bytes, log_root};
-ghost use Rattle.paxidore_c.specs.LogFiles.{AsksFirst, IsWhy, StandsInFront, TellsWhy, call_code, check_code};
+ghost use Rattle.paxidore_c.specs.KeptLog.{log_root};
+ghost use Rattle.paxidore_c.specs.LogFiles.{AsksFirst, IsWhy, TellsWhy, call_code, check_code};
 ghost use Rattle.paxidore_c.specs.Plan.{Carries, Grows, HasRead, IsHanded, LeavesSteps};
 ghost use Rattle.paxidore_c.specs.declared.file_calls.not_done.NotDone.TheVariants.{More, Refusal};
 ghost use Rattle.paxidore_c.specs.declared.refused.Refused.TheVariants.{Room};
@@ -28,12 +27,13 @@ mod asking;
 mod grown;
 mod handed;
 mod not_done;
+pub mod proving;
 mod replay;
 
-use crate::file_calls::answers::{made_of, path_of, proof_of, root_of, size_of};
+use crate::file_calls::answers::{made_of, root_of, size_of};
 use crate::file_calls::asked::{Asked, ask};
 use crate::file_calls::grown::hand_over_growth;
-use crate::file_calls::handed::{hand_over_digests, hand_over_steps};
+use crate::file_calls::handed::hand_over_steps;
 use crate::file_calls::not_done::NotDone;
 use crate::leaves::digests_of_leaves;
 use ark_trees::LogHasher;
@@ -229,7 +229,11 @@ pub extern "C" fn paxidore_log_file_root(
 
 // What is to be read first for so many entries.
 fn asked_for(count: usize) -> Asked {
-    if count == 0 { Asked::Size } else { Asked::Growth }
+    if count == 0 {
+        Asked::Size
+    } else {
+        Asked::Growth
+    }
 }
 
 fn append_in(
@@ -323,154 +327,6 @@ pub extern "C" fn paxidore_log_file_append(
     code_of(append_in(
         alloc, bytes, bytes_len, steps, steps_len, size, places, places_len, file_len, pieces,
         entries, lengths,
-    ))
-}
-
-fn inclusion_in(
-    alloc: Global,
-    path: &mut [u8],
-    path_len: &mut usize,
-    places: &mut [[usize; 2]],
-    places_len: &mut usize,
-    file_len: usize,
-    pieces: &[u8],
-    index: usize,
-    size: usize,
-) -> Result<(), NotDone>
-    ghost file: { List ℕ }
-    ensures first { AsksFirst (result ≡ Err More) file_len places_len.old places_len.new
-        places.old places.new }
-    ensures path { HasRead file file_len places_len.old places.old pieces.now
-        → (leaves : List Digest) → IsLogFile leaves file
-        → OnOk result (StandsInFront (inclusion_bytes size index leaves) path.old path.new
-        path_len.new) }
-    ensures room_needed { HasRead file file_len places_len.old places.old pieces.now
-        → (leaves : List Digest) → IsLogFile leaves file → places_len.old < length places.old
-        → result ≡ Err (Refusal Room)
-        → IfOk (inclusion_bytes size index leaves) (λ bytes. path_len.new ≡ length bytes) }
-    ensures refused { HasRead file file_len places_len.old places.old pieces.now
-        → let given = of_first file (Some size) (λ n. only_if (nat_lt index n) Index (Ok n)) in
-        IfErr result (IsWhy file given) }
-    ensures kept { IfErr result (λ _. path.new ≡ path.old) }
-    ensures uncounted { result ≢ Err (Refusal Room)
-        → IfErr result (λ _. path_len.new ≡ path_len.old) }
-{
-    let asked = Asked::Inclusion(index, size);
-    ask(alloc, asked, file_len, places, places_len, pieces)?;
-    let read = &places[..*places_len];
-    let proof = path_of::<Brand>(alloc, file_len, read, pieces, index, size)?;
-    hand_over_digests(alloc, &proof.path, path, path_len)
-}
-
-/// Writes the bytes of the path of an index in the first `size` entries of the log of a file, and their count.
-#[unsafe(no_mangle)]
-pub extern "C" fn paxidore_log_file_inclusion(
-    alloc: Global,
-    path: &mut [u8],
-    path_len: &mut usize,
-    places: &mut [[usize; 2]],
-    places_len: &mut usize,
-    file_len: usize,
-    pieces: &[u8],
-    size: usize,
-    index: usize,
-) -> i32
-    ghost file: { List ℕ }
-    ensures first { AsksFirst (result ≡ negsuc 9) file_len places_len.old places_len.new
-        places.old places.new }
-    ensures path { HasRead file file_len places_len.old places.old pieces.now
-        → (leaves : List Digest) → IsLogFile leaves file → result ≡ pos 0
-        → StandsInFront (inclusion_bytes size index leaves) path.old path.new path_len.new }
-
-    // Where there is room for places, the buffer lacks it.
-    ensures room_needed { HasRead file file_len places_len.old places.old pieces.now
-        → (leaves : List Digest) → IsLogFile leaves file → places_len.old < length places.old
-        → result ≡ refusal_code Room
-        → IfOk (inclusion_bytes size index leaves) (λ bytes. path_len.new ≡ length bytes) }
-    ensures refused { HasRead file file_len places_len.old places.old pieces.now
-        → let given = of_first file (Some size) (λ n. only_if (nat_lt index n) Index (Ok n)) in
-        TellsWhy file given result }
-    ensures kept { result ≢ pos 0 → path.new ≡ path.old }
-    ensures uncounted { result ≢ pos 0 → result ≢ refusal_code Room
-        → path_len.new ≡ path_len.old }
-{
-    code_of(inclusion_in(
-        alloc, path, path_len, places, places_len, file_len, pieces, index, size,
-    ))
-}
-
-fn consistency_in(
-    alloc: Global,
-    proof: &mut [u8],
-    proof_len: &mut usize,
-    places: &mut [[usize; 2]],
-    places_len: &mut usize,
-    file_len: usize,
-    pieces: &[u8],
-    old_size: usize,
-    size: usize,
-) -> Result<(), NotDone>
-    ghost file: { List ℕ }
-    ensures first { AsksFirst (result ≡ Err More) file_len places_len.old places_len.new
-        places.old places.new }
-    ensures proof { HasRead file file_len places_len.old places.old pieces.now
-        → (leaves : List Digest) → IsLogFile leaves file
-        → OnOk result (StandsInFront (consistency_bytes old_size size leaves) proof.old proof.new
-        proof_len.new) }
-    ensures room_needed { HasRead file file_len places_len.old places.old pieces.now
-        → (leaves : List Digest) → IsLogFile leaves file → places_len.old < length places.old
-        → result ≡ Err (Refusal Room)
-        → IfOk (consistency_bytes old_size size leaves) (λ bytes. proof_len.new ≡ length bytes) }
-    ensures refused { HasRead file file_len places_len.old places.old pieces.now
-        → let given = of_first file (Some size) (λ n. only_if (is_older old_size n) Size (Ok n)) in
-        IfErr result (IsWhy file given) }
-    ensures kept { IfErr result (λ _. proof.new ≡ proof.old) }
-    ensures uncounted { result ≢ Err (Refusal Room)
-        → IfErr result (λ _. proof_len.new ≡ proof_len.old) }
-{
-    let asked = Asked::Consistency(old_size, size);
-    ask(alloc, asked, file_len, places, places_len, pieces)?;
-    let read = &places[..*places_len];
-    let given = proof_of::<Brand>(alloc, file_len, read, pieces, old_size, size)?;
-    hand_over_digests(alloc, &given.path, proof, proof_len)
-}
-
-/// Writes the bytes of the proof that the first `size` entries of the log of a file continue the first `old_size` ones, and
-/// their count.
-#[unsafe(no_mangle)]
-pub extern "C" fn paxidore_log_file_consistency(
-    alloc: Global,
-    proof: &mut [u8],
-    proof_len: &mut usize,
-    places: &mut [[usize; 2]],
-    places_len: &mut usize,
-    file_len: usize,
-    pieces: &[u8],
-    old_size: usize,
-    size: usize,
-) -> i32
-    ghost file: { List ℕ }
-    ensures first { AsksFirst (result ≡ negsuc 9) file_len places_len.old places_len.new
-        places.old places.new }
-    ensures proof { HasRead file file_len places_len.old places.old pieces.now
-        → (leaves : List Digest) → IsLogFile leaves file → result ≡ pos 0
-        → StandsInFront (consistency_bytes old_size size leaves) proof.old proof.new
-        proof_len.new }
-
-    // Where there is room for places, the buffer lacks it.
-    ensures room_needed { HasRead file file_len places_len.old places.old pieces.now
-        → (leaves : List Digest) → IsLogFile leaves file → places_len.old < length places.old
-        → result ≡ refusal_code Room
-        → IfOk (consistency_bytes old_size size leaves) (λ bytes. proof_len.new ≡ length bytes) }
-    ensures refused { HasRead file file_len places_len.old places.old pieces.now
-        → let given = of_first file (Some size) (λ n. only_if (is_older old_size n) Size (Ok n)) in
-        TellsWhy file given result }
-    ensures kept { result ≢ pos 0 → proof.new ≡ proof.old }
-    ensures uncounted { result ≢ pos 0 → result ≢ refusal_code Room
-        → proof_len.new ≡ proof_len.old }
-{
-    code_of(consistency_in(
-        alloc, proof, proof_len, places, places_len, file_len, pieces, old_size, size,
     ))
 }
 

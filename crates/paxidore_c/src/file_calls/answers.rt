@@ -224,7 +224,8 @@ pub fn proof_of<F: Held>(
     ensures accepted { IfOk result (λ proof. let verdict = consistency_verdict node_of old_size in
         verdict proof.old_root proof.size proof.root proof.path.items ≡ Ok true) }
     ensures refused { IsReadOf F.places F.pieces F.file → F.size ≡ length F.file
-        → let given = of_first F.file (Some size) (λ n. only_if (is_older old_size n) Size (Ok n)) in
+        → let given = of_first F.file (Some size)
+        (λ n. only_if (is_older old_size n) Size (Ok n)) in
         IfErr result (IsWhy F.file given) }
     ensures done { result ≢ Err More }
     ensures room { result ≢ Err (Refusal Room) }

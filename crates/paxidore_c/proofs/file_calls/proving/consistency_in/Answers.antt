@@ -3,7 +3,7 @@ use Rattle.std.specs.List.{flat_map}
 use Rattle.ark_base.specs.Digits.{itself}
 use Rattle.paxidore_c.specs.KeptLog.{bytes_of_digests, consistency_bytes}
 use Rattle.paxidore_c.proofs.LogCalls.{as-read, needs-by, stands-by}
-use Rattle.paxidore_c.proofs.file_calls.consistency_in.Goals as goal
+use Rattle.paxidore_c.proofs.file_calls.proving.consistency_in.Goals as goal
 
 pub returns-clause-proof : goal.returns-clause-proof
 returns-clause-proof g c = λ read leaves log.
