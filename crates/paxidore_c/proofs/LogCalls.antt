@@ -1,15 +1,19 @@
 -- What calls on a log's file answer.
-use Rattle.std.proofs.Common.{◌≡◌, ◌<◌, inl, inr, ℕ, ℤ, List, [], ◌∷◌, length, map, Result, Ok, Err, IfErr, IfOk, OnOk, refl, ap, sym, subst}
+use Rattle.std.proofs.Common.{◌≡◌, ◌<◌, ◌+◌, ◌^◌, inl, inr, nat_lt, ℕ, ℤ, List, [], ◌∷◌, length, map, Result, Ok, Err, IfErr, IfOk, OnOk, refl, ap, sym, subst}
 use Rattle.ark_paths.specs.Pair.{Digest}
 use Rattle.ark_trees.specs.Rfc6962.{entry_hash}
+use Rattle.ark_base.specs.Outcome.{◌>>=◌}
+use Rattle.log_file.specs.Append.{appended_size}
+use Rattle.log_file.specs.Faults.{log_size, only_if}
 use Rattle.log_file.specs.declared.fault.Fault.{Fault}
+use Rattle.log_file.specs.declared.fault.Fault.TheVariants.{Size}
 use Rattle.log_store.specs.Refused.{IsRefusedFor}
 use Rattle.log_store.specs.declared.stop.Stop.{Stop}
 use Rattle.log_store.specs.declared.stop.Stop.TheVariants.{Fault as ByFault, Disk as ByDisk}
 use Rattle.paxidore_c.proofs.KeptLogs.{Entries}
 use Rattle.paxidore_c.specs.Answer.{Hands, leaves_in}
 use Rattle.paxidore_c.specs.Cut.{parts_by}
-use Rattle.paxidore_c.specs.LogFiles.{IsWhy, StandsInFront, TellsWhy, call_code, not_done_at, not_done_for, not_done_of}
+use Rattle.paxidore_c.specs.LogFiles.{IsWhy, StandsInFront, Tells, call_code, not_done_at, not_done_for, not_done_of}
 use Rattle.paxidore_c.specs.Plan.{Carries, HasRead, IsHanded, carried}
 use Rattle.paxidore_c.specs.declared.file_calls.not_done.NotDone.{NotDone}
 use Rattle.paxidore_c.specs.declared.file_calls.not_done.NotDone.TheVariants.{Refusal}
@@ -40,6 +44,17 @@ pub of-replay : (A : Type 0) {B : Type 0} (file : List ℕ) (outcome : List ℕ 
 of-replay A file outcome [] stop why none known is = rw is (of-stop A file (outcome file) stop known)
 of-replay A file outcome (step ∷ steps) stop why none known is = absurd cc
 
+-- an append meets what a call for the size alone meets
+pub size-refused : (file : List ℕ) (count : ℕ) (why : NotDone) → IsWhy file (log_size file) why
+    → IsWhy file (appended_size file count) why
+size-refused file count why (inl is) = inl (go (log_size file) is)
+  where
+    go : (size : Result ℕ Fault) → not_done_for size ≡ Err why
+        → not_done_for (size >>= λ n. only_if (nat_lt (n + count) (2 ^ 63)) Size (Ok (n + count))) ≡ Err why
+    go (Ok size) is = absurd cc
+    go (Err fault) is = is
+size-refused file count why (inr rest) = inr rest
+
 -- ---- codes
 
 -- what is said of a call that was done, where its code is 0
@@ -48,10 +63,10 @@ where-done (Ok value) P is said = said
 where-done (Err why) P is said = absurd is
 
 -- a code tells why a call is not done
-pub tells : {A B : Type 0} (done : Result A NotDone) (file : List ℕ) (outcome : Result B Fault) (code : ℤ)
-    → code ≡ call_code done → IfErr done (IsWhy file outcome) → TellsWhy file outcome code
-tells (Ok value) file outcome code is why = inl is
-tells (Err not_done) file outcome code is why = inr (not_done, is, why)
+pub tells : {A : Type 0} (done : Result A NotDone) (Reason : NotDone → Type 0) (code : ℤ) → code ≡ call_code done
+    → IfErr done Reason → Tells Reason code
+tells (Ok value) Reason code is why = inl is
+tells (Err not_done) Reason code is why = inr (not_done, is, why)
 
 -- ---- what was read
 

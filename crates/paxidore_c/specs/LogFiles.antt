@@ -67,10 +67,13 @@ abbrev pub IsWhy : {A : Type 0} → List ℕ → Result A Fault → NotDone → 
 IsWhy file outcome why = (not_done_for outcome ≡ Err why) ⊎ (why ≡ Refusal Memory) ⊎ ((why ≡ Damaged) × IsDamaged file)
     ⊎ IsOfCaller why
 
--- The code is 0, or tells why the call is not done.
-abbrev pub TellsWhy : {A : Type 0} → List ℕ → Result A Fault → ℤ → Type 0
-TellsWhy file outcome code =
-    (code ≡ pos 0) ⊎ ((why : NotDone) × (code ≡ not_done_code why) × IsWhy file outcome why)
+-- Why a call on a file is not done that needs no log there: memory was refused, or the caller.
+abbrev pub IsPlainWhy : NotDone → Type 0
+IsPlainWhy why = (why ≡ Refusal Memory) ⊎ IsOfCaller why
+
+-- The code is 0, or that of such a reason.
+abbrev pub Tells : (NotDone → Type 0) → ℤ → Type 0
+Tells Reason code = (code ≡ pos 0) ⊎ ((why : NotDone) × (code ≡ not_done_code why) × Reason why)
 
 -- the code of a check of a log of some size: 0 or 1, or why the file has none
 abbrev pub check_code : Result ℕ Fault → Bool → ℤ

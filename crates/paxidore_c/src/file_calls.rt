@@ -4,19 +4,19 @@
 //! first, and puts their places behind those of the ones that were read. What is to be written is handed over in steps, each a
 //! place and a count of bytes. What the clauses say of a file holds of whichever file the pieces are of.
 
-ghost use Rattle.std.specs.Prelude.{◌≡◌, ◌≢◌, ◌<◌, ◌≤◌, ◌+◌, ◌*◌, ◌^◌, List, ℕ, [], Bool, length, map, pos, negsuc, IfErr, OnOk, Ok, Err, Some};
+ghost use Rattle.std.specs.Prelude.{◌≡◌, ◌≢◌, ◌⊎◌, ◌<◌, ◌≤◌, ◌+◌, ◌*◌, ◌^◌, List, ℕ, [], Bool, length, map, pos, negsuc, IfErr, OnOk, Ok, Err, Some};
 ghost use Rattle.ark_paths.specs.Pair.{Digest};
 ghost use Rattle.ark_trees.specs.Rfc6962.{entry_hash};
 ghost use Rattle.log_file.specs.Append.{appended_size};
 ghost use Rattle.log_file.specs.Faults.{log_size, of_first};
 ghost use Rattle.log_file.specs.LogFile.{stored_in, IsLogFile};
-ghost use Rattle.log_store.specs.Store.{IsSettled};
+ghost use Rattle.log_store.specs.Store.{new_head, IsPartOf, IsSettled};
 ghost use Rattle.merkle_log.specs.Kept.{front, Keeps};
 ghost use Rattle.merkle_log.specs.Stored.{row_of};
 ghost use Rattle.paxidore_c.specs.Answer.{leaves_in, refusal_code};
 ghost use Rattle.paxidore_c.specs.Cut.{parts_by};
 ghost use Rattle.paxidore_c.specs.KeptLog.{log_root};
-ghost use Rattle.paxidore_c.specs.LogFiles.{AsksFirst, IsWhy, TellsWhy, call_code, check_code};
+ghost use Rattle.paxidore_c.specs.LogFiles.{AsksFirst, IsPlainWhy, IsWhy, Tells, call_code, check_code};
 ghost use Rattle.paxidore_c.specs.Plan.{Carries, Grows, HasRead, IsHanded, LeavesSteps};
 ghost use Rattle.paxidore_c.specs.declared.file_calls.not_done.NotDone.TheVariants.{More, Refusal};
 ghost use Rattle.paxidore_c.specs.declared.refused.Refused.TheVariants.{Room};
@@ -76,6 +76,10 @@ fn made_in(
     ensures made { HasRead file file_len places_len.old places.old pieces.now → file ≡ []
         → OnOk result (Carries (IsSettled []) file bytes.old bytes.new bytes_len.new
         steps.old steps.new steps_len.new) }
+    ensures others { HasRead file file_len places_len.old places.old pieces.now
+        → IsPartOf new_head file ⊎ OnOk result (Carries (λ left. left ≡ file) file bytes.old
+        bytes.new bytes_len.new steps.old steps.new steps_len.new) }
+    ensures refused { IfErr result IsPlainWhy }
     ensures left { IfErr result (λ why. LeavesSteps (why ≡ Refusal Room) bytes.old bytes.new
         bytes_len.old bytes_len.new steps.old steps.new steps_len.old steps_len.new) }
 {
@@ -122,6 +126,12 @@ pub extern "C" fn paxidore_log_file_make(
         → result ≡ pos 0
         → Carries (IsSettled []) file bytes.old bytes.new bytes_len.new
         steps.old steps.new steps_len.new }
+
+    // What is neither empty nor a part of that head stays as it is.
+    ensures others { HasRead file file_len places_len.old places.old pieces.now → result ≡ pos 0
+        → IsPartOf new_head file ⊎ Carries (λ left. left ≡ file) file bytes.old bytes.new
+        bytes_len.new steps.old steps.new steps_len.new }
+    ensures refused { Tells IsPlainWhy result }
     ensures left { result ≢ pos 0 → LeavesSteps (result ≡ refusal_code Room) bytes.old bytes.new
         bytes_len.old bytes_len.new steps.old steps.new steps_len.old steps_len.new }
 {
@@ -144,6 +154,8 @@ fn size_in(
     ensures size { HasRead file file_len places_len.old places.old pieces.now
         → (leaves : List Digest) → IsLogFile leaves file
         → OnOk result (size.new ≡ length leaves) }
+    ensures refused { HasRead file file_len places_len.old places.old pieces.now
+        → IfErr result (IsWhy file (log_size file)) }
     ensures size_kept { IfErr result (λ _. size.new ≡ size.old) }
 {
     ask(alloc, Asked::Size, file_len, places, places_len, pieces)?;
@@ -167,6 +179,8 @@ pub extern "C" fn paxidore_log_file_size(
     ensures size { HasRead file file_len places_len.old places.old pieces.now
         → (leaves : List Digest) → IsLogFile leaves file → result ≡ pos 0
         → size.new ≡ length leaves }
+    ensures refused { HasRead file file_len places_len.old places.old pieces.now
+        → Tells (IsWhy file (log_size file)) result }
     ensures size_kept { result ≢ pos 0 → size.new ≡ size.old }
 {
     code_of(size_in(alloc, size, places, places_len, file_len, pieces))
@@ -221,7 +235,7 @@ pub extern "C" fn paxidore_log_file_root(
         → (leaves : List Digest) → IsLogFile leaves file → result ≡ pos 0
         → (size ≤ length leaves) × (log_root size leaves ≡ Ok root.new) }
     ensures refused { HasRead file file_len places_len.old places.old pieces.now
-        → TellsWhy file (of_first file (Some size) Ok) result }
+        → Tells (IsWhy file (of_first file (Some size) Ok)) result }
     ensures root_kept { result ≢ pos 0 → root.new ≡ root.old }
 {
     code_of(root_in(alloc, root, places, places_len, file_len, pieces, size))
@@ -263,7 +277,6 @@ fn append_in(
         → OnOk result ((size.new ≡ length leaves)
         × IsHanded [] bytes.old bytes.new bytes_len.new steps.old steps.new steps_len.new) }
     ensures refused { HasRead file file_len places_len.old places.old pieces.now
-        → 0 < length lengths.now
         → IfErr result (IsWhy file (appended_size file (length lengths.now))) }
     ensures left { IfErr result (λ why. LeavesSteps (why ≡ Refusal Room) bytes.old bytes.new
         bytes_len.old bytes_len.new steps.old steps.new steps_len.old steps_len.new) }
@@ -318,8 +331,7 @@ pub extern "C" fn paxidore_log_file_append(
         → result ≡ pos 0 → (size.new ≡ length leaves)
         × IsHanded [] bytes.old bytes.new bytes_len.new steps.old steps.new steps_len.new }
     ensures refused { HasRead file file_len places_len.old places.old pieces.now
-        → 0 < length lengths.now
-        → TellsWhy file (appended_size file (length lengths.now)) result }
+        → Tells (IsWhy file (appended_size file (length lengths.now))) result }
     ensures left { result ≢ pos 0 → LeavesSteps (result ≡ refusal_code Room) bytes.old bytes.new
         bytes_len.old bytes_len.new steps.old steps.new steps_len.old steps_len.new }
     ensures size_kept { result ≢ pos 0 → size.new ≡ size.old }

@@ -1,21 +1,21 @@
 //! What is said of a log's file by what was read of it, and what is to be written there. The file is that of the caller, whole.
 
-ghost use Rattle.std.specs.Prelude.{◌≡◌, ◌≢◌, ◌≤◌, ◌<◌, ◌+◌, ◌++◌, List, ℕ, [], length, nat_lt, take, true, IfErr, IfOk, Ok, Err, Some};
+ghost use Rattle.std.specs.Prelude.{◌≡◌, ◌≢◌, ◌⊎◌, ◌≤◌, ◌<◌, ◌+◌, ◌++◌, List, ℕ, [], length, take, true, IfErr, IfOk, Ok, Err, Some};
 ghost use Rattle.sha2.specs.Sha256.{sha256};
 ghost use Rattle.ark_paths.specs.Pair.{Digest};
 ghost use Rattle.ark_trees.specs.Rfc6962.{node_of};
-ghost use Rattle.log_store.specs.Store.{IsBeforeOrAfter, IsSettled};
+ghost use Rattle.log_store.specs.Refused.{index_outcome, older_outcome};
+ghost use Rattle.log_store.specs.Store.{new_head, IsBeforeOrAfter, IsPartOf, IsSettled};
 ghost use Rattle.merkle_log.specs.Edge.{all_of};
 ghost use Rattle.merkle_log.specs.Log.{consistency_path, inclusion_path, merkle_tree_hash};
 ghost use Rattle.merkle_log.specs.Verdict.{consistency_verdict, inclusion_verdict};
 ghost use Rattle.log_file.specs.Append.{appended_size};
-ghost use Rattle.log_file.specs.Faults.{is_older, of_first, only_if};
+ghost use Rattle.log_file.specs.Faults.{log_size, of_first};
 ghost use Rattle.log_file.specs.LogFile.{IsLogFile};
-ghost use Rattle.log_file.specs.declared.fault.Fault.TheVariants.{Index, Size};
-ghost use Rattle.paxidore_c.specs.LogFiles.{IsWhy};
+ghost use Rattle.paxidore_c.specs.LogFiles.{IsPlainWhy, IsWhy};
 ghost use Rattle.paxidore_c.specs.Plan.{IsReadOf, IsStopped, carried};
 ghost use Rattle.paxidore_c.specs.declared.file_calls.not_done.NotDone.TheVariants.{More, Refusal};
-ghost use Rattle.paxidore_c.specs.declared.refused.Refused.TheVariants.{Room};
+ghost use Rattle.paxidore_c.specs.declared.refused.Refused.TheVariants.{Memory, Room};
 
 use crate::file_calls::not_done::NotDone;
 use crate::file_calls::replay::{Held, Replay, Step};
@@ -84,6 +84,8 @@ pub fn size_of<F: Held>(
     ensures size { IsReadOf F.places F.pieces F.file → F.size ≡ length F.file
         → (leaves : List Digest) → IsLogFile leaves F.file
         → IfOk result (λ size. size ≡ length leaves) }
+    ensures refused { IsReadOf F.places F.pieces F.file → F.size ≡ length F.file
+        → IfErr result (IsWhy F.file (log_size F.file)) }
     ensures done { result ≢ Err More }
     ensures room { result ≢ Err (Refusal Room) }
 {
@@ -126,6 +128,7 @@ fn with_sync(alloc: Global, plan: Vec<Step>) -> Result<Vec<Step>, NotDone>
     ensures same { IfOk result (λ steps. (file : List ℕ)
         → carried steps.items file ≡ carried plan.items file) }
     ensures some { IfOk result (λ steps. 0 < length steps.items) }
+    ensures refused { IfErr result (λ why. why ≡ Refusal Memory) }
     ensures done { result ≢ Err More }
     ensures room { result ≢ Err (Refusal Room) }
 {
@@ -159,6 +162,12 @@ pub fn made_of<F: Held>(
     // A file that has no byte has the log of no entries, and stays it if one of its slots is lost.
     ensures made { IsReadOf F.places F.pieces F.file → F.size ≡ length F.file → F.file ≡ []
         → IfOk result (λ steps. IsSettled [] (carried steps.items F.file)) }
+
+    // What is neither empty nor a part of that head stays as it is.
+    ensures others { IsReadOf F.places F.pieces F.file → F.size ≡ length F.file
+        → IsPartOf new_head F.file
+        ⊎ IfOk result (λ steps. carried steps.items F.file ≡ F.file) }
+    ensures refused { IfErr result IsPlainWhy }
     ensures some { IfOk result (λ steps. 0 < length steps.items) }
     ensures done { result ≢ Err More }
     ensures room { result ≢ Err (Refusal Room) }
@@ -191,8 +200,7 @@ pub fn path_of<F: Held>(
     ensures accepted { IfOk result (λ proof. let verdict = inclusion_verdict node_of proof.root in
         verdict proof.size index proof.digest proof.path.items ≡ Ok true) }
     ensures refused { IsReadOf F.places F.pieces F.file → F.size ≡ length F.file
-        → let given = of_first F.file (Some size) (λ n. only_if (nat_lt index n) Index (Ok n)) in
-        IfErr result (IsWhy F.file given) }
+        → IfErr result (IsWhy F.file (index_outcome F.file (Some size) index)) }
     ensures done { result ≢ Err More }
     ensures room { result ≢ Err (Refusal Room) }
 {
@@ -224,9 +232,7 @@ pub fn proof_of<F: Held>(
     ensures accepted { IfOk result (λ proof. let verdict = consistency_verdict node_of old_size in
         verdict proof.old_root proof.size proof.root proof.path.items ≡ Ok true) }
     ensures refused { IsReadOf F.places F.pieces F.file → F.size ≡ length F.file
-        → let given = of_first F.file (Some size)
-        (λ n. only_if (is_older old_size n) Size (Ok n)) in
-        IfErr result (IsWhy F.file given) }
+        → IfErr result (IsWhy F.file (older_outcome F.file (Some size) old_size)) }
     ensures done { result ≢ Err More }
     ensures room { result ≢ Err (Refusal Room) }
 {

@@ -1,13 +1,12 @@
 //! Inclusion and consistency proofs of the log in a file of the caller's.
 
-ghost use Rattle.std.specs.Prelude.{◌≡◌, ◌≢◌, ◌<◌, List, ℕ, length, nat_lt, pos, negsuc, IfErr, IfOk, OnOk, Ok, Err, Some};
+ghost use Rattle.std.specs.Prelude.{◌≡◌, ◌≢◌, ◌<◌, List, ℕ, length, pos, negsuc, IfErr, IfOk, OnOk, Err, Some};
 ghost use Rattle.ark_paths.specs.Pair.{Digest};
-ghost use Rattle.log_file.specs.Faults.{is_older, of_first, only_if};
 ghost use Rattle.log_file.specs.LogFile.{IsLogFile};
-ghost use Rattle.log_file.specs.declared.fault.Fault.TheVariants.{Index, Size};
+ghost use Rattle.log_store.specs.Refused.{index_outcome, older_outcome};
 ghost use Rattle.paxidore_c.specs.Answer.{refusal_code};
 ghost use Rattle.paxidore_c.specs.KeptLog.{consistency_bytes, inclusion_bytes};
-ghost use Rattle.paxidore_c.specs.LogFiles.{AsksFirst, IsWhy, StandsInFront, TellsWhy};
+ghost use Rattle.paxidore_c.specs.LogFiles.{AsksFirst, IsWhy, StandsInFront, Tells};
 ghost use Rattle.paxidore_c.specs.Plan.{HasRead};
 ghost use Rattle.paxidore_c.specs.declared.file_calls.not_done.NotDone.TheVariants.{More, Refusal};
 ghost use Rattle.paxidore_c.specs.declared.refused.Refused.TheVariants.{Room};
@@ -43,8 +42,7 @@ fn inclusion_in(
         → result ≡ Err (Refusal Room)
         → IfOk (inclusion_bytes size index leaves) (λ bytes. path_len.new ≡ length bytes) }
     ensures refused { HasRead file file_len places_len.old places.old pieces.now
-        → let given = of_first file (Some size) (λ n. only_if (nat_lt index n) Index (Ok n)) in
-        IfErr result (IsWhy file given) }
+        → IfErr result (IsWhy file (index_outcome file (Some size) index)) }
     ensures kept { IfErr result (λ _. path.new ≡ path.old) }
     ensures uncounted { result ≢ Err (Refusal Room)
         → IfErr result (λ _. path_len.new ≡ path_len.old) }
@@ -82,8 +80,7 @@ pub extern "C" fn paxidore_log_file_inclusion(
         → result ≡ refusal_code Room
         → IfOk (inclusion_bytes size index leaves) (λ bytes. path_len.new ≡ length bytes) }
     ensures refused { HasRead file file_len places_len.old places.old pieces.now
-        → let given = of_first file (Some size) (λ n. only_if (nat_lt index n) Index (Ok n)) in
-        TellsWhy file given result }
+        → Tells (IsWhy file (index_outcome file (Some size) index)) result }
     ensures kept { result ≢ pos 0 → path.new ≡ path.old }
     ensures uncounted { result ≢ pos 0 → result ≢ refusal_code Room
         → path_len.new ≡ path_len.old }
@@ -116,8 +113,7 @@ fn consistency_in(
         → result ≡ Err (Refusal Room)
         → IfOk (consistency_bytes old_size size leaves) (λ bytes. proof_len.new ≡ length bytes) }
     ensures refused { HasRead file file_len places_len.old places.old pieces.now
-        → let given = of_first file (Some size) (λ n. only_if (is_older old_size n) Size (Ok n)) in
-        IfErr result (IsWhy file given) }
+        → IfErr result (IsWhy file (older_outcome file (Some size) old_size)) }
     ensures kept { IfErr result (λ _. proof.new ≡ proof.old) }
     ensures uncounted { result ≢ Err (Refusal Room)
         → IfErr result (λ _. proof_len.new ≡ proof_len.old) }
@@ -157,8 +153,7 @@ pub extern "C" fn paxidore_log_file_consistency(
         → result ≡ refusal_code Room
         → IfOk (consistency_bytes old_size size leaves) (λ bytes. proof_len.new ≡ length bytes) }
     ensures refused { HasRead file file_len places_len.old places.old pieces.now
-        → let given = of_first file (Some size) (λ n. only_if (is_older old_size n) Size (Ok n)) in
-        TellsWhy file given result }
+        → Tells (IsWhy file (older_outcome file (Some size) old_size)) result }
     ensures kept { result ≢ pos 0 → proof.new ≡ proof.old }
     ensures uncounted { result ≢ pos 0 → result ≢ refusal_code Room
         → proof_len.new ≡ proof_len.old }

@@ -18,5 +18,5 @@ returns-clause-none g c =
 pub returns-clause-refused : goal.returns-clause-refused
 returns-clause-refused g c =
     let fits = to_z-of_z w32 c.code_of.result (record { sfits = c.code_of.type_inv }) in
-    rw fits (λ read some. tells c.append_in.result g.file _ _ c.code_of.ensures.code
-    (c.append_in.ensures.refused read some))
+    rw fits (λ read. tells c.append_in.result _ _ c.code_of.ensures.code
+    (c.append_in.ensures.refused read))

@@ -12,5 +12,5 @@ returns-clause-root g c =
 pub returns-clause-refused : goal.returns-clause-refused
 returns-clause-refused g c =
     let fits = to_z-of_z w32 c.code_of.result (record { sfits = c.code_of.type_inv }) in
-    rw fits (λ read. tells c.root_in.result g.file _ _ c.code_of.ensures.code
+    rw fits (λ read. tells c.root_in.result _ _ c.code_of.ensures.code
     (c.root_in.ensures.refused read))

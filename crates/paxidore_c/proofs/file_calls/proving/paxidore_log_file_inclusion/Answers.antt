@@ -12,7 +12,7 @@ returns-clause-path g c =
 pub returns-clause-refused : goal.returns-clause-refused
 returns-clause-refused g c =
     let fits = to_z-of_z w32 c.code_of.result (record { sfits = c.code_of.type_inv }) in
-    rw fits (λ read. tells c.inclusion_in.result g.file _ _ c.code_of.ensures.code
+    rw fits (λ read. tells c.inclusion_in.result _ _ c.code_of.ensures.code
     (c.inclusion_in.ensures.refused read))
 
 pub returns-clause-room_needed : goal.returns-clause-room_needed
