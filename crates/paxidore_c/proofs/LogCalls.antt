@@ -13,7 +13,7 @@ use Rattle.log_store.specs.declared.stop.Stop.TheVariants.{Fault as ByFault, Dis
 use Rattle.paxidore_c.proofs.KeptLogs.{Entries}
 use Rattle.paxidore_c.specs.Answer.{Hands, leaves_in}
 use Rattle.paxidore_c.specs.Cut.{parts_by}
-use Rattle.paxidore_c.specs.LogFiles.{IsWhy, StandsInFront, Tells, call_code, not_done_at, not_done_for, not_done_of}
+use Rattle.paxidore_c.specs.LogFiles.{IsReason, StandsInFront, TellsWhy, call_code, not_done_at, not_done_for, not_done_of}
 use Rattle.paxidore_c.specs.Plan.{Carries, HasRead, IsHanded, carried}
 use Rattle.paxidore_c.specs.declared.file_calls.not_done.NotDone.{NotDone}
 use Rattle.paxidore_c.specs.declared.file_calls.not_done.NotDone.TheVariants.{Refusal}
@@ -27,7 +27,7 @@ use Rattle.paxidore_c.specs.declared.refused.Refused.TheVariants.{Room}
 
 -- why a call that stopped is not done
 pub of-stop : (A : Type 0) {B : Type 0} (file : List ℕ) (outcome : Result B Fault) (stop : Stop Halt)
-    → IsRefusedFor {A = A} file outcome (Err stop) → IsWhy file outcome (not_done_at stop)
+    → IsRefusedFor {A = A} file outcome (Err stop) → IsReason file outcome (not_done_at stop)
 of-stop A file outcome (ByFault fault) (inl memory) = inr (inl (ap not_done_of memory))
 of-stop A file outcome (ByFault fault) (inr (inl is)) = inl (ap not_done_for is)
 of-stop A file outcome (ByFault fault) (inr (inr damaged)) =
@@ -40,13 +40,13 @@ of-stop A file outcome (ByDisk Missing) known = inr (inr (inr (inr (inr (inr ref
 pub of-replay : (A : Type 0) {B : Type 0} (file : List ℕ) (outcome : List ℕ → Result B Fault) (steps : List Step)
     (stop : Stop Halt) (why : NotDone) → steps ≡ []
     → IsRefusedFor {A = A} (carried steps file) (outcome (carried steps file)) (Err stop) → why ≡ not_done_at stop
-    → IsWhy file (outcome file) why
+    → IsReason file (outcome file) why
 of-replay A file outcome [] stop why none known is = rw is (of-stop A file (outcome file) stop known)
 of-replay A file outcome (step ∷ steps) stop why none known is = absurd cc
 
 -- an append meets what a call for the size alone meets
-pub size-refused : (file : List ℕ) (count : ℕ) (why : NotDone) → IsWhy file (log_size file) why
-    → IsWhy file (appended_size file count) why
+pub size-refused : (file : List ℕ) (count : ℕ) (why : NotDone) → IsReason file (log_size file) why
+    → IsReason file (appended_size file count) why
 size-refused file count why (inl is) = inl (go (log_size file) is)
   where
     go : (size : Result ℕ Fault) → not_done_for size ≡ Err why
@@ -64,7 +64,7 @@ where-done (Err why) P is said = absurd is
 
 -- a code tells why a call is not done
 pub tells : {A : Type 0} (done : Result A NotDone) (Reason : NotDone → Type 0) (code : ℤ) → code ≡ call_code done
-    → IfErr done Reason → Tells Reason code
+    → IfErr done Reason → TellsWhy Reason code
 tells (Ok value) Reason code is why = inl is
 tells (Err not_done) Reason code is why = inr (not_done, is, why)
 

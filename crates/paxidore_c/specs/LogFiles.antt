@@ -63,17 +63,17 @@ abbrev pub IsOfCaller : NotDone → Type 0
 IsOfCaller why = (why ≡ More) ⊎ (why ≡ Refusal Room) ⊎ (why ≡ Refusal Lengths) ⊎ (why ≡ Refusal Other)
 
 -- Why a call on a log's file is not done: the outcome's fault, memory was refused, the file is damaged, or the caller.
-abbrev pub IsWhy : {A : Type 0} → List ℕ → Result A Fault → NotDone → Type 0
-IsWhy file outcome why = (not_done_for outcome ≡ Err why) ⊎ (why ≡ Refusal Memory) ⊎ ((why ≡ Damaged) × IsDamaged file)
+abbrev pub IsReason : {A : Type 0} → List ℕ → Result A Fault → NotDone → Type 0
+IsReason file outcome why = (not_done_for outcome ≡ Err why) ⊎ (why ≡ Refusal Memory) ⊎ ((why ≡ Damaged) × IsDamaged file)
     ⊎ IsOfCaller why
 
 -- Why a call on a file is not done that needs no log there: memory was refused, or the caller.
-abbrev pub IsPlainWhy : NotDone → Type 0
-IsPlainWhy why = (why ≡ Refusal Memory) ⊎ IsOfCaller why
+abbrev pub IsPlainReason : NotDone → Type 0
+IsPlainReason why = (why ≡ Refusal Memory) ⊎ IsOfCaller why
 
 -- The code is 0, or that of such a reason.
-abbrev pub Tells : (NotDone → Type 0) → ℤ → Type 0
-Tells Reason code = (code ≡ pos 0) ⊎ ((why : NotDone) × (code ≡ not_done_code why) × Reason why)
+abbrev pub TellsWhy : (NotDone → Type 0) → ℤ → Type 0
+TellsWhy Reason code = (code ≡ pos 0) ⊎ ((why : NotDone) × (code ≡ not_done_code why) × Reason why)
 
 -- the code of a check of a log of some size: 0 or 1, or why the file has none
 abbrev pub check_code : Result ℕ Fault → Bool → ℤ

@@ -16,7 +16,7 @@ ghost use Rattle.merkle_log.specs.Stored.{row_of};
 ghost use Rattle.paxidore_c.specs.Answer.{leaves_in, refusal_code};
 ghost use Rattle.paxidore_c.specs.Cut.{parts_by};
 ghost use Rattle.paxidore_c.specs.KeptLog.{log_root};
-ghost use Rattle.paxidore_c.specs.LogFiles.{AsksFirst, IsPlainWhy, IsWhy, Tells, call_code, check_code};
+ghost use Rattle.paxidore_c.specs.LogFiles.{AsksFirst, IsPlainReason, IsReason, TellsWhy, call_code, check_code};
 ghost use Rattle.paxidore_c.specs.Plan.{Carries, Grows, HasRead, IsHanded, LeavesSteps};
 ghost use Rattle.paxidore_c.specs.declared.file_calls.not_done.NotDone.TheVariants.{More, Refusal};
 ghost use Rattle.paxidore_c.specs.declared.refused.Refused.TheVariants.{Room};
@@ -79,7 +79,7 @@ fn made_in(
     ensures others { HasRead file file_len places_len.old places.old pieces.now
         → IsPartOf new_head file ⊎ OnOk result (Carries (λ left. left ≡ file) file bytes.old
         bytes.new bytes_len.new steps.old steps.new steps_len.new) }
-    ensures refused { IfErr result IsPlainWhy }
+    ensures refused { IfErr result IsPlainReason }
     ensures left { IfErr result (λ why. LeavesSteps (why ≡ Refusal Room) bytes.old bytes.new
         bytes_len.old bytes_len.new steps.old steps.new steps_len.old steps_len.new) }
 {
@@ -131,7 +131,7 @@ pub extern "C" fn paxidore_log_file_make(
     ensures others { HasRead file file_len places_len.old places.old pieces.now → result ≡ pos 0
         → IsPartOf new_head file ⊎ Carries (λ left. left ≡ file) file bytes.old bytes.new
         bytes_len.new steps.old steps.new steps_len.new }
-    ensures refused { Tells IsPlainWhy result }
+    ensures refused { TellsWhy IsPlainReason result }
     ensures left { result ≢ pos 0 → LeavesSteps (result ≡ refusal_code Room) bytes.old bytes.new
         bytes_len.old bytes_len.new steps.old steps.new steps_len.old steps_len.new }
 {
@@ -155,7 +155,7 @@ fn size_in(
         → (leaves : List Digest) → IsLogFile leaves file
         → OnOk result (size.new ≡ length leaves) }
     ensures refused { HasRead file file_len places_len.old places.old pieces.now
-        → IfErr result (IsWhy file (log_size file)) }
+        → IfErr result (IsReason file (log_size file)) }
     ensures size_kept { IfErr result (λ _. size.new ≡ size.old) }
 {
     ask(alloc, Asked::Size, file_len, places, places_len, pieces)?;
@@ -180,7 +180,7 @@ pub extern "C" fn paxidore_log_file_size(
         → (leaves : List Digest) → IsLogFile leaves file → result ≡ pos 0
         → size.new ≡ length leaves }
     ensures refused { HasRead file file_len places_len.old places.old pieces.now
-        → Tells (IsWhy file (log_size file)) result }
+        → TellsWhy (IsReason file (log_size file)) result }
     ensures size_kept { result ≢ pos 0 → size.new ≡ size.old }
 {
     code_of(size_in(alloc, size, places, places_len, file_len, pieces))
@@ -202,7 +202,7 @@ fn root_in(
         → (leaves : List Digest) → IsLogFile leaves file
         → OnOk result ((size ≤ length leaves) × (log_root size leaves ≡ Ok root.new)) }
     ensures refused { HasRead file file_len places_len.old places.old pieces.now
-        → IfErr result (IsWhy file (of_first file (Some size) Ok)) }
+        → IfErr result (IsReason file (of_first file (Some size) Ok)) }
     ensures root_kept { IfErr result (λ _. root.new ≡ root.old) }
 {
     ask(
@@ -235,7 +235,7 @@ pub extern "C" fn paxidore_log_file_root(
         → (leaves : List Digest) → IsLogFile leaves file → result ≡ pos 0
         → (size ≤ length leaves) × (log_root size leaves ≡ Ok root.new) }
     ensures refused { HasRead file file_len places_len.old places.old pieces.now
-        → Tells (IsWhy file (of_first file (Some size) Ok)) result }
+        → TellsWhy (IsReason file (of_first file (Some size) Ok)) result }
     ensures root_kept { result ≢ pos 0 → root.new ≡ root.old }
 {
     code_of(root_in(alloc, root, places, places_len, file_len, pieces, size))
@@ -277,7 +277,7 @@ fn append_in(
         → OnOk result ((size.new ≡ length leaves)
         × IsHanded [] bytes.old bytes.new bytes_len.new steps.old steps.new steps_len.new) }
     ensures refused { HasRead file file_len places_len.old places.old pieces.now
-        → IfErr result (IsWhy file (appended_size file (length lengths.now))) }
+        → IfErr result (IsReason file (appended_size file (length lengths.now))) }
     ensures left { IfErr result (λ why. LeavesSteps (why ≡ Refusal Room) bytes.old bytes.new
         bytes_len.old bytes_len.new steps.old steps.new steps_len.old steps_len.new) }
     ensures size_kept { IfErr result (λ _. size.new ≡ size.old) }
@@ -331,7 +331,7 @@ pub extern "C" fn paxidore_log_file_append(
         → result ≡ pos 0 → (size.new ≡ length leaves)
         × IsHanded [] bytes.old bytes.new bytes_len.new steps.old steps.new steps_len.new }
     ensures refused { HasRead file file_len places_len.old places.old pieces.now
-        → Tells (IsWhy file (appended_size file (length lengths.now))) result }
+        → TellsWhy (IsReason file (appended_size file (length lengths.now))) result }
     ensures left { result ≢ pos 0 → LeavesSteps (result ≡ refusal_code Room) bytes.old bytes.new
         bytes_len.old bytes_len.new steps.old steps.new steps_len.old steps_len.new }
     ensures size_kept { result ≢ pos 0 → size.new ≡ size.old }

@@ -12,7 +12,7 @@ ghost use Rattle.merkle_log.specs.Verdict.{consistency_verdict, inclusion_verdic
 ghost use Rattle.log_file.specs.Append.{appended_size};
 ghost use Rattle.log_file.specs.Faults.{log_size, of_first};
 ghost use Rattle.log_file.specs.LogFile.{IsLogFile};
-ghost use Rattle.paxidore_c.specs.LogFiles.{IsPlainWhy, IsWhy};
+ghost use Rattle.paxidore_c.specs.LogFiles.{IsPlainReason, IsReason};
 ghost use Rattle.paxidore_c.specs.Plan.{IsReadOf, IsStopped, carried};
 ghost use Rattle.paxidore_c.specs.declared.file_calls.not_done.NotDone.TheVariants.{More, Refusal};
 ghost use Rattle.paxidore_c.specs.declared.refused.Refused.TheVariants.{Memory, Room};
@@ -57,7 +57,7 @@ pub fn growth_of<F: Held>(
         → IfOk result (λ growth. (left : List ℕ) → IsStopped growth.steps.items F.file left
         → IsBeforeOrAfter leaves digests.now left) }
     ensures refused { IsReadOf F.places F.pieces F.file → F.size ≡ length F.file
-        → IfErr result (IsWhy F.file (appended_size F.file (length digests.now))) }
+        → IfErr result (IsReason F.file (appended_size F.file (length digests.now))) }
     ensures done { result ≢ Err More }
     ensures room { result ≢ Err (Refusal Room) }
 {
@@ -85,7 +85,7 @@ pub fn size_of<F: Held>(
         → (leaves : List Digest) → IsLogFile leaves F.file
         → IfOk result (λ size. size ≡ length leaves) }
     ensures refused { IsReadOf F.places F.pieces F.file → F.size ≡ length F.file
-        → IfErr result (IsWhy F.file (log_size F.file)) }
+        → IfErr result (IsReason F.file (log_size F.file)) }
     ensures done { result ≢ Err More }
     ensures room { result ≢ Err (Refusal Room) }
 {
@@ -112,7 +112,7 @@ pub fn root_of<F: Held>(
         (size ≤ length leaves)
         × (merkle_tree_hash node_of (sha256 []) (take size leaves) ≡ Ok root)) }
     ensures refused { IsReadOf F.places F.pieces F.file → F.size ≡ length F.file
-        → IfErr result (IsWhy F.file (of_first F.file (Some size) Ok)) }
+        → IfErr result (IsReason F.file (of_first F.file (Some size) Ok)) }
     ensures done { result ≢ Err More }
     ensures room { result ≢ Err (Refusal Room) }
 {
@@ -167,7 +167,7 @@ pub fn made_of<F: Held>(
     ensures others { IsReadOf F.places F.pieces F.file → F.size ≡ length F.file
         → IsPartOf new_head F.file
         ⊎ IfOk result (λ steps. carried steps.items F.file ≡ F.file) }
-    ensures refused { IfErr result IsPlainWhy }
+    ensures refused { IfErr result IsPlainReason }
     ensures some { IfOk result (λ steps. 0 < length steps.items) }
     ensures done { result ≢ Err More }
     ensures room { result ≢ Err (Refusal Room) }
@@ -200,7 +200,7 @@ pub fn path_of<F: Held>(
     ensures accepted { IfOk result (λ proof. let verdict = inclusion_verdict node_of proof.root in
         verdict proof.size index proof.digest proof.path.items ≡ Ok true) }
     ensures refused { IsReadOf F.places F.pieces F.file → F.size ≡ length F.file
-        → IfErr result (IsWhy F.file (index_outcome F.file (Some size) index)) }
+        → IfErr result (IsReason F.file (index_outcome F.file (Some size) index)) }
     ensures done { result ≢ Err More }
     ensures room { result ≢ Err (Refusal Room) }
 {
@@ -232,7 +232,7 @@ pub fn proof_of<F: Held>(
     ensures accepted { IfOk result (λ proof. let verdict = consistency_verdict node_of old_size in
         verdict proof.old_root proof.size proof.root proof.path.items ≡ Ok true) }
     ensures refused { IsReadOf F.places F.pieces F.file → F.size ≡ length F.file
-        → IfErr result (IsWhy F.file (older_outcome F.file (Some size) old_size)) }
+        → IfErr result (IsReason F.file (older_outcome F.file (Some size) old_size)) }
     ensures done { result ≢ Err More }
     ensures room { result ≢ Err (Refusal Room) }
 {

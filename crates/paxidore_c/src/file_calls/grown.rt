@@ -4,7 +4,7 @@ ghost use Rattle.std.specs.Prelude.{◌≡◌, ◌≢◌, ◌<◌, List, length,
 ghost use Rattle.ark_paths.specs.Pair.{Digest};
 ghost use Rattle.log_file.specs.Append.{appended_size};
 ghost use Rattle.log_file.specs.LogFile.{IsLogFile};
-ghost use Rattle.paxidore_c.specs.LogFiles.{IsWhy};
+ghost use Rattle.paxidore_c.specs.LogFiles.{IsReason};
 ghost use Rattle.paxidore_c.specs.Plan.{Grows, IsReadOf, LeavesSteps};
 ghost use Rattle.paxidore_c.specs.declared.file_calls.not_done.NotDone.TheVariants.{More, Refusal};
 ghost use Rattle.paxidore_c.specs.declared.refused.Refused.TheVariants.{Room};
@@ -39,7 +39,7 @@ pub fn hand_over_growth<F: Held>(
         (Grows leaves digests.now F.file bytes.old bytes.new bytes_len.new steps.old steps.new
         steps_len.new size.new) }
     ensures refused { IsReadOf F.places F.pieces F.file → F.size ≡ length F.file
-        → IfErr result (IsWhy F.file (appended_size F.file (length digests.now))) }
+        → IfErr result (IsReason F.file (appended_size F.file (length digests.now))) }
     ensures left { IfErr result (λ why. LeavesSteps (why ≡ Refusal Room) bytes.old bytes.new
         bytes_len.old bytes_len.new steps.old steps.new steps_len.old steps_len.new) }
     ensures kept { IfErr result (λ _. size.new ≡ size.old) }

@@ -6,7 +6,7 @@ ghost use Rattle.log_file.specs.LogFile.{IsLogFile};
 ghost use Rattle.log_store.specs.Refused.{index_outcome, older_outcome};
 ghost use Rattle.paxidore_c.specs.Answer.{refusal_code};
 ghost use Rattle.paxidore_c.specs.KeptLog.{consistency_bytes, inclusion_bytes};
-ghost use Rattle.paxidore_c.specs.LogFiles.{AsksFirst, IsWhy, StandsInFront, Tells};
+ghost use Rattle.paxidore_c.specs.LogFiles.{AsksFirst, IsReason, StandsInFront, TellsWhy};
 ghost use Rattle.paxidore_c.specs.Plan.{HasRead};
 ghost use Rattle.paxidore_c.specs.declared.file_calls.not_done.NotDone.TheVariants.{More, Refusal};
 ghost use Rattle.paxidore_c.specs.declared.refused.Refused.TheVariants.{Room};
@@ -42,7 +42,7 @@ fn inclusion_in(
         → result ≡ Err (Refusal Room)
         → IfOk (inclusion_bytes size index leaves) (λ bytes. path_len.new ≡ length bytes) }
     ensures refused { HasRead file file_len places_len.old places.old pieces.now
-        → IfErr result (IsWhy file (index_outcome file (Some size) index)) }
+        → IfErr result (IsReason file (index_outcome file (Some size) index)) }
     ensures kept { IfErr result (λ _. path.new ≡ path.old) }
     ensures uncounted { result ≢ Err (Refusal Room)
         → IfErr result (λ _. path_len.new ≡ path_len.old) }
@@ -80,7 +80,7 @@ pub extern "C" fn paxidore_log_file_inclusion(
         → result ≡ refusal_code Room
         → IfOk (inclusion_bytes size index leaves) (λ bytes. path_len.new ≡ length bytes) }
     ensures refused { HasRead file file_len places_len.old places.old pieces.now
-        → Tells (IsWhy file (index_outcome file (Some size) index)) result }
+        → TellsWhy (IsReason file (index_outcome file (Some size) index)) result }
     ensures kept { result ≢ pos 0 → path.new ≡ path.old }
     ensures uncounted { result ≢ pos 0 → result ≢ refusal_code Room
         → path_len.new ≡ path_len.old }
@@ -113,7 +113,7 @@ fn consistency_in(
         → result ≡ Err (Refusal Room)
         → IfOk (consistency_bytes old_size size leaves) (λ bytes. proof_len.new ≡ length bytes) }
     ensures refused { HasRead file file_len places_len.old places.old pieces.now
-        → IfErr result (IsWhy file (older_outcome file (Some size) old_size)) }
+        → IfErr result (IsReason file (older_outcome file (Some size) old_size)) }
     ensures kept { IfErr result (λ _. proof.new ≡ proof.old) }
     ensures uncounted { result ≢ Err (Refusal Room)
         → IfErr result (λ _. proof_len.new ≡ proof_len.old) }
@@ -153,7 +153,7 @@ pub extern "C" fn paxidore_log_file_consistency(
         → result ≡ refusal_code Room
         → IfOk (consistency_bytes old_size size leaves) (λ bytes. proof_len.new ≡ length bytes) }
     ensures refused { HasRead file file_len places_len.old places.old pieces.now
-        → Tells (IsWhy file (older_outcome file (Some size) old_size)) result }
+        → TellsWhy (IsReason file (older_outcome file (Some size) old_size)) result }
     ensures kept { result ≢ pos 0 → proof.new ≡ proof.old }
     ensures uncounted { result ≢ pos 0 → result ≢ refusal_code Room
         → proof_len.new ≡ proof_len.old }

@@ -3,7 +3,7 @@ use Rattle.std.proofs.lemmas.Bool.Decides.{nat_tests}
 use Rattle.std.proofs.lemmas.Result.{err_from_is_err_and}
 use Rattle.ark_paths.specs.Pair.{Digest}
 use Rattle.log_file.specs.Append.{appended_size}
-use Rattle.paxidore_c.specs.LogFiles.{IsWhy}
+use Rattle.paxidore_c.specs.LogFiles.{IsReason}
 use Rattle.paxidore_c.specs.Plan.{Grows}
 use Rattle.paxidore_c.proofs.KeptLogs.{entries-of}
 use Rattle.paxidore_c.proofs.LogCalls.{as-read, of-entries, size-refused}
@@ -33,7 +33,7 @@ returns-then-not-is_empty-clause-refused g c = λ read.
     c.ask.new.places c.args.pieces.now c.in_ok-ask.ensures.uncounted c.in_ok-ask.ensures.kept read in
     let known = entries-of c.args.entries.now c.args.lengths.now c.deref.result.now
     (rw c.deref.ensures.value c.in_ok-digests.ensures.made) in
-    subst (λ (n : ℕ). IfErr c.hand_over_growth.result (IsWhy g.file (appended_size g.file n))) known.count
+    subst (λ (n : ℕ). IfErr c.hand_over_growth.result (IsReason g.file (appended_size g.file n))) known.count
     (c.hand_over_growth.ensures.refused own.0 own.1)
 
 pub returns-in_err-own-clause-refused : goal.returns-in_err-own-clause-refused
