@@ -64,8 +64,8 @@ IsOfCaller why = (why ≡ More) ⊎ (why ≡ Refusal Room) ⊎ (why ≡ Refusal 
 
 -- Why a call on a log's file is not done: the outcome's fault, memory was refused, the file is damaged, or the caller.
 abbrev pub IsReason : {A : Type 0} → List ℕ → Result A Fault → NotDone → Type 0
-IsReason file outcome why = (not_done_for outcome ≡ Err why) ⊎ (why ≡ Refusal Memory) ⊎ ((why ≡ Damaged) × IsDamaged file)
-    ⊎ IsOfCaller why
+IsReason file outcome why = (not_done_for outcome ≡ Err why) ⊎ (why ≡ Refusal Memory)
+    ⊎ ((why ≡ Damaged) × IsDamaged file) ⊎ IsOfCaller why
 
 -- Why a call on a file is not done that needs no log there: memory was refused, or the caller.
 abbrev pub IsPlainReason : NotDone → Type 0
