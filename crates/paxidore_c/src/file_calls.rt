@@ -3,6 +3,10 @@
 //! No call reads or writes the file. Each takes the pieces of it that the caller has read, or answers that others are to be read
 //! first, and puts their places behind those of the ones that were read. What is to be written is handed over in steps, each a
 //! place and a count of bytes. What the clauses say of a file holds of whichever file the pieces are of.
+//!
+//! Each call but the check answers the first of `E_ROOM` where there is none for places, `E_LENGTHS` where the pieces have not as
+//! many bytes as their places say, and `E_MORE`; then 0, or a refusal of its own; `E_MEMORY` in place of any. `E_MORE` writes places,
+//! `E_ROOM` for a buffer the counts that are needed, and no other refusal anything.
 
 ghost use Rattle.std.specs.Prelude.{◌≡◌, ◌≢◌, ◌⊎◌, ◌<◌, ◌≤◌, ◌+◌, ◌*◌, ◌^◌, List, ℕ, [], Bool, length, map, pos, negsuc, IfErr, OnOk, Ok, Err, Some};
 ghost use Rattle.ark_paths.specs.Pair.{Digest};
@@ -98,7 +102,7 @@ pub extern "C" fn paxidore_log_file_room(count: usize) -> usize
 }
 
 /// Hands over what is to be written to a file before a keeper uses it: the head of a log of no entries, where it has no byte or
-/// no more than a part of that head; else nothing, but it is to be synced.
+/// no more than a part of that head; else nothing, but it is to be synced. Its own refusal: `E_ROOM` for `bytes` and `steps`.
 #[unsafe(no_mangle)]
 pub extern "C" fn paxidore_log_file_make(
     alloc: Global,
@@ -163,7 +167,7 @@ fn size_in(
     Ok(())
 }
 
-/// Writes how many entries the log of a file has.
+/// Writes how many entries the log of a file has. Its own refusals: `E_NO_LOG`, `E_HEAD`, `E_SHORT`.
 #[unsafe(no_mangle)]
 pub extern "C" fn paxidore_log_file_size(
     alloc: Global,
@@ -217,7 +221,8 @@ fn root_in(
     Ok(())
 }
 
-/// Writes the root of the first `size` entries of the log of a file.
+/// Writes the root of the first `size` entries of the log of a file. Its own refusals: those of the size, `E_DAMAGED`, `E_SIZE` for
+/// more than there are.
 #[unsafe(no_mangle)]
 pub extern "C" fn paxidore_log_file_root(
     alloc: Global,
@@ -297,7 +302,8 @@ fn append_in(
     Ok(())
 }
 
-/// Hands over what is to be written to the file of a log to append entries, and writes the new size.
+/// Hands over what is to be written to the file of a log to append entries, and writes the new size. Its own refusals: `E_LENGTHS`,
+/// those of the size, `E_DAMAGED`, `E_SIZE` for a new size of 2^63 and above, `E_ROOM` for `bytes` and `steps`.
 #[unsafe(no_mangle)]
 pub extern "C" fn paxidore_log_file_append(
     alloc: Global,

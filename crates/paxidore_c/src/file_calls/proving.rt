@@ -54,7 +54,8 @@ fn inclusion_in(
     hand_over_digests(alloc, &proof.path, path, path_len)
 }
 
-/// Writes the bytes of the path of an index in the first `size` entries of the log of a file, and their count.
+/// Writes the bytes of the path of an index in the first `size` entries of the log of a file, and their count. Its own refusals:
+/// those of the root, `E_INDEX`, `E_ROOM` for `path`.
 #[unsafe(no_mangle)]
 pub extern "C" fn paxidore_log_file_inclusion(
     alloc: Global,
@@ -126,7 +127,8 @@ fn consistency_in(
 }
 
 /// Writes the bytes of the proof that the first `size` entries of the log of a file continue the first `old_size` ones, and
-/// their count.
+/// their count. Its own refusals: those of the root, `E_SIZE` also for the old size 0 and for one above the size, `E_ROOM` for
+/// `proof`.
 #[unsafe(no_mangle)]
 pub extern "C" fn paxidore_log_file_consistency(
     alloc: Global,
