@@ -581,10 +581,12 @@ enum paxidore_byte_order {
     PAXIDORE_BIG_ENDIAN = 2     /* the greatest byte first, as circom's tools print numbers */
 };
 
-/* A table has what the hash of so many inputs runs by: the count of inputs in a byte, and elements of 32 bytes. It is made once and
- * copied or stored as you like; each call borrows it. No table of so many inputs has more bytes. */
+/* A table has what the hash of so many inputs runs by: the count of inputs in a byte, elements of 32 bytes, and a check sum of eight
+ * bytes. It is made once and copied or stored as you like; each call borrows it, and refuses one that was cut by E_TRUNCATED, and one
+ * that was changed by E_INVALID. One without a check sum, as earlier versions wrote it, counts as cut: make it again. No table of so
+ * many inputs has more bytes. */
 #define PAXIDORE_POSEIDON_TABLEBYTES(inputs) \
-    (1U + 32U * (((size_t)(inputs) + 1U) * ((size_t)(inputs) + 11U) + (size_t)(inputs) * (2U * (size_t)(inputs) + 1U) + 70U))
+    (9U + 32U * (((size_t)(inputs) + 1U) * ((size_t)(inputs) + 11U) + (size_t)(inputs) * (2U * (size_t)(inputs) + 1U) + 70U))
 
 /* Writes the table of so many inputs to the front of `table`, which has room for `table_room`, and its count of bytes to `table_len`.
  * It generates circomlib's constants, which takes milliseconds. E_COUNT for another count than 1 to 16, E_ROOM, E_MEMORY. */
@@ -593,7 +595,7 @@ int32_t paxidore_poseidon_table(uint8_t *table, size_t table_room, size_t *table
 
 /* Writes the hash of elements, one behind the other, to `digest`. E_INVALID for a number that names no byte order, E_TRUNCATED for bytes
  * that are not whole elements, E_COUNT for another count of elements than the table's, E_INVALID for an element that is not below
- * the modulus, E_MEMORY. Bytes that are no table are E_TRUNCATED or E_INVALID, or give some digest. */
+ * the modulus, E_MEMORY. Before the elements are read, a table that was cut or changed is E_TRUNCATED or E_INVALID. */
 PAXIDORE_ANSWERS PAXIDORE_NOT_NULL((1))
 int32_t paxidore_poseidon(uint8_t digest[PAXIDORE_DIGESTBYTES], uint32_t order, const uint8_t *table, size_t table_len,
                           const uint8_t *inputs, size_t inputs_len);
@@ -604,7 +606,8 @@ int32_t paxidore_poseidon(uint8_t digest[PAXIDORE_DIGESTBYTES], uint32_t order, 
  *
  * A path is its digests alone, 32 bytes each, from the element up, and no other byte. What is kept of a log are its stored digests, as
  * above for logs over SHA-256: paxidore_log_kept counts them, and `kept_len`, `more_room` and `count` count digests and elements, not
- * bytes. E_COUNT for the table of another count of inputs comes first in each call. */
+ * bytes. In each call E_TRUNCATED and E_INVALID for a table that was cut or changed come first, then E_COUNT for the table of another
+ * count of inputs. */
 
 /* Writes the root of `count` elements. E_COUNT, E_SIZE for no element, E_INVALID for one that is not below the modulus, E_MEMORY. */
 PAXIDORE_ANSWERS PAXIDORE_NOT_NULL((1))

@@ -4,7 +4,8 @@ import re
 
 HEAD = re.compile(r'((?:pub(?:\([^)]*\))? )?)((?:(?:const|final|unsafe|extern "C") )*)fn (\w+)')
 BLOCK = re.compile(r"^[ ]*((?:pub(?:\([^)]*\))? )?)(?:unsafe )?(impl|trait|mod)\b([^{;]*)\{", re.M)
-CLAUSE = re.compile(r"\s*(requires|ensures)(?: (\w+))? ?\{")
+# A clause; or a ghost value of the function's, which stands before its clauses.
+CLAUSE = re.compile(r"\s*(?:(requires|ensures)(?: (\w+))?|ghost \w+:) ?\{")
 # What stands in a text that is no code. A prime at the end of a name begins no letter.
 NO_CODE = re.compile(r'//[^\n]*|"(?:[^"\\]|\\.)*"|(?<![\w\'])\'(?:[^\'\\\n]|\\[^\n]{1,10})\'|b\'(?:[^\'\\]|\\.)\'', re.S)
 # A function: its line from 1 on, whether it is public, its name, its head's parts, its clauses by (kind, name, text), and its block.
@@ -107,7 +108,8 @@ def functions(text):
         said = []
         while clause := CLAUSE.match(code, at):
             end = closing(code, clause.end() - 1)
-            said.append((clause[1], clause[2] or "", text[clause.end() : end - 1]))
+            if clause[1]:
+                said.append((clause[1], clause[2] or "", text[clause.end() : end - 1]))
             at = end
             at += len(re.match(r"\s*;?", code[at:])[0]) if re.match(r"\s*;\s*(requires|ensures)", code[at:]) else 0
         block = next((it for it in reversed(around) if it.span[0] <= found.start() < it.span[1]), None)

@@ -62,7 +62,7 @@ static void refusals(void) {
     CHECK(paxidore_poseidon_table(small, sizeof small, &len, 0) == PAXIDORE_E_COUNT && len == 7);
     CHECK(paxidore_poseidon_table(small, sizeof small, &len, 17) == PAXIDORE_E_COUNT && len == 7);
     CHECK(paxidore_poseidon_table(small, sizeof small, &len, SIZE_MAX) == PAXIDORE_E_COUNT && len == 7);
-    CHECK(paxidore_poseidon_table(small, sizeof small, &len, 2) == PAXIDORE_E_ROOM && len == 1 + 32 * 106 && small[0] == 0xbb);
+    CHECK(paxidore_poseidon_table(small, sizeof small, &len, 2) == PAXIDORE_E_ROOM && len == 1 + 32 * 106 + 8 && small[0] == 0xbb);
     CHECK(paxidore_poseidon_table(table, sizeof table, &len, 2) == PAXIDORE_OK);
     memset(inputs, 0, sizeof inputs);
 #define REFUSED(code, order, given, given_len, count) \
@@ -80,6 +80,19 @@ static void refusals(void) {
     REFUSED(PAXIDORE_E_TRUNCATED, 1, NULL, 0, 64);
     REFUSED(PAXIDORE_E_TRUNCATED, 1, table, len - 1, 64);
     REFUSED(PAXIDORE_E_TRUNCATED, 1, table, 1 + 32 * 48, 64);
+    REFUSED(PAXIDORE_E_TRUNCATED, 1, table, len - 8, 64); /* as it was before there was a check sum */
+    REFUSED(PAXIDORE_E_TRUNCATED, 1, table, len - 32, 64);
+    memset(table + len, 0, 32);
+    REFUSED(PAXIDORE_E_INVALID, 1, table, len + 1, 64);
+    REFUSED(PAXIDORE_E_INVALID, 1, table, len + 32, 64);
+    for (size_t at = 1; at < len; at += 97) {
+        table[at] ^= 1;
+        REFUSED(PAXIDORE_E_INVALID, 1, table, len, 64);
+        table[at] ^= 1;
+    }
+    table[len - 1] ^= 0x80;
+    REFUSED(PAXIDORE_E_INVALID, 1, table, len, 64);
+    table[len - 1] ^= 0x80;
     memcpy(inputs + 32, MODULUS, 32);
     REFUSED(PAXIDORE_E_INVALID, PAXIDORE_BIG_ENDIAN, table, len, 64);
     inputs[63]--;
@@ -90,7 +103,9 @@ static void refusals(void) {
     table[0] = 17;
     REFUSED(PAXIDORE_E_INVALID, 1, table, len, 64);
     table[0] = 3;
-    REFUSED(PAXIDORE_E_COUNT, 1, table, len, 64);
+    REFUSED(PAXIDORE_E_TRUNCATED, 1, table, len, 64);
+    table[0] = 1;
+    REFUSED(PAXIDORE_E_INVALID, 1, table, len, 64);
     table[0] = 2;
     memset(table + 1, 0xff, 32);
     REFUSED(PAXIDORE_E_INVALID, 1, table, len, 64);

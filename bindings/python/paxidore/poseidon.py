@@ -76,7 +76,7 @@ def _table_for(count: int) -> bytes:
         raise CountError("a hash takes 1 to 16 elements, not %d" % count)
     size = _size(0)
     # as the header has it
-    room = ctypes.create_string_buffer(1 + 32 * ((count + 1) * (count + 11) + count * (2 * count + 1) + 70))
+    room = ctypes.create_string_buffer(9 + 32 * ((count + 1) * (count + 11) + count * (2 * count + 1) + 70))
     answer = _table(room, len(room), ctypes.byref(size), count)
     if answer != 0:
         raise _refusal(answer)

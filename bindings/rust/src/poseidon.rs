@@ -30,7 +30,7 @@ pub enum ByteOrder {
 
 /// How many bytes are enough for the table of so many inputs.
 pub const fn table_bytes(inputs: usize) -> usize {
-    1 + 32 * ((inputs + 1) * (inputs + 11) + inputs * (2 * inputs + 1) + 70)
+    9 + 32 * ((inputs + 1) * (inputs + 11) + inputs * (2 * inputs + 1) + 70)
 }
 
 /// What the hash of so many inputs runs by, in `N` bytes: `table_bytes` says how many are enough. It is made once, in milliseconds,

@@ -1,3 +1,4 @@
 pub mod Reading
+pub mod Frames
 pub mod Hashing
 pub mod Tables

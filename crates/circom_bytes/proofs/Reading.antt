@@ -1,12 +1,17 @@
 -- Elements that are read, and written.
-use Rattle.std.proofs.Common.{◌≡◌, ℕ, suc, ◌+◌, ◌*◌, ◌%◌, ◌^◌, ◌<◌, ◌≤◌, List, [], ◌∷◌, ◌++◌, length, take, drop, get_or, All, Ok, Err, refl, sym, ap, ◌∙◌, arith, append_assoc, append-nil, length-append, length-drop, drop-cons, add-one}
-use Rattle.std.proofs.lemmas.List.{take_more}
+use Rattle.std.proofs.Common.{◌≡◌, ℕ, suc, ◌+◌, ◌*◌, ◌%◌, ◌^◌, ◌<◌, ◌≤◌, List, [], ◌∷◌, ◌++◌, length, take, drop, get_or, All, Ok, Err, refl, sym, ap, ◌-◌, ◌∙◌, arith, append_assoc, append-nil, length-append, length-drop, drop-cons, add-one}
+use Rattle.std.proofs.Math.Nat.{mod-eq_of_lt}
+use Rattle.std.proofs.lemmas.Grind.{flat_map-append}
+use Rattle.std.proofs.lemmas.List.{take_more, take-append-drop}
 use Rattle.std.proofs.lemmas.List.Elements.{All-get_or}
+use Rattle.std.proofs.lemmas.Nat.{mod_below}
 use Rattle.ark_base.specs.declared.error.Error.{Error}
 use Rattle.ark_base.specs.Digits.{bytes_of_number}
 use Rattle.ark_base.specs.Laws.Digits.{length-bytes_of_number}
 use Rattle.ark_base.specs.Outcome.{Outcome, ◌>>=◌}
 use Rattle.ark_sponge.proofs.TableRows.{take-front, drop-front}
+use Rattle.ark_wide_fields.specs.Laws.Montgomery.{kept_below, kept_made, kept_same}
+use Rattle.ark_wide_fields.specs.Moduli.{kept_as}
 use Rattle.circom_bytes.specs.declared.elements.ByteOrder.{ByteOrder}
 use Rattle.circom_bytes.specs.Elements.{element_in, elements_in, kept_bytes}
 
@@ -89,3 +94,27 @@ next_kept p i xs rest done below room is_rest is_done =
       behind = ap (drop 32) split ∙ drop-front 32 own (kept_bytes p (drop (i + 1) xs)) len;
       more = ap (λ t. t ++ x ∷ []) is_done ∙ sym (take_more xs i 0 within);
     }
+
+-- a number below p is kept as its number
+pub kept_again : (p inverse : ℕ) (two : 2 ≤ p) (turned : inverse * p % 2 ^ 64 ≡ 2 ^ 64 - 1) (kept : ℕ) → kept < p
+    → kept_as p inverse kept * 2 ^ 256 % p ≡ kept
+kept_again p inverse two turned kept below =
+    let number = kept_as p inverse kept in
+    kept_same p inverse two turned (number * 2 ^ 256 % p) kept (mod_below (number * 2 ^ 256) p (omega (arith, two)))
+    below (kept_made p inverse two turned number ∙ mod-eq_of_lt (kept_below p inverse two turned kept))
+
+-- What was read is what was kept, and one more is.
+pub kept_further : (p : ℕ) (bytes rest part others numbers new : List ℕ) (x : ℕ)
+    → bytes ≡ kept_bytes p numbers ++ rest → part ≡ take 32 rest → others ≡ drop 32 rest
+    → part ≡ bytes_of_number 32 (x * 2 ^ 256 % p) → new ≡ numbers ++ x ∷ [] → bytes ≡ kept_bytes p new ++ others
+kept_further p bytes rest part others numbers new x so_far is_part is_others is is_new =
+    let own = bytes_of_number 32 (x * 2 ^ 256 % p) in
+    let one : kept_bytes p (x ∷ []) ≡ own = append-nil own in
+    let split : rest ≡ own ++ others =
+    sym (take-append-drop 32 rest) ∙ ap (λ t. t ++ drop 32 rest) (sym is_part ∙ is)
+    ∙ ap (λ t. own ++ t) (sym is_others) in
+    let kept : kept_bytes p new ≡ kept_bytes p numbers ++ own =
+    ap (kept_bytes p) is_new ∙ flat_map-append (λ y. bytes_of_number 32 (y * 2 ^ 256 % p)) numbers (x ∷ [])
+    ∙ ap (λ t. kept_bytes p numbers ++ t) one in
+    so_far ∙ ap (λ t. kept_bytes p numbers ++ t) split ∙ sym (append_assoc (kept_bytes p numbers) own others)
+    ∙ ap (λ t. t ++ others) (sym kept)

@@ -1,5 +1,5 @@
 -- Elements as bytes: 32 for each.
-use Rattle.std.specs.Prelude.{ℕ, zero, suc, ◌*◌, ◌%◌, ◌^◌, nat_lt, if◌then◌else◌, List, [], ◌∷◌, take, drop, reverse, Ok, Err}
+use Rattle.std.specs.Prelude.{◌≡◌, ℕ, zero, suc, ◌*◌, ◌%◌, ◌^◌, ◌<◌, nat_lt, if◌then◌else◌, List, [], ◌∷◌, take, drop, reverse, All, Ok, Err}
 use Rattle.std.specs.List.{flat_map}
 use Rattle.ark_base.specs.declared.error.Error.TheVariants.{SerializationError}
 use Rattle.ark_base.specs.declared.error.SerializationError.TheVariants.{InvalidData}
@@ -34,3 +34,7 @@ element_bytes order number = ordered order (bytes_of_number 32 number)
 -- numbers times 2^256 modulo p, 32 bytes each: so elements need no product to be read
 abbrev pub kept_bytes : ℕ → List ℕ → List ℕ
 kept_bytes p = flat_map (λ x. bytes_of_number 32 (x * 2 ^ 256 % p))
+
+-- bytes that no numbers below p are kept as
+abbrev pub AreNoneKept : ℕ → List ℕ → Type 0
+AreNoneKept p bytes = (xs : List ℕ) → All (λ x. x < p) xs → bytes ≡ kept_bytes p xs → ⊥

@@ -1,17 +1,19 @@
 -- circomlib's hash of elements that are bytes, and its tables.
-use Rattle.std.specs.Prelude.{◌≡◌, ℕ, ◌+◌, ◌/◌, ◌%◌, ◌^◌, ◌==◌, ◌<◌, ◌≤◌, nat_lt, Bool, if◌then◌else◌, List, [], ◌∷◌, length, All, get_or, Ok, Err}
+use Rattle.std.specs.Prelude.{◌≡◌, ◌⊎◌, ℕ, ◌+◌, ◌/◌, ◌%◌, ◌^◌, ◌==◌, ◌<◌, ◌≤◌, nat_lt, Bool, if◌then◌else◌, List, [], ◌∷◌, length, All, get_or, Ok, Err}
+use Rattle.ark_base.specs.declared.error.Error.{Error}
 use Rattle.ark_base.specs.declared.error.Error.TheVariants.{IncorrectInputLength, SerializationError}
-use Rattle.ark_base.specs.declared.error.SerializationError.TheVariants.{Truncated}
+use Rattle.ark_base.specs.declared.error.SerializationError.TheVariants.{InvalidData, Truncated}
 use Rattle.ark_base.specs.Digits.{number_of_bytes}
 use Rattle.ark_base.specs.Outcome.{Outcome, ◌>>=◌}
 use Rattle.ark_sponge.specs.Permutation.{Parameters}
-use Rattle.ark_sponge.specs.Table.{IsShortOf, IsTable, ShortParts, short_permutation}
+use Rattle.ark_sponge.specs.Table.{IsShortOf, IsTable, ShortParts, parts_in, short_permutation}
 use Rattle.ark_poseidon.specs.Circom.{circom_outcome}
-use Rattle.poseidon_grain.specs.Constants.{AreParameters, asked_of}
+use Rattle.poseidon_grain.specs.Constants.{AreParameters, Asked, IsMatrixRefused, asked_of}
 use Rattle.poseidon_grain.specs.Defaults.{circom_rounds}
 use Rattle.circom_bytes.specs.declared.elements.ByteOrder.{ByteOrder}
 use Rattle.circom_bytes.specs.declared.elements.ByteOrder.TheVariants.{LittleEndian}
-use Rattle.circom_bytes.specs.Elements.{element_bytes, element_in, elements_in, kept_bytes}
+use Rattle.circom_bytes.specs.Elements.{AreNoneKept, element_bytes, element_in, elements_in, kept_bytes}
+use Rattle.circom_bytes.specs.Frame.{IsFrame, IsFrameFault, elements_part, shape_for, table_count, with_sum}
 
 -- the modulus of the scalar field of BN254
 abbrev pub modulus : ℕ
@@ -21,10 +23,18 @@ modulus = 2188824287183927522224640574525727508854836440041603434369820418657580
 abbrev pub power : ℕ → ℕ → ℕ
 power alpha x = x ^ alpha % modulus
 
+-- what the generator of the constants is asked for, for the hash of so many inputs
+abbrev pub circom_asked : ℕ → Asked
+circom_asked inputs = asked_of modulus 254 (inputs + 1) 8 (circom_rounds inputs) 0
+
 -- The parameters of circomlib's hash of so many inputs: those of the Grain LFSR, for a capacity of one element and
 -- fifth powers.
 abbrev pub AreCircom : ℕ → Parameters → Type 0
-AreCircom inputs c = AreParameters (asked_of modulus 254 (inputs + 1) 8 (circom_rounds inputs) 0) inputs 1 5 c
+AreCircom inputs c = AreParameters (circom_asked inputs) inputs 1 5 c
+
+-- the matrix that the generator gives for the hash of so many inputs is refused
+abbrev pub IsCircomRefused : ℕ → Type 0
+IsCircomRefused inputs = IsMatrixRefused (circom_asked inputs)
 
 -- the hash of so many elements that bytes in an order are
 abbrev pub elements_hashed : ℕ → (ℕ → ℕ → ℕ) → Parameters → ByteOrder → ℕ → List ℕ → Outcome (List ℕ)
@@ -72,13 +82,31 @@ pub record IsTableOf (c : Parameters) (table : TableValue) : Type 0 where
   pub capacity : c.capacity ≡ 1
   pub short : IsShortOf modulus c table.parts
 
--- The bytes are the table of circomlib's hash of so many inputs, at its parameters: the count, and the
--- numbers of the table, each times 2^256 modulo the modulus.
+-- The bytes are the table of circomlib's hash of so many inputs, at its parameters: the count, the numbers of the
+-- table, each times 2^256 modulo the modulus, and the check sum.
 pub record SpellsTable (inputs : ℕ) (c : Parameters) (bytes : List ℕ) : Type 0 where
   pub some : 1 ≤ inputs
   pub few : inputs ≤ 16
   pub circom : AreCircom inputs c
   pub numbers : List ℕ
+  pub count : length numbers ≡ table_count inputs
   pub below : All (λ x. x < modulus) numbers
   pub table : IsTable modulus c numbers
-  pub spelled : bytes ≡ inputs ∷ kept_bytes modulus numbers
+  pub spelled : bytes ≡ with_sum (inputs ∷ kept_bytes modulus numbers)
+
+-- The table is what bytes hold: a count of inputs, as many numbers as its table has, and their check sum.
+pub record IsTableIn (bytes : List ℕ) (table : TableValue) : Type 0 where
+  pub some : 1 ≤ table.inputs
+  pub few : table.inputs ≤ 16
+  pub numbers : List ℕ
+  pub count : length numbers ≡ table_count table.inputs
+  pub below : All (λ x. x < modulus) numbers
+  pub spelled : bytes ≡ with_sum (table.inputs ∷ kept_bytes modulus numbers)
+  pub parts : table.parts ≡ parts_in (shape_for table.inputs) numbers
+
+-- why bytes are no table: they are cut, or damaged, or their check sum is right and they hold no elements
+abbrev pub IsTableFault : List ℕ → Error → Type 0
+IsTableFault bytes error =
+    IsFrameFault bytes error
+    ⊎ (IsFrame (get_or bytes 0 0) bytes × AreNoneKept modulus (elements_part bytes)
+    × (error ≡ SerializationError InvalidData))

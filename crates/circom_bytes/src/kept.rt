@@ -1,10 +1,12 @@
 //! Elements as they are kept, as bytes: 32 for each, the least first.
 
-ghost use Rattle.std.specs.Prelude.{◌≡◌, ◌*◌, ◌%◌, ◌^◌, ◌<◌, ◌++◌, ℕ, List, map, length, All, MatchResult, OnOk, Ok};
+ghost use Rattle.std.specs.Prelude.{◌≡◌, ◌⊎◌, ◌*◌, ◌%◌, ◌^◌, ◌<◌, ◌++◌, ℕ, List, map, length, All, MatchResult, IfErr, IfOk, OnOk, Ok, Err};
+ghost use Rattle.ark_base.specs.declared.error.Error.TheVariants.{OutOfMemory, SerializationError as OfBytes};
+ghost use Rattle.ark_base.specs.declared.error.SerializationError.TheVariants.{InvalidData, Truncated};
 ghost use Rattle.ark_base.specs.Digits.{bytes_of_number};
 ghost use Rattle.ark_base.specs.Outcome.{AnswersBy};
 ghost use Rattle.ark_groups.specs.Words.{number};
-ghost use Rattle.circom_bytes.specs.Elements.{kept_bytes};
+ghost use Rattle.circom_bytes.specs.Elements.{AreNoneKept, kept_bytes};
 
 use ark_base::error::{Error, SerializationError};
 use ark_groups::ff::{Valued, write_bytes};
@@ -31,9 +33,12 @@ pub fn put_kept<M: WideModulus>(
 // The element that is kept as 32 bytes.
 fn kept_of<M: WideModulus>(bytes: &[u8]) -> Result<Fp256<M>, Error>
     requires { length bytes.now ≡ 32 }
-    ensures { (n : ℕ) → n < number M.P
+    ensures kept { (n : ℕ) → n < number M.P
         → bytes.now ≡ bytes_of_number 32 (n * 2 ^ 256 % number M.P)
         → MatchResult result (λ x. ⟦<Fp256<M> as Valued>⟧.value x ≡ n) (λ _. ⊥) }
+    ensures found { IfOk result (λ x. bytes.now
+        ≡ bytes_of_number 32 (⟦<Fp256<M> as Valued>⟧.value x * 2 ^ 256 % number M.P)) }
+    ensures refused { IfErr result (λ error. error ≡ OfBytes InvalidData) }
 {
     let words = words_of(bytes);
     if is_below(words, M::P) {
@@ -48,8 +53,15 @@ fn kept_of<M: WideModulus>(bytes: &[u8]) -> Result<Fp256<M>, Error>
 /// Errors: `Truncated` for bytes that are not whole elements, `InvalidData` for one that is not below the modulus;
 /// `OutOfMemory`.
 pub fn read_kept<M: WideModulus>(alloc: Global, bytes: &[u8]) -> Result<Vec<Fp256<M>>, Error>
-    ensures { (xs : List ℕ) → All (λ x. x < number M.P) xs → bytes.now ≡ kept_bytes (number M.P) xs
+    ensures read { (xs : List ℕ) → All (λ x. x < number M.P) xs
+        → bytes.now ≡ kept_bytes (number M.P) xs
         → AnswersBy (λ elements. map ⟦<Fp256<M> as Valued>⟧.value elements.items) (Ok xs) result }
+    ensures found { IfOk result (λ elements. (xs : List ℕ) × All (λ x. x < number M.P) xs
+        × (xs ≡ map ⟦<Fp256<M> as Valued>⟧.value elements.items)
+        × (bytes.now ≡ kept_bytes (number M.P) xs)) }
+    ensures truncated { (length bytes.now % 32 ≡ 0 → ⊥) → result ≡ Err (OfBytes Truncated) }
+    ensures refused { length bytes.now % 32 ≡ 0 → IfErr result (λ error. (error ≡ OutOfMemory)
+        ⊎ (AreNoneKept (number M.P) bytes.now × (error ≡ OfBytes InvalidData))) }
 {
     if bytes.len() % 32 != 0 {
         return Err(Error::SerializationError(SerializationError::Truncated));

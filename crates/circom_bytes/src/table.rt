@@ -1,18 +1,21 @@
 //! Tables, as values and as bytes.
 
-ghost use Rattle.std.specs.Prelude.{◌≡◌, ◌⊎◌, ◌<◌, ◌≤◌, ◌+◌, ◌*◌, ◌++◌, ℕ, List, map, length, All, IfOk, OnOk, MatchResult, Ok, Err};
+ghost use Rattle.std.specs.Prelude.{◌≡◌, ◌⊎◌, ◌<◌, ◌≤◌, ◌+◌, ◌*◌, ◌++◌, ℕ, List, map, length, All, IfErr, IfOk, OnOk, MatchResult, Ok, Err};
 ghost use Rattle.ark_base.specs.declared.error.Error.TheVariants.{IncorrectInputLength, OutOfMemory};
 ghost use Rattle.ark_sponge.specs.Permutation.{Parameters};
-ghost use Rattle.ark_sponge.specs.Table.{table_length};
-ghost use Rattle.circom_bytes.specs.Hash.{hash_outcome, is_element, IsTableOf, node_outcome, SpellsTable, table_outcome};
+ghost use Rattle.ark_sponge.specs.Table.{IsTable};
+ghost use Rattle.circom_bytes.specs.Frame.{table_count, table_end};
+ghost use Rattle.circom_bytes.specs.Hash.{circom_asked, hash_outcome, is_element, IsTableFault, IsTableIn, IsTableOf, modulus, node_outcome, SpellsTable, table_outcome};
+ghost use Rattle.poseidon_grain.specs.Constants.{IsMatrixFault};
 
 use crate::elements::{ByteOrder, element_bytes, element_of};
+use crate::frame::{count_for, inputs_of, put_sum, shape_for};
 use crate::hash::{hash_elements, hash_state};
 use crate::kept::{put_kept, read_kept};
 use ark_base::error::{Error, SerializationError};
-use ark_groups::ff::Field;
+use ark_groups::ff::{Field, Valued};
 use ark_poseidon_parameters::Power;
-use ark_sponge::poseidon::{ShortPermutation, TableShape};
+use ark_sponge::poseidon::{PoseidonConfig, ShortPermutation};
 use ark_wide_fields::{Bn254Fr, is_below, words_of};
 use poseidon_grain::circom_parameters;
 use std::alloc::Global;
@@ -44,74 +47,80 @@ pub fn is_element(bytes: &[u8; 32]) -> bool
     is_below(words_of(bytes), <Bn254Fr as Field>::modulus())
 }
 
-/// Returns the bytes of the table of circomlib's hash of so many inputs: the count in a byte, and the table's elements as
-/// they are kept, in 32 bytes each. It runs the generator of the constants, which takes milliseconds.
+// Returns the elements of the table of so many inputs, at its parameters. These have a table of so many unless memory was refused
+// when they were prepared: tests make all 16.
+fn elements_for(
+    alloc: Global,
+    inputs: usize,
+    parameters: &PoseidonConfig<Bn254Fr>,
+) -> Result<Vec<Bn254Fr>, Error>
+    requires some { 1 ≤ inputs }
+    requires few { inputs ≤ 16 }
+    ensures table { IfOk result (λ table.
+        IsTable modulus parameters.now (map ⟦<Bn254Fr as Valued>⟧.value table.items)) }
+    ensures count { IfOk result (λ table. length table.items ≡ table_count inputs) }
+    ensures refused { IfErr result (λ error. error ≡ OutOfMemory) }
+{
+    match parameters.table(alloc) {
+        Ok(table) => {
+            if table.len() == count_for(inputs) {
+                Ok(table)
+            } else {
+                Err(Error::OutOfMemory)
+            }
+        }
+        Err(_) => Err(Error::OutOfMemory),
+    }
+}
+
+/// Returns the bytes of the table of circomlib's hash of so many inputs: the count in a byte, the table's elements as they are kept,
+/// in 32 bytes each, and a check sum of eight bytes. It runs the generator of the constants, which takes milliseconds.
 ///
 /// Errors: `IncorrectInputLength` for another count than 1 to 16; `ParameterShape` for a matrix that is refused, which none of
 /// these is; `OutOfMemory`.
 pub fn circom_table(alloc: Global, inputs: usize) -> Result<Vec<u8>, Error>
     ensures made { IfOk result (λ bytes. (c : Parameters) × SpellsTable inputs c bytes.items) }
+    ensures long { IfOk result (λ bytes. length bytes.items ≡ table_end inputs + 8) }
     ensures none { (inputs < 1) ⊎ (16 < inputs) → result ≡ Err (IncorrectInputLength inputs) }
+    ensures refused { 1 ≤ inputs → inputs ≤ 16
+        → IfErr result (IsMatrixFault (circom_asked inputs)) }
 {
     if inputs < 1 || inputs > 16 {
         return Err(Error::IncorrectInputLength(inputs));
     }
     let parameters = circom_parameters(alloc, inputs)?;
-    let table = parameters.table(alloc)?;
+    let table = elements_for(alloc, inputs, &parameters)?;
     let mut bytes = Vec::new(alloc);
     bytes.push(inputs as u8)?;
     put_kept(&mut bytes, &table)?;
+    put_sum(&mut bytes)?;
     Ok(bytes)
-}
-
-// The counts of the table of so many inputs.
-fn shape_for(inputs: usize) -> TableShape
-    requires { inputs ≤ 16 }
-    ensures { result ≡ record { alpha = 5; width = inputs + 1; before = 4; behind = 4 } }
-{
-    TableShape {
-        alpha: 5,
-        width: inputs + 1,
-        before: 4,
-        behind: 4,
-    }
-}
-
-// How many elements such a table has before the constants of its partial rounds.
-fn length_for(inputs: usize) -> usize
-    requires { inputs ≤ 16 }
-    ensures { result
-        ≡ table_length (record { alpha = 5; width = inputs + 1; before = 4; behind = 4 }) }
-{
-    let width = inputs + 1;
-    let square = inputs * inputs;
-    4 * width + (width * width + (4 * width + (square + (square + (width + (inputs + width))))))
 }
 
 impl CircomTable {
     /// Reads the table that bytes are.
     ///
-    /// Errors, for bytes that `circom_table` does not make: `Truncated`, `InvalidData`. `OutOfMemory`.
+    /// Errors, for bytes that `circom_table` does not make: `Truncated` for no bytes, and for fewer than the table of their count of
+    /// inputs has, as one that was cut or has no check sum; `InvalidData` for another count of inputs than 1 to 16, more bytes,
+    /// another check sum, or an element that is not below the modulus. `OutOfMemory`.
     pub fn of(alloc: Global, bytes: &[u8]) -> Result<CircomTable, Error>
-        ensures { (inputs : ℕ) (c : Parameters) → SpellsTable inputs c bytes.now
+        ensures spelled { (inputs : ℕ) (c : Parameters) → SpellsTable inputs c bytes.now
             → MatchResult result (λ table. (table.inputs ≡ inputs) × IsTableOf c table)
             (λ error. error ≡ OutOfMemory) }
+        ensures found { IfOk result (IsTableIn bytes.now) }
+        ensures refused { IfErr result (λ error.
+            (error ≡ OutOfMemory) ⊎ IsTableFault bytes.now error) }
     {
-        if bytes.is_empty() {
-            return Err(Error::SerializationError(SerializationError::Truncated));
-        }
-        let inputs = bytes[0] as usize;
-        if inputs < 1 || inputs > 16 {
-            return Err(Error::SerializationError(SerializationError::InvalidData));
-        }
-        let (_, numbers) = bytes.split_at(1);
+        let inputs = match inputs_of(bytes) {
+            Ok(inputs) => inputs,
+            Err(error) => return Err(error),
+        };
+        let (_, rest) = bytes.split_at(1);
+        let (numbers, _) = rest.split_at(32 * count_for(inputs));
         let elements = match read_kept(alloc, numbers) {
             Ok(elements) => elements,
             Err(error) => return Err(error),
         };
-        if elements.len() < length_for(inputs) {
-            return Err(Error::SerializationError(SerializationError::Truncated));
-        }
         let short = ShortPermutation::of_table(alloc, shape_for(inputs), &elements)?;
         Ok(CircomTable { inputs, short })
     }

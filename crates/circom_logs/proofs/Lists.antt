@@ -6,9 +6,8 @@ use Rattle.ark_paths.specs.Pair.{Digest}
 use Rattle.ark_base.specs.declared.error.Error.{Error}
 use Rattle.ark_base.specs.Outcome.{Outcome}
 use Rattle.ark_base.specs.declared.error.Error.TheVariants.{OutOfMemory}
-use Rattle.circom_logs.specs.Nodes.{refusal_error}
-use Rattle.circom_logs.specs.declared.refusal.NodeRefusal.{NodeRefusal}
-use Rattle.circom_logs.specs.declared.refusal.NodeRefusal.TheVariants.{Element, Memory}
+use Rattle.circom_logs.specs.Nodes.{no_element_error}
+use Rattle.circom_logs.specs.declared.refusal.NoElement.{NoElement}
 use Rattle.merkle_log.specs.Given.{GivesBy}
 use Rattle.merkle_log.specs.Kept.{KeepsBy, front}
 use Rattle.merkle_log.specs.Log.{NodeHash}
@@ -39,9 +38,9 @@ pub given-seen : {A B R : Type 0} (why : R → Error) (view other : A → B) (ou
 given-seen why view other outcome (Ok value) same given = given ∙ ap Ok (same value)
 given-seen why view other outcome (Err refusal) same given = given
 
-pub memory-only : (refusal : NodeRefusal) → refusal_error refusal ≡ OutOfMemory → refusal ≡ Memory
-memory-only Element is = absurd cc
-memory-only Memory is = refl
+-- a digest that is no element is no lack of memory
+pub never-memory : (refusal : NoElement) → no_element_error refusal ≡ OutOfMemory → ⊥
+never-memory refusal is = cc
 
 -- a buffer that was written whole
 pub whole-written : (written rest : List Digest) (count made : ℕ) → length written ≡ count → made ≡ count

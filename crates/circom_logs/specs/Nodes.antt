@@ -6,6 +6,7 @@ use Rattle.ark_base.specs.declared.error.SerializationError.TheVariants.{Invalid
 use Rattle.ark_base.specs.Outcome.{Outcome}
 use Rattle.ark_paths.specs.Pair.{Digest, Hashes}
 use Rattle.circom_bytes.specs.Hash.{is_element}
+use Rattle.circom_logs.specs.declared.refusal.NoElement.{NoElement}
 use Rattle.circom_logs.specs.declared.refusal.NodeRefusal.{NodeRefusal}
 use Rattle.circom_logs.specs.declared.refusal.NodeRefusal.TheVariants.{Element, Memory}
 use Rattle.merkle_log.specs.Log.{NodeHash, both_levels}
@@ -14,6 +15,10 @@ use Rattle.merkle_log.specs.Log.{NodeHash, both_levels}
 abbrev pub refusal_error : NodeRefusal → Error
 refusal_error Element = SerializationError InvalidData
 refusal_error Memory = OutOfMemory
+
+-- The same of a digest that is no element. It never is a lack of memory.
+abbrev pub no_element_error : NoElement → Error
+no_element_error refusal = SerializationError InvalidData
 
 -- an element is its own leaf digest; other bytes have none
 abbrev pub element_outcome : Digest → Outcome Digest

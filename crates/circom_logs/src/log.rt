@@ -6,15 +6,15 @@ ghost use Rattle.ark_paths.specs.Pair.{Digest};
 ghost use Rattle.ark_sponge.specs.Permutation.{Parameters};
 ghost use Rattle.circom_bytes.specs.Hash.{IsTableOf, is_element, node_outcome};
 ghost use Rattle.circom_logs.specs.Nodes.{refusal_error};
-ghost use Rattle.circom_logs.specs.declared.refusal.NodeRefusal.TheVariants.{Memory};
+ghost use Rattle.circom_logs.specs.declared.refusal.NodeRefusal.TheVariants.{Element, Memory};
 ghost use Rattle.merkle_log.specs.Edge.{all_of};
 ghost use Rattle.merkle_log.specs.Given.{GivesBy};
 ghost use Rattle.merkle_log.specs.Kept.{KeepsBy};
 ghost use Rattle.merkle_log.specs.Log.{inclusion_path, merkle_tree_hash};
 ghost use Rattle.merkle_log.specs.Stored.{stored_count};
 
-use crate::nodes::CircomNodes;
-use crate::refusal::NodeRefusal;
+use crate::nodes::{CircomNodes, CircomPaths};
+use crate::refusal::{NoElement, NodeRefusal};
 use circom_bytes::CircomTable;
 use merkle_log::kept::{Kept, append_by, stored_count};
 use merkle_log::paths::inclusion_path_of;
@@ -27,12 +27,16 @@ use std::alloc::Global;
 pub fn root(table: &CircomTable, kept: &Kept) -> Result<[u8; 32], NodeRefusal>
     requires two { table.now.inputs ≡ 2 }
     requires some { 0 < kept.now.size }
-    ensures { (c : Parameters) → IsTableOf c table.now → (leaves : List Digest)
+    ensures root { (c : Parameters) → IsTableOf c table.now → (leaves : List Digest)
         → kept.now.size ≤ length leaves → KeepsBy (node_outcome c) leaves kept.now.digests
         → (empty : Digest) → GivesBy refusal_error (λ digest. digest)
         (merkle_tree_hash (node_outcome c) empty (take kept.now.size leaves)) result }
+    ensures refused { IfErr result (λ refusal. refusal ≡ Element) }
 {
-    root_of(&mut CircomNodes::new(table), kept, kept.size())
+    match root_of(&mut CircomNodes::new(table), kept, kept.size()) {
+        Ok(digest) => Ok(digest),
+        Err(NoElement) => Err(NodeRefusal::Element),
+    }
 }
 
 /// Returns the path of an index, from the element up: PATH(index, D[0:size]).
@@ -53,7 +57,7 @@ pub fn inclusion_path(
         result }
 {
     let path = Vec::new(alloc);
-    inclusion_path_of(&mut CircomNodes::new(table), kept, kept.size(), index, path)
+    inclusion_path_of(&mut CircomPaths::new(table), kept, kept.size(), index, path)
 }
 
 /// Returns the digests to put behind the stored ones of a log for more elements.

@@ -11,6 +11,21 @@ pub enum NodeRefusal {
     Memory,
 }
 
+/// A digest that is hashed is no element: it is not below the modulus. It is the only refusal of a call that asks for no memory.
+#[derive(Clone, Copy, Debug, PartialEq, Eq)]
+pub struct NoElement;
+
+impl From<NoElement> for NodeRefusal {
+    ghost use Rattle.std.specs.Prelude.{◌≡◌};
+    ghost use Rattle.circom_logs.specs.declared.refusal.NodeRefusal.TheVariants.{Element};
+
+    ghost from_gives = { λ _ refusal. refusal ≡ Element };
+
+    fn from(_refused: NoElement) -> NodeRefusal {
+        NodeRefusal::Element
+    }
+}
+
 impl From<AllocError> for NodeRefusal {
     ghost use Rattle.std.specs.Prelude.{◌≡◌};
     ghost use Rattle.circom_logs.specs.declared.refusal.NodeRefusal.TheVariants.{Memory};

@@ -52,7 +52,8 @@ entry-same a b x y short_a short_b same =
     let rests : a ++ x ≡ b ++ y =
     sym (drop-append_seam wa (a ++ x)) ∙ ap (λ l. drop 2 l) spread ∙ drop-append_seam wb (b ++ y) in
     let entries : a ≡ b =
-    sym (take-append_seam a x) ∙ ap (take (length a)) rests ∙ ap (λ n. take n (b ++ y)) counts ∙ take-append_seam b y in (
+    sym (take-append_seam a x) ∙ ap (take (length a)) rests ∙ ap (λ n. take n (b ++ y)) counts
+    ∙ take-append_seam b y in (
       entries,
       append_cancel_left b x y (ap (λ l. l ++ x) (sym entries) ∙ rests),
     )

@@ -25,22 +25,24 @@ pub handed-none : {W : Type 0} (items : W → List ℕ) (result : Result W Refus
     → Hands (seen items result) before after count count' code → Gives (refusal_code refused) code
 handed-none items result refused before after count count' code is hands = (rw is at hands).right_code
 
--- the codes of a call that hands bytes over, or lacks memory
-pub handed-codes : {W : Type 0} (items : W → List ℕ) (result : Result W Refused) (before after : List ℕ)
-    (count count' : ℕ) (code : ℤ) → IfErr result (λ refused. refused ≡ Memory)
+-- the codes of a call that hands bytes over, lacks memory, or is refused by one other name, where this holds
+pub handed-codes : {W : Type 0} (items : W → List ℕ) (P : Type 0) (other : Refused) (result : Result W Refused)
+    (before after : List ℕ) (count count' : ℕ) (code : ℤ)
+    → IfErr result (λ refused. (refused ≡ Memory) ⊎ (P × (refused ≡ other)))
     → Hands (seen items result) before after count count' code
-    → (code ≡ pos 0) ⊎ (code ≡ refusal_code Room) ⊎ (code ≡ refusal_code Memory)
-handed-codes items (Ok value) before after count count' code only hands =
+    → (code ≡ pos 0) ⊎ (code ≡ refusal_code Room) ⊎ (code ≡ refusal_code Memory) ⊎ (P × (code ≡ refusal_code other))
+handed-codes items P other (Ok value) before after count count' code only hands =
     by_room (nat_lt (length before) (length (items value))) hands.right_code
   where
-    by_room : (short : Bool) → Gives (if short then refusal_code Room else pos 0) code
-        → (code ≡ pos 0) ⊎ (code ≡ refusal_code Room) ⊎ (code ≡ refusal_code Memory)
+    by_room : (short : Bool) → Gives (if short then refusal_code Room else pos 0) code → (code ≡ pos 0)
+        ⊎ (code ≡ refusal_code Room) ⊎ (code ≡ refusal_code Memory) ⊎ (P × (code ≡ refusal_code other))
     by_room true (inl is) = inr (inl is)
     by_room false (inl is) = inl is
-    by_room short (inr is) = inr (inr is)
-handed-codes items (Err refused) before after count count' code only hands = by_code hands.right_code
+    by_room short (inr is) = inr (inr (inl is))
+handed-codes items P other (Err refused) before after count count' code only hands = by_code only hands.right_code
   where
-    by_code : Gives (refusal_code refused) code
-        → (code ≡ pos 0) ⊎ (code ≡ refusal_code Room) ⊎ (code ≡ refusal_code Memory)
-    by_code (inl is) = inr (inr (is ∙ ap refusal_code only))
-    by_code (inr is) = inr (inr is)
+    by_code : ((refused ≡ Memory) ⊎ (P × (refused ≡ other))) → Gives (refusal_code refused) code → (code ≡ pos 0)
+        ⊎ (code ≡ refusal_code Room) ⊎ (code ≡ refusal_code Memory) ⊎ (P × (code ≡ refusal_code other))
+    by_code (inl memory) (inl is) = inr (inr (inl (is ∙ ap refusal_code memory)))
+    by_code (inr named) (inl is) = inr (inr (inr (named.0, is ∙ ap refusal_code named.1)))
+    by_code why (inr is) = inr (inr (inl is))

@@ -6,6 +6,7 @@ pub mod Keeping
 pub mod KeptGiven
 pub mod KeptLogs
 pub mod Lengths
+pub mod LogCalls
 pub mod MapLemmas
 pub mod Numbers
 pub mod Parts

@@ -1,5 +1,5 @@
 -- What was read of a caller's file, and what is to be written there.
-use Rattle.std.specs.Prelude.{◌≡◌, ◌⊎◌, ◌+◌, ◌≤◌, ℕ, List, [], ◌∷◌, ◌++◌, length, map, take, drop, get_or}
+use Rattle.std.specs.Prelude.{◌≡◌, ◌⊎◌, ◌+◌, ◌<◌, ◌≤◌, ℕ, List, [], ◌∷◌, ◌++◌, length, map, take, drop, get_or}
 use Rattle.std.specs.List.{flat_map}
 use Rattle.ark_paths.specs.Pair.{Digest}
 use Rattle.log_store.specs.Disk.{Torn}
@@ -13,6 +13,10 @@ IsReadOf [] bytes file = Unit {0}
 IsReadOf (piece ∷ places) bytes file = (get_or piece 1 0 ≤ length bytes)
     × (take (get_or piece 1 0) bytes ≡ take (get_or piece 1 0) (drop (get_or piece 0 0) file))
     × IsReadOf places (drop (get_or piece 1 0) bytes) file
+
+-- A file has this length, and of it the first so many pieces were read.
+abbrev pub HasRead : List ℕ → ℕ → ℕ → List (List ℕ) → List ℕ → Type 0
+HasRead file file_len count places pieces = IsReadOf (take count places) pieces file × (file_len ≡ length file)
 
 -- the file once all steps are carried out
 abbrev pub carried : List Step → List ℕ → List ℕ
@@ -46,6 +50,23 @@ pub record IsHanded (plan : List Step) (bytes_before bytes_after : List ℕ) (by
   pub counted : bytes_count ≡ length (bytes_of_steps plan)
   pub steps : steps_after ≡ places_of_steps plan ++ drop (length (places_of_steps plan)) steps_before
   pub steps_counted : steps_count ≡ length (places_of_steps plan)
+
+-- A caller is handed steps, one at least, and once all is carried out, this is said of the file.
+pub record Carries (P : List ℕ → Type 0) (file bytes_before bytes_after : List ℕ) (bytes_count : ℕ)
+    (steps_before steps_after : List (List ℕ)) (steps_count : ℕ) : Type 0 where
+  pub plan : List Step
+  pub handed : IsHanded plan bytes_before bytes_after bytes_count steps_before steps_after steps_count
+  pub some : 0 < length plan
+  pub said : P (carried plan file)
+
+-- What is refused leaves a caller's buffers for steps as before; only where they lack room, it writes the counts.
+pub record LeavesSteps (LacksRoom : Type 0) (bytes_before bytes_after : List ℕ)
+    (bytes_count_before bytes_count_after : ℕ) (steps_before steps_after : List (List ℕ))
+    (steps_count_before steps_count_after : ℕ) : Type 0 where
+  pub bytes : bytes_after ≡ bytes_before
+  pub steps : steps_after ≡ steps_before
+  pub uncounted : (LacksRoom → ⊥)
+      → (bytes_count_after ≡ bytes_count_before) × (steps_count_after ≡ steps_count_before)
 
 -- A caller is handed steps that append leaves to the file of a log, and the new size.
 pub record Grows (leaves more : List Digest) (file bytes_before bytes_after : List ℕ) (bytes_count : ℕ)

@@ -1,5 +1,5 @@
 -- Transcripts: the duplex sponge over a field that a number names, by the bytes of its parameters and of its state.
-use Rattle.std.specs.Prelude.{◌≡◌, ◌≢◌, ◌⊎◌, ℕ, ◌+◌, ◌-◌, ◌/◌, ◌%◌, ◌^◌, ◌==◌, if◌then◌else◌, List, [], ◌∷◌, ◌++◌, length, drop, Bool, true, false, ℤ, pos, Result, Ok, Err, IfOk}
+use Rattle.std.specs.Prelude.{◌≡◌, ◌≢◌, ◌⊎◌, ◌≤◌, ℕ, ◌+◌, ◌-◌, ◌/◌, ◌%◌, ◌^◌, ◌==◌, if◌then◌else◌, List, [], ◌∷◌, ◌++◌, length, drop, Bool, true, false, ℤ, pos, Result, Ok, Err, IfOk}
 use Rattle.std.specs.List.{flat_map}
 use Rattle.ark_base.specs.Digits.{bytes_of_number, bytes_for, below_at, flag, flag_at}
 use Rattle.ark_base.specs.Outcome.{Outcome, ◌>>=◌}
@@ -219,6 +219,10 @@ abbrev pub AreReadyOver : ℕ → ℕ → Parameters → Type 0
 AreReadyOver name rate c =
     ((name ≡ 3) × AreReady rate (bls12_381_fr_rounds rate) (bls12_381_fr_alpha rate) c)
     ⊎ ((name ≡ 4) × AreReady rate (bn254_fr_rounds rate) 5 c)
+
+-- There are ready parameters of a rate over the field of this number.
+abbrev pub HasReady : ℕ → ℕ → Type 0
+HasReady name rate = ((name ≡ 3) ⊎ (name ≡ 4)) × (2 ≤ rate) × (rate ≤ 8)
 
 -- the bytes are those of ready parameters
 abbrev pub SpellReady : ℕ → ℕ → List ℕ → Type 0

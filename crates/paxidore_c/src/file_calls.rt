@@ -2,11 +2,28 @@
 //!
 //! No call reads or writes the file. Each takes the pieces of it that the caller has read, or answers that others are to be read
 //! first, and puts their places behind those of the ones that were read. What is to be written is handed over in steps, each a
-//! place and a count of bytes.
+//! place and a count of bytes. What the clauses say of a file holds of whichever file the pieces are of.
+//!
+//! Each call but the check answers the first of `E_ROOM` where there is none for places, `E_LENGTHS` where the pieces have not as
+//! many bytes as their places say, and `E_MORE`; then 0, or a refusal of its own; `E_MEMORY` in place of any. `E_MORE` writes places,
+//! `E_ROOM` for a buffer the counts that are needed, and no other refusal anything.
 
-ghost use Rattle.std.specs.Prelude.{◌≡◌, ◌≢◌, ◌<◌, ◌+◌, ◌*◌, ◌^◌, pos, negsuc, IfErr, Err};
-ghost use Rattle.paxidore_c.specs.LogFiles.{Asks, call_code};
-ghost use Rattle.paxidore_c.specs.declared.file_calls.not_done.NotDone.TheVariants.{More};
+ghost use Rattle.std.specs.Prelude.{◌≡◌, ◌≢◌, ◌⊎◌, ◌<◌, ◌≤◌, ◌+◌, ◌*◌, ◌^◌, List, ℕ, [], Bool, length, map, pos, negsuc, IfErr, OnOk, Ok, Err, Some};
+ghost use Rattle.ark_paths.specs.Pair.{Digest};
+ghost use Rattle.ark_trees.specs.Rfc6962.{entry_hash};
+ghost use Rattle.log_file.specs.Append.{appended_size};
+ghost use Rattle.log_file.specs.Faults.{log_size, of_first};
+ghost use Rattle.log_file.specs.LogFile.{stored_in, IsLogFile};
+ghost use Rattle.log_store.specs.Store.{new_head, IsPartOf, IsSettled};
+ghost use Rattle.merkle_log.specs.Kept.{front, Keeps};
+ghost use Rattle.merkle_log.specs.Stored.{row_of};
+ghost use Rattle.paxidore_c.specs.Answer.{leaves_in, refusal_code};
+ghost use Rattle.paxidore_c.specs.Cut.{parts_by};
+ghost use Rattle.paxidore_c.specs.KeptLog.{log_root};
+ghost use Rattle.paxidore_c.specs.LogFiles.{AsksFirst, IsPlainReason, IsReason, TellsWhy, call_code, check_code};
+ghost use Rattle.paxidore_c.specs.Plan.{Carries, Grows, HasRead, IsHanded, LeavesSteps};
+ghost use Rattle.paxidore_c.specs.declared.file_calls.not_done.NotDone.TheVariants.{More, Refusal};
+ghost use Rattle.paxidore_c.specs.declared.refused.Refused.TheVariants.{Room};
 
 mod answers;
 mod asked;
@@ -14,17 +31,15 @@ mod asking;
 mod grown;
 mod handed;
 mod not_done;
+pub mod proving;
 mod replay;
 
-use crate::file_calls::answers::{made_of, path_of, proof_of, root_of, size_of};
+use crate::file_calls::answers::{made_of, root_of, size_of};
 use crate::file_calls::asked::{Asked, ask};
 use crate::file_calls::grown::hand_over_growth;
 use crate::file_calls::handed::hand_over_steps;
 use crate::file_calls::not_done::NotDone;
-use crate::file_calls::replay::Step;
 use crate::leaves::digests_of_leaves;
-use crate::refused::Refused;
-use ark_base::serialize::CanonicalItem;
 use ark_trees::LogHasher;
 use log_file::file::log_in;
 use std::alloc::Global;
@@ -34,7 +49,9 @@ use std::marker::Brand;
 fn code_of(done: Result<(), NotDone>) -> i32
     ensures code { result ≡ call_code done }
     ensures more { result ≡ negsuc 9 → done ≡ Err More }
-    ensures done { done ≡ Err More → result ≡ negsuc 9 }
+    ensures asked { done ≡ Err More → result ≡ negsuc 9 }
+    ensures done { result ≡ pos 0 → IfErr done (λ _. ⊥) }
+    ensures room { result ≡ refusal_code Room → done ≡ Err (Refusal Room) }
 {
     match done {
         Ok(()) => 0,
@@ -53,20 +70,25 @@ fn made_in(
     file_len: usize,
     pieces: &[u8],
 ) -> Result<(), NotDone>
-    ensures asked { result ≡ Err More
-        → Asks file_len places_len.old places_len.new places.old places.new }
-    ensures kept { result ≢ Err More → places.new ≡ places.old }
-    ensures uncounted { result ≢ Err More → places_len.new ≡ places_len.old }
+    ghost file: { List ℕ }
+    ensures first { AsksFirst (result ≡ Err More) file_len places_len.old places_len.new
+        places.old places.new }
+    ensures same { HasRead file file_len places_len.old places.old pieces.now
+        → (leaves : List Digest) → IsLogFile leaves file
+        → OnOk result (Carries (λ left. left ≡ file) file bytes.old bytes.new bytes_len.new
+        steps.old steps.new steps_len.new) }
+    ensures made { HasRead file file_len places_len.old places.old pieces.now → file ≡ []
+        → OnOk result (Carries (IsSettled []) file bytes.old bytes.new bytes_len.new
+        steps.old steps.new steps_len.new) }
+    ensures others { HasRead file file_len places_len.old places.old pieces.now
+        → IsPartOf new_head file ⊎ OnOk result (Carries (λ left. left ≡ file) file bytes.old
+        bytes.new bytes_len.new steps.old steps.new steps_len.new) }
+    ensures refused { IfErr result IsPlainReason }
+    ensures left { IfErr result (λ why. LeavesSteps (why ≡ Refusal Room) bytes.old bytes.new
+        bytes_len.old bytes_len.new steps.old steps.new steps_len.old steps_len.new) }
 {
     ask(alloc, Asked::Made, file_len, places, places_len, pieces)?;
-    let mut plan = made_of::<Brand>(alloc, file_len, &places[..*places_len], pieces)?;
-    if plan.is_empty() {
-        // a sync alone
-        plan.push(Step {
-            at: 0,
-            bytes: Vec::new(alloc),
-        })?;
-    }
+    let plan = made_of::<Brand>(alloc, file_len, &places[..*places_len], pieces)?;
     hand_over_steps(alloc, &plan, bytes, bytes_len, steps, steps_len)
 }
 
@@ -80,7 +102,7 @@ pub extern "C" fn paxidore_log_file_room(count: usize) -> usize
 }
 
 /// Hands over what is to be written to a file before a keeper uses it: the head of a log of no entries, where it has no byte or
-/// no more than a part of that head; else nothing, but it is to be synced.
+/// no more than a part of that head; else nothing, but it is to be synced. Its own refusal: `E_ROOM` for `bytes` and `steps`.
 #[unsafe(no_mangle)]
 pub extern "C" fn paxidore_log_file_make(
     alloc: Global,
@@ -93,10 +115,29 @@ pub extern "C" fn paxidore_log_file_make(
     file_len: usize,
     pieces: &[u8],
 ) -> i32
-    ensures asked { result ≡ negsuc 9
-        → Asks file_len places_len.old places_len.new places.old places.new }
-    ensures kept { result ≢ negsuc 9 → places.new ≡ places.old }
-    ensures uncounted { result ≢ negsuc 9 → places_len.new ≡ places_len.old }
+    ghost file: { List ℕ }
+    ensures first { AsksFirst (result ≡ negsuc 9) file_len places_len.old places_len.new
+        places.old places.new }
+
+    // Once all is carried out, the file of a log is as it is, ..
+    ensures same { HasRead file file_len places_len.old places.old pieces.now
+        → (leaves : List Digest) → IsLogFile leaves file → result ≡ pos 0
+        → Carries (λ left. left ≡ file) file bytes.old bytes.new bytes_len.new
+        steps.old steps.new steps_len.new }
+
+    // .. and one that has no byte has the log of no entries, and stays it if one of its slots is lost.
+    ensures made { HasRead file file_len places_len.old places.old pieces.now → file ≡ []
+        → result ≡ pos 0
+        → Carries (IsSettled []) file bytes.old bytes.new bytes_len.new
+        steps.old steps.new steps_len.new }
+
+    // What is neither empty nor a part of that head stays as it is.
+    ensures others { HasRead file file_len places_len.old places.old pieces.now → result ≡ pos 0
+        → IsPartOf new_head file ⊎ Carries (λ left. left ≡ file) file bytes.old bytes.new
+        bytes_len.new steps.old steps.new steps_len.new }
+    ensures refused { TellsWhy IsPlainReason result }
+    ensures left { result ≢ pos 0 → LeavesSteps (result ≡ refusal_code Room) bytes.old bytes.new
+        bytes_len.old bytes_len.new steps.old steps.new steps_len.old steps_len.new }
 {
     code_of(made_in(
         alloc, bytes, bytes_len, steps, steps_len, places, places_len, file_len, pieces,
@@ -111,10 +152,14 @@ fn size_in(
     file_len: usize,
     pieces: &[u8],
 ) -> Result<(), NotDone>
-    ensures asked { result ≡ Err More
-        → Asks file_len places_len.old places_len.new places.old places.new }
-    ensures kept { result ≢ Err More → places.new ≡ places.old }
-    ensures uncounted { result ≢ Err More → places_len.new ≡ places_len.old }
+    ghost file: { List ℕ }
+    ensures first { AsksFirst (result ≡ Err More) file_len places_len.old places_len.new
+        places.old places.new }
+    ensures size { HasRead file file_len places_len.old places.old pieces.now
+        → (leaves : List Digest) → IsLogFile leaves file
+        → OnOk result (size.new ≡ length leaves) }
+    ensures refused { HasRead file file_len places_len.old places.old pieces.now
+        → IfErr result (IsReason file (log_size file)) }
     ensures size_kept { IfErr result (λ _. size.new ≡ size.old) }
 {
     ask(alloc, Asked::Size, file_len, places, places_len, pieces)?;
@@ -122,7 +167,7 @@ fn size_in(
     Ok(())
 }
 
-/// Writes how many entries the log of a file has.
+/// Writes how many entries the log of a file has. Its own refusals: `E_NO_LOG`, `E_HEAD`, `E_SHORT`.
 #[unsafe(no_mangle)]
 pub extern "C" fn paxidore_log_file_size(
     alloc: Global,
@@ -132,10 +177,14 @@ pub extern "C" fn paxidore_log_file_size(
     file_len: usize,
     pieces: &[u8],
 ) -> i32
-    ensures asked { result ≡ negsuc 9
-        → Asks file_len places_len.old places_len.new places.old places.new }
-    ensures kept { result ≢ negsuc 9 → places.new ≡ places.old }
-    ensures uncounted { result ≢ negsuc 9 → places_len.new ≡ places_len.old }
+    ghost file: { List ℕ }
+    ensures first { AsksFirst (result ≡ negsuc 9) file_len places_len.old places_len.new
+        places.old places.new }
+    ensures size { HasRead file file_len places_len.old places.old pieces.now
+        → (leaves : List Digest) → IsLogFile leaves file → result ≡ pos 0
+        → size.new ≡ length leaves }
+    ensures refused { HasRead file file_len places_len.old places.old pieces.now
+        → TellsWhy (IsReason file (log_size file)) result }
     ensures size_kept { result ≢ pos 0 → size.new ≡ size.old }
 {
     code_of(size_in(alloc, size, places, places_len, file_len, pieces))
@@ -150,10 +199,14 @@ fn root_in(
     pieces: &[u8],
     size: usize,
 ) -> Result<(), NotDone>
-    ensures asked { result ≡ Err More
-        → Asks file_len places_len.old places_len.new places.old places.new }
-    ensures kept { result ≢ Err More → places.new ≡ places.old }
-    ensures uncounted { result ≢ Err More → places_len.new ≡ places_len.old }
+    ghost file: { List ℕ }
+    ensures first { AsksFirst (result ≡ Err More) file_len places_len.old places_len.new
+        places.old places.new }
+    ensures root { HasRead file file_len places_len.old places.old pieces.now
+        → (leaves : List Digest) → IsLogFile leaves file
+        → OnOk result ((size ≤ length leaves) × (log_root size leaves ≡ Ok root.new)) }
+    ensures refused { HasRead file file_len places_len.old places.old pieces.now
+        → IfErr result (IsReason file (of_first file (Some size) Ok)) }
     ensures root_kept { IfErr result (λ _. root.new ≡ root.old) }
 {
     ask(
@@ -168,7 +221,8 @@ fn root_in(
     Ok(())
 }
 
-/// Writes the root of the first `size` entries of the log of a file.
+/// Writes the root of the first `size` entries of the log of a file. Its own refusals: those of the size, `E_DAMAGED`, `E_SIZE` for
+/// more than there are.
 #[unsafe(no_mangle)]
 pub extern "C" fn paxidore_log_file_root(
     alloc: Global,
@@ -179,13 +233,26 @@ pub extern "C" fn paxidore_log_file_root(
     pieces: &[u8],
     size: usize,
 ) -> i32
-    ensures asked { result ≡ negsuc 9
-        → Asks file_len places_len.old places_len.new places.old places.new }
-    ensures kept { result ≢ negsuc 9 → places.new ≡ places.old }
-    ensures uncounted { result ≢ negsuc 9 → places_len.new ≡ places_len.old }
+    ghost file: { List ℕ }
+    ensures first { AsksFirst (result ≡ negsuc 9) file_len places_len.old places_len.new
+        places.old places.new }
+    ensures root { HasRead file file_len places_len.old places.old pieces.now
+        → (leaves : List Digest) → IsLogFile leaves file → result ≡ pos 0
+        → (size ≤ length leaves) × (log_root size leaves ≡ Ok root.new) }
+    ensures refused { HasRead file file_len places_len.old places.old pieces.now
+        → TellsWhy (IsReason file (of_first file (Some size) Ok)) result }
     ensures root_kept { result ≢ pos 0 → root.new ≡ root.old }
 {
     code_of(root_in(alloc, root, places, places_len, file_len, pieces, size))
+}
+
+// What is to be read first for so many entries.
+fn asked_for(count: usize) -> Asked {
+    if count == 0 {
+        Asked::Size
+    } else {
+        Asked::Growth
+    }
 }
 
 fn append_in(
@@ -202,17 +269,25 @@ fn append_in(
     entries: &[u8],
     lengths: &[usize],
 ) -> Result<(), NotDone>
-    ensures asked { result ≡ Err More
-        → Asks file_len places_len.old places_len.new places.old places.new }
-    ensures kept { result ≢ Err More → places.new ≡ places.old }
-    ensures uncounted { result ≢ Err More → places_len.new ≡ places_len.old }
+    ghost file: { List ℕ }
+    ensures first { AsksFirst (result ≡ Err More) file_len places_len.old places_len.new
+        places.old places.new }
+    ensures grows { HasRead file file_len places_len.old places.old pieces.now
+        → (leaves : List Digest) → IsLogFile leaves file → 0 < length lengths.now
+        → OnOk result ((xs : List (List ℕ)) × (leaves_in (parts_by entries.now lengths.now) ≡ Ok xs)
+        × Grows leaves (map entry_hash xs) file bytes.old bytes.new bytes_len.new
+        steps.old steps.new steps_len.new size.new) }
+    ensures none { HasRead file file_len places_len.old places.old pieces.now
+        → (leaves : List Digest) → IsLogFile leaves file → length lengths.now ≡ 0
+        → OnOk result ((size.new ≡ length leaves)
+        × IsHanded [] bytes.old bytes.new bytes_len.new steps.old steps.new steps_len.new) }
+    ensures refused { HasRead file file_len places_len.old places.old pieces.now
+        → IfErr result (IsReason file (appended_size file (length lengths.now))) }
+    ensures left { IfErr result (λ why. LeavesSteps (why ≡ Refusal Room) bytes.old bytes.new
+        bytes_len.old bytes_len.new steps.old steps.new steps_len.old steps_len.new) }
     ensures size_kept { IfErr result (λ _. size.new ≡ size.old) }
 {
-    let asked = if lengths.is_empty() {
-        Asked::Size
-    } else {
-        Asked::Growth
-    };
+    let asked = asked_for(lengths.len());
     ask(alloc, asked, file_len, places, places_len, pieces)?;
     let read = &places[..*places_len];
     let digests = digests_of_leaves::<LogHasher>(alloc, entries, lengths)?;
@@ -227,7 +302,8 @@ fn append_in(
     Ok(())
 }
 
-/// Hands over what is to be written to the file of a log to append entries, and writes the new size.
+/// Hands over what is to be written to the file of a log to append entries, and writes the new size. Its own refusals: `E_LENGTHS`,
+/// those of the size, `E_DAMAGED`, `E_SIZE` for a new size of 2^63 and above, `E_ROOM` for `bytes` and `steps`.
 #[unsafe(no_mangle)]
 pub extern "C" fn paxidore_log_file_append(
     alloc: Global,
@@ -243,10 +319,27 @@ pub extern "C" fn paxidore_log_file_append(
     entries: &[u8],
     lengths: &[usize],
 ) -> i32
-    ensures asked { result ≡ negsuc 9
-        → Asks file_len places_len.old places_len.new places.old places.new }
-    ensures kept { result ≢ negsuc 9 → places.new ≡ places.old }
-    ensures uncounted { result ≢ negsuc 9 → places_len.new ≡ places_len.old }
+    ghost file: { List ℕ }
+    ensures first { AsksFirst (result ≡ negsuc 9) file_len places_len.old places_len.new
+        places.old places.new }
+
+    // Of entries, the steps append the hashes to the log.
+    ensures grows { HasRead file file_len places_len.old places.old pieces.now
+        → (leaves : List Digest) → IsLogFile leaves file → 0 < length lengths.now
+        → result ≡ pos 0
+        → (xs : List (List ℕ)) × (leaves_in (parts_by entries.now lengths.now) ≡ Ok xs)
+        × Grows leaves (map entry_hash xs) file bytes.old bytes.new bytes_len.new
+        steps.old steps.new steps_len.new size.new }
+
+    // For none there is no step.
+    ensures none { HasRead file file_len places_len.old places.old pieces.now
+        → (leaves : List Digest) → IsLogFile leaves file → length lengths.now ≡ 0
+        → result ≡ pos 0 → (size.new ≡ length leaves)
+        × IsHanded [] bytes.old bytes.new bytes_len.new steps.old steps.new steps_len.new }
+    ensures refused { HasRead file file_len places_len.old places.old pieces.now
+        → TellsWhy (IsReason file (appended_size file (length lengths.now))) result }
+    ensures left { result ≢ pos 0 → LeavesSteps (result ≡ refusal_code Room) bytes.old bytes.new
+        bytes_len.old bytes_len.new steps.old steps.new steps_len.old steps_len.new }
     ensures size_kept { result ≢ pos 0 → size.new ≡ size.old }
 {
     code_of(append_in(
@@ -255,130 +348,25 @@ pub extern "C" fn paxidore_log_file_append(
     ))
 }
 
-// Writes the bytes of digests to the front of a buffer, with their count.
-fn hand_over_digests(
-    alloc: Global,
-    digests: &[[u8; 32]],
-    buffer: &mut [u8],
-    count: &mut usize,
-) -> Result<(), NotDone>
-    ensures { result ≢ Err More }
-{
-    let mut bytes = Vec::new(alloc);
-    if <[u8; 32]>::serialize_items(digests, &mut bytes).is_err() {
-        return Err(NotDone::Refusal(Refused::Memory));
-    }
-    *count = bytes.len();
-    if buffer.len() < bytes.len() {
-        return Err(NotDone::Refusal(Refused::Room));
-    }
-    buffer[..bytes.len()].copy_from_slice(&bytes);
-    Ok(())
-}
-
-fn inclusion_in(
-    alloc: Global,
-    path: &mut [u8],
-    path_len: &mut usize,
-    places: &mut [[usize; 2]],
-    places_len: &mut usize,
-    file_len: usize,
-    pieces: &[u8],
-    index: usize,
-    size: usize,
-) -> Result<(), NotDone>
-    ensures asked { result ≡ Err More
-        → Asks file_len places_len.old places_len.new places.old places.new }
-    ensures kept { result ≢ Err More → places.new ≡ places.old }
-    ensures uncounted { result ≢ Err More → places_len.new ≡ places_len.old }
-{
-    let asked = Asked::Inclusion(index, size);
-    ask(alloc, asked, file_len, places, places_len, pieces)?;
-    let read = &places[..*places_len];
-    let proof = path_of::<Brand>(alloc, file_len, read, pieces, index, size)?;
-    hand_over_digests(alloc, &proof.path, path, path_len)
-}
-
-/// Writes the bytes of the path of an index in the first `size` entries of the log of a file, and their count.
-#[unsafe(no_mangle)]
-pub extern "C" fn paxidore_log_file_inclusion(
-    alloc: Global,
-    path: &mut [u8],
-    path_len: &mut usize,
-    places: &mut [[usize; 2]],
-    places_len: &mut usize,
-    file_len: usize,
-    pieces: &[u8],
-    size: usize,
-    index: usize,
-) -> i32
-    ensures asked { result ≡ negsuc 9
-        → Asks file_len places_len.old places_len.new places.old places.new }
-    ensures kept { result ≢ negsuc 9 → places.new ≡ places.old }
-    ensures uncounted { result ≢ negsuc 9 → places_len.new ≡ places_len.old }
-{
-    code_of(inclusion_in(
-        alloc, path, path_len, places, places_len, file_len, pieces, index, size,
-    ))
-}
-
-fn consistency_in(
-    alloc: Global,
-    proof: &mut [u8],
-    proof_len: &mut usize,
-    places: &mut [[usize; 2]],
-    places_len: &mut usize,
-    file_len: usize,
-    pieces: &[u8],
-    old_size: usize,
-    size: usize,
-) -> Result<(), NotDone>
-    ensures asked { result ≡ Err More
-        → Asks file_len places_len.old places_len.new places.old places.new }
-    ensures kept { result ≢ Err More → places.new ≡ places.old }
-    ensures uncounted { result ≢ Err More → places_len.new ≡ places_len.old }
-{
-    let asked = Asked::Consistency(old_size, size);
-    ask(alloc, asked, file_len, places, places_len, pieces)?;
-    let read = &places[..*places_len];
-    let given = proof_of::<Brand>(alloc, file_len, read, pieces, old_size, size)?;
-    hand_over_digests(alloc, &given.path, proof, proof_len)
-}
-
-/// Writes the bytes of the proof that the first `size` entries of the log of a file continue the first `old_size` ones, and
-/// their count.
-#[unsafe(no_mangle)]
-pub extern "C" fn paxidore_log_file_consistency(
-    alloc: Global,
-    proof: &mut [u8],
-    proof_len: &mut usize,
-    places: &mut [[usize; 2]],
-    places_len: &mut usize,
-    file_len: usize,
-    pieces: &[u8],
-    old_size: usize,
-    size: usize,
-) -> i32
-    ensures asked { result ≡ negsuc 9
-        → Asks file_len places_len.old places_len.new places.old places.new }
-    ensures kept { result ≢ negsuc 9 → places.new ≡ places.old }
-    ensures uncounted { result ≢ negsuc 9 → places_len.new ≡ places_len.old }
-{
-    code_of(consistency_in(
-        alloc, proof, proof_len, places, places_len, file_len, pieces, old_size, size,
-    ))
-}
-
-fn check_of(file: &[u8]) -> Result<i32, NotDone> {
-    let log = log_in(file)?;
-    if log.kept.is_sound() { Ok(0) } else { Ok(1) }
-}
-
 /// Returns whether each stored digest of a pair is the hash of its two, in the log whose file has these bytes.
+///
+/// Answers: 0 where it is, 1 where one is not; else `E_NO_LOG`, `E_HEAD`, `E_SHORT`.
 #[unsafe(no_mangle)]
-pub extern "C" fn paxidore_log_file_check(file: &[u8]) -> i32 {
-    match check_of(file) {
-        Ok(code) => code,
-        Err(not_done) => not_done.code(),
-    }
+pub extern "C" fn paxidore_log_file_check(file: &[u8]) -> i32
+    ensures answer { (sound : Bool) × (result ≡ check_code (log_size file.now) sound) }
+
+    // 0 says: the stored digests of the list of the leaves' own ones stand behind the head.
+    ensures sound { result ≡ pos 0 → (size : ℕ) × (log_size file.now ≡ Ok size)
+        × Keeps (row_of (front size (stored_in size file.now)) 0) (stored_in size file.now) }
+
+    // 1 says: those of no list of the log's size do.
+    ensures damaged { result ≡ pos 1 → (leaves : List Digest)
+        → log_size file.now ≡ Ok (length leaves)
+        → Keeps leaves (stored_in (length leaves) file.now) → ⊥ }
+{
+    let log = match log_in(file) {
+        Ok(log) => log,
+        Err(fault) => return NotDone::from(fault).code(),
+    };
+    if log.kept.is_sound() { 0 } else { 1 }
 }

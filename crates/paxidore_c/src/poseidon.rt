@@ -2,10 +2,10 @@
 
 ghost use Rattle.std.specs.Prelude.{◌≡◌, ◌≢◌, ◌⊎◌, ◌<◌, ◌≤◌, ◌++◌, ℕ, List, length, drop, pos, IfOk, IfErr, Result, Ok, Err};
 ghost use Rattle.ark_sponge.specs.Permutation.{Parameters};
-ghost use Rattle.circom_bytes.specs.Hash.{SpellsTable, hash_outcome};
+ghost use Rattle.circom_bytes.specs.Hash.{IsCircomRefused, SpellsTable, hash_outcome};
 ghost use Rattle.paxidore_c.specs.Answer.{Gives, GivesBy, Hands, done_code, refusal_code};
 ghost use Rattle.paxidore_c.specs.declared.refused.Refused.{Refused as Why};
-ghost use Rattle.paxidore_c.specs.declared.refused.Refused.TheVariants.{Count, Memory, Room};
+ghost use Rattle.paxidore_c.specs.declared.refused.Refused.TheVariants.{Count, Memory, Other, Room};
 ghost use Rattle.paxidore_c.specs.Poseidon.{IsCircomTable, hashing_refused, poseidon_hash, refused_inputs};
 
 use crate::buffer::hand_over;
@@ -14,27 +14,24 @@ use ark_base::error::Error;
 use circom_bytes::{ByteOrder, CircomTable, circom_table};
 use std::alloc::Global;
 
-// Returns the bytes of the table of so many inputs. The generator refuses nothing else of these counts, and no recurrence is
-// found only where there is no memory for it: tests make all 16.
+// Returns the bytes of the table of so many inputs.
 fn table_for(alloc: Global, inputs: usize) -> Result<Vec<u8>, Refused>
     ensures made { IfOk result (λ bytes. IsCircomTable inputs bytes.items) }
     ensures none { (inputs < 1) ⊎ (16 < inputs) → result ≡ Err Count }
-    ensures memory { 1 ≤ inputs → inputs ≤ 16 → IfErr result (λ refused. refused ≡ Memory) }
+    ensures refused { 1 ≤ inputs → inputs ≤ 16 → IfErr result (λ refused. (refused ≡ Memory)
+        ⊎ (IsCircomRefused inputs × (refused ≡ Other))) }
 {
-    if inputs < 1 || inputs > 16 {
-        return Err(Refused::Count);
-    }
     match circom_table(alloc, inputs) {
         Ok(bytes) => Ok(bytes),
-        Err(_) => Err(Refused::Memory),
+        Err(error) => Err(refused_inputs(error)),
     }
 }
 
 /// Writes the table of circomlib's hash of so many inputs to the front of `table`, and its count of bytes to `table_len`.
 /// It runs the generator of the constants, which takes milliseconds.
 ///
-/// Answers: 0; `E_COUNT` for another count than 1 to 16; `E_ROOM`, where `table_len` is what is needed; `E_MEMORY` in place of
-/// any.
+/// Answers: 0; `E_COUNT` for another count than 1 to 16; `E_ROOM`, where `table_len` is what is needed; -99 for a matrix that is refused,
+/// which none of these is; `E_MEMORY` in place of any.
 #[unsafe(no_mangle)]
 pub extern "C" fn paxidore_poseidon_table(
     alloc: Global,
@@ -52,7 +49,8 @@ pub extern "C" fn paxidore_poseidon_table(
         × (table_len.new ≡ length bytes) }
     ensures none { (inputs < 1) ⊎ (16 < inputs) → Gives (refusal_code Count) result }
     ensures codes { 1 ≤ inputs → inputs ≤ 16
-        → (result ≡ pos 0) ⊎ (result ≡ refusal_code Room) ⊎ (result ≡ refusal_code Memory) }
+        → (result ≡ pos 0) ⊎ (result ≡ refusal_code Room) ⊎ (result ≡ refusal_code Memory)
+        ⊎ (IsCircomRefused inputs × (result ≡ refusal_code Other)) }
     ensures kept { result ≢ pos 0 → table.new ≡ table.old }
 {
     hand_over(table_for(alloc, inputs), table, table_len)
@@ -104,8 +102,8 @@ fn hash_over(alloc: Global, order: u32, table: &[u8], inputs: &[u8]) -> Result<[
 ///
 /// Answers: 0; else the first of `E_INVALID` for a number that names no order, `E_TRUNCATED` for bytes that are not whole
 /// elements, `E_COUNT` for another count of elements than the table's, `E_INVALID` for an element that is not below the
-/// modulus; `E_MEMORY` in place of any. Bytes that `paxidore_poseidon_table` did not write are refused too by `E_TRUNCATED` or
-/// `E_INVALID`, or give some digest. A refusal leaves `digest` as before.
+/// modulus; `E_MEMORY` in place of any. Before the elements are read, a table that was cut or has no check sum is `E_TRUNCATED`, and
+/// one that is damaged `E_INVALID`. A refusal leaves `digest` as before.
 #[unsafe(no_mangle)]
 pub extern "C" fn paxidore_poseidon(
     alloc: Global,

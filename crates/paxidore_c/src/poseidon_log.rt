@@ -103,8 +103,8 @@ fn root_of(alloc: Global, table: &[u8], elements: &[[u8; 32]]) -> Result<[u8; 32
 /// Writes the root of elements to `root`, in the hash of a table of two inputs.
 ///
 /// Answers: 0; else the first of `E_COUNT` for a table of another count of inputs, `E_SIZE` for no elements, `E_INVALID` for an
-/// element that is not below the modulus; `E_MEMORY` in place of any. Bytes that `paxidore_poseidon_table` did not write are
-/// refused too by `E_TRUNCATED` or `E_INVALID`, or give some digest. A refusal leaves `root` as before.
+/// element that is not below the modulus; `E_MEMORY` in place of any. Before all these, a table that was cut or has no check sum is
+/// `E_TRUNCATED`, and one that is damaged `E_INVALID`. A refusal leaves `root` as before.
 #[unsafe(no_mangle)]
 pub extern "C" fn paxidore_poseidon_root(
     alloc: Global,
@@ -207,7 +207,7 @@ fn verify_by(
 ///
 /// Answers: 0 for a yes, 1 for another root; else the first of `E_COUNT` for a table of another count of inputs, `E_INDEX`,
 /// `E_TRUNCATED`, `E_INVALID` for bytes of more digests than such a path has, and for an element or a digest that is not below
-/// the modulus; `E_MEMORY` in place of any. Bytes that are no table are refused too, or judged by some other hash.
+/// the modulus; `E_MEMORY` in place of any. A table that was cut or damaged is refused as by `paxidore_poseidon_root`.
 #[unsafe(no_mangle)]
 pub extern "C" fn paxidore_poseidon_verify(
     alloc: Global,

@@ -1,11 +1,12 @@
 //! Transcripts: Poseidon's duplex sponge over a field that a number names, by the bytes of its parameters and of its state,
 //! in memory of the caller's.
 
-ghost use Rattle.std.specs.Prelude.{◌≡◌, ◌≢◌, ◌++◌, ℕ, ◌+◌, List, length, drop, pos, Result, Ok, IfOk, IfSome, IsSome};
+ghost use Rattle.std.specs.Prelude.{◌≡◌, ◌≢◌, ◌⊎◌, ◌++◌, ℕ, ◌+◌, List, length, drop, pos, Result, Ok, Err, IfErr, IfOk, IfSome, IsSome};
 ghost use Rattle.ark_sponge.specs.ConfigBytes.{parameters_spelling};
-ghost use Rattle.paxidore_c.specs.Answer.{GivesBy, Hands};
+ghost use Rattle.paxidore_c.specs.Answer.{Gives, GivesBy, Hands, refusal_code};
 ghost use Rattle.paxidore_c.specs.declared.refused.Refused.{Refused as Why};
-ghost use Rattle.paxidore_c.specs.Transcript.{Replaces, ServeAs, SpellReady, begun, bytes_given, elements_squeezed, in_field, left_by, power, prepared_bytes, with_bytes, with_elements};
+ghost use Rattle.paxidore_c.specs.declared.refused.Refused.TheVariants.{Invalid, Memory, Room};
+ghost use Rattle.paxidore_c.specs.Transcript.{HasReady, Replaces, ServeAs, SpellReady, begun, bytes_given, elements_squeezed, in_field, left_by, power, prepared_bytes, with_bytes, with_elements};
 
 mod forms;
 mod items;
@@ -248,6 +249,8 @@ fn spelled<F: Field>(alloc: Global, found: Option<PoseidonConfig<F>>) -> Result<
     ensures spelled { IfOk result (λ bytes. IfSome found (λ c.
         bytes.items ≡ parameters_spelling F.MODULUS_BIT_SIZE c)) }
     ensures found { IfOk result (λ bytes. IsSome found) }
+    ensures none { (IsSome found → ⊥) → result ≡ Err Invalid }
+    ensures memory { IsSome found → IfErr result (λ refused. refused ≡ Memory) }
 {
     match found {
         Some(parameters) => Ok(canonical_bytes(alloc, &parameters)?),
@@ -257,7 +260,10 @@ fn spelled<F: Field>(alloc: Global, found: Option<PoseidonConfig<F>>) -> Result<
 
 // Returns the bytes of ready parameters over a field.
 fn ready_over(alloc: Global, field: u32, rate: usize) -> Result<Vec<u8>, Refused>
-    ensures { IfOk result (λ bytes. SpellReady field rate bytes.items) }
+    ensures ready { IfOk result (λ bytes. SpellReady field rate bytes.items) }
+    ensures none { (HasReady field rate → ⊥)
+        → GivesBy (λ bytes. bytes.items) (Err Invalid) result }
+    ensures memory { HasReady field rate → IfErr result (λ refused. refused ≡ Memory) }
 {
     match field {
         3 => spelled(alloc, bls12_381_fr(alloc, rate)?),
@@ -283,6 +289,9 @@ pub extern "C" fn paxidore_transcript_ready_parameters(
     ensures ready { result ≡ pos 0 → (bytes : List ℕ) × SpellReady field rate bytes
         × (parameters.new ≡ bytes ++ drop (length bytes) parameters.old)
         × (parameters_len.new ≡ length bytes) }
+    ensures none { (HasReady field rate → ⊥) → Gives (refusal_code Invalid) result }
+    ensures codes { HasReady field rate
+        → (result ≡ pos 0) ⊎ (result ≡ refusal_code Room) ⊎ (result ≡ refusal_code Memory) }
     ensures kept { result ≢ pos 0 → parameters.new ≡ parameters.old }
 {
     hand_over(ready_over(alloc, field, rate), parameters, parameters_len)

@@ -3,4 +3,5 @@ pub mod Cauchy
 pub mod Elements
 pub mod Lists
 pub mod Made
+pub mod Shapes
 pub mod Twice

@@ -1,7 +1,10 @@
 -- The constants and the matrix of Poseidon, of the bits of the Grain LFSR (the Poseidon paper, section 2.3 and
 -- appendix F).
-use Rattle.std.specs.Prelude.{◌≡◌, ℕ, ◌+◌, ◌*◌, ◌%◌, ◌==◌, ◌<◌, ◌&&◌, nat_lt, Bool, true, false, ◌||◌, ◌⊎◌, List, [], ◌∷◌, length, map, get_or}
+use Rattle.std.specs.Prelude.{◌≡◌, ℕ, ◌+◌, ◌*◌, ◌%◌, ◌==◌, ◌<◌, ◌&&◌, nat_lt, ◌≤◌, Bool, true, false, ◌||◌, ◌⊎◌, List, [], ◌∷◌, length, map, get_or}
 use Rattle.std.specs.List.{list_any}
+use Rattle.ark_base.specs.declared.error.Error.{Error}
+use Rattle.ark_base.specs.declared.error.Error.TheVariants.{GenericError, OutOfMemory}
+use Rattle.ark_base.specs.declared.error.Refusal.TheVariants.{FieldTooSmall, ParameterShape, ZeroRate}
 use Rattle.ark_sponge.specs.Permutation.{Parameters}
 use Rattle.ark_wide_fields.specs.Inverses.{AreInverses}
 use Rattle.poseidon_grain.specs.Grain.{seeded, below_drawn, remainder_drawn, list_drawn}
@@ -105,3 +108,18 @@ pub record AreParameters (a : Asked) (elements hidden exponent : ℕ) (c : Param
   pub full_rounds : c.full_rounds ≡ a.full_rounds
   pub partial_rounds : c.partial_rounds ≡ a.partial_rounds
   pub alpha : c.alpha ≡ exponent
+
+-- ---- why there are no parameters
+
+-- Counts that fit are refused: for a lack of memory, for a modulus of so few digits that no sponge takes it, or else
+-- for a rate of 0.
+abbrev pub IsParameterFault : ℕ → ℕ → Error → Type 0
+IsParameterFault digits rate error =
+    (error ≡ OutOfMemory)
+    ⊎ ((digits < 9) × (error ≡ GenericError FieldTooSmall))
+    ⊎ ((9 ≤ digits) × (rate ≡ 0) × (error ≡ GenericError ZeroRate))
+
+-- Counts that stand fixed are refused: for a lack of memory, or for the generator's matrix.
+abbrev pub IsMatrixFault : Asked → Error → Type 0
+IsMatrixFault a error =
+    (error ≡ OutOfMemory) ⊎ (IsMatrixRefused a × (error ≡ GenericError ParameterShape))

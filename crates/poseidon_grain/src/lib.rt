@@ -12,4 +12,4 @@ pub use defaults::{
     PoseidonDefaultConfig, PoseidonDefaultConfigEntry, get_default_poseidon_parameters,
 };
 pub use parameters::{find_poseidon_ark_and_mds, poseidon_parameters};
-pub use ready::{baby_bear_parameters, circom_parameters, goldilocks_parameters};
+pub use ready::{baby_bear_parameters, circom_parameters, circom_rounds, goldilocks_parameters};

@@ -1,7 +1,7 @@
 //! Constants, matrices and parameters of a field.
 
 ghost use Rattle.std.specs.Prelude.{◌≡◌, ◌+◌, true, false, map, IfOk, IfErr, IfSome, IsNone, Err};
-ghost use Rattle.poseidon_grain.specs.Constants.{asked_of, counts_fit, AreGenerated, AreParameters, IsMatrixRefused};
+ghost use Rattle.poseidon_grain.specs.Constants.{asked_of, counts_fit, AreGenerated, AreParameters, IsMatrixRefused, IsParameterFault};
 
 use crate::draws::{pass_over, remainders, rows_of_constants};
 use crate::matrix::cauchy_matrix;
@@ -110,6 +110,10 @@ pub fn poseidon_parameters<F: InvertibleField>(
     ensures none { IfOk result (λ found. IsNone found
         → IsMatrixRefused (asked_of F.MODULUS F.MODULUS_BIT_SIZE (rate + capacity) full_rounds
         partial_rounds skip_matrices)) }
+    ensures shape { counts_fit (rate + capacity) full_rounds partial_rounds skip_matrices ≡ false
+        → result ≡ Err (Error.GenericError Refusal.ParameterShape) }
+    ensures refused { counts_fit (rate + capacity) full_rounds partial_rounds skip_matrices ≡ true
+        → IfErr result (IsParameterFault F.MODULUS_BIT_SIZE rate) }
 {
     let Some(width) = rate.checked_add(capacity) else {
         return Err(Error::GenericError(Refusal::ParameterShape));

@@ -2,7 +2,7 @@
 
 ghost use Rattle.std.specs.Prelude.{◌≡◌, ◌<◌, ◌≤◌, ◌+◌, ◌-◌, ◌⊎◌, true, false, IfOk, IfErr, IfSome, Ok, Err};
 ghost use Rattle.ark_base.specs.declared.error.Error.TheVariants.{IncorrectInputLength};
-ghost use Rattle.poseidon_grain.specs.Constants.{asked_of, AreParameters};
+ghost use Rattle.poseidon_grain.specs.Constants.{asked_of, counts_fit, AreParameters, IsMatrixFault};
 ghost use Rattle.poseidon_grain.specs.Defaults.{circom_rounds, baby_bear_rounds};
 
 use crate::parameters::poseidon_parameters;
@@ -20,9 +20,13 @@ fn of_rounds<F: InvertibleField>(
     alpha: u64,
     partial_rounds: usize,
 ) -> Result<PoseidonConfig<F>, Error>
-    ensures { IfOk result (λ c.
+    ensures made { IfOk result (λ c.
         AreParameters (asked_of F.MODULUS F.MODULUS_BIT_SIZE (rate + capacity) 8 partial_rounds 0)
         rate capacity alpha c) }
+    ensures refused { 9 ≤ F.MODULUS_BIT_SIZE → 1 ≤ rate
+        → counts_fit (rate + capacity) 8 partial_rounds 0 ≡ true
+        → IfErr result (IsMatrixFault (asked_of F.MODULUS F.MODULUS_BIT_SIZE (rate + capacity)
+        8 partial_rounds 0)) }
 {
     match poseidon_parameters::<F>(alloc, rate, capacity, alpha, 8, partial_rounds, 0)? {
         Some(parameters) => Ok(parameters),
@@ -30,11 +34,12 @@ fn of_rounds<F: InvertibleField>(
     }
 }
 
-// The partial rounds of circomlib's hash, by the count of its inputs.
-fn circom_rounds(inputs: usize) -> usize
+/// Returns the partial rounds of circomlib's hash, by the count of its inputs.
+pub fn circom_rounds(inputs: usize) -> usize
     requires some { 1 ≤ inputs }
     requires few { inputs ≤ 16 }
-    ensures { result ≡ circom_rounds inputs }
+    ensures rounds { result ≡ circom_rounds inputs }
+    ensures few { result ≤ 70 }
 {
     match inputs {
         1 => 56,
@@ -66,6 +71,9 @@ pub fn circom_parameters(alloc: Global, inputs: usize) -> Result<PoseidonConfig<
         AreParameters (asked_of ⟦<Bn254Fr as Field>⟧.MODULUS ⟦<Bn254Fr as Field>⟧.MODULUS_BIT_SIZE
         (inputs + 1) 8 (circom_rounds inputs) 0) inputs 1 5 c) }
     ensures none { (inputs < 1) ⊎ (16 < inputs) → result ≡ Err (IncorrectInputLength inputs) }
+    ensures refused { 1 ≤ inputs → inputs ≤ 16 → IfErr result (IsMatrixFault
+        (asked_of ⟦<Bn254Fr as Field>⟧.MODULUS ⟦<Bn254Fr as Field>⟧.MODULUS_BIT_SIZE
+        (inputs + 1) 8 (circom_rounds inputs) 0)) }
 {
     if inputs < 1 || inputs > 16 {
         return Err(Error::IncorrectInputLength(inputs));
@@ -87,6 +95,9 @@ pub fn goldilocks_parameters(
         ⟦<Fp<Goldilocks> as Field>⟧.MODULUS_BIT_SIZE width 8 22 0) (width - 4) 4 7 c) }
     ensures none { (width ≡ 8 → ⊥) × (width ≡ 12 → ⊥) × (width ≡ 16 → ⊥)
         → result ≡ Err (IncorrectInputLength width) }
+    ensures refused { (width ≡ 8) ⊎ (width ≡ 12) ⊎ (width ≡ 16) → IfErr result (IsMatrixFault
+        (asked_of ⟦<Fp<Goldilocks> as Field>⟧.MODULUS
+        ⟦<Fp<Goldilocks> as Field>⟧.MODULUS_BIT_SIZE width 8 22 0)) }
 {
     if width != 8 && width != 12 && width != 16 {
         return Err(Error::IncorrectInputLength(width));
@@ -107,6 +118,9 @@ pub fn baby_bear_parameters(
         ⟦<Fp<BabyBear> as Field>⟧.MODULUS_BIT_SIZE width 8 (baby_bear_rounds width) 0)
         (width - 8) 8 7 c) }
     ensures none { (width ≡ 12 → ⊥) × (width ≡ 16 → ⊥) → result ≡ Err (IncorrectInputLength width) }
+    ensures refused { (width ≡ 12) ⊎ (width ≡ 16) → IfErr result (IsMatrixFault
+        (asked_of ⟦<Fp<BabyBear> as Field>⟧.MODULUS
+        ⟦<Fp<BabyBear> as Field>⟧.MODULUS_BIT_SIZE width 8 (baby_bear_rounds width) 0)) }
 {
     if width != 12 && width != 16 {
         return Err(Error::IncorrectInputLength(width));

@@ -1,16 +1,21 @@
 //! What is said of a log's file by what was read of it, and what is to be written there. The file is that of the caller, whole.
 
-ghost use Rattle.std.specs.Prelude.{◌≡◌, ◌≢◌, ◌≤◌, ◌<◌, ◌+◌, ◌++◌, List, ℕ, [], length, take, true, IfOk, Ok, Err};
+ghost use Rattle.std.specs.Prelude.{◌≡◌, ◌≢◌, ◌⊎◌, ◌≤◌, ◌<◌, ◌+◌, ◌++◌, List, ℕ, [], length, take, true, IfErr, IfOk, Ok, Err, Some};
 ghost use Rattle.sha2.specs.Sha256.{sha256};
 ghost use Rattle.ark_paths.specs.Pair.{Digest};
 ghost use Rattle.ark_trees.specs.Rfc6962.{node_of};
-ghost use Rattle.log_store.specs.Store.{IsBeforeOrAfter, IsSettled};
+ghost use Rattle.log_store.specs.Refused.{index_outcome, older_outcome};
+ghost use Rattle.log_store.specs.Store.{new_head, IsBeforeOrAfter, IsPartOf, IsSettled};
 ghost use Rattle.merkle_log.specs.Edge.{all_of};
 ghost use Rattle.merkle_log.specs.Log.{consistency_path, inclusion_path, merkle_tree_hash};
 ghost use Rattle.merkle_log.specs.Verdict.{consistency_verdict, inclusion_verdict};
-ghost use Rattle.paxidore_c.specs.Plan.{IsReadOf, IsStopped, carried};
-ghost use Rattle.paxidore_c.specs.declared.file_calls.not_done.NotDone.TheVariants.{More};
+ghost use Rattle.log_file.specs.Append.{appended_size};
+ghost use Rattle.log_file.specs.Faults.{log_size, of_first};
 ghost use Rattle.log_file.specs.LogFile.{IsLogFile};
+ghost use Rattle.paxidore_c.specs.LogFiles.{IsPlainReason, IsReason};
+ghost use Rattle.paxidore_c.specs.Plan.{IsReadOf, IsStopped, carried};
+ghost use Rattle.paxidore_c.specs.declared.file_calls.not_done.NotDone.TheVariants.{More, Refusal};
+ghost use Rattle.paxidore_c.specs.declared.refused.Refused.TheVariants.{Memory, Room};
 
 use crate::file_calls::not_done::NotDone;
 use crate::file_calls::replay::{Held, Replay, Step};
@@ -51,7 +56,10 @@ pub fn growth_of<F: Held>(
         → (leaves : List Digest) → IsLogFile leaves F.file
         → IfOk result (λ growth. (left : List ℕ) → IsStopped growth.steps.items F.file left
         → IsBeforeOrAfter leaves digests.now left) }
+    ensures refused { IsReadOf F.places F.pieces F.file → F.size ≡ length F.file
+        → IfErr result (IsReason F.file (appended_size F.file (length digests.now))) }
     ensures done { result ≢ Err More }
+    ensures room { result ≢ Err (Refusal Room) }
 {
     let mut disk = Replay::<F>::new(alloc, file_len, places, pieces);
     match log_store::append(alloc, &mut disk, digests) {
@@ -59,7 +67,7 @@ pub fn growth_of<F: Held>(
             size,
             steps: disk.into_steps(),
         }),
-        Err(stop) => Err(NotDone::from(stop)),
+        Err(stop) => Err(NotDone::of_stop(stop)),
     }
 }
 
@@ -76,12 +84,15 @@ pub fn size_of<F: Held>(
     ensures size { IsReadOf F.places F.pieces F.file → F.size ≡ length F.file
         → (leaves : List Digest) → IsLogFile leaves F.file
         → IfOk result (λ size. size ≡ length leaves) }
+    ensures refused { IsReadOf F.places F.pieces F.file → F.size ≡ length F.file
+        → IfErr result (IsReason F.file (log_size F.file)) }
     ensures done { result ≢ Err More }
+    ensures room { result ≢ Err (Refusal Room) }
 {
     let disk = Replay::<F>::new(alloc, file_len, places, pieces);
     match log_store::size(&disk) {
         Ok(size) => Ok(size),
-        Err(stop) => Err(NotDone::from(stop)),
+        Err(stop) => Err(NotDone::of_stop(stop)),
     }
 }
 
@@ -100,16 +111,39 @@ pub fn root_of<F: Held>(
         → (leaves : List Digest) → IsLogFile leaves F.file → IfOk result (λ root.
         (size ≤ length leaves)
         × (merkle_tree_hash node_of (sha256 []) (take size leaves) ≡ Ok root)) }
+    ensures refused { IsReadOf F.places F.pieces F.file → F.size ≡ length F.file
+        → IfErr result (IsReason F.file (of_first F.file (Some size) Ok)) }
     ensures done { result ≢ Err More }
+    ensures room { result ≢ Err (Refusal Room) }
 {
     let disk = Replay::<F>::new(alloc, file_len, places, pieces);
     match log_store::root(&disk, Some(size)) {
         Ok(found) => Ok(found.1),
-        Err(stop) => Err(NotDone::from(stop)),
+        Err(stop) => Err(NotDone::of_stop(stop)),
     }
 }
 
-/// Returns what is to be written to a file before it is appended to: the head of a new log, or nothing.
+// Puts a sync alone in the place of no step.
+fn with_sync(alloc: Global, plan: Vec<Step>) -> Result<Vec<Step>, NotDone>
+    ensures same { IfOk result (λ steps. (file : List ℕ)
+        → carried steps.items file ≡ carried plan.items file) }
+    ensures some { IfOk result (λ steps. 0 < length steps.items) }
+    ensures refused { IfErr result (λ why. why ≡ Refusal Memory) }
+    ensures done { result ≢ Err More }
+    ensures room { result ≢ Err (Refusal Room) }
+{
+    if !plan.is_empty() {
+        return Ok(plan);
+    }
+    let mut sync = Vec::new(alloc);
+    sync.push(Step {
+        at: 0,
+        bytes: Vec::new(alloc),
+    })?;
+    Ok(sync)
+}
+
+/// Returns what is to be written to a file before it is appended to: the head of a new log, or a sync alone.
 pub fn made_of<F: Held>(
     alloc: Global,
     file_len: usize,
@@ -124,12 +158,24 @@ pub fn made_of<F: Held>(
     ensures kept { IsReadOf F.places F.pieces F.file → F.size ≡ length F.file
         → (leaves : List Digest) → IsLogFile leaves F.file
         → IfOk result (λ steps. carried steps.items F.file ≡ F.file) }
+
+    // A file that has no byte has the log of no entries, and stays it if one of its slots is lost.
+    ensures made { IsReadOf F.places F.pieces F.file → F.size ≡ length F.file → F.file ≡ []
+        → IfOk result (λ steps. IsSettled [] (carried steps.items F.file)) }
+
+    // What is neither empty nor a part of that head stays as it is.
+    ensures others { IsReadOf F.places F.pieces F.file → F.size ≡ length F.file
+        → IsPartOf new_head F.file
+        ⊎ IfOk result (λ steps. carried steps.items F.file ≡ F.file) }
+    ensures refused { IfErr result IsPlainReason }
+    ensures some { IfOk result (λ steps. 0 < length steps.items) }
     ensures done { result ≢ Err More }
+    ensures room { result ≢ Err (Refusal Room) }
 {
     let mut disk = Replay::<F>::new(alloc, file_len, places, pieces);
     match log_store::make(&mut disk) {
-        Ok(()) => Ok(disk.into_steps()),
-        Err(stop) => Err(NotDone::from(stop)),
+        Ok(()) => with_sync(alloc, disk.into_steps()),
+        Err(stop) => Err(NotDone::of_stop(stop)),
     }
 }
 
@@ -153,12 +199,15 @@ pub fn path_of<F: Held>(
     // Of every file: the proof is accepted.
     ensures accepted { IfOk result (λ proof. let verdict = inclusion_verdict node_of proof.root in
         verdict proof.size index proof.digest proof.path.items ≡ Ok true) }
+    ensures refused { IsReadOf F.places F.pieces F.file → F.size ≡ length F.file
+        → IfErr result (IsReason F.file (index_outcome F.file (Some size) index)) }
     ensures done { result ≢ Err More }
+    ensures room { result ≢ Err (Refusal Room) }
 {
     let disk = Replay::<F>::new(alloc, file_len, places, pieces);
     match log_store::prove(alloc, &disk, index, Some(size)) {
         Ok(proof) => Ok(proof),
-        Err(stop) => Err(NotDone::from(stop)),
+        Err(stop) => Err(NotDone::of_stop(stop)),
     }
 }
 
@@ -182,11 +231,14 @@ pub fn proof_of<F: Held>(
     // Of every file: the proof is accepted.
     ensures accepted { IfOk result (λ proof. let verdict = consistency_verdict node_of old_size in
         verdict proof.old_root proof.size proof.root proof.path.items ≡ Ok true) }
+    ensures refused { IsReadOf F.places F.pieces F.file → F.size ≡ length F.file
+        → IfErr result (IsReason F.file (older_outcome F.file (Some size) old_size)) }
     ensures done { result ≢ Err More }
+    ensures room { result ≢ Err (Refusal Room) }
 {
     let disk = Replay::<F>::new(alloc, file_len, places, pieces);
     match log_store::consistency(alloc, &disk, old_size, Some(size)) {
         Ok(proof) => Ok(proof),
-        Err(stop) => Err(NotDone::from(stop)),
+        Err(stop) => Err(NotDone::of_stop(stop)),
     }
 }

@@ -1,9 +1,10 @@
 //! What a call on a log's file asks for, and which pieces of the file are to be read for it.
 
-ghost use Rattle.std.specs.Prelude.{◌≡◌, ◌≢◌, ◌≤◌, ◌+◌, length, take, OnOk, Err};
+ghost use Rattle.std.specs.Prelude.{◌≡◌, ◌≤◌, ◌+◌, length, take, IfErr, OnOk, Err};
 ghost use Rattle.std.specs.List.{between, list_all};
-ghost use Rattle.paxidore_c.specs.LogFiles.{Asks, lies_within};
-ghost use Rattle.paxidore_c.specs.declared.file_calls.not_done.NotDone.TheVariants.{More};
+ghost use Rattle.paxidore_c.specs.LogFiles.{AsksFirst, IsOfCaller, lies_within};
+ghost use Rattle.paxidore_c.specs.declared.file_calls.not_done.NotDone.TheVariants.{More, Refusal};
+ghost use Rattle.paxidore_c.specs.declared.refused.Refused.TheVariants.{Room};
 
 use crate::file_calls::asking::Asking;
 use crate::file_calls::not_done::NotDone;
@@ -96,11 +97,15 @@ pub fn ask(
     places_len: &mut usize,
     pieces: &[u8],
 ) -> Result<(), NotDone>
-    ensures room { OnOk result (places_len.new ≤ length places.new) }
-    ensures asked { result ≡ Err More
-        → Asks file_len places_len.old places_len.new places.old places.new }
-    ensures kept { result ≢ Err More → places.new ≡ places.old }
-    ensures uncounted { result ≢ Err More → places_len.new ≡ places_len.old }
+    ensures first { AsksFirst (result ≡ Err More) file_len places_len.old places_len.new
+        places.old places.new }
+    ensures kept { OnOk result (places.new ≡ places.old) }
+    ensures uncounted { OnOk result (places_len.new ≡ places_len.old) }
+    ensures inside { OnOk result (places_len.new ≤ length places.new) }
+
+    // There is room for places where there is any.
+    ensures room { result ≡ Err (Refusal Room) → length places.old ≤ places_len.old }
+    ensures refused { IfErr result IsOfCaller }
 {
     let read = *places_len;
     if read > places.len() {

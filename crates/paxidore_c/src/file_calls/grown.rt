@@ -2,9 +2,12 @@
 
 ghost use Rattle.std.specs.Prelude.{◌≡◌, ◌≢◌, ◌<◌, List, length, Err, IfErr, OnOk};
 ghost use Rattle.ark_paths.specs.Pair.{Digest};
-ghost use Rattle.paxidore_c.specs.Plan.{Grows, IsReadOf};
-ghost use Rattle.paxidore_c.specs.declared.file_calls.not_done.NotDone.TheVariants.{More};
+ghost use Rattle.log_file.specs.Append.{appended_size};
 ghost use Rattle.log_file.specs.LogFile.{IsLogFile};
+ghost use Rattle.paxidore_c.specs.LogFiles.{IsReason};
+ghost use Rattle.paxidore_c.specs.Plan.{Grows, IsReadOf, LeavesSteps};
+ghost use Rattle.paxidore_c.specs.declared.file_calls.not_done.NotDone.TheVariants.{More, Refusal};
+ghost use Rattle.paxidore_c.specs.declared.refused.Refused.TheVariants.{Room};
 
 use crate::file_calls::answers::growth_of;
 use crate::file_calls::handed::hand_over_steps;
@@ -35,6 +38,10 @@ pub fn hand_over_growth<F: Held>(
         → (leaves : List Digest) → IsLogFile leaves F.file → OnOk result
         (Grows leaves digests.now F.file bytes.old bytes.new bytes_len.new steps.old steps.new
         steps_len.new size.new) }
+    ensures refused { IsReadOf F.places F.pieces F.file → F.size ≡ length F.file
+        → IfErr result (IsReason F.file (appended_size F.file (length digests.now))) }
+    ensures left { IfErr result (λ why. LeavesSteps (why ≡ Refusal Room) bytes.old bytes.new
+        bytes_len.old bytes_len.new steps.old steps.new steps_len.old steps_len.new) }
     ensures kept { IfErr result (λ _. size.new ≡ size.old) }
     ensures done { result ≢ Err More }
 {

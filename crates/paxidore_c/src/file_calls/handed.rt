@@ -1,11 +1,17 @@
-//! Steps, in a caller's buffers.
+//! Steps and digests, in a caller's buffers.
 
-ghost use Rattle.std.specs.Prelude.{◌≡◌, ◌≢◌, ◌≤◌, ◌++◌, length, drop, Err, IfOk, OnOk};
-ghost use Rattle.paxidore_c.specs.Plan.{IsHanded, bytes_of_steps, places_of_steps};
-ghost use Rattle.paxidore_c.specs.declared.file_calls.not_done.NotDone.TheVariants.{More};
+ghost use Rattle.std.specs.Prelude.{◌≡◌, ◌≢◌, ◌⊎◌, ◌≤◌, ◌++◌, length, drop, Ok, Err, IfErr, IfOk, OnOk};
+ghost use Rattle.std.specs.List.{flat_map};
+ghost use Rattle.ark_base.specs.Digits.{itself};
+ghost use Rattle.paxidore_c.specs.Answer.{Hands};
+ghost use Rattle.paxidore_c.specs.LogFiles.{call_code};
+ghost use Rattle.paxidore_c.specs.Plan.{IsHanded, LeavesSteps, bytes_of_steps, places_of_steps};
+ghost use Rattle.paxidore_c.specs.declared.file_calls.not_done.NotDone.TheVariants.{More, Refusal};
+ghost use Rattle.paxidore_c.specs.declared.refused.Refused.TheVariants.{Memory, Room};
 
 use crate::file_calls::not_done::NotDone;
 use crate::file_calls::replay::Step;
+use crate::log_keeper::bytes_of;
 use crate::refused::Refused;
 use std::alloc::Global;
 
@@ -20,7 +26,7 @@ struct Flat {
 fn flat_of(alloc: Global, plan: &[Step]) -> Result<Flat, NotDone>
     ensures bytes { IfOk result (λ flat. flat.bytes.items ≡ bytes_of_steps plan.now) }
     ensures places { IfOk result (λ flat. flat.places.items ≡ places_of_steps plan.now) }
-    ensures done { result ≢ Err More }
+    ensures refused { IfErr result (λ why. why ≡ Refusal Memory) }
 {
     let mut bytes = Vec::new(alloc);
     let mut places = Vec::new(alloc);
@@ -51,8 +57,8 @@ fn put_places(buffer: &mut [[usize; 2]], places: &[[usize; 2]])
     buffer[..places.len()].copy_from_slice(places);
 }
 
-/// Writes what is to be written to the fronts of the caller's buffers, with the counts. Errors: `Memory`, `Room` where one of them is
-/// too short.
+/// Writes what is to be written to the fronts of the caller's buffers, with the counts. Errors: `Memory`; `Room` where one of them is
+/// too short, which alone writes the counts that are needed. Both leave the buffers.
 pub fn hand_over_steps(
     alloc: Global,
     plan: &[Step],
@@ -63,6 +69,12 @@ pub fn hand_over_steps(
 ) -> Result<(), NotDone>
     ensures handed { OnOk result (IsHanded plan.now bytes.old bytes.new bytes_len.new steps.old
         steps.new steps_len.new) }
+    ensures left { IfErr result (λ why. LeavesSteps (why ≡ Refusal Room) bytes.old bytes.new
+        bytes_len.old bytes_len.new steps.old steps.new steps_len.old steps_len.new) }
+    ensures room_needed { result ≡ Err (Refusal Room)
+        → (bytes_len.new ≡ length (bytes_of_steps plan.now))
+        × (steps_len.new ≡ length (places_of_steps plan.now)) }
+    ensures refused { IfErr result (λ why. (why ≡ Refusal Memory) ⊎ (why ≡ Refusal Room)) }
     ensures done { result ≢ Err More }
 {
     let flat = flat_of(alloc, plan)?;
@@ -73,5 +85,27 @@ pub fn hand_over_steps(
     }
     put_bytes(bytes, &flat.bytes);
     put_places(steps, &flat.places);
+    Ok(())
+}
+
+/// Writes the bytes of digests to the front of the caller's buffer, with their count. Errors: `Memory`; `Room` where it is too short,
+/// which alone writes the count that is needed. Both leave the buffer.
+pub fn hand_over_digests(
+    alloc: Global,
+    digests: &[[u8; 32]],
+    buffer: &mut [u8],
+    count: &mut usize,
+) -> Result<(), NotDone>
+    ensures handed { Hands (Ok (flat_map itself digests.now)) buffer.old buffer.new count.old
+        count.new (call_code result) }
+    ensures refused { IfErr result (λ why. (why ≡ Refusal Memory) ⊎ (why ≡ Refusal Room)) }
+    ensures done { result ≢ Err More }
+{
+    let bytes = bytes_of(alloc, digests)?;
+    *count = bytes.len();
+    if buffer.len() < bytes.len() {
+        return Err(NotDone::Refusal(Refused::Room));
+    }
+    put_bytes(buffer, &bytes);
     Ok(())
 }

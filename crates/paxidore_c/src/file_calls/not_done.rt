@@ -1,8 +1,9 @@
 //! Why a call on a log's file is not done, and the codes of answers.
 
 ghost use Rattle.std.specs.Prelude.{◌≡◌, ◌≢◌};
-ghost use Rattle.paxidore_c.specs.LogFiles.{not_done_code};
-ghost use Rattle.paxidore_c.specs.declared.file_calls.not_done.NotDone.TheVariants.{More};
+ghost use Rattle.paxidore_c.specs.LogFiles.{not_done_at, not_done_code, not_done_of};
+ghost use Rattle.paxidore_c.specs.declared.file_calls.not_done.NotDone.TheVariants.{More, Refusal};
+ghost use Rattle.paxidore_c.specs.declared.refused.Refused.TheVariants.{Memory, Room};
 
 use crate::file_calls::replay::Halt;
 use crate::refused::Refused;
@@ -41,10 +42,24 @@ impl NotDone {
             NotDone::Damaged => -14,
         }
     }
+
+    /// Returns why a call is not done that stopped.
+    pub fn of_stop(stop: Stop<Halt>) -> NotDone
+        ensures is { result ≡ not_done_at stop }
+        ensures done { result ≢ More }
+        ensures room { result ≢ Refusal Room }
+    {
+        match stop {
+            Stop::Fault(fault) => NotDone::from(fault),
+            Stop::Disk(Halt::Memory) => NotDone::Refusal(Refused::Memory),
+            // what is asked for is read before, and lies in the file
+            Stop::Disk(Halt::Missing | Halt::Ended) => NotDone::Refusal(Refused::Other),
+        }
+    }
 }
 
 impl From<Refused> for NotDone {
-    ghost from_gives = { λ _ not_done. not_done ≢ More };
+    ghost from_gives = { λ refused not_done. not_done ≡ Refusal refused };
 
     fn from(refused: Refused) -> NotDone {
         NotDone::Refusal(refused)
@@ -52,7 +67,7 @@ impl From<Refused> for NotDone {
 }
 
 impl From<Fault> for NotDone {
-    ghost from_gives = { λ _ not_done. not_done ≢ More };
+    ghost from_gives = { λ fault not_done. not_done ≡ not_done_of fault };
 
     fn from(fault: Fault) -> NotDone {
         match fault {
@@ -68,22 +83,8 @@ impl From<Fault> for NotDone {
     }
 }
 
-impl From<Stop<Halt>> for NotDone {
-    ghost from_gives = { λ _ not_done. not_done ≢ More };
-
-    fn from(stop: Stop<Halt>) -> NotDone {
-        match stop {
-            Stop::Fault(fault) => NotDone::from(fault),
-            Stop::Disk(Halt::Memory) => NotDone::Refusal(Refused::Memory),
-            Stop::Disk(Halt::Ended) => NotDone::Short,
-            // what is asked for is read before
-            Stop::Disk(Halt::Missing) => NotDone::Refusal(Refused::Other),
-        }
-    }
-}
-
 impl<T: Drop> From<AllocFailed<T>> for NotDone {
-    ghost from_gives = { λ _ not_done. not_done ≢ More };
+    ghost from_gives = { λ _ not_done. not_done ≡ Refusal Memory };
 
     fn from(_refused: AllocFailed<T>) -> NotDone {
         NotDone::Refusal(Refused::Memory)

@@ -7,8 +7,8 @@ use Rattle.ark_schemes.proofs.from_label.window_elements.Goals as goal
 pub returns-clause-made : goal.returns-clause-made
 returns-clause-made g c =
     IfOk-weaker c.elements_of_label.result _ _ (λ elements made.
-    subst (λ (n : ℕ). AreOfLabel g.C.FromDigest.found_in c.args.label.now n elements.items) c.in_ok-count_of.ensures.count
-    made) c.elements_of_label.ensures.made
+    subst (λ (n : ℕ). AreOfLabel g.C.FromDigest.found_in c.args.label.now n elements.items)
+    c.in_ok-count_of.ensures.count made) c.elements_of_label.ensures.made
 
 pub returns-clause-long : goal.returns-clause-long
 returns-clause-long g c =

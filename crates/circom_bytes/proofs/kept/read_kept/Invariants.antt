@@ -1,4 +1,4 @@
-use Rattle.std.proofs.Common.{◌≡◌, ◌<◌, ◌+◌, ◌*◌, ◌≤◌, ℕ, List, length, map, take, drop, All}
+use Rattle.std.proofs.Common.{◌≡◌, ◌<◌, ◌+◌, ◌*◌, ◌≤◌, ◌++◌, ℕ, List, length, map, take, drop, All}
 use Rattle.ark_groups.specs.Words.{number}
 use Rattle.ark_wide_fields.specs.Moduli.{value_of}
 use Rattle.circom_bytes.specs.Elements.{kept_bytes}
@@ -11,6 +11,8 @@ invariant-loop g l =
       read : (xs : List ℕ) → All (λ x. x < number m.P) xs → l.bytes ≡ kept_bytes (number m.P) xs
           → (l.rest ≡ kept_bytes (number m.P) (drop l.counter xs))
           × (map (λ x. value_of m.P m.INVERSE x.kept) l.elements.items ≡ take l.counter xs);
+      front : l.bytes ≡ kept_bytes (number m.P) (map (λ x. value_of m.P m.INVERSE x.kept) l.elements.items) ++ l.rest;
+      left : length l.rest + 32 * l.counter ≡ length l.bytes;
       room : (k : ℕ) → l.counter + k ≡ l.count → 32 * k ≤ length l.rest;
       whole : 32 * l.count ≡ length l.bytes;
     }

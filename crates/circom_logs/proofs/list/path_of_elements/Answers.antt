@@ -11,15 +11,15 @@ use Rattle.circom_logs.specs.Nodes.{refusal_error}
 use Rattle.circom_logs.proofs.Lists.{keeps-none}
 use Rattle.circom_logs.proofs.list.path_of_elements.Goals as goal
 
-pub returns-in_err-kept : goal.returns-in_err-kept
-returns-in_err-kept c = λ parameters of elements_are empty.
+pub returns-in_err-kept-clause-path : goal.returns-in_err-kept-clause-path
+returns-in_err-kept-clause-path c = λ parameters of elements_are empty.
     given_on {P = ⊥} _ _ _ c.from_residual.result c.in_err-kept.field-0.0 c.from_residual.ensures.1
     (inl (ap refusal_error ((rw (c.new.ensures) at c.in_err-kept.ensures.refused) parameters of [] refl
     (keeps-none (node_outcome parameters)) refl elements_are))) (λ none. absurd none)
 
-pub returns : goal.returns
+pub returns-clause-path : goal.returns-clause-path
 unfolding lib.Count.ones
-returns c = λ parameters of elements_are empty.
+returns-clause-path c = λ parameters of elements_are empty.
     let elements = c.args.elements.now in
     let keeps : KeepsBy (node_outcome parameters) elements c.in_ok-kept.kept.items =
     (rw (c.new.ensures) at c.in_ok-kept.ensures.grows) parameters of [] refl (keeps-none (node_outcome parameters)) in

@@ -6,10 +6,10 @@ use Rattle.merkle_log.specs.Log.{NodeHash}
 use Rattle.merkle_log.specs.Stored.{stored_count}
 use Rattle.merkle_log.proofs.Givens.{refused_on}
 use Rattle.merkle_log.proofs.Positions.{count-rises}
-use Rattle.circom_logs.specs.Nodes.{refusal_error}
-use Rattle.circom_logs.specs.declared.refusal.NodeRefusal.TheVariants.{Memory}
+use Rattle.circom_logs.specs.Nodes.{no_element_error}
+use Rattle.circom_logs.specs.declared.refusal.NodeRefusal.TheVariants.{Element, Memory}
 use Rattle.circom_logs.proofs.Closed.{no-refusal}
-use Rattle.circom_logs.proofs.Lists.{memory-only, pass-all, whole-written}
+use Rattle.circom_logs.proofs.Lists.{never-memory, pass-all, whole-written}
 use Rattle.circom_logs.proofs.Outcomes.{node-closed, table-node}
 use Rattle.circom_logs.proofs.log.appended_digests.Goals as goal
 
@@ -21,10 +21,10 @@ pub returns-in_err-append_by-clause-refused : goal.returns-in_err-append_by-clau
 returns-in_err-append_by-clause-refused c = λ parameters of leaves count keeps leaves_are elements_are.
     let elements = c.args.elements.now in
     let same = c.new.ensures.hash ∙ table-node of in
-    let error = refusal_error c.in_err-append_by.field-0.0 in
-    refused_on (λ refusal. refusal ≡ Memory) c.from_residual-in_err-append_by.result c.in_err-append_by.field-0.0
+    let error = no_element_error c.in_err-append_by.field-0.0 in
+    refused_on (λ refusal. refusal ≡ Memory) c.from_residual-in_err-append_by.result Element
     c.from_residual-in_err-append_by.ensures.1 (elim c.in_err-append_by.ensures.refused [
-      | inl memory ↦ memory-only c.in_err-append_by.field-0.0 memory
+      | inl memory ↦ absurd (never-memory c.in_err-append_by.field-0.0 memory)
       | inr refuses ↦ absurd (no-refusal (node-closed of c.requires.two) leaves elements error
           (pass-all _ leaves leaves_are) (pass-all _ elements elements_are)
           (subst (λ (hash : NodeHash). RefusesAppend hash leaves elements error) same

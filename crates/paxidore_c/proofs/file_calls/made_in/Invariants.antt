@@ -1,5 +1,4 @@
-use Rattle.std.proofs.Common.{[]}
 use Rattle.paxidore_c.proofs.file_calls.made_in.Given as goal
 
 abbrev pub ghosts-made_of : goal.ghosts-made_of
-ghosts-made_of a = record { file = []; places = a.places.now; pieces = a.pieces.now; size = a.file_len }
+ghosts-made_of g a = record { file = g.file; places = a.places.now; pieces = a.pieces.now; size = a.file_len }

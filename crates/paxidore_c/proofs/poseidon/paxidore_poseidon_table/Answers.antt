@@ -3,6 +3,8 @@ use Rattle.std.proofs.lemmas.Int.{to_z-of_z}
 use Rattle.paxidore_c.proofs.Hashed.{handed-codes, handed-none, said-of-seen}
 use Rattle.paxidore_c.proofs.Written.{gives-itself, handed, seen}
 use Rattle.paxidore_c.specs.Poseidon.{IsCircomTable}
+use Rattle.paxidore_c.specs.declared.refused.Refused.TheVariants.{Other}
+use Rattle.circom_bytes.specs.Hash.{IsCircomRefused}
 use Rattle.paxidore_c.proofs.poseidon.paxidore_poseidon_table.Goals as goal
 
 pub returns-clause-handed : goal.returns-clause-handed
@@ -43,5 +45,5 @@ returns-clause-codes c = λ some few.
     let hands = c.hand_over.ensures (seen (λ bytes. bytes.items) c.table_for.result)
     (gives-itself (λ bytes. bytes.items) c.table_for.result) in
     let fits = to_z-of_z w32 c.hand_over.result (record { sfits = c.hand_over.type_inv }) in
-    rw fits (handed-codes (λ bytes. bytes.items) c.table_for.result _ _ _ _ c.hand_over.result
-    (c.table_for.ensures.memory some few) hands)
+    rw fits (handed-codes (λ bytes. bytes.items) (IsCircomRefused c.args.inputs) Other c.table_for.result
+    _ _ _ _ c.hand_over.result (c.table_for.ensures.refused some few) hands)

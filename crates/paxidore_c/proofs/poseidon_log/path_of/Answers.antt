@@ -34,7 +34,7 @@ returns-in-Err-path_of_elements c = λ inputs parameters spells.
     c.from.result c.in-Ok-are_given.ensures.given
     (rw (lt-ltb c.args.index (length c.args.elements.now) c.if-index-elements.false) (digests-refused outcome
     (refusal_error c.in-Err-path_of_elements.refusal) c.from.result
-    (c.in-Err-path_of_elements.ensures parameters table.1 c.in-Ok-are_given.ensures.all []) c.from.ensures)))
+    (c.in-Err-path_of_elements.ensures.path parameters table.1 c.in-Ok-are_given.ensures.all []) c.from.ensures)))
 
 pub returns : goal.returns
 returns c = λ inputs parameters spells.
@@ -44,5 +44,5 @@ returns c = λ inputs parameters spells.
     two-gives (λ bytes. bytes.items) inputs _ c.bytes_of.result table.0
     (rw (c.in-Ok-are_given.ensures.given, lt-ltb c.args.index (length elements) c.if-index-elements.false)
     (bytes-given outcome c.in-Ok-path_of_elements.path.items
-    (c.in-Ok-path_of_elements.ensures parameters table.1 c.in-Ok-are_given.ensures.all []) (λ bytes. bytes.items)
+    (c.in-Ok-path_of_elements.ensures.path parameters table.1 c.in-Ok-are_given.ensures.all []) (λ bytes. bytes.items)
     c.bytes_of.result (rw (c.deref.ensures.value) at c.bytes_of.ensures)))

@@ -20,12 +20,12 @@ pub returns-in-Ok-root_of_elements-clause-given : goal.returns-in-Ok-root_of_ele
 returns-in-Ok-root_of_elements-clause-given c = λ inputs parameters spells.
     let table = c.in-Ok.ensures.read inputs parameters spells in
     two-given inputs _ _ table.0 (ap (λ r. r >>= root_of_elements parameters) c.in-Ok-are_given.ensures.given
-    ∙ ap refusing (c.in-Ok-root_of_elements.ensures parameters table.1 c.in-Ok-are_given.ensures.all []))
+    ∙ ap refusing (c.in-Ok-root_of_elements.ensures.root parameters table.1 c.in-Ok-are_given.ensures.all []))
 
 pub returns-in-Ok-root_of_elements-clause-root : goal.returns-in-Ok-root_of_elements-clause-root
 returns-in-Ok-root_of_elements-clause-root c = λ inputs parameters spells.
     let table = c.in-Ok.ensures.read inputs parameters spells in
-    c.in-Ok-root_of_elements.ensures parameters table.1 c.in-Ok-are_given.ensures.all []
+    c.in-Ok-root_of_elements.ensures.root parameters table.1 c.in-Ok-are_given.ensures.all []
 
 pub returns-clause-given : goal.returns-clause-given
 returns-clause-given c = λ inputs parameters spells.
@@ -33,4 +33,4 @@ returns-clause-given c = λ inputs parameters spells.
     two-refused inputs _ c.from.result table.0 (refused-next (elements_given c.args.elements.now)
     (root_of_elements parameters) c.args.elements.now c.from.result c.in-Ok-are_given.ensures.given
     (library-refused _ (refusal_error c.in-Err-root_of_elements.refusal) c.from.result
-    (c.in-Err-root_of_elements.ensures parameters table.1 c.in-Ok-are_given.ensures.all []) c.from.ensures))
+    (c.in-Err-root_of_elements.ensures.root parameters table.1 c.in-Ok-are_given.ensures.all []) c.from.ensures))

@@ -49,12 +49,12 @@ returns-in-Ok-root-clause-answer c = λ inputs parameters spells leaves le keeps
     let table = c.in-Ok.ensures.read inputs parameters spells in
     let some : nat_lt 0 c.args.size ≡ true = lt-ltb 0 c.args.size (omega arith) in
     two-given inputs _ _ table.0 (rw (c.in-Some.ensures.0, some) (ap refusing
-    ((rw (c.in-Some.ensures.1) at c.in-Ok-root.ensures) parameters table.1 leaves le keeps [])))
+    ((rw (c.in-Some.ensures.1) at c.in-Ok-root.ensures.root) parameters table.1 leaves le keeps [])))
 
 pub returns-in-Ok-root-clause-root : goal.returns-in-Ok-root-clause-root
 returns-in-Ok-root-clause-root c = λ inputs parameters spells leaves le keeps.
     let table = c.in-Ok.ensures.read inputs parameters spells in
-    (rw (c.in-Some.ensures.1) at c.in-Ok-root.ensures) parameters table.1 leaves le keeps []
+    (rw (c.in-Some.ensures.1) at c.in-Ok-root.ensures.root) parameters table.1 leaves le keeps []
 
 pub returns-clause-given : goal.returns-clause-given
 returns-clause-given c = λ inputs parameters spells.
@@ -70,4 +70,4 @@ returns-clause-answer c = λ inputs parameters spells leaves le keeps.
     let some : nat_lt 0 c.args.size ≡ true = lt-ltb 0 c.args.size (omega arith) in
     two-refused inputs _ c.from.result table.0 (rw (c.in-Some.ensures.0, some) (library-refused _
     (refusal_error c.in-Err-root.refusal) c.from.result
-    ((rw (c.in-Some.ensures.1) at c.in-Err-root.ensures) parameters table.1 leaves le keeps []) c.from.ensures))
+    ((rw (c.in-Some.ensures.1) at c.in-Err-root.ensures.root) parameters table.1 leaves le keeps []) c.from.ensures))

@@ -1,32 +1,72 @@
-use Rattle.std.proofs.Common.{refl, length, ap, sym, subst, arith}
+use Rattle.std.proofs.Common.{◌*◌, length, map, take, refl, ap, ap₂, sym, subst, ◌≤◌, ◌≡◌, ◌∙◌}
 use Rattle.std.proofs.lemmas.List.{length-map}
+use Rattle.ark_sponge.specs.Table.{parts_in, table_length}
+use Rattle.poseidon_grain.specs.Defaults.{circom_rounds}
+use Rattle.circom_bytes.specs.Frame.{shape_for, table_count}
 use Rattle.circom_bytes.specs.Hash.{IsTableOf}
-use Rattle.circom_bytes.proofs.Tables.{first_is, ok_same, only_memory, rest_is, table_is, table_long}
+use Rattle.circom_bytes.proofs.Frames.{no-fault}
+use Rattle.circom_bytes.proofs.Tables.{at_least, first_is, framed, numbers-long, numbers-spelled, ok_same, only_memory, rest_is, table_is}
 use Rattle.circom_bytes.proofs.table.CircomTable.of.Goals as goal
 
-pub returns-in-Err : goal.returns-in-Err
-returns-in-Err c = λ inputs parameters spells.
-    let bytes = rest_is inputs parameters c.args.bytes.now spells _ c.split_at.ensures.back in
-    only_memory spells.numbers _ c.in-Err.error refl (c.in-Err.ensures spells.numbers spells.below bytes)
+pub of_table-requires-clause-long : goal.of_table-requires-clause-long
+of_table-requires-clause-long c =
+    let inputs = c.in-Ok.inputs in
+    let found = c.in-Ok-read_kept.ensures.found in
+    let long = numbers-long inputs c.count_for.result c.args.bytes.now c.split_at.result.1.now c.split_at-2.result.0.now
+    found.0 c.in-Ok.ensures.frame c.count_for.ensures.count c.split_at.ensures.back c.split_at-2.ensures.front
+    found.3 in
+    let count = ap length c.deref.ensures.value ∙ sym (ap length found.2 ∙ length-map _ _) ∙ long in
+    subst (λ shape. table_length shape ≤ length c.deref.result.now) (sym c.shape_for.ensures)
+    (at_least (table_length (shape_for inputs)) (circom_rounds inputs) (length c.deref.result.now) count)
 
-pub returns-then-len-length_for : goal.returns-then-len-length_for
-returns-then-len-length_for c = λ inputs parameters spells.
-    let bytes = rest_is inputs parameters c.args.bytes.now spells _ c.split_at.ensures.back in
-    let same = sym (ok_same _ _ _ refl (c.in-Ok.ensures spells.numbers spells.below bytes)) in
-    let first = first_is inputs parameters c.args.bytes.now spells in
-    let long = table_long inputs parameters c.args.bytes.now spells in
-    let needed = rw first at c.length_for.ensures in
-    let count = rw length-map at (ap length same) in
-    absurd (omega (arith, needed, count, long))
+-- ---- a table that is spelled
 
-pub returns : goal.returns
-returns c = λ inputs parameters spells.
-    let bytes = rest_is inputs parameters c.args.bytes.now spells _ c.split_at.ensures.back in
-    let same = sym (ok_same _ _ _ refl (c.in-Ok.ensures spells.numbers spells.below bytes)) in
-    let first = first_is inputs parameters c.args.bytes.now spells in
-    let shape = rw first at c.shape_for.ensures in
+pub returns-in-Err-clause-spelled : goal.returns-in-Err-clause-spelled
+returns-in-Err-clause-spelled c = λ inputs parameters spells.
+    absurd (no-fault inputs c.args.bytes.now (framed inputs parameters c.args.bytes.now spells) c.in-Err.error
+    c.in-Err.ensures.refused)
+
+pub returns-in-Err-read_kept-clause-spelled : goal.returns-in-Err-read_kept-clause-spelled
+returns-in-Err-read_kept-clause-spelled c = λ inputs parameters spells.
+    let first = sym c.in-Ok.ensures.frame.first ∙ first_is inputs parameters c.args.bytes.now spells in
+    let front = c.split_at-2.ensures.front
+    ∙ ap (λ n. take (32 * n) c.split_at.result.1.now) (c.count_for.ensures.count ∙ ap table_count first) in
+    let bytes = rest_is inputs parameters c.args.bytes.now spells _ _ c.split_at.ensures.back front in
+    only_memory spells.numbers _ c.in-Err-read_kept.error refl
+    (c.in-Err-read_kept.ensures.read spells.numbers spells.below bytes)
+
+pub returns-clause-spelled : goal.returns-clause-spelled
+returns-clause-spelled c = λ inputs parameters spells.
+    let first = sym c.in-Ok.ensures.frame.first ∙ first_is inputs parameters c.args.bytes.now spells in
+    let front = c.split_at-2.ensures.front
+    ∙ ap (λ n. take (32 * n) c.split_at.result.1.now) (c.count_for.ensures.count ∙ ap table_count first) in
+    let bytes = rest_is inputs parameters c.args.bytes.now spells _ _ c.split_at.ensures.back front in
+    let same = sym (ok_same _ _ _ refl (c.in-Ok-read_kept.ensures.read spells.numbers spells.below bytes)) in
+    let shape = c.shape_for.ensures ∙ ap shape_for first in
     let parts = rw c.deref.ensures.value at c.in_ok-short.ensures.value in (
       first,
       subst (λ n. IsTableOf parameters (record { inputs = n; parts = c.in_ok-short.short })) (sym first)
           (table_is inputs parameters c.args.bytes.now spells _ c.in_ok-short.short _ same shape parts),
     )
+
+-- ---- any bytes
+
+pub returns-clause-found : goal.returns-clause-found
+returns-clause-found c =
+    let inputs = c.in-Ok.inputs in
+    let frame = c.in-Ok.ensures.frame in
+    let found = c.in-Ok-read_kept.ensures.found in
+    let parts = rw c.deref.ensures.value at c.in_ok-short.ensures.value in
+    record {
+      some = frame.some;
+      few = frame.few;
+      numbers = found.0;
+      count = numbers-long inputs c.count_for.result c.args.bytes.now c.split_at.result.1.now
+          c.split_at-2.result.0.now found.0 frame c.count_for.ensures.count c.split_at.ensures.back
+          c.split_at-2.ensures.front found.3;
+      below = found.1;
+      spelled = numbers-spelled inputs c.count_for.result c.args.bytes.now c.split_at.result.1.now
+          c.split_at-2.result.0.now found.0 frame c.count_for.ensures.count c.split_at.ensures.back
+          c.split_at-2.ensures.front found.3;
+      parts = parts ∙ ap₂ parts_in c.shape_for.ensures (sym found.2);
+    }

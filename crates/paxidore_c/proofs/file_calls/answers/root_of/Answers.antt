@@ -1,0 +1,10 @@
+use Rattle.std.proofs.Common.{ℕ, List, Ok, Some}
+use Rattle.log_file.specs.Faults.{of_first}
+use Rattle.paxidore_c.proofs.LogCalls.{of-replay}
+use Rattle.paxidore_c.proofs.file_calls.answers.root_of.Goals as goal
+
+pub returns-clause-refused : goal.returns-clause-refused
+returns-clause-refused g c = λ read size. of-replay (ℕ × List ℕ) g.F.Held.file
+    (λ file. of_first file (Some c.args.size) Ok)
+    c.new-disk.result.steps c.in-Err.stop c.of_stop.result c.new-disk.ensures.nothing
+    (c.in-Err.ensures.refused (read, size)) c.of_stop.ensures.is

@@ -1,5 +1,0 @@
-use Rattle.std.proofs.Common.{[]}
-use Rattle.paxidore_c.proofs.file_calls.consistency_in.Given as goal
-
-abbrev pub ghosts-proof_of : goal.ghosts-proof_of
-ghosts-proof_of a = record { file = []; places = a.places.now; pieces = a.pieces.now; size = a.file_len }

@@ -1,5 +1,0 @@
-use Rattle.std.proofs.Common.{[]}
-use Rattle.paxidore_c.proofs.file_calls.inclusion_in.Given as goal
-
-abbrev pub ghosts-path_of : goal.ghosts-path_of
-ghosts-path_of a = record { file = []; places = a.places.now; pieces = a.pieces.now; size = a.file_len }

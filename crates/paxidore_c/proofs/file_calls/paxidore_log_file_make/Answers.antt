@@ -1,0 +1,22 @@
+use Rattle.std.proofs.Common.{w32}
+use Rattle.std.proofs.Math.Logic.{⊎_map}
+use Rattle.std.proofs.lemmas.Int.{to_z-of_z}
+use Rattle.paxidore_c.proofs.LogCalls.{tells, where-done}
+use Rattle.paxidore_c.proofs.file_calls.paxidore_log_file_make.Goals as goal
+
+pub returns-clause-same : goal.returns-clause-same
+returns-clause-same g c =
+    let fits = to_z-of_z w32 c.code_of.result (record { sfits = c.code_of.type_inv }) in
+    rw fits (λ read leaves log zero. where-done c.made_in.result _ (c.code_of.ensures.done zero)
+    (c.made_in.ensures.same read leaves log))
+
+pub returns-clause-others : goal.returns-clause-others
+returns-clause-others g c =
+    let fits = to_z-of_z w32 c.code_of.result (record { sfits = c.code_of.type_inv }) in
+    rw fits (λ read zero. ⊎_map (λ part. part)
+    (λ said. where-done c.made_in.result _ (c.code_of.ensures.done zero) said) (c.made_in.ensures.others read))
+
+pub returns-clause-refused : goal.returns-clause-refused
+returns-clause-refused g c =
+    let fits = to_z-of_z w32 c.code_of.result (record { sfits = c.code_of.type_inv }) in
+    rw fits (tells c.made_in.result _ _ c.code_of.ensures.code c.made_in.ensures.refused)

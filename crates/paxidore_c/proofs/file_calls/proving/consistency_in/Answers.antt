@@ -1,0 +1,22 @@
+use Rattle.std.proofs.Common.{◌∙◌, Ok, ap, sym}
+use Rattle.std.specs.List.{flat_map}
+use Rattle.ark_base.specs.Digits.{itself}
+use Rattle.paxidore_c.specs.KeptLog.{bytes_of_digests, consistency_bytes}
+use Rattle.paxidore_c.proofs.LogCalls.{as-read, needs-by, stands-by}
+use Rattle.paxidore_c.proofs.file_calls.proving.consistency_in.Goals as goal
+
+pub returns-clause-proof : goal.returns-clause-proof
+returns-clause-proof g c = λ read leaves log.
+    let own = as-read g.file c.args.file_len c.args.places_len.now c.ask.new.places_len c.args.places.now
+    c.ask.new.places c.args.pieces.now c.in_ok-ask.ensures.uncounted c.in_ok-ask.ensures.kept read in
+    stands-by c.hand_over_digests.result (consistency_bytes c.args.old_size c.args.size leaves)
+    (flat_map itself c.deref.result.now) _ _ _ _ c.hand_over_digests.ensures.handed
+    (ap bytes_of_digests (c.in_ok-given.ensures.path own.0 own.1 leaves log ∙ ap Ok (sym c.deref.ensures.value)))
+
+pub returns-clause-room_needed : goal.returns-clause-room_needed
+returns-clause-room_needed g c = λ read leaves log some room.
+    let own = as-read g.file c.args.file_len c.args.places_len.now c.ask.new.places_len c.args.places.now
+    c.ask.new.places c.args.pieces.now c.in_ok-ask.ensures.uncounted c.in_ok-ask.ensures.kept read in
+    needs-by c.hand_over_digests.result (consistency_bytes c.args.old_size c.args.size leaves)
+    (flat_map itself c.deref.result.now) _ _ _ _ c.hand_over_digests.ensures.handed
+    (ap bytes_of_digests (c.in_ok-given.ensures.path own.0 own.1 leaves log ∙ ap Ok (sym c.deref.ensures.value))) room
