@@ -16,6 +16,9 @@ _Flat = Tuple[bytes, int, "ctypes.Array[ctypes.c_size_t]", int]
 _PIECES = 384
 _STEPS = 8
 
+# how many bytes the file of a log without entries has
+_HEAD = 96
+
 _file_room = _call("log_file_room", _size, _size)
 _pieces = (_sizes, _size, _sizes, _size, _bytes, _size)
 _steps = (ctypes.c_void_p, _size, _sizes, _sizes, _size, _sizes)
@@ -39,10 +42,11 @@ class _File:
         self.is_unknown = False
         self.process = os.getpid()
         self.places = (_size * (2 * _PIECES))()
+        self.path = os.path.abspath(path)
         try:
             self.file = _opened(path) if read_only else _locked(path, wait)
             if not read_only:
-                self.make(path)
+                self.make()
                 _files.add(self)
             self.own = self.asked_size()
         except BaseException:
@@ -96,11 +100,11 @@ class _File:
             _write(file, part, place)
             os.fsync(file)
 
-    def make(self, path: "os.PathLike[str] | str") -> None:
-        steps = self.steps_of(_file_make, _file_room(0))
-        self.carry_out(steps)
-        if any(part for _, part in steps):
-            folder = os.open(os.path.dirname(os.path.abspath(path)), os.O_RDONLY | os.O_CLOEXEC)
+    def make(self) -> None:
+        self.carry_out(self.steps_of(_file_make, _file_room(0)))
+        # whoever made a log that has no entry may have ended before its name was on the disk
+        if os.fstat(self.number()).st_size <= _HEAD:
+            folder = os.open(os.path.dirname(self.path), os.O_RDONLY | os.O_CLOEXEC)
             try:
                 os.fsync(folder)
             finally:
@@ -117,9 +121,19 @@ class _File:
         # a keeper may have appended to what is open for reading
         return self.asked_size() if self.read_only else self.own
 
+    def keep_name(self) -> None:
+        # what is appended to a file that was moved or removed is not in the log of that name
+        try:
+            if os.path.samestat(os.fstat(self.number()), os.stat(self.path)):
+                return
+        except FileNotFoundError:
+            pass
+        raise ValueError("another file has the name of this log now, or none: open it again")
+
     def append(self, flat: "_Flat") -> int:
         if self.read_only:
             raise io.UnsupportedOperation("the log is open for reading only")
+        self.keep_name()
         size = _size()
         steps = self.steps_of(
             lambda *of: _file_append(*of[:6], ctypes.byref(size), *of[6:], *flat), _file_room(flat[3])
@@ -134,6 +148,7 @@ class _File:
             raise
         self.own = size.value
         self.is_unknown = False
+        self.keep_name()
         return size.value
 
     def is_other(self) -> bool:

@@ -103,7 +103,8 @@ class Log:
 
     Threads may share a log: its calls run one after the other. A call within a call of the same thread, as in a signal's handler,
     raises ``RuntimeError``. A file is locked while it is open to be appended to (``flock``). A forked process does not have the file
-    of its parent's log: there each call raises ``ValueError``; one that is open for reading only it has.
+    of its parent's log: there each call raises ``ValueError``; one that is open for reading only it has. So does an append to a
+    file that was moved, removed or replaced while it was open: what it wrote is not in the log of that name.
     """
 
     _inclusion = _call("log_verify_inclusion", ctypes.c_int32, _bytes, _size, _size, _bytes, _size, _bytes, _size)

@@ -137,6 +137,73 @@ class InFile(unittest.TestCase):
         with Log.open(self.path) as log:
             self.assertEqual(len(log), 1)
 
+    def test_a_file_that_is_replaced_while_it_is_open(self):
+        """What is appended is in the log of that name, or the append is refused; who opens it again goes on."""
+        other = self.path + ".other"
+        for gone in (False, True):
+            log = Log.open(self.path)
+            before = log.append([b"an entry"])
+            if gone:
+                os.unlink(self.path)
+            else:
+                with Log.open(other) as recovered:
+                    recovered.extend([b"another"] * 5)
+                os.rename(other, self.path)
+            with self.assertRaisesRegex(ValueError, "another file has the name of this log now, or none"):
+                log.append([b"lost"])
+            self.assertEqual(len(log), before)
+            log.close()
+            with Log.open(self.path) as log:
+                self.assertEqual(len(log), 0 if gone else 5)
+                log.append([b"an entry"])
+        # between the append's test and its last sync
+        real, count = os.fsync, [0]
+
+        def sync(file):
+            real(file)
+            count[0] += 1
+            if count[0] == 3:
+                os.rename(self.path, other)
+
+        with Log.open(self.path) as log:
+            os.fsync = sync
+            try:
+                self.assertRaises(ValueError, log.append, [b"lost"])
+            finally:
+                os.fsync = real
+
+    def test_a_path_is_that_of_the_folder_at_opening(self):
+        before = os.getcwd()
+        os.chdir(self.room.name)
+        try:
+            with Log.open("log") as log:
+                os.chdir(before)
+                self.assertEqual(log.append([b"an entry"]), 1)
+        finally:
+            os.chdir(before)
+
+    def test_the_name_of_a_log_without_entries(self):
+        """The folder is synced whenever a log without entries is opened."""
+        real, synced = os.fsync, []
+
+        def sync(file):
+            synced.append(os.path.isdir("/proc/self/fd/%d" % file))
+            real(file)
+
+        os.fsync = sync
+        try:
+            for _turn in range(2):
+                Log.open(self.path).close()
+                self.assertIn(True, synced)
+                del synced[:]
+            with Log.open(self.path) as log:
+                log.append([b"an entry"])
+            del synced[:]
+            Log.open(self.path).close()
+            self.assertNotIn(True, synced)
+        finally:
+            os.fsync = real
+
     def test_a_kept_exception(self):
         """It holds neither the file nor what was lent, and the log goes on."""
         for log in (Log(), Log.open(self.path)):

@@ -160,7 +160,8 @@ impl Log {
 
     /// Appends entries, whole or not at all, and returns the new size. In a file they are synced then.
     ///
-    /// Refusals: `Size` for a size of 2^63 and above, `Memory`.
+    /// Refusals: `Size` for a size of 2^63 and above, `Memory`. `LogError::Io` where the file was moved, removed or replaced while it
+    /// was open: what was appended is not in the log of that name.
     pub fn append<L: AsRef<[u8]>>(&mut self, entries: &[L]) -> Result<usize, LogError> {
         let flat = Flat::of(entries);
         self.size = match &mut self.kept {

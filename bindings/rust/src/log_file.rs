@@ -5,7 +5,7 @@ use std::fs::{self, File, OpenOptions};
 use std::io;
 use std::os::unix::fs::{FileExt, MetadataExt};
 use std::os::unix::io::AsRawFd;
-use std::path::Path;
+use std::path::{Path, PathBuf};
 use std::thread::sleep;
 use std::time::{Duration, Instant};
 
@@ -13,6 +13,7 @@ use std::time::{Duration, Instant};
 #[derive(Debug)]
 pub(crate) struct LogFile {
     file: File,
+    path: PathBuf,
     // it has no lock, and is not written
     reads_only: bool,
     // that opened the file: a forked one has its lock as well
@@ -24,6 +25,9 @@ pub(crate) struct LogFile {
 // How many pieces and steps are enough, as the header has them, in numbers.
 const PIECES: usize = 384;
 const STEPS: usize = 8;
+
+// How many bytes the file of a log without entries has.
+const HEAD: u64 = 96;
 
 // The pieces of a file that were read for a call.
 struct Pieces {
@@ -69,14 +73,20 @@ fn locked(path: &Path, wait: Duration) -> io::Result<File> {
             .truncate(false)
             .open(path)?;
         lock(&file, until)?;
-        let own = file.metadata()?;
-        match fs::metadata(path) {
-            Ok(found) if (found.dev(), found.ino()) == (own.dev(), own.ino()) => return Ok(file),
-            // another file took its place before it was locked
-            Ok(_) => {}
-            Err(error) if error.kind() == io::ErrorKind::NotFound => {}
-            Err(error) => return Err(error),
+        // else another file took its place before it was locked
+        if is_named(path, &file)? {
+            return Ok(file);
         }
+    }
+}
+
+// Whether a path names an open file: one that was moved or removed meanwhile has another file, or none, under its name.
+fn is_named(path: &Path, file: &File) -> io::Result<bool> {
+    let own = file.metadata()?;
+    match fs::metadata(path) {
+        Ok(found) => Ok((found.dev(), found.ino()) == (own.dev(), own.ino())),
+        Err(error) if error.kind() == io::ErrorKind::NotFound => Ok(false),
+        Err(error) => Err(error),
     }
 }
 
@@ -90,8 +100,10 @@ fn sync_folder(path: &Path) -> io::Result<()> {
 
 impl LogFile {
     pub(crate) fn open(path: &Path, wait: Duration) -> io::Result<LogFile> {
+        let path = std::env::current_dir()?.join(path);
         let file = LogFile {
-            file: locked(path, wait)?,
+            file: locked(&path, wait)?,
+            path,
             reads_only: false,
             process: std::process::id(),
             is_unknown: false,
@@ -99,8 +111,9 @@ impl LogFile {
         match file.made() {
             Ok(plan) => {
                 file.carry_out(&plan)?;
-                if !plan.bytes.is_empty() {
-                    sync_folder(path)?;
+                // whoever made a log that has no entry may have ended before its name was on the disk
+                if file.file.metadata()?.len() <= HEAD {
+                    sync_folder(&file.path)?;
                 }
                 Ok(file)
             }
@@ -114,6 +127,7 @@ impl LogFile {
     pub(crate) fn open_read_only(path: &Path) -> io::Result<LogFile> {
         Ok(LogFile {
             file: File::open(path)?,
+            path: path.to_path_buf(),
             reads_only: true,
             process: std::process::id(),
             is_unknown: false,
@@ -219,6 +233,16 @@ impl LogFile {
         Ok(size)
     }
 
+    // Refuses a file that no longer has its name: what is appended to it is not in the log of that name.
+    fn keep_name(&self) -> io::Result<()> {
+        if is_named(&self.path, &self.file)? {
+            return Ok(());
+        }
+        Err(io::Error::other(
+            "another file has the name of this log now, or none: open it again",
+        ))
+    }
+
     pub(crate) fn append(&mut self, own: usize, flat: &Flat) -> Result<usize, LogError> {
         if self.reads_only {
             return Err(io::Error::other("the log is open for reading only").into());
@@ -229,6 +253,7 @@ impl LogFile {
             )
             .into());
         }
+        self.keep_name()?;
         let mut size = own;
         let plan = self.planned(room(flat.lengths.len()), |plan, counts, pieces| {
             let [bytes_len, steps_len] = counts;
@@ -260,6 +285,7 @@ impl LogFile {
             self.is_unknown = !matches!(self.size(), Ok(found) if found == own);
             return Err(error.into());
         }
+        self.keep_name()?;
         Ok(size)
     }
 

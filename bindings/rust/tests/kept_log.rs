@@ -384,6 +384,30 @@ fn a_new_log_of_several_threads() -> Result<(), LogError> {
     Ok(())
 }
 
+#[test]
+fn a_file_that_is_replaced_while_it_is_open() -> Result<(), LogError> {
+    let room = Room::new("replaced");
+    let (path, other) = (room.log(), room.0.join("other"));
+    for gone in [false, true] {
+        let mut log = Log::open(&path)?;
+        let before = log.append(&["an entry"])?;
+        if gone {
+            fs::remove_file(&path)?;
+        } else {
+            Log::open(&other)?.append(&["another"; 5])?;
+            fs::rename(&other, &path)?;
+        }
+        let refused = log.append(&["lost"]).unwrap_err();
+        assert!(refused.to_string().contains("another file has the name"));
+        assert_eq!(log.len(), before);
+        drop(log);
+        let mut log = Log::open(&path)?;
+        assert_eq!(log.len(), if gone { 0 } else { 5 });
+        log.append(&["an entry"])?;
+    }
+    Ok(())
+}
+
 // What the process that is killed does; in a run of all tests it does nothing.
 #[test]
 fn appends_until_it_is_killed() -> Result<(), LogError> {
