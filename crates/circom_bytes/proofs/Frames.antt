@@ -1,5 +1,5 @@
 -- Tables in their bytes.
-use Rattle.std.proofs.Common.{◌≡◌, ◌≢◌, ◌⊎◌, inl, inr, ℕ, suc, ◌+◌, ◌*◌, ◌<◌, ◌≤◌, Bool, true, false, true≢false, not, List, [], ◌∷◌, ◌++◌, length, take, drop, get_or, refl, sym, ap, ap₂, subst, ◌∙◌, arith}
+use Rattle.std.proofs.Common.{◌≡◌, ◌≢◌, ◌⊎◌, inl, inr, ℕ, suc, ◌+◌, ◌*◌, ◌<◌, Bool, true, false, true≢false, not, List, [], ◌∷◌, ◌++◌, length, take, drop, get_or, refl, sym, ap, subst, ◌∙◌, arith}
 use Rattle.std.specs.Str.{bytes_eq}
 use Rattle.std.proofs.lemmas.List.{length-append, length-take-le, take-append-drop}
 use Rattle.std.proofs.lemmas.Slice.Eq.{bytes_eq-Decides}
@@ -7,7 +7,7 @@ use Rattle.sha2.specs.Sha256.{sha256}
 use Rattle.sha2.proofs.Facts256.{length-sha256}
 use Rattle.ark_base.specs.declared.error.Error.{Error}
 use Rattle.ark_sponge.proofs.TableRows.{take-front, drop-front}
-use Rattle.circom_bytes.specs.Frame.{BeginsWith, IsCutTable, IsDamagedTable, IsFrame, IsFrameFault, check_sum, elements_part, table_count, table_end, with_sum}
+use Rattle.circom_bytes.specs.Frame.{BeginsWith, IsCutTable, IsDamagedTable, IsFrame, IsFrameFault, check_sum, table_count, table_end, with_sum}
 
 pub they_differ : (unequal : Bool) (xs ys : List ℕ) → unequal ≡ not (bytes_eq xs ys) → unequal ≡ true → xs ≡ ys → ⊥
 they_differ unequal xs ys is told same =

@@ -1,14 +1,13 @@
 -- Parameters over the generator's constants and matrix have the shape of parameters, so that no other refusal is left.
-use Rattle.std.proofs.Common.{◌≡◌, ◌⊎◌, inl, inr, ℕ, zero, suc, ◌+◌, ◌<◌, ◌≤◌, ◌==◌, ◌&&◌, nat_lt, Bool, true, false, if◌then◌else◌, List, [], ◌∷◌, length, get_or, map, Ok, Err, refl, sym, ap, ◌∙◌, arith, eq-eqb}
+use Rattle.std.proofs.Common.{◌≡◌, inl, inr, ℕ, zero, suc, ◌+◌, ◌<◌, ◌≤◌, ◌==◌, ◌&&◌, nat_lt, Bool, true, false, if◌then◌else◌, List, [], ◌∷◌, length, get_or, Ok, Err, refl, ap, ◌∙◌, arith, eq-eqb}
 use Rattle.std.specs.List.{list_all}
 use Rattle.std.proofs.lemmas.Bool.Decides.{nat_tests}
 use Rattle.std.proofs.lemmas.List.{length-map}
 use Rattle.ark_base.specs.declared.error.Error.{Error}
 use Rattle.ark_base.specs.declared.error.Error.TheVariants.{GenericError}
 use Rattle.ark_base.specs.declared.error.Refusal.TheVariants.{FieldTooSmall, ParameterShape, ZeroRate}
-use Rattle.ark_base.specs.Outcome.{Outcome}
 use Rattle.ark_sponge.specs.Permutation.{Parameters, has_poseidon_shape, is_matrix, lawful_parameters, width}
-use Rattle.poseidon_grain.specs.Constants.{AreGenerated, Asked, IsCauchy, IsParameterFault, constants_drawn, sums_with, xs_drawn, ys_drawn}
+use Rattle.poseidon_grain.specs.Constants.{AreGenerated, Asked, IsCauchy, IsParameterFault, constants_drawn, xs_drawn, ys_drawn}
 use Rattle.poseidon_grain.specs.Grain.{below_drawn, list_drawn, remainder_drawn, seeded}
 
 -- ---- lists that are drawn

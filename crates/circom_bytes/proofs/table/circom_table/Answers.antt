@@ -1,4 +1,4 @@
-use Rattle.std.proofs.Common.{◌*◌, ◌∷◌, ◌++◌, ap, length, map, sym, subst, ◌∙◌, arith}
+use Rattle.std.proofs.Common.{◌*◌, ◌∷◌, ◌++◌, ap, length, sym, subst, ◌∙◌, arith}
 use Rattle.std.proofs.lemmas.List.{length-map}
 use Rattle.ark_sponge.specs.Table.{IsTable}
 use Rattle.circom_bytes.specs.Elements.{kept_bytes}

@@ -1,4 +1,4 @@
-use Rattle.std.proofs.Common.{◌*◌, length, map, take, refl, ap, ap₂, sym, subst, ◌≤◌, ◌≡◌, ◌∙◌}
+use Rattle.std.proofs.Common.{◌*◌, length, take, refl, ap, ap₂, sym, subst, ◌≤◌, ◌∙◌}
 use Rattle.std.proofs.lemmas.List.{length-map}
 use Rattle.ark_sponge.specs.Table.{parts_in, table_length}
 use Rattle.poseidon_grain.specs.Defaults.{circom_rounds}
