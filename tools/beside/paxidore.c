@@ -11,6 +11,6 @@ int main(int count, char **words) {
     uint8_t root[PAXIDORE_DIGESTBYTES];
     for (size_t i = 0; i < COUNT; i++) lengths[i] = 32, entries[32 * i] = (uint8_t)i, entries[32 * i + 1] = (uint8_t)(i >> 8);
     for (int times = count > 1 ? atoi(words[1]) : 1; times > 0; times--)
-        if (paxidore_rfc6962_root(root, entries, sizeof entries, lengths, COUNT) != PAXIDORE_OK) return 1;
+        if (paxidore_root(root, PAXIDORE_RFC6962, entries, sizeof entries, lengths, COUNT) != PAXIDORE_OK) return 1;
     printf("%02x%02x%02x%02x\n", root[0], root[1], root[2], root[3]);
 }

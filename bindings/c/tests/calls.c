@@ -17,26 +17,19 @@ static void check(int holds, const char *what, int line) {
 }
 #define CHECK(holds) check((holds) != 0, #holds, __LINE__)
 
-/* The five calls of one hashing. */
+/* A hashing. */
 struct hashing {
-    int32_t (*verify)(const uint8_t *, size_t, size_t, const uint8_t *, size_t, const uint8_t *, size_t);
-    int32_t (*multi_verify)(const uint8_t *, size_t, const size_t *, size_t, const uint8_t *, size_t, const size_t *, size_t,
-                            const uint8_t *, size_t);
-    int32_t (*root)(uint8_t *, const uint8_t *, size_t, const size_t *, size_t);
-    int32_t (*path)(uint8_t *, size_t, size_t *, const uint8_t *, size_t, const size_t *, size_t, size_t);
-    int32_t (*multi_path)(uint8_t *, size_t, size_t *, const uint8_t *, size_t, const size_t *, size_t, const size_t *, size_t);
+    uint32_t number;
     const char *roots[9]; /* by the count of leaves */
 };
 
 static const struct hashing sha256 = {
-    paxidore_sha256_verify, paxidore_sha256_multi_verify, paxidore_sha256_root, paxidore_sha256_path,
-    paxidore_sha256_multi_path,
+    PAXIDORE_PLAIN,
     /* by Python's hashlib */
     {[8] = "03b3e0e5b23746036c9c7185c1fc12bc6f8ff41cc2b97b24fb451f2cc291d2b4"}};
 
 static const struct hashing rfc6962 = {
-    paxidore_rfc6962_verify, paxidore_rfc6962_multi_verify, paxidore_rfc6962_root, paxidore_rfc6962_path,
-    paxidore_rfc6962_multi_path,
+    PAXIDORE_RFC6962,
     /* those that implementations of RFC 6962 are tested with */
     {[2] = "fac54203e7cc696cf0dfcb42c92a1d9dbaf70ad9e621f4bd8d98662f00e3c125",
      [4] = "d37ee418976dd95753c1c73862b9398fa2a2cf9b4ff0fdfe8b30cd95209614b7",
@@ -72,7 +65,7 @@ static void roots(const struct hashing *h) {
     for (size_t count = 0; count <= SIZE; count++) {
         uint8_t root[32];
         memset(root, 0xaa, 32);
-        int32_t answer = h->root(root, LEAVES, length_of(count), LENGTHS, count);
+        int32_t answer = paxidore_root(root, h->number, LEAVES, length_of(count), LENGTHS, count);
         if (count == 2 || count == 4 || count == 8) {
             CHECK(answer == PAXIDORE_OK);
             if (h->roots[count])
@@ -85,70 +78,70 @@ static void roots(const struct hashing *h) {
     uint8_t root[32];
     size_t lengths[8];
     memset(root, 0xaa, 32);
-    CHECK(h->root(root, NULL, 0, NULL, 0) == PAXIDORE_E_SIZE);
-    CHECK(h->root(root, LEAVES, LEAVES_LEN - 1, LENGTHS, SIZE) == PAXIDORE_E_LENGTHS);
-    CHECK(h->root(root, LEAVES, LEAVES_LEN + 1, LENGTHS, SIZE) == PAXIDORE_E_LENGTHS);
+    CHECK(paxidore_root(root, h->number, NULL, 0, NULL, 0) == PAXIDORE_E_SIZE);
+    CHECK(paxidore_root(root, h->number, LEAVES, LEAVES_LEN - 1, LENGTHS, SIZE) == PAXIDORE_E_LENGTHS);
+    CHECK(paxidore_root(root, h->number, LEAVES, LEAVES_LEN + 1, LENGTHS, SIZE) == PAXIDORE_E_LENGTHS);
     memcpy(lengths, LENGTHS, sizeof lengths);
     lengths[3] = SIZE_MAX;
-    CHECK(h->root(root, LEAVES, LEAVES_LEN, lengths, SIZE) == PAXIDORE_E_LENGTHS);
+    CHECK(paxidore_root(root, h->number, LEAVES, LEAVES_LEN, lengths, SIZE) == PAXIDORE_E_LENGTHS);
     CHECK(is_filled(root, 32, 0xaa));
     memset(lengths, 0, sizeof lengths);
-    CHECK(h->root(root, NULL, 0, lengths, SIZE) == PAXIDORE_OK);
+    CHECK(paxidore_root(root, h->number, NULL, 0, lengths, SIZE) == PAXIDORE_OK);
 }
 
 static void paths(const struct hashing *h) {
     uint8_t root[32], path[PATH + 8], other[PATH + 8];
     size_t len, at = 0;
-    CHECK(h->root(root, LEAVES, LEAVES_LEN, LENGTHS, SIZE) == PAXIDORE_OK);
+    CHECK(paxidore_root(root, h->number, LEAVES, LEAVES_LEN, LENGTHS, SIZE) == PAXIDORE_OK);
     for (size_t index = 0; index < SIZE; at += LENGTHS[index++]) {
         const uint8_t *leaf = LENGTHS[index] ? LEAVES + at : NULL;
         memset(path, 0xaa, sizeof path);
-        CHECK(h->path(path, sizeof path, &len, LEAVES, LEAVES_LEN, LENGTHS, SIZE, index) == PAXIDORE_OK);
+        CHECK(paxidore_path(path, sizeof path, &len, h->number, LEAVES, LEAVES_LEN, LENGTHS, SIZE, index) == PAXIDORE_OK);
         CHECK(len == PATH && len == PAXIDORE_PATHBYTES(3) && is_filled(path + len, sizeof path - len, 0xaa));
-        CHECK(h->verify(root, SIZE, index, leaf, LENGTHS[index], path, len) == PAXIDORE_OK);
+        CHECK(paxidore_verify(h->number, root, SIZE, index, leaf, LENGTHS[index], path, len) == PAXIDORE_OK);
         /* another leaf, root, index or size */
-        CHECK(h->verify(root, SIZE, index, (const uint8_t *)"other", 5, path, len) == PAXIDORE_NOT_SHOWN);
-        CHECK(h->verify(path, SIZE, index, leaf, LENGTHS[index], path, len) == PAXIDORE_NOT_SHOWN);
-        CHECK(h->verify(root, SIZE, index ^ 1, leaf, LENGTHS[index], path, len) == PAXIDORE_E_INVALID);
-        CHECK(h->verify(root, SIZE, index + SIZE, leaf, LENGTHS[index], path, len) == PAXIDORE_E_INVALID);
-        CHECK(h->verify(root, 2 * SIZE, index, leaf, LENGTHS[index], path, len) == PAXIDORE_E_HEIGHT);
-        CHECK(h->verify(root, SIZE / 2, index, leaf, LENGTHS[index], path, len) == PAXIDORE_E_HEIGHT);
-        CHECK(h->verify(root, SIZE - 1, index, leaf, LENGTHS[index], path, len) == PAXIDORE_E_SIZE);
-        CHECK(h->verify(root, 0, index, leaf, LENGTHS[index], path, len) == PAXIDORE_E_SIZE);
-        CHECK(h->verify(root, 1, index, leaf, LENGTHS[index], path, len) == PAXIDORE_E_SIZE);
+        CHECK(paxidore_verify(h->number, root, SIZE, index, (const uint8_t *)"other", 5, path, len) == PAXIDORE_NOT_SHOWN);
+        CHECK(paxidore_verify(h->number, path, SIZE, index, leaf, LENGTHS[index], path, len) == PAXIDORE_NOT_SHOWN);
+        CHECK(paxidore_verify(h->number, root, SIZE, index ^ 1, leaf, LENGTHS[index], path, len) == PAXIDORE_E_INVALID);
+        CHECK(paxidore_verify(h->number, root, SIZE, index + SIZE, leaf, LENGTHS[index], path, len) == PAXIDORE_E_INVALID);
+        CHECK(paxidore_verify(h->number, root, 2 * SIZE, index, leaf, LENGTHS[index], path, len) == PAXIDORE_E_HEIGHT);
+        CHECK(paxidore_verify(h->number, root, SIZE / 2, index, leaf, LENGTHS[index], path, len) == PAXIDORE_E_HEIGHT);
+        CHECK(paxidore_verify(h->number, root, SIZE - 1, index, leaf, LENGTHS[index], path, len) == PAXIDORE_E_SIZE);
+        CHECK(paxidore_verify(h->number, root, 0, index, leaf, LENGTHS[index], path, len) == PAXIDORE_E_SIZE);
+        CHECK(paxidore_verify(h->number, root, 1, index, leaf, LENGTHS[index], path, len) == PAXIDORE_E_SIZE);
         /* each front, and a byte behind */
         for (size_t front = 0; front < len; front++)
-            CHECK(h->verify(root, SIZE, index, leaf, LENGTHS[index], front ? path : NULL, front) == PAXIDORE_E_TRUNCATED);
-        CHECK(h->verify(root, SIZE, index, leaf, LENGTHS[index], path, len + 1) == PAXIDORE_E_INVALID);
+            CHECK(paxidore_verify(h->number, root, SIZE, index, leaf, LENGTHS[index], front ? path : NULL, front) == PAXIDORE_E_TRUNCATED);
+        CHECK(paxidore_verify(h->number, root, SIZE, index, leaf, LENGTHS[index], path, len + 1) == PAXIDORE_E_INVALID);
         /* each bit: none may be other */
         for (size_t bit = 0; bit < 8 * len; bit++) {
             memcpy(other, path, len);
             other[bit / 8] ^= (uint8_t)(1 << bit % 8);
-            CHECK(h->verify(root, SIZE, index, leaf, LENGTHS[index], other, len) != PAXIDORE_OK);
+            CHECK(paxidore_verify(h->number, root, SIZE, index, leaf, LENGTHS[index], other, len) != PAXIDORE_OK);
         }
         /* a buffer that fits, and one too short by one */
         memset(path, 0xaa, sizeof path);
-        CHECK(h->path(path, PATH, &len, LEAVES, LEAVES_LEN, LENGTHS, SIZE, index) == PAXIDORE_OK);
+        CHECK(paxidore_path(path, PATH, &len, h->number, LEAVES, LEAVES_LEN, LENGTHS, SIZE, index) == PAXIDORE_OK);
         memset(path, 0xaa, sizeof path);
         len = 7;
-        CHECK(h->path(path, PATH - 1, &len, LEAVES, LEAVES_LEN, LENGTHS, SIZE, index) == PAXIDORE_E_ROOM && len == PATH);
+        CHECK(paxidore_path(path, PATH - 1, &len, h->number, LEAVES, LEAVES_LEN, LENGTHS, SIZE, index) == PAXIDORE_E_ROOM && len == PATH);
         CHECK(is_filled(path, sizeof path, 0xaa));
     }
     len = 7;
-    CHECK(h->path(NULL, 0, &len, LEAVES, LEAVES_LEN, LENGTHS, SIZE, 0) == PAXIDORE_E_ROOM && len == PATH);
+    CHECK(paxidore_path(NULL, 0, &len, h->number, LEAVES, LEAVES_LEN, LENGTHS, SIZE, 0) == PAXIDORE_E_ROOM && len == PATH);
     len = 7;
-    CHECK(h->path(path, PATH, &len, LEAVES, LEAVES_LEN, LENGTHS, SIZE, SIZE) == PAXIDORE_E_INDEX && len == 7);
-    CHECK(h->path(path, PATH, &len, LEAVES, LEAVES_LEN, LENGTHS, SIZE, SIZE_MAX) == PAXIDORE_E_INDEX && len == 7);
-    CHECK(h->path(path, PATH, &len, LEAVES, 4, LENGTHS, 5, 0) == PAXIDORE_E_SIZE && len == 7);
-    CHECK(h->path(path, PATH, &len, LEAVES, 4, LENGTHS, 8, 0) == PAXIDORE_E_LENGTHS && len == 7);
+    CHECK(paxidore_path(path, PATH, &len, h->number, LEAVES, LEAVES_LEN, LENGTHS, SIZE, SIZE) == PAXIDORE_E_INDEX && len == 7);
+    CHECK(paxidore_path(path, PATH, &len, h->number, LEAVES, LEAVES_LEN, LENGTHS, SIZE, SIZE_MAX) == PAXIDORE_E_INDEX && len == 7);
+    CHECK(paxidore_path(path, PATH, &len, h->number, LEAVES, 4, LENGTHS, 5, 0) == PAXIDORE_E_SIZE && len == 7);
+    CHECK(paxidore_path(path, PATH, &len, h->number, LEAVES, 4, LENGTHS, 8, 0) == PAXIDORE_E_LENGTHS && len == 7);
     CHECK(is_filled(path, sizeof path, 0xaa));
     /* leaf, root and path may be the same bytes */
-    CHECK(h->verify(root, 2, 0, root, 32, root, 32) == PAXIDORE_E_TRUNCATED);
+    CHECK(paxidore_verify(h->number, root, 2, 0, root, 32, root, 32) == PAXIDORE_E_TRUNCATED);
 }
 
 static void multi_paths(const struct hashing *h) {
     uint8_t root[32], proof[1024], other[1024], leaves[LEAVES_LEN];
-    CHECK(h->root(root, LEAVES, LEAVES_LEN, LENGTHS, SIZE) == PAXIDORE_OK);
+    CHECK(paxidore_root(root, h->number, LEAVES, LEAVES_LEN, LENGTHS, SIZE) == PAXIDORE_OK);
     for (unsigned set = 1; set < 256; set++) {
         size_t indexes[8], lengths[8], count = 0, leaves_len = 0, at = 0, len = 0;
         for (size_t index = 0; index < SIZE; at += LENGTHS[index++])
@@ -158,45 +151,45 @@ static void multi_paths(const struct hashing *h) {
                 lengths[count] = LENGTHS[index];
                 indexes[count++] = index;
             }
-        CHECK(h->multi_path(proof, sizeof proof, &len, LEAVES, LEAVES_LEN, LENGTHS, SIZE, indexes, count) == PAXIDORE_OK);
-        CHECK(h->multi_verify(root, SIZE, indexes, count, leaves, leaves_len, lengths, count, proof, len) == PAXIDORE_OK);
-        CHECK(h->multi_verify(root, 2 * SIZE, indexes, count, leaves, leaves_len, lengths, count, proof, len) ==
+        CHECK(paxidore_multi_path(proof, sizeof proof, &len, h->number, LEAVES, LEAVES_LEN, LENGTHS, SIZE, indexes, count) == PAXIDORE_OK);
+        CHECK(paxidore_multi_verify(h->number, root, SIZE, indexes, count, leaves, leaves_len, lengths, count, proof, len) == PAXIDORE_OK);
+        CHECK(paxidore_multi_verify(h->number, root, 2 * SIZE, indexes, count, leaves, leaves_len, lengths, count, proof, len) ==
               PAXIDORE_E_HEIGHT);
-        CHECK(h->multi_verify(root, SIZE + 1, indexes, count, leaves, leaves_len, lengths, count, proof, len) ==
+        CHECK(paxidore_multi_verify(h->number, root, SIZE + 1, indexes, count, leaves, leaves_len, lengths, count, proof, len) ==
               PAXIDORE_E_SIZE);
-        CHECK(h->multi_verify(root, SIZE, indexes, count, leaves, leaves_len, lengths, count - 1, proof, len) ==
+        CHECK(paxidore_multi_verify(h->number, root, SIZE, indexes, count, leaves, leaves_len, lengths, count - 1, proof, len) ==
               PAXIDORE_E_COUNT);
-        CHECK(h->multi_verify(root, SIZE, indexes, count - 1, leaves, leaves_len - lengths[count - 1], lengths, count - 1,
+        CHECK(paxidore_multi_verify(h->number, root, SIZE, indexes, count - 1, leaves, leaves_len - lengths[count - 1], lengths, count - 1,
                               proof, len) == PAXIDORE_E_INVALID);
-        CHECK(h->multi_verify(root, SIZE, indexes, count, leaves, leaves_len + 1, lengths, count, proof, len) ==
+        CHECK(paxidore_multi_verify(h->number, root, SIZE, indexes, count, leaves, leaves_len + 1, lengths, count, proof, len) ==
               PAXIDORE_E_LENGTHS);
-        CHECK(h->multi_verify(root, SIZE, indexes, count, leaves, leaves_len, lengths, count, proof, len - 1) ==
+        CHECK(paxidore_multi_verify(h->number, root, SIZE, indexes, count, leaves, leaves_len, lengths, count, proof, len - 1) ==
               PAXIDORE_E_TRUNCATED);
-        CHECK(h->multi_verify(root, SIZE, indexes, count, leaves, leaves_len, lengths, count, proof, len + 1) ==
+        CHECK(paxidore_multi_verify(h->number, root, SIZE, indexes, count, leaves, leaves_len, lengths, count, proof, len + 1) ==
               PAXIDORE_E_INVALID);
         if (set % 32 == 5)
             for (size_t bit = 0; bit < 8 * len; bit++) {
                 memcpy(other, proof, len);
                 other[bit / 8] ^= (uint8_t)(1 << bit % 8);
-                CHECK(h->multi_verify(root, SIZE, indexes, count, leaves, leaves_len, lengths, count, other, len) !=
+                CHECK(paxidore_multi_verify(h->number, root, SIZE, indexes, count, leaves, leaves_len, lengths, count, other, len) !=
                       PAXIDORE_OK);
             }
         size_t needed = 0;
         memset(other, 0xaa, sizeof other);
-        CHECK(h->multi_path(other, len - 1, &needed, LEAVES, LEAVES_LEN, LENGTHS, SIZE, indexes, count) == PAXIDORE_E_ROOM);
+        CHECK(paxidore_multi_path(other, len - 1, &needed, h->number, LEAVES, LEAVES_LEN, LENGTHS, SIZE, indexes, count) == PAXIDORE_E_ROOM);
         CHECK(needed == len && is_filled(other, sizeof other, 0xaa));
     }
     /* in any order, and more than once */
     const size_t given[5] = {6, 1, 6, 3, 1}, rising[3] = {1, 3, 6};
     size_t len = 0, short_len = 0;
-    CHECK(h->multi_path(proof, sizeof proof, &len, LEAVES, LEAVES_LEN, LENGTHS, SIZE, given, 5) == PAXIDORE_OK);
-    CHECK(h->multi_path(other, sizeof other, &short_len, LEAVES, LEAVES_LEN, LENGTHS, SIZE, rising, 3) == PAXIDORE_OK);
+    CHECK(paxidore_multi_path(proof, sizeof proof, &len, h->number, LEAVES, LEAVES_LEN, LENGTHS, SIZE, given, 5) == PAXIDORE_OK);
+    CHECK(paxidore_multi_path(other, sizeof other, &short_len, h->number, LEAVES, LEAVES_LEN, LENGTHS, SIZE, rising, 3) == PAXIDORE_OK);
     CHECK(len == short_len && memcmp(proof, other, len) == 0);
     const size_t past[2] = {3, SIZE};
-    CHECK(h->multi_path(proof, sizeof proof, &len, LEAVES, LEAVES_LEN, LENGTHS, SIZE, past, 2) == PAXIDORE_E_INDEX);
-    CHECK(h->multi_path(proof, sizeof proof, &len, LEAVES, LEAVES_LEN, LENGTHS, SIZE, NULL, 0) == PAXIDORE_E_INDEX);
-    CHECK(h->multi_verify(root, SIZE, NULL, 0, NULL, 0, NULL, 0, proof, len) == PAXIDORE_E_INVALID);
-    CHECK(h->multi_verify(root, SIZE, NULL, 0, NULL, 0, NULL, 0, NULL, 0) == PAXIDORE_E_TRUNCATED);
+    CHECK(paxidore_multi_path(proof, sizeof proof, &len, h->number, LEAVES, LEAVES_LEN, LENGTHS, SIZE, past, 2) == PAXIDORE_E_INDEX);
+    CHECK(paxidore_multi_path(proof, sizeof proof, &len, h->number, LEAVES, LEAVES_LEN, LENGTHS, SIZE, NULL, 0) == PAXIDORE_E_INDEX);
+    CHECK(paxidore_multi_verify(h->number, root, SIZE, NULL, 0, NULL, 0, NULL, 0, proof, len) == PAXIDORE_E_INVALID);
+    CHECK(paxidore_multi_verify(h->number, root, SIZE, NULL, 0, NULL, 0, NULL, 0, NULL, 0) == PAXIDORE_E_TRUNCATED);
 }
 
 /* The path of entry 3 of seven and the proof that seven continue three, by a recursion over hashlib. */

@@ -57,8 +57,8 @@ static void make_stores(void) {
     }
     for (size_t height = 1; height < 10; height++) {
         size_t size = (size_t)1 << height, count = PAXIDORE_TREE_DIGESTS(size);
-        must(paxidore_sha256_tree_build(trees[0][height], count, entries, 8 * size, lengths, size) == PAXIDORE_OK, "a tree");
-        must(paxidore_rfc6962_tree_build(trees[1][height], count, entries, 8 * size, lengths, size) == PAXIDORE_OK, "a tree");
+        must(paxidore_tree_build(trees[0][height], count, PAXIDORE_PLAIN, entries, 8 * size, lengths, size) == PAXIDORE_OK, "a tree");
+        must(paxidore_tree_build(trees[1][height], count, PAXIDORE_RFC6962, entries, 8 * size, lengths, size) == PAXIDORE_OK, "a tree");
     }
     must(paxidore_log_append(kept, 2 * MOST, &kept_len, NULL, 0, 0, entries, sizeof entries, lengths, MOST) == PAXIDORE_OK,
          "a log");
@@ -87,17 +87,17 @@ static void make(struct proof *p) {
         memcpy(p->leaves + 8 * i, entries + 8 * p->indexes[i], 8);
     switch (p->kind) {
     case SHA256_PATH:
-        must(paxidore_sha256_tree_path(p->bytes, PROOF_MOST, &p->len, tree, digests, p->indexes[0]) == PAXIDORE_OK, "a path");
+        must(paxidore_tree_path(p->bytes, PROOF_MOST, &p->len, tree, digests, p->indexes[0]) == PAXIDORE_OK, "a path");
         break;
     case RFC6962_PATH:
-        must(paxidore_rfc6962_tree_path(p->bytes, PROOF_MOST, &p->len, tree, digests, p->indexes[0]) == PAXIDORE_OK, "a path");
+        must(paxidore_tree_path(p->bytes, PROOF_MOST, &p->len, tree, digests, p->indexes[0]) == PAXIDORE_OK, "a path");
         break;
     case SHA256_MULTI:
-        must(paxidore_sha256_tree_multi_path(p->bytes, PROOF_MOST, &p->len, tree, digests, p->indexes, p->count) == PAXIDORE_OK,
+        must(paxidore_tree_multi_path(p->bytes, PROOF_MOST, &p->len, tree, digests, p->indexes, p->count) == PAXIDORE_OK,
              "a multi-proof");
         break;
     case RFC6962_MULTI:
-        must(paxidore_rfc6962_tree_multi_path(p->bytes, PROOF_MOST, &p->len, tree, digests, p->indexes, p->count) == PAXIDORE_OK,
+        must(paxidore_tree_multi_path(p->bytes, PROOF_MOST, &p->len, tree, digests, p->indexes, p->count) == PAXIDORE_OK,
              "a multi-proof");
         break;
     case INCLUSION:
@@ -118,13 +118,13 @@ static void make(struct proof *p) {
 
 static int32_t ask(const struct proof *p, const uint8_t *bytes, size_t len) {
     switch (p->kind) {
-    case SHA256_PATH: return paxidore_sha256_verify(p->root, p->size, p->indexes[0], p->leaves, 8, bytes, len);
-    case RFC6962_PATH: return paxidore_rfc6962_verify(p->root, p->size, p->indexes[0], p->leaves, 8, bytes, len);
+    case SHA256_PATH: return paxidore_verify(PAXIDORE_PLAIN, p->root, p->size, p->indexes[0], p->leaves, 8, bytes, len);
+    case RFC6962_PATH: return paxidore_verify(PAXIDORE_RFC6962, p->root, p->size, p->indexes[0], p->leaves, 8, bytes, len);
     case SHA256_MULTI:
-        return paxidore_sha256_multi_verify(p->root, p->size, p->indexes, p->count, p->leaves, 8 * p->count, lengths, p->count,
+        return paxidore_multi_verify(PAXIDORE_PLAIN, p->root, p->size, p->indexes, p->count, p->leaves, 8 * p->count, lengths, p->count,
                                             bytes, len);
     case RFC6962_MULTI:
-        return paxidore_rfc6962_multi_verify(p->root, p->size, p->indexes, p->count, p->leaves, 8 * p->count, lengths, p->count,
+        return paxidore_multi_verify(PAXIDORE_RFC6962, p->root, p->size, p->indexes, p->count, p->leaves, 8 * p->count, lengths, p->count,
                                              bytes, len);
     case INCLUSION: return paxidore_log_verify_inclusion(p->root, p->size, p->indexes[0], p->leaves, 8, bytes, len);
     default: return paxidore_log_verify_consistency(p->old_size, p->old_root, p->size, p->root, bytes, len);

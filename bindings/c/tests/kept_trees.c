@@ -21,33 +21,19 @@ static void check(int holds, const char *what, int line) {
 }
 #define CHECK(holds) check((holds) != 0, #holds, __LINE__)
 
-/* The calls of one hashing, and those that build a tree at each call. */
+/* A hashing. */
 struct hashing {
-    int32_t (*build)(uint8_t *, size_t, const uint8_t *, size_t, const size_t *, size_t);
-    int32_t (*rebuild)(uint8_t *, size_t);
-    int32_t (*set)(uint8_t *, size_t, size_t, const uint8_t *, size_t);
-    int32_t (*set_many)(uint8_t *, size_t, const size_t *, size_t, const uint8_t *, size_t, const size_t *, size_t);
-    int32_t (*root)(uint8_t *, const uint8_t *, size_t);
-    int32_t (*path)(uint8_t *, size_t, size_t *, const uint8_t *, size_t, size_t);
-    int32_t (*multi_path)(uint8_t *, size_t, size_t *, const uint8_t *, size_t, const size_t *, size_t);
-    int32_t (*check)(const uint8_t *, size_t);
-    int32_t (*root_of)(uint8_t *, const uint8_t *, size_t, const size_t *, size_t);
-    int32_t (*path_of)(uint8_t *, size_t, size_t *, const uint8_t *, size_t, const size_t *, size_t, size_t);
-    int32_t (*multi_path_of)(uint8_t *, size_t, size_t *, const uint8_t *, size_t, const size_t *, size_t, const size_t *, size_t);
+    uint32_t number;
     const char *roots[9]; /* by the count of leaves */
 };
 
 static const struct hashing sha256 = {
-    paxidore_sha256_tree_build, paxidore_sha256_tree_rebuild, paxidore_sha256_tree_set,
-    paxidore_sha256_tree_set_many, paxidore_sha256_tree_root, paxidore_sha256_tree_path, paxidore_sha256_tree_multi_path,
-    paxidore_sha256_tree_check, paxidore_sha256_root, paxidore_sha256_path, paxidore_sha256_multi_path,
+    PAXIDORE_PLAIN,
     /* by Python's hashlib */
     {[8] = "03b3e0e5b23746036c9c7185c1fc12bc6f8ff41cc2b97b24fb451f2cc291d2b4"}};
 
 static const struct hashing rfc6962 = {
-    paxidore_rfc6962_tree_build, paxidore_rfc6962_tree_rebuild, paxidore_rfc6962_tree_set,
-    paxidore_rfc6962_tree_set_many, paxidore_rfc6962_tree_root, paxidore_rfc6962_tree_path, paxidore_rfc6962_tree_multi_path,
-    paxidore_rfc6962_tree_check, paxidore_rfc6962_root, paxidore_rfc6962_path, paxidore_rfc6962_multi_path,
+    PAXIDORE_RFC6962,
     /* those that implementations of RFC 6962 are tested with */
     {[2] = "fac54203e7cc696cf0dfcb42c92a1d9dbaf70ad9e621f4bd8d98662f00e3c125",
      [4] = "d37ee418976dd95753c1c73862b9398fa2a2cf9b4ff0fdfe8b30cd95209614b7",
@@ -92,7 +78,7 @@ static void builds(const struct hashing *h) {
     for (size_t count = 0; count <= SIZE; count++)
         for (size_t digests = 0; digests <= DIGESTS + 1; digests++) {
             uint8_t *tree = filled(32 * digests);
-            int32_t answer = h->build(tree, digests, LEAVES, length_of(count), LENGTHS, count);
+            int32_t answer = paxidore_tree_build(tree, digests, h->number, LEAVES, length_of(count), LENGTHS, count);
             if (count != 2 && count != 4 && count != 8) {
                 CHECK(answer == PAXIDORE_E_SIZE && is_filled(tree, 32 * digests, 0xaa));
             } else if (digests != PAXIDORE_TREE_DIGESTS(count)) {
@@ -100,28 +86,28 @@ static void builds(const struct hashing *h) {
             } else {
                 uint8_t root[32];
                 CHECK(answer == PAXIDORE_OK && PAXIDORE_TREEBYTES(count) == 32 * digests);
-                CHECK(h->root(root, tree, digests) == PAXIDORE_OK && memcmp(root, tree, 32) == 0);
+                CHECK(paxidore_tree_root(root, tree, digests) == PAXIDORE_OK && memcmp(root, tree, 32) == 0);
                 if (h->roots[count])
                     CHECK(is_hex(root, h->roots[count]));
-                CHECK(h->check(tree, digests) == PAXIDORE_OK);
+                CHECK(paxidore_tree_check(tree, digests, h->number) == PAXIDORE_OK);
                 memset(tree, 0xaa, 32 * (count - 1));
-                CHECK(h->check(tree, digests) == PAXIDORE_NOT_SHOWN);
-                CHECK(h->rebuild(tree, digests) == PAXIDORE_OK && memcmp(root, tree, 32) == 0);
-                CHECK(h->check(tree, digests) == PAXIDORE_OK);
+                CHECK(paxidore_tree_check(tree, digests, h->number) == PAXIDORE_NOT_SHOWN);
+                CHECK(paxidore_tree_rebuild(tree, digests, h->number) == PAXIDORE_OK && memcmp(root, tree, 32) == 0);
+                CHECK(paxidore_tree_check(tree, digests, h->number) == PAXIDORE_OK);
             }
             free(tree);
         }
     uint8_t *tree = filled(32 * DIGESTS);
     size_t lengths[8];
-    CHECK(h->build(NULL, 0, NULL, 0, NULL, 0) == PAXIDORE_E_SIZE);
-    CHECK(h->build(tree, DIGESTS, LEAVES, LEAVES_LEN - 1, LENGTHS, SIZE) == PAXIDORE_E_LENGTHS);
-    CHECK(h->build(tree, DIGESTS, LEAVES, LEAVES_LEN + 1, LENGTHS, SIZE) == PAXIDORE_E_LENGTHS);
+    CHECK(paxidore_tree_build(NULL, 0, h->number, NULL, 0, NULL, 0) == PAXIDORE_E_SIZE);
+    CHECK(paxidore_tree_build(tree, DIGESTS, h->number, LEAVES, LEAVES_LEN - 1, LENGTHS, SIZE) == PAXIDORE_E_LENGTHS);
+    CHECK(paxidore_tree_build(tree, DIGESTS, h->number, LEAVES, LEAVES_LEN + 1, LENGTHS, SIZE) == PAXIDORE_E_LENGTHS);
     memcpy(lengths, LENGTHS, sizeof lengths);
     lengths[7] = SIZE_MAX;
-    CHECK(h->build(tree, DIGESTS, LEAVES, LEAVES_LEN, lengths, SIZE) == PAXIDORE_E_LENGTHS);
+    CHECK(paxidore_tree_build(tree, DIGESTS, h->number, LEAVES, LEAVES_LEN, lengths, SIZE) == PAXIDORE_E_LENGTHS);
     CHECK(is_filled(tree, 32 * DIGESTS, 0xaa));
     memset(lengths, 0, sizeof lengths);
-    CHECK(h->build(tree, DIGESTS, NULL, 0, lengths, SIZE) == PAXIDORE_OK && h->check(tree, DIGESTS) == PAXIDORE_OK);
+    CHECK(paxidore_tree_build(tree, DIGESTS, h->number, NULL, 0, lengths, SIZE) == PAXIDORE_OK && paxidore_tree_check(tree, DIGESTS, h->number) == PAXIDORE_OK);
     free(tree);
 }
 
@@ -132,22 +118,22 @@ static void sizes(const struct hashing *h) {
         size_t len = 7, sized = digests > 2 && (digests & (digests + 1)) == 0;
         memset(root, 0xaa, 32);
         if (sized) {
-            CHECK(h->rebuild(tree, digests) == PAXIDORE_OK && h->check(tree, digests) == PAXIDORE_OK);
-            CHECK(h->root(root, tree, digests) == PAXIDORE_OK);
-            CHECK(h->set(tree, digests, digests / 2, LEAVES, 3) == PAXIDORE_OK);
-            CHECK(h->path(path, sizeof path, &len, tree, digests, digests / 2) == PAXIDORE_OK);
+            CHECK(paxidore_tree_rebuild(tree, digests, h->number) == PAXIDORE_OK && paxidore_tree_check(tree, digests, h->number) == PAXIDORE_OK);
+            CHECK(paxidore_tree_root(root, tree, digests) == PAXIDORE_OK);
+            CHECK(paxidore_tree_set(tree, digests, h->number, digests / 2, LEAVES, 3) == PAXIDORE_OK);
+            CHECK(paxidore_tree_path(path, sizeof path, &len, tree, digests, digests / 2) == PAXIDORE_OK);
             const size_t last = digests / 2, past = last + 1;
-            CHECK(h->multi_path(path, sizeof path, &len, tree, digests, &last, 1) == PAXIDORE_OK);
-            CHECK(h->multi_path(path, sizeof path, &len, tree, digests, &past, 1) == PAXIDORE_E_INDEX);
-            CHECK(h->set(tree, digests, digests / 2 + 1, LEAVES, 3) == PAXIDORE_E_INDEX);
-            CHECK(h->check(tree, digests) == PAXIDORE_OK);
+            CHECK(paxidore_tree_multi_path(path, sizeof path, &len, tree, digests, &last, 1) == PAXIDORE_OK);
+            CHECK(paxidore_tree_multi_path(path, sizeof path, &len, tree, digests, &past, 1) == PAXIDORE_E_INDEX);
+            CHECK(paxidore_tree_set(tree, digests, h->number, digests / 2 + 1, LEAVES, 3) == PAXIDORE_E_INDEX);
+            CHECK(paxidore_tree_check(tree, digests, h->number) == PAXIDORE_OK);
         } else {
             uint8_t *at = digests ? tree : NULL;
-            CHECK(h->rebuild(at, digests) == PAXIDORE_E_SIZE && h->check(at, digests) == PAXIDORE_E_SIZE);
-            CHECK(h->root(root, at, digests) == PAXIDORE_E_SIZE && is_filled(root, 32, 0xaa));
-            CHECK(h->set(at, digests, 0, LEAVES, 3) == PAXIDORE_E_SIZE);
-            CHECK(h->path(path, sizeof path, &len, at, digests, 0) == PAXIDORE_E_SIZE && len == 7);
-            CHECK(h->multi_path(path, sizeof path, &len, at, digests, LENGTHS, 1) == PAXIDORE_E_SIZE && len == 7);
+            CHECK(paxidore_tree_rebuild(at, digests, h->number) == PAXIDORE_E_SIZE && paxidore_tree_check(at, digests, h->number) == PAXIDORE_E_SIZE);
+            CHECK(paxidore_tree_root(root, at, digests) == PAXIDORE_E_SIZE && is_filled(root, 32, 0xaa));
+            CHECK(paxidore_tree_set(at, digests, h->number, 0, LEAVES, 3) == PAXIDORE_E_SIZE);
+            CHECK(paxidore_tree_path(path, sizeof path, &len, at, digests, 0) == PAXIDORE_E_SIZE && len == 7);
+            CHECK(paxidore_tree_multi_path(path, sizeof path, &len, at, digests, LENGTHS, 1) == PAXIDORE_E_SIZE && len == 7);
             CHECK(is_filled(tree, 32 * digests, 0xaa));
         }
         free(tree);
@@ -158,38 +144,38 @@ static void changes(const struct hashing *h) {
     uint8_t *tree = filled(32 * DIGESTS), *path = filled(PATH), *other = filled(PATH), leaves[LEAVES_LEN], root[32];
     size_t len, other_len, at = 0;
     memcpy(leaves, LEAVES, LEAVES_LEN);
-    CHECK(h->build(tree, DIGESTS, leaves, LEAVES_LEN, LENGTHS, SIZE) == PAXIDORE_OK);
+    CHECK(paxidore_tree_build(tree, DIGESTS, h->number, leaves, LEAVES_LEN, LENGTHS, SIZE) == PAXIDORE_OK);
     for (size_t index = 0; index < SIZE; at += LENGTHS[index++]) {
         memset(leaves + at, 'x', LENGTHS[index]);
-        CHECK(h->set(tree, DIGESTS, index, LENGTHS[index] ? leaves + at : NULL, LENGTHS[index]) == PAXIDORE_OK);
-        CHECK(h->root_of(root, leaves, LEAVES_LEN, LENGTHS, SIZE) == PAXIDORE_OK && memcmp(root, tree, 32) == 0);
-        CHECK(h->check(tree, DIGESTS) == PAXIDORE_OK);
+        CHECK(paxidore_tree_set(tree, DIGESTS, h->number, index, LENGTHS[index] ? leaves + at : NULL, LENGTHS[index]) == PAXIDORE_OK);
+        CHECK(paxidore_root(root, h->number, leaves, LEAVES_LEN, LENGTHS, SIZE) == PAXIDORE_OK && memcmp(root, tree, 32) == 0);
+        CHECK(paxidore_tree_check(tree, DIGESTS, h->number) == PAXIDORE_OK);
         for (size_t i = 0; i < SIZE; i++) {
-            CHECK(h->path(path, PATH, &len, tree, DIGESTS, i) == PAXIDORE_OK && len == PAXIDORE_PATHBYTES(3));
-            CHECK(h->path_of(other, PATH, &other_len, leaves, LEAVES_LEN, LENGTHS, SIZE, i) == PAXIDORE_OK);
+            CHECK(paxidore_tree_path(path, PATH, &len, tree, DIGESTS, i) == PAXIDORE_OK && len == PAXIDORE_PATHBYTES(3));
+            CHECK(paxidore_path(other, PATH, &other_len, h->number, leaves, LEAVES_LEN, LENGTHS, SIZE, i) == PAXIDORE_OK);
             CHECK(memcmp(path, other, PATH) == 0);
         }
     }
     memset(path, 0xaa, PATH);
     len = 7;
-    CHECK(h->path(path, PATH - 1, &len, tree, DIGESTS, 0) == PAXIDORE_E_ROOM && len == PATH);
+    CHECK(paxidore_tree_path(path, PATH - 1, &len, tree, DIGESTS, 0) == PAXIDORE_E_ROOM && len == PATH);
     len = 7;
-    CHECK(h->path(NULL, 0, &len, tree, DIGESTS, 0) == PAXIDORE_E_ROOM && len == PATH);
+    CHECK(paxidore_tree_path(NULL, 0, &len, tree, DIGESTS, 0) == PAXIDORE_E_ROOM && len == PATH);
     len = 7;
-    CHECK(h->path(path, PATH, &len, tree, DIGESTS, SIZE) == PAXIDORE_E_INDEX && len == 7);
-    CHECK(h->path(path, PATH, &len, tree, DIGESTS, SIZE_MAX) == PAXIDORE_E_INDEX && len == 7);
+    CHECK(paxidore_tree_path(path, PATH, &len, tree, DIGESTS, SIZE) == PAXIDORE_E_INDEX && len == 7);
+    CHECK(paxidore_tree_path(path, PATH, &len, tree, DIGESTS, SIZE_MAX) == PAXIDORE_E_INDEX && len == 7);
     CHECK(is_filled(path, PATH, 0xaa));
     memcpy(root, tree, 32);
-    CHECK(h->set(tree, DIGESTS, SIZE, leaves, 3) == PAXIDORE_E_INDEX);
-    CHECK(h->set(tree, DIGESTS, SIZE_MAX, leaves, 3) == PAXIDORE_E_INDEX);
-    CHECK(memcmp(root, tree, 32) == 0 && h->check(tree, DIGESTS) == PAXIDORE_OK);
+    CHECK(paxidore_tree_set(tree, DIGESTS, h->number, SIZE, leaves, 3) == PAXIDORE_E_INDEX);
+    CHECK(paxidore_tree_set(tree, DIGESTS, h->number, SIZE_MAX, leaves, 3) == PAXIDORE_E_INDEX);
+    CHECK(memcmp(root, tree, 32) == 0 && paxidore_tree_check(tree, DIGESTS, h->number) == PAXIDORE_OK);
     /* each bit: none may be other */
     for (size_t bit = 0; bit < 8 * 32 * DIGESTS; bit++) {
         tree[bit / 8] ^= (uint8_t)(1 << bit % 8);
-        CHECK(h->check(tree, DIGESTS) == PAXIDORE_NOT_SHOWN);
+        CHECK(paxidore_tree_check(tree, DIGESTS, h->number) == PAXIDORE_NOT_SHOWN);
         tree[bit / 8] ^= (uint8_t)(1 << bit % 8);
     }
-    CHECK(h->check(tree, DIGESTS) == PAXIDORE_OK);
+    CHECK(paxidore_tree_check(tree, DIGESTS, h->number) == PAXIDORE_OK);
     free(tree);
     free(path);
     free(other);
@@ -199,18 +185,18 @@ static void changes(const struct hashing *h) {
 static void several(const struct hashing *h) {
     uint8_t *tree = filled(32 * DIGESTS), *other = filled(32 * DIGESTS);
     static const size_t indexes[4] = {6, 1, 6, 7}, lengths[4] = {3, 0, 9, 22}, beyond[4] = {6, 1, SIZE, 7};
-    CHECK(h->build(tree, DIGESTS, LEAVES, LEAVES_LEN, LENGTHS, SIZE) == PAXIDORE_OK);
+    CHECK(paxidore_tree_build(tree, DIGESTS, h->number, LEAVES, LEAVES_LEN, LENGTHS, SIZE) == PAXIDORE_OK);
     memcpy(other, tree, 32 * DIGESTS);
-    CHECK(h->set_many(tree, DIGESTS, indexes, 4, LEAVES, LEAVES_LEN, lengths, 3) == PAXIDORE_E_COUNT);
-    CHECK(h->set_many(tree, DIGESTS, indexes, 3, LEAVES, LEAVES_LEN, lengths, 3) == PAXIDORE_E_LENGTHS);
-    CHECK(h->set_many(tree, DIGESTS, beyond, 4, LEAVES, LEAVES_LEN, lengths, 4) == PAXIDORE_E_INDEX);
-    CHECK(h->set_many(tree, DIGESTS, NULL, 0, NULL, 0, NULL, 0) == PAXIDORE_E_INDEX);
-    CHECK(h->set_many(tree, DIGESTS - 1, indexes, 4, LEAVES, LEAVES_LEN, lengths, 4) == PAXIDORE_E_SIZE);
+    CHECK(paxidore_tree_set_many(tree, DIGESTS, h->number, indexes, 4, LEAVES, LEAVES_LEN, lengths, 3) == PAXIDORE_E_COUNT);
+    CHECK(paxidore_tree_set_many(tree, DIGESTS, h->number, indexes, 3, LEAVES, LEAVES_LEN, lengths, 3) == PAXIDORE_E_LENGTHS);
+    CHECK(paxidore_tree_set_many(tree, DIGESTS, h->number, beyond, 4, LEAVES, LEAVES_LEN, lengths, 4) == PAXIDORE_E_INDEX);
+    CHECK(paxidore_tree_set_many(tree, DIGESTS, h->number, NULL, 0, NULL, 0, NULL, 0) == PAXIDORE_E_INDEX);
+    CHECK(paxidore_tree_set_many(tree, DIGESTS - 1, h->number, indexes, 4, LEAVES, LEAVES_LEN, lengths, 4) == PAXIDORE_E_SIZE);
     CHECK(memcmp(tree, other, 32 * DIGESTS) == 0);
-    CHECK(h->set_many(tree, DIGESTS, indexes, 4, LEAVES, LEAVES_LEN, lengths, 4) == PAXIDORE_OK);
+    CHECK(paxidore_tree_set_many(tree, DIGESTS, h->number, indexes, 4, LEAVES, LEAVES_LEN, lengths, 4) == PAXIDORE_OK);
     for (size_t i = 0, at = 0; i < 4; at += lengths[i++])
-        CHECK(h->set(other, DIGESTS, indexes[i], LEAVES + at, lengths[i]) == PAXIDORE_OK);
-    CHECK(memcmp(tree, other, 32 * DIGESTS) == 0 && h->check(tree, DIGESTS) == PAXIDORE_OK);
+        CHECK(paxidore_tree_set(other, DIGESTS, h->number, indexes[i], LEAVES + at, lengths[i]) == PAXIDORE_OK);
+    CHECK(memcmp(tree, other, 32 * DIGESTS) == 0 && paxidore_tree_check(tree, DIGESTS, h->number) == PAXIDORE_OK);
     free(tree);
     free(other);
 }
@@ -221,36 +207,36 @@ static void multi_paths(const struct hashing *h) {
     uint8_t *tree = filled(32 * DIGESTS), *proof = filled(ROOM), *other = filled(ROOM);
     size_t indexes[2 * SIZE], len, other_len;
     static const size_t past[3] = {2, SIZE, 5}, far[1] = {SIZE_MAX};
-    CHECK(h->build(tree, DIGESTS, LEAVES, LEAVES_LEN, LENGTHS, SIZE) == PAXIDORE_OK);
+    CHECK(paxidore_tree_build(tree, DIGESTS, h->number, LEAVES, LEAVES_LEN, LENGTHS, SIZE) == PAXIDORE_OK);
     for (unsigned set = 1; set < 1u << SIZE; set++) {
         size_t count = 0;
         for (size_t i = 0; i < SIZE; i++)
             if (set >> i & 1)
                 indexes[count++] = i;
-        CHECK(h->multi_path_of(other, ROOM, &other_len, LEAVES, LEAVES_LEN, LENGTHS, SIZE, indexes, count) == PAXIDORE_OK);
+        CHECK(paxidore_multi_path(other, ROOM, &other_len, h->number, LEAVES, LEAVES_LEN, LENGTHS, SIZE, indexes, count) == PAXIDORE_OK);
         memset(proof, 0xaa, ROOM);
-        CHECK(h->multi_path(proof, other_len, &len, tree, DIGESTS, indexes, count) == PAXIDORE_OK && len == other_len);
+        CHECK(paxidore_tree_multi_path(proof, other_len, &len, tree, DIGESTS, indexes, count) == PAXIDORE_OK && len == other_len);
         CHECK(memcmp(proof, other, len) == 0 && is_filled(proof + len, ROOM - len, 0xaa));
         /* falling, and each twice */
         for (size_t i = 0; i < count; i++)
             indexes[2 * count - 1 - i] = indexes[i];
         memset(proof, 0xaa, ROOM);
-        CHECK(h->multi_path(proof, ROOM, &len, tree, DIGESTS, indexes, 2 * count) == PAXIDORE_OK && len == other_len);
+        CHECK(paxidore_tree_multi_path(proof, ROOM, &len, tree, DIGESTS, indexes, 2 * count) == PAXIDORE_OK && len == other_len);
         CHECK(memcmp(proof, other, len) == 0);
         memset(proof, 0xaa, ROOM);
-        CHECK(h->multi_path(proof, len - 1, &len, tree, DIGESTS, indexes, count) == PAXIDORE_E_ROOM && len == other_len);
+        CHECK(paxidore_tree_multi_path(proof, len - 1, &len, tree, DIGESTS, indexes, count) == PAXIDORE_E_ROOM && len == other_len);
         CHECK(is_filled(proof, ROOM, 0xaa));
     }
     len = 7;
-    CHECK(h->multi_path(proof, ROOM, &len, tree, DIGESTS, NULL, 0) == PAXIDORE_E_INDEX && len == 7);
-    CHECK(h->multi_path(proof, ROOM, &len, tree, DIGESTS, past, 3) == PAXIDORE_E_INDEX && len == 7);
-    CHECK(h->multi_path(proof, ROOM, &len, tree, DIGESTS, far, 1) == PAXIDORE_E_INDEX && len == 7);
-    CHECK(h->multi_path(proof, ROOM, &len, tree, DIGESTS - 1, past, 1) == PAXIDORE_E_SIZE && len == 7);
-    CHECK(h->multi_path(NULL, 0, &len, tree, DIGESTS, past, 1) == PAXIDORE_E_ROOM && len == 32 + 24 + 32 * 3);
+    CHECK(paxidore_tree_multi_path(proof, ROOM, &len, tree, DIGESTS, NULL, 0) == PAXIDORE_E_INDEX && len == 7);
+    CHECK(paxidore_tree_multi_path(proof, ROOM, &len, tree, DIGESTS, past, 3) == PAXIDORE_E_INDEX && len == 7);
+    CHECK(paxidore_tree_multi_path(proof, ROOM, &len, tree, DIGESTS, far, 1) == PAXIDORE_E_INDEX && len == 7);
+    CHECK(paxidore_tree_multi_path(proof, ROOM, &len, tree, DIGESTS - 1, past, 1) == PAXIDORE_E_SIZE && len == 7);
+    CHECK(paxidore_tree_multi_path(NULL, 0, &len, tree, DIGESTS, past, 1) == PAXIDORE_E_ROOM && len == 32 + 24 + 32 * 3);
     CHECK(is_filled(proof, ROOM, 0xaa));
     /* whatever memory holds, the same digests are copied */
     memset(tree, 0x55, 32 * DIGESTS);
-    CHECK(h->multi_path(proof, ROOM, &len, tree, DIGESTS, past, 1) == PAXIDORE_OK && len == 32 + 24 + 32 * 3);
+    CHECK(paxidore_tree_multi_path(proof, ROOM, &len, tree, DIGESTS, past, 1) == PAXIDORE_OK && len == 32 + 24 + 32 * 3);
     CHECK(is_filled(proof + 8, 32, 0x55));
     free(tree);
     free(proof);
@@ -266,12 +252,12 @@ static void files(const struct hashing *h) {
     CHECK(file >= 0 && ftruncate(file, (off_t)(bytes + 1)) == 0);
     uint8_t *map = mmap(NULL, bytes + 1, PROT_READ | PROT_WRITE, MAP_SHARED, file, 0);
     CHECK(map != MAP_FAILED);
-    CHECK(h->build(map + 1, DIGESTS, LEAVES, LEAVES_LEN, LENGTHS, SIZE) == PAXIDORE_OK);
-    CHECK(h->set(map + 1, DIGESTS, 5, LEAVES, 9) == PAXIDORE_OK && h->root(root, map + 1, DIGESTS) == PAXIDORE_OK);
+    CHECK(paxidore_tree_build(map + 1, DIGESTS, h->number, LEAVES, LEAVES_LEN, LENGTHS, SIZE) == PAXIDORE_OK);
+    CHECK(paxidore_tree_set(map + 1, DIGESTS, h->number, 5, LEAVES, 9) == PAXIDORE_OK && paxidore_tree_root(root, map + 1, DIGESTS) == PAXIDORE_OK);
     CHECK(munmap(map, bytes + 1) == 0);
     const uint8_t *again = mmap(NULL, bytes + 1, PROT_READ, MAP_SHARED, file, 0);
     CHECK(again != MAP_FAILED && again[0] == 0);
-    CHECK(h->check(again + 1, DIGESTS) == PAXIDORE_OK && memcmp(root, again + 1, 32) == 0);
+    CHECK(paxidore_tree_check(again + 1, DIGESTS, h->number) == PAXIDORE_OK && memcmp(root, again + 1, 32) == 0);
     CHECK(munmap((void *)(uintptr_t)again, bytes + 1) == 0 && close(file) == 0 && unlink(name) == 0);
 }
 

@@ -64,12 +64,12 @@ static size_t element_path_len;
 
 static int32_t call(int which) {
     switch (which) {
-    case 0: return paxidore_rfc6962_root(to_root, LEAVES, 24, LENGTHS, 8);
-    case 1: return paxidore_rfc6962_path(to_path, sizeof to_path, &to_len, LEAVES, 24, LENGTHS, 8, 4);
-    case 2: return paxidore_rfc6962_multi_path(to_proof, sizeof to_proof, &to_len, LEAVES, 24, LENGTHS, 8, INDEXES, 3);
-    case 3: return paxidore_rfc6962_verify(root, 8, 4, LEAVES + 12, 3, path, path_len);
+    case 0: return paxidore_root(to_root, PAXIDORE_RFC6962, LEAVES, 24, LENGTHS, 8);
+    case 1: return paxidore_path(to_path, sizeof to_path, &to_len, PAXIDORE_RFC6962, LEAVES, 24, LENGTHS, 8, 4);
+    case 2: return paxidore_multi_path(to_proof, sizeof to_proof, &to_len, PAXIDORE_RFC6962, LEAVES, 24, LENGTHS, 8, INDEXES, 3);
+    case 3: return paxidore_verify(PAXIDORE_RFC6962, root, 8, 4, LEAVES + 12, 3, path, path_len);
     case 4:
-        return paxidore_rfc6962_multi_verify(root, 8, INDEXES, 3, (const uint8_t *)"bbbeeefff", 9, SHOWN, 3, proof, proof_len);
+        return paxidore_multi_verify(PAXIDORE_RFC6962, root, 8, INDEXES, 3, (const uint8_t *)"bbbeeefff", 9, SHOWN, 3, proof, proof_len);
     case 5: return paxidore_log_verify_inclusion(root, 8, 4, LEAVES + 12, 3, log_path, sizeof log_path);
     case 6: return paxidore_log_verify_consistency(4, halves[0], 8, root, halves[1], 32);
     case 7: return paxidore_log_append(to_more, 8, &to_len, kept, 8, 5, LEAVES + 15, 9, LENGTHS + 5, 3);
@@ -83,7 +83,7 @@ static int32_t call(int which) {
         return paxidore_transcript_absorb_bytes(to_state, sizeof to_state, 1, PARAMETER_BYTES, sizeof PARAMETERS, LEAVES, 24);
     case 14:
         return paxidore_transcript_squeeze(to_root, 32, to_state, sizeof to_state, 1, PARAMETER_BYTES, sizeof PARAMETERS);
-    case 15: return paxidore_rfc6962_tree_multi_path(to_proof, sizeof to_proof, &to_len, tree, 15, INDEXES, 3);
+    case 15: return paxidore_tree_multi_path(to_proof, sizeof to_proof, &to_len, tree, 15, INDEXES, 3);
     case 16: return paxidore_map_verify(map_root, map_tree + 2, map_tree + 34, map_proof, map_proof_len);
     case 17: return paxidore_map_verify_absent(map_root, other_key, absent_proof, absent_len);
     case 18: return paxidore_map_root(to_root, map_tree, sizeof map_tree);
@@ -113,12 +113,12 @@ static int is_filled(const uint8_t *bytes, size_t len) {
 
 int main(void) {
     int passed = 0, failed = 0;
-    if (paxidore_rfc6962_root(root, LEAVES, 24, LENGTHS, 8) != PAXIDORE_OK ||
-        paxidore_rfc6962_path(path, sizeof path, &path_len, LEAVES, 24, LENGTHS, 8, 4) != PAXIDORE_OK ||
-        paxidore_rfc6962_multi_path(proof, sizeof proof, &proof_len, LEAVES, 24, LENGTHS, 8, INDEXES, 3) != PAXIDORE_OK)
+    if (paxidore_root(root, PAXIDORE_RFC6962, LEAVES, 24, LENGTHS, 8) != PAXIDORE_OK ||
+        paxidore_path(path, sizeof path, &path_len, PAXIDORE_RFC6962, LEAVES, 24, LENGTHS, 8, 4) != PAXIDORE_OK ||
+        paxidore_multi_path(proof, sizeof proof, &proof_len, PAXIDORE_RFC6962, LEAVES, 24, LENGTHS, 8, INDEXES, 3) != PAXIDORE_OK)
         failed++;
     for (int half = 0; half < 2; half++)
-        if (paxidore_rfc6962_root(halves[half], LEAVES + 12 * half, 12, LENGTHS, 4) != PAXIDORE_OK)
+        if (paxidore_root(halves[half], PAXIDORE_RFC6962, LEAVES + 12 * half, 12, LENGTHS, 4) != PAXIDORE_OK)
             failed++;
     /* a log's path has its digests from the leaf up; the bytes of a tree's path have them behind the sibling, from the root down */
     memcpy(log_path, path, 32);
@@ -127,7 +127,7 @@ int main(void) {
     size_t kept_len;
     if (paxidore_log_append(kept, 15, &kept_len, NULL, 0, 0, LEAVES, 24, LENGTHS, 8) != PAXIDORE_OK || kept_len != 15)
         failed++;
-    if (paxidore_rfc6962_tree_build(tree, 15, LEAVES, 24, LENGTHS, 8) != PAXIDORE_OK)
+    if (paxidore_tree_build(tree, 15, PAXIDORE_RFC6962, LEAVES, 24, LENGTHS, 8) != PAXIDORE_OK)
         failed++;
     if (paxidore_transcript_init(begun, sizeof begun, &to_len, 1, PARAMETER_BYTES, sizeof PARAMETERS) != PAXIDORE_OK ||
         to_len != sizeof begun ||
@@ -191,13 +191,13 @@ int main(void) {
         failed++;
     /* nor do the calls of kept trees, but for several paths */
     calls = 0;
-    if (paxidore_rfc6962_tree_build(tree, 15, LEAVES, 24, LENGTHS, 8) == PAXIDORE_OK &&
-        paxidore_rfc6962_tree_rebuild(tree, 15) == PAXIDORE_OK &&
-        paxidore_rfc6962_tree_set(tree, 15, 4, LEAVES + 12, 3) == PAXIDORE_OK &&
-        paxidore_rfc6962_tree_set_many(tree, 15, INDEXES, 3, (const uint8_t *)"bbbeeefff", 9, SHOWN, 3) == PAXIDORE_OK &&
-        paxidore_rfc6962_tree_root(to_root, tree, 15) == PAXIDORE_OK && memcmp(to_root, root, 32) == 0 &&
-        paxidore_rfc6962_tree_path(to_path, sizeof to_path, &to_len, tree, 15, 4) == PAXIDORE_OK &&
-        memcmp(to_path, path, sizeof path) == 0 && paxidore_rfc6962_tree_check(tree, 15) == PAXIDORE_OK && calls == 0)
+    if (paxidore_tree_build(tree, 15, PAXIDORE_RFC6962, LEAVES, 24, LENGTHS, 8) == PAXIDORE_OK &&
+        paxidore_tree_rebuild(tree, 15, PAXIDORE_RFC6962) == PAXIDORE_OK &&
+        paxidore_tree_set(tree, 15, PAXIDORE_RFC6962, 4, LEAVES + 12, 3) == PAXIDORE_OK &&
+        paxidore_tree_set_many(tree, 15, PAXIDORE_RFC6962, INDEXES, 3, (const uint8_t *)"bbbeeefff", 9, SHOWN, 3) == PAXIDORE_OK &&
+        paxidore_tree_root(to_root, tree, 15) == PAXIDORE_OK && memcmp(to_root, root, 32) == 0 &&
+        paxidore_tree_path(to_path, sizeof to_path, &to_len, tree, 15, 4) == PAXIDORE_OK &&
+        memcmp(to_path, path, sizeof path) == 0 && paxidore_tree_check(tree, 15, PAXIDORE_RFC6962) == PAXIDORE_OK && calls == 0)
         passed++;
     else
         failed++;
