@@ -206,7 +206,7 @@ size_t paxidore_log_kept(size_t size);
 
 /* Writes the digests to put behind the stored ones of a log of `size` entries for `count` entries more, at most 2 *
  * count + 62. The entries are handed over as leaves are. Where the answer is E_ROOM nothing is hashed. E_SIZE for too
- * few digests and a new size of 2^63, E_ROOM, E_LENGTHS, E_MEMORY. */
+ * few digests and for a new size of 2^63 or more, E_ROOM, E_LENGTHS, E_MEMORY. */
 PAXIDORE_ANSWERS PAXIDORE_NOT_NULL((3)) int32_t paxidore_log_append(uint8_t *more, size_t more_room, size_t *more_len,
     const uint8_t *kept, size_t kept_len, size_t size, const uint8_t *entries, size_t entries_len,
     const size_t *lengths, size_t count);
@@ -257,8 +257,8 @@ PAXIDORE_ANSWERS PAXIDORE_NOT_NULL((3, 6, 9)) int32_t paxidore_log_file_make(
 PAXIDORE_ANSWERS PAXIDORE_NOT_NULL((1, 4)) int32_t paxidore_log_file_size(size_t *size,
     size_t *places, size_t places_room, size_t *places_len, size_t file_len, const uint8_t *pieces, size_t pieces_len);
 
-/* What is to be written for `count` entries more, nothing for none, and the new size. E_LENGTHS, E_NO_LOG, E_HEAD,
- * E_SHORT, E_DAMAGED, E_SIZE for a new size of 2^63, E_MEMORY, E_ROOM for `bytes` and `steps`. */
+/* What is to be written for more entries, handed over as leaves, if any; and the new size. E_LENGTHS, E_NO_LOG,
+ * E_HEAD, E_SHORT, E_DAMAGED, E_SIZE for a new size of 2^63 or more, E_MEMORY, E_ROOM for `bytes` and `steps`. */
 PAXIDORE_ANSWERS PAXIDORE_NOT_NULL((3, 6, 7, 10)) int32_t paxidore_log_file_append(
     uint8_t *bytes, size_t bytes_room, size_t *bytes_len, size_t *steps, size_t steps_room, size_t *steps_len,
     size_t *size, size_t *places, size_t places_room, size_t *places_len, size_t file_len,
@@ -308,7 +308,7 @@ PAXIDORE_ANSWERS PAXIDORE_NOT_NULL((1, 2)) int32_t paxidore_map_verify_absent(co
 PAXIDORE_ANSWERS PAXIDORE_NOT_NULL((1)) int32_t paxidore_map_root(uint8_t root[32],
     const uint8_t *tree, size_t tree_len);
 
-/* Writes the proof of what a tree has at a key. E_TRUNCATED, E_INVALID, E_HIDDEN, E_ROOM, E_MEMORY. */
+/* Writes the proof under its root of what a tree has at a key. E_TRUNCATED, E_INVALID, E_HIDDEN, E_ROOM, E_MEMORY. */
 PAXIDORE_ANSWERS PAXIDORE_NOT_NULL((3, 6)) int32_t paxidore_map_prove(
     uint8_t *proof, size_t proof_room, size_t *proof_len, const uint8_t *tree, size_t tree_len, const uint8_t key[32]);
 
@@ -389,7 +389,7 @@ enum paxidore_byte_order {
 
 /* A table has what the hash of so many inputs runs by: their count in a byte, elements of 32 bytes, and a check sum of
  * eight bytes. It is made once and copied or stored as you like. E_TRUNCATED is said of one that was cut, or of earlier
- * versions' without a check sum, E_INVALID of one that was changed, before elements are read. */
+ * versions' without a check sum, E_INVALID of one that was changed, before elements are read. None has more bytes. */
 #define PAXIDORE_POSEIDON_TABLEBYTES(inputs) \
     (9U + 32U * (((size_t)(inputs) + 1U) * ((size_t)(inputs) + 11U) + \
                  (size_t)(inputs) * (2U * (size_t)(inputs) + 1U) + 70U))
