@@ -44,9 +44,10 @@ from ._library import (
     SizeError,
     TruncatedProof,
 )
+from ._nodes import DamagedMap
 from .hashes import Blake2s, blake2s, blake2s_commit, blake2s_opens, cpu, sha256_digest, version
 from .log import Log
-from .map import DamagedMap, Map, MapVersion
+from .map import Map, MapVersion
 from .transcript import Field, Transcript, TranscriptError, parameters_bytes, ready_parameters
 from .tree import Tree
 from .trees import Trees, rfc6962, sha256

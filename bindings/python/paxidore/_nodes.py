@@ -275,7 +275,7 @@ class _Store:
         # so that the next version has a number too
         if not (_is_count(row[0], 0) and _is_count(row[2], 0) and row[0] < _MOST - 1) or (row[1] == _NOTHING) != (row[2] == 0):
             raise DamagedMap("the map states no version, or no count of entries")
-        return row
+        return row[0], row[1], row[2]
 
     def node(self, digest: bytes) -> bytes:
         row = self.base.execute("SELECT bytes FROM node WHERE digest = ?", (digest,)).fetchone()

@@ -453,7 +453,7 @@ class Map(MapVersion, MutableMapping[bytes, bytes]):
         """The keys, rising, of the map as it is when the first one is asked for. A map in memory is not to change meanwhile."""
         batch = dict(self._batch() or {})
         stored = (key for key in super(Map, self).__iter__() if key not in batch)
-        return heapq.merge(stored, sorted(key for key, value in batch.items() if value is not None))
+        return iter(heapq.merge(stored, sorted(key for key, value in batch.items() if value is not None)))
 
     def __setitem__(self, key: bytes, value: bytes) -> None:
         _digest(value, "value")

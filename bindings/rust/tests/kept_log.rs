@@ -440,7 +440,7 @@ fn killed_while_it_appends() -> Result<(), LogError> {
             .filter(|line| said.contains(&format!("{line}\n")));
         let acknowledged = told
             .filter_map(|line| line.strip_prefix("size ")?.parse().ok())
-            .last()
+            .next_back()
             .unwrap_or(size);
         let log = Log::open(room.log())?;
         // of the append that was under way all or nothing
