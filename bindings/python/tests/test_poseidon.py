@@ -37,6 +37,26 @@ class Poseidon(unittest.TestCase):
             self.assertEqual(poseidon.hash_bytes(inputs, "big"), digest)
             self.assertEqual(poseidon.hash_bytes([each[::-1] for each in inputs], "little"), digest[::-1])
 
+    def test_the_check_sum_of_a_table(self):
+        """It is the one of docs/FORMATS.md, and a table with a word that is another is refused."""
+        for count in (1, 2, 5, 16):
+            table = poseidon._table_for(count)
+            body, total = table[:-8], 0
+            words = len(body) // 8 * 8
+            digits = [int.from_bytes(body[at : at + 8], "little") for at in range(0, words, 8)]
+            for digit in digits + list(body[words:]):
+                total = (total * 1099511628211 + digit) % 2**64
+            self.assertEqual(table[-8:], total.to_bytes(8, "little"))
+        kept = poseidon._table_for(2)
+        try:
+            for place in list(range(0, len(kept), 97)) + [len(kept) - 1]:
+                changed = bytearray(kept)
+                changed[place] ^= 1 << place % 8
+                poseidon._tables[2] = bytes(changed)
+                self.assertRaises(Refused, poseidon.hash, [1, 2])
+        finally:
+            poseidon._tables[2] = kept
+
     def test_refusals(self):
         for numbers in ([], [0] * 17, [0] * 1000):
             with self.assertRaises(CountError):

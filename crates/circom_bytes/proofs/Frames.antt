@@ -1,10 +1,8 @@
 -- Tables in their bytes.
 use Rattle.std.proofs.Common.{◌≡◌, ◌≢◌, ◌⊎◌, inl, inr, ℕ, suc, ◌+◌, ◌*◌, ◌<◌, Bool, true, false, true≢false, not, List, [], ◌∷◌, ◌++◌, length, take, drop, get_or, refl, sym, ap, subst, ◌∙◌, arith}
 use Rattle.std.specs.Str.{bytes_eq}
-use Rattle.std.proofs.lemmas.List.{length-append, length-take-le, take-append-drop}
+use Rattle.std.proofs.lemmas.List.{length-append, take-append-drop}
 use Rattle.std.proofs.lemmas.Slice.Eq.{bytes_eq-Decides}
-use Rattle.sha2.specs.Sha256.{sha256}
-use Rattle.sha2.proofs.Facts256.{length-sha256}
 use Rattle.ark_base.specs.declared.error.Error.{Error}
 use Rattle.ark_sponge.proofs.TableRows.{take-front, drop-front}
 use Rattle.circom_bytes.specs.Frame.{BeginsWith, IsCutTable, IsDamagedTable, IsFrame, IsFrameFault, check_sum, table_count, table_end, with_sum}
@@ -21,7 +19,7 @@ they_agree unequal xs ys is told = (bytes_eq-Decides xs ys).0 (turned (bytes_eq 
     turned false e = absurd (true≢false e)
 
 pub length-check_sum : (bytes : List ℕ) → length (check_sum bytes) ≡ 8
-length-check_sum bytes = length-take-le 8 (sha256 bytes) (omega (arith, length-sha256 bytes))
+length-check_sum bytes = refl
 
 -- ---- a body, and its check sum behind it
 

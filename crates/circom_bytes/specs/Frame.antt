@@ -1,6 +1,7 @@
 -- What stands around the elements of a table: the count of inputs before them, and a check sum behind them.
-use Rattle.std.specs.Prelude.{◌≡◌, ◌≢◌, ◌⊎◌, ℕ, ◌+◌, ◌*◌, ◌<◌, ◌≤◌, List, ◌++◌, length, take, drop, get_or}
-use Rattle.sha2.specs.Sha256.{sha256}
+use Rattle.std.specs.Prelude.{◌≡◌, ◌≢◌, ◌⊎◌, ℕ, ◌+◌, ◌*◌, ◌/◌, ◌%◌, ◌^◌, ◌<◌, ◌≤◌, List, [], ◌∷◌, ◌++◌, length, map, take, drop, get_or}
+use Rattle.std.specs.Int.{w64, from_le_bytes, to_le_bytes}
+use Rattle.std.specs.Simd.{first_chunks}
 use Rattle.ark_base.specs.declared.error.Error.{Error}
 use Rattle.ark_base.specs.declared.error.Error.TheVariants.{SerializationError}
 use Rattle.ark_base.specs.declared.error.SerializationError.TheVariants.{InvalidData, Truncated}
@@ -20,9 +21,27 @@ table_count inputs = table_length (shape_for inputs) + circom_rounds inputs
 abbrev pub table_end : ℕ → ℕ
 table_end inputs = 1 + 32 * table_count inputs
 
--- the check sum of bytes: the first eight of their SHA-256 (FIPS 180-4)
+-- the number to base 1099511628211 that has a digit behind those of another number, modulo 2^64
+abbrev pub with_digit : ℕ → ℕ → ℕ
+with_digit number digit = (number * 1099511628211 + digit) % 2 ^ 64
+
+-- and the number that has more digits so
+abbrev pub with_digits : ℕ → List ℕ → ℕ
+with_digits number [] = number
+with_digits number (digit ∷ digits) = with_digits (with_digit number digit) digits
+
+-- the words of eight bytes that bytes are, each with its least byte first
+abbrev pub words_in : List ℕ → List ℕ
+words_in bytes = map (from_le_bytes w64) (first_chunks 8 (length bytes / 8) bytes)
+
+-- the bytes behind them, fewer than eight
+abbrev pub behind_words : List ℕ → List ℕ
+behind_words bytes = drop (length bytes / 8 * 8) bytes
+
+-- The check sum of bytes: the number whose digits are their words and the bytes behind them, in eight bytes, the least
+-- first. One digit that is another changes it, whatever the others are.
 abbrev pub check_sum : List ℕ → List ℕ
-check_sum bytes = take 8 (sha256 bytes)
+check_sum bytes = to_le_bytes w64 (with_digits (with_digits 0 (words_in bytes)) (behind_words bytes))
 
 -- bytes, and their check sum behind them
 abbrev pub with_sum : List ℕ → List ℕ

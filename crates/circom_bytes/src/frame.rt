@@ -1,13 +1,13 @@
 //! What stands around the elements of a table: the count of inputs before them, and a check sum behind them.
 
-ghost use Rattle.std.specs.Prelude.{◌≡◌, ◌<◌, ◌≤◌, ◌+◌, ◌^◌, length, IfErr, IfOk, OnOk};
+ghost use Rattle.std.specs.Prelude.{◌≡◌, ◌<◌, ◌≤◌, ◌+◌, ◌^◌, length, map, IfErr, IfOk, OnOk};
+ghost use Rattle.std.specs.Int.{w64, from_le_bytes};
 ghost use Rattle.ark_sponge.specs.Table.{table_length};
-ghost use Rattle.circom_bytes.specs.Frame.{check_sum, IsFrame, IsFrameFault, shape_for, table_count, with_sum};
+ghost use Rattle.circom_bytes.specs.Frame.{check_sum, IsFrame, IsFrameFault, shape_for, table_count, with_digit, with_digits, with_sum};
 
 use ark_base::error::{Error, SerializationError};
 use ark_sponge::poseidon::TableShape;
 use poseidon_grain::circom_rounds;
-use sha2::{Digest, Sha256};
 use std::alloc::AllocError;
 
 /// Returns the counts of the table of so many inputs.
@@ -44,14 +44,44 @@ pub fn count_for(inputs: usize) -> usize
     length_for(inputs) + circom_rounds(inputs)
 }
 
+// The base of check sums: the prime 2^40 + 435.
+const BASE: u64 = 1099511628211;
+
+// Puts a digit behind a number.
+fn with_digit(number: u64, digit: u64) -> u64
+    ensures { result ≡ with_digit number digit }
+{
+    number.wrapping_mul(BASE).wrapping_add(digit)
+}
+
+// Puts words behind a number.
+fn with_words(number: u64, words: &[[u8; 8]]) -> u64
+    ensures { result ≡ with_digits number (map (from_le_bytes w64) words.now) }
+{
+    let mut sum = number;
+    for i in 0..words.len() {
+        sum = with_digit(sum, u64::from_le_bytes(words[i]));
+    }
+    sum
+}
+
+// Puts bytes behind a number.
+fn with_bytes(number: u64, bytes: &[u8]) -> u64
+    ensures { result ≡ with_digits number bytes.now }
+{
+    let mut sum = number;
+    for i in 0..bytes.len() {
+        sum = with_digit(sum, bytes[i] as u64);
+    }
+    sum
+}
+
 // Returns the check sum of bytes.
 fn check_sum(bytes: &[u8]) -> [u8; 8]
     ensures { result ≡ check_sum bytes.now }
 {
-    let digest = Sha256::digest(bytes);
-    let mut sum = [0; 8];
-    sum.copy_from_slice(&digest[..8]);
-    sum
+    let (words, behind) = bytes.as_chunks::<8>();
+    with_bytes(with_words(0, words), behind).to_le_bytes()
 }
 
 /// Puts their check sum behind bytes.

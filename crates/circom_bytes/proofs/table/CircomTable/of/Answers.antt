@@ -1,4 +1,4 @@
-use Rattle.std.proofs.Common.{◌*◌, length, take, refl, ap, ap₂, sym, subst, ◌≤◌, ◌∙◌}
+use Rattle.std.proofs.Common.{◌*◌, length, take, inl, inr, refl, ap, ap₂, sym, subst, ◌≤◌, ◌∙◌}
 use Rattle.std.proofs.lemmas.List.{length-map}
 use Rattle.ark_sponge.specs.Table.{parts_in, table_length}
 use Rattle.poseidon_grain.specs.Defaults.{circom_rounds}
@@ -70,3 +70,8 @@ returns-clause-found c =
           c.split_at-2.ensures.front found.3;
       parts = parts ∙ ap₂ parts_in c.shape_for.ensures (sym found.2);
     }
+
+-- ---- bytes that are no table
+
+pub returns-in-Err-clause-refused : goal.returns-in-Err-clause-refused
+returns-in-Err-clause-refused c = inr (inl c.in-Err.ensures.refused)
