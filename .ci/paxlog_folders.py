@@ -144,7 +144,8 @@ def names_are_there(room, verifier):
         ("receipt", "", verifier, 0),
     ):
         status, said, why = ask(*words)
-        check("%s: an empty name" % words[0], (status, said) == (2, "") and why.startswith("usage: "))
+        line = "paxlog: the name of a folder or of a state is empty\nusage: paxlog %s " % words[0]
+        check("%s: an empty name" % words[0], (status, said) == (2, "") and why.startswith(line))
     shutil.rmtree(site), os.remove(log)
 
 

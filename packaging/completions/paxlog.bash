@@ -1,8 +1,8 @@
 # Completion of paxlog(1) for bash.
 _paxlog() {
     local word=${COMP_WORDS[COMP_CWORD]}
-    if [ "$COMP_CWORD" = 1 ]; then
-        mapfile -t COMPREPLY < <(compgen -W 'append append-lines root prove show show-image consistency check recover verify verify-consistency keygen checkpoint verify-checkpoint tiles audit keep follow tile-proof receipt verify-receipt witness keygen-witness --help' -- "$word")
+    if [ "$COMP_CWORD" = 1 ] || [ "${COMP_WORDS[1]}:$COMP_CWORD" = help:2 ]; then
+        mapfile -t COMPREPLY < <(compgen -W 'append append-lines root prove show show-image consistency check recover verify verify-consistency keygen checkpoint verify-checkpoint tiles audit keep follow tile-proof receipt verify-receipt witness keygen-witness help --help' -- "$word")
         return
     fi
     case ${COMP_WORDS[1]}:$COMP_CWORD in

@@ -1,12 +1,14 @@
 //! Keys, and checkpoints that are signed and verified.
 
 use crate::file_disk::FileDisk;
-use crate::stop::{Stop, StopAt};
+use crate::reading::file_bytes;
+use crate::stop::{Stop, StopAt, placed};
 use crate::store::{created_secret, random_seed, unchanged};
+use crate::words::Name;
 use log_checkpoints::{ReceiptFault, Unsigned, checkpoint, verify_receipt};
+use paxlog_run::request::{Word, bytes_at};
 use signed_notes::{Checkpoint, Cosigner, Policy, Signer, Verifier, open_checkpoint};
 use std::alloc::Global;
-use std::fs;
 
 // Puts a line feed behind a line.
 fn with_feed(line: Vec<u8>) -> Result<Vec<u8>, Stop> {
@@ -47,19 +49,15 @@ fn key_lines(
 /// verifier.
 pub fn keygen(
     rt: &HostRuntime,
-    name: &str,
-    path: &str,
+    name: Name,
+    key_file: Name,
     is_witness: bool,
 ) -> Result<Vec<u8>, StopAt> {
     let seed = random_seed(rt)?;
-    let (secret, line) = match key_lines(rt.alloc(), name, seed, is_witness) {
-        Ok(lines) => lines,
-        Err(why) => return Err(why.at(1)),
-    };
-    match created_secret(rt, path, &secret) {
-        Ok(()) => Ok(line),
-        Err(why) => Err(why.at(2)),
-    }
+    let lines = key_lines(rt.alloc(), name.text, seed, is_witness);
+    let (secret, line) = placed(name.place, lines)?;
+    placed(key_file.place, created_secret(rt, key_file.text, &secret))?;
+    Ok(line)
 }
 
 // What is said of a note, or why not.
@@ -92,33 +90,21 @@ pub fn note_of(
 /// Returns the checkpoint of the log of a file, signed by the key of another file.
 pub fn sign(
     rt: &HostRuntime,
-    path: &str,
-    key_path: &str,
+    log: Name,
+    key_file: Name,
     origin: Option<&str>,
 ) -> Result<Vec<u8>, StopAt> {
-    let text = match fs::read(rt, key_path) {
-        Ok(text) => text,
-        Err(error) => return Err(Stop::from(error).at(3)),
-    };
-    let signer = match signed_by(rt.alloc(), &text) {
-        Ok(signer) => signer,
-        Err(why) => return Err(why.at(3)),
-    };
-    let mut disk = match unchanged(rt, path) {
-        Ok(disk) => disk,
-        Err(why) => return Err(why.at(1)),
-    };
-    match note_of(rt, &mut disk, &signer, origin) {
-        Ok(note) => Ok(note),
-        Err(why) => Err(why.at(1)),
-    }
+    let text = file_bytes(rt, key_file)?;
+    let signer = placed(key_file.place, signed_by(rt.alloc(), &text))?;
+    let mut disk = placed(log.place, unchanged(rt, log.text))?;
+    placed(log.place, note_of(rt, &mut disk, &signer, origin))
 }
 
 /// Returns the key of a verifier that a word says.
-pub fn verifier(alloc: Global, word: &[u8]) -> Result<Verifier<'_>, StopAt> {
-    match Verifier::read(alloc, word) {
+pub fn verifier(alloc: Global, words: &[Vec<u8>], key: Word) -> Result<Verifier<'_>, StopAt> {
+    match Verifier::read(alloc, bytes_at(words, key.place)) {
         Ok(key) => Ok(key),
-        Err(fault) => Err(Stop::from(fault).at(1)),
+        Err(fault) => Err(Stop::from(fault).at(key.place)),
     }
 }
 

@@ -2,9 +2,9 @@
 
 use crate::folders::TileFault;
 use crate::stop::{Stop, StopAt};
-use crate::{USAGE, checkpoints};
+use crate::{checkpoints, usage};
 use log_file::fault::Fault;
-use paxlog_run::request::word;
+use paxlog_run::request::{Misuse, bytes_at};
 use std::io::Write;
 
 // Exit statuses.
@@ -50,7 +50,7 @@ fn status(fault: Fault) -> u8 {
 pub fn begin(rt: &HostRuntime, words: &[Vec<u8>], place: Option<usize>) {
     let _ = eprint!(rt; "paxlog: ");
     if let Some(place) = place {
-        let _ = rt.stderr().write_all(word(words, place));
+        let _ = rt.stderr().write_all(bytes_at(words, place));
         let _ = eprint!(rt; ": ");
     }
 }
@@ -88,14 +88,80 @@ fn complain_of_lock(rt: &HostRuntime, words: &[Vec<u8>], place: Option<usize>, w
     LOCKED
 }
 
+// Writes the lines of a command, or those of all where there is no such command or none is named.
+fn show_usage(rt: &HostRuntime, command: Option<&[u8]>) {
+    let lines = match command {
+        Some(command) => match usage::usage_of(rt.alloc(), command) {
+            Ok(Some(line)) => Ok(line),
+            Ok(None) => usage::usage(rt.alloc()),
+            Err(why) => Err(why),
+        },
+        None => usage::usage(rt.alloc()),
+    };
+    if let Ok(lines) = lines {
+        let _ = rt.stderr().write_all(&lines);
+    }
+}
+
+// Writes why the word at a place is wrong and the line of its command, and returns the status.
+fn complain_of_word(rt: &HostRuntime, words: &[Vec<u8>], place: Option<usize>, why: &str) -> u8 {
+    begin(rt, words, place);
+    let _ = eprintln!(rt; "{why}");
+    if let Some(command) = words.first() {
+        show_usage(rt, Some(command.as_slice()));
+    }
+    USED_WRONGLY
+}
+
+// The place of the word that is wrong, and why it is.
+fn wrong_word(misuse: Misuse) -> (usize, &'static str) {
+    match misuse {
+        Misuse::Nothing | Misuse::TooFew => (0, "too few words"),
+        Misuse::TooMany => (0, "too many words"),
+        Misuse::NoCommand(place) => (place, "there is no such command"),
+        Misuse::NoNumber(place) => (place, "it is no number"),
+        Misuse::NoDigest(place) => (place, "it is no digest of 64 hexadecimal digits"),
+        Misuse::NoLines(place) => (place, "a batch has one line at least"),
+        Misuse::NoBatches => (0, "--batch is an option of append-lines"),
+        Misuse::NoKey(place) => (place, "--key has to stand here"),
+        Misuse::NoOrigin(place) => (place, "--origin has to stand here"),
+    }
+}
+
+// Writes why the words ask for nothing and how the command is used, and returns the status.
+fn complain_of_use(rt: &HostRuntime, words: &[Vec<u8>], misuse: Misuse) -> u8 {
+    match misuse {
+        Misuse::Nothing => show_usage(rt, None),
+        Misuse::NoCommand(place) => {
+            let _ = eprint!(rt; "paxlog: there is no command ");
+            let _ = rt.stderr().write_all(bytes_at(words, place));
+            let _ = eprintln!(rt; "");
+            show_usage(rt, Some(b"help".as_slice()));
+        }
+        misuse => {
+            let (place, why) = wrong_word(misuse);
+            // a word that is read where none stands lacks
+            if place < words.len() {
+                return complain_of_word(rt, words, Some(place), why);
+            }
+            return complain_of_word(rt, words, Some(0), "too few words");
+        }
+    }
+    USED_WRONGLY
+}
+
 /// Writes why there is no answer, and returns the status.
 pub fn complain(rt: &HostRuntime, words: &[Vec<u8>], stop: StopAt) -> u8 {
     let StopAt { why, place } = stop;
     match why {
-        Stop::Words => {
-            let _ = eprint!(rt; "{USAGE}");
-            USED_WRONGLY
-        }
+        Stop::Misuse(misuse) => complain_of_use(rt, words, misuse),
+        Stop::NotText => complain_of_word(rt, words, place, "the name is no text"),
+        Stop::Empty => complain_of_word(
+            rt,
+            words,
+            None,
+            "the name of a folder or of a state is empty",
+        ),
         Stop::LongWord => {
             let _ = eprintln!(rt; "paxlog: a word is longer than 8192 bytes");
             USED_WRONGLY

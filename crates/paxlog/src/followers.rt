@@ -4,9 +4,10 @@ ghost use Rattle.std.specs.Prelude.{◌<◌, ◌^◌, IfOk};
 
 use crate::checkpoints::{opened, without_feed};
 use crate::folders::{CHECKPOINT, FolderTiles, keep_entries, kept_entries};
-use crate::reading::{if_found, note_bytes};
-use crate::stop::{Stop, StopAt};
+use crate::reading::{file_bytes, if_found, note_bytes};
+use crate::stop::{Stop, StopAt, placed};
 use crate::store::sync_folder_of;
+use crate::words::Name;
 use crate::writing::{locked, locked_folder, remove_whole, sync_file, write_whole};
 use log_file::fault::Fault;
 use log_store::InclusionProof;
@@ -73,6 +74,14 @@ pub fn log_in<'a>(
     }
 }
 
+/// A folder of tiles, the key that signs its checkpoints, and their origin, where one is named.
+#[derive(Clone, Copy)]
+pub struct Source<'a> {
+    pub folder: Name<'a>,
+    pub key: Verifier<'a>,
+    pub origin: Option<&'a str>,
+}
+
 /// A folder's checkpoint: its note, and what that states.
 #[derive(Drop)]
 pub struct Published {
@@ -81,15 +90,10 @@ pub struct Published {
 }
 
 /// Reads the checkpoint of a folder, which the key signed.
-pub fn read_checkpoint(
-    rt: &HostRuntime,
-    folder: &str,
-    key: &Verifier,
-    origin: Option<&str>,
-) -> Result<Published, Stop> {
-    let path = checkpoint_in(rt, folder)?;
+pub fn read_checkpoint(rt: &HostRuntime, from: &Source) -> Result<Published, Stop> {
+    let path = checkpoint_in(rt, from.folder.text)?;
     let note = note_bytes(rt, path.as_str())?;
-    let head = stated(rt, key, &note, origin)?;
+    let head = stated(rt, &from.key, &note, from.origin)?;
     Ok(Published { note, head })
 }
 
@@ -102,18 +106,13 @@ pub struct Audited {
 
 /// Returns what the checkpoint of a folder states, where all its tiles are those of a log with that root, and the entries that it keeps
 /// are the log's.
-pub fn audit(
-    rt: &HostRuntime,
-    folder: &str,
-    key: &Verifier,
-    origin: Option<&str>,
-) -> Result<Option<Audited>, Stop> {
-    let Published { note: _, head } = read_checkpoint(rt, folder, key, origin)?;
-    let disk = log_in(rt, folder, &head)?;
+pub fn audit(rt: &HostRuntime, from: &Source) -> Result<Option<Audited>, Stop> {
+    let Published { note: _, head } = read_checkpoint(rt, from)?;
+    let disk = log_in(rt, from.folder.text, &head)?;
     if !is_sound(&disk, &head)? {
         return Ok(None);
     }
-    match kept_entries(rt, folder, sized(&head)?)? {
+    match kept_entries(rt, from.folder.text, sized(&head)?)? {
         Some(kept) => Ok(Some(Audited { head, kept })),
         None => Ok(None),
     }
@@ -132,16 +131,10 @@ fn sized(head: &Head) -> Result<usize, Stop>
 
 /// Keeps the entries of the log of a folder's checkpoint in the folder: the lines of a text, in their order. Returns what the checkpoint
 /// states.
-pub fn keep(
-    rt: &HostRuntime,
-    folder: &str,
-    key: &Verifier,
-    origin: Option<&str>,
-    lines: &[u8],
-) -> Result<Head, Stop> {
-    let Published { note: _, head } = read_checkpoint(rt, folder, key, origin)?;
-    let _lock = locked_folder(rt, folder)?;
-    keep_entries(rt, folder, sized(&head)?, lines)?;
+pub fn keep(rt: &HostRuntime, from: &Source, lines: &[u8]) -> Result<Head, Stop> {
+    let Published { note: _, head } = read_checkpoint(rt, from)?;
+    let _lock = locked_folder(rt, from.folder.text)?;
+    keep_entries(rt, from.folder.text, sized(&head)?, lines)?;
     Ok(head)
 }
 
@@ -153,15 +146,9 @@ pub struct Proved {
 }
 
 /// Returns the inclusion proof of an index in the log of a folder's checkpoint, which is checked, and the checkpoint.
-pub fn prove(
-    rt: &HostRuntime,
-    folder: &str,
-    key: &Verifier,
-    origin: Option<&str>,
-    index: usize,
-) -> Result<Proved, Stop> {
-    let Published { note, head } = read_checkpoint(rt, folder, key, origin)?;
-    let disk = log_in(rt, folder, &head)?;
+pub fn prove(rt: &HostRuntime, from: &Source, index: usize) -> Result<Proved, Stop> {
+    let Published { note, head } = read_checkpoint(rt, from)?;
+    let disk = log_in(rt, from.folder.text, &head)?;
     let InclusionProof {
         size: _,
         root: _,
@@ -260,36 +247,28 @@ struct Step {
 // Finds the next step of a follower. Where no log has both checkpoints, the evidence is kept beside the state.
 fn next_step(
     rt: &HostRuntime,
-    folder: &str,
-    key: &Verifier,
-    state: &str,
-    origin: Option<&str>,
+    from: &Source,
+    state: Name,
     makes_first: bool,
 ) -> Result<Step, StopAt> {
-    let lock = match locked_state(rt, state, makes_first) {
-        Ok(lock) => lock,
-        Err(why) => return Err(why.at(3)),
-    };
-    let new = match read_checkpoint(rt, folder, key, origin) {
-        Ok(new) => new,
-        Err(why) => return Err(why.at(1)),
-    };
-    let old = match stated_in(rt, key, state, origin) {
-        Ok(old) => old,
-        Err(why) => return Err(why.at(3)),
-    };
-    let disk = log_in(rt, folder, &new.head)?;
+    let folder = from.folder;
+    let lock = placed(state.place, locked_state(rt, state.text, makes_first))?;
+    let new = placed(folder.place, read_checkpoint(rt, from))?;
+    let old = stated_in(rt, &from.key, state.text, from.origin);
+    let old = placed(state.place, old)?;
+    let disk = log_in(rt, folder.text, &new.head)?;
     match continues(rt.alloc(), &disk, &old, &new.head) {
         Ok(()) => Ok(Step {
             _lock: lock,
             old,
             new,
         }),
-        Err(Unfollowed::Fork) => match keep_evidence(rt, state, &disk, &old, &new) {
-            Ok(()) => Err(Stop::Fork.at(1)),
-            Err(why) => Err(why.at(3)),
-        },
-        Err(stop) => Err(Stop::from(stop).at(1)),
+        Err(Unfollowed::Fork) => {
+            let kept = keep_evidence(rt, state.text, &disk, &old, &new);
+            placed(state.place, kept)?;
+            Err(Stop::Fork.at(folder.place))
+        }
+        Err(stop) => Err(Stop::from(stop).at(folder.place)),
     }
 }
 
@@ -304,49 +283,34 @@ fn move_on(rt: &HostRuntime, state: &str, step: &Step) -> Result<(), Stop> {
 
 /// Moves a follower's state on to the checkpoint of a folder, which continues the one that it was left at, and returns what that
 /// states. Where no log has both, the new one is kept beside the state as evidence.
-pub fn follow(
-    rt: &HostRuntime,
-    folder: &str,
-    key: &Verifier,
-    state: &str,
-    origin: Option<&str>,
-) -> Result<Head, StopAt> {
-    let step = next_step(rt, folder, key, state, origin, true)?;
-    match move_on(rt, state, &step) {
-        Ok(()) => Ok(step.new.head),
-        Err(why) => Err(why.at(3)),
-    }
+pub fn follow(rt: &HostRuntime, from: &Source, state: Name) -> Result<Head, StopAt> {
+    let step = next_step(rt, from, state, true)?;
+    placed(state.place, move_on(rt, state.text, &step))?;
+    Ok(step.new.head)
 }
 
 /// Moves a witness's state on as `follow`, and returns the checkpoint with the witness's signature and the time. The state is there. It
 /// moves once the checkpoint is signed, and nothing is returned before that is on the disk.
 pub fn witness(
     rt: &HostRuntime,
-    folder: &str,
-    key: &Verifier,
-    state: &str,
-    key_path: &str,
-    origin: Option<&str>,
+    from: &Source,
+    state: Name,
+    key_file: Name,
 ) -> Result<Vec<u8>, StopAt> {
-    let text = match fs::read(rt, key_path) {
-        Ok(text) => text,
-        Err(error) => return Err(Stop::from(error).at(5)),
-    };
+    let text = file_bytes(rt, key_file)?;
     let cosigner = match Cosigner::read(rt.alloc(), without_feed(&text)) {
         Ok(cosigner) => cosigner,
-        Err(fault) => return Err(Stop::from(fault).at(5)),
+        Err(fault) => return Err(Stop::from(fault).at(key_file.place)),
     };
-    let step = next_step(rt, folder, key, state, origin, false)?;
+    let step = next_step(rt, from, state, false)?;
     let time = match SystemTime::now(rt)?.duration_since(UNIX_EPOCH) {
         Ok(time) => time.as_secs(),
         Err(_) => 0,
     };
     let note = match cosign(rt.alloc(), &step.new.note, &cosigner, time) {
         Ok(note) => note,
-        Err(fault) => return Err(Stop::from(fault).at(1)),
+        Err(fault) => return Err(Stop::from(fault).at(from.folder.place)),
     };
-    match move_on(rt, state, &step) {
-        Ok(()) => Ok(note),
-        Err(why) => Err(why.at(3)),
-    }
+    placed(state.place, move_on(rt, state.text, &step))?;
+    Ok(note)
 }

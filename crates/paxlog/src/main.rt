@@ -1,6 +1,7 @@
 //! The command `paxlog`: a transparency log in a file.
 #![tactic(auto)]
 
+mod appending;
 mod batches;
 mod checkpoints;
 mod complaints;
@@ -11,202 +12,36 @@ mod picture;
 mod progress;
 mod publishing;
 mod reading;
+mod saying;
 mod stop;
 mod store;
+mod usage;
 mod words;
 mod writing;
 
-use crate::batches::{Batches, Source};
-use crate::complaints::{begin, complain, reason};
-use crate::followers::Audited;
+use crate::appending::{append_files, append_lines, bytes_of};
+use crate::checkpoints::verifier;
+use crate::complaints::complain;
+use crate::followers::Source;
 use crate::picture::{image_of, text_of};
-use crate::progress::OnTerminal;
-use crate::stop::{Stop, StopAt};
-use crate::store::Keeper;
-use crate::words::{folder_name, name, words};
-use ark_trees::digest_of_entry;
-use log_checkpoints::{ReceiptFault, write_receipt};
+use crate::saying::{
+    say, say_audited, say_checkpoint, say_head, say_proof, say_receipt, say_root, say_verdict,
+    tell_recovered,
+};
+use crate::stop::{StopAt, placed};
+use crate::words::{folder_name, name_of, origin_of, words};
+use log_checkpoints::write_receipt;
 use log_file::fault::Fault;
-use log_store::{InclusionProof, Recovered};
-use log_tiles::Head;
-use paxlog_run::entries::digests_of_lines;
-use paxlog_run::replies::{line_of, line_of_root};
-use paxlog_run::request::{Options, Request, request_of, word};
+use log_store::InclusionProof;
+use paxlog_run::replies::line_of;
+use paxlog_run::request::{
+    Continuation, Inclusion, Keyed, Misuse, Request, Site, Word, bytes_at, request_of,
+};
 use paxlog_run::verdicts::{verify_consistency, verify_inclusion};
-use signed_notes::Verifier;
-use std::fs;
-use std::io::{Read, Write};
 use std::process::ExitCode;
-
-const USAGE: &str = "usage: paxlog append LOG [--after SIZE ROOT] [--wait SECONDS] [--] FILE ..
-       paxlog append-lines LOG [--after SIZE ROOT] [--wait SECONDS] [--batch COUNT] [--] FILE
-       paxlog root LOG [SIZE]
-       paxlog prove LOG INDEX [SIZE]
-       paxlog show LOG INDEX [SIZE]
-       paxlog show-image LOG INDEX [SIZE]
-       paxlog consistency LOG OLD_SIZE [SIZE]
-       paxlog check LOG
-       paxlog recover LOG [NEW]
-       paxlog verify ROOT SIZE INDEX FILE PROOF
-       paxlog verify-consistency OLD_SIZE OLD_ROOT SIZE ROOT PROOF
-       paxlog keygen NAME KEYFILE
-       paxlog keygen-witness NAME KEYFILE
-       paxlog checkpoint LOG --key KEYFILE [--origin ORIGIN]
-       paxlog verify-checkpoint KEY FILE [ORIGIN]
-       paxlog tiles LOG FOLDER --key KEYFILE [--origin ORIGIN]
-       paxlog audit FOLDER KEY [ORIGIN]
-       paxlog keep FOLDER KEY FILE [ORIGIN]
-       paxlog follow FOLDER KEY STATE [ORIGIN]
-       paxlog tile-proof FOLDER KEY INDEX [ORIGIN]
-       paxlog receipt FOLDER KEY INDEX [ORIGIN]
-       paxlog verify-receipt KEY FILE RECEIPT [ORIGIN]
-       paxlog witness FOLDER KEY STATE --key KEYFILE [--origin ORIGIN]
-       paxlog -h | --help | --version
-FILE - is standard input.
-";
 
 const VERSION: &str = "paxlog 1.0.0
 ";
-
-// The status of a `no`.
-const NO: u8 = 1;
-
-// The bytes of the file at a place of the words, or of standard input.
-fn bytes_of(rt: &HostRuntime, words: &[Vec<u8>], place: usize) -> Result<Vec<u8>, StopAt> {
-    let name = name(words, place)?;
-    if name == "-" {
-        let mut bytes = Vec::new(rt.alloc());
-        return match rt.stdin().read_to_end(&mut bytes) {
-            Ok(_) => Ok(bytes),
-            Err(error) => Err(Stop::from(error).at(place)),
-        };
-    }
-    match fs::read(rt, name) {
-        Ok(bytes) => Ok(bytes),
-        Err(error) => Err(Stop::from(error).at(place)),
-    }
-}
-
-// Writes what is said, and returns the status.
-fn say(rt: &HostRuntime, line: &[u8]) -> Result<u8, StopAt> {
-    let mut out = rt.stdout();
-    out.write_all(line)?;
-    out.flush()?;
-    Ok(0)
-}
-
-// Writes what a check says, and returns the status.
-fn say_verdict(rt: &HostRuntime, holds: bool) -> Result<u8, StopAt> {
-    if holds {
-        return say(rt, b"yes\n");
-    }
-    say(rt, b"no\n")?;
-    Ok(NO)
-}
-
-// Writes what a check of a proof says, and why a proof is none.
-fn say_proof(rt: &HostRuntime, verdict: Result<bool, Fault>) -> Result<u8, StopAt> {
-    match verdict {
-        Ok(holds) => say_verdict(rt, holds),
-        Err(fault) if fault == Fault::Word || fault == Fault::Length => {
-            let why = reason(fault);
-            let _ = eprintln!(rt; "paxlog: {why}");
-            say_verdict(rt, false)
-        }
-        Err(fault) => Err(StopAt::from(fault)),
-    }
-}
-
-// Writes a number, and returns the status.
-fn say_number(rt: &HostRuntime, number: usize) -> Result<u8, StopAt> {
-    say(rt, format!(in rt.alloc(); "{number}\n")?.as_bytes())
-}
-
-// Writes a size that was appended, and returns the status.
-fn say_size(rt: &HostRuntime, size: usize) -> Result<u8, StopAt> {
-    match say_number(rt, size) {
-        Ok(status) => Ok(status),
-        Err(_) => Err(StopAt::from(Stop::Unsaid)),
-    }
-}
-
-// Appends entries at once, and returns the new size.
-fn append(
-    rt: &HostRuntime,
-    words: &[Vec<u8>],
-    options: &Options,
-    digests: &[[u8; 32]],
-) -> Result<usize, StopAt> {
-    let mut keeper = of_log(Keeper::open(rt, name(words, 1)?, options))?;
-    of_log(keeper.append(rt, digests))
-}
-
-// Appends the lines of a file, so many at once, and writes each new size once it is on the disk.
-fn append_batches(
-    rt: &HostRuntime,
-    words: &[Vec<u8>],
-    options: &Options,
-    place: usize,
-    count: usize,
-) -> Result<u8, StopAt> {
-    let source = match Source::open(rt, name(words, place)?) {
-        Ok(source) => source,
-        Err(why) => return Err(why.at(place)),
-    };
-    let mut keeper = of_log(Keeper::open(rt, name(words, 1)?, options))?;
-    let mut batches = Batches::new(rt.alloc(), source, count);
-    for _turn in 0..u64::MAX {
-        let digests = match batches.next(rt) {
-            Ok(digests) => digests,
-            Err(why) => return Err(why.at(place)),
-        };
-        // an empty input says the size that there is
-        if !digests.is_empty() || batches.is_first() {
-            say_size(rt, of_log(keeper.append(rt, &digests))?)?;
-        }
-        if batches.is_at_end() {
-            return Ok(0);
-        }
-    }
-    Ok(0)
-}
-
-// The digests of the entries that the files from a place on are.
-fn digests_of_files(
-    rt: &HostRuntime,
-    words: &[Vec<u8>],
-    first: usize,
-) -> Result<Vec<[u8; 32]>, StopAt> {
-    let mut digests = Vec::new(rt.alloc());
-    for place in first..words.len() {
-        digests.push(digest_of_entry(&bytes_of(rt, words, place)?))?;
-    }
-    Ok(digests)
-}
-
-// Appends the lines of a file at once, and writes the new size. It shows how far it is.
-fn append_lines(
-    rt: &HostRuntime,
-    words: &[Vec<u8>],
-    options: &Options,
-    place: usize,
-) -> Result<u8, StopAt> {
-    let mut progress = OnTerminal::new(rt);
-    let bytes = bytes_of(rt, words, place)?;
-    let digests = digests_of_lines(rt.alloc(), &bytes, &mut progress)?;
-    progress.writes();
-    let appended = append(rt, words, options, &digests);
-    progress.end();
-    say_size(rt, appended?)
-}
-
-// What is said of the log, or why not.
-fn of_log<T: Drop>(said: Result<T, Stop>) -> Result<T, StopAt> {
-    match said {
-        Ok(value) => Ok(value),
-        Err(why) => Err(why.at(1)),
-    }
-}
 
 // The picture of a proof.
 fn picture_of(
@@ -221,258 +56,315 @@ fn picture_of(
     text_of(rt.alloc(), proof.size, index, &proof.digest, &proof.path)
 }
 
-// Says on standard error what of a file can be recovered, and what was done.
-fn tell(rt: &HostRuntime, words: &[Vec<u8>], found: &Recovered, is_made: bool) {
-    begin(rt, words, Some(1));
-    let _ = match found.stated {
-        None => eprint!(rt; "no slot of its head is whole; "),
-        Some(size) => eprint!(rt; "its head says {size} entries; "),
-    };
-    let _ = eprintln!(rt; "the digests of the first {} are sound", found.size);
-    begin(rt, words, if is_made { Some(2) } else { Some(1) });
-    let _ = if is_made {
-        eprintln!(rt; "a new log of {} entries was made", found.size)
-    } else {
-        eprintln!(rt; "nothing was changed: with NEW behind LOG a new log is made of these entries")
-    };
+// The root of a log.
+fn root(rt: &HostRuntime, words: &[Vec<u8>], log: Word, size: Option<usize>) -> Result<u8, StopAt> {
+    let log = name_of(words, log)?;
+    let (size, root) = placed(log.place, store::root(rt, log.text, size))?;
+    say_root(rt, size, &root)
+}
+
+// The inclusion proof of an entry.
+fn proof_of(
+    rt: &HostRuntime,
+    words: &[Vec<u8>],
+    log: Word,
+    index: usize,
+    size: Option<usize>,
+) -> Result<InclusionProof, StopAt> {
+    let log = name_of(words, log)?;
+    placed(log.place, store::prove(rt, log.text, index, size))
+}
+
+// The consistency proof of two sizes.
+fn consistency(
+    rt: &HostRuntime,
+    words: &[Vec<u8>],
+    log: Word,
+    old_size: usize,
+    size: Option<usize>,
+) -> Result<u8, StopAt> {
+    let log = name_of(words, log)?;
+    let path = placed(log.place, store::consistency(rt, log.text, old_size, size))?;
+    say(rt, &line_of(rt.alloc(), &path)?)
+}
+
+// Whether a file is that of a log.
+fn check(rt: &HostRuntime, words: &[Vec<u8>], log: Word) -> Result<u8, StopAt> {
+    let log = name_of(words, log)?;
+    let holds = placed(log.place, store::check(rt, log.text))?;
+    say_verdict(rt, holds)
 }
 
 // Says what of a file can be recovered, or makes a new one of it; writes its size and its root.
-fn recover(rt: &HostRuntime, words: &[Vec<u8>], is_made: bool) -> Result<u8, StopAt> {
-    let old = name(words, 1)?;
-    let found = if is_made {
-        store::recover(rt, old, name(words, 2)?)?
-    } else {
-        of_log(store::recoverable(rt, old))?
+fn recover(
+    rt: &HostRuntime,
+    words: &[Vec<u8>],
+    log: Word,
+    new: Option<Word>,
+) -> Result<u8, StopAt> {
+    let log = name_of(words, log)?;
+    let (new, found) = match new {
+        Some(new) => {
+            let new = name_of(words, new)?;
+            (Some(new), store::recover(rt, log, new)?)
+        }
+        None => (None, placed(log.place, store::recoverable(rt, log.text))?),
     };
-    let line = line_of_root(rt.alloc(), found.size, &found.root)?;
-    tell(rt, words, &found, is_made);
+    tell_recovered(rt, words, log, new, &found);
+    say_root(rt, found.size, &found.root)
+}
+
+// Whether an entry is one of a log with a root, by its proof.
+fn verify(rt: &HostRuntime, words: &[Vec<u8>], shown: &Inclusion) -> Result<u8, StopAt> {
+    let entry = bytes_of(rt, words, shown.file)?;
+    let proof = bytes_at(words, shown.proof.place);
+    let verdict = verify_inclusion(
+        rt.alloc(),
+        &shown.root,
+        shown.size,
+        shown.index,
+        &entry,
+        proof,
+    );
+    say_proof(rt, verdict)
+}
+
+// Whether a log with a root continues another, by a proof.
+fn verify_continuation(
+    rt: &HostRuntime,
+    words: &[Vec<u8>],
+    shown: &Continuation,
+) -> Result<u8, StopAt> {
+    let Continuation {
+        old_size,
+        old_root,
+        size,
+        root,
+        proof,
+    } = *shown;
+    let proof = bytes_at(words, proof.place);
+    let verdict = verify_consistency(rt.alloc(), old_size, &old_root, size, &root, proof);
+    say_proof(rt, verdict)
+}
+
+// A new key, whose verifier is written.
+fn keygen(
+    rt: &HostRuntime,
+    words: &[Vec<u8>],
+    name: Word,
+    key_file: Word,
+    is_witness: bool,
+) -> Result<u8, StopAt> {
+    let (name, key_file) = (name_of(words, name)?, name_of(words, key_file)?);
+    say(rt, &checkpoints::keygen(rt, name, key_file, is_witness)?)
+}
+
+// The signed checkpoint of a log.
+fn checkpoint(rt: &HostRuntime, words: &[Vec<u8>], log: Word, keyed: &Keyed) -> Result<u8, StopAt> {
+    let origin = origin_of(words, keyed.origin)?;
+    let (log, key_file) = (name_of(words, log)?, name_of(words, keyed.key_file)?);
+    say(rt, &checkpoints::sign(rt, log, key_file, origin)?)
+}
+
+// What the checkpoint of a file states, where a key signed it.
+fn verify_checkpoint(
+    rt: &HostRuntime,
+    words: &[Vec<u8>],
+    key: Word,
+    file: Word,
+    origin: Option<Word>,
+) -> Result<u8, StopAt> {
+    let origin = origin_of(words, origin)?;
+    let key = verifier(rt.alloc(), words, key)?;
+    let note = bytes_of(rt, words, file)?;
+    say_checkpoint(rt, checkpoints::opened(rt.alloc(), &key, &note, origin))
+}
+
+// What a receipt shows of an entry, where a key signed its checkpoint.
+fn verify_receipt(
+    rt: &HostRuntime,
+    words: &[Vec<u8>],
+    site: (Word, Option<Word>),
+    file: Word,
+    receipt: Word,
+) -> Result<u8, StopAt> {
+    let origin = origin_of(words, site.1)?;
+    let key = verifier(rt.alloc(), words, site.0)?;
+    let entry = bytes_of(rt, words, file)?;
+    let receipt = bytes_of(rt, words, receipt)?;
+    say_receipt(
+        rt,
+        checkpoints::shown(rt.alloc(), &key, &receipt, &entry, origin),
+    )
+}
+
+// Writes the tiles of a log to a folder.
+fn tiles(
+    rt: &HostRuntime,
+    words: &[Vec<u8>],
+    log: Word,
+    folder: Word,
+    keyed: &Keyed,
+) -> Result<u8, StopAt> {
+    let origin = origin_of(words, keyed.origin)?;
+    let (log, folder) = (name_of(words, log)?, folder_name(words, folder)?);
+    let key_file = name_of(words, keyed.key_file)?;
+    say_head(rt, &publishing::publish(rt, log, folder, key_file, origin)?)
+}
+
+// The folder of tiles that words name, the key and the origin.
+fn source_of<'a>(
+    rt: &HostRuntime,
+    words: &'a [Vec<u8>],
+    site: &Site,
+) -> Result<Source<'a>, StopAt> {
+    let origin = origin_of(words, site.origin)?;
+    let key = verifier(rt.alloc(), words, site.key)?;
+    let folder = folder_name(words, site.folder)?;
+    Ok(Source {
+        folder,
+        key,
+        origin,
+    })
+}
+
+// Whether the tiles of a folder are those of its checkpoint.
+fn audit(rt: &HostRuntime, words: &[Vec<u8>], site: &Site) -> Result<u8, StopAt> {
+    let from = source_of(rt, words, site)?;
+    match placed(from.folder.place, followers::audit(rt, &from))? {
+        Some(found) => say_audited(rt, words, from.folder, &found),
+        None => say_verdict(rt, false),
+    }
+}
+
+// Keeps the entries of a log in a folder.
+fn keep(rt: &HostRuntime, words: &[Vec<u8>], site: &Site, file: Word) -> Result<u8, StopAt> {
+    let from = source_of(rt, words, site)?;
+    let lines = bytes_of(rt, words, file)?;
+    let kept = followers::keep(rt, &from, &lines);
+    say_head(rt, &placed(from.folder.place, kept)?)
+}
+
+// Moves a follower's state on.
+fn follow(rt: &HostRuntime, words: &[Vec<u8>], site: &Site, state: Word) -> Result<u8, StopAt> {
+    let from = source_of(rt, words, site)?;
+    let state = folder_name(words, state)?;
+    say_head(rt, &followers::follow(rt, &from, state)?)
+}
+
+// Moves a witness's state on, and signs.
+fn witness(
+    rt: &HostRuntime,
+    words: &[Vec<u8>],
+    site: &Site,
+    state: Word,
+    key_file: Word,
+) -> Result<u8, StopAt> {
+    let from = source_of(rt, words, site)?;
+    let state = folder_name(words, state)?;
+    let key_file = name_of(words, key_file)?;
+    say(rt, &followers::witness(rt, &from, state, key_file)?)
+}
+
+// The inclusion proof of an entry by the tiles of a folder, as a receipt or alone.
+fn tile_proof(
+    rt: &HostRuntime,
+    words: &[Vec<u8>],
+    site: &Site,
+    index: usize,
+    is_receipt: bool,
+) -> Result<u8, StopAt> {
+    let from = source_of(rt, words, site)?;
+    let proof = placed(from.folder.place, followers::prove(rt, &from, index))?;
+    let line = if is_receipt {
+        write_receipt(rt.alloc(), index, &proof.path, &proof.note)?
+    } else {
+        line_of(rt.alloc(), &proof.path)?
+    };
     say(rt, &line)
 }
 
-// Stops where a word from a place on, or LOG before them, is no text: before any file is read.
-fn name_all(words: &[Vec<u8>], first: usize) -> Result<(), StopAt> {
-    for place in first..words.len() {
-        name(words, 1)?;
-        name(words, place)?;
-    }
-    Ok(())
-}
-
-// The text at a place of the words, if one stands there.
-fn optional(words: &[Vec<u8>], place: usize, is_there: bool) -> Result<Option<&str>, StopAt> {
-    if is_there {
-        Ok(Some(name(words, place)?))
-    } else {
-        Ok(None)
-    }
-}
-
-// Writes the size and the root of a checkpoint, or why it is not accepted.
-fn say_checkpoint(
-    rt: &HostRuntime,
-    opened: Result<(usize, [u8; 32]), signed_notes::Fault>,
-) -> Result<u8, StopAt> {
-    match opened {
-        Ok(stated) => {
-            let root = stated.1;
-            say(rt, &line_of_root(rt.alloc(), stated.0, &root)?)
-        }
-        Err(signed_notes::Fault::Memory) => Err(StopAt::from(Fault::Memory)),
-        Err(fault) => {
-            let why = checkpoints::reason(fault);
-            let _ = eprintln!(rt; "paxlog: {why}");
-            say_verdict(rt, false)
-        }
-    }
-}
-
-// Writes the size and the root that a checkpoint states, and returns the status.
-fn say_head(rt: &HostRuntime, head: &Head) -> Result<u8, StopAt> {
-    say(rt, &line_of_root(rt.alloc(), head.size, &head.root)?)
-}
-
-// Writes the size and the root of the log that a receipt shows an entry of, or why it is not accepted.
-fn say_receipt(
-    rt: &HostRuntime,
-    found: Result<Option<(usize, [u8; 32])>, ReceiptFault>,
-) -> Result<u8, StopAt> {
-    match found {
-        Ok(Some(stated)) => {
-            let root = stated.1;
-            say(rt, &line_of_root(rt.alloc(), stated.0, &root)?)
-        }
-        Ok(None) => say_verdict(rt, false),
-        Err(ReceiptFault::Spelling) => {
-            let _ = eprintln!(rt; "paxlog: the receipt is none");
-            say_verdict(rt, false)
-        }
-        Err(ReceiptFault::Note(fault)) => say_checkpoint(rt, Err(fault)),
-    }
-}
-
-// Writes what an audit found: on standard error, of how many entries the bytes are kept, if not of all.
-fn say_audited(rt: &HostRuntime, words: &[Vec<u8>], found: &Audited) -> Result<u8, StopAt> {
-    if found.kept < found.head.size {
-        begin(rt, words, Some(1));
-        let _ = eprintln!(rt; "the bytes of the first {} entries are kept", found.kept);
-    }
-    say_head(rt, &found.head)
-}
-
-// The verifier's key at a place of the words.
-fn key_at<'a>(
-    rt: &HostRuntime,
-    words: &'a [Vec<u8>],
-    place: usize,
-) -> Result<Verifier<'a>, StopAt> {
-    match checkpoints::verifier(rt.alloc(), word(words, place)) {
-        Ok(key) => Ok(key),
-        Err(why) => Err(why.why.at(place)),
+// How the command is used, or one of its commands.
+fn help(rt: &HostRuntime, words: &[Vec<u8>], command: Option<Word>) -> Result<u8, StopAt> {
+    match command {
+        None => say(rt, &usage::usage(rt.alloc())?),
+        Some(command) => match usage::usage_of(rt.alloc(), bytes_at(words, command.place))? {
+            Some(line) => say(rt, &line),
+            None => Err(StopAt::from(Misuse::NoCommand(command.place))),
+        },
     }
 }
 
 // Does what is asked for, and returns the status.
 fn answer(rt: &HostRuntime, request: Request, words: &[Vec<u8>]) -> Result<u8, StopAt> {
     match request {
-        Request::Append { options, first } => {
-            name_all(words, first)?;
-            let digests = digests_of_files(rt, words, first)?;
-            say_size(rt, append(rt, words, &options, &digests)?)
-        }
-        Request::AppendLines { options, first } => {
-            name_all(words, first)?;
-            match options.batch {
-                Some(count) => append_batches(rt, words, &options, first, count),
-                None => append_lines(rt, words, &options, first),
-            }
-        }
-        Request::Root { size } => {
-            let (size, root) = of_log(store::root(rt, name(words, 1)?, size))?;
-            say(rt, &line_of_root(rt.alloc(), size, &root)?)
-        }
-        Request::Prove { index, size } => {
-            let proof = of_log(store::prove(rt, name(words, 1)?, index, size))?;
+        Request::Append {
+            log,
+            options,
+            files,
+        } => append_files(rt, words, log, &options, files),
+        Request::AppendLines { log, options, file } => append_lines(rt, words, log, &options, file),
+        Request::Root { log, size } => root(rt, words, log, size),
+        Request::Prove { log, index, size } => {
+            let proof = proof_of(rt, words, log, index, size)?;
             say(rt, &line_of(rt.alloc(), &proof.path)?)
         }
         Request::Show {
+            log,
             index,
             size,
             is_image,
         } => {
-            let proof = of_log(store::prove(rt, name(words, 1)?, index, size))?;
+            let proof = proof_of(rt, words, log, index, size)?;
             say(rt, &picture_of(rt, index, &proof, is_image)?)
         }
-        Request::Consistency { old_size, size } => {
-            let path = of_log(store::consistency(rt, name(words, 1)?, old_size, size))?;
-            say(rt, &line_of(rt.alloc(), &path)?)
-        }
-        Request::Check => say_verdict(rt, of_log(store::check(rt, name(words, 1)?))?),
-        Request::Recover { is_made } => recover(rt, words, is_made),
-        Request::Verify { root, size, index } => {
-            let entry = bytes_of(rt, words, 4)?;
-            let proof = word(words, 5);
-            say_proof(
-                rt,
-                verify_inclusion(rt.alloc(), &root, size, index, &entry, proof),
-            )
-        }
-        Request::VerifyConsistency {
+        Request::Consistency {
+            log,
             old_size,
-            old_root,
             size,
-            root,
-        } => {
-            let proof = word(words, 5);
-            let verdict = verify_consistency(rt.alloc(), old_size, &old_root, size, &root, proof);
-            say_proof(rt, verdict)
+        } => consistency(rt, words, log, old_size, size),
+        Request::Check { log } => check(rt, words, log),
+        Request::Recover { log, new } => recover(rt, words, log, new),
+        Request::Verify(shown) => verify(rt, words, &shown),
+        Request::VerifyConsistency(shown) => verify_continuation(rt, words, &shown),
+        Request::Keygen {
+            name,
+            key_file,
+            is_witness,
+        } => keygen(rt, words, name, key_file, is_witness),
+        Request::Checkpoint { log, keyed } => checkpoint(rt, words, log, &keyed),
+        Request::VerifyCheckpoint { key, file, origin } => {
+            verify_checkpoint(rt, words, key, file, origin)
         }
-        Request::Keygen { is_witness } => say(
-            rt,
-            &checkpoints::keygen(rt, name(words, 1)?, name(words, 2)?, is_witness)?,
-        ),
-        Request::Checkpoint { has_origin } => {
-            let origin = optional(words, 5, has_origin)?;
-            let note = checkpoints::sign(rt, name(words, 1)?, name(words, 3)?, origin)?;
-            say(rt, &note)
-        }
-        Request::VerifyCheckpoint { has_origin } => {
-            let origin = optional(words, 3, has_origin)?;
-            let key = checkpoints::verifier(rt.alloc(), word(words, 1))?;
-            let note = bytes_of(rt, words, 2)?;
-            say_checkpoint(rt, checkpoints::opened(rt.alloc(), &key, &note, origin))
-        }
-        Request::Tiles { has_origin } => {
-            let origin = optional(words, 6, has_origin)?;
-            let (log, folder) = (name(words, 1)?, folder_name(words, 2)?);
-            let head = publishing::publish(rt, log, folder, name(words, 4)?, origin)?;
-            say_head(rt, &head)
-        }
-        Request::Audit { has_origin } => {
-            let origin = optional(words, 3, has_origin)?;
-            let key = key_at(rt, words, 2)?;
-            match of_log(followers::audit(rt, folder_name(words, 1)?, &key, origin))? {
-                Some(found) => say_audited(rt, words, &found),
-                None => say_verdict(rt, false),
-            }
-        }
-        Request::Keep { has_origin } => {
-            let origin = optional(words, 4, has_origin)?;
-            let key = key_at(rt, words, 2)?;
-            let folder = folder_name(words, 1)?;
-            let lines = bytes_of(rt, words, 3)?;
-            let head = of_log(followers::keep(rt, folder, &key, origin, &lines))?;
-            say_head(rt, &head)
-        }
-        Request::Follow { has_origin } => {
-            let origin = optional(words, 4, has_origin)?;
-            let key = key_at(rt, words, 2)?;
-            let (folder, state) = (folder_name(words, 1)?, folder_name(words, 3)?);
-            let head = followers::follow(rt, folder, &key, state, origin)?;
-            say_head(rt, &head)
-        }
+        Request::Tiles { log, folder, keyed } => tiles(rt, words, log, folder, &keyed),
+        Request::Audit { site } => audit(rt, words, &site),
+        Request::Keep { site, file } => keep(rt, words, &site, file),
+        Request::Follow { site, state } => follow(rt, words, &site, state),
         Request::TileProof {
+            site,
             index,
-            has_origin,
             is_receipt,
-        } => {
-            let origin = optional(words, 4, has_origin)?;
-            let key = key_at(rt, words, 2)?;
-            let folder = folder_name(words, 1)?;
-            let proof = of_log(followers::prove(rt, folder, &key, origin, index))?;
-            if is_receipt {
-                say(
-                    rt,
-                    &write_receipt(rt.alloc(), index, &proof.path, &proof.note)?,
-                )
-            } else {
-                say(rt, &line_of(rt.alloc(), &proof.path)?)
-            }
-        }
-        Request::VerifyReceipt { has_origin } => {
-            let origin = optional(words, 4, has_origin)?;
-            let key = key_at(rt, words, 1)?;
-            let entry = bytes_of(rt, words, 2)?;
-            let receipt = bytes_of(rt, words, 3)?;
-            let found = checkpoints::shown(rt.alloc(), &key, &receipt, &entry, origin);
-            say_receipt(rt, found)
-        }
-        Request::Witness { has_origin } => {
-            let origin = optional(words, 7, has_origin)?;
-            let key = key_at(rt, words, 2)?;
-            let (folder, state) = (folder_name(words, 1)?, folder_name(words, 3)?);
-            let note = followers::witness(rt, folder, &key, state, name(words, 5)?, origin)?;
-            say(rt, &note)
-        }
-        Request::Help => say(rt, USAGE.as_bytes()),
+        } => tile_proof(rt, words, &site, index, is_receipt),
+        Request::VerifyReceipt {
+            key,
+            file,
+            receipt,
+            origin,
+        } => verify_receipt(rt, words, (key, origin), file, receipt),
+        Request::Witness {
+            site,
+            state,
+            key_file,
+        } => witness(rt, words, &site, state, key_file),
+        Request::Help { command } => help(rt, words, command),
         Request::Version => say(rt, VERSION.as_bytes()),
     }
 }
 
 fn start(rt: &HostRuntime, words: &[Vec<u8>]) -> Result<u8, StopAt> {
     match request_of(words) {
-        Some(request) => answer(rt, request, words),
-        None => Err(StopAt::from(Stop::Words)),
+        Ok(request) => answer(rt, request, words),
+        Err(misuse) => Err(StopAt::from(misuse)),
     }
 }
 

@@ -7,9 +7,10 @@ use crate::checkpoints::{note_of, signed_by};
 use crate::file_disk::FileDisk;
 use crate::folders::{TileFault, path_of};
 use crate::followers::{checkpoint_in, log_in, nothing, stated_in};
-use crate::reading::is_there;
-use crate::stop::{Stop, StopAt};
+use crate::reading::{file_bytes, is_there};
+use crate::stop::{Stop, StopAt, placed};
 use crate::store::{folder_of, root_of_first, sync_folder_of, unchanged};
+use crate::words::Name;
 use crate::writing::{locked_folder, sync_above, sync_way, write_whole};
 use log_file::fault::Fault;
 use log_tiles::{
@@ -195,64 +196,40 @@ fn continues_old(rt: &HostRuntime, disk: &FileDisk, old: &Head) -> Result<(), St
 /// its tiles. Nothing is signed unless what was written leads to the root.
 pub fn publish(
     rt: &HostRuntime,
-    path: &str,
-    folder: &str,
-    key_path: &str,
+    log: Name,
+    folder: Name,
+    key_file: Name,
     origin: Option<&str>,
 ) -> Result<Head, StopAt> {
-    let text = match fs::read(rt, key_path) {
-        Ok(text) => text,
-        Err(error) => return Err(Stop::from(error).at(4)),
-    };
-    let signer = match signed_by(rt.alloc(), &text) {
-        Ok(signer) => signer,
-        Err(why) => return Err(why.at(4)),
-    };
-    let mut disk = match unchanged(rt, path) {
-        Ok(disk) => disk,
-        Err(why) => return Err(why.at(1)),
-    };
+    let text = file_bytes(rt, key_file)?;
+    let signer = placed(key_file.place, signed_by(rt.alloc(), &text))?;
+    let mut disk = placed(log.place, unchanged(rt, log.text))?;
     let (size, root) = match log_store::root(&disk, None) {
         Ok(root) => root,
-        Err(why) => return Err(Stop::from(why).at(1)),
+        Err(why) => return Err(Stop::from(why).at(log.place)),
     };
-    if let Err(error) = fs::create_dir_all(rt, folder) {
-        return Err(Stop::from(error).at(2));
+    if let Err(error) = fs::create_dir_all(rt, folder.text) {
+        return Err(Stop::from(error).at(folder.place));
     }
     // what the checkpoint says is read once no other process writes another
-    let _lock = match locked_folder(rt, folder) {
-        Ok(lock) => lock,
-        Err(why) => return Err(why.at(2)),
-    };
-    let checkpoint = checkpoint_in(rt, folder)?;
-    let old = match stated_in(rt, &signer.verifier(), checkpoint.as_str(), origin) {
-        Ok(old) => old,
-        Err(why) => return Err(why.at(2)),
-    };
+    let _lock = placed(folder.place, locked_folder(rt, folder.text))?;
+    let checkpoint = checkpoint_in(rt, folder.text)?;
+    let stated = stated_in(rt, &signer.verifier(), checkpoint.as_str(), origin);
+    let old = placed(folder.place, stated)?;
     if old.size > size {
-        return Err(Stop::Shrunk.at(1));
+        return Err(Stop::Shrunk.at(log.place));
     }
-    if let Err(why) = continues_old(rt, &disk, &old) {
-        return Err(why.at(1));
-    }
-    let written = match write_tiles(rt, &disk, old.size, size, folder) {
-        Ok(written) => written,
-        Err(why) => return Err(why.at(2)),
-    };
+    placed(log.place, continues_old(rt, &disk, &old))?;
+    let written = write_tiles(rt, &disk, old.size, size, folder.text);
+    let written = placed(folder.place, written)?;
     let head = Head { size, root };
-    match lead_to_root(rt, folder, &head, &written) {
-        Ok(true) => (),
-        Ok(false) => return Err(Stop::Fault(Fault::Damaged).at(1)),
-        Err(why) => return Err(why.at(2)),
+    if !placed(folder.place, lead_to_root(rt, folder.text, &head, &written))? {
+        return Err(Stop::Fault(Fault::Damaged).at(log.place));
     }
-    let note = match note_of(rt, &mut disk, &signer, origin) {
-        Ok(note) => note,
-        Err(why) => return Err(why.at(1)),
-    };
-    match write_checkpoint(rt, folder, checkpoint.as_str(), &note) {
-        Ok(()) => Ok(head),
-        Err(why) => Err(why.at(2)),
-    }
+    let note = placed(log.place, note_of(rt, &mut disk, &signer, origin))?;
+    let done = write_checkpoint(rt, folder.text, checkpoint.as_str(), &note);
+    placed(folder.place, done)?;
+    Ok(head)
 }
 
 // Writes the checkpoint of a folder, whose name is on the disk before, and returns once it is on the disk.

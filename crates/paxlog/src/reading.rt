@@ -1,6 +1,7 @@
 //! Files that strangers may have made: regular ones alone are opened, and no more of one is read than it may have.
 
-use crate::stop::Stop;
+use crate::stop::{Stop, StopAt};
+use crate::words::Name;
 use std::fs::{File, Metadata};
 use std::io::Read;
 use std::{fs, io};
@@ -28,6 +29,14 @@ pub fn open_regular(rt: &HostRuntime, path: &str) -> Result<Regular, Stop> {
     // it may be another file by now
     let length = length_of(rt, path, file.metadata()?)?;
     Ok(Regular { file, length })
+}
+
+/// Returns the bytes of a file that is named.
+pub fn file_bytes(rt: &HostRuntime, name: Name) -> Result<Vec<u8>, StopAt> {
+    match fs::read(rt, name.text) {
+        Ok(bytes) => Ok(bytes),
+        Err(error) => Err(Stop::from(error).at(name.place)),
+    }
 }
 
 /// Returns the bytes of a regular file; none where it has more than so many.

@@ -3,6 +3,7 @@
 use crate::folders::TileFault;
 use log_file::fault::Fault;
 use log_tiles::{Unfollowed, Unread};
+use paxlog_run::request::Misuse;
 use std::alloc::{AllocError, AllocFailed};
 use std::fs::TryLockError;
 use std::io;
@@ -10,8 +11,12 @@ use std::io;
 /// Why the command stops before it is done.
 #[derive(Drop)]
 pub enum Stop {
-    /// It knows no such words.
-    Words,
+    /// The words ask for nothing.
+    Misuse(Misuse),
+    /// A name is no text.
+    NotText,
+    /// The name of a folder or of a state is empty.
+    Empty,
     /// A word has more bytes than any that it takes.
     LongWord,
     /// There is no answer.
@@ -70,6 +75,23 @@ impl Stop {
         StopAt {
             why: self,
             place: Some(place),
+        }
+    }
+}
+
+/// Returns what was said; where it is a refusal, that it speaks of the word at a place.
+pub fn placed<T: Drop>(place: usize, said: Result<T, Stop>) -> Result<T, StopAt> {
+    match said {
+        Ok(value) => Ok(value),
+        Err(why) => Err(why.at(place)),
+    }
+}
+
+impl From<Misuse> for StopAt {
+    fn from(misuse: Misuse) -> StopAt {
+        StopAt {
+            why: Stop::Misuse(misuse),
+            place: None,
         }
     }
 }

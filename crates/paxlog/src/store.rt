@@ -1,7 +1,8 @@
 //! The file of a log: it is opened, locked, and made where it has no byte.
 
 use crate::file_disk::FileDisk;
-use crate::stop::{Stop, StopAt};
+use crate::stop::{Stop, StopAt, placed};
+use crate::words::Name;
 use log_file::fault::Fault;
 use log_file::head::START;
 use log_store::{Disk, InclusionProof, Recovered};
@@ -271,25 +272,20 @@ pub fn created_secret(rt: &HostRuntime, path: &str, bytes: &[u8]) -> Result<(), 
 }
 
 /// Makes a new file of what of a file can be recovered, and returns once it is on the disk. The error has the place of the file that
-/// it speaks of: 1 for the old one, 2 for the new one.
-pub fn recover(rt: &HostRuntime, path: &str, new_path: &str) -> Result<Recovered, StopAt> {
-    let disk = match unchanged(rt, path) {
-        Ok(disk) => disk,
-        Err(why) => return Err(why.at(1)),
-    };
+/// it speaks of.
+pub fn recover(rt: &HostRuntime, log: Name, new: Name) -> Result<Recovered, StopAt> {
+    let disk = placed(log.place, unchanged(rt, log.text))?;
     // a file that is no log is told before a new one is made
     if let Err(why) = log_store::recoverable(&disk) {
-        return Err(Stop::from(why).at(1));
+        return Err(Stop::from(why).at(log.place));
     }
-    let mut new = match created(rt, new_path) {
-        Ok(new) => new,
-        Err(why) => return Err(why.at(2)),
-    };
-    match log_store::recover(&disk, &mut new) {
-        Ok(found) => match sync_folder_of(rt, new_path) {
-            Ok(()) => Ok(found),
-            Err(why) => Err(why.at(2)),
-        },
-        Err(why) => Err(Stop::from(why).at(if new.is_refused { 2 } else { 1 })),
+    let mut made = placed(new.place, created(rt, new.text))?;
+    match log_store::recover(&disk, &mut made) {
+        Ok(found) => {
+            placed(new.place, sync_folder_of(rt, new.text))?;
+            Ok(found)
+        }
+        Err(why) if made.is_refused => Err(Stop::from(why).at(new.place)),
+        Err(why) => Err(Stop::from(why).at(log.place)),
     }
 }

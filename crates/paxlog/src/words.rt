@@ -1,7 +1,7 @@
-//! The words behind the command's name.
+//! The words behind the command's name, and the names that some of them are.
 
 use crate::stop::{Stop, StopAt};
-use paxlog_run::request::word;
+use paxlog_run::request::{Word, bytes_at};
 use std::alloc::Global;
 use std::env::{Env, FillError};
 
@@ -23,20 +23,36 @@ pub fn words<E: Env>(alloc: Global, env: &E) -> Result<Vec<Vec<u8>>, Stop> {
     Ok(words)
 }
 
-/// Returns the name of a file at a place of the words.
-pub fn name(words: &[Vec<u8>], place: usize) -> Result<&str, StopAt> {
-    match str::from_utf8(word(words, place)) {
-        Ok(name) => Ok(name),
-        Err(_) => Err(Stop::Words.at(place)),
+/// The name of a file or of a folder, and its place among the words.
+#[derive(Clone, Copy)]
+pub struct Name<'a> {
+    pub text: &'a str,
+    pub place: usize,
+}
+
+/// Returns the name that a word is. The error is `NotText`.
+pub fn name_of(words: &[Vec<u8>], word: Word) -> Result<Name<'_>, StopAt> {
+    let place = word.place;
+    match str::from_utf8(bytes_at(words, place)) {
+        Ok(text) => Ok(Name { text, place }),
+        Err(_) => Err(Stop::NotText.at(place)),
     }
 }
 
-/// Returns the name of a folder or of a state at a place of the words: names are put behind it, and an empty one would make them those
-/// of the root's.
-pub fn folder_name(words: &[Vec<u8>], place: usize) -> Result<&str, StopAt> {
-    let name = name(words, place)?;
-    if name.is_empty() {
-        return Err(Stop::Words.at(place));
+/// Returns the name of a folder or of a state that a word is: names are put behind it, and an empty one would make them those of the
+/// root's. The error is `NotText`, or `Empty`.
+pub fn folder_name(words: &[Vec<u8>], word: Word) -> Result<Name<'_>, StopAt> {
+    let name = name_of(words, word)?;
+    if name.text.is_empty() {
+        return Err(Stop::Empty.at(name.place));
     }
     Ok(name)
+}
+
+/// Returns the origin that is named, where one is. The error is `NotText`.
+pub fn origin_of(words: &[Vec<u8>], origin: Option<Word>) -> Result<Option<&str>, StopAt> {
+    match origin {
+        Some(word) => Ok(Some(name_of(words, word)?.text)),
+        None => Ok(None),
+    }
 }

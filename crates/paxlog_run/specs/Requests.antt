@@ -1,93 +1,177 @@
 -- The words behind the command's name.
-use Rattle.std.specs.Prelude.{ℕ, ◌+◌, ◌==◌, ◌&&◌, ◌||◌, is_none, nat_lt, not, get_or, length, List, [], ◌∷◌, if◌then◌else◌, Bool, true, false, Option, Some, None, codes}
+use Rattle.std.specs.Prelude.{ℕ, ◌+◌, ◌==◌, ◌||◌, is_none, nat_lt, not, get_or, length, List, [], if◌then◌else◌, Bool, true, false, Option, Some, None, Result, Ok, Err, codes}
 use Rattle.std.specs.Result.{result_ok}
 use Rattle.std.specs.Str.{bytes_eq}
 use Rattle.hex.specs.Hex.{decode_sized}
 use Rattle.decimals.specs.Decimals.{number_of}
 use Rattle.ark_paths.specs.Pair.{Digest}
+use Rattle.paxlog_run.specs.declared.request.Word.{Word}
 use Rattle.paxlog_run.specs.declared.request.Request.{Request}
-use Rattle.paxlog_run.specs.declared.request.After.{After}
-use Rattle.paxlog_run.specs.declared.request.OptionsAt.{OptionsAt}
+use Rattle.paxlog_run.specs.declared.request.Misuse.{Misuse}
+use Rattle.paxlog_run.specs.declared.request.Misuse.TheVariants.{Nothing, NoCommand, TooFew, TooMany, NoNumber, NoDigest, NoLines, NoBatches, NoKey, NoOrigin}
+use Rattle.paxlog_run.specs.declared.request.appends.OptionsAt.{OptionsAt}
+use Rattle.paxlog_run.specs.declared.request.Keyed.{Keyed}
+use Rattle.paxlog_run.specs.declared.request.Site.{Site}
 use Rattle.paxlog_run.specs.declared.request.Request.TheVariants.{Append, AppendLines, Root, Prove, Show, Consistency, Check, Recover, Verify, VerifyConsistency, Keygen, Checkpoint, VerifyCheckpoint, Tiles, Audit, Follow, Keep, TileProof, VerifyReceipt, Witness, Help, Version}
 
 -- the digest that a word spells in hexadecimal
 abbrev pub digest_of : List ℕ → Option Digest
 digest_of word = result_ok (decode_sized word 32)
 
+-- what is read of words, or why they are misused
+abbrev pub Read : Type 0 → Type 0
+Read A = Result A Misuse
+
 -- goes on where there is a value
 infixl 10 ◌>>=◌
-abbrev pub ◌>>=◌ : {A B : Type 0} → Option A → (A → Option B) → Option B
-None >>= next = None
-(Some value) >>= next = next value
+abbrev pub ◌>>=◌ : {A B : Type 0} → Read A → (A → Read B) → Read B
+(Ok value) >>= next = next value
+(Err why) >>= next = Err why
+
+-- a value, or why there is none
+abbrev pub or_misuse : {A : Type 0} → Misuse → Option A → Read A
+or_misuse why (Some value) = Ok value
+or_misuse why None = Err why
+
+-- the word at a place
+abbrev pub typed_at : ℕ → Word
+typed_at place = record { place = place }
+
+-- the word at a place, if they are so many
+abbrev pub origin_at : List (List ℕ) → ℕ → Option Word
+origin_at words place = if nat_lt place (length words) then Some (typed_at place) else None
 
 -- the number at a place of the words
-abbrev pub number_at : List (List ℕ) → ℕ → Option ℕ
-number_at words place = number_of (get_or words place [])
+abbrev pub number_at : List (List ℕ) → ℕ → Read ℕ
+number_at words place = or_misuse (NoNumber place) (number_of (get_or words place []))
 
 -- the digest at a place of the words
-abbrev pub digest_at : List (List ℕ) → ℕ → Option Digest
-digest_at words place = digest_of (get_or words place [])
+abbrev pub digest_at : List (List ℕ) → ℕ → Read Digest
+digest_at words place = or_misuse (NoDigest place) (digest_of (get_or words place []))
 
 -- the size at a place of the words, if they are so many
-abbrev pub size_at : List (List ℕ) → ℕ → Option (Option ℕ)
+abbrev pub size_at : List (List ℕ) → ℕ → Read (Option ℕ)
 size_at words place =
-    if nat_lt place (length words) then (number_at words place >>= λ size. Some (Some size)) else Some None
+    if nat_lt place (length words) then (number_at words place >>= λ size. Ok (Some size)) else Ok None
 
--- the root that words ask for; the command's name of it stands at place 0
-abbrev pub root_in : List (List ℕ) → Option Request
+-- how many words there are with the command's own, if not too few or too many
+abbrev pub counted : List (List ℕ) → ℕ → ℕ → Read ℕ
+counted words least most =
+    if nat_lt (length words) least then Err TooFew
+    else if nat_lt most (length words) then Err TooMany
+    else Ok (length words)
+
+-- the words behind the options at a place: --key KEYFILE [--origin ORIGIN]
+abbrev pub keyed_at : List (List ℕ) → ℕ → Read Keyed
+keyed_at words place = do
+  count ← counted words (place + 2) (place + 4)
+  if not (bytes_eq (get_or words place []) (codes "--key")) then Err (NoKey place)
+      else if length words == place + 2 then Ok (record { key_file = typed_at (place + 1); origin = None })
+      else if not (bytes_eq (get_or words (place + 2) []) (codes "--origin")) then Err (NoOrigin (place + 2))
+      else if length words == place + 3 then Err TooFew
+      else Ok (record { key_file = typed_at (place + 1); origin = Some (typed_at (place + 3)) })
+
+-- FOLDER KEY, the words behind the command's own, and the origin
+abbrev pub site_at : Option Word → Site
+site_at origin = record { folder = typed_at 1; key = typed_at 2; origin = origin }
+
+-- root LOG [SIZE]; the command's name of it stands at place 0
+abbrev pub root_in : List (List ℕ) → Read Request
 root_in words = do
+  count ← counted words 2 3
   size ← size_at words 2
-  Some (Root size)
+  Ok (Root (typed_at 1) size)
 
--- the inclusion proof that they ask for
-abbrev pub prove_in : List (List ℕ) → Option Request
+-- prove LOG INDEX [SIZE]
+abbrev pub prove_in : List (List ℕ) → Read Request
 prove_in words = do
+  count ← counted words 3 4
   index ← number_at words 2
   size ← size_at words 3
-  Some (Prove index size)
+  Ok (Prove (typed_at 1) index size)
 
--- the picture that they ask for, as an image or as text
-abbrev pub show_in : List (List ℕ) → Bool → Option Request
+-- show LOG INDEX [SIZE], or show-image
+abbrev pub show_in : List (List ℕ) → Bool → Read Request
 show_in words is_image = do
+  count ← counted words 3 4
   index ← number_at words 2
   size ← size_at words 3
-  Some (Show index size is_image)
+  Ok (Show (typed_at 1) index size is_image)
 
--- the consistency proof that they ask for
-abbrev pub consistency_in : List (List ℕ) → Option Request
+-- consistency LOG OLD_SIZE [SIZE]
+abbrev pub consistency_in : List (List ℕ) → Read Request
 consistency_in words = do
+  count ← counted words 3 4
   old_size ← number_at words 2
   size ← size_at words 3
-  Some (Consistency old_size size)
+  Ok (Consistency (typed_at 1) old_size size)
 
--- the check of an inclusion proof that they ask for
-abbrev pub verify_in : List (List ℕ) → Option Request
+-- check LOG
+abbrev pub check_in : List (List ℕ) → Read Request
+check_in words = do
+  count ← counted words 2 2
+  Ok (Check (typed_at 1))
+
+-- recover LOG [NEW]
+abbrev pub recover_in : List (List ℕ) → Read Request
+recover_in words = do
+  count ← counted words 2 3
+  Ok (Recover (typed_at 1) (origin_at words 2))
+
+-- verify ROOT SIZE INDEX FILE PROOF
+abbrev pub verify_in : List (List ℕ) → Read Request
 verify_in words = do
+  count ← counted words 6 6
   root ← digest_at words 1
   size ← number_at words 2
   index ← number_at words 3
-  Some (Verify root size index)
+  Ok (Verify (record { root = root; size = size; index = index; file = typed_at 4; proof = typed_at 5 }))
 
--- the check of a consistency proof that they ask for
-abbrev pub verify_consistency_in : List (List ℕ) → Option Request
+-- verify-consistency OLD_SIZE OLD_ROOT SIZE ROOT PROOF
+abbrev pub verify_consistency_in : List (List ℕ) → Read Request
 verify_consistency_in words = do
+  count ← counted words 6 6
   old_size ← number_at words 1
   old_root ← digest_at words 2
   size ← number_at words 3
   root ← digest_at words 4
-  Some (VerifyConsistency old_size old_root size root)
+  Ok (VerifyConsistency (record {
+    old_size = old_size;
+    old_root = old_root;
+    size = size;
+    root = root;
+    proof = typed_at 5;
+  }))
+
+-- help [COMMAND]
+abbrev pub help_in : List (List ℕ) → Read Request
+help_in words = do
+  count ← counted words 1 2
+  Ok (Help (origin_at words 1))
+
+-- --help
+abbrev pub usage_in : List (List ℕ) → Read Request
+usage_in words = do
+  count ← counted words 1 1
+  Ok (Help None)
+
+-- --version
+abbrev pub version_in : List (List ℕ) → Read Request
+version_in words = do
+  count ← counted words 1 1
+  Ok Version
 
 -- no option yet, behind LOG
 abbrev pub no_options : OptionsAt
 no_options = record { options = record { after = None; wait = 0; batch = None }; place = 2 }
 
 -- one option more, if one stands at the place: each may stand anywhere among them, and the last of its kind counts
-abbrev pub option_more : List (List ℕ) → OptionsAt → Option OptionsAt
+abbrev pub option_more : List (List ℕ) → OptionsAt → Read OptionsAt
 option_more words at =
     if bytes_eq (get_or words at.place []) (codes "--after") then (do
       size ← number_at words (at.place + 1)
       root ← digest_at words (at.place + 2)
-      Some (record {
+      Ok (record {
         options = record {
           after = Some (record { size = size; root = root });
           wait = at.options.wait;
@@ -97,103 +181,157 @@ option_more words at =
       }))
     else if bytes_eq (get_or words at.place []) (codes "--wait") then (do
       seconds ← number_at words (at.place + 1)
-      Some (record {
+      Ok (record {
         options = record { after = at.options.after; wait = seconds; batch = at.options.batch };
         place = at.place + 2;
       }))
     else if bytes_eq (get_or words at.place []) (codes "--batch") then (do
       count ← number_at words (at.place + 1)
-      if count == 0 then None else Some (record {
+      if count == 0 then Err (NoLines (at.place + 1)) else Ok (record {
         options = record { after = at.options.after; wait = at.options.wait; batch = Some count };
         place = at.place + 2;
       }))
-    else Some at
+    else Ok at
 
 -- a place of files, or that behind it where -- stands there
 abbrev pub files_at : List (List ℕ) → ℕ → ℕ
 files_at words place = if bytes_eq (get_or words place []) (codes "--") then place + 1 else place
 
 -- at most three options, and the place of the files behind them
-abbrev pub options_in : List (List ℕ) → Option OptionsAt
+abbrev pub options_in : List (List ℕ) → Read OptionsAt
 options_in words = do
   one ← option_more words no_options
   two ← option_more words one
   three ← option_more words two
-  Some (record { options = three.options; place = files_at words three.place })
+  Ok (record { options = three.options; place = files_at words three.place })
 
--- the append of files that they ask for: at once, so that they name no batch
-abbrev pub append_in : List (List ℕ) → Option Request
+-- append LOG [--after SIZE ROOT] [--wait SECONDS] [--] FILE ..: at once, so that they name no batch
+abbrev pub append_in : List (List ℕ) → Read Request
 append_in words = do
   at ← options_in words
-  if is_none at.options.batch && nat_lt at.place (length words) then Some (Append at.options at.place) else None
+  if not (is_none at.options.batch) then Err NoBatches
+      else if nat_lt at.place (length words) then Ok (Append (typed_at 1) at.options at.place)
+      else Err TooFew
 
--- the append of lines that they ask for
-abbrev pub append_lines_in : List (List ℕ) → Option Request
+-- append-lines LOG [--after SIZE ROOT] [--wait SECONDS] [--batch COUNT] [--] FILE
+abbrev pub append_lines_in : List (List ℕ) → Read Request
 append_lines_in words = do
   at ← options_in words
-  if at.place + 1 == length words then Some (AppendLines at.options at.place) else None
+  count ← counted words (at.place + 1) (at.place + 1)
+  Ok (AppendLines (typed_at 1) at.options (typed_at at.place))
 
--- whether an option for a key stands at a place, and behind it one for an origin, where there is one
-abbrev pub is_keyed : List (List ℕ) → ℕ → Bool → Bool
-is_keyed words place has_origin =
-    bytes_eq (get_or words place []) (codes "--key")
-    && (not has_origin || bytes_eq (get_or words (place + 2) []) (codes "--origin"))
+-- keygen NAME KEYFILE, or keygen-witness
+abbrev pub keygen_in : List (List ℕ) → Bool → Read Request
+keygen_in words is_witness = do
+  count ← counted words 3 3
+  Ok (Keygen (typed_at 1) (typed_at 2) is_witness)
 
--- the inclusion proof by tiles that they ask for, with an origin or without, as a receipt or alone
-abbrev pub tile_proof_in : List (List ℕ) → Bool → Bool → Option Request
-tile_proof_in words has_origin is_receipt = do
+-- checkpoint LOG --key KEYFILE [--origin ORIGIN]
+abbrev pub checkpoint_in : List (List ℕ) → Read Request
+checkpoint_in words = do
+  keyed ← keyed_at words 2
+  Ok (Checkpoint (typed_at 1) keyed)
+
+-- verify-checkpoint KEY FILE [ORIGIN]
+abbrev pub verify_checkpoint_in : List (List ℕ) → Read Request
+verify_checkpoint_in words = do
+  count ← counted words 3 4
+  Ok (VerifyCheckpoint (typed_at 1) (typed_at 2) (origin_at words 3))
+
+-- tiles LOG FOLDER --key KEYFILE [--origin ORIGIN]
+abbrev pub tiles_in : List (List ℕ) → Read Request
+tiles_in words = do
+  keyed ← keyed_at words 3
+  Ok (Tiles (typed_at 1) (typed_at 2) keyed)
+
+-- audit FOLDER KEY [ORIGIN]
+abbrev pub audit_in : List (List ℕ) → Read Request
+audit_in words = do
+  count ← counted words 3 4
+  Ok (Audit (site_at (origin_at words 3)))
+
+-- keep FOLDER KEY FILE [ORIGIN]
+abbrev pub keep_in : List (List ℕ) → Read Request
+keep_in words = do
+  count ← counted words 4 5
+  Ok (Keep (site_at (origin_at words 4)) (typed_at 3))
+
+-- follow FOLDER KEY STATE [ORIGIN]
+abbrev pub follow_in : List (List ℕ) → Read Request
+follow_in words = do
+  count ← counted words 4 5
+  Ok (Follow (site_at (origin_at words 4)) (typed_at 3))
+
+-- tile-proof FOLDER KEY INDEX [ORIGIN], or receipt
+abbrev pub tile_proof_in : List (List ℕ) → Bool → Read Request
+tile_proof_in words is_receipt = do
+  count ← counted words 4 5
   index ← number_at words 3
-  Some (TileProof index has_origin is_receipt)
+  Ok (TileProof (site_at (origin_at words 4)) index is_receipt)
 
--- what is asked for by a word about folders of tiles with so many others behind it
-abbrev pub asked_of_tiles : List ℕ → ℕ → List (List ℕ) → Option Request
-asked_of_tiles word count words =
-    if bytes_eq word (codes "tiles")
-    then (if (count == 4 || count == 6) && is_keyed words 3 (count == 6) then Some (Tiles (count == 6)) else None)
-    else if bytes_eq word (codes "audit") then (if count == 2 || count == 3 then Some (Audit (count == 3)) else None)
-    else if bytes_eq word (codes "follow") then (if count == 3 || count == 4 then Some (Follow (count == 4)) else None)
-    else if bytes_eq word (codes "keep") then (if count == 3 || count == 4 then Some (Keep (count == 4)) else None)
-    else if bytes_eq word (codes "tile-proof")
-    then (if count == 3 || count == 4 then tile_proof_in words (count == 4) false else None)
-    else if bytes_eq word (codes "receipt")
-    then (if count == 3 || count == 4 then tile_proof_in words (count == 4) true else None)
-    else if bytes_eq word (codes "verify-receipt")
-    then (if count == 3 || count == 4 then Some (VerifyReceipt (count == 4)) else None)
-    else if bytes_eq word (codes "witness")
-    then (if (count == 5 || count == 7) && is_keyed words 4 (count == 7) then Some (Witness (count == 7)) else None)
-    else None
+-- verify-receipt KEY FILE RECEIPT [ORIGIN]
+abbrev pub verify_receipt_in : List (List ℕ) → Read Request
+verify_receipt_in words = do
+  count ← counted words 4 5
+  Ok (VerifyReceipt (typed_at 1) (typed_at 2) (typed_at 3) (origin_at words 4))
 
--- what is asked for by a word about checkpoints with so many others behind it
-abbrev pub asked_of_checkpoints : List ℕ → ℕ → List (List ℕ) → Option Request
-asked_of_checkpoints word count words =
-    if bytes_eq word (codes "keygen") then (if count == 2 then Some (Keygen false) else None)
-    else if bytes_eq word (codes "keygen-witness") then (if count == 2 then Some (Keygen true) else None)
-    else if bytes_eq word (codes "checkpoint")
-    then (if (count == 3 || count == 5) && is_keyed words 2 (count == 5) then Some (Checkpoint (count == 5)) else None)
-    else if bytes_eq word (codes "verify-checkpoint")
-    then (if count == 2 || count == 3 then Some (VerifyCheckpoint (count == 3)) else None)
-    else asked_of_tiles word count words
+-- witness FOLDER KEY STATE --key KEYFILE [--origin ORIGIN]
+abbrev pub witness_in : List (List ℕ) → Read Request
+witness_in words = do
+  keyed ← keyed_at words 4
+  Ok (Witness (site_at keyed.origin) (typed_at 3) keyed.key_file)
 
--- what is asked for by a word with so many others behind it
-abbrev pub asked : List ℕ → ℕ → List (List ℕ) → Option Request
-asked word count words =
+-- what is asked for by a word about folders of tiles, the first of all
+abbrev pub asked_of_tiles : List ℕ → List (List ℕ) → Read Request
+asked_of_tiles word words =
+    if bytes_eq word (codes "tiles") then tiles_in words
+    else if bytes_eq word (codes "audit") then audit_in words
+    else if bytes_eq word (codes "follow") then follow_in words
+    else if bytes_eq word (codes "keep") then keep_in words
+    else if bytes_eq word (codes "tile-proof") then tile_proof_in words false
+    else if bytes_eq word (codes "receipt") then tile_proof_in words true
+    else if bytes_eq word (codes "verify-receipt") then verify_receipt_in words
+    else if bytes_eq word (codes "witness") then witness_in words
+    else Err (NoCommand 0)
+
+-- what is asked for by a word about checkpoints, the first of all
+abbrev pub asked_of_checkpoints : List ℕ → List (List ℕ) → Read Request
+asked_of_checkpoints word words =
+    if bytes_eq word (codes "keygen") then keygen_in words false
+    else if bytes_eq word (codes "keygen-witness") then keygen_in words true
+    else if bytes_eq word (codes "checkpoint") then checkpoint_in words
+    else if bytes_eq word (codes "verify-checkpoint") then verify_checkpoint_in words
+    else asked_of_tiles word words
+
+-- what is asked for by a word about the command itself, the first of all
+abbrev pub asked_of_help : List ℕ → List (List ℕ) → Read Request
+asked_of_help word words =
+    if bytes_eq word (codes "help") then help_in words
+    else if bytes_eq word (codes "--help") || bytes_eq word (codes "-h") then usage_in words
+    else if bytes_eq word (codes "--version") then version_in words
+    else asked_of_checkpoints word words
+
+-- what is asked for by a word about checks, the first of all
+abbrev pub asked_of_checks : List ℕ → List (List ℕ) → Read Request
+asked_of_checks word words =
+    if bytes_eq word (codes "consistency") then consistency_in words
+    else if bytes_eq word (codes "check") then check_in words
+    else if bytes_eq word (codes "recover") then recover_in words
+    else if bytes_eq word (codes "verify") then verify_in words
+    else if bytes_eq word (codes "verify-consistency") then verify_consistency_in words
+    else asked_of_help word words
+
+-- what is asked for by a word, the first of all
+abbrev pub asked : List ℕ → List (List ℕ) → Read Request
+asked word words =
     if bytes_eq word (codes "append") then append_in words
     else if bytes_eq word (codes "append-lines") then append_lines_in words
-    else if bytes_eq word (codes "root") then (if count == 1 || count == 2 then root_in words else None)
-    else if bytes_eq word (codes "prove") then (if count == 2 || count == 3 then prove_in words else None)
-    else if bytes_eq word (codes "show") then (if count == 2 || count == 3 then show_in words false else None)
-    else if bytes_eq word (codes "show-image") then (if count == 2 || count == 3 then show_in words true else None)
-    else if bytes_eq word (codes "consistency") then (if count == 2 || count == 3 then consistency_in words else None)
-    else if bytes_eq word (codes "check") then (if count == 1 then Some Check else None)
-    else if bytes_eq word (codes "recover")
-    then (if count == 1 || count == 2 then Some (Recover (count == 2)) else None)
-    else if bytes_eq word (codes "verify") then (if count == 5 then verify_in words else None)
-    else if bytes_eq word (codes "verify-consistency") then (if count == 5 then verify_consistency_in words else None)
-    else if bytes_eq word (codes "--help") || bytes_eq word (codes "-h") then (if count == 0 then Some Help else None)
-    else if bytes_eq word (codes "--version") then (if count == 0 then Some Version else None)
-    else asked_of_checkpoints word count words
+    else if bytes_eq word (codes "root") then root_in words
+    else if bytes_eq word (codes "prove") then prove_in words
+    else if bytes_eq word (codes "show") then show_in words false
+    else if bytes_eq word (codes "show-image") then show_in words true
+    else asked_of_checks word words
 
 -- what the words ask for
-abbrev pub request_of : List (List ℕ) → Option Request
-request_of [] = None
-request_of (word ∷ words) = asked word (length words) (word ∷ words)
+abbrev pub request_of : List (List ℕ) → Read Request
+request_of words = if nat_lt 0 (length words) then asked (get_or words 0 []) words else Err Nothing

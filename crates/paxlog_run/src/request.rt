@@ -1,12 +1,21 @@
 //! What the words behind the command's name ask for.
 
-ghost use Rattle.std.specs.Prelude.{◌≡◌, ◌≤◌, ◌+◌, [], map, get_or, vec_items, IfSome};
-ghost use Rattle.paxlog_run.specs.Requests.{append_in, append_lines_in, asked, consistency_in, digest_at, digest_of, files_at, number_at, option_more, options_in, prove_in, request_of, root_in, show_in, size_at, verify_consistency_in, verify_in};
+ghost use Rattle.std.specs.Prelude.{◌≡◌, [], get_or, map, vec_items};
+ghost use Rattle.paxlog_run.specs.Requests.{asked, request_of};
 
+mod appends;
+mod parts;
 mod signed;
+mod unsigned;
 
-use crate::request::signed::asked_of_checkpoints;
-use decimals::number_of;
+use crate::request::appends::{append_in, append_lines_in};
+use crate::request::unsigned::{asked_of_checks, prove_in, root_in, show_in};
+
+/// A word that is asked about, by its place among the words; the command's own has place 0.
+#[derive(Clone, Copy)]
+pub struct Word {
+    pub place: usize,
+}
 
 /// The size and the root that a log has to have, so that entries are appended to it.
 #[derive(Clone, Copy)]
@@ -26,111 +35,168 @@ pub struct Options {
     pub batch: Option<usize>,
 }
 
-/// What is asked for. The names of files and a proof's word stay among the words: LOG behind the first word, NEW behind that;
-/// FILE at the place that is named or, of `Verify`, at place 4; PROOF at place 5.
+/// An inclusion proof that is to be checked.
+#[derive(Clone, Copy)]
+pub struct Inclusion {
+    pub root: [u8; 32],
+    pub size: usize,
+    pub index: usize,
+    pub file: Word,
+    pub proof: Word,
+}
+
+/// A consistency proof that is to be checked.
+#[derive(Clone, Copy)]
+pub struct Continuation {
+    pub old_size: usize,
+    pub old_root: [u8; 32],
+    pub size: usize,
+    pub root: [u8; 32],
+    pub proof: Word,
+}
+
+/// The file of a key that signs, and the origin, where one is named.
+#[derive(Clone, Copy)]
+pub struct Keyed {
+    pub key_file: Word,
+    pub origin: Option<Word>,
+}
+
+/// The folder of a log's tiles, the key that signed its checkpoint, and the origin, where one is named.
+#[derive(Clone, Copy)]
+pub struct Site {
+    pub folder: Word,
+    pub key: Word,
+    pub origin: Option<Word>,
+}
+
+/// What is asked for, with the words that say it.
 #[derive(Clone, Copy)]
 pub enum Request {
     Append {
+        log: Word,
         options: Options,
-        first: usize,
+        /// The place from which on each word is a FILE.
+        files: usize,
     },
     AppendLines {
+        log: Word,
         options: Options,
-        first: usize,
+        file: Word,
     },
     Root {
+        log: Word,
         size: Option<usize>,
     },
     Prove {
+        log: Word,
         index: usize,
         size: Option<usize>,
     },
     Show {
+        log: Word,
         index: usize,
         size: Option<usize>,
         /// Whether as an image.
         is_image: bool,
     },
     Consistency {
+        log: Word,
         old_size: usize,
         size: Option<usize>,
     },
-    Check,
-    /// Whether NEW is to be made.
+    Check {
+        log: Word,
+    },
+    /// What of LOG is whole; NEW is made of it where it is named.
     Recover {
-        is_made: bool,
+        log: Word,
+        new: Option<Word>,
     },
-    Verify {
-        root: [u8; 32],
-        size: usize,
-        index: usize,
-    },
-    VerifyConsistency {
-        old_size: usize,
-        old_root: [u8; 32],
-        size: usize,
-        root: [u8; 32],
-    },
-    /// A new key is asked for, of a log or of a witness. NAME stands behind the first word, KEYFILE behind that.
+    Verify(Inclusion),
+    VerifyConsistency(Continuation),
+    /// A new key, of a log or of a witness.
     Keygen {
+        name: Word,
+        key_file: Word,
         is_witness: bool,
     },
-    /// KEYFILE stands at place 3, an origin at place 5.
     Checkpoint {
-        has_origin: bool,
+        log: Word,
+        keyed: Keyed,
     },
-    /// KEY stands behind the first word, FILE behind that, an origin at place 3.
     VerifyCheckpoint {
-        has_origin: bool,
+        key: Word,
+        file: Word,
+        origin: Option<Word>,
     },
-    /// FOLDER stands at place 2, KEYFILE at place 4, an origin at place 6.
     Tiles {
-        has_origin: bool,
+        log: Word,
+        folder: Word,
+        keyed: Keyed,
     },
-    /// FOLDER stands behind the first word, KEY behind that, an origin at place 3.
     Audit {
-        has_origin: bool,
+        site: Site,
     },
-    /// FOLDER stands behind the first word, KEY and STATE behind that, an origin at place 4.
-    Follow {
-        has_origin: bool,
-    },
-    /// FOLDER stands behind the first word, KEY and FILE behind that, an origin at place 4.
     Keep {
-        has_origin: bool,
+        site: Site,
+        file: Word,
     },
-    /// FOLDER stands behind the first word, KEY behind that, an origin at place 4.
+    Follow {
+        site: Site,
+        state: Word,
+    },
     TileProof {
+        site: Site,
         index: usize,
-        has_origin: bool,
         /// Whether with the checkpoint, as a receipt.
         is_receipt: bool,
     },
-    /// KEY stands behind the first word, FILE and RECEIPT behind that, an origin at place 4.
     VerifyReceipt {
-        has_origin: bool,
+        key: Word,
+        file: Word,
+        receipt: Word,
+        origin: Option<Word>,
     },
-    /// FOLDER stands behind the first word, KEY and STATE behind that, KEYFILE at place 5, an origin at place 7.
     Witness {
-        has_origin: bool,
+        site: Site,
+        state: Word,
+        key_file: Word,
     },
-    Help,
+    /// How the command is used, or one of its commands.
+    Help {
+        command: Option<Word>,
+    },
     Version,
 }
 
-// The digest that a word spells in hexadecimal.
-fn digest_of(word: &[u8]) -> Option<[u8; 32]>
-    ensures { result ≡ digest_of word.now }
-{
-    let mut digest = [0; 32];
-    match hex::decode_to_slice(word, &mut digest) {
-        Ok(()) => Some(digest),
-        Err(_) => None,
-    }
+/// Why words ask for nothing. A number is the place of the word that is wrong.
+#[derive(Clone, Copy)]
+pub enum Misuse {
+    /// There is no word.
+    Nothing,
+    /// There is no such command.
+    NoCommand(usize),
+    /// A word lacks.
+    TooFew,
+    /// The command takes fewer words.
+    TooMany,
+    /// A number has to stand here.
+    NoNumber(usize),
+    /// A digest has to stand here.
+    NoDigest(usize),
+    /// A batch has one line at least.
+    NoLines(usize),
+    /// Files are appended at once, and not in batches.
+    NoBatches,
+    /// `--key` has to stand here.
+    NoKey(usize),
+    /// `--origin` has to stand here.
+    NoOrigin(usize),
 }
 
-/// Returns the word at a place; no bytes where there is none.
-pub fn word(words: &[Vec<u8>], place: usize) -> &[u8]
+/// Returns the bytes of the word at a place; none where there is no word.
+pub fn bytes_at(words: &[Vec<u8>], place: usize) -> &[u8]
     ensures { result.now ≡ get_or (map vec_items words.now) place [] }
 {
     match words.get(place) {
@@ -139,295 +205,34 @@ pub fn word(words: &[Vec<u8>], place: usize) -> &[u8]
     }
 }
 
-// The number at a place of the words.
-fn number_at(words: &[Vec<u8>], place: usize) -> Option<usize>
-    ensures { result ≡ number_at (map vec_items words.now) place }
-{
-    number_of(word(words, place))
-}
-
-// The digest at a place of the words.
-fn digest_at(words: &[Vec<u8>], place: usize) -> Option<[u8; 32]>
-    ensures { result ≡ digest_at (map vec_items words.now) place }
-{
-    digest_of(word(words, place))
-}
-
-// The size at a place of the words, if they are so many.
-fn size_at(words: &[Vec<u8>], place: usize) -> Option<Option<usize>>
-    ensures { result ≡ size_at (map vec_items words.now) place }
-{
-    if place < words.len() {
-        Some(Some(number_at(words, place)?))
-    } else {
-        Some(None)
-    }
-}
-
-// The root that is asked for.
-fn root_in(words: &[Vec<u8>]) -> Option<Request>
-    ensures { result ≡ root_in (map vec_items words.now) }
-{
-    Some(Request::Root {
-        size: size_at(words, 2)?,
-    })
-}
-
-// The inclusion proof that is asked for.
-fn prove_in(words: &[Vec<u8>]) -> Option<Request>
-    ensures { result ≡ prove_in (map vec_items words.now) }
-{
-    Some(Request::Prove {
-        index: number_at(words, 2)?,
-        size: size_at(words, 3)?,
-    })
-}
-
-// The picture that is asked for.
-fn show_in(words: &[Vec<u8>], is_image: bool) -> Option<Request>
-    ensures { result ≡ show_in (map vec_items words.now) is_image }
-{
-    Some(Request::Show {
-        index: number_at(words, 2)?,
-        size: size_at(words, 3)?,
-        is_image,
-    })
-}
-
-// The consistency proof that is asked for.
-fn consistency_in(words: &[Vec<u8>]) -> Option<Request>
-    ensures { result ≡ consistency_in (map vec_items words.now) }
-{
-    Some(Request::Consistency {
-        old_size: number_at(words, 2)?,
-        size: size_at(words, 3)?,
-    })
-}
-
-// The check of an inclusion proof that is asked for.
-fn verify_in(words: &[Vec<u8>]) -> Option<Request>
-    ensures { result ≡ verify_in (map vec_items words.now) }
-{
-    Some(Request::Verify {
-        root: digest_at(words, 1)?,
-        size: number_at(words, 2)?,
-        index: number_at(words, 3)?,
-    })
-}
-
-// The check of a consistency proof that is asked for.
-fn verify_consistency_in(words: &[Vec<u8>]) -> Option<Request>
-    ensures { result ≡ verify_consistency_in (map vec_items words.now) }
-{
-    Some(Request::VerifyConsistency {
-        old_size: number_at(words, 1)?,
-        old_root: digest_at(words, 2)?,
-        size: number_at(words, 3)?,
-        root: digest_at(words, 4)?,
-    })
-}
-
-/// What the options of an append say.
-#[derive(Clone, Copy)]
-pub struct OptionsAt {
-    pub options: Options,
-    /// The place of the words that stands behind them.
-    pub place: usize,
-}
-
-// The same with one option more, if one stands at the place.
-fn option_more(words: &[Vec<u8>], at: OptionsAt) -> Option<OptionsAt>
-    requires { at.place ≤ 8 }
-    ensures more { result ≡ option_more (map vec_items words.now) at }
-    ensures near { IfSome result (λ more. more.place ≤ at.place + 3) }
-{
-    let OptionsAt { options, place } = at;
-    let Options { after, wait, batch } = options;
-    if word(words, place) == b"--after".as_slice() {
-        let after = After {
-            size: number_at(words, place + 1)?,
-            root: digest_at(words, place + 2)?,
-        };
-        Some(OptionsAt {
-            options: Options {
-                after: Some(after),
-                wait,
-                batch,
-            },
-            place: place + 3,
-        })
-    } else if word(words, place) == b"--wait".as_slice() {
-        Some(OptionsAt {
-            options: Options {
-                after,
-                wait: number_at(words, place + 1)?,
-                batch,
-            },
-            place: place + 2,
-        })
-    } else if word(words, place) == b"--batch".as_slice() {
-        let count = number_at(words, place + 1)?;
-        if count == 0 {
-            return None;
-        }
-        Some(OptionsAt {
-            options: Options {
-                after,
-                wait,
-                batch: Some(count),
-            },
-            place: place + 2,
-        })
-    } else {
-        Some(at)
-    }
-}
-
-// A place of files, or that behind it where `--` stands there.
-fn files_at(words: &[Vec<u8>], place: usize) -> usize
-    requires { place ≤ 11 }
-    ensures { result ≡ files_at (map vec_items words.now) place }
-{
-    if word(words, place) == b"--".as_slice() {
-        place + 1
-    } else {
-        place
-    }
-}
-
-// The options of an append, and the place of the files behind them.
-fn options_in(words: &[Vec<u8>]) -> Option<OptionsAt>
-    ensures options { result ≡ options_in (map vec_items words.now) }
-    ensures near { IfSome result (λ at. at.place ≤ 12) }
-{
-    let none = OptionsAt {
-        options: Options {
-            after: None,
-            wait: 0,
-            batch: None,
-        },
-        place: 2,
-    };
-    let one = option_more(words, none)?;
-    let two = option_more(words, one)?;
-    let OptionsAt { options, place } = option_more(words, two)?;
-    Some(OptionsAt {
-        options,
-        place: files_at(words, place),
-    })
-}
-
-// The append of files that is asked for.
-fn append_in(words: &[Vec<u8>]) -> Option<Request>
-    ensures { result ≡ append_in (map vec_items words.now) }
-{
-    let OptionsAt { options, place } = options_in(words)?;
-    if options.batch.is_none() && place < words.len() {
-        Some(Request::Append {
-            options,
-            first: place,
-        })
-    } else {
-        None
-    }
-}
-
-// The append of lines that is asked for.
-fn append_lines_in(words: &[Vec<u8>]) -> Option<Request>
-    ensures { result ≡ append_lines_in (map vec_items words.now) }
-{
-    let OptionsAt { options, place } = options_in(words)?;
-    if place + 1 == words.len() {
-        Some(Request::AppendLines {
-            options,
-            first: place,
-        })
-    } else {
-        None
-    }
-}
-
-// What is asked for by a word with so many others behind it.
-fn asked(word: &[u8], count: usize, words: &[Vec<u8>]) -> Option<Request>
-    ensures { result ≡ asked word.now count (map vec_items words.now) }
+// What is asked for by a word, the first of all.
+fn asked(word: &[u8], words: &[Vec<u8>]) -> Result<Request, Misuse>
+    ensures { result ≡ asked word.now (map vec_items words.now) }
 {
     if word == b"append".as_slice() {
         append_in(words)
     } else if word == b"append-lines".as_slice() {
         append_lines_in(words)
     } else if word == b"root".as_slice() {
-        if count == 1 || count == 2 {
-            root_in(words)
-        } else {
-            None
-        }
+        root_in(words)
     } else if word == b"prove".as_slice() {
-        if count == 2 || count == 3 {
-            prove_in(words)
-        } else {
-            None
-        }
+        prove_in(words)
     } else if word == b"show".as_slice() {
-        if count == 2 || count == 3 {
-            show_in(words, false)
-        } else {
-            None
-        }
+        show_in(words, false)
     } else if word == b"show-image".as_slice() {
-        if count == 2 || count == 3 {
-            show_in(words, true)
-        } else {
-            None
-        }
-    } else if word == b"consistency".as_slice() {
-        if count == 2 || count == 3 {
-            consistency_in(words)
-        } else {
-            None
-        }
-    } else if word == b"check".as_slice() {
-        if count == 1 {
-            Some(Request::Check)
-        } else {
-            None
-        }
-    } else if word == b"recover".as_slice() {
-        if count == 1 || count == 2 {
-            Some(Request::Recover {
-                is_made: count == 2,
-            })
-        } else {
-            None
-        }
-    } else if word == b"verify".as_slice() {
-        if count == 5 { verify_in(words) } else { None }
-    } else if word == b"verify-consistency".as_slice() {
-        if count == 5 {
-            verify_consistency_in(words)
-        } else {
-            None
-        }
-    } else if word == b"--help".as_slice() || word == b"-h".as_slice() {
-        if count == 0 {
-            Some(Request::Help)
-        } else {
-            None
-        }
-    } else if word == b"--version".as_slice() {
-        if count == 0 {
-            Some(Request::Version)
-        } else {
-            None
-        }
+        show_in(words, true)
     } else {
-        asked_of_checkpoints(word, count, words)
+        asked_of_checks(word, words)
     }
 }
 
-/// Returns what the words ask for; `None` where the command knows no such words.
-pub fn request_of(words: &[Vec<u8>]) -> Option<Request>
+/// Returns what the words ask for. The error says which word is wrong, and why.
+pub fn request_of(words: &[Vec<u8>]) -> Result<Request, Misuse>
     ensures { result ≡ request_of (map vec_items words.now) }
 {
-    let word = words.first()?;
-    asked(word, words.len() - 1, words)
+    if 0 < words.len() {
+        asked(bytes_at(words, 0), words)
+    } else {
+        Err(Misuse::Nothing)
+    }
 }

@@ -1,132 +1,163 @@
 //! What is asked for by words about checkpoints and tiles.
 
-ghost use Rattle.std.specs.Prelude.{◌≡◌, ◌≤◌, map, vec_items};
-ghost use Rattle.paxlog_run.specs.Requests.{asked_of_checkpoints, asked_of_tiles, is_keyed, tile_proof_in};
+ghost use Rattle.std.specs.Prelude.{◌≡◌, map, vec_items};
+ghost use Rattle.paxlog_run.specs.Requests.{asked_of_checkpoints, asked_of_tiles, audit_in, checkpoint_in, follow_in, keep_in, keygen_in, tile_proof_in, tiles_in, verify_checkpoint_in, verify_receipt_in, witness_in};
 
-use crate::request::{Request, number_at, word};
+use crate::request::parts::{counted, keyed_at, number_at, origin_at, site_at, typed_at};
+use crate::request::{Keyed, Misuse, Request};
 
-// Whether an option for a key stands at a place, and behind it one for an origin, where there is one.
-fn is_keyed(words: &[Vec<u8>], place: usize, has_origin: bool) -> bool
-    requires { place ≤ 4 }
-    ensures { result ≡ is_keyed (map vec_items words.now) place has_origin }
+// The new key that is asked for.
+fn keygen_in(words: &[Vec<u8>], is_witness: bool) -> Result<Request, Misuse>
+    ensures { result ≡ keygen_in (map vec_items words.now) is_witness }
 {
-    let has_key = word(words, place) == b"--key".as_slice();
-    has_key && (!has_origin || word(words, place + 2) == b"--origin".as_slice())
+    counted(words, 3, 3)?;
+    Ok(Request::Keygen {
+        name: typed_at(1),
+        key_file: typed_at(2),
+        is_witness,
+    })
 }
 
-// The inclusion proof by tiles that is asked for, with an origin or without, as a receipt or alone.
-fn tile_proof_in(words: &[Vec<u8>], has_origin: bool, is_receipt: bool) -> Option<Request>
-    ensures { result ≡ tile_proof_in (map vec_items words.now) has_origin is_receipt }
+// The checkpoint that is asked for.
+fn checkpoint_in(words: &[Vec<u8>]) -> Result<Request, Misuse>
+    ensures { result ≡ checkpoint_in (map vec_items words.now) }
 {
-    Some(Request::TileProof {
+    Ok(Request::Checkpoint {
+        log: typed_at(1),
+        keyed: keyed_at(words, 2)?,
+    })
+}
+
+// The check of a checkpoint that is asked for.
+fn verify_checkpoint_in(words: &[Vec<u8>]) -> Result<Request, Misuse>
+    ensures { result ≡ verify_checkpoint_in (map vec_items words.now) }
+{
+    counted(words, 3, 4)?;
+    Ok(Request::VerifyCheckpoint {
+        key: typed_at(1),
+        file: typed_at(2),
+        origin: origin_at(words, 3),
+    })
+}
+
+// The tiles that are asked for.
+fn tiles_in(words: &[Vec<u8>]) -> Result<Request, Misuse>
+    ensures { result ≡ tiles_in (map vec_items words.now) }
+{
+    Ok(Request::Tiles {
+        log: typed_at(1),
+        folder: typed_at(2),
+        keyed: keyed_at(words, 3)?,
+    })
+}
+
+// The audit that is asked for.
+fn audit_in(words: &[Vec<u8>]) -> Result<Request, Misuse>
+    ensures { result ≡ audit_in (map vec_items words.now) }
+{
+    counted(words, 3, 4)?;
+    Ok(Request::Audit {
+        site: site_at(origin_at(words, 3)),
+    })
+}
+
+// That the entries of a file are to be kept.
+fn keep_in(words: &[Vec<u8>]) -> Result<Request, Misuse>
+    ensures { result ≡ keep_in (map vec_items words.now) }
+{
+    counted(words, 4, 5)?;
+    Ok(Request::Keep {
+        site: site_at(origin_at(words, 4)),
+        file: typed_at(3),
+    })
+}
+
+// That a state is to follow.
+fn follow_in(words: &[Vec<u8>]) -> Result<Request, Misuse>
+    ensures { result ≡ follow_in (map vec_items words.now) }
+{
+    counted(words, 4, 5)?;
+    Ok(Request::Follow {
+        site: site_at(origin_at(words, 4)),
+        state: typed_at(3),
+    })
+}
+
+// The inclusion proof by tiles that is asked for, as a receipt or alone.
+fn tile_proof_in(words: &[Vec<u8>], is_receipt: bool) -> Result<Request, Misuse>
+    ensures { result ≡ tile_proof_in (map vec_items words.now) is_receipt }
+{
+    counted(words, 4, 5)?;
+    Ok(Request::TileProof {
+        site: site_at(origin_at(words, 4)),
         index: number_at(words, 3)?,
-        has_origin,
         is_receipt,
     })
 }
 
-// What is asked for by a word that is about folders of tiles, with so many others behind it.
-fn asked_of_tiles(word: &[u8], count: usize, words: &[Vec<u8>]) -> Option<Request>
-    ensures { result ≡ asked_of_tiles word.now count (map vec_items words.now) }
+// The check of a receipt that is asked for.
+fn verify_receipt_in(words: &[Vec<u8>]) -> Result<Request, Misuse>
+    ensures { result ≡ verify_receipt_in (map vec_items words.now) }
+{
+    counted(words, 4, 5)?;
+    Ok(Request::VerifyReceipt {
+        key: typed_at(1),
+        file: typed_at(2),
+        receipt: typed_at(3),
+        origin: origin_at(words, 4),
+    })
+}
+
+// The witness's signature that is asked for.
+fn witness_in(words: &[Vec<u8>]) -> Result<Request, Misuse>
+    ensures { result ≡ witness_in (map vec_items words.now) }
+{
+    let Keyed { key_file, origin } = keyed_at(words, 4)?;
+    Ok(Request::Witness {
+        site: site_at(origin),
+        state: typed_at(3),
+        key_file,
+    })
+}
+
+// What is asked for by a word that is about folders of tiles, the first of all.
+fn asked_of_tiles(word: &[u8], words: &[Vec<u8>]) -> Result<Request, Misuse>
+    ensures { result ≡ asked_of_tiles word.now (map vec_items words.now) }
 {
     if word == b"tiles".as_slice() {
-        if (count == 4 || count == 6) && is_keyed(words, 3, count == 6) {
-            Some(Request::Tiles {
-                has_origin: count == 6,
-            })
-        } else {
-            None
-        }
+        tiles_in(words)
     } else if word == b"audit".as_slice() {
-        if count == 2 || count == 3 {
-            Some(Request::Audit {
-                has_origin: count == 3,
-            })
-        } else {
-            None
-        }
+        audit_in(words)
     } else if word == b"follow".as_slice() {
-        if count == 3 || count == 4 {
-            Some(Request::Follow {
-                has_origin: count == 4,
-            })
-        } else {
-            None
-        }
+        follow_in(words)
     } else if word == b"keep".as_slice() {
-        if count == 3 || count == 4 {
-            Some(Request::Keep {
-                has_origin: count == 4,
-            })
-        } else {
-            None
-        }
+        keep_in(words)
     } else if word == b"tile-proof".as_slice() {
-        if count == 3 || count == 4 {
-            tile_proof_in(words, count == 4, false)
-        } else {
-            None
-        }
+        tile_proof_in(words, false)
     } else if word == b"receipt".as_slice() {
-        if count == 3 || count == 4 {
-            tile_proof_in(words, count == 4, true)
-        } else {
-            None
-        }
+        tile_proof_in(words, true)
     } else if word == b"verify-receipt".as_slice() {
-        if count == 3 || count == 4 {
-            Some(Request::VerifyReceipt {
-                has_origin: count == 4,
-            })
-        } else {
-            None
-        }
+        verify_receipt_in(words)
     } else if word == b"witness".as_slice() {
-        if (count == 5 || count == 7) && is_keyed(words, 4, count == 7) {
-            Some(Request::Witness {
-                has_origin: count == 7,
-            })
-        } else {
-            None
-        }
+        witness_in(words)
     } else {
-        None
+        Err(Misuse::NoCommand(0))
     }
 }
 
-/// Returns what is asked for by a word that is about checkpoints or tiles, with so many others behind it.
-pub fn asked_of_checkpoints(word: &[u8], count: usize, words: &[Vec<u8>]) -> Option<Request>
-    ensures { result ≡ asked_of_checkpoints word.now count (map vec_items words.now) }
+/// Returns what is asked for by a word that is about checkpoints or tiles, the first of all.
+pub fn asked_of_checkpoints(word: &[u8], words: &[Vec<u8>]) -> Result<Request, Misuse>
+    ensures { result ≡ asked_of_checkpoints word.now (map vec_items words.now) }
 {
     if word == b"keygen".as_slice() {
-        if count == 2 {
-            Some(Request::Keygen { is_witness: false })
-        } else {
-            None
-        }
+        keygen_in(words, false)
     } else if word == b"keygen-witness".as_slice() {
-        if count == 2 {
-            Some(Request::Keygen { is_witness: true })
-        } else {
-            None
-        }
+        keygen_in(words, true)
     } else if word == b"checkpoint".as_slice() {
-        if (count == 3 || count == 5) && is_keyed(words, 2, count == 5) {
-            Some(Request::Checkpoint {
-                has_origin: count == 5,
-            })
-        } else {
-            None
-        }
+        checkpoint_in(words)
     } else if word == b"verify-checkpoint".as_slice() {
-        if count == 2 || count == 3 {
-            Some(Request::VerifyCheckpoint {
-                has_origin: count == 3,
-            })
-        } else {
-            None
-        }
+        verify_checkpoint_in(words)
     } else {
-        asked_of_tiles(word, count, words)
+        asked_of_tiles(word, words)
     }
 }

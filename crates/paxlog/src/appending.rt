@@ -1,0 +1,102 @@
+//! Files and lines that are appended to a log.
+
+use crate::batches::{Batches, Source};
+use crate::progress::OnTerminal;
+use crate::reading::file_bytes;
+use crate::saying::say_size;
+use crate::stop::{Stop, StopAt, placed};
+use crate::store::Keeper;
+use crate::words::{Name, name_of};
+use ark_trees::digest_of_entry;
+use paxlog_run::entries::digests_of_lines;
+use paxlog_run::request::{Options, Word};
+use std::io::Read;
+
+/// Returns the bytes of the file that a word names, or of standard input.
+pub fn bytes_of(rt: &HostRuntime, words: &[Vec<u8>], file: Word) -> Result<Vec<u8>, StopAt> {
+    let name = name_of(words, file)?;
+    if name.text == "-" {
+        let mut bytes = Vec::new(rt.alloc());
+        return match rt.stdin().read_to_end(&mut bytes) {
+            Ok(_) => Ok(bytes),
+            Err(error) => Err(Stop::from(error).at(name.place)),
+        };
+    }
+    file_bytes(rt, name)
+}
+
+// Appends entries at once, and returns the new size.
+fn append(
+    rt: &HostRuntime,
+    log: Name,
+    options: &Options,
+    digests: &[[u8; 32]],
+) -> Result<usize, StopAt> {
+    let mut keeper = placed(log.place, Keeper::open(rt, log.text, options))?;
+    placed(log.place, keeper.append(rt, digests))
+}
+
+/// Appends the files from a place on as entries at once, and writes the new size. Each name is a text before any file is read.
+pub fn append_files(
+    rt: &HostRuntime,
+    words: &[Vec<u8>],
+    log: Word,
+    options: &Options,
+    files: usize,
+) -> Result<u8, StopAt> {
+    let log = name_of(words, log)?;
+    for place in files..words.len() {
+        name_of(words, Word { place })?;
+    }
+    let mut digests = Vec::new(rt.alloc());
+    for place in files..words.len() {
+        digests.push(digest_of_entry(&bytes_of(rt, words, Word { place })?))?;
+    }
+    say_size(rt, append(rt, log, options, &digests)?)
+}
+
+// Appends the lines of a file, so many at once, and writes each new size once it is on the disk.
+fn append_batches(
+    rt: &HostRuntime,
+    log: Name,
+    options: &Options,
+    file: Name,
+    count: usize,
+) -> Result<u8, StopAt> {
+    let source = placed(file.place, Source::open(rt, file.text))?;
+    let mut keeper = placed(log.place, Keeper::open(rt, log.text, options))?;
+    let mut batches = Batches::new(rt.alloc(), source, count);
+    for _turn in 0..u64::MAX {
+        let digests = placed(file.place, batches.next(rt))?;
+        // an empty input says the size that there is
+        if !digests.is_empty() || batches.is_first() {
+            let size = placed(log.place, keeper.append(rt, &digests))?;
+            say_size(rt, size)?;
+        }
+        if batches.is_at_end() {
+            return Ok(0);
+        }
+    }
+    Ok(0)
+}
+
+/// Appends the lines of a file, at once or in batches, and writes the new sizes. At once it shows how far it is.
+pub fn append_lines(
+    rt: &HostRuntime,
+    words: &[Vec<u8>],
+    log: Word,
+    options: &Options,
+    file: Word,
+) -> Result<u8, StopAt> {
+    let (log, name) = (name_of(words, log)?, name_of(words, file)?);
+    if let Some(count) = options.batch {
+        return append_batches(rt, log, options, name, count);
+    }
+    let mut progress = OnTerminal::new(rt);
+    let bytes = bytes_of(rt, words, file)?;
+    let digests = digests_of_lines(rt.alloc(), &bytes, &mut progress)?;
+    progress.writes();
+    let appended = append(rt, log, options, &digests);
+    progress.end();
+    say_size(rt, appended?)
+}

@@ -1,0 +1,148 @@
+//! What is written as an answer, and the status with which it ends.
+
+use crate::checkpoints;
+use crate::complaints::{begin, reason};
+use crate::followers::Audited;
+use crate::stop::{Stop, StopAt};
+use crate::words::Name;
+use log_checkpoints::ReceiptFault;
+use log_file::fault::Fault;
+use log_store::Recovered;
+use log_tiles::Head;
+use paxlog_run::replies::line_of_root;
+use std::io::Write;
+
+// The status of a `no`.
+const NO: u8 = 1;
+
+/// Writes what is said, and returns the status.
+pub fn say(rt: &HostRuntime, line: &[u8]) -> Result<u8, StopAt> {
+    let mut out = rt.stdout();
+    out.write_all(line)?;
+    out.flush()?;
+    Ok(0)
+}
+
+/// Writes what a check says, and returns the status.
+pub fn say_verdict(rt: &HostRuntime, holds: bool) -> Result<u8, StopAt> {
+    if holds {
+        return say(rt, b"yes\n");
+    }
+    say(rt, b"no\n")?;
+    Ok(NO)
+}
+
+/// Writes what a check of a proof says, and why a proof is none.
+pub fn say_proof(rt: &HostRuntime, verdict: Result<bool, Fault>) -> Result<u8, StopAt> {
+    match verdict {
+        Ok(holds) => say_verdict(rt, holds),
+        Err(fault) if fault == Fault::Word || fault == Fault::Length => {
+            let why = reason(fault);
+            let _ = eprintln!(rt; "paxlog: {why}");
+            say_verdict(rt, false)
+        }
+        Err(fault) => Err(StopAt::from(fault)),
+    }
+}
+
+/// Writes a size that was appended, and returns the status. The error is `Unsaid`.
+pub fn say_size(rt: &HostRuntime, size: usize) -> Result<u8, StopAt> {
+    let said = match format!(in rt.alloc(); "{size}\n") {
+        Ok(line) => say(rt, line.as_bytes()),
+        Err(why) => Err(StopAt::from(why)),
+    };
+    match said {
+        Ok(status) => Ok(status),
+        Err(_) => Err(StopAt::from(Stop::Unsaid)),
+    }
+}
+
+/// Writes the size and the root of a log, and returns the status.
+pub fn say_root(rt: &HostRuntime, size: usize, root: &[u8; 32]) -> Result<u8, StopAt> {
+    say(rt, &line_of_root(rt.alloc(), size, root)?)
+}
+
+/// Writes the size and the root that a checkpoint states, and returns the status.
+pub fn say_head(rt: &HostRuntime, head: &Head) -> Result<u8, StopAt> {
+    say_root(rt, head.size, &head.root)
+}
+
+/// Writes the size and the root of a checkpoint, or why it is not accepted.
+pub fn say_checkpoint(
+    rt: &HostRuntime,
+    opened: Result<(usize, [u8; 32]), signed_notes::Fault>,
+) -> Result<u8, StopAt> {
+    match opened {
+        Ok(stated) => {
+            let root = stated.1;
+            say_root(rt, stated.0, &root)
+        }
+        Err(signed_notes::Fault::Memory) => Err(StopAt::from(Fault::Memory)),
+        Err(fault) => {
+            let why = checkpoints::reason(fault);
+            let _ = eprintln!(rt; "paxlog: {why}");
+            say_verdict(rt, false)
+        }
+    }
+}
+
+/// Writes the size and the root of the log that a receipt shows an entry of, or why it is not accepted.
+pub fn say_receipt(
+    rt: &HostRuntime,
+    found: Result<Option<(usize, [u8; 32])>, ReceiptFault>,
+) -> Result<u8, StopAt> {
+    match found {
+        Ok(Some(stated)) => {
+            let root = stated.1;
+            say_root(rt, stated.0, &root)
+        }
+        Ok(None) => say_verdict(rt, false),
+        Err(ReceiptFault::Spelling) => {
+            let _ = eprintln!(rt; "paxlog: the receipt is none");
+            say_verdict(rt, false)
+        }
+        Err(ReceiptFault::Note(fault)) => say_checkpoint(rt, Err(fault)),
+    }
+}
+
+/// Writes what an audit of a folder found: on standard error, of how many entries the bytes are kept, if not of all.
+pub fn say_audited(
+    rt: &HostRuntime,
+    words: &[Vec<u8>],
+    folder: Name,
+    found: &Audited,
+) -> Result<u8, StopAt> {
+    if found.kept < found.head.size {
+        begin(rt, words, Some(folder.place));
+        let _ = eprintln!(rt; "the bytes of the first {} entries are kept", found.kept);
+    }
+    say_head(rt, &found.head)
+}
+
+/// Says on standard error what of a file can be recovered, and what was done.
+pub fn tell_recovered(
+    rt: &HostRuntime,
+    words: &[Vec<u8>],
+    log: Name,
+    new: Option<Name>,
+    found: &Recovered,
+) {
+    begin(rt, words, Some(log.place));
+    let _ = match found.stated {
+        None => eprint!(rt; "no slot of its head is whole; "),
+        Some(size) => eprint!(rt; "its head says {size} entries; "),
+    };
+    let _ = eprintln!(rt; "the digests of the first {} are sound", found.size);
+    match new {
+        Some(new) => {
+            begin(rt, words, Some(new.place));
+            let _ = eprintln!(rt; "a new log of {} entries was made", found.size);
+        }
+        None => {
+            begin(rt, words, Some(log.place));
+            let _ = eprintln!(rt;
+                "nothing was changed: with NEW behind LOG a new log is made of these entries"
+            );
+        }
+    }
+}
