@@ -33,7 +33,7 @@ use crate::words::{folder_name, name_of, origin_of, words};
 use log_checkpoints::write_receipt;
 use log_file::fault::Fault;
 use log_store::InclusionProof;
-use paxlog_run::replies::line_of;
+use paxlog_run::replies::{line_of, line_of_root};
 use paxlog_run::request::{
     Continuation, Inclusion, Keyed, Misuse, Request, Site, Word, bytes_at, request_of,
 };
@@ -110,8 +110,10 @@ fn recover(
         }
         None => (None, placed(log.place, store::recoverable(rt, log.text))?),
     };
+    // before anything is told: memory may be refused
+    let line = line_of_root(rt.alloc(), found.size, &found.root)?;
     tell_recovered(rt, words, log, new, &found);
-    say_root(rt, found.size, &found.root)
+    say(rt, &line)
 }
 
 // Whether an entry is one of a log with a root, by its proof.
