@@ -35,9 +35,6 @@ length_of : (entry : List ℕ) → length entry ≤ 65535
     → from_be_bytes w16 (to_be_bytes w16 (length entry)) ≡ length entry
 length_of entry short = from_be_bytes-to_be_bytes_2 (length entry) (omega (arith, short))
 
-word-long : (n : ℕ) → length (to_be_bytes w16 n) ≡ 2
-word-long n = refl
-
 -- The first entry is the only one that stands in front.
 pub entry-same : (a b x y : List ℕ) → length a ≤ 65535 → length b ≤ 65535
     → entry_bytes a ++ x ≡ entry_bytes b ++ y → (a ≡ b) × (x ≡ y)

@@ -89,13 +89,15 @@ impl<W: Window> TwoToOneCRHScheme for BoweHopwoodTwoToOneCRH<W> {
 
     ghost evaluated_same = { λ p q same.
         ap (λ lists left right. seen_by (λ x. x ∷ [])
-        (of_halves W.Window (bowe_hopwood_hash ⟦<Jubjub as AdditiveGroup>⟧.group ⟦<Jubjub as TECoordinates>⟧.x
+        (of_halves W.Window (bowe_hopwood_hash ⟦<Jubjub as AdditiveGroup>⟧.group
+        ⟦<Jubjub as TECoordinates>⟧.x
         W.Window lists)
         left right)) same };
 
     ghost compressed_same = { λ p q same.
         ap (λ lists left right. seen_by (λ x. x ∷ [])
-        (of_halves W.Window (bowe_hopwood_hash ⟦<Jubjub as AdditiveGroup>⟧.group ⟦<Jubjub as TECoordinates>⟧.x
+        (of_halves W.Window (bowe_hopwood_hash ⟦<Jubjub as AdditiveGroup>⟧.group
+        ⟦<Jubjub as TECoordinates>⟧.x
         W.Window lists)
         (⟦<Bls12_381Fr as DigestItem>⟧.bytes_of left)
         (⟦<Bls12_381Fr as DigestItem>⟧.bytes_of right))) same };
