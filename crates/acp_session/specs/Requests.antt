@@ -8,7 +8,7 @@ use Rattle.acp_session.specs.declared.request.Request.{Request as LineRequest}
 use Rattle.acp_session.specs.declared.request.Request.TheVariants.{Tree, Digests, Set, SetMany, Root, Proof, Multi, Check, Bind, MultiCheck, MultiCount, Strict}
 use Rattle.acp_session.specs.Arguments.{some, none_left, values, only_value, two_values, pairs, value_and_others}
 use Rattle.acp_session.specs.Language.{Language}
-use Rattle.decimals.specs.Decimals.{number_of}
+use Rattle.decimals.specs.Decimals.{decimal_number}
 
 -- a leaf stands as what the leaf hash answers for it
 pub data Request : Type 0 where
@@ -44,8 +44,8 @@ checked_by l word tokens =
 abbrev pub queried_by : Language → List ℕ → List (List ℕ) → Option Request
 queried_by l word tokens =
     if bytes_eq word (codes "root") then none_left ShowRoot tokens
-    else if bytes_eq word (codes "proof") then option_map ShowProof (only_value number_of tokens)
-    else if bytes_eq word (codes "multi") then option_map ShowMultiProof (values number_of tokens)
+    else if bytes_eq word (codes "proof") then option_map ShowProof (only_value decimal_number tokens)
+    else if bytes_eq word (codes "multi") then option_map ShowMultiProof (values decimal_number tokens)
     else checked_by l word tokens
 
 -- the same also of what changes the tree
@@ -54,9 +54,9 @@ asked_by l word tokens =
     if bytes_eq word (codes "tree") then option_map NewTree (some tokens (values l.leaf_outcome tokens))
     else if bytes_eq word (codes "digests") then option_map NewTreeOfDigests (some tokens (values l.digest tokens))
     else if bytes_eq word (codes "set")
-    then option_map (λ two. NewLeaf two.0 two.1) (two_values number_of l.leaf_outcome tokens)
+    then option_map (λ two. NewLeaf two.0 two.1) (two_values decimal_number l.leaf_outcome tokens)
     else if bytes_eq word (codes "setmany")
-    then option_map NewLeaves (some tokens (pairs number_of l.leaf_outcome tokens))
+    then option_map NewLeaves (some tokens (pairs decimal_number l.leaf_outcome tokens))
     else queried_by l word tokens
 
 -- what a line asks, if it is no bad one

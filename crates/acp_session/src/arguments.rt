@@ -9,7 +9,7 @@ use crate::shell::Shell;
 use crate::tokens::{first_token, first_two_tokens, only_token, two_tokens};
 use ark_base::serialize::Numbered;
 use ark_crh::CRHScheme;
-use decimals::number_of;
+use decimals::decimal_number;
 use std::alloc::{AllocError, Global};
 use std::marker::PhantomData;
 
@@ -54,7 +54,7 @@ pub struct Digest<C> {
 
 impl Argument for Index {
     ghost use Rattle.std.specs.Prelude.{ℕ};
-    ghost use Rattle.decimals.specs.Decimals.{number_of};
+    ghost use Rattle.decimals.specs.Decimals.{decimal_number};
 
     type Value = usize;
 
@@ -64,10 +64,10 @@ impl Argument for Index {
 
     ghost seen = { λ _ index. index };
 
-    ghost value_of = { λ _. number_of };
+    ghost value_of = { λ _. decimal_number };
 
     fn read(_alloc: Global, token: &[u8]) -> Result<Option<usize>, AllocError> {
-        Ok(number_of(token))
+        Ok(decimal_number(token))
     }
 }
 

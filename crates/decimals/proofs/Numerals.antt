@@ -8,7 +8,7 @@ use Rattle.std.proofs.lemmas.Bool.{lt-ltb, ltb-true, eqb-true, false_from_ne_tru
 use Rattle.std.proofs.lemmas.Fmt.{IsAscii-from_digits}
 use Rattle.std.proofs.lemmas.Str.{IsUtf8-from_ascii}
 use Rattle.std.proofs.lemmas.Str.Parse.{IsNumeralModel, numerals_by_value, tells_all_ascii_digits, parse_plain}
-use Rattle.decimals.specs.Decimals.{is_number, number_of}
+use Rattle.decimals.specs.Decimals.{is_number, decimal_number}
 
 abbrev IsDigits : List ℕ → Type 0
 IsDigits bs = all_ascii_digits bs ≡ true
@@ -37,7 +37,7 @@ module _ (bs : List ℕ) (first : ℕ) (first_is : first ≡ get_or bs 0 0) (som
   is_number-digits = rw (lt-ltb 0 (length bs) some, no_zero) refl
 
   number_of-by : {E : Type 0} (r : Result ℕ E) → OkIff r (IsDigits bs × (0 < length bs) × (digits_value 10 bs < 2 ^ 64))
-      (digits_value 10 bs) → result_ok r ≡ number_of bs
+      (digits_value 10 bs) → result_ok r ≡ decimal_number bs
   number_of-by (Ok n) read = rw (is_number-digits, read.0.0, lt-ltb (digits_value 10 bs) (2 ^ 64) read.0.2)
       (ap (λ (n : ℕ). Some n) read.1)
   number_of-by (Err e) none =
@@ -46,11 +46,11 @@ module _ (bs : List ℕ) (first : ℕ) (first_is : first ≡ get_or bs 0 0) (som
       rw (is_number-digits, no) refl
 
   pub number_of-parsed : {E : Type 0} (r : Result ℕ E) → first ≢ 43 → ParsesUnsigned 64 10 bs r → result_ok r
-      ≡ number_of bs
+      ≡ decimal_number bs
   number_of-parsed r no_plus read =
       number_of-by r (parse_plain numerals 64 bs r read (λ plus. no_plus (first_is ∙ plus)))
 
-  pub number_of-no_text : (IsUtf8 bs → ⊥) → None ≡ number_of bs
+  pub number_of-no_text : (IsUtf8 bs → ⊥) → None ≡ decimal_number bs
   number_of-no_text foreign =
       let other : all_ascii_digits bs ≡ false = false_from_ne_true (all_ascii_digits bs)
       (λ digits. foreign (IsUtf8-from_ascii bs (IsAscii-from_digits bs (numerals.to bs digits)))) in

@@ -11,5 +11,5 @@ is_number text =
     && (not (nat_lt 1 (length text) && (get_or text 0 0 == 48)) && nat_lt (digits_value 10 text) (2 ^ 64)))
 
 -- the number that bytes spell in decimal
-abbrev pub number_of : List ℕ → Option ℕ
-number_of text = if is_number text then Some (digits_value 10 text) else None
+abbrev pub decimal_number : List ℕ → Option ℕ
+decimal_number text = if is_number text then Some (digits_value 10 text) else None

@@ -2,15 +2,15 @@
 #![tactic(auto)]
 
 ghost use Rattle.std.specs.Prelude.{◌≡◌};
-ghost use Rattle.decimals.specs.Decimals.{number_of};
+ghost use Rattle.decimals.specs.Decimals.{decimal_number};
 
 #[cfg(test)]
 mod tests;
 
 /// Returns the number that some bytes spell in decimal; `None` for a sign, a leading zero, other bytes than digits, no
 /// bytes, and a number of 2^64 or more.
-pub fn number_of(text: &[u8]) -> Option<usize>
-    ensures { result ≡ number_of text.now }
+pub fn decimal_number(text: &[u8]) -> Option<usize>
+    ensures { result ≡ decimal_number text.now }
 {
     let first = *text.first()?;
     if first == b'+' || first == b'0' && text.len() > 1 {

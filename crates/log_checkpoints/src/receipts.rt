@@ -10,7 +10,7 @@ ghost use Rattle.signed_notes.specs.Views.{policy_parts};
 use ark_trees::{LogHasher, digest_of_entry};
 use base64::DecodeAllocError;
 use base64::engine::general_purpose::STANDARD;
-use decimals::number_of;
+use decimals::decimal_number;
 use memchr::memchr;
 use merkle_log::verify_inclusion_digest;
 use signed_notes::{Checkpoint, Fault, Policy, open_checkpoint};
@@ -101,7 +101,7 @@ fn parts_in(alloc: Global, bytes: &[u8]) -> Result<Receipt<'_>, ReceiptFault>
     let Some((line, mut rest)) = next_line(&bytes[TITLE.len()..]) else {
         return Err(ReceiptFault::Spelling);
     };
-    let Some(index) = number_of(line) else {
+    let Some(index) = decimal_number(line) else {
         return Err(ReceiptFault::Spelling);
     };
     let mut path = Vec::new(alloc);

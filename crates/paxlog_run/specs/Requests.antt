@@ -3,7 +3,7 @@ use Rattle.std.specs.Prelude.{ℕ, ◌+◌, ◌==◌, ◌||◌, is_none, nat_lt,
 use Rattle.std.specs.Result.{result_ok}
 use Rattle.std.specs.Str.{bytes_eq}
 use Rattle.hex.specs.Hex.{decode_sized}
-use Rattle.decimals.specs.Decimals.{number_of}
+use Rattle.decimals.specs.Decimals.{decimal_number}
 use Rattle.ark_paths.specs.Pair.{Digest}
 use Rattle.paxlog_run.specs.declared.request.Word.{Word}
 use Rattle.paxlog_run.specs.declared.request.Request.{Request}

@@ -11,7 +11,7 @@ use Rattle.std.specs.Str.Parse.{digits_value}
 use Rattle.base64.specs.Engines.{standard}
 use Rattle.base64.specs.GeneralPurpose.{IsBytes, encode_of}
 use Rattle.base64.proofs.EngineFacts.{decode_of-encode_of, front_bytes}
-use Rattle.decimals.specs.Decimals.{is_number, number_of}
+use Rattle.decimals.specs.Decimals.{is_number, decimal_number}
 use Rattle.signed_notes.specs.Checkpoints.{CheckpointParts, IsCheckpoint, are_extensions, checkpoint_behind, checkpoint_from, checkpoint_of, checkpoint_rooted, checkpoint_sized, checkpoint_with, is_line, is_origin, read_checkpoint, write_checkpoint}
 use Rattle.signed_notes.specs.Cutting.{cut, onto_front}
 use Rattle.signed_notes.specs.Faults.{or_fault}
@@ -91,7 +91,7 @@ no-zero n fits = elim (cases_eq n 0) [
       (decimal n) 0 0) 48 (λ same. omega (arith, first_decimal n (omega arith) fits, same)))
 ]
 
-number-read : (n : ℕ) → n < 2 ^ 64 → number_of (decimal n) ≡ Some n
+number-read : (n : ℕ) → n < 2 ^ 64 → decimal_number (decimal n) ≡ Some n
 number-read n fits =
     let value : digits_value 10 (decimal n) ≡ n = digits_value-decimal numerals n fits in
     rw (
@@ -118,7 +118,7 @@ one-or-other (d ∷ []) e some zero_first = refl
 one-or-other (d ∷ c ∷ ds) e some zero_first = absurd (let bad : true ≡ false =
     rw (lt-ltb 1 (length (d ∷ c ∷ ds)) (omega arith), eq-eqb d 48 zero_first) at e in cc)
 
-number-whole : (ds : List ℕ) (n : ℕ) → number_of ds ≡ Some n → IsNumber ds n
+number-whole : (ds : List ℕ) (n : ℕ) → decimal_number ds ≡ Some n → IsNumber ds n
 number-whole ds n e =
     let whole = only_some (is_number ds) (digits_value 10 ds) n e in
     let some = and_parts (nat_lt 0 (length ds)) _ whole.0 in
@@ -164,9 +164,9 @@ record IsBehind (origin rest : List ℕ) (c : CheckpointParts) : Type 0 where
 behind-whole : (origin line rest : List ℕ) (c : CheckpointParts) → IsBytes rest
     → checkpoint_behind origin (line, rest) ≡ Ok c → IsBehind origin (line ++ (10 ∷ rest)) c
 behind-whole origin line rest c are e =
-    let sized = bind-ok (or_fault (number_of line) Size) (checkpoint_sized origin rest) c e in
+    let sized = bind-ok (or_fault (decimal_number line) Size) (checkpoint_sized origin rest) c e in
     let size = sized.0 in
-    let number = number-whole line size (or_fault-ok (number_of line) Size size sized.1) in
+    let number = number-whole line size (or_fault-ok (decimal_number line) Size size sized.1) in
     let rooted = bind-ok (or_fault (cut 10 rest) Unfinished) (checkpoint_rooted origin size) c sized.2 in
     let word = rooted.0.0 in
     let extensions = rooted.0.1 in

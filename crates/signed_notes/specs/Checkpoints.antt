@@ -5,7 +5,7 @@ use Rattle.std.specs.List.{list_all}
 use Rattle.ark_base.specs.Outcome.{◌>>=◌}
 use Rattle.base64.specs.GeneralPurpose.{encode_of}
 use Rattle.base64.specs.Engines.{standard}
-use Rattle.decimals.specs.Decimals.{number_of}
+use Rattle.decimals.specs.Decimals.{decimal_number}
 use Rattle.signed_notes.specs.Cutting.{cut, lines_in}
 use Rattle.signed_notes.specs.Faults.{only_if, or_fault}
 use Rattle.signed_notes.specs.Notes.{is_ended, is_text}
@@ -63,7 +63,7 @@ checkpoint_sized origin rest size = or_fault (cut 10 rest) Unfinished >>= checkp
 
 -- the same of the size's line and what stands behind it
 abbrev pub checkpoint_behind : List ℕ → List ℕ × List ℕ → Result CheckpointParts Fault
-checkpoint_behind origin parts = or_fault (number_of parts.0) Size >>= checkpoint_sized origin parts.1
+checkpoint_behind origin parts = or_fault (decimal_number parts.0) Size >>= checkpoint_sized origin parts.1
 
 -- the same of the origin's line and what stands behind it
 abbrev pub checkpoint_from : List ℕ × List ℕ → Result CheckpointParts Fault

@@ -2,7 +2,7 @@
 
 ghost use Rattle.std.specs.Prelude.{◌≡◌, true, false, string_bytes, Some};
 ghost use Rattle.std.specs.List.{list_all};
-ghost use Rattle.decimals.specs.Decimals.{number_of};
+ghost use Rattle.decimals.specs.Decimals.{decimal_number};
 ghost use Rattle.signed_notes.specs.Checkpoints.{are_extensions, checkpoint_behind, checkpoint_from, checkpoint_of, checkpoint_rooted, checkpoint_sized, checkpoint_with, is_line, is_origin, read_checkpoint, write_checkpoint};
 ghost use Rattle.signed_notes.specs.Cutting.{lines_in};
 ghost use Rattle.signed_notes.specs.Faults.{GivesBy};
@@ -13,7 +13,7 @@ use crate::fault::Fault;
 use crate::note::bytes_in;
 use crate::texts::{is_ended, is_text, text_of};
 use base64::engine::general_purpose::STANDARD;
-use decimals::number_of;
+use decimals::decimal_number;
 use std::alloc::Global;
 
 /// A checkpoint of a log.
@@ -104,9 +104,9 @@ fn checkpoint_sized<'a>(
 
 // The size that a line says.
 fn size_in(line: &[u8]) -> Option<usize>
-    ensures { result ≡ number_of line.now }
+    ensures { result ≡ decimal_number line.now }
 {
-    number_of(line)
+    decimal_number(line)
 }
 
 // The checkpoint of what stands behind the origin.

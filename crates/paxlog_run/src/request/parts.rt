@@ -4,7 +4,7 @@ ghost use Rattle.std.specs.Prelude.{◌≡◌, ◌≤◌, map, vec_items};
 ghost use Rattle.paxlog_run.specs.Requests.{counted, digest_at, digest_of, keyed_at, number_at, origin_at, site_at, size_at, typed_at};
 
 use crate::request::{Keyed, Misuse, Site, Word, bytes_at};
-use decimals::number_of;
+use decimals::decimal_number;
 
 // The digest that a word spells in hexadecimal.
 fn digest_of(word: &[u8]) -> Option<[u8; 32]>
@@ -39,7 +39,7 @@ pub fn origin_at(words: &[Vec<u8>], place: usize) -> Option<Word>
 pub fn number_at(words: &[Vec<u8>], place: usize) -> Result<usize, Misuse>
     ensures { result ≡ number_at (map vec_items words.now) place }
 {
-    match number_of(bytes_at(words, place)) {
+    match decimal_number(bytes_at(words, place)) {
         Some(number) => Ok(number),
         None => Err(Misuse::NoNumber(place)),
     }

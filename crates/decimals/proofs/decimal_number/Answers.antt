@@ -1,7 +1,7 @@
 use Rattle.std.proofs.Common.{◌∙◌, subst}
 use Rattle.std.specs.Str.Parse.{ParsesUnsigned}
 use Rattle.decimals.proofs.Numerals.{number_of-parsed, number_of-no_text, of_ok, of_err}
-use Rattle.decimals.proofs.number_of.Goals as goal
+use Rattle.decimals.proofs.decimal_number.Goals as goal
 
 pub returns-in_err-ok : goal.returns-in_err-ok
 returns-in_err-ok c =
