@@ -13,23 +13,24 @@ use Rattle.ed25519.specs.declared.base.Kept.{Kept}
 use Rattle.ed25519.specs.Edwards25519.{p, d, curve, base_point}
 use Rattle.ed25519.specs.Laws.Curve.{ed25519_is_complete}
 use Rattle.ed25519.specs.Laws.Base.{base_on_curve}
-use Rattle.ed25519.specs.BaseTable.{unit}
+use Rattle.ed25519.specs.BaseTable.{row_unit}
 use Rattle.ed25519.specs.Combined.{Four}
-use Rattle.ed25519.specs.Multiples.{AreKept, IsBlank, every_fourth}
+use Rattle.ed25519.specs.Multiples.{IsPreparedEntry, IsBlankEntry, every_fourth}
 use Rattle.ed25519.proofs.BaseRows.{unit_times}
 
 -- the multiple by a digit is that of its entry, and zero's for none
 pub kept_found : (digit mask : ℕ) (of_zero of_entry kept : Kept) (b : Coordinates) → mask ≡ mask_for (eqb 0 digit)
-    → (mask ≡ ones → IsBlank of_entry → (s : Coordinates) → AreKept of_zero s → AreKept kept s)
-    → (mask ≡ 0 → (s : Coordinates) → AreKept of_entry s → AreKept kept s) → AreKept of_zero neutral
-    → (digit ≡ 0 → IsBlank of_entry) → (0 < digit → AreKept of_entry (times curve digit b))
-    → AreKept kept (times curve digit b)
+    → (mask ≡ ones → IsBlankEntry of_entry → (s : Coordinates) → IsPreparedEntry of_zero s → IsPreparedEntry kept s)
+    → (mask ≡ 0 → (s : Coordinates) → IsPreparedEntry of_entry s → IsPreparedEntry kept s)
+    → IsPreparedEntry of_zero neutral
+    → (digit ≡ 0 → IsBlankEntry of_entry) → (0 < digit → IsPreparedEntry of_entry (times curve digit b))
+    → IsPreparedEntry kept (times curve digit b)
 kept_found digit mask of_zero of_entry kept b bits first second is_zero blank some = step (eqb 0 digit) refl
   where
-    step : (c : Bool) → eqb 0 digit ≡ c → AreKept kept (times curve digit b)
+    step : (c : Bool) → eqb 0 digit ≡ c → IsPreparedEntry kept (times curve digit b)
     step true is =
         let same : 0 ≡ digit = eqb-true 0 digit is in
-        subst (λ k. AreKept kept (times curve k b)) same
+        subst (λ k. IsPreparedEntry kept (times curve k b)) same
         (first (bits ∙ ap mask_for is) (blank (sym same)) neutral is_zero)
     step false is =
         let other : 0 ≡ digit → ⊥ = eqb-false 0 digit is in
@@ -46,7 +47,7 @@ no_digits r m n of_r = subst (λ k. Stands r (times curve k base_point)) (none m
 
 -- one digit more
 pub digit_added : (r : Four) (m i n : ℕ)
-    → Stands r (sum p d (times curve (m + every_fourth i n) base_point) (times curve (n / 65536 ^ i % 16) (unit i)))
+    → Stands r (sum p d (times curve (m + every_fourth i n) base_point) (times curve (n / 65536 ^ i % 16) (row_unit i)))
     → Stands r (times curve (m + every_fourth (i + 1) n) base_point)
 unfolding every_fourth
 digit_added r m i n of_r =

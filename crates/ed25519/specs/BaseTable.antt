@@ -7,12 +7,13 @@ use Rattle.ed25519.specs.Edwards25519.{p, d, base_point}
 use Rattle.ed25519.specs.Laws.Curve.{ed25519_is_complete}
 
 -- what the field keeps for a number
-abbrev pub kept : ℕ → ℕ
-kept n = n * 2 ^ 256 % p
+abbrev pub in_montgomery_form : ℕ → ℕ
+in_montgomery_form n = n * 2 ^ 256 % p
 
 -- y - x, y + x and 2 d x y as the field keeps them
-abbrev pub entry_of : Coordinates → List (List ℕ)
-entry_of a = couples (kept (a.y + (p - a.x))) (couples (kept (a.y + a.x)) (couples (kept (2 * d * a.x * a.y)) []))
+abbrev pub prepared_words : Coordinates → List (List ℕ)
+prepared_words a = couples (in_montgomery_form (a.y + (p - a.x)))
+    (couples (in_montgomery_form (a.y + a.x)) (couples (in_montgomery_form (2 * d * a.x * a.y)) []))
 
 -- the sum, with inverses that are computed
 abbrev pub quick : Coordinates → Coordinates → Coordinates
@@ -26,21 +27,21 @@ doubled (suc n) a = doubled n (quick a a)
 -- a point, and n - 1 more, each by a step more than the one before it
 abbrev pub entries : ℕ → Coordinates → Coordinates → List (List (List ℕ))
 entries zero a step = []
-entries (suc n) a step = entry_of a ∷ entries n (quick a step) step
+entries (suc n) a step = prepared_words a ∷ entries n (quick a step) step
 
 -- the multiples of a point by 1 to 15
-unfoldable pub row_of : Coordinates → List (List (List ℕ))
-row_of a = entries 15 a a
+unfoldable pub multiples_row : Coordinates → List (List (List ℕ))
+multiples_row a = entries 15 a a
 
 -- n rows, each of 65536 times the point of the row before it
 abbrev pub rows : ℕ → Coordinates → List (List (List (List ℕ)))
 rows zero a = []
-rows (suc n) a = row_of a ∷ rows n (doubled 16 a)
+rows (suc n) a = multiples_row a ∷ rows n (doubled 16 a)
 
 -- four rows from 2 ^ n times the base point on
-unfoldable pub rows_from : ℕ → List (List (List (List ℕ)))
-rows_from n = rows 4 (doubled n base_point)
+unfoldable pub four_rows_from : ℕ → List (List (List (List ℕ)))
+four_rows_from n = rows 4 (doubled n base_point)
 
 -- 65536 ^ i times the base point
-unfoldable pub unit : ℕ → Coordinates
-unit i = doubled (16 * i) base_point
+unfoldable pub row_unit : ℕ → Coordinates
+row_unit i = doubled (16 * i) base_point

@@ -4,7 +4,7 @@ use Rattle.ark_groups.specs.Words.{number}
 use Rattle.edwards_numbers.specs.Edwards.{Coordinates}
 use Rattle.ed25519.specs.declared.base.Kept.{Kept}
 use Rattle.ed25519.specs.Edwards25519.{d}
-use Rattle.ed25519.specs.BaseTable.{kept}
+use Rattle.ed25519.specs.BaseTable.{in_montgomery_form}
 use Rattle.ed25519.specs.Edwards25519.{p}
 
 -- the digits at 0, 4, 8 .. of n to base 16, k of them, each at the place where it stands in n
@@ -13,13 +13,13 @@ every_fourth zero n = 0
 every_fourth (suc k) n = every_fourth k n + n / 65536 ^ k % 16 * 65536 ^ k
 
 -- three numbers are y - x, y + x and 2 d x y as the field keeps them
-pub record AreKept (e : Kept) (a : Coordinates) : Type 0 where
-  pub less : number e.less ≡ kept (a.y + (p - a.x))
-  pub more : number e.more ≡ kept (a.y + a.x)
-  pub cross : number e.cross ≡ kept (2 * d * a.x * a.y)
+pub record IsPreparedEntry (e : Kept) (a : Coordinates) : Type 0 where
+  pub less : number e.less ≡ in_montgomery_form (a.y + (p - a.x))
+  pub more : number e.more ≡ in_montgomery_form (a.y + a.x)
+  pub cross : number e.cross ≡ in_montgomery_form (2 * d * a.x * a.y)
 
 -- three zeros, which no point is kept as
-pub record IsBlank (e : Kept) : Type 0 where
+pub record IsBlankEntry (e : Kept) : Type 0 where
   pub less : number e.less ≡ 0
   pub more : number e.more ≡ 0
   pub cross : number e.cross ≡ 0

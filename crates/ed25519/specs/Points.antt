@@ -17,5 +17,5 @@ unfoldable pub eighth : ℕ
 eighth = 7237005577332262213973186563042994240829374041602535252466099000494570602494
 
 -- the number of n binary digits 1
-unfoldable pub ones : ℕ → ℕ
-ones n = 2 ^ n - 1
+unfoldable pub binary_ones : ℕ → ℕ
+binary_ones n = 2 ^ n - 1

@@ -9,10 +9,10 @@ ghost use Rattle.edwards.specs.Entries.{no_entry, AreMasksOf};
 ghost use Rattle.edwards.specs.Extended.{Stands};
 ghost use Rattle.edwards.specs.Prepared.{IsPrepared};
 ghost use Rattle.ed25519.specs.Edwards25519.{d, curve, base_point, IsOnEd25519};
-ghost use Rattle.ed25519.specs.BaseTable.{entry_of, row_of};
-ghost use Rattle.ed25519.specs.Multiples.{every_fourth, AreKept, IsBlank};
+ghost use Rattle.ed25519.specs.BaseTable.{prepared_words, multiples_row};
+ghost use Rattle.ed25519.specs.Multiples.{every_fourth, IsPreparedEntry, IsBlankEntry};
 
-use crate::base_table::{Row, row};
+use crate::base_table::{Row, base_row};
 use crate::combined::Four;
 use crate::moduli::Ed25519FpModulus;
 use ark_groups::ff::Words;
@@ -32,8 +32,8 @@ struct Kept {
 
 // The numbers of an entry of a row.
 fn kept_at(entry: &Entry) -> Kept
-    ensures kept { (a : Coordinates) → entry.now ≡ entry_of a → AreKept result a }
-    ensures blank { entry.now ≡ no_entry → IsBlank result }
+    ensures kept { (a : Coordinates) → entry.now ≡ prepared_words a → IsPreparedEntry result a }
+    ensures blank { entry.now ≡ no_entry → IsBlankEntry result }
 {
     Kept {
         less: Words {
@@ -59,7 +59,7 @@ fn kept_at(entry: &Entry) -> Kept
 
 // The numbers of zero.
 fn kept_zero() -> Kept
-    ensures { AreKept result neutral }
+    ensures { IsPreparedEntry result neutral }
 {
     Kept {
         less: Ed25519FpModulus::ONE,
@@ -72,9 +72,10 @@ fn kept_zero() -> Kept
 #[inline(always)]
 fn kept_under(mask: u64, a: Kept, so_far: Kept) -> Kept
     requires { IsMask mask }
-    ensures first { mask ≡ ones → IsBlank so_far → (s : Coordinates) → AreKept a s
-        → AreKept result s }
-    ensures second { mask ≡ 0 → (s : Coordinates) → AreKept so_far s → AreKept result s }
+    ensures first { mask ≡ ones → IsBlankEntry so_far → (s : Coordinates) → IsPreparedEntry a s
+        → IsPreparedEntry result s }
+    ensures second { mask ≡ 0 → (s : Coordinates) → IsPreparedEntry so_far s
+        → IsPreparedEntry result s }
 {
     Kept {
         less: words_under(mask, a.less, so_far.less),
@@ -84,7 +85,7 @@ fn kept_under(mask: u64, a: Kept, so_far: Kept) -> Kept
 }
 
 // The entry of a row for a digit, two words at a time, and none for 0. All of the row is read.
-fn entry_for(row: &Row, masks: &[u64; 16], digit: usize) -> Entry
+fn entry_of_digit(row: &Row, masks: &[u64; 16], digit: usize) -> Entry
     requires digit { digit < 16 }
     requires masks { AreMasksOf digit masks.now }
     ensures some { 0 < digit → result ≡ get_or row.now (digit - 1) [] }
@@ -100,19 +101,19 @@ fn entry_for(row: &Row, masks: &[u64; 16], digit: usize) -> Entry
 // The multiple of a point by a digit, from the row of its multiples, all of which is read.
 fn kept_multiple(row: &Row, digit: usize) -> Kept
     requires { digit < 16 }
-    ensures { (b : Coordinates) → IsOnEd25519 b → row.now ≡ row_of b
-        → AreKept result (times curve digit b) }
+    ensures { (b : Coordinates) → IsOnEd25519 b → row.now ≡ multiples_row b
+        → IsPreparedEntry result (times curve digit b) }
 {
     let masks = masks_of(digit);
-    let entry = entry_for(row, &masks, digit);
+    let entry = entry_of_digit(row, &masks, digit);
     kept_under(masks[0], kept_zero(), kept_at(&entry))
 }
 
 // The point, prepared for a sum.
 #[inline(always)]
 fn prepared(e: Kept) -> Prepared<Ed25519FpModulus>
-    requires { (a : Coordinates) × AreKept e a }
-    ensures { (a : Coordinates) → AreKept e a → IsPrepared d result a }
+    requires { (a : Coordinates) × IsPreparedEntry e a }
+    ensures { (a : Coordinates) → IsPreparedEntry e a → IsPrepared d result a }
 {
     Prepared {
         less: of_kept(e.less),
@@ -157,7 +158,7 @@ fn with_every_fourth(sum: Four, scalar: Words) -> Four
     let mut rest = scalar;
     for i in 0..16 {
         let digit = (rest.w0 % 16) as usize;
-        so_far = plus_prepared(so_far, prepared(kept_multiple(row(i), digit)));
+        so_far = plus_prepared(so_far, prepared(kept_multiple(base_row(i), digit)));
         rest = without_four(rest);
     }
     so_far

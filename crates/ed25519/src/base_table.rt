@@ -2,7 +2,7 @@
 //! point of the row before it. `tools/ed25519-table` writes them, and the proof computes them.
 
 ghost use Rattle.std.specs.Prelude.{◌≡◌, ◌<◌};
-ghost use Rattle.ed25519.specs.BaseTable.{rows_from, row_of, unit};
+ghost use Rattle.ed25519.specs.BaseTable.{four_rows_from, multiples_row, row_unit};
 
 mod higher;
 mod highest;
@@ -13,33 +13,33 @@ mod lowest;
 pub type Row = [[[u64; 2]; 6]; 15];
 
 fn first_rows() -> &'static [Row; 4]
-    ensures { result.now ≡ rows_from 0 }
+    ensures { result.now ≡ four_rows_from 0 }
 {
     &lowest::ROWS
 }
 
 fn second_rows() -> &'static [Row; 4]
-    ensures { result.now ≡ rows_from 64 }
+    ensures { result.now ≡ four_rows_from 64 }
 {
     &lower::ROWS
 }
 
 fn third_rows() -> &'static [Row; 4]
-    ensures { result.now ≡ rows_from 128 }
+    ensures { result.now ≡ four_rows_from 128 }
 {
     &higher::ROWS
 }
 
 fn last_rows() -> &'static [Row; 4]
-    ensures { result.now ≡ rows_from 192 }
+    ensures { result.now ≡ four_rows_from 192 }
 {
     &highest::ROWS
 }
 
 /// Returns the row of the multiples of 65536^i times the base point.
-pub fn row(i: usize) -> &'static Row
+pub fn base_row(i: usize) -> &'static Row
     requires { i < 16 }
-    ensures { result.now ≡ row_of (unit i) }
+    ensures { result.now ≡ multiples_row (row_unit i) }
 {
     if i < 4 {
         &first_rows()[i]

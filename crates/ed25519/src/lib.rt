@@ -20,8 +20,8 @@ pub use laws::{first_halves_decide, own_signatures_are_accepted, points_are_thei
 pub use many::{Claim, verify_many};
 pub use moduli::{Ed25519Fp, Ed25519FpModulus, Ed25519Fr, Ed25519FrModulus};
 pub use numbers::{base_has_the_order, modulus_is_prime, order_is_prime, points_are_a_group};
-pub use points::{abscissa, point_of, spelled};
+pub use points::{abscissa, point_bytes, point_of};
 pub use roots::root_of_ratio;
-pub use signatures::{challenge_of, commitment, verify};
+pub use signatures::{challenge_scalar, commitment, verify};
 pub use signing::{multiple_bytes, public_key, sign};
 pub use small_order::has_small_order;

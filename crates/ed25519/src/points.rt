@@ -28,7 +28,7 @@ fn marked(y: Words, x: Words) -> Words
 }
 
 /// Returns the 32 bytes of a point.
-pub fn spelled(x: Ed25519Fp, y: Ed25519Fp) -> [u8; 32]
+pub fn point_bytes(x: Ed25519Fp, y: Ed25519Fp) -> [u8; 32]
     ensures { result ≡ spelling (coordinates_of x y) }
 {
     let mut bytes = [0; 32];
@@ -37,7 +37,7 @@ pub fn spelled(x: Ed25519Fp, y: Ed25519Fp) -> [u8; 32]
 }
 
 /// Returns the curve's coefficient.
-pub fn coefficient() -> Ed25519Fp
+pub fn curve_coefficient() -> Ed25519Fp
     ensures { value result ≡ d }
 {
     Ed25519Fp::from_words(Words {
@@ -60,7 +60,7 @@ fn unmarked(n: Ed25519Fp, odd: bool) -> Ed25519Fp
 }
 
 // The root, or minus it, whichever has the parity.
-fn of_parity(root: Ed25519Fp, odd: bool) -> Ed25519Fp
+fn root_of_parity(root: Ed25519Fp, odd: bool) -> Ed25519Fp
     ensures square { value result * value result % p ≡ value root * value root % p }
     ensures parity { (x : ℕ) → x < p → x * x % p ≡ value root * value root % p
         → x % 2 ≡ from_bool odd → value result ≡ x }
@@ -82,9 +82,9 @@ pub fn abscissa(y: Ed25519Fp, odd: bool) -> Option<Ed25519Fp>
 {
     let yy = y.mul(y);
     let u = yy.sub(Ed25519Fp::one());
-    let v = yy.mul(coefficient()).add(Ed25519Fp::one());
+    let v = yy.mul(curve_coefficient()).add(Ed25519Fp::one());
     match root_of_ratio(u, v) {
-        Some(root) => Some(of_parity(root, odd)),
+        Some(root) => Some(root_of_parity(root, odd)),
         None => None,
     }
 }
@@ -113,7 +113,7 @@ pub fn point_of(bytes: &[u8]) -> Option<(Ed25519Fp, Ed25519Fp)>
     let y = unmarked(Ed25519Fp::from_le_bytes_mod_order(bytes), odd);
     match abscissa(y, odd) {
         Some(x) => {
-            if spelled(x, y).as_slice() == bytes {
+            if point_bytes(x, y).as_slice() == bytes {
                 Some((x, y))
             } else {
                 None

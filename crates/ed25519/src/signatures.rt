@@ -13,13 +13,13 @@ ghost use Rattle.ed25519.specs.Values.{value, scalar};
 
 use crate::combined::sum_of_multiples;
 use crate::moduli::{Ed25519Fp, Ed25519Fr};
-use crate::points::{coefficient, point_of, spelled};
+use crate::points::{curve_coefficient, point_bytes, point_of};
 use ark_groups::ff::{Field, Words};
 use edwards::{affine, lifted};
 use sha2::{Digest, Sha512};
 
 /// Returns the challenge, modulo the order.
-pub fn challenge_of(first: &[u8], key: &[u8], message: &[u8]) -> Ed25519Fr
+pub fn challenge_scalar(first: &[u8], key: &[u8], message: &[u8]) -> Ed25519Fr
     ensures { scalar result ≡ challenge first.now key.now message.now }
 {
     let mut hasher = Sha512::new();
@@ -61,9 +61,9 @@ pub fn commitment(x: Ed25519Fp, y: Ed25519Fp, s: Words, k: Words) -> [u8; 32]
 {
     let base = lifted(base_x(), base_y());
     let opposite = lifted(x.neg(), y);
-    let sum = sum_of_multiples(coefficient().double(), base, s, opposite, k);
+    let sum = sum_of_multiples(curve_coefficient().double(), base, s, opposite, k);
     let (u, v) = affine(sum);
-    spelled(u, v)
+    point_bytes(u, v)
 }
 
 /// Returns whether it is a signature.
@@ -82,7 +82,7 @@ pub fn verify(key: &[u8], message: &[u8], signature: &[u8]) -> bool
             if canonical.as_slice() != last {
                 return false;
             }
-            let k = challenge_of(first, key, message);
+            let k = challenge_scalar(first, key, message);
             let bytes = commitment(x, y, s.words(), k.words());
             bytes.as_slice() == first
         }

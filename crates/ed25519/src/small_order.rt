@@ -4,7 +4,7 @@ ghost use Rattle.std.specs.Prelude.{◌≡◌};
 ghost use Rattle.std.specs.Bool.{Decides};
 ghost use Rattle.ed25519.specs.SmallOrder.{HasSmallOrder};
 
-use crate::points::{coefficient, point_of};
+use crate::points::{curve_coefficient, point_of};
 use ark_groups::ff::{Field, Words};
 use edwards::{is_neutral, lifted, multiple};
 
@@ -21,7 +21,7 @@ pub fn has_small_order(bytes: &[u8]) -> bool
                 w2: 0,
                 w3: 0,
             };
-            is_neutral(multiple(coefficient().double(), lifted(x, y), eight))
+            is_neutral(multiple(curve_coefficient().double(), lifted(x, y), eight))
         }
         None => false,
     }

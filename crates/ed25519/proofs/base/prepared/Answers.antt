@@ -5,11 +5,11 @@ use Rattle.ark_wide_fields.specs.Laws.Moduli.{at_least_two}
 use Rattle.ark_wide_fields.specs.Laws.Montgomery.{kept_made}
 use Rattle.ed25519.specs.contracts.moduli.Ed25519FpModulusWideModulus.TheImpl.{ghosts}
 use Rattle.ed25519.specs.Edwards25519.{p, d}
-use Rattle.ed25519.specs.BaseTable.{kept}
+use Rattle.ed25519.specs.BaseTable.{in_montgomery_form}
 use Rattle.ed25519.proofs.base.prepared.Goals as goal
 
 -- what is kept for a number is that number
-told : (e n : ℕ) → e ≡ kept n → kept_as p ghosts.INVERSE e ≡ n % p
+told : (e n : ℕ) → e ≡ in_montgomery_form n → kept_as p ghosts.INVERSE e ≡ n % p
 told e n is =
     ap (kept_as p ghosts.INVERSE) is ∙ kept_made p ghosts.INVERSE (at_least_two ghosts.laws) ghosts.laws.turned n
 

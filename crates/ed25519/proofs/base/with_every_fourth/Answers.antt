@@ -7,7 +7,7 @@ use Rattle.edwards.proofs.Sums.{multiple_on_curve}
 use Rattle.ed25519.specs.Edwards25519.{p, d, curve, base_point}
 use Rattle.ed25519.specs.Laws.Curve.{ed25519_is_complete}
 use Rattle.ed25519.specs.Laws.Base.{base_on_curve}
-use Rattle.ed25519.specs.BaseTable.{unit}
+use Rattle.ed25519.specs.BaseTable.{row_unit}
 use Rattle.ed25519.specs.Multiples.{every_fourth}
 use Rattle.ed25519.proofs.BaseRows.{unit_on}
 use Rattle.ed25519.proofs.BaseDigits.{no_digits, digit_added, place_next}
@@ -19,8 +19,8 @@ loop-i-init c = (omega arith, λ m. no_digits c.args.sum m (number c.args.scalar
 pub prepared-requires : goal.prepared-requires
 prepared-requires c =
     let i = c.loop-i.i in (
-      times curve (c.loop-i.rest.w0 % 16) (unit i),
-      c.kept_multiple.ensures (unit i) (unit_on i) c.row.ensures,
+      times curve (c.loop-i.rest.w0 % 16) (row_unit i),
+      c.kept_multiple.ensures (row_unit i) (unit_on i) c.base_row.ensures,
     )
 
 pub loop-i-preserved : goal.loop-i-preserved
@@ -38,12 +38,12 @@ loop-i-preserved c =
       λ m of_sum.
           let count = m + every_fourth i n in
           let s = times curve count base_point in
-          let t = times curve digit (unit i) in
+          let t = times curve digit (row_unit i) in
           digit_added r m i n
-          (subst (λ k. Stands r (sum p d s (times curve k (unit i)))) digit_is
+          (subst (λ k. Stands r (sum p d s (times curve k (row_unit i)))) digit_is
           (c.plus_prepared-so_far.ensures d k s t (multiple_on_curve p d k count base_point base_on_curve)
-          (multiple_on_curve p d k digit (unit i) (unit_on i)) (c.loop-i.invariant.1 m of_sum)
-          (c.prepared.ensures t (c.kept_multiple.ensures (unit i) (unit_on i) c.row.ensures)))),
+          (multiple_on_curve p d k digit (row_unit i) (unit_on i)) (c.loop-i.invariant.1 m of_sum)
+          (c.prepared.ensures t (c.kept_multiple.ensures (row_unit i) (unit_on i) c.base_row.ensures)))),
     )
 
 pub returns : goal.returns

@@ -20,7 +20,7 @@ returns-else-eq-clause-none c none a on is =
     let x_is : value c.in-Some.x ≡ a.x = c.in-Some.ensures.parity a on (sym y_is) mark in
     let same : coordinates_of c.in-Some.x c.unmarked-y.result ≡ a = same_coordinates _ a x_is y_is in
     true≢false (sym (c.eq.ensures ∙ (bytes_eq-Decides c.as_slice.result.now c.args.bytes.now).1
-    (c.as_slice.ensures ∙ c.spelled.ensures ∙ ap spelling same ∙ sym is)) ∙ c.if-eq.false)
+    (c.as_slice.ensures ∙ c.point_bytes.ensures ∙ ap spelling same ∙ sym is)) ∙ c.if-eq.false)
 
 pub returns-in-None-clause-none : goal.returns-in-None-clause-none
 returns-in-None-clause-none c none a on is =

@@ -28,5 +28,5 @@ returns c =
     let on : IsOnEd25519 s = combined_on (number c.args.s) (number c.args.k) base_point b base_on_curve on_b in
     let of_s : Stands c.sum_of_multiples-sum.result s =
     c.sum_of_multiples-sum.ensures base_point b base_on_curve on_b of_base of_b in
-    c.spelled.ensures ∙ ap spelling (same_coordinates _ s (c.affine.ensures.x d k s on of_s)
+    c.point_bytes.ensures ∙ ap spelling (same_coordinates _ s (c.affine.ensures.x d k s on of_s)
     (c.affine.ensures.y d k s on of_s))

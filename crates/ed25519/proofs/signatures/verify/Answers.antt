@@ -49,7 +49,7 @@ returns-else-ne c =
     let on = c.in-Some.ensures.on in
     let key_is = c.in-Some.ensures.some in
     let s : ℕ = scalar c.from_le_bytes_mod_order-s.result in
-    let k : ℕ = scalar c.challenge_of-k.result in
+    let k : ℕ = scalar c.challenge_scalar-k.result in
     let last_is : last ≡ bytes_of_number 32 s =
     sym (they_agree c.ne.result c.as_slice.result.now last c.ne.ensures c.if-ne.false) ∙ c.as_slice.ensures
     ∙ c.write_low_bytes.ensures in
@@ -59,10 +59,10 @@ returns-else-ne c =
     ∙ ap (λ n. spelling (left_over s n a)) c.words-in-Some.ensures in
     let compared = bytes_eq-Decides c.as_slice-in-Some.result.now first in (
       λ t. is_signature key message signature first last is_first is_last a s k on key_is
-          (wide_below c.from_le_bytes_mod_order-s.result) last_is c.challenge_of-k.ensures
+          (wide_below c.from_le_bytes_mod_order-s.result) last_is c.challenge_scalar-k.ensures
           (sym (compared.0 (sym c.eq.ensures ∙ t)) ∙ bytes)
           (sym (take-append-drop 32 signature) ∙ ap (λ t. t ++ drop 32 signature) (sym is_first)
           ∙ ap (λ t. first ++ t) (sym is_last)),
       λ q. c.eq.ensures ∙ compared.1 (bytes ∙ passes key message signature first last is_first is_last q a s k on key_is
-          c.from_le_bytes_mod_order-s.ensures c.challenge_of-k.ensures),
+          c.from_le_bytes_mod_order-s.ensures c.challenge_scalar-k.ensures),
     )

@@ -19,6 +19,6 @@ returns c =
     let of_s = c.multiple_of_base.ensures in
     let of_t = c.multiple_of_base-2.ensures in
     record {
-      first = c.spelled.ensures ∙ ap spelling (c.affine_both.ensures.first d k s t on_s on_t of_s of_t);
-      second = c.spelled-2.ensures ∙ ap spelling (c.affine_both.ensures.second d k s t on_s on_t of_s of_t);
+      first = c.point_bytes.ensures ∙ ap spelling (c.affine_both.ensures.first d k s t on_s on_t of_s of_t);
+      second = c.point_bytes-2.ensures ∙ ap spelling (c.affine_both.ensures.second d k s t on_s on_t of_s of_t);
     }

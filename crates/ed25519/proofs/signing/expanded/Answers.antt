@@ -11,7 +11,7 @@ pub returns-clause-scalar : goal.returns-clause-scalar
 returns-clause-scalar c =
     c.clamped.ensures ∙ ap (λ n. 2 ^ 254 + 8 * (n / 8 % 2 ^ 251)) (c.words_of.ensures
     ∙ ap number_of_bytes (c.split_at.ensures.front
-    ∙ ap (take 32) (c.as_slice.ensures ∙ c.digest_of-digest.ensures)))
+    ∙ ap (take 32) (c.as_slice.ensures ∙ c.seed_hash-digest.ensures)))
 
 pub returns-clause-below : goal.returns-clause-below
 returns-clause-below c = omega (arith, c.clamped.ensures)

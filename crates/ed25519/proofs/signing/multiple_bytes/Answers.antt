@@ -16,5 +16,5 @@ returns c =
     let s : Coordinates = times curve (number c.args.n) base_point in
     let on_s : IsOnEd25519 s = multiple_on_curve p d k (number c.args.n) base_point base_on_curve in
     let first = c.multiple_of_base.ensures in
-    c.spelled.ensures ∙ ap spelling (same_coordinates _ s (c.affine.ensures.x d k s on_s first)
+    c.point_bytes.ensures ∙ ap spelling (same_coordinates _ s (c.affine.ensures.x d k s on_s first)
     (c.affine.ensures.y d k s on_s first))

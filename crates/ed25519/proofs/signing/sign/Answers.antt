@@ -25,11 +25,11 @@ returns c =
     let first_is : c.bytes_of_both.result.1 ≡ first =
     c.bytes_of_both.ensures.second ∙ ap (λ n. spelling (times curve n base_point)) (c.words.ensures ∙ nonce_is) in
     let k : ℕ = challenge first (key_of seed) m in
-    let k_is : scalar c.challenge_of-k.result ≡ k =
-    c.challenge_of-k.ensures ∙ ap₂ (λ f a. challenge f a m) (c.as_slice-2.ensures ∙ first_is)
+    let k_is : scalar c.challenge_scalar-k.result ≡ k =
+    c.challenge_scalar-k.ensures ∙ ap₂ (λ f a. challenge f a m) (c.as_slice-2.ensures ∙ first_is)
     (c.as_slice-3.ensures ∙ key_is) in
     let sum_is : scalar c.add.result ≡ (nonce seed m + k * secret seed) % order =
     c.add.ensures ∙ ap₂ (λ r t. (r + t) % order) nonce_is (c.mul.ensures ∙ ap₂ (λ n a. n * a % order) k_is
-    (c.reduced.ensures ∙ ap (λ n. n % order) s) ∙ mul-mod_second k (secret seed) order)
+    (c.modulo_order.ensures ∙ ap (λ n. n % order) s) ∙ mul-mod_second k (secret seed) order)
     ∙ add-mod-mod (nonce seed m) (k * secret seed) order in
     c.both.ensures ∙ ap₂ (λ (f : List ℕ) n. f ++ bytes_of_number 32 n) first_is sum_is

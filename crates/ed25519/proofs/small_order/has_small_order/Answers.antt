@@ -17,7 +17,7 @@ returns-in-Some c =
     let on = c.in-Some.ensures.on in
     let bytes = c.in-Some.ensures.some in
     let is_twice : value c.double.result ≡ 2 * d % p =
-    c.double.ensures ∙ ap (λ n. 2 * n % p) c.coefficient.ensures in
+    c.double.ensures ∙ ap (λ n. 2 * n % p) c.curve_coefficient.ensures in
     let s : Coordinates = times curve 8 a in
     let on_s : IsOnEd25519 s = multiple_on_curve p d k 8 a on in
     let stands = c.multiple.ensures d k is_twice a on c.lifted.ensures in

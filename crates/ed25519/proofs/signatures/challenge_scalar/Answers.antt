@@ -3,7 +3,7 @@ use Rattle.std.proofs.lemmas.List.{append_assoc}
 use Rattle.ark_base.specs.Digits.{number_of_bytes}
 use Rattle.ed25519.specs.Edwards25519.{order}
 use Rattle.sha2.specs.Sha512.{sha512}
-use Rattle.ed25519.proofs.signatures.challenge_of.Goals as goal
+use Rattle.ed25519.proofs.signatures.challenge_scalar.Goals as goal
 
 pub returns : goal.returns
 unfolding order

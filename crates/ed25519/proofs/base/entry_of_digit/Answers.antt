@@ -1,6 +1,6 @@
 use Rattle.std.proofs.Common.{◌+◌, ◌∙◌, [], arith, get_or, slice_index}
 use Rattle.edwards.proofs.Couples.{entry_next, none_found}
-use Rattle.ed25519.proofs.base.entry_for.Goals as goal
+use Rattle.ed25519.proofs.base.entry_of_digit.Goals as goal
 
 pub entries-init : goal.entries-init
 entries-init c = none_found c.args.digit (λ j. get_or c.args.row.now j [])

@@ -1,6 +1,6 @@
 use Rattle.std.proofs.Common.{◌-◌, [], get_or, ◌∙◌, ap, arith}
 use Rattle.ed25519.proofs.BaseRows.{row_from}
-use Rattle.ed25519.proofs.base_table.row.Goals as goal
+use Rattle.ed25519.proofs.base_table.base_row.Goals as goal
 
 pub returns-then-i-lt4 : goal.returns-then-i-lt4
 returns-then-i-lt4 c =

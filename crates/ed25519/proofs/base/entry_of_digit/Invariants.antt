@@ -1,6 +1,6 @@
 use Rattle.std.proofs.Common.{[], get_or}
 use Rattle.edwards.proofs.Couples.{FoundSoFar}
-use Rattle.ed25519.proofs.base.entry_for.Given as goal
+use Rattle.ed25519.proofs.base.entry_of_digit.Given as goal
 
 -- the entry for the digit was found where it was passed, and else none
 abbrev pub invariant-entries : goal.invariant-entries

@@ -4,7 +4,7 @@ use Rattle.ark_wide_fields.specs.Laws.Fp256.{wide_below}
 use Rattle.ed25519.specs.Edwards25519.{p}
 use Rattle.ed25519.specs.Values.{value}
 use Rattle.ed25519.proofs.PointLaws.{right_root, other_root, opposite_square, beq_same, beq_differ}
-use Rattle.ed25519.proofs.points.of_parity.Goals as goal
+use Rattle.ed25519.proofs.points.root_of_parity.Goals as goal
 
 pub returns-then-is_odd-odd-clause-parity : goal.returns-then-is_odd-odd-clause-parity
 returns-then-is_odd-odd-clause-parity c x below square parity =
