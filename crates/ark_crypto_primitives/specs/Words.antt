@@ -21,7 +21,7 @@ pub use Rattle.jubjub.specs.Edwards.{Coordinates, IsOnCurve, edwards}
 pub use Rattle.jubjub.specs.Jubjub.{IsInSubgroup, IsOnJubjub, base_point, curve as jubjub_curve, order as jubjub_order}
 pub use Rattle.jubjub.specs.Elements.{base as jubjub_generator, coordinates as jubjub_coordinates, jubjub}
 pub use Rattle.jubjub.specs.Spelling.{spelling as jubjub_spelling}
-pub use Rattle.jubjub.specs.Theorems.{ElementsAreCoordinates, HasOrder, HasPrimeOrder, IsCommutativeGroupOn, IsComplete}
+pub use Rattle.jubjub.specs.Theorems.{ElementsAreCoordinates, HasOrder, HasPrimeOrder, IsCommutativeGroupOn, SumsOnJubjubAreComplete}
 pub use Rattle.jubjub.specs.Theorems.{QuotientsAreRight}
 -- Ed25519
 pub use Rattle.ed25519.specs.Signatures.{IsSignature, key_of as ed25519_key, signature_of as ed25519_signature}

@@ -8,18 +8,18 @@ use Rattle.ark_base.specs.Spelling.{fixed_at}
 use Rattle.ark_base.specs.Laws.Steps.{IsBytes-take}
 use Rattle.jubjub.specs.declared.element.Jubjub.{Jubjub}
 use Rattle.jubjub.specs.Elements.{coordinates}
-use Rattle.jubjub.specs.Spelling.{spelling, element_of, element_at}
+use Rattle.jubjub.specs.Spelling.{spelling, element_of, jubjub_element_at}
 use Rattle.jubjub.specs.Laws.Elements.{element, kept}
 use Rattle.jubjub.specs.Laws.Spelling.{element_decodes, element_refused}
 
-pub too_short : (bytes : List ℕ) → length bytes < 64 → element_at bytes ≡ Err Truncated
+pub too_short : (bytes : List ℕ) → length bytes < 64 → jubjub_element_at bytes ≡ Err Truncated
 unfolding fixed_at
 too_short bytes short =
     let told : ltb (length bytes) 64 ≡ true = lt-ltb _ _ short in
     rw told refl
 
 pub found : (bytes : List ℕ) (e : Jubjub) → 64 ≤ length bytes → take 64 bytes ≡ spelling (coordinates e)
-    → element_at bytes ≡ Ok (coordinates e, drop 64 bytes)
+    → jubjub_element_at bytes ≡ Ok (coordinates e, drop 64 bytes)
 unfolding fixed_at
 found bytes e enough is =
     let told : ltb (length bytes) 64 ≡ false = le-ltb _ _ enough in
@@ -28,7 +28,7 @@ found bytes e enough is =
     rw (told, of) refl
 
 pub refused : (bytes : List ℕ) → 64 ≤ length bytes → IsBytes bytes
-    → ((e : Jubjub) → take 64 bytes ≡ spelling (coordinates e) → ⊥) → element_at bytes ≡ Err InvalidData
+    → ((e : Jubjub) → take 64 bytes ≡ spelling (coordinates e) → ⊥) → jubjub_element_at bytes ≡ Err InvalidData
 unfolding fixed_at
 refused bytes enough fits none =
     let told : ltb (length bytes) 64 ≡ false = le-ltb _ _ enough in

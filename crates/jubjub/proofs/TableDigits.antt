@@ -16,7 +16,7 @@ use Rattle.jubjub.specs.Edwards.{Coordinates}
 use Rattle.jubjub.specs.Elements.{jubjub}
 use Rattle.jubjub.specs.Jubjub.{p, d}
 use Rattle.jubjub.specs.Laws.Group.{at-identity, at-opposite}
-use Rattle.jubjub.specs.Tables.{entry_at, entry_of, signed_at, AreKept, IsChosen}
+use Rattle.jubjub.specs.Tables.{entry_at, element_words, signed_at, AreEntryWords, IsChosen}
 use Rattle.jubjub.specs.Values.{value}
 
 -- an entry that was read, as the multiple by a digit
@@ -44,8 +44,8 @@ same_number j size below small =
     ]
 
 -- the words of an element, and zeros, are those of numbers
-pub kept_entry : (e : Jubjub) (words : List (List ℕ)) → words ≡ entry_of e
-    → AreKept words (value e.x) (value e.y) (value e.crossed)
+pub kept_entry : (e : Jubjub) (words : List (List ℕ)) → words ≡ element_words e
+    → AreEntryWords words (value e.x) (value e.y) (value e.crossed)
 kept_entry e words are = record {
   x_below = wide_below e.x;
   y_below = wide_below e.y;
@@ -53,7 +53,7 @@ kept_entry e words are = record {
   words_are = are;
 }
 
-pub kept_nothing : (words : List (List ℕ)) → words ≡ no_entry → AreKept words 0 0 0
+pub kept_nothing : (words : List (List ℕ)) → words ≡ no_entry → AreEntryWords words 0 0 0
 kept_nothing words none = record {
   x_below = omega arith;
   y_below = omega arith;

@@ -13,10 +13,10 @@ use Rattle.edwards.proofs.SignedDigits.{added-low, added-high, taken-low, taken-
 use Rattle.jubjub.specs.declared.element.Jubjub.{Jubjub}
 use Rattle.jubjub.specs.Elements.{jubjub}
 use Rattle.jubjub.specs.Laws.Group.{jubjub_laws}
-use Rattle.jubjub.specs.Tables.{entry_at, row_of, rows_of, signed_at}
+use Rattle.jubjub.specs.Tables.{entry_at, row_of_multiples, rows_of, signed_at}
 use Rattle.jubjub.proofs.TableDigits.{signed_low, signed_high}
 
-length-row : (x : Jubjub) → length (row_of x) ≡ 16
+length-row : (x : Jubjub) → length (row_of_multiples x) ≡ 16
 length-row x = length-map-range_with_len (λ k. times jubjub k x) 1 16
 
 pub length-rows : (n : ℕ) (x : Jubjub) → length (rows_of n x) ≡ 16 * n
@@ -24,7 +24,7 @@ unfolding rows_of
 length-rows zero x = omega arith
 length-rows (suc n) x =
     let others = length-rows n (times jubjub 32 x) in
-    omega (arith, length-append (row_of x) (rows_of n (times jubjub 32 x)), length-row x, others)
+    omega (arith, length-append (row_of_multiples x) (rows_of n (times jubjub 32 x)), length-row x, others)
 
 -- the entry at a place of the rows is a multiple
 rows_at : (n i j : ℕ) (x e : Jubjub) → i < n → j < 16
@@ -33,9 +33,9 @@ unfolding rows_of
 rows_at zero i j x e none within = absurd (omega (arith, none))
 rows_at (suc n) zero j x e below within =
     let others = rows_of n (times jubjub 32 x) in
-    let here : j < length (row_of x) = omega (arith, within, length-row x) in
-    ap (λ k. get_or (row_of x ++ others) k e) (first j)
-    ∙ get_or_append_left (row_of x) others e j here
+    let here : j < length (row_of_multiples x) = omega (arith, within, length-row x) in
+    ap (λ k. get_or (row_of_multiples x ++ others) k e) (first j)
+    ∙ get_or_append_left (row_of_multiples x) others e j here
     ∙ get_or-map-range_with_len (λ k. times jubjub k x) 1 16 j (1 + j) e within refl
     ∙ times_at jubjub_laws x (once j)
   where
@@ -46,8 +46,8 @@ rows_at (suc n) zero j x e below within =
     once j = omega arith
 rows_at (suc n) (suc i) j x e below within =
     let others = rows_of n (times jubjub 32 x) in
-    ap (λ k. get_or (row_of x ++ others) k e) (next i j (length (row_of x)) (length-row x))
-    ∙ get_or-append-add (row_of x) others (16 * i + j) e
+    ap (λ k. get_or (row_of_multiples x ++ others) k e) (next i j (length (row_of_multiples x)) (length-row x))
+    ∙ get_or-append-add (row_of_multiples x) others (16 * i + j) e
     ∙ rows_at n i j (times jubjub 32 x) e (omega (arith, below)) within
     ∙ sym (times-mul jubjub_laws ((1 + j) * 32 ^ i) 32 x)
     ∙ times_at jubjub_laws x (mul_assoc (1 + j) (32 ^ i) 32 ∙ ap (λ k. (1 + j) * k) (sym (pow-suc 32 i)))
@@ -73,14 +73,14 @@ entry_is x i (suc j) below small =
 
 -- one row more was put
 pub row_put : (done next : List Jubjub) (x y : Jubjub) (k : ℕ) (whole : List Jubjub) → k < 51
-    → next ≡ done ++ row_of x → y ≡ times jubjub 32 x → done ++ rows_of (51 - k) x ≡ whole
+    → next ≡ done ++ row_of_multiples x → y ≡ times jubjub 32 x → done ++ rows_of (51 - k) x ≡ whole
     → next ++ rows_of (51 - (k + 1)) y ≡ whole
 unfolding rows_of
 row_put done next x y k whole below put is_y so_far =
     let one : 51 - k ≡ suc (51 - (k + 1)) = omega (arith, below) in
     ap (λ t. t ++ rows_of (51 - (k + 1)) y) put
-    ∙ ap (λ z. (done ++ row_of x) ++ rows_of (51 - (k + 1)) z) is_y
-    ∙ append_assoc done (row_of x) (rows_of (51 - (k + 1)) (times jubjub 32 x))
+    ∙ ap (λ z. (done ++ row_of_multiples x) ++ rows_of (51 - (k + 1)) z) is_y
+    ∙ append_assoc done (row_of_multiples x) (rows_of (51 - (k + 1)) (times jubjub 32 x))
     ∙ ap (λ n. done ++ rows_of n x) (sym one)
     ∙ so_far
 

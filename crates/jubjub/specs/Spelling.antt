@@ -37,5 +37,5 @@ unfoldable pub element_of : List ℕ → Result Coordinates SerializationError
 element_of bytes = if not (is_in_subgroup (coordinates_in bytes)) then Err InvalidData else Ok (coordinates_in bytes)
 
 -- how an element is read: 64 bytes, cut short where fewer remain
-abbrev pub element_at : List ℕ → Reading Coordinates
-element_at = fixed_at 64 element_of
+abbrev pub jubjub_element_at : List ℕ → Reading Coordinates
+jubjub_element_at = fixed_at 64 element_of

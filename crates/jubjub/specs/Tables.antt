@@ -11,13 +11,13 @@ use Rattle.jubjub.specs.Jubjub.{p}
 use Rattle.jubjub.specs.Values.{value}
 
 -- the multiples of an element by 1 to 16
-abbrev pub row_of : Jubjub → List Jubjub
-row_of x = map (λ k. times jubjub k x) (range_with_len 1 16)
+abbrev pub row_of_multiples : Jubjub → List Jubjub
+row_of_multiples x = map (λ k. times jubjub k x) (range_with_len 1 16)
 
 -- so many rows: those of the element, of its multiple by 32, by 1024 ..
 unfoldable pub rows_of : ℕ → Jubjub → List Jubjub
 rows_of zero x = []
-rows_of (suc n) x = row_of x ++ rows_of n (times jubjub 32 x)
+rows_of (suc n) x = row_of_multiples x ++ rows_of n (times jubjub 32 x)
 
 -- the multiple by the size of a digit, in the row that begins at a place
 abbrev pub entry_at : List Jubjub → ℕ → ℕ → Jubjub
@@ -30,19 +30,19 @@ signed_at xs first c =
     if nat_lt c 16 then entry_at xs first c else jubjub.opposite (entry_at xs first (32 - c))
 
 -- what the field keeps for a number
-abbrev pub kept : ℕ → ℕ
-kept n = n * 2 ^ 256 % p
+abbrev pub montgomery_form : ℕ → ℕ
+montgomery_form n = n * 2 ^ 256 % p
 
 -- the words that it keeps for three numbers
 abbrev pub words_of : ℕ → ℕ → ℕ → List (List ℕ)
-words_of x y c = couples (kept x) (couples (kept y) (couples (kept c) []))
+words_of x y c = couples (montgomery_form x) (couples (montgomery_form y) (couples (montgomery_form c) []))
 
 -- and for an element
-abbrev pub entry_of : Jubjub → List (List ℕ)
-entry_of e = words_of (value e.x) (value e.y) (value e.crossed)
+abbrev pub element_words : Jubjub → List (List ℕ)
+element_words e = words_of (value e.x) (value e.y) (value e.crossed)
 
 -- an entry is the words of three numbers of the field
-pub record AreKept (entry : List (List ℕ)) (x y c : ℕ) : Type 0 where
+pub record AreEntryWords (entry : List (List ℕ)) (x y c : ℕ) : Type 0 where
   pub x_below : x < p
   pub y_below : y < p
   pub c_below : c < p

@@ -12,8 +12,8 @@ abbrev pub QuotientsAreRight : Type 0
 QuotientsAreRight = (a b : ℕ) → (b % p ≡ 0 → ⊥) → over p a b * b % p ≡ a % p
 
 -- no denominator of a sum of two points of the curve is 0 modulo p
-abbrev pub IsComplete : Type 0
-IsComplete = (a b : Coordinates) → IsOnJubjub a → IsOnJubjub b
+abbrev pub SumsOnJubjubAreComplete : Type 0
+SumsOnJubjubAreComplete = (a b : Coordinates) → IsOnJubjub a → IsOnJubjub b
     → ((1 + cross d a b) % p ≡ 0 → ⊥) × ((1 + (p - cross d a b % p)) % p ≡ 0 → ⊥)
 
 -- eight times each point of the curve is in the subgroup

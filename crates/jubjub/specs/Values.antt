@@ -20,5 +20,5 @@ abbrev pub Scalar : Type 0
 Scalar = Fp256 JubjubFrModulus scalar_ghosts
 
 -- the number that a scalar is
-abbrev pub scalar : Scalar → ℕ
-scalar s = value_of scalar_ghosts.P scalar_ghosts.INVERSE s.kept
+abbrev pub scalar_value : Scalar → ℕ
+scalar_value s = value_of scalar_ghosts.P scalar_ghosts.INVERSE s.kept

@@ -6,10 +6,10 @@ ghost use Rattle.jubjub.specs.Jubjub.{p, d, IsInSubgroup};
 ghost use Rattle.jubjub.specs.Values.{value};
 ghost use Rattle.jubjub.specs.Laws.Points.{in_subgroup_alike};
 
-use crate::bytes::spelled;
-use crate::extended::{Extended, affine, crossed, doubled, is_neutral, lifted, plus_crossed};
+use crate::bytes::bytes_of_point;
+use crate::extended::{Extended, crossed, doubled, is_identity, lifted, plus_crossed, to_affine};
 use crate::multiple::{
-    is_on_curve, multiple, multiple_public, order_of_subgroup, sum_of_multiples_public,
+    is_on_curve, order_of_subgroup, public_multiple, public_sum_of_multiples, scalar_multiple,
 };
 use ark_groups::ff::{Field, Words};
 use ark_wide_fields::Bls12_381Fr;
@@ -93,7 +93,7 @@ impl Jubjub {
         requires { (a : Coordinates) × IsInSubgroup a × Stands point a }
         ensures { (a : Coordinates) → IsInSubgroup a → Stands point a → coordinates result ≡ a }
     {
-        let (x, y) = affine(point);
+        let (x, y) = to_affine(point);
         Jubjub::of(x, y)
     }
 
@@ -161,7 +161,7 @@ impl Jubjub {
         ensures group { result ≡ times jubjub (number scalar) self }
         ensures coordinates { coordinates result ≡ times curve (number scalar) (coordinates self) }
     {
-        Jubjub::of_extended(multiple(lifted(self.x, self.y), scalar))
+        Jubjub::of_extended(scalar_multiple(lifted(self.x, self.y), scalar))
     }
 
     /// Returns the element, added as often as a public scalar says, on which the time depends: it is shorter than that of
@@ -170,7 +170,7 @@ impl Jubjub {
         ensures group { result ≡ times jubjub (number scalar) self }
         ensures coordinates { coordinates result ≡ times curve (number scalar) (coordinates self) }
     {
-        Jubjub::of_extended(multiple_public(lifted(self.x, self.y), scalar))
+        Jubjub::of_extended(public_multiple(lifted(self.x, self.y), scalar))
     }
 
     /// Returns the sum of the element and of another, each added as often as a public scalar says, on which the time
@@ -184,7 +184,7 @@ impl Jubjub {
     {
         let a = lifted(self.x, self.y);
         let b = lifted(other.x, other.y);
-        Jubjub::of_extended(sum_of_multiples_public(a, m, b, n))
+        Jubjub::of_extended(public_sum_of_multiples(a, m, b, n))
     }
 
     /// Returns the element with these coordinates. `None` where they are not in the prime subgroup.
@@ -195,7 +195,7 @@ impl Jubjub {
         if !is_on_curve(x, y) {
             return None;
         }
-        if !is_neutral(multiple_public(lifted(x, y), order_of_subgroup())) {
+        if !is_identity(public_multiple(lifted(x, y), order_of_subgroup())) {
             return None;
         }
         Some(Jubjub::of(x, y))
@@ -205,7 +205,7 @@ impl Jubjub {
     pub fn to_bytes(self) -> [u8; 64]
         ensures { result ≡ spelling (coordinates self) }
     {
-        spelled(self.x, self.y)
+        bytes_of_point(self.x, self.y)
     }
 
     /// Returns the element with these canonical bytes. `None` where no element has them: another length, a number
@@ -219,7 +219,7 @@ impl Jubjub {
         }
         let x = Bls12_381Fr::from_le_bytes_mod_order(&bytes[..32]);
         let y = Bls12_381Fr::from_le_bytes_mod_order(&bytes[32..]);
-        if spelled(x, y).as_slice() != bytes {
+        if bytes_of_point(x, y).as_slice() != bytes {
             return None;
         }
         Jubjub::from_coordinates(x, y)

@@ -74,7 +74,7 @@ pub fn doubled(a: Extended) -> Extended
 
 /// Returns the point's coordinates.
 #[inline(always)]
-pub fn affine(a: Extended) -> (Bls12_381Fr, Bls12_381Fr)
+pub fn to_affine(a: Extended) -> (Bls12_381Fr, Bls12_381Fr)
     ensures x { (s : Coordinates) → IsOnJubjub s → Stands a s → value result.0 ≡ s.x }
     ensures y { (s : Coordinates) → IsOnJubjub s → Stands a s → value result.1 ≡ s.y }
 {
@@ -83,7 +83,7 @@ pub fn affine(a: Extended) -> (Bls12_381Fr, Bls12_381Fr)
 
 /// Returns whether it is the neutral point.
 #[inline(always)]
-pub fn is_neutral(a: Extended) -> bool
+pub fn is_identity(a: Extended) -> bool
     ensures { (s : Coordinates) → IsOnJubjub s → Stands a s → Decides result (s ≡ neutral) }
 {
     edwards::is_neutral(a)

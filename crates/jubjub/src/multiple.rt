@@ -46,7 +46,7 @@ fn by_bits(a: Extended, scalar: u64) -> Extended
 }
 
 /// Returns the point, added as often as the scalar says. No branch and no address depends on either.
-pub fn multiple(a: Extended, scalar: Words) -> Extended
+pub fn scalar_multiple(a: Extended, scalar: Words) -> Extended
     ensures { (s : Coordinates) → IsOnJubjub s → Stands a s
         → Stands result (times curve (number scalar) s) }
 {
@@ -55,7 +55,7 @@ pub fn multiple(a: Extended, scalar: Words) -> Extended
 
 /// Returns the point, added as often as a public scalar says, on which the time depends. A short scalar gains nothing by
 /// a table of multiples.
-pub fn multiple_public(a: Extended, scalar: Words) -> Extended
+pub fn public_multiple(a: Extended, scalar: Words) -> Extended
     ensures { (s : Coordinates) → IsOnJubjub s → Stands a s
         → Stands result (times curve (number scalar) s) }
 {
@@ -66,7 +66,7 @@ pub fn multiple_public(a: Extended, scalar: Words) -> Extended
 }
 
 /// Returns the sum of two points, each added as often as a public scalar says, on which the time depends.
-pub fn sum_of_multiples_public(a: Extended, m: Words, b: Extended, n: Words) -> Extended
+pub fn public_sum_of_multiples(a: Extended, m: Words, b: Extended, n: Words) -> Extended
     ensures { (s t : Coordinates) → IsOnJubjub s → IsOnJubjub t → Stands a s → Stands b t
         → Stands result (sum p d (times curve (number m) s) (times curve (number n) t)) }
 {

@@ -17,7 +17,7 @@ use Rattle.ark_base.specs.Laws.Steps.{done_injective, guarded_ok, IsBytes-take, 
 use Rattle.ark_groups.specs.Group.{times}
 use Rattle.jubjub.specs.Edwards.{Coordinates, IsOnCurve, neutral}
 use Rattle.jubjub.specs.Jubjub.{p, d, order, curve, IsInSubgroup}
-use Rattle.jubjub.specs.Spelling.{spelling, coordinates_in, is_in_subgroup, element_of, element_at}
+use Rattle.jubjub.specs.Spelling.{spelling, coordinates_in, is_in_subgroup, element_of, jubjub_element_at}
 use Rattle.edwards_numbers.specs.Laws.CurveLaws.{same_coordinates}
 
 pub length-spelling : (a : Coordinates) → length (spelling a) ≡ 64
@@ -135,7 +135,7 @@ element_refused bytes long fits none =
     refuted true never = absurd (never refl)
     refuted false never = refl
 
-pub element_laws : IsCanonical IsInSubgroup spelling element_at
+pub element_laws : IsCanonical IsInSubgroup spelling jubjub_element_at
 element_laws =
     fixed_laws 64 IsInSubgroup spelling element_of (record {
       long = λ a s. length-spelling a;

@@ -8,8 +8,8 @@ ghost use Rattle.jubjub.specs.Draws.{element_draw};
 
 use crate::decoding::first_over;
 use crate::element::Jubjub;
-use crate::extended::{is_neutral, lifted};
-use crate::multiple::multiple_public;
+use crate::extended::{is_identity, lifted};
+use crate::multiple::public_multiple;
 use ark_groups::ff::{UniformRand, Words};
 use ark_wide_fields::Bls12_381Fr;
 use rand::Rng;
@@ -31,8 +31,8 @@ pub fn cleared_over(y: Bls12_381Fr, odd: bool) -> Option<Jubjub>
     ensures { result ≡ cleared_over (value y) (from_bool odd) }
 {
     let x = first_over(y, odd)?;
-    let cleared = multiple_public(lifted(x, y), COFACTOR);
-    if is_neutral(cleared) {
+    let cleared = public_multiple(lifted(x, y), COFACTOR);
+    if is_identity(cleared) {
         return None;
     }
     Some(Jubjub::of_extended(cleared))

@@ -4,7 +4,7 @@ ghost use Rattle.std.proofs.Common.{lit<};
 ghost use Rattle.jubjub.specs.Edwards.{Coordinates};
 ghost use Rattle.jubjub.specs.Jubjub.{IsInSubgroup};
 ghost use Rattle.jubjub.specs.Elements.{coordinates};
-ghost use Rattle.jubjub.specs.Spelling.{spelling, element_at};
+ghost use Rattle.jubjub.specs.Spelling.{spelling, jubjub_element_at};
 ghost use Rattle.jubjub.specs.Laws.Spelling.{element_laws, element_long};
 
 use crate::element::Jubjub;
@@ -21,7 +21,7 @@ impl Canonical for Jubjub {
 
     ghost spelling = { spelling };
 
-    ghost reads = { element_at };
+    ghost reads = { jubjub_element_at };
 
     ghost laws = { element_laws };
 }

@@ -4,7 +4,7 @@ ghost use Rattle.std.specs.Prelude.{◌≡◌, ℕ, ◌+◌, ◌-◌, ◌*◌, �
 ghost use Rattle.ark_wide_fields.specs.Choices.{IsMask, ones};
 ghost use Rattle.edwards.specs.Entries.{couples, no_entry};
 ghost use Rattle.jubjub.specs.Jubjub.{p};
-ghost use Rattle.jubjub.specs.Tables.{kept, entry_of, entry_at, signed_at, AreKept, IsChosen};
+ghost use Rattle.jubjub.specs.Tables.{montgomery_form, element_words, entry_at, signed_at, AreEntryWords, IsChosen};
 ghost use Rattle.jubjub.specs.Values.{value};
 
 use crate::element::Jubjub;
@@ -27,7 +27,7 @@ pub struct Chosen {
 // The words that an element keeps, two by two.
 #[inline(always)]
 fn words_in(element: &Jubjub) -> Entry
-    ensures { result ≡ entry_of element.now }
+    ensures { result ≡ element_words element.now }
 {
     let x = element.x.kept_words();
     let y = element.y.kept_words();
@@ -45,8 +45,9 @@ fn words_in(element: &Jubjub) -> Entry
 // The element of the field for which these four words are kept.
 #[inline(always)]
 fn kept_as(low: &[u64; 2], high: &[u64; 2]) -> Bls12_381Fr
-    requires { (n : ℕ) × (n < p) × (low.now ∷ high.now ∷ [] ≡ couples (kept n) []) }
-    ensures { (n : ℕ) → n < p → low.now ∷ high.now ∷ [] ≡ couples (kept n) [] → value result ≡ n }
+    requires { (n : ℕ) × (n < p) × (low.now ∷ high.now ∷ [] ≡ couples (montgomery_form n) []) }
+    ensures { (n : ℕ) → n < p → low.now ∷ high.now ∷ [] ≡ couples (montgomery_form n) []
+        → value result ≡ n }
 {
     Bls12_381Fr::of_kept_words(Words {
         w0: low[0],
@@ -59,10 +60,10 @@ fn kept_as(low: &[u64; 2], high: &[u64; 2]) -> Bls12_381Fr
 // The elements of the field for which the words of an entry are kept.
 #[inline(always)]
 fn chosen_in(entry: &Entry) -> Chosen
-    requires { (x y c : ℕ) × AreKept entry.now x y c }
-    ensures x { (x y c : ℕ) → AreKept entry.now x y c → value result.x ≡ x }
-    ensures y { (x y c : ℕ) → AreKept entry.now x y c → value result.y ≡ y }
-    ensures crossed { (x y c : ℕ) → AreKept entry.now x y c → value result.crossed ≡ c }
+    requires { (x y c : ℕ) × AreEntryWords entry.now x y c }
+    ensures x { (x y c : ℕ) → AreEntryWords entry.now x y c → value result.x ≡ x }
+    ensures y { (x y c : ℕ) → AreEntryWords entry.now x y c → value result.y ≡ y }
+    ensures crossed { (x y c : ℕ) → AreEntryWords entry.now x y c → value result.crossed ≡ c }
 {
     Chosen {
         x: kept_as(&entry[0], &entry[1]),
@@ -75,7 +76,7 @@ fn chosen_in(entry: &Entry) -> Chosen
 fn entry_for(multiples: &[Jubjub], first: usize, size: usize) -> Entry
     requires inside { first + 16 ≤ length multiples.now }
     requires size { size ≤ 16 }
-    ensures some { 0 < size → result ≡ entry_of (entry_at multiples.now first size) }
+    ensures some { 0 < size → result ≡ element_words (entry_at multiples.now first size) }
     ensures none { size ≡ 0 → result ≡ no_entry }
 {
     let masks = masks_of(size.wrapping_sub(1));

@@ -8,7 +8,7 @@ ghost use Rattle.jubjub.specs.Laws.Group.{jubjub_laws, of_modulus, same_if_equal
 ghost use Rattle.jubjub.specs.Laws.Elements.{same_element};
 
 use crate::element::found::element_drawn;
-use crate::element::sums::many::elements_of;
+use crate::element::sums::many::elements_of_sums;
 use crate::element::{Jubjub, JubjubSum};
 use crate::extended::{doubled, lifted, plus, plus_crossed, twice_coefficient};
 use crate::fr::JubjubFr;
@@ -76,7 +76,7 @@ impl AdditiveGroup for Jubjub {
     }
 
     fn from_sums(alloc: Global, sums: &[JubjubSum]) -> Result<Vec<Jubjub>, Error> {
-        elements_of(alloc, sums)
+        elements_of_sums(alloc, sums)
     }
 
     /// Takes 48 bytes of the generator's stream at each of at most 128 tries: the number that they are modulo p as a

@@ -52,7 +52,7 @@ fn elements_by(
 }
 
 /// Returns the elements that sums stand for, place by place. The only error is `OutOfMemory`: no third coordinate is 0.
-pub fn elements_of(alloc: Global, sums: &[JubjubSum]) -> Result<Vec<Jubjub>, Error>
+pub fn elements_of_sums(alloc: Global, sums: &[JubjubSum]) -> Result<Vec<Jubjub>, Error>
     ensures made { IfOk result (λ list. list.items ≡ map total sums.now) }
     ensures refused { IfErr result (λ error. error ≡ Error.OutOfMemory) }
 {

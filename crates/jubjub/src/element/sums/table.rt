@@ -6,10 +6,10 @@ ghost use Rattle.ark_groups.specs.Words.{number};
 ghost use Rattle.jubjub.specs.declared.element.Jubjub.{Jubjub};
 ghost use Rattle.jubjub.specs.Elements.{jubjub};
 ghost use Rattle.jubjub.specs.Sums.{total};
-ghost use Rattle.jubjub.specs.Tables.{row_of, rows_of, signed_at};
+ghost use Rattle.jubjub.specs.Tables.{row_of_multiples, rows_of, signed_at};
 
 use crate::element::sums::chosen::{Chosen, signed_multiple_at};
-use crate::element::sums::many::elements_of;
+use crate::element::sums::many::elements_of_sums;
 use crate::element::{Jubjub, JubjubSum};
 use crate::extended::plus_crossed;
 use crate::fr::JubjubFr;
@@ -42,9 +42,9 @@ impl Model for JubjubTable {
 }
 
 // Puts a sum's multiples by 1 to 16 behind others, and returns its multiple by 32. The only error is `OutOfMemory`.
-fn push_row(sums: &mut Vec<JubjubSum>, unit: JubjubSum) -> Result<JubjubSum, Error>
+fn push_multiples(sums: &mut Vec<JubjubSum>, unit: JubjubSum) -> Result<JubjubSum, Error>
     ensures row { OnOk result (map total sums.new.items
-        ≡ map total sums.old.items ++ row_of (total unit)) }
+        ≡ map total sums.old.items ++ row_of_multiples (total unit)) }
     ensures next { IfOk result (λ next. total next ≡ times jubjub 32 (total unit)) }
     ensures refused { IfErr result (λ error. error ≡ Error.OutOfMemory) }
 {
@@ -65,13 +65,13 @@ fn multiples_of(alloc: Global, element: Jubjub) -> Result<Vec<JubjubSum>, Error>
     let mut sums = Vec::with_capacity(alloc, PLACES * ENTRIES)?;
     let mut unit = element.to_sum();
     for _ in 0..PLACES {
-        unit = push_row(&mut sums, unit)?;
+        unit = push_multiples(&mut sums, unit)?;
     }
     Ok(sums)
 }
 
 // The sum with the multiple by a signed digit, from the row that begins at a place.
-fn with_digit(sum: JubjubSum, multiples: &[Jubjub], first: usize, digit: u64) -> JubjubSum
+fn plus_digit(sum: JubjubSum, multiples: &[Jubjub], first: usize, digit: u64) -> JubjubSum
     requires inside { first + 16 ≤ length multiples.now }
     requires digit { digit < 32 }
     ensures { total result ≡ jubjub.plus (total sum) (signed_at multiples.now first digit) }
@@ -90,7 +90,7 @@ fn multiple_by(multiples: &[Jubjub], scalar: Words) -> JubjubSum
     let mut sum = Jubjub::zero().to_sum();
     let mut rest = scalar;
     for place in 0..PLACES {
-        sum = with_digit(sum, multiples, ENTRIES * place, rest.w0 % 32);
+        sum = plus_digit(sum, multiples, ENTRIES * place, rest.w0 % 32);
         rest = without_signed_digit(rest);
     }
     sum
@@ -104,7 +104,7 @@ impl FixedBaseGroup for Jubjub {
 
     fn table(self, alloc: Global) -> Result<JubjubTable, Error> {
         Ok(JubjubTable {
-            multiples: elements_of(alloc, &multiples_of(alloc, self)?)?,
+            multiples: elements_of_sums(alloc, &multiples_of(alloc, self)?)?,
         })
     }
 

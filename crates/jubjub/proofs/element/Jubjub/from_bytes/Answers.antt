@@ -24,13 +24,13 @@ returns-then-ne-clause-none c none e is =
     read_back c.args.bytes.now (coordinates e) a e.in_subgroup.on_curve is c.from_le_bytes_mod_order-x.ensures
     c.from_le_bytes_mod_order-y.ensures in
     they_differ c.ne.result c.as_slice.result.now c.args.bytes.now c.ne.ensures c.if-ne.true
-    (c.as_slice.ensures ∙ c.spelled.ensures ∙ ap spelling same ∙ sym is)
+    (c.as_slice.ensures ∙ c.bytes_of_point.ensures ∙ ap spelling same ∙ sym is)
 
 pub returns-clause-some : goal.returns-clause-some
 returns-clause-some c =
     let same = they_agree c.ne.result c.as_slice.result.now c.args.bytes.now c.ne.ensures c.if-ne.false in
     IfSome_then c.from_coordinates.result c.from_coordinates.ensures.some
-    (λ e made. sym same ∙ c.as_slice.ensures ∙ c.spelled.ensures ∙ ap spelling (sym made))
+    (λ e made. sym same ∙ c.as_slice.ensures ∙ c.bytes_of_point.ensures ∙ ap spelling (sym made))
 
 pub returns-clause-none : goal.returns-clause-none
 returns-clause-none c none e is =

@@ -4,15 +4,15 @@ use Rattle.ark_groups.specs.Words.{number}
 use Rattle.jubjub.proofs.GroupLaws.{order_shows}
 use Rattle.jubjub.proofs.element.Jubjub.from_coordinates.Goals as goal
 
-pub returns-then-not-is_neutral-clause-none : goal.returns-then-not-is_neutral-clause-none
-returns-then-not-is_neutral-clause-none c =
+pub returns-then-not-is_identity-clause-none : goal.returns-then-not-is_identity-clause-none
+returns-then-not-is_identity-clause-none c =
     let a = coordinates_of c.args.x c.args.y in (
       λ e s.
-          let shows = order_shows a s.on_curve c.multiple_public.result (number c.order_of_subgroup.result)
-          c.is_neutral.result
-          c.order_of_subgroup.ensures (c.multiple_public.ensures a s.on_curve c.lifted.ensures) c.is_neutral.ensures in
+          let shows = order_shows a s.on_curve c.public_multiple.result (number c.order_of_subgroup.result)
+          c.is_identity.result
+          c.order_of_subgroup.ensures (c.public_multiple.ensures a s.on_curve c.lifted.ensures) c.is_identity.ensures in
           let yes = shows.1 s.of_order in
-          let no = c.if-not-is_neutral.true in
+          let no = c.if-not-is_identity.true in
           cc,
       λ e. refl,
     )
@@ -21,6 +21,6 @@ pub of-requires : goal.of-requires
 of-requires c =
     let a = coordinates_of c.args.x c.args.y in
     let on = c.is_on_curve.ensures.0 c.if-not-is_on_curve.false in
-    let shows = order_shows a on c.multiple_public.result (number c.order_of_subgroup.result) c.is_neutral.result
-    c.order_of_subgroup.ensures (c.multiple_public.ensures a on c.lifted.ensures) c.is_neutral.ensures in
-    record { on_curve = on; of_order = shows.0 c.if-not-is_neutral.false }
+    let shows = order_shows a on c.public_multiple.result (number c.order_of_subgroup.result) c.is_identity.result
+    c.order_of_subgroup.ensures (c.public_multiple.ensures a on c.lifted.ensures) c.is_identity.ensures in
+    record { on_curve = on; of_order = shows.0 c.if-not-is_identity.false }

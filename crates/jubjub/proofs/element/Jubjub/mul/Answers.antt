@@ -10,13 +10,13 @@ pub of_extended-requires : goal.of_extended-requires
 of_extended-requires c = (
   _,
   times_in_subgroup (number c.args.scalar) c.args.self,
-  c.multiple.ensures (coordinates c.args.self) c.args.self.in_subgroup.on_curve c.lifted.ensures,
+  c.scalar_multiple.ensures (coordinates c.args.self) c.args.self.in_subgroup.on_curve c.lifted.ensures,
 )
 
 pub returns-clause-coordinates : goal.returns-clause-coordinates
 returns-clause-coordinates c =
     c.of_extended.ensures _ (times_in_subgroup (number c.args.scalar) c.args.self)
-    (c.multiple.ensures (coordinates c.args.self) c.args.self.in_subgroup.on_curve c.lifted.ensures)
+    (c.scalar_multiple.ensures (coordinates c.args.self) c.args.self.in_subgroup.on_curve c.lifted.ensures)
 
 pub returns-clause-group : goal.returns-clause-group
 returns-clause-group c =

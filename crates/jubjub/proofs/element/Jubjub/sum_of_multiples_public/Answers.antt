@@ -15,7 +15,7 @@ of_extended-requires c = (
   _,
   sum_in_subgroup _ _ (times_in_subgroup (number c.args.m) c.args.self)
       (times_in_subgroup (number c.args.n) c.args.other),
-  c.sum_of_multiples_public.ensures (coordinates c.args.self) (coordinates c.args.other)
+  c.public_sum_of_multiples.ensures (coordinates c.args.self) (coordinates c.args.other)
       c.args.self.in_subgroup.on_curve c.args.other.in_subgroup.on_curve c.lifted-a.ensures c.lifted-b.ensures,
 )
 
@@ -24,7 +24,7 @@ returns-clause-coordinates c =
     c.of_extended.ensures _
     (sum_in_subgroup _ _ (times_in_subgroup (number c.args.m) c.args.self)
     (times_in_subgroup (number c.args.n) c.args.other))
-    (c.sum_of_multiples_public.ensures (coordinates c.args.self) (coordinates c.args.other)
+    (c.public_sum_of_multiples.ensures (coordinates c.args.self) (coordinates c.args.other)
     c.args.self.in_subgroup.on_curve c.args.other.in_subgroup.on_curve c.lifted-a.ensures c.lifted-b.ensures)
 
 pub returns-clause-group : goal.returns-clause-group

@@ -15,20 +15,20 @@ returns-in_err-x c =
     c.from_residual.ensures ∙ sym (none_over (value c.args.y) (from_bool c.args.odd) (wide_below c.args.y)
     (c.in_err-x.ensures.none refl))
 
-pub returns-then-is_neutral : goal.returns-then-is_neutral
-returns-then-is_neutral c =
+pub returns-then-is_identity : goal.returns-then-is_identity
+returns-then-is_identity c =
     let x = value c.in_ok-x.x in
     let on = c.in_ok-x.ensures.some in
     let a : Coordinates = record { x = x; y = value c.args.y } in
     sym (zero_over (value c.args.y) (from_bool c.args.odd) x on c.in_ok-x.ensures.parity
-    ((c.is_neutral.ensures (times curve 8 a) (cofactor_clears a on).on_curve
-    (c.multiple_public-cleared.ensures a on c.lifted.ensures)).0 c.if-is_neutral.true))
+    ((c.is_identity.ensures (times curve 8 a) (cofactor_clears a on).on_curve
+    (c.public_multiple-cleared.ensures a on c.lifted.ensures)).0 c.if-is_identity.true))
 
 pub of_extended-requires : goal.of_extended-requires
 of_extended-requires c =
     let on = c.in_ok-x.ensures.some in
     let a : Coordinates = record { x = value c.in_ok-x.x; y = value c.args.y } in
-    (times curve 8 a, cofactor_clears a on, c.multiple_public-cleared.ensures a on c.lifted.ensures)
+    (times curve 8 a, cofactor_clears a on, c.public_multiple-cleared.ensures a on c.lifted.ensures)
 
 pub returns : goal.returns
 returns c =
@@ -37,7 +37,7 @@ returns c =
     let a : Coordinates = record { x = x; y = value c.args.y } in
     let b : Coordinates = times curve 8 a in
     let inside = cofactor_clears a on in
-    let stands = c.multiple_public-cleared.ensures a on c.lifted.ensures in
+    let stands = c.public_multiple-cleared.ensures a on c.lifted.ensures in
     sym (found_over (value c.args.y) (from_bool c.args.odd) x on c.in_ok-x.ensures.parity
-    (unless c.is_neutral.result (c.is_neutral.ensures b inside.on_curve stands) c.if-is_neutral.false) inside
+    (unless c.is_identity.result (c.is_identity.ensures b inside.on_curve stands) c.if-is_identity.false) inside
     c.of_extended.result (c.of_extended.ensures b inside stands))

@@ -22,8 +22,8 @@ loop-place-init c =
 inside : (place n : ℕ) → place < 51 → n ≡ 816 → 16 * place + 16 ≤ n
 inside place n below is = omega (arith, below, is)
 
-pub with_digit-sum-requires-clause-inside : goal.with_digit-sum-requires-clause-inside
-with_digit-sum-requires-clause-inside c =
+pub plus_digit-sum-requires-clause-inside : goal.plus_digit-sum-requires-clause-inside
+plus_digit-sum-requires-clause-inside c =
     inside c.loop-place.place (length c.args.multiples.now) c.loop-place-test.true c.requires.length
 
 pub loop-place-preserved : goal.loop-place-preserved
@@ -35,9 +35,9 @@ loop-place-preserved c =
       t + taken digit * 32 ^ i,
       next_counted i (number c.loop-place.rest) (number c.without_signed_digit-rest.result) (number c.args.scalar) m t
           digit (omega arith) c.without_signed_digit-rest.ensures counted,
-      λ x are. sum_more x (total c.loop-place.sum) (total c.with_digit-sum.result) m t i digit c.loop-place-test.true
+      λ x are. sum_more x (total c.loop-place.sum) (total c.plus_digit-sum.result) m t i digit c.loop-place-test.true
           (omega arith)
-          (c.with_digit-sum.ensures ∙ ap (λ xs. jubjub.plus (total c.loop-place.sum) (signed_at xs (16 * i) digit)) are)
+          (c.plus_digit-sum.ensures ∙ ap (λ xs. jubjub.plus (total c.loop-place.sum) (signed_at xs (16 * i) digit)) are)
           (is x are),
     )
 

@@ -10,7 +10,7 @@ loop-init c =
 
 pub loop-preserved : goal.loop-preserved
 loop-preserved c =
-    row_put (map total c.loop.sums.items) (map total c.push_row.new.sums.items) (total c.loop.unit)
+    row_put (map total c.loop.sums.items) (map total c.push_multiples.new.sums.items) (total c.loop.unit)
     (total c.in_ok-unit.unit) c.loop.counter _ c.loop-test.true c.in_ok-unit.ensures.row
     c.in_ok-unit.ensures.next c.loop.invariant
 

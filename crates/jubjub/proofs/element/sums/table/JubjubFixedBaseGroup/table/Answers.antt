@@ -12,11 +12,11 @@ at_first xs x are = ap (λ l. get_or l 0 jubjub.identity) are ∙ first_is x
 
 pub invariant_of-result : goal.invariant_of-result
 invariant_of-result c =
-    let are = c.in_ok-elements_of.ensures.made ∙ ap (map total) c.deref.ensures.value
+    let are = c.in_ok-elements_of_sums.ensures.made ∙ ap (map total) c.deref.ensures.value
     ∙ c.in_ok-multiples_of.ensures.made in
-    are ∙ ap (rows_of 51) (sym (at_first c.in_ok-elements_of.field-0.items c.args.self are))
+    are ∙ ap (rows_of 51) (sym (at_first c.in_ok-elements_of_sums.field-0.items c.args.self are))
 
 pub returns-clause-made : goal.returns-clause-made
 returns-clause-made c =
-    at_first c.in_ok-elements_of.field-0.items c.args.self
-    (c.in_ok-elements_of.ensures.made ∙ ap (map total) c.deref.ensures.value ∙ c.in_ok-multiples_of.ensures.made)
+    at_first c.in_ok-elements_of_sums.field-0.items c.args.self
+    (c.in_ok-elements_of_sums.ensures.made ∙ ap (map total) c.deref.ensures.value ∙ c.in_ok-multiples_of.ensures.made)

@@ -8,7 +8,7 @@ use Rattle.jubjub.specs.Sums.{total}
 use Rattle.jubjub.specs.Tables.{signed_at}
 use Rattle.jubjub.specs.Laws.Elements.{coordinates_of}
 use Rattle.jubjub.proofs.Totals.{element_inside, total_is, sum_with}
-use Rattle.jubjub.proofs.element.sums.table.with_digit.Goals as goal
+use Rattle.jubjub.proofs.element.sums.table.plus_digit.Goals as goal
 
 -- the coordinates that were chosen are the entry's
 chosen_are : (c : goal.After-plus_crossed) → coordinates_of c.signed_multiple_at.result.x c.signed_multiple_at.result.y

@@ -9,7 +9,7 @@ use Rattle.jubjub.specs.declared.element.sums.JubjubSum.{JubjubSum}
 use Rattle.jubjub.specs.Elements.{jubjub}
 use Rattle.jubjub.specs.Laws.Group.{jubjub_laws}
 use Rattle.jubjub.specs.Sums.{total}
-use Rattle.jubjub.proofs.element.sums.table.push_row.Goals as goal
+use Rattle.jubjub.proofs.element.sums.table.push_multiples.Goals as goal
 
 abbrev multiples : Jubjub → ℕ → List Jubjub
 multiples x n = map (λ k. times jubjub k x) (range_with_len 1 n)

@@ -3,7 +3,7 @@ use Rattle.std.specs.List.{range_with_len}
 use Rattle.ark_groups.specs.Group.{times}
 use Rattle.jubjub.specs.Elements.{jubjub}
 use Rattle.jubjub.specs.Sums.{total}
-use Rattle.jubjub.proofs.element.sums.table.push_row.Given as goal
+use Rattle.jubjub.proofs.element.sums.table.push_multiples.Given as goal
 
 -- the multiples by the first numbers were put, the last one of them is at hand
 abbrev pub invariant-loop : goal.invariant-loop

@@ -4,7 +4,7 @@ use Rattle.ark_wide_fields.specs.Inverses.{AreInverses}
 use Rattle.jubjub.specs.Jubjub.{p}
 use Rattle.jubjub.specs.Sums.{scale_in}
 use Rattle.jubjub.specs.Values.{value}
-use Rattle.jubjub.proofs.element.sums.many.elements_of.Goals as goal
+use Rattle.jubjub.proofs.element.sums.many.elements_of_sums.Goals as goal
 
 pub elements_by-requires : goal.elements_by-requires
 elements_by-requires c =

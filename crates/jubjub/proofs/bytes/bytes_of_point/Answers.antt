@@ -3,7 +3,7 @@ use Rattle.ark_base.specs.Digits.{bytes_of_number}
 use Rattle.ark_base.specs.Laws.Digits.{length-bytes_of_number}
 use Rattle.jubjub.specs.Values.{value}
 use Rattle.jubjub.proofs.Spelled.{both_halves, second_long}
-use Rattle.jubjub.proofs.bytes.spelled.Goals as goal
+use Rattle.jubjub.proofs.bytes.bytes_of_point.Goals as goal
 
 pub returns : goal.returns
 returns c =
