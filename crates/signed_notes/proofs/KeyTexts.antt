@@ -10,7 +10,7 @@ use Rattle.base64.proofs.EngineFacts.{decode_of-encode_of}
 use Rattle.hex.specs.Hex.{encode_lower}
 use Rattle.signed_notes.specs.Cutting.{cut}
 use Rattle.signed_notes.specs.Faults.{or_fault}
-use Rattle.signed_notes.specs.Keys.{IsKey, KeyParts, Spelled, checked, key_hash, key_text, read_key, spelled_behind, spelled_by, spelled_from, spelled_in}
+use Rattle.signed_notes.specs.Keys.{IsNoteKey, KeyParts, Spelled, checked, key_hash, key_text, read_key, spelled_behind, spelled_by, spelled_from, spelled_in}
 use Rattle.signed_notes.specs.Notes.{is_name}
 use Rattle.signed_notes.specs.Reading.{bytes_in}
 use Rattle.signed_notes.specs.declared.fault.Fault.TheVariants.{Algorithm, Key, KeyHash, Name}
@@ -19,7 +19,7 @@ use Rattle.signed_notes.proofs.Outcomes.{bind-ok, only_if-ok, or_fault-ok}
 use Rattle.signed_notes.proofs.ReadBack.{back_bytes, cut-whole, ok_same, same_bytes, strict}
 use Rattle.signed_notes.proofs.WrittenNotes.{cut-written}
 
-pub key-read : (is_algorithm : ℕ → Bool) (public : List ℕ → List ℕ) (key : KeyParts) → IsKey is_algorithm key
+pub key-read : (is_algorithm : ℕ → Bool) (public : List ℕ → List ℕ) (key : KeyParts) → IsNoteKey is_algorithm key
     → IsBytes (key.algorithm ∷ key.bytes) → read_key is_algorithm public (key_text public key) ≡ Ok key
 key-read is_algorithm public key is are =
     let hash = encode_lower (key_hash key.name key.algorithm (public key.bytes)) in
@@ -102,7 +102,7 @@ spelled-text text s are e =
     })
 
 pub key-whole : (is_algorithm : ℕ → Bool) (public : List ℕ → List ℕ) (text : List ℕ) (key : KeyParts) → IsBytes text
-    → read_key is_algorithm public text ≡ Ok key → (key_text public key ≡ text) × IsKey is_algorithm key
+    → read_key is_algorithm public text ≡ Ok key → (key_text public key ≡ text) × IsNoteKey is_algorithm key
 key-whole is_algorithm public text key are e =
     let read = bind-ok (spelled_in text) (checked is_algorithm public) key e in
     let s = read.0 in

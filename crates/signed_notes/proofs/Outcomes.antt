@@ -2,11 +2,11 @@
 use Rattle.std.proofs.Common.{◌≡◌, Bool, true, false, Option, Some, None, Result, Ok, Err, refl}
 use Rattle.std.specs.Result.{result_ok}
 use Rattle.ark_base.specs.Outcome.{◌>>=◌}
-use Rattle.signed_notes.specs.Faults.{only_if, or_fault}
+use Rattle.signed_notes.specs.Faults.{only_where, or_fault}
 use Rattle.signed_notes.specs.declared.fault.Fault.{Fault}
 
 pub only_if-ok : {A : Type 0} (holds : Bool) (fault : Fault) (next : Result A Fault) (value : A)
-    → only_if holds fault next ≡ Ok value → (holds ≡ true) × (next ≡ Ok value)
+    → only_where holds fault next ≡ Ok value → (holds ≡ true) × (next ≡ Ok value)
 only_if-ok true fault next value e = (refl, e)
 only_if-ok false fault next value e = absurd cc
 

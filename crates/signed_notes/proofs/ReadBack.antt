@@ -10,8 +10,8 @@ use Rattle.base64.specs.GeneralPurpose.{IsBytes, decode_of, encode_of}
 use Rattle.base64.proofs.EngineFacts.{decode_of_strict, front_bytes}
 use Rattle.signed_notes.specs.Cutting.{cut, cut_at_blank, if_feed, lines_in, onto_first, onto_front, or_here}
 use Rattle.signed_notes.specs.Faults.{or_fault}
-use Rattle.signed_notes.specs.Notes.{SignatureParts, NoteParts, IsNote, IsSigned, dash, is_ended, is_name, is_text, line_of, lines_of, most_bytes, most_signatures, note_of}
-use Rattle.signed_notes.specs.Reading.{bytes_in, named, note_with, onto, read_note, signature_in, signature_of, signatures_behind, signatures_in}
+use Rattle.signed_notes.specs.Notes.{SignatureParts, NoteParts, IsNote, IsSigned, dash, is_ended, is_name, is_text, line_of, signature_lines, most_bytes, most_signatures, note_of}
+use Rattle.signed_notes.specs.Reading.{bytes_in, named, note_with, onto, read_note, signature_in, signature_in_line, signatures_behind, signatures_in}
 use Rattle.signed_notes.specs.declared.fault.Fault.{Fault}
 use Rattle.signed_notes.specs.declared.fault.Fault.TheVariants.{Base64, Line, Name, NoSignatures, NotText, Short, TooLong, TooMany, Unfinished}
 use Rattle.signed_notes.proofs.Cuts.{cut_parts}
@@ -175,7 +175,7 @@ signature-line : (line : List ℕ) (s : SignatureParts) → IsBytes line → sig
 signature-line line s bytes e =
     let begun = only_if-ok (bytes_eq (take 4 line) dash) Line _ s e in
     let front : take 4 line ≡ dash = same_bytes (take 4 line) dash begun.0 in
-    let cuts = bind-ok (or_fault (cut 32 (drop 4 line)) Line) signature_of s begun.1 in
+    let cuts = bind-ok (or_fault (cut 32 (drop 4 line)) Line) signature_in_line s begun.1 in
     let name = cuts.0.0 in
     let word = cuts.0.1 in
     let whole : name ++ (32 ∷ word) ≡ drop 4 line =
@@ -196,7 +196,7 @@ signature-line line s bytes e =
 
 -- what lines say, and that they are theirs
 record AreLines (lines : List (List ℕ)) (ss : List SignatureParts) : Type 0 where
-  lines_are : lines_of ss ≡ fed lines
+  lines_are : signature_lines ss ≡ fed lines
   count : length ss ≡ length lines
   signed : All IsSigned ss
 
@@ -222,7 +222,7 @@ signatures-lines (line ∷ lines) ss bytes e =
 -- ---- a note
 
 record AreBehind (bytes : List ℕ) (ss : List SignatureParts) : Type 0 where
-  lines_are : lines_of ss ≡ bytes
+  lines_are : signature_lines ss ≡ bytes
   some : 0 < length ss
   few : length ss ≤ most_signatures
   signed : All IsSigned ss

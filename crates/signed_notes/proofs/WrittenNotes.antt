@@ -6,7 +6,7 @@ use Rattle.base64.specs.Engines.{standard}
 use Rattle.base64.specs.GeneralPurpose.{IsBytes, encode_of}
 use Rattle.base64.proofs.EngineFacts.{decode_of-encode_of}
 use Rattle.signed_notes.specs.Cutting.{cut, cut_at_blank, lines_in, onto_front, or_here}
-use Rattle.signed_notes.specs.Notes.{AreBytes, SignatureParts, NoteParts, IsNote, IsSigned, is_ended, line_of, lines_of, most_bytes, most_signatures, note_of}
+use Rattle.signed_notes.specs.Notes.{AreSignatureBytes, SignatureParts, NoteParts, IsNote, IsSigned, is_ended, line_of, signature_lines, most_bytes, most_signatures, note_of}
 use Rattle.signed_notes.specs.Reading.{bytes_in, named, read_note, signature_in, signatures_behind, signatures_in}
 use Rattle.signed_notes.specs.Writing.{not_too_long, write_note, written_lines}
 use Rattle.signed_notes.proofs.Cuts.{lines-cut}
@@ -92,16 +92,17 @@ line-read s is are =
 -- ---- lines
 
 lines-written : (s : SignatureParts) (more : List SignatureParts) → IsSigned s
-    → lines_in (lines_of (s ∷ more)) ≡ line_of s ∷ lines_in (lines_of more)
-lines-written s more is = lines-cut (lines_of (s ∷ more)) (line_of s) (lines_of more) (cut-written 10 (line_of s)
-    (lines_of more) (line-lacks s is))
+    → lines_in (signature_lines (s ∷ more)) ≡ line_of s ∷ lines_in (signature_lines more)
+lines-written s more is = lines-cut (signature_lines (s ∷ more)) (line_of s) (signature_lines more)
+    (cut-written 10 (line_of s)
+    (signature_lines more) (line-lacks s is))
 
 -- what stands behind the empty line
 pub record AreWritten (ss : List SignatureParts) : Type 0 where
-  pub none : cut_at_blank (10 ∷ lines_of ss) ≡ None
-  pub ended : is_ended (10 ∷ lines_of ss) ≡ true
-  pub count : length (lines_in (lines_of ss)) ≡ length ss
-  pub read : signatures_in (lines_in (lines_of ss)) ≡ Ok ss
+  pub none : cut_at_blank (10 ∷ signature_lines ss) ≡ None
+  pub ended : is_ended (10 ∷ signature_lines ss) ≡ true
+  pub count : length (lines_in (signature_lines ss)) ≡ length ss
+  pub read : signatures_in (lines_in (signature_lines ss)) ≡ Ok ss
 
 written-nil : AreWritten []
 written-nil = record { none = refl; ended = refl; count = refl; read = refl }
@@ -112,13 +113,13 @@ written-more : (s : SignatureParts) (more : List SignatureParts) → IsSigned s 
 written-more s more is are ih =
     let lines = lines-written s more is in
     record {
-      none = blank-line 226 (drop 1 (line_of s)) (lines_of more) (line-lacks s is) ih.none;
-      ended = ended-behind (10 ∷ line_of s) 10 (lines_of more) ∙ ih.ended;
+      none = blank-line 226 (drop 1 (line_of s)) (signature_lines more) (line-lacks s is) ih.none;
+      ended = ended-behind (10 ∷ line_of s) 10 (signature_lines more) ∙ ih.ended;
       count = ap length lines ∙ ap suc ih.count;
       read = ap signatures_in lines ∙ rw (line-read s is are, ih.read) refl;
     }
 
-written-all : (ss : List SignatureParts) → All IsSigned ss → AreBytes ss → AreWritten ss
+written-all : (ss : List SignatureParts) → All IsSigned ss → AreSignatureBytes ss → AreWritten ss
 written-all [] signed bytes = written-nil
 written-all (s ∷ ss) signed bytes =
     written-more s ss (signed 0 s (omega arith)) (bytes 0 s (omega arith))
@@ -126,19 +127,19 @@ written-all (s ∷ ss) signed bytes =
 
 -- ---- a note
 
-some-lines-of : (ss : List SignatureParts) → 0 < length ss → 0 < length (lines_of ss)
+some-lines-of : (ss : List SignatureParts) → 0 < length ss → 0 < length (signature_lines ss)
 some-lines-of [] some = absurd (omega arith)
 some-lines-of (s ∷ ss) some = omega arith
 
-ended-lines : (ss : List SignatureParts) → 0 < length ss → is_ended (10 ∷ lines_of ss) ≡ true
-    → is_ended (lines_of ss) ≡ true
+ended-lines : (ss : List SignatureParts) → 0 < length ss → is_ended (10 ∷ signature_lines ss) ≡ true
+    → is_ended (signature_lines ss) ≡ true
 ended-lines [] some e = absurd (omega arith)
-ended-lines (s ∷ ss) some e = sym (is_ended-more 10 226 (drop 1 (lines_of (s ∷ ss)))) ∙ e
+ended-lines (s ∷ ss) some e = sym (is_ended-more 10 226 (drop 1 (signature_lines (s ∷ ss)))) ∙ e
 
 behind-read : (ss : List SignatureParts) → 0 < length ss → length ss ≤ most_signatures → AreWritten ss
-    → signatures_behind (lines_of ss) ≡ Ok ss
+    → signatures_behind (signature_lines ss) ≡ Ok ss
 behind-read ss some few are =
-    let bytes = lines_of ss in
+    let bytes = signature_lines ss in
     let long : 0 < length bytes = some-lines-of ss some in
     let few_lines : length (lines_in bytes) ≤ most_signatures = omega (arith, are.count, few) in
     rw (
@@ -149,15 +150,16 @@ behind-read ss some few are =
     ) refl
 
 blank-written : (text : List ℕ) (ss : List SignatureParts) → is_ended text ≡ true → AreWritten ss
-    → cut_at_blank (text ++ (10 ∷ lines_of ss)) ≡ Some (text, lines_of ss)
+    → cut_at_blank (text ++ (10 ∷ signature_lines ss)) ≡ Some (text, signature_lines ss)
 blank-written text ss ended are =
     let front = ended-front text ended in
-    let found = blank-found front.0 (lines_of ss) are.none in
-    ap (λ t. cut_at_blank (t ++ (10 ∷ lines_of ss))) front.1
-    ∙ ap cut_at_blank (append_assoc front.0 (10 ∷ []) (10 ∷ lines_of ss))
-    ∙ found ∙ ap (λ t. Some (t, lines_of ss)) (sym front.1)
+    let found = blank-found front.0 (signature_lines ss) are.none in
+    ap (λ t. cut_at_blank (t ++ (10 ∷ signature_lines ss))) front.1
+    ∙ ap cut_at_blank (append_assoc front.0 (10 ∷ []) (10 ∷ signature_lines ss))
+    ∙ found ∙ ap (λ t. Some (t, signature_lines ss)) (sym front.1)
 
-pub read-written : (note : NoteParts) → IsNote note → AreBytes note.signatures → read_note (note_of note) ≡ Ok note
+pub read-written : (note : NoteParts) → IsNote note → AreSignatureBytes note.signatures → read_note (note_of note)
+    ≡ Ok note
 read-written note is are =
     let written = written-all note.signatures is.signed are in
     rw (
@@ -169,18 +171,18 @@ read-written note is are =
 
 -- ---- what is written
 
-lines-are-written : (ss : List SignatureParts) → All IsSigned ss → written_lines ss ≡ Ok (lines_of ss)
+lines-are-written : (ss : List SignatureParts) → All IsSigned ss → written_lines ss ≡ Ok (signature_lines ss)
 lines-are-written [] signed = refl
 lines-are-written (s ∷ ss) signed =
     let is = signed 0 s (omega arith) in
     let ih = lines-are-written ss (λ k d below. signed (suc k) d (omega arith)) in
     rw (is.name_is, lt-ltb 0 (length s.bytes) is.some, ih) (ap (λ l. Ok l) (append_assoc (line_of s) (10 ∷ [])
-    (lines_of ss)))
+    (signature_lines ss)))
 
 pub note-written : (note : NoteParts) → IsNote note → write_note note ≡ Ok (note_of note)
 note-written note is =
-    let whole : (note.text ++ (10 ∷ [])) ++ lines_of note.signatures ≡ note_of note =
-    append_assoc note.text (10 ∷ []) (lines_of note.signatures) in
+    let whole : (note.text ++ (10 ∷ [])) ++ signature_lines note.signatures ≡ note_of note =
+    append_assoc note.text (10 ∷ []) (signature_lines note.signatures) in
     rw (
       is.text_is,
       is.ended,

@@ -7,7 +7,7 @@ use Rattle.base64.specs.GeneralPurpose.{encode_of}
 use Rattle.base64.specs.Engines.{standard}
 use Rattle.decimals.specs.Decimals.{decimal_number}
 use Rattle.signed_notes.specs.Cutting.{cut, lines_in}
-use Rattle.signed_notes.specs.Faults.{only_if, or_fault}
+use Rattle.signed_notes.specs.Faults.{only_where, or_fault}
 use Rattle.signed_notes.specs.Notes.{is_ended, is_text}
 use Rattle.signed_notes.specs.Reading.{bytes_in}
 use Rattle.signed_notes.specs.declared.fault.Fault.{Fault}
@@ -49,8 +49,8 @@ pub record IsCheckpoint (c : CheckpointParts) : Type 0 where
 -- a checkpoint of these parts
 abbrev pub checkpoint_with : List ℕ → ℕ → List ℕ → List ℕ → Result CheckpointParts Fault
 checkpoint_with origin size extensions root =
-    only_if (length root == 32) Root
-    (only_if (are_extensions extensions) Extensions
+    only_where (length root == 32) Root
+    (only_where (are_extensions extensions) Extensions
     (Ok (record { origin = origin; size = size; root = root; extensions = extensions })))
 
 -- the same of the root's line and what stands behind it
@@ -68,7 +68,7 @@ checkpoint_behind origin parts = or_fault (decimal_number parts.0) Size >>= chec
 -- the same of the origin's line and what stands behind it
 abbrev pub checkpoint_from : List ℕ × List ℕ → Result CheckpointParts Fault
 checkpoint_from parts =
-    only_if (is_text parts.0 && is_line parts.0) Origin (or_fault
+    only_where (is_text parts.0 && is_line parts.0) Origin (or_fault
     (cut 10 parts.1) Unfinished >>= checkpoint_behind parts.0)
 
 -- the checkpoint that a text says
@@ -78,4 +78,4 @@ read_checkpoint text = or_fault (cut 10 text) Unfinished >>= checkpoint_from
 -- the text of a checkpoint, or the first fault of its parts
 abbrev pub write_checkpoint : CheckpointParts → Result (List ℕ) Fault
 write_checkpoint c =
-    only_if (is_origin c.origin) Origin (only_if (are_extensions c.extensions) Extensions (Ok (checkpoint_of c)))
+    only_where (is_origin c.origin) Origin (only_where (are_extensions c.extensions) Extensions (Ok (checkpoint_of c)))

@@ -10,7 +10,7 @@ use Rattle.ed25519.specs.Signatures.{key_of}
 use Rattle.hex.specs.Hex.{encode_lower}
 use Rattle.sha2.specs.Sha256.{sha256}
 use Rattle.signed_notes.specs.Cutting.{cut}
-use Rattle.signed_notes.specs.Faults.{only_if, or_fault}
+use Rattle.signed_notes.specs.Faults.{only_where, or_fault}
 use Rattle.signed_notes.specs.Notes.{is_name}
 use Rattle.signed_notes.specs.Reading.{bytes_in}
 use Rattle.signed_notes.specs.declared.fault.Fault.{Fault}
@@ -45,7 +45,7 @@ abbrev pub private : List ℕ
 private = codes "PRIVATE+KEY+"
 
 -- what may be a key
-pub record IsKey (is_algorithm : ℕ → Bool) (k : KeyParts) : Type 0 where
+pub record IsNoteKey (is_algorithm : ℕ → Bool) (k : KeyParts) : Type 0 where
   pub name_is : is_name k.name ≡ true
   pub algorithm_is : is_algorithm k.algorithm ≡ true
   pub long : length k.bytes ≡ 32
@@ -61,12 +61,12 @@ pub record Spelled : Type 0 where
 
 -- the key of a name, the digits of its hash, and the bytes that Base64 spelled
 abbrev pub spelled_by : List ℕ → List ℕ → List ℕ → Result Spelled Fault
-spelled_by name hash bytes = only_if (length bytes == 33) Key
+spelled_by name hash bytes = only_where (length bytes == 33) Key
     (Ok (record { name = name; hash = hash; algorithm = get_or bytes 0 0; bytes = drop 1 bytes }))
 
 -- the key of a name, and of two parts behind it
 abbrev pub spelled_behind : List ℕ → List ℕ × List ℕ → Result Spelled Fault
-spelled_behind name parts = only_if (is_name name) Name (bytes_in parts.1 >>= spelled_by name parts.0)
+spelled_behind name parts = only_where (is_name name) Name (bytes_in parts.1 >>= spelled_by name parts.0)
 
 -- the key of a name and of what stands behind the plus sign that ends it
 abbrev pub spelled_from : List ℕ × List ℕ → Result Spelled Fault
@@ -79,8 +79,8 @@ spelled_in text = or_fault (cut 43 text) Key >>= spelled_from
 -- a key of one of some algorithms, whose hash is its own
 abbrev pub checked : (ℕ → Bool) → (List ℕ → List ℕ) → Spelled → Result KeyParts Fault
 checked is_algorithm public s =
-    only_if (is_algorithm s.algorithm) Algorithm
-    (only_if (bytes_eq s.hash (encode_lower (key_hash s.name s.algorithm (public s.bytes)))) KeyHash
+    only_where (is_algorithm s.algorithm) Algorithm
+    (only_where (bytes_eq s.hash (encode_lower (key_hash s.name s.algorithm (public s.bytes)))) KeyHash
     (Ok (record { name = s.name; algorithm = s.algorithm; bytes = s.bytes })))
 
 -- the key that a text says
@@ -90,13 +90,13 @@ read_key is_algorithm public text = spelled_in text >>= checked is_algorithm pub
 -- the key that a text says behind `PRIVATE+KEY+`
 abbrev pub read_private : (ℕ → Bool) → (List ℕ → List ℕ) → List ℕ → Result KeyParts Fault
 read_private is_algorithm public text =
-    only_if (bytes_eq (take 12 text) private) Key (read_key is_algorithm public (drop 12 text))
+    only_where (bytes_eq (take 12 text) private) Key (read_key is_algorithm public (drop 12 text))
 
 -- ---- the text of a key, or the first fault
 
 -- the text of a key behind other bytes
 abbrev pub write_key : List ℕ → (List ℕ → List ℕ) → KeyParts → Result (List ℕ) Fault
-write_key front public k = only_if (is_name k.name) Name (Ok (front ++ key_text public k))
+write_key front public k = only_where (is_name k.name) Name (Ok (front ++ key_text public k))
 
 -- the byte of cosignatures
 abbrev pub cosignature_byte : ℕ

@@ -27,13 +27,13 @@ abbrev pub line_of : SignatureParts → List ℕ
 line_of s = dash ++ (s.name ++ (32 ∷ encode_of standard (s.hash ++ s.bytes)))
 
 -- the lines of signatures
-abbrev pub lines_of : List SignatureParts → List ℕ
-lines_of [] = []
-lines_of (s ∷ more) = line_of s ++ (10 ∷ lines_of more)
+abbrev pub signature_lines : List SignatureParts → List ℕ
+signature_lines [] = []
+signature_lines (s ∷ more) = line_of s ++ (10 ∷ signature_lines more)
 
 -- the bytes of a note
 abbrev pub note_of : NoteParts → List ℕ
-note_of note = note.text ++ (10 ∷ lines_of note.signatures)
+note_of note = note.text ++ (10 ∷ signature_lines note.signatures)
 
 -- a byte that may stand in a text: a line feed, or none of the control characters of ASCII below the space
 abbrev pub is_plain : ℕ → Bool
@@ -70,8 +70,8 @@ pub record IsSigned (s : SignatureParts) : Type 0 where
   pub some : 0 < length s.bytes
 
 -- the hashes and the bytes of signatures are lists of bytes
-abbrev pub AreBytes : List SignatureParts → Type 0
-AreBytes signatures = All (λ s. IsBytes (s.hash ++ s.bytes)) signatures
+abbrev pub AreSignatureBytes : List SignatureParts → Type 0
+AreSignatureBytes signatures = All (λ s. IsBytes (s.hash ++ s.bytes)) signatures
 
 -- what may stand in a note
 pub record IsNote (note : NoteParts) : Type 0 where

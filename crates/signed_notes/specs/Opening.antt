@@ -4,7 +4,7 @@ use Rattle.std.specs.List.{list_any}
 use Rattle.std.specs.Str.{bytes_eq}
 use Rattle.ark_base.specs.Outcome.{◌>>=◌}
 use Rattle.signed_notes.specs.Checkpoints.{CheckpointParts, read_checkpoint}
-use Rattle.signed_notes.specs.Faults.{only_if}
+use Rattle.signed_notes.specs.Faults.{only_where}
 use Rattle.signed_notes.specs.Keys.{KeyParts}
 use Rattle.signed_notes.specs.Notes.{NoteParts}
 use Rattle.signed_notes.specs.Reading.{read_note}
@@ -18,7 +18,7 @@ count_true tests = count_by (λ test. test) tests
 
 -- a checkpoint of this origin alone
 abbrev pub of_origin : List ℕ → CheckpointParts → Result CheckpointParts Fault
-of_origin origin c = only_if (bytes_eq c.origin origin) OtherOrigin (Ok c)
+of_origin origin c = only_where (bytes_eq c.origin origin) OtherOrigin (Ok c)
 
 -- the checkpoint of an origin that a text says
 abbrev pub checkpoint_by : List ℕ → List ℕ → Result CheckpointParts Fault

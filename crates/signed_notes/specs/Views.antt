@@ -24,21 +24,21 @@ abbrev pub note_parts : Note → NoteParts
 note_parts note = record { text = note.text.now; signatures = map parts note.signatures.items }
 
 -- the parts of a note of a text and its signatures
-abbrev pub parts_of : List ℕ → List SignatureParts → NoteParts
-parts_of text signatures = record { text = text; signatures = signatures }
+abbrev pub parts_of_note : List ℕ → List SignatureParts → NoteParts
+parts_of_note text signatures = record { text = text; signatures = signatures }
 
 -- the byte of an algorithm
-abbrev pub byte_of : Algorithm → ℕ
-byte_of Ed25519 = ed25519_byte
-byte_of CosignatureV1 = cosignature_byte
+abbrev pub algorithm_byte : Algorithm → ℕ
+algorithm_byte Ed25519 = ed25519_byte
+algorithm_byte CosignatureV1 = cosignature_byte
 
 -- a key as it is spelled
-abbrev pub spelled : KeyText → Spelled
-spelled k = record { name = k.name.now; hash = k.hash.now; algorithm = k.algorithm; bytes = k.bytes }
+abbrev pub key_spelled : KeyText → Spelled
+key_spelled k = record { name = k.name.now; hash = k.hash.now; algorithm = k.algorithm; bytes = k.bytes }
 
 -- the key of a verifier
 abbrev pub verifier_parts : Verifier → KeyParts
-verifier_parts v = record { name = v.name.now; algorithm = byte_of v.algorithm; bytes = v.key }
+verifier_parts v = record { name = v.name.now; algorithm = algorithm_byte v.algorithm; bytes = v.key }
 
 -- a key that is made from a seed, of some algorithm
 abbrev pub seed_parts : ℕ → Signer → KeyParts

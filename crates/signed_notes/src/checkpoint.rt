@@ -5,7 +5,7 @@ ghost use Rattle.std.specs.List.{list_all};
 ghost use Rattle.decimals.specs.Decimals.{decimal_number};
 ghost use Rattle.signed_notes.specs.Checkpoints.{are_extensions, checkpoint_behind, checkpoint_from, checkpoint_of, checkpoint_rooted, checkpoint_sized, checkpoint_with, is_line, is_origin, read_checkpoint, write_checkpoint};
 ghost use Rattle.signed_notes.specs.Cutting.{lines_in};
-ghost use Rattle.signed_notes.specs.Faults.{GivesBy};
+ghost use Rattle.signed_notes.specs.Faults.{NoteGivesBy};
 ghost use Rattle.signed_notes.specs.Views.{checkpoint_parts};
 
 use crate::cutting::{cut, next_line};
@@ -65,7 +65,7 @@ fn checkpoint_with<'a>(
     extensions: &'a [u8],
     decoded: &[u8],
 ) -> Result<Checkpoint<'a>, Fault>
-    ensures { GivesBy checkpoint_parts
+    ensures { NoteGivesBy checkpoint_parts
         (checkpoint_with origin.now size extensions.now decoded.now) result }
 {
     if decoded.len() != 32 {
@@ -94,7 +94,7 @@ fn checkpoint_sized<'a>(
     size: usize,
     rest: &'a [u8],
 ) -> Result<Checkpoint<'a>, Fault>
-    ensures { GivesBy checkpoint_parts (checkpoint_sized origin.now rest.now size) result }
+    ensures { NoteGivesBy checkpoint_parts (checkpoint_sized origin.now rest.now size) result }
 {
     match cut(b'\n', rest) {
         Some((word, behind)) => checkpoint_with(origin, size, behind, &bytes_in(alloc, word)?),
@@ -103,7 +103,7 @@ fn checkpoint_sized<'a>(
 }
 
 // The size that a line says.
-fn size_in(line: &[u8]) -> Option<usize>
+fn size_of_line(line: &[u8]) -> Option<usize>
     ensures { result ≡ decimal_number line.now }
 {
     decimal_number(line)
@@ -116,9 +116,10 @@ fn checkpoint_behind<'a>(
     line: &[u8],
     rest: &'a [u8],
 ) -> Result<Checkpoint<'a>, Fault>
-    ensures { GivesBy checkpoint_parts (checkpoint_behind origin.now (line.now, rest.now)) result }
+    ensures { NoteGivesBy checkpoint_parts (checkpoint_behind origin.now (line.now, rest.now))
+        result }
 {
-    match size_in(line) {
+    match size_of_line(line) {
         Some(size) => checkpoint_sized(alloc, origin, size, rest),
         None => Err(Fault::Size),
     }
@@ -130,7 +131,7 @@ fn checkpoint_from<'a>(
     origin: &'a [u8],
     rest: &'a [u8],
 ) -> Result<Checkpoint<'a>, Fault>
-    ensures { GivesBy checkpoint_parts (checkpoint_from (origin.now, rest.now)) result }
+    ensures { NoteGivesBy checkpoint_parts (checkpoint_from (origin.now, rest.now)) result }
 {
     let Some(origin) = text_of(origin) else {
         return Err(Fault::Origin);
@@ -150,7 +151,7 @@ impl<'a> Checkpoint<'a> {
     /// Errors, the first that applies: `Unfinished` without three line feeds; of the first three lines in turn `Origin`, `Size`,
     /// `Base64`, `Root`; `Extensions`. `Memory` at any time.
     pub fn read(alloc: Global, text: &'a [u8]) -> Result<Checkpoint<'a>, Fault>
-        ensures { GivesBy checkpoint_parts (read_checkpoint text.now) result }
+        ensures { NoteGivesBy checkpoint_parts (read_checkpoint text.now) result }
     {
         match cut(b'\n', text) {
             Some((origin, rest)) => checkpoint_from(alloc, origin, rest),
@@ -160,7 +161,7 @@ impl<'a> Checkpoint<'a> {
 
     /// Writes the text of the checkpoint. Errors, the first that applies: `Origin`; `Extensions`. `Memory` at any time.
     pub fn write(&self, alloc: Global) -> Result<String, Fault>
-        ensures { GivesBy string_bytes (write_checkpoint (checkpoint_parts self.now)) result }
+        ensures { NoteGivesBy string_bytes (write_checkpoint (checkpoint_parts self.now)) result }
     {
         if !is_origin(self.origin) {
             return Err(Fault::Origin);

@@ -4,7 +4,7 @@ ghost use Rattle.std.specs.Prelude.{◌≡◌, ◌∷◌, ◌++◌, [], length, 
 ghost use Rattle.std.specs.Bool.{Decides};
 ghost use Rattle.std.specs.Int.{w64, from_be_bytes};
 ghost use Rattle.signed_notes.specs.Cosignatures.{cosigned, IsCosignature};
-ghost use Rattle.signed_notes.specs.Faults.{GivesBy};
+ghost use Rattle.signed_notes.specs.Faults.{NoteGivesBy};
 ghost use Rattle.signed_notes.specs.Verifying.{cosign, cosign_read, cosigned_by, sign_checkpoint};
 ghost use Rattle.signed_notes.specs.Views.{checkpoint_parts, cosigner_parts, note_parts, parts, signer_parts};
 ghost use Rattle.signed_notes.specs.declared.fault.Fault.TheVariants.{Memory};
@@ -103,7 +103,7 @@ fn cosign_read<'a>(
     time: u64,
 ) -> Result<Vec<u8>, Fault>
     ensures { let key = cosigner_parts cosigner.now in
-        GivesBy vec_items (cosign_read time key (note_parts note.entry)) result }
+        NoteGivesBy vec_items (cosign_read time key (note_parts note.entry)) result }
 {
     let Note { text, signatures } = note;
     Checkpoint::read(alloc, text.as_bytes())?;
@@ -121,7 +121,7 @@ pub fn cosign<'a>(
     cosigner: &Cosigner<'a>,
     time: u64,
 ) -> Result<Vec<u8>, Fault>
-    ensures { GivesBy vec_items (cosign time (cosigner_parts cosigner.now) bytes.now) result }
+    ensures { NoteGivesBy vec_items (cosign time (cosigner_parts cosigner.now) bytes.now) result }
 {
     let note = read(alloc, bytes)?;
     cosign_read(alloc, note, cosigner, time)
@@ -136,7 +136,7 @@ pub fn sign_checkpoint(
     signers: &[Signer],
 ) -> Result<Vec<u8>, Fault>
     ensures { let keys = map signer_parts signers.now in
-        GivesBy vec_items (sign_checkpoint (checkpoint_parts checkpoint.now) keys) result }
+        NoteGivesBy vec_items (sign_checkpoint (checkpoint_parts checkpoint.now) keys) result }
 {
     let text = checkpoint.write(alloc)?;
     sign_note(alloc, text.as_str(), signers)

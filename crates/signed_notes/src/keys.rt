@@ -4,10 +4,10 @@ ghost use Rattle.std.specs.Prelude.{◌≡◌, ◌++◌, [], true, false, vec_it
 ghost use Rattle.std.specs.Str.{bytes_eq};
 ghost use Rattle.ed25519.specs.Signatures.{key_of};
 ghost use Rattle.hex.specs.Hex.{encode_lower};
-ghost use Rattle.signed_notes.specs.Faults.{GivesBy};
+ghost use Rattle.signed_notes.specs.Faults.{NoteGivesBy};
 ghost use Rattle.signed_notes.specs.Keys.{as_it_stands, cosignature_byte, ed25519_byte, is_byte, is_known, key_hash, key_parts, key_text, private, public_parts, read_key, read_private, spelled_behind, spelled_by, spelled_in, write_key};
 ghost use Rattle.signed_notes.specs.Verifying.{hash_of};
-ghost use Rattle.signed_notes.specs.Views.{byte_of, cosigner_parts, seed_parts, signer_parts, spelled, verifier_parts};
+ghost use Rattle.signed_notes.specs.Views.{algorithm_byte, cosigner_parts, seed_parts, signer_parts, key_spelled, verifier_parts};
 ghost use Rattle.signed_notes.specs.declared.fault.Fault.TheVariants.{Memory};
 
 use crate::cutting::cut;
@@ -34,7 +34,7 @@ pub enum Algorithm {
 impl Algorithm {
     /// Returns its byte.
     pub fn byte(self) -> u8
-        ensures { result ≡ byte_of self }
+        ensures { result ≡ algorithm_byte self }
     {
         match self {
             Algorithm::Ed25519 => 1,
@@ -46,7 +46,7 @@ impl Algorithm {
 // The algorithm of a byte.
 fn algorithm_of(byte: u8) -> Option<Algorithm>
     ensures { MatchOption result (is_known byte ≡ false)
-        (λ algorithm. (is_known byte ≡ true) × (byte ≡ byte_of algorithm)) }
+        (λ algorithm. (is_known byte ≡ true) × (byte ≡ algorithm_byte algorithm)) }
 {
     if byte == 1 {
         Some(Algorithm::Ed25519)
@@ -113,7 +113,7 @@ fn digits_of(hash: [u8; 4]) -> [u8; 8]
 
 // The key of a name, the digits of its hash, and the bytes that Base64 spelled.
 fn spelled_by<'a>(name: &'a str, hash: &'a [u8], decoded: &[u8]) -> Result<KeyText<'a>, Fault>
-    ensures { GivesBy spelled (spelled_by name.now hash.now decoded.now) result }
+    ensures { NoteGivesBy key_spelled (spelled_by name.now hash.now decoded.now) result }
 {
     if decoded.len() != 33 {
         return Err(Fault::Key);
@@ -135,7 +135,7 @@ fn spelled_behind<'a>(
     hash: &'a [u8],
     word: &'a [u8],
 ) -> Result<KeyText<'a>, Fault>
-    ensures { GivesBy spelled (spelled_behind name.now (hash.now, word.now)) result }
+    ensures { NoteGivesBy key_spelled (spelled_behind name.now (hash.now, word.now)) result }
 {
     match name_of(name) {
         Some(name) => spelled_by(name, hash, &bytes_in(alloc, word)?),
@@ -145,7 +145,7 @@ fn spelled_behind<'a>(
 
 // The key that a text spells.
 fn spelled_in(alloc: Global, text: &[u8]) -> Result<KeyText<'_>, Fault>
-    ensures { GivesBy spelled (spelled_in text.now) result }
+    ensures { NoteGivesBy key_spelled (spelled_in text.now) result }
 {
     match cut(b'+', text) {
         Some((name, rest)) => match cut(b'+', rest) {
@@ -158,7 +158,7 @@ fn spelled_in(alloc: Global, text: &[u8]) -> Result<KeyText<'_>, Fault>
 
 // Whether the hash of a key is its own.
 fn is_hash(key: &KeyText, public: &[u8; 32]) -> bool
-    ensures { let key = spelled key.now in
+    ensures { let key = key_spelled key.now in
         result ≡ bytes_eq key.hash (encode_lower (key_hash key.name key.algorithm public.now)) }
 {
     let digits = digits_of(key_hash(key.name, key.algorithm, public));
@@ -179,7 +179,7 @@ fn behind_private(text: &[u8]) -> Option<&[u8]>
 // The seed that a text says behind that, of a key of some algorithm.
 fn seed_in(alloc: Global, text: &[u8], algorithm: u8) -> Result<Signer<'_>, Fault>
     ensures { let read = read_key (is_byte algorithm) key_of text.now in
-        GivesBy (seed_parts algorithm) read result }
+        NoteGivesBy (seed_parts algorithm) read result }
 {
     let key = spelled_in(alloc, text)?;
     if key.algorithm != algorithm {
@@ -197,7 +197,7 @@ fn seed_in(alloc: Global, text: &[u8], algorithm: u8) -> Result<Signer<'_>, Faul
 // The seed that a text says, of a key of some algorithm.
 fn private_in(alloc: Global, text: &[u8], algorithm: u8) -> Result<Signer<'_>, Fault>
     ensures { let read = read_private (is_byte algorithm) key_of text.now in
-        GivesBy (seed_parts algorithm) read result }
+        NoteGivesBy (seed_parts algorithm) read result }
 {
     match behind_private(text) {
         Some(rest) => seed_in(alloc, rest, algorithm),
@@ -213,7 +213,7 @@ fn write_private(
     seed: &[u8; 32],
 ) -> Result<Vec<u8>, Fault>
     ensures { let key = key_parts name.now algorithm seed.now in
-        GivesBy vec_items (write_key private key_of key) result }
+        NoteGivesBy vec_items (write_key private key_of key) result }
 {
     if !is_name(name) {
         return Err(Fault::Name);
@@ -254,7 +254,7 @@ impl<'a> Verifier<'a> {
     /// Errors, the first that applies: `Key` without two plus signs; `Name`; `Base64`; `Key` for another length;
     /// `Algorithm`; `KeyHash`. `Memory` at any time.
     pub fn read(alloc: Global, text: &'a [u8]) -> Result<Verifier<'a>, Fault>
-        ensures { GivesBy verifier_parts (read_key is_known as_it_stands text.now) result }
+        ensures { NoteGivesBy verifier_parts (read_key is_known as_it_stands text.now) result }
     {
         let key = spelled_in(alloc, text)?;
         let Some(algorithm) = algorithm_of(key.algorithm) else {
@@ -279,7 +279,7 @@ impl<'a> Verifier<'a> {
 
     /// Writes the text of the key, `NAME+HASH+KEY`. Errors: `Name`, `Memory`.
     pub fn write(&self, alloc: Global) -> Result<Vec<u8>, Fault>
-        ensures { GivesBy vec_items (write_key [] as_it_stands (verifier_parts self.now)) result }
+        ensures { NoteGivesBy vec_items (write_key [] as_it_stands (verifier_parts self.now)) result }
     {
         if !is_name(self.name) {
             return Err(Fault::Name);
@@ -303,14 +303,14 @@ impl<'a> Signer<'a> {
     /// Errors, the first that applies: `Key` for another beginning, and those of `Verifier::read`.
     pub fn read(alloc: Global, text: &'a [u8]) -> Result<Signer<'a>, Fault>
         ensures { let read = read_private (is_byte ed25519_byte) key_of text.now in
-            GivesBy signer_parts read result }
+            NoteGivesBy signer_parts read result }
     {
         private_in(alloc, text, 1)
     }
 
     /// Writes the text of the key, `PRIVATE+KEY+NAME+HASH+SEED`. Errors: `Name`, `Memory`.
     pub fn write(&self, alloc: Global) -> Result<Vec<u8>, Fault>
-        ensures { GivesBy vec_items (write_key private key_of (signer_parts self.now)) result }
+        ensures { NoteGivesBy vec_items (write_key private key_of (signer_parts self.now)) result }
     {
         write_private(alloc, self.name, 1, &self.seed)
     }
@@ -333,7 +333,7 @@ impl<'a> Cosigner<'a> {
     /// Errors: those of `Signer::read`.
     pub fn read(alloc: Global, text: &'a [u8]) -> Result<Cosigner<'a>, Fault>
         ensures { let read = read_private (is_byte cosignature_byte) key_of text.now in
-            GivesBy cosigner_parts read result }
+            NoteGivesBy cosigner_parts read result }
     {
         let Signer { name, seed } = private_in(alloc, text, 4)?;
         Ok(Cosigner { name, seed })
@@ -341,7 +341,7 @@ impl<'a> Cosigner<'a> {
 
     /// Writes the text of the key, `PRIVATE+KEY+NAME+HASH+SEED`. Errors: `Name`, `Memory`.
     pub fn write(&self, alloc: Global) -> Result<Vec<u8>, Fault>
-        ensures { GivesBy vec_items (write_key private key_of (cosigner_parts self.now)) result }
+        ensures { NoteGivesBy vec_items (write_key private key_of (cosigner_parts self.now)) result }
     {
         write_private(alloc, self.name, 4, &self.seed)
     }

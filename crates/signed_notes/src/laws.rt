@@ -3,14 +3,14 @@
 ghost use Rattle.std.specs.Prelude.{◌≡◌, ◌∷◌, ℕ, Bool, List, Ok};
 ghost use Rattle.base64.specs.GeneralPurpose.{IsBytes};
 ghost use Rattle.signed_notes.specs.Checkpoints.{checkpoint_of, read_checkpoint, write_checkpoint, CheckpointParts, IsCheckpoint};
-ghost use Rattle.signed_notes.specs.Keys.{IsKey, key_text, read_key, KeyParts};
-ghost use Rattle.signed_notes.specs.Notes.{AreBytes, IsNote, note_of, NoteParts};
+ghost use Rattle.signed_notes.specs.Keys.{IsNoteKey, key_text, read_key, KeyParts};
+ghost use Rattle.signed_notes.specs.Notes.{AreSignatureBytes, IsNote, note_of, NoteParts};
 ghost use Rattle.signed_notes.specs.Reading.{read_note};
 ghost use Rattle.signed_notes.specs.Writing.{write_note};
 
 /// States that a note which was written is read as the parts that it was written from.
 pub fn notes_are_read_back()
-    ensures { (note : NoteParts) → IsNote note → AreBytes note.signatures
+    ensures { (note : NoteParts) → IsNote note → AreSignatureBytes note.signatures
         → read_note (note_of note) ≡ Ok note }
 {}
 
@@ -30,7 +30,7 @@ pub fn notes_are_written()
 /// States that the text of a key is read as this key, whatever makes of its bytes those that are hashed.
 pub fn keys_are_read_back()
     ensures { (is_algorithm : ℕ → Bool) (public : List ℕ → List ℕ) (key : KeyParts)
-        → IsKey is_algorithm key → IsBytes (key.algorithm ∷ key.bytes)
+        → IsNoteKey is_algorithm key → IsBytes (key.algorithm ∷ key.bytes)
         → read_key is_algorithm public (key_text public key) ≡ Ok key }
 {}
 
@@ -38,7 +38,7 @@ pub fn keys_are_read_back()
 pub fn keys_have_one_spelling()
     ensures { (is_algorithm : ℕ → Bool) (public : List ℕ → List ℕ) (text : List ℕ) (key : KeyParts)
         → IsBytes text → read_key is_algorithm public text ≡ Ok key
-        → (key_text public key ≡ text) × IsKey is_algorithm key }
+        → (key_text public key ≡ text) × IsNoteKey is_algorithm key }
 {}
 
 /// States that what may be a checkpoint is written, and that its text is read as this checkpoint.

@@ -2,8 +2,8 @@
 
 ghost use Rattle.std.specs.Prelude.{map, vec_items};
 ghost use Rattle.signed_notes.specs.Cutting.{lines_in};
-ghost use Rattle.signed_notes.specs.Faults.{GivesBy};
-ghost use Rattle.signed_notes.specs.Reading.{bytes_in, named, read_note, signature_in, signature_of, signatures_behind, signatures_in};
+ghost use Rattle.signed_notes.specs.Faults.{NoteGivesBy};
+ghost use Rattle.signed_notes.specs.Reading.{bytes_in, named, read_note, signature_in, signature_in_line, signatures_behind, signatures_in};
 ghost use Rattle.signed_notes.specs.Views.{note_parts, parts};
 
 use crate::cutting::{cut, cut_at_blank, line_count, next_line};
@@ -43,7 +43,7 @@ pub struct Note<'a> {
 
 // The bytes that a word of Base64 spells.
 pub(crate) fn bytes_in(alloc: Global, word: &[u8]) -> Result<Vec<u8>, Fault>
-    ensures bytes { GivesBy vec_items (bytes_in word.now) result }
+    ensures bytes { NoteGivesBy vec_items (bytes_in word.now) result }
 {
     match STANDARD.decode(alloc, word) {
         Ok(bytes) => Ok(bytes),
@@ -54,7 +54,7 @@ pub(crate) fn bytes_in(alloc: Global, word: &[u8]) -> Result<Vec<u8>, Fault>
 
 // The signature of a name and of the bytes that Base64 spelled.
 fn named<'a>(name: &'a str, decoded: Vec<u8>) -> Result<Signature<'a>, Fault>
-    ensures { GivesBy parts (named name.now decoded.items) result }
+    ensures { NoteGivesBy parts (named name.now decoded.items) result }
 {
     let count = decoded.len();
     if count <= 4 {
@@ -70,7 +70,7 @@ fn named<'a>(name: &'a str, decoded: Vec<u8>) -> Result<Signature<'a>, Fault>
 
 // The signature of a name and a word of Base64.
 fn signature_of<'a>(alloc: Global, name: &'a [u8], word: &[u8]) -> Result<Signature<'a>, Fault>
-    ensures { GivesBy parts (signature_of (name.now, word.now)) result }
+    ensures { NoteGivesBy parts (signature_in_line (name.now, word.now)) result }
 {
     match name_of(name) {
         Some(name) => named(name, bytes_in(alloc, word)?),
@@ -80,7 +80,7 @@ fn signature_of<'a>(alloc: Global, name: &'a [u8], word: &[u8]) -> Result<Signat
 
 // The signature that a line says.
 fn signature_in(alloc: Global, line: &[u8]) -> Result<Signature<'_>, Fault>
-    ensures { GivesBy parts (signature_in line.now) result }
+    ensures { NoteGivesBy parts (signature_in line.now) result }
 {
     if line.len() < 4 || line[..4] != DASH[..] {
         return Err(Fault::Line);
@@ -93,7 +93,7 @@ fn signature_in(alloc: Global, line: &[u8]) -> Result<Signature<'_>, Fault>
 
 // The signatures that lines say.
 fn signatures_in(alloc: Global, bytes: &[u8]) -> Result<Vec<Signature<'_>>, Fault>
-    ensures { GivesBy (λ all. map parts all.items) (signatures_in (lines_in bytes.now)) result }
+    ensures { NoteGivesBy (λ all. map parts all.items) (signatures_in (lines_in bytes.now)) result }
 {
     let mut signatures = Vec::new(alloc);
     let mut rest = bytes;
@@ -107,7 +107,7 @@ fn signatures_in(alloc: Global, bytes: &[u8]) -> Result<Vec<Signature<'_>>, Faul
 
 // The signatures behind the empty line.
 fn signatures_behind(alloc: Global, bytes: &[u8]) -> Result<Vec<Signature<'_>>, Fault>
-    ensures { GivesBy (λ all. map parts all.items) (signatures_behind bytes.now) result }
+    ensures { NoteGivesBy (λ all. map parts all.items) (signatures_behind bytes.now) result }
 {
     if bytes.is_empty() {
         return Err(Fault::NoSignatures);
@@ -127,7 +127,7 @@ fn signatures_behind(alloc: Global, bytes: &[u8]) -> Result<Vec<Signature<'_>>, 
 /// last empty line `NoSignatures`, `Unfinished`, `TooMany`; of each line in turn `Line`, `Name`, `Base64`, `Short`.
 /// `Memory` at any time.
 pub fn read(alloc: Global, bytes: &[u8]) -> Result<Note<'_>, Fault>
-    ensures { GivesBy note_parts (read_note bytes.now) result }
+    ensures { NoteGivesBy note_parts (read_note bytes.now) result }
 {
     if bytes.len() > MOST_BYTES {
         return Err(Fault::TooLong);

@@ -1,7 +1,7 @@
 //! Checkpoints that are opened: signed by their log, and by so many witnesses.
 
 ghost use Rattle.std.specs.Prelude.{◌≡◌, ◌⊎◌, ◌≤◌, IfOk, IfErr, OnOk, List, ℕ, map};
-ghost use Rattle.signed_notes.specs.Faults.{GivesBy};
+ghost use Rattle.signed_notes.specs.Faults.{NoteGivesBy};
 ghost use Rattle.signed_notes.specs.Opening.{checkpoint_by, count_true, IsClosed, IsOpened, IsUnwitnessed, IsWitnessed};
 ghost use Rattle.signed_notes.specs.Views.{checkpoint_parts, note_parts, policy_parts};
 ghost use Rattle.signed_notes.specs.declared.fault.Fault.TheVariants.{Memory};
@@ -49,7 +49,7 @@ fn witnessed(alloc: Global, note: &Note, policy: &Policy) -> Result<(), Fault>
 
 // The checkpoint of an origin that a text says.
 fn checkpoint_by<'a>(alloc: Global, origin: &str, text: &'a str) -> Result<Checkpoint<'a>, Fault>
-    ensures { GivesBy checkpoint_parts (checkpoint_by origin.now text.now) result }
+    ensures { NoteGivesBy checkpoint_parts (checkpoint_by origin.now text.now) result }
 {
     let checkpoint = Checkpoint::read(alloc, text.as_bytes())?;
     if checkpoint.origin != origin {

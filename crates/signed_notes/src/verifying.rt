@@ -3,7 +3,7 @@
 ghost use Rattle.std.specs.Prelude.{◌≡◌, ◌⊎◌, true, All, IfOk, IfErr, OnOk, IsOkUnless, Ok, map, vec_items};
 ghost use Rattle.std.specs.Bool.{Decides};
 ghost use Rattle.std.specs.List.{list_any};
-ghost use Rattle.signed_notes.specs.Faults.{GivesBy};
+ghost use Rattle.signed_notes.specs.Faults.{NoteGivesBy};
 ghost use Rattle.signed_notes.specs.Reading.{read_note};
 ghost use Rattle.signed_notes.specs.Verifying.{accepted_by, hash_of, is_any, is_named, sign_note, signed_by, AreTrue, IsMadeBy, IsRejected, IsTrueOf, IsWhy};
 ghost use Rattle.signed_notes.specs.Views.{note_parts, parts, signer_parts, verifier_parts};
@@ -186,7 +186,7 @@ pub fn signature_of<'a>(
 ///
 /// Errors: those of `write`.
 pub fn sign_note(alloc: Global, text: &str, signers: &[Signer]) -> Result<Vec<u8>, Fault>
-    ensures { GivesBy vec_items (sign_note text.now (map signer_parts signers.now)) result }
+    ensures { NoteGivesBy vec_items (sign_note text.now (map signer_parts signers.now)) result }
 {
     let mut signatures = Vec::new(alloc);
     for signer in signers {

@@ -3,10 +3,10 @@
 ghost use Rattle.std.specs.Prelude.{◌≡◌, ◌++◌, ◌∷◌, ◌⊎◌, [], Ok, Err, IfOk, IfErr, OnOk, IsOkUnless, map, vec_items, string_bytes};
 ghost use Rattle.base64.specs.GeneralPurpose.{encode_of};
 ghost use Rattle.base64.specs.Engines.{standard};
-ghost use Rattle.signed_notes.specs.Faults.{GivesBy};
+ghost use Rattle.signed_notes.specs.Faults.{NoteGivesBy};
 ghost use Rattle.signed_notes.specs.Notes.{line_of};
-ghost use Rattle.signed_notes.specs.Writing.{before, write_note, written_line, written_lines};
-ghost use Rattle.signed_notes.specs.Views.{parts, parts_of};
+ghost use Rattle.signed_notes.specs.Writing.{in_front_of, write_note, written_line, written_lines};
+ghost use Rattle.signed_notes.specs.Views.{parts, parts_of_note};
 ghost use Rattle.signed_notes.specs.declared.fault.Fault.TheVariants.{Memory};
 
 use crate::fault::Fault;
@@ -16,7 +16,7 @@ use base64::engine::general_purpose::STANDARD;
 use std::alloc::Global;
 
 // Writes the hash and the bytes of a signature in Base64.
-fn word_of(alloc: Global, signature: &Signature) -> Result<String, Fault>
+fn signature_word(alloc: Global, signature: &Signature) -> Result<String, Fault>
     ensures word { IfOk result (λ word. string_bytes word
         ≡ encode_of standard ((parts signature.now).hash ++ (parts signature.now).bytes)) }
     ensures memory { IsOkUnless result Memory }
@@ -42,7 +42,7 @@ fn push_line(out: &mut Vec<u8>, alloc: Global, signature: &Signature) -> Result<
     if signature.bytes.is_empty() {
         return Err(Fault::Short);
     }
-    let word = word_of(alloc, signature)?;
+    let word = signature_word(alloc, signature)?;
     out.extend_from_slice(&DASH)?;
     out.extend_from_slice(signature.name.as_bytes())?;
     out.push(b' ')?;
@@ -54,7 +54,7 @@ fn push_line(out: &mut Vec<u8>, alloc: Global, signature: &Signature) -> Result<
 // Writes the lines of signatures behind other bytes.
 fn with_lines(alloc: Global, front: Vec<u8>, signatures: &[Signature]) -> Result<Vec<u8>, Fault>
     ensures { let lines = written_lines (map parts signatures.now) in
-        GivesBy vec_items (before front.items lines) result }
+        NoteGivesBy vec_items (in_front_of front.items lines) result }
 {
     let mut out = front;
     for signature in signatures {
@@ -69,7 +69,8 @@ fn with_lines(alloc: Global, front: Vec<u8>, signatures: &[Signature]) -> Result
 /// `NoSignatures`; `TooMany`; of each signature in turn `Name`, or `Short` without a byte; `TooLong`. `Memory` at any
 /// time.
 pub fn write(alloc: Global, text: &str, signatures: &[Signature]) -> Result<Vec<u8>, Fault>
-    ensures { GivesBy vec_items (write_note (parts_of text.now (map parts signatures.now))) result }
+    ensures { NoteGivesBy vec_items (write_note (parts_of_note text.now (map parts signatures.now)))
+        result }
 {
     if !is_text(text) {
         return Err(Fault::NotText);
