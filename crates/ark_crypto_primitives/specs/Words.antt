@@ -26,7 +26,7 @@ pub use Rattle.jubjub.specs.Theorems.{QuotientsAreRight}
 -- Ed25519
 pub use Rattle.ed25519.specs.Signatures.{IsSignature, key_of as ed25519_key, signature_of as ed25519_signature}
 -- maps
-pub use Rattle.merkle_map.specs.Map.{Entry as MapEntry, HaveSame, IsMap, MapHashes, put as map_put, root_of as map_root}
+pub use Rattle.merkle_map.specs.Map.{Entry as MapEntry, HaveSame, IsMap, MapHashes, put as map_put, root_of_map as map_root}
 pub use Rattle.merkle_map.specs.Map.{value_at as map_value, without as map_without}
 pub use Rattle.merkle_map.specs.Kept.{IsShownIn, MapValue}
 pub use Rattle.merkle_map.specs.Shown.{BindsTree, Follows as MapFollows, Has as MapHas}

@@ -2,7 +2,7 @@
 use Rattle.std.proofs.Common.{◌≡◌, Bool, true, false, not, cond, if◌then◌else◌, List, [], ◌∷◌, Option, Some, None, refl, ap, sym, ◌∙◌, subst}
 use Rattle.std.proofs.lemmas.Slice.Eq.{bytes_eq-Decides}
 use Rattle.std.specs.Str.{bytes_eq}
-use Rattle.merkle_map.specs.Kept.{changed_key, giving, TakesBack}
+use Rattle.merkle_map.specs.Kept.{changed_key, giving, Undoes}
 use Rattle.merkle_map.specs.Map.{Key, Digest, Entry, HaveSame, value_at, without}
 use Rattle.merkle_map.specs.Transition.{ChangeSeen, Puts, Removes, changed_by}
 use Rattle.merkle_map.proofs.Entries.{gone}
@@ -46,7 +46,7 @@ given key (Some value) entries =
 
 -- a change, and then the one that gives its key what it had
 pub takes-back : (change : ChangeSeen) (old new : List Entry) → HaveSame new (changed_by change old)
-    → TakesBack old new (giving (changed_key change) (value_at (changed_key change) old))
+    → Undoes old new (giving (changed_key change) (value_at (changed_key change) old))
 takes-back change old new same = λ q. by_key q (bytes_eq (changed_key change) q) refl
   where
     by_key : (q : Key) (b : Bool) → bytes_eq (changed_key change) q ≡ b

@@ -5,9 +5,9 @@ use Rattle.std.specs.Str.{bytes_eq}
 use Rattle.ark_base.specs.declared.error.Error.{Error}
 use Rattle.ark_base.specs.Outcome.{◌>>=◌}
 use Rattle.ark_base.specs.Laws.Steps.{bind_ok, done_injective}
-use Rattle.merkle_map.specs.Map.{Key, Digest, Entry, Node, Nothing, Leaf, Pair, MapHashes, digest_of, bit_of, has_bit, side, node_of, key_bits, value_at}
+use Rattle.merkle_map.specs.Map.{Key, Digest, Entry, Node, Nothing, Leaf, Pair, MapHashes, digest_of, bit_of, has_bit, side, node_below, key_bits, value_at}
 use Rattle.merkle_map.specs.Way.{pair_on, way_node, way_root, is_end, value_in}
-use Rattle.merkle_map.specs.Binding.{along, CollidesAt, BindsValue}
+use Rattle.merkle_map.specs.Binding.{along, KeyCollidesAt, BindsValue}
 
 -- ---- nodes are the same or not
 
@@ -82,18 +82,18 @@ pub record IsPair (h : MapHashes) (bits level : ℕ) (entries : List Entry) (lef
   pub rest : ℕ
   pub bits_is : bits ≡ suc rest
   pub two : 2 ≤ length entries
-  pub left_is : (node_of h rest (suc level) (side false level entries) >>= digest_of h) ≡ Ok left
-  pub right_is : (node_of h rest (suc level) (side true level entries) >>= digest_of h) ≡ Ok right
+  pub left_is : (node_below h rest (suc level) (side false level entries) >>= digest_of h) ≡ Ok left
+  pub right_is : (node_below h rest (suc level) (side true level entries) >>= digest_of h) ≡ Ok right
 
 -- two entries or more have a pair
 two : (h : MapHashes) (bits level : ℕ) (x y : Entry) (more : List Entry) (node : Node)
-    → node_of h (suc bits) level (x ∷ y ∷ more) ≡ Ok node
+    → node_below h (suc bits) level (x ∷ y ∷ more) ≡ Ok node
     → (left : Digest) × (right : Digest) × (node ≡ Pair left right)
     × IsPair h (suc bits) level (x ∷ y ∷ more) left right
 two h bits level x y more node e =
     let entries : List Entry = x ∷ y ∷ more in
-    let low = node_of h bits (suc level) (side false level entries) in
-    let high = node_of h bits (suc level) (side true level entries) in
+    let low = node_below h bits (suc level) (side false level entries) in
+    let high = node_below h bits (suc level) (side true level entries) in
     let l = bind_ok low _ node e in
     let left = bind_ok (digest_of h l.0) _ node l.2 in
     let r = bind_ok high _ node left.2 in
@@ -112,7 +112,7 @@ two h bits level x y more node e =
     )
 
 pub node-nothing : (h : MapHashes) (bits level : ℕ) (entries : List Entry)
-    → node_of h bits level entries ≡ Ok Nothing → entries ≡ []
+    → node_below h bits level entries ≡ Ok Nothing → entries ≡ []
 node-nothing h bits level [] e = refl
 node-nothing h bits level (x ∷ []) e = absurd cc
 node-nothing h zero level (x ∷ y ∷ more) e = absurd cc
@@ -120,7 +120,7 @@ node-nothing h (suc bits) level (x ∷ y ∷ more) e =
     let t = two h bits level x y more Nothing e in let is = t.2 in absurd cc
 
 pub node-leaf : (h : MapHashes) (bits level : ℕ) (entries : List Entry) (entry : Entry)
-    → node_of h bits level entries ≡ Ok (Leaf entry) → entries ≡ entry ∷ []
+    → node_below h bits level entries ≡ Ok (Leaf entry) → entries ≡ entry ∷ []
 node-leaf h bits level [] entry e = absurd cc
 node-leaf h bits level (x ∷ []) entry e =
     let s : Leaf x ≡ Leaf entry = done_injective {E = Error} (Leaf x) (Leaf entry) e in
@@ -130,7 +130,7 @@ node-leaf h (suc bits) level (x ∷ y ∷ more) entry e =
     let t = two h bits level x y more (Leaf entry) e in let is = t.2 in absurd cc
 
 pub node-pair : (h : MapHashes) (bits level : ℕ) (entries : List Entry) (left right : Digest)
-    → node_of h bits level entries ≡ Ok (Pair left right) → IsPair h bits level entries left right
+    → node_below h bits level entries ≡ Ok (Pair left right) → IsPair h bits level entries left right
 node-pair h bits level [] left right e = absurd cc
 node-pair h bits level (x ∷ []) left right e = absurd cc
 node-pair h zero level (x ∷ y ∷ more) left right e = absurd cc
@@ -143,8 +143,8 @@ node-pair h (suc bits) level (x ∷ y ∷ more) left right e =
 
 -- the entries on the side where the first of two digests stands have that digest
 turn : (h : MapHashes) (bits level : ℕ) (entries : List Entry) (b : Bool) (own beside : Digest)
-    → node_of h bits level entries ≡ Ok (pair_on b own beside)
-    → (rest : ℕ) × (bits ≡ suc rest) × ((node_of h rest (suc level) (side b level entries) >>= digest_of h) ≡ Ok own)
+    → node_below h bits level entries ≡ Ok (pair_on b own beside)
+    → (rest : ℕ) × (bits ≡ suc rest) × ((node_below h rest (suc level) (side b level entries) >>= digest_of h) ≡ Ok own)
 turn h bits level entries true own beside e =
     let p = node-pair h bits level entries beside own e in (p.rest, p.bits_is, p.right_is)
 turn h bits level entries false own beside e =
@@ -162,10 +162,10 @@ drop-next (y ∷ ys) (suc n) x rest e = let next = drop-next ys n x rest e in (n
 module _ (h : MapHashes) (entries : List Entry) (key : Key) (siblings : List Digest) (end : Node) where
   abbrev pub Says : List Entry → Type 0
   Says below = (value_at key below ≡ value_in key end)
-      ⊎ ((level : ℕ) × CollidesAt h entries key siblings end level)
+      ⊎ ((level : ℕ) × KeyCollidesAt h entries key siblings end level)
 
   at_end : (bits level : ℕ) (below : List Entry) (node : Node) → end ≡ node → is_end node ≡ true
-      → node_of h bits level below ≡ Ok node → value_at key below ≡ value_in key end
+      → node_below h bits level below ≡ Ok node → value_at key below ≡ value_in key end
   at_end bits level below Nothing is ends e =
       ap (value_at key) (node-nothing h bits level below e) ∙ ap (value_in key) (sym is)
   at_end bits level below (Leaf entry) is ends e =
@@ -175,9 +175,9 @@ module _ (h : MapHashes) (entries : List Entry) (key : Key) (siblings : List Dig
   -- Both nodes of a level have one hash: so they are the same, or collide there.
   met : (level : ℕ) (given own : Node) (top : Digest) → level ≤ length siblings
       → way_node h key level (drop level siblings) end ≡ Ok given
-      → node_of h (key_bits - level) level (along key level entries) ≡ Ok own
+      → node_below h (key_bits - level) level (along key level entries) ≡ Ok own
       → digest_of h given ≡ Ok top → digest_of h own ≡ Ok top
-      → (own ≡ given) ⊎ CollidesAt h entries key siblings end level
+      → (own ≡ given) ⊎ KeyCollidesAt h entries key siblings end level
   met level given own top inside given_is own_is given_hash own_hash = elim (same_nodes given own) [
     | inl same ↦ inl (sym same)
     | inr differ ↦ inr (record {
@@ -195,10 +195,10 @@ module _ (h : MapHashes) (entries : List Entry) (key : Key) (siblings : List Dig
 
   from_level : is_end end ≡ true → (rest : List Digest) (level : ℕ) (top : Digest) → drop level siblings ≡ rest
       → level ≤ length siblings → (way_node h key level rest end >>= digest_of h) ≡ Ok top
-      → (node_of h (key_bits - level) level (along key level entries) >>= digest_of h) ≡ Ok top
+      → (node_below h (key_bits - level) level (along key level entries) >>= digest_of h) ≡ Ok top
       → Says (along key level entries)
   from_level ends [] level top is inside way tree =
-      let own = bind_ok (node_of h (key_bits - level) level (along key level entries)) (digest_of h) top tree in
+      let own = bind_ok (node_below h (key_bits - level) level (along key level entries)) (digest_of h) top tree in
       let here = ap (λ rest. way_node h key level rest end) is in
       elim (met level end own.0 top inside here own.1 way own.2) [
         | inr found ↦ inr (level, found)
@@ -206,7 +206,7 @@ module _ (h : MapHashes) (entries : List Entry) (key : Key) (siblings : List Dig
             (own.1 ∙ ap Ok same))
       ]
   from_level ends (beside ∷ rest) level top is inside way tree =
-      let own = bind_ok (node_of h (key_bits - level) level (along key level entries)) (digest_of h) top tree in
+      let own = bind_ok (node_below h (key_bits - level) level (along key level entries)) (digest_of h) top tree in
       let here = ap (λ rest. way_node h key level rest end) is in
       let given = bind_ok (way_node h key level (beside ∷ rest) end) (digest_of h) top way in
       let below = bind_ok (way_node h key (suc level) rest end) _ given.0 given.1 in
@@ -222,7 +222,7 @@ module _ (h : MapHashes) (entries : List Entry) (key : Key) (siblings : List Dig
             let bits : t.0 ≡ key_bits - suc level = omega (arith, t.1) in
             let lower = from_level ends rest (suc level) digest.0 next.0 next.1
             (ap (λ o. o >>= digest_of h) below.1 ∙ digest.1)
-            (ap (λ n. node_of h n (suc level) (along key (suc level) entries) >>= digest_of h) (sym bits) ∙ t.2) in
+            (ap (λ n. node_below h n (suc level) (along key (suc level) entries) >>= digest_of h) (sym bits) ∙ t.2) in
             elim lower [
               | inr found ↦ inr found
               | inl says ↦ inl (sym (value_at-side key level (along key level entries)) ∙ says)

@@ -10,15 +10,15 @@ use Rattle.ark_base.specs.Laws.Steps.{bind_ok, done_injective}
 use Rattle.merkle_map.specs.Map.{Key, Digest, Entry, Node, Nothing, Leaf, MapHashes, digest_of, bit_of, leaf_of, key_bits}
 use Rattle.merkle_map.specs.Tree.{Shape, Empty, One, Fork, Hidden, shape_digest, StandsAt}
 use Rattle.merkle_map.specs.Changes.{known_at, own_value}
-use Rattle.merkle_map.specs.Way.{pair_on, climb, verdict, verdict_from}
-use Rattle.merkle_map.specs.KeyProof.{EndSeen, AtNothing, AtOwn, AtOther, ProofSeen, proof_at, end_at, end_node, below, behind, behind_all, end_verdict, IsAccepted}
+use Rattle.merkle_map.specs.Way.{pair_on, climb_key, way_verdict, verdict_from}
+use Rattle.merkle_map.specs.KeyProof.{EndSeen, AtNothing, AtOwn, AtOther, ProofSeen, proof_at, end_at, end_node, below, with_digests_above, behind_all, end_verdict, IsKeyProofAccepted}
 use Rattle.merkle_map.proofs.Climb.{climb-refused}
 use Rattle.merkle_map.proofs.Places.{if_false}
 
 -- ---- digests behind others
 
 behind-twice : (a b : List Digest) (o : Outcome ProofSeen)
-    → behind_all (a ++ b) o ≡ (o >>= λ proof. Ok (behind a (behind b proof)))
+    → behind_all (a ++ b) o ≡ (o >>= λ proof. Ok (with_digests_above a (with_digests_above b proof)))
 behind-twice a b (Ok proof) =
     ap (λ (l : List Digest). Ok (record { end = proof.end; siblings = l })) (append_assoc a b proof.siblings)
 behind-twice a b (Err error) = refl
@@ -78,16 +78,16 @@ module _ (h : MapHashes) (key : Key) where
   climb-below : (level : ℕ) (shape : Shape) (proof : ProofSeen) (value : Option Digest)
       → proof_at h level key shape ≡ Ok proof
       → known_at level key shape ≡ Ok value
-      → climb h key level proof.siblings (end_digest value proof.end) ≡ shape_digest h shape
+      → climb_key h key level proof.siblings (end_digest value proof.end) ≡ shape_digest h shape
   climb-below level Empty proof value is known =
       let p = done_injective {E = Error} (record { end = AtNothing; siblings = [] }) proof is in
       let v = done_injective {E = Error} None value known in
-      ap (λ (p : ProofSeen). climb h key level p.siblings (end_digest value p.end)) (sym p)
+      ap (λ (p : ProofSeen). climb_key h key level p.siblings (end_digest value p.end)) (sym p)
       ∙ ap (λ (v : Option Digest). end_digest v AtNothing) (sym v)
   climb-below level (One entry) proof value is known =
       let p = done_injective {E = Error} (record { end = end_at key entry; siblings = [] }) proof is in
       let v = done_injective {E = Error} (own_value key entry) value known in
-      ap (λ (p : ProofSeen). climb h key level p.siblings (end_digest value p.end)) (sym p)
+      ap (λ (p : ProofSeen). climb_key h key level p.siblings (end_digest value p.end)) (sym p)
       ∙ ap (λ (v : Option Digest). end_digest v (end_at key entry)) (sym v) ∙ end_own entry
   climb-below level (Hidden digest) proof value is known = absurd cc
   climb-below level (Fork left right) proof value is known =
@@ -96,25 +96,25 @@ module _ (h : MapHashes) (key : Key) where
     where
       -- what leads to the key's side leads on to the fork
       up : (b : Bool) (side : Shape) (d : Digest) (p : ProofSeen) → bit_of level key ≡ b → below d p ≡ proof
-          → climb h key (suc level) p.siblings (end_digest value p.end) ≡ shape_digest h side
-          → climb h key level proof.siblings (end_digest value proof.end)
+          → climb_key h key (suc level) p.siblings (end_digest value p.end) ≡ shape_digest h side
+          → climb_key h key level proof.siblings (end_digest value proof.end)
           ≡ (shape_digest h side >>= λ own. digest_of h (pair_on b own d))
       up b side d p bit whole leads =
-          ap (λ (p : ProofSeen). climb h key level p.siblings (end_digest value p.end)) (sym whole)
+          ap (λ (p : ProofSeen). climb_key h key level p.siblings (end_digest value p.end)) (sym whole)
           ∙ ap (λ o. o >>= λ own. digest_of h (pair_on (bit_of level key) own d)) leads
           ∙ ap (λ (c : Bool). shape_digest h side >>= λ own. digest_of h (pair_on c own d)) bit
 
       by_bit : ((proof : ProofSeen) (value : Option Digest) → proof_at h (suc level) key left ≡ Ok proof
           → known_at (suc level) key left ≡ Ok value
-          → climb h key (suc level) proof.siblings (end_digest value proof.end) ≡ shape_digest h left)
+          → climb_key h key (suc level) proof.siblings (end_digest value proof.end) ≡ shape_digest h left)
           → ((proof : ProofSeen) (value : Option Digest) → proof_at h (suc level) key right ≡ Ok proof
           → known_at (suc level) key right ≡ Ok value
-          → climb h key (suc level) proof.siblings (end_digest value proof.end) ≡ shape_digest h right)
+          → climb_key h key (suc level) proof.siblings (end_digest value proof.end) ≡ shape_digest h right)
           → (b : Bool) → bit_of level key ≡ b
           → (if b then (shape_digest h left >>= λ d. proof_at h (suc level) key right >>= λ p. Ok (below d p))
           else (shape_digest h right >>= λ d. proof_at h (suc level) key left >>= λ p. Ok (below d p))) ≡ Ok proof
           → (if b then known_at (suc level) key right else known_at (suc level) key left) ≡ Ok value
-          → climb h key level proof.siblings (end_digest value proof.end) ≡ shape_digest h (Fork left right)
+          → climb_key h key level proof.siblings (end_digest value proof.end) ≡ shape_digest h (Fork left right)
       by_bit on_left on_right true bit is known =
           let parts = below-parts level left right proof is in
           up true right parts.0 parts.1 bit parts.4 (on_right parts.1 value parts.3 known)
@@ -158,7 +158,7 @@ module _ (h : MapHashes) (key : Key) where
           omega (arith, whole, on_left parts.1 parts.3)
 
   reaches : (root : Digest) (siblings : List Digest) (end : Node) (own : Outcome Digest) → digest_of h end ≡ own
-      → climb h key 0 siblings own ≡ Ok root → length siblings ≤ 256 → verdict h root key siblings end ≡ Ok true
+      → climb_key h key 0 siblings own ≡ Ok root → length siblings ≤ 256 → way_verdict h root key siblings end ≡ Ok true
   reaches root siblings end own is up long =
       if_false (nat_lt key_bits (length siblings)) (Ok false) (digest_of h end >>= verdict_from h root key siblings)
       (not_long (length siblings) long)
@@ -167,7 +167,7 @@ module _ (h : MapHashes) (key : Key) where
       not_long : (n : ℕ) → n ≤ 256 → nat_lt 256 n ≡ false
       not_long n within = le-ltb 256 n within
 
-      by_own : (own : Outcome Digest) → climb h key 0 siblings own ≡ Ok root
+      by_own : (own : Outcome Digest) → climb_key h key 0 siblings own ≡ Ok root
           → (own >>= verdict_from h root key siblings) ≡ Ok true
       by_own (Ok own) up = ap (λ o. o >>= λ top. Ok (bytes_eq top root)) up
           ∙ ap Ok ((bytes_eq-Decides root root).1 refl)
@@ -224,7 +224,7 @@ module _ (h : MapHashes) (key : Key) where
           subst (λ (p : ProofSeen). Fits value p.end) parts.4 (on_left parts.1 parts.3 known)
 
   pub accepts : (shape : Shape) (proof : ProofSeen) → StandsAt [] shape → proof_at h 0 key shape ≡ Ok proof
-      → IsAccepted h key shape proof
+      → IsKeyProofAccepted h key shape proof
   accepts shape proof stands is root value digest known =
       by_end proof.end value (fits-end 0 shape proof value is known) (climb-below 0 shape proof value is known ∙ digest)
     where
@@ -232,7 +232,7 @@ module _ (h : MapHashes) (key : Key) where
       short = let long = long-below [] 0 shape proof refl (omega arith) stands is in omega (arith, long)
 
       by_end : (end : EndSeen) (value : Option Digest) → Fits value end
-          → climb h key 0 proof.siblings (end_digest value end) ≡ Ok root
+          → climb_key h key 0 proof.siblings (end_digest value end) ≡ Ok root
           → end_verdict h root key proof.siblings end value ≡ Ok true
       by_end AtNothing None fits up = reaches root proof.siblings Nothing (digest_of h Nothing) refl up short
       by_end AtNothing (Some value) fits up = absurd fits
@@ -240,7 +240,7 @@ module _ (h : MapHashes) (key : Key) where
       by_end AtOwn (Some value) fits up =
           reaches root proof.siblings (leaf_of key value) (digest_of h (leaf_of key value)) refl up short
       by_end (AtOther entry) None fits up =
-          if_false (bytes_eq entry.key key) (Ok false) (verdict h root key proof.siblings
+          if_false (bytes_eq entry.key key) (Ok false) (way_verdict h root key proof.siblings
           (leaf_of entry.key entry.value)) fits
           ∙ reaches root proof.siblings (leaf_of entry.key entry.value) (digest_of h (Leaf entry)) refl up short
       by_end (AtOther entry) (Some value) fits up = absurd fits

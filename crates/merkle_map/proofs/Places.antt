@@ -3,7 +3,7 @@ use Rattle.std.proofs.Common.{suc, ◌≡◌, ℕ, ◌+◌, ◌<◌, Bool, true,
 use Rattle.ark_base.specs.Outcome.{Outcome, ◌>>=◌, AnswersBy}
 use Rattle.merkle_map.specs.Map.{Key, Entry, bit_of}
 use Rattle.merkle_map.specs.Tree.{Shape, Fork, way, StandsAt}
-use Rattle.merkle_map.specs.Changes.{known_at, with_value, losing, joined}
+use Rattle.merkle_map.specs.Changes.{known_at, with_value, losing, rejoined}
 use Rattle.merkle_map.proofs.Answered.{answers_on}
 use Rattle.merkle_map.proofs.Keys.{length-way}
 
@@ -38,11 +38,11 @@ module _ (level : ℕ) {whole left right : Shape} (fork : whole ≡ Fork left ri
 
   -- a key is removed from its side
   pub losing-on : (key : Key) (b : Bool) → bit_of level key ≡ b
-      → losing level key whole ≡ (if b then (losing (level + 1) key right >>= λ r. joined left r)
-      else (losing (level + 1) key left >>= λ l. joined l right))
+      → losing level key whole ≡ (if b then (losing (level + 1) key right >>= λ r. rejoined left r)
+      else (losing (level + 1) key left >>= λ l. rejoined l right))
   losing-on key b bit = ap (losing level key) fork
-      ∙ on_bit level (bit_of level key) b (λ n. losing n key right >>= λ r. joined left r)
-      (λ n. losing n key left >>= λ l. joined l right) bit
+      ∙ on_bit level (bit_of level key) b (λ n. losing n key right >>= λ r. rejoined left r)
+      (λ n. losing n key left >>= λ l. rejoined l right) bit
 
   -- a value is put into its key's side
   with-on : (own : Entry) (b : Bool) → bit_of level own.key ≡ b

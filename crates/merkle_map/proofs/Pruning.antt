@@ -6,8 +6,8 @@ use Rattle.ark_base.specs.Outcome.{Outcome, ◌>>=◌, AnswersBy}
 use Rattle.ark_base.specs.Laws.Steps.{bind_ok, done_injective}
 use Rattle.merkle_map.specs.Map.{Key, Digest, Entry, MapHashes, bit_of, has_bit, side}
 use Rattle.merkle_map.specs.Tree.{Shape, Empty, One, Fork, Hidden, shape_digest, Shows, weight, StandsAt, IsWhole}
-use Rattle.merkle_map.specs.Changes.{known_at, losing, joined, losing_known}
-use Rattle.merkle_map.specs.Pruned.{covered, aside, keys_with, pruned, Fits, IsAmong, CanLose}
+use Rattle.merkle_map.specs.Changes.{known_at, losing, rejoined, losing_known}
+use Rattle.merkle_map.specs.Pruned.{covered, aside, keys_with, pruned, FitsKeys, IsAmong, CanLose}
 use Rattle.merkle_map.proofs.Answered.{gives}
 use Rattle.merkle_map.proofs.Entries.{own_bit}
 use Rattle.merkle_map.proofs.Rest.{IsSeen, seen-losing}
@@ -15,7 +15,7 @@ use Rattle.merkle_map.proofs.Shows.{shows-digest}
 
 -- forks that stand on ways stand above the last bit
 pub stands-fits : (bits : List Bool) (level : ℕ) (shape : Shape) → length bits ≡ level → StandsAt bits shape
-    → Fits level shape
+    → FitsKeys level shape
 stands-fits bits level Empty long stands = tt
 stands-fits bits level (One entry) long stands = tt
 stands-fits bits level (Hidden digest) long stands = tt
@@ -171,7 +171,7 @@ module _ (h : MapHashes) where
       (Fork l.0 r)) n l.2 in
       moved (λ s. IsSeen (Ok s)) (Fork l.0 r.0) n r.2 tt
 
-  pub joined-ok : (l r : Shape) → IsSeen (Ok l) → IsSeen (Ok r) → IsOk (joined l r)
+  pub joined-ok : (l r : Shape) → IsSeen (Ok l) → IsSeen (Ok r) → IsOk (rejoined l r)
   joined-ok Empty Empty a b = refl
   joined-ok Empty (One f) a b = refl
   joined-ok Empty (Fork x y) a b = refl
@@ -186,11 +186,11 @@ module _ (h : MapHashes) where
   joined-ok (Fork v w) (Hidden d) a b = absurd b
   joined-ok (Hidden d) r a b = absurd a
 
-  ok-right : (l : Shape) (o : Outcome Shape) → IsSeen (Ok l) → IsSeen o → IsOk o → IsOk (o >>= λ r. joined l r)
+  ok-right : (l : Shape) (o : Outcome Shape) → IsSeen (Ok l) → IsSeen o → IsOk o → IsOk (o >>= λ r. rejoined l r)
   ok-right l (Ok r) a b ok = joined-ok l r a b
   ok-right l (Err e) a b ok = ok
 
-  ok-left : (r : Shape) (o : Outcome Shape) → IsSeen (Ok r) → IsSeen o → IsOk o → IsOk (o >>= λ l. joined l r)
+  ok-left : (r : Shape) (o : Outcome Shape) → IsSeen (Ok r) → IsSeen o → IsOk o → IsOk (o >>= λ l. rejoined l r)
   ok-left r (Ok l) a b ok = joined-ok l r b a
   ok-left r (Err e) a b ok = ok
 
@@ -213,8 +213,8 @@ module _ (h : MapHashes) where
       by_bit : (m n : Shape) → IsSeen (Ok m) → IsSeen (Ok n)
           → (IsAmong key (keys_with false level (k ∷ keys)) → IsOk (losing (suc level) key m))
           → (IsAmong key (keys_with true level (k ∷ keys)) → IsOk (losing (suc level) key n))
-          → (b : Bool) → bit_of level key ≡ b → IsOk (if b then (losing (suc level) key n >>= λ r. joined m r)
-          else (losing (suc level) key m >>= λ l. joined l n))
+          → (b : Bool) → bit_of level key ≡ b → IsOk (if b then (losing (suc level) key n >>= λ r. rejoined m r)
+          else (losing (suc level) key m >>= λ l. rejoined l n))
       by_bit m n on_m on_n on_left on_right true bit =
           ok-right m (losing (suc level) key n) on_m (seen-losing (suc level) key n)
           (on_right (among-filter (λ k. has_bit true level k) key (k ∷ keys) (own_bit true level key bit) among))

@@ -9,7 +9,7 @@ use Rattle.ark_base.specs.Laws.Steps.{bind_ok, done_injective}
 use Rattle.merkle_map.specs.Map.{Key, bit_of, has_bit}
 use Rattle.merkle_map.specs.Tree.{Shape, Empty, One, Fork, Hidden, way, weight, StandsAt}
 use Rattle.merkle_map.specs.Bytes.{spelled, string_read, entry_read, digest_read, tagged, tree_read, invalid, truncated, IsOf32, all_have, is_placed, tree_of_bytes, ReadsBack}
-use Rattle.merkle_map.specs.Pruned.{Fits}
+use Rattle.merkle_map.specs.Pruned.{FitsKeys}
 use Rattle.merkle_map.proofs.Places.{if_true, if_false}
 use Rattle.merkle_map.proofs.Pruning.{stands-fits}
 use Rattle.merkle_map.proofs.Wholes.{way-bit}
@@ -125,29 +125,30 @@ entry-found rest found e =
 
 pub read-fits : (depth level : ℕ) (bytes : List ℕ) (found : Found) → depth + level ≡ 256
     → tree_read depth bytes ≡ Ok found
-    → Fits level found.0
+    → FitsKeys level found.0
 read-fits depth level [] found sum e = none depth e
   where
-    none : (depth : ℕ) → tree_read depth [] ≡ Ok found → Fits level found.0
+    none : (depth : ℕ) → tree_read depth [] ≡ Ok found → FitsKeys level found.0
     none zero e = absurd cc
     none (suc depth) e = absurd cc
-read-fits zero level (tag ∷ rest) found sum e = by_tag (λ (f : Found). Fits level f.0) tag rest (Err invalid) found tt
-    (λ one. let f = entry-found rest found one in subst (λ (f : Found). Fits level f.0) f.4 tt) (λ two. absurd cc)
+read-fits zero level (tag ∷ rest) found sum e = by_tag (λ (f : Found). FitsKeys level f.0) tag rest (Err invalid) found
+    tt
+    (λ one. let f = entry-found rest found one in subst (λ (f : Found). FitsKeys level f.0) f.4 tt) (λ two. absurd cc)
     (λ hidden. let d = bind_ok (string_read rest) _ found hidden in
-    subst (λ (f : Found). Fits level f.0) (done_injective {E = Error} (Hidden d.0.0, d.0.1) found d.2) tt) e
+    subst (λ (f : Found). FitsKeys level f.0) (done_injective {E = Error} (Hidden d.0.0, d.0.1) found d.2) tt) e
 read-fits (suc depth) level (tag ∷ rest) found sum e =
-    by_tag (λ (f : Found). Fits level f.0) tag rest (sides_read depth rest) found tt
-    (λ one. let f = entry-found rest found one in subst (λ (f : Found). Fits level f.0) f.4 tt)
+    by_tag (λ (f : Found). FitsKeys level f.0) tag rest (sides_read depth rest) found tt
+    (λ one. let f = entry-found rest found one in subst (λ (f : Found). FitsKeys level f.0) f.4 tt)
     (λ two.
     let l = bind_ok (tree_read depth rest) _ found two in
     let r = bind_ok (tree_read depth l.0.1) (λ right. Ok (Fork l.0.0 right.0, right.1)) found l.2 in
-    subst (λ (f : Found). Fits level f.0) (done_injective {E = Error} (Fork l.0.0 r.0.0, r.0.1) found r.2) (
+    subst (λ (f : Found). FitsKeys level f.0) (done_injective {E = Error} (Fork l.0.0 r.0.0, r.0.1) found r.2) (
       omega (arith, sum),
       read-fits depth (suc level) rest l.0 (omega (arith, sum)) l.1,
       read-fits depth (suc level) l.0.1 r.0 (omega (arith, sum)) r.1,
     ))
     (λ hidden. let d = bind_ok (string_read rest) _ found hidden in
-    subst (λ (f : Found). Fits level f.0) (done_injective {E = Error} (Hidden d.0.0, d.0.1) found d.2) tt) e
+    subst (λ (f : Found). FitsKeys level f.0) (done_injective {E = Error} (Hidden d.0.0, d.0.1) found d.2) tt) e
 
 -- ---- what is read is spelled so
 
@@ -218,7 +219,8 @@ string-read-back value rest long =
     )) enough
     ∙ ap (λ (l : List ℕ). Ok (l, drop 32 (value ++ rest))) front ∙ ap (λ (l : List ℕ). Ok (value, l)) end
 
-pub read-back : (depth level : ℕ) (tree : Shape) (rest : List ℕ) → depth + level ≡ 256 → Fits level tree → IsOf32 tree
+pub read-back : (depth level : ℕ) (tree : Shape) (rest : List ℕ) → depth + level ≡ 256 → FitsKeys level tree
+    → IsOf32 tree
     → tree_read depth (spelled tree ++ rest) ≡ Ok (tree, rest)
 read-back zero level Empty rest sum fits sized = refl
 read-back (suc depth) level Empty rest sum fits sized = refl
@@ -283,7 +285,7 @@ agrees-next b bits (Fork l r) h e =
     let both = and_both (all_have b (length bits) l) (all_have b (length bits) r) e in
     (agrees-next b bits l h.0 both.0, agrees-next b bits r h.1 both.1)
 
-placed-stands : (bits : List Bool) (level : ℕ) (s : Shape) → length bits ≡ level → Agrees bits s → Fits level s
+placed-stands : (bits : List Bool) (level : ℕ) (s : Shape) → length bits ≡ level → Agrees bits s → FitsKeys level s
     → IsOf32 s
     → is_placed level s ≡ true → StandsAt bits s
 placed-stands bits level Empty long h fits sized e = tt
@@ -319,7 +321,7 @@ agrees-all (Fork l r) = (agrees-all l, agrees-all r)
 agrees-all (Hidden d) = tt
 
 -- a tree whose places were tested stands at the root
-pub tested-stands : (s : Shape) → Fits 0 s → IsOf32 s → is_placed 0 s ≡ true → StandsAt [] s
+pub tested-stands : (s : Shape) → FitsKeys 0 s → IsOf32 s → is_placed 0 s ≡ true → StandsAt [] s
 tested-stands s fits sized e = placed-stands [] 0 s refl (agrees-all s) fits sized e
 
 own_has : (b : Bool) (level : ℕ) (key : Key) → bit_of level key ≡ b → has_bit b level key ≡ true
@@ -395,10 +397,10 @@ bytes-stand bytes s sized e =
     (read-fits 256 0 bytes found.0 refl found.1)
   where
     by_tests : (found : Found) (placed left : Bool) → is_placed 0 found.0 ≡ placed
-        → (if placed then (if left then Err invalid else Ok found.0) else Err invalid) ≡ Ok s → Fits 0 found.0 →
+        → (if placed then (if left then Err invalid else Ok found.0) else Err invalid) ≡ Ok s → FitsKeys 0 found.0 →
         StandsAt [] s
     by_tests found false left t e fits = absurd cc
     by_tests found true true t e fits = absurd cc
     by_tests found true false t e fits =
         let same = done_injective {E = Error} found.0 s e in
-        tested-stands s (subst (Fits 0) same fits) sized (ap (is_placed 0) (sym same) ∙ t)
+        tested-stands s (subst (FitsKeys 0) same fits) sized (ap (is_placed 0) (sym same) ∙ t)

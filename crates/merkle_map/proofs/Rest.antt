@@ -6,7 +6,7 @@ use Rattle.ark_base.specs.Outcome.{Outcome, ◌>>=◌}
 use Rattle.ark_base.specs.Laws.Steps.{done_injective}
 use Rattle.merkle_map.specs.Map.{Key, bit_of}
 use Rattle.merkle_map.specs.Tree.{Shape, Empty, One, Fork, Hidden}
-use Rattle.merkle_map.specs.Changes.{joined, losing, is_alone, hides, Becomes}
+use Rattle.merkle_map.specs.Changes.{rejoined, losing, is_alone, hides, Becomes}
 use Rattle.merkle_map.specs.Rests.{rest_of, rest_beside}
 use Rattle.merkle_map.proofs.Places.{losing-on}
 
@@ -24,7 +24,7 @@ IsSeen (Ok (Fork left right)) = Unit {0}
 IsSeen (Ok (Hidden digest)) = ⊥
 IsSeen (Err error) = Unit {0}
 
-seen-joined : (left right : Shape) → IsSeen (joined left right)
+seen-joined : (left right : Shape) → IsSeen (rejoined left right)
 seen-joined Empty Empty = tt
 seen-joined Empty (One e) = tt
 seen-joined Empty (Fork a b) = tt
@@ -56,13 +56,13 @@ seen-losing level key (One entry) = by_test (bytes_eq entry.key key)
 seen-losing level key (Hidden d) = tt
 seen-losing level key (Fork left right) = by_test (bit_of level key)
   where
-    by_test : (b : Bool) → IsSeen (if b then (losing (suc level) key right >>= λ r. joined left r)
-        else (losing (suc level) key left >>= λ l. joined l right))
-    by_test true = seen-on (losing (suc level) key right) (λ r. joined left r) (λ r. seen-joined left r)
-    by_test false = seen-on (losing (suc level) key left) (λ l. joined l right) (λ l. seen-joined l right)
+    by_test : (b : Bool) → IsSeen (if b then (losing (suc level) key right >>= λ r. rejoined left r)
+        else (losing (suc level) key left >>= λ l. rejoined l right))
+    by_test true = seen-on (losing (suc level) key right) (λ r. rejoined left r) (λ r. seen-joined left r)
+    by_test false = seen-on (losing (suc level) key left) (λ l. rejoined l right) (λ l. seen-joined l right)
 
 -- the only error is that something is hidden
-joined-hides : (left right : Shape) (error : Error) → joined left right ≡ Err error → error ≡ hides
+joined-hides : (left right : Shape) (error : Error) → rejoined left right ≡ Err error → error ≡ hides
 joined-hides Empty Empty error e = absurd cc
 joined-hides Empty (One f) error e = absurd cc
 joined-hides Empty (Fork a b) error e = absurd cc
@@ -97,15 +97,15 @@ losing-hides level key (Fork left right) error e =
   where
     by_test : ((error : Error) → losing (suc level) key left ≡ Err error → error ≡ hides)
         → ((error : Error) → losing (suc level) key right ≡ Err error → error ≡ hides)
-        → (b : Bool) → (if b then (losing (suc level) key right >>= λ r. joined left r)
-        else (losing (suc level) key left >>= λ l. joined l right)) ≡ Err error → error ≡ hides
+        → (b : Bool) → (if b then (losing (suc level) key right >>= λ r. rejoined left r)
+        else (losing (suc level) key left >>= λ l. rejoined l right)) ≡ Err error → error ≡ hides
     by_test on_left on_right true e =
-        hides-on (losing (suc level) key right) (λ r. joined left r) on_right (λ r. joined-hides left r) error e
+        hides-on (losing (suc level) key right) (λ r. rejoined left r) on_right (λ r. joined-hides left r) error e
     by_test on_left on_right false e =
-        hides-on (losing (suc level) key left) (λ l. joined l right) on_left (λ l. joined-hides l right) error e
+        hides-on (losing (suc level) key left) (λ l. rejoined l right) on_left (λ l. joined-hides l right) error e
 
 beside_left : (left : Shape) (o : Outcome Shape) → IsSeen o
-    → rest_of (o >>= λ r. joined left r) ≡ rest_beside (rest_of o) (rest_of (Ok left))
+    → rest_of (o >>= λ r. rejoined left r) ≡ rest_beside (rest_of o) (rest_of (Ok left))
 beside_left left (Err e) seen = refl
 beside_left Empty (Ok Empty) seen = refl
 beside_left (One f) (Ok Empty) seen = refl
@@ -122,7 +122,7 @@ beside_left (Hidden d) (Ok (Fork x y)) seen = refl
 beside_left left (Ok (Hidden d)) seen = absurd seen
 
 beside_right : (right : Shape) (o : Outcome Shape) → IsSeen o
-    → rest_of (o >>= λ l. joined l right) ≡ rest_beside (rest_of o) (rest_of (Ok right))
+    → rest_of (o >>= λ l. rejoined l right) ≡ rest_beside (rest_of o) (rest_of (Ok right))
 beside_right right (Err e) seen = refl
 beside_right Empty (Ok Empty) seen = refl
 beside_right (One f) (Ok Empty) seen = refl
@@ -140,7 +140,7 @@ beside_right right (Ok (Hidden d)) seen = absurd seen
 
 -- ---- two sides are joined
 
-pub joined-right : (left right : Shape) → is_alone right left ≡ true → joined left right ≡ Ok right
+pub joined-right : (left right : Shape) → is_alone right left ≡ true → rejoined left right ≡ Ok right
 joined-right Empty Empty e = refl
 joined-right Empty (One f) e = refl
 joined-right Empty (Fork a b) e = absurd cc
@@ -158,7 +158,7 @@ joined-right (Hidden d) (One g) e = absurd cc
 joined-right (Hidden d) (Fork a b) e = absurd cc
 joined-right (Hidden d) (Hidden f) e = absurd cc
 
-pub joined-left : (left right : Shape) → is_alone left right ≡ true → joined left right ≡ Ok left
+pub joined-left : (left right : Shape) → is_alone left right ≡ true → rejoined left right ≡ Ok left
 joined-left Empty Empty e = refl
 joined-left (One f) Empty e = refl
 joined-left (Fork a b) Empty e = absurd cc
@@ -177,7 +177,7 @@ joined-left (Fork a b) (Hidden g) e = absurd cc
 joined-left (Hidden d) (Hidden g) e = absurd cc
 
 pub joined-both : (left right : Shape) → is_alone right left ≡ false → is_alone left right ≡ false
-    → Becomes (joined left right) (Fork left right)
+    → Becomes (rejoined left right) (Fork left right)
 joined-both Empty Empty p q = absurd cc
 joined-both Empty (One f) p q = absurd cc
 joined-both Empty (Fork a b) p q = refl
@@ -218,10 +218,10 @@ module _ (level : ℕ) {whole left right : Shape} (fork : whole ≡ Fork left ri
 
   pub becomes_side : (b : Bool) (between new : Shape) → bit_of level key ≡ b
       → Becomes (losing (level + 1) key (if b then right else left)) between
-      → Becomes (if b then joined left between else joined between right) new → Becomes (losing level key whole) new
+      → Becomes (if b then rejoined left between else rejoined between right) new → Becomes (losing level key whole) new
   becomes_side true between new bit lost join =
       subst (λ o. Becomes o new) (sym (losing-on level fork key true bit))
-      (becomes_on (losing (level + 1) key right) (λ r. joined left r) between new lost join)
+      (becomes_on (losing (level + 1) key right) (λ r. rejoined left r) between new lost join)
   becomes_side false between new bit lost join =
       subst (λ o. Becomes o new) (sym (losing-on level fork key false bit))
-      (becomes_on (losing (level + 1) key left) (λ l. joined l right) between new lost join)
+      (becomes_on (losing (level + 1) key left) (λ l. rejoined l right) between new lost join)

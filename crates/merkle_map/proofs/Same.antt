@@ -3,7 +3,7 @@ use Rattle.std.proofs.Common.{zero, suc, ◌≡◌, ℕ, Bool, true, false, cond
 use Rattle.std.proofs.lemmas.Slice.Eq.{bytes_eq-Decides}
 use Rattle.std.specs.Str.{bytes_eq}
 use Rattle.ark_base.specs.Outcome.{Outcome, ◌>>=◌}
-use Rattle.merkle_map.specs.Map.{Key, Digest, Entry, Node, Leaf, Pair, MapHashes, digest_of, has_bit, side, node_of, root_of, key_bits, value_at, IsMap, HaveSame}
+use Rattle.merkle_map.specs.Map.{Key, Digest, Entry, Node, Leaf, Pair, MapHashes, digest_of, has_bit, side, node_below, root_of_map, key_bits, value_at, IsMap, HaveSame}
 use Rattle.merkle_map.proofs.Entries.{map-filter}
 
 -- what a side has
@@ -70,7 +70,7 @@ not_two x y z more is same =
 
 module _ (h : MapHashes) where
   pub same-node : (bits level : ℕ) (xs ys : List Entry) → IsMap xs → IsMap ys → HaveSame xs ys
-      → node_of h bits level xs ≡ node_of h bits level ys
+      → node_below h bits level xs ≡ node_below h bits level ys
   same-node bits level [] [] mx my same = refl
   same-node bits level [] (y ∷ ys) mx my same = let a = same y.key in let b = first_has y ys in absurd cc
   same-node bits level (x ∷ xs) [] mx my same = let a = same x.key in let b = first_has x xs in absurd cc
@@ -85,7 +85,7 @@ module _ (h : MapHashes) where
   same-node (suc bits) level (x ∷ w ∷ more) (y ∷ z ∷ others) mx my same =
       let xs : List Entry = x ∷ w ∷ more in
       let ys : List Entry = y ∷ z ∷ others in
-      let at : Bool → List Entry → Outcome Node = λ b l. node_of h bits (suc level) (side b level l) in
+      let at : Bool → List Entry → Outcome Node = λ b l. node_below h bits (suc level) (side b level l) in
       let below = λ (b : Bool). same-node bits (suc level) (side b level xs) (side b level ys)
       (map-filter (λ e. has_bit b level e.key) xs mx) (map-filter (λ e. has_bit b level e.key) ys my)
       (side-same b level xs ys same) in
@@ -96,5 +96,5 @@ module _ (h : MapHashes) where
       (below true)
 
   -- the root is a function of what the map has
-  pub same-root : (xs ys : List Entry) → IsMap xs → IsMap ys → HaveSame xs ys → root_of h xs ≡ root_of h ys
+  pub same-root : (xs ys : List Entry) → IsMap xs → IsMap ys → HaveSame xs ys → root_of_map h xs ≡ root_of_map h ys
   same-root xs ys mx my same = ap (λ o. o >>= digest_of h) (same-node key_bits 0 xs ys mx my same)

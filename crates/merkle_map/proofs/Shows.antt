@@ -2,8 +2,8 @@
 use Rattle.std.proofs.Common.{suc, ◌≡◌, ℕ, ◌-◌, ◌<◌, ◌≤◌, ◌⊎◌, Bool, true, false, List, [], ◌∷◌, length, Ok, Err, arith, refl, ap, sym, ◌∙◌, inl, inr}
 use Rattle.ark_base.specs.Outcome.{Outcome, ◌>>=◌}
 use Rattle.ark_base.specs.Laws.Steps.{bind_ok}
-use Rattle.merkle_map.specs.Map.{Digest, Entry, Node, Nothing, Leaf, Pair, MapHashes, digest_of, side, node_of, key_bits}
-use Rattle.merkle_map.specs.Tree.{Shape, Empty, One, Fork, Hidden, shape_digest, digest_at, Shows, top_of, Collide, ShowsOrCollides}
+use Rattle.merkle_map.specs.Map.{Digest, Entry, Node, Nothing, Leaf, Pair, MapHashes, digest_of, side, node_below, key_bits}
+use Rattle.merkle_map.specs.Tree.{Shape, Empty, One, Fork, Hidden, shape_digest, digest_at, Shows, top_of, TopsCollide, ShowsOrCollides}
 use Rattle.merkle_map.proofs.Bound.{same_nodes, node-nothing, node-leaf, node-pair}
 
 module _ (h : MapHashes) where
@@ -11,14 +11,14 @@ module _ (h : MapHashes) where
 
   -- the digest of two entries or more
   digest-two : (bits level : ℕ) (entries : List Entry) → 2 ≤ length entries
-      → (node_of h (suc bits) level entries >>= digest_of h)
-      ≡ ((node_of h bits (suc level) (side false level entries) >>= digest_of h) >>= λ l.
-      (node_of h bits (suc level) (side true level entries) >>= digest_of h) >>= λ r. h.pair l r)
+      → (node_below h (suc bits) level entries >>= digest_of h)
+      ≡ ((node_below h bits (suc level) (side false level entries) >>= digest_of h) >>= λ l.
+      (node_below h bits (suc level) (side true level entries) >>= digest_of h) >>= λ r. h.pair l r)
   digest-two bits level [] two = absurd (omega arith)
   digest-two bits level (x ∷ []) two = absurd (omega arith)
   digest-two bits level (x ∷ y ∷ more) two =
-      of_nodes (node_of h bits (suc level) (side false level (x ∷ y ∷ more)))
-      (node_of h bits (suc level) (side true level (x ∷ y ∷ more)))
+      of_nodes (node_below h bits (suc level) (side false level (x ∷ y ∷ more)))
+      (node_below h bits (suc level) (side true level (x ∷ y ∷ more)))
     where
       right : (left : Digest) (r : Outcome Digest)
           → ((r >>= λ right. Ok (Pair left right)) >>= digest_of h) ≡ (r >>= λ right. h.pair left right)
@@ -51,7 +51,7 @@ module _ (h : MapHashes) where
   shows-digest level (Hidden digest) entries is = is
   shows-digest level (Fork left right) entries shown =
       let bits : key_bits - level ≡ suc (key_bits - suc level) = omega (arith, shown.0) in
-      ap (λ n. node_of h n level entries >>= digest_of h) bits
+      ap (λ n. node_below h n level entries >>= digest_of h) bits
       ∙ digest-two (key_bits - suc level) level entries shown.1
       ∙ ap (λ o. o >>= λ l. digest_at h (suc level) (side true level entries) >>= λ r. h.pair l r)
       (shows-digest (suc level) left (side false level entries) shown.2)
@@ -62,8 +62,8 @@ module _ (h : MapHashes) where
 
   -- both tops have one hash: so they are the same, or collide
   tops : (level : ℕ) (shape : Shape) (entries : List Entry) (given own : Node) (top : Digest)
-      → top_of h shape ≡ Ok given → node_of h (key_bits - level) level entries ≡ Ok own
-      → digest_of h given ≡ Ok top → digest_of h own ≡ Ok top → (own ≡ given) ⊎ Collide h level shape entries
+      → top_of h shape ≡ Ok given → node_below h (key_bits - level) level entries ≡ Ok own
+      → digest_of h given ≡ Ok top → digest_of h own ≡ Ok top → (own ≡ given) ⊎ TopsCollide h level shape entries
   tops level shape entries given own top given_is own_is given_hash own_hash = elim (same_nodes given own) [
     | inl same ↦ inl (sym same)
     | inr differ ↦ inr (record {
@@ -81,20 +81,20 @@ module _ (h : MapHashes) where
   pub shows-or_collides : (level : ℕ) (shape : Shape) (entries : List Entry) (top : Digest)
       → shape_digest h shape ≡ Ok top → digest_at h level entries ≡ Ok top → ShowsOrCollides h level shape entries
   shows-or_collides level Empty entries top given tree =
-      let own = bind_ok (node_of h (key_bits - level) level entries) (digest_of h) top tree in
+      let own = bind_ok (node_below h (key_bits - level) level entries) (digest_of h) top tree in
       elim (tops level Empty entries Nothing own.0 top refl own.1 given own.2) [
         | inr found ↦ inr ([], found)
         | inl same ↦ inl (node-nothing h (key_bits - level) level entries (own.1 ∙ ap Ok same))
       ]
   shows-or_collides level (One entry) entries top given tree =
-      let own = bind_ok (node_of h (key_bits - level) level entries) (digest_of h) top tree in
+      let own = bind_ok (node_below h (key_bits - level) level entries) (digest_of h) top tree in
       elim (tops level (One entry) entries (Leaf entry) own.0 top refl own.1 given own.2) [
         | inr found ↦ inr ([], found)
         | inl same ↦ inl (node-leaf h (key_bits - level) level entries entry (own.1 ∙ ap Ok same))
       ]
   shows-or_collides level (Hidden digest) entries top given tree = inl (tree ∙ sym given)
   shows-or_collides level (Fork left right) entries top given tree =
-      let own = bind_ok (node_of h (key_bits - level) level entries) (digest_of h) top tree in
+      let own = bind_ok (node_below h (key_bits - level) level entries) (digest_of h) top tree in
       let l = bind_ok (shape_digest h left) _ top given in
       let r = bind_ok (shape_digest h right) _ top l.2 in
       let top_is : top_of h (Fork left right) ≡ Ok (Pair l.0 r.0) =
@@ -107,7 +107,7 @@ module _ (h : MapHashes) where
             let bits : p.rest ≡ key_bits - suc level = omega (arith, p.bits_is) in
             let inside : level < key_bits = omega (arith, p.bits_is) in
             let at : Bool → ℕ → Outcome Digest =
-            λ b n. node_of h n (suc level) (side b level entries) >>= digest_of h in
+            λ b n. node_below h n (suc level) (side b level entries) >>= digest_of h in
             both level left right entries inside p.two
             (shows-or_collides (suc level) left (side false level entries) l.0 l.1
             (ap (at false) (sym bits) ∙ p.left_is))

@@ -6,7 +6,7 @@ use Rattle.ark_base.specs.Outcome.{◌>>=◌}
 use Rattle.ark_base.specs.Laws.Steps.{bind_ok, done_injective}
 use Rattle.merkle_map.specs.Map.{Key, Entry, bit_of, key_bits}
 use Rattle.merkle_map.specs.Tree.{Shape, Empty, One, Fork, Hidden, way, weight, IsKey, StandsAt}
-use Rattle.merkle_map.specs.Changes.{two_of, with_value, joined, losing}
+use Rattle.merkle_map.specs.Changes.{two_of, with_value, rejoined, losing}
 use Rattle.merkle_map.proofs.Keys.{length-way}
 use Rattle.merkle_map.proofs.Two.{two_holds}
 use Rattle.merkle_map.proofs.Answered.{gives}
@@ -166,7 +166,7 @@ higher b bits entry stands =
     (stands.0, rest b bits (bit_of (length bits) entry.key) (way (length bits) entry.key) stands.1)
 
 module _ (bits : List Bool) (inside : length bits < key_bits) where
-  joined-stands : (left right new : Shape) → joined left right ≡ Ok new → StandsAt (false ∷ bits) left
+  joined-stands : (left right new : Shape) → rejoined left right ≡ Ok new → StandsAt (false ∷ bits) left
       → StandsAt (true ∷ bits) right → StandsAt bits new
   joined-stands Empty Empty new is l r = subst (StandsAt bits) (done_injective {E = Error} Empty new is) tt
   joined-stands Empty (One e) new is l r =
@@ -210,13 +210,13 @@ losing-stands bits level key (Fork left right) new stands is = by_bit
   where
     by_bit : ((after : Shape) → losing (suc level) key left ≡ Ok after → StandsAt (false ∷ bits) after)
         → ((after : Shape) → losing (suc level) key right ≡ Ok after → StandsAt (true ∷ bits) after) → (b : Bool)
-        → (if b then (losing (suc level) key right >>= λ r. joined left r)
-        else (losing (suc level) key left >>= λ l. joined l right)) ≡ Ok new → StandsAt bits new
+        → (if b then (losing (suc level) key right >>= λ r. rejoined left r)
+        else (losing (suc level) key left >>= λ l. rejoined l right)) ≡ Ok new → StandsAt bits new
     by_bit on_left on_right true is =
-        let below = bind_ok (losing (suc level) key right) (λ r. joined left r) new is in
+        let below = bind_ok (losing (suc level) key right) (λ r. rejoined left r) new is in
         joined-stands bits stands.0 left below.0 new below.2 stands.2
         (on_right below.0 below.1)
     by_bit on_left on_right false is =
-        let below = bind_ok (losing (suc level) key left) (λ l. joined l right) new is in
+        let below = bind_ok (losing (suc level) key left) (λ l. rejoined l right) new is in
         joined-stands bits stands.0 below.0 right new below.2
         (on_left below.0 below.1) stands.3

@@ -8,7 +8,7 @@ use Rattle.ark_base.specs.Laws.Steps.{bind_ok, done_injective}
 use Rattle.std.specs.List.{filter}
 use Rattle.merkle_map.specs.Map.{Key, Entry, MapHashes, bit_of, has_bit, side, key_bits, without}
 use Rattle.merkle_map.specs.Tree.{Shape, Empty, One, Fork, Hidden, Shows}
-use Rattle.merkle_map.specs.Changes.{joined, losing}
+use Rattle.merkle_map.specs.Changes.{rejoined, losing}
 use Rattle.merkle_map.proofs.Answered.{gives}
 use Rattle.merkle_map.proofs.Entries.{side-without, other-without}
 
@@ -54,7 +54,7 @@ module _ (h : MapHashes) (level : ℕ) where
       (inside, omega (arith, two, few, many, both_sides level entries), l, r)
 
   -- what two sides show, they show together
-  pub joined-shows : (left right new : Shape) (entries : List Entry) → level < key_bits → joined left right ≡ Ok new
+  pub joined-shows : (left right new : Shape) (entries : List Entry) → level < key_bits → rejoined left right ≡ Ok new
       → Shows h (suc level) left (side false level entries) → Shows h (suc level) right (side true level entries)
       → Shows h level new entries
   joined-shows Empty Empty new entries inside is l r =
@@ -80,11 +80,11 @@ module _ (h : MapHashes) (level : ℕ) where
       (at_least (One e) (Fork a b) entries 0 2 inside (omega arith) (omega arith) r.1 l r)
   joined-shows (One e) (Hidden d) new entries inside is l r = absurd cc
   joined-shows (Fork a b) right new entries inside is l r =
-      let all : joined (Fork a b) right ≡ Ok (Fork (Fork a b) right) = forks a b right in
+      let all : rejoined (Fork a b) right ≡ Ok (Fork (Fork a b) right) = forks a b right in
       subst (λ s. Shows h level s entries) (done_injective {E = Error} (Fork (Fork a b) right) new (sym all ∙ is))
       (at_least (Fork a b) right entries 2 0 inside (omega arith) l.1 (omega arith) l r)
     where
-      forks : (a b right : Shape) → joined (Fork a b) right ≡ Ok (Fork (Fork a b) right)
+      forks : (a b right : Shape) → rejoined (Fork a b) right ≡ Ok (Fork (Fork a b) right)
       forks a b Empty = refl
       forks a b (One e) = refl
       forks a b (Fork c d) = refl
@@ -151,13 +151,14 @@ module _ (h : MapHashes) where
     where
       by_bit : Below level key entries false left → Below level key entries true right → (b : Bool)
           → bit_of level key ≡ b
-          → (if b then (losing (suc level) key right >>= λ r. joined left r)
-          else (losing (suc level) key left >>= λ l. joined l right)) ≡ Ok new → Shows h level new (without key entries)
+          → (if b then (losing (suc level) key right >>= λ r. rejoined left r)
+          else (losing (suc level) key left >>= λ l. rejoined l right)) ≡ Ok new
+          → Shows h level new (without key entries)
       by_bit on_left on_right true bit is =
-          let below = bind_ok (losing (suc level) key right) (λ r. joined left r) new is in
+          let below = bind_ok (losing (suc level) key right) (λ r. rejoined left r) new is in
           let sides = take-on h level true key left right below.0 entries bit shown (on_right below.0 below.1) in
           joined-shows h level left below.0 new (without key entries) shown.0 below.2 sides.0 sides.1
       by_bit on_left on_right false bit is =
-          let below = bind_ok (losing (suc level) key left) (λ l. joined l right) new is in
+          let below = bind_ok (losing (suc level) key left) (λ l. rejoined l right) new is in
           let sides = take-on h level false key left right below.0 entries bit shown (on_left below.0 below.1) in
           joined-shows h level below.0 right new (without key entries) shown.0 below.2 sides.0 sides.1

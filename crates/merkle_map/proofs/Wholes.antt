@@ -8,7 +8,7 @@ use Rattle.ark_base.specs.Outcome.{Outcome, ◌>>=◌, AnswersBy}
 use Rattle.ark_base.specs.Laws.Steps.{done_injective}
 use Rattle.merkle_map.specs.Map.{Key, Digest, Entry, MapHashes, bit_of, has_bit, side, key_bits, value_at, IsMap}
 use Rattle.merkle_map.specs.Tree.{Shape, Empty, One, Fork, Hidden, IsWhole, Shows, way, weight, StandsAt}
-use Rattle.merkle_map.specs.Changes.{known_at, two_of, with_value, joined, losing, losing_known, tree_without, outcome_with}
+use Rattle.merkle_map.specs.Changes.{known_at, two_of, with_value, rejoined, losing, losing_known, tree_without, outcome_with}
 use Rattle.merkle_map.specs.Shown.{Follows}
 use Rattle.merkle_map.specs.Whole.{entries_of, IsStoreOf, Stores, IsRootOf}
 use Rattle.merkle_map.proofs.Answered.{gives}
@@ -200,7 +200,7 @@ whole-seen (One e) whole = tt
 whole-seen (Fork l r) whole = tt
 whole-seen (Hidden d) whole = absurd whole
 
-whole-joined : (l r : Shape) → IsWhole l → IsWhole r → (n : Shape) × (joined l r ≡ Ok n) × IsWhole n
+whole-joined : (l r : Shape) → IsWhole l → IsWhole r → (n : Shape) × (rejoined l r ≡ Ok n) × IsWhole n
 whole-joined Empty Empty a b = (Empty, refl, tt)
 whole-joined Empty (One f) a b = (One f, refl, tt)
 whole-joined Empty (Fork x y) a b = (Fork Empty (Fork x y), refl, (tt, b))
@@ -229,12 +229,12 @@ losing-whole level key (Fork l r) whole =
   where
     by_bit : (n : Shape) × (losing (suc level) key l ≡ Ok n) × IsWhole n
         → (n : Shape) × (losing (suc level) key r ≡ Ok n) × IsWhole n
-        → (b : Bool) → (n : Shape) × ((if b then (losing (suc level) key r >>= λ r. joined l r)
-        else (losing (suc level) key l >>= λ l. joined l r)) ≡ Ok n) × IsWhole n
+        → (b : Bool) → (n : Shape) × ((if b then (losing (suc level) key r >>= λ r. rejoined l r)
+        else (losing (suc level) key l >>= λ l. rejoined l r)) ≡ Ok n) × IsWhole n
     by_bit a b true = let j = whole-joined l b.0 whole.0 b.2 in
-        (j.0, ap (λ o. o >>= λ r. joined l r) b.1 ∙ j.1, j.2)
+        (j.0, ap (λ o. o >>= λ r. rejoined l r) b.1 ∙ j.1, j.2)
     by_bit a b false = let j = whole-joined a.0 r a.2 whole.1 in
-        (j.0, ap (λ o. o >>= λ l. joined l r) a.1 ∙ j.1, j.2)
+        (j.0, ap (λ o. o >>= λ l. rejoined l r) a.1 ∙ j.1, j.2)
 
 without-whole : (key : Key) (s : Shape) → IsWhole s → (n : Shape) × (tree_without key s ≡ Ok n) × IsWhole n
 without-whole key s whole = by_known (known_at 0 key s) (whole-known plain 0 key s whole)

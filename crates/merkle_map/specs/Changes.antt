@@ -51,16 +51,16 @@ with_value level new (Hidden digest) = Err hides
 
 -- The tree of two sides, one of which may have lost an entry: an only entry stands alone. Beside one entry or none,
 -- what is hidden would have to be known.
-abbrev pub joined : Shape → Shape → Outcome Shape
-joined Empty Empty = Ok Empty
-joined Empty (One entry) = Ok (One entry)
-joined Empty (Hidden digest) = Err hides
-joined (One entry) Empty = Ok (One entry)
-joined (One entry) (Hidden digest) = Err hides
-joined (Hidden digest) Empty = Err hides
-joined (Hidden digest) (One entry) = Err hides
-joined (Hidden digest) (Hidden other) = Err hides
-joined left right = Ok (Fork left right)
+abbrev pub rejoined : Shape → Shape → Outcome Shape
+rejoined Empty Empty = Ok Empty
+rejoined Empty (One entry) = Ok (One entry)
+rejoined Empty (Hidden digest) = Err hides
+rejoined (One entry) Empty = Ok (One entry)
+rejoined (One entry) (Hidden digest) = Err hides
+rejoined (Hidden digest) Empty = Err hides
+rejoined (Hidden digest) (One entry) = Err hides
+rejoined (Hidden digest) (Hidden other) = Err hides
+rejoined left right = Ok (Fork left right)
 
 -- The tree is that of both sides, beside another that is empty.
 abbrev pub is_alone : Shape → Shape → Bool
@@ -72,7 +72,7 @@ is_alone tree beside = false
 abbrev pub collapsed : Shape → Outcome Shape
 collapsed Empty = Ok Empty
 collapsed (One entry) = Ok (One entry)
-collapsed (Fork left right) = joined left right
+collapsed (Fork left right) = rejoined left right
 collapsed (Hidden digest) = Ok (Hidden digest)
 
 -- the tree that has lost the entry of a key
@@ -80,8 +80,8 @@ abbrev pub losing : ℕ → Key → Shape → Outcome Shape
 losing level key Empty = Ok Empty
 losing level key (One entry) = Ok (if bytes_eq entry.key key then Empty else One entry)
 losing level key (Fork left right) = if bit_of level key
-    then (losing (suc level) key right >>= λ r. joined left r)
-    else (losing (suc level) key left >>= λ l. joined l right)
+    then (losing (suc level) key right >>= λ r. rejoined left r)
+    else (losing (suc level) key left >>= λ l. rejoined l right)
 losing level key (Hidden digest) = Err hides
 
 -- the tree that has lost the entry of a key, if it has one
@@ -92,8 +92,8 @@ losing_known key shape (Some value) = losing 0 key shape
 -- ---- whole trees
 
 -- the tree with a value at a key
-abbrev pub tree_with : Key → Digest → Shape → Outcome Shape
-tree_with key value shape = with_value 0 (entry_of key value) shape
+abbrev pub tree_with_value : Key → Digest → Shape → Outcome Shape
+tree_with_value key value shape = with_value 0 (entry_of key value) shape
 
 -- the tree without a key; one that has nothing at the key stays as it is
 abbrev pub tree_without : Key → Shape → Outcome Shape

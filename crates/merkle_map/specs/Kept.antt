@@ -2,7 +2,7 @@
 use Rattle.std.specs.Prelude.{◌≡◌, true, Option, Some, None, List, [], Ok}
 use Rattle.ark_base.specs.Outcome.{Outcome}
 use Rattle.merkle_map.specs.KeyProof.{ProofSeen, proof_verdict}
-use Rattle.merkle_map.specs.Map.{Digest, Entry, HaveSame, Key, MapHashes, root_of, value_at}
+use Rattle.merkle_map.specs.Map.{Digest, Entry, HaveSame, Key, MapHashes, root_of_map, value_at}
 use Rattle.merkle_map.specs.Transition.{ChangeSeen, Puts, Removes, changed_by}
 use Rattle.merkle_map.specs.Tree.{Fork, IsWhole, Shape, StandsAt, shape_digest}
 use Rattle.merkle_map.specs.Whole.{entries_of}
@@ -31,11 +31,11 @@ IsTopKept numbers h (Shown part) = IsKept numbers h part
 IsTopKept numbers h (Alone digest) = Unit {0}
 
 -- It is so of both sides.
-abbrev pub AreKept : {D : Type 0} → (D → Digest) → MapHashes → Part D → Type 0
-AreKept numbers h NoEntry = Unit {0}
-AreKept numbers h (OneEntry entry) = Unit {0}
-AreKept numbers h (TwoSides p left right digest) = IsKept numbers h left × IsKept numbers h right
-AreKept numbers h (Behind digest) = Unit {0}
+abbrev pub SidesAreKept : {D : Type 0} → (D → Digest) → MapHashes → Part D → Type 0
+SidesAreKept numbers h NoEntry = Unit {0}
+SidesAreKept numbers h (OneEntry entry) = Unit {0}
+SidesAreKept numbers h (TwoSides p left right digest) = IsKept numbers h left × IsKept numbers h right
+SidesAreKept numbers h (Behind digest) = Unit {0}
 
 -- The tree of a store: it stands at the root, hides nothing, and keeps digests that are right.
 pub record IsKeptStore {D : Type 0} (numbers : D → Digest) (h : MapHashes) (part : Part D) : Type 0 where
@@ -56,7 +56,7 @@ pub record IsTreeOf (entries : List Entry) (tree : Shape) : Type 0 where
 
 -- The map's root accepts the proof of what the map has at the key.
 abbrev pub IsShownIn : MapHashes → Key → List Entry → ProofSeen → Type 0
-IsShownIn h key entries proof = (root : Digest) → root_of h entries ≡ Ok root
+IsShownIn h key entries proof = (root : Digest) → root_of_map h entries ≡ Ok root
     → proof_verdict h root key (value_at key entries) proof ≡ Ok true
 
 -- ---- changes that can be taken back
@@ -72,5 +72,5 @@ giving key None = Removes key
 giving key (Some value) = Puts key value
 
 -- This change of the new map gives the old one.
-abbrev pub TakesBack : List Entry → List Entry → ChangeSeen → Type 0
-TakesBack old new change = HaveSame (changed_by change new) old
+abbrev pub Undoes : List Entry → List Entry → ChangeSeen → Type 0
+Undoes old new change = HaveSame (changed_by change new) old

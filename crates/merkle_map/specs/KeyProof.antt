@@ -5,7 +5,7 @@ use Rattle.ark_base.specs.Outcome.{Outcome, ◌>>=◌}
 use Rattle.merkle_map.specs.Map.{Key, Digest, Entry, Node, Nothing, Leaf, MapHashes, bit_of, leaf_of}
 use Rattle.merkle_map.specs.Tree.{Shape, Empty, One, Fork, Hidden, shape_digest}
 use Rattle.merkle_map.specs.Changes.{known_at, hides}
-use Rattle.merkle_map.specs.Way.{verdict, other_verdict}
+use Rattle.merkle_map.specs.Way.{way_verdict, other_verdict}
 use Rattle.merkle_map.specs.Binding.{BindsValue}
 use Rattle.merkle_map.specs.Parts.{entry_seen}
 use Rattle.merkle_map.specs.declared.proof.End.{End}
@@ -43,10 +43,10 @@ end_node key (Some value) end = leaf_of key value
 
 -- whether digests lead from this end to the root
 abbrev pub end_verdict : MapHashes → Digest → Key → List Digest → EndSeen → Option Digest → Outcome Bool
-end_verdict h root key siblings AtNothing None = verdict h root key siblings Nothing
+end_verdict h root key siblings AtNothing None = way_verdict h root key siblings Nothing
 end_verdict h root key siblings AtNothing (Some value) = Ok false
 end_verdict h root key siblings AtOwn None = Ok false
-end_verdict h root key siblings AtOwn (Some value) = verdict h root key siblings (leaf_of key value)
+end_verdict h root key siblings AtOwn (Some value) = way_verdict h root key siblings (leaf_of key value)
 end_verdict h root key siblings (AtOther entry) None = other_verdict h root key siblings entry.key entry.value
 end_verdict h root key siblings (AtOther entry) (Some value) = Ok false
 
@@ -75,21 +75,21 @@ proof_at h level key (Fork left right) = if bit_of level key
     else (shape_digest h right >>= λ digest. proof_at h (suc level) key left >>= λ proof. Ok (below digest proof))
 
 -- the proof with digests more above it
-abbrev pub behind : List Digest → ProofSeen → ProofSeen
-behind digests proof = record { end = proof.end; siblings = digests ++ proof.siblings }
+abbrev pub with_digests_above : List Digest → ProofSeen → ProofSeen
+with_digests_above digests proof = record { end = proof.end; siblings = digests ++ proof.siblings }
 
 -- A proof says that each map with the root has this at the key, or nodes collide at a level that is named.
 abbrev pub BindsBy : MapHashes → Digest → Key → Option Digest → ProofSeen → Type 0
 BindsBy h root key value proof = BindsValue h root key value proof.siblings (end_node key value proof.end)
 
 -- The tree's root accepts the proof of what the tree has at the key.
-abbrev pub IsAccepted : MapHashes → Key → Shape → ProofSeen → Type 0
-IsAccepted h key tree proof = (root : Digest) (value : Option Digest) → shape_digest h tree ≡ Ok root
+abbrev pub IsKeyProofAccepted : MapHashes → Key → Shape → ProofSeen → Type 0
+IsKeyProofAccepted h key tree proof = (root : Digest) (value : Option Digest) → shape_digest h tree ≡ Ok root
     → known_at 0 key tree ≡ Ok value → proof_verdict h root key value proof ≡ Ok true
 
 -- a tree's own proof with digests more above it
 abbrev pub behind_all : List Digest → Outcome ProofSeen → Outcome ProofSeen
-behind_all digests outcome = outcome >>= λ proof. Ok (behind digests proof)
+behind_all digests outcome = outcome >>= λ proof. Ok (with_digests_above digests proof)
 
 -- the proof of an end and these digests
 abbrev pub seen_with : {D : Type 0} → (D → Digest) → List Digest → End D → ProofSeen

@@ -65,21 +65,21 @@ digest_of h (Pair left right) = h.pair left right
 -- The node of the entries below a place: nothing, the only entry, or two digests. The first is that of the entries
 -- whose next bit is 0, the second that of those whose next bit is 1. The place lies some levels below the root, and so
 -- many bits are left: with none left, two entries have no node.
-abbrev pub node_of : MapHashes → ℕ → ℕ → List Entry → Outcome Node
-node_of h bits level [] = Ok Nothing
-node_of h bits level (entry ∷ []) = Ok (Leaf entry)
-node_of h zero level (first ∷ second ∷ rest) = Err (GenericError LengthOverflow)
-node_of h (suc bits) level (first ∷ second ∷ rest) = do
-  l ← node_of h bits (suc level) (side false level (first ∷ second ∷ rest))
+abbrev pub node_below : MapHashes → ℕ → ℕ → List Entry → Outcome Node
+node_below h bits level [] = Ok Nothing
+node_below h bits level (entry ∷ []) = Ok (Leaf entry)
+node_below h zero level (first ∷ second ∷ rest) = Err (GenericError LengthOverflow)
+node_below h (suc bits) level (first ∷ second ∷ rest) = do
+  l ← node_below h bits (suc level) (side false level (first ∷ second ∷ rest))
   left ← digest_of h l
-  r ← node_of h bits (suc level) (side true level (first ∷ second ∷ rest))
+  r ← node_below h bits (suc level) (side true level (first ∷ second ∷ rest))
   right ← digest_of h r
   Ok (Pair left right)
 
 -- the root of a map
-abbrev pub root_of : MapHashes → List Entry → Outcome Digest
-root_of h entries = do
-  node ← node_of h key_bits 0 entries
+abbrev pub root_of_map : MapHashes → List Entry → Outcome Digest
+root_of_map h entries = do
+  node ← node_below h key_bits 0 entries
   digest_of h node
 
 -- the node of one entry

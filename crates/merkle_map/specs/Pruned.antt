@@ -36,11 +36,11 @@ pruned h tops level (key ∷ keys) (Fork left right) =
     pruned h tops (suc level) (keys_with true level (key ∷ keys)) right >>= λ r. Ok (Fork l r)
 
 -- Forks stand above the last bit of a key.
-abbrev pub Fits : ℕ → Shape → Type 0
-Fits level Empty = Unit {0}
-Fits level (One entry) = Unit {0}
-Fits level (Fork left right) = (level < key_bits) × Fits (suc level) left × Fits (suc level) right
-Fits level (Hidden digest) = Unit {0}
+abbrev pub FitsKeys : ℕ → Shape → Type 0
+FitsKeys level Empty = Unit {0}
+FitsKeys level (One entry) = Unit {0}
+FitsKeys level (Fork left right) = (level < key_bits) × FitsKeys (suc level) left × FitsKeys (suc level) right
+FitsKeys level (Hidden digest) = Unit {0}
 
 -- The list has the key.
 abbrev pub IsAmong : Key → List Key → Type 0

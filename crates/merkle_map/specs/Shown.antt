@@ -2,7 +2,7 @@
 use Rattle.std.specs.Prelude.{◌≡◌, List, Bool, Option, Ok}
 use Rattle.std.specs.Str.{bytes_eq}
 use Rattle.ark_base.specs.Outcome.{Outcome, ◌>>=◌}
-use Rattle.merkle_map.specs.Map.{Key, Digest, Entry, MapHashes, IsMap, root_of, value_at}
+use Rattle.merkle_map.specs.Map.{Key, Digest, Entry, MapHashes, IsMap, root_of_map, value_at}
 use Rattle.merkle_map.specs.Tree.{Shape, Shows, ShowsOrCollides, shape_digest}
 
 -- Each map that the tree shows has this at the key.
@@ -22,4 +22,4 @@ has_digest h root shape = do
 
 -- The tree shows each map with this root, or collides with the map's own tree below bits that are named.
 abbrev pub BindsTree : MapHashes → Digest → Shape → Type 0
-BindsTree h root shape = (entries : List Entry) → root_of h entries ≡ Ok root → ShowsOrCollides h 0 shape entries
+BindsTree h root shape = (entries : List Entry) → root_of_map h entries ≡ Ok root → ShowsOrCollides h 0 shape entries

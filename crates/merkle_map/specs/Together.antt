@@ -5,8 +5,8 @@ use Rattle.merkle_map.specs.declared.hasher.HashedEntry.{HashedEntry}
 use Rattle.merkle_map.specs.declared.hasher.HashedPair.{HashedPair}
 
 -- The digest is the hash of the two.
-abbrev pub IsHashed : {D : Type 0} → (D → Digest) → MapHashes → HashedPair D → Type 0
-IsHashed numbers h pair = h.pair (numbers pair.left) (numbers pair.right) ≡ Ok (numbers pair.digest)
+abbrev pub IsHashedPair : {D : Type 0} → (D → Digest) → MapHashes → HashedPair D → Type 0
+IsHashedPair numbers h pair = h.pair (numbers pair.left) (numbers pair.right) ≡ Ok (numbers pair.digest)
 
 -- The digest is the hash of the key and the value.
 abbrev pub IsHashedEntry : {D : Type 0} → (D → Digest) → MapHashes → HashedEntry D → Type 0

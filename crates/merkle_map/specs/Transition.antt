@@ -1,9 +1,9 @@
 -- Changes of a map, and what a checked transition says.
 use Rattle.std.specs.Prelude.{◌≡◌, ◌⊎◌, List, [], ◌∷◌, Bool, false, if◌then◌else◌, Option, Some, None, Ok}
 use Rattle.ark_base.specs.Outcome.{Outcome, ◌>>=◌}
-use Rattle.merkle_map.specs.Map.{Key, Digest, Entry, MapHashes, root_of, IsMap, put, without}
+use Rattle.merkle_map.specs.Map.{Key, Digest, Entry, MapHashes, root_of_map, IsMap, put, without}
 use Rattle.merkle_map.specs.Tree.{Shape, CollidesBelow, shape_digest}
-use Rattle.merkle_map.specs.Changes.{tree_with, tree_without}
+use Rattle.merkle_map.specs.Changes.{tree_with_value, tree_without}
 use Rattle.merkle_map.specs.Shown.{has_digest}
 use Rattle.merkle_map.specs.declared.transition.Change.{Change}
 use Rattle.merkle_map.specs.declared.transition.Change.TheVariants.{Put, Remove}
@@ -30,7 +30,7 @@ changed_by_all (change ∷ changes) entries = changed_by_all changes (changed_by
 
 -- a tree after a change
 abbrev pub tree_after : ChangeSeen → Shape → Outcome Shape
-tree_after (Puts key value) tree = tree_with key value tree
+tree_after (Puts key value) tree = tree_with_value key value tree
 tree_after (Removes key) tree = tree_without key tree
 
 -- a tree after changes, the first one first
@@ -45,8 +45,8 @@ transition_verdict h old new changes tree = has_digest h old tree >>= λ is_old.
 
 -- Each map with the old root has the new one after the changes, or collides with the tree below bits that are named.
 abbrev pub LeadsTo : MapHashes → Digest → Digest → Shape → List ChangeSeen → Type 0
-LeadsTo h old new tree changes = (entries : List Entry) → IsMap entries → root_of h entries ≡ Ok old
-    → (root_of h (changed_by_all changes entries) ≡ Ok new)
+LeadsTo h old new tree changes = (entries : List Entry) → IsMap entries → root_of_map h entries ≡ Ok old
+    → (root_of_map h (changed_by_all changes entries) ≡ Ok new)
     ⊎ ((bits : List Bool) × CollidesBelow h 0 bits tree entries)
 
 -- a tree after changes, if it has this root

@@ -3,7 +3,7 @@ use Rattle.std.specs.Prelude.{◌≡◌, ◌≢◌, ◌⊎◌, ◌<◌, ◌≤�
 use Rattle.ark_base.specs.Outcome.{Outcome, ◌>>=◌}
 use Rattle.ark_base.specs.declared.error.Error.TheVariants.{GenericError}
 use Rattle.ark_base.specs.declared.error.Refusal.TheVariants.{LengthOverflow}
-use Rattle.merkle_map.specs.Map.{Key, Digest, Entry, Node, Nothing, Leaf, Pair, MapHashes, digest_of, bit_of, side, node_of, key_bits}
+use Rattle.merkle_map.specs.Map.{Key, Digest, Entry, Node, Nothing, Leaf, Pair, MapHashes, digest_of, bit_of, side, node_below, key_bits}
 
 -- a tree: of nothing, of one entry, of two sides, or hidden but for its digest
 pub data Shape : Type 0 where
@@ -61,7 +61,7 @@ StandsAt bits (Hidden digest) = Unit {0}
 -- the digest of the entries below a place some levels below the root
 abbrev pub digest_at : MapHashes → ℕ → List Entry → Outcome Digest
 digest_at h level entries = do
-  node ← node_of h (key_bits - level) level entries
+  node ← node_below h (key_bits - level) level entries
   digest_of h node
 
 -- A tree that stands some levels below the root shows these entries: what it does not hide is as in their own tree, and
@@ -86,11 +86,11 @@ top_of h (Fork left right) = do
 top_of h (Hidden digest) = Err (GenericError LengthOverflow)
 
 -- The top of a tree and that of the entries' own tree are two different nodes with one hash.
-pub record Collide (h : MapHashes) (level : ℕ) (shape : Shape) (entries : List Entry) : Type 0 where
+pub record TopsCollide (h : MapHashes) (level : ℕ) (shape : Shape) (entries : List Entry) : Type 0 where
   pub given : Node
   pub given_is : top_of h shape ≡ Ok given
   pub own : Node
-  pub own_is : node_of h (key_bits - level) level entries ≡ Ok own
+  pub own_is : node_below h (key_bits - level) level entries ≡ Ok own
   pub differ : given ≢ own
   pub common : Digest
   pub given_hash : digest_of h given ≡ Ok common
@@ -98,7 +98,7 @@ pub record Collide (h : MapHashes) (level : ℕ) (shape : Shape) (entries : List
 
 -- They collide below these bits.
 abbrev pub CollidesBelow : MapHashes → ℕ → List Bool → Shape → List Entry → Type 0
-CollidesBelow h level [] shape entries = Collide h level shape entries
+CollidesBelow h level [] shape entries = TopsCollide h level shape entries
 CollidesBelow h level (bit ∷ bits) (Fork left right) entries =
     CollidesBelow h (suc level) bits (if bit then right else left) (side bit level entries)
 CollidesBelow h level (bit ∷ bits) shape entries = ⊥

@@ -38,25 +38,25 @@ value_in key (Pair left right) = None
 -- ---- what a check answers
 
 -- the digest of a level of the way, from the digest of the end
-abbrev pub climb : MapHashes → Key → ℕ → List Digest → Outcome Digest → Outcome Digest
-climb h key level [] lowest = lowest
-climb h key level (beside ∷ rest) lowest = do
-  own ← climb h key (suc level) rest lowest
+abbrev pub climb_key : MapHashes → Key → ℕ → List Digest → Outcome Digest → Outcome Digest
+climb_key h key level [] lowest = lowest
+climb_key h key level (beside ∷ rest) lowest = do
+  own ← climb_key h key (suc level) rest lowest
   digest_of h (pair_on (bit_of level key) own beside)
 
 -- whether digests lead from the digest of an end to a root, or the first refusal
 abbrev pub verdict_from : MapHashes → Digest → Key → List Digest → Digest → Outcome Bool
 verdict_from h root key siblings own = do
-  top ← climb h key 0 siblings (Ok own)
+  top ← climb_key h key 0 siblings (Ok own)
   Ok (bytes_eq top root)
 
 -- whether a proof, of no more digests than a key has bits, leads from an end to a root; the first refusal is that of
 -- the end's hash
-abbrev pub verdict : MapHashes → Digest → Key → List Digest → Node → Outcome Bool
-verdict h root key siblings end = if nat_lt key_bits (length siblings) then Ok false else
+abbrev pub way_verdict : MapHashes → Digest → Key → List Digest → Node → Outcome Bool
+way_verdict h root key siblings end = if nat_lt key_bits (length siblings) then Ok false else
     (digest_of h end >>= verdict_from h root key siblings)
 
 -- the same of an entry of another key at the end: the key's own entry does not show that the key has none
 abbrev pub other_verdict : MapHashes → Digest → Key → List Digest → Key → Digest → Outcome Bool
 other_verdict h root key siblings other_key other_value = if bytes_eq other_key key then Ok false else
-    verdict h root key siblings (leaf_of other_key other_value)
+    way_verdict h root key siblings (leaf_of other_key other_value)

@@ -1,7 +1,7 @@
 -- Trees that hide nothing: stores.
 use Rattle.std.specs.Prelude.{◌≡◌, List, [], ◌∷◌, ◌++◌, IfErr, OnOk}
 use Rattle.ark_base.specs.Outcome.{Outcome, IsMemory}
-use Rattle.merkle_map.specs.Map.{Entry, MapHashes, HaveSame, root_of}
+use Rattle.merkle_map.specs.Map.{Entry, MapHashes, HaveSame, root_of_map}
 use Rattle.merkle_map.specs.Tree.{Shape, Empty, One, Fork, Hidden, IsWhole, shape_digest}
 
 -- the entries of a tree that hides nothing, by rising keys
@@ -23,4 +23,4 @@ Stores change old new result = IsWhole old
 
 -- The digest of a store is the root of its entries.
 abbrev pub IsRootOf : MapHashes → Shape → Type 0
-IsRootOf h tree = IsWhole tree → root_of h (entries_of tree) ≡ shape_digest h tree
+IsRootOf h tree = IsWhole tree → root_of_map h (entries_of tree) ≡ shape_digest h tree

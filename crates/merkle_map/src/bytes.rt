@@ -7,7 +7,7 @@ ghost use Rattle.merkle_map.specs.Changes.{entry_of};
 ghost use Rattle.merkle_map.specs.Kept.{IsKept};
 ghost use Rattle.merkle_map.specs.Map.{MapHashes};
 ghost use Rattle.merkle_map.specs.Parts.{shape};
-ghost use Rattle.merkle_map.specs.Pruned.{Fits};
+ghost use Rattle.merkle_map.specs.Pruned.{FitsKeys};
 ghost use Rattle.merkle_map.specs.Tree.{weight, Hidden, IsKey, One};
 
 use crate::key::has_bit;
@@ -180,7 +180,7 @@ fn weight_of(part: &Part<[u8; 32]>) -> usize
 // Returns whether each entry of a tree some levels below the root is on its key's way, and each fork above two entries or more,
 // or may be.
 fn is_placed(part: &Part<[u8; 32]>, level: usize) -> bool
-    requires { Fits level (shape itself part.now) }
+    requires { FitsKeys level (shape itself part.now) }
     ensures { result ≡ is_placed_in level (shape itself part.now) }
 {
     match part {

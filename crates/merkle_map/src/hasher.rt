@@ -3,7 +3,7 @@
 ghost use Rattle.std.specs.Prelude.{◌≡◌, All, IfOk, Ok};
 ghost use Rattle.ark_base.specs.Outcome.{AnswersBy};
 ghost use Rattle.merkle_map.specs.Map.{MapHashes, digest_of};
-ghost use Rattle.merkle_map.specs.Together.{IsHashed, IsHashedEntry};
+ghost use Rattle.merkle_map.specs.Together.{IsHashedPair, IsHashedEntry};
 ghost use Rattle.merkle_map.specs.Way.{pair_on};
 
 use ark_base::error::Error;
@@ -70,7 +70,7 @@ pub trait MapHasher<D: DigestItem> {
         alloc: Global,
         _couples: &[(&D, &D)],
     ) -> Result<Vec<HashedPair<D>>, Error>
-        ensures { IfOk result (λ made. All (IsHashed D.numbers (hashes self.now)) made.items) }
+        ensures { IfOk result (λ made. All (IsHashedPair D.numbers (hashes self.now)) made.items) }
     {
         Ok(Vec::new(alloc))
     }
@@ -79,7 +79,7 @@ pub trait MapHasher<D: DigestItem> {
 /// Hashes a digest and the one beside it, which stands left if the digest is the right one.
 ///
 /// Errors: those of the hash of pairs; `OutOfMemory`.
-pub fn hash_beside<D: DigestItem, T: MapHasher<D>>(
+pub fn hash_with_sibling<D: DigestItem, T: MapHasher<D>>(
     alloc: Global,
     hasher: &T,
     is_right: bool,

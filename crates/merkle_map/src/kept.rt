@@ -3,16 +3,16 @@
 
 ghost use Rattle.std.specs.Prelude.{◌≡◌, true, [], IfErr, IfOk, OnErr, OnOk, Ok};
 ghost use Rattle.ark_base.specs.Outcome.{AnswersBy, IsMemory};
-ghost use Rattle.merkle_map.specs.Kept.{changed_key, giving, IsKept, IsShownIn, IsTreeOf, TakesBack};
+ghost use Rattle.merkle_map.specs.Kept.{changed_key, giving, IsKept, IsShownIn, IsTreeOf, Undoes};
 ghost use Rattle.merkle_map.specs.KeyProof.{proof_at, proof_seen};
-ghost use Rattle.merkle_map.specs.Map.{put, root_of, value_at, without, HaveSame, IsMap};
+ghost use Rattle.merkle_map.specs.Map.{put, root_of_map, value_at, without, HaveSame, IsMap};
 ghost use Rattle.merkle_map.specs.Parts.{shape, value_seen};
 ghost use Rattle.merkle_map.specs.Transition.{change_seen, changed_by};
 ghost use Rattle.merkle_map.specs.Tree.{Shape, shape_digest};
 
 use crate::hasher::MapHasher;
-use crate::key::copy_of;
-use crate::part::{Entry, Part, find};
+use crate::key::copy_digest;
+use crate::part::{Entry, Part, find_entry};
 use crate::proof::{KeyProof, climb_down};
 use crate::put::put_in;
 use crate::remove::remove_from;
@@ -85,7 +85,7 @@ impl<D: DigestItem, T: MapHasher<D>> KeptMap<D, T> {
         // The map has no key twice.
         ensures once { IsMap self.now.entries }
     {
-        match find(&self.top, 0, key) {
+        match find_entry(&self.top, 0, key) {
             Ok(found) => found,
             Err(_) => None,
         }
@@ -122,7 +122,7 @@ impl<D: DigestItem, T: MapHasher<D>> KeptMap<D, T> {
     {
         match self.get(key) {
             Some(value) => {
-                let value = copy_of(alloc, value)?;
+                let value = copy_digest(alloc, value)?;
                 Ok(Change::Put { key: *key, value })
             }
             None => Ok(Change::Remove { key: *key }),
@@ -139,7 +139,7 @@ impl<D: DigestItem, T: MapHasher<D>> KeptMap<D, T> {
     {
         match change {
             Change::Put { key, value } => {
-                let value = copy_of(alloc, value)?;
+                let value = copy_digest(alloc, value)?;
                 self.insert(alloc, key, value)
             }
             Change::Remove { key } => {
@@ -158,7 +158,7 @@ impl<D: DigestItem, T: MapHasher<D>> KeptMap<D, T> {
             (changed_by (change_seen D.numbers change.now) self.old.entries)) }
 
         // With what is returned the map has what it had before.
-        ensures back { IfOk result (λ back. TakesBack self.old.entries self.new.entries
+        ensures back { IfOk result (λ back. Undoes self.old.entries self.new.entries
             (change_seen D.numbers back)) }
         ensures hasher { self.new.hasher ≡ self.old.hasher }
         ensures kept { OnErr result (self.new ≡ self.old) }
@@ -173,7 +173,7 @@ impl<D: DigestItem, T: MapHasher<D>> KeptMap<D, T> {
     ///
     /// Errors: those of the hashes, the lowest first, then the leftmost; `OutOfMemory`. What was hashed before is kept.
     pub fn root(&mut self, alloc: Global) -> Result<D, Error>
-        ensures root { AnswersBy D.numbers (root_of (T.hashes self.old.hasher) self.old.entries)
+        ensures root { AnswersBy D.numbers (root_of_map (T.hashes self.old.hasher) self.old.entries)
             result }
         ensures same { self.new ≡ self.old }
     {

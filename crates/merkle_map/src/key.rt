@@ -44,7 +44,7 @@ pub fn are_same_digests<D: DigestItem>(a: &D, b: &D) -> bool
 }
 
 // Copies a digest. The only error is `OutOfMemory`.
-pub fn copy_of<D: DigestItem>(alloc: Global, digest: &D) -> Result<D, Error>
+pub fn copy_digest<D: DigestItem>(alloc: Global, digest: &D) -> Result<D, Error>
     ensures { AnswersBy D.numbers (Ok (D.numbers digest.now)) result }
 {
     digest.duplicate(alloc)

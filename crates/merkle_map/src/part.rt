@@ -9,7 +9,7 @@ ghost use Rattle.merkle_map.specs.Parts.{entry_seen, found_seen, shape};
 ghost use Rattle.merkle_map.specs.Tree.{shape_digest, way, StandsAt, Fork as ForkOf, Hidden as HiddenOf, One as OneOf};
 
 use crate::hasher::MapHasher;
-use crate::key::{are_same_keys, bit_of, copy_of};
+use crate::key::{are_same_keys, bit_of, copy_digest};
 use ark_base::error::{Error, Refusal};
 use ark_base::serialize::DigestItem;
 use std::alloc::Global;
@@ -106,18 +106,18 @@ pub fn digest_of<D: DigestItem, T: MapHasher<D>>(
         Part::One { entry } => hasher.leaf(alloc, &entry.key, &entry.value),
         Part::Fork { sides } => {
             if let Some(digest) = &sides.digest {
-                return copy_of(alloc, digest);
+                return copy_digest(alloc, digest);
             }
             let l = digest_of(alloc, hasher, &sides.left)?;
             let r = digest_of(alloc, hasher, &sides.right)?;
             hasher.pair(alloc, &l, &r)
         }
-        Part::Hidden { digest } => copy_of(alloc, digest),
+        Part::Hidden { digest } => copy_digest(alloc, digest),
     }
 }
 
 // Returns what a tree some levels below the root has at a key. The error is that the tree hides it.
-pub fn find<'a, D: DigestItem>(
+pub fn find_entry<'a, D: DigestItem>(
     part: &'a Part<D>,
     level: usize,
     key: &[u8; 32],
@@ -137,9 +137,9 @@ pub fn find<'a, D: DigestItem>(
         Part::Fork { sides } => {
             let Sides { left, right, .. } = &**sides;
             if bit_of(key, level) {
-                find(right, level + 1, key)
+                find_entry(right, level + 1, key)
             } else {
-                find(left, level + 1, key)
+                find_entry(left, level + 1, key)
             }
         }
         Part::Hidden { .. } => Err(hidden()),

@@ -11,7 +11,7 @@ ghost use Rattle.merkle_map.specs.Tree.{way, StandsAt};
 
 use crate::bytes::{from_index, invalid};
 use crate::hasher::MapHasher;
-use crate::key::{are_same_keys, bit_of, copy_of};
+use crate::key::{are_same_keys, bit_of, copy_digest};
 use crate::part::{Entry, Part, Sides, digest_of, hidden};
 use crate::proof_bytes::{push_end, push_siblings, read_end, read_siblings};
 use crate::verify::{KEY_BITS, verify_absent, verify_other, verify_value};
@@ -45,7 +45,7 @@ fn end_of<D: DigestItem>(alloc: Global, key: &[u8; 32], entry: &Entry<D>) -> Res
     if are_same_keys(&entry.key, key) {
         return Ok(End::Own);
     }
-    let value = copy_of(alloc, &entry.value)?;
+    let value = copy_digest(alloc, &entry.value)?;
     Ok(End::Other {
         entry: Entry {
             key: entry.key,

@@ -6,10 +6,10 @@ ghost use Rattle.merkle_map.specs.Kept.{IsKept};
 ghost use Rattle.merkle_map.specs.Map.{MapHashes};
 ghost use Rattle.merkle_map.specs.Parts.{entry_seen, shape};
 ghost use Rattle.merkle_map.specs.Tree.{Hidden, One};
-ghost use Rattle.merkle_map.specs.Pruned.{aside, covered, keys_with, pruned, Fits};
+ghost use Rattle.merkle_map.specs.Pruned.{aside, covered, keys_with, pruned, FitsKeys};
 
 use crate::hasher::MapHasher;
-use crate::key::{copy_of, has_bit};
+use crate::key::{copy_digest, has_bit};
 use crate::part::{Entry, Part, behind, digest_of, fork, one};
 use ark_base::error::Error;
 use ark_base::serialize::DigestItem;
@@ -40,7 +40,7 @@ fn copy_of_entry<D: DigestItem>(alloc: Global, entry: &Entry<D>) -> Result<Part<
         result }
     ensures digests { IfOk result (λ new. (h : MapHashes) → IsKept D.numbers h new) }
 {
-    let value = copy_of(alloc, &entry.value)?;
+    let value = copy_digest(alloc, &entry.value)?;
     one(
         alloc,
         Entry {
@@ -51,11 +51,11 @@ fn copy_of_entry<D: DigestItem>(alloc: Global, entry: &Entry<D>) -> Result<Part<
 }
 
 // Copies a tree of which only the digest is known. The only error is `OutOfMemory`.
-fn copy_behind<D: DigestItem>(alloc: Global, digest: &D) -> Result<Part<D>, Error>
+fn hidden_copy<D: DigestItem>(alloc: Global, digest: &D) -> Result<Part<D>, Error>
     ensures copied { AnswersBy (shape D.numbers) (Ok (Hidden (D.numbers digest.now))) result }
     ensures digests { IfOk result (λ new. (h : MapHashes) → IsKept D.numbers h new) }
 {
-    let copy = copy_of(alloc, digest)?;
+    let copy = copy_digest(alloc, digest)?;
     behind(alloc, copy)
 }
 
@@ -78,7 +78,7 @@ fn cover<D: DigestItem, T: MapHasher<D>>(
             let digest = digest_of(alloc, hasher, part)?;
             behind(alloc, digest)
         }
-        Part::Hidden { digest } => copy_behind(alloc, digest),
+        Part::Hidden { digest } => hidden_copy(alloc, digest),
     }
 }
 
@@ -103,7 +103,7 @@ fn set_aside<D: DigestItem, T: MapHasher<D>>(
                 let r = cover(alloc, hasher, &sides.right)?;
                 fork(alloc, l, r)
             }
-            Part::Hidden { digest } => copy_behind(alloc, digest),
+            Part::Hidden { digest } => hidden_copy(alloc, digest),
         }
     } else {
         cover(alloc, hasher, part)
@@ -119,7 +119,7 @@ pub fn prune_in<D: DigestItem, T: MapHasher<D>>(
     level: usize,
     keys: &[[u8; 32]],
 ) -> Result<Part<D>, Error>
-    requires fits { Fits level (shape D.numbers part.now) }
+    requires fits { FitsKeys level (shape D.numbers part.now) }
     requires kept { IsKept D.numbers (T.hashes hasher.now) part.now }
     ensures pruned { AnswersBy (shape D.numbers) (pruned (T.hashes hasher.now) tops level keys.now
         (shape D.numbers part.now)) result }
@@ -138,6 +138,6 @@ pub fn prune_in<D: DigestItem, T: MapHasher<D>>(
             let r = prune_in(alloc, hasher, tops, &sides.right, level + 1, &on_right)?;
             fork(alloc, l, r)
         }
-        Part::Hidden { digest } => copy_behind(alloc, digest),
+        Part::Hidden { digest } => hidden_copy(alloc, digest),
     }
 }

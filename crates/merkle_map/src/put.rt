@@ -9,7 +9,7 @@ ghost use Rattle.merkle_map.specs.Map.{MapHashes, bit_of as bit_in};
 ghost use Rattle.merkle_map.specs.Parts.{entry_seen, shape};
 ghost use Rattle.merkle_map.specs.Tree.{way, Fork as ForkOf, IsKey, One as OneOf, StandsAt};
 
-use crate::key::{are_same_keys, bit_of, copy_of};
+use crate::key::{are_same_keys, bit_of, copy_digest};
 use crate::part::{Entry, Part, Sides, fork, hidden, one};
 use ark_base::error::Error;
 use ark_base::serialize::DigestItem;
@@ -86,7 +86,7 @@ fn apart_from<D: DigestItem>(
         (entry_seen D.numbers own) (entry_seen D.numbers other.now))) result }
     ensures kept { IfOk result (λ new. (h : MapHashes) → IsKept D.numbers h new) }
 {
-    let value = copy_of(alloc, &other.value)?;
+    let value = copy_digest(alloc, &other.value)?;
     let copy = Entry {
         key: other.key,
         value,

@@ -1,15 +1,15 @@
 //! A key is removed from a tree.
 
 ghost use Rattle.std.specs.Prelude.{◌≡◌, [], OnErr, Ok};
-ghost use Rattle.merkle_map.specs.Changes.{collapsed, is_alone, has_entry, joined, losing, outcome_with, tree_without, Becomes};
-ghost use Rattle.merkle_map.specs.Kept.{AreKept, IsKept};
+ghost use Rattle.merkle_map.specs.Changes.{collapsed, is_alone, has_entry, rejoined, losing, outcome_with, tree_without, Becomes};
+ghost use Rattle.merkle_map.specs.Kept.{SidesAreKept, IsKept};
 ghost use Rattle.merkle_map.specs.Map.{MapHashes};
 ghost use Rattle.merkle_map.specs.Parts.{shape};
 ghost use Rattle.merkle_map.specs.Rests.{is_hidden_rest, rest_of, rest_beside};
 ghost use Rattle.merkle_map.specs.Tree.{way, StandsAt};
 
 use crate::key::{are_same_keys, bit_of};
-use crate::part::{Part, Sides, find, hidden};
+use crate::part::{Part, Sides, find_entry, hidden};
 use ark_base::error::Error;
 use ark_base::serialize::DigestItem;
 use std::mem;
@@ -32,7 +32,7 @@ fn has_at<D: DigestItem>(part: &Part<D>, key: &[u8; 32]) -> Result<bool, Error>
     requires { StandsAt [] (shape D.numbers part.now) }
     ensures { has_entry key.now (shape D.numbers part.now) ≡ result }
 {
-    match find(part, 0, key)? {
+    match find_entry(part, 0, key)? {
         None => Ok(false),
         Some(_) => Ok(true),
     }
@@ -123,7 +123,7 @@ fn stands_alone<D: DigestItem>(part: &Part<D>, beside: &Part<D>) -> bool
 
 // Joins two sides, of which one may have lost an entry, if what is hidden does not decide what they are together.
 fn join<D: DigestItem>(mut sides: Box<Sides<D>>) -> Part<D>
-    ensures joined { Becomes (joined (shape D.numbers sides.value.left)
+    ensures joined { Becomes (rejoined (shape D.numbers sides.value.left)
         (shape D.numbers sides.value.right)) (shape D.numbers result) }
     ensures digests { (h : MapHashes) → IsKept D.numbers h sides.value.left
         → IsKept D.numbers h sides.value.right → IsKept D.numbers h result }
@@ -141,7 +141,8 @@ fn join<D: DigestItem>(mut sides: Box<Sides<D>>) -> Part<D>
 // Joins the two sides of a tree, of which one may have lost an entry.
 fn collapse<D: DigestItem>(part: &mut Part<D>)
     ensures joined { Becomes (collapsed (shape D.numbers part.old)) (shape D.numbers part.new) }
-    ensures digests { (h : MapHashes) → AreKept D.numbers h part.old → IsKept D.numbers h part.new }
+    ensures digests { (h : MapHashes) → SidesAreKept D.numbers h part.old
+        → IsKept D.numbers h part.new }
 {
     match mem::replace(part, Part::Empty) {
         Part::Empty => {}

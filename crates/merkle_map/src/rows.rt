@@ -32,7 +32,7 @@ fn push_row(
 
 // Hashes a tree, and writes the rows of what it does not hide behind others. Errors, which may leave some: those of the hashes,
 // the lowest first, the left one among equals; `OutOfMemory`.
-pub fn push_rows<T: MapHasher<[u8; 32]>>(
+pub fn push_tree_rows<T: MapHasher<[u8; 32]>>(
     alloc: Global,
     hasher: &T,
     part: &Part<[u8; 32]>,
@@ -49,8 +49,8 @@ pub fn push_rows<T: MapHasher<[u8; 32]>>(
             Ok(digest)
         }
         Part::Fork { sides } => {
-            let l = push_rows(alloc, hasher, &sides.left, rows)?;
-            let r = push_rows(alloc, hasher, &sides.right, rows)?;
+            let l = push_tree_rows(alloc, hasher, &sides.left, rows)?;
+            let r = push_tree_rows(alloc, hasher, &sides.right, rows)?;
             let digest = hasher.pair(alloc, &l, &r)?;
             push_row(&digest, 1, &l, &r, rows)?;
             Ok(digest)

@@ -4,11 +4,11 @@ ghost use Rattle.std.specs.Prelude.{◌≡◌, All, IfOk};
 ghost use Rattle.ark_base.specs.Outcome.{AnswersBy};
 ghost use Rattle.merkle_map.specs.Kept.{IsFor, IsKept};
 ghost use Rattle.merkle_map.specs.Parts.{shape};
-ghost use Rattle.merkle_map.specs.Together.{IsHashed, IsHashedEntry};
+ghost use Rattle.merkle_map.specs.Together.{IsHashedPair, IsHashedEntry};
 ghost use Rattle.merkle_map.specs.Tree.{shape_digest};
 
 use crate::hasher::{HashedEntry, HashedPair, MapHasher};
-use crate::key::{are_same_digests, are_same_keys, copy_of};
+use crate::key::{are_same_digests, are_same_keys, copy_digest};
 use crate::part::{Entry, Part, Sides};
 use ark_base::error::Error;
 use ark_base::serialize::DigestItem;
@@ -48,18 +48,18 @@ pub fn fill<D: DigestItem, T: MapHasher<D>>(
                 digest,
             } = &mut **sides;
             if let Some(digest) = digest {
-                return copy_of(alloc, digest);
+                return copy_digest(alloc, digest);
             }
             let l = fill(alloc, hasher, left)?;
             let r = fill(alloc, hasher, right)?;
             let own = hasher.pair(alloc, &l, &r)?;
-            let copy = copy_of(alloc, &own)?;
+            let copy = copy_digest(alloc, &own)?;
             *digest = Some(copy);
             Ok(own)
         }
         Part::Hidden { digest } => {
             let digest = &mut **digest;
-            copy_of(alloc, digest)
+            copy_digest(alloc, digest)
         }
     }
 }
@@ -168,7 +168,7 @@ fn gather<D: DigestItem, T: MapHasher<D>>(
         }
         Part::One { entry } => {
             let place = work.entries.len();
-            let value = copy_of(alloc, &entry.value)?;
+            let value = copy_digest(alloc, &entry.value)?;
             work.entries.push((entry.key, value))?;
             Ok(Source::Entry { place })
         }
@@ -179,7 +179,7 @@ fn gather<D: DigestItem, T: MapHasher<D>>(
                 digest,
             } = &**sides;
             if let Some(digest) = digest {
-                let digest = copy_of(alloc, digest)?;
+                let digest = copy_digest(alloc, digest)?;
                 return Ok(Source::Digest { digest });
             }
             if work.forks.len() >= MOST {
@@ -190,7 +190,7 @@ fn gather<D: DigestItem, T: MapHasher<D>>(
             push_task(on_left, on_right, work)
         }
         Part::Hidden { digest } => {
-            let digest = copy_of::<D>(alloc, digest)?;
+            let digest = copy_digest::<D>(alloc, digest)?;
             Ok(Source::Digest { digest })
         }
     }
@@ -246,7 +246,7 @@ fn hash_height<D: DigestItem, T: MapHasher<D>>(
     forks: &[HashedPair<D>],
     places: &mut [usize],
 ) -> Result<Vec<HashedPair<D>>, Error>
-    ensures { IfOk result (λ made. All (IsHashed D.numbers (T.hashes hasher.now)) made.items) }
+    ensures { IfOk result (λ made. All (IsHashedPair D.numbers (T.hashes hasher.now)) made.items) }
 {
     let mut run = Vec::new(alloc);
     let mut next = forks.len();
@@ -268,14 +268,14 @@ fn hash_height<D: DigestItem, T: MapHasher<D>>(
 }
 
 // Hashes the work, the lowest forks first. Errors: those of the hashes; `OutOfMemory`.
-fn hash_all<D: DigestItem, T: MapHasher<D>>(
+fn hash_work<D: DigestItem, T: MapHasher<D>>(
     alloc: Global,
     hasher: &T,
     work: &Work<D>,
 ) -> Result<Made<D>, Error>
     ensures entries { IfOk result (λ made. All (IsHashedEntry D.numbers (T.hashes hasher.now))
         made.entries.items) }
-    ensures forks { IfOk result (λ made. All (IsHashed D.numbers (T.hashes hasher.now))
+    ensures forks { IfOk result (λ made. All (IsHashedPair D.numbers (T.hashes hasher.now))
         made.forks.items) }
 {
     let entries = hash_entries(alloc, hasher, work)?;
@@ -311,7 +311,7 @@ fn entry_digest<D: DigestItem, T: MapHasher<D>>(
         return Ok(None);
     };
     if are_same_keys(&made.key, &entry.key) && are_same_digests(&made.value, &entry.value) {
-        let own = copy_of(alloc, &made.digest)?;
+        let own = copy_digest(alloc, &made.digest)?;
         return Ok(Some(own));
     }
     Ok(None)
@@ -326,7 +326,7 @@ fn pair_digest<D: DigestItem, T: MapHasher<D>>(
     forks: &[HashedPair<D>],
     place: usize,
 ) -> Result<Option<D>, Error>
-    requires { All (IsHashed D.numbers (T.hashes _hasher.now)) forks.now }
+    requires { All (IsHashedPair D.numbers (T.hashes _hasher.now)) forks.now }
     ensures { IfOk result (IsFor D.numbers ((T.hashes _hasher.now).pair (D.numbers left.now)
         (D.numbers right.now))) }
 {
@@ -334,7 +334,7 @@ fn pair_digest<D: DigestItem, T: MapHasher<D>>(
         return Ok(None);
     };
     if are_same_digests(&made.left, left) && are_same_digests(&made.right, right) {
-        let own = copy_of(alloc, &made.digest)?;
+        let own = copy_digest(alloc, &made.digest)?;
         return Ok(Some(own));
     }
     Ok(None)
@@ -351,7 +351,7 @@ fn scatter<D: DigestItem, T: MapHasher<D>>(
 ) -> Result<Option<D>, Error>
     requires kept { IsKept D.numbers (T.hashes hasher.now) part.old }
     requires entries { All (IsHashedEntry D.numbers (T.hashes hasher.now)) made.now.entries.items }
-    requires forks { All (IsHashed D.numbers (T.hashes hasher.now)) made.now.forks.items }
+    requires forks { All (IsHashedPair D.numbers (T.hashes hasher.now)) made.now.forks.items }
     ensures same { shape D.numbers part.new ≡ shape D.numbers part.old }
     ensures kept { IsKept D.numbers (T.hashes hasher.now) part.new }
     ensures digest { IfOk result (IsFor D.numbers (shape_digest (T.hashes hasher.now)
@@ -375,7 +375,7 @@ fn scatter<D: DigestItem, T: MapHasher<D>>(
                 digest,
             } = &mut **sides;
             if let Some(digest) = digest {
-                let digest = copy_of(alloc, digest)?;
+                let digest = copy_digest(alloc, digest)?;
                 return Ok(Some(digest));
             }
             if passed.forks >= made.places.len() {
@@ -396,14 +396,14 @@ fn scatter<D: DigestItem, T: MapHasher<D>>(
             let Some(own) = pair_digest(alloc, hasher, &l, &r, &made.forks, *place)? else {
                 return Ok(None);
             };
-            let copy = copy_of(alloc, &own)?;
+            let copy = copy_digest(alloc, &own)?;
             *digest = Some(copy);
             passed.kept = passed.kept.wrapping_add(1);
             Ok(Some(own))
         }
         Part::Hidden { digest } => {
             let digest = &mut **digest;
-            let copy = copy_of(alloc, digest)?;
+            let copy = copy_digest(alloc, digest)?;
             Ok(Some(copy))
         }
     }
@@ -426,7 +426,7 @@ fn pass<D: DigestItem, T: MapHasher<D>>(
         heights: 0,
     };
     gather(alloc, hasher, part, &mut work)?;
-    let made = hash_all(alloc, hasher, &work)?;
+    let made = hash_work(alloc, hasher, &work)?;
     if made.forks.len() < work.forks.len() {
         return Ok(false);
     }

@@ -8,19 +8,19 @@ ghost use Rattle.merkle_map.specs.Kept.{IsTopKept};
 ghost use Rattle.merkle_map.specs.KeyProof.{behind_all, proof_at, seen_with};
 ghost use Rattle.merkle_map.specs.Map.{MapHashes};
 ghost use Rattle.merkle_map.specs.Parts.{entry_seen, found_seen, shape, top_shape};
-ghost use Rattle.merkle_map.specs.Pruned.{pruned, Fits};
+ghost use Rattle.merkle_map.specs.Pruned.{pruned, FitsKeys};
 ghost use Rattle.merkle_map.specs.Rows.{rows_behind, rows_of};
 ghost use Rattle.merkle_map.specs.Tree.{shape_digest, IsKey, StandsAt};
 
 use crate::bytes::{push_hidden, write_part};
 use crate::hasher::MapHasher;
-use crate::key::copy_of;
-use crate::part::{Entry, Part, digest_of, find, hidden};
+use crate::key::copy_digest;
+use crate::part::{Entry, Part, digest_of, find_entry, hidden};
 use crate::proof::{End, climb_down};
 use crate::prune::prune_in;
 use crate::put::put_in;
 use crate::remove::remove_from;
-use crate::rows::push_rows;
+use crate::rows::push_tree_rows;
 use ark_base::error::Error;
 use ark_base::serialize::DigestItem;
 use std::alloc::Global;
@@ -41,7 +41,7 @@ pub fn find_top<'a, D: DigestItem>(top: &'a Top<D>, key: &[u8; 32]) -> Result<Op
         ≡ found_seen (λ value. D.numbers value.now) result }
 {
     match top {
-        Top::Shown { part } => find(part, 0, key),
+        Top::Shown { part } => find_entry(part, 0, key),
         Top::Digest { .. } => Err(hidden()),
     }
 }
@@ -89,7 +89,7 @@ pub fn digest_of_top<D: DigestItem, T: MapHasher<D>>(
 {
     match top {
         Top::Shown { part } => digest_of(alloc, hasher, part),
-        Top::Digest { digest } => copy_of(alloc, digest),
+        Top::Digest { digest } => copy_digest(alloc, digest),
     }
 }
 
@@ -101,7 +101,7 @@ pub fn prune_top<D: DigestItem, T: MapHasher<D>>(
     top: &Top<D>,
     keys: &[[u8; 32]],
 ) -> Result<Top<D>, Error>
-    requires fits { Fits 0 (top_shape D.numbers top.now) }
+    requires fits { FitsKeys 0 (top_shape D.numbers top.now) }
     requires kept { IsTopKept D.numbers (T.hashes hasher.now) top.now }
     ensures pruned { AnswersBy (top_shape D.numbers) (pruned (T.hashes hasher.now) tops 0 keys.now
         (top_shape D.numbers top.now)) result }
@@ -113,7 +113,7 @@ pub fn prune_top<D: DigestItem, T: MapHasher<D>>(
             Ok(Top::Shown { part })
         }
         Top::Digest { digest } => {
-            let digest = copy_of(alloc, digest)?;
+            let digest = copy_digest(alloc, digest)?;
             Ok(Top::Digest { digest })
         }
     }
@@ -152,7 +152,7 @@ pub fn write_top(top: &Top<[u8; 32]>, dest: &mut Vec<u8>) -> Result<(), Error>
     }
 }
 
-// As `push_rows`.
+// As `push_tree_rows`.
 pub fn push_rows_of_top<T: MapHasher<[u8; 32]>>(
     alloc: Global,
     hasher: &T,
@@ -163,7 +163,7 @@ pub fn push_rows_of_top<T: MapHasher<[u8; 32]>>(
         (rows_of (T.hashes hasher.now) (top_shape itself top.now))) result }
 {
     match top {
-        Top::Shown { part } => push_rows(alloc, hasher, part, rows),
+        Top::Shown { part } => push_tree_rows(alloc, hasher, part, rows),
         Top::Digest { digest } => Ok(*digest),
     }
 }

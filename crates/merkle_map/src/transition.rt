@@ -6,7 +6,7 @@ ghost use Rattle.merkle_map.specs.Shown.{Follows};
 ghost use Rattle.merkle_map.specs.Transition.{change_seen, changed_by, changed_by_all, tree_after, tree_after_all, changed_tree, transition_verdict, LeadsOn, LeadsTo};
 
 use crate::hasher::MapHasher;
-use crate::key::copy_of;
+use crate::key::copy_digest;
 use crate::tree::MapTree;
 use ark_base::error::Error;
 use ark_base::serialize::DigestItem;
@@ -34,7 +34,7 @@ fn change_tree<D: DigestItem>(
 {
     match change {
         Change::Put { key, value } => {
-            let value = copy_of(alloc, value)?;
+            let value = copy_digest(alloc, value)?;
             tree.insert(alloc, key, value)
         }
         Change::Remove { key } => tree.remove(key),

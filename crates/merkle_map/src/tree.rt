@@ -3,9 +3,9 @@
 ghost use Rattle.std.specs.Prelude.{◌≡◌, false, true, List, IfOk, OnOk, OnErr, Ok};
 ghost use Rattle.ark_base.specs.Outcome.{Answers, AnswersBy};
 ghost use Rattle.merkle_map.specs.Bytes.{spelled, tree_of_bytes, IsOf32, ReadsBack};
-ghost use Rattle.merkle_map.specs.Changes.{known_at, tree_with, tree_without, outcome_with};
-ghost use Rattle.merkle_map.specs.KeyProof.{proof_at, proof_seen, IsAccepted};
-ghost use Rattle.merkle_map.specs.Map.{Entry as EntryOf, put, root_of, without};
+ghost use Rattle.merkle_map.specs.Changes.{known_at, tree_with_value, tree_without, outcome_with};
+ghost use Rattle.merkle_map.specs.KeyProof.{proof_at, proof_seen, IsKeyProofAccepted};
+ghost use Rattle.merkle_map.specs.Map.{Entry as EntryOf, put, root_of_map, without};
 ghost use Rattle.merkle_map.specs.Parts.{found_seen, value_seen};
 ghost use Rattle.merkle_map.specs.Pruned.{pruned, CanLose, KnowsSame, ShowsSame};
 ghost use Rattle.merkle_map.specs.Rows.{rows_of};
@@ -90,7 +90,8 @@ impl<D: DigestItem> MapTree<D> {
     ///
     /// Errors, which leave the tree unchanged: `HIDDEN`: the tree hides the key's place; `OutOfMemory`.
     pub fn insert(&mut self, alloc: Global, key: &[u8; 32], value: D) -> Result<(), Error>
-        ensures changed { AnswersBy (λ _. self.new) (tree_with key.now (D.numbers value) self.old)
+        ensures changed { AnswersBy (λ _. self.new)
+            (tree_with_value key.now (D.numbers value) self.old)
             result }
         ensures kept { OnErr result (self.new ≡ self.old) }
 
@@ -126,7 +127,8 @@ impl<D: DigestItem> MapTree<D> {
 
         // It is the root of each map that the tree shows.
         ensures maps { (entries : List EntryOf) → Shows (T.hashes hasher.now) 0 self.now entries
-            → root_of (T.hashes hasher.now) entries ≡ shape_digest (T.hashes hasher.now) self.now }
+            → root_of_map (T.hashes hasher.now) entries
+            ≡ shape_digest (T.hashes hasher.now) self.now }
         ensures store { IsRootOf (T.hashes hasher.now) self.now }
     {
         digest_of_top(alloc, hasher, &self.top)
@@ -227,7 +229,8 @@ impl<D: DigestItem> MapTree<D> {
             self.now) result }
 
         // The tree's root accepts it.
-        ensures accepted { IfOk result (λ proof. IsAccepted (T.hashes hasher.now) key.now self.now
+        ensures accepted { IfOk result (λ proof. IsKeyProofAccepted (T.hashes hasher.now) key.now
+            self.now
             (proof_seen D.numbers proof)) }
     {
         let mut siblings = Vec::new(alloc);

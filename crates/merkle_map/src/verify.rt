@@ -4,9 +4,9 @@ ghost use Rattle.std.specs.Prelude.{◌≡◌, ◌≤◌, true, length, map, IfO
 ghost use Rattle.ark_base.specs.Outcome.{Answers};
 ghost use Rattle.merkle_map.specs.Binding.{BindsValue};
 ghost use Rattle.merkle_map.specs.Map.{Nothing, leaf_of};
-ghost use Rattle.merkle_map.specs.Way.{verdict, verdict_from, other_verdict};
+ghost use Rattle.merkle_map.specs.Way.{way_verdict, verdict_from, other_verdict};
 
-use crate::hasher::{MapHasher, hash_beside};
+use crate::hasher::{MapHasher, hash_with_sibling};
 use crate::key::{are_same_keys, bit_of};
 use ark_base::error::Error;
 use ark_base::serialize::DigestItem;
@@ -17,7 +17,7 @@ pub const KEY_BITS: usize = 256;
 
 // Returns whether digests lead from the digest of a way's end to a root. Errors: those of the hash of pairs, the lowest first;
 // `OutOfMemory`.
-fn leads_to<D: DigestItem, T: MapHasher<D>>(
+fn leads_to_root<D: DigestItem, T: MapHasher<D>>(
     alloc: Global,
     hasher: &T,
     root: &D,
@@ -32,7 +32,7 @@ fn leads_to<D: DigestItem, T: MapHasher<D>>(
     let mut level = siblings.len();
     'levels: while level > 0 {
         level -= 1;
-        own = hash_beside(alloc, hasher, bit_of(key, level), &own, &siblings[level])?;
+        own = hash_with_sibling(alloc, hasher, bit_of(key, level), &own, &siblings[level])?;
     }
     Ok(own == *root)
 }
@@ -48,14 +48,14 @@ fn leaf_leads_to<D: DigestItem, T: MapHasher<D>>(
     end_value: &D,
     siblings: &[D],
 ) -> Result<bool, Error>
-    ensures { Answers (verdict (T.hashes hasher.now) (D.numbers root.now) key.now
+    ensures { Answers (way_verdict (T.hashes hasher.now) (D.numbers root.now) key.now
         (map D.numbers siblings.now) (leaf_of end_key.now (D.numbers end_value.now))) result }
 {
     if siblings.len() > KEY_BITS {
         return Ok(false);
     }
     let own = hasher.leaf(alloc, end_key, end_value)?;
-    leads_to(alloc, hasher, root, key, own, siblings)
+    leads_to_root(alloc, hasher, root, key, own, siblings)
 }
 
 /// Returns whether the digests beside a key's way prove that a map with this root has a value at the key.
@@ -70,7 +70,7 @@ pub fn verify_value<D: DigestItem, T: MapHasher<D>>(
     value: &D,
     siblings: &[D],
 ) -> Result<bool, Error>
-    ensures answer { Answers (verdict (T.hashes hasher.now) (D.numbers root.now) key.now
+    ensures answer { Answers (way_verdict (T.hashes hasher.now) (D.numbers root.now) key.now
         (map D.numbers siblings.now) (leaf_of key.now (D.numbers value.now))) result }
 
     // In each map with this root the key has this value, or at some level of the key's way the proof and the map's own tree
@@ -91,14 +91,14 @@ fn nothing_leads_to<D: DigestItem, T: MapHasher<D>>(
     key: &[u8; 32],
     siblings: &[D],
 ) -> Result<bool, Error>
-    ensures { Answers (verdict (T.hashes hasher.now) (D.numbers root.now) key.now
+    ensures { Answers (way_verdict (T.hashes hasher.now) (D.numbers root.now) key.now
         (map D.numbers siblings.now) Nothing) result }
 {
     if siblings.len() > KEY_BITS {
         return Ok(false);
     }
     let own = hasher.nothing(alloc)?;
-    leads_to(alloc, hasher, root, key, own, siblings)
+    leads_to_root(alloc, hasher, root, key, own, siblings)
 }
 
 /// Returns whether the digests beside a key's way, which ends at no entry, prove that a map with this root has nothing at the
@@ -113,7 +113,7 @@ pub fn verify_absent<D: DigestItem, T: MapHasher<D>>(
     key: &[u8; 32],
     siblings: &[D],
 ) -> Result<bool, Error>
-    ensures answer { Answers (verdict (T.hashes hasher.now) (D.numbers root.now) key.now
+    ensures answer { Answers (way_verdict (T.hashes hasher.now) (D.numbers root.now) key.now
         (map D.numbers siblings.now) Nothing) result }
     ensures bound { IfOk result (λ accepted. accepted ≡ true
         → BindsValue (T.hashes hasher.now) (D.numbers root.now) key.now None

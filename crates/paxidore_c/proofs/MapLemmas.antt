@@ -4,7 +4,7 @@ use Rattle.ark_base.specs.declared.error.Error.{Error}
 use Rattle.ark_base.specs.Laws.Steps.{done_injective}
 use Rattle.ark_base.specs.Outcome.{Outcome, ◌>>=◌, AnswersBy}
 use Rattle.merkle_map.specs.Bytes.{invalid}
-use Rattle.merkle_map.specs.KeyProof.{ProofSeen, proof_verdict, IsAccepted}
+use Rattle.merkle_map.specs.KeyProof.{ProofSeen, proof_verdict, IsKeyProofAccepted}
 use Rattle.merkle_map.specs.Map.{Digest, Key, key_bits}
 use Rattle.merkle_map.specs.ProofBytes.{proof_bytes, proof_spelled, IsProofOf32}
 use Rattle.merkle_map.specs.Sha256.{sha256_map}
@@ -34,7 +34,7 @@ bytes-spelled proof bytes e = by_test (nat_lt key_bits (length proof.siblings)) 
 
 -- the bytes of a tree's own proof are accepted
 pub proved-bytes : {A : Type 0} (items : A → List ℕ) (key : Key) (given : Outcome Shape) (tree : Shape)
-    (proof : ProofSeen) (result : Outcome A) → given ≡ Ok tree → IsAccepted sha256_map key tree proof
+    (proof : ProofSeen) (result : Outcome A) → given ≡ Ok tree → IsKeyProofAccepted sha256_map key tree proof
     → AnswersBy items (proof_bytes sha256_map.nothing proof) result → IfOk result (λ _. IsProofOf32 proof)
     → IfOk result (λ bytes. IfOk given (IsProvedBy key (items bytes)))
 proved-bytes items key given tree proof (Err error) is accepts written sized = tt

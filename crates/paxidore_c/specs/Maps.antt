@@ -3,7 +3,7 @@ use Rattle.std.specs.Prelude.{◌≡◌, ℕ, nat_lt, not, List, [], ◌∷◌, 
 use Rattle.ark_base.specs.declared.error.Error.{Error}
 use Rattle.ark_base.specs.declared.error.Error.TheVariants.{OutOfMemory, IncorrectInputLength, NotPrimeOrder, GenericError, SerializationError as OfBytes}
 use Rattle.ark_base.specs.Outcome.{Outcome, ◌>>=◌}
-use Rattle.merkle_map.specs.Map.{Digest, Entry, Key, root_of}
+use Rattle.merkle_map.specs.Map.{Digest, Entry, Key, root_of_map}
 use Rattle.merkle_map.specs.Bytes.{tree_of_bytes}
 use Rattle.merkle_map.specs.Changes.{known_at}
 use Rattle.merkle_map.specs.KeyProof.{ProofSeen, proof_at, proof_verdict}
@@ -60,11 +60,12 @@ IsProvedBy key proof tree = (root : Digest) (value : Option Digest) → shape_di
 
 -- It is the root of each map that the tree shows.
 abbrev pub IsRootOfAll : Digest → Shape → Type 0
-IsRootOfAll root tree = (entries : List Entry) → Shows sha256_map 0 tree entries → root_of sha256_map entries ≡ Ok root
+IsRootOfAll root tree = (entries : List Entry) → Shows sha256_map 0 tree entries → root_of_map sha256_map entries
+    ≡ Ok root
 
 -- It is the root of the entries of a tree that hides nothing.
 abbrev pub IsRootOfStore : Digest → Shape → Type 0
-IsRootOfStore root tree = IsWhole tree → root_of sha256_map (entries_of tree) ≡ Ok root
+IsRootOfStore root tree = IsWhole tree → root_of_map sha256_map (entries_of tree) ≡ Ok root
 
 -- ---- changes
 

@@ -1,7 +1,7 @@
 use Rattle.std.proofs.Common.{ap, sym, ◌∙◌, subst}
 use Rattle.ark_base.specs.declared.error.Error.{Error}
 use Rattle.ark_base.specs.Laws.Steps.{done_injective}
-use Rattle.merkle_map.specs.Kept.{changed_key, giving, TakesBack}
+use Rattle.merkle_map.specs.Kept.{changed_key, giving, Undoes}
 use Rattle.merkle_map.specs.Map.{Key, value_at}
 use Rattle.merkle_map.specs.Transition.{change_seen}
 use Rattle.merkle_map.proofs.Back.{takes-back}
@@ -14,7 +14,7 @@ returns-clause-back g c =
     let new = c.make.new.self.entries in
     let change = change_seen numbers c.args.change.now in
     let own = giving (changed_key change) (value_at (changed_key change) old) in
-    subst (TakesBack old new)
+    subst (Undoes old new)
     (ap (λ (key : Key). giving key (value_at key old)) (sym c.key_of.ensures)
     ∙ done_injective {E = Error} (giving c.key_of.result.now (value_at c.key_of.result.now old))
     (change_seen numbers c.in_ok-back.back) c.in_ok-back.ensures)

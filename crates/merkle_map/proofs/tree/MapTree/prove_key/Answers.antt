@@ -1,5 +1,5 @@
 use Rattle.std.proofs.Common.{ap, sym, ◌∙◌, subst, map}
-use Rattle.merkle_map.specs.KeyProof.{proof_at, behind_all, proof_seen, IsAccepted}
+use Rattle.merkle_map.specs.KeyProof.{proof_at, behind_all, proof_seen, IsKeyProofAccepted}
 use Rattle.merkle_map.specs.Parts.{top_shape}
 use Rattle.merkle_map.proofs.OwnProof.{accepts, behind_none}
 use Rattle.merkle_map.proofs.tree.MapTree.prove_key.Goals as goal
@@ -13,7 +13,7 @@ returns-clause-accepted g c =
     let h = g.T.MapHasher.hashes c.args.hasher.now in
     let key = c.args.key.now in
     let old = top_shape numbers c.self.inside.top in
-    subst (λ s. IsAccepted h key s (proof_seen numbers
+    subst (λ s. IsKeyProofAccepted h key s (proof_seen numbers
     (record { end = c.in_ok-end.end; siblings = c.climb_top.new.siblings })))
     c.self.view_is
     (accepts h key old (proof_seen numbers

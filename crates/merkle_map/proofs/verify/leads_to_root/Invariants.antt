@@ -1,6 +1,6 @@
 use Rattle.std.proofs.Common.{◌≡◌, ◌≤◌, length, map, take, Ok}
-use Rattle.merkle_map.specs.Way.{climb}
-use Rattle.merkle_map.proofs.verify.leads_to.Given as goal
+use Rattle.merkle_map.specs.Way.{climb_key}
+use Rattle.merkle_map.proofs.verify.leads_to_root.Given as goal
 
 abbrev pub invariant-levels : goal.invariant-levels
 invariant-levels g l =
@@ -8,8 +8,8 @@ invariant-levels g l =
     let numbers = g.D.Numbered.numbers in
     record {
       inside : l.level ≤ length l.siblings;
-      whole : climb h l.key 0 (map numbers l.siblings) (Ok (numbers l.initial.own))
-          ≡ climb h l.key 0 (map numbers (take l.level l.siblings)) (Ok (numbers l.own));
+      whole : climb_key h l.key 0 (map numbers l.siblings) (Ok (numbers l.initial.own))
+          ≡ climb_key h l.key 0 (map numbers (take l.level l.siblings)) (Ok (numbers l.own));
     }
 
 abbrev pub decreases-levels : goal.decreases-levels

@@ -1,7 +1,7 @@
 use Rattle.std.proofs.Common.{◌-◌, arith, map}
 use Rattle.ark_base.proofs.Refusals.{passed_on}
 use Rattle.merkle_map.proofs.Climb.{climbed, refused, verdict-refused}
-use Rattle.merkle_map.proofs.verify.leads_to.Goals as goal
+use Rattle.merkle_map.proofs.verify.leads_to_root.Goals as goal
 
 pub returns-in_err-own : goal.returns-in_err-own
 returns-in_err-own g c =
