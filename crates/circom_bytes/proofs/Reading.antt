@@ -13,7 +13,7 @@ use Rattle.ark_sponge.proofs.TableRows.{take-front, drop-front}
 use Rattle.ark_wide_fields.specs.Laws.Montgomery.{kept_below, kept_made, kept_same}
 use Rattle.ark_wide_fields.specs.Moduli.{kept_as}
 use Rattle.circom_bytes.specs.declared.elements.ByteOrder.{ByteOrder}
-use Rattle.circom_bytes.specs.Elements.{element_in, elements_in, kept_bytes}
+use Rattle.circom_bytes.specs.Elements.{element_in, elements_of_bytes, kept_bytes}
 
 -- what is read behind others
 abbrev pub behind : List ℕ → Outcome (List ℕ) → Outcome (List ℕ)
@@ -26,29 +26,29 @@ behind-one done x (Err error) = refl
 
 -- one element more is read
 pub read_one : (p k : ℕ) (order : ByteOrder) (whole : Outcome (List ℕ)) (done rest part others : List ℕ) (x : ℕ)
-    → whole ≡ behind done (elements_in p order (suc k) rest) → part ≡ take 32 rest → others ≡ drop 32 rest
-    → element_in p order part ≡ Ok x → whole ≡ behind (done ++ x ∷ []) (elements_in p order k others)
-unfolding elements_in
+    → whole ≡ behind done (elements_of_bytes p order (suc k) rest) → part ≡ take 32 rest → others ≡ drop 32 rest
+    → element_in p order part ≡ Ok x → whole ≡ behind (done ++ x ∷ []) (elements_of_bytes p order k others)
+unfolding elements_of_bytes
 read_one p k order whole done rest part others x so_far is_part is_others is =
     let first : element_in p order (take 32 rest) ≡ Ok x = ap (element_in p order) (sym is_part) ∙ is in
     so_far
-    ∙ ap (λ r. behind done (r >>= λ y. elements_in p order k (drop 32 rest) >>= λ ys. Ok (y ∷ ys))) first
-    ∙ behind-one done x (elements_in p order k (drop 32 rest))
-    ∙ ap (λ t. behind (done ++ x ∷ []) (elements_in p order k t)) (sym is_others)
+    ∙ ap (λ r. behind done (r >>= λ y. elements_of_bytes p order k (drop 32 rest) >>= λ ys. Ok (y ∷ ys))) first
+    ∙ behind-one done x (elements_of_bytes p order k (drop 32 rest))
+    ∙ ap (λ t. behind (done ++ x ∷ []) (elements_of_bytes p order k t)) (sym is_others)
 
 -- an element is refused, and so all
 pub read_refused : (p k : ℕ) (order : ByteOrder) (whole : Outcome (List ℕ)) (done rest part : List ℕ) (error : Error)
-    → whole ≡ behind done (elements_in p order (suc k) rest) → part ≡ take 32 rest
+    → whole ≡ behind done (elements_of_bytes p order (suc k) rest) → part ≡ take 32 rest
     → element_in p order part ≡ Err error → whole ≡ Err error
-unfolding elements_in
+unfolding elements_of_bytes
 read_refused p k order whole done rest part error so_far is_part is =
     let first : element_in p order (take 32 rest) ≡ Err error = ap (element_in p order) (sym is_part) ∙ is in
-    so_far ∙ ap (λ r. behind done (r >>= λ y. elements_in p order k (drop 32 rest) >>= λ ys. Ok (y ∷ ys))) first
+    so_far ∙ ap (λ r. behind done (r >>= λ y. elements_of_bytes p order k (drop 32 rest) >>= λ ys. Ok (y ∷ ys))) first
 
 -- all are read
 pub read_all : (p : ℕ) (order : ByteOrder) (whole : Outcome (List ℕ)) (done rest : List ℕ)
-    → whole ≡ behind done (elements_in p order 0 rest) → whole ≡ Ok done
-unfolding elements_in
+    → whole ≡ behind done (elements_of_bytes p order 0 rest) → whole ≡ Ok done
+unfolding elements_of_bytes
 read_all p order whole done rest so_far = so_far ∙ ap Ok (append-nil done)
 
 -- ---- numbers as they are kept

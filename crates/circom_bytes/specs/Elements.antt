@@ -20,11 +20,11 @@ element_in p order bytes =
     if nat_lt number p then Ok number else Err (SerializationError InvalidData)
 
 -- the numbers of so many elements, one behind the other
-unfoldable pub elements_in : ℕ → ByteOrder → ℕ → List ℕ → Outcome (List ℕ)
-elements_in p order zero bytes = Ok []
-elements_in p order (suc count) bytes = do
+unfoldable pub elements_of_bytes : ℕ → ByteOrder → ℕ → List ℕ → Outcome (List ℕ)
+elements_of_bytes p order zero bytes = Ok []
+elements_of_bytes p order (suc count) bytes = do
   first ← element_in p order (take 32 bytes)
-  others ← elements_in p order count (drop 32 bytes)
+  others ← elements_of_bytes p order count (drop 32 bytes)
   Ok (first ∷ others)
 
 -- a number as 32 bytes in an order

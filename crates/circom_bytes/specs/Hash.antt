@@ -12,7 +12,7 @@ use Rattle.poseidon_grain.specs.Constants.{AreParameters, Asked, IsMatrixRefused
 use Rattle.poseidon_grain.specs.Defaults.{circom_rounds}
 use Rattle.circom_bytes.specs.declared.elements.ByteOrder.{ByteOrder}
 use Rattle.circom_bytes.specs.declared.elements.ByteOrder.TheVariants.{LittleEndian}
-use Rattle.circom_bytes.specs.Elements.{AreNoneKept, element_bytes, element_in, elements_in, kept_bytes}
+use Rattle.circom_bytes.specs.Elements.{AreNoneKept, element_bytes, element_in, elements_of_bytes, kept_bytes}
 use Rattle.circom_bytes.specs.Frame.{IsFrame, IsFrameFault, elements_part, shape_for, table_count, with_sum}
 
 -- the modulus of the scalar field of BN254
@@ -38,7 +38,7 @@ IsCircomRefused inputs = IsMatrixRefused (circom_asked inputs)
 
 -- the hash of so many elements that bytes in an order are
 abbrev pub elements_hashed : ℕ → (ℕ → ℕ → ℕ) → Parameters → ByteOrder → ℕ → List ℕ → Outcome (List ℕ)
-elements_hashed p sbox c order count bytes = elements_in p order count bytes >>= circom_outcome p sbox c
+elements_hashed p sbox c order count bytes = elements_of_bytes p order count bytes >>= circom_outcome p sbox c
 
 -- the hash of elements that bytes in an order are, in the same order
 abbrev pub hash_outcome : ByteOrder → Parameters → List ℕ → Outcome (List ℕ)

@@ -1,7 +1,7 @@
 //! Elements as bytes.
 
 ghost use Rattle.std.specs.Prelude.{◌≡◌, ◌*◌, ◌%◌, map, length, Ok, Err, MatchResult, IfOk};
-ghost use Rattle.circom_bytes.specs.Elements.{element_bytes, element_in, elements_in, ordered};
+ghost use Rattle.circom_bytes.specs.Elements.{element_bytes, element_in, elements_of_bytes, ordered};
 
 use ark_base::error::{Error, SerializationError};
 use ark_groups::ff::Field;
@@ -51,8 +51,9 @@ pub fn element_of<F: Field>(order: ByteOrder, bytes: &[u8]) -> Result<F, Error>
 pub fn read_elements<F: Field>(order: ByteOrder, bytes: &[u8], out: &mut [F]) -> Result<(), Error>
     requires { length bytes.now ≡ 32 * length out.old }
     ensures { MatchResult result
-        (λ _. elements_in F.MODULUS order (length out.old) bytes.now ≡ Ok (map F.value out.new))
-        (λ error. elements_in F.MODULUS order (length out.old) bytes.now ≡ Err error) }
+        (λ _. elements_of_bytes F.MODULUS order (length out.old) bytes.now
+        ≡ Ok (map F.value out.new))
+        (λ error. elements_of_bytes F.MODULUS order (length out.old) bytes.now ≡ Err error) }
 {
     let mut rest = bytes;
     for i in 0..out.len() {

@@ -48,7 +48,7 @@ pub fn count_for(inputs: usize) -> usize
 const BASE: u64 = 1099511628211;
 
 // Puts a digit behind a number.
-fn with_digit(number: u64, digit: u64) -> u64
+fn with_number_digit(number: u64, digit: u64) -> u64
     ensures { result ≡ with_digit number digit }
 {
     number.wrapping_mul(BASE).wrapping_add(digit)
@@ -60,18 +60,18 @@ fn with_words(number: u64, words: &[[u8; 8]]) -> u64
 {
     let mut sum = number;
     for i in 0..words.len() {
-        sum = with_digit(sum, u64::from_le_bytes(words[i]));
+        sum = with_number_digit(sum, u64::from_le_bytes(words[i]));
     }
     sum
 }
 
 // Puts bytes behind a number.
-fn with_bytes(number: u64, bytes: &[u8]) -> u64
+fn with_number_bytes(number: u64, bytes: &[u8]) -> u64
     ensures { result ≡ with_digits number bytes.now }
 {
     let mut sum = number;
     for i in 0..bytes.len() {
-        sum = with_digit(sum, bytes[i] as u64);
+        sum = with_number_digit(sum, bytes[i] as u64);
     }
     sum
 }
@@ -81,7 +81,7 @@ fn check_sum(bytes: &[u8]) -> [u8; 8]
     ensures { result ≡ check_sum bytes.now }
 {
     let (words, behind) = bytes.as_chunks::<8>();
-    with_bytes(with_words(0, words), behind).to_le_bytes()
+    with_number_bytes(with_words(0, words), behind).to_le_bytes()
 }
 
 /// Puts their check sum behind bytes.

@@ -1,6 +1,6 @@
 use Rattle.std.proofs.Common.{suc, ◌+◌, ◌-◌, [], ◌∷◌, length, map, take, Ok, sym, ap, ◌∙◌, arith}
 use Rattle.std.proofs.lemmas.List.{map-append, take_all, take_more_set}
-use Rattle.circom_bytes.specs.Elements.{elements_in}
+use Rattle.circom_bytes.specs.Elements.{elements_of_bytes}
 use Rattle.circom_bytes.proofs.Reading.{behind, read_all, read_one, read_refused}
 use Rattle.circom_bytes.proofs.elements.read_elements.Goals as goal
 
@@ -21,7 +21,7 @@ loop-i-preserved g c =
       same = λ k e. read_one p k c.args.order _ (map f (take i out)) c.loop-i.rest.now _ others (f x)
           (c.loop-i.invariant.same (suc k) (omega (arith, e))) c.split_at.ensures.front c.split_at.ensures.back
           c.in-Ok.ensures
-          ∙ ap (λ t. behind t (elements_in p c.args.order k others)) (sym more);
+          ∙ ap (λ t. behind t (elements_of_bytes p c.args.order k others)) (sym more);
       room = λ k e. omega (arith, e, c.loop-i.invariant.room (suc k) (omega (arith, e)), c.split_at.ensures.back_len);
     }
 
