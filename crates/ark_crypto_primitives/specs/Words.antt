@@ -55,7 +55,7 @@ pub use Rattle.ark_bowe_hopwood.specs.BoweHopwood.{AreDrawnSegments, AreSegments
 pub use Rattle.ark_bowe_hopwood.specs.BoweHopwood.{segments_hash, segments_outcome}
 pub use Rattle.ark_schemes.specs.Blake2s.{blake2s, blake2s_with}
 pub use Rattle.ark_schemes.specs.Hashers.{AloneHoldsText, HoldsText}
-pub use Rattle.ark_trees.specs.Rfc6962.{entry_hash, log_hashes, merkle_tree_hash as tree_hash_of_entries, node_hash}
+pub use Rattle.ark_trees.specs.Rfc6962.{entry_hash, log_hashes, tree_hash_of_entries, node_hash}
 pub use Rattle.ark_trees.specs.Rfc6962.{node_of}
 -- commitments, encryption and signatures
 pub use Rattle.ark_schemes.specs.Commitments.{blake2s_commitment}

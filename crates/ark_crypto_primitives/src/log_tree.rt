@@ -4,7 +4,7 @@ ghost use Rattle.std.specs.Prelude.{◌≡◌, length, map, IfOk, Ok};
 ghost use Rattle.ark_base.specs.Outcome.{AnswersBy};
 ghost use Rattle.ark_paths.specs.Index.{IsTreeSize, log2};
 ghost use Rattle.ark_paths.specs.Tree.{root_in, tree_of};
-ghost use Rattle.ark_trees.specs.Rfc6962.{merkle_tree_hash};
+ghost use Rattle.ark_trees.specs.Rfc6962.{tree_hash_of_entries};
 
 use ark_base::error::Error;
 use ark_merkle::{MerkleTree, Views};
@@ -20,7 +20,7 @@ pub fn log_tree(alloc: Global, entries: &[Vec<u8>]) -> Result<MerkleTree<Sha256L
 
     // Its root is the Merkle tree hash of the entries (RFC 6962, section 2.1).
     ensures root { let entries = map (λ entry. entry.items) entries.now in
-        let hash = merkle_tree_hash (log2 (length entries)) entries in
+        let hash = tree_hash_of_entries (log2 (length entries)) entries in
         IfOk result (λ tree. root_in (⟦<Sha256Log as Views>⟧.tree tree) ≡ Ok hash) }
 {
     let tree = MerkleTree::<Sha256Log>::new(alloc, &(), &(), entries)?;

@@ -8,14 +8,14 @@ use Rattle.ark_paths.specs.Index.{log2}
 use Rattle.ark_paths.specs.Pair.{Digest, HashPair}
 use Rattle.ark_paths.specs.Root.{Root, place, root, all_hashes, leaves_with_root}
 use Rattle.ark_paths.specs.Tree.{HashedTree, root_in, tree_of, with_hashes}
-use Rattle.ark_trees.specs.Rfc6962.{entry_hash, log_hashes, node_hash, merkle_tree_hash}
+use Rattle.ark_trees.specs.Rfc6962.{entry_hash, log_hashes, node_hash, tree_hash_of_entries}
 
 -- the hashes of a log
 abbrev pub log_pair : HashPair
 log_pair = record { bottom = λ a b. Ok (node_hash a b); upper = λ a b. Ok (node_hash a b) }
 
 place-log : (m : ℕ) (entries : List (List ℕ)) → length entries ≡ 2 ^ suc m → place log_pair m (map entry_hash entries)
-    ≡ Root (merkle_tree_hash (suc m) entries)
+    ≡ Root (tree_hash_of_entries (suc m) entries)
 place-log zero [] long = absurd (omega (arith, long))
 place-log zero (a ∷ []) long = absurd (omega (arith, long))
 place-log zero (a ∷ b ∷ entries) long = refl
@@ -36,16 +36,16 @@ above_zero n (suc k) some is = omega arith
 
 -- the root above the hashes of entries
 pub root-entries : (entries : List (List ℕ)) → 1 < length entries → length entries ≡ 2 ^ log2 (length entries)
-    → root log_pair (map entry_hash entries) ≡ Ok (merkle_tree_hash (log2 (length entries)) entries)
+    → root log_pair (map entry_hash entries) ≡ Ok (tree_hash_of_entries (log2 (length entries)) entries)
 root-entries entries some power =
     let level = above_zero (length entries) (log2 (length entries)) some power in
     let top = place-log (log2 (length entries) - 1) entries (power ∙ ap (λ (k : ℕ). 2 ^ k) level) in
-    rw (length-map entries entry_hash, top) (ap (λ (k : ℕ). Ok (merkle_tree_hash k entries)) (sym level))
+    rw (length-map entries entry_hash, top) (ap (λ (k : ℕ). Ok (tree_hash_of_entries k entries)) (sym level))
 
 -- the root of the tree above leaves that are entries
 pub root-log : {A : Type 0} (bytes : A → List ℕ) (leaves : List A) (tree : HashedTree A) → tree_of (log_hashes bytes)
     leaves ≡ Ok tree → 1 < length leaves → length tree.leaves ≡ 2 ^ log2 (length tree.leaves) → root_in tree
-    ≡ Ok (merkle_tree_hash (log2 (length (map bytes leaves))) (map bytes leaves))
+    ≡ Ok (tree_hash_of_entries (log2 (length (map bytes leaves))) (map bytes leaves))
 root-log {A} bytes leaves tree made some power =
     let hashes = log_hashes bytes in
     let entries = map bytes leaves in
@@ -60,5 +60,5 @@ root-log {A} bytes leaves tree made some power =
     let of_digests : length digests ≡ 2 ^ log2 (length digests) =
     subst (λ (t : HashedTree A). length t.leaves ≡ 2 ^ log2 (length t.leaves)) (sym is) power in
     let of_entries : length entries ≡ 2 ^ log2 (length entries) = subst (λ (n : ℕ). n ≡ 2 ^ log2 n) count of_digests in
-    subst (λ (t : HashedTree A). root_in t ≡ Ok (merkle_tree_hash (log2 (length entries)) entries)) is
+    subst (λ (t : HashedTree A). root_in t ≡ Ok (tree_hash_of_entries (log2 (length entries)) entries)) is
     (root-entries entries (omega (arith, some, length-map leaves bytes)) of_entries)

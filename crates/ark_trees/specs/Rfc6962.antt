@@ -25,7 +25,7 @@ log_hashes bytes = record {
 
 -- the Merkle tree hash of RFC 6962 of a power of two of entries: of one its hash, else the node over those of the
 -- halves
-abbrev pub merkle_tree_hash : ℕ → List (List ℕ) → List ℕ
-merkle_tree_hash zero entries = entry_hash (get_or entries 0 [])
-merkle_tree_hash (suc m) entries =
-    node_hash (merkle_tree_hash m (take (2 ^ m) entries)) (merkle_tree_hash m (drop (2 ^ m) entries))
+abbrev pub tree_hash_of_entries : ℕ → List (List ℕ) → List ℕ
+tree_hash_of_entries zero entries = entry_hash (get_or entries 0 [])
+tree_hash_of_entries (suc m) entries =
+    node_hash (tree_hash_of_entries m (take (2 ^ m) entries)) (tree_hash_of_entries m (drop (2 ^ m) entries))

@@ -24,7 +24,7 @@ use Rattle.paxidore_c.proofs.Parts.{leaves-fit}
 use Rattle.paxidore_c.specs.Answer.{GivesBy, are_indexes, leaves_in, multi_path_of_leaves, only_if, path_of_leaves, refused_of, results_of, tree_leaves_in}
 use Rattle.paxidore_c.specs.Cut.{parts_by}
 use Rattle.ark_trees.proofs.TreeHashes.{root-entries}
-use Rattle.ark_trees.specs.Rfc6962.{merkle_tree_hash}
+use Rattle.ark_trees.specs.Rfc6962.{tree_hash_of_entries}
 use Rattle.paxidore_c.specs.Hashing.{Hashing, bytes_of_multi_path, bytes_of_path, hashes_by, node_pair, rfc6962_hashing, tree_over}
 use Rattle.paxidore_c.specs.declared.refused.Refused.{Refused}
 use Rattle.paxidore_c.specs.declared.refused.Refused.TheVariants.{Index}
@@ -85,14 +85,14 @@ over-leaves made (Err refused) digests is P holds = tt
 
 -- the root over entries is their Merkle tree hash
 pub log-root : (leaves lengths : List ℕ) (r : Digest) → IfOk (tree_leaves_in leaves lengths) (λ xs. root_in
-    (tree_over rfc6962_hashing xs) ≡ Ok r) → IfOk (tree_leaves_in leaves lengths) (λ xs. r ≡ merkle_tree_hash
+    (tree_over rfc6962_hashing xs) ≡ Ok r) → IfOk (tree_leaves_in leaves lengths) (λ xs. r ≡ tree_hash_of_entries
     (log2 (length xs)) xs)
 log-root leaves lengths r = by_leaves (tree_leaves_in leaves lengths) (leaves-fit leaves lengths)
   where
     by_leaves : (leaves : Result (List (List ℕ)) Refused)
         → IfOk leaves (λ xs. (length xs ≡ length lengths) × IsTreeSize (length xs))
         → IfOk leaves (λ xs. root_in (tree_over rfc6962_hashing xs) ≡ Ok r)
-        → IfOk leaves (λ xs. r ≡ merkle_tree_hash (log2 (length xs)) xs)
+        → IfOk leaves (λ xs. r ≡ tree_hash_of_entries (log2 (length xs)) xs)
     by_leaves (Ok xs) (count, (k, power)) rooted =
         let some : 1 < length xs = omega (arith, power, pow_pos k, pow-succ' 2 k) in
         let log : length xs ≡ 2 ^ log2 (length xs) =

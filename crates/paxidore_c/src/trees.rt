@@ -5,7 +5,7 @@ ghost use Rattle.std.specs.Prelude.{◌≡◌, ◌≢◌, ◌+◌, ◌*◌, pos,
 ghost use Rattle.ark_paths.specs.Index.{log2};
 ghost use Rattle.ark_paths.specs.Received.{ShowsLeaf, ShowsLeaves};
 ghost use Rattle.ark_paths.specs.Tree.{root_in};
-ghost use Rattle.ark_trees.specs.Rfc6962.{merkle_tree_hash};
+ghost use Rattle.ark_trees.specs.Rfc6962.{tree_hash_of_entries};
 ghost use Rattle.paxidore_c.specs.Answer.{Gives, GivesBy, Hands, all_shown, done_code, hashing_of, in_hashing, leaves_for, multi_path_of_leaves, path_of_leaves, results_of, shown, tree_leaves_in, verdict_code};
 ghost use Rattle.paxidore_c.specs.Hashing.{hashes_of, hashing_by, read_multi_path, read_path, tree_over};
 
@@ -262,7 +262,7 @@ pub extern "C" fn paxidore_root(
 
     // In the hashing of RFC 6962 that is the Merkle tree hash of the leaves (section 2.1).
     ensures tree_hash { hashing ≡ 2 → result ≡ pos 0 → IfOk (tree_leaves_in leaves.now lengths.now)
-        (λ xs. root.new ≡ merkle_tree_hash (log2 (length xs)) xs) }
+        (λ xs. root.new ≡ tree_hash_of_entries (log2 (length xs)) xs) }
     ensures kept { result ≢ pos 0 → root.new ≡ root.old }
 {
     in_hashing!(hashing, root_over(alloc, root, leaves, lengths))
