@@ -188,7 +188,7 @@ pub mod merkle_tree {
         pub use kept_tree::check::{holds_tree, is_tree_length};
         pub use kept_tree::many::rehash_above;
         pub use kept_tree::multi_path::multi_path_bytes;
-        pub use kept_tree::path::{path_len, root, write_path};
+        pub use kept_tree::path::{kept_root, path_len, write_path};
     }
 }
 

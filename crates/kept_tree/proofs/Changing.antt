@@ -6,7 +6,7 @@ use Rattle.std.proofs.lemmas.Nat.{pow-add}
 use Rattle.std.proofs.lemmas.Slice.Eq.{bytes_eq-Decides}
 use Rattle.std.proofs.Math.Nat.{div-div-eq-div-mul, div-le_self, pow-suc}
 use Rattle.ark_paths.specs.Pair.{Digest, digest_eq}
-use Rattle.kept_tree.specs.KeptTree.{ChangesLeaf, HoldsTree, IsHashed, IsOnWay, NodeHash, Rehashes, kept_leaves}
+use Rattle.kept_tree.specs.KeptTree.{ChangesLeaf, KeepsTree, IsHashed, IsOnWay, PlainNode, Rehashes, kept_leaves}
 
 -- ---- ways
 
@@ -44,14 +44,14 @@ on_way-next from place i some (k, is) (l, at) more = elim (cases_lt k l) [
 -- ---- as it is written
 
 -- The digests from the leaf's place up to this one are written.
-pub record ChangesUpTo (node : NodeHash) (old now : List Digest) (from place : ℕ) (digest : Digest) : Type 0 where
+pub record ChangesUpTo (node : PlainNode) (old now : List Digest) (from place : ℕ) (digest : Digest) : Type 0 where
   pub long : length now ≡ length old
   pub leaf : get_or now from [] ≡ digest
   pub on_way : IsOnWay from place
   pub way : (i : ℕ) → i < length old / 2 → place ≤ i → IsOnWay from i → IsHashed node now i
   pub others : (i : ℕ) → (IsOnWay from i → ⊥) → get_or now i [] ≡ get_or old i []
 
-module _ (node : NodeHash) (old : List Digest) (from : ℕ) (digest : Digest) where
+module _ (node : PlainNode) (old : List Digest) (from : ℕ) (digest : Digest) where
   pub changes-more : (now new : List Digest) (place : ℕ) → 0 < place → ChangesUpTo node old now from place digest
       → Rehashes node ((place - 1) / 2) 1 now new → ChangesUpTo node old new from ((place - 1) / 2) digest
   changes-more now new place some so step =
@@ -82,7 +82,7 @@ module _ (node : NodeHash) (old : List Digest) (from : ℕ) (digest : Digest) wh
         ];
       }
 
-pub changes-all : (node : NodeHash) (old now : List Digest) (from place index : ℕ) (digest : Digest)
+pub changes-all : (node : PlainNode) (old now : List Digest) (from place index : ℕ) (digest : Digest)
     → from ≡ length old / 2 + index → place ≤ 0 → ChangesUpTo node old now from place digest
     → ChangesLeaf node old now index digest
 changes-all node old now from place index digest at top so = record {
@@ -101,8 +101,8 @@ same_or a b apart = by_test (digest_eq a b) refl
     by_test true is = (bytes_eq-Decides a b).0 is
     by_test false is = absurd (apart (λ same. let yes = (bytes_eq-Decides a b).1 same in absurd cc))
 
-module _ (node : NodeHash) (old new leaves : List Digest) (index : ℕ) (digest : Digest)
-    (changes : ChangesLeaf node old new index digest) (holds : HoldsTree node old leaves)
+module _ (node : PlainNode) (old new leaves : List Digest) (index : ℕ) (digest : Digest)
+    (changes : ChangesLeaf node old new index digest) (holds : KeepsTree node old leaves)
     (inside : index ≤ length old / 2) where
   abbrev from : ℕ
   from = length old / 2 + index
@@ -137,7 +137,7 @@ module _ (node : NodeHash) (old new leaves : List Digest) (index : ℕ) (digest 
           ∙ ap (λ (ds : List Digest). get_or ds j []) holds.last ∙ sym (get_or-set_other leaves index j digest [] other)
 
   -- the parent of a place on the way is on it
-  pub changes-tree : HoldsTree node new (set leaves index digest)
+  pub changes-tree : KeepsTree node new (set leaves index digest)
   changes-tree = record {
     size = rw (length-set leaves index digest) holds.size;
     count = rw (changes.long, length-set leaves index digest) holds.count;

@@ -15,7 +15,7 @@ use Rattle.ark_paths.proofs.Parts.{get_or-part, part-left, part-right, part-whol
 use Rattle.ark_paths.proofs.PlaceLemmas.{neighbour-inside, place-inside}
 use Rattle.ark_merkle.specs.LevelOrder.{rows_in_order}
 use Rattle.ark_merkle.proofs.LevelOrder.{digest-in_order, length-row, length-rows_in_order}
-use Rattle.kept_tree.specs.KeptTree.{HoldsTree, IsHashed, NodeHash, alike, kept_above, kept_beside, kept_way, leaf_count}
+use Rattle.kept_tree.specs.KeptTree.{KeepsTree, IsHashed, PlainNode, alike, kept_above, kept_beside, kept_way, leaf_count}
 
 neighbour_by : (b : Bool) (e q : ℕ) → bit_at q 0 ≡ b → bit_at (2 * e + q) 0 ≡ b
     → (if b then 2 * e + q - 1 else 2 * e + q + 1) ≡ 2 * e + (if b then q - 1 else q + 1)
@@ -29,7 +29,7 @@ neighbour-behind e q =
     let same : bit_at (2 * e + q) 0 ≡ bit_at q 0 = rw bits refl in
     rw same (neighbour_by (bit_at q 0) e q refl same)
 
-module _ (node : NodeHash) (memory leaves : List Digest) (holds : HoldsTree node memory leaves) where
+module _ (node : PlainNode) (memory leaves : List Digest) (holds : KeepsTree node memory leaves) where
   abbrev m : ℕ
   m = holds.size.0
 

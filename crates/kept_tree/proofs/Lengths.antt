@@ -7,7 +7,7 @@ use Rattle.ark_paths.specs.Index.{IsTreeSize, is_tree_size, log2}
 use Rattle.ark_paths.proofs.ReceivedProofs.{size-decided}
 use Rattle.ark_paths.proofs.SizeLemmas.{power_decided}
 use Rattle.ark_paths.specs.Pair.{Digest}
-use Rattle.kept_tree.specs.KeptTree.{HoldsTree, IsHashed, NodeHash, is_tree_length, kept_leaves, leaf_count}
+use Rattle.kept_tree.specs.KeptTree.{KeepsTree, IsHashed, PlainNode, is_tree_length, kept_leaves, leaf_count}
 
 both_true : (a b : Bool) → (a && b) ≡ true → (a ≡ true) × (b ≡ true)
 both_true true true is = (refl, refl)
@@ -25,8 +25,8 @@ tree_length count is =
     by_power (suc m, power) more = (m, let twice = pow-succ' 2 (suc m) in omega arith)
 
 -- memory of a tree's length whose digests are hashed holds the tree above its leaf digests
-pub holds-here : (node : NodeHash) (memory : List Digest) → is_tree_length (length memory) ≡ true
-    → ((i : ℕ) → i < length memory / 2 → IsHashed node memory i) → HoldsTree node memory (kept_leaves memory)
+pub holds-here : (node : PlainNode) (memory : List Digest) → is_tree_length (length memory) ≡ true
+    → ((i : ℕ) → i < length memory / 2 → IsHashed node memory i) → KeepsTree node memory (kept_leaves memory)
 holds-here node memory is hashed =
     let size = tree_length (length memory) is in
     let long : length (kept_leaves memory) ≡ 2 ^ suc (size.0) =
@@ -47,11 +47,11 @@ sized-length count n (m, size) whole =
     rw (more, two, decided) refl
 
 -- memory that holds a tree has a tree's length
-pub held-length : (node : NodeHash) (memory leaves : List Digest) → HoldsTree node memory leaves
+pub held-length : (node : PlainNode) (memory leaves : List Digest) → KeepsTree node memory leaves
     → is_tree_length (length memory) ≡ true
 held-length node memory leaves holds = sized-length (length memory) (length leaves) holds.size holds.count
 
 -- and as many leaves
-pub held-count : (node : NodeHash) (memory leaves : List Digest) → HoldsTree node memory leaves
+pub held-count : (node : PlainNode) (memory leaves : List Digest) → KeepsTree node memory leaves
     → leaf_count (length memory) ≡ length leaves
 held-count node memory leaves holds = omega (arith, holds.count)

@@ -9,10 +9,10 @@ use Rattle.ark_paths.specs.Pair.{Digest}
 use Rattle.ark_merkle.specs.Batch.{puts}
 use Rattle.kept_tree.proofs.Changing.{on_way-up, same_or}
 use Rattle.kept_tree.proofs.Besides.{HasLevels}
-use Rattle.kept_tree.specs.KeptTree.{ChangesLeaves, HoldsTree, IsHashed, IsOnWay, IsOnWays, LevelHashed, NodeHash, Rehashes, RehashesAbove, kept_leaves, leaf_count, place_above}
+use Rattle.kept_tree.specs.KeptTree.{ChangesLeaves, KeepsTree, IsHashed, IsOnWay, IsOnWays, LevelHashed, PlainNode, Rehashes, RehashesAbove, kept_leaves, leaf_count, place_above}
 
 -- the first digests of a list of indexes: those on one level are hashed, and this is the last place of them
-pub record LevelUpTo (node : NodeHash) (old now : List Digest) (level : ℕ) (indexes : List ℕ) (count last : ℕ)
+pub record LevelUpTo (node : PlainNode) (old now : List Digest) (level : ℕ) (indexes : List ℕ) (count last : ℕ)
     : Type 0 where
   pub long : length now ≡ length old
   pub hashed : (j : ℕ) → j < count → IsHashed node now (place_above (length old) level (get_or indexes j 0))
@@ -22,7 +22,7 @@ pub record LevelUpTo (node : NodeHash) (old now : List Digest) (level : ℕ) (in
       (get_or indexes j 0)))
 
 -- the levels below this one are hashed
-pub record AboveUpTo (node : NodeHash) (old now : List Digest) (levels done : ℕ) (indexes : List ℕ) : Type 0 where
+pub record AboveUpTo (node : PlainNode) (old now : List Digest) (levels done : ℕ) (indexes : List ℕ) : Type 0 where
   pub long : length now ≡ length old
   pub leaves : kept_leaves now ≡ kept_leaves old
   pub ways : (i : ℕ) → i < length old / 2 → 2 ^ (levels - done) ≤ i + 1
@@ -68,7 +68,7 @@ module _ {count levels level index : ℕ} (tree : HasLevels count levels) (insid
       let le : 2 ^ suc (levels - level) ≤ 2 ^ levels = pow-le-pow_right two (omega arith) in
       omega (arith, place-to, le, pow-succ' 2 (levels - level), tree.size)
 
-module _ {levels level : ℕ} (node : NodeHash) (old : List Digest) (tree : HasLevels (length old) levels)
+module _ {levels level : ℕ} (node : PlainNode) (old : List Digest) (tree : HasLevels (length old) levels)
     (high : level ≤ levels) (indexes : List ℕ) (inside : (j : ℕ) → j < length indexes
     → get_or indexes j 0 < leaf_count (length old)) where
   abbrev place : ℕ → ℕ
@@ -177,7 +177,7 @@ module _ {levels level : ℕ} (node : NodeHash) (old : List Digest) (tree : HasL
 -- ---- all levels
 
 -- two places of one level and of another
-module _ {levels : ℕ} (node : NodeHash) (old : List Digest) (tree : HasLevels (length old) levels) (indexes : List ℕ)
+module _ {levels : ℕ} (node : PlainNode) (old : List Digest) (tree : HasLevels (length old) levels) (indexes : List ℕ)
     (inside : (j : ℕ) → j < length indexes → get_or indexes j 0 < leaf_count (length old)) where
   abbrev inner : ℕ
   inner = length old / 2
@@ -324,7 +324,7 @@ puts-other (index ∷ indexes) (d ∷ made) digests q apart =
     ∙ get_or-set_other digests index q d [] (λ same. apart 0 (omega arith) (sym same))
 
 -- Leaf digests are put in their places, and then those above them are hashed.
-pub changes-both : (node : NodeHash) (old now new : List Digest) (indexes : List ℕ) (digests : List Digest)
+pub changes-both : (node : PlainNode) (old now new : List Digest) (indexes : List ℕ) (digests : List Digest)
     → length now ≡ length old → kept_leaves now ≡ puts (kept_leaves old) (zip indexes digests)
     → ((i : ℕ) → i < length old / 2 → get_or now i [] ≡ get_or old i []) → RehashesAbove node now new indexes
     → ChangesLeaves node old new indexes digests
@@ -338,8 +338,8 @@ changes-both node old now new indexes digests long put above so =
           ∙ above i below;
     }
 
-module _ (node : NodeHash) (old new leaves : List Digest) (indexes : List ℕ) (digests : List Digest)
-    (changed : ChangesLeaves node old new indexes digests) (holds : HoldsTree node old leaves) where
+module _ (node : PlainNode) (old new leaves : List Digest) (indexes : List ℕ) (digests : List Digest)
+    (changed : ChangesLeaves node old new indexes digests) (holds : KeepsTree node old leaves) where
   -- the place above one on a way is on it
   on_ways-up : (i c : ℕ) → IsOnWays (length old / 2) indexes c → 0 < c → (c - 1) / 2 ≡ i
       → IsOnWays (length old / 2) indexes i
@@ -350,7 +350,7 @@ module _ (node : NodeHash) (old new leaves : List Digest) (indexes : List ℕ) (
         (on_way-up (length old / 2 + get_or indexes j 0) c some on),
   )
 
-  pub changes-trees : HoldsTree node new (puts leaves (zip indexes digests))
+  pub changes-trees : KeepsTree node new (puts leaves (zip indexes digests))
   changes-trees = record {
     size = rw (length-puts (zip indexes digests) leaves) holds.size;
     count = rw (changed.long, length-puts (zip indexes digests) leaves) holds.count;

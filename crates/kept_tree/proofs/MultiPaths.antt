@@ -14,7 +14,7 @@ use Rattle.ark_paths.specs.Sharing.{multi_path_of, prefixes_of, shared_count, su
 use Rattle.ark_paths.specs.Tree.{own_path}
 use Rattle.ark_paths.proofs.MultiIndexes.{All-rising}
 use Rattle.ark_paths.proofs.MultiShared.{shared-le, shared-other, shared-same}
-use Rattle.kept_tree.specs.KeptTree.{HoldsTree, NodeHash, alike, digests_above, kept_above, kept_beside, kept_multi_way, kept_way, leaf_count}
+use Rattle.kept_tree.specs.KeptTree.{KeepsTree, PlainNode, alike, digests_above, kept_above, kept_beside, kept_multi_way, kept_way, leaf_count}
 use Rattle.kept_tree.proofs.HeldTrees.{held-path}
 use Rattle.kept_tree.proofs.Lengths.{held-count}
 use Rattle.kept_tree.proofs.PathWrites.{length-above}
@@ -150,7 +150,7 @@ module _ (memory : List Digest) where
 
 -- ---- of a tree
 
-module _ (node : NodeHash) (memory leaves : List Digest) (holds : HoldsTree node memory leaves) where
+module _ (node : PlainNode) (memory leaves : List Digest) (holds : KeepsTree node memory leaves) where
   held-paths : (indexes : List ℕ) → All (λ index. index < length leaves) indexes
       → map (λ index. own_path (alike node) index leaves) indexes ≡ map (kept_way memory) indexes
   held-paths [] inside = refl

@@ -3,13 +3,13 @@ use Rattle.std.proofs.Common.{◌≡◌, ℕ, ◌+◌, ◌-◌, ◌*◌, ◌/◌
 use Rattle.std.proofs.lemmas.Bool.{cases_lt}
 use Rattle.std.proofs.lemmas.List.{ext_get_or, get_or-drop, get_or-map, get_or-set_other, get_or-set_same, get_or-take, length-drop, length-take-le}
 use Rattle.ark_paths.specs.Pair.{Digest}
-use Rattle.kept_tree.specs.KeptTree.{HoldsTree, NodeHash, Rehashes, is_tree_length, kept_leaves}
+use Rattle.kept_tree.specs.KeptTree.{KeepsTree, PlainNode, Rehashes, is_tree_length, kept_leaves}
 use Rattle.kept_tree.proofs.Lengths.{holds-here}
 
-module _ (node : NodeHash) where
+module _ (node : PlainNode) where
   -- all digests above the leaves: then memory holds the tree above the leaf digests in it
   pub rehashes-all : (first count : ℕ) (old new : List Digest) → first ≡ 0 → count ≡ length old / 2
-      → is_tree_length (length old) ≡ true → Rehashes node first count old new → HoldsTree node new (kept_leaves old)
+      → is_tree_length (length old) ≡ true → Rehashes node first count old new → KeepsTree node new (kept_leaves old)
   rehashes-all first count old new none whole is all =
       let same : kept_leaves new ≡ kept_leaves old =
       rw all.long (ext_get_or [] (drop (length old / 2) new) (drop (length old / 2) old)
@@ -18,7 +18,7 @@ module _ (node : NodeHash) where
       ∙ sym (get_or-drop (length old / 2) old i []))) in
       let here = holds-here node new (rw all.long is) (λ i below. let under : i < length old / 2 =
       rw all.long at below in all.hashed i (omega arith) (omega arith)) in
-      subst (HoldsTree node new) same here
+      subst (KeepsTree node new) same here
 
   -- a run below one that is hashed already, none of which stands below another
   pub rehashes-below : (first count inner half : ℕ) (old mid new : List Digest) → first + count ≡ inner → inner ≤ half

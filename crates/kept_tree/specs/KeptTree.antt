@@ -10,11 +10,11 @@ use Rattle.ark_paths.specs.Sharing.{multi_path_of}
 use Rattle.ark_merkle.specs.Batch.{puts}
 
 -- the digest of two digests, left first
-abbrev pub NodeHash : Type 0
-NodeHash = Digest → Digest → Digest
+abbrev pub PlainNode : Type 0
+PlainNode = Digest → Digest → Digest
 
 -- Both levels of pairs are hashed alike, and nothing is refused.
-abbrev pub alike : NodeHash → HashPair
+abbrev pub alike : PlainNode → HashPair
 alike node = record { bottom = λ left right. Ok (node left right); upper = λ left right. Ok (node left right) }
 
 -- whether a tree has so many digests: one of n leaves has 2 n - 1
@@ -30,12 +30,12 @@ abbrev pub kept_leaves : List Digest → List Digest
 kept_leaves memory = drop (length memory / 2) memory
 
 -- The digest at a place is the hash of the two below it, which stand at twice the place plus one and plus two.
-abbrev pub IsHashed : NodeHash → List Digest → ℕ → Type 0
+abbrev pub IsHashed : PlainNode → List Digest → ℕ → Type 0
 IsHashed node memory i = get_or memory i [] ≡ node (get_or memory (2 * i + 1) []) (get_or memory (2 * i + 2) [])
 
 -- Memory holds the tree above these leaf digests: they stand last, and each digest before them is the hash of the two
 -- below it.
-pub record HoldsTree (node : NodeHash) (memory leaves : List Digest) : Type 0 where
+pub record KeepsTree (node : PlainNode) (memory leaves : List Digest) : Type 0 where
   pub size : IsTreeSize (length leaves)
   pub count : length memory + 1 ≡ 2 * length leaves
   pub last : kept_leaves memory ≡ leaves
@@ -44,7 +44,7 @@ pub record HoldsTree (node : NodeHash) (memory leaves : List Digest) : Type 0 wh
 -- ---- what is written
 
 -- So many digests from a place on are hashed from those below them; all others are as before.
-pub record Rehashes (node : NodeHash) (first count : ℕ) (old new : List Digest) : Type 0 where
+pub record Rehashes (node : PlainNode) (first count : ℕ) (old new : List Digest) : Type 0 where
   pub long : length new ≡ length old
   pub hashed : (i : ℕ) → first ≤ i → i < first + count → IsHashed node new i
   pub others : (i : ℕ) → (i < first) ⊎ (first + count ≤ i) → get_or new i [] ≡ get_or old i []
@@ -55,7 +55,7 @@ IsOnWay from i = (k : ℕ) × (i + 1 ≡ (from + 1) / 2 ^ k)
 
 -- The leaf digest at an index is changed, those above it are hashed from the ones below them, and all others are as
 -- before.
-pub record ChangesLeaf (node : NodeHash) (old new : List Digest) (index : ℕ) (digest : Digest) : Type 0 where
+pub record ChangesLeaf (node : PlainNode) (old new : List Digest) (index : ℕ) (digest : Digest) : Type 0 where
   pub long : length new ≡ length old
   pub leaf : get_or new (length old / 2 + index) [] ≡ digest
   pub way : (i : ℕ) → i < length old / 2 → IsOnWay (length old / 2 + index) i → IsHashed node new i
@@ -72,7 +72,7 @@ place_above count level index = (leaf_count count + index) / 2 ^ level - 1
 
 -- The digests on one level above the leaves of some indexes are hashed from the ones below them; all others are as
 -- before.
-pub record LevelHashed (node : NodeHash) (old new : List Digest) (level : ℕ) (indexes : List ℕ) : Type 0 where
+pub record LevelHashed (node : PlainNode) (old new : List Digest) (level : ℕ) (indexes : List ℕ) : Type 0 where
   pub long : length new ≡ length old
   pub hashed : (j : ℕ) → j < length indexes → IsHashed node new (place_above (length old) level (get_or indexes j 0))
   pub others : (i : ℕ)
@@ -80,7 +80,7 @@ pub record LevelHashed (node : NodeHash) (old new : List Digest) (level : ℕ) (
       → get_or new i [] ≡ get_or old i []
 
 -- The digests above the leaves of some indexes are hashed from the ones below them; all others are as before.
-pub record RehashesAbove (node : NodeHash) (old new : List Digest) (indexes : List ℕ) : Type 0 where
+pub record RehashesAbove (node : PlainNode) (old new : List Digest) (indexes : List ℕ) : Type 0 where
   pub long : length new ≡ length old
   pub leaves : kept_leaves new ≡ kept_leaves old
   pub ways : (i : ℕ) → i < length old / 2 → IsOnWays (length old / 2) indexes i → IsHashed node new i
@@ -89,7 +89,7 @@ pub record RehashesAbove (node : NodeHash) (old new : List Digest) (indexes : Li
 
 -- The leaf digests at some indexes are changed, one after the other, those above them are hashed from the ones below
 -- them, and all others are as before.
-pub record ChangesLeaves (node : NodeHash) (old new : List Digest) (indexes : List ℕ) (digests : List Digest)
+pub record ChangesLeaves (node : PlainNode) (old new : List Digest) (indexes : List ℕ) (digests : List Digest)
     : Type 0 where
   pub long : length new ≡ length old
   pub leaves : kept_leaves new ≡ puts (kept_leaves old) (zip indexes digests)

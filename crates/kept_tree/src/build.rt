@@ -1,7 +1,7 @@
 //! Hashes that are written above the leaf digests.
 
 ghost use Rattle.std.specs.Prelude.{◌≡◌, ◌<◌, ◌≤◌, ◌+◌, ◌*◌, ◌/◌, ◌%◌, length, true};
-ghost use Rattle.kept_tree.specs.KeptTree.{HoldsTree, Rehashes, is_tree_length, kept_leaves};
+ghost use Rattle.kept_tree.specs.KeptTree.{KeepsTree, Rehashes, is_tree_length, kept_leaves};
 
 use crate::runs::{RUN, hashes_from};
 use ark_crh::ArrayHash;
@@ -32,7 +32,7 @@ pub fn rebuild<H: ArrayHash>(memory: &mut [[u8; 32]])
 
     // Where a tree has as many digests as memory, that is then the tree above the leaf digests that stand in it.
     ensures tree { is_tree_length (length memory.old) ≡ true
-        → HoldsTree H.node_hash memory.new (kept_leaves memory.old) }
+        → KeepsTree H.node_hash memory.new (kept_leaves memory.old) }
 {
     let mut inner = memory.len() / 2;
     'runs: while inner > 0 {

@@ -2,7 +2,7 @@
 
 ghost use Rattle.std.specs.Prelude.{◌≡◌, ◌≤◌, ◌/◌, ◌%◌, List, length, set};
 ghost use Rattle.ark_paths.specs.Pair.{Digest};
-ghost use Rattle.kept_tree.specs.KeptTree.{ChangesLeaf, HoldsTree};
+ghost use Rattle.kept_tree.specs.KeptTree.{ChangesLeaf, KeepsTree};
 
 use crate::build::hash_at;
 use ark_crh::ArrayHash;
@@ -14,8 +14,8 @@ pub fn set_leaf<H: ArrayHash>(memory: &mut [[u8; 32]], index: usize, digest: &[u
     ensures changes { ChangesLeaf H.node_hash memory.old memory.new index digest.now }
 
     // A tree is then that of the changed leaf digests.
-    ensures tree { (leaves : List Digest) → HoldsTree H.node_hash memory.old leaves
-        → HoldsTree H.node_hash memory.new (set leaves index digest.now) }
+    ensures tree { (leaves : List Digest) → KeepsTree H.node_hash memory.old leaves
+        → KeepsTree H.node_hash memory.new (set leaves index digest.now) }
 {
     let mut place = memory.len() / 2 + index;
     memory[place] = *digest;

@@ -2,7 +2,7 @@
 
 ghost use Rattle.std.specs.Bool.{Decides};
 ghost use Rattle.std.specs.Prelude.{◌≡◌, ◌<◌, ◌≤◌, ◌+◌, ◌*◌, ◌/◌, ◌%◌, ℕ, true, length};
-ghost use Rattle.kept_tree.specs.KeptTree.{HoldsTree, IsHashed, is_tree_length, kept_leaves};
+ghost use Rattle.kept_tree.specs.KeptTree.{KeepsTree, IsHashed, is_tree_length, kept_leaves};
 
 use crate::runs::{RUN, hashes_from};
 use ark_crh::ArrayHash;
@@ -36,7 +36,7 @@ fn are_hashed<H: ArrayHash>(memory: &[[u8; 32]], first: usize, count: usize) -> 
 /// before them is the hash of the two below it.
 pub fn holds_tree<H: ArrayHash>(memory: &[[u8; 32]]) -> bool
     requires { is_tree_length (length memory.now) ≡ true }
-    ensures { Decides result (HoldsTree H.node_hash memory.now (kept_leaves memory.now)) }
+    ensures { Decides result (KeepsTree H.node_hash memory.now (kept_leaves memory.now)) }
 {
     let inner = memory.len() / 2;
     let mut first = 0;

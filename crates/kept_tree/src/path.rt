@@ -7,24 +7,24 @@ ghost use Rattle.ark_paths.specs.Pair.{Digest};
 ghost use Rattle.ark_paths.specs.PathBytes.{way_bytes};
 ghost use Rattle.ark_paths.specs.Root.{root};
 ghost use Rattle.ark_paths.specs.Tree.{own_path};
-ghost use Rattle.kept_tree.specs.KeptTree.{HoldsTree, NodeHash, alike, is_tree_length, kept_beside, kept_way, leaf_count};
+ghost use Rattle.kept_tree.specs.KeptTree.{KeepsTree, PlainNode, alike, is_tree_length, kept_beside, kept_way, leaf_count};
 
 use ark_paths::index::{levels_between, neighbour_of};
 
 /// Returns the digest that stands first.
-pub fn root(memory: &[[u8; 32]]) -> &[u8; 32]
+pub fn kept_root(memory: &[[u8; 32]]) -> &[u8; 32]
     requires { 0 < length memory.now }
     ensures first { result.now ≡ get_or memory.now 0 [] }
 
     // Of a tree it is the repeated halving of the leaf digests.
-    ensures tree { (node : NodeHash) (leaves : List Digest) → HoldsTree node memory.now leaves
+    ensures tree { (node : PlainNode) (leaves : List Digest) → KeepsTree node memory.now leaves
         → root (alike node) leaves ≡ Ok result.now }
 {
     &memory[0]
 }
 
 // The digest beside the way of an index, so many levels above the leaves.
-pub(crate) fn beside(memory: &[[u8; 32]], index: usize, level: usize) -> &[u8; 32]
+pub(crate) fn sibling_digest(memory: &[[u8; 32]], index: usize, level: usize) -> &[u8; 32]
     requires size { is_tree_length (length memory.now) ≡ true }
     requires index { index < leaf_count (length memory.now) }
     requires level { level < log2 (leaf_count (length memory.now)) }
@@ -81,14 +81,18 @@ pub fn write_path(buffer: &mut [u8], memory: &[[u8; 32]], index: usize)
         buffer.new ≡ bytes ++ drop (length bytes) buffer.old }
 
     // Of a tree it is the path of its repeated halving.
-    ensures tree { (node : NodeHash) (leaves : List Digest) → HoldsTree node memory.now leaves
+    ensures tree { (node : PlainNode) (leaves : List Digest) → KeepsTree node memory.now leaves
         → own_path (alike node) index leaves ≡ kept_way memory.now index }
 {
     let levels = levels_of(memory);
-    put_digest(buffer, 0, beside(memory, index, 0));
+    put_digest(buffer, 0, sibling_digest(memory, index, 0));
     put(buffer, 32, &levels.to_le_bytes());
     'levels: for done in 0..levels {
-        put_digest(buffer, 40 + 32 * done, beside(memory, index, levels - done));
+        put_digest(
+            buffer,
+            40 + 32 * done,
+            sibling_digest(memory, index, levels - done),
+        );
     }
     put(buffer, 40 + 32 * levels, &index.to_le_bytes());
 }

@@ -11,7 +11,7 @@ use Rattle.ark_paths.specs.Pair.{Digest}
 use Rattle.ark_paths.specs.Path.{Way}
 use Rattle.ark_paths.specs.Tree.{path_in, tree_with}
 use Rattle.ark_paths.proofs.StrictLaws.{both_hold}
-use Rattle.kept_tree.specs.KeptTree.{HoldsTree, kept_multi_way, kept_way, leaf_count}
+use Rattle.kept_tree.specs.KeptTree.{KeepsTree, kept_multi_way, kept_way, leaf_count}
 use Rattle.kept_tree.proofs.HeldTrees.{held-path}
 use Rattle.kept_tree.proofs.Lengths.{held-count, held-length}
 use Rattle.kept_tree.proofs.MultiPaths.{held-multi}
@@ -25,7 +25,7 @@ use Rattle.paxidore_c.specs.declared.refused.Refused.TheVariants.{Index}
 -- ---- paths
 
 -- a tree's own path stands in the memory that holds the tree
-pub path-held : (h : Hashing) (memory leaves : List Digest) (index : ℕ) → HoldsTree h.node memory leaves
+pub path-held : (h : Hashing) (memory leaves : List Digest) (index : ℕ) → KeepsTree h.node memory leaves
     → kept_path memory index ≡ path_of_digests h leaves index
 path-held h memory leaves index holds =
     ap (λ (place : Result ℕ Refused). place >>= λ place. done (kept_way memory place)) indexed
@@ -44,7 +44,7 @@ path-held h memory leaves index holds =
     by_index false is = refl
 
 -- a tree's own multi-proof stands in the memory that holds the tree
-pub multi-path-held : (h : Hashing) (memory leaves : List Digest) (indexes : List ℕ) → HoldsTree h.node memory leaves
+pub multi-path-held : (h : Hashing) (memory leaves : List Digest) (indexes : List ℕ) → KeepsTree h.node memory leaves
     → kept_multi_path memory indexes ≡ multi_path_of_digests h leaves indexes
 multi-path-held h memory leaves indexes holds =
     rw (held-length h.node memory leaves holds, count) (by_indexes (are_indexes (length leaves) indexes) refl)
@@ -71,11 +71,11 @@ multi-path-held h memory leaves indexes holds =
 -- what holds of leaf digests in memory holds of those of the leaves
 pub held-leaves : (h : Hashing) (memory : List Digest) (bytes lengths : List ℕ) (digests : List Digest)
     → is_tree_size (length lengths) ≡ true → IfSome (parts_by bytes lengths) (λ xs. digests ≡ map h.leaf_hash xs)
-    → HoldsTree h.node memory digests
-    → IfOk (tree_leaves_in bytes lengths) (λ xs. HoldsTree h.node memory (map h.leaf_hash xs))
+    → KeepsTree h.node memory digests
+    → IfOk (tree_leaves_in bytes lengths) (λ xs. KeepsTree h.node memory (map h.leaf_hash xs))
 held-leaves h memory bytes lengths digests sized are holds = rw sized (by_parts (parts_by bytes lengths) are)
   where
     by_parts : (o : Option (List (List ℕ))) → IfSome o (λ xs. digests ≡ map h.leaf_hash xs)
-        → IfOk (leaves_in o) (λ xs. HoldsTree h.node memory (map h.leaf_hash xs))
+        → IfOk (leaves_in o) (λ xs. KeepsTree h.node memory (map h.leaf_hash xs))
     by_parts None same = tt
-    by_parts (Some xs) same = subst (HoldsTree h.node memory) same holds
+    by_parts (Some xs) same = subst (KeepsTree h.node memory) same holds

@@ -4,7 +4,7 @@ ghost use Rattle.std.specs.List.{All, zip};
 ghost use Rattle.std.specs.Prelude.{◌≡◌, ◌≢◌, ◌<◌, ◌+◌, ◌/◌, ℕ, List, [], pos, true, length, map, get_or, IfOk, IfSome};
 ghost use Rattle.ark_merkle.specs.Batch.{puts};
 ghost use Rattle.ark_paths.specs.Pair.{Digest};
-ghost use Rattle.kept_tree.specs.KeptTree.{ChangesLeaves, HoldsTree, is_tree_length, kept_leaves};
+ghost use Rattle.kept_tree.specs.KeptTree.{ChangesLeaves, KeepsTree, is_tree_length, kept_leaves};
 ghost use Rattle.paxidore_c.specs.Answer.{done_code, hashing_of, in_hashing};
 ghost use Rattle.paxidore_c.specs.Cut.{parts_by};
 ghost use Rattle.paxidore_c.specs.KeptAnswer.{leaves_to_change};
@@ -69,8 +69,8 @@ fn tree_set_many<H: ArrayHash>(
     ensures changes { result ≡ pos 0 → IfSome (parts_by leaves.now lengths.now) (λ xs.
         ChangesLeaves H.node_hash tree.old tree.new
         indexes.now (map H.leaf_hash xs)) }
-    ensures tree { (held : List Digest) → result ≡ pos 0 → HoldsTree H.node_hash tree.old held
-        → IfSome (parts_by leaves.now lengths.now) (λ xs. HoldsTree H.node_hash tree.new
+    ensures tree { (held : List Digest) → result ≡ pos 0 → KeepsTree H.node_hash tree.old held
+        → IfSome (parts_by leaves.now lengths.now) (λ xs. KeepsTree H.node_hash tree.new
         (puts held (zip indexes.now (map H.leaf_hash xs)))) }
     ensures kept { result ≢ pos 0 → tree.new ≡ tree.old }
 {
@@ -114,9 +114,9 @@ pub extern "C" fn paxidore_tree_set_many(
 
     // A tree is then that of the changed leaf digests.
     ensures tree { result ≡ pos 0 → IfOk (hashing_of hashing) (λ h.
-        (held : List Digest) → HoldsTree h.node tree.old held
+        (held : List Digest) → KeepsTree h.node tree.old held
         → IfSome (parts_by leaves.now lengths.now) (λ xs.
-        HoldsTree h.node tree.new (puts held (zip indexes.now (map h.leaf_hash xs))))) }
+        KeepsTree h.node tree.new (puts held (zip indexes.now (map h.leaf_hash xs))))) }
     ensures kept { result ≢ pos 0 → tree.new ≡ tree.old }
 {
     in_hashing!(hashing, tree_set_many(tree, indexes, leaves, lengths))

@@ -2,7 +2,7 @@
 
 ghost use Rattle.std.specs.Prelude.{◌≡◌, List};
 ghost use Rattle.ark_paths.specs.Pair.{Digest};
-ghost use Rattle.kept_tree.specs.KeptTree.{HoldsTree};
+ghost use Rattle.kept_tree.specs.KeptTree.{KeepsTree};
 ghost use Rattle.paxidore_c.specs.Answer.{GivesBy, Hands};
 ghost use Rattle.paxidore_c.specs.Hashing.{Hashing};
 ghost use Rattle.paxidore_c.specs.KeptAnswer.{kept_multi_path, multi_path_of_digests};
@@ -44,7 +44,7 @@ pub extern "C" fn paxidore_tree_multi_path(
         proof.old proof.new proof_len.old proof_len.new result }
 
     // Of a tree, in any hashing, it is the multi-proof that its leaves give.
-    ensures tree { (h : Hashing) (leaves : List Digest) → HoldsTree h.node tree.now leaves
+    ensures tree { (h : Hashing) (leaves : List Digest) → KeepsTree h.node tree.now leaves
         → Hands (multi_path_of_digests h leaves indexes.now)
         proof.old proof.new proof_len.old proof_len.new result }
 {

@@ -6,7 +6,7 @@ ghost use Rattle.std.specs.Option.{is_some};
 ghost use Rattle.ark_paths.specs.Index.{log2};
 ghost use Rattle.ark_paths.specs.Pair.{Digest};
 ghost use Rattle.ark_paths.specs.Tree.{root_in, tree_with};
-ghost use Rattle.kept_tree.specs.KeptTree.{ChangesLeaf, HoldsTree, is_tree_length, kept_leaves, leaf_count};
+ghost use Rattle.kept_tree.specs.KeptTree.{ChangesLeaf, KeepsTree, is_tree_length, kept_leaves, leaf_count};
 ghost use Rattle.paxidore_c.specs.Answer.{Hands, done_code, hashing_of, in_hashing, refusal_code, tree_leaves_in, verdict_code};
 ghost use Rattle.paxidore_c.specs.Cut.{parts_by};
 ghost use Rattle.paxidore_c.specs.Hashing.{Hashing, hashes_of};
@@ -37,7 +37,7 @@ fn write_leaves<H: ArrayHash>(tree: &mut [[u8; 32]], bytes: &[u8], lengths: &[us
 fn tree_build<H: ArrayHash>(tree: &mut [[u8; 32]], leaves: &[u8], lengths: &[usize]) -> i32
     ensures answer { result ≡ done_code (leaves_to_keep (length tree.old) leaves.now lengths.now) }
     ensures tree { result ≡ pos 0 → IfOk (tree_leaves_in leaves.now lengths.now)
-        (λ xs. HoldsTree H.node_hash tree.new (map H.leaf_hash xs)) }
+        (λ xs. KeepsTree H.node_hash tree.new (map H.leaf_hash xs)) }
     ensures kept { result ≢ pos 0 → tree.new ≡ tree.old }
 {
     if !is_tree_size(lengths.len()) {
@@ -57,7 +57,7 @@ fn tree_build<H: ArrayHash>(tree: &mut [[u8; 32]], leaves: &[u8], lengths: &[usi
 // Writes the tree above the leaf digests that stand in memory, and returns the code.
 fn tree_rebuild<H: ArrayHash>(tree: &mut [[u8; 32]]) -> i32
     ensures answer { result ≡ done_code (kept_root tree.old) }
-    ensures tree { result ≡ pos 0 → HoldsTree H.node_hash tree.new (kept_leaves tree.old) }
+    ensures tree { result ≡ pos 0 → KeepsTree H.node_hash tree.new (kept_leaves tree.old) }
     ensures kept { result ≢ pos 0 → tree.new ≡ tree.old }
 {
     if !is_tree_length(tree) {
@@ -73,8 +73,8 @@ fn tree_set<H: ArrayHash>(tree: &mut [[u8; 32]], index: usize, leaf: &[u8]) -> i
     ensures changes { result ≡ pos 0
         → ChangesLeaf H.node_hash tree.old tree.new index (H.leaf_hash leaf.now) }
     ensures tree { (leaves : List Digest) → result ≡ pos 0
-        → HoldsTree H.node_hash tree.old leaves
-        → HoldsTree H.node_hash tree.new (set leaves index (H.leaf_hash leaf.now)) }
+        → KeepsTree H.node_hash tree.old leaves
+        → KeepsTree H.node_hash tree.new (set leaves index (H.leaf_hash leaf.now)) }
     ensures kept { result ≢ pos 0 → tree.new ≡ tree.old }
 {
     if !is_tree_length(tree) {
@@ -91,7 +91,7 @@ fn tree_set<H: ArrayHash>(tree: &mut [[u8; 32]], index: usize, leaf: &[u8]) -> i
 fn tree_check<H: ArrayHash>(tree: &[[u8; 32]]) -> i32
     ensures answer { (holds : Bool)
         × (result ≡ verdict_code (kept_check (length tree.now) holds)) }
-    ensures holds { result ≡ pos 0 ↔ HoldsTree H.node_hash tree.now (kept_leaves tree.now) }
+    ensures holds { result ≡ pos 0 ↔ KeepsTree H.node_hash tree.now (kept_leaves tree.now) }
 {
     if !is_tree_length(tree) {
         return Refused::Size.code();
@@ -137,7 +137,7 @@ pub extern "C" fn paxidore_tree_build(
         leaves_to_keep (length tree.old) leaves.now lengths.now)) }
     ensures tree { result ≡ pos 0 → IfOk (hashing_of hashing) (λ h.
         IfOk (tree_leaves_in leaves.now lengths.now)
-        (λ xs. HoldsTree h.node tree.new (map h.leaf_hash xs))) }
+        (λ xs. KeepsTree h.node tree.new (map h.leaf_hash xs))) }
     ensures kept { result ≢ pos 0 → tree.new ≡ tree.old }
 {
     in_hashing!(hashing, tree_build(tree, leaves, lengths))
@@ -151,7 +151,7 @@ pub extern "C" fn paxidore_tree_build(
 pub extern "C" fn paxidore_tree_rebuild(tree: &mut [[u8; 32]], hashing: u32) -> i32
     ensures answer { result ≡ done_code (in_hashing hashing (λ h. kept_root tree.old)) }
     ensures tree { result ≡ pos 0 → IfOk (hashing_of hashing) (λ h.
-        HoldsTree h.node tree.new (kept_leaves tree.old)) }
+        KeepsTree h.node tree.new (kept_leaves tree.old)) }
     ensures kept { result ≢ pos 0 → tree.new ≡ tree.old }
 {
     in_hashing!(hashing, tree_rebuild(tree))
@@ -177,8 +177,8 @@ pub extern "C" fn paxidore_tree_set(
 
     // A tree is then that of the changed leaf digests.
     ensures tree { result ≡ pos 0 → IfOk (hashing_of hashing) (λ h.
-        (leaves : List Digest) → HoldsTree h.node tree.old leaves
-        → HoldsTree h.node tree.new (set leaves index (h.leaf_hash leaf.now))) }
+        (leaves : List Digest) → KeepsTree h.node tree.old leaves
+        → KeepsTree h.node tree.new (set leaves index (h.leaf_hash leaf.now))) }
     ensures kept { result ≢ pos 0 → tree.new ≡ tree.old }
 {
     in_hashing!(hashing, tree_set(tree, index, leaf))
@@ -194,14 +194,14 @@ pub extern "C" fn paxidore_tree_root(root: &mut [u8; 32], tree: &[[u8; 32]]) -> 
 
     // Of a tree, in any hashing, it is the root.
     ensures tree { (h : Hashing) (leaves : List Digest) → result ≡ pos 0
-        → HoldsTree h.node tree.now leaves
+        → KeepsTree h.node tree.now leaves
         → root_in (tree_with (hashes_of h) leaves) ≡ Ok root.new }
     ensures kept { result ≢ pos 0 → root.new ≡ root.old }
 {
     if !is_tree_length(tree) {
         return Refused::Size.code();
     }
-    *root = *kept_tree::path::root(tree);
+    *root = *kept_tree::path::kept_root(tree);
     0
 }
 
@@ -220,7 +220,7 @@ pub extern "C" fn paxidore_tree_path(
         path.old path.new path_len.old path_len.new result }
 
     // Of a tree, in any hashing, it is the path that its leaves give.
-    ensures tree { (h : Hashing) (leaves : List Digest) → HoldsTree h.node tree.now leaves
+    ensures tree { (h : Hashing) (leaves : List Digest) → KeepsTree h.node tree.now leaves
         → Hands (path_of_digests h leaves index)
         path.old path.new path_len.old path_len.new result }
 
@@ -242,7 +242,7 @@ pub extern "C" fn paxidore_tree_check(tree: &[[u8; 32]], hashing: u32) -> i32
     ensures answer { (holds : Bool) × (result ≡ verdict_code (in_hashing hashing (λ h.
         kept_check (length tree.now) holds))) }
     ensures holds { IfOk (hashing_of hashing) (λ h.
-        result ≡ pos 0 ↔ HoldsTree h.node tree.now (kept_leaves tree.now)) }
+        result ≡ pos 0 ↔ KeepsTree h.node tree.now (kept_leaves tree.now)) }
 {
     in_hashing!(hashing, tree_check(tree))
 }

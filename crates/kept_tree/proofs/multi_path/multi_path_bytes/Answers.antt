@@ -7,7 +7,7 @@ use Rattle.ark_merkle.specs.MultiProof.{own_multi_path}
 use Rattle.ark_paths.specs.Pair.{Digest}
 use Rattle.ark_paths.specs.Sharing.{prefixes_of, suffixes_of}
 use Rattle.kept_tree.proofs.MultiPaths.{held-multi, multi-written}
-use Rattle.kept_tree.specs.KeptTree.{HoldsTree, NodeHash, alike, digests_above, kept_beside, kept_multi_way, leaf_count}
+use Rattle.kept_tree.specs.KeptTree.{KeepsTree, PlainNode, alike, digests_above, kept_beside, kept_multi_way, leaf_count}
 use Rattle.kept_tree.proofs.multi_path.multi_path_bytes.Goals.{In_ok-once, Start}
 use Rattle.kept_tree.proofs.multi_path.multi_path_bytes.Goals as goal
 
@@ -44,7 +44,7 @@ returns-clause-bytes c =
     suffixes_are))
 
 -- the multi-proof of a tree in memory
-of_tree : (c : Start) (node : NodeHash) (leaves : List Digest) → HoldsTree node c.args.memory.now leaves
+of_tree : (c : Start) (node : PlainNode) (leaves : List Digest) → KeepsTree node c.args.memory.now leaves
     → own_multi_path (alike node) c.args.indexes.now leaves ≡ kept_multi_way c.args.memory.now c.args.indexes.now
 of_tree c node leaves holds = held-multi node c.args.memory.now leaves holds c.args.indexes.now c.requires.indexes
 

@@ -13,14 +13,15 @@ put-requires c =
 
 pub levels-init : goal.levels-init
 levels-init c = path-none c.args.buffer.now c.args.memory.now c.args.index c.levels_of-levels.result
-    c.beside.result.now c.to_le_bytes.result c.put_digest.new.buffer c.put.new.buffer c.beside.ensures
+    c.sibling_digest.result.now c.to_le_bytes.result c.put_digest.new.buffer c.put.new.buffer c.sibling_digest.ensures
     c.put_digest.ensures.count (word-bytes c.levels_of-levels.result c.to_le_bytes.result c.to_le_bytes.ensures)
     c.put_digest.ensures.bytes c.put.ensures
 
 pub levels-preserved : goal.levels-preserved
 levels-preserved c = path-more c.args.buffer.now c.args.memory.now c.args.index c.levels_of-levels.result
-    c.beside-in-levels.result.now c.levels.buffer c.put_digest-in-levels.new.buffer c.levels.done c.levels-test.true
-    c.levels.invariant c.beside-in-levels.ensures c.put_digest-in-levels.ensures.count
+    c.sibling_digest-in-levels.result.now c.levels.buffer c.put_digest-in-levels.new.buffer c.levels.done
+    c.levels-test.true
+    c.levels.invariant c.sibling_digest-in-levels.ensures c.put_digest-in-levels.ensures.count
     c.put_digest-in-levels.ensures.bytes
 
 pub put-requires-2 : goal.put-requires-2

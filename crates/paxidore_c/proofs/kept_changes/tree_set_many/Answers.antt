@@ -1,7 +1,7 @@
 use Rattle.std.proofs.Common.{◌≡◌, List, ℕ, map}
 use Rattle.std.specs.List.{zip}
 use Rattle.ark_merkle.specs.Batch.{puts}
-use Rattle.kept_tree.specs.KeptTree.{ChangesLeaves, HoldsTree, kept_leaves}
+use Rattle.kept_tree.specs.KeptTree.{ChangesLeaves, KeepsTree, kept_leaves}
 use Rattle.kept_tree.proofs.LevelByLevel.{changes-both, changes-trees}
 use Rattle.paxidore_c.specs.Hashing.{hashing_by}
 use Rattle.paxidore_c.proofs.Putting.{over-parts}
@@ -26,7 +26,7 @@ pub returns-clause-tree : goal.returns-clause-tree
 returns-clause-tree g c = λ held done holds.
     let h = hashing_by g.H.ArrayHash.leaf_hash g.H.ArrayHash.node_hash in
     let made = c.rehash_above.new.memory in
-    let Holds : List (List ℕ) → Type 0 = λ xs. HoldsTree h.node made (puts held (zip c.args.indexes.now
+    let Holds : List (List ℕ) → Type 0 = λ xs. KeepsTree h.node made (puts held (zip c.args.indexes.now
     (map h.leaf_hash xs))) in
     over-parts (parts_by c.args.leaves.now c.args.lengths.now)
     (λ xs. ChangesLeaves h.node c.args.tree.now made c.args.indexes.now (map h.leaf_hash xs)) Holds

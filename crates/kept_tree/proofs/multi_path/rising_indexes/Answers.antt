@@ -6,7 +6,7 @@ use Rattle.std.proofs.lemmas.List.Sorted.{Contains-permutation, IsPermutation-sy
 use Rattle.std.proofs.lemmas.Map.Keys.{IsStrictlyIncreasing-dedup}
 use Rattle.ark_paths.specs.Rising.{rising_set}
 use Rattle.ark_paths.proofs.MultiIndexes.{rising-unique}
-use Rattle.kept_tree.proofs.multi_path.each_once.Goals as goal
+use Rattle.kept_tree.proofs.multi_path.rising_indexes.Goals as goal
 
 pub returns : goal.returns
 returns c =

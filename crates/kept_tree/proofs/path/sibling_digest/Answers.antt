@@ -1,7 +1,7 @@
 use Rattle.std.proofs.Common.{◌+◌, ◌-◌, ◌/◌, ◌^◌, ℕ, [], length, get_or, ap, ◌∙◌, arith}
 use Rattle.ark_paths.specs.Index.{neighbour}
 use Rattle.kept_tree.proofs.Besides.{beside-below, beside-some, has_levels, level-small}
-use Rattle.kept_tree.proofs.path.beside.Goals as goal
+use Rattle.kept_tree.proofs.path.sibling_digest.Goals as goal
 
 pub overflow_shr-size : goal.overflow_shr-size
 overflow_shr-size c =

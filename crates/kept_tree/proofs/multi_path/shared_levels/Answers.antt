@@ -4,7 +4,7 @@ use Rattle.ark_paths.specs.Index.{log2}
 use Rattle.kept_tree.proofs.Besides.{has_levels}
 use Rattle.kept_tree.proofs.MultiPaths.{shared-below}
 use Rattle.kept_tree.specs.KeptTree.{digests_above, leaf_count}
-use Rattle.kept_tree.proofs.multi_path.prefix_at.Goals as goal
+use Rattle.kept_tree.proofs.multi_path.shared_levels.Goals as goal
 
 pub returns-then-place-eq0-clause-within : goal.returns-then-place-eq0-clause-within
 returns-then-place-eq0-clause-within c = (has_levels (length c.args.memory.now) c.requires.size).some
