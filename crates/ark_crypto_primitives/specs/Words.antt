@@ -87,7 +87,7 @@ pub use Rattle.ark_paths.specs.Rows.{IsTree, digests_of, rows_seen}
 pub use Rattle.ark_paths.specs.Tree.{HashedTree, HoldsLeaf, IsAccepted, Tree, halves_beside, path_in, root_in}
 pub use Rattle.ark_paths.specs.Tree.{tree_above, tree_of, tree_with}
 -- logs
-pub use Rattle.merkle_log.specs.Append.{HasLeaf, HasLeaves, IsWhole, KeepsSizes, Refuses, pair_count}
+pub use Rattle.merkle_log.specs.Append.{HasLeaf, HasLeaves, IsWholeList, KeepsSizes, Refuses, pair_count}
 pub use Rattle.merkle_log.specs.Bind.{BindsDigest, BindsFront, BindsLogLeaf, IsConsistency, IsInclusion}
 pub use Rattle.merkle_log.specs.Bind.{IsLeafInclusion, StandsOrPathCollides}
 pub use Rattle.merkle_log.specs.Binding.{HighestIn, IsHighest, LeafHighestIn, is_accepted, leaf_verdict_in, verdict_in}
@@ -98,5 +98,5 @@ pub use Rattle.merkle_log.specs.Log.{LogValue, both_levels, consistency_path, in
 pub use Rattle.merkle_log.specs.Log.{with_more}
 pub use Rattle.merkle_log.specs.Received.{ShowsFront, ShowsLogLeaf, consistency_length, digests_in, inclusion_length}
 pub use Rattle.merkle_log.specs.Received.{received_consistency, received_inclusion}
-pub use Rattle.merkle_log.specs.Stored.{IsStored, row_of}
+pub use Rattle.merkle_log.specs.Stored.{IsStored, row_at}
 pub use Rattle.merkle_log.specs.Verdict.{consistency_verdict, inclusion_verdict, leaf_verdict}

@@ -7,7 +7,7 @@ use Rattle.ark_paths.specs.Pair.{Digest}
 use Rattle.merkle_log.specs.Append.{RefusesCarry}
 use Rattle.merkle_log.specs.Kept.{RefusesAppend, front}
 use Rattle.merkle_log.specs.Log.{NodeHash}
-use Rattle.merkle_log.specs.Stored.{IsStored, row_of, row_pairs}
+use Rattle.merkle_log.specs.Stored.{IsStored, row_at, row_pairs}
 use Rattle.merkle_log.proofs.Lasts.{pairs_parts}
 
 -- The hash of two digests that pass a test is a digest that does.
@@ -90,8 +90,8 @@ module _ {hash : NodeHash} {test : Digest → Bool} (closed : IsClosed hash test
       ) in
       let all = pass-append test leaves (take refuses.place digests) front_pass
       (pass-take test refuses.place digests more_pass) in
-      no-carry (row_of (front (length leaves + refuses.place) refuses.before)) (get_or digests refuses.place []) error
-      (subst (λ n. (level : ℕ) → Pass test (row_of (front n refuses.before) level)) count
-      (pass-rows (row_of (front (length list) refuses.before)) refuses.keeps.hashed
+      no-carry (row_at (front (length leaves + refuses.place) refuses.before)) (get_or digests refuses.place []) error
+      (subst (λ n. (level : ℕ) → Pass test (row_at (front n refuses.before) level)) count
+      (pass-rows (row_at (front (length list) refuses.before)) refuses.keeps.hashed
       (subst (Pass test) (sym refuses.keeps.lowest) all)))
       own refuses.refused

@@ -11,7 +11,7 @@ use Rattle.circom_logs.specs.declared.refusal.NoElement.{NoElement}
 use Rattle.merkle_log.specs.Given.{GivesBy}
 use Rattle.merkle_log.specs.Kept.{KeepsBy, front}
 use Rattle.merkle_log.specs.Log.{NodeHash}
-use Rattle.merkle_log.specs.Stored.{row_of}
+use Rattle.merkle_log.specs.Stored.{row_at}
 use Rattle.merkle_log.proofs.Carried.{stored-none}
 use Rattle.merkle_log.proofs.Positions.{no-count, no-rows}
 use Rattle.circom_logs.proofs.Closed.{Pass}
@@ -29,7 +29,7 @@ pub keeps-none : (hash : NodeHash) → KeepsBy hash [] []
 keeps-none hash = record {
   inside = omega (arith, no-count);
   lowest = no-rows 0;
-  hashed = stored-none hash (row_of (front 0 [])) no-rows;
+  hashed = stored-none hash (row_at (front 0 [])) no-rows;
 }
 
 -- what is given, seen in another way

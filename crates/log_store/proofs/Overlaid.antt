@@ -6,7 +6,7 @@ use Rattle.std.proofs.lemmas.List.{ext_get_or}
 use Rattle.std.proofs.lemmas.List.FromFn.{length-map-range_with_len, get_or-map-range_with_len}
 use Rattle.ark_paths.specs.Pair.{Digest}
 use Rattle.merkle_log.specs.Asked.{IsPeak}
-use Rattle.merkle_log.specs.Stored.{position, stored_count, row_of}
+use Rattle.merkle_log.specs.Stored.{position, stored_count, row_at}
 use Rattle.merkle_log.specs.Walk.{index_up}
 use Rattle.merkle_log.proofs.Positions.{place-within, position-within, row_of-at, up-times}
 use Rattle.merkle_log.proofs.Tests.{mul-twice, odd_test, even_test}
@@ -101,7 +101,7 @@ module _ (size : ℕ) (peaks digests : List Digest) where
 
   -- Each peak that was read stands in its place.
   pub overlay-peak : (level place : ℕ) → level < 64 → IsPeak size level place
-      → get_or peaks level [] ≡ get_or (row_of (overlay size peaks digests) level) place []
+      → get_or peaks level [] ≡ get_or (row_at (overlay size peaks digests) level) place []
   overlay-peak level place less peak =
       let below : place < index_up level size = omega (arith, peak.1) in
       sym (row_of-at (overlay size peaks digests) level place below

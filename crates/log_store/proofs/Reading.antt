@@ -12,7 +12,7 @@ use Rattle.ark_base.specs.Outcome.{Outcome}
 use Rattle.merkle_log.specs.Asked.{IsPeak}
 use Rattle.merkle_log.specs.Log.{consistency_path, NodeHash}
 use Rattle.merkle_log.specs.Kept.{front, has_front, stored_front, Keeps}
-use Rattle.merkle_log.specs.Stored.{position, stored_count, row_of, IsStored}
+use Rattle.merkle_log.specs.Stored.{position, stored_count, row_at, IsStored}
 use Rattle.merkle_log.specs.Walk.{index_up}
 use Rattle.merkle_log.proofs.KeptPlaces.{above-up}
 use Rattle.merkle_log.proofs.KeptRows.{fewer-first, fewer-hashed, rows-agree, stored-same}
@@ -184,14 +184,14 @@ module _ {leaves : List Digest} (file : List ℕ) (size : ℕ) (digests : List D
         (drop 96 file),
   ))
 
-  rows : (level : ℕ) → row_of (front size (stored_in (length leaves) file)) level ≡ row_of (front size digests) level
+  rows : (level : ℕ) → row_at (front size (stored_in (length leaves) file)) level ≡ row_at (front size digests) level
   rows level = rows-agree size (stored_in (length leaves) file) (stored_in size file) (fewer ∙ sym all-of) level
-      ∙ ap (λ digests. row_of (front size digests) level) (sym are)
+      ∙ ap (λ digests. row_at (front size digests) level) (sym are)
 
-  pub list-stored : IsStored node_of (row_of (front size digests))
+  pub list-stored : IsStored node_of (row_at (front size digests))
   list-stored = stored-same node_of _ _ rows (fewer-hashed keeps size le)
 
-  pub list-first : take size (row_of (front size digests) 0) ≡ take size leaves
+  pub list-first : take size (row_at (front size digests) 0) ≡ take size leaves
   list-first = ap (take size) (sym (rows 0)) ∙ fewer-first keeps size le
 
 -- ---- the list with what was read of it
@@ -202,11 +202,11 @@ module _ {leaves : List Digest} (file : List ℕ) (size : ℕ) (peaks : List Dig
   digests-are : (overlay size peaks (stored_in size file)).digests ≡ stored_in size file
   digests-are = overlay-own size peaks (stored_in size file) (length-chunks (stored_count size) (drop 96 file)) own
 
-  pub whole-stored : IsStored node_of (row_of (overlay size peaks (stored_in size file)))
+  pub whole-stored : IsStored node_of (row_at (overlay size peaks (stored_in size file)))
   whole-stored = list-stored {leaves = leaves} file size (overlay size peaks (stored_in size file)).digests keeps le
       digests-are
 
-  pub whole-first : take size (row_of (overlay size peaks (stored_in size file)) 0) ≡ take size leaves
+  pub whole-first : take size (row_at (overlay size peaks (stored_in size file)) 0) ≡ take size leaves
   whole-first = list-first {leaves = leaves} file size (overlay size peaks (stored_in size file)).digests keeps le
       digests-are
 
@@ -222,11 +222,11 @@ module _ {leaves : List Digest} (file : List ℕ) (size : ℕ) (spots : List Spo
   spots-are : (spotted size spots (stored_in size file)).digests ≡ stored_in size file
   spots-are = spotted-own size spots (stored_in size file) (length-chunks (stored_count size) (drop 96 file)) own
 
-  pub spotted-stored : IsStored node_of (row_of (spotted size spots (stored_in size file)))
+  pub spotted-stored : IsStored node_of (row_at (spotted size spots (stored_in size file)))
   spotted-stored = list-stored {leaves = leaves} file size (spotted size spots (stored_in size file)).digests keeps le
       spots-are
 
-  pub spotted-first : take size (row_of (spotted size spots (stored_in size file)) 0) ≡ take size leaves
+  pub spotted-first : take size (row_at (spotted size spots (stored_in size file)) 0) ≡ take size leaves
   spotted-first = list-first {leaves = leaves} file size (spotted size spots (stored_in size file)).digests keeps le
       spots-are
 

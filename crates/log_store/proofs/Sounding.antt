@@ -10,7 +10,7 @@ use Rattle.ark_paths.specs.Pair.{Digest}
 use Rattle.ark_trees.specs.Rfc6962.{node_hash, node_of}
 use Rattle.merkle_log.specs.Kept.{front, has_front, Keeps}
 use Rattle.merkle_log.specs.Log.{merkle_tree_hash}
-use Rattle.merkle_log.specs.Stored.{position, stored_count, row_of, row_pairs}
+use Rattle.merkle_log.specs.Stored.{position, stored_count, row_at, row_pairs}
 use Rattle.merkle_log.specs.Walk.{index_up}
 use Rattle.merkle_log.proofs.Edges.{row_pair}
 use Rattle.merkle_log.proofs.Hashed.{hashed-all, HashedTo}
@@ -28,7 +28,7 @@ use Rattle.log_store.proofs.Reading.{length-chunks, stands, stored-at, up-less, 
 
 -- the digest of a complete place of the list
 placed-in : (file : List ℕ) (size level place : ℕ) → place < index_up level size
-    → placed file level place ≡ get_or (row_of (front size (stored_in size file)) level) place []
+    → placed file level place ≡ get_or (row_at (front size (stored_in size file)) level) place []
 placed-in file size level place below =
     stored-at size (position level place) file (position-within level place size (place-within level place size below))
     ∙ sym (row_of-at (front size (stored_in size file)) level place below)
@@ -40,7 +40,7 @@ up-next level size =
 
 module _ (file : List ℕ) (size : ℕ) where
   abbrev pub rows : ℕ → List Digest
-  rows = row_of (front size (stored_in size file))
+  rows = row_at (front size (stored_in size file))
 
   long : (level : ℕ) → length (rows level) ≡ index_up level size
   long level = length-row_of (front size (stored_in size file)) level
@@ -74,8 +74,8 @@ pub keeps-hashed : (leaves : List Digest) (file : List ℕ) (size : ℕ) → Kee
     → size ≤ length leaves → AreNodes file size
 keeps-hashed leaves file size keeps le = λ level place below.
     let all = length leaves in
-    let row = row_of (front all (stored_in all file)) level in
-    let next = row_of (front all (stored_in all file)) (suc level) in
+    let row = row_at (front all (stored_in all file)) level in
+    let next = row_at (front all (stored_in all file)) (suc level) in
     let up : place < index_up (suc level) all = omega (arith, below, up-rises (suc level) size all le) in
     let inside : 2 * place + 1 < index_up level all = omega (arith, up, up-next level all) in
     let pair = row_pair node_of row next (keeps.hashed.pairs level) place (2 * place) (2 * place + 1) (omega arith) refl

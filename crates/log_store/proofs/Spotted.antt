@@ -5,7 +5,7 @@ use Rattle.std.proofs.lemmas.Bool.Decides.{nat_tests}
 use Rattle.std.proofs.lemmas.List.{ext_get_or}
 use Rattle.std.proofs.lemmas.List.FromFn.{length-map-range_with_len, get_or-map-range_with_len}
 use Rattle.ark_paths.specs.Pair.{Digest}
-use Rattle.merkle_log.specs.Stored.{position, stored_count, row_of}
+use Rattle.merkle_log.specs.Stored.{position, stored_count, row_at}
 use Rattle.merkle_log.specs.Walk.{index_up}
 use Rattle.merkle_log.proofs.Positions.{place-within, position-within, row_of-at}
 use Rattle.log_store.specs.Spots.{found, spotted, AreMore, AreOf, IsRead}
@@ -89,7 +89,7 @@ module _ (size : ℕ) (spots : List Spot) (digests : List Digest) where
 
   -- Each digest that was read stands in its place.
   pub spotted-held : (level place : ℕ) → place < index_up level size → IsRead spots (position level place)
-      → found spots (position level place) ≡ Some (get_or (row_of (spotted size spots digests) level) place [])
+      → found spots (position level place) ≡ Some (get_or (row_at (spotted size spots digests) level) place [])
   spotted-held level place below read =
       let within = position-within level place size (place-within level place size below) in
       read.1 ∙ ap Some (sym (row_of-at (spotted size spots digests) level place below

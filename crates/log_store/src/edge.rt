@@ -6,7 +6,7 @@ ghost use Rattle.ark_paths.specs.Pair.{Digest};
 ghost use Rattle.ark_trees.specs.Rfc6962.{node_of};
 ghost use Rattle.merkle_log.specs.Asked.{IsPeak};
 ghost use Rattle.merkle_log.specs.Log.{merkle_tree_hash};
-ghost use Rattle.merkle_log.specs.Stored.{position, row_of, IsStored, StoredValue};
+ghost use Rattle.merkle_log.specs.Stored.{position, row_at, IsStored, StoredValue};
 ghost use Rattle.merkle_log.specs.Kept.{Keeps};
 ghost use Rattle.log_file.specs.LogFile.{file_end, stored_in};
 
@@ -39,7 +39,7 @@ impl<'a, W: Whole> Rows<[u8; 32]> for Edge<'a, W> {
     ghost stored = { λ _. W.whole };
 
     ghost Holds = { λ edge level place. (level < length edge.peaks.now)
-        × (get_or edge.peaks.now level [] ≡ get_or (row_of W.whole level) place []) };
+        × (get_or edge.peaks.now level [] ≡ get_or (row_at W.whole level) place []) };
 
     fn at(&self, level: usize, _place: usize) -> &[u8; 32] {
         &self.peaks[level]
@@ -94,9 +94,9 @@ fn root_over<D: Disk, W: Whole>(_disk: &D, size: usize, peaks: &[[u8; 32]; 64]) 
     requires size { W.whole.size ≡ size }
     requires some { 0 < size }
     requires peaks { (level place : ℕ) → IsPeak size level place
-        → (level < 64) × (get_or peaks.now level [] ≡ get_or (row_of W.whole level) place []) }
-    ensures { IsStored node_of (row_of W.whole)
-        → merkle_tree_hash node_of (sha256 []) (take size (row_of W.whole 0)) ≡ Ok result }
+        → (level < 64) × (get_or peaks.now level [] ≡ get_or (row_at W.whole level) place []) }
+    ensures { IsStored node_of (row_at W.whole)
+        → merkle_tree_hash node_of (sha256 []) (take size (row_at W.whole 0)) ≡ Ok result }
 {
     let edge = Edge::<W> {
         peaks,

@@ -9,7 +9,7 @@ ghost use Rattle.log_store.specs.Store.{IsBeforeOrAfter, IsGrowth, IsSettled};
 ghost use Rattle.merkle_log.specs.Asked.{IsPeak};
 ghost use Rattle.merkle_log.specs.Kept.{Keeps, stored_front};
 ghost use Rattle.merkle_log.specs.Log.{merkle_tree_hash};
-ghost use Rattle.merkle_log.specs.Stored.{row_of, stored_count};
+ghost use Rattle.merkle_log.specs.Stored.{row_at, stored_count};
 ghost use Rattle.log_store.specs.Refused.{IsRefusedAfter, IsRefusedFor};
 ghost use Rattle.log_file.specs.Append.{appended_size, HasBehind};
 ghost use Rattle.log_file.specs.declared.fault.Fault.TheVariants.{Memory};
@@ -43,7 +43,7 @@ fn bytes_made<D: Disk, W: Whole>(
     requires fits { size + length digests.now < 2 ^ 63 }
     requires room { stored_count (size + length digests.now) ≤ stored_count size + length more.old }
     requires peaks { (level place : ℕ) → IsPeak size level place
-        → (level < 64) × (get_or peaks.now level [] ≡ get_or (row_of W.whole level) place []) }
+        → (level < 64) × (get_or peaks.now level [] ≡ get_or (row_at W.whole level) place []) }
     ensures bytes { (leaves : List Digest) → length leaves ≡ size → Keeps leaves W.whole.digests
         → IfOk result (λ bytes. HasBehind leaves (stored_front W.whole) digests.now bytes.items) }
     ensures memory { IsOkUnless result Memory }
@@ -70,7 +70,7 @@ fn bytes_over<D: Disk, W: Whole>(
     requires whole { stored_count size ≤ length W.whole.digests }
     requires fits { size + length digests.now < 2 ^ 63 }
     requires peaks { (level place : ℕ) → IsPeak size level place
-        → (level < 64) × (get_or peaks.now level [] ≡ get_or (row_of W.whole level) place []) }
+        → (level < 64) × (get_or peaks.now level [] ≡ get_or (row_at W.whole level) place []) }
     ensures bytes { (leaves : List Digest) → length leaves ≡ size → Keeps leaves W.whole.digests
         → IfOk result (λ bytes. HasBehind leaves (stored_front W.whole) digests.now bytes.items) }
     ensures memory { IsOkUnless result Memory }

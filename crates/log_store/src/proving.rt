@@ -8,7 +8,7 @@ ghost use Rattle.merkle_log.specs.Asked.{IsBeside, IsLowest, IsPeak};
 ghost use Rattle.merkle_log.specs.Edge.{all_of};
 ghost use Rattle.merkle_log.specs.Log.{consistency_path, inclusion_path, merkle_tree_hash};
 ghost use Rattle.merkle_log.specs.Kept.{Keeps};
-ghost use Rattle.merkle_log.specs.Stored.{position, row_of, IsStored};
+ghost use Rattle.merkle_log.specs.Stored.{position, row_at, IsStored};
 ghost use Rattle.merkle_log.specs.Verdict.{consistency_verdict, inclusion_verdict};
 ghost use Rattle.log_store.specs.Refused.{IsOnlyMemory, IsRefusedFor};
 ghost use Rattle.log_store.specs.Spots.{found, AreOf, IsRead};
@@ -65,11 +65,11 @@ fn inclusion_over<D: Disk, W: Whole>(
     requires fits { size < 2 ^ 63 }
     requires index { index < size }
     requires peaks { (level place : ℕ) → IsPeak size level place
-        → found spots.now (position level place) ≡ Some (get_or (row_of W.whole level) place []) }
+        → found spots.now (position level place) ≡ Some (get_or (row_at W.whole level) place []) }
     requires beside { (level place : ℕ) → IsBeside index size level place
-        → found spots.now (position level place) ≡ Some (get_or (row_of W.whole level) place []) }
-    ensures path { IsStored node_of (row_of W.whole)
-        → let path = inclusion_path node_of (sha256 []) index (take size (row_of W.whole 0)) in
+        → found spots.now (position level place) ≡ Some (get_or (row_at W.whole level) place []) }
+    ensures path { IsStored node_of (row_at W.whole)
+        → let path = inclusion_path node_of (sha256 []) index (take size (row_at W.whole 0)) in
         IfOk result (λ digests. all_of path ≡ Ok digests.items) }
     ensures memory { IsOkUnless result Memory }
 {
@@ -94,13 +94,13 @@ fn consistency_over<D: Disk, W: Whole>(
     requires some { 0 < old_size }
     requires inside { old_size < size }
     requires peaks { (level place : ℕ) → IsPeak size level place
-        → found spots.now (position level place) ≡ Some (get_or (row_of W.whole level) place []) }
+        → found spots.now (position level place) ≡ Some (get_or (row_at W.whole level) place []) }
     requires beside { (level place : ℕ) → IsBeside (old_size - 1) size level place
-        → found spots.now (position level place) ≡ Some (get_or (row_of W.whole level) place []) }
+        → found spots.now (position level place) ≡ Some (get_or (row_at W.whole level) place []) }
     requires lowest { (level place : ℕ) → IsLowest old_size level place
-        → found spots.now (position level place) ≡ Some (get_or (row_of W.whole level) place []) }
-    ensures path { IsStored node_of (row_of W.whole)
-        → let path = consistency_path node_of (sha256 []) old_size (take size (row_of W.whole 0)) in
+        → found spots.now (position level place) ≡ Some (get_or (row_at W.whole level) place []) }
+    ensures path { IsStored node_of (row_at W.whole)
+        → let path = consistency_path node_of (sha256 []) old_size (take size (row_at W.whole 0)) in
         IfOk result (λ digests. all_of path ≡ Ok digests.items) }
     ensures memory { IsOkUnless result Memory }
 {

@@ -4,7 +4,7 @@ ghost use Rattle.std.specs.Prelude.{◌≡◌, ◌≤◌, ◌<◌, ◌+◌, ◌*
 ghost use Rattle.ark_paths.specs.Pair.{Digest};
 ghost use Rattle.merkle_log.specs.Asked.{IsBeside, IsLowest, IsPeak};
 ghost use Rattle.merkle_log.specs.Binding.{index_beside};
-ghost use Rattle.merkle_log.specs.Stored.{position, row_of, stored_count};
+ghost use Rattle.merkle_log.specs.Stored.{position, row_at, stored_count};
 ghost use Rattle.log_store.specs.Refused.{IsOnlyMemory};
 ghost use Rattle.log_store.specs.Spots.{found, AreMore, AreOf, IsRead};
 ghost use Rattle.log_file.specs.LogFile.{file_end, stored_in};
@@ -36,7 +36,7 @@ impl<'a, W: Whole> Rows<[u8; 32]> for Spots<'a, W> {
 
     ghost Holds = { λ own level place. (W.whole.size < 2 ^ 63)
         × (found own.spots.now (position level place)
-        ≡ Some (get_or (row_of W.whole level) place [])) };
+        ≡ Some (get_or (row_at W.whole level) place [])) };
 
     fn at(&self, level: usize, place: usize) -> &[u8; 32] {
         find(self.spots, position_of(level, place))

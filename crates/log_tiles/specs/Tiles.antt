@@ -3,7 +3,7 @@
 use Rattle.std.specs.Prelude.{◌≡◌, ℕ, ◌-◌, ◌*◌, ◌/◌, ◌^◌, ◌<◌, min, List, take, drop, Result, Ok, Err}
 use Rattle.ark_paths.specs.Pair.{Digest}
 use Rattle.merkle_log.specs.Kept.{front}
-use Rattle.merkle_log.specs.Stored.{row_of}
+use Rattle.merkle_log.specs.Stored.{row_at}
 use Rattle.log_file.specs.LogFile.{stored_in}
 use Rattle.log_file.specs.declared.fault.Fault.TheVariants.{Index}
 use Rattle.log_store.specs.declared.stop.Stop.{Stop}
@@ -39,4 +39,4 @@ tile_in rows tile = take tile.width (drop (256 * tile.index) (rows (8 * tile.lev
 
 -- the rows of the tree of a log of this size whose stored digests a file has
 abbrev pub rows_in : ℕ → List ℕ → ℕ → List Digest
-rows_in size file = row_of (front size (stored_in size file))
+rows_in size file = row_at (front size (stored_in size file))

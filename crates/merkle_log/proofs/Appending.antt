@@ -4,7 +4,7 @@ use Rattle.std.proofs.lemmas.List.{append-nil, drop-drop, length-append, length-
 use Rattle.ark_paths.specs.Pair.{Digest}
 use Rattle.ark_base.specs.declared.error.Error.{Error}
 use Rattle.merkle_log.specs.Append.{Completes, RefusesCarry}
-use Rattle.merkle_log.specs.Stored.{stored_count, row_of, IsStored}
+use Rattle.merkle_log.specs.Stored.{stored_count, row_at, IsStored}
 use Rattle.merkle_log.proofs.Completing.{completes-appends}
 use Rattle.merkle_log.proofs.Growing.{AppendsAll, all-next, extends-itself}
 use Rattle.merkle_log.specs.Kept.{front, KeepsBy, RefusesAppend}
@@ -17,7 +17,7 @@ use Rattle.merkle_log.proofs.KeptRows.{cut-hashed, cut-lowest, kept-by}
 pub record Appending (hash : NodeHash) (stored : List Digest) (size : ℕ) (digests old more : List Digest)
     (place made : ℕ) : Type 0 where
   pub count : length stored + made ≡ stored_count (size + place)
-  pub grows : IsStored hash (row_of (front size stored))
+  pub grows : IsStored hash (row_at (front size stored))
       → AppendsAll hash (front size stored) (take place digests) (front (size + place) (items stored made more))
   pub behind : drop made more ≡ drop made old
   pub same : length more ≡ length old
@@ -29,7 +29,7 @@ appending-first stored size digests old whole =
     record {
       count = rw (none) (omega arith);
       grows = λ hashed. rw (none, append-nil) (record {
-        first_row = sym (append-nil (row_of (front size stored) 0));
+        first_row = sym (append-nil (row_at (front size stored) 0));
         whole = whole;
         stored = hashed;
         extends = extends-itself (front size stored) whole;
@@ -103,7 +103,7 @@ module _ {hash : NodeHash} {leaves kept digests old more : List Digest} {size pl
 
   -- The next one is refused.
   pub appending-refused : (error : Error) → place < length digests
-      → RefusesCarry hash (row_of (front (size + place) (items (take (stored_count size) kept) made more)))
+      → RefusesCarry hash (row_at (front (size + place) (items (take (stored_count size) kept) made more)))
       (get_or digests place []) error → RefusesAppend hash leaves digests error
   appending-refused error below refused = record {
     place = place;

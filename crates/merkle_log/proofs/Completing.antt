@@ -5,7 +5,7 @@ use Rattle.std.proofs.lemmas.List.{length-map, length-append, map-append, append
 use Rattle.ark_paths.specs.Pair.{Digest}
 use Rattle.merkle_log.specs.Log.{NodeHash}
 use Rattle.merkle_log.specs.Walk.{index_up}
-use Rattle.merkle_log.specs.Stored.{stored_count, position, StoredValue, row_of}
+use Rattle.merkle_log.specs.Stored.{stored_count, position, StoredValue, row_at}
 use Rattle.std.proofs.lemmas.Nat.{ones_le_self}
 use Rattle.ark_base.specs.declared.error.Error.{Error}
 use Rattle.merkle_log.specs.Append.{Appends, Completes, RefusesCarry, pair_count, pushed_row}
@@ -23,7 +23,7 @@ pub record Completing {A : Type 0} (numbers : A → Digest) (hash : NodeHash) (s
   pub items_are : items ≡ before ++ made
   pub count : length made ≡ level + 1
   pub left_is : left ≡ index_up level size
-  pub carried : CarriesTo hash (row_of (stored_as numbers size before)) digest level (map numbers made)
+  pub carried : CarriesTo hash (row_at (stored_as numbers size before)) digest level (map numbers made)
 
 pub completing-first : {A : Type 0} (numbers : A → Digest) (hash : NodeHash) (size : ℕ) (before : List A) (digest : A)
     (items : List A) → items ≡ before ++ (digest ∷ []) → Completing numbers hash size before (numbers digest)
@@ -33,13 +33,13 @@ completing-first numbers hash size before digest items is = record {
   items_are = is;
   count = refl;
   left_is = refl;
-  carried = carries-first hash (row_of (stored_as numbers size before)) (numbers digest);
+  carried = carries-first hash (row_at (stored_as numbers size before)) (numbers digest);
 }
 
 module _ {A : Type 0} {numbers : A → Digest} {hash : NodeHash} {size : ℕ} {before : List A} {digest : Digest}
     {items : List A} {level left : ℕ} (at : Completing numbers hash size before digest items level left) where
   abbrev rows : ℕ → List Digest
-  rows = row_of (stored_as numbers size before)
+  rows = row_at (stored_as numbers size before)
 
   odd_below : (l : ℕ) → l < level → index_up l size % 2 ≡ 1
   odd_below l below = ap (λ n. n % 2) (sym (length-row_of (stored_as numbers size before) l)) ∙ at.carried.odd l below
@@ -170,9 +170,9 @@ module _ {hash : NodeHash} {size : ℕ} {before after : List Digest} {digest : D
       omega (arith, ap length done.is ∙ length-append before done.made)
 
   pub completes-rows : length before ≡ stored_count size → (level : ℕ)
-      → row_of (record { size = size + 1; digests = after }) level
-      ≡ pushed_row (row_of (record { size = size; digests = before })) done.made level
-  completes-rows count level = ap (λ l. row_of (record { size = size + 1; digests = l }) level) done.is
+      → row_at (record { size = size + 1; digests = after }) level
+      ≡ pushed_row (row_at (record { size = size; digests = before })) done.made level
+  completes-rows count level = ap (λ l. row_at (record { size = size + 1; digests = l }) level) done.is
       ∙ rows-more (record { size = size; digests = before }) done.made count done.carried.some odds evens level
 
   pub completes-appends : length before ≡ stored_count size → Appends hash (record { size = size; digests = before })

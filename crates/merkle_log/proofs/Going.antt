@@ -9,7 +9,7 @@ use Rattle.merkle_log.specs.Walk.{joined}
 use Rattle.ark_paths.specs.Pair.{Digest}
 use Rattle.merkle_log.specs.Log.{NodeHash}
 use Rattle.merkle_log.specs.Stored.{IsStored}
-use Rattle.merkle_log.specs.Edge.{last_raised, all_of, digests_beside, behind, row_with}
+use Rattle.merkle_log.specs.Edge.{last_raised, all_of, digests_beside, path_behind, row_with}
 use Rattle.merkle_log.proofs.RowsUp.{row_up}
 use Rattle.merkle_log.proofs.Tests.{twice, odd_test, even_test, fewer}
 use Rattle.merkle_log.proofs.PathRows.{Right, Left, Alone, side, beside, beside-even, path-up}
@@ -52,14 +52,14 @@ beside-there row i s x none last le inside known =
     ]
 
 -- digests that are there, in front of others
-pub all_of-behind : (sofar ds : List Digest) (rest : List Node) → (all_of (node_rows ds ++ rest) >>= behind sofar)
-    ≡ (all_of rest >>= behind (sofar ++ ds))
-all_of-behind sofar [] rest = ap (λ l. all_of rest >>= behind l) (sym (append-nil sofar))
+pub all_of-behind : (sofar ds : List Digest) (rest : List Node) → (all_of (node_rows ds ++ rest) >>= path_behind sofar)
+    ≡ (all_of rest >>= path_behind (sofar ++ ds))
+all_of-behind sofar [] rest = ap (λ l. all_of rest >>= path_behind l) (sym (append-nil sofar))
 all_of-behind sofar (d ∷ ds) rest = one (all_of (node_rows ds ++ rest)) ∙ all_of-behind (sofar ++ (d ∷ [])) ds rest
-    ∙ ap (λ l. all_of rest >>= behind l) (append_assoc sofar (d ∷ []) ds)
+    ∙ ap (λ l. all_of rest >>= path_behind l) (append_assoc sofar (d ∷ []) ds)
   where
-    one : (o : Outcome (List Digest)) → ((o >>= λ more. Ok (d ∷ more)) >>= behind sofar)
-        ≡ (o >>= behind (sofar ++ (d ∷ [])))
+    one : (o : Outcome (List Digest)) → ((o >>= λ more. Ok (d ∷ more)) >>= path_behind sofar)
+        ≡ (o >>= path_behind (sofar ++ (d ∷ [])))
     one (Ok more) = ap Ok (sym (append_assoc sofar (d ∷ []) more))
     one (Err e) = refl
 
@@ -78,7 +78,7 @@ pub record Goes (hash : NodeHash) (rows : ℕ → List Digest) (empty : Digest) 
   pub high : s < 2 ^ levels
   pub within : s ≤ length (rows level)
   pub inside : i ≤ s
-  pub is : (all_of (path (joined hash) (Ok empty) levels i (row_with (rows level) s x)) >>= behind sofar) ≡ answer
+  pub is : (all_of (path (joined hash) (Ok empty) levels i (row_with (rows level) s x)) >>= path_behind sofar) ≡ answer
 
 -- The same, where the last value is this digest as long as the path needs it.
 pub record Going (hash : NodeHash) (rows : ℕ → List Digest) (empty : Digest) (level i s : ℕ) (last : Digest)
@@ -117,12 +117,14 @@ module _ {hash : NodeHash} {rows : ℕ → List Digest} (empty : Digest) (stored
   goes-up {level} {i} {s} {x} {sofar} {answer} at some last known =
       let ds = digests_beside (rows level) i s last in
       let y = raised hash (rows level) s x in
-      let up = fewer (λ k. (all_of (way k level i s x) >>= behind sofar) ≡ answer)
-      (λ k. (all_of (way k (suc level) (i / 2) (s / 2) y) >>= behind (sofar ++ ds)) ≡ answer) at.levels some at.high
+      let up = fewer (λ k. (all_of (way k level i s x) >>= path_behind sofar) ≡ answer)
+      (λ k. (all_of (way k (suc level) (i / 2) (s / 2) y) >>= path_behind (sofar ++ ds)) ≡ answer) at.levels some
+      at.high
       at.is (λ k high is. sym (all_of-behind sofar ds (way k (suc level) (i / 2) (s / 2) y))
-      ∙ ap (λ l. all_of (l ++ way k (suc level) (i / 2) (s / 2) y) >>= behind sofar) (sym (beside-there (rows level) i s
+      ∙ ap (λ l. all_of (l ++ way k (suc level) (i / 2) (s / 2) y) >>= path_behind sofar)
+      (sym (beside-there (rows level) i s
       x (Ok empty) last at.within at.inside (λ even end. known (omega arith))))
-      ∙ ap (λ l. all_of l >>= behind sofar) (sym (path-with k level i s x at.within at.inside high)) ∙ is) in
+      ∙ ap (λ l. all_of l >>= path_behind sofar) (sym (path-with k level i s x at.within at.inside high)) ∙ is) in
       record {
         levels = up.levels;
         high = up.high;
@@ -168,9 +170,10 @@ module _ {hash : NodeHash} {rows : ℕ → List Digest} (empty : Digest) (stored
     going-end top =
         let first : i ≡ 0 = omega (arith, going.goes.inside) in
         sym going.goes.is
-        ∙ ap (λ n. all_of (way going.goes.levels level i n going.x) >>= behind sofar) top
-        ∙ ap (λ n. all_of (path (joined hash) (Ok empty) going.goes.levels n (going.x ∷ [])) >>= behind sofar) first
-        ∙ ap (λ l. all_of l >>= behind sofar) (path-one (joined hash) (Ok empty) going.goes.levels going.x)
+        ∙ ap (λ n. all_of (way going.goes.levels level i n going.x) >>= path_behind sofar) top
+        ∙ ap (λ n. all_of (path (joined hash) (Ok empty) going.goes.levels n (going.x ∷ [])) >>= path_behind sofar)
+        first
+        ∙ ap (λ l. all_of l >>= path_behind sofar) (path-one (joined hash) (Ok empty) going.goes.levels going.x)
         ∙ ap Ok (append-nil sofar)
 
     going-next : 0 < s → (next : Digest) → (i / 2 < s / 2 → last_raised hash (rows level) s last ≡ Ok next)
@@ -186,9 +189,10 @@ module _ {hash : NodeHash} {rows : ℕ → List Digest} (empty : Digest) (stored
     going-refused some e under is =
         let up = goes-up going.goes some last going.known in
         let more = sofar ++ digests_beside (rows level) i s last in
-        sym up.is ∙ ap (λ z. all_of (way up.levels (suc level) (i / 2) (s / 2) z) >>= behind more)
+        sym up.is ∙ ap (λ z. all_of (way up.levels (suc level) (i / 2) (s / 2) z) >>= path_behind more)
         (needed-known level i s going.x last (Err e) going.known is under)
-        ∙ ap (λ o. o >>= behind more) (path-refused up.levels (suc level) (i / 2) (s / 2) e up.high up.within under)
+        ∙ ap (λ o. o >>= path_behind more) (path-refused up.levels (suc level) (i / 2) (s / 2) e up.high up.within
+        under)
 
     -- the same, at a next level and with the path so far as the code has them
     pub going-step : 0 < s → (up : ℕ) → up ≡ level + 1 → (next : Digest)

@@ -5,8 +5,8 @@ use Rattle.ark_base.specs.Outcome.{Outcome}
 use Rattle.ark_paths.specs.Pair.{Digest, Hashes}
 use Rattle.ark_paths.proofs.ListOutcomes.{IsSoFar, IsSoFar-none, IsSoFar-all}
 use Rattle.merkle_log.specs.Log.{NodeHash}
-use Rattle.merkle_log.specs.Stored.{StoredValue, stored_count, row_of, IsStored}
-use Rattle.merkle_log.specs.Append.{Appends, AppendsLeaves, GrowsTo, IsWhole}
+use Rattle.merkle_log.specs.Stored.{StoredValue, stored_count, row_at, IsStored}
+use Rattle.merkle_log.specs.Append.{Appends, AppendsLeaves, GrowsTo, IsWholeList}
 use Rattle.merkle_log.specs.Rising.{with_rows}
 use Rattle.merkle_log.proofs.KeptRows.{stored-same}
 use Rattle.merkle_log.proofs.Positions.{count-rises}
@@ -14,8 +14,8 @@ use Rattle.merkle_log.proofs.Carried.{stored-pushed, pushed-first}
 
 -- what a log keeps true of its list
 pub record IsKept (hash : NodeHash) (stored : StoredValue) : Type 0 where
-  pub whole : IsWhole stored
-  pub stored_is : IsStored hash (row_of stored)
+  pub whole : IsWholeList stored
+  pub stored_is : IsStored hash (row_at stored)
 
 module _ {V : Type 0} (hash : NodeHash) (old new : StoredValue) (digest : Digest) (result : Outcome V) where
   pub appends-kept : IsKept hash old → OnOk result (Appends hash old digest new) → OnErr result (new ≡ old)
@@ -26,8 +26,8 @@ module _ {V : Type 0} (hash : NodeHash) (old new : StoredValue) (digest : Digest
           → IsKept hash new
       by_result (Ok v) appended same = record {
         whole = appended.whole;
-        stored_is = stored-pushed hash (row_of old)
-            (row_of new) digest appended.made kept.stored_is appended.carried appended.rows;
+        stored_is = stored-pushed hash (row_at old)
+            (row_at new) digest appended.made kept.stored_is appended.carried appended.rows;
       }
       by_result (Err e) appended same = rw (same) kept
 
@@ -36,12 +36,12 @@ module _ {V : Type 0} (hash : NodeHash) (old new : StoredValue) (digest : Digest
 -- A log's list is followed by more leaves' digests and those that they make.
 pub record AppendsAll (hash : NodeHash) (old : StoredValue) (digests : List Digest) (new : StoredValue) :
     Type 0 where
-  pub first_row : row_of new 0 ≡ row_of old 0 ++ digests
-  pub whole : IsWhole new
-  pub stored : IsStored hash (row_of new)
+  pub first_row : row_at new 0 ≡ row_at old 0 ++ digests
+  pub whole : IsWholeList new
+  pub stored : IsStored hash (row_at new)
   pub extends : GrowsTo old new
 
-pub extends-itself : (stored : StoredValue) → IsWhole stored → GrowsTo stored stored
+pub extends-itself : (stored : StoredValue) → IsWholeList stored → GrowsTo stored stored
 extends-itself stored whole = record {
   size = omega arith;
   front = take_all (stored_count stored.size) stored.digests
@@ -59,19 +59,19 @@ extends-more a b c first second =
     }
 
 module _ {hash : NodeHash} where
-  pub all-first : (old new : StoredValue) (digest : Digest) → IsStored hash (row_of old) → Appends hash old digest new
+  pub all-first : (old new : StoredValue) (digest : Digest) → IsStored hash (row_at old) → Appends hash old digest new
       → AppendsAll hash old (digest ∷ []) new
   all-first old new digest stored appended = record {
-    first_row = pushed-first hash (row_of old) (row_of new) digest appended.made appended.carried appended.rows;
+    first_row = pushed-first hash (row_at old) (row_at new) digest appended.made appended.carried appended.rows;
     whole = appended.whole;
-    stored = stored-pushed hash (row_of old) (row_of new) digest appended.made stored appended.carried appended.rows;
+    stored = stored-pushed hash (row_at old) (row_at new) digest appended.made stored appended.carried appended.rows;
     extends = appended.extends;
   }
 
   pub all-more : (old mid new : StoredValue) (digests more : List Digest) → AppendsAll hash old digests mid
       → AppendsAll hash mid more new → AppendsAll hash old (digests ++ more) new
   all-more old mid new digests more first second = record {
-    first_row = second.first_row ∙ ap (λ l. l ++ more) first.first_row ∙ append_assoc (row_of old 0) digests more;
+    first_row = second.first_row ∙ ap (λ l. l ++ more) first.first_row ∙ append_assoc (row_at old 0) digests more;
     whole = second.whole;
     stored = second.stored;
     extends = extends-more old mid new first.extends second.extends;
@@ -85,13 +85,13 @@ module _ {hash : NodeHash} where
 
 -- Rows were laid behind those of a list.
 pub laid-all : (hash : NodeHash) (old new : StoredValue) (left : ℕ → List Digest) (digests : List Digest)
-    → left 0 ≡ digests → IsStored hash (with_rows (row_of old) left)
-    → ((level : ℕ) → row_of new level ≡ with_rows (row_of old) left level) → IsWhole new → GrowsTo old new
+    → left 0 ≡ digests → IsStored hash (with_rows (row_at old) left)
+    → ((level : ℕ) → row_at new level ≡ with_rows (row_at old) left level) → IsWholeList new → GrowsTo old new
     → AppendsAll hash old digests new
 laid-all hash old new left digests lowest hashed laid whole extends = record {
-  first_row = laid 0 ∙ ap (λ l. row_of old 0 ++ l) lowest;
+  first_row = laid 0 ∙ ap (λ l. row_at old 0 ++ l) lowest;
   whole = whole;
-  stored = stored-same hash (with_rows (row_of old) left) (row_of new) (λ level. sym (laid level)) hashed;
+  stored = stored-same hash (with_rows (row_at old) left) (row_at new) (λ level. sym (laid level)) hashed;
   extends = extends;
 }
 
@@ -102,16 +102,16 @@ pub record AppendsFirst {A : Type 0} (hashes : Hashes A) (old : StoredValue) (le
   pub extends : GrowsTo old new
   pub digests : List Digest
   pub hashed : IsSoFar hashes.leaf leaves count digests
-  pub first_row : row_of new 0 ≡ row_of old 0 ++ digests
+  pub first_row : row_at new 0 ≡ row_at old 0 ++ digests
 
 module _ {A : Type 0} {hashes : Hashes A} {old : StoredValue} {leaves : List A} where
-  pub appends-none : IsWhole old → IsStored hashes.pair.upper (row_of old) → AppendsFirst hashes old leaves 0 old
+  pub appends-none : IsWholeList old → IsStored hashes.pair.upper (row_at old) → AppendsFirst hashes old leaves 0 old
   appends-none whole stored = record {
     kept = record { whole = whole; stored_is = stored };
     extends = extends-itself old whole;
     digests = [];
     hashed = IsSoFar-none hashes.leaf leaves;
-    first_row = sym (append-nil (row_of old 0));
+    first_row = sym (append-nil (row_at old 0));
   }
 
   pub appends-run : {count : ℕ} {mid new : StoredValue} (run : ℕ) → AppendsFirst hashes old leaves count mid
@@ -123,7 +123,7 @@ module _ {A : Type 0} {hashes : Hashes A} {old : StoredValue} {leaves : List A} 
     extends = extends-more old mid new at.extends appended.extends;
     digests = at.digests ++ more;
     hashed = hashed at.digests at.hashed;
-    first_row = appended.first_row ∙ ap (λ l. l ++ more) at.first_row ∙ append_assoc (row_of old 0) at.digests more;
+    first_row = appended.first_row ∙ ap (λ l. l ++ more) at.first_row ∙ append_assoc (row_at old 0) at.digests more;
   }
 
   pub appends-all : {count : ℕ} {new : StoredValue} → AppendsFirst hashes old leaves count new → length leaves ≤ count

@@ -8,7 +8,7 @@ use Rattle.ark_base.specs.Laws.Steps.{done_injective}
 use Rattle.ark_paths.specs.Pair.{Digest}
 use Rattle.ark_trees.specs.Rfc6962.{node_hash, node_of}
 use Rattle.merkle_log.specs.Log.{NodeHash}
-use Rattle.merkle_log.specs.Stored.{StoredValue, row_of, row_pairs, IsStored}
+use Rattle.merkle_log.specs.Stored.{StoredValue, row_at, row_pairs, IsStored}
 use Rattle.merkle_log.proofs.Edges.{row_pair}
 use Rattle.merkle_log.proofs.KeptRows.{length-up}
 
@@ -46,8 +46,8 @@ hashed-all hash (a ∷ b ∷ row) (digest ∷ next) half so =
 
 -- ---- the rows above the first that has no pair
 
-small-above : (stored : StoredValue) (level d : ℕ) → length (row_of stored level) ≤ 1
-    → length (row_of stored (level + d)) ≤ 1
+small-above : (stored : StoredValue) (level d : ℕ) → length (row_at stored level) ≤ 1
+    → length (row_at stored (level + d)) ≤ 1
 small-above stored level zero low = let e : level + 0 ≡ level = omega arith in rw (e) low
 small-above stored level (suc d) low =
     let ih = small-above stored level d low in
@@ -60,23 +60,23 @@ no-pairs hash (a ∷ []) low = refl
 no-pairs hash (a ∷ b ∷ row) low = absurd (omega arith)
 
 pub stored-all : (hash : NodeHash) (stored : StoredValue) (level : ℕ)
-    → ((l : ℕ) → l < level → row_pairs hash (row_of stored l) ≡ Ok (row_of stored (l + 1)))
-    → length (row_of stored level) ≤ 1 → IsStored hash (row_of stored)
+    → ((l : ℕ) → l < level → row_pairs hash (row_at stored l) ≡ Ok (row_at stored (l + 1)))
+    → length (row_at stored level) ≤ 1 → IsStored hash (row_at stored)
 stored-all hash stored level so low = record {
   pairs = λ l.
       let e : l + 1 ≡ suc l = omega arith in
-      pairs l ∙ ap (λ n. Ok (row_of stored n)) e;
+      pairs l ∙ ap (λ n. Ok (row_at stored n)) e;
 }
   where
-    pairs : (l : ℕ) → row_pairs hash (row_of stored l) ≡ Ok (row_of stored (l + 1))
+    pairs : (l : ℕ) → row_pairs hash (row_at stored l) ≡ Ok (row_at stored (l + 1))
     pairs l = elim (cases_lt l level) [
       | inl less ↦ so l less
       | inr above ↦
           let e : level + (l - level) ≡ l = omega arith in
-          let small : length (row_of stored l) ≤ 1 =
+          let small : length (row_at stored l) ≤ 1 =
           rw (e) at (small-above stored level (l - level) low) in
-          no-pairs hash (row_of stored l) small
-          ∙ ap Ok (sym (nothing (row_of stored (l + 1)) (omega (arith, length-up stored l))))
+          no-pairs hash (row_at stored l) small
+          ∙ ap Ok (sym (nothing (row_at stored (l + 1)) (omega (arith, length-up stored l))))
     ]
 
 -- A digest that is not the hash of its pair.

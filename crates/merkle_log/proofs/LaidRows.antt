@@ -9,7 +9,7 @@ use Rattle.ark_paths.specs.Pair.{Digest}
 use Rattle.merkle_log.specs.Append.{pushed_row}
 use Rattle.merkle_log.specs.Kept.{front}
 use Rattle.merkle_log.specs.Rising.{AreOfSize, left_of, with_rows}
-use Rattle.merkle_log.specs.Stored.{row_of, stored_count}
+use Rattle.merkle_log.specs.Stored.{row_at, stored_count}
 use Rattle.merkle_log.specs.Walk.{index_up}
 use Rattle.merkle_log.proofs.Carried.{pushed-in, pushed-out}
 use Rattle.merkle_log.proofs.KeptRows.{up-rises}
@@ -117,25 +117,25 @@ module _ {A : Type 0} {numbers : A → Digest} {size : ℕ} {before items : List
         count-more level size at.odd evens,
       )
 
-      pub laying-end : (k : ℕ) → with_rows (row_of (front (size + 1) (map numbers items))) new k
-          ≡ with_rows (row_of (front size (map numbers before))) old k
+      pub laying-end : (k : ℕ) → with_rows (row_at (front (size + 1) (map numbers items))) new k
+          ≡ with_rows (row_at (front size (map numbers before))) old k
       laying-end k =
           let own = front size (map numbers before) in
           let made = map numbers at.made in
           let long : length made ≡ level + 1 = length-map at.made numbers ∙ at.count in
           let last : length made - 1 ≡ level = omega arith in
-          let more : row_of (front (size + 1) (map numbers items)) k ≡ pushed_row (row_of own) made k =
-          ap (λ l. row_of (front (size + 1) l) k) (ap (map numbers) at.items_are ∙ map-append numbers before at.made)
+          let more : row_at (front (size + 1) (map numbers items)) k ≡ pushed_row (row_at own) made k =
+          ap (λ l. row_at (front (size + 1) l) k) (ap (map numbers) at.items_are ∙ map-append numbers before at.made)
           ∙ rows-more own made (length-map before numbers ∙ whole) (omega arith)
           (λ l below. at.odd l (omega arith)) (rw (last) evens) k in
           ap (λ l. l ++ new k) more ∙ elim (cases_lt k (length made)) [
             | inl less ↦
-                ap (λ l. l ++ new k) (pushed-in (row_of own) made k less)
-                ∙ append_assoc (row_of own k) (get_or made k [] ∷ []) (new k)
-                ∙ ap (λ l. row_of own k ++ l) (sym (at.taken k (omega arith)))
+                ap (λ l. l ++ new k) (pushed-in (row_at own) made k less)
+                ∙ append_assoc (row_at own k) (get_or made k [] ∷ []) (new k)
+                ∙ ap (λ l. row_at own k ++ l) (sym (at.taken k (omega arith)))
             | inr ge ↦
-                ap (λ l. l ++ new k) (pushed-out (row_of own) made k ge)
-                ∙ ap (λ l. row_of own k ++ l) (at.others k (omega arith))
+                ap (λ l. l ++ new k) (pushed-out (row_at own) made k ge)
+                ∙ ap (λ l. row_at own k ++ l) (at.others k (omega arith))
           ]
 
 -- ---- leaf by leaf
@@ -144,17 +144,17 @@ module _ {A : Type 0} {numbers : A → Digest} {size : ℕ} {before items : List
 pub record Laid {A : Type 0} (numbers : A → Digest) (size step : ℕ) (before items : List A)
     (old new : ℕ → List Digest) : Type 0 where
   pub whole : length items ≡ stored_count (size + step)
-  pub rows : (k : ℕ) → with_rows (row_of (front (size + step) (map numbers items))) new k
-      ≡ with_rows (row_of (front size (map numbers before))) old k
+  pub rows : (k : ℕ) → with_rows (row_at (front (size + step) (map numbers items))) new k
+      ≡ with_rows (row_at (front size (map numbers before))) old k
   pub front_is : take (length before) items ≡ before
 
 module _ {A : Type 0} {numbers : A → Digest} {size step : ℕ} {before items : List A} {old new : ℕ → List Digest}
     (at : Laid numbers size step before items old new) (count : ℕ)
-    (sizes : AreOfSize (size + count) (with_rows (row_of (front size (map numbers before))) old)) where
+    (sizes : AreOfSize (size + count) (with_rows (row_at (front size (map numbers before))) old)) where
   -- what is laid and what is left
   both : (k : ℕ) → index_up k (size + step) + length (new k) ≡ index_up k (size + count)
   both k =
-      let own = row_of (front (size + step) (map numbers items)) in
+      let own = row_at (front (size + step) (map numbers items)) in
       omega (
         arith,
         length-append (own k) (new k),
@@ -168,12 +168,12 @@ module _ {A : Type 0} {numbers : A → Digest} {size step : ℕ} {before items :
   laid-some below k rises =
       omega (arith, both k, up-rises k (size + step + 1) (size + count) (omega arith))
 
-  pub laid-end : step ≡ count → (k : ℕ) → row_of (front (size + count) (map numbers items)) k
-      ≡ with_rows (row_of (front size (map numbers before))) old k
+  pub laid-end : step ≡ count → (k : ℕ) → row_at (front (size + count) (map numbers items)) k
+      ≡ with_rows (row_at (front size (map numbers before))) old k
   laid-end all k =
-      ap (λ n. row_of (front (size + n) (map numbers items)) k) (sym all)
-      ∙ sym (append-nil (row_of (front (size + step) (map numbers items)) k))
-      ∙ ap (λ l. row_of (front (size + step) (map numbers items)) k ++ l)
+      ap (λ n. row_at (front (size + n) (map numbers items)) k) (sym all)
+      ∙ sym (append-nil (row_at (front (size + step) (map numbers items)) k))
+      ∙ ap (λ l. row_at (front (size + step) (map numbers items)) k ++ l)
       (sym (nothing (new k) (omega (arith, both k, ap (λ n. index_up k (size + n)) all))))
       ∙ at.rows k
     where

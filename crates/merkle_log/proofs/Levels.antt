@@ -12,7 +12,7 @@ use Rattle.ark_trees.specs.Rfc6962.{node_hash, node_of}
 use Rattle.merkle_log.specs.Asked.{Holding, IsPeak}
 use Rattle.merkle_log.specs.Kept.{front, Keeps}
 use Rattle.merkle_log.specs.Levels.{HasRoom, Lies, Raises, parent_in, place_in}
-use Rattle.merkle_log.specs.Stored.{position, stored_count, StoredValue, row_of, row_pairs, IsStored}
+use Rattle.merkle_log.specs.Stored.{position, stored_count, StoredValue, row_at, row_pairs, IsStored}
 use Rattle.merkle_log.specs.Walk.{index_up}
 use Rattle.merkle_log.proofs.Asking.{peak-here-at}
 use Rattle.merkle_log.proofs.Edges.{row_pair}
@@ -325,25 +325,25 @@ module _ (leaves kept more digests : List Digest) (size total : ℕ) (count : le
   stayed = take-append-le (stored_count size) (take (stored_count size) kept) more (omega (arith, long))
       ∙ take-take (stored_count size) (stored_count size) kept (omega arith)
 
-  own-rows : (level : ℕ) → row_of (front size kept) level ≡ row_of (front size all) level
+  own-rows : (level : ℕ) → row_at (front size kept) level ≡ row_at (front size all) level
   own-rows level = rows-agree size kept all (sym stayed) level
 
-  own-lowest : row_of (front size all) 0 ≡ leaves
+  own-lowest : row_at (front size all) 0 ≡ leaves
   own-lowest = sym (own-rows 0) ∙ (rw (count) at keeps.lowest)
 
-  own-hashed : IsStored node_of (row_of (front size all))
+  own-hashed : IsStored node_of (row_at (front size all))
   own-hashed = stored-same node_of _ _ own-rows (rw (count) at keeps.hashed)
 
   -- the rows of both, place by place
-  both-at : (level place : ℕ) → place < index_up level size → get_or (row_of (front size all) level) place []
+  both-at : (level place : ℕ) → place < index_up level size → get_or (row_at (front size all) level) place []
       ≡ place_in all level place
   both-at level place below = row_of-at (front size all) level place below
 
-  all-at : (level place : ℕ) → place < index_up level total → get_or (row_of (front total all) level) place []
+  all-at : (level place : ℕ) → place < index_up level total → get_or (row_at (front total all) level) place []
       ≡ place_in all level place
   all-at level place below = row_of-at (front total all) level place below
 
-  lowest-at : (i : ℕ) → i < total → get_or (row_of (front total all) 0) i [] ≡ get_or (leaves ++ digests) i []
+  lowest-at : (i : ℕ) → i < total → get_or (row_at (front total all) 0) i [] ≡ get_or (leaves ++ digests) i []
   lowest-at i below = elim (cases_lt i size) [
     | inl own ↦
         all-at 0 i below ∙ sym (both-at 0 i own) ∙ ap (λ l. get_or l i []) own-lowest
@@ -358,7 +358,7 @@ module _ (leaves kept more digests : List Digest) (size total : ℕ) (count : le
   hashed-at level q below = elim (cases_lt q (index_up (level + 1) size)) [
     | inl own ↦
         let half = up-more level size in
-        let rows = row_of (front size all) in
+        let rows = row_at (front size all) in
         let e : level + 1 ≡ suc level = omega arith in
         let pair = row_pair node_of (rows level) (rows (suc level)) (own-hashed.pairs level) q (2 * q) (2 * q + 1)
         (omega arith) refl (omega (arith, length-row_of (front size all) level)) in
@@ -369,10 +369,10 @@ module _ (leaves kept more digests : List Digest) (size total : ℕ) (count : le
     | inr new ↦ sym (raised level q new below)
   ]
 
-  all-hashed : (level : ℕ) → row_pairs node_of (row_of (front total all) level)
-      ≡ Ok (row_of (front total all) (level + 1))
+  all-hashed : (level : ℕ) → row_pairs node_of (row_at (front total all) level)
+      ≡ Ok (row_at (front total all) (level + 1))
   all-hashed level =
-      let rows = row_of (front total all) in
+      let rows = row_at (front total all) in
       let half = up-more level total in
       hashed-all node_of (rows level) (rows (level + 1)) (length-up (front total all) level) (λ q below.
       let inside : q < index_up (level + 1) total = omega (arith, length-row_of (front total all) (level + 1)) in
@@ -385,11 +385,11 @@ module _ (leaves kept more digests : List Digest) (size total : ℕ) (count : le
       let many = length-append leaves digests in
       keeps-of total (leaves ++ digests) all (omega (arith, sum, count))
       (omega (arith, length-append (take (stored_count size) kept) more, long, whole))
-      (ext_get_or [] (row_of (front total all) 0) (leaves ++ digests)
+      (ext_get_or [] (row_at (front total all) 0) (leaves ++ digests)
       (omega (arith, length-row_of (front total all) 0, sum, count))
       (λ i below. lowest-at i (omega (arith, length-row_of (front total all) 0))))
       (record {
         pairs = λ level.
             let e : level + 1 ≡ suc level = omega arith in
-            all-hashed level ∙ ap (λ k. Ok (row_of (front total all) k)) e;
+            all-hashed level ∙ ap (λ k. Ok (row_at (front total all) k)) e;
       })

@@ -7,7 +7,7 @@ use Rattle.ark_paths.specs.Pair.{Digest}
 use Rattle.ark_base.specs.declared.error.Error.{Error}
 use Rattle.merkle_log.specs.Append.{Completes, RefusesCarry}
 use Rattle.merkle_log.specs.Log.{NodeHash}
-use Rattle.merkle_log.specs.Stored.{stored_count, position, row_of}
+use Rattle.merkle_log.specs.Stored.{stored_count, position, row_at}
 use Rattle.merkle_log.specs.Walk.{index_up}
 use Rattle.merkle_log.proofs.Completing.{Completing, stored_as, completing-first, completing-place, completing-inside, completing-next, completing-refused, completing-end}
 use Rattle.merkle_log.proofs.Positions.{count-half, count-more, count-rises, length-row_of}
@@ -139,7 +139,7 @@ module _ {hash : NodeHash} {kept old more : List Digest} {size made at level lef
   -- It is refused.
   pub making-refused : left % 2 ≡ 1 → (error : Error)
       → hash (get_or (kept ++ more) (position level (left - 1)) []) own ≡ Err error
-      → RefusesCarry hash (row_of (record { size = size; digests = items kept made old })) digest error
+      → RefusesCarry hash (row_at (record { size = size; digests = items kept made old })) digest error
   making-refused odd error refused = rw (map-itself (items kept made old)) at
       (completing-refused making.completing (omega arith) odd before (length (items kept at more) - 1) refl error
       (pair-read odd ∙ refused))

@@ -9,7 +9,7 @@ use Rattle.std.specs.Prelude.{count_ones}
 use Rattle.std.specs.List.{range_with_len}
 use Rattle.ark_paths.specs.Pair.{Digest}
 use Rattle.merkle_log.specs.Walk.{index_up}
-use Rattle.merkle_log.specs.Stored.{stored_count, position, StoredValue, row_of}
+use Rattle.merkle_log.specs.Stored.{stored_count, position, StoredValue, row_at}
 use Rattle.merkle_log.specs.Append.{pushed_row}
 use Rattle.merkle_log.proofs.Tests.{twice, mul-twice, power-rises}
 use Rattle.merkle_log.proofs.Verdicts.{pow_above}
@@ -128,12 +128,12 @@ up-same (suc level) (suc last) n less odd even =
 
 -- ---- rows
 
-pub length-row_of : (stored : StoredValue) (level : ℕ) → length (row_of stored level) ≡ index_up level stored.size
+pub length-row_of : (stored : StoredValue) (level : ℕ) → length (row_at stored level) ≡ index_up level stored.size
 length-row_of stored level = length-map-range_with_len (λ place. get_or stored.digests (position level place) []) 0
     (index_up level stored.size)
 
 pub row_of-at : (stored : StoredValue) (level place : ℕ) → place < index_up level stored.size
-    → get_or (row_of stored level) place [] ≡ get_or stored.digests (position level place) []
+    → get_or (row_at stored level) place [] ≡ get_or stored.digests (position level place) []
 row_of-at stored level place below = get_or-map-range_with_len (λ place. get_or stored.digests (position level place)
     []) 0 (index_up level stored.size) place place [] below (omega arith)
 
@@ -152,8 +152,8 @@ pub rows-more : (stored : StoredValue) (made : List Digest) → length stored.di
     → 0 < length made
     → ((l : ℕ) → suc l < length made → index_up l stored.size % 2 ≡ 1) → index_up (length made - 1) stored.size % 2 ≡ 0
     → (level : ℕ)
-    → row_of (record { size = stored.size + 1; digests = stored.digests ++ made }) level
-    ≡ pushed_row (row_of stored) made level
+    → row_at (record { size = stored.size + 1; digests = stored.digests ++ made }) level
+    ≡ pushed_row (row_at stored) made level
 rows-more stored made count some odd even level = elim (cases_lt level (length made)) [
   | inl in_made ↦
       let below : (l : ℕ) → l < level → index_up l stored.size % 2 ≡ 1 = λ l less. odd l (omega arith) in
@@ -242,13 +242,13 @@ count-more (suc last) n odd even = omega (
 )
 
 -- a place of a row
-pub row-inside : (own seen : StoredValue) (level place : ℕ) → own ≡ seen → place < length (row_of seen level)
+pub row-inside : (own seen : StoredValue) (level place : ℕ) → own ≡ seen → place < length (row_at seen level)
     → place < index_up level own.size
 row-inside own seen level place is below = let e =
-    ap (λ s. length (row_of s level)) is in omega (arith, length-row_of own level)
+    ap (λ s. length (row_at s level)) is in omega (arith, length-row_of own level)
 
 -- no leaves
-pub no-rows : (level : ℕ) → row_of (record { size = 0; digests = [] }) level ≡ []
+pub no-rows : (level : ℕ) → row_at (record { size = 0; digests = [] }) level ≡ []
 no-rows level = ap (λ n. map (λ place. get_or [] (position level place) []) (range_with_len 0 n)) (none level)
   where
     none : (level : ℕ) → index_up level 0 ≡ 0

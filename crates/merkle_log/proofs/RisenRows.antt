@@ -13,7 +13,7 @@ use Rattle.ark_paths.specs.Rows.{couples}
 use Rattle.merkle_log.specs.Append.{Refuses}
 use Rattle.merkle_log.specs.Log.{NodeHash}
 use Rattle.merkle_log.specs.Rising.{AreOfSize, with_rows}
-use Rattle.merkle_log.specs.Stored.{row_of, row_pairs, IsStored, StoredValue}
+use Rattle.merkle_log.specs.Stored.{row_at, row_pairs, IsStored, StoredValue}
 use Rattle.merkle_log.specs.Walk.{index_up}
 use Rattle.merkle_log.proofs.KeptRows.{length-up}
 use Rattle.merkle_log.proofs.Lasts.{length-row_pairs, pairs_parts}
@@ -79,14 +79,14 @@ module _ (hash : NodeHash) where
 
   -- A row and what others put behind the one above are fewer than the row and these.
   pub over-fewer : (stored : StoredValue) (level count : ℕ) (more above : List Digest)
-      → count ≡ length (row_of stored level) → 0 < length more
-      → row_pairs hash (row_of stored level ++ more) ≡ Ok (row_of stored (level + 1) ++ above)
+      → count ≡ length (row_at stored level) → 0 < length more
+      → row_pairs hash (row_at stored level ++ more) ≡ Ok (row_at stored (level + 1) ++ above)
       → count / 2 + length above < count + length more
   over-fewer stored level count more above is some over = omega (
     arith,
     length-row_pairs hash _ _ over,
-    length-append (row_of stored level) more,
-    length-append (row_of stored (level + 1)) above,
+    length-append (row_at stored level) more,
+    length-append (row_at stored (level + 1)) above,
     length-up stored level,
   )
 
@@ -183,12 +183,12 @@ module _ {A : Type 0} {numbers : A → Digest} {hash : NodeHash} {rows : ℕ →
 -- ---- how long the rows are
 
 pub sizes-of : (hash : NodeHash) (stored : StoredValue) (left : ℕ → List Digest) (count : ℕ) → length (left 0) ≡ count
-    → IsStored hash (with_rows (row_of stored) left) → AreOfSize (stored.size + count) (with_rows (row_of stored) left)
+    → IsStored hash (with_rows (row_at stored) left) → AreOfSize (stored.size + count) (with_rows (row_at stored) left)
 sizes-of hash stored left count long hashed zero =
-    omega (arith, length-append (row_of stored 0) (left 0), length-row_of stored 0)
+    omega (arith, length-append (row_at stored 0) (left 0), length-row_of stored 0)
 sizes-of hash stored left count long hashed (suc level) =
     let e : level + 1 ≡ suc level = omega arith in
-    length-row_pairs hash (with_rows (row_of stored) left level) (with_rows (row_of stored) left (suc level))
+    length-row_pairs hash (with_rows (row_at stored) left level) (with_rows (row_at stored) left (suc level))
     (hashed.pairs level)
     ∙ ap (λ n. n / 2) (sizes-of hash stored left count long hashed level)
     ∙ sym (up-more level (stored.size + count)) ∙ ap (λ l. index_up l (stored.size + count)) e

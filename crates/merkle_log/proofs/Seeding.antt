@@ -9,7 +9,7 @@ use Rattle.merkle_log.specs.Walk.{joined}
 use Rattle.ark_paths.specs.Pair.{Digest}
 use Rattle.merkle_log.specs.Log.{NodeHash, inclusion_path, consistency_path}
 use Rattle.merkle_log.specs.Stored.{IsStored}
-use Rattle.merkle_log.specs.Edge.{last_raised, all_of, behind, row_with, path_with, seed_digests}
+use Rattle.merkle_log.specs.Edge.{last_raised, all_of, path_behind, row_with, path_with, seed_digests}
 use Rattle.merkle_log.proofs.RowsUp.{row_up}
 use Rattle.merkle_log.proofs.Tests.{twice, fewer}
 use Rattle.merkle_log.proofs.SubproofRows.{seed, seed-more, subproof-up, subproof-odd}
@@ -26,7 +26,7 @@ pub record Seeding (hash : NodeHash) (rows : ℕ → List Digest) (empty : Diges
   pub inside : i < s
   pub is : all_of (subproof (joined hash) (Ok empty) levels (i + 1) (row_with (rows level) s x) true) ≡ answer
 
-pub behind-none : (o : Outcome (List Digest)) → (o >>= behind []) ≡ o
+pub behind-none : (o : Outcome (List Digest)) → (o >>= path_behind []) ≡ o
 behind-none (Ok ds) = refl
 behind-none (Err e) = refl
 
@@ -71,7 +71,7 @@ module _ {hash : NodeHash} {rows : ℕ → List Digest} (empty : Digest) (stored
   -- at an even index
   seeded : (k level i s : ℕ) (x : Node) → s < 2 ^ k → s ≤ length (rows level) → i < s → i % 2 ≡ 0
       → all_of (subproof (joined hash) (Ok empty) k (i + 1) (row_with (rows level) s x) true)
-      ≡ (all_of (path (joined hash) (Ok empty) k i (row_with (rows level) s x)) >>= behind
+      ≡ (all_of (path (joined hash) (Ok empty) k i (row_with (rows level) s x)) >>= path_behind
       (seed_digests (rows level) i))
   seeded k level i s x high le under even =
       let n = length-row_with (rows level) s x le in
@@ -105,7 +105,8 @@ module _ {hash : NodeHash} {rows : ℕ → List Digest} (empty : Digest) (stored
       answer → i % 2 ≡ 0 → answer ≡ Err e
   stopped {level} {i} {s} {e} at even =
       sym at.is ∙ seeded at.levels level i s (Err e) at.high at.within at.inside even
-      ∙ ap (λ o. o >>= behind (seed_digests (rows level) i)) (path-refused empty stored at.levels level i s e at.high
+      ∙ ap (λ o. o >>= path_behind (seed_digests (rows level) i))
+      (path-refused empty stored at.levels level i s e at.high
       at.within at.inside)
 
   -- a refusal of the last value

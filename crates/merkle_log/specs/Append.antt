@@ -4,7 +4,7 @@ use Rattle.ark_base.specs.declared.error.Error.{Error}
 use Rattle.ark_paths.specs.Pair.{Digest, Hashes}
 use Rattle.ark_paths.specs.Root.{all_hashes}
 use Rattle.merkle_log.specs.Log.{NodeHash, LogValue, inclusion_path, consistency_path, root_at, with_more}
-use Rattle.merkle_log.specs.Stored.{StoredValue, stored_count, row_of, IsStored}
+use Rattle.merkle_log.specs.Stored.{StoredValue, stored_count, row_at, IsStored}
 
 -- The digests that an appended one makes: itself, and as long as the row has an odd number, the hash of the row's last
 -- digest and the one made there, for the row above.
@@ -25,12 +25,12 @@ pushed_row rows made level =
 pub record Completes (hash : NodeHash) (size : ℕ) (before : List Digest) (digest : Digest) (after : List Digest) :
     Type 0 where
   pub made : List Digest
-  pub carried : IsCarried hash (row_of (record { size = size; digests = before })) digest made
+  pub carried : IsCarried hash (row_at (record { size = size; digests = before })) digest made
   pub is : after ≡ before ++ made
 
 -- The list has as many digests as its size asks for.
-abbrev pub IsWhole : StoredValue → Type 0
-IsWhole stored = length stored.digests ≡ stored_count stored.size
+abbrev pub IsWholeList : StoredValue → Type 0
+IsWholeList stored = length stored.digests ≡ stored_count stored.size
 
 -- A list is followed by more leaves.
 pub record GrowsTo (old new : StoredValue) : Type 0 where
@@ -40,9 +40,9 @@ pub record GrowsTo (old new : StoredValue) : Type 0 where
 -- A list is followed by one more leaf's digest and those that it makes.
 pub record Appends (hash : NodeHash) (old : StoredValue) (digest : Digest) (new : StoredValue) : Type 0 where
   pub made : List Digest
-  pub carried : IsCarried hash (row_of old) digest made
-  pub rows : (level : ℕ) → row_of new level ≡ pushed_row (row_of old) made level
-  pub whole : IsWhole new
+  pub carried : IsCarried hash (row_at old) digest made
+  pub rows : (level : ℕ) → row_at new level ≡ pushed_row (row_at old) made level
+  pub whole : IsWholeList new
   pub extends : GrowsTo old new
 
 -- The hash of pairs has this error for some pair.
@@ -96,6 +96,6 @@ pub record AppendsLeaves {A : Type 0} (hashes : Hashes A) (old : StoredValue) (l
     Type 0 where
   pub digests : List Digest
   pub hashed : all_hashes hashes.leaf leaves ≡ Ok digests
-  pub first_row : row_of new 0 ≡ row_of old 0 ++ digests
-  pub whole : IsWhole new
-  pub stored : IsStored hashes.pair.upper (row_of new)
+  pub first_row : row_at new 0 ≡ row_at old 0 ++ digests
+  pub whole : IsWholeList new
+  pub stored : IsStored hashes.pair.upper (row_at new)

@@ -82,8 +82,8 @@ RaisesNeeded why hash row i s last seen result =
     (λ refusal. (why refusal ≡ OutOfMemory) ⊎ (i / 2 < s / 2) × (last_raised hash row s last ≡ Err (why refusal)))
 
 -- the digests of a path, behind others
-abbrev pub behind : List Digest → List Digest → Outcome (List Digest)
-behind sofar rest = Ok (sofar ++ rest)
+abbrev pub path_behind : List Digest → List Digest → Outcome (List Digest)
+path_behind sofar rest = Ok (sofar ++ rest)
 
 -- the first s digests of a row and a last one
 abbrev pub row_with : List Digest → ℕ → Outcome Digest → List (Outcome Digest)
@@ -92,7 +92,7 @@ row_with row s last = map Ok (take s row) ++ (last ∷ [])
 -- the path of an index of such a row, k levels up, behind other digests
 abbrev pub path_with : NodeHash → Digest → ℕ → List Digest → ℕ → ℕ → Digest → List Digest → Outcome (List Digest)
 path_with hash empty k row i s last sofar =
-    all_of (path (joined hash) (Ok empty) k i (row_with row s (Ok last))) >>= behind sofar
+    all_of (path (joined hash) (Ok empty) k i (row_with row s (Ok last))) >>= path_behind sofar
 
 -- the digest of an index of a row, unless it is the row's first
 abbrev pub seed_digests : List Digest → ℕ → List Digest

@@ -5,7 +5,7 @@ use Rattle.ark_paths.specs.Pair.{Digest}
 use Rattle.ark_trees.specs.Rfc6962.{node_of}
 use Rattle.merkle_log.specs.Append.{RefusesCarry}
 use Rattle.merkle_log.specs.Log.{NodeHash}
-use Rattle.merkle_log.specs.Stored.{stored_count, StoredValue, row_of, IsStored}
+use Rattle.merkle_log.specs.Stored.{stored_count, StoredValue, row_at, IsStored}
 
 -- the digests that stand in front for a log of this size
 abbrev pub front : ℕ → List Digest → StoredValue
@@ -23,14 +23,14 @@ stored_front stored = take (stored_count stored.size) stored.digests
 -- they are completed. The lowest row is the list; each row above has the hashes of the pairs of the row below.
 pub record Keeps (leaves kept : List Digest) : Type 0 where
   pub inside : stored_count (length leaves) ≤ length kept
-  pub lowest : row_of (front (length leaves) kept) 0 ≡ leaves
-  pub hashed : IsStored node_of (row_of (front (length leaves) kept))
+  pub lowest : row_at (front (length leaves) kept) 0 ≡ leaves
+  pub hashed : IsStored node_of (row_at (front (length leaves) kept))
 
 -- The same by any hash of pairs.
 pub record KeepsBy (hash : NodeHash) (leaves kept : List Digest) : Type 0 where
   pub inside : stored_count (length leaves) ≤ length kept
-  pub lowest : row_of (front (length leaves) kept) 0 ≡ leaves
-  pub hashed : IsStored hash (row_of (front (length leaves) kept))
+  pub lowest : row_at (front (length leaves) kept) 0 ≡ leaves
+  pub hashed : IsStored hash (row_at (front (length leaves) kept))
 
 -- Digests are appended to a list, the first one first, until the hash refuses a pair that one of them completes.
 pub record RefusesAppend (hash : NodeHash) (leaves digests : List Digest) (error : Error) : Type 0 where
@@ -38,4 +38,4 @@ pub record RefusesAppend (hash : NodeHash) (leaves digests : List Digest) (error
   pub inside : place < length digests
   pub before : List Digest
   pub keeps : KeepsBy hash (leaves ++ take place digests) before
-  pub refused : RefusesCarry hash (row_of (front (length leaves + place) before)) (get_or digests place []) error
+  pub refused : RefusesCarry hash (row_at (front (length leaves + place) before)) (get_or digests place []) error

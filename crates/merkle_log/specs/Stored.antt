@@ -21,8 +21,8 @@ pub record StoredValue : Type 0 where
   pub digests : List Digest
 
 -- the digests of the complete places of a level
-abbrev pub row_of : StoredValue → ℕ → List Digest
-row_of stored level =
+abbrev pub row_at : StoredValue → ℕ → List Digest
+row_at stored level =
     map (λ place. get_or stored.digests (position level place) []) (range_with_len 0 (index_up level stored.size))
 
 -- the hashes of the pairs of a row, where the last of an odd number has none

@@ -7,7 +7,7 @@ ghost use Rattle.ark_paths.specs.Pair.{Digest};
 ghost use Rattle.merkle_log.specs.Binding.{edge_of, found_at, index_beside, is_accepted, is_other_pair, IsHighest, Reaches, shown_by, verdict_in};
 ghost use Rattle.merkle_log.specs.declared.bind.LogBinding.TheVariants.{Stands, Collides};
 ghost use Rattle.merkle_log.specs.Edge.{last_seen, HasLast};
-ghost use Rattle.merkle_log.specs.Stored.{row_of, IsStored};
+ghost use Rattle.merkle_log.specs.Stored.{row_at, IsStored};
 ghost use Rattle.merkle_log.specs.Walk.{has_beside};
 
 use crate::digests::copy_of;
@@ -50,10 +50,10 @@ fn digest_of<'a, D: DigestItem>(
     last: &'a Option<D>,
 ) -> &'a D
     requires inside { index ≤ last_index }
-    requires within { last_index ≤ length (row_of rows.now level) }
-    requires last { HasLast (row_of rows.now level) last_index last.now }
-    ensures { D.numbers result.now ≡ get_or (edge_of (row_of rows.now level) last_index
-        (last_seen D.numbers (row_of rows.now level) last_index last.now)) index [] }
+    requires within { last_index ≤ length (row_at rows.now level) }
+    requires last { HasLast (row_at rows.now level) last_index last.now }
+    ensures { D.numbers result.now ≡ get_or (edge_of (row_at rows.now level) last_index
+        (last_seen D.numbers (row_at rows.now level) last_index last.now)) index [] }
 {
     if index < last_index {
         rows.at(level, index)
@@ -74,11 +74,11 @@ fn is_other<D: DigestItem>(
     used: usize,
 ) -> bool
     requires inside { index ≤ last_index }
-    requires within { last_index ≤ length (row_of rows.now level) }
-    requires last { HasLast (row_of rows.now level) last_index last.now }
+    requires within { last_index ≤ length (row_at rows.now level) }
+    requires last { HasLast (row_at rows.now level) last_index last.now }
     requires used { has_beside index last_index ≡ true → used < length path.now }
-    ensures { result ≡ is_other_pair (edge_of (row_of rows.now level) last_index
-        (last_seen D.numbers (row_of rows.now level) last_index last.now)) index last_index
+    ensures { result ≡ is_other_pair (edge_of (row_at rows.now level) last_index
+        (last_seen D.numbers (row_at rows.now level) last_index last.now)) index last_index
         (D.numbers own.now) (get_or (map D.numbers path.now) used []) }
 {
     if !has_beside(index as u64, last_index as u64) {
@@ -107,13 +107,13 @@ fn highest_other<D: DigestItem, T: TreeHasher<D, D>>(
     digest: &D,
     path: &[D],
 ) -> Result<Option<usize>, Error>
-    requires stored { IsStored (T.hashes hasher.now).pair.upper (row_of rows.now) }
+    requires stored { IsStored (T.hashes hasher.now).pair.upper (row_at rows.now) }
     requires inside { start < size }
-    requires within { size ≤ length (row_of rows.now 0) }
-    requires reaches { Reaches (T.hashes hasher.now).pair.upper (take size (row_of rows.now 0))
+    requires within { size ≤ length (row_at rows.now 0) }
+    requires reaches { Reaches (T.hashes hasher.now).pair.upper (take size (row_at rows.now 0))
         size start (D.numbers digest.now) (map D.numbers path.now) }
     ensures highest { IfOk result (λ found. (empty : Digest)
-        → IsHighest (T.hashes hasher.now).pair.upper empty (take size (row_of rows.now 0)) start
+        → IsHighest (T.hashes hasher.now).pair.upper empty (take size (row_at rows.now 0)) start
         (size - 1) (D.numbers digest.now) (map D.numbers path.now) found) }
     ensures refused { IfErr result (λ error. error ≡ OutOfMemory) }
 {
@@ -158,7 +158,7 @@ fn binding_by(highest: Option<usize>) -> LogBinding
 /// Returns what a path shows of a digest at an index of the first digests.
 ///
 /// Errors: those of `Log::bind_digest`.
-pub fn binding_of<D: DigestItem, T: TreeHasher<D, D>>(
+pub fn log_binding_of<D: DigestItem, T: TreeHasher<D, D>>(
     alloc: Global,
     hasher: &T,
     rows: &Stored<D>,
@@ -167,17 +167,17 @@ pub fn binding_of<D: DigestItem, T: TreeHasher<D, D>>(
     digest: &D,
     path: &[D],
 ) -> Result<LogBinding, Error>
-    requires stored { IsStored (T.hashes hasher.now).pair.upper (row_of rows.now) }
-    requires within { size ≤ length (row_of rows.now 0) }
+    requires stored { IsStored (T.hashes hasher.now).pair.upper (row_at rows.now) }
+    requires within { size ≤ length (row_at rows.now 0) }
     ensures verdict { (empty : Digest)
         → AnswersBy is_accepted (verdict_in (T.hashes hasher.now).pair.upper empty
-        (row_of rows.now 0) size index (D.numbers digest.now) (map D.numbers path.now)) result }
+        (row_at rows.now 0) size index (D.numbers digest.now) (map D.numbers path.now)) result }
     ensures stands { IfOk result (λ binding. binding ≡ Stands → (empty : Digest)
-        → IsHighest (T.hashes hasher.now).pair.upper empty (take size (row_of rows.now 0)) index
+        → IsHighest (T.hashes hasher.now).pair.upper empty (take size (row_at rows.now 0)) index
         (size - 1) (D.numbers digest.now) (map D.numbers path.now) None) }
     ensures collides { IfOk result (λ binding. (level : ℕ) → binding ≡ Collides level
         → (empty : Digest) → IsHighest (T.hashes hasher.now).pair.upper empty
-        (take size (row_of rows.now 0)) index (size - 1) (D.numbers digest.now)
+        (take size (row_at rows.now 0)) index (size - 1) (D.numbers digest.now)
         (map D.numbers path.now) (Some level)) }
 {
     if index >= size {

@@ -73,7 +73,7 @@ fn merge<D: DigestItem, T: TreeHasher<D, D>>(
 }
 
 // Reads a count of digests and the roots of their complete trees.
-fn read_peaks<D: DigestItem>(alloc: Global, bytes: &[u8]) -> Result<(u64, Vec<D>), Error>
+fn read_counted_peaks<D: DigestItem>(alloc: Global, bytes: &[u8]) -> Result<(u64, Vec<D>), Error>
     ensures read { AnswersBy (λ read. (read.0, digests_of D.numbers read.1)) (peaks_in D.reads
         (λ value. D.numbers_of (D.spelling value)) bytes.now) result }
     ensures count { IfOk result (λ read. length read.1.items ≡ count_ones read.0) }
@@ -162,7 +162,7 @@ impl<D: DigestItem, T: TreeHasher<D, D>> Frontier<D, T> {
         if self.peaks.is_empty() {
             return copy_of(alloc, &self.empty);
         }
-        fold(alloc, &self.hasher, &self.peaks)
+        fold_peaks(alloc, &self.hasher, &self.peaks)
     }
 }
 
@@ -180,7 +180,7 @@ impl<D: DigestItem, T: TreeHasher<D, D> + Drop> Frontier<D, T> {
         ensures { Answers (frontier_in D.reads (λ value. D.numbers_of (D.spelling value)) hasher
             (D.numbers empty) bytes.now) result }
     {
-        let (size, peaks) = read_peaks(alloc, bytes)?;
+        let (size, peaks) = read_counted_peaks(alloc, bytes)?;
         Ok(Frontier {
             hasher,
             empty,
@@ -191,7 +191,7 @@ impl<D: DigestItem, T: TreeHasher<D, D> + Drop> Frontier<D, T> {
 }
 
 // The root of peaks, of which there is one at least.
-fn fold<D: DigestItem, T: TreeHasher<D, D>>(
+fn fold_peaks<D: DigestItem, T: TreeHasher<D, D>>(
     alloc: Global,
     hasher: &T,
     peaks: &[D],

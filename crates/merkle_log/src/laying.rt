@@ -5,7 +5,7 @@ ghost use Rattle.ark_base.specs.declared.error.Error.TheVariants.{OutOfMemory};
 ghost use Rattle.ark_paths.specs.Rows.{digests_of};
 ghost use Rattle.merkle_log.specs.Kept.{front};
 ghost use Rattle.merkle_log.specs.Rising.{left_of, with_rows, AreOfSize};
-ghost use Rattle.merkle_log.specs.Stored.{stored_count, row_of};
+ghost use Rattle.merkle_log.specs.Stored.{stored_count, row_at};
 ghost use Rattle.merkle_log.specs.Walk.{index_up};
 
 use ark_base::error::Error;
@@ -33,8 +33,8 @@ fn lay_next<D: DigestItem>(
     requires some { (level : ℕ) → index_up level size < index_up level (size + 1)
         → 0 < length (left_of D.numbers rows.old level) }
     ensures laid { OnOk result ((level : ℕ) → with_rows
-        (row_of (front (size + 1) (digests_of D.numbers digests.new))) (left_of D.numbers rows.new)
-        level ≡ with_rows (row_of (front size (digests_of D.numbers digests.old)))
+        (row_at (front (size + 1) (digests_of D.numbers digests.new))) (left_of D.numbers rows.new)
+        level ≡ with_rows (row_at (front size (digests_of D.numbers digests.old)))
         (left_of D.numbers rows.old) level) }
     ensures whole { OnOk result (length digests.new.items ≡ stored_count (size + 1)) }
     ensures front { take (length digests.old.items) digests.new.items ≡ digests.old.items }
@@ -60,11 +60,11 @@ pub fn lay_rows<D: DigestItem>(
 ) -> Result<(), Error>
     requires whole { length digests.old.items ≡ stored_count size }
     requires rows { AreOfSize (size + count)
-        (with_rows (row_of (front size (digests_of D.numbers digests.old)))
+        (with_rows (row_at (front size (digests_of D.numbers digests.old)))
         (left_of D.numbers rows.old)) }
     ensures laid { OnOk result ((level : ℕ)
-        → row_of (front (size + count) (digests_of D.numbers digests.new)) level ≡ with_rows
-        (row_of (front size (digests_of D.numbers digests.old))) (left_of D.numbers rows.old)
+        → row_at (front (size + count) (digests_of D.numbers digests.new)) level ≡ with_rows
+        (row_at (front size (digests_of D.numbers digests.old))) (left_of D.numbers rows.old)
         level) }
     ensures whole { OnOk result (length digests.new.items ≡ stored_count (size + count)) }
     ensures front { take (length digests.old.items) digests.new.items ≡ digests.old.items }

@@ -8,15 +8,15 @@ ghost use Rattle.ark_paths.specs.Pair.{Digest};
 ghost use Rattle.ark_paths.specs.Root.{all_hashes, root_of};
 ghost use Rattle.ark_paths.specs.Rows.{digests_of};
 ghost use Rattle.ark_paths.specs.Tree.{halves_beside};
-ghost use Rattle.merkle_log.specs.Append.{AppendsLeaves, GrowsTo, HasLeaf, HasLeaves, IsWhole, KeepsSizes, Refuses, pair_count};
+ghost use Rattle.merkle_log.specs.Append.{AppendsLeaves, GrowsTo, HasLeaf, HasLeaves, IsWholeList, KeepsSizes, Refuses, pair_count};
 ghost use Rattle.merkle_log.specs.Binding.{is_accepted, HighestIn, LeafHighestIn, leaf_verdict_in, verdict_in};
 ghost use Rattle.merkle_log.specs.declared.bind.LogBinding.TheVariants.{Rejected, Stands, Collides};
 ghost use Rattle.merkle_log.specs.Edge.{all_of, beside_pairs, root_pairs};
 ghost use Rattle.merkle_log.specs.Log.{LogValue, both_levels, inclusion_path, consistency_path, root_at, with_more};
-ghost use Rattle.merkle_log.specs.Stored.{row_of, IsStored};
+ghost use Rattle.merkle_log.specs.Stored.{row_at, IsStored};
 ghost use Rattle.merkle_log.specs.Verdict.{inclusion_verdict, consistency_verdict};
 
-use crate::bind::{LogBinding, binding_of};
+use crate::bind::{LogBinding, log_binding_of};
 use crate::digests::copy_of;
 use crate::paths::{consistency_path_of, inclusion_path_of};
 use crate::refusing::Refusing;
@@ -48,12 +48,12 @@ impl<D: DigestItem, T: TreeHasher<D, D>> Model for Log<D, T> {
     ghost view = { λ log. record {
       hasher = log.hasher;
       empty = D.numbers log.empty;
-      digests = row_of log.stored 0;
+      digests = row_at log.stored 0;
     } };
 
     ghost invariant = { λ log. record {
-      whole : IsWhole log.stored;
-      stored : IsStored (T.hashes log.hasher).pair.upper (row_of log.stored);
+      whole : IsWholeList log.stored;
+      stored : IsStored (T.hashes log.hasher).pair.upper (row_at log.stored);
     } };
 }
 
@@ -65,8 +65,8 @@ fn append_each<D: DigestItem, T: TreeHasher<D, D>>(
     stored: &mut Stored<D>,
     leaves: &[T::Leaf],
 ) -> Result<usize, Error>
-    requires whole { IsWhole stored.old }
-    requires stored { IsStored (T.hashes hasher.now).pair.upper (row_of stored.old) }
+    requires whole { IsWholeList stored.old }
+    requires stored { IsStored (T.hashes hasher.now).pair.upper (row_at stored.old) }
     requires fits { stored.old.size < 2 ^ 64 }
     ensures appended { OnOk result (AppendsLeaves (T.hashes hasher.now) stored.old leaves.now
         stored.new) }
@@ -398,6 +398,6 @@ impl<D: DigestItem, T: TreeHasher<D, D>> Log<D, T> {
             → HighestIn ((T.hashes self.now.hasher).pair.upper) self.now size index
             (D.numbers digest.now) (map D.numbers path.now) (Some level)) }
     {
-        binding_of(alloc, &self.hasher, &self.stored, size, index, digest, path)
+        log_binding_of(alloc, &self.hasher, &self.stored, size, index, digest, path)
     }
 }

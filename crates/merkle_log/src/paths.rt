@@ -7,7 +7,7 @@ ghost use Rattle.merkle_log.specs.Asked.{Holding, IsBeside, IsLowest, IsPeak, ow
 ghost use Rattle.merkle_log.specs.Edge.{all_of, beside_left, beside_pairs, digest_beside, digests_beside, last_seen, HasLast, path_with, RaisesNeeded, seed_digests, Tallies};
 ghost use Rattle.merkle_log.specs.Given.{GivesBy};
 ghost use Rattle.merkle_log.specs.Log.{inclusion_path, consistency_path};
-ghost use Rattle.merkle_log.specs.Stored.{row_of, IsStored};
+ghost use Rattle.merkle_log.specs.Stored.{row_at, IsStored};
 ghost use Rattle.merkle_log.specs.Walk.{has_beside};
 
 use crate::nodes::{NodeHasher, PathHasher};
@@ -25,13 +25,13 @@ fn beside<'a, D: DigestItem, R: Rows<D>>(
 ) -> &'a D
     requires inside { index ≤ last_index }
     requires stands { has_beside index last_index ≡ true }
-    requires within { last_index ≤ length (row_of (R.stored rows.now) level) }
+    requires within { last_index ≤ length (row_at (R.stored rows.now) level) }
     requires last { index < last_index
-        → HasLast (row_of (R.stored rows.now) level) last_index last.now }
+        → HasLast (row_at (R.stored rows.now) level) last_index last.now }
     requires held { Holding (R.Holds rows.now) level
         (IsBeside index (own_count last_index last.now)) }
-    ensures { D.numbers result.now ≡ digest_beside (row_of (R.stored rows.now) level) index
-        last_index (last_seen D.numbers (row_of (R.stored rows.now) level) last_index last.now) }
+    ensures { D.numbers result.now ≡ digest_beside (row_at (R.stored rows.now) level) index
+        last_index (last_seen D.numbers (row_at (R.stored rows.now) level) last_index last.now) }
 {
     if index % 2 == 1 {
         rows.at(level, index - 1)
@@ -53,14 +53,14 @@ fn with_beside<D: DigestItem, R: Rows<D>, H: PathHasher<D>>(
     mut path: Vec<D>,
 ) -> Result<Vec<D>, H::Refusal>
     requires inside { index ≤ last_index }
-    requires within { last_index ≤ length (row_of (R.stored rows.now) level) }
+    requires within { last_index ≤ length (row_at (R.stored rows.now) level) }
     requires last { index < last_index
-        → HasLast (row_of (R.stored rows.now) level) last_index last.now }
+        → HasLast (row_at (R.stored rows.now) level) last_index last.now }
     requires held { Holding (R.Holds rows.now) level
         (IsBeside index (own_count last_index last.now)) }
     ensures { GivesBy H.why (digests_of D.numbers)
-        (Ok (digests_of D.numbers path ++ (digests_beside (row_of (R.stored rows.now) level) index
-        last_index (last_seen D.numbers (row_of (R.stored rows.now) level) last_index last.now))))
+        (Ok (digests_of D.numbers path ++ (digests_beside (row_at (R.stored rows.now) level) index
+        last_index (last_seen D.numbers (row_at (R.stored rows.now) level) last_index last.now))))
         result }
 {
     if has_beside(index as u64, last_index as u64) {
@@ -79,16 +79,16 @@ fn raise_needed<D: DigestItem, R: Rows<D>, H: NodeHasher<D>>(
     last: Option<D>,
 ) -> Result<Option<D>, H::Refusal>
     requires last { index < last_index
-        → HasLast (row_of (R.stored rows.now) level) last_index last }
+        → HasLast (row_at (R.stored rows.now) level) last_index last }
     requires held { index < last_index
         → Holding (R.Holds rows.now) level (IsPeak (own_count last_index last)) }
     requires counted { H.counted hasher.old + 1 < 2 ^ 64 }
-    ensures raised { IsStored (H.hash hasher.old) (row_of (R.stored rows.now))
-        → RaisesNeeded H.why (H.hash hasher.old) (row_of (R.stored rows.now) level) index last_index
-        (last_seen D.numbers (row_of (R.stored rows.now) level) last_index last)
-        (last_seen D.numbers (row_of (R.stored rows.now) (level + 1)) (last_index / 2)) result }
+    ensures raised { IsStored (H.hash hasher.old) (row_at (R.stored rows.now))
+        → RaisesNeeded H.why (H.hash hasher.old) (row_at (R.stored rows.now) level) index last_index
+        (last_seen D.numbers (row_at (R.stored rows.now) level) last_index last)
+        (last_seen D.numbers (row_at (R.stored rows.now) (level + 1)) (last_index / 2)) result }
     ensures has { IfOk result (λ up. index / 2 < last_index / 2
-        → HasLast (row_of (R.stored rows.now) (level + 1)) (last_index / 2) up) }
+        → HasLast (row_at (R.stored rows.now) (level + 1)) (last_index / 2) up) }
     ensures own { IfOk result (λ up. index / 2 < last_index / 2
         → own_count (last_index / 2) up ≡ own_count last_index last / 2) }
     ensures same { H.hash hasher.new ≡ H.hash hasher.old }
@@ -117,15 +117,15 @@ pub fn path_from<D: DigestItem, R: Rows<D>, H: PathHasher<D>>(
     mut path: Vec<D>,
 ) -> Result<Vec<D>, H::Refusal>
     requires inside { index ≤ last_index }
-    requires within { last_index ≤ length (row_of (R.stored rows.now) level) }
-    requires last { HasLast (row_of (R.stored rows.now) level) last_index last }
+    requires within { last_index ≤ length (row_at (R.stored rows.now) level) }
+    requires last { HasLast (row_at (R.stored rows.now) level) last_index last }
     requires peaks { Holding (R.Holds rows.now) level (IsPeak (own_count last_index last)) }
     requires beside { Holding (R.Holds rows.now) level
         (IsBeside index (own_count last_index last)) }
     requires fits { level + last_index < 2 ^ 64 }
     requires counted { H.counted hasher.old ≤ level }
     ensures path { let numbers = D.numbers in
-        let rows = row_of (R.stored rows.now) in
+        let rows = row_at (R.stored rows.now) in
         let hash = H.hash hasher.old in
         let last = last_seen numbers (rows level) last_index last in
         let sofar = digests_of numbers path in
@@ -156,14 +156,14 @@ pub fn inclusion_path_of<D: DigestItem, R: Rows<D>, H: PathHasher<D>>(
 ) -> Result<Vec<D>, H::Refusal>
     requires empty { path.items ≡ [] }
     requires inside { index < size }
-    requires within { size ≤ length (row_of (R.stored rows.now) 0) }
+    requires within { size ≤ length (row_at (R.stored rows.now) 0) }
     requires peaks { Holding (R.Holds rows.now) 0 (IsPeak size) }
     requires beside { Holding (R.Holds rows.now) 0 (IsBeside index size) }
     requires none { H.counted hasher.old ≡ 0 }
-    ensures path { IsStored (H.hash hasher.old) (row_of (R.stored rows.now)) → (empty : Digest)
+    ensures path { IsStored (H.hash hasher.old) (row_at (R.stored rows.now)) → (empty : Digest)
         → GivesBy H.why (digests_of D.numbers)
         (all_of (inclusion_path (H.hash hasher.old) empty index
-        (take size (row_of (R.stored rows.now) 0)))) result }
+        (take size (row_at (R.stored rows.now) 0)))) result }
     ensures counts { OnOk result (H.counted hasher.new ≡ beside_pairs index size) }
 {
     path_from(hasher, rows, 0, index, size - 1, None, path)
@@ -178,10 +178,10 @@ fn seed_path<D: DigestItem, R: Rows<D>, H: PathHasher<D>>(
     mut path: Vec<D>,
 ) -> Result<Vec<D>, H::Refusal>
     requires empty { path.items ≡ [] }
-    requires inside { index < length (row_of (R.stored rows.now) level) }
+    requires inside { index < length (row_at (R.stored rows.now) level) }
     requires held { R.Holds rows.now level index }
     ensures { GivesBy H.why (digests_of D.numbers)
-        (Ok (seed_digests (row_of (R.stored rows.now) level) index)) result }
+        (Ok (seed_digests (row_at (R.stored rows.now) level) index)) result }
 {
     if index > 0 {
         hasher.put(&mut path, rows.at(level, index))?;
@@ -201,15 +201,15 @@ pub fn consistency_path_of<D: DigestItem, R: Rows<D>, H: PathHasher<D>>(
     requires empty { path.items ≡ [] }
     requires some { 0 < old_size }
     requires inside { old_size < size }
-    requires within { size ≤ length (row_of (R.stored rows.now) 0) }
+    requires within { size ≤ length (row_at (R.stored rows.now) 0) }
     requires peaks { Holding (R.Holds rows.now) 0 (IsPeak size) }
     requires beside { Holding (R.Holds rows.now) 0 (IsBeside (old_size - 1) size) }
     requires lowest { Holding (R.Holds rows.now) 0 (IsLowest old_size) }
     requires none { H.counted hasher.old ≡ 0 }
-    ensures path { IsStored (H.hash hasher.old) (row_of (R.stored rows.now)) → (empty : Digest)
+    ensures path { IsStored (H.hash hasher.old) (row_at (R.stored rows.now)) → (empty : Digest)
         → GivesBy H.why (digests_of D.numbers)
         (all_of (consistency_path (H.hash hasher.old) empty old_size
-        (take size (row_of (R.stored rows.now) 0)))) result }
+        (take size (row_at (R.stored rows.now) 0)))) result }
     ensures counts { OnOk result (H.counted hasher.new ≡ beside_pairs (old_size - 1) size) }
 {
     let mut level = 0;

@@ -50,7 +50,7 @@ fn count_from(mut index: u64, mut last: u64) -> u64
 }
 
 // Returns how many digests the consistency proof of an old size has.
-fn count_of(old_size: u64, new_size: u64) -> u64
+fn consistency_count(old_size: u64, new_size: u64) -> u64
     requires some { 0 < old_size }
     requires inside { old_size ≤ new_size }
     ensures { result ≡ consistency_length old_size new_size }
@@ -134,6 +134,6 @@ pub fn verify_consistency_bytes<D: DigestItem, T: TreeHasher<D, D>>(
     if old_size == 0 || new_size < old_size {
         return Err(Error::SerializationError(SerializationError::InvalidData));
     }
-    let path = read_digests(alloc, bytes, count_of(old_size, new_size))?;
+    let path = read_digests(alloc, bytes, consistency_count(old_size, new_size))?;
     verify_consistency(alloc, hasher, old_size, old_root, new_size, new_root, &path)
 }

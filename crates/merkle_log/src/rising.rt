@@ -7,7 +7,7 @@ ghost use Rattle.ark_crh.specs.Ahead.{lent_couples};
 ghost use Rattle.ark_paths.specs.Rows.{couples, digests_of};
 ghost use Rattle.merkle_log.specs.Append.{Refuses};
 ghost use Rattle.merkle_log.specs.Rising.{left_of, with_rows};
-ghost use Rattle.merkle_log.specs.Stored.{row_of, row_pairs, IsStored};
+ghost use Rattle.merkle_log.specs.Stored.{row_at, row_pairs, IsStored};
 
 use crate::rows::Rows;
 use crate::stored::Stored;
@@ -27,10 +27,10 @@ fn lend_completed<'a, D: DigestItem>(
     count: usize,
     row: &'a [D],
 ) -> Result<Vec<(&'a D, &'a D)>, Error>
-    requires count { count ≡ length (row_of stored.now level) }
+    requires count { count ≡ length (row_at stored.now level) }
     requires some { 0 < length row.now }
     ensures { AnswersBy (λ run. lent_couples D.numbers run.items)
-        (Ok (couples (drop (2 * (count / 2)) (row_of stored.now level) ++ map D.numbers row.now)))
+        (Ok (couples (drop (2 * (count / 2)) (row_at stored.now level) ++ map D.numbers row.now)))
         result }
 {
     if count % 2 == 0 {
@@ -51,11 +51,11 @@ fn row_over<D: DigestItem, T: TreeHasher<D, D>>(
     count: usize,
     row: &[D],
 ) -> Result<Vec<D>, Error>
-    requires count { count ≡ length (row_of stored.now level) }
+    requires count { count ≡ length (row_at stored.now level) }
     requires some { 0 < length row.now }
-    requires stored { IsStored (T.hashes hasher.now).pair.upper (row_of stored.now) }
+    requires stored { IsStored (T.hashes hasher.now).pair.upper (row_at stored.now) }
     ensures hashed { IfOk result (λ above. row_pairs (T.hashes hasher.now).pair.upper
-        (row_of stored.now level ++ map D.numbers row.now) ≡ Ok (row_of stored.now (level + 1) ++
+        (row_at stored.now level ++ map D.numbers row.now) ≡ Ok (row_at stored.now (level + 1) ++
         digests_of D.numbers above)) }
     ensures refused { IfErr result (λ error. (error ≡ OutOfMemory)
         ⊎ Refuses (T.hashes hasher.now).pair.upper error) }
@@ -72,11 +72,11 @@ pub fn rows_over<D: DigestItem, T: TreeHasher<D, D>>(
     stored: &Stored<D>,
     leaves: Vec<D>,
 ) -> Result<Vec<IntoIter<D>>, Error>
-    requires { IsStored (T.hashes hasher.now).pair.upper (row_of stored.now) }
+    requires { IsStored (T.hashes hasher.now).pair.upper (row_at stored.now) }
     ensures lowest { IfOk result (λ rows. left_of D.numbers rows.items 0 ≡ digests_of D.numbers
         leaves) }
     ensures hashed { IfOk result (λ rows. IsStored (T.hashes hasher.now).pair.upper
-        (with_rows (row_of stored.now) (left_of D.numbers rows.items))) }
+        (with_rows (row_at stored.now) (left_of D.numbers rows.items))) }
     ensures refused { IfErr result (λ error. (error ≡ OutOfMemory)
         ⊎ Refuses (T.hashes hasher.now).pair.upper error) }
 {

@@ -8,7 +8,7 @@ ghost use Rattle.merkle_log.specs.Asked.{Holding, IsPeak, own_count};
 ghost use Rattle.merkle_log.specs.Edge.{last_seen, HasLast, last_raised, Tallies, root_pairs};
 ghost use Rattle.merkle_log.specs.Given.{GivesBy};
 ghost use Rattle.merkle_log.specs.Log.{merkle_tree_hash};
-ghost use Rattle.merkle_log.specs.Stored.{row_of, IsStored, StoredValue};
+ghost use Rattle.merkle_log.specs.Stored.{row_at, IsStored, StoredValue};
 
 use crate::nodes::NodeHasher;
 use ark_base::serialize::DigestItem;
@@ -24,9 +24,9 @@ pub trait Rows<D: DigestItem> {
 
     /// Returns the digest of a complete place.
     fn at(&self, level: usize, place: usize) -> &D
-        requires complete { place < length (row_of (stored self.now) level) }
+        requires complete { place < length (row_at (stored self.now) level) }
         requires held { Holds self.now level place }
-        ensures { D.numbers result.now ≡ get_or (row_of (stored self.now) level) place [] };
+        ensures { D.numbers result.now ≡ get_or (row_at (stored self.now) level) place [] };
 }
 
 /// Returns the last digest of a row.
@@ -36,9 +36,9 @@ pub fn last_of<'a, D: DigestItem, R: Rows<D>>(
     last_index: usize,
     last: &'a Option<D>,
 ) -> &'a D
-    requires last { HasLast (row_of (R.stored rows.now) level) last_index last.now }
+    requires last { HasLast (row_at (R.stored rows.now) level) last_index last.now }
     requires held { last_index < own_count last_index last.now → R.Holds rows.now level last_index }
-    ensures { D.numbers result.now ≡ last_seen D.numbers (row_of (R.stored rows.now) level)
+    ensures { D.numbers result.now ≡ last_seen D.numbers (row_at (R.stored rows.now) level)
         last_index last.now }
 {
     match last {
@@ -56,15 +56,15 @@ pub fn raise<D: DigestItem, R: Rows<D>, H: NodeHasher<D>>(
     last_index: usize,
     last: Option<D>,
 ) -> Result<Option<D>, H::Refusal>
-    requires last { HasLast (row_of (R.stored rows.now) level) last_index last }
+    requires last { HasLast (row_at (R.stored rows.now) level) last_index last }
     requires held { Holding (R.Holds rows.now) level (IsPeak (own_count last_index last)) }
     requires counted { H.counted hasher.old + 1 < 2 ^ 64 }
-    ensures raised { IsStored (H.hash hasher.old) (row_of (R.stored rows.now))
-        → GivesBy H.why (last_seen D.numbers (row_of (R.stored rows.now) (level + 1))
-        (last_index / 2)) (last_raised (H.hash hasher.old) (row_of (R.stored rows.now) level)
-        last_index (last_seen D.numbers (row_of (R.stored rows.now) level) last_index last))
+    ensures raised { IsStored (H.hash hasher.old) (row_at (R.stored rows.now))
+        → GivesBy H.why (last_seen D.numbers (row_at (R.stored rows.now) (level + 1))
+        (last_index / 2)) (last_raised (H.hash hasher.old) (row_at (R.stored rows.now) level)
+        last_index (last_seen D.numbers (row_at (R.stored rows.now) level) last_index last))
         result }
-    ensures has { IfOk result (HasLast (row_of (R.stored rows.now) (level + 1)) (last_index / 2)) }
+    ensures has { IfOk result (HasLast (row_at (R.stored rows.now) (level + 1)) (last_index / 2)) }
     ensures own { IfOk result (λ up. own_count (last_index / 2) up
         ≡ own_count last_index last / 2) }
     ensures same { H.hash hasher.new ≡ H.hash hasher.old }
@@ -97,12 +97,12 @@ pub fn root_of<D: DigestItem, R: Rows<D>, H: NodeHasher<D>>(
     size: usize,
 ) -> Result<D, H::Refusal>
     requires some { 0 < size }
-    requires inside { size ≤ length (row_of (R.stored rows.now) 0) }
+    requires inside { size ≤ length (row_at (R.stored rows.now) 0) }
     requires held { Holding (R.Holds rows.now) 0 (IsPeak size) }
     requires none { H.counted hasher.old ≡ 0 }
-    ensures root { IsStored (H.hash hasher.old) (row_of (R.stored rows.now)) → (empty : Digest)
+    ensures root { IsStored (H.hash hasher.old) (row_at (R.stored rows.now)) → (empty : Digest)
         → GivesBy H.why D.numbers (merkle_tree_hash (H.hash hasher.old) empty
-        (take size (row_of (R.stored rows.now) 0))) result }
+        (take size (row_at (R.stored rows.now) 0))) result }
     ensures counts { OnOk result (H.counted hasher.new ≡ root_pairs size) }
 {
     let mut last_index = size - 1;

@@ -4,9 +4,9 @@ ghost use Rattle.std.specs.Prelude.{◌≡◌, ◌⊎◌, ◌<◌, ◌≤◌, �
 ghost use Rattle.ark_base.specs.declared.error.Error.TheVariants.{OutOfMemory};
 ghost use Rattle.ark_paths.specs.Pair.{Digest};
 ghost use Rattle.ark_paths.specs.Rows.{digests_of};
-ghost use Rattle.merkle_log.specs.Append.{Appends, Completes, GrowsTo, IsWhole, Refuses, counted_after, pair_count};
+ghost use Rattle.merkle_log.specs.Append.{Appends, Completes, GrowsTo, IsWholeList, Refuses, counted_after, pair_count};
 ghost use Rattle.merkle_log.specs.Rising.{left_of, with_rows, AreOfSize};
-ghost use Rattle.merkle_log.specs.Stored.{position, stored_count, StoredValue, row_of};
+ghost use Rattle.merkle_log.specs.Stored.{position, stored_count, StoredValue, row_at};
 
 use crate::laying::lay_rows;
 use crate::places::digest_at;
@@ -121,10 +121,10 @@ impl<D: DigestItem> Stored<D> {
     /// error, `OutOfMemory`, leaves the list.
     pub fn lay(&mut self, count: usize, rows: &mut [IntoIter<D>]) -> Result<usize, Error>
         requires { AreOfSize (self.old.size + count)
-            (with_rows (row_of self.old) (left_of D.numbers rows.old)) }
-        ensures laid { OnOk result ((level : ℕ) → row_of self.new level ≡ with_rows
-            (row_of self.old) (left_of D.numbers rows.old) level) }
-        ensures whole { IsWhole self.new }
+            (with_rows (row_at self.old) (left_of D.numbers rows.old)) }
+        ensures laid { OnOk result ((level : ℕ) → row_at self.new level ≡ with_rows
+            (row_at self.old) (left_of D.numbers rows.old) level) }
+        ensures whole { IsWholeList self.new }
         ensures extends { GrowsTo self.old self.new }
         ensures refused { IfErr result (λ error. error ≡ OutOfMemory) }
         ensures count { IfOk result

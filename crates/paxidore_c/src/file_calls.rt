@@ -16,7 +16,7 @@ ghost use Rattle.log_file.specs.Faults.{log_size, of_first};
 ghost use Rattle.log_file.specs.LogFile.{stored_in, IsLogFile};
 ghost use Rattle.log_store.specs.Store.{new_head, IsPartOf, IsSettled};
 ghost use Rattle.merkle_log.specs.Kept.{front, Keeps};
-ghost use Rattle.merkle_log.specs.Stored.{row_of};
+ghost use Rattle.merkle_log.specs.Stored.{row_at};
 ghost use Rattle.paxidore_c.specs.Answer.{leaves_in, refusal_code};
 ghost use Rattle.paxidore_c.specs.Cut.{parts_by};
 ghost use Rattle.paxidore_c.specs.KeptLog.{log_root};
@@ -357,7 +357,7 @@ pub extern "C" fn paxidore_log_file_check(file: &[u8]) -> i32
 
     // 0 says: the stored digests of the list of the leaves' own ones stand behind the head.
     ensures sound { result ≡ pos 0 → (size : ℕ) × (log_size file.now ≡ Ok size)
-        × Keeps (row_of (front size (stored_in size file.now)) 0) (stored_in size file.now) }
+        × Keeps (row_at (front size (stored_in size file.now)) 0) (stored_in size file.now) }
 
     // 1 says: those of no list of the log's size do.
     ensures damaged { result ≡ pos 1 → (leaves : List Digest)

@@ -11,7 +11,7 @@ ghost use Rattle.ark_paths.specs.Pair.{Digest};
 ghost use Rattle.ark_trees.specs.Rfc6962.{entry_hash, node_of};
 ghost use Rattle.merkle_log.specs.Kept.{front, has_front, Keeps};
 ghost use Rattle.merkle_log.specs.Received.{ShowsLogLeaf, inclusion_length};
-ghost use Rattle.merkle_log.specs.Stored.{row_of, stored_count};
+ghost use Rattle.merkle_log.specs.Stored.{row_at, stored_count};
 ghost use Rattle.paxidore_c.specs.Answer.{Gives, GivesBy, Hands, done_code, refusal_code, verdict_code};
 ghost use Rattle.paxidore_c.specs.KeptLog.{appended, consistency_bytes, digest_hashes, digest_shown, if_inside, if_kept, if_older, inclusion_bytes, kept_code, log_root, more_count, takes};
 ghost use Rattle.paxidore_c.specs.LogProofs.{proof_digests};
@@ -226,7 +226,7 @@ pub extern "C" fn paxidore_log_append(
     }
     match digests_of_leaves::<LogHasher>(alloc, entries, lengths) {
         Ok(digests) => {
-            *more_len = merkle_log::kept::append(&kept, &digests, more);
+            *more_len = merkle_log::kept::append_kept(&kept, &digests, more);
             0
         }
         Err(refused) => refused.code(),
@@ -241,7 +241,7 @@ pub extern "C" fn paxidore_log_check(kept: &[[u8; 32]], size: usize) -> i32
     ensures answer { (holds : Bool) × (result ≡ verdict_code (if_kept size kept.now (Ok holds))) }
 
     // 0 says: the stored digests of the list of the leaves' own ones are kept.
-    ensures sound { result ≡ pos 0 → Keeps (row_of (front size kept.now) 0) kept.now }
+    ensures sound { result ≡ pos 0 → Keeps (row_at (front size kept.now) 0) kept.now }
 
     // 1 says: those of no list of this size are kept.
     ensures damaged { result ≡ pos 1 → (leaves : List Digest) → length leaves ≡ size

@@ -27,7 +27,7 @@ fn put(more: &mut [[u8; 32]], at: usize, digest: &[u8; 32])
 }
 
 // Returns the digest of a complete place: one that the rows have, or one of those that were made for more leaves.
-fn digest_in<'a, R: Rows<[u8; 32]>>(
+fn digest_among<'a, R: Rows<[u8; 32]>>(
     rows: &'a R,
     size: usize,
     more: &'a [[u8; 32]],
@@ -83,7 +83,7 @@ pub fn append_over<R: Rows<[u8; 32]>>(
 /// many.
 ///
 /// Behind them `more` stays. Where no stored digests of a list are kept, the digests are some.
-pub fn append(kept: &Kept, digests: &[[u8; 32]], more: &mut [[u8; 32]]) -> usize
+pub fn append_kept(kept: &Kept, digests: &[[u8; 32]], more: &mut [[u8; 32]]) -> usize
     requires fits { kept.now.size + length digests.now < 2 ^ 63 }
     requires room { stored_count (kept.now.size + length digests.now) ≤ stored_count kept.now.size +
         length more.old }

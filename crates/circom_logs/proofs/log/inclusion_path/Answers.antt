@@ -6,7 +6,7 @@ use Rattle.circom_bytes.specs.Hash.{node_outcome}
 use Rattle.merkle_log.specs.Edge.{all_of}
 use Rattle.merkle_log.specs.Given.{GivesBy}
 use Rattle.merkle_log.specs.Log.{NodeHash, inclusion_path}
-use Rattle.merkle_log.specs.Stored.{IsStored, row_of}
+use Rattle.merkle_log.specs.Stored.{IsStored, row_at}
 use Rattle.merkle_log.proofs.KeptRows.{fewer-first-by, fewer-hashed-by}
 use Rattle.merkle_log.proofs.Making.{map-itself}
 use Rattle.merkle_log.proofs.Positions.{length-row_of}
@@ -21,7 +21,7 @@ inclusion_path_of-requires-clause-within c = omega (arith, c.size.ensures.size, 
 pub returns : goal.returns
 returns c = λ parameters of leaves le keeps empty.
     let size = c.args.kept.now.size in
-    let rows = row_of c.args.kept.now in
+    let rows = row_at c.args.kept.now in
     let same = c.new.ensures.hash ∙ table-node of in
     let stored = subst (λ (hash : NodeHash). IsStored hash rows) (sym same) (fewer-hashed-by keeps size le) in
     let Given : NodeHash → List Digest → Type 0 = λ hash list. GivesBy refusal_error (digests_of itself)

@@ -4,7 +4,7 @@ use Rattle.ark_base.specs.declared.error.SerializationError.TheVariants.{Invalid
 use Rattle.ark_paths.specs.Pair.{Digest}
 use Rattle.circom_bytes.specs.Hash.{node_outcome}
 use Rattle.merkle_log.specs.Log.{NodeHash, merkle_tree_hash}
-use Rattle.merkle_log.specs.Stored.{IsStored, row_of}
+use Rattle.merkle_log.specs.Stored.{IsStored, row_at}
 use Rattle.merkle_log.proofs.KeptRows.{fewer-first-by, fewer-hashed-by}
 use Rattle.merkle_log.proofs.Positions.{length-row_of}
 use Rattle.circom_logs.proofs.Outcomes.{table-node}
@@ -16,7 +16,7 @@ root_of-requires-clause-inside c = omega (arith, c.size.ensures.size, length-row
 pub returns-in-Ok-clause-root : goal.returns-in-Ok-clause-root
 returns-in-Ok-clause-root c = λ parameters of leaves le keeps empty.
     let size = c.args.kept.now.size in
-    let rows = row_of c.args.kept.now in
+    let rows = row_at c.args.kept.now in
     let same = c.new.ensures.hash ∙ table-node of in
     let stored = subst (λ (hash : NodeHash). IsStored hash rows) (sym same) (fewer-hashed-by keeps size le) in
     let Given : NodeHash → List Digest → Type 0 = λ hash list. merkle_tree_hash hash empty list ≡ Ok c.in-Ok.digest in
@@ -27,7 +27,7 @@ returns-in-Ok-clause-root c = λ parameters of leaves le keeps empty.
 pub returns-in-Err-clause-root : goal.returns-in-Err-clause-root
 returns-in-Err-clause-root c = λ parameters of leaves le keeps empty.
     let size = c.args.kept.now.size in
-    let rows = row_of c.args.kept.now in
+    let rows = row_at c.args.kept.now in
     let same = c.new.ensures.hash ∙ table-node of in
     let stored = subst (λ (hash : NodeHash). IsStored hash rows) (sym same) (fewer-hashed-by keeps size le) in
     let error = SerializationError InvalidData in

@@ -1,7 +1,7 @@
 use Rattle.std.proofs.Common.{◌≡◌, ◌+◌, ◌<◌, ◌≤◌, [], length, take, get_or, subst, arith}
 use Rattle.std.proofs.lemmas.List.{length-take-le}
 use Rattle.merkle_log.specs.Kept.{stored_front}
-use Rattle.merkle_log.specs.Stored.{row_of}
+use Rattle.merkle_log.specs.Stored.{row_at}
 use Rattle.log_file.proofs.Growing.{behind-of}
 use Rattle.log_store.proofs.growth.bytes_made.Goals as goal
 
@@ -10,7 +10,7 @@ append_over-made-requires-clause-held g c = λ level place peak.
     let zero : level ≡ 0 + level = omega arith in
     let has = c.requires.peaks level place peak in
     let peaks = c.args.peaks.now in
-    subst (λ k. (k < length peaks) × (get_or peaks k [] ≡ get_or (row_of g.W.Whole.whole k) place [])) zero
+    subst (λ k. (k < length peaks) × (get_or peaks k [] ≡ get_or (row_at g.W.Whole.whole k) place [])) zero
     (omega (arith, has.0, c.told-peaks), has.1)
 
 pub returns-clause-bytes : goal.returns-clause-bytes

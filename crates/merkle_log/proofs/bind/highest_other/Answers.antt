@@ -3,7 +3,7 @@ use Rattle.ark_base.specs.declared.error.Error.{Error}
 use Rattle.ark_base.specs.Laws.Steps.{done_injective}
 use Rattle.merkle_log.specs.Binding.{edge_of, found_at, is_other_pair}
 use Rattle.merkle_log.specs.Edge.{last_seen}
-use Rattle.merkle_log.specs.Stored.{row_of}
+use Rattle.merkle_log.specs.Stored.{row_at}
 use Rattle.merkle_log.proofs.Completing.{digest-read}
 use Rattle.merkle_log.proofs.Climbing.{climbing-first, climbing-next, climbing-alone, climbing-inside, climbing-read, climbing-hashed, climbing-raised, climbing-end, memory_only}
 use Rattle.merkle_log.proofs.bind.highest_other.Goals as goal
@@ -11,7 +11,7 @@ use Rattle.merkle_log.proofs.bind.highest_other.Goals.{then-has_beside+in_ok-own
 
 pub levels-init : goal.levels-init
 levels-init g c =
-    let rows = row_of c.args.rows.now in
+    let rows = row_at c.args.rows.now in
     let inside = c.requires.inside in
     let within = c.requires.within in
     let reaches = c.requires.reaches in
@@ -75,7 +75,7 @@ overflow_add-level g c =
 pub levels-preserved : goal.levels-preserved
 levels-preserved g c =
     let numbers = g.D.Numbered.numbers in
-    let row = row_of c.args.rows.now c.levels.level in
+    let row = row_at c.args.rows.now c.levels.level in
     let edge = edge_of row c.levels.last_index (last_seen numbers row c.levels.last_index c.levels.last) in
     let next_own = get_or (map numbers c.args.path.now) c.levels.used [] in
     let raised = rw (c.new.ensures.hasher) at (c.in_ok-last.ensures.raised (rw (c.new.ensures.hasher)

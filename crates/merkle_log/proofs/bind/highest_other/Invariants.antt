@@ -2,7 +2,7 @@ use Rattle.std.proofs.Common.{◌+◌, ◌-◌, ◌≤◌, length, map, drop, ta
 use Rattle.ark_paths.specs.Pair.{Digest}
 use Rattle.merkle_log.specs.Binding.{IsHighest}
 use Rattle.merkle_log.specs.Edge.{last_seen, HasLast}
-use Rattle.merkle_log.specs.Stored.{row_of}
+use Rattle.merkle_log.specs.Stored.{row_at}
 use Rattle.merkle_log.proofs.Climbing.{Climbing}
 use Rattle.merkle_log.proofs.bind.highest_other.Given as goal
 
@@ -10,7 +10,7 @@ abbrev pub invariant-levels : goal.invariant-levels
 invariant-levels g l =
     let hash = (g.T.TreeHasher.hashes l.hasher).pair.upper in
     let numbers = g.D.Numbered.numbers in
-    let rows = row_of l.rows in
+    let rows = row_at l.rows in
     let last = last_seen numbers (rows l.level) l.last_index l.last in
     record {
       count : l.level + l.last_index ≤ l.size;

@@ -2,7 +2,7 @@ use Rattle.std.proofs.Common.{◌≡◌, ◌+◌, ◌-◌, [], get_or, refl, ◌
 use Rattle.ark_base.specs.declared.error.Error.{Error}
 use Rattle.ark_base.specs.Laws.Steps.{done_injective}
 use Rattle.merkle_log.specs.Asked.{Holding, IsBeside, IsPeak, own_count}
-use Rattle.merkle_log.specs.Stored.{row_of}
+use Rattle.merkle_log.specs.Stored.{row_at}
 use Rattle.merkle_log.proofs.Asking.{beside-up, lowering-end, lowering-first, lowering-next, peaks-up}
 use Rattle.merkle_log.proofs.Backs.{low-next, tallying-first, tallying-next}
 use Rattle.merkle_log.proofs.Givens.{given_on, known_if_ok}
@@ -12,7 +12,7 @@ use Rattle.merkle_log.proofs.paths.consistency_path_of.Goals as goal
 
 pub complete-init : goal.complete-init
 complete-init g c =
-    let rows = row_of (g.R.Rows.stored c.args.rows.now) in
+    let rows = row_at (g.R.Rows.stored c.args.rows.now) in
     let one : c.args.size ≡ c.args.size - 1 + 1 = omega (arith, c.requires.inside) in
     record {
       count = omega arith;

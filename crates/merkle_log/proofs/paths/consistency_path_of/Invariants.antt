@@ -3,7 +3,7 @@ use Rattle.ark_paths.specs.Pair.{Digest}
 use Rattle.merkle_log.specs.Asked.{Holding, IsBeside, IsPeak, own_count}
 use Rattle.merkle_log.specs.Log.{consistency_path}
 use Rattle.merkle_log.specs.Edge.{last_seen, HasLast, all_of, beside_pairs}
-use Rattle.merkle_log.specs.Stored.{row_of, IsStored}
+use Rattle.merkle_log.specs.Stored.{row_at, IsStored}
 use Rattle.merkle_log.proofs.Asking.{Lowering}
 use Rattle.merkle_log.proofs.Backs.{Tallying}
 use Rattle.merkle_log.proofs.Seeding.{Seeding}
@@ -12,7 +12,7 @@ use Rattle.merkle_log.proofs.paths.consistency_path_of.Given as goal
 abbrev pub invariant-complete : goal.invariant-complete
 invariant-complete g l =
     let hash = g.H.NodeHasher.hash l.initial.hasher in
-    let rows = row_of (g.R.Rows.stored l.rows) in
+    let rows = row_at (g.R.Rows.stored l.rows) in
     let last = last_seen g.D.Numbered.numbers (rows l.level) l.last_index l.last in
     record {
       count : l.level + l.last_index ≤ l.size;

@@ -1,7 +1,7 @@
 use Rattle.std.proofs.Common.{◌≡◌, ◌+◌, ◌-◌, [], get_or, map, ap, refl, ◌∙◌, subst, arith}
 use Rattle.ark_paths.specs.Rows.{digests_of}
 use Rattle.merkle_log.specs.Asked.{Holding, IsBeside, IsPeak}
-use Rattle.merkle_log.specs.Stored.{row_of}
+use Rattle.merkle_log.specs.Stored.{row_at}
 use Rattle.merkle_log.proofs.Backs.{beside-first}
 use Rattle.merkle_log.proofs.Givens.{known_if_ok}
 use Rattle.merkle_log.proofs.Verdicts.{pow_above}
@@ -23,7 +23,7 @@ path_from-requires-clause-beside g c =
 
 pub returns-clause-path : goal.returns-clause-path
 returns-clause-path g c = λ stored empty.
-    rw (← path-first empty stored c.args.index c.args.size (get_or (row_of (g.R.Rows.stored c.args.rows.now) 0)
+    rw (← path-first empty stored c.args.index c.args.size (get_or (row_at (g.R.Rows.stored c.args.rows.now) 0)
     (c.args.size - 1) []) (omega (arith, c.requires.inside)) c.requires.within refl
     (digests_of g.D.Numbered.numbers c.args.path) (ap (map g.D.Numbered.numbers) c.requires.empty))
     (c.path_from.ensures.path stored empty c.args.size (omega (arith, pow_above c.args.size)))

@@ -3,7 +3,7 @@ use Rattle.ark_paths.specs.Pair.{Digest}
 use Rattle.ark_paths.specs.Rows.{digests_of}
 use Rattle.merkle_log.specs.Asked.{Holding, IsBeside, IsPeak, own_count}
 use Rattle.merkle_log.specs.Edge.{last_seen, HasLast, path_with, beside_left}
-use Rattle.merkle_log.specs.Stored.{row_of, IsStored}
+use Rattle.merkle_log.specs.Stored.{row_at, IsStored}
 use Rattle.merkle_log.proofs.Backs.{Tallying}
 use Rattle.merkle_log.proofs.Going.{Going}
 use Rattle.merkle_log.proofs.paths.path_from.Given as goal
@@ -13,7 +13,7 @@ invariant-levels g l =
     let hash = g.H.NodeHasher.hash l.initial.hasher in
     let counted = g.H.NodeHasher.counted l.initial.hasher in
     let numbers = g.D.Numbered.numbers in
-    let rows = row_of (g.R.Rows.stored l.rows) in
+    let rows = row_at (g.R.Rows.stored l.rows) in
     let last = last_seen numbers (rows l.level) l.last_index l.last in
     let first = last_seen numbers (rows l.fn.level) l.fn.last_index l.fn.last in
     record {

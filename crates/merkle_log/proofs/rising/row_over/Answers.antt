@@ -2,14 +2,14 @@ use Rattle.std.proofs.Common.{◌≡◌, ◌+◌, suc, map, Ok, ap, ◌∙◌, a
 use Rattle.ark_base.specs.declared.error.Error.{Error}
 use Rattle.ark_base.specs.Laws.Steps.{done_injective}
 use Rattle.ark_paths.specs.Rows.{digests_of}
-use Rattle.merkle_log.specs.Stored.{row_of}
+use Rattle.merkle_log.specs.Stored.{row_at}
 use Rattle.merkle_log.proofs.RisenRows.{over-hashed, over-refused}
 use Rattle.merkle_log.proofs.rising.row_over.Goals as goal
 
 pub returns-clause-hashed : goal.returns-clause-hashed
 returns-clause-hashed g c =
     let hash = (g.T.TreeHasher.hashes c.args.hasher.now).pair.upper in
-    let rows = row_of c.args.stored.now in
+    let rows = row_at c.args.stored.now in
     let e : suc c.args.level ≡ c.args.level + 1 = omega arith in
     over-hashed hash (digests_of g.D.Numbered.numbers) _ (rows c.args.level) (rows (c.args.level + 1))
     (map g.D.Numbered.numbers c.args.row.now) (c.requires.stored.pairs c.args.level ∙ ap (λ l. Ok (rows l)) e)

@@ -1,6 +1,6 @@
 use Rattle.std.proofs.Common.{◌≡◌, ◌+◌, ◌-◌, ◌<◌, [], get_or, refl, ◌∙◌, subst, arith}
 use Rattle.merkle_log.specs.Asked.{Holding, IsPeak, own_count}
-use Rattle.merkle_log.specs.Stored.{row_of}
+use Rattle.merkle_log.specs.Stored.{row_at}
 use Rattle.merkle_log.proofs.Asking.{own-most, peak-here, peaks-up}
 use Rattle.merkle_log.proofs.Givens.{given_on, known_anyway}
 use Rattle.merkle_log.proofs.Lasts.{last-first, last-next, last-refused, last-end}
@@ -9,7 +9,7 @@ use Rattle.merkle_log.proofs.rows.root_of.Goals as goal
 
 pub levels-init : goal.levels-init
 levels-init g c =
-    let rows = row_of (g.R.Rows.stored c.args.rows.now) in
+    let rows = row_at (g.R.Rows.stored c.args.rows.now) in
     let some : 0 < c.args.size = omega (arith, c.requires.some) in
     let one : c.args.size ≡ c.args.size - 1 + 1 = omega (arith, c.requires.some) in
     record {

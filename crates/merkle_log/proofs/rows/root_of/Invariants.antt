@@ -3,14 +3,14 @@ use Rattle.ark_paths.specs.Pair.{Digest}
 use Rattle.merkle_log.specs.Asked.{Holding, IsPeak, own_count}
 use Rattle.merkle_log.specs.Log.{merkle_tree_hash}
 use Rattle.merkle_log.specs.Edge.{last_seen, HasLast, pairs_left, root_pairs}
-use Rattle.merkle_log.specs.Stored.{row_of, IsStored}
+use Rattle.merkle_log.specs.Stored.{row_at, IsStored}
 use Rattle.merkle_log.proofs.Lasts.{LastAt}
 use Rattle.merkle_log.proofs.rows.root_of.Given as goal
 
 abbrev pub invariant-levels : goal.invariant-levels
 invariant-levels g l =
     let hash = g.H.NodeHasher.hash l.initial.hasher in
-    let rows = row_of (g.R.Rows.stored l.rows) in
+    let rows = row_at (g.R.Rows.stored l.rows) in
     let last = last_seen g.D.Numbered.numbers (rows l.level) l.last_index l.last in
     record {
       count : l.level + l.last_index ≤ l.size;

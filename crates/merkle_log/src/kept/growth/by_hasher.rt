@@ -6,9 +6,9 @@ ghost use Rattle.ark_paths.specs.Pair.{Digest};
 ghost use Rattle.merkle_log.specs.Append.{Completes, RefusesCarry};
 ghost use Rattle.merkle_log.specs.Asked.{Holding, IsPeak};
 ghost use Rattle.merkle_log.specs.Kept.{KeepsBy, RefusesAppend, front, stored_front};
-ghost use Rattle.merkle_log.specs.Stored.{row_of, stored_count};
+ghost use Rattle.merkle_log.specs.Stored.{row_at, stored_count};
 
-use crate::kept::growth::{digest_in, put};
+use crate::kept::growth::{digest_among, put};
 use crate::nodes::NodeHasher;
 use crate::rows::Rows;
 
@@ -37,7 +37,7 @@ fn complete_by<R: Rows<[u8; 32]>, H: NodeHasher<[u8; 32]>>(
     ensures behind { IfOk result (λ at. drop at more.new ≡ drop at more.old) }
     ensures refused { let before = stored_front (R.stored rows.now) ++ take made more.old in
         IfErr result (λ refusal. (H.why refusal ≡ OutOfMemory)
-        ⊎ RefusesCarry (H.hash hasher.old) (row_of (front size before)) digest.now
+        ⊎ RefusesCarry (H.hash hasher.old) (row_at (front size before)) digest.now
         (H.why refusal)) }
     ensures same { H.hash hasher.new ≡ H.hash hasher.old }
     ensures length { length more.new ≡ length more.old }
@@ -48,7 +48,7 @@ fn complete_by<R: Rows<[u8; 32]>, H: NodeHasher<[u8; 32]>>(
     let mut level = 0;
     let mut left = size;
     'odd: while left % 2 == 1 {
-        own = hasher.node(digest_in(rows, first, more, level, left - 1), &own)?;
+        own = hasher.node(digest_among(rows, first, more, level, left - 1), &own)?;
         put(more, at, &own);
         at += 1;
         left /= 2;

@@ -7,7 +7,7 @@ ghost use Rattle.merkle_log.specs.Kept.{Keeps, stored_front};
 ghost use Rattle.merkle_log.specs.Levels.{HasRoom, Lies, Raises, parent_in, place_in};
 ghost use Rattle.merkle_log.specs.Stored.{position, stored_count};
 
-use crate::kept::growth::digest_in;
+use crate::kept::growth::digest_among;
 use crate::kept::node::node;
 use crate::places::{position_of, stored_count};
 use crate::rows::Rows;
@@ -63,8 +63,8 @@ fn two_below<'a, R: Rows<[u8; 32]>>(
         (stored_front (R.stored rows.now) ++ more.now) level (2 * (first + steps) + 1) }
 {
     let place = (first + steps).min(end - 1);
-    let left = digest_in(rows, size, more, level, 2 * place);
-    let right = digest_in(rows, size, more, level, 2 * place + 1);
+    let left = digest_among(rows, size, more, level, 2 * place);
+    let right = digest_among(rows, size, more, level, 2 * place + 1);
     (left, right)
 }
 

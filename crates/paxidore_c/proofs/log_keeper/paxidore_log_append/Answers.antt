@@ -2,8 +2,8 @@ use Rattle.std.proofs.Common.{length, ap, arith}
 use Rattle.paxidore_c.proofs.KeptLogs.{room-enough, more-is, entries-of, appended-all}
 use Rattle.paxidore_c.proofs.log_keeper.paxidore_log_append.Goals as goal
 
-pub append-requires-clause-room : goal.append-requires-clause-room
-append-requires-clause-room c =
+pub append_kept-requires-clause-room : goal.append_kept-requires-clause-room
+append_kept-requires-clause-room c =
     let entries = entries-of c.args.entries.now c.args.lengths.now c.in-Ok.digests.items c.in-Ok.ensures.made in
     let size = ap (λ kept. kept.size) c.in-Some.ensures.1 in
     rw (size, c.deref.ensures.value, entries.count) (room-enough c.args.size (length c.args.lengths.now)
@@ -22,10 +22,10 @@ returns-in-Ok-clause-grows c = λ zero.
       entries.hashed,
       ← c.deref.ensures.value,
     )
-    (rw (c.in-Some.ensures.1) at c.append.ensures.grows)
+    (rw (c.in-Some.ensures.1) at c.append_kept.ensures.grows)
 
 pub returns-in-Ok-clause-counted : goal.returns-in-Ok-clause-counted
 returns-in-Ok-clause-counted c = λ zero.
     let entries = entries-of c.args.entries.now c.args.lengths.now c.in-Ok.digests.items c.in-Ok.ensures.made in
-    more-is c.args.size (length c.args.lengths.now) c.append.result
-    (rw (c.in-Some.ensures.1, c.deref.ensures.value, entries.count) at c.append.ensures.count)
+    more-is c.args.size (length c.args.lengths.now) c.append_kept.result
+    (rw (c.in-Some.ensures.1, c.deref.ensures.value, entries.count) at c.append_kept.ensures.count)

@@ -1,6 +1,6 @@
 use Rattle.std.proofs.Common.{◌<◌, [], get_or, Option, Some, None, ap, sym, ◌∙◌, arith}
 use Rattle.ark_paths.specs.Pair.{Digest}
-use Rattle.merkle_log.specs.Stored.{row_of}
+use Rattle.merkle_log.specs.Stored.{row_at}
 use Rattle.merkle_log.specs.Walk.{index_up}
 use Rattle.merkle_log.proofs.Positions.{length-row_of, level-fits, place-within, position-within}
 use Rattle.log_store.specs.Spots.{found}
@@ -26,7 +26,7 @@ position_of-requires-clause-fits g c =
 
 pub find-requires : goal.find-requires
 find-requires g c = (
-  get_or (row_of g.W.Whole.whole c.args.level) c.args.place [],
+  get_or (row_at g.W.Whole.whole c.args.level) c.args.place [],
   ap (found c.args.self.now.spots.now) c.position_of.ensures ∙ c.requires.held.1,
 )
 

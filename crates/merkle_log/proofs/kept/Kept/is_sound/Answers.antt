@@ -1,7 +1,7 @@
 use Rattle.std.proofs.Common.{◌≡◌, refl, sym, ◌∙◌, inl, inr, arith}
 use Rattle.std.proofs.lemmas.Bool.{cases_lt}
 use Rattle.ark_trees.specs.Rfc6962.{node_of}
-use Rattle.merkle_log.specs.Stored.{row_of}
+use Rattle.merkle_log.specs.Stored.{row_at}
 use Rattle.merkle_log.proofs.Positions.{length-row_of}
 use Rattle.merkle_log.proofs.KeptRows.{length-up, keeps-of}
 use Rattle.merkle_log.proofs.Hashed.{stored-all}
@@ -33,7 +33,7 @@ levels-preserved c =
 
 pub returns-clause-sound : goal.returns-clause-sound
 returns-clause-sound c = λ yes.
-    keeps-of c.args.self.now.size (row_of c.args.self.now 0) c.args.self.now.digests (length-row_of c.args.self.now 0)
+    keeps-of c.args.self.now.size (row_at c.args.self.now 0) c.args.self.now.digests (length-row_of c.args.self.now 0)
     (rw (← c.size-count.ensures.size) c.size-count.ensures.inside) refl
     (stored-all node_of c.args.self.now c.levels.level c.levels.invariant.hashed (omega (
       arith,

@@ -1,11 +1,11 @@
 use Rattle.std.proofs.Common.{◌≡◌, ◌+◌, ◌<◌, ◌≤◌, ℕ, length, Ok}
 use Rattle.ark_trees.specs.Rfc6962.{node_of}
-use Rattle.merkle_log.specs.Stored.{row_of, row_pairs}
+use Rattle.merkle_log.specs.Stored.{row_at, row_pairs}
 use Rattle.merkle_log.proofs.kept.Kept.is_sound.Given as goal
 
 abbrev pub invariant-levels : goal.invariant-levels
 invariant-levels l =
-    let rows = row_of l.self in
+    let rows = row_at l.self in
     record {
       count : l.count ≡ length (rows l.level);
       fits : l.level + l.count ≤ l.self.size;

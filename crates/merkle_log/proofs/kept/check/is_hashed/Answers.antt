@@ -1,6 +1,6 @@
 use Rattle.std.proofs.Common.{◌≡◌, ◌+◌, ◌*◌, [], get_or, Ok, ap, sym, ◌∙◌, arith}
 use Rattle.ark_trees.specs.Rfc6962.{node_hash, node_of}
-use Rattle.merkle_log.specs.Stored.{row_of}
+use Rattle.merkle_log.specs.Stored.{row_at}
 use Rattle.merkle_log.proofs.KeptRows.{length-up}
 use Rattle.merkle_log.proofs.Hashed.{hashed-more, hashed-all, hashed-not, same-says, other-says}
 use Rattle.merkle_log.proofs.kept.check.is_hashed.Goals as goal
@@ -25,9 +25,9 @@ overflow_add-level c = omega (arith, c.requires.fits, c.places-test.true)
 
 pub places-preserved : goal.places-preserved
 places-preserved c =
-    let row = row_of c.args.kept.now c.args.level in
+    let row = row_at c.args.kept.now c.args.level in
     let same = same-says c.node-own.result c.at-in-places-2.result.now c.ne.result c.ne.ensures c.if-ne.false in
-    hashed-more node_of row (row_of c.args.kept.now (c.args.level + 1)) c.places.place c.places.invariant
+    hashed-more node_of row (row_at c.args.kept.now (c.args.level + 1)) c.places.place c.places.invariant
     (ap (λ d. Ok (node_hash d (get_or row (2 * c.places.place + 1) []))) (sym c.at.ensures)
     ∙ ap (λ d. Ok (node_hash c.at.result.now d)) (sym c.at-in-places.ensures)
     ∙ ap Ok (sym c.node-own.ensures ∙ same ∙ c.at-in-places-2.ensures))
@@ -35,16 +35,16 @@ places-preserved c =
 pub returns-clause-hashed : goal.returns-clause-hashed
 returns-clause-hashed c = λ yes.
     let all : c.places.place ≡ c.args.count = omega (arith, c.places-test.false, c.places.auto.place-end) in
-    hashed-all node_of (row_of c.args.kept.now c.args.level) (row_of c.args.kept.now (c.args.level + 1))
+    hashed-all node_of (row_at c.args.kept.now c.args.level) (row_at c.args.kept.now (c.args.level + 1))
     (length-up c.args.kept.now c.args.level) (rw (← c.requires.count, ← all) c.places.invariant)
 
 pub returns-then-ne-clause-damaged : goal.returns-then-ne-clause-damaged
 returns-then-ne-clause-damaged c = λ no.
-    hashed-not (row_of c.args.kept.now c.args.level) (row_of c.args.kept.now (c.args.level + 1)) c.places.place
+    hashed-not (row_at c.args.kept.now c.args.level) (row_at c.args.kept.now (c.args.level + 1)) c.places.place
     (length-up c.args.kept.now c.args.level)
     (omega (arith, c.requires.count, c.places-test.true)) (λ same. other-says c.node-own.result
     c.at-in-places-2.result.now c.ne.result c.ne.ensures c.if-ne.true
     (c.node-own.ensures ∙ ap (λ d. node_hash d c.at-in-places.result.now) c.at.ensures
-    ∙ ap (node_hash (get_or (row_of c.args.kept.now c.args.level) (2 * c.places.place) [])) c.at-in-places.ensures
+    ∙ ap (node_hash (get_or (row_at c.args.kept.now c.args.level) (2 * c.places.place) [])) c.at-in-places.ensures
     ∙ same
     ∙ sym c.at-in-places-2.ensures))

@@ -17,35 +17,35 @@ odd-init g c = record {
       c.put.ensures.same;
 }
 
-pub digest_in-requires-clause-level : goal.digest_in-requires-clause-level
-digest_in-requires-clause-level g c =
+pub digest_among-requires-clause-level : goal.digest_among-requires-clause-level
+digest_among-requires-clause-level g c =
     let long = front-long _ c.args.first c.requires.size c.requires.stored in
     (making-place c.odd.invariant.at (omega (arith, c.requires.whole, long)) c.requires.fits
     (omega (arith, c.requires.room, long)) c.odd-test.true).0
 
-pub digest_in-requires-clause-below : goal.digest_in-requires-clause-below
-digest_in-requires-clause-below g c =
+pub digest_among-requires-clause-below : goal.digest_among-requires-clause-below
+digest_among-requires-clause-below g c =
     let long = front-long _ c.args.first c.requires.size c.requires.stored in
     (making-place c.odd.invariant.at (omega (arith, c.requires.whole, long)) c.requires.fits
     (omega (arith, c.requires.room, long)) c.odd-test.true).1
 
-pub digest_in-requires-clause-inside : goal.digest_in-requires-clause-inside
-digest_in-requires-clause-inside g c =
+pub digest_among-requires-clause-inside : goal.digest_among-requires-clause-inside
+digest_among-requires-clause-inside g c =
     let long = front-long _ c.args.first c.requires.size c.requires.stored in
     let place = (making-place c.odd.invariant.at (omega (arith, c.requires.whole, long)) c.requires.fits
     (omega (arith, c.requires.room, long)) c.odd-test.true).2 in
     let more = room-first c.args.size in
     omega (arith, c.requires.whole, c.requires.room, c.odd.invariant.at.same, long)
 
-pub digest_in-requires-clause-near : goal.digest_in-requires-clause-near
-digest_in-requires-clause-near g c =
+pub digest_among-requires-clause-near : goal.digest_among-requires-clause-near
+digest_among-requires-clause-near g c =
     let long = front-long _ c.args.first c.requires.size c.requires.stored in
     let place = (making-place c.odd.invariant.at (omega (arith, c.requires.whole, long)) c.requires.fits
     (omega (arith, c.requires.room, long)) c.odd-test.true).2 in
     omega (arith, c.requires.whole, long)
 
-pub digest_in-requires-clause-held : goal.digest_in-requires-clause-held
-digest_in-requires-clause-held g c = λ below.
+pub digest_among-requires-clause-held : goal.digest_among-requires-clause-held
+digest_among-requires-clause-held g c = λ below.
     let rises = up-rises c.odd.level c.args.first c.args.size c.requires.longer in
     peak-here-at (g.R.Rows.Holds c.args.rows.now) c.args.first c.odd.level (c.odd.left - 1) c.requires.held
     (omega (arith, c.odd.invariant.at.completing.left_is)) (omega (arith, c.odd.invariant.at.completing.left_is))
@@ -57,7 +57,7 @@ returns-in_err-own-clause-refused g c =
     refused_on _ c.from_residual.result c.in_err-own.field-0.0 c.from_residual.ensures.1
     (⊎_map (λ memory. memory)
     (λ refused. making-refused c.odd.invariant.at (omega (arith, c.requires.whole, long)) c.requires.fits
-    (omega (arith, c.requires.room, long)) c.odd-test.true _ (ap (λ d. hash d c.odd.own) (sym c.digest_in.ensures)
+    (omega (arith, c.requires.room, long)) c.odd-test.true _ (ap (λ d. hash d c.odd.own) (sym c.digest_among.ensures)
     ∙ refused)) (rw (c.odd.invariant.same) at c.in_err-own.ensures.answer))
 
 pub returns-in_err-own-clause-same : goal.returns-in_err-own-clause-same
@@ -77,7 +77,7 @@ odd-preserved g c =
       same = c.in_ok-own.ensures.same ∙ c.odd.invariant.same;
       at = making-next c.odd.invariant.at (omega (arith, c.requires.whole, long)) c.requires.fits
           (omega (arith, c.requires.room, long)) c.odd-test.true _ _
-          (ap (λ d. hash d c.odd.own) (sym c.digest_in.ensures)
+          (ap (λ d. hash d c.odd.own) (sym c.digest_among.ensures)
           ∙ (rw (c.odd.invariant.same) at c.in_ok-own.ensures.answer))
           c.put-in-odd.ensures.front c.put-in-odd.ensures.behind c.put-in-odd.ensures.same;
     }

@@ -5,7 +5,7 @@ use Rattle.ark_base.specs.Laws.Steps.{done_injective}
 use Rattle.ark_base.proofs.Refusals.{passed_on}
 use Rattle.merkle_log.proofs.Completing.{digest-read}
 use Rattle.merkle_log.proofs.Merging.{folding-first, folding-next, folding-refused, folding-last}
-use Rattle.merkle_log.proofs.frontier.fold.Goals as goal
+use Rattle.merkle_log.proofs.frontier.fold_peaks.Goals as goal
 
 pub left-init : goal.left-init
 left-init g c = record {

@@ -3,7 +3,7 @@ use Rattle.ark_paths.specs.Pair.{Digest}
 use Rattle.merkle_log.specs.Frontier.{IsFrontier}
 use Rattle.merkle_log.specs.Log.{merkle_tree_hash}
 use Rattle.merkle_log.proofs.Merging.{Folding}
-use Rattle.merkle_log.proofs.frontier.fold.Given as goal
+use Rattle.merkle_log.proofs.frontier.fold_peaks.Given as goal
 
 abbrev pub invariant-left : goal.invariant-left
 invariant-left g l =

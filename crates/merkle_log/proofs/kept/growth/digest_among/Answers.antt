@@ -5,7 +5,7 @@ use Rattle.merkle_log.specs.Stored.{position, stored_count}
 use Rattle.merkle_log.proofs.KeptPlaces.{inside-up}
 use Rattle.merkle_log.proofs.KeptRows.{front-long}
 use Rattle.merkle_log.proofs.Positions.{length-row_of, position-beyond, position-within, row_of-at}
-use Rattle.merkle_log.proofs.kept.growth.digest_in.Goals as goal
+use Rattle.merkle_log.proofs.kept.growth.digest_among.Goals as goal
 
 pub at-requires-clause-complete : goal.at-requires-clause-complete
 at-requires-clause-complete g c =

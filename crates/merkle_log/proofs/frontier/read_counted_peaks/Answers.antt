@@ -1,7 +1,7 @@
 use Rattle.std.proofs.Common.{sym, ◌∙◌}
 use Rattle.std.proofs.lemmas.List.{length-map}
 use Rattle.merkle_log.proofs.Bytes.{length-digests}
-use Rattle.merkle_log.proofs.frontier.read_peaks.Goals as goal
+use Rattle.merkle_log.proofs.frontier.read_counted_peaks.Goals as goal
 
 pub returns-clause-count : goal.returns-clause-count
 returns-clause-count g c =
