@@ -14,7 +14,7 @@ mod tree;
 
 pub use elements::are_elements;
 pub use list::{path_of_elements, root_of_elements};
-pub use log::{appended_digests, inclusion_path, root};
+pub use log::{appended_digests, inclusion_path, kept_log_root};
 pub use nodes::{CircomNodes, CircomPaths};
 pub use refusal::{NoElement, NodeRefusal};
 pub use tree::CircomTree;

@@ -12,7 +12,7 @@ ghost use Rattle.merkle_log.specs.Given.{GivesBy};
 ghost use Rattle.merkle_log.specs.Log.{inclusion_path, merkle_tree_hash};
 
 use crate::elements::are_elements;
-use crate::log::{appended_digests, inclusion_path, root};
+use crate::log::{appended_digests, inclusion_path, kept_log_root};
 use crate::refusal::{NoElement, NodeRefusal};
 use circom_bytes::CircomTable;
 use merkle_log::kept::Kept;
@@ -39,7 +39,7 @@ pub fn root_of_elements(
         return Err(NodeRefusal::Element);
     }
     let kept = appended_digests(alloc, table, &Kept::new(0, &[]), elements)?;
-    root(table, &Kept::new(elements.len(), &kept))
+    kept_log_root(table, &Kept::new(elements.len(), &kept))
 }
 
 /// Returns the path of an index in a list of elements, from the element up.

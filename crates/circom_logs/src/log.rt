@@ -24,7 +24,7 @@ use std::alloc::Global;
 /// Returns the root of a log that has one element at least: MTH(D[0:size]). It allocates nothing.
 ///
 /// If the memory is not that of a log, it is some digest, or `Element` is refused.
-pub fn root(table: &CircomTable, kept: &Kept) -> Result<[u8; 32], NodeRefusal>
+pub fn kept_log_root(table: &CircomTable, kept: &Kept) -> Result<[u8; 32], NodeRefusal>
     requires two { table.now.inputs ≡ 2 }
     requires some { 0 < kept.now.size }
     ensures root { (c : Parameters) → IsTableOf c table.now → (leaves : List Digest)

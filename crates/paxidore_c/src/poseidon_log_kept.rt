@@ -53,7 +53,7 @@ fn kept_root_of(
     if size == 0 {
         return Err(Refused::Size);
     }
-    match circom_logs::root(&table, &kept) {
+    match circom_logs::kept_log_root(&table, &kept) {
         Ok(root) => Ok(root),
         Err(refusal) => Err(Refused::from(refusal)),
     }

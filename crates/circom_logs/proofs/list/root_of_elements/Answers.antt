@@ -23,7 +23,8 @@ returns-clause-root c = λ parameters of elements_are empty.
     let keeps : KeepsBy (node_outcome parameters) elements c.in_ok-kept.kept.items =
     (rw (c.new.ensures) at c.in_ok-kept.ensures.grows) parameters of [] refl (keeps-none (node_outcome parameters)) in
     let kept = subst (KeepsBy (node_outcome parameters) elements) (sym c.deref.ensures.value) keeps in
-    let given = (rw (c.new-2.ensures) at c.root.ensures.root) parameters of elements (omega arith) kept empty in
+    let given = (rw (c.new-2.ensures) at c.kept_log_root.ensures.root) parameters of elements (omega arith) kept empty
+    in
     subst (λ (list : List Digest). GivesBy refusal_error (λ digest. digest)
-    (merkle_tree_hash (node_outcome parameters) empty list) c.root.result)
+    (merkle_tree_hash (node_outcome parameters) empty list) c.kept_log_root.result)
     (take_all (length elements) elements (omega arith)) given

@@ -38,30 +38,31 @@ returns-then-size-eq0-clause-answer c = λ inputs parameters spells leaves le ke
     let none : nat_lt 0 c.args.size ≡ false = le-ltb 0 c.args.size (omega arith) in
     two-refused inputs _ Size table.0 (inr (rw (c.in-Some.ensures.0, none) refl))
 
-pub returns-in-Ok-root-clause-given : goal.returns-in-Ok-root-clause-given
-returns-in-Ok-root-clause-given c = λ inputs parameters spells.
+pub returns-in-Ok-kept_log_root-clause-given : goal.returns-in-Ok-kept_log_root-clause-given
+returns-in-Ok-kept_log_root-clause-given c = λ inputs parameters spells.
     let table = c.in-Ok.ensures.read inputs parameters spells in
     let some : nat_lt 0 c.args.size ≡ true = lt-ltb 0 c.args.size (omega arith) in
-    (Ok c.in-Ok-root.root, tt, two-given inputs _ _ table.0 (rw (c.in-Some.ensures.0, some) refl))
+    (Ok c.in-Ok-kept_log_root.root, tt, two-given inputs _ _ table.0 (rw (c.in-Some.ensures.0, some) refl))
 
-pub returns-in-Ok-root-clause-answer : goal.returns-in-Ok-root-clause-answer
-returns-in-Ok-root-clause-answer c = λ inputs parameters spells leaves le keeps.
+pub returns-in-Ok-kept_log_root-clause-answer : goal.returns-in-Ok-kept_log_root-clause-answer
+returns-in-Ok-kept_log_root-clause-answer c = λ inputs parameters spells leaves le keeps.
     let table = c.in-Ok.ensures.read inputs parameters spells in
     let some : nat_lt 0 c.args.size ≡ true = lt-ltb 0 c.args.size (omega arith) in
     two-given inputs _ _ table.0 (rw (c.in-Some.ensures.0, some) (ap refusing
-    ((rw (c.in-Some.ensures.1) at c.in-Ok-root.ensures.root) parameters table.1 leaves le keeps [])))
+    ((rw (c.in-Some.ensures.1) at c.in-Ok-kept_log_root.ensures.root) parameters table.1 leaves le keeps [])))
 
-pub returns-in-Ok-root-clause-root : goal.returns-in-Ok-root-clause-root
-returns-in-Ok-root-clause-root c = λ inputs parameters spells leaves le keeps.
+pub returns-in-Ok-kept_log_root-clause-root : goal.returns-in-Ok-kept_log_root-clause-root
+returns-in-Ok-kept_log_root-clause-root c = λ inputs parameters spells leaves le keeps.
     let table = c.in-Ok.ensures.read inputs parameters spells in
-    (rw (c.in-Some.ensures.1) at c.in-Ok-root.ensures.root) parameters table.1 leaves le keeps []
+    (rw (c.in-Some.ensures.1) at c.in-Ok-kept_log_root.ensures.root) parameters table.1 leaves le keeps []
 
 pub returns-clause-given : goal.returns-clause-given
 returns-clause-given c = λ inputs parameters spells.
     let table = c.in-Ok.ensures.read inputs parameters spells in
     let some : nat_lt 0 c.args.size ≡ true = lt-ltb 0 c.args.size (omega arith) in
     any-refused (kept_root_given inputs c.args.size c.args.kept.now)
-    (λ given. two-given inputs _ _ table.0 (rw (c.in-Some.ensures.0, some) refl)) c.in-Err-root.refusal c.from.result
+    (λ given. two-given inputs _ _ table.0 (rw (c.in-Some.ensures.0, some) refl)) c.in-Err-kept_log_root.refusal
+    c.from.result
     c.from.ensures
 
 pub returns-clause-answer : goal.returns-clause-answer
@@ -69,5 +70,6 @@ returns-clause-answer c = λ inputs parameters spells leaves le keeps.
     let table = c.in-Ok.ensures.read inputs parameters spells in
     let some : nat_lt 0 c.args.size ≡ true = lt-ltb 0 c.args.size (omega arith) in
     two-refused inputs _ c.from.result table.0 (rw (c.in-Some.ensures.0, some) (library-refused _
-    (refusal_error c.in-Err-root.refusal) c.from.result
-    ((rw (c.in-Some.ensures.1) at c.in-Err-root.ensures.root) parameters table.1 leaves le keeps []) c.from.ensures))
+    (refusal_error c.in-Err-kept_log_root.refusal) c.from.result
+    ((rw (c.in-Some.ensures.1) at c.in-Err-kept_log_root.ensures.root) parameters table.1 leaves le keeps [])
+    c.from.ensures))

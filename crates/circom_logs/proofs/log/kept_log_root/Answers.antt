@@ -8,7 +8,7 @@ use Rattle.merkle_log.specs.Stored.{IsStored, row_at}
 use Rattle.merkle_log.proofs.KeptRows.{fewer-first-by, fewer-hashed-by}
 use Rattle.merkle_log.proofs.Positions.{length-row_of}
 use Rattle.circom_logs.proofs.Outcomes.{table-node}
-use Rattle.circom_logs.proofs.log.root.Goals as goal
+use Rattle.circom_logs.proofs.log.kept_log_root.Goals as goal
 
 pub root_of-requires-clause-inside : goal.root_of-requires-clause-inside
 root_of-requires-clause-inside c = omega (arith, c.size.ensures.size, length-row_of c.args.kept.now 0)
