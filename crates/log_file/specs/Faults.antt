@@ -18,8 +18,8 @@ fault_of (GenericError refusal) = Length
 fault_of NotPrimeOrder = Length
 
 -- The call gives the outcome, its value seen by view, or a request for memory was refused.
-abbrev pub GivesBy : {A B : Type 0} → (A → B) → Result B Fault → Result A Fault → Type 0
-GivesBy view outcome result =
+abbrev pub FileGivesBy : {A B : Type 0} → (A → B) → Result B Fault → Result A Fault → Type 0
+FileGivesBy view outcome result =
     MatchResult result (λ value. outcome ≡ Ok (view value)) (λ fault. (fault ≡ Memory) ⊎ (outcome ≡ Err fault))
 
 -- goes on where a condition holds; else the fault

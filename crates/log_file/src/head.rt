@@ -82,7 +82,7 @@ fn twice(slot: &[u8; 32]) -> [u8; 64]
 }
 
 /// Returns the head of the file of a log: the title, and twice the slot of its size and root.
-pub fn head_of(size: usize, root: &[u8; 32]) -> [u8; START]
+pub fn head_bytes(size: usize, root: &[u8; 32]) -> [u8; START]
     ensures { result ≡ title ++ (slot size root.now ++ slot size root.now) }
 {
     let mut head = [0; START];
@@ -119,7 +119,7 @@ fn end_in(bytes: &[u8; 32]) -> [u8; 12]
 }
 
 // The size that a slot has, where the slot is whole.
-fn size_in(bytes: &[u8; 32]) -> Option<usize>
+fn size_in_slot(bytes: &[u8; 32]) -> Option<usize>
     ensures { result ≡ slot_size bytes.now }
 {
     let size = first_word(bytes);
@@ -186,7 +186,10 @@ pub fn slots_in(bytes: &[u8]) -> Option<Head>
     ensures { let seen = option_map (λ head. (head.size, head.is_second_next)) result in
         seen ≡ slots_head bytes.now }
 {
-    larger(size_in(&piece(bytes, 32)), size_in(&piece(bytes, 64)))
+    larger(
+        size_in_slot(&piece(bytes, 32)),
+        size_in_slot(&piece(bytes, 64)),
+    )
 }
 
 /// Returns the head of a log's file; `None` where the bytes are those of no log's. The larger size of the slots that are

@@ -11,7 +11,7 @@ use crate::disk::Disk;
 use crate::log::read_log;
 use crate::stop::Stop;
 use log_file::fault::Fault;
-use log_file::head::{START, head_of};
+use log_file::head::{START, head_bytes};
 use sha2::{Digest as _, Sha256};
 
 // Whether a file has no log.
@@ -94,7 +94,7 @@ pub fn make<D: Disk>(disk: &mut D) -> Result<(), Stop<D::Refusal>>
     ensures durable { D.Obeys disk.new
         → OnOk result (Only (D.seen disk.new) (D.may_leave disk.new)) }
 {
-    let head = head_of(0, &Sha256::digest([].as_slice()));
+    let head = head_bytes(0, &Sha256::digest([].as_slice()));
     if is_begun(disk, &head)? {
         if let Err(refusal) = disk.write_at(0, &head) {
             return Err(Stop::Disk(refusal));

@@ -19,7 +19,7 @@ use crate::steps::write_durably;
 use crate::stop::Stop;
 use crate::window::{PART, read_part};
 use log_file::fault::Fault;
-use log_file::head::{START, has_title, head_of, slots_in};
+use log_file::head::{START, has_title, head_bytes, slots_in};
 use merkle_log::kept::stored_count;
 
 /// What of a file can be recovered.
@@ -151,7 +151,7 @@ pub fn recover<D: Disk>(disk: &D, new: &mut D) -> Result<Recovered, Stop<D::Refu
     if let Err(refusal) = copy_behind(disk, new, 32 * stored_count(found.size)) {
         return Err(Stop::Disk(refusal));
     }
-    match write_durably(new, 0, &head_of(found.size, &found.root)) {
+    match write_durably(new, 0, &head_bytes(found.size, &found.root)) {
         Ok(()) => Ok(found),
         Err(refusal) => Err(Stop::Disk(refusal)),
     }

@@ -18,7 +18,7 @@ use crate::halving::root_of;
 use crate::tile::{FULL, Tile, width_of};
 use ark_crh::ArrayHash;
 use ark_trees::LogHasher;
-use log_file::head::{START, head_of};
+use log_file::head::{START, head_bytes};
 use log_store::Disk;
 use merkle_log::kept::stored_count;
 use sha2::{Digest as _, Sha256};
@@ -100,7 +100,7 @@ impl<T: Tiles + Drop> TileDisk<T> {
         Some(TileDisk {
             tiles,
             size,
-            head: head_of(size, root),
+            head: head_bytes(size, root),
         })
     }
 

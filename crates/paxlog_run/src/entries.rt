@@ -4,7 +4,7 @@ ghost use Rattle.std.specs.Prelude.{◌≡◌, ◌<◌, ◌≤◌, ◌∷◌, �
 ghost use Rattle.ark_crh.specs.Ahead.{lent};
 ghost use Rattle.ark_trees.specs.Rfc6962.{entry_hash};
 ghost use Rattle.paxlog_run.specs.Entries.{lines_of};
-ghost use Rattle.log_file.specs.Faults.{GivesBy};
+ghost use Rattle.log_file.specs.Faults.{FileGivesBy};
 ghost use Rattle.log_file.specs.declared.fault.Fault.TheVariants.{Memory};
 
 use ark_crh::ArrayHash;
@@ -81,7 +81,7 @@ pub fn digests_of_lines<P: Progress>(
     progress: &mut P,
 ) -> Result<Vec<[u8; 32]>, Fault>
     ensures { let digests = map entry_hash (lines_of bytes.now) in
-        GivesBy (λ all. all.items) (Ok digests) result }
+        FileGivesBy (λ all. all.items) (Ok digests) result }
 {
     let mut digests = Vec::new(alloc);
     let mut rest = bytes;

@@ -4,7 +4,7 @@ ghost use Rattle.std.specs.Prelude.{◌≡◌, ℕ, List, true, Ok, IfOk};
 ghost use Rattle.hex.specs.Hex.{decode_of};
 ghost use Rattle.ark_trees.specs.Rfc6962.{log_hashes, node_of};
 ghost use Rattle.merkle_log.specs.Received.{ShowsFront, ShowsLogLeaf, consistency_length, inclusion_length};
-ghost use Rattle.log_file.specs.Faults.{GivesBy};
+ghost use Rattle.log_file.specs.Faults.{FileGivesBy};
 ghost use Rattle.paxlog_run.specs.Verdicts.{continuing_shown, continuing_shown_by, entry_shown, entry_shown_by, proof_digests, spelled};
 
 use ark_trees::LogHasher;
@@ -15,7 +15,7 @@ use std::alloc::Global;
 
 // The bytes that a word spells in hexadecimal.
 fn bytes_in(alloc: Global, word: &[u8]) -> Result<Vec<u8>, Fault>
-    ensures { GivesBy (λ bytes. bytes.items) (spelled (decode_of word.now)) result }
+    ensures { FileGivesBy (λ bytes. bytes.items) (spelled (decode_of word.now)) result }
 {
     match hex::decode(alloc, word) {
         Ok(bytes) => Ok(bytes),
@@ -34,7 +34,7 @@ fn shows_entry(
     path: &[u8],
 ) -> Result<bool, Fault>
     ensures answer { let outcome = entry_shown root.now size index entry.now.items path.now in
-        GivesBy (λ holds. holds) outcome result }
+        FileGivesBy (λ holds. holds) outcome result }
     ensures shows { let hashes = log_hashes (λ bytes. bytes) in
         let digests = proof_digests (inclusion_length size index) path.now in
         result ≡ Ok true → ShowsLogLeaf hashes root.now size index entry.now.items digests }
@@ -58,7 +58,7 @@ pub fn verify_inclusion(
     word: &[u8],
 ) -> Result<bool, Fault>
     ensures answer { let outcome = entry_shown_by root.now size index entry.now.items word.now in
-        GivesBy (λ holds. holds) outcome result }
+        FileGivesBy (λ holds. holds) outcome result }
 
     // What the word spells binds the entry.
     ensures shows { let hashes = log_hashes (λ bytes. bytes) in
@@ -80,7 +80,7 @@ fn shows_continuing(
     proof: &[u8],
 ) -> Result<bool, Fault>
     ensures answer { let of_sizes = continuing_shown old_size old_root.now size root.now in
-        GivesBy (λ holds. holds) (of_sizes proof.now) result }
+        FileGivesBy (λ holds. holds) (of_sizes proof.now) result }
     ensures shows { let digests = proof_digests (consistency_length old_size size) proof.now in
         result ≡ Ok true → ShowsFront node_of old_size old_root.now size root.now digests }
 {
@@ -104,7 +104,7 @@ pub fn verify_consistency(
     word: &[u8],
 ) -> Result<bool, Fault>
     ensures answer { let of_sizes = continuing_shown_by old_size old_root.now size root.now in
-        GivesBy (λ holds. holds) (of_sizes word.now) result }
+        FileGivesBy (λ holds. holds) (of_sizes word.now) result }
 
     // What the word spells binds the old root.
     ensures shows { let digests = proof_digests (consistency_length old_size size) in

@@ -24,8 +24,8 @@ returns-in-Ok-clause-made g c = λ obeys none.
           let start = subst g.D.Disk.Obeys w.disk-is before in
           subst (IsSettled []) (sym (c.sync.ensures.same obeys ∙ ap g.D.Disk.seen w.disk-is
           ∙ w.in_default.ensures.written start (omega arith)))
-          (new-settled c.head_of-head.result (g.D.Disk.seen c.args.disk.now)
-          (c.head_of-head.ensures ∙ ap (λ r. title ++ (slot 0 r ++ slot 0 r)) (c.digest.ensures
+          (new-settled c.head_bytes-head.result (g.D.Disk.seen c.args.disk.now)
+          (c.head_bytes-head.ensures ∙ ap (λ r. title ++ (slot 0 r ++ slot 0 r)) (c.digest.ensures
           ∙ ap sha256 c.as_slice.ensures)) none)
       | else-branch w ↦
           let start = subst g.D.Disk.Obeys w.disk-is before in
@@ -39,7 +39,7 @@ begun head file is part = subst (λ h. IsPartOf h file) is part
 pub returns-in-Err-clause-others : goal.returns-in-Err-clause-others
 returns-in-Err-clause-others g c = λ obeys.
     let start = c.write_at.ensures.obeys obeys in
-    inl (begun c.head_of-head.result _ (c.head_of-head.ensures ∙ ap (λ r. title ++ (slot 0 r ++ slot 0 r))
+    inl (begun c.head_bytes-head.result _ (c.head_bytes-head.ensures ∙ ap (λ r. title ++ (slot 0 r ++ slot 0 r))
     (c.digest.ensures ∙ ap sha256 c.as_slice.ensures)) (c.in_ok-is_begun.ensures.part start c.if-branch.true))
 
 pub returns-in-Ok-clause-others : goal.returns-in-Ok-clause-others
@@ -48,7 +48,7 @@ returns-in-Ok-clause-others g c = λ obeys.
     elim c.if-branch.branch [
       | then-branch+in_default w ↦
           let start = w.write_at.ensures.obeys (subst g.D.Disk.Obeys w.disk-is before) in
-          inl (begun c.head_of-head.result _ (c.head_of-head.ensures ∙ ap (λ r. title ++ (slot 0 r ++ slot 0 r))
+          inl (begun c.head_bytes-head.result _ (c.head_bytes-head.ensures ∙ ap (λ r. title ++ (slot 0 r ++ slot 0 r))
           (c.digest.ensures ∙ ap sha256 c.as_slice.ensures)) (c.in_ok-is_begun.ensures.part start w.if-branch.true))
       | else-branch w ↦ inr (c.sync.ensures.same obeys ∙ ap g.D.Disk.seen w.disk-is)
     ]
@@ -59,7 +59,7 @@ returns-in-Err-sync-clause-others g c = λ obeys.
     elim c.if-branch.branch [
       | then-branch+in_default w ↦
           let start = w.write_at.ensures.obeys (subst g.D.Disk.Obeys w.disk-is before) in
-          inl (begun c.head_of-head.result _ (c.head_of-head.ensures ∙ ap (λ r. title ++ (slot 0 r ++ slot 0 r))
+          inl (begun c.head_bytes-head.result _ (c.head_bytes-head.ensures ∙ ap (λ r. title ++ (slot 0 r ++ slot 0 r))
           (c.digest.ensures ∙ ap sha256 c.as_slice.ensures)) (c.in_ok-is_begun.ensures.part start w.if-branch.true))
       | else-branch w ↦ inr (c.sync.ensures.same obeys ∙ ap g.D.Disk.seen w.disk-is)
     ]

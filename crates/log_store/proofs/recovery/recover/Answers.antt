@@ -17,8 +17,8 @@ returns-in-Ok-clause-recovered g c = λ obeys old none.
       found.1,
       found.2,
       subst (IsSettled found.0) (sym (c.in-Ok.ensures.written obeys (omega arith)))
-          (settled-by found.0 c.in_ok-found.found.root seen (see c.copy_behind.new.new) c.head_of.result size
-          c.stored_count.result found.1 found.2 c.in_ok-found.ensures.fits found.3 c.head_of.ensures
+          (settled-by found.0 c.in_ok-found.found.root seen (see c.copy_behind.new.new) c.head_bytes.result size
+          c.stored_count.result found.1 found.2 c.in_ok-found.ensures.fits found.3 c.head_bytes.ensures
           c.stored_count.ensures same),
     )
 
@@ -32,6 +32,6 @@ returns-in-Ok-clause-log g c = λ obeys old none leaves log.
     omega (arith, c.in_ok-found.ensures.inside old, c.stored_count.ensures) in
     let same = c.in_default.ensures.copied (c.write_durably.ensures.obeys obeys) old none inside in
     subst (IsSettled leaves) (sym (c.in-Ok.ensures.written obeys (omega arith)))
-    (settled-by leaves c.in_ok-found.found.root seen (see c.copy_behind.new.new) c.head_of.result size
+    (settled-by leaves c.in_ok-found.found.root seen (see c.copy_behind.new.new) c.head_bytes.result size
     c.stored_count.result (log-stored leaves seen log) (sym found.0) c.in_ok-found.ensures.fits found.1
-    c.head_of.ensures c.stored_count.ensures same)
+    c.head_bytes.ensures c.stored_count.ensures same)

@@ -1,7 +1,7 @@
 use Rattle.std.proofs.Common.{◌++◌, ap}
 use Rattle.std.proofs.lemmas.List.{append-nil}
 use Rattle.log_file.specs.LogFile.{slot, title}
-use Rattle.log_file.proofs.head.head_of.Goals as goal
+use Rattle.log_file.proofs.head.head_bytes.Goals as goal
 
 pub returns : goal.returns
 returns c =
