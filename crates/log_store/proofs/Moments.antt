@@ -1,6 +1,6 @@
 -- How a run of calls of a disk goes on.
 use Rattle.std.proofs.Common.{◌≡◌, refl, subst, inl, inr, ⊎_elim, ℕ, List, arith}
-use Rattle.log_store.specs.Disk.{Elapses, Follows, LeavesOnly, Only, Torn, TornTwice}
+use Rattle.log_store.specs.Disk.{Elapses, LeavesMore, LeavesOnly, Only, Torn, TornTwice}
 use Rattle.log_store.specs.declared.disk.Disk.{Ghosts as Disks}
 use Rattle.log_store.proofs.Tearing.{torn-not, torn-once}
 
@@ -64,7 +64,7 @@ module _ {D R : Type 0} (disk : Disks D R) where
   pub written_once : (at n : ℕ) (old new : D) → Only (disk.seen old) (disk.may_leave old)
       → ((left : List ℕ) → disk.left_since old (disk.moment old) left → disk.may_leave old left)
       → Elapses (disk.moment old) (disk.moment new) (disk.left_since old) (disk.left_since new) (disk.may_leave new)
-      → Follows (Torn at n) (disk.may_leave old) (disk.may_leave new) → Ran disk old new (Torn at n (disk.seen old))
+      → LeavesMore (Torn at n) (disk.may_leave old) (disk.may_leave new) → Ran disk old new (Torn at n (disk.seen old))
   written_once at n old new only only_now time follows =
       goes_on old old new (Torn at n (disk.seen old)) (λ left. left ≡ disk.seen old)
       (record { moments = unmoved old (λ left. left ≡ disk.seen old) only only_now refl; now = only }) time
@@ -74,7 +74,7 @@ module _ {D R : Type 0} (disk : Disks D R) where
   -- a second write
   pub written_twice : (at n to m : ℕ) (old mid new : D) → Ran disk old mid (Torn at n (disk.seen old))
       → Elapses (disk.moment mid) (disk.moment new) (disk.left_since mid) (disk.left_since new) (disk.may_leave new)
-      → Follows (Torn to m) (disk.may_leave mid) (disk.may_leave new)
+      → LeavesMore (Torn to m) (disk.may_leave mid) (disk.may_leave new)
       → Ran disk old new (TornTwice at n to m (disk.seen old))
   written_twice at n to m old mid new first time follows =
       goes_on old mid new (TornTwice at n to m (disk.seen old)) (Torn at n (disk.seen old)) first time

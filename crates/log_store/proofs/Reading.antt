@@ -23,7 +23,7 @@ use Rattle.log_file.specs.LogFile.{digest_count, file_head, slot_to_take, slots_
 use Rattle.log_file.specs.declared.fault.Fault.TheVariants.{NoLog, Short}
 use Rattle.log_file.proofs.Pieces.{piece-cut}
 use Rattle.log_store.specs.Overlay.{overlay}
-use Rattle.log_store.specs.Spots.{spotted, AreOf}
+use Rattle.log_store.specs.Spots.{spotted, AreSpotsOf}
 use Rattle.log_store.specs.declared.spots.Spot.{Spot}
 use Rattle.log_store.proofs.Overlaid.{overlay-long, overlay-own}
 use Rattle.log_store.proofs.Spotted.{spotted-own}
@@ -218,7 +218,7 @@ module _ {leaves : List Digest} (file : List ℕ) (size : ℕ) (peaks : List Dig
       (omega (arith, overlay-long size peaks (stored_in size file))) ∙ digests-are
 
 module _ {leaves : List Digest} (file : List ℕ) (size : ℕ) (spots : List Spot) (keeps : Keeps leaves
-    (stored_in (length leaves) file)) (le : size ≤ length leaves) (own : AreOf spots (stored_in size file)) where
+    (stored_in (length leaves) file)) (le : size ≤ length leaves) (own : AreSpotsOf spots (stored_in size file)) where
   spots-are : (spotted size spots (stored_in size file)).digests ≡ stored_in size file
   spots-are = spotted-own size spots (stored_in size file) (length-chunks (stored_count size) (drop 96 file)) own
 

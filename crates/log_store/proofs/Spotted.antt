@@ -8,7 +8,7 @@ use Rattle.ark_paths.specs.Pair.{Digest}
 use Rattle.merkle_log.specs.Stored.{position, stored_count, row_at}
 use Rattle.merkle_log.specs.Walk.{index_up}
 use Rattle.merkle_log.proofs.Positions.{place-within, position-within, row_of-at}
-use Rattle.log_store.specs.Spots.{found, spotted, AreMore, AreOf, IsRead}
+use Rattle.log_store.specs.Spots.{found, spotted, AreMore, AreSpotsOf, IsRead}
 use Rattle.log_store.specs.declared.spots.Spot.{Spot}
 
 same_test : (n : ℕ) → (n == n) ≡ true
@@ -71,8 +71,8 @@ own-at (x ∷ xs) spot digests at digest own is told =
     go more true own told = own digest told
     go more false own told = more own told
 
-pub own-more : (xs : List Spot) (spot : Spot) (digests : List Digest) → AreOf xs digests
-    → spot.digest ≡ get_or digests spot.position [] → AreOf (xs ++ (spot ∷ [])) digests
+pub own-more : (xs : List Spot) (spot : Spot) (digests : List Digest) → AreSpotsOf xs digests
+    → spot.digest ≡ get_or digests spot.position [] → AreSpotsOf (xs ++ (spot ∷ [])) digests
 own-more xs spot digests own is at digest told = own-at xs spot digests at digest (own at) is told
 
 -- ---- the list
@@ -97,7 +97,7 @@ module _ (size : ℕ) (spots : List Spot) (digests : List Digest) where
       ∙ ap (λ o. unwrap_or o (get_or digests (position level place) [])) read.1))
 
   -- Where those are the list's own, everything is.
-  pub spotted-own : length digests ≡ stored_count size → AreOf spots digests
+  pub spotted-own : length digests ≡ stored_count size → AreSpotsOf spots digests
       → (spotted size spots digests).digests ≡ digests
   spotted-own long own = ext_get_or [] (spotted size spots digests).digests digests (spotted-long ∙ sym long)
       (λ at below. spotted-at at (omega (arith, spotted-long)) ∙ by_found (found spots at) at (own at))

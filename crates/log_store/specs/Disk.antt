@@ -17,8 +17,8 @@ abbrev pub Only : List ℕ → (List ℕ → Type 0) → Type 0
 Only file may_leave = (left : List ℕ) → may_leave left → left ≡ file
 
 -- What a crash may leave now is what it might have left before, or that after a step.
-abbrev pub Follows : (List ℕ → List ℕ → Type 0) → (List ℕ → Type 0) → (List ℕ → Type 0) → Type 0
-Follows Step old new = (left : List ℕ) → new left → (before : List ℕ) × old before × Step before left
+abbrev pub LeavesMore : (List ℕ → List ℕ → Type 0) → (List ℕ → Type 0) → (List ℕ → Type 0) → Type 0
+LeavesMore Step old new = (left : List ℕ) → new left → (before : List ℕ) × old before × Step before left
 
 -- Time goes on: a crash since a moment might have left what it might have left before, or what it may leave now.
 pub record Elapses (before now : ℕ) (past since : ℕ → List ℕ → Type 0) (may_leave : List ℕ → Type 0) : Type 0 where

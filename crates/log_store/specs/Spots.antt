@@ -16,8 +16,8 @@ abbrev pub IsRead : List Spot → ℕ → Type 0
 IsRead spots at = (digest : Digest) × (found spots at ≡ Some digest)
 
 -- Each digest that was read is the list's own at its position.
-abbrev pub AreOf : List Spot → List Digest → Type 0
-AreOf spots digests = (at : ℕ) (digest : Digest) → found spots at ≡ Some digest → digest ≡ get_or digests at []
+abbrev pub AreSpotsOf : List Spot → List Digest → Type 0
+AreSpotsOf spots digests = (at : ℕ) (digest : Digest) → found spots at ≡ Some digest → digest ≡ get_or digests at []
 
 -- Where a digest was read, one is read still.
 abbrev pub AreMore : List Spot → List Spot → Type 0

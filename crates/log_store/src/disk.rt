@@ -1,7 +1,7 @@
 //! The disk on which a log's file lies.
 
 ghost use Rattle.std.specs.Prelude.{◌≡◌, ◌≤◌, ◌+◌, ℕ, List, length, take, drop, IfOk, OnOk};
-ghost use Rattle.log_store.specs.Disk.{Elapses, Follows, Only, Torn};
+ghost use Rattle.log_store.specs.Disk.{Elapses, LeavesMore, Only, Torn};
 ghost use Rattle.log_file.specs.LogFile.{written};
 
 /// A file: its length, and bytes that are read, written and synced. Each call may fail with the system's refusal.
@@ -41,7 +41,7 @@ pub trait Disk {
         ensures written { Obeys self.new → at ≤ length (seen self.old)
             → OnOk result (seen self.new ≡ written (seen self.old) at bytes.now) }
         ensures crash { Obeys self.new → at ≤ length (seen self.old)
-            → Follows (Torn at (length bytes.now)) (may_leave self.old) (may_leave self.new) }
+            → LeavesMore (Torn at (length bytes.now)) (may_leave self.old) (may_leave self.new) }
         ensures time { Obeys self.new → Elapses (moment self.old) (moment self.new)
             (left_since self.old) (left_since self.new) (may_leave self.new) };
 

@@ -11,7 +11,7 @@ ghost use Rattle.merkle_log.specs.Kept.{Keeps};
 ghost use Rattle.merkle_log.specs.Stored.{position, row_at, IsStored};
 ghost use Rattle.merkle_log.specs.Verdict.{consistency_verdict, inclusion_verdict};
 ghost use Rattle.log_store.specs.Refused.{IsOnlyMemory, IsRefusedFor};
-ghost use Rattle.log_store.specs.Spots.{found, AreOf, IsRead};
+ghost use Rattle.log_store.specs.Spots.{found, AreSpotsOf, IsRead};
 ghost use Rattle.log_file.specs.Faults.{is_older, log_size, of_first, only_if};
 ghost use Rattle.log_file.specs.LogFile.{file_end, slot_to_take, stored_in, IsLogFile};
 ghost use Rattle.log_file.specs.declared.fault.Fault.TheVariants.{Index, Memory, Size};
@@ -40,7 +40,7 @@ fn read_way<D: Disk>(
     requires fits { size < 2 ^ 63 }
     requires inside { file_end size < 2 ^ 64 }
     ensures own { D.Obeys disk.now → file_end size ≤ length (D.seen disk.now)
-        → IfOk result (λ spots. AreOf spots.items (stored_in size (D.seen disk.now))) }
+        → IfOk result (λ spots. AreSpotsOf spots.items (stored_in size (D.seen disk.now))) }
     ensures peaks { IfOk result (λ spots. (level place : ℕ) → IsPeak size level place
         → IsRead spots.items (position level place)) }
     ensures beside { IfOk result (λ spots. (level place : ℕ) → IsBeside index size level place

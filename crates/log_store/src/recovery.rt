@@ -17,7 +17,7 @@ use crate::edge::root_at;
 use crate::sound::sound_front;
 use crate::steps::write_durably;
 use crate::stop::Stop;
-use crate::window::{PART, read_part};
+use crate::window::{PART, read_ahead};
 use log_file::fault::Fault;
 use log_file::head::{START, has_title, head_bytes, slots_in};
 use merkle_log::kept::stored_count;
@@ -120,7 +120,7 @@ fn copy_behind<D: Disk>(disk: &D, new: &mut D, count: usize) -> Result<(), D::Re
     let mut done = 0;
     'parts: while done < count {
         let more = (count - done).min(PART);
-        read_part(disk, START + done, more, &mut part)?;
+        read_ahead(disk, START + done, more, &mut part)?;
         new.write_at(START + done, &part[..more])?;
         done += more;
     }

@@ -6,7 +6,7 @@ ghost use Rattle.merkle_log.specs.Asked.{IsBeside, IsLowest, IsPeak};
 ghost use Rattle.merkle_log.specs.Binding.{index_beside};
 ghost use Rattle.merkle_log.specs.Stored.{position, row_at, stored_count};
 ghost use Rattle.log_store.specs.Refused.{IsOnlyMemory};
-ghost use Rattle.log_store.specs.Spots.{found, AreMore, AreOf, IsRead};
+ghost use Rattle.log_store.specs.Spots.{found, AreMore, AreSpotsOf, IsRead};
 ghost use Rattle.log_file.specs.LogFile.{file_end, stored_in};
 
 use crate::disk::Disk;
@@ -39,12 +39,12 @@ impl<'a, W: Whole> Rows<[u8; 32]> for Spots<'a, W> {
         ≡ Some (get_or (row_at W.whole level) place [])) };
 
     fn at(&self, level: usize, place: usize) -> &[u8; 32] {
-        find(self.spots, position_of(level, place))
+        find_spot(self.spots, position_of(level, place))
     }
 }
 
 // Returns the digest that was read at a position.
-fn find(spots: &[Spot], position: usize) -> &[u8; 32]
+fn find_spot(spots: &[Spot], position: usize) -> &[u8; 32]
     requires { IsRead spots.now position }
     ensures { found spots.now position ≡ Some result.now }
 {
@@ -63,8 +63,9 @@ fn read_spot<D: Disk>(
 ) -> Result<(), Stop<D::Refusal>>
     requires { 96 + 32 * position < 2 ^ 64 }
     ensures own { D.Obeys disk.now → (size : ℕ) → file_end size ≤ length (D.seen disk.now)
-        → position < stored_count size → AreOf spots.old.items (stored_in size (D.seen disk.now))
-        → OnOk result (AreOf spots.new.items (stored_in size (D.seen disk.now))) }
+        → position < stored_count size → AreSpotsOf spots.old.items
+        (stored_in size (D.seen disk.now))
+        → OnOk result (AreSpotsOf spots.new.items (stored_in size (D.seen disk.now))) }
     ensures read { OnOk result (IsRead spots.new.items position) }
     ensures more { OnOk result (AreMore spots.old.items spots.new.items) }
     ensures refused { IsOnlyMemory result }
@@ -88,8 +89,8 @@ pub fn read_peaks_of<D: Disk>(
     requires fits { size < 2 ^ 63 }
     requires inside { file_end size < 2 ^ 64 }
     ensures own { D.Obeys disk.now → file_end size ≤ length (D.seen disk.now)
-        → AreOf spots.old.items (stored_in size (D.seen disk.now))
-        → OnOk result (AreOf spots.new.items (stored_in size (D.seen disk.now))) }
+        → AreSpotsOf spots.old.items (stored_in size (D.seen disk.now))
+        → OnOk result (AreSpotsOf spots.new.items (stored_in size (D.seen disk.now))) }
     ensures read { OnOk result ((level place : ℕ) → IsPeak size level place
         → IsRead spots.new.items (position level place)) }
     ensures more { OnOk result (AreMore spots.old.items spots.new.items) }
@@ -108,7 +109,7 @@ pub fn read_peaks_of<D: Disk>(
 }
 
 // Returns the index beside an index.
-fn beside(index: usize) -> usize
+fn sibling_index(index: usize) -> usize
     requires { index < 2 ^ 63 }
     ensures { result ≡ index_beside index }
 {
@@ -126,8 +127,8 @@ pub fn read_beside<D: Disk>(
     requires fits { size < 2 ^ 63 }
     requires inside { file_end size < 2 ^ 64 }
     ensures own { D.Obeys disk.now → file_end size ≤ length (D.seen disk.now)
-        → AreOf spots.old.items (stored_in size (D.seen disk.now))
-        → OnOk result (AreOf spots.new.items (stored_in size (D.seen disk.now))) }
+        → AreSpotsOf spots.old.items (stored_in size (D.seen disk.now))
+        → OnOk result (AreSpotsOf spots.new.items (stored_in size (D.seen disk.now))) }
     ensures read { OnOk result ((level place : ℕ) → IsBeside index size level place
         → IsRead spots.new.items (position level place)) }
     ensures more { OnOk result (AreMore spots.old.items spots.new.items) }
@@ -137,7 +138,7 @@ pub fn read_beside<D: Disk>(
     let mut own = index;
     let mut left = size;
     'levels: while left > 0 {
-        let other = beside(own);
+        let other = sibling_index(own);
         if other < left {
             read_spot(disk, position_of(level, other), spots)?;
         }
@@ -159,8 +160,8 @@ pub fn read_lowest<D: Disk>(
     requires inside { file_end size < 2 ^ 64 }
     ensures own { D.Obeys disk.now → (all : ℕ) → size ≤ all
         → file_end all ≤ length (D.seen disk.now)
-        → AreOf spots.old.items (stored_in all (D.seen disk.now))
-        → OnOk result (AreOf spots.new.items (stored_in all (D.seen disk.now))) }
+        → AreSpotsOf spots.old.items (stored_in all (D.seen disk.now))
+        → OnOk result (AreSpotsOf spots.new.items (stored_in all (D.seen disk.now))) }
     ensures read { OnOk result ((level place : ℕ) → IsLowest size level place
         → IsRead spots.new.items (position level place)) }
     ensures more { OnOk result (AreMore spots.old.items spots.new.items) }

@@ -11,7 +11,7 @@ use log_file::head::START;
 pub const PART: usize = 4096;
 
 /// Reads so many bytes from a place on to the front of a part.
-pub fn read_part<D: Disk>(
+pub fn read_ahead<D: Disk>(
     disk: &D,
     at: usize,
     count: usize,
@@ -56,7 +56,7 @@ pub fn window_at<D: Disk>(disk: &D, position: usize, end: usize) -> Result<Windo
 {
     let count = (end - position).min(128);
     let mut bytes = [0; PART];
-    read_part(disk, START + 32 * position, 32 * count, &mut bytes)?;
+    read_ahead(disk, START + 32 * position, 32 * count, &mut bytes)?;
     Ok(Window {
         start: position,
         count,

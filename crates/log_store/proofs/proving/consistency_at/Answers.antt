@@ -7,7 +7,7 @@ use Rattle.merkle_log.specs.Log.{consistency_path}
 use Rattle.merkle_log.proofs.KeptRows.{up-rises}
 use Rattle.merkle_log.proofs.Positions.{count-rises}
 use Rattle.log_file.specs.LogFile.{stored_in}
-use Rattle.log_store.specs.Spots.{AreOf}
+use Rattle.log_store.specs.Spots.{AreSpotsOf}
 use Rattle.log_store.proofs.Reading.{path-whole, spotted-first, spotted-stored}
 use Rattle.log_store.proofs.Spotted.{spotted-held}
 use Rattle.log_store.proofs.proving.consistency_at.Goals as goal
@@ -50,7 +50,7 @@ pub returns-in-Ok-clause-path : goal.returns-in-Ok-clause-path
 returns-in-Ok-clause-path g c = λ obeys inside leaves le keeps.
     let file = g.D.Disk.seen c.args.disk.now in
     let size = c.args.size in
-    let own : AreOf c.deref.result.now (stored_in size file) = rw (c.deref.ensures.value)
+    let own : AreSpotsOf c.deref.result.now (stored_in size file) = rw (c.deref.ensures.value)
     (c.in_ok-read_lowest.ensures.own obeys size (omega (arith, c.requires.older)) inside
     (c.in_ok-spots.ensures.own obeys inside)) in
     ap (λ l. all_of (consistency_path node_of (sha256 []) c.args.old_size l))

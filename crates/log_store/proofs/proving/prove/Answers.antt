@@ -10,7 +10,7 @@ use Rattle.log_file.proofs.Saying.{index-beyond}
 use Rattle.log_file.specs.Faults.{only_if}
 use Rattle.log_file.specs.LogFile.{stored_in}
 use Rattle.log_file.specs.declared.fault.Fault.TheVariants.{Index}
-use Rattle.log_store.specs.Spots.{AreOf}
+use Rattle.log_store.specs.Spots.{AreSpotsOf}
 use Rattle.log_store.proofs.Reading.{entry-at, spotted-first, spotted-stored}
 use Rattle.log_store.proofs.Refusals.{refused-given}
 use Rattle.log_store.proofs.Spotted.{spotted-held}
@@ -59,7 +59,7 @@ returns-in-Ok-true-clause-proof g c = λ obeys leaves log.
     let file = g.D.Disk.seen c.args.disk.now in
     let size = c.in_ok-size.size in
     let first = c.in_ok-size.ensures.root obeys leaves log in
-    let own : AreOf c.deref.result.now (stored_in size file) = rw (c.deref.ensures.value)
+    let own : AreSpotsOf c.deref.result.now (stored_in size file) = rw (c.deref.ensures.value)
     (c.in_ok-spots.ensures.own obeys (c.in_ok-size.ensures.inside obeys)) in
     ap (λ l. all_of (inclusion_path node_of (sha256 []) c.args.index l)) (ap (λ n. take n leaves) (sym first.0)
     ∙ sym (spotted-first {leaves = leaves} file size c.deref.result.now log.keeps first.1 own))
@@ -75,7 +75,7 @@ returns-in-Ok-false-clause-refused g c = λ obeys. inr (inr (
       let first = c.in_ok-size.ensures.root obeys leaves log in
       let inside = c.in_ok-size.ensures.inside obeys in
       let below : index < size = omega (arith, c.if-index-size.false) in
-      let own : AreOf c.deref.result.now (stored_in size file) = rw (c.deref.ensures.value)
+      let own : AreSpotsOf c.deref.result.now (stored_in size file) = rw (c.deref.ensures.value)
       (c.in_ok-spots.ensures.own obeys inside) in
       let path : all_of (inclusion_path node_of (sha256 []) index (take size leaves)) ≡ Ok c.in-Ok.path.items =
       ap (λ l. all_of (inclusion_path node_of (sha256 []) index l))

@@ -16,6 +16,6 @@ parts-preserved g c =
           omega (arith, c.min-more.ensures, c.parts-test.true, inside) in
           subst (λ f. IsCopied (see c.args.disk.now) f (done + more))
           (sym (c.in_ok-write_at-2.ensures.written obeys (omega (arith, so.long))))
-          (copied-more (see c.args.disk.now) (see c.parts.new) (take more c.read_part.new.part) done more so
-          (c.in_ok-read_part.ensures old (omega (arith, all))) all);
+          (copied-more (see c.args.disk.now) (see c.parts.new) (take more c.read_ahead.new.part) done more so
+          (c.in_ok-read_ahead.ensures old (omega (arith, all))) all);
     }

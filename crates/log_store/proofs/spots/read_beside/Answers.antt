@@ -9,8 +9,8 @@ use Rattle.log_store.proofs.Reading.{level-below, level-low, place-stands, up-le
 use Rattle.log_store.proofs.spots.read_beside.Goals as goal
 use Rattle.log_store.proofs.spots.read_beside.Goals.{then-other-left+in_ok-read_spot, else-other-left}
 
-pub beside-other-requires : goal.beside-other-requires
-beside-other-requires g c = omega (
+pub sibling_index-other-requires : goal.sibling_index-other-requires
+sibling_index-other-requires g c = omega (
   arith,
   c.levels.invariant.own_is,
   c.levels.invariant.left_is,
@@ -21,18 +21,18 @@ beside-other-requires g c = omega (
 
 pub position_of-requires-clause-below : goal.position_of-requires-clause-below
 position_of-requires-clause-below g c =
-    (place-stands c.args.size c.levels.level c.beside-other.result c.requires.fits
+    (place-stands c.args.size c.levels.level c.sibling_index-other.result c.requires.fits
     (omega (arith, c.levels.invariant.left_is, c.if-other-left.true))).below
 
 pub position_of-requires-clause-fits : goal.position_of-requires-clause-fits
 position_of-requires-clause-fits g c =
-    let at = place-stands c.args.size c.levels.level c.beside-other.result c.requires.fits
+    let at = place-stands c.args.size c.levels.level c.sibling_index-other.result c.requires.fits
     (omega (arith, c.levels.invariant.left_is, c.if-other-left.true)) in
     omega (arith, at.within, c.requires.fits)
 
 pub read_spot-requires : goal.read_spot-requires
 read_spot-requires g c =
-    let at = place-stands c.args.size c.levels.level c.beside-other.result c.requires.fits
+    let at = place-stands c.args.size c.levels.level c.sibling_index-other.result c.requires.fits
     (omega (arith, c.levels.invariant.left_is, c.if-other-left.true)) in
     omega (arith, at.within, c.requires.inside, c.position_of.ensures)
 
@@ -45,7 +45,7 @@ levels-preserved g c =
     let half-own = ap (λ n. n / 2) at.own_is ∙ sym (up-more c.levels.level c.args.index) in
     elim c.if-other-left.branch [
       | then-other-left+in_ok-read_spot w ↦
-          let stands = place-stands size c.levels.level c.beside-other.result c.requires.fits
+          let stands = place-stands size c.levels.level c.sibling_index-other.result c.requires.fits
           (omega (arith, at.left_is, w.if-other-left.true)) in
           record {
             left_is = half;
@@ -57,8 +57,9 @@ levels-preserved g c =
               | inl less ↦ w.in_ok-read_spot.ensures.more (position level place) (at.read level place less beside)
               | inr here ↦
                   let e : level ≡ c.levels.level = omega arith in
-                  let p : place ≡ c.beside-other.result = beside.0 ∙ ap (λ l. index_beside (index_up l c.args.index)) e
-                  ∙ ap index_beside (sym at.own_is) ∙ sym c.beside-other.ensures in
+                  let p : place ≡ c.sibling_index-other.result = beside.0
+                  ∙ ap (λ l. index_beside (index_up l c.args.index)) e
+                  ∙ ap index_beside (sym at.own_is) ∙ sym c.sibling_index-other.ensures in
                   rw (e, p, ← w.position_of.ensures) (w.in_ok-read_spot.ensures.read)
             ]);
             more = rw (w.spots-is) (λ p read. w.in_ok-read_spot.ensures.more p (at.more p read));
@@ -72,8 +73,9 @@ levels-preserved g c =
           | inl less ↦ at.read level place less beside
           | inr here ↦
               let e : level ≡ c.levels.level = omega arith in
-              let p : place ≡ c.beside-other.result = beside.0 ∙ ap (λ l. index_beside (index_up l c.args.index)) e
-              ∙ ap index_beside (sym at.own_is) ∙ sym c.beside-other.ensures in
+              let p : place ≡ c.sibling_index-other.result = beside.0
+              ∙ ap (λ l. index_beside (index_up l c.args.index)) e
+              ∙ ap index_beside (sym at.own_is) ∙ sym c.sibling_index-other.ensures in
               absurd (omega (arith, beside.1, ap (λ l. index_up l size) e, at.left_is, p, w.if-other-left.false))
         ]);
         more = rw (w.spots-is) (at.more);

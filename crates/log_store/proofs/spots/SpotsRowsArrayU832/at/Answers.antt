@@ -24,14 +24,14 @@ position_of-requires-clause-fits g c =
     let within = position-within c.args.level c.args.place size (place-within c.args.level c.args.place size below) in
     omega (arith, c.requires.held.0)
 
-pub find-requires : goal.find-requires
-find-requires g c = (
+pub find_spot-requires : goal.find_spot-requires
+find_spot-requires g c = (
   get_or (row_at g.W.Whole.whole c.args.level) c.args.place [],
   ap (found c.args.self.now.spots.now) c.position_of.ensures ∙ c.requires.held.1,
 )
 
 pub returns : goal.returns
-returns g c = ap digest_in (sym c.find.ensures ∙ ap (found c.args.self.now.spots.now) c.position_of.ensures
+returns g c = ap digest_in (sym c.find_spot.ensures ∙ ap (found c.args.self.now.spots.now) c.position_of.ensures
     ∙ c.requires.held.1)
   where
     digest_in : Option Digest → Digest
