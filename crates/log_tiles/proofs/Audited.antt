@@ -9,7 +9,7 @@ use Rattle.merkle_log.specs.Asked.{IsPeak}
 use Rattle.merkle_log.specs.Log.{merkle_tree_hash}
 use Rattle.merkle_log.specs.Walk.{index_up}
 use Rattle.merkle_log.proofs.Tests.{mul-twice}
-use Rattle.log_tiles.specs.Audit.{row_in, rows_over, tile_at, tile_of, AreRoots, AreRowsOf, AreTilesOf, AreWhole, IsWhole}
+use Rattle.log_tiles.specs.Audit.{row_in, rows_over, tile_at, tile_of, AreRoots, AreRowsOf, AreTilesOf, AreWholeTiles, IsWholeTile}
 use Rattle.log_tiles.specs.Tiles.{row_length, width_in, IsTileOf}
 use Rattle.log_tiles.specs.declared.tile.Tile.{Tile}
 use Rattle.log_tiles.proofs.Rows.{up-div}
@@ -50,8 +50,8 @@ tile-is size tile own =
 module _ (has : Tile → List Digest) (size : ℕ) where
   -- The tile at a level's right edge is whole where that of a last place is whose digest is above it.
   edge-whole : (level l : ℕ) → l < 8 → index_up l (row_length level size) % 2 ≡ 1
-      → ((level place : ℕ) → IsPeak size level place → IsWhole has (tile_of size level place))
-      → IsWhole has (tile_at size level (row_length level size / 256))
+      → ((level place : ℕ) → IsPeak size level place → IsWholeTile has (tile_of size level place))
+      → IsWholeTile has (tile_at size level (row_length level size / 256))
   edge-whole level l low odd edge =
       let n = row_length level size in
       let up = up-sum (8 * level) l size ∙ ap (index_up l) (up-div (8 * level) size) in
@@ -62,12 +62,12 @@ module _ (has : Tile → List Digest) (size : ℕ) where
       rw (← same) (rw (here, height) at (edge (8 * level + l) (index_up l n - 1) peak))
 
   -- Where the full tiles are whole, and those of the last places, all tiles are.
-  all-whole : size < 2 ^ 57 → ((level : ℕ) → level < 7 → AreWhole has size level)
-      → ((level place : ℕ) → IsPeak size level place → IsWhole has (tile_of size level place))
-      → (tile : Tile) → IsTileOf size tile → IsWhole has tile
+  all-whole : size < 2 ^ 57 → ((level : ℕ) → level < 7 → AreWholeTiles has size level)
+      → ((level place : ℕ) → IsPeak size level place → IsWholeTile has (tile_of size level place))
+      → (tile : Tile) → IsTileOf size tile → IsWholeTile has tile
   all-whole fits full edge tile own =
       let n = row_length tile.level size in
-      subst (IsWhole has) (tile-is size tile own) (elim (cases_lt tile.index (n / 256)) [
+      subst (IsWholeTile has) (tile-is size tile own) (elim (cases_lt tile.index (n / 256)) [
         | inl below ↦ elim (cases_lt tile.level 7) [
           | inl low ↦ full tile.level low tile.index below
           | inr high ↦ absurd (omega (arith, no-full tile.level size fits high))
@@ -94,8 +94,8 @@ module _ (has : Tile → List Digest) (size : ℕ) where
 
   -- all tiles are those of the lowest level's list
   pub tiles-found : (root : Digest) → size < 2 ^ 57 → ((level : ℕ) → level < 7 → AreRoots has size level)
-      → ((level : ℕ) → level < 7 → AreWhole has size level)
-      → ((level place : ℕ) → IsPeak size level place → IsWhole has (tile_of size level place))
+      → ((level : ℕ) → level < 7 → AreWholeTiles has size level)
+      → ((level place : ℕ) → IsPeak size level place → IsWholeTile has (tile_of size level place))
       → ((leaves : List Digest) → AreRowsOf has size leaves → length leaves ≡ size
       → merkle_tree_hash node_of (sha256 []) leaves ≡ Ok root)
       → AreTilesOf has size root

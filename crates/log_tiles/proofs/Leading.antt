@@ -12,7 +12,7 @@ use Rattle.merkle_log.proofs.Edges.{whole-raised}
 use Rattle.merkle_log.proofs.Lasts.{Node, last-end, last-first, last-next, last-up, raised, LastAt}
 use Rattle.merkle_log.proofs.Tests.{if_even, if_odd}
 use Rattle.log_store.proofs.Reading.{up-less}
-use Rattle.log_tiles.specs.Audit.{before, rows_over}
+use Rattle.log_tiles.specs.Audit.{with_rest, rows_over}
 use Rattle.log_tiles.proofs.Trees.{length-rows_over, rows-stored}
 
 -- A last value behind an even number of digests goes up as it is.
@@ -55,7 +55,7 @@ module _ (leaves : List Digest) (empty : Digest) where
 
   pub leads-odd : (level left : ℕ) (last : Option Digest) → left ≡ index_up level (length leaves) → left % 2 ≡ 1
       → LeadsFrom leaves empty level left last → LeadsFrom leaves empty (level + 1) (left / 2)
-      (Some (before (get_or (rows_over leaves level) (left - 1) []) last))
+      (Some (with_rest (get_or (rows_over leaves level) (left - 1) []) last))
   leads-odd level left None is odd so =
       let some : 0 < length leaves = omega (arith, up-less level (length leaves)) in
       let half : (left - 1) / 2 ≡ left / 2 = omega arith in

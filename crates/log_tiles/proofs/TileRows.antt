@@ -7,7 +7,7 @@ use Rattle.ark_paths.specs.Pair.{Digest}
 use Rattle.merkle_log.specs.Walk.{index_up}
 use Rattle.merkle_log.proofs.Positions.{place-within}
 use Rattle.log_store.proofs.Reading.{up-less}
-use Rattle.log_tiles.specs.Audit.{roots_in, row_in, rows_over, tile_at, AreRoots, AreRowsOf, IsWhole}
+use Rattle.log_tiles.specs.Audit.{roots_in, row_in, rows_over, tile_at, AreRoots, AreRowsOf, IsWholeTile}
 use Rattle.log_tiles.specs.Tiles.{row_length}
 use Rattle.log_tiles.specs.declared.tile.Tile.{Tile}
 use Rattle.log_tiles.proofs.Rows.{none-above, up-div}
@@ -131,7 +131,7 @@ module _ (has : Tile → List Digest) (size : ℕ) where
       ∙ get_or-drop (place % 256) own 0 [] ∙ ap (λ n. get_or own n []) here ∙ sym (row_in-at level place below)
 
   pub full-root : (level index : ℕ) (into : List Digest) → into ≡ take 256 (drop 0 (has (tile_at size level index)))
-      → IsWhole has (tile_at size level index) → index < row_length level size / 256
+      → IsWholeTile has (tile_at size level index) → index < row_length level size / 256
       → get_or (rows_over (take 256 into) 8) 0 [] ≡ get_or (roots_in has size level) index []
   full-root level index into read whole below =
       ap (λ l. get_or (rows_over l 8) 0 []) (ap (take 256) read ∙ take-take 256 256 (drop 0 (has (tile_at size level
@@ -141,7 +141,7 @@ module _ (has : Tile → List Digest) (size : ℕ) where
   pub part-root : (level place first count : ℕ) (digests : List Digest) → count ≡ 2 ^ (level % 8)
       → first ≡ place * 2 ^ (level % 8) → place < index_up level size
       → take count digests ≡ take count (drop (first % 256) (has (tile_at size (level / 8) (first / 256))))
-      → IsWhole has (tile_at size (level / 8) (first / 256))
+      → IsWholeTile has (tile_at size (level / 8) (first / 256))
       → get_or (rows_over (take (2 ^ (level % 8)) digests) (level % 8)) 0 []
       ≡ get_or (rows_over (row_in has size (level / 8)) (level % 8)) place []
   part-root level place first count digests many is below read whole =

@@ -15,8 +15,8 @@ pub record TiledValue (T : Type 0) : Type 0 where
   pub size : ℕ
 
 -- A tile has as many digests as it is asked for.
-abbrev pub IsWhole : (Tile → List Digest) → Tile → Type 0
-IsWhole has tile = length (has tile) ≡ tile.width
+abbrev pub IsWholeTile : (Tile → List Digest) → Tile → Type 0
+IsWholeTile has tile = length (has tile) ≡ tile.width
 
 -- the rows of the tree of a list of leaf digests: the list, and above it those over the hashes of its pairs
 abbrev pub rows_over : List Digest → ℕ → List Digest
@@ -55,14 +55,15 @@ abbrev pub AreRoots : (Tile → List Digest) → ℕ → ℕ → Type 0
 AreRoots has size level = row_in has size (level + 1) ≡ roots_in has size level
 
 -- All full tiles of a level have as many digests.
-abbrev pub AreWhole : (Tile → List Digest) → ℕ → ℕ → Type 0
-AreWhole has size level = (index : ℕ) → index < row_length level size / 256 → IsWhole has (tile_at size level index)
+abbrev pub AreWholeTiles : (Tile → List Digest) → ℕ → ℕ → Type 0
+AreWholeTiles has size level = (index : ℕ) → index < row_length level size / 256
+    → IsWholeTile has (tile_at size level index)
 
 -- the tile that has the digest of a complete place, or those of which it is the root
 abbrev pub tile_of : ℕ → ℕ → ℕ → Tile
 tile_of size level place = tile_at size (level / 8) (place * 2 ^ (level % 8) / 256)
 
 -- the digest of a complete subtree and of what stands behind it, if something does
-abbrev pub before : Digest → Option Digest → Digest
-before peak None = peak
-before peak (Some last) = node_hash peak last
+abbrev pub with_rest : Digest → Option Digest → Digest
+with_rest peak None = peak
+with_rest peak (Some last) = node_hash peak last

@@ -53,7 +53,7 @@ fn if_same<R: Drop>(head: &Head, size: usize, root: &[u8; 32]) -> Result<(), Unf
 /// Returns the inclusion proof of an index in the log of a checkpoint, whose tiles the disk reads.
 ///
 /// Errors, the first that applies: those of `log_store::prove`; `Damaged` where the tiles are of another log.
-pub fn prove<D: Disk>(
+pub fn prove_in_tiles<D: Disk>(
     alloc: Global,
     disk: &D,
     head: &Head,

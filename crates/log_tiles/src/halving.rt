@@ -20,7 +20,7 @@ fn halve(digests: &mut [[u8; 32]; FULL], count: usize)
 }
 
 /// Returns the root of the first 2^height digests, of which the buffer keeps none.
-pub fn root_of(digests: &mut [[u8; 32]; FULL], height: usize) -> [u8; 32]
+pub fn halved_root(digests: &mut [[u8; 32]; FULL], height: usize) -> [u8; 32]
     requires { height ≤ 8 }
     ensures { result ≡ get_or (rows_over (take (2 ^ height) digests.old) height) 0 [] }
 {

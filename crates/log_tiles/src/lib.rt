@@ -12,7 +12,7 @@ mod tiled;
 mod unfollowed;
 
 pub use bundles::{LONGEST, is_bundle, push_entry};
-pub use following::{Head, audit, continues, prove};
+pub use following::{Head, audit, continues, prove_in_tiles};
 pub use growth::{new_tiles, row_length};
 pub use names::{bundle_name, tile_name};
 pub use tile::{FULL, Tile, read_tile, width_of};

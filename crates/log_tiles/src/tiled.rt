@@ -5,7 +5,7 @@ ghost use Rattle.std.specs.Bool.{Decides};
 ghost use Rattle.sha2.specs.Sha256.{sha256};
 ghost use Rattle.ark_paths.specs.Pair.{Digest};
 ghost use Rattle.ark_trees.specs.Rfc6962.{node_of};
-ghost use Rattle.log_tiles.specs.Audit.{before, roots_in, row_in, rows_over, tile_at, tile_of, AreRoots, AreRowsOf, AreWhole, IsWhole};
+ghost use Rattle.log_tiles.specs.Audit.{with_rest, roots_in, row_in, rows_over, tile_at, tile_of, AreRoots, AreRowsOf, AreWholeTiles, IsWholeTile};
 ghost use Rattle.log_tiles.specs.Tiles.{row_length};
 ghost use Rattle.log_tiles.specs.declared.tile.Tile.{Tile};
 ghost use Rattle.merkle_log.specs.Asked.{IsPeak};
@@ -14,7 +14,7 @@ ghost use Rattle.merkle_log.specs.Walk.{index_up};
 
 use crate::following::are_same;
 use crate::growth::row_length;
-use crate::halving::root_of;
+use crate::halving::halved_root;
 use crate::tile::{FULL, Tile, width_of};
 use ark_crh::ArrayHash;
 use ark_trees::LogHasher;
@@ -40,7 +40,7 @@ pub trait Tiles {
     /// Reads digests of a tile from one of its places on, as many as there is room for. It refuses what the tile has not, and a
     /// tile that has not as many digests as its width says.
     fn read(&self, tile: Tile, from: usize, into: &mut [[u8; 32]]) -> Result<(), Self::Refusal>
-        ensures whole { Obeys self.now → OnOk result (IsWhole (has self.now) tile) }
+        ensures whole { Obeys self.now → OnOk result (IsWholeTile (has self.now) tile) }
         ensures read { Obeys self.now → OnOk result
             (into.new ≡ take (length into.old) (drop from (has self.now tile))) };
 }
@@ -57,8 +57,8 @@ pub enum Unread<R: Drop> {
 }
 
 // The root of a complete subtree and what stands behind it, if something does, under one digest.
-fn joined(peak: [u8; 32], last: &Option<[u8; 32]>) -> [u8; 32]
-    ensures { result ≡ before peak last.now }
+fn joined_peak(peak: [u8; 32], last: &Option<[u8; 32]>) -> [u8; 32]
+    ensures { result ≡ with_rest peak last.now }
 {
     match last {
         Some(last) => LogHasher::node(&peak, last),
@@ -121,7 +121,7 @@ impl<T: Tiles + Drop> TileDisk<T> {
         into: &mut [[u8; 32]],
     ) -> Result<(), T::Refusal>
         ensures whole { T.Obeys self.now.tiles → OnOk result
-            (IsWhole (T.has self.now.tiles) (tile_at self.now.size level index)) }
+            (IsWholeTile (T.has self.now.tiles) (tile_at self.now.size level index)) }
         ensures read { T.Obeys self.now.tiles → OnOk result (into.new ≡ take (length into.old)
             (drop from (T.has self.now.tiles (tile_at self.now.size level index)))) }
     {
@@ -145,7 +145,7 @@ impl<T: Tiles + Drop> TileDisk<T> {
     ) -> Result<(), T::Refusal>
         requires { count ≤ 256 }
         ensures whole { T.Obeys self.now.tiles → OnOk result
-            (IsWhole (T.has self.now.tiles) (tile_at self.now.size level index)) }
+            (IsWholeTile (T.has self.now.tiles) (tile_at self.now.size level index)) }
         ensures read { T.Obeys self.now.tiles → OnOk result (take count into.new ≡ take count
             (drop from (T.has self.now.tiles (tile_at self.now.size level index)))) }
     {
@@ -156,7 +156,7 @@ impl<T: Tiles + Drop> TileDisk<T> {
     fn digest_of(&self, level: usize, place: usize) -> Result<[u8; 32], T::Refusal>
         requires { level < 64 }
         ensures whole { T.Obeys self.now.tiles → place < index_up level self.now.size
-            → OnOk result (IsWhole (T.has self.now.tiles) (tile_of self.now.size level place)) }
+            → OnOk result (IsWholeTile (T.has self.now.tiles) (tile_of self.now.size level place)) }
         ensures digest { T.Obeys self.now.tiles → place < index_up level self.now.size
             → IfOk result (λ digest. digest ≡ get_or (rows_over (row_in (T.has self.now.tiles)
             self.now.size (level / 8)) (level % 8)) place []) }
@@ -167,20 +167,20 @@ impl<T: Tiles + Drop> TileDisk<T> {
         let count = 1usize << (level % 8);
         let first = place.saturating_mul(count);
         self.read_front(level / 8, first / FULL, first % FULL, count, &mut digests)?;
-        Ok(root_of(&mut digests, level % 8))
+        Ok(halved_root(&mut digests, level % 8))
     }
 
     // Reads the root of a full tile.
     fn root_of_tile(&self, level: usize, index: usize) -> Result<[u8; 32], T::Refusal>
         ensures whole { T.Obeys self.now.tiles → OnOk result
-            (IsWhole (T.has self.now.tiles) (tile_at self.now.size level index)) }
+            (IsWholeTile (T.has self.now.tiles) (tile_at self.now.size level index)) }
         ensures root { T.Obeys self.now.tiles → index < row_length level self.now.size / 256
             → IfOk result (λ root. root
             ≡ get_or (roots_in (T.has self.now.tiles) self.now.size level) index []) }
     {
         let mut digests = [[0; 32]; FULL];
         self.read(level, index, 0, &mut digests)?;
-        Ok(root_of(&mut digests, 8))
+        Ok(halved_root(&mut digests, 8))
     }
 
     // Reads a digest of a level of tiles.
@@ -198,7 +198,7 @@ impl<T: Tiles + Drop> TileDisk<T> {
     pub fn is_below_its_root(&self, level: usize, index: usize) -> Result<bool, T::Refusal>
         requires { level < 64 }
         ensures whole { T.Obeys self.now.tiles → OnOk result
-            (IsWhole (T.has self.now.tiles) (tile_at self.now.size level index)) }
+            (IsWholeTile (T.has self.now.tiles) (tile_at self.now.size level index)) }
         ensures root { T.Obeys self.now.tiles → index < row_length level self.now.size / 256
             → IfOk result (λ same. Decides same
             (get_or (row_in (T.has self.now.tiles) self.now.size (level + 1)) index []
@@ -212,7 +212,7 @@ impl<T: Tiles + Drop> TileDisk<T> {
     fn is_level_hashed(&self, level: usize) -> Result<bool, T::Refusal>
         requires { level < 7 }
         ensures whole { T.Obeys self.now.tiles → result ≡ Ok true
-            → AreWhole (T.has self.now.tiles) self.now.size level }
+            → AreWholeTiles (T.has self.now.tiles) self.now.size level }
         ensures roots { T.Obeys self.now.tiles → IfOk result (λ all. Decides all
             (AreRoots (T.has self.now.tiles) self.now.size level)) }
     {
@@ -227,7 +227,7 @@ impl<T: Tiles + Drop> TileDisk<T> {
     /// Returns whether the root of each full tile is the digest above it. It reads each full tile once.
     pub(crate) fn is_hashed(&self) -> Result<bool, T::Refusal>
         ensures whole { T.Obeys self.now.tiles → result ≡ Ok true → (level : ℕ) → level < 7
-            → AreWhole (T.has self.now.tiles) self.now.size level }
+            → AreWholeTiles (T.has self.now.tiles) self.now.size level }
         ensures roots { T.Obeys self.now.tiles → IfOk result (λ all. Decides all
             ((level : ℕ) → level < 7 → AreRoots (T.has self.now.tiles) self.now.size level)) }
     {
@@ -243,7 +243,7 @@ impl<T: Tiles + Drop> TileDisk<T> {
     pub(crate) fn root(&self) -> Result<[u8; 32], T::Refusal>
         ensures whole { T.Obeys self.now.tiles → OnOk result
             ((level place : ℕ) → IsPeak self.now.size level place
-            → IsWhole (T.has self.now.tiles) (tile_of self.now.size level place)) }
+            → IsWholeTile (T.has self.now.tiles) (tile_of self.now.size level place)) }
         ensures root { T.Obeys self.now.tiles → (leaves : List Digest)
             → AreRowsOf (T.has self.now.tiles) self.now.size leaves → length leaves ≡ self.now.size
             → IfOk result (λ root. merkle_tree_hash node_of (sha256 []) leaves ≡ Ok root) }
@@ -254,7 +254,7 @@ impl<T: Tiles + Drop> TileDisk<T> {
         'levels: while left > 0 {
             if left % 2 == 1 {
                 let peak = self.digest_of(level, left - 1)?;
-                last = Some(joined(peak, &last));
+                last = Some(joined_peak(peak, &last));
             }
             left /= 2;
             level += 1;

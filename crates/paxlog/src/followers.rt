@@ -11,7 +11,9 @@ use crate::words::Name;
 use crate::writing::{locked, locked_folder, remove_whole, sync_file, write_whole};
 use log_file::fault::Fault;
 use log_store::InclusionProof;
-use log_tiles::{Head, TileDisk, Unfollowed, audit as is_sound, continues, prove as proof_of};
+use log_tiles::{
+    Head, TileDisk, Unfollowed, audit as is_sound, continues, prove_in_tiles as proof_of,
+};
 use merkle_log::kept::is_size;
 use paxlog_run::replies::{line_of, line_of_root};
 use sha2::{Digest, Sha256};

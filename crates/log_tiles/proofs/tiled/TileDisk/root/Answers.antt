@@ -44,7 +44,7 @@ levels-preserved g c =
             leads = λ obeys leaves are long.
                 let own = w.in_ok-peak.ensures.digest obeys inside
                 ∙ peak-of has size leaves are c.levels.level (c.levels.left - 1) in
-                rw (w.last-is, w.joined.ensures, own) (leads-odd leaves (sha256 []) c.levels.level c.levels.left
+                rw (w.last-is, w.joined_peak.ensures, own) (leads-odd leaves (sha256 []) c.levels.level c.levels.left
                 c.levels.last (at.left_is ∙ ap (index_up c.levels.level) (sym long)) w.if-left-eq1.true
                 (at.leads obeys leaves are long));
           }

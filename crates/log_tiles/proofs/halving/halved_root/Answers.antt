@@ -4,7 +4,7 @@ use Rattle.merkle_log.specs.Frontier.{complete_pairs}
 use Rattle.merkle_log.proofs.Tests.{twice}
 use Rattle.log_tiles.specs.Audit.{rows_over}
 use Rattle.log_tiles.proofs.Trees.{one-shifted}
-use Rattle.log_tiles.proofs.halving.root_of.Goals as goal
+use Rattle.log_tiles.proofs.halving.halved_root.Goals as goal
 
 pub levels-preserved : goal.levels-preserved
 levels-preserved c =

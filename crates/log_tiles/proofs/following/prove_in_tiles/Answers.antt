@@ -1,7 +1,7 @@
 use Rattle.std.proofs.Common.{◌≡◌, refl}
 use Rattle.std.proofs.lemmas.Result.{err_from_is_err_and}
 use Rattle.log_tiles.proofs.OtherLogs.{not-of, unproved}
-use Rattle.log_tiles.proofs.following.prove.Goals as goal
+use Rattle.log_tiles.proofs.following.prove_in_tiles.Goals as goal
 
 pub returns-in_err-if_same-in-Ok-clause-refused : goal.returns-in_err-if_same-in-Ok-clause-refused
 returns-in_err-if_same-in-Ok-clause-refused g c = λ obeys.

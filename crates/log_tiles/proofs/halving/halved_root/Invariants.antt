@@ -1,6 +1,6 @@
 use Rattle.std.proofs.Common.{◌≡◌, ◌≤◌, ◌^◌, take}
 use Rattle.log_tiles.specs.Audit.{rows_over}
-use Rattle.log_tiles.proofs.halving.root_of.Given as goal
+use Rattle.log_tiles.proofs.halving.halved_root.Given as goal
 
 abbrev pub invariant-levels : goal.invariant-levels
 invariant-levels l = record {
