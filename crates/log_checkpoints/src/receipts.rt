@@ -70,13 +70,13 @@ pub fn write_receipt(
 }
 
 // The line at the front of bytes, without its line feed, and what stands behind it.
-fn next_line(bytes: &[u8]) -> Option<(&[u8], &[u8])> {
+fn cut_line(bytes: &[u8]) -> Option<(&[u8], &[u8])> {
     let end = memchr(b'\n', bytes)?;
     Some((&bytes[..end], &bytes[end + 1..]))
 }
 
 // The digest that a line spells.
-fn digest_in(alloc: Global, line: &[u8]) -> Result<[u8; 32], ReceiptFault>
+fn digest_of_line(alloc: Global, line: &[u8]) -> Result<[u8; 32], ReceiptFault>
     ensures { IfErr result IsUnread }
 {
     match STANDARD.decode(alloc, line) {
@@ -98,7 +98,7 @@ fn parts_in(alloc: Global, bytes: &[u8]) -> Result<Receipt<'_>, ReceiptFault>
     if bytes.len() < TITLE.len() || bytes[..TITLE.len()] != TITLE[..] {
         return Err(ReceiptFault::Spelling);
     }
-    let Some((line, mut rest)) = next_line(&bytes[TITLE.len()..]) else {
+    let Some((line, mut rest)) = cut_line(&bytes[TITLE.len()..]) else {
         return Err(ReceiptFault::Spelling);
     };
     let Some(index) = decimal_number(line) else {
@@ -107,7 +107,7 @@ fn parts_in(alloc: Global, bytes: &[u8]) -> Result<Receipt<'_>, ReceiptFault>
     let mut path = Vec::new(alloc);
     // No path has more digests than a size has bits.
     for _digest in 0..65 {
-        let Some((line, behind)) = next_line(rest) else {
+        let Some((line, behind)) = cut_line(rest) else {
             return Err(ReceiptFault::Spelling);
         };
         if line.is_empty() {
@@ -117,7 +117,7 @@ fn parts_in(alloc: Global, bytes: &[u8]) -> Result<Receipt<'_>, ReceiptFault>
                 note: behind,
             });
         }
-        let digest = digest_in(alloc, line)?;
+        let digest = digest_of_line(alloc, line)?;
         if path.push(digest).is_err() {
             return Err(ReceiptFault::Note(Fault::Memory));
         }
