@@ -2,7 +2,7 @@
 
 ghost use Rattle.std.specs.Prelude.{◌≡◌, ℕ, List, None, IfOk, OnErr, ⊤};
 ghost use Rattle.acp_session.specs.Language.{Language as OfTokens};
-ghost use Rattle.acp_session.specs.Steps.{State as OfTree, Step, state_of};
+ghost use Rattle.acp_session.specs.Steps.{State as OfTree, LineStep, state_of};
 
 use acp_session::answer::answer;
 use acp_session::shell::{Hashing, Shell};
@@ -80,7 +80,7 @@ impl<'a, C: Shell> Answering for Session<'a, C> {
     ghost language = { λ session.
         C.language session.leaf_parameters.now session.pair_parameters.now };
 
-    ghost step = { Step };
+    ghost step = { LineStep };
 
     ghost is_sound = { λ session. ⟦<C as Hashing>⟧.has_hashes
         session.leaf_parameters.now session.pair_parameters.now session.tree };

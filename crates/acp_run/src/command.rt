@@ -4,7 +4,7 @@ ghost use Rattle.std.specs.Prelude.{◌≡◌, ◌≢◌, ◌⊎◌, map, vec_it
 ghost use Rattle.std.specs.Io.KnownBytes.{Appends, Keeps};
 ghost use Rattle.acp_run.specs.Commands.{configuration_of, language_of, usage, stop_notice};
 ghost use Rattle.acp_run.specs.Sessions.{AppendsFront, Halts, LosesFront, Serves, Stops};
-ghost use Rattle.acp_session.specs.Steps.{Step};
+ghost use Rattle.acp_session.specs.Steps.{LineStep};
 
 use crate::run::run;
 use crate::streams::{Input, Output};
@@ -60,7 +60,7 @@ pub fn command<I: Input, O: Output, E: Output>(
     ensures status { configuration_of (map vec_items words.now) ≢ None
         → result ≢ 0 → result ≡ 1 }
     ensures served { IfSome (configuration_of (map vec_items words.now))
-        (λ configuration. result ≡ 0 → Serves (Step (language_of configuration))
+        (λ configuration. result ≡ 0 → Serves (LineStep (language_of configuration))
         (I.remaining lines.old) (O.contents replies.old) (O.contents replies.new)) }
     ensures sent { configuration_of (map vec_items words.now) ≢ None
         → O.has_failed replies.new ≡ false → O.unsent replies.new ≡ [] }
@@ -69,11 +69,12 @@ pub fn command<I: Input, O: Output, E: Output>(
     ensures quiet { result ≡ 0 → faults.new ≡ faults.old }
 
     ensures stopped { IfSome (configuration_of (map vec_items words.now))
-        (λ configuration. result ≡ 1 → Stops (Step (language_of configuration))
+        (λ configuration. result ≡ 1 → Stops (LineStep (language_of configuration))
         (I.remaining lines.old) (O.contents replies.old) (O.contents replies.new)) }
     ensures why { IfSome (configuration_of (map vec_items words.now)) (λ configuration. result ≡ 1
         → I.has_failed lines.new ≡ true ⊎ O.has_failed replies.new ≡ true
-        ⊎ Halts (Step (language_of configuration)) (I.remaining lines.old) (O.contents replies.old)
+        ⊎ Halts (LineStep (language_of configuration)) (I.remaining lines.old)
+        (O.contents replies.old)
         (O.contents replies.new)) }
     ensures notice { result ≡ 1
         → AppendsFront (E.contents faults.old) (E.contents faults.new) stop_notice }

@@ -5,7 +5,7 @@ ghost use Rattle.std.specs.Io.BufRead.{DropsThrough, strip_last, take_through};
 ghost use Rattle.std.specs.Io.KnownBytes.{Appends, IsAtEnd, Keeps};
 ghost use Rattle.acp_run.specs.Lines.{with_line_feed};
 ghost use Rattle.acp_run.specs.Sessions.{AppendsFront, Halts, HaltsFrom, LosesFront, Serves, ServesFrom, Stops, StopsFrom};
-ghost use Rattle.acp_session.specs.Steps.{Step};
+ghost use Rattle.acp_session.specs.Steps.{LineStep};
 
 use crate::answering::{Answering, Session};
 use crate::streams::{Input, Output};
@@ -87,16 +87,19 @@ pub fn run<C: Shell, I: Input, O: Output>(
     lines: &mut I,
     replies: &mut O,
 ) -> io::Result<()>
-    ensures served { OnOk result (Serves (Step (C.language leaf_parameters.now pair_parameters.now))
+    ensures served { OnOk result (Serves (LineStep (C.language leaf_parameters.now
+        pair_parameters.now))
         (I.remaining lines.old) (O.contents replies.old) (O.contents replies.new)) }
     ensures sent { OnOk result (O.unsent replies.new ≡ []) }
     ensures well { OnOk result
         ((I.has_failed lines.new ≡ false) × (O.has_failed replies.new ≡ false)) }
     ensures stopped { OnErr result
-        (Stops (Step (C.language leaf_parameters.now pair_parameters.now)) (I.remaining lines.old)
+        (Stops (LineStep (C.language leaf_parameters.now pair_parameters.now))
+        (I.remaining lines.old)
         (O.contents replies.old) (O.contents replies.new)) }
     ensures why { OnErr result (I.has_failed lines.new ≡ true ⊎ O.has_failed replies.new ≡ true
-        ⊎ Halts (Step (C.language leaf_parameters.now pair_parameters.now)) (I.remaining lines.old)
+        ⊎ Halts (LineStep (C.language leaf_parameters.now pair_parameters.now))
+        (I.remaining lines.old)
         (O.contents replies.old) (O.contents replies.new)) }
     ensures read { LosesFront (I.remaining lines.old) (I.remaining lines.new) }
 {

@@ -15,7 +15,7 @@ use Rattle.ark_paths.specs.Root.{root}
 use Rattle.ark_paths.specs.Asked.{CountsOwn, most_asked}
 use Rattle.acp_session.specs.declared.replies.Finding.{Finding}
 use Rattle.acp_session.specs.declared.replies.Finding.TheVariants.{Counted}
-use Rattle.acp_session.specs.Replies.{Refused, found, pairs_of, text, verdict_with}
+use Rattle.acp_session.specs.Replies.{Refused, finding_reply, pairs_of, text, verdict_with}
 use Rattle.acp_session.specs.Steps.{MayHash, MayCount, TellsCount, about, alone_of, held_by_multi}
 
 -- ---- leaves that are given in turn from a list
@@ -54,9 +54,10 @@ pub may_count : {X : Type 0} (view : X → MultiWay) (o : Option X) (x : X) (rea
     → (h k : HashPair) → h ≡ k → (digests : List Digest) (r : Digest) → root h digests ≡ Ok r
     → (leaves : List (Outcome Digest)) (pairs : ℕ) → MayHash k r leaves (view x) pairs → MayCount k digests leaves
     reading pairs
-may_count view o x reading found is h k same digests r rooted leaves pairs hashed = λ s rooted_s m found_m.
+may_count view o x reading finding_reply is h k same digests r rooted leaves pairs hashed = λ s rooted_s m found_m.
     let one : ◌≡◌ {A = Outcome Digest} (Ok r) (Ok s) = sym rooted ∙ rw same rooted_s in
-    let read : ◌≡◌ {A = Outcome (Option MultiWay)} (Ok (Some (view x))) (Ok (Some m)) = rw (found, is) at found_m in
+    let read : ◌≡◌ {A = Outcome (Option MultiWay)} (Ok (Some (view x))) (Ok (Some m)) = rw (finding_reply, is) at
+    found_m in
     let root_is : r ≡ s = cc in
     let proof_is : view x ≡ m = cc in
     rw (← root_is, ← proof_is) hashed
@@ -86,13 +87,13 @@ pub tells_count : (h : HashPair) (digests : List Digest) (reading : Reading Mult
     (result : Outcome Finding) (bytes : List ℕ)
     → Answers (about (held_by_multi (λ holds. Counted holds (pairs_of result)) h digests leaves) reading) result
     → (IsOk result → MayCount h digests leaves reading (pairs_of result))
-    → bytes ≡ text (found result) → TellsCount h reading (Some digests) leaves bytes
+    → bytes ≡ text (finding_reply result) → TellsCount h reading (Some digests) leaves bytes
 tells_count h digests reading leaves (Ok f) bytes answer may told =
-    inl (pairs_of (Ok f), may refl, told ∙ ap (λ o. text (found o)) (sym answer))
+    inl (pairs_of (Ok f), may refl, told ∙ ap (λ o. text (finding_reply o)) (sym answer))
 tells_count h digests reading leaves (Err e) bytes (inl memory) may told =
     inr (told ∙ ap (λ e. text (Refused e)) memory)
 tells_count h digests reading leaves (Err e) bytes (inr refused) may told = inl (
   0,
   may_count-none h digests leaves reading (λ holds. Counted holds 0) 0 refl (λ holds accepted. absurd cc),
-  told ∙ ap (λ o. text (found o)) (sym refused),
+  told ∙ ap (λ o. text (finding_reply o)) (sym refused),
 )

@@ -9,7 +9,7 @@ use Rattle.ark_paths.specs.Pair.{Digest, HashPair}
 use Rattle.ark_paths.specs.Root.{root}
 use Rattle.acp_session.specs.declared.replies.Finding.{Finding}
 use Rattle.acp_session.specs.declared.replies.Finding.TheVariants.{Trailing}
-use Rattle.acp_session.specs.Replies.{Refused, Tells, found, text}
+use Rattle.acp_session.specs.Replies.{Refused, Tells, finding_reply, text}
 use Rattle.acp_session.specs.Steps.{alone, alone_of, about, held_by_multi}
 
 -- ---- proofs as bytes
@@ -61,9 +61,9 @@ about-said say reading w [] read none = rw read refl
 about-said say reading w (b ∷ bs) read none = absurd (omega arith)
 
 -- what a call found is told, or that memory lacks
-pub tells_found : (o result : Outcome Finding) (bytes : List ℕ) → Answers o result → bytes ≡ text (found result)
-    → Tells (found o) bytes
-tells_found o (Ok finding) bytes is told = inl (told ∙ ap (λ o. text (found o)) (sym is))
+pub tells_found : (o result : Outcome Finding) (bytes : List ℕ) → Answers o result → bytes ≡ text (finding_reply result)
+    → Tells (finding_reply o) bytes
+tells_found o (Ok finding) bytes is told = inl (told ∙ ap (λ o. text (finding_reply o)) (sym is))
 tells_found (Ok finding) (Err e) bytes (inl memory) told = inr (told ∙ ap (λ e. text (Refused e)) memory, tt)
 tells_found (Err error) (Err e) bytes (inl memory) told = inr (told ∙ ap (λ e. text (Refused e)) memory, tt)
-tells_found o (Err e) bytes (inr refused) told = inl (told ∙ ap (λ o. text (found o)) (sym refused))
+tells_found o (Err e) bytes (inr refused) told = inl (told ∙ ap (λ o. text (finding_reply o)) (sym refused))

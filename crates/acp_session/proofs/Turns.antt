@@ -11,14 +11,14 @@ use Rattle.acp_session.specs.Language.{Language}
 use Rattle.acp_session.specs.Lines.{tokens_of}
 use Rattle.acp_session.specs.Replies.{Reply, MultiProof, NoIndex, Refused, Tells, text}
 use Rattle.acp_session.specs.Requests.{asked, request_of}
-use Rattle.acp_session.specs.Steps.{State, Step, Takes, TakesAny, TakesTurn, multi_reply}
+use Rattle.acp_session.specs.Steps.{State, LineStep, Takes, TakesAny, TakesTurn, multi_reply}
 
 -- what is asked decides the step, also as a language that is the same has it
 module _ {P Q L D : Type 0} (hash : P → L → Outcome Digest) (numbers : D → Digest) (o : Option (Request L D)) (r s :
     Request L D) (some : o ≡ Some r) (is : r ≡ s) (l k : P → Q → Language) where
   pub steps : ((p : P) (q : Q) → l p q ≡ k p q) → (line : List ℕ) → ((p : P) (q : Q) → option_map (asked (hash p)
       numbers) o ≡ request_of (l p q) (tokens_of line)) → (p : P) (q : Q) (before after : State) (bytes : List ℕ) →
-      TakesTurn (k p q) before (asked (hash p) numbers s) after bytes → Step (l p q) before line after bytes
+      TakesTurn (k p q) before (asked (hash p) numbers s) after bytes → LineStep (l p q) before line after bytes
   steps same line read p q before after bytes turn =
       subst (λ request. TakesAny (l p q) before request after bytes)
       (sym (ap (option_map (asked (hash p) numbers)) (some ∙ ap (λ r. Some r) is)) ∙ read p q)

@@ -27,9 +27,9 @@ pub data Reply : Type 0 where
   Found : (finding : Finding) → Reply
 
 -- a finding, or its refusal
-abbrev pub found : Outcome Finding → Reply
-found (Ok finding) = Found finding
-found (Err error) = Refused error
+abbrev pub finding_reply : Outcome Finding → Reply
+finding_reply (Ok finding) = Found finding
+finding_reply (Err error) = Refused error
 
 -- why a call was refused, in a word
 abbrev pub why : Error → List ℕ

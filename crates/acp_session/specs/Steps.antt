@@ -22,7 +22,7 @@ use Rattle.acp_session.specs.Language.{Language}
 use Rattle.acp_session.specs.Lines.{tokens_of}
 use Rattle.acp_session.specs.declared.replies.Finding.{Finding}
 use Rattle.acp_session.specs.declared.replies.Finding.TheVariants.{Trailing, Verdict, Counted, Bound, Strict}
-use Rattle.acp_session.specs.Replies.{Reply, BadLine, NoTree, NotLeaves, NoIndex, Refused, Built, Changed, Root, Proof, MultiProof, MayLackMemory, found, text}
+use Rattle.acp_session.specs.Replies.{Reply, BadLine, NoTree, NotLeaves, NoIndex, Refused, Built, Changed, Root, Proof, MultiProof, MayLackMemory, finding_reply, text}
 use Rattle.acp_session.specs.Requests.{Request, NewTree, NewTreeOfDigests, NewLeaf, NewLeaves, ShowRoot, ShowProof, CheckPath, BindPath, ShowMultiProof, CheckMultiProof, CountMultiProof, ReadStrictly, request_of}
 
 -- the tree's leaf digests, or no tree yet
@@ -155,8 +155,8 @@ bound_by h digests leaf way = do
   Ok (Bound binding)
 
 -- whether a multi-proof is accepted with some leaves under the tree's root
-abbrev pub accepted_by : HashPair → List Digest → List (Outcome Digest) → MultiWay → Outcome Bool
-accepted_by h digests leaves proof = do
+abbrev pub are_accepted : HashPair → List Digest → List (Outcome Digest) → MultiWay → Outcome Bool
+are_accepted h digests leaves proof = do
   r ← root h digests
   multi_verdict h leaves proof r
 
@@ -164,7 +164,7 @@ accepted_by h digests leaves proof = do
 abbrev pub held_by_multi : (Bool → Finding) → HashPair → List Digest → List (Outcome Digest) → MultiWay → Outcome
     Finding
 held_by_multi verdict h digests leaves proof = do
-  holds ← accepted_by h digests leaves proof
+  holds ← are_accepted h digests leaves proof
   Ok (verdict holds)
 
 -- how many indexes a multi-proof has
@@ -194,7 +194,7 @@ abbrev pub TellsCount : HashPair → Reading MultiWay → State → List (Outcom
 TellsCount h reading None leaves bytes = bytes ≡ text NoTree
 TellsCount h reading (Some digests) leaves bytes =
     ((pairs : ℕ) × MayCount h digests leaves reading pairs
-    × (bytes ≡ text (found (about (held_by_multi (λ holds. Counted holds pairs) h digests leaves) reading))))
+    × (bytes ≡ text (finding_reply (about (held_by_multi (λ holds. Counted holds pairs) h digests leaves) reading))))
     ⊎ (bytes ≡ text (Refused OutOfMemory))
 
 -- ---- lines
@@ -224,15 +224,17 @@ TakesTurn l before (ShowMultiProof indexes) =
     Takes before (in_tree before (λ digests.
     multi_reply (l.multi_path_bytes (own_multi_path l.pair_hashes indexes digests)) digests indexes))
 TakesTurn l before (CheckPath path leaf) =
-    Takes before (in_tree before (λ digests. found (about (held_by l.pair_hashes digests leaf) (l.path_reading path))))
+    Takes before (in_tree before (λ digests. finding_reply (about (held_by l.pair_hashes digests leaf)
+    (l.path_reading path))))
 TakesTurn l before (BindPath path leaf) =
-    Takes before (in_tree before (λ digests. found (about (bound_by l.pair_hashes digests leaf) (l.path_reading path))))
+    Takes before (in_tree before (λ digests. finding_reply (about (bound_by l.pair_hashes digests leaf)
+    (l.path_reading path))))
 TakesTurn l before (CheckMultiProof proof leaves) = Takes before (in_tree before (λ digests.
-    found (about (held_by_multi Verdict l.pair_hashes digests leaves) (l.multi_path_reading proof))))
+    finding_reply (about (held_by_multi Verdict l.pair_hashes digests leaves) (l.multi_path_reading proof))))
 TakesTurn l before (CountMultiProof proof leaves) = λ after bytes.
     TellsCount l.pair_hashes (l.multi_path_reading proof) before leaves bytes × (after ≡ before)
 TakesTurn l before (ReadStrictly proof) =
-    Takes before (found (about count_of (strict_reading (l.multi_path_reading proof))), before)
+    Takes before (finding_reply (about count_of (strict_reading (l.multi_path_reading proof))), before)
 
 -- the same where perhaps nothing is asked
 abbrev pub TakesAny : Language → State → Option Request → State → List ℕ → Type 0
@@ -240,5 +242,5 @@ TakesAny l before None = Takes before (BadLine, before)
 TakesAny l before (Some request) = TakesTurn l before request
 
 -- The tree before a line, the line, the tree after it and the bytes of the reply.
-abbrev pub Step : Language → State → List ℕ → State → List ℕ → Type 0
-Step l before line after bytes = TakesAny l before (request_of l (tokens_of line)) after bytes
+abbrev pub LineStep : Language → State → List ℕ → State → List ℕ → Type 0
+LineStep l before line after bytes = TakesAny l before (request_of l (tokens_of line)) after bytes

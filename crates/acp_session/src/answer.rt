@@ -1,14 +1,14 @@
 //! The reply to a line.
 
 ghost use Rattle.std.specs.Prelude.{◌≡◌, IfOk, OnErr};
-ghost use Rattle.acp_session.specs.Steps.{Step, state_of};
+ghost use Rattle.acp_session.specs.Steps.{LineStep, state_of};
 
 use crate::changes::{new_tree, new_tree_of_digests, set, set_many};
 use crate::checks::{binding, multi_verdict, strict_count, verdict};
 use crate::replies::{finding_bytes, plain};
 use crate::request::{Request, request_of};
 use crate::shell::{Hashing, Shell};
-use crate::shows::{multi_proof, proof, root};
+use crate::shows::{multi_proof, proof, root_reply};
 use ark_crh::CRHScheme;
 use ark_merkle::{LeafParam, MerkleTree, TwoToOneParam};
 use std::alloc::{AllocError, Global};
@@ -26,7 +26,8 @@ pub fn answer<C: Shell>(
     line: &[u8],
 ) -> Result<Vec<u8>, AllocError>
     requires { ⟦<C as Hashing>⟧.has_hashes leaf_parameters.now pair_parameters.now tree.old }
-    ensures step { IfOk result (λ reply. Step (C.language leaf_parameters.now pair_parameters.now)
+    ensures step { IfOk result (λ reply. LineStep (C.language leaf_parameters.now
+        pair_parameters.now)
         (state_of tree.old) line.now (state_of tree.new) reply.items) }
     ensures hashes { ⟦<C as Hashing>⟧.has_hashes leaf_parameters.now pair_parameters.now tree.new }
     ensures refused { OnErr result (tree.new ≡ tree.old) }
@@ -48,7 +49,7 @@ pub fn answer<C: Shell>(
             None => plain(alloc, b"refused tree"),
         },
         Request::Root => match tree {
-            Some(tree) => root(alloc, tree),
+            Some(tree) => root_reply(alloc, tree),
             None => plain(alloc, b"refused tree"),
         },
         Request::Proof(index) => match tree {

@@ -3,7 +3,7 @@
 ghost use Rattle.std.specs.Prelude.{◌≡◌, ◌++◌, ◌+◌, IfOk, OnOk, codes};
 ghost use Rattle.std.specs.Fmt.{decimal};
 ghost use Rattle.hex.specs.Hex.{encode_lower};
-ghost use Rattle.acp_session.specs.Replies.{Refused, found, text};
+ghost use Rattle.acp_session.specs.Replies.{Refused, finding_reply, text};
 
 use ark_base::error::Error;
 use ark_merkle::Binding;
@@ -44,7 +44,7 @@ pub fn refused(alloc: Global, error: Error) -> Result<Vec<u8>, AllocError>
 
 /// Returns what was found, or why it was not.
 pub fn finding_bytes(alloc: Global, finding: Result<Finding, Error>) -> Result<Vec<u8>, AllocError>
-    ensures { IfOk result (λ reply. reply.items ≡ text (found finding)) }
+    ensures { IfOk result (λ reply. reply.items ≡ text (finding_reply finding)) }
 {
     let reply = match finding {
         Ok(Finding::Trailing) => format!(in alloc; "refused trailing")?,
@@ -68,7 +68,7 @@ pub fn built(alloc: Global, size: usize, height: usize) -> Result<Vec<u8>, Alloc
 }
 
 /// Returns a word, and bytes in hexadecimal behind it.
-pub fn with_bytes(alloc: Global, word: &[u8], bytes: &[u8]) -> Result<Vec<u8>, AllocError>
+pub fn with_hex(alloc: Global, word: &[u8], bytes: &[u8]) -> Result<Vec<u8>, AllocError>
     ensures { IfOk result (λ reply. reply.items ≡ word.now ++ encode_lower bytes.now) }
 {
     let mut reply = plain(alloc, word)?;

@@ -10,7 +10,7 @@ ghost use Rattle.acp_session.specs.Replies.{Tells};
 ghost use Rattle.acp_session.specs.Steps.{multi_reply, proof_reply, shown_root};
 
 use crate::proofs::proof_bytes;
-use crate::replies::{plain, refused, with_bytes};
+use crate::replies::{plain, refused, with_hex};
 use crate::shell::Shell;
 use ark_base::error::Error;
 use ark_crh::{CRHScheme, TwoToOneCRHScheme};
@@ -18,7 +18,7 @@ use ark_merkle::{MerkleTree, Views};
 use std::alloc::{AllocError, Global};
 
 /// Returns the reply to `root`.
-pub fn root<C: Shell>(alloc: Global, tree: &MerkleTree<C>) -> Result<Vec<u8>, AllocError>
+pub fn root_reply<C: Shell>(alloc: Global, tree: &MerkleTree<C>) -> Result<Vec<u8>, AllocError>
     ensures { IfOk result (λ reply. (p : C.LeafHash.Parameters) (q : C.TwoToOneHash.Parameters)
         → Tells (shown_root (C.language p q).root_bytes
         (root (⟦<C as Views>⟧.pair tree.now.pair_parameters) tree.now.leaves)) reply.items) }
@@ -52,7 +52,7 @@ pub fn proof<C: Shell>(
         return plain(alloc, b"refused index");
     }
     match path_bytes(alloc, tree, index) {
-        Ok(bytes) => with_bytes(alloc, b"path ", &bytes),
+        Ok(bytes) => with_hex(alloc, b"path ", &bytes),
         Err(error) => refused(alloc, error),
     }
 }
@@ -66,7 +66,7 @@ fn are_below(indexes: &[usize], size: usize) -> bool
 }
 
 // The canonical bytes of the multi-proof of some indexes.
-fn multi_path_bytes<C: Shell>(
+fn multi_proof_bytes<C: Shell>(
     alloc: Global,
     tree: &MerkleTree<C>,
     indexes: &[usize],
@@ -93,8 +93,8 @@ pub fn multi_proof<C: Shell>(
     if !are_below(indexes, tree.size()) {
         return plain(alloc, b"refused index");
     }
-    match multi_path_bytes(alloc, tree, indexes) {
-        Ok(bytes) => with_bytes(alloc, b"multi ", &bytes),
+    match multi_proof_bytes(alloc, tree, indexes) {
+        Ok(bytes) => with_hex(alloc, b"multi ", &bytes),
         Err(error) => refused(alloc, error),
     }
 }

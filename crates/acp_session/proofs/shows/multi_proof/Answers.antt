@@ -7,9 +7,9 @@ returns-then-not-are_below g c = IfOk-weaker c.plain.result _ _ (λ reply. multi
     c.size.ensures.size c.are_below.ensures.test reply.items c.if-not-are_below.true) c.plain.ensures
 
 pub returns-in-Ok : goal.returns-in-Ok
-returns-in-Ok g c = IfOk-weaker c.with_bytes.result _ _ (λ reply. multi_told _ _ c.args.indexes.now _ _
+returns-in-Ok g c = IfOk-weaker c.with_hex.result _ _ (λ reply. multi_told _ _ c.args.indexes.now _ _
     c.size.ensures.size c.are_below.ensures.test reply.items c.if-not-are_below.false _ _ c.in-Ok.ensures
-    c.deref.ensures.value) c.with_bytes.ensures
+    c.deref.ensures.value) c.with_hex.ensures
 
 pub returns-in-Err : goal.returns-in-Err
 returns-in-Err g c = IfOk-weaker c.refused.result _ _ (λ reply. multi_refused _ _ c.args.indexes.now _ _
