@@ -3,7 +3,7 @@ use Rattle.std.proofs.Common.{◌≡◌, ℕ, suc, ◌==◌, ltb, Bool, true, fa
 use Rattle.std.specs.Prelude.{◌&&◌}
 use Rattle.std.specs.Io.BufRead.{take_through, drop_through, strip_last}
 use Rattle.acp_session.specs.Lines.{onto_first}
-use Rattle.acp_run.specs.Lines.{lines_of}
+use Rattle.acp_run.specs.Lines.{whole_lines_of}
 
 above_zero : (n : ℕ) → ltb 0 (suc n) ≡ true
 above_zero n = search (rules, tests)
@@ -33,20 +33,20 @@ strip_last-through x false b bs = strip_last-more x b bs
 
 -- the same, by the test of the first byte
 one_line : (b : ℕ) (t : Bool) → (b == 10) ≡ t → cond t ([] ∷ []) ((b ∷ []) ∷ []) ≡ strip_last 10
-    (cond t (b ∷ []) (b ∷ [])) ∷ lines_of (cond t [] [])
+    (cond t (b ∷ []) (b ∷ [])) ∷ whole_lines_of (cond t [] [])
 one_line b true e = ap (λ s. s ∷ []) (sym (strip_last-one b true e))
 one_line b false e = ap (λ s. s ∷ []) (sym (strip_last-one b false e))
 
-line_by : (b c : ℕ) (cs : List ℕ) (t : Bool) → (b == 10) ≡ t → lines_of (c ∷ cs) ≡ strip_last 10
-    (take_through 10 (c ∷ cs)) ∷ lines_of (drop_through 10 (c ∷ cs)) → cond t ([] ∷ lines_of (c ∷ cs))
-    (onto_first b (lines_of (c ∷ cs))) ≡ strip_last 10 (cond t (b ∷ []) (b ∷ take_through 10 (c ∷ cs)))
-    ∷ lines_of (cond t (c ∷ cs) (drop_through 10 (c ∷ cs)))
-line_by b c cs true e h = ap (λ s. s ∷ lines_of (c ∷ cs)) (sym (strip_last-one b true e))
-line_by b c cs false e h = ap (onto_first b) h ∙ ap (λ s. s ∷ lines_of (drop_through 10 (c ∷ cs)))
+line_by : (b c : ℕ) (cs : List ℕ) (t : Bool) → (b == 10) ≡ t → whole_lines_of (c ∷ cs) ≡ strip_last 10
+    (take_through 10 (c ∷ cs)) ∷ whole_lines_of (drop_through 10 (c ∷ cs)) → cond t ([] ∷ whole_lines_of (c ∷ cs))
+    (onto_first b (whole_lines_of (c ∷ cs))) ≡ strip_last 10 (cond t (b ∷ []) (b ∷ take_through 10 (c ∷ cs)))
+    ∷ whole_lines_of (cond t (c ∷ cs) (drop_through 10 (c ∷ cs)))
+line_by b c cs true e h = ap (λ s. s ∷ whole_lines_of (c ∷ cs)) (sym (strip_last-one b true e))
+line_by b c cs false e h = ap (onto_first b) h ∙ ap (λ s. s ∷ whole_lines_of (drop_through 10 (c ∷ cs)))
     (sym (strip_last-through b (c == 10) c (take_through 10 cs)))
 
 -- what is read up to a line feed is the first line
-pub lines_of-cons : (b : ℕ) (bs : List ℕ) → lines_of (b ∷ bs) ≡ strip_last 10 (take_through 10 (b ∷ bs))
-    ∷ lines_of (drop_through 10 (b ∷ bs))
+pub lines_of-cons : (b : ℕ) (bs : List ℕ) → whole_lines_of (b ∷ bs) ≡ strip_last 10 (take_through 10 (b ∷ bs))
+    ∷ whole_lines_of (drop_through 10 (b ∷ bs))
 lines_of-cons b [] = one_line b (b == 10) refl
 lines_of-cons b (c ∷ cs) = line_by b c cs (b == 10) refl (lines_of-cons c cs)

@@ -6,7 +6,7 @@ use Rattle.std.specs.Io.KnownBytes.{Appends, Keeps, IsAtEnd, Consumes}
 use Rattle.std.specs.Io.BufRead.{take_through, drop_through, strip_last, DropsThrough}
 use Rattle.std.proofs.lemmas.List.{flat_map_more}
 use Rattle.std.proofs.Math.Seq.{take-add}
-use Rattle.acp_run.specs.Lines.{lines_of, with_line_feed}
+use Rattle.acp_run.specs.Lines.{whole_lines_of, with_line_feed}
 use Rattle.acp_run.specs.Sessions.{Session, ServesFrom, StopsFrom, HaltsFrom, AppendsFront, LosesFront}
 use Rattle.acp_run.proofs.FirstLine.{lines_of-cons}
 
@@ -140,10 +140,12 @@ module _ {T : Type 0} (step : T → List ℕ → T → List ℕ → Type 0) wher
   through-more before middle after (l ∷ lines) [] line reply h does = absurd h
 
 -- what is read up to a line feed is the first line
-next_line : (rest line : List ℕ) → 0 < length line → line ≡ take_through 10 rest → lines_of rest ≡ strip_last 10 line
-    ∷ lines_of (drop_through 10 rest)
+next_line : (rest line : List ℕ) → 0 < length line → line ≡ take_through 10 rest → whole_lines_of rest
+    ≡ strip_last 10 line
+    ∷ whole_lines_of (drop_through 10 rest)
 next_line [] line some took = absurd (omega (arith, ap length took))
-next_line (b ∷ bs) line some took = lines_of-cons b bs ∙ ap (λ s. strip_last 10 s ∷ lines_of (drop_through 10 (b ∷ bs)))
+next_line (b ∷ bs) line some took = lines_of-cons b bs ∙ ap (λ s. strip_last 10 s
+    ∷ whole_lines_of (drop_through 10 (b ∷ bs)))
     (sym took)
 
 one_more : (input done rest : List (List ℕ)) (line : List ℕ) (others : List (List ℕ)) → input ≡ done ++ rest → rest
@@ -157,7 +159,7 @@ module _ {T : Type 0} (step : T → List ℕ → T → List ℕ → Type 0) (sta
   abbrev pub Going : (n : ℕ) (r0 w0 : Option (List ℕ)) → T → (r w : Option (List ℕ)) → Type 0
   Going n r0 w0 state r w = IfSome r0 (λ input. (told : List (List ℕ)) × (done : List (List ℕ)) × (rest : List ℕ)
       × (r ≡ Some rest)
-      × (lines_of input ≡ done ++ lines_of rest) × Through step start done told state
+      × (whole_lines_of input ≡ done ++ whole_lines_of rest) × Through step start done told state
       × Appends w0 w (flat_map with_line_feed told) × (length told ≡ n))
 
   pub going_from_start : (r0 w0 : Option (List ℕ)) → Going 0 r0 w0 start r0 w0
@@ -179,7 +181,8 @@ module _ {T : Type 0} (step : T → List ℕ → T → List ℕ → Type 0) (sta
         so_far.1 ++ strip_last 10 line ∷ [],
         drop_through 10 rest,
         leaves,
-        one_more (lines_of input) so_far.1 (lines_of rest) (strip_last 10 line) (lines_of (drop_through 10 rest))
+        one_more (whole_lines_of input) so_far.1 (whole_lines_of rest) (strip_last 10 line)
+            (whole_lines_of (drop_through 10 rest))
             so_far.4 (next_line rest line some took),
         through-more step start before after so_far.1 so_far.0 (strip_last 10 line) reply so_far.5 does,
         rw (← flat_map_more with_line_feed [] so_far.0 reply) all,
@@ -191,7 +194,7 @@ module _ {T : Type 0} (step : T → List ℕ → T → List ℕ → Type 0) (sta
   going_to_end n None w0 state r w w' so_far end kept = tt
   going_to_end n (Some input) w0 state r w w' so_far end kept =
       let none_left : so_far.2 ≡ [] = rw so_far.3 at end in
-      let all : lines_of input ≡ so_far.1 = so_far.4 ∙ ap (λ s. so_far.1 ++ lines_of s) none_left
+      let all : whole_lines_of input ≡ so_far.1 = so_far.4 ∙ ap (λ s. so_far.1 ++ whole_lines_of s) none_left
       ∙ append-nil so_far.1 in (
         so_far.0,
         rw all (through-session step start state so_far.1 so_far.0 so_far.5),
@@ -205,8 +208,8 @@ module _ {T : Type 0} (step : T → List ℕ → T → List ℕ → Type 0) (sta
       → StopsFrom step start r0 w0 w'
   stops_here n None w0 state r w w' so_far kept = tt
   stops_here n (Some input) w0 state r w w' so_far kept =
-      let first : take (length so_far.1) (lines_of input) ≡ so_far.1 =
-      ap (take (length so_far.1)) so_far.4 ∙ take-all so_far.1 (lines_of so_far.2) in (
+      let first : take (length so_far.1) (whole_lines_of input) ≡ so_far.1 =
+      ap (take (length so_far.1)) so_far.4 ∙ take-all so_far.1 (whole_lines_of so_far.2) in (
         length so_far.1,
         so_far.0,
         rw first (through-session step start state so_far.1 so_far.0 so_far.5),
@@ -229,10 +232,10 @@ module _ {T : Type 0} (step : T → List ℕ → T → List ℕ → Type 0) (sta
       let rest = so_far.2 in
       let took : line ≡ take_through 10 rest = rw so_far.3 at taken in
       let done = so_far.1 ++ strip_last 10 line ∷ [] in
-      let all = one_more (lines_of input) so_far.1 (lines_of rest) (strip_last 10 line)
-      (lines_of (drop_through 10 rest)) so_far.4 (next_line rest line some took) in
-      let first : take (length done) (lines_of input) ≡ done =
-      ap (take (length done)) all ∙ take-all done (lines_of (drop_through 10 rest)) in
+      let all = one_more (whole_lines_of input) so_far.1 (whole_lines_of rest) (strip_last 10 line)
+      (whole_lines_of (drop_through 10 rest)) so_far.4 (next_line rest line some took) in
+      let first : take (length done) (whole_lines_of input) ≡ done =
+      ap (take (length done)) all ∙ take-all done (whole_lines_of (drop_through 10 rest)) in
       let through = through-more step start before after so_far.1 so_far.0 (strip_last 10 line) reply so_far.5 does in
       let written = front_behind w0 w w' (flat_map with_line_feed so_far.0) (reply ++ 10 ∷ []) so_far.6 front in (
         length done,
@@ -251,12 +254,12 @@ module _ {T : Type 0} (step : T → List ℕ → T → List ℕ → Type 0) (sta
       let rest = so_far.2 in
       let took : line ≡ take_through 10 rest = rw so_far.3 at taken in
       let all = so_far.4 ∙ ap (λ s. so_far.1 ++ s) (next_line rest line some took) in
-      let first : take (length so_far.1) (lines_of input) ≡ so_far.1 =
-      ap (take (length so_far.1)) so_far.4 ∙ take-all so_far.1 (lines_of rest) in
-      let more : length so_far.1 < length (lines_of input) = omega (
+      let first : take (length so_far.1) (whole_lines_of input) ≡ so_far.1 =
+      ap (take (length so_far.1)) so_far.4 ∙ take-all so_far.1 (whole_lines_of rest) in
+      let more : length so_far.1 < length (whole_lines_of input) = omega (
         arith,
         ap length all,
-        length-append so_far.1 (strip_last 10 line ∷ lines_of (drop_through 10 rest)),
+        length-append so_far.1 (strip_last 10 line ∷ whole_lines_of (drop_through 10 rest)),
       ) in (
         length so_far.1,
         so_far.0,
@@ -270,8 +273,8 @@ module _ {T : Type 0} (step : T → List ℕ → T → List ℕ → Type 0) (sta
       → Going n r0 w0 state r w → n ≡ 2 ^ 64 - 1 → HaltsFrom step start lacks r0 w0 w
   halts_full n None w0 state r w lacks so_far full = tt
   halts_full n (Some input) w0 state r w lacks so_far full =
-      let first : take (length so_far.1) (lines_of input) ≡ so_far.1 =
-      ap (take (length so_far.1)) so_far.4 ∙ take-all so_far.1 (lines_of so_far.2) in (
+      let first : take (length so_far.1) (whole_lines_of input) ≡ so_far.1 =
+      ap (take (length so_far.1)) so_far.4 ∙ take-all so_far.1 (whole_lines_of so_far.2) in (
         length so_far.1,
         so_far.0,
         rw first (through-session step start state so_far.1 so_far.0 so_far.5),

@@ -8,8 +8,8 @@ use Rattle.acp_session.specs.Sha256.{sha_language}
 use Rattle.acp_session.specs.Toy.{toy_language}
 
 -- the configuration that a word names
-abbrev pub named : List ℕ → Option Configuration
-named word =
+abbrev pub configuration_named : List ℕ → Option Configuration
+configuration_named word =
     if bytes_eq word (codes "sha256") then Some Sha256
     else if bytes_eq word (codes "toy") then Some Toy
     else None
@@ -17,7 +17,7 @@ named word =
 -- the configuration that the words name: one word alone does
 abbrev pub configuration_of : List (List ℕ) → Option Configuration
 configuration_of [] = None
-configuration_of (word ∷ []) = named word
+configuration_of (word ∷ []) = configuration_named word
 configuration_of (word ∷ more ∷ words) = None
 
 -- the language of a configuration

@@ -3,9 +3,9 @@ use Rattle.std.specs.Prelude.{◌≡◌, ℕ, ◌==◌, true, if◌then◌else�
 use Rattle.acp_session.specs.Lines.{onto_first}
 
 -- the lines of some bytes: each ends with a line feed, the last perhaps with the bytes
-abbrev pub lines_of : List ℕ → List (List ℕ)
-lines_of [] = []
-lines_of (b ∷ bytes) = if b == 10 then [] ∷ lines_of bytes else onto_first b (lines_of bytes)
+abbrev pub whole_lines_of : List ℕ → List (List ℕ)
+whole_lines_of [] = []
+whole_lines_of (b ∷ bytes) = if b == 10 then [] ∷ whole_lines_of bytes else onto_first b (whole_lines_of bytes)
 
 -- a line as it is written
 abbrev pub with_line_feed : List ℕ → List ℕ

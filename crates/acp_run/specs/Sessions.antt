@@ -2,7 +2,7 @@
 use Rattle.std.specs.Prelude.{◌≡◌, ◌<◌, ◌⊎◌, ◌^◌, ◌-◌, ℕ, List, [], ◌∷◌, length, take, Option, None, IfSome, ⊤}
 use Rattle.std.specs.List.{flat_map}
 use Rattle.std.specs.Io.KnownBytes.{Appends, Consumes}
-use Rattle.acp_run.specs.Lines.{lines_of, with_line_feed}
+use Rattle.acp_run.specs.Lines.{whole_lines_of, with_line_feed}
 
 -- some lines, one after another, from a state on, and the reply to each
 abbrev pub Session : {T : Type 0} → (T → List ℕ → T → List ℕ → Type 0) → T → List (List ℕ) → List (List ℕ) → Type 0
@@ -25,7 +25,7 @@ LosesFront before after = (front : List ℕ) × Consumes before after front
 abbrev pub ServesFrom : {T : Type 0} → (T → List ℕ → T → List ℕ → Type 0) → T
     → Option (List ℕ) → Option (List ℕ) → Option (List ℕ) → Type 0
 ServesFrom step start input before after =
-    IfSome input (λ bytes. (replies : List (List ℕ)) × Session step start (lines_of bytes) replies
+    IfSome input (λ bytes. (replies : List (List ℕ)) × Session step start (whole_lines_of bytes) replies
     × Appends before after (flat_map with_line_feed replies))
 
 -- the same from no tree on
@@ -39,7 +39,7 @@ abbrev pub StopsFrom : {T : Type 0} → (T → List ℕ → T → List ℕ → T
     → Option (List ℕ) → Option (List ℕ) → Option (List ℕ) → Type 0
 StopsFrom step start input before after =
     IfSome input (λ bytes. (n : ℕ) × (replies : List (List ℕ))
-    × Session step start (take n (lines_of bytes)) replies
+    × Session step start (take n (whole_lines_of bytes)) replies
     × AppendsFront before after (flat_map with_line_feed replies))
 
 -- the same from no tree on
@@ -54,9 +54,9 @@ abbrev pub HaltsFrom : {T : Type 0} → (T → List ℕ → T → List ℕ → T
     → Option (List ℕ) → Option (List ℕ) → Option (List ℕ) → Type 0
 HaltsFrom step start lacks input before after =
     IfSome input (λ bytes. (n : ℕ) × (replies : List (List ℕ))
-    × Session step start (take n (lines_of bytes)) replies
+    × Session step start (take n (whole_lines_of bytes)) replies
     × Appends before after (flat_map with_line_feed replies)
-    × ((n < length (lines_of bytes)) × lacks ⊎ length replies ≡ 2 ^ 64 - 1))
+    × ((n < length (whole_lines_of bytes)) × lacks ⊎ length replies ≡ 2 ^ 64 - 1))
 
 -- the same from no tree on; that memory lacked is not seen from outside
 abbrev pub Halts : {T : Type 0} → (Option T → List ℕ → Option T → List ℕ → Type 0)

@@ -151,7 +151,7 @@ impl<W: Write> BufferedOutput<W> {
         ensures failed { MatchResult result
             (λ _. self.new.failure ≡ None) (λ _. is_some self.new.failure ≡ true) }
     {
-        match hand_over(&mut self.writer, bytes) {
+        match write_through(&mut self.writer, bytes) {
             Ok(()) => Ok(()),
             Err(cut) => {
                 self.failure = Some(0);
@@ -169,7 +169,7 @@ impl<W: Write> BufferedOutput<W> {
         ensures failed { MatchResult result
             (λ _. self.new.failure ≡ None) (λ _. is_some self.new.failure ≡ true) }
     {
-        match hand_over(&mut self.writer, &self.buffer) {
+        match write_through(&mut self.writer, &self.buffer) {
             Ok(()) => {
                 self.buffer.clear();
                 Ok(())
@@ -214,7 +214,7 @@ impl<W: Write> Output for BufferedOutput<W> {
 }
 
 // Writes bytes whole and flushes. A write that was interrupted is tried again; any other failure ends it.
-fn hand_over<W: Write>(writer: &mut W, bytes: &[u8]) -> Result<(), Cut>
+fn write_through<W: Write>(writer: &mut W, bytes: &[u8]) -> Result<(), Cut>
     ensures whole { OnOk result (Appends (W.contents writer.old) (W.contents writer.new)
         bytes.now) }
     ensures cut { IfErr result (λ cut. Appends (W.contents writer.old) (W.contents writer.new)

@@ -1,8 +1,8 @@
 use Rattle.std.proofs.Common.{◌≤◌, length, take, drop, arith, length-drop}
 use Rattle.std.proofs.lemmas.List.{take_rest}
 use Rattle.acp_run.proofs.Runs.{appends_more, appends_kept}
-use Rattle.acp_run.proofs.buffered.hand_over.Goals.{in-Ok, in-Err+else-ne}
-use Rattle.acp_run.proofs.buffered.hand_over.Goals as goal
+use Rattle.acp_run.proofs.buffered.write_through.Goals.{in-Ok, in-Err+else-ne}
+use Rattle.acp_run.proofs.buffered.write_through.Goals as goal
 
 pub loop-preserved : goal.loop-preserved
 loop-preserved g c =
