@@ -35,9 +35,9 @@ use log_file::fault::Fault;
 use log_store::InclusionProof;
 use paxlog_run::replies::{line_of, line_of_root};
 use paxlog_run::request::{
-    Continuation, Inclusion, Keyed, Misuse, Request, Site, Word, bytes_at, request_of,
+    Continuation, Inclusion, Keyed, Misuse, Request, Site, Word, bytes_at, request_of_words,
 };
-use paxlog_run::verdicts::{verify_consistency, verify_inclusion};
+use paxlog_run::verdicts::{check_consistency, check_inclusion};
 use std::process::ExitCode;
 
 const VERSION: &str = "paxlog 1.0.0
@@ -120,7 +120,7 @@ fn recover(
 fn verify(rt: &HostRuntime, words: &[Vec<u8>], shown: &Inclusion) -> Result<u8, StopAt> {
     let entry = bytes_of(rt, words, shown.file)?;
     let proof = bytes_at(words, shown.proof.place);
-    let verdict = verify_inclusion(
+    let verdict = check_inclusion(
         rt.alloc(),
         &shown.root,
         shown.size,
@@ -145,7 +145,7 @@ fn verify_continuation(
         proof,
     } = *shown;
     let proof = bytes_at(words, proof.place);
-    let verdict = verify_consistency(rt.alloc(), old_size, &old_root, size, &root, proof);
+    let verdict = check_consistency(rt.alloc(), old_size, &old_root, size, &root, proof);
     say_proof(rt, verdict)
 }
 
@@ -364,7 +364,7 @@ fn answer(rt: &HostRuntime, request: Request, words: &[Vec<u8>]) -> Result<u8, S
 }
 
 fn start(rt: &HostRuntime, words: &[Vec<u8>]) -> Result<u8, StopAt> {
-    match request_of(words) {
+    match request_of_words(words) {
         Ok(request) => answer(rt, request, words),
         Err(misuse) => Err(StopAt::from(misuse)),
     }

@@ -15,8 +15,8 @@ use Rattle.paxlog_run.specs.declared.request.Site.{Site}
 use Rattle.paxlog_run.specs.declared.request.Request.TheVariants.{Append, AppendLines, Root, Prove, Show, Consistency, Check, Recover, Verify, VerifyConsistency, Keygen, Checkpoint, VerifyCheckpoint, Tiles, Audit, Follow, Keep, TileProof, VerifyReceipt, Witness, Help, Version}
 
 -- the digest that a word spells in hexadecimal
-abbrev pub digest_of : List ℕ → Option Digest
-digest_of word = result_ok (decode_sized word 32)
+abbrev pub digest_in_hex : List ℕ → Option Digest
+digest_in_hex word = result_ok (decode_sized word 32)
 
 -- what is read of words, or why they are misused
 abbrev pub Read : Type 0 → Type 0
@@ -42,17 +42,17 @@ abbrev pub origin_at : List (List ℕ) → ℕ → Option Word
 origin_at words place = if nat_lt place (length words) then Some (typed_at place) else None
 
 -- the number at a place of the words
-abbrev pub number_at : List (List ℕ) → ℕ → Read ℕ
-number_at words place = or_misuse (NoNumber place) (number_of (get_or words place []))
+abbrev pub number_word_at : List (List ℕ) → ℕ → Read ℕ
+number_word_at words place = or_misuse (NoNumber place) (number_of (get_or words place []))
 
 -- the digest at a place of the words
-abbrev pub digest_at : List (List ℕ) → ℕ → Read Digest
-digest_at words place = or_misuse (NoDigest place) (digest_of (get_or words place []))
+abbrev pub digest_word_at : List (List ℕ) → ℕ → Read Digest
+digest_word_at words place = or_misuse (NoDigest place) (digest_of (get_or words place []))
 
 -- the size at a place of the words, if they are so many
 abbrev pub size_at : List (List ℕ) → ℕ → Read (Option ℕ)
 size_at words place =
-    if nat_lt place (length words) then (number_at words place >>= λ size. Ok (Some size)) else Ok None
+    if nat_lt place (length words) then (number_word_at words place >>= λ size. Ok (Some size)) else Ok None
 
 -- how many words there are with the command's own, if not too few or too many
 abbrev pub counted : List (List ℕ) → ℕ → ℕ → Read ℕ
@@ -76,65 +76,65 @@ abbrev pub site_at : Option Word → Site
 site_at origin = record { folder = typed_at 1; key = typed_at 2; origin = origin }
 
 -- root LOG [SIZE]; the command's name of it stands at place 0
-abbrev pub root_in : List (List ℕ) → Read Request
-root_in words = do
+abbrev pub root_request : List (List ℕ) → Read Request
+root_request words = do
   count ← counted words 2 3
   size ← size_at words 2
   Ok (Root (typed_at 1) size)
 
 -- prove LOG INDEX [SIZE]
-abbrev pub prove_in : List (List ℕ) → Read Request
-prove_in words = do
+abbrev pub prove_request : List (List ℕ) → Read Request
+prove_request words = do
   count ← counted words 3 4
-  index ← number_at words 2
+  index ← number_word_at words 2
   size ← size_at words 3
   Ok (Prove (typed_at 1) index size)
 
 -- show LOG INDEX [SIZE], or show-image
-abbrev pub show_in : List (List ℕ) → Bool → Read Request
-show_in words is_image = do
+abbrev pub show_request : List (List ℕ) → Bool → Read Request
+show_request words is_image = do
   count ← counted words 3 4
-  index ← number_at words 2
+  index ← number_word_at words 2
   size ← size_at words 3
   Ok (Show (typed_at 1) index size is_image)
 
 -- consistency LOG OLD_SIZE [SIZE]
-abbrev pub consistency_in : List (List ℕ) → Read Request
-consistency_in words = do
+abbrev pub consistency_request : List (List ℕ) → Read Request
+consistency_request words = do
   count ← counted words 3 4
-  old_size ← number_at words 2
+  old_size ← number_word_at words 2
   size ← size_at words 3
   Ok (Consistency (typed_at 1) old_size size)
 
 -- check LOG
-abbrev pub check_in : List (List ℕ) → Read Request
-check_in words = do
+abbrev pub check_request : List (List ℕ) → Read Request
+check_request words = do
   count ← counted words 2 2
   Ok (Check (typed_at 1))
 
 -- recover LOG [NEW]
-abbrev pub recover_in : List (List ℕ) → Read Request
-recover_in words = do
+abbrev pub recover_request : List (List ℕ) → Read Request
+recover_request words = do
   count ← counted words 2 3
   Ok (Recover (typed_at 1) (origin_at words 2))
 
 -- verify ROOT SIZE INDEX FILE PROOF
-abbrev pub verify_in : List (List ℕ) → Read Request
-verify_in words = do
+abbrev pub verify_request : List (List ℕ) → Read Request
+verify_request words = do
   count ← counted words 6 6
-  root ← digest_at words 1
-  size ← number_at words 2
-  index ← number_at words 3
+  root ← digest_word_at words 1
+  size ← number_word_at words 2
+  index ← number_word_at words 3
   Ok (Verify (record { root = root; size = size; index = index; file = typed_at 4; proof = typed_at 5 }))
 
 -- verify-consistency OLD_SIZE OLD_ROOT SIZE ROOT PROOF
-abbrev pub verify_consistency_in : List (List ℕ) → Read Request
-verify_consistency_in words = do
+abbrev pub verify_consistency_request : List (List ℕ) → Read Request
+verify_consistency_request words = do
   count ← counted words 6 6
-  old_size ← number_at words 1
-  old_root ← digest_at words 2
-  size ← number_at words 3
-  root ← digest_at words 4
+  old_size ← number_word_at words 1
+  old_root ← digest_word_at words 2
+  size ← number_word_at words 3
+  root ← digest_word_at words 4
   Ok (VerifyConsistency (record {
     old_size = old_size;
     old_root = old_root;
@@ -144,20 +144,20 @@ verify_consistency_in words = do
   }))
 
 -- help [COMMAND]
-abbrev pub help_in : List (List ℕ) → Read Request
-help_in words = do
+abbrev pub help_request : List (List ℕ) → Read Request
+help_request words = do
   count ← counted words 1 2
   Ok (Help (origin_at words 1))
 
 -- --help
-abbrev pub usage_in : List (List ℕ) → Read Request
-usage_in words = do
+abbrev pub usage_request : List (List ℕ) → Read Request
+usage_request words = do
   count ← counted words 1 1
   Ok (Help None)
 
 -- --version
-abbrev pub version_in : List (List ℕ) → Read Request
-version_in words = do
+abbrev pub version_request : List (List ℕ) → Read Request
+version_request words = do
   count ← counted words 1 1
   Ok Version
 
@@ -169,8 +169,8 @@ no_options = record { options = record { after = None; wait = 0; batch = None };
 abbrev pub option_more : List (List ℕ) → OptionsAt → Read OptionsAt
 option_more words at =
     if bytes_eq (get_or words at.place []) (codes "--after") then (do
-      size ← number_at words (at.place + 1)
-      root ← digest_at words (at.place + 2)
+      size ← number_word_at words (at.place + 1)
+      root ← digest_word_at words (at.place + 2)
       Ok (record {
         options = record {
           after = Some (record { size = size; root = root });
@@ -180,13 +180,13 @@ option_more words at =
         place = at.place + 3;
       }))
     else if bytes_eq (get_or words at.place []) (codes "--wait") then (do
-      seconds ← number_at words (at.place + 1)
+      seconds ← number_word_at words (at.place + 1)
       Ok (record {
         options = record { after = at.options.after; wait = seconds; batch = at.options.batch };
         place = at.place + 2;
       }))
     else if bytes_eq (get_or words at.place []) (codes "--batch") then (do
-      count ← number_at words (at.place + 1)
+      count ← number_word_at words (at.place + 1)
       if count == 0 then Err (NoLines (at.place + 1)) else Ok (record {
         options = record { after = at.options.after; wait = at.options.wait; batch = Some count };
         place = at.place + 2;
@@ -206,132 +206,132 @@ options_in words = do
   Ok (record { options = three.options; place = files_at words three.place })
 
 -- append LOG [--after SIZE ROOT] [--wait SECONDS] [--] FILE ..: at once, so that they name no batch
-abbrev pub append_in : List (List ℕ) → Read Request
-append_in words = do
+abbrev pub append_request : List (List ℕ) → Read Request
+append_request words = do
   at ← options_in words
   if not (is_none at.options.batch) then Err NoBatches
       else if nat_lt at.place (length words) then Ok (Append (typed_at 1) at.options at.place)
       else Err TooFew
 
 -- append-lines LOG [--after SIZE ROOT] [--wait SECONDS] [--batch COUNT] [--] FILE
-abbrev pub append_lines_in : List (List ℕ) → Read Request
-append_lines_in words = do
+abbrev pub append_lines_request : List (List ℕ) → Read Request
+append_lines_request words = do
   at ← options_in words
   count ← counted words (at.place + 1) (at.place + 1)
   Ok (AppendLines (typed_at 1) at.options (typed_at at.place))
 
 -- keygen NAME KEYFILE, or keygen-witness
-abbrev pub keygen_in : List (List ℕ) → Bool → Read Request
-keygen_in words is_witness = do
+abbrev pub keygen_request : List (List ℕ) → Bool → Read Request
+keygen_request words is_witness = do
   count ← counted words 3 3
   Ok (Keygen (typed_at 1) (typed_at 2) is_witness)
 
 -- checkpoint LOG --key KEYFILE [--origin ORIGIN]
-abbrev pub checkpoint_in : List (List ℕ) → Read Request
-checkpoint_in words = do
+abbrev pub checkpoint_request : List (List ℕ) → Read Request
+checkpoint_request words = do
   keyed ← keyed_at words 2
   Ok (Checkpoint (typed_at 1) keyed)
 
 -- verify-checkpoint KEY FILE [ORIGIN]
-abbrev pub verify_checkpoint_in : List (List ℕ) → Read Request
-verify_checkpoint_in words = do
+abbrev pub verify_checkpoint_request : List (List ℕ) → Read Request
+verify_checkpoint_request words = do
   count ← counted words 3 4
   Ok (VerifyCheckpoint (typed_at 1) (typed_at 2) (origin_at words 3))
 
 -- tiles LOG FOLDER --key KEYFILE [--origin ORIGIN]
-abbrev pub tiles_in : List (List ℕ) → Read Request
-tiles_in words = do
+abbrev pub tiles_request : List (List ℕ) → Read Request
+tiles_request words = do
   keyed ← keyed_at words 3
   Ok (Tiles (typed_at 1) (typed_at 2) keyed)
 
 -- audit FOLDER KEY [ORIGIN]
-abbrev pub audit_in : List (List ℕ) → Read Request
-audit_in words = do
+abbrev pub audit_request : List (List ℕ) → Read Request
+audit_request words = do
   count ← counted words 3 4
   Ok (Audit (site_at (origin_at words 3)))
 
 -- keep FOLDER KEY FILE [ORIGIN]
-abbrev pub keep_in : List (List ℕ) → Read Request
-keep_in words = do
+abbrev pub keep_request : List (List ℕ) → Read Request
+keep_request words = do
   count ← counted words 4 5
   Ok (Keep (site_at (origin_at words 4)) (typed_at 3))
 
 -- follow FOLDER KEY STATE [ORIGIN]
-abbrev pub follow_in : List (List ℕ) → Read Request
-follow_in words = do
+abbrev pub follow_request : List (List ℕ) → Read Request
+follow_request words = do
   count ← counted words 4 5
   Ok (Follow (site_at (origin_at words 4)) (typed_at 3))
 
 -- tile-proof FOLDER KEY INDEX [ORIGIN], or receipt
-abbrev pub tile_proof_in : List (List ℕ) → Bool → Read Request
-tile_proof_in words is_receipt = do
+abbrev pub tile_proof_request : List (List ℕ) → Bool → Read Request
+tile_proof_request words is_receipt = do
   count ← counted words 4 5
-  index ← number_at words 3
+  index ← number_word_at words 3
   Ok (TileProof (site_at (origin_at words 4)) index is_receipt)
 
 -- verify-receipt KEY FILE RECEIPT [ORIGIN]
-abbrev pub verify_receipt_in : List (List ℕ) → Read Request
-verify_receipt_in words = do
+abbrev pub verify_receipt_request : List (List ℕ) → Read Request
+verify_receipt_request words = do
   count ← counted words 4 5
   Ok (VerifyReceipt (typed_at 1) (typed_at 2) (typed_at 3) (origin_at words 4))
 
 -- witness FOLDER KEY STATE --key KEYFILE [--origin ORIGIN]
-abbrev pub witness_in : List (List ℕ) → Read Request
-witness_in words = do
+abbrev pub witness_request : List (List ℕ) → Read Request
+witness_request words = do
   keyed ← keyed_at words 4
   Ok (Witness (site_at keyed.origin) (typed_at 3) keyed.key_file)
 
 -- what is asked for by a word about folders of tiles, the first of all
 abbrev pub asked_of_tiles : List ℕ → List (List ℕ) → Read Request
 asked_of_tiles word words =
-    if bytes_eq word (codes "tiles") then tiles_in words
-    else if bytes_eq word (codes "audit") then audit_in words
-    else if bytes_eq word (codes "follow") then follow_in words
-    else if bytes_eq word (codes "keep") then keep_in words
-    else if bytes_eq word (codes "tile-proof") then tile_proof_in words false
-    else if bytes_eq word (codes "receipt") then tile_proof_in words true
-    else if bytes_eq word (codes "verify-receipt") then verify_receipt_in words
-    else if bytes_eq word (codes "witness") then witness_in words
+    if bytes_eq word (codes "tiles") then tiles_request words
+    else if bytes_eq word (codes "audit") then audit_request words
+    else if bytes_eq word (codes "follow") then follow_request words
+    else if bytes_eq word (codes "keep") then keep_request words
+    else if bytes_eq word (codes "tile-proof") then tile_proof_request words false
+    else if bytes_eq word (codes "receipt") then tile_proof_request words true
+    else if bytes_eq word (codes "verify-receipt") then verify_receipt_request words
+    else if bytes_eq word (codes "witness") then witness_request words
     else Err (NoCommand 0)
 
 -- what is asked for by a word about checkpoints, the first of all
 abbrev pub asked_of_checkpoints : List ℕ → List (List ℕ) → Read Request
 asked_of_checkpoints word words =
-    if bytes_eq word (codes "keygen") then keygen_in words false
-    else if bytes_eq word (codes "keygen-witness") then keygen_in words true
-    else if bytes_eq word (codes "checkpoint") then checkpoint_in words
-    else if bytes_eq word (codes "verify-checkpoint") then verify_checkpoint_in words
+    if bytes_eq word (codes "keygen") then keygen_request words false
+    else if bytes_eq word (codes "keygen-witness") then keygen_request words true
+    else if bytes_eq word (codes "checkpoint") then checkpoint_request words
+    else if bytes_eq word (codes "verify-checkpoint") then verify_checkpoint_request words
     else asked_of_tiles word words
 
 -- what is asked for by a word about the command itself, the first of all
 abbrev pub asked_of_help : List ℕ → List (List ℕ) → Read Request
 asked_of_help word words =
-    if bytes_eq word (codes "help") then help_in words
-    else if bytes_eq word (codes "--help") || bytes_eq word (codes "-h") then usage_in words
-    else if bytes_eq word (codes "--version") then version_in words
+    if bytes_eq word (codes "help") then help_request words
+    else if bytes_eq word (codes "--help") || bytes_eq word (codes "-h") then usage_request words
+    else if bytes_eq word (codes "--version") then version_request words
     else asked_of_checkpoints word words
 
 -- what is asked for by a word about checks, the first of all
 abbrev pub asked_of_checks : List ℕ → List (List ℕ) → Read Request
 asked_of_checks word words =
-    if bytes_eq word (codes "consistency") then consistency_in words
-    else if bytes_eq word (codes "check") then check_in words
-    else if bytes_eq word (codes "recover") then recover_in words
-    else if bytes_eq word (codes "verify") then verify_in words
-    else if bytes_eq word (codes "verify-consistency") then verify_consistency_in words
+    if bytes_eq word (codes "consistency") then consistency_request words
+    else if bytes_eq word (codes "check") then check_request words
+    else if bytes_eq word (codes "recover") then recover_request words
+    else if bytes_eq word (codes "verify") then verify_request words
+    else if bytes_eq word (codes "verify-consistency") then verify_consistency_request words
     else asked_of_help word words
 
 -- what is asked for by a word, the first of all
-abbrev pub asked : List ℕ → List (List ℕ) → Read Request
-asked word words =
-    if bytes_eq word (codes "append") then append_in words
-    else if bytes_eq word (codes "append-lines") then append_lines_in words
-    else if bytes_eq word (codes "root") then root_in words
-    else if bytes_eq word (codes "prove") then prove_in words
-    else if bytes_eq word (codes "show") then show_in words false
-    else if bytes_eq word (codes "show-image") then show_in words true
+abbrev pub asked_of_logs : List ℕ → List (List ℕ) → Read Request
+asked_of_logs word words =
+    if bytes_eq word (codes "append") then append_request words
+    else if bytes_eq word (codes "append-lines") then append_lines_request words
+    else if bytes_eq word (codes "root") then root_request words
+    else if bytes_eq word (codes "prove") then prove_request words
+    else if bytes_eq word (codes "show") then show_request words false
+    else if bytes_eq word (codes "show-image") then show_request words true
     else asked_of_checks word words
 
 -- what the words ask for
-abbrev pub request_of : List (List ℕ) → Read Request
-request_of words = if nat_lt 0 (length words) then asked (get_or words 0 []) words else Err Nothing
+abbrev pub request_of_words : List (List ℕ) → Read Request
+request_of_words words = if nat_lt 0 (length words) then asked_of_logs (get_or words 0 []) words else Err Nothing

@@ -21,9 +21,9 @@ with_fault (Ok holds) = Ok holds
 with_fault (Err error) = Err (fault_of error)
 
 -- the bytes that a word spells in hexadecimal
-abbrev pub spelled : Result (List ℕ) FromHexError → Result (List ℕ) Fault
-spelled (Ok bytes) = Ok bytes
-spelled (Err error) = Err Word
+abbrev pub in_hex : Result (List ℕ) FromHexError → Result (List ℕ) Fault
+in_hex (Ok bytes) = Ok bytes
+in_hex (Err error) = Err Word
 
 -- whether the bytes of a path show an entry at an index of the log with this root and size
 abbrev pub entry_shown : Digest → ℕ → ℕ → List ℕ → List ℕ → Result Bool Fault
@@ -33,7 +33,7 @@ entry_shown root size index entry path = only_if (nat_lt index size) Index
 
 -- the same of the word that spells the path
 abbrev pub entry_shown_by : Digest → ℕ → ℕ → List ℕ → List ℕ → Result Bool Fault
-entry_shown_by root size index entry word = spelled (decode_of word) >>= entry_shown root size index entry
+entry_shown_by root size index entry word = in_hex (decode_of word) >>= entry_shown root size index entry
 
 -- whether the bytes of a consistency proof show that the log with one root and size continues another
 abbrev pub continuing_shown : ℕ → Digest → ℕ → Digest → List ℕ → Result Bool Fault
@@ -44,4 +44,4 @@ continuing_shown old_size old size new proof = only_if (is_older old_size size) 
 -- the same of the word that spells the proof
 abbrev pub continuing_shown_by : ℕ → Digest → ℕ → Digest → List ℕ → Result Bool Fault
 continuing_shown_by old_size old size new word =
-    spelled (decode_of word) >>= continuing_shown old_size old size new
+    in_hex (decode_of word) >>= continuing_shown old_size old size new

@@ -24,7 +24,7 @@ pub trait Progress {
 const BETWEEN: usize = 65536;
 
 /// Returns the first line, without its line feed, and what stands behind that; nothing where there is no byte.
-fn next_line(bytes: &[u8]) -> Option<(&[u8], &[u8])>
+fn line_and_rest(bytes: &[u8]) -> Option<(&[u8], &[u8])>
     ensures { MatchOption result ((length bytes.now ≡ 0) × (lines_of bytes.now ≡ []))
         (λ found. (lines_of bytes.now ≡ found.0.now ∷ lines_of found.1.now)
         × (length found.1.now < length bytes.now)) }
@@ -50,7 +50,7 @@ fn next_lines(alloc: Global, bytes: &[u8]) -> Result<(Vec<&[u8]>, &[u8]), Fault>
     let mut lines = Vec::with_capacity(alloc, RUN)?;
     let mut rest = bytes;
     'lines: for _ in 0..RUN {
-        let Some((line, behind)) = next_line(rest) else {
+        let Some((line, behind)) = line_and_rest(rest) else {
             break;
         };
         lines.push(line)?;

@@ -21,7 +21,7 @@ pub fn line_of_root(alloc: Global, size: usize, root: &[u8; 32]) -> Result<Vec<u
 }
 
 // The bytes of digests, one behind the other.
-fn bytes_of(alloc: Global, digests: &[[u8; 32]]) -> Result<Vec<u8>, Fault>
+fn path_bytes_of(alloc: Global, digests: &[[u8; 32]]) -> Result<Vec<u8>, Fault>
     ensures { FileGivesBy (λ bytes. bytes.items) (Ok (flat_map itself digests.now)) result }
 {
     let mut bytes = Vec::new(alloc);
@@ -34,7 +34,7 @@ pub fn line_of(alloc: Global, digests: &[[u8; 32]]) -> Result<Vec<u8>, Fault>
     ensures { let line = hex_line (flat_map itself digests.now) in
         FileGivesBy (λ line. line.items) (Ok line) result }
 {
-    let bytes = bytes_of(alloc, digests)?;
+    let bytes = path_bytes_of(alloc, digests)?;
     let hex = hex::encode(alloc, bytes.as_slice())?;
     Ok(format!(in alloc; "{hex}\n")?.into_bytes())
 }

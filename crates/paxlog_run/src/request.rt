@@ -1,15 +1,15 @@
 //! What the words behind the command's name ask for.
 
 ghost use Rattle.std.specs.Prelude.{◌≡◌, [], get_or, map, vec_items};
-ghost use Rattle.paxlog_run.specs.Requests.{asked, request_of};
+ghost use Rattle.paxlog_run.specs.Requests.{asked_of_logs, request_of_words};
 
 mod appends;
 mod parts;
 mod signed;
 mod unsigned;
 
-use crate::request::appends::{append_in, append_lines_in};
-use crate::request::unsigned::{asked_of_checks, prove_in, root_in, show_in};
+use crate::request::appends::{append_lines_request, append_request};
+use crate::request::unsigned::{asked_of_checks, prove_request, root_request, show_request};
 
 /// A word that is asked about, by its place among the words; the command's own has place 0.
 #[derive(Clone, Copy)]
@@ -206,32 +206,32 @@ pub fn bytes_at(words: &[Vec<u8>], place: usize) -> &[u8]
 }
 
 // What is asked for by a word, the first of all.
-fn asked(word: &[u8], words: &[Vec<u8>]) -> Result<Request, Misuse>
-    ensures { result ≡ asked word.now (map vec_items words.now) }
+fn asked_of_logs(word: &[u8], words: &[Vec<u8>]) -> Result<Request, Misuse>
+    ensures { result ≡ asked_of_logs word.now (map vec_items words.now) }
 {
     if word == b"append".as_slice() {
-        append_in(words)
+        append_request(words)
     } else if word == b"append-lines".as_slice() {
-        append_lines_in(words)
+        append_lines_request(words)
     } else if word == b"root".as_slice() {
-        root_in(words)
+        root_request(words)
     } else if word == b"prove".as_slice() {
-        prove_in(words)
+        prove_request(words)
     } else if word == b"show".as_slice() {
-        show_in(words, false)
+        show_request(words, false)
     } else if word == b"show-image".as_slice() {
-        show_in(words, true)
+        show_request(words, true)
     } else {
         asked_of_checks(word, words)
     }
 }
 
 /// Returns what the words ask for. The error says which word is wrong, and why.
-pub fn request_of(words: &[Vec<u8>]) -> Result<Request, Misuse>
-    ensures { result ≡ request_of (map vec_items words.now) }
+pub fn request_of_words(words: &[Vec<u8>]) -> Result<Request, Misuse>
+    ensures { result ≡ request_of_words (map vec_items words.now) }
 {
     if 0 < words.len() {
-        asked(bytes_at(words, 0), words)
+        asked_of_logs(bytes_at(words, 0), words)
     } else {
         Err(Misuse::Nothing)
     }

@@ -5,7 +5,7 @@ ghost use Rattle.hex.specs.Hex.{decode_of};
 ghost use Rattle.ark_trees.specs.Rfc6962.{log_hashes, node_of};
 ghost use Rattle.merkle_log.specs.Received.{ShowsFront, ShowsLogLeaf, consistency_length, inclusion_length};
 ghost use Rattle.log_file.specs.Faults.{FileGivesBy};
-ghost use Rattle.paxlog_run.specs.Verdicts.{continuing_shown, continuing_shown_by, entry_shown, entry_shown_by, proof_digests, spelled};
+ghost use Rattle.paxlog_run.specs.Verdicts.{continuing_shown, continuing_shown_by, entry_shown, entry_shown_by, proof_digests, in_hex};
 
 use ark_trees::LogHasher;
 use hex::FromHexError;
@@ -14,8 +14,8 @@ use merkle_log::{verify_consistency_bytes, verify_inclusion_bytes};
 use std::alloc::Global;
 
 // The bytes that a word spells in hexadecimal.
-fn bytes_in(alloc: Global, word: &[u8]) -> Result<Vec<u8>, Fault>
-    ensures { FileGivesBy (λ bytes. bytes.items) (spelled (decode_of word.now)) result }
+fn bytes_in_hex(alloc: Global, word: &[u8]) -> Result<Vec<u8>, Fault>
+    ensures { FileGivesBy (λ bytes. bytes.items) (in_hex (decode_of word.now)) result }
 {
     match hex::decode(alloc, word) {
         Ok(bytes) => Ok(bytes),
@@ -49,7 +49,7 @@ fn shows_entry(
 /// Returns whether the path that a word spells shows an entry at an index of the log with this root and size.
 ///
 /// Errors, the first that applies: `Word`, `Index`, `Length`; `Memory` in place of any.
-pub fn verify_inclusion(
+pub fn check_inclusion(
     alloc: Global,
     root: &[u8; 32],
     size: usize,
@@ -66,7 +66,7 @@ pub fn verify_inclusion(
         result ≡ Ok true → (path : List ℕ) × (decode_of word.now ≡ Ok path)
         × ShowsLogLeaf hashes root.now size index entry.now.items (digests path) }
 {
-    let path = bytes_in(alloc, word)?;
+    let path = bytes_in_hex(alloc, word)?;
     shows_entry(alloc, root, size, index, entry, &path)
 }
 
@@ -95,7 +95,7 @@ fn shows_continuing(
 ///
 /// Errors, the first that applies: `Word`, `Size` for the old size 0 and for one above the size, `Length`; `Memory` in place
 /// of any.
-pub fn verify_consistency(
+pub fn check_consistency(
     alloc: Global,
     old_size: usize,
     old_root: &[u8; 32],
@@ -111,6 +111,6 @@ pub fn verify_consistency(
         result ≡ Ok true → (proof : List ℕ) × (decode_of word.now ≡ Ok proof)
         × ShowsFront node_of old_size old_root.now size root.now (digests proof) }
 {
-    let proof = bytes_in(alloc, word)?;
+    let proof = bytes_in_hex(alloc, word)?;
     shows_continuing(alloc, old_size, old_root, size, root, &proof)
 }

@@ -1,9 +1,9 @@
 //! What is asked for by words about appends, with their options.
 
 ghost use Rattle.std.specs.Prelude.{◌≡◌, ◌≤◌, ◌+◌, map, vec_items, IfOk};
-ghost use Rattle.paxlog_run.specs.Requests.{append_in, append_lines_in, files_at, option_more, options_in};
+ghost use Rattle.paxlog_run.specs.Requests.{append_request, append_lines_request, files_at, option_more, options_in};
 
-use crate::request::parts::{counted, digest_at, number_at, typed_at};
+use crate::request::parts::{counted, digest_word_at, number_word_at, typed_at};
 use crate::request::{After, Misuse, Options, Request, bytes_at};
 
 /// What the options of an append say.
@@ -24,8 +24,8 @@ fn option_more(words: &[Vec<u8>], at: OptionsAt) -> Result<OptionsAt, Misuse>
     let Options { after, wait, batch } = options;
     if bytes_at(words, place) == b"--after".as_slice() {
         let after = After {
-            size: number_at(words, place + 1)?,
-            root: digest_at(words, place + 2)?,
+            size: number_word_at(words, place + 1)?,
+            root: digest_word_at(words, place + 2)?,
         };
         Ok(OptionsAt {
             options: Options {
@@ -39,13 +39,13 @@ fn option_more(words: &[Vec<u8>], at: OptionsAt) -> Result<OptionsAt, Misuse>
         Ok(OptionsAt {
             options: Options {
                 after,
-                wait: number_at(words, place + 1)?,
+                wait: number_word_at(words, place + 1)?,
                 batch,
             },
             place: place + 2,
         })
     } else if bytes_at(words, place) == b"--batch".as_slice() {
-        let count = number_at(words, place + 1)?;
+        let count = number_word_at(words, place + 1)?;
         if count == 0 {
             return Err(Misuse::NoLines(place + 1));
         }
@@ -97,8 +97,8 @@ fn options_in(words: &[Vec<u8>]) -> Result<OptionsAt, Misuse>
 }
 
 /// Returns the append of files that is asked for.
-pub fn append_in(words: &[Vec<u8>]) -> Result<Request, Misuse>
-    ensures { result ≡ append_in (map vec_items words.now) }
+pub fn append_request(words: &[Vec<u8>]) -> Result<Request, Misuse>
+    ensures { result ≡ append_request (map vec_items words.now) }
 {
     let OptionsAt { options, place } = options_in(words)?;
     if options.batch.is_some() {
@@ -116,8 +116,8 @@ pub fn append_in(words: &[Vec<u8>]) -> Result<Request, Misuse>
 }
 
 /// Returns the append of lines that is asked for.
-pub fn append_lines_in(words: &[Vec<u8>]) -> Result<Request, Misuse>
-    ensures { result ≡ append_lines_in (map vec_items words.now) }
+pub fn append_lines_request(words: &[Vec<u8>]) -> Result<Request, Misuse>
+    ensures { result ≡ append_lines_request (map vec_items words.now) }
 {
     let OptionsAt { options, place } = options_in(words)?;
     counted(words, place + 1, place + 1)?;

@@ -1,14 +1,14 @@
 //! Words at their places: counted, and read as numbers, digests, options and origins.
 
 ghost use Rattle.std.specs.Prelude.{◌≡◌, ◌≤◌, map, vec_items};
-ghost use Rattle.paxlog_run.specs.Requests.{counted, digest_at, digest_of, keyed_at, number_at, origin_at, site_at, size_at, typed_at};
+ghost use Rattle.paxlog_run.specs.Requests.{counted, digest_word_at, digest_in_hex, keyed_at, number_word_at, origin_at, site_at, size_at, typed_at};
 
 use crate::request::{Keyed, Misuse, Site, Word, bytes_at};
 use decimals::decimal_number;
 
 // The digest that a word spells in hexadecimal.
-fn digest_of(word: &[u8]) -> Option<[u8; 32]>
-    ensures { result ≡ digest_of word.now }
+fn digest_in_hex(word: &[u8]) -> Option<[u8; 32]>
+    ensures { result ≡ digest_in_hex word.now }
 {
     let mut digest = [0; 32];
     match hex::decode_to_slice(word, &mut digest) {
@@ -36,8 +36,8 @@ pub fn origin_at(words: &[Vec<u8>], place: usize) -> Option<Word>
 }
 
 /// Returns the number at a place of the words. The error names the place.
-pub fn number_at(words: &[Vec<u8>], place: usize) -> Result<usize, Misuse>
-    ensures { result ≡ number_at (map vec_items words.now) place }
+pub fn number_word_at(words: &[Vec<u8>], place: usize) -> Result<usize, Misuse>
+    ensures { result ≡ number_word_at (map vec_items words.now) place }
 {
     match decimal_number(bytes_at(words, place)) {
         Some(number) => Ok(number),
@@ -46,10 +46,10 @@ pub fn number_at(words: &[Vec<u8>], place: usize) -> Result<usize, Misuse>
 }
 
 /// Returns the digest at a place of the words. The error names the place.
-pub fn digest_at(words: &[Vec<u8>], place: usize) -> Result<[u8; 32], Misuse>
-    ensures { result ≡ digest_at (map vec_items words.now) place }
+pub fn digest_word_at(words: &[Vec<u8>], place: usize) -> Result<[u8; 32], Misuse>
+    ensures { result ≡ digest_word_at (map vec_items words.now) place }
 {
-    match digest_of(bytes_at(words, place)) {
+    match digest_in_hex(bytes_at(words, place)) {
         Some(digest) => Ok(digest),
         None => Err(Misuse::NoDigest(place)),
     }
@@ -60,7 +60,7 @@ pub fn size_at(words: &[Vec<u8>], place: usize) -> Result<Option<usize>, Misuse>
     ensures { result ≡ size_at (map vec_items words.now) place }
 {
     if place < words.len() {
-        Ok(Some(number_at(words, place)?))
+        Ok(Some(number_word_at(words, place)?))
     } else {
         Ok(None)
     }

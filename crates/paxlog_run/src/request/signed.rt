@@ -1,14 +1,14 @@
 //! What is asked for by words about checkpoints and tiles.
 
 ghost use Rattle.std.specs.Prelude.{◌≡◌, map, vec_items};
-ghost use Rattle.paxlog_run.specs.Requests.{asked_of_checkpoints, asked_of_tiles, audit_in, checkpoint_in, follow_in, keep_in, keygen_in, tile_proof_in, tiles_in, verify_checkpoint_in, verify_receipt_in, witness_in};
+ghost use Rattle.paxlog_run.specs.Requests.{asked_of_checkpoints, asked_of_tiles, audit_request, checkpoint_request, follow_request, keep_request, keygen_request, tile_proof_request, tiles_request, verify_checkpoint_request, verify_receipt_request, witness_request};
 
-use crate::request::parts::{counted, keyed_at, number_at, origin_at, site_at, typed_at};
+use crate::request::parts::{counted, keyed_at, number_word_at, origin_at, site_at, typed_at};
 use crate::request::{Keyed, Misuse, Request};
 
 // The new key that is asked for.
-fn keygen_in(words: &[Vec<u8>], is_witness: bool) -> Result<Request, Misuse>
-    ensures { result ≡ keygen_in (map vec_items words.now) is_witness }
+fn keygen_request(words: &[Vec<u8>], is_witness: bool) -> Result<Request, Misuse>
+    ensures { result ≡ keygen_request (map vec_items words.now) is_witness }
 {
     counted(words, 3, 3)?;
     Ok(Request::Keygen {
@@ -19,8 +19,8 @@ fn keygen_in(words: &[Vec<u8>], is_witness: bool) -> Result<Request, Misuse>
 }
 
 // The checkpoint that is asked for.
-fn checkpoint_in(words: &[Vec<u8>]) -> Result<Request, Misuse>
-    ensures { result ≡ checkpoint_in (map vec_items words.now) }
+fn checkpoint_request(words: &[Vec<u8>]) -> Result<Request, Misuse>
+    ensures { result ≡ checkpoint_request (map vec_items words.now) }
 {
     Ok(Request::Checkpoint {
         log: typed_at(1),
@@ -29,8 +29,8 @@ fn checkpoint_in(words: &[Vec<u8>]) -> Result<Request, Misuse>
 }
 
 // The check of a checkpoint that is asked for.
-fn verify_checkpoint_in(words: &[Vec<u8>]) -> Result<Request, Misuse>
-    ensures { result ≡ verify_checkpoint_in (map vec_items words.now) }
+fn verify_checkpoint_request(words: &[Vec<u8>]) -> Result<Request, Misuse>
+    ensures { result ≡ verify_checkpoint_request (map vec_items words.now) }
 {
     counted(words, 3, 4)?;
     Ok(Request::VerifyCheckpoint {
@@ -41,8 +41,8 @@ fn verify_checkpoint_in(words: &[Vec<u8>]) -> Result<Request, Misuse>
 }
 
 // The tiles that are asked for.
-fn tiles_in(words: &[Vec<u8>]) -> Result<Request, Misuse>
-    ensures { result ≡ tiles_in (map vec_items words.now) }
+fn tiles_request(words: &[Vec<u8>]) -> Result<Request, Misuse>
+    ensures { result ≡ tiles_request (map vec_items words.now) }
 {
     Ok(Request::Tiles {
         log: typed_at(1),
@@ -52,8 +52,8 @@ fn tiles_in(words: &[Vec<u8>]) -> Result<Request, Misuse>
 }
 
 // The audit that is asked for.
-fn audit_in(words: &[Vec<u8>]) -> Result<Request, Misuse>
-    ensures { result ≡ audit_in (map vec_items words.now) }
+fn audit_request(words: &[Vec<u8>]) -> Result<Request, Misuse>
+    ensures { result ≡ audit_request (map vec_items words.now) }
 {
     counted(words, 3, 4)?;
     Ok(Request::Audit {
@@ -62,8 +62,8 @@ fn audit_in(words: &[Vec<u8>]) -> Result<Request, Misuse>
 }
 
 // That the entries of a file are to be kept.
-fn keep_in(words: &[Vec<u8>]) -> Result<Request, Misuse>
-    ensures { result ≡ keep_in (map vec_items words.now) }
+fn keep_request(words: &[Vec<u8>]) -> Result<Request, Misuse>
+    ensures { result ≡ keep_request (map vec_items words.now) }
 {
     counted(words, 4, 5)?;
     Ok(Request::Keep {
@@ -73,8 +73,8 @@ fn keep_in(words: &[Vec<u8>]) -> Result<Request, Misuse>
 }
 
 // That a state is to follow.
-fn follow_in(words: &[Vec<u8>]) -> Result<Request, Misuse>
-    ensures { result ≡ follow_in (map vec_items words.now) }
+fn follow_request(words: &[Vec<u8>]) -> Result<Request, Misuse>
+    ensures { result ≡ follow_request (map vec_items words.now) }
 {
     counted(words, 4, 5)?;
     Ok(Request::Follow {
@@ -84,20 +84,20 @@ fn follow_in(words: &[Vec<u8>]) -> Result<Request, Misuse>
 }
 
 // The inclusion proof by tiles that is asked for, as a receipt or alone.
-fn tile_proof_in(words: &[Vec<u8>], is_receipt: bool) -> Result<Request, Misuse>
-    ensures { result ≡ tile_proof_in (map vec_items words.now) is_receipt }
+fn tile_proof_request(words: &[Vec<u8>], is_receipt: bool) -> Result<Request, Misuse>
+    ensures { result ≡ tile_proof_request (map vec_items words.now) is_receipt }
 {
     counted(words, 4, 5)?;
     Ok(Request::TileProof {
         site: site_at(origin_at(words, 4)),
-        index: number_at(words, 3)?,
+        index: number_word_at(words, 3)?,
         is_receipt,
     })
 }
 
 // The check of a receipt that is asked for.
-fn verify_receipt_in(words: &[Vec<u8>]) -> Result<Request, Misuse>
-    ensures { result ≡ verify_receipt_in (map vec_items words.now) }
+fn verify_receipt_request(words: &[Vec<u8>]) -> Result<Request, Misuse>
+    ensures { result ≡ verify_receipt_request (map vec_items words.now) }
 {
     counted(words, 4, 5)?;
     Ok(Request::VerifyReceipt {
@@ -109,8 +109,8 @@ fn verify_receipt_in(words: &[Vec<u8>]) -> Result<Request, Misuse>
 }
 
 // The witness's signature that is asked for.
-fn witness_in(words: &[Vec<u8>]) -> Result<Request, Misuse>
-    ensures { result ≡ witness_in (map vec_items words.now) }
+fn witness_request(words: &[Vec<u8>]) -> Result<Request, Misuse>
+    ensures { result ≡ witness_request (map vec_items words.now) }
 {
     let Keyed { key_file, origin } = keyed_at(words, 4)?;
     Ok(Request::Witness {
@@ -125,21 +125,21 @@ fn asked_of_tiles(word: &[u8], words: &[Vec<u8>]) -> Result<Request, Misuse>
     ensures { result ≡ asked_of_tiles word.now (map vec_items words.now) }
 {
     if word == b"tiles".as_slice() {
-        tiles_in(words)
+        tiles_request(words)
     } else if word == b"audit".as_slice() {
-        audit_in(words)
+        audit_request(words)
     } else if word == b"follow".as_slice() {
-        follow_in(words)
+        follow_request(words)
     } else if word == b"keep".as_slice() {
-        keep_in(words)
+        keep_request(words)
     } else if word == b"tile-proof".as_slice() {
-        tile_proof_in(words, false)
+        tile_proof_request(words, false)
     } else if word == b"receipt".as_slice() {
-        tile_proof_in(words, true)
+        tile_proof_request(words, true)
     } else if word == b"verify-receipt".as_slice() {
-        verify_receipt_in(words)
+        verify_receipt_request(words)
     } else if word == b"witness".as_slice() {
-        witness_in(words)
+        witness_request(words)
     } else {
         Err(Misuse::NoCommand(0))
     }
@@ -150,13 +150,13 @@ pub fn asked_of_checkpoints(word: &[u8], words: &[Vec<u8>]) -> Result<Request, M
     ensures { result ≡ asked_of_checkpoints word.now (map vec_items words.now) }
 {
     if word == b"keygen".as_slice() {
-        keygen_in(words, false)
+        keygen_request(words, false)
     } else if word == b"keygen-witness".as_slice() {
-        keygen_in(words, true)
+        keygen_request(words, true)
     } else if word == b"checkpoint".as_slice() {
-        checkpoint_in(words)
+        checkpoint_request(words)
     } else if word == b"verify-checkpoint".as_slice() {
-        verify_checkpoint_in(words)
+        verify_checkpoint_request(words)
     } else {
         asked_of_tiles(word, words)
     }

@@ -1,15 +1,17 @@
 //! What is asked for by words about logs in files, and about the command itself.
 
 ghost use Rattle.std.specs.Prelude.{◌≡◌, map, vec_items};
-ghost use Rattle.paxlog_run.specs.Requests.{asked_of_checks, asked_of_help, check_in, consistency_in, help_in, prove_in, recover_in, root_in, show_in, usage_in, verify_consistency_in, verify_in, version_in};
+ghost use Rattle.paxlog_run.specs.Requests.{asked_of_checks, asked_of_help, check_request, consistency_request, help_request, prove_request, recover_request, root_request, show_request, usage_request, verify_consistency_request, verify_request, version_request};
 
-use crate::request::parts::{counted, digest_at, number_at, origin_at, size_at, typed_at};
+use crate::request::parts::{
+    counted, digest_word_at, number_word_at, origin_at, size_at, typed_at,
+};
 use crate::request::signed::asked_of_checkpoints;
 use crate::request::{Continuation, Inclusion, Misuse, Request};
 
 /// Returns the root that is asked for.
-pub fn root_in(words: &[Vec<u8>]) -> Result<Request, Misuse>
-    ensures { result ≡ root_in (map vec_items words.now) }
+pub fn root_request(words: &[Vec<u8>]) -> Result<Request, Misuse>
+    ensures { result ≡ root_request (map vec_items words.now) }
 {
     counted(words, 2, 3)?;
     Ok(Request::Root {
@@ -19,53 +21,53 @@ pub fn root_in(words: &[Vec<u8>]) -> Result<Request, Misuse>
 }
 
 /// Returns the inclusion proof that is asked for.
-pub fn prove_in(words: &[Vec<u8>]) -> Result<Request, Misuse>
-    ensures { result ≡ prove_in (map vec_items words.now) }
+pub fn prove_request(words: &[Vec<u8>]) -> Result<Request, Misuse>
+    ensures { result ≡ prove_request (map vec_items words.now) }
 {
     counted(words, 3, 4)?;
     Ok(Request::Prove {
         log: typed_at(1),
-        index: number_at(words, 2)?,
+        index: number_word_at(words, 2)?,
         size: size_at(words, 3)?,
     })
 }
 
 /// Returns the picture that is asked for.
-pub fn show_in(words: &[Vec<u8>], is_image: bool) -> Result<Request, Misuse>
-    ensures { result ≡ show_in (map vec_items words.now) is_image }
+pub fn show_request(words: &[Vec<u8>], is_image: bool) -> Result<Request, Misuse>
+    ensures { result ≡ show_request (map vec_items words.now) is_image }
 {
     counted(words, 3, 4)?;
     Ok(Request::Show {
         log: typed_at(1),
-        index: number_at(words, 2)?,
+        index: number_word_at(words, 2)?,
         size: size_at(words, 3)?,
         is_image,
     })
 }
 
 // The consistency proof that is asked for.
-fn consistency_in(words: &[Vec<u8>]) -> Result<Request, Misuse>
-    ensures { result ≡ consistency_in (map vec_items words.now) }
+fn consistency_request(words: &[Vec<u8>]) -> Result<Request, Misuse>
+    ensures { result ≡ consistency_request (map vec_items words.now) }
 {
     counted(words, 3, 4)?;
     Ok(Request::Consistency {
         log: typed_at(1),
-        old_size: number_at(words, 2)?,
+        old_size: number_word_at(words, 2)?,
         size: size_at(words, 3)?,
     })
 }
 
 // The check of a log that is asked for.
-fn check_in(words: &[Vec<u8>]) -> Result<Request, Misuse>
-    ensures { result ≡ check_in (map vec_items words.now) }
+fn check_request(words: &[Vec<u8>]) -> Result<Request, Misuse>
+    ensures { result ≡ check_request (map vec_items words.now) }
 {
     counted(words, 2, 2)?;
     Ok(Request::Check { log: typed_at(1) })
 }
 
 // The recovery that is asked for.
-fn recover_in(words: &[Vec<u8>]) -> Result<Request, Misuse>
-    ensures { result ≡ recover_in (map vec_items words.now) }
+fn recover_request(words: &[Vec<u8>]) -> Result<Request, Misuse>
+    ensures { result ≡ recover_request (map vec_items words.now) }
 {
     counted(words, 2, 3)?;
     Ok(Request::Recover {
@@ -75,36 +77,36 @@ fn recover_in(words: &[Vec<u8>]) -> Result<Request, Misuse>
 }
 
 // The check of an inclusion proof that is asked for.
-fn verify_in(words: &[Vec<u8>]) -> Result<Request, Misuse>
-    ensures { result ≡ verify_in (map vec_items words.now) }
+fn verify_request(words: &[Vec<u8>]) -> Result<Request, Misuse>
+    ensures { result ≡ verify_request (map vec_items words.now) }
 {
     counted(words, 6, 6)?;
     Ok(Request::Verify(Inclusion {
-        root: digest_at(words, 1)?,
-        size: number_at(words, 2)?,
-        index: number_at(words, 3)?,
+        root: digest_word_at(words, 1)?,
+        size: number_word_at(words, 2)?,
+        index: number_word_at(words, 3)?,
         file: typed_at(4),
         proof: typed_at(5),
     }))
 }
 
 // The check of a consistency proof that is asked for.
-fn verify_consistency_in(words: &[Vec<u8>]) -> Result<Request, Misuse>
-    ensures { result ≡ verify_consistency_in (map vec_items words.now) }
+fn verify_consistency_request(words: &[Vec<u8>]) -> Result<Request, Misuse>
+    ensures { result ≡ verify_consistency_request (map vec_items words.now) }
 {
     counted(words, 6, 6)?;
     Ok(Request::VerifyConsistency(Continuation {
-        old_size: number_at(words, 1)?,
-        old_root: digest_at(words, 2)?,
-        size: number_at(words, 3)?,
-        root: digest_at(words, 4)?,
+        old_size: number_word_at(words, 1)?,
+        old_root: digest_word_at(words, 2)?,
+        size: number_word_at(words, 3)?,
+        root: digest_word_at(words, 4)?,
         proof: typed_at(5),
     }))
 }
 
 // The help that is asked for: on a command, where one is named.
-fn help_in(words: &[Vec<u8>]) -> Result<Request, Misuse>
-    ensures { result ≡ help_in (map vec_items words.now) }
+fn help_request(words: &[Vec<u8>]) -> Result<Request, Misuse>
+    ensures { result ≡ help_request (map vec_items words.now) }
 {
     counted(words, 1, 2)?;
     Ok(Request::Help {
@@ -113,16 +115,16 @@ fn help_in(words: &[Vec<u8>]) -> Result<Request, Misuse>
 }
 
 // That the usage is asked for, by a word that stands alone.
-fn usage_in(words: &[Vec<u8>]) -> Result<Request, Misuse>
-    ensures { result ≡ usage_in (map vec_items words.now) }
+fn usage_request(words: &[Vec<u8>]) -> Result<Request, Misuse>
+    ensures { result ≡ usage_request (map vec_items words.now) }
 {
     counted(words, 1, 1)?;
     Ok(Request::Help { command: None })
 }
 
 // That the version is asked for.
-fn version_in(words: &[Vec<u8>]) -> Result<Request, Misuse>
-    ensures { result ≡ version_in (map vec_items words.now) }
+fn version_request(words: &[Vec<u8>]) -> Result<Request, Misuse>
+    ensures { result ≡ version_request (map vec_items words.now) }
 {
     counted(words, 1, 1)?;
     Ok(Request::Version)
@@ -133,11 +135,11 @@ fn asked_of_help(word: &[u8], words: &[Vec<u8>]) -> Result<Request, Misuse>
     ensures { result ≡ asked_of_help word.now (map vec_items words.now) }
 {
     if word == b"help".as_slice() {
-        help_in(words)
+        help_request(words)
     } else if word == b"--help".as_slice() || word == b"-h".as_slice() {
-        usage_in(words)
+        usage_request(words)
     } else if word == b"--version".as_slice() {
-        version_in(words)
+        version_request(words)
     } else {
         asked_of_checkpoints(word, words)
     }
@@ -148,15 +150,15 @@ pub fn asked_of_checks(word: &[u8], words: &[Vec<u8>]) -> Result<Request, Misuse
     ensures { result ≡ asked_of_checks word.now (map vec_items words.now) }
 {
     if word == b"consistency".as_slice() {
-        consistency_in(words)
+        consistency_request(words)
     } else if word == b"check".as_slice() {
-        check_in(words)
+        check_request(words)
     } else if word == b"recover".as_slice() {
-        recover_in(words)
+        recover_request(words)
     } else if word == b"verify".as_slice() {
-        verify_in(words)
+        verify_request(words)
     } else if word == b"verify-consistency".as_slice() {
-        verify_consistency_in(words)
+        verify_consistency_request(words)
     } else {
         asked_of_help(word, words)
     }

@@ -1,7 +1,7 @@
 use Rattle.std.proofs.Common.{◌+◌, arith, add-one}
 use Rattle.std.proofs.lemmas.List.{take_rest, length-drop}
 use Rattle.paxlog_run.proofs.Lines.{lines_of-one, lines_of-cut}
-use Rattle.paxlog_run.proofs.entries.next_line.Goals as goal
+use Rattle.paxlog_run.proofs.entries.line_and_rest.Goals as goal
 
 pub returns-in-None : goal.returns-in-None
 returns-in-None c = (
