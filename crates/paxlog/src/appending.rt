@@ -6,15 +6,15 @@ use crate::reading::file_bytes;
 use crate::saying::say_size;
 use crate::stop::{Stop, StopAt, placed};
 use crate::store::Keeper;
-use crate::words::{Name, name_of};
+use crate::words::{Name, name_of_word};
 use ark_trees::digest_of_entry;
 use paxlog_run::entries::digests_of_lines;
 use paxlog_run::request::{Options, Word};
 use std::io::Read;
 
 /// Returns the bytes of the file that a word names, or of standard input.
-pub fn bytes_of(rt: &HostRuntime, words: &[Vec<u8>], file: Word) -> Result<Vec<u8>, StopAt> {
-    let name = name_of(words, file)?;
+pub fn bytes_of_file(rt: &HostRuntime, words: &[Vec<u8>], file: Word) -> Result<Vec<u8>, StopAt> {
+    let name = name_of_word(words, file)?;
     if name.text == "-" {
         let mut bytes = Vec::new(rt.alloc());
         return match rt.stdin().read_to_end(&mut bytes) {
@@ -26,7 +26,7 @@ pub fn bytes_of(rt: &HostRuntime, words: &[Vec<u8>], file: Word) -> Result<Vec<u
 }
 
 // Appends entries at once, and returns the new size.
-fn append(
+fn append_entries(
     rt: &HostRuntime,
     log: Name,
     options: &Options,
@@ -44,15 +44,15 @@ pub fn append_files(
     options: &Options,
     files: usize,
 ) -> Result<u8, StopAt> {
-    let log = name_of(words, log)?;
+    let log = name_of_word(words, log)?;
     for place in files..words.len() {
-        name_of(words, Word { place })?;
+        name_of_word(words, Word { place })?;
     }
     let mut digests = Vec::new(rt.alloc());
     for place in files..words.len() {
-        digests.push(digest_of_entry(&bytes_of(rt, words, Word { place })?))?;
+        digests.push(digest_of_entry(&bytes_of_file(rt, words, Word { place })?))?;
     }
-    say_size(rt, append(rt, log, options, &digests)?)
+    say_size(rt, append_entries(rt, log, options, &digests)?)
 }
 
 // Appends the lines of a file, so many at once, and writes each new size once it is on the disk.
@@ -88,15 +88,15 @@ pub fn append_lines(
     options: &Options,
     file: Word,
 ) -> Result<u8, StopAt> {
-    let (log, name) = (name_of(words, log)?, name_of(words, file)?);
+    let (log, name) = (name_of_word(words, log)?, name_of_word(words, file)?);
     if let Some(count) = options.batch {
         return append_batches(rt, log, options, name, count);
     }
     let mut progress = OnTerminal::new(rt);
-    let bytes = bytes_of(rt, words, file)?;
+    let bytes = bytes_of_file(rt, words, file)?;
     let digests = digests_of_lines(rt.alloc(), &bytes, &mut progress)?;
     progress.writes();
-    let appended = append(rt, log, options, &digests);
+    let appended = append_entries(rt, log, options, &digests);
     progress.end();
     say_size(rt, appended?)
 }

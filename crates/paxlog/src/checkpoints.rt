@@ -88,7 +88,7 @@ pub fn note_of(
 }
 
 /// Returns the checkpoint of the log of a file, signed by the key of another file.
-pub fn sign(
+pub fn sign_log(
     rt: &HostRuntime,
     log: Name,
     key_file: Name,

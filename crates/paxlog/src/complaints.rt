@@ -39,7 +39,7 @@ pub fn reason(fault: Fault) -> &'static str {
 }
 
 // The status of a fault.
-fn status(fault: Fault) -> u8 {
+fn exit_status(fault: Fault) -> u8 {
     match fault {
         Fault::HeadDamaged | Fault::Damaged | Fault::Short => DAMAGED,
         _ => REFUSED,
@@ -170,7 +170,7 @@ pub fn complain(rt: &HostRuntime, words: &[Vec<u8>], stop: StopAt) -> u8 {
             let why = reason(fault);
             begin(rt, words, place);
             let _ = eprintln!(rt; "{why}");
-            status(fault)
+            exit_status(fault)
         }
         Stop::Note(fault) => {
             let why = checkpoints::reason(fault);

@@ -45,7 +45,7 @@ fn of_open(name: String, why: Stop) -> TileFault {
 }
 
 /// The name of a tile below a folder.
-pub fn path_of(alloc: Global, folder: &str, tile: Tile) -> Result<String, TileFault> {
+pub fn path_of_tile(alloc: Global, folder: &str, tile: Tile) -> Result<String, TileFault> {
     let Ok(name) = tile_name(alloc, tile) else {
         return Err(TileFault::Memory);
     };
@@ -81,7 +81,7 @@ impl<'a> FolderTiles<'a> {
     // Opens the file of a tile; where there is none, that of the full tile at its place, which has its digests too.
     fn open(&self, tile: Tile) -> Result<TileFile, TileFault> {
         let alloc = self.rt.alloc();
-        let name = path_of(alloc, self.folder, tile)?;
+        let name = path_of_tile(alloc, self.folder, tile)?;
         match open_regular(self.rt, name.as_str()) {
             Ok(opened) => Ok(TileFile {
                 opened,
@@ -94,7 +94,7 @@ impl<'a> FolderTiles<'a> {
                     width: FULL,
                     ..tile
                 };
-                let whole = path_of(alloc, self.folder, full)?;
+                let whole = path_of_tile(alloc, self.folder, full)?;
                 match open_regular(self.rt, whole.as_str()) {
                     Ok(opened) => Ok(TileFile {
                         opened,
@@ -111,7 +111,7 @@ impl<'a> FolderTiles<'a> {
 }
 
 // Reads digests of an open tile.
-fn read_digests(file: &File, from: usize, into: &mut [[u8; 32]]) -> io::Result<()> {
+fn read_tile_digests(file: &File, from: usize, into: &mut [[u8; 32]]) -> io::Result<()> {
     let mut bytes = [0; 8192];
     let count = into.len().min(FULL);
     file.read_exact_at(&mut bytes[..32 * count], from.saturating_mul(32) as u64)?;
@@ -138,7 +138,7 @@ impl<'a> Tiles for FolderTiles<'a> {
         if opened.length != width.saturating_mul(32) || !is_inside {
             return Err(TileFault::Length { name });
         }
-        match read_digests(&opened.file, from, into) {
+        match read_tile_digests(&opened.file, from, into) {
             Ok(()) => Ok(()),
             Err(error) => Err(TileFault::System { name, error }),
         }

@@ -23,7 +23,7 @@ use std::time::{SystemTime, UNIX_EPOCH};
 use std::{fs, io};
 
 /// Returns the name of a folder's checkpoint.
-pub fn checkpoint_in(rt: &HostRuntime, folder: &str) -> Result<String, Stop> {
+pub fn checkpoint_name(rt: &HostRuntime, folder: &str) -> Result<String, Stop> {
     Ok(format!(in rt.alloc(); "{folder}/{CHECKPOINT}")?)
 }
 
@@ -52,7 +52,7 @@ fn stated(
 }
 
 /// Returns what the note of a file states, where the key signed it; that the log had no entry, where there is no such file.
-pub fn stated_in(
+pub fn stated_by_note(
     rt: &HostRuntime,
     key: &Verifier,
     path: &str,
@@ -65,7 +65,7 @@ pub fn stated_in(
 }
 
 /// Returns the log of a checkpoint, in the tiles of a folder.
-pub fn log_in<'a>(
+pub fn log_in_folder<'a>(
     rt: &'a HostRuntime,
     folder: &'a str,
     head: &Head,
@@ -93,7 +93,7 @@ pub struct Published {
 
 /// Reads the checkpoint of a folder, which the key signed.
 pub fn read_checkpoint(rt: &HostRuntime, from: &Source) -> Result<Published, Stop> {
-    let path = checkpoint_in(rt, from.folder.text)?;
+    let path = checkpoint_name(rt, from.folder.text)?;
     let note = note_bytes(rt, path.as_str())?;
     let head = stated(rt, &from.key, &note, from.origin)?;
     Ok(Published { note, head })
@@ -108,9 +108,9 @@ pub struct Audited {
 
 /// Returns what the checkpoint of a folder states, where all its tiles are those of a log with that root, and the entries that it keeps
 /// are the log's.
-pub fn audit(rt: &HostRuntime, from: &Source) -> Result<Option<Audited>, Stop> {
+pub fn audit_folder(rt: &HostRuntime, from: &Source) -> Result<Option<Audited>, Stop> {
     let Published { note: _, head } = read_checkpoint(rt, from)?;
-    let disk = log_in(rt, from.folder.text, &head)?;
+    let disk = log_in_folder(rt, from.folder.text, &head)?;
     if !is_sound(&disk, &head)? {
         return Ok(None);
     }
@@ -133,7 +133,7 @@ fn sized(head: &Head) -> Result<usize, Stop>
 
 /// Keeps the entries of the log of a folder's checkpoint in the folder: the lines of a text, in their order. Returns what the checkpoint
 /// states.
-pub fn keep(rt: &HostRuntime, from: &Source, lines: &[u8]) -> Result<Head, Stop> {
+pub fn keep_in_folder(rt: &HostRuntime, from: &Source, lines: &[u8]) -> Result<Head, Stop> {
     let Published { note: _, head } = read_checkpoint(rt, from)?;
     let _lock = locked_folder(rt, from.folder.text)?;
     keep_entries(rt, from.folder.text, sized(&head)?, lines)?;
@@ -148,9 +148,9 @@ pub struct Proved {
 }
 
 /// Returns the inclusion proof of an index in the log of a folder's checkpoint, which is checked, and the checkpoint.
-pub fn prove(rt: &HostRuntime, from: &Source, index: usize) -> Result<Proved, Stop> {
+pub fn prove_in_folder(rt: &HostRuntime, from: &Source, index: usize) -> Result<Proved, Stop> {
     let Published { note, head } = read_checkpoint(rt, from)?;
-    let disk = log_in(rt, from.folder.text, &head)?;
+    let disk = log_in_folder(rt, from.folder.text, &head)?;
     let InclusionProof {
         size: _,
         root: _,
@@ -256,9 +256,9 @@ fn next_step(
     let folder = from.folder;
     let lock = placed(state.place, locked_state(rt, state.text, makes_first))?;
     let new = placed(folder.place, read_checkpoint(rt, from))?;
-    let old = stated_in(rt, &from.key, state.text, from.origin);
+    let old = stated_by_note(rt, &from.key, state.text, from.origin);
     let old = placed(state.place, old)?;
-    let disk = log_in(rt, folder.text, &new.head)?;
+    let disk = log_in_folder(rt, folder.text, &new.head)?;
     match continues(rt.alloc(), &disk, &old, &new.head) {
         Ok(()) => Ok(Step {
             _lock: lock,

@@ -19,17 +19,17 @@ mod usage;
 mod words;
 mod writing;
 
-use crate::appending::{append_files, append_lines, bytes_of};
+use crate::appending::{append_files, append_lines, bytes_of_file};
 use crate::checkpoints::verifier;
 use crate::complaints::complain;
 use crate::followers::Source;
-use crate::picture::{image_of, text_of};
+use crate::picture::{image_of, picture_text};
 use crate::saying::{
     say, say_audited, say_checkpoint, say_head, say_proof, say_receipt, say_root, say_verdict,
     tell_recovered,
 };
 use crate::stop::{StopAt, placed};
-use crate::words::{folder_name, name_of, origin_of, words};
+use crate::words::{folder_name, name_of_word, origin_of, words_behind_name};
 use log_checkpoints::write_receipt;
 use log_file::fault::Fault;
 use log_store::InclusionProof;
@@ -53,62 +53,73 @@ fn picture_of(
     if is_image {
         return image_of(rt.alloc(), proof.size, index, &proof.digest, &proof.path);
     }
-    text_of(rt.alloc(), proof.size, index, &proof.digest, &proof.path)
+    picture_text(rt.alloc(), proof.size, index, &proof.digest, &proof.path)
 }
 
 // The root of a log.
-fn root(rt: &HostRuntime, words: &[Vec<u8>], log: Word, size: Option<usize>) -> Result<u8, StopAt> {
-    let log = name_of(words, log)?;
-    let (size, root) = placed(log.place, store::root(rt, log.text, size))?;
+fn root_command(
+    rt: &HostRuntime,
+    words: &[Vec<u8>],
+    log: Word,
+    size: Option<usize>,
+) -> Result<u8, StopAt> {
+    let log = name_of_word(words, log)?;
+    let (size, root) = placed(log.place, store::root_of_file(rt, log.text, size))?;
     say_root(rt, size, &root)
 }
 
 // The inclusion proof of an entry.
-fn proof_of(
+fn proof_for_words(
     rt: &HostRuntime,
     words: &[Vec<u8>],
     log: Word,
     index: usize,
     size: Option<usize>,
 ) -> Result<InclusionProof, StopAt> {
-    let log = name_of(words, log)?;
-    placed(log.place, store::prove(rt, log.text, index, size))
+    let log = name_of_word(words, log)?;
+    placed(log.place, store::prove_in_file(rt, log.text, index, size))
 }
 
 // The consistency proof of two sizes.
-fn consistency(
+fn consistency_command(
     rt: &HostRuntime,
     words: &[Vec<u8>],
     log: Word,
     old_size: usize,
     size: Option<usize>,
 ) -> Result<u8, StopAt> {
-    let log = name_of(words, log)?;
-    let path = placed(log.place, store::consistency(rt, log.text, old_size, size))?;
+    let log = name_of_word(words, log)?;
+    let path = placed(
+        log.place,
+        store::consistency_of_file(rt, log.text, old_size, size),
+    )?;
     say(rt, &line_of(rt.alloc(), &path)?)
 }
 
 // Whether a file is that of a log.
-fn check(rt: &HostRuntime, words: &[Vec<u8>], log: Word) -> Result<u8, StopAt> {
-    let log = name_of(words, log)?;
-    let holds = placed(log.place, store::check(rt, log.text))?;
+fn check_command(rt: &HostRuntime, words: &[Vec<u8>], log: Word) -> Result<u8, StopAt> {
+    let log = name_of_word(words, log)?;
+    let holds = placed(log.place, store::check_file(rt, log.text))?;
     say_verdict(rt, holds)
 }
 
 // Says what of a file can be recovered, or makes a new one of it; writes its size and its root.
-fn recover(
+fn recover_command(
     rt: &HostRuntime,
     words: &[Vec<u8>],
     log: Word,
     new: Option<Word>,
 ) -> Result<u8, StopAt> {
-    let log = name_of(words, log)?;
+    let log = name_of_word(words, log)?;
     let (new, found) = match new {
         Some(new) => {
-            let new = name_of(words, new)?;
-            (Some(new), store::recover(rt, log, new)?)
+            let new = name_of_word(words, new)?;
+            (Some(new), store::recover_file(rt, log, new)?)
         }
-        None => (None, placed(log.place, store::recoverable(rt, log.text))?),
+        None => (
+            None,
+            placed(log.place, store::recoverable_of_file(rt, log.text))?,
+        ),
     };
     // before anything is told: memory may be refused
     let line = line_of_root(rt.alloc(), found.size, &found.root)?;
@@ -117,8 +128,8 @@ fn recover(
 }
 
 // Whether an entry is one of a log with a root, by its proof.
-fn verify(rt: &HostRuntime, words: &[Vec<u8>], shown: &Inclusion) -> Result<u8, StopAt> {
-    let entry = bytes_of(rt, words, shown.file)?;
+fn verify_command(rt: &HostRuntime, words: &[Vec<u8>], shown: &Inclusion) -> Result<u8, StopAt> {
+    let entry = bytes_of_file(rt, words, shown.file)?;
     let proof = bytes_at(words, shown.proof.place);
     let verdict = check_inclusion(
         rt.alloc(),
@@ -157,15 +168,23 @@ fn keygen(
     key_file: Word,
     is_witness: bool,
 ) -> Result<u8, StopAt> {
-    let (name, key_file) = (name_of(words, name)?, name_of(words, key_file)?);
+    let (name, key_file) = (name_of_word(words, name)?, name_of_word(words, key_file)?);
     say(rt, &checkpoints::keygen(rt, name, key_file, is_witness)?)
 }
 
 // The signed checkpoint of a log.
-fn checkpoint(rt: &HostRuntime, words: &[Vec<u8>], log: Word, keyed: &Keyed) -> Result<u8, StopAt> {
+fn checkpoint_command(
+    rt: &HostRuntime,
+    words: &[Vec<u8>],
+    log: Word,
+    keyed: &Keyed,
+) -> Result<u8, StopAt> {
     let origin = origin_of(words, keyed.origin)?;
-    let (log, key_file) = (name_of(words, log)?, name_of(words, keyed.key_file)?);
-    say(rt, &checkpoints::sign(rt, log, key_file, origin)?)
+    let (log, key_file) = (
+        name_of_word(words, log)?,
+        name_of_word(words, keyed.key_file)?,
+    );
+    say(rt, &checkpoints::sign_log(rt, log, key_file, origin)?)
 }
 
 // What the checkpoint of a file states, where a key signed it.
@@ -178,12 +197,12 @@ fn verify_checkpoint(
 ) -> Result<u8, StopAt> {
     let origin = origin_of(words, origin)?;
     let key = verifier(rt.alloc(), words, key)?;
-    let note = bytes_of(rt, words, file)?;
+    let note = bytes_of_file(rt, words, file)?;
     say_checkpoint(rt, checkpoints::opened(rt.alloc(), &key, &note, origin))
 }
 
 // What a receipt shows of an entry, where a key signed its checkpoint.
-fn verify_receipt(
+fn verify_receipt_command(
     rt: &HostRuntime,
     words: &[Vec<u8>],
     site: (Word, Option<Word>),
@@ -192,8 +211,8 @@ fn verify_receipt(
 ) -> Result<u8, StopAt> {
     let origin = origin_of(words, site.1)?;
     let key = verifier(rt.alloc(), words, site.0)?;
-    let entry = bytes_of(rt, words, file)?;
-    let receipt = bytes_of(rt, words, receipt)?;
+    let entry = bytes_of_file(rt, words, file)?;
+    let receipt = bytes_of_file(rt, words, receipt)?;
     say_receipt(
         rt,
         checkpoints::shown(rt.alloc(), &key, &receipt, &entry, origin),
@@ -209,8 +228,8 @@ fn tiles(
     keyed: &Keyed,
 ) -> Result<u8, StopAt> {
     let origin = origin_of(words, keyed.origin)?;
-    let (log, folder) = (name_of(words, log)?, folder_name(words, folder)?);
-    let key_file = name_of(words, keyed.key_file)?;
+    let (log, folder) = (name_of_word(words, log)?, folder_name(words, folder)?);
+    let key_file = name_of_word(words, keyed.key_file)?;
     say_head(rt, &publishing::publish(rt, log, folder, key_file, origin)?)
 }
 
@@ -231,19 +250,24 @@ fn source_of<'a>(
 }
 
 // Whether the tiles of a folder are those of its checkpoint.
-fn audit(rt: &HostRuntime, words: &[Vec<u8>], site: &Site) -> Result<u8, StopAt> {
+fn audit_command(rt: &HostRuntime, words: &[Vec<u8>], site: &Site) -> Result<u8, StopAt> {
     let from = source_of(rt, words, site)?;
-    match placed(from.folder.place, followers::audit(rt, &from))? {
+    match placed(from.folder.place, followers::audit_folder(rt, &from))? {
         Some(found) => say_audited(rt, words, from.folder, &found),
         None => say_verdict(rt, false),
     }
 }
 
 // Keeps the entries of a log in a folder.
-fn keep(rt: &HostRuntime, words: &[Vec<u8>], site: &Site, file: Word) -> Result<u8, StopAt> {
+fn keep_command(
+    rt: &HostRuntime,
+    words: &[Vec<u8>],
+    site: &Site,
+    file: Word,
+) -> Result<u8, StopAt> {
     let from = source_of(rt, words, site)?;
-    let lines = bytes_of(rt, words, file)?;
-    let kept = followers::keep(rt, &from, &lines);
+    let lines = bytes_of_file(rt, words, file)?;
+    let kept = followers::keep_in_folder(rt, &from, &lines);
     say_head(rt, &placed(from.folder.place, kept)?)
 }
 
@@ -264,7 +288,7 @@ fn witness(
 ) -> Result<u8, StopAt> {
     let from = source_of(rt, words, site)?;
     let state = folder_name(words, state)?;
-    let key_file = name_of(words, key_file)?;
+    let key_file = name_of_word(words, key_file)?;
     say(rt, &followers::witness(rt, &from, state, key_file)?)
 }
 
@@ -277,7 +301,10 @@ fn tile_proof(
     is_receipt: bool,
 ) -> Result<u8, StopAt> {
     let from = source_of(rt, words, site)?;
-    let proof = placed(from.folder.place, followers::prove(rt, &from, index))?;
+    let proof = placed(
+        from.folder.place,
+        followers::prove_in_folder(rt, &from, index),
+    )?;
     let line = if is_receipt {
         write_receipt(rt.alloc(), index, &proof.path, &proof.note)?
     } else {
@@ -298,7 +325,7 @@ fn help(rt: &HostRuntime, words: &[Vec<u8>], command: Option<Word>) -> Result<u8
 }
 
 // Does what is asked for, and returns the status.
-fn answer(rt: &HostRuntime, request: Request, words: &[Vec<u8>]) -> Result<u8, StopAt> {
+fn carry_out(rt: &HostRuntime, request: Request, words: &[Vec<u8>]) -> Result<u8, StopAt> {
     match request {
         Request::Append {
             log,
@@ -306,9 +333,9 @@ fn answer(rt: &HostRuntime, request: Request, words: &[Vec<u8>]) -> Result<u8, S
             files,
         } => append_files(rt, words, log, &options, files),
         Request::AppendLines { log, options, file } => append_lines(rt, words, log, &options, file),
-        Request::Root { log, size } => root(rt, words, log, size),
+        Request::Root { log, size } => root_command(rt, words, log, size),
         Request::Prove { log, index, size } => {
-            let proof = proof_of(rt, words, log, index, size)?;
+            let proof = proof_for_words(rt, words, log, index, size)?;
             say(rt, &line_of(rt.alloc(), &proof.path)?)
         }
         Request::Show {
@@ -317,30 +344,30 @@ fn answer(rt: &HostRuntime, request: Request, words: &[Vec<u8>]) -> Result<u8, S
             size,
             is_image,
         } => {
-            let proof = proof_of(rt, words, log, index, size)?;
+            let proof = proof_for_words(rt, words, log, index, size)?;
             say(rt, &picture_of(rt, index, &proof, is_image)?)
         }
         Request::Consistency {
             log,
             old_size,
             size,
-        } => consistency(rt, words, log, old_size, size),
-        Request::Check { log } => check(rt, words, log),
-        Request::Recover { log, new } => recover(rt, words, log, new),
-        Request::Verify(shown) => verify(rt, words, &shown),
+        } => consistency_command(rt, words, log, old_size, size),
+        Request::Check { log } => check_command(rt, words, log),
+        Request::Recover { log, new } => recover_command(rt, words, log, new),
+        Request::Verify(shown) => verify_command(rt, words, &shown),
         Request::VerifyConsistency(shown) => verify_continuation(rt, words, &shown),
         Request::Keygen {
             name,
             key_file,
             is_witness,
         } => keygen(rt, words, name, key_file, is_witness),
-        Request::Checkpoint { log, keyed } => checkpoint(rt, words, log, &keyed),
+        Request::Checkpoint { log, keyed } => checkpoint_command(rt, words, log, &keyed),
         Request::VerifyCheckpoint { key, file, origin } => {
             verify_checkpoint(rt, words, key, file, origin)
         }
         Request::Tiles { log, folder, keyed } => tiles(rt, words, log, folder, &keyed),
-        Request::Audit { site } => audit(rt, words, &site),
-        Request::Keep { site, file } => keep(rt, words, &site, file),
+        Request::Audit { site } => audit_command(rt, words, &site),
+        Request::Keep { site, file } => keep_command(rt, words, &site, file),
         Request::Follow { site, state } => follow(rt, words, &site, state),
         Request::TileProof {
             site,
@@ -352,7 +379,7 @@ fn answer(rt: &HostRuntime, request: Request, words: &[Vec<u8>]) -> Result<u8, S
             file,
             receipt,
             origin,
-        } => verify_receipt(rt, words, (key, origin), file, receipt),
+        } => verify_receipt_command(rt, words, (key, origin), file, receipt),
         Request::Witness {
             site,
             state,
@@ -363,9 +390,9 @@ fn answer(rt: &HostRuntime, request: Request, words: &[Vec<u8>]) -> Result<u8, S
     }
 }
 
-fn start(rt: &HostRuntime, words: &[Vec<u8>]) -> Result<u8, StopAt> {
+fn run_words(rt: &HostRuntime, words: &[Vec<u8>]) -> Result<u8, StopAt> {
     match request_of_words(words) {
-        Ok(request) => answer(rt, request, words),
+        Ok(request) => carry_out(rt, request, words),
         Err(misuse) => Err(StopAt::from(misuse)),
     }
 }
@@ -375,7 +402,7 @@ fn main(rt: HostRuntime) -> ExitCode {
         Ok(words) => words,
         Err(why) => return ExitCode::from(complain(&rt, &[], StopAt::from(why))),
     };
-    match start(&rt, &words) {
+    match run_words(&rt, &words) {
         Ok(status) => ExitCode::from(status),
         Err(why) => ExitCode::from(complain(&rt, &words, why)),
     }

@@ -121,7 +121,7 @@ fn nodes_of(
 
 /// Returns a picture as text, a line a digest: the root first, each level below the one above it. A digest on the way has a star,
 /// one of the proof a plus; then come the entries that it is of, from the first one up to the one behind the last.
-pub fn text_of(
+pub fn picture_text(
     alloc: Global,
     size: usize,
     index: usize,

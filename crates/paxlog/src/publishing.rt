@@ -5,8 +5,8 @@ ghost use Rattle.log_file.specs.LogFile.{file_end};
 
 use crate::checkpoints::{note_of, signed_by};
 use crate::file_disk::FileDisk;
-use crate::folders::{TileFault, path_of};
-use crate::followers::{checkpoint_in, log_in, nothing, stated_in};
+use crate::folders::{TileFault, path_of_tile};
+use crate::followers::{checkpoint_name, log_in_folder, nothing, stated_by_note};
 use crate::reading::{file_bytes, is_there};
 use crate::stop::{Stop, StopAt, placed};
 use crate::store::{folder_of, root_of_first, sync_folder_of, unchanged};
@@ -27,14 +27,14 @@ const IN_FOLDER: usize = 1000;
 
 // The name of a tile below a folder.
 fn tile_path(rt: &HostRuntime, folder: &str, tile: Tile) -> Result<String, Stop> {
-    match path_of(rt.alloc(), folder, tile) {
+    match path_of_tile(rt.alloc(), folder, tile) {
         Ok(path) => Ok(path),
         Err(_) => Err(Stop::Fault(Fault::Memory)),
     }
 }
 
 // The bytes of digests, one behind the other.
-fn bytes_of(alloc: Global, digests: &[[u8; 32]]) -> Result<Vec<u8>, Stop> {
+fn bytes_of_digests(alloc: Global, digests: &[[u8; 32]]) -> Result<Vec<u8>, Stop> {
     let mut bytes = Vec::new(alloc);
     for digest in digests {
         bytes.extend_from_slice(digest)?;
@@ -62,7 +62,7 @@ fn write_tile(
     write_whole(
         rt,
         path,
-        &bytes_of(rt.alloc(), &digests[..tile.width.min(FULL)])?,
+        &bytes_of_digests(rt.alloc(), &digests[..tile.width.min(FULL)])?,
     )
 }
 
@@ -163,7 +163,7 @@ fn lead_to_root(
     head: &Head,
     written: &[Tile],
 ) -> Result<bool, Stop> {
-    let disk = log_in(rt, folder, head)?;
+    let disk = log_in_folder(rt, folder, head)?;
     match continues(rt.alloc(), &disk, &nothing(), head) {
         Ok(()) => (),
         Err(Unfollowed::Stopped(log_store::Stop::Fault(Fault::Damaged))) => return Ok(false),
@@ -213,8 +213,8 @@ pub fn publish(
     }
     // what the checkpoint says is read once no other process writes another
     let _lock = placed(folder.place, locked_folder(rt, folder.text))?;
-    let checkpoint = checkpoint_in(rt, folder.text)?;
-    let stated = stated_in(rt, &signer.verifier(), checkpoint.as_str(), origin);
+    let checkpoint = checkpoint_name(rt, folder.text)?;
+    let stated = stated_by_note(rt, &signer.verifier(), checkpoint.as_str(), origin);
     let old = placed(folder.place, stated)?;
     if old.size > size {
         return Err(Stop::Shrunk.at(log.place));

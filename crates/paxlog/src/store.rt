@@ -36,7 +36,7 @@ pub fn sync_folder_of(rt: &HostRuntime, path: &str) -> Result<(), Stop> {
 
 // Writes the head of no entries to a file that has no byte, or no more than a part of that head, and syncs. The folder is synced
 // too as long as the log has no entry: whoever made the file may have ended before its name was on the disk.
-fn make(rt: &HostRuntime, path: &str, disk: &mut FileDisk) -> Result<(), Stop> {
+fn make_file(rt: &HostRuntime, path: &str, disk: &mut FileDisk) -> Result<(), Stop> {
     let has_entries = disk.length()? > START;
     log_store::make(disk)?;
     if !has_entries {
@@ -46,7 +46,7 @@ fn make(rt: &HostRuntime, path: &str, disk: &mut FileDisk) -> Result<(), Stop> {
 }
 
 // Whether a path names an open file. One that was moved or removed meanwhile has another file, or none, under its name.
-fn is_named(rt: &HostRuntime, path: &str, file: &File) -> Result<bool, Stop> {
+fn has_that_name(rt: &HostRuntime, path: &str, file: &File) -> Result<bool, Stop> {
     let own = file.metadata()?;
     match fs::metadata(rt, path) {
         Ok(named) => Ok(named.dev() == own.dev() && named.ino() == own.ino()),
@@ -89,7 +89,7 @@ fn locked(rt: &HostRuntime, path: &str, options: &Options) -> Result<File, Stop>
             .create(options.after.is_none())
             .open(rt, path)?;
         lock(rt, &file, options.wait)?;
-        if is_named(rt, path, &file)? {
+        if has_that_name(rt, path, &file)? {
             return Ok(file);
         }
     }
@@ -109,7 +109,7 @@ impl<'a> Keeper<'a> {
     pub fn open(rt: &HostRuntime, path: &'a str, options: &Options) -> Result<Keeper<'a>, Stop> {
         let mut disk = FileDisk::new(locked(rt, path, options)?);
         if options.after.is_none() {
-            make(rt, path, &mut disk)?;
+            make_file(rt, path, &mut disk)?;
         } else {
             disk.sync()?;
         }
@@ -122,7 +122,7 @@ impl<'a> Keeper<'a> {
 
     // Refuses a file that no longer has its name: what is appended to it is not in the log that the name has.
     fn keep_name(&self, rt: &HostRuntime) -> Result<(), Stop> {
-        if is_named(rt, self.path, &self.disk.file)? {
+        if has_that_name(rt, self.path, &self.disk.file)? {
             Ok(())
         } else {
             Err(Stop::Replaced)
@@ -188,7 +188,11 @@ fn bind(
 }
 
 /// Returns the count and the root of the first entries of the log of a file, of as many as are named, or else of all.
-pub fn root(rt: &HostRuntime, path: &str, named: Option<usize>) -> Result<(usize, [u8; 32]), Stop> {
+pub fn root_of_file(
+    rt: &HostRuntime,
+    path: &str,
+    named: Option<usize>,
+) -> Result<(usize, [u8; 32]), Stop> {
     let disk = FileDisk::new(File::open(rt, path)?);
     match named {
         Some(size) if size > 0 => Ok((size, root_of_first(rt, &disk, size)?)),
@@ -197,7 +201,7 @@ pub fn root(rt: &HostRuntime, path: &str, named: Option<usize>) -> Result<(usize
 }
 
 /// Returns the inclusion proof of an index in the first entries of the log of a file, as many as are named, or else all.
-pub fn prove(
+pub fn prove_in_file(
     rt: &HostRuntime,
     path: &str,
     index: usize,
@@ -211,7 +215,7 @@ pub fn prove(
 
 /// Returns the path of the proof that the first entries of the log of a file, as many as are named, or else all, continue its
 /// first `old_size` ones.
-pub fn consistency(
+pub fn consistency_of_file(
     rt: &HostRuntime,
     path: &str,
     old_size: usize,
@@ -224,7 +228,7 @@ pub fn consistency(
 }
 
 /// Returns whether a file is that of a log.
-pub fn check(rt: &HostRuntime, path: &str) -> Result<bool, Stop> {
+pub fn check_file(rt: &HostRuntime, path: &str) -> Result<bool, Stop> {
     let disk = FileDisk::new(File::open(rt, path)?);
     Ok(log_store::check(&disk)?)
 }
@@ -234,7 +238,7 @@ pub fn unchanged(rt: &HostRuntime, path: &str) -> Result<FileDisk, Stop> {
     for _turn in 0..TURNS {
         let file = File::open(rt, path)?;
         file.try_lock_shared()?;
-        if is_named(rt, path, &file)? {
+        if has_that_name(rt, path, &file)? {
             return Ok(FileDisk::new(file));
         }
     }
@@ -242,7 +246,7 @@ pub fn unchanged(rt: &HostRuntime, path: &str) -> Result<FileDisk, Stop> {
 }
 
 /// Returns what of a file can be recovered.
-pub fn recoverable(rt: &HostRuntime, path: &str) -> Result<Recovered, Stop> {
+pub fn recoverable_of_file(rt: &HostRuntime, path: &str) -> Result<Recovered, Stop> {
     let disk = unchanged(rt, path)?;
     Ok(log_store::recoverable(&disk)?)
 }
@@ -273,7 +277,7 @@ pub fn created_secret(rt: &HostRuntime, path: &str, bytes: &[u8]) -> Result<(), 
 
 /// Makes a new file of what of a file can be recovered, and returns once it is on the disk. The error has the place of the file that
 /// it speaks of.
-pub fn recover(rt: &HostRuntime, log: Name, new: Name) -> Result<Recovered, StopAt> {
+pub fn recover_file(rt: &HostRuntime, log: Name, new: Name) -> Result<Recovered, StopAt> {
     let disk = placed(log.place, unchanged(rt, log.text))?;
     // a file that is no log is told before a new one is made
     if let Err(why) = log_store::recoverable(&disk) {

@@ -9,7 +9,7 @@ use std::env::{Env, FillError};
 const LONGEST: usize = 8192;
 
 /// Copies the words behind the command's name. The error is a lack of memory, or `LongWord` for one of more than 8,192 bytes.
-pub fn words<E: Env>(alloc: Global, env: &E) -> Result<Vec<Vec<u8>>, Stop> {
+pub fn words_behind_name<E: Env>(alloc: Global, env: &E) -> Result<Vec<Vec<u8>>, Stop> {
     let mut words = Vec::new(alloc);
     let mut room = Vec::new(alloc);
     room.resize(LONGEST, 0u8)?;
@@ -31,7 +31,7 @@ pub struct Name<'a> {
 }
 
 /// Returns the name that a word is. The error is `NotText`.
-pub fn name_of(words: &[Vec<u8>], word: Word) -> Result<Name<'_>, StopAt> {
+pub fn name_of_word(words: &[Vec<u8>], word: Word) -> Result<Name<'_>, StopAt> {
     let place = word.place;
     match str::from_utf8(bytes_at(words, place)) {
         Ok(text) => Ok(Name { text, place }),
@@ -42,7 +42,7 @@ pub fn name_of(words: &[Vec<u8>], word: Word) -> Result<Name<'_>, StopAt> {
 /// Returns the name of a folder or of a state that a word is: names are put behind it, and an empty one would make them those of the
 /// root's. The error is `NotText`, or `Empty`.
 pub fn folder_name(words: &[Vec<u8>], word: Word) -> Result<Name<'_>, StopAt> {
-    let name = name_of(words, word)?;
+    let name = name_of_word(words, word)?;
     if name.text.is_empty() {
         return Err(Stop::Empty.at(name.place));
     }
@@ -52,7 +52,7 @@ pub fn folder_name(words: &[Vec<u8>], word: Word) -> Result<Name<'_>, StopAt> {
 /// Returns the origin that is named, where one is. The error is `NotText`.
 pub fn origin_of(words: &[Vec<u8>], origin: Option<Word>) -> Result<Option<&str>, StopAt> {
     match origin {
-        Some(word) => Ok(Some(name_of(words, word)?.text)),
+        Some(word) => Ok(Some(name_of_word(words, word)?.text)),
         None => Ok(None),
     }
 }
