@@ -9,14 +9,14 @@ use Rattle.ark_paths.specs.Pair.{Digest, Hashes}
 use Rattle.ark_paths.specs.Path.{Way}
 use Rattle.ark_paths.specs.Received.{ShowsLeaf, ShowsLeaves, StandInTurn, received_multi_verdict, received_verdict}
 use Rattle.ark_paths.specs.Index.{is_tree_size}
-use Rattle.paxidore_c.specs.Answer.{Gives, all_shown, done_code, leaves_for, refusal_code, refused_of, refusing, results_of, shown, verdict_code}
+use Rattle.paxidore_c.specs.Answer.{GivesCode, all_shown, done_code, leaves_for, refusal_code, refused_of, refusing, results_of, shown, verdict_code}
 use Rattle.paxidore_c.proofs.Answering.{refusal-no, zero-says}
 use Rattle.paxidore_c.specs.Hashing.{Hashing, hashes_by, hashes_of, read_path, read_multi_path}
 use Rattle.paxidore_c.specs.declared.refused.Refused.{Refused}
 use Rattle.paxidore_c.specs.declared.refused.Refused.TheVariants.{Memory, Truncated, Invalid, Height, Size, Lengths, Count, Index, Room, Hidden, Other}
 
 -- a call that answers 0 in 32 bits answers 0
-pub done-zero : {A : Type 0} (outcome : Result A Refused) (code : ℤ) → Gives (done_code outcome) code → to_z w32
+pub done-zero : {A : Type 0} (outcome : Result A Refused) (code : ℤ) → GivesCode (done_code outcome) code → to_z w32
     (of_z w32 code) ≡ pos 0 → code ≡ pos 0
 done-zero (Ok value) code (inl is) zero = is
 done-zero (Ok value) code (inr is) zero = absurd (refusal-no Memory (rw is at zero))
@@ -44,7 +44,8 @@ results-same (Ok xs) = ap Ok (map-id xs)
 results-same (Err refused) = refl
 
 -- what an outcome gives, where the call answers it or memory was refused
-pub answers-give : (outcome result : Outcome Bool) → Answers outcome result → Gives (verdict_code (refusing outcome))
+pub answers-give : (outcome result : Outcome Bool) → Answers outcome result
+    → GivesCode (verdict_code (refusing outcome))
     (verdict_code (refusing result))
 answers-give outcome (Ok accepted) is = inl (ap (λ o. verdict_code (refusing o)) (sym is))
 answers-give outcome (Err e) (inl memory) = inr (ap (λ e. refusal_code (refused_of e)) memory)
@@ -69,12 +70,13 @@ module _ (h : Hashing) {A : Type 0} (bytes_of : A → List ℕ) (hashes : Hashes
   pub shown-gives : (index : ℕ) (path : List ℕ) (held : A) (leaf : List ℕ) → bytes_of held ≡ leaf
       → is_tree_size size ≡ true → (result : Outcome Bool)
       → Answers (received_verdict hashes root size index held (read_path path)) result
-      → (code : ℤ) → code ≡ verdict_code (refusing result) → Gives (verdict_code (shown h root size index leaf path))
+      → (code : ℤ) → code ≡ verdict_code (refusing result) → GivesCode
+      (verdict_code (shown h root size index leaf path))
       (to_z w32 (of_z w32 code))
   shown-gives index path held leaf same sized result answers code is =
       let P : Hashes A → Type 0 = λ hs. Answers (received_verdict hs root size index held (read_path path)) result in
       let Q : List ℕ → Type 0 =
-      λ l. Gives (verdict_code (shown h root size index l path)) (to_z w32 (of_z w32 code)) in
+      λ l. GivesCode (verdict_code (shown h root size index l path)) (to_z w32 (of_z w32 code)) in
       let known : shown h root size index (bytes_of held) path ≡ refusing (received_verdict (hashes_by bytes_of h) root
       size index held (read_path path)) = rw sized refl in
       subst Q same (rw (known, is, verdict-fits (refusing result)) (answers-give (received_verdict
@@ -120,7 +122,8 @@ module _ (h : Hashing) {A : Type 0} (bytes_of : A → List ℕ) (hashes : Hashes
 
     pub all-shown-gives : (result : Outcome Bool) → Answers (received_multi_verdict hashes root size indexes held
         (read_multi_path proof)) result
-        → (code : ℤ) → code ≡ verdict_code (refusing result) → Gives (verdict_code (all_shown h root size indexes bytes
+        → (code : ℤ) → code ≡ verdict_code (refusing result) → GivesCode
+        (verdict_code (all_shown h root size indexes bytes
         lengths proof)) (to_z w32 (of_z w32 code))
     all-shown-gives result answers code is =
         let P : Hashes A → Type 0 =
@@ -135,7 +138,7 @@ module _ (h : Hashing) {A : Type 0} (bytes_of : A → List ℕ) (hashes : Hashes
 pub none-shown-gives : (h : Hashing) (root : Digest) (size : ℕ) (indexes bytes lengths proof : List ℕ)
     (refused : Refused) → (refused ≡ Memory) ⊎ (results_of (λ leaf. leaf) (leaves_for size (length indexes) bytes
     lengths) ≡ Err refused)
-    → (code : ℤ) → code ≡ refusal_code refused → Gives (verdict_code (all_shown h root size indexes bytes lengths
+    → (code : ℤ) → code ≡ refusal_code refused → GivesCode (verdict_code (all_shown h root size indexes bytes lengths
     proof)) (to_z w32 (of_z w32 code))
 none-shown-gives h root size indexes bytes lengths proof refused (inl memory) code is =
     inr (rw (is, verdict-fits (Err refused), memory) refl)

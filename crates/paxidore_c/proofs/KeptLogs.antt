@@ -9,14 +9,15 @@ use Rattle.ark_trees.specs.Rfc6962.{entry_hash}
 use Rattle.merkle_log.specs.Kept.{has_front}
 use Rattle.merkle_log.specs.Stored.{stored_count}
 use Rattle.merkle_log.proofs.Positions.{count-rises}
-use Rattle.paxidore_c.specs.Answer.{GivesBy, leaves_in, results_of}
+use Rattle.paxidore_c.specs.Answer.{CallGivesBy, leaves_in, results_of}
 use Rattle.paxidore_c.specs.Cut.{parts_by}
 use Rattle.paxidore_c.specs.KeptLog.{appended, if_inside, more_count, takes}
 use Rattle.paxidore_c.specs.declared.refused.Refused.{Refused}
 
 pub given-inside : {A : Type 0} (view : A → List ℕ) (size index : ℕ) (kept : List Digest) (bytes : List ℕ)
-    (result : Result A Refused) → has_front size (length kept) ≡ true → index < size → GivesBy view (Ok bytes) result
-    → GivesBy view (if_inside size index kept (Ok bytes)) result
+    (result : Result A Refused) → has_front size (length kept) ≡ true → index < size
+    → CallGivesBy view (Ok bytes) result
+    → CallGivesBy view (if_inside size index kept (Ok bytes)) result
 given-inside view size index kept bytes result stands below given = rw (stands, lt-ltb index size below) given
 
 -- ---- growth

@@ -14,7 +14,7 @@ use Rattle.ark_paths.specs.Root.{place}
 use Rattle.ark_paths.specs.Tree.{halves_beside, path_in, root_digest}
 use Rattle.ark_paths.proofs.Logs.{log2-pow}
 use Rattle.ark_paths.proofs.PlaceLemmas.{neighbour-inside}
-use Rattle.paxidore_c.specs.Answer.{Gives, Hands, only_if, path_of_leaves, refusal_code, tree_leaves_in, written_code}
+use Rattle.paxidore_c.specs.Answer.{GivesCode, Hands, only_if, path_of_leaves, refusal_code, tree_leaves_in, written_code}
 use Rattle.paxidore_c.specs.Hashing.{Hashing, bytes_of_path, node_pair, tree_over}
 use Rattle.paxidore_c.specs.declared.refused.Refused.{Refused}
 use Rattle.paxidore_c.specs.declared.refused.Refused.TheVariants.{Index, Memory, Room}
@@ -118,7 +118,7 @@ module _ (h : Hashing) (leaf-long : (leaf : List ℕ) → length (h.leaf_hash le
       by_room false is = is
 
       by_outcome : (outcome : Result (List ℕ) Refused) → IfOk outcome (λ bytes. length bytes ≡ path_bytes
-          (length lengths)) → Gives (written_code outcome (length before)) code
+          (length lengths)) → GivesCode (written_code outcome (length before)) code
           → (code ≡ pos 0 → IfOk outcome (λ bytes. count_after ≡ length bytes))
           → count_after ≡ path_bytes (length lengths)
       by_outcome (Ok bytes) long (inl is) counted =

@@ -11,7 +11,7 @@ use Rattle.merkle_map.specs.Sha256.{sha256_map}
 use Rattle.merkle_map.specs.Transition.{ChangeSeen, LeadsOn, LeadsTo}
 use Rattle.merkle_map.specs.Tree.{Shape, shape_digest}
 use Rattle.merkle_map.proofs.ProofReading.{reads-proof-back}
-use Rattle.paxidore_c.specs.Answer.{GivesBy}
+use Rattle.paxidore_c.specs.Answer.{CallGivesBy}
 use Rattle.paxidore_c.specs.Maps.{refusing_map, IsProvedBy}
 use Rattle.paxidore_c.specs.declared.refused.Refused.{Refused}
 
@@ -47,7 +47,7 @@ proved-bytes items key given tree proof (Ok bytes) is accepts written sized =
 
 -- what is said of the bytes that a call gives is said of the outcome
 pub given-said : {W : Type 0} (items : W → List ℕ) (outcome : Outcome (List ℕ)) (P : List ℕ → Type 0)
-    (result : Result W Refused) → GivesBy items (refusing_map outcome) result
+    (result : Result W Refused) → CallGivesBy items (refusing_map outcome) result
     → IfOk result (λ value. P (items value)) → IfOk result (λ value. IfOk outcome P)
 given-said items (Ok bytes) P (Ok value) is said =
     let same : bytes ≡ items value = cc in subst P (sym same) said

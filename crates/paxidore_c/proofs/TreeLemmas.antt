@@ -21,7 +21,7 @@ use Rattle.ark_paths.specs.Pair.{Digest, HashPair, Hashes}
 use Rattle.ark_paths.specs.Root.{Root, place, root, upper_levels}
 use Rattle.ark_paths.specs.Tree.{HashedTree, own_path, path_in, root_in, tree_above, tree_with}
 use Rattle.paxidore_c.proofs.Parts.{leaves-fit}
-use Rattle.paxidore_c.specs.Answer.{GivesBy, are_indexes, leaves_in, multi_path_of_leaves, only_if, path_of_leaves, refused_of, results_of, tree_leaves_in}
+use Rattle.paxidore_c.specs.Answer.{CallGivesBy, are_indexes, leaves_in, multi_path_of_leaves, only_if, path_of_leaves, refused_of, results_of, tree_leaves_in}
 use Rattle.paxidore_c.specs.Cut.{parts_by}
 use Rattle.ark_trees.proofs.TreeHashes.{root-entries}
 use Rattle.ark_trees.specs.Rfc6962.{tree_hash_of_entries}
@@ -59,7 +59,7 @@ module _ (h : Hashing) where
     -- so that memory alone is refused
     pub tree-memory : {B C : Type 0} (digests : List Digest) (view : B → C) (outcome : Result C Refused)
         (result : Result B Refused) (e : Error) → IsErrAnd result (λ refused. refused ≡ refused_of e)
-        → (e ≡ OutOfMemory) ⊎ (tree_above hashes digests ≡ Err e) → GivesBy view outcome result
+        → (e ≡ OutOfMemory) ⊎ (tree_above hashes digests ≡ Err e) → CallGivesBy view outcome result
     tree-memory digests view outcome result e is (inl memory) = let p =
         err_from_is_err_and result is in rw (p.1, p.2, memory) (inl refl)
     tree-memory digests view outcome result e is (inr refused) = let never =

@@ -8,7 +8,7 @@ use Rattle.ark_base.specs.Digits.{itself}
 use Rattle.ark_base.specs.Outcome.{Outcome, ◌>>=◌}
 use Rattle.ark_paths.specs.Pair.{Digest}
 use Rattle.paxidore_c.proofs.Codes.{verdict-fits}
-use Rattle.paxidore_c.specs.Answer.{Gives, GivesBy, refusal_code, refused_of, refusing, verdict_code}
+use Rattle.paxidore_c.specs.Answer.{GivesCode, CallGivesBy, refusal_code, refused_of, refusing, verdict_code}
 use Rattle.paxidore_c.specs.KeptLog.{bytes_of_digests}
 use Rattle.paxidore_c.specs.PoseidonLog.{if_two}
 use Rattle.paxidore_c.specs.declared.refused.Refused.{Refused}
@@ -54,18 +54,18 @@ library-refused outcome error refused (inr same) is = inr (ap refusing same ∙ 
 
 -- the code of a check that is refused
 pub refused-shown : (given : Result Bool Refused) (refused : Refused) (code : ℤ) → Refuses given refused
-    → code ≡ refusal_code refused → Gives (verdict_code given) (to_z w32 (of_z w32 code))
+    → code ≡ refusal_code refused → GivesCode (verdict_code given) (to_z w32 (of_z w32 code))
 refused-shown given refused code (inl memory) is = inr (rw (is, verdict-fits (Err refused), memory) refl)
 refused-shown given refused code (inr same) is = inl (rw (is, verdict-fits (Err refused), same) refl)
 
 pub two-gives : {A B : Type 0} (view : A → B) (inputs : ℕ) (given : Result B Refused) (result : Result A Refused)
-    → inputs ≡ 2 → GivesBy view given result → GivesBy view (if_two inputs given) result
+    → inputs ≡ 2 → CallGivesBy view given result → CallGivesBy view (if_two inputs given) result
 two-gives view inputs given result two gives = rw (eq-eqb inputs 2 two) gives
 
 -- the bytes of digests, which the library has or refuses
 pub bytes-given : {A : Type 0} (outcome : Outcome (List Digest)) (digests : List Digest) → outcome ≡ Ok digests
-    → (view : A → List ℕ) (result : Result A Refused) → GivesBy view (Ok (flat_map itself digests)) result
-    → GivesBy view (bytes_of_digests outcome) result
+    → (view : A → List ℕ) (result : Result A Refused) → CallGivesBy view (Ok (flat_map itself digests)) result
+    → CallGivesBy view (bytes_of_digests outcome) result
 bytes-given outcome digests is view result gives = rw is gives
 
 pub digests-refused : (outcome : Outcome (List Digest)) (error : Error) (refused : Refused)

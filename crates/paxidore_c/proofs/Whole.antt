@@ -8,10 +8,10 @@ use Rattle.ark_base.specs.declared.error.Error.TheVariants.{OutOfMemory}
 use Rattle.ark_base.specs.Digits.{flag_at}
 use Rattle.ark_base.specs.Reading.{Reading, reading_outcome}
 use Rattle.ark_base.specs.Spelling.{both_at, items_at, word_at}
-use Rattle.paxidore_c.specs.Answer.{GivesBy, refused_of}
+use Rattle.paxidore_c.specs.Answer.{CallGivesBy, refused_of}
 use Rattle.paxidore_c.specs.declared.refused.Refused.{Refused}
 use Rattle.paxidore_c.specs.declared.refused.Refused.TheVariants.{Invalid, Memory}
-use Rattle.paxidore_c.specs.Transcript.{FieldSize, element_at, element_length, elements_in, mode_of, none_behind, state_in, whole_of}
+use Rattle.paxidore_c.specs.Transcript.{FieldSize, field_element_at, element_length, elements_filling, mode_of, none_behind, state_in, whole_of}
 
 none-more : {V : Type 0} (v : V) (rest : List ℕ) → 0 < length rest → none_behind (v, rest) ≡ Err Invalid
 none-more v [] some = absurd (omega (arith, some))
@@ -35,7 +35,7 @@ whole-alone reading v rest e none = rw e (none-none v rest none)
 -- An error that is passed on gives the outcome, where the outcome is its refusal unless memory is refused.
 pub error_passed : {A B P : Type 0} (view : A → B) (outcome : Result B Refused) (result : Result A Refused) (e : Error)
     → IsErrAnd result (λ d. d ≡ refused_of e) → (e ≡ OutOfMemory) ⊎ P → (P → outcome ≡ Err (refused_of e))
-    → GivesBy view outcome result
+    → CallGivesBy view outcome result
 error_passed view outcome result e is_err refused known =
     let p = err_from_is_err_and result is_err in
     rw (p.1, p.2) (⊎_map (λ memory. rw memory refl) known refused)
@@ -43,7 +43,7 @@ error_passed view outcome result e is_err refused known =
 -- the same of a refusal
 pub refusal_passed : {A B P : Type 0} (view : A → B) (outcome : Result B Refused) (result : Result A Refused)
     (d : Refused) → IsErrAnd result (λ x. x ≡ d) → (d ≡ Memory) ⊎ P → (P → outcome ≡ Err d)
-    → GivesBy view outcome result
+    → CallGivesBy view outcome result
 refusal_passed view outcome result d is_err refused known =
     let p = err_from_is_err_and result is_err in
     rw (p.1, p.2) (⊎_map (λ memory. memory) known refused)
@@ -52,39 +52,40 @@ refusal_passed view outcome result d is_err refused known =
 
 module _ (f : FieldSize) (bytes : List ℕ) (len : ℕ) (long : len ≡ element_length f) (whole : length bytes % len ≡ 0)
   where
-    filled : elements_in f bytes ≡ whole_of (items_at (element_at f) (length bytes / len) bytes)
+    filled : elements_filling f bytes ≡ whole_of (items_at (field_element_at f) (length bytes / len) bytes)
     filled = let is : length bytes % element_length f ≡ 0 = rw long at whole in rw long (rw is refl)
 
-    pub elements-fault : (e : Error) → reading_outcome (items_at (element_at f) (length bytes / len) bytes) ≡ Err e
-        → elements_in f bytes ≡ Err (refused_of e)
+    pub elements-fault : (e : Error) → reading_outcome (items_at (field_element_at f) (length bytes / len) bytes)
+        ≡ Err e
+        → elements_filling f bytes ≡ Err (refused_of e)
     elements-fault e h = rw (filled, h) refl
 
     pub elements-more : (xs rest : List ℕ)
-        → reading_outcome (items_at (element_at f) (length bytes / len) bytes) ≡ Ok (xs, rest)
-        → 0 < length rest → elements_in f bytes ≡ Err Invalid
+        → reading_outcome (items_at (field_element_at f) (length bytes / len) bytes) ≡ Ok (xs, rest)
+        → 0 < length rest → elements_filling f bytes ≡ Err Invalid
     elements-more xs rest h some =
-        rw filled (whole-more (items_at (element_at f) (length bytes / len) bytes) xs rest h some)
+        rw filled (whole-more (items_at (field_element_at f) (length bytes / len) bytes) xs rest h some)
 
     pub elements-alone : (xs rest : List ℕ)
-        → reading_outcome (items_at (element_at f) (length bytes / len) bytes) ≡ Ok (xs, rest)
-        → length rest ≡ 0 → elements_in f bytes ≡ Ok xs
+        → reading_outcome (items_at (field_element_at f) (length bytes / len) bytes) ≡ Ok (xs, rest)
+        → length rest ≡ 0 → elements_filling f bytes ≡ Ok xs
     elements-alone xs rest h none =
-        rw filled (whole-alone (items_at (element_at f) (length bytes / len) bytes) xs rest h none)
+        rw filled (whole-alone (items_at (field_element_at f) (length bytes / len) bytes) xs rest h none)
 
 -- ---- states
 
 module _ (f : FieldSize) (elements : ℕ) (bytes : List ℕ) where
-  pub state-fault : (e : Error) → reading_outcome (items_at (element_at f) elements bytes) ≡ Err e
+  pub state-fault : (e : Error) → reading_outcome (items_at (field_element_at f) elements bytes) ≡ Err e
       → state_in f elements bytes ≡ Err (refused_of e)
   state-fault e h = rw h refl
 
   pub next-fault : (xs rest : List ℕ) (d : Refused)
-      → reading_outcome (items_at (element_at f) elements bytes) ≡ Ok (xs, rest)
+      → reading_outcome (items_at (field_element_at f) elements bytes) ≡ Ok (xs, rest)
       → whole_of (both_at word_at flag_at rest) ≡ Err d → state_in f elements bytes ≡ Err d
   next-fault xs rest d h next = rw (h, next) refl
 
   pub state-made : (xs rest : List ℕ) (next : ℕ × Bool)
-      → reading_outcome (items_at (element_at f) elements bytes) ≡ Ok (xs, rest)
+      → reading_outcome (items_at (field_element_at f) elements bytes) ≡ Ok (xs, rest)
       → whole_of (both_at word_at flag_at rest) ≡ Ok next
       → state_in f elements bytes ≡ Ok (record { state = xs; mode = mode_of next })
   state-made xs rest next h made = rw (h, made) refl

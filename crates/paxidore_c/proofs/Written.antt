@@ -12,16 +12,16 @@ use Rattle.ark_sponge.specs.Permutation.{Parameters}
 use Rattle.ark_sponge.specs.Sponge.{Sponge, squeezed_numbers}
 use Rattle.ark_sponge.specs.Squeezing.{bytes_squeezed}
 use Rattle.paxidore_c.proofs.Answering.{refusal-no}
-use Rattle.paxidore_c.specs.Answer.{GivesBy, Hands, refusal_code}
+use Rattle.paxidore_c.specs.Answer.{CallGivesBy, Hands, refusal_code}
 use Rattle.paxidore_c.specs.declared.refused.Refused.{Refused}
 use Rattle.paxidore_c.specs.declared.refused.Refused.TheVariants.{Memory}
 use Rattle.paxidore_c.proofs.Numbers.{length-elements, length-first}
-use Rattle.paxidore_c.specs.Transcript.{FieldSize, element_length, elements_bytes, is_squeezing, state_bytes}
+use Rattle.paxidore_c.specs.Transcript.{FieldSize, element_length, elements_bytes, is_squeezing, sponge_state_bytes}
 
 -- the bytes of a sponge's state are those of its elements, its index, and whether it squeezes
 pub state-written : (f : FieldSize) (s : Sponge) (elements bytes after : List ℕ) (next : ℕ × Bool)
     → elements ≡ s.state → elements_bytes f elements ≡ bytes → next.0 ≡ mode_index s.mode
-    → next.1 ≡ is_squeezing s.mode → after ≡ bytes ++ (word next.0 ++ flag next.1) → state_bytes f s ≡ after
+    → next.1 ≡ is_squeezing s.mode → after ≡ bytes ++ (word next.0 ++ flag next.1) → sponge_state_bytes f s ≡ after
 state-written f s elements bytes after next same written index squeezes is =
     rw (is, ← written, same, index, squeezes) refl
 
@@ -63,7 +63,7 @@ abbrev pub seen : {W : Type 0} → (W → List ℕ) → Result W Refused → Res
 seen items (Ok value) = Ok (items value)
 seen items (Err refused) = Err refused
 
-pub gives-itself : {W : Type 0} (items : W → List ℕ) (result : Result W Refused) → GivesBy items (seen items result)
+pub gives-itself : {W : Type 0} (items : W → List ℕ) (result : Result W Refused) → CallGivesBy items (seen items result)
     result
 gives-itself items (Ok value) = refl
 gives-itself items (Err refused) = inr refl

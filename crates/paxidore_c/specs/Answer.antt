@@ -57,12 +57,12 @@ done_code (Ok value) = pos 0
 done_code (Err refused) = refusal_code refused
 
 -- The call answers this code, or that of refused memory.
-abbrev pub Gives : ℤ → ℤ → Type 0
-Gives code result = (result ≡ code) ⊎ (result ≡ refusal_code Memory)
+abbrev pub GivesCode : ℤ → ℤ → Type 0
+GivesCode code result = (result ≡ code) ⊎ (result ≡ refusal_code Memory)
 
 -- The call gives the outcome, its value seen by view, or memory was refused.
-abbrev pub GivesBy : {A B : Type 0} → (A → B) → Result B Refused → Result A Refused → Type 0
-GivesBy view outcome result =
+abbrev pub CallGivesBy : {A B : Type 0} → (A → B) → Result B Refused → Result A Refused → Type 0
+CallGivesBy view outcome result =
     MatchResult result (λ value. outcome ≡ Ok (view value)) (λ refused. (refused ≡ Memory) ⊎ (outcome ≡ Err refused))
 
 -- goes on where a condition holds; else the refusal
@@ -144,7 +144,7 @@ written_code (Err refused) room = refusal_code refused
 -- What a call does to the caller's buffer and count, where it has these bytes for them or refuses.
 pub record Hands (outcome : Result (List ℕ) Refused) (before after : List ℕ) (count_before count_after : ℕ)
     (code : ℤ) : Type 0 where
-  pub right_code : Gives (written_code outcome (length before)) code
+  pub right_code : GivesCode (written_code outcome (length before)) code
   -- the bytes stand in front, and behind them all is as before
   pub written : code ≡ pos 0 → IfOk outcome (λ bytes. after ≡ bytes ++ drop (length bytes) before)
   pub counted : code ≡ pos 0 → IfOk outcome (λ bytes. count_after ≡ length bytes)

@@ -32,12 +32,12 @@ hashing_refused (Err error) = Err (refused_inputs error)
 
 -- What is said in the byte order that a number names: 1 is the least byte first, 2 the greatest. No other number names
 -- one.
-abbrev pub in_order : {A : Type 0} → ℕ → (ByteOrder → Result A Refused) → Result A Refused
-in_order name outcome =
+abbrev pub in_byte_order : {A : Type 0} → ℕ → (ByteOrder → Result A Refused) → Result A Refused
+in_byte_order name outcome =
     if name == 1 then outcome LittleEndian
     else if name == 2 then outcome BigEndian
     else Err Invalid
 
 -- the hash of elements that bytes are, in the byte order that a number names
 abbrev pub poseidon_hash : ℕ → Parameters → List ℕ → Result (List ℕ) Refused
-poseidon_hash name c inputs = in_order name (λ order. hashing_refused (hash_outcome order c inputs))
+poseidon_hash name c inputs = in_byte_order name (λ order. hashing_refused (hash_outcome order c inputs))

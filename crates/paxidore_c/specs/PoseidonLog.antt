@@ -52,14 +52,14 @@ elements_path inputs c elements index = if_two inputs (elements_given elements >
     only_if (nat_lt index (length all)) Index (path_of_elements c index all))
 
 -- whether the bytes of a path show an element at an index of a log with this root and size
-abbrev pub shown_by : Parameters → Digest → ℕ → ℕ → Digest → List ℕ → Result Bool Refused
-shown_by c root size index element path = only_if (nat_lt index size) Index
+abbrev pub element_verdict : Parameters → Digest → ℕ → ℕ → Digest → List ℕ → Result Bool Refused
+element_verdict c root size index element path = only_if (nat_lt index size) Index
     (refusing (received_inclusion (element_hashes (node_outcome c)) root size index element
     (proof_digests (inclusion_length size index) path)))
 
 -- the same by a table of so many inputs
 abbrev pub element_shown : ℕ → Parameters → Digest → ℕ → ℕ → Digest → List ℕ → Result Bool Refused
-element_shown inputs c root size index element path = if_two inputs (shown_by c root size index element path)
+element_shown inputs c root size index element path = if_two inputs (element_verdict c root size index element path)
 
 -- ---- logs in the caller's memory
 

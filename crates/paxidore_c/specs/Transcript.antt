@@ -14,7 +14,7 @@ use Rattle.ark_sponge.specs.Sponge.{Sponge, SpongeState, new_sponge, restored_sp
 use Rattle.ark_sponge.specs.Squeezing.{native_squeezed, bytes_squeezed}
 use Rattle.ark_sponge.specs.declared.mode.DuplexSpongeMode.{DuplexSpongeMode}
 use Rattle.ark_sponge.specs.declared.mode.DuplexSpongeMode.TheVariants.{Absorbing, Squeezing}
-use Rattle.paxidore_c.specs.Answer.{Gives, only_if, refusing, written_code}
+use Rattle.paxidore_c.specs.Answer.{GivesCode, only_if, refusing, written_code}
 use Rattle.paxidore_c.specs.Forms.{Form, kept_form, own_form}
 use Rattle.paxidore_c.specs.declared.refused.Refused.{Refused}
 use Rattle.paxidore_c.specs.declared.refused.Refused.TheVariants.{Invalid, Truncated}
@@ -74,16 +74,16 @@ abbrev pub element_length : FieldSize → ℕ
 element_length f = bytes_for f.bits
 
 -- how an element is read: its number, which is below the modulus, the least byte first
-abbrev pub element_at : FieldSize → List ℕ → Reading ℕ
-element_at f = below_at f.modulus (element_length f)
+abbrev pub field_element_at : FieldSize → List ℕ → Reading ℕ
+field_element_at f = below_at f.modulus (element_length f)
 
 -- elements as bytes, one behind the other
 abbrev pub elements_bytes : FieldSize → List ℕ → List ℕ
 elements_bytes f = flat_map (bytes_of_number (element_length f))
 
 -- the S-box: a power
-abbrev pub power : FieldSize → ℕ → ℕ → ℕ
-power f alpha x = x ^ alpha % f.modulus
+abbrev pub field_power : FieldSize → ℕ → ℕ → ℕ
+field_power f alpha x = x ^ alpha % f.modulus
 
 -- ---- what bytes spell
 
@@ -99,9 +99,9 @@ whole_of reading = do
   none_behind x
 
 -- the numbers of elements that fill the bytes
-abbrev pub elements_in : FieldSize → List ℕ → Result (List ℕ) Refused
-elements_in f bytes = only_if (length bytes % element_length f == 0) Truncated
-    (whole_of (items_at (element_at f) (length bytes / element_length f) bytes))
+abbrev pub elements_filling : FieldSize → List ℕ → Result (List ℕ) Refused
+elements_filling f bytes = only_if (length bytes % element_length f == 0) Truncated
+    (whole_of (items_at (field_element_at f) (length bytes / element_length f) bytes))
 
 -- what a sponge does next, by its index and whether it squeezes
 abbrev pub mode_of : ℕ × Bool → DuplexSpongeMode
@@ -111,7 +111,7 @@ mode_of (index, true) = Squeezing index
 -- the state of so many elements that bytes spell: the elements, the index in eight bytes, a byte 1 where it squeezes
 abbrev pub state_in : FieldSize → ℕ → List ℕ → Result SpongeState Refused
 state_in f elements bytes = do
-  xs ← refusing (reading_outcome (items_at (element_at f) elements bytes))
+  xs ← refusing (reading_outcome (items_at (field_element_at f) elements bytes))
   m ← whole_of (both_at word_at flag_at xs.1)
   Ok (record { state = xs.0; mode = mode_of m })
 
@@ -139,8 +139,8 @@ is_squeezing (Absorbing index) = false
 is_squeezing (Squeezing index) = true
 
 -- the bytes of a sponge's state
-abbrev pub state_bytes : FieldSize → Sponge → List ℕ
-state_bytes f s = elements_bytes f s.state ++ (word (mode_index s.mode) ++ flag (is_squeezing s.mode))
+abbrev pub sponge_state_bytes : FieldSize → Sponge → List ℕ
+sponge_state_bytes f s = elements_bytes f s.state ++ (word (mode_index s.mode) ++ flag (is_squeezing s.mode))
 
 -- ---- the calls, by the bytes of the state that they leave
 
@@ -148,14 +148,14 @@ state_bytes f s = elements_bytes f s.state ++ (word (mode_index s.mode) ++ flag 
 abbrev pub begun : List ℕ → FieldSize → Result (List ℕ) Refused
 begun parameters f = do
   c ← parameters_in f parameters
-  Ok (state_bytes f (new_sponge c))
+  Ok (sponge_state_bytes f (new_sponge c))
 
 -- the transcript that has absorbed elements
 abbrev pub with_elements : (ℕ → ℕ → ℕ) → List ℕ → List ℕ → List ℕ → FieldSize → Result (List ℕ) Refused
 with_elements sbox parameters state elements f = do
   s ← sponge_in f parameters state
-  xs ← elements_in f elements
-  Ok (state_bytes f (after_absorbing f.modulus sbox s xs))
+  xs ← elements_filling f elements
+  Ok (sponge_state_bytes f (after_absorbing f.modulus sbox s xs))
 
 -- The transcript that has absorbed bytes: behind their length in eight bytes, in pieces of as many bytes as fit below
 -- the modulus.
@@ -163,7 +163,7 @@ abbrev pub with_bytes : (ℕ → ℕ → ℕ) → List ℕ → List ℕ → List
 with_bytes sbox parameters state text f = do
   s ← sponge_in f parameters state
   let xs = piece_numbers f.modulus ((f.bits - 1) / 8) (text_bytes text) in
-      Ok (state_bytes f (after_absorbing f.modulus sbox s xs))
+      Ok (sponge_state_bytes f (after_absorbing f.modulus sbox s xs))
 
 -- What squeezing gives as bytes, and the bytes of the state that it leaves.
 pub record Squeezed : Type 0 where
@@ -171,18 +171,18 @@ pub record Squeezed : Type 0 where
   pub state : List ℕ
 
 -- so many bytes of elements: these are whole ones
-abbrev pub elements_squeezed : (ℕ → ℕ → ℕ) → List ℕ → List ℕ → ℕ → FieldSize → Result Squeezed Refused
-elements_squeezed sbox parameters state count f = only_if (count % element_length f == 0) Truncated (do
+abbrev pub element_bytes_squeezed : (ℕ → ℕ → ℕ) → List ℕ → List ℕ → ℕ → FieldSize → Result Squeezed Refused
+element_bytes_squeezed sbox parameters state count f = only_if (count % element_length f == 0) Truncated (do
   s ← sponge_in f parameters state
   let squeezed = native_squeezed f.modulus sbox s (count / element_length f) in
-      Ok (record { given = elements_bytes f squeezed.0; state = state_bytes f squeezed.1 }))
+      Ok (record { given = elements_bytes f squeezed.0; state = sponge_state_bytes f squeezed.1 }))
 
 -- so many bytes
 abbrev pub bytes_given : (ℕ → ℕ → ℕ) → List ℕ → List ℕ → ℕ → FieldSize → Result Squeezed Refused
 bytes_given sbox parameters state count f = do
   s ← sponge_in f parameters state
   let squeezed = bytes_squeezed f.modulus f.bits sbox s count in
-      Ok (record { given = squeezed.0; state = state_bytes f squeezed.1 })
+      Ok (record { given = squeezed.0; state = sponge_state_bytes f squeezed.1 })
 
 -- ---- prepared parameters
 
@@ -200,16 +200,17 @@ prepared_bytes parameters f = do
 pub record ServeAs (name : ℕ) (parameters prepared : List ℕ) : Type 0 where
   pub starts : in_field (name + 256) (begun prepared) ≡ in_field name (begun parameters)
   pub absorbs : (state elements : List ℕ)
-      → in_field (name + 256) (λ f. with_elements (power f) prepared state elements f)
-      ≡ in_field name (λ f. with_elements (power f) parameters state elements f)
-  pub absorbs_bytes : (state text : List ℕ) → in_field (name + 256) (λ f. with_bytes (power f) prepared state text f)
-      ≡ in_field name (λ f. with_bytes (power f) parameters state text f)
+      → in_field (name + 256) (λ f. with_elements (field_power f) prepared state elements f)
+      ≡ in_field name (λ f. with_elements (field_power f) parameters state elements f)
+  pub absorbs_bytes : (state text : List ℕ) → in_field (name + 256)
+      (λ f. with_bytes (field_power f) prepared state text f)
+      ≡ in_field name (λ f. with_bytes (field_power f) parameters state text f)
   pub squeezes : (state : List ℕ) (count : ℕ)
-      → in_field (name + 256) (λ f. elements_squeezed (power f) prepared state count f)
-      ≡ in_field name (λ f. elements_squeezed (power f) parameters state count f)
+      → in_field (name + 256) (λ f. element_bytes_squeezed (field_power f) prepared state count f)
+      ≡ in_field name (λ f. element_bytes_squeezed (field_power f) parameters state count f)
   pub squeezes_bytes : (state : List ℕ) (count : ℕ)
-      → in_field (name + 256) (λ f. bytes_given (power f) prepared state count f)
-      ≡ in_field name (λ f. bytes_given (power f) parameters state count f)
+      → in_field (name + 256) (λ f. bytes_given (field_power f) prepared state count f)
+      ≡ in_field name (λ f. bytes_given (field_power f) parameters state count f)
 
 -- ---- ready parameters
 
@@ -239,6 +240,6 @@ left_by (Err refused) = Err refused
 
 -- The call writes the bytes of a state over the ones before, or refuses and leaves these.
 pub record Replaces (outcome : Result (List ℕ) Refused) (before after : List ℕ) (code : ℤ) : Type 0 where
-  pub right_code : Gives (written_code outcome (length before)) code
+  pub right_code : GivesCode (written_code outcome (length before)) code
   pub written : code ≡ pos 0 → IfOk outcome (λ bytes. after ≡ bytes ++ drop (length bytes) before)
   pub kept : code ≢ pos 0 → after ≡ before

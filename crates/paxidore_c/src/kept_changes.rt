@@ -17,7 +17,7 @@ use kept_tree::check::is_tree_length;
 use kept_tree::many::rehash_above;
 
 // Writes the digests of leaves to the places of their indexes, one after the other.
-fn put_leaves<H: ArrayHash>(
+fn put_leaf_digests<H: ArrayHash>(
     digests: &mut [[u8; 32]],
     indexes: &[usize],
     bytes: &[u8],
@@ -54,7 +54,7 @@ fn put_in_place<H: ArrayHash>(
         → get_or tree.new i [] ≡ get_or tree.old i [] }
 {
     let first = tree.len() / 2;
-    put_leaves::<H>(&mut tree[first..], indexes, bytes, lengths);
+    put_leaf_digests::<H>(&mut tree[first..], indexes, bytes, lengths);
 }
 
 // Changes the leaves at some indexes, one after the other, and returns the code.

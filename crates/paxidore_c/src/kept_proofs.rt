@@ -3,7 +3,7 @@
 ghost use Rattle.std.specs.Prelude.{◌≡◌, List};
 ghost use Rattle.ark_paths.specs.Pair.{Digest};
 ghost use Rattle.kept_tree.specs.KeptTree.{KeepsTree};
-ghost use Rattle.paxidore_c.specs.Answer.{GivesBy, Hands};
+ghost use Rattle.paxidore_c.specs.Answer.{CallGivesBy, Hands};
 ghost use Rattle.paxidore_c.specs.Hashing.{Hashing};
 ghost use Rattle.paxidore_c.specs.KeptAnswer.{kept_multi_path, multi_path_of_digests};
 
@@ -16,7 +16,7 @@ use std::alloc::Global;
 
 // The bytes of the multi-proof of some indexes, as it stands in memory.
 fn kept_multi_path(alloc: Global, tree: &[[u8; 32]], indexes: &[usize]) -> Result<Vec<u8>, Refused>
-    ensures { GivesBy (λ bytes. bytes.items) (kept_multi_path tree.now indexes.now) result }
+    ensures { CallGivesBy (λ bytes. bytes.items) (kept_multi_path tree.now indexes.now) result }
 {
     if !is_tree_length(tree) {
         return Err(Refused::Size);

@@ -14,7 +14,7 @@ ghost use Rattle.paxidore_c.specs.KeptAnswer.{kept_check, kept_index, kept_path,
 ghost use Rattle.paxidore_c.specs.declared.refused.Refused.TheVariants.{Memory};
 
 use crate::hashing::in_hashing;
-use crate::leaves::{are_parts, hash_leaves};
+use crate::leaves::{are_parts, write_leaf_digests};
 use crate::refused::Refused;
 use ark_crh::ArrayHash;
 use ark_paths::is_tree_size;
@@ -30,7 +30,7 @@ fn write_leaves<H: ArrayHash>(tree: &mut [[u8; 32]], bytes: &[u8], lengths: &[us
     ensures { IfSome (parts_by bytes.now lengths.now)
         (λ xs. kept_leaves tree.new ≡ map H.leaf_hash xs) }
 {
-    hash_leaves::<H>(&mut tree[lengths.len() - 1..], bytes, lengths);
+    write_leaf_digests::<H>(&mut tree[lengths.len() - 1..], bytes, lengths);
 }
 
 // Writes the tree above the leaves to memory of as many digests as it has, and returns the code.

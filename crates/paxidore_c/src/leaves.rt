@@ -5,7 +5,7 @@ ghost use Rattle.std.specs.Option.{is_some, option_map};
 ghost use Rattle.std.specs.List.{All, list_all};
 ghost use Rattle.ark_paths.specs.Index.{IsTreeSize};
 ghost use Rattle.ark_crh.specs.Ahead.{lent};
-ghost use Rattle.paxidore_c.specs.Answer.{GivesBy, are_indexes, leaves_for, leaves_in, results_of};
+ghost use Rattle.paxidore_c.specs.Answer.{CallGivesBy, are_indexes, leaves_for, leaves_in, results_of};
 ghost use Rattle.paxidore_c.specs.Cut.{parts_by};
 
 use crate::refused::Refused;
@@ -18,7 +18,7 @@ use std::alloc::Global;
 const RUN: usize = 64;
 
 // The first bytes.
-fn front_of(bytes: &[u8], count: usize) -> &[u8]
+fn first_bytes(bytes: &[u8], count: usize) -> &[u8]
     requires { count ≤ length bytes.now }
     ensures { result.now ≡ take count bytes.now }
 {
@@ -41,7 +41,7 @@ pub(crate) fn next_leaf<'a>(
     if len > bytes.len() {
         return None;
     }
-    Some((front_of(bytes, len), rest_of(bytes, len)))
+    Some((first_bytes(bytes, len), rest_of(bytes, len)))
 }
 
 // In front, the leaves of so many lengths from a place on, and the bytes behind them.
@@ -95,7 +95,11 @@ fn write_run<H: ArrayHash>(digests: &mut [[u8; 32]], place: usize, leaves: &[&[u
 }
 
 /// Writes the digests of the leaves, where the lengths are those of parts that are all of the bytes.
-pub(crate) fn hash_leaves<H: ArrayHash>(digests: &mut [[u8; 32]], bytes: &[u8], lengths: &[usize])
+pub(crate) fn write_leaf_digests<H: ArrayHash>(
+    digests: &mut [[u8; 32]],
+    bytes: &[u8],
+    lengths: &[usize],
+)
     requires { length digests.old ≡ length lengths.now }
     ensures { IfSome (parts_by bytes.now lengths.now) (λ xs.
         digests.new ≡ map H.leaf_hash xs) }
@@ -121,7 +125,7 @@ pub fn digests_of_leaves<H: ArrayHash>(
     lengths: &[usize],
 ) -> Result<Vec<[u8; 32]>, Refused>
     ensures made { let leaves = leaves_in (parts_by bytes.now lengths.now) in
-        GivesBy (λ all. all.items) (results_of H.leaf_hash leaves) result }
+        CallGivesBy (λ all. all.items) (results_of H.leaf_hash leaves) result }
     ensures size { IfOk result (λ all.
         IsTreeSize (length lengths.now) → IsTreeSize (length all.items)) }
 {
@@ -129,7 +133,7 @@ pub fn digests_of_leaves<H: ArrayHash>(
         return Err(Refused::Lengths);
     }
     let mut digests = vec![in alloc; [0u8; 32]; lengths.len()]?;
-    hash_leaves::<H>(&mut digests, bytes, lengths);
+    write_leaf_digests::<H>(&mut digests, bytes, lengths);
     Ok(digests)
 }
 
@@ -137,7 +141,7 @@ pub fn digests_of_leaves<H: ArrayHash>(
 fn copies_of_leaves(alloc: Global, bytes: &[u8], lengths: &[usize]) -> Result<Vec<Vec<u8>>, Refused>
     ensures { let leaves = leaves_in (parts_by bytes.now lengths.now) in
         let outcome = results_of (λ leaf. leaf) leaves in
-        GivesBy (λ all. map (λ leaf. leaf.items) all.items) outcome result }
+        CallGivesBy (λ all. map (λ leaf. leaf.items) all.items) outcome result }
 {
     let mut all = Vec::with_capacity(alloc, lengths.len())?;
     let mut rest = bytes;
@@ -164,7 +168,7 @@ pub fn leaves_for(
 ) -> Result<Vec<Vec<u8>>, Refused>
     ensures { let given = leaves_for size count bytes.now lengths.now in
         let outcome = results_of (λ leaf. leaf) given in
-        GivesBy (λ all. map (λ leaf. leaf.items) all.items) outcome result }
+        CallGivesBy (λ all. map (λ leaf. leaf.items) all.items) outcome result }
 {
     if !is_tree_size(size) {
         return Err(Refused::Size);
@@ -180,11 +184,11 @@ pub fn are_indexes(size: usize, indexes: &[usize]) -> bool
     ensures test { result ≡ are_indexes size indexes.now }
     ensures inside { result ≡ true → All (λ i. i < size) indexes.now }
 {
-    !indexes.is_empty() && are_below(size, indexes)
+    !indexes.is_empty() && are_below_size(size, indexes)
 }
 
 // Whether all indexes are below a size.
-fn are_below(size: usize, indexes: &[usize]) -> bool
+fn are_below_size(size: usize, indexes: &[usize]) -> bool
     ensures test { result ≡ list_all (λ i. nat_lt i size) indexes.now }
     ensures inside { result ≡ true → All (λ i. i < size) indexes.now }
 {

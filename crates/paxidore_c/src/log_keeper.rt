@@ -12,7 +12,7 @@ ghost use Rattle.ark_trees.specs.Rfc6962.{entry_hash, node_of};
 ghost use Rattle.merkle_log.specs.Kept.{front, has_front, Keeps};
 ghost use Rattle.merkle_log.specs.Received.{ShowsLogLeaf, inclusion_length};
 ghost use Rattle.merkle_log.specs.Stored.{row_at, stored_count};
-ghost use Rattle.paxidore_c.specs.Answer.{Gives, GivesBy, Hands, done_code, refusal_code, verdict_code};
+ghost use Rattle.paxidore_c.specs.Answer.{GivesCode, CallGivesBy, Hands, done_code, refusal_code, verdict_code};
 ghost use Rattle.paxidore_c.specs.KeptLog.{appended, consistency_bytes, digest_hashes, digest_shown, if_inside, if_kept, if_older, inclusion_bytes, kept_code, log_root, more_count, takes};
 ghost use Rattle.paxidore_c.specs.LogProofs.{proof_digests};
 ghost use Rattle.paxidore_c.specs.declared.refused.Refused.TheVariants.{Room, Size};
@@ -58,8 +58,8 @@ pub extern "C" fn paxidore_log_root(root: &mut [u8; 32], kept: &[[u8; 32]], size
 }
 
 // The bytes of digests, one behind the other.
-pub(crate) fn bytes_of(alloc: Global, digests: &[[u8; 32]]) -> Result<Vec<u8>, Refused>
-    ensures { GivesBy (λ bytes. bytes.items) (Ok (flat_map itself digests.now)) result }
+pub(crate) fn bytes_of_path(alloc: Global, digests: &[[u8; 32]]) -> Result<Vec<u8>, Refused>
+    ensures { CallGivesBy (λ bytes. bytes.items) (Ok (flat_map itself digests.now)) result }
 {
     let mut bytes = Vec::new(alloc);
     <[u8; 32]>::serialize_items(digests, &mut bytes)?;
@@ -74,9 +74,9 @@ fn inclusion_of(
     index: usize,
 ) -> Result<Vec<u8>, Refused>
     ensures given { (bytes : List ℕ)
-        × GivesBy (λ bytes. bytes.items) (if_inside size index kept.now (Ok bytes)) result }
+        × CallGivesBy (λ bytes. bytes.items) (if_inside size index kept.now (Ok bytes)) result }
     ensures path { (leaves : List Digest) → size ≤ length leaves → Keeps leaves kept.now
-        → GivesBy (λ bytes. bytes.items)
+        → CallGivesBy (λ bytes. bytes.items)
         (if_inside size index kept.now (inclusion_bytes size index leaves)) result }
 {
     let Some(kept) = Kept::of(size, kept) else {
@@ -86,7 +86,7 @@ fn inclusion_of(
         return Err(Refused::Index);
     }
     let path = kept.inclusion_path(alloc, index)?;
-    bytes_of(alloc, &path)
+    bytes_of_path(alloc, &path)
 }
 
 /// Writes the bytes of the path of an index of the first `size` entries to the front of `path`, and their count.
@@ -123,9 +123,9 @@ fn consistency_of(
     size: usize,
 ) -> Result<Vec<u8>, Refused>
     ensures given { (bytes : List ℕ)
-        × GivesBy (λ bytes. bytes.items) (if_older old_size size kept.now (Ok bytes)) result }
+        × CallGivesBy (λ bytes. bytes.items) (if_older old_size size kept.now (Ok bytes)) result }
     ensures proof { (leaves : List Digest) → size ≤ length leaves → Keeps leaves kept.now
-        → GivesBy (λ bytes. bytes.items)
+        → CallGivesBy (λ bytes. bytes.items)
         (if_older old_size size kept.now (consistency_bytes old_size size leaves)) result }
 {
     let Some(kept) = Kept::of(size, kept) else {
@@ -135,7 +135,7 @@ fn consistency_of(
         return Err(Refused::Size);
     }
     let path = kept.consistency_path(alloc, old_size)?;
-    bytes_of(alloc, &path)
+    bytes_of_path(alloc, &path)
 }
 
 /// Writes the bytes of the proof that the first `size` entries continue the first `old_size` ones to the front of `proof`, and
@@ -197,7 +197,7 @@ pub extern "C" fn paxidore_log_append(
     entries: &[u8],
     lengths: &[usize],
 ) -> i32
-    ensures answer { Gives (done_code (appended size kept.now (length more.old) entries.now
+    ensures answer { GivesCode (done_code (appended size kept.now (length more.old) entries.now
         lengths.now)) result }
 
     // Of a list of `size` leaf digests whose stored ones are kept: these and `more` behind them are the stored digests of the
@@ -293,7 +293,7 @@ pub extern "C" fn paxidore_log_verify_inclusion_digest(
     digest: &[u8; 32],
     path: &[u8],
 ) -> i32
-    ensures answer { Gives (verdict_code (digest_shown root.now size index digest.now path.now))
+    ensures answer { GivesCode (verdict_code (digest_shown root.now size index digest.now path.now))
         result }
 
     // 0 says: in every log with this root and size the digest stands at the index, or at some level the path's pair and that of

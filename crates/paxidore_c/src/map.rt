@@ -9,7 +9,7 @@ ghost use Rattle.merkle_map.specs.KeyProof.{BindsBy};
 ghost use Rattle.merkle_map.specs.Parts.{value_seen};
 ghost use Rattle.merkle_map.specs.Sha256.{sha256_map};
 ghost use Rattle.merkle_map.specs.Transition.{change_seen, LeadsTo};
-ghost use Rattle.paxidore_c.specs.Answer.{done_code, refusal_code, refusing, verdict_code, Gives, GivesBy, Hands};
+ghost use Rattle.paxidore_c.specs.Answer.{done_code, refusal_code, refusing, verdict_code, GivesCode, CallGivesBy, Hands};
 ghost use Rattle.paxidore_c.specs.Maps.{changed_code, changes_of as changes_by, key_proof_in, key_verdict, map_changed, map_proof, map_refused, map_root as root_in, refusing_map, rows_found, tree_changed, IfMade, IsProvedBy, IsRootOfAll, IsRootOfStore};
 ghost use Rattle.paxidore_c.specs.declared.refused.Refused.TheVariants.{Room};
 
@@ -34,7 +34,7 @@ fn refused_of(error: Error) -> Refused
 
 // Returns whether the bytes of a proof show that a map with this root has this at the key. Errors: those of
 // `KeyProof::from_bytes`; `OutOfMemory`.
-fn is_shown(
+fn is_shown_in_map(
     alloc: Global,
     root: &[u8; 32],
     key: &[u8; 32],
@@ -63,7 +63,8 @@ pub extern "C" fn paxidore_map_verify(
     value: &[u8; 32],
     proof: &[u8],
 ) -> i32
-    ensures answer { Gives (verdict_code (refusing (key_verdict root.now key.now (Some value.now)
+    ensures answer { GivesCode (verdict_code (refusing
+        (key_verdict root.now key.now (Some value.now)
         proof.now))) result }
 
     // 0 says: in every map with this root the key has this value, or at some level of the key's way the proof's node and that of
@@ -71,7 +72,7 @@ pub extern "C" fn paxidore_map_verify(
     ensures shows { result ≡ pos 0 → IfOk (key_proof_in proof.now)
         (BindsBy sha256_map root.now key.now (Some value.now)) }
 {
-    verdict_code(is_shown(alloc, root, key, Some(value), proof))
+    verdict_code(is_shown_in_map(alloc, root, key, Some(value), proof))
 }
 
 /// Returns whether the bytes of a proof show that a map with this root has nothing at the key.
@@ -84,7 +85,8 @@ pub extern "C" fn paxidore_map_verify_absent(
     key: &[u8; 32],
     proof: &[u8],
 ) -> i32
-    ensures answer { Gives (verdict_code (refusing (key_verdict root.now key.now None proof.now)))
+    ensures answer { GivesCode (verdict_code (refusing
+        (key_verdict root.now key.now None proof.now)))
         result }
 
     // 0 says: every map with this root has nothing at the key, or at some level of the key's way the proof's node and that of the
@@ -92,7 +94,7 @@ pub extern "C" fn paxidore_map_verify_absent(
     ensures shows { result ≡ pos 0 → IfOk (key_proof_in proof.now)
         (BindsBy sha256_map root.now key.now None) }
 {
-    verdict_code(is_shown(alloc, root, key, None, proof))
+    verdict_code(is_shown_in_map(alloc, root, key, None, proof))
 }
 
 // The digest of the tree that bytes are. Errors: those of `MapTree::from_bytes`; `OutOfMemory`.
@@ -111,7 +113,7 @@ fn root_of(alloc: Global, tree: &[u8]) -> Result<[u8; 32], Error>
 /// `root` as before.
 #[unsafe(no_mangle)]
 pub extern "C" fn paxidore_map_root(alloc: Global, root: &mut [u8; 32], tree: &[u8]) -> i32
-    ensures answer { Gives (done_code (refusing_map (root_in tree.now))) result }
+    ensures answer { GivesCode (done_code (refusing_map (root_in tree.now))) result }
     ensures root { result ≡ pos 0 → root_in tree.now ≡ Ok root.new }
 
     // It is the root of each map that the tree shows, and of the entries of a tree that hides nothing.
@@ -142,7 +144,7 @@ fn proof_of(alloc: Global, tree: &[u8], key: &[u8; 32]) -> Result<Vec<u8>, Error
 
 // The same with the refusals for C.
 fn proof_for(alloc: Global, tree: &[u8], key: &[u8; 32]) -> Result<Vec<u8>, Refused>
-    ensures given { GivesBy (λ bytes. bytes.items) (refusing_map (map_proof tree.now key.now))
+    ensures given { CallGivesBy (λ bytes. bytes.items) (refusing_map (map_proof tree.now key.now))
         result }
     ensures accepted { IfOk result (λ bytes. IfOk (tree_of_bytes tree.now)
         (IsProvedBy key.now bytes.items)) }
@@ -242,7 +244,7 @@ pub extern "C" fn paxidore_map_change(
     keys: &[[u8; 32]],
     values: &[[u8; 32]],
 ) -> i32
-    ensures answer { Gives (changed_code (map_changed root.now tree.now keys.now values.now)
+    ensures answer { GivesCode (changed_code (map_changed root.now tree.now keys.now values.now)
         (length rows.old)) result }
     ensures root { result ≡ pos 0 → IfMade (map_changed root.now tree.now keys.now values.now)
         (λ made. new_root.new ≡ made.0) }

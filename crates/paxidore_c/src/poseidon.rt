@@ -3,7 +3,7 @@
 ghost use Rattle.std.specs.Prelude.{◌≡◌, ◌≢◌, ◌⊎◌, ◌<◌, ◌≤◌, ◌++◌, ℕ, List, length, drop, pos, IfOk, IfErr, Result, Ok, Err};
 ghost use Rattle.ark_sponge.specs.Permutation.{Parameters};
 ghost use Rattle.circom_bytes.specs.Hash.{IsCircomRefused, SpellsTable, hash_outcome};
-ghost use Rattle.paxidore_c.specs.Answer.{Gives, GivesBy, Hands, done_code, refusal_code};
+ghost use Rattle.paxidore_c.specs.Answer.{GivesCode, CallGivesBy, Hands, done_code, refusal_code};
 ghost use Rattle.paxidore_c.specs.declared.refused.Refused.{Refused as Why};
 ghost use Rattle.paxidore_c.specs.declared.refused.Refused.TheVariants.{Count, Memory, Other, Room};
 ghost use Rattle.paxidore_c.specs.Poseidon.{IsCircomTable, hashing_refused, poseidon_hash, refused_inputs};
@@ -47,7 +47,7 @@ pub extern "C" fn paxidore_poseidon_table(
     ensures ready { result ≡ pos 0 → (bytes : List ℕ) × IsCircomTable inputs bytes
         × (table.new ≡ bytes ++ drop (length bytes) table.old)
         × (table_len.new ≡ length bytes) }
-    ensures none { (inputs < 1) ⊎ (16 < inputs) → Gives (refusal_code Count) result }
+    ensures none { (inputs < 1) ⊎ (16 < inputs) → GivesCode (refusal_code Count) result }
     ensures codes { 1 ≤ inputs → inputs ≤ 16
         → (result ≡ pos 0) ⊎ (result ≡ refusal_code Room) ⊎ (result ≡ refusal_code Memory)
         ⊎ (IsCircomRefused inputs × (result ≡ refusal_code Other)) }
@@ -74,7 +74,7 @@ fn hash_in(
     inputs: &[u8],
 ) -> Result<[u8; 32], Refused>
     ensures { (count : ℕ) (c : Parameters) → SpellsTable count c table.now
-        → GivesBy (λ digest. digest) (hashing_refused (hash_outcome order c inputs.now)) result }
+        → CallGivesBy (λ digest. digest) (hashing_refused (hash_outcome order c inputs.now)) result }
 {
     let table = match CircomTable::of(alloc, table) {
         Ok(table) => table,
@@ -87,9 +87,14 @@ fn hash_in(
 }
 
 // The same in the byte order that a number names.
-fn hash_over(alloc: Global, order: u32, table: &[u8], inputs: &[u8]) -> Result<[u8; 32], Refused>
+fn hash_in_order(
+    alloc: Global,
+    order: u32,
+    table: &[u8],
+    inputs: &[u8],
+) -> Result<[u8; 32], Refused>
     ensures { (count : ℕ) (c : Parameters) → SpellsTable count c table.now
-        → GivesBy (λ digest. digest) (poseidon_hash order c inputs.now) result }
+        → CallGivesBy (λ digest. digest) (poseidon_hash order c inputs.now) result }
 {
     match order {
         1 => hash_in(alloc, ByteOrder::LittleEndian, table, inputs),
@@ -114,12 +119,12 @@ pub extern "C" fn paxidore_poseidon(
 ) -> i32
     // Of a table for so many inputs, at the parameters of circomlib.
     ensures answer { (count : ℕ) (c : Parameters) → SpellsTable count c table.now
-        → Gives (done_code (poseidon_hash order c inputs.now)) result }
+        → GivesCode (done_code (poseidon_hash order c inputs.now)) result }
     ensures hash { (count : ℕ) (c : Parameters) → SpellsTable count c table.now
         → result ≡ pos 0 → poseidon_hash order c inputs.now ≡ Ok digest.new }
     ensures kept { result ≢ pos 0 → digest.new ≡ digest.old }
 {
-    match hash_over(alloc, order, table, inputs) {
+    match hash_in_order(alloc, order, table, inputs) {
         Ok(hash) => {
             *digest = hash;
             0

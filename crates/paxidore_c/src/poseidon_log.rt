@@ -10,13 +10,13 @@ ghost use Rattle.circom_bytes.specs.Hash.{IsTableOf, SpellsTable, is_element, no
 ghost use Rattle.circom_logs.specs.Nodes.{element_hashes, refusal_error};
 ghost use Rattle.merkle_log.specs.Log.{merkle_tree_hash};
 ghost use Rattle.merkle_log.specs.Received.{ShowsLogLeaf, inclusion_length};
-ghost use Rattle.paxidore_c.specs.Answer.{Gives, GivesBy, Hands, done_code, refused_of, verdict_code};
+ghost use Rattle.paxidore_c.specs.Answer.{GivesCode, CallGivesBy, Hands, done_code, refused_of, verdict_code};
 ghost use Rattle.paxidore_c.specs.LogProofs.{proof_digests};
-ghost use Rattle.paxidore_c.specs.PoseidonLog.{element_shown, elements_given, elements_path, elements_root, if_two, is_log_size, shown_by};
+ghost use Rattle.paxidore_c.specs.PoseidonLog.{element_shown, elements_given, elements_path, elements_root, if_two, is_log_size, element_verdict};
 ghost use Rattle.paxidore_c.specs.declared.refused.Refused.TheVariants.{Count, Memory, Room};
 
 use crate::buffer::hand_over;
-use crate::log_keeper::bytes_of;
+use crate::log_keeper::bytes_of_path;
 use crate::refused::{Refused, verdict_code};
 use circom_bytes::CircomTable;
 use circom_logs::{CircomNodes, NodeRefusal, are_elements};
@@ -65,7 +65,7 @@ fn is_log_size(count: usize) -> bool
 
 // Whether elements that are handed in make a log.
 fn are_given(elements: &[[u8; 32]]) -> Result<(), Refused>
-    ensures given { GivesBy (λ _. elements.now) (elements_given elements.now) result }
+    ensures given { CallGivesBy (λ _. elements.now) (elements_given elements.now) result }
     ensures some { IfOk result (λ _. 0 < length elements.now) }
     ensures fits { IfOk result (λ _. length elements.now < 2 ^ 63) }
     ensures all { IfOk result (λ _. list_all is_element elements.now ≡ true) }
@@ -82,7 +82,7 @@ fn are_given(elements: &[[u8; 32]]) -> Result<(), Refused>
 // The root of elements.
 fn root_of(alloc: Global, table: &[u8], elements: &[[u8; 32]]) -> Result<[u8; 32], Refused>
     ensures given { (inputs : ℕ) (c : Parameters) → SpellsTable inputs c table.now
-        → GivesBy (λ root. root) (elements_root inputs c elements.now) result }
+        → CallGivesBy (λ root. root) (elements_root inputs c elements.now) result }
     ensures root { (inputs : ℕ) (c : Parameters) → SpellsTable inputs c table.now
         → IfOk result (λ root. merkle_tree_hash (node_outcome c) [] elements.now ≡ Ok root) }
 {
@@ -114,7 +114,7 @@ pub extern "C" fn paxidore_poseidon_root(
 ) -> i32
     // Of a table for so many inputs, at the parameters of circomlib.
     ensures answer { (inputs : ℕ) (c : Parameters) → SpellsTable inputs c table.now
-        → Gives (done_code (elements_root inputs c elements.now)) result }
+        → GivesCode (done_code (elements_root inputs c elements.now)) result }
     ensures root { (inputs : ℕ) (c : Parameters) → SpellsTable inputs c table.now
         → result ≡ pos 0 → merkle_tree_hash (node_outcome c) [] elements.now ≡ Ok root.new }
     ensures kept { result ≢ pos 0 → root.new ≡ root.old }
@@ -136,7 +136,7 @@ fn path_of(
     index: usize,
 ) -> Result<Vec<u8>, Refused>
     ensures { (inputs : ℕ) (c : Parameters) → SpellsTable inputs c table.now
-        → GivesBy (λ bytes. bytes.items) (elements_path inputs c elements.now index) result }
+        → CallGivesBy (λ bytes. bytes.items) (elements_path inputs c elements.now index) result }
 {
     let table = match table_of_two(alloc, table) {
         Ok(table) => table,
@@ -153,7 +153,7 @@ fn path_of(
         Ok(path) => path,
         Err(refusal) => return Err(Refused::from(refusal)),
     };
-    bytes_of(alloc, &path)
+    bytes_of_path(alloc, &path)
 }
 
 /// Writes the bytes of the path of an index in elements to the front of `path`, and their count: its digests, from the element
@@ -190,7 +190,8 @@ fn verify_by(
 ) -> i32
     requires { table.now.inputs ≡ 2 }
     ensures answer { (c : Parameters) → IsTableOf c table.now
-        → Gives (verdict_code (shown_by c root.now size index element.now path.now)) result }
+        → GivesCode (verdict_code (element_verdict c root.now size index element.now path.now))
+        result }
     ensures shows { (c : Parameters) → IsTableOf c table.now
         → result ≡ pos 0 → ShowsLogLeaf (element_hashes (node_outcome c)) root.now size index
         element.now (proof_digests (inclusion_length size index) path.now) }
@@ -219,7 +220,7 @@ pub extern "C" fn paxidore_poseidon_verify(
     path: &[u8],
 ) -> i32
     ensures answer { (inputs : ℕ) (c : Parameters) → SpellsTable inputs c table.now
-        → Gives (verdict_code (element_shown inputs c root.now size index element.now path.now))
+        → GivesCode (verdict_code (element_shown inputs c root.now size index element.now path.now))
         result }
 
     // 0 says: in every log with this root and size the element stands at the index, or at some level the path's pair and that of

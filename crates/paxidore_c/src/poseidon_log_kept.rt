@@ -8,14 +8,14 @@ ghost use Rattle.circom_bytes.specs.Hash.{IsTableOf, SpellsTable, is_element, no
 ghost use Rattle.merkle_log.specs.Kept.{KeepsBy};
 ghost use Rattle.merkle_log.specs.Log.{merkle_tree_hash};
 ghost use Rattle.merkle_log.specs.Stored.{stored_count};
-ghost use Rattle.paxidore_c.specs.Answer.{Gives, GivesBy, Hands, done_code, refusal_code};
+ghost use Rattle.paxidore_c.specs.Answer.{GivesCode, CallGivesBy, Hands, done_code, refusal_code};
 ghost use Rattle.paxidore_c.specs.KeptLog.{more_count};
 ghost use Rattle.paxidore_c.specs.PoseidonLog.{OrInvalid, appended_by, elements_appended, kept_path_given, kept_root_given, path_of_elements, root_of_elements};
 ghost use Rattle.paxidore_c.specs.declared.refused.Refused.TheVariants.{Room};
 ghost use Rattle.paxidore_c.specs.declared.refused.Refused.{Refused};
 
 use crate::buffer::hand_over;
-use crate::log_keeper::{bytes_of, more_count};
+use crate::log_keeper::{bytes_of_path, more_count};
 use crate::poseidon_log::table_of_two;
 use crate::refused::Refused;
 use circom_bytes::CircomTable;
@@ -32,10 +32,10 @@ fn kept_root_of(
 ) -> Result<[u8; 32], Refused>
     ensures given { (inputs : ℕ) (c : Parameters) → SpellsTable inputs c table.now
         → (given : Result Digest Refused) × OrInvalid given
-        × GivesBy (λ root. root) (kept_root_given inputs size kept.now given) result }
+        × CallGivesBy (λ root. root) (kept_root_given inputs size kept.now given) result }
     ensures answer { (inputs : ℕ) (c : Parameters) → SpellsTable inputs c table.now
         → (leaves : List Digest) → size ≤ length leaves → KeepsBy (node_outcome c) leaves kept.now
-        → GivesBy (λ root. root) (kept_root_given inputs size kept.now
+        → CallGivesBy (λ root. root) (kept_root_given inputs size kept.now
         (root_of_elements c (take size leaves))) result }
     ensures root { (inputs : ℕ) (c : Parameters) → SpellsTable inputs c table.now
         → (leaves : List Digest) → size ≤ length leaves → KeepsBy (node_outcome c) leaves kept.now
@@ -75,7 +75,7 @@ pub extern "C" fn paxidore_poseidon_log_root(
     // Of a list of at least `size` elements whose stored digests are kept, it is the root of the first.
     ensures answer { (inputs : ℕ) (c : Parameters) → SpellsTable inputs c table.now
         → (leaves : List Digest) → size ≤ length leaves → KeepsBy (node_outcome c) leaves kept.now
-        → Gives (done_code (kept_root_given inputs size kept.now
+        → GivesCode (done_code (kept_root_given inputs size kept.now
         (root_of_elements c (take size leaves)))) result }
     ensures root { (inputs : ℕ) (c : Parameters) → SpellsTable inputs c table.now
         → (leaves : List Digest) → size ≤ length leaves → KeepsBy (node_outcome c) leaves kept.now
@@ -84,7 +84,7 @@ pub extern "C" fn paxidore_poseidon_log_root(
     // Whatever is kept, some digest is given, or one that is hashed is no element.
     ensures given { (inputs : ℕ) (c : Parameters) → SpellsTable inputs c table.now
         → (given : Result Digest Refused) × OrInvalid given
-        × Gives (done_code (kept_root_given inputs size kept.now given)) result }
+        × GivesCode (done_code (kept_root_given inputs size kept.now given)) result }
     ensures kept { result ≢ pos 0 → root.new ≡ root.old }
 {
     match kept_root_of(alloc, table, kept, size) {
@@ -106,10 +106,11 @@ fn kept_path_of(
 ) -> Result<Vec<u8>, Refused>
     ensures given { (inputs : ℕ) (c : Parameters) → SpellsTable inputs c table.now
         → (given : Result (List ℕ) Refused) × OrInvalid given
-        × GivesBy (λ bytes. bytes.items) (kept_path_given inputs size index kept.now given) result }
+        × CallGivesBy (λ bytes. bytes.items) (kept_path_given inputs size index kept.now given)
+        result }
     ensures path { (inputs : ℕ) (c : Parameters) → SpellsTable inputs c table.now
         → (leaves : List Digest) → size ≤ length leaves → KeepsBy (node_outcome c) leaves kept.now
-        → GivesBy (λ bytes. bytes.items) (kept_path_given inputs size index kept.now
+        → CallGivesBy (λ bytes. bytes.items) (kept_path_given inputs size index kept.now
         (path_of_elements c index (take size leaves))) result }
 {
     let table = match table_of_two(alloc, table) {
@@ -127,7 +128,7 @@ fn kept_path_of(
         Ok(path) => path,
         Err(refusal) => return Err(Refused::from(refusal)),
     };
-    bytes_of(alloc, &path)
+    bytes_of_path(alloc, &path)
 }
 
 /// Writes the bytes of the path of an index of the first `size` elements to the front of `path`, and their count.
@@ -167,7 +168,7 @@ pub extern "C" fn paxidore_poseidon_log_inclusion(
 }
 
 // Writes those digests by a table of two inputs, and returns the code.
-fn append_by(
+fn append_elements(
     alloc: Global,
     more: &mut [[u8; 32]],
     more_len: &mut usize,
@@ -179,7 +180,7 @@ fn append_by(
     requires { table.now.inputs ≡ 2 }
     ensures answer { (c : Parameters) → IsTableOf c table.now
         → (leaves : List Digest) → length leaves ≡ size → KeepsBy (node_outcome c) leaves kept.now
-        → list_all is_element leaves ≡ true → Gives (done_code (appended_by size
+        → list_all is_element leaves ≡ true → GivesCode (done_code (appended_by size
         kept.now (length more.old) elements.now (Ok elements.now))) result }
     ensures grows { (c : Parameters) → IsTableOf c table.now
         → result ≡ pos 0 → (leaves : List Digest) → length leaves ≡ size
@@ -187,7 +188,7 @@ fn append_by(
         → KeepsBy (node_outcome c) (leaves ++ elements.now)
         (take (stored_count size) kept.now ++ take more_len.new more.new) }
     ensures given { (given : Result (List Digest) Refused) × OrInvalid given
-        × Gives (done_code (appended_by size kept.now (length more.old) elements.now given))
+        × GivesCode (done_code (appended_by size kept.now (length more.old) elements.now given))
         result }
     ensures counted { result ≡ pos 0 → more_len.new ≡ more_count size (length elements.now) }
     ensures behind { result ≡ pos 0 → drop more_len.new more.new ≡ drop more_len.new more.old }
@@ -241,7 +242,7 @@ pub extern "C" fn paxidore_poseidon_log_append(
     // To a list of `size` elements whose stored digests are kept, elements are appended.
     ensures answer { (inputs : ℕ) (c : Parameters) → SpellsTable inputs c table.now
         → (leaves : List Digest) → length leaves ≡ size → KeepsBy (node_outcome c) leaves kept.now
-        → list_all is_element leaves ≡ true → Gives (done_code (elements_appended inputs size
+        → list_all is_element leaves ≡ true → GivesCode (done_code (elements_appended inputs size
         kept.now (length more.old) elements.now (Ok elements.now))) result }
 
     // The stored ones and `more` behind them are the stored digests of the list with the elements behind it.
@@ -254,7 +255,8 @@ pub extern "C" fn paxidore_poseidon_log_append(
     // Whatever is kept, some digests are written, or one that is hashed is no element.
     ensures given { (inputs : ℕ) (c : Parameters) → SpellsTable inputs c table.now
         → (given : Result (List Digest) Refused) × OrInvalid given
-        × Gives (done_code (elements_appended inputs size kept.now (length more.old) elements.now
+        × GivesCode (done_code (elements_appended inputs size kept.now (length more.old)
+        elements.now
         given)) result }
     ensures counted { result ≡ pos 0 → more_len.new ≡ more_count size (length elements.now) }
     ensures behind { result ≡ pos 0 → drop more_len.new more.new ≡ drop more_len.new more.old }
@@ -264,7 +266,7 @@ pub extern "C" fn paxidore_poseidon_log_append(
     ensures uncounted { result ≢ pos 0 → result ≢ refusal_code Room → more_len.new ≡ more_len.old }
 {
     match table_of_two(alloc, table) {
-        Ok(table) => append_by(alloc, more, more_len, &table, kept, size, elements),
+        Ok(table) => append_elements(alloc, more, more_len, &table, kept, size, elements),
         Err(refused) => refused.code(),
     }
 }

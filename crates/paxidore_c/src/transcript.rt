@@ -3,10 +3,10 @@
 
 ghost use Rattle.std.specs.Prelude.{◌≡◌, ◌≢◌, ◌⊎◌, ◌++◌, ℕ, ◌+◌, List, length, drop, pos, Result, Ok, Err, IfErr, IfOk, IfSome, IsSome};
 ghost use Rattle.ark_sponge.specs.ConfigBytes.{parameters_spelling};
-ghost use Rattle.paxidore_c.specs.Answer.{Gives, GivesBy, Hands, refusal_code};
+ghost use Rattle.paxidore_c.specs.Answer.{GivesCode, CallGivesBy, Hands, refusal_code};
 ghost use Rattle.paxidore_c.specs.declared.refused.Refused.{Refused as Why};
 ghost use Rattle.paxidore_c.specs.declared.refused.Refused.TheVariants.{Invalid, Memory, Room};
-ghost use Rattle.paxidore_c.specs.Transcript.{HasReady, Replaces, ServeAs, SpellReady, begun, bytes_given, elements_squeezed, in_field, left_by, power, prepared_bytes, with_bytes, with_elements};
+ghost use Rattle.paxidore_c.specs.Transcript.{HasReady, Replaces, ServeAs, SpellReady, begun, bytes_given, element_bytes_squeezed, in_field, left_by, field_power, prepared_bytes, with_bytes, with_elements};
 
 mod forms;
 mod items;
@@ -50,7 +50,7 @@ macro_rules! in_field {
 
 // Returns the state of a transcript that has absorbed nothing.
 fn begun_over(alloc: Global, field: u32, parameters: &[u8]) -> Result<Vec<u8>, Refused>
-    ensures { GivesBy (λ bytes. bytes.items) (in_field field (begun parameters.now)) result }
+    ensures { CallGivesBy (λ bytes. bytes.items) (in_field field (begun parameters.now)) result }
 {
     in_field!(field, begun(alloc, parameters))
 }
@@ -82,8 +82,8 @@ fn with_elements_over(
     state: &[u8],
     elements: &[u8],
 ) -> Result<Vec<u8>, Refused>
-    ensures { GivesBy (λ bytes. bytes.items) (in_field field
-        (λ f. with_elements (power f) parameters.now state.now elements.now f)) result }
+    ensures { CallGivesBy (λ bytes. bytes.items) (in_field field
+        (λ f. with_elements (field_power f) parameters.now state.now elements.now f)) result }
 {
     in_field!(field, with_elements(alloc, parameters, state, elements))
 }
@@ -101,7 +101,8 @@ pub extern "C" fn paxidore_transcript_absorb(
     elements: &[u8],
 ) -> i32
     ensures { Replaces (in_field field
-        (λ f. with_elements (power f) parameters.now state.old elements.now f)) state.old state.new
+        (λ f. with_elements (field_power f) parameters.now state.old elements.now f)) state.old
+        state.new
         result }
 {
     write_over(
@@ -118,8 +119,8 @@ fn with_bytes_over(
     state: &[u8],
     text: &[u8],
 ) -> Result<Vec<u8>, Refused>
-    ensures { GivesBy (λ bytes. bytes.items) (in_field field
-        (λ f. with_bytes (power f) parameters.now state.now text.now f)) result }
+    ensures { CallGivesBy (λ bytes. bytes.items) (in_field field
+        (λ f. with_bytes (field_power f) parameters.now state.now text.now f)) result }
 {
     in_field!(field, with_bytes(alloc, parameters, state, text))
 }
@@ -135,7 +136,8 @@ pub extern "C" fn paxidore_transcript_absorb_bytes(
     parameters: &[u8],
     text: &[u8],
 ) -> i32
-    ensures { Replaces (in_field field (λ f. with_bytes (power f) parameters.now state.old text.now
+    ensures { Replaces (in_field field (λ f. with_bytes (field_power f) parameters.now state.old
+        text.now
         f)) state.old state.new result }
 {
     write_over(
@@ -152,8 +154,8 @@ fn elements_over(
     state: &[u8],
     count: usize,
 ) -> Result<Given, Refused>
-    ensures given { GivesBy (λ given. given) (in_field field
-        (λ f. elements_squeezed (power f) parameters.now state.now count f)) result }
+    ensures given { CallGivesBy (λ given. given) (in_field field
+        (λ f. element_bytes_squeezed (field_power f) parameters.now state.now count f)) result }
     ensures len { IfOk result (λ given. length given.given ≡ count) }
 {
     in_field!(field, elements_squeezed(alloc, parameters, state, count))
@@ -171,29 +173,30 @@ pub extern "C" fn paxidore_transcript_squeeze(
     parameters: &[u8],
 ) -> i32
     ensures state { Replaces (left_by (in_field field
-        (λ f. elements_squeezed (power f) parameters.now state.old (length out.old) f))) state.old
+        (λ f. element_bytes_squeezed (field_power f) parameters.now state.old (length out.old) f)))
+        state.old
         state.new result }
     ensures given { result ≡ pos 0
-        → IfOk (in_field field (λ f. elements_squeezed (power f) parameters.now state.old
+        → IfOk (in_field field (λ f. element_bytes_squeezed (field_power f) parameters.now state.old
         (length out.old) f)) (λ squeezed. out.new ≡ squeezed.given) }
     ensures kept { result ≢ pos 0 → out.new ≡ out.old }
 {
     match elements_over(alloc, field, parameters, state, out.len()) {
-        Ok(given) => fill(given, out, state),
+        Ok(given) => write_given(given, out, state),
         Err(refused) => refused.code(),
     }
 }
 
 // Returns so many of the next bytes, and the state behind them.
-fn bytes_over(
+fn bytes_squeezed_over(
     alloc: Global,
     field: u32,
     parameters: &[u8],
     state: &[u8],
     count: usize,
 ) -> Result<Given, Refused>
-    ensures given { GivesBy (λ given. given) (in_field field
-        (λ f. bytes_given (power f) parameters.now state.now count f)) result }
+    ensures given { CallGivesBy (λ given. given) (in_field field
+        (λ f. bytes_given (field_power f) parameters.now state.now count f)) result }
     ensures len { IfOk result (λ given. length given.given ≡ count) }
 {
     in_field!(field, bytes_given(alloc, parameters, state, count))
@@ -211,21 +214,22 @@ pub extern "C" fn paxidore_transcript_squeeze_bytes(
     parameters: &[u8],
 ) -> i32
     ensures state { Replaces (left_by (in_field field
-        (λ f. bytes_given (power f) parameters.now state.old (length out.old) f))) state.old
+        (λ f. bytes_given (field_power f) parameters.now state.old (length out.old) f))) state.old
         state.new result }
     ensures given { result ≡ pos 0
-        → IfOk (in_field field (λ f. bytes_given (power f) parameters.now state.old (length out.old)
+        → IfOk (in_field field (λ f. bytes_given (field_power f) parameters.now state.old
+        (length out.old)
         f)) (λ squeezed. out.new ≡ squeezed.given) }
     ensures kept { result ≢ pos 0 → out.new ≡ out.old }
 {
-    match bytes_over(alloc, field, parameters, state, out.len()) {
-        Ok(given) => fill(given, out, state),
+    match bytes_squeezed_over(alloc, field, parameters, state, out.len()) {
+        Ok(given) => write_given(given, out, state),
         Err(refused) => refused.code(),
     }
 }
 
 // Writes the state over the one before, where it has room for it, and what was given to `out`.
-fn fill(given: Given, out: &mut [u8], state: &mut [u8]) -> i32
+fn write_given(given: Given, out: &mut [u8], state: &mut [u8]) -> i32
     requires { length given.given ≡ length out.old }
     ensures state { (why : Result (List ℕ) Why) → why ≡ Ok given.state
         → Replaces why state.old state.new result }
@@ -262,7 +266,7 @@ fn spelled<F: Field>(alloc: Global, found: Option<PoseidonConfig<F>>) -> Result<
 fn ready_over(alloc: Global, field: u32, rate: usize) -> Result<Vec<u8>, Refused>
     ensures ready { IfOk result (λ bytes. SpellReady field rate bytes.items) }
     ensures none { (HasReady field rate → ⊥)
-        → GivesBy (λ bytes. bytes.items) (Err Invalid) result }
+        → CallGivesBy (λ bytes. bytes.items) (Err Invalid) result }
     ensures memory { HasReady field rate → IfErr result (λ refused. refused ≡ Memory) }
 {
     match field {
@@ -289,7 +293,7 @@ pub extern "C" fn paxidore_transcript_ready_parameters(
     ensures ready { result ≡ pos 0 → (bytes : List ℕ) × SpellReady field rate bytes
         × (parameters.new ≡ bytes ++ drop (length bytes) parameters.old)
         × (parameters_len.new ≡ length bytes) }
-    ensures none { (HasReady field rate → ⊥) → Gives (refusal_code Invalid) result }
+    ensures none { (HasReady field rate → ⊥) → GivesCode (refusal_code Invalid) result }
     ensures codes { HasReady field rate
         → (result ≡ pos 0) ⊎ (result ≡ refusal_code Room) ⊎ (result ≡ refusal_code Memory) }
     ensures kept { result ≢ pos 0 → parameters.new ≡ parameters.old }
@@ -299,7 +303,7 @@ pub extern "C" fn paxidore_transcript_ready_parameters(
 
 // Returns canonical bytes of parameters as prepared ones.
 fn prepared_over(alloc: Global, field: u32, parameters: &[u8]) -> Result<Vec<u8>, Refused>
-    ensures given { GivesBy (λ bytes. bytes.items) (in_field (field + 256)
+    ensures given { CallGivesBy (λ bytes. bytes.items) (in_field (field + 256)
         (prepared_bytes parameters.now)) result }
     ensures serve { IfOk result (λ bytes. ServeAs field parameters.now bytes.items) }
 {

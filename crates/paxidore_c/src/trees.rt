@@ -6,7 +6,7 @@ ghost use Rattle.ark_paths.specs.Index.{log2};
 ghost use Rattle.ark_paths.specs.Received.{ShowsLeaf, ShowsLeaves};
 ghost use Rattle.ark_paths.specs.Tree.{root_in};
 ghost use Rattle.ark_trees.specs.Rfc6962.{tree_hash_of_entries};
-ghost use Rattle.paxidore_c.specs.Answer.{Gives, GivesBy, Hands, all_shown, done_code, hashing_of, in_hashing, leaves_for, multi_path_of_leaves, path_of_leaves, results_of, shown, tree_leaves_in, verdict_code};
+ghost use Rattle.paxidore_c.specs.Answer.{GivesCode, CallGivesBy, Hands, all_shown, done_code, hashing_of, in_hashing, leaves_for, multi_path_of_leaves, path_of_leaves, results_of, shown, tree_leaves_in, verdict_code};
 ghost use Rattle.paxidore_c.specs.Hashing.{hashes_of, hashing_by, read_multi_path, read_path, tree_over};
 
 use crate::buffer::hand_over;
@@ -28,7 +28,7 @@ fn verify_over<H: ArrayHash>(
     leaf: &[u8],
     path: &[u8],
 ) -> i32
-    ensures answer { Gives (verdict_code (shown (hashing_by H.leaf_hash H.node_hash)
+    ensures answer { GivesCode (verdict_code (shown (hashing_by H.leaf_hash H.node_hash)
         root.now size index leaf.now path.now)) result }
     ensures shows { result ≡ pos 0 → ShowsLeaf (hashes_of (hashing_by H.leaf_hash H.node_hash))
         root.now size index leaf.now (read_path path.now) }
@@ -53,7 +53,7 @@ fn multi_verify_over<H: ArrayHash>(
     lengths: &[usize],
     proof: &[u8],
 ) -> i32
-    ensures answer { Gives (verdict_code (all_shown (hashing_by H.leaf_hash H.node_hash)
+    ensures answer { GivesCode (verdict_code (all_shown (hashing_by H.leaf_hash H.node_hash)
         root.now size indexes.now leaves.now lengths.now proof.now)) result }
     ensures shows { result ≡ pos 0
         → IfOk (leaves_for size (length indexes.now) leaves.now lengths.now)
@@ -81,7 +81,7 @@ fn tree_of<H: ArrayHash>(
     leaves: &[u8],
     lengths: &[usize],
 ) -> Result<MerkleTree<Arrays<H>>, Refused>
-    ensures { GivesBy (λ tree. tree.leaves)
+    ensures { CallGivesBy (λ tree. tree.leaves)
         (results_of H.leaf_hash (tree_leaves_in leaves.now lengths.now)) result }
 {
     if !is_tree_size(lengths.len()) {
@@ -92,13 +92,13 @@ fn tree_of<H: ArrayHash>(
 }
 
 // Writes the root of the tree above the leaves to `root`, and returns the code. A refusal leaves `root` as before.
-fn root_over<H: ArrayHash>(
+fn write_root<H: ArrayHash>(
     alloc: Global,
     root: &mut [u8; 32],
     leaves: &[u8],
     lengths: &[usize],
 ) -> i32
-    ensures answer { Gives (done_code (tree_leaves_in leaves.now lengths.now)) result }
+    ensures answer { GivesCode (done_code (tree_leaves_in leaves.now lengths.now)) result }
     ensures root { result ≡ pos 0 → IfOk (tree_leaves_in leaves.now lengths.now)
         (λ xs. root_in (tree_over (hashing_by H.leaf_hash H.node_hash) xs) ≡ Ok root.new) }
     ensures kept { result ≢ pos 0 → root.new ≡ root.old }
@@ -119,7 +119,8 @@ fn path_of<H: ArrayHash>(
     lengths: &[usize],
     index: usize,
 ) -> Result<Vec<u8>, Refused>
-    ensures { GivesBy (λ bytes. bytes.items) (path_of_leaves (hashing_by H.leaf_hash H.node_hash)
+    ensures { CallGivesBy (λ bytes. bytes.items) (path_of_leaves
+        (hashing_by H.leaf_hash H.node_hash)
         leaves.now lengths.now index) result }
 {
     let tree = tree_of::<H>(alloc, leaves, lengths)?;
@@ -154,7 +155,7 @@ fn multi_path_of<H: ArrayHash>(
     lengths: &[usize],
     indexes: &[usize],
 ) -> Result<Vec<u8>, Refused>
-    ensures { GivesBy (λ bytes. bytes.items)
+    ensures { CallGivesBy (λ bytes. bytes.items)
         (multi_path_of_leaves (hashing_by H.leaf_hash H.node_hash)
         leaves.now lengths.now indexes.now) result }
 {
@@ -201,7 +202,7 @@ pub extern "C" fn paxidore_verify(
     leaf: &[u8],
     path: &[u8],
 ) -> i32
-    ensures answer { Gives (verdict_code (in_hashing hashing (λ h.
+    ensures answer { GivesCode (verdict_code (in_hashing hashing (λ h.
         shown h root.now size index leaf.now path.now))) result }
 
     // 0 says: in every tree with this root and size the leaf stands at the index, or two different pairs are named that have
@@ -228,7 +229,7 @@ pub extern "C" fn paxidore_multi_verify(
     lengths: &[usize],
     proof: &[u8],
 ) -> i32
-    ensures answer { Gives (verdict_code (in_hashing hashing (λ h.
+    ensures answer { GivesCode (verdict_code (in_hashing hashing (λ h.
         all_shown h root.now size indexes.now leaves.now lengths.now proof.now))) result }
 
     // 0 says the same of each leaf and its index.
@@ -254,7 +255,7 @@ pub extern "C" fn paxidore_root(
     leaves: &[u8],
     lengths: &[usize],
 ) -> i32
-    ensures answer { Gives (done_code (in_hashing hashing (λ h.
+    ensures answer { GivesCode (done_code (in_hashing hashing (λ h.
         tree_leaves_in leaves.now lengths.now))) result }
     ensures root { result ≡ pos 0 → IfOk (hashing_of hashing) (λ h.
         IfOk (tree_leaves_in leaves.now lengths.now)
@@ -265,7 +266,7 @@ pub extern "C" fn paxidore_root(
         (λ xs. root.new ≡ tree_hash_of_entries (log2 (length xs)) xs) }
     ensures kept { result ≢ pos 0 → root.new ≡ root.old }
 {
-    in_hashing!(hashing, root_over(alloc, root, leaves, lengths))
+    in_hashing!(hashing, write_root(alloc, root, leaves, lengths))
 }
 
 /// Writes the bytes of the path of an index in the tree above the leaves to the front of `path`, and their count.

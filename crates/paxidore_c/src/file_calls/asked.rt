@@ -64,7 +64,7 @@ fn are_pieces(places: &[[usize; 2]], pieces: &[u8]) -> bool {
 }
 
 // Whether each piece lies within so many bytes.
-fn are_inside(places: &[[usize; 2]], file_len: usize) -> bool
+fn are_within_file(places: &[[usize; 2]], file_len: usize) -> bool
     ensures { result ≡ list_all (lies_within file_len) places.now }
 {
     for piece in places {
@@ -124,7 +124,7 @@ pub fn ask(
     if count == 0 {
         return Err(NotDone::Refusal(Refused::Room));
     }
-    if !are_inside(&missing[..count], file_len) {
+    if !are_within_file(&missing[..count], file_len) {
         return Err(NotDone::Refusal(Refused::Other));
     }
     put_places(places, read, &missing[..count]);

@@ -11,7 +11,7 @@ ghost use Rattle.paxidore_c.specs.declared.refused.Refused.TheVariants.{Memory, 
 
 use crate::file_calls::not_done::NotDone;
 use crate::file_calls::replay::Step;
-use crate::log_keeper::bytes_of;
+use crate::log_keeper::bytes_of_path;
 use crate::refused::Refused;
 use std::alloc::Global;
 
@@ -101,7 +101,7 @@ pub fn hand_over_digests(
     ensures refused { IfErr result (λ why. (why ≡ Refusal Memory) ⊎ (why ≡ Refusal Room)) }
     ensures done { result ≢ Err More }
 {
-    let bytes = bytes_of(alloc, digests)?;
+    let bytes = bytes_of_path(alloc, digests)?;
     *count = bytes.len();
     if buffer.len() < bytes.len() {
         return Err(NotDone::Refusal(Refused::Room));

@@ -10,7 +10,7 @@ ghost use Rattle.ark_groups.specs.Words.{number};
 ghost use Rattle.ark_wide_fields.specs.Values.{value};
 ghost use Rattle.paxidore_c.specs.Forms.{Form, HasForm, divided, kept_form, own_form};
 
-use crate::transcript::items::{ReadsItem, read_each};
+use crate::transcript::items::{ReadsItem, read_each_item};
 use ark_base::error::Error;
 use ark_groups::ff::{Field, Words, write_bytes};
 use ark_wide_fields::{Fp256, WideModulus, byte_len, read_below};
@@ -132,7 +132,7 @@ impl<M: WideModulus> ElementForm<Fp256<M>> for Kept {
         count: u64,
         bytes: &[u8],
     ) -> Result<(Vec<Fp256<M>>, usize), Error> {
-        read_each::<Fp256<M>, Kept>(alloc, count, kept_len::<M>(), bytes)
+        read_each_item::<Fp256<M>, Kept>(alloc, count, kept_len::<M>(), bytes)
     }
 
     fn write_elements(elements: &[Fp256<M>], dest: &mut Vec<u8>) -> Result<(), Error> {

@@ -27,7 +27,7 @@ pub trait ReadsItem<T> {
 ///
 /// Room is allocated at once, for no more items than the bytes that remain could spell. Errors: the items' faults, one item
 /// behind the other; `OutOfMemory`.
-pub fn read_each<T: Drop, R: ReadsItem<T>>(
+pub fn read_each_item<T: Drop, R: ReadsItem<T>>(
     alloc: Global,
     count: u64,
     least: usize,

@@ -6,13 +6,13 @@ ghost use Rattle.ark_base.specs.Outcome.{IsMemory};
 ghost use Rattle.ark_base.specs.Spelling.{IsCounted, counted_list, counted_list_at};
 ghost use Rattle.ark_sponge.specs.ConfigBytes.{HaveSpelling, fields_of, fields_spelling};
 ghost use Rattle.ark_sponge.specs.Permutation.{lawful_parameters};
-ghost use Rattle.paxidore_c.specs.Answer.{GivesBy};
+ghost use Rattle.paxidore_c.specs.Answer.{CallGivesBy};
 ghost use Rattle.paxidore_c.specs.Transcript.{field_size, formed, parameters_in, prepared_bytes};
 
 use crate::refused::Refused;
 use crate::transcript::forms::{ElementForm, Own};
-use crate::transcript::items::{ReadsItem, read_each};
-use crate::transcript::reading::whole;
+use crate::transcript::items::{ReadsItem, read_each_item};
+use crate::transcript::reading::read_whole;
 use ark_base::error::{Error, SerializationError};
 use ark_base::serialize::{Canonical, CanonicalDeserialize, CanonicalSerialize, rest_of};
 use ark_groups::ff::{Field, Valued};
@@ -70,7 +70,7 @@ impl<F: Field, E: ElementForm<F>> CanonicalDeserialize for Rows<F, E> {
     #[tactic(auto, unfolding(ark_base::specs::Spelling::then_at))]
     fn read(alloc: Global, bytes: &[u8]) -> Result<(Rows<F, E>, usize), Error> {
         let (count, used) = u64::read(alloc, bytes)?;
-        let (rows, more) = read_each::<Vec<F>, Row<E>>(alloc, count, 8, rest_of(bytes, used))?;
+        let (rows, more) = read_each_item::<Vec<F>, Row<E>>(alloc, count, 8, rest_of(bytes, used))?;
         let rows = Rows {
             rows,
             form: PhantomData,
@@ -178,16 +178,16 @@ fn formed_bytes<F: Field, E: ElementForm<F>>(
 }
 
 /// Returns the parameters that the bytes spell.
-pub fn parameters_of<F: Field, E: ElementForm<F>>(
+pub fn parameters_spelled<F: Field, E: ElementForm<F>>(
     alloc: Global,
     bytes: &[u8],
 ) -> Result<PoseidonConfig<F>, Refused>
-    ensures given { GivesBy (λ c. c) (parameters_in (formed F.MODULUS F.MODULUS_BIT_SIZE E.form)
+    ensures given { CallGivesBy (λ c. c) (parameters_in (formed F.MODULUS F.MODULUS_BIT_SIZE E.form)
         bytes.now) result }
     ensures below { IfOk result (λ c. HaveSpelling (IsBelow E.modulus) (fields_of c)) }
     ensures lawful { IfOk result (λ c. lawful_parameters F.MODULUS_BIT_SIZE c ≡ Ok c) }
 {
-    let Formed { parameters, .. } = whole::<Formed<F, E>>(alloc, bytes)?;
+    let Formed { parameters, .. } = read_whole::<Formed<F, E>>(alloc, bytes)?;
     Ok(parameters)
 }
 
@@ -196,7 +196,7 @@ pub fn prepared_bytes<F: Field, E: ElementForm<F>>(
     alloc: Global,
     parameters: &[u8],
 ) -> Result<Vec<u8>, Refused>
-    ensures given { GivesBy (λ bytes. bytes.items) (prepared_bytes parameters.now
+    ensures given { CallGivesBy (λ bytes. bytes.items) (prepared_bytes parameters.now
         (formed F.MODULUS F.MODULUS_BIT_SIZE E.form)) result }
 
     // They are read as the same parameters.
@@ -204,6 +204,6 @@ pub fn prepared_bytes<F: Field, E: ElementForm<F>>(
         parameters_in (formed F.MODULUS F.MODULUS_BIT_SIZE E.form) bytes.items
         ≡ parameters_in (field_size F.MODULUS F.MODULUS_BIT_SIZE) parameters.now) }
 {
-    let parameters = parameters_of::<F, Own>(alloc, parameters)?;
+    let parameters = parameters_spelled::<F, Own>(alloc, parameters)?;
     Ok(formed_bytes::<F, E>(alloc, &parameters)?)
 }

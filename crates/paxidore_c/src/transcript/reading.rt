@@ -1,12 +1,12 @@
 //! Sponges and elements that bytes spell.
 
 ghost use Rattle.std.specs.Prelude.{◌≡◌, map, IfOk};
-ghost use Rattle.paxidore_c.specs.Answer.{GivesBy};
-ghost use Rattle.paxidore_c.specs.Transcript.{element_length, elements_in, field_size, formed, mode_of, sponge_in, state_in, whole_of};
+ghost use Rattle.paxidore_c.specs.Answer.{CallGivesBy};
+ghost use Rattle.paxidore_c.specs.Transcript.{element_length, elements_filling, field_size, formed, mode_of, sponge_in, state_in, whole_of};
 
 use crate::refused::Refused;
 use crate::transcript::forms::ElementForm;
-use crate::transcript::parameters::parameters_of;
+use crate::transcript::parameters::parameters_spelled;
 use ark_base::error::Error;
 use ark_base::serialize::{CanonicalDeserialize, rest_of};
 use ark_groups::ff::Field;
@@ -15,8 +15,8 @@ use ark_sponge::poseidon::{PoseidonSponge, PoseidonSpongeState, SBox};
 use std::alloc::Global;
 
 /// Returns the value that the bytes spell, where nothing stands behind it.
-pub fn whole<T: CanonicalDeserialize + Drop>(alloc: Global, bytes: &[u8]) -> Result<T, Refused>
-    ensures given { GivesBy T.view (whole_of (T.reads bytes.now)) result }
+pub fn read_whole<T: CanonicalDeserialize + Drop>(alloc: Global, bytes: &[u8]) -> Result<T, Refused>
+    ensures given { CallGivesBy T.view (whole_of (T.reads bytes.now)) result }
     ensures spelled { IfOk result (λ value. T.has_spelling (T.view value)) }
 {
     let (value, used) = T::deserialize(alloc, bytes)?;
@@ -34,9 +34,9 @@ pub fn element_length<F: Field>() -> usize
 }
 
 /// Returns the elements that fill the bytes.
-pub fn elements_of<F: Field>(alloc: Global, bytes: &[u8]) -> Result<Vec<F>, Refused>
-    ensures { GivesBy (λ xs. map F.value xs.items)
-        (elements_in (field_size F.MODULUS F.MODULUS_BIT_SIZE) bytes.now) result }
+pub fn elements_filling<F: Field>(alloc: Global, bytes: &[u8]) -> Result<Vec<F>, Refused>
+    ensures { CallGivesBy (λ xs. map F.value xs.items)
+        (elements_filling (field_size F.MODULUS F.MODULUS_BIT_SIZE) bytes.now) result }
 {
     let len = element_length::<F>();
     if bytes.len() % len != 0 {
@@ -50,16 +50,16 @@ pub fn elements_of<F: Field>(alloc: Global, bytes: &[u8]) -> Result<Vec<F>, Refu
 }
 
 // Returns the state of so many elements that the bytes spell.
-fn state_of<F: Field>(
+fn state_spelled<F: Field>(
     alloc: Global,
     width: usize,
     bytes: &[u8],
 ) -> Result<PoseidonSpongeState<F>, Refused>
-    ensures { GivesBy (λ state. state) (state_in (field_size F.MODULUS F.MODULUS_BIT_SIZE) width
+    ensures { CallGivesBy (λ state. state) (state_in (field_size F.MODULUS F.MODULUS_BIT_SIZE) width
         bytes.now) result }
 {
     let (elements, used) = F::read_items(alloc, width as u64, bytes)?;
-    let next = whole::<(usize, bool)>(alloc, rest_of(bytes, used))?;
+    let next = read_whole::<(usize, bool)>(alloc, rest_of(bytes, used))?;
     Ok(PoseidonSpongeState::new(elements, mode_of(next)))
 }
 
@@ -85,12 +85,12 @@ pub fn sponge_of<F: Field, S: SBox<F>, E: ElementForm<F>>(
     parameters: &[u8],
     state: &[u8],
 ) -> Result<PoseidonSponge<F, S>, Refused>
-    ensures { GivesBy (λ sponge. sponge) (sponge_in (formed F.MODULUS F.MODULUS_BIT_SIZE E.form)
+    ensures { CallGivesBy (λ sponge. sponge) (sponge_in (formed F.MODULUS F.MODULUS_BIT_SIZE E.form)
         parameters.now state.now) result }
 {
-    let parameters = parameters_of::<F, E>(alloc, parameters)?;
+    let parameters = parameters_spelled::<F, E>(alloc, parameters)?;
     let width = parameters.rate() + parameters.capacity();
-    let state = state_of::<F>(alloc, width, state)?;
+    let state = state_spelled::<F>(alloc, width, state)?;
     match PoseidonSponge::resumed(alloc, state, parameters) {
         Ok(sponge) => Ok(sponge),
         Err(Error::OutOfMemory) => Err(Refused::Memory),

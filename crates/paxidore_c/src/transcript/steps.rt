@@ -1,14 +1,14 @@
 //! What a transcript absorbs and gives, over one field.
 
 ghost use Rattle.std.specs.Prelude.{◌≡◌, length, IfOk};
-ghost use Rattle.paxidore_c.specs.Answer.{GivesBy};
-ghost use Rattle.paxidore_c.specs.Transcript.{begun, bytes_given, elements_squeezed, formed, Squeezed, with_bytes, with_elements};
+ghost use Rattle.paxidore_c.specs.Answer.{CallGivesBy};
+ghost use Rattle.paxidore_c.specs.Transcript.{begun, bytes_given, element_bytes_squeezed, formed, Squeezed, with_bytes, with_elements};
 
 use crate::refused::Refused;
 use crate::transcript::forms::ElementForm;
-use crate::transcript::parameters::parameters_of;
-use crate::transcript::reading::{element_length, elements_of, sponge_of};
-use crate::transcript::writing::{bytes_of_elements, state_bytes};
+use crate::transcript::parameters::parameters_spelled;
+use crate::transcript::reading::{element_length, elements_filling, sponge_of};
+use crate::transcript::writing::{bytes_of_elements, sponge_state_bytes};
 use ark_groups::ff::Field;
 use ark_sponge::CryptographicSponge;
 use ark_sponge::poseidon::{PoseidonSponge, SBox};
@@ -20,11 +20,11 @@ pub fn begun<F: Field, S: SBox<F>, E: ElementForm<F>>(
     alloc: Global,
     parameters: &[u8],
 ) -> Result<Vec<u8>, Refused>
-    ensures { GivesBy (λ bytes. bytes.items)
+    ensures { CallGivesBy (λ bytes. bytes.items)
         (begun parameters.now (formed F.MODULUS F.MODULUS_BIT_SIZE E.form)) result }
 {
-    let parameters = parameters_of::<F, E>(alloc, parameters)?;
-    state_bytes(alloc, &PoseidonSponge::<F, S>::over(alloc, parameters)?)
+    let parameters = parameters_spelled::<F, E>(alloc, parameters)?;
+    sponge_state_bytes(alloc, &PoseidonSponge::<F, S>::over(alloc, parameters)?)
 }
 
 /// Returns the state that has absorbed elements.
@@ -34,13 +34,13 @@ pub fn with_elements<F: Field, S: SBox<F>, E: ElementForm<F>>(
     state: &[u8],
     elements: &[u8],
 ) -> Result<Vec<u8>, Refused>
-    ensures { GivesBy (λ bytes. bytes.items) (with_elements S.image parameters.now state.now
+    ensures { CallGivesBy (λ bytes. bytes.items) (with_elements S.image parameters.now state.now
         elements.now (formed F.MODULUS F.MODULUS_BIT_SIZE E.form)) result }
 {
     let mut sponge = sponge_of::<F, S, E>(alloc, parameters, state)?;
-    let elements = elements_of::<F>(alloc, elements)?;
+    let elements = elements_filling::<F>(alloc, elements)?;
     sponge.absorb_native(&elements);
-    state_bytes(alloc, &sponge)
+    sponge_state_bytes(alloc, &sponge)
 }
 
 /// Returns the state that has absorbed bytes.
@@ -50,13 +50,14 @@ pub fn with_bytes<F: Field, S: SBox<F>, E: ElementForm<F>>(
     state: &[u8],
     text: &[u8],
 ) -> Result<Vec<u8>, Refused>
-    ensures { GivesBy (λ bytes. bytes.items) (with_bytes S.image parameters.now state.now text.now
+    ensures { CallGivesBy (λ bytes. bytes.items) (with_bytes S.image parameters.now state.now
+        text.now
         (formed F.MODULUS F.MODULUS_BIT_SIZE E.form)) result }
 {
     let mut sponge = sponge_of::<F, S, E>(alloc, parameters, state)?;
     let text = Vec::from_slice(alloc, text)?;
     sponge.absorb(&text)?;
-    state_bytes(alloc, &sponge)
+    sponge_state_bytes(alloc, &sponge)
 }
 
 /// What squeezing gives, and the state that it leaves.
@@ -79,7 +80,8 @@ pub fn elements_squeezed<F: Field, S: SBox<F>, E: ElementForm<F>>(
     state: &[u8],
     count: usize,
 ) -> Result<Given, Refused>
-    ensures given { GivesBy (λ given. given) (elements_squeezed S.image parameters.now state.now
+    ensures given { CallGivesBy (λ given. given) (element_bytes_squeezed S.image parameters.now
+        state.now
         count (formed F.MODULUS F.MODULUS_BIT_SIZE E.form)) result }
     ensures len { IfOk result (λ given. length given.given ≡ count) }
 {
@@ -91,7 +93,7 @@ pub fn elements_squeezed<F: Field, S: SBox<F>, E: ElementForm<F>>(
     let mut elements = vec![in alloc; F::zero(); count / len]?;
     sponge.squeeze_into(&mut elements);
     let bytes = bytes_of_elements(alloc, &elements)?;
-    let state = state_bytes(alloc, &sponge)?;
+    let state = sponge_state_bytes(alloc, &sponge)?;
     Ok(Given { bytes, state })
 }
 
@@ -102,7 +104,7 @@ pub fn bytes_given<F: Field, S: SBox<F>, E: ElementForm<F>>(
     state: &[u8],
     count: usize,
 ) -> Result<Given, Refused>
-    ensures given { GivesBy (λ given. given) (bytes_given S.image parameters.now state.now count
+    ensures given { CallGivesBy (λ given. given) (bytes_given S.image parameters.now state.now count
         (formed F.MODULUS F.MODULUS_BIT_SIZE E.form)) result }
     ensures len { IfOk result (λ given. length given.given ≡ count) }
 {
@@ -110,6 +112,6 @@ pub fn bytes_given<F: Field, S: SBox<F>, E: ElementForm<F>>(
     // The call tells the proof that the field has nine bits.
     let _known = sponge.parameters().rate();
     let bytes = sponge.squeeze_bytes(count)?;
-    let state = state_bytes(alloc, &sponge)?;
+    let state = sponge_state_bytes(alloc, &sponge)?;
     Ok(Given { bytes, state })
 }

@@ -2,9 +2,9 @@
 
 ghost use Rattle.std.specs.Prelude.{◌≡◌, ℕ, List, map, Result, Ok};
 ghost use Rattle.ark_sponge.specs.Mode.{mode_index};
-ghost use Rattle.paxidore_c.specs.Answer.{GivesBy};
+ghost use Rattle.paxidore_c.specs.Answer.{CallGivesBy};
 ghost use Rattle.paxidore_c.specs.declared.refused.Refused.{Refused as Why};
-ghost use Rattle.paxidore_c.specs.Transcript.{elements_bytes, field_size, is_squeezing, Replaces, state_bytes};
+ghost use Rattle.paxidore_c.specs.Transcript.{elements_bytes, field_size, is_squeezing, Replaces, sponge_state_bytes};
 
 use crate::refused::Refused;
 use ark_base::serialize::CanonicalSerialize;
@@ -14,7 +14,7 @@ use ark_sponge::poseidon::{PoseidonSponge, SBox};
 use std::alloc::Global;
 
 // Returns the index of a sponge, and whether it squeezes.
-fn next_of(mode: DuplexSpongeMode) -> (usize, bool)
+fn index_and_squeezing(mode: DuplexSpongeMode) -> (usize, bool)
     ensures index { result.0 ≡ mode_index mode }
     ensures squeezes { result.1 ≡ is_squeezing mode }
 {
@@ -28,7 +28,7 @@ fn next_of(mode: DuplexSpongeMode) -> (usize, bool)
 pub fn bytes_of_elements<F: Field>(alloc: Global, elements: &[F]) -> Result<Vec<u8>, Refused>
     ensures { let f = field_size F.MODULUS F.MODULUS_BIT_SIZE in
         let bytes = elements_bytes f (map F.value elements.now) in
-        GivesBy (λ bytes. bytes.items) (Ok bytes) result }
+        CallGivesBy (λ bytes. bytes.items) (Ok bytes) result }
 {
     let mut bytes = Vec::new(alloc);
     F::serialize_items(elements, &mut bytes)?;
@@ -36,21 +36,21 @@ pub fn bytes_of_elements<F: Field>(alloc: Global, elements: &[F]) -> Result<Vec<
 }
 
 /// Returns the bytes of a sponge's state.
-pub fn state_bytes<F: Field, S: SBox<F>>(
+pub fn sponge_state_bytes<F: Field, S: SBox<F>>(
     alloc: Global,
     sponge: &PoseidonSponge<F, S>,
 ) -> Result<Vec<u8>, Refused>
-    ensures { GivesBy (λ bytes. bytes.items)
-        (Ok (state_bytes (field_size F.MODULUS F.MODULUS_BIT_SIZE) sponge.now)) result }
+    ensures { CallGivesBy (λ bytes. bytes.items)
+        (Ok (sponge_state_bytes (field_size F.MODULUS F.MODULUS_BIT_SIZE) sponge.now)) result }
 {
     let mut bytes = bytes_of_elements(alloc, sponge.state())?;
-    next_of(sponge.mode()).serialize(&mut bytes)?;
+    index_and_squeezing(sponge.mode()).serialize(&mut bytes)?;
     Ok(bytes)
 }
 
 /// Writes the bytes over the front of `buffer`, where it has room for them; what refuses leaves it.
 pub fn write_over(bytes: Result<Vec<u8>, Refused>, buffer: &mut [u8]) -> i32
-    ensures { (outcome : Result (List ℕ) Why) → GivesBy (λ bytes. bytes.items) outcome bytes
+    ensures { (outcome : Result (List ℕ) Why) → CallGivesBy (λ bytes. bytes.items) outcome bytes
         → Replaces outcome buffer.old buffer.new result }
 {
     match bytes {

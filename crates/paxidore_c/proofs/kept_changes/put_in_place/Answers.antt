@@ -3,8 +3,8 @@ use Rattle.std.proofs.lemmas.List.{length-drop, length-take-le}
 use Rattle.kept_tree.proofs.Lengths.{tree_length}
 use Rattle.paxidore_c.proofs.kept_changes.put_in_place.Goals as goal
 
-pub put_leaves-requires-clause-inside : goal.put_leaves-requires-clause-inside
-put_leaves-requires-clause-inside g c =
+pub put_leaf_digests-requires-clause-inside : goal.put_leaf_digests-requires-clause-inside
+put_leaf_digests-requires-clause-inside g c =
     let tree = c.args.tree.now in
     let first = length tree / 2 in
     let size = tree_length (length tree) c.requires.size in

@@ -7,6 +7,6 @@ pub returns-clause-given : goal.returns-clause-given
 returns-clause-given c = (
   flat_map itself c.deref.result.now,
   given-inside _ c.args.size c.args.index c.args.kept.now
-      (flat_map itself c.deref.result.now) c.bytes_of.result c.in-Some.ensures.0 c.if-index-size.false
-      c.bytes_of.ensures,
+      (flat_map itself c.deref.result.now) c.bytes_of_path.result c.in-Some.ensures.0 c.if-index-size.false
+      c.bytes_of_path.ensures,
 )

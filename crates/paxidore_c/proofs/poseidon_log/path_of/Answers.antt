@@ -41,8 +41,8 @@ returns c = λ inputs parameters spells.
     let table = c.in-Ok.ensures.read inputs parameters spells in
     let elements = c.args.elements.now in
     let outcome = all_of (inclusion_path (node_outcome parameters) [] c.args.index elements) in
-    two-gives (λ bytes. bytes.items) inputs _ c.bytes_of.result table.0
+    two-gives (λ bytes. bytes.items) inputs _ c.bytes_of_path.result table.0
     (rw (c.in-Ok-are_given.ensures.given, lt-ltb c.args.index (length elements) c.if-index-elements.false)
     (bytes-given outcome c.in-Ok-path_of_elements.path.items
     (c.in-Ok-path_of_elements.ensures.path parameters table.1 c.in-Ok-are_given.ensures.all []) (λ bytes. bytes.items)
-    c.bytes_of.result (rw (c.deref.ensures.value) at c.bytes_of.ensures)))
+    c.bytes_of_path.result (rw (c.deref.ensures.value) at c.bytes_of_path.ensures)))

@@ -8,7 +8,7 @@ use Rattle.merkle_log.specs.Log.{NodeHash}
 use Rattle.merkle_log.specs.Received.{ShowsLogLeaf, inclusion_length, received_inclusion}
 use Rattle.paxidore_c.specs.Answer.{refusing}
 use Rattle.paxidore_c.specs.LogProofs.{proof_digests}
-use Rattle.paxidore_c.specs.PoseidonLog.{shown_by}
+use Rattle.paxidore_c.specs.PoseidonLog.{element_verdict}
 use Rattle.paxidore_c.proofs.Answering.{zero-says}
 use Rattle.paxidore_c.proofs.Codes.{answers-give, verdict-fits}
 use Rattle.paxidore_c.proofs.poseidon_log.verify_by.Goals as goal
@@ -19,7 +19,7 @@ returns-clause-answer c = λ parameters of.
     let path = proof_digests (inclusion_length c.args.size c.args.index) c.args.path.now in
     let outcome = received_inclusion (element_hashes (node_outcome parameters)) c.args.root.now c.args.size c.args.index
     c.args.element.now path in
-    let known : shown_by parameters c.args.root.now c.args.size c.args.index c.args.element.now c.args.path.now
+    let known : element_verdict parameters c.args.root.now c.args.size c.args.index c.args.element.now c.args.path.now
     ≡ refusing outcome = rw (lt-ltb c.args.index c.args.size c.if-index-size.false) refl in
     rw (known, c.verdict_code.ensures, verdict-fits (refusing c.verify_inclusion_bytes.result))
     (answers-give outcome c.verify_inclusion_bytes.result

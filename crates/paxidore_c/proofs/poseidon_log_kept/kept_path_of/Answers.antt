@@ -66,8 +66,8 @@ returns-clause-given c = λ inputs parameters spells.
     let inside : nat_lt c.args.index c.args.size ≡ true = lt-ltb c.args.index c.args.size c.if-index-size.false in (
       Ok (flat_map itself c.deref.result.now),
       tt,
-      two-gives (λ bytes. bytes.items) inputs _ c.bytes_of.result table.0
-          (rw (c.in-Some.ensures.0, inside) c.bytes_of.ensures),
+      two-gives (λ bytes. bytes.items) inputs _ c.bytes_of_path.result table.0
+          (rw (c.in-Some.ensures.0, inside) c.bytes_of_path.ensures),
     )
 
 pub returns-clause-path : goal.returns-clause-path
@@ -75,7 +75,7 @@ returns-clause-path c = λ inputs parameters spells leaves le keeps.
     let table = c.in-Ok.ensures.read inputs parameters spells in
     let inside : nat_lt c.args.index c.args.size ≡ true = lt-ltb c.args.index c.args.size c.if-index-size.false in
     let outcome = all_of (inclusion_path (node_outcome parameters) [] c.args.index (take c.args.size leaves)) in
-    two-gives (λ bytes. bytes.items) inputs _ c.bytes_of.result table.0 (rw (c.in-Some.ensures.0, inside)
+    two-gives (λ bytes. bytes.items) inputs _ c.bytes_of_path.result table.0 (rw (c.in-Some.ensures.0, inside)
     (bytes-given outcome c.in-Ok-inclusion_path.path.items
     ((rw (c.in-Some.ensures.1) at c.in-Ok-inclusion_path.ensures) parameters table.1 leaves le keeps [])
-    (λ bytes. bytes.items) c.bytes_of.result (rw (c.deref.ensures.value) at c.bytes_of.ensures)))
+    (λ bytes. bytes.items) c.bytes_of_path.result (rw (c.deref.ensures.value) at c.bytes_of_path.ensures)))

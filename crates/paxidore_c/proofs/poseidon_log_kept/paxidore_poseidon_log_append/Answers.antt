@@ -7,20 +7,20 @@ use Rattle.paxidore_c.proofs.poseidon_log_kept.paxidore_poseidon_log_append.Goal
 pub returns-in-Ok-clause-answer : goal.returns-in-Ok-clause-answer
 returns-in-Ok-clause-answer c = λ inputs parameters spells leaves count keeps all.
     let table = c.in-Ok.ensures.read inputs parameters spells in
-    let fits = to_z-of_z w32 c.append_by.result (record { sfits = c.append_by.type_inv }) in
-    rw (fits, eq-eqb inputs 2 table.0) (c.append_by.ensures.answer parameters table.1 leaves count keeps all)
+    let fits = to_z-of_z w32 c.append_elements.result (record { sfits = c.append_elements.type_inv }) in
+    rw (fits, eq-eqb inputs 2 table.0) (c.append_elements.ensures.answer parameters table.1 leaves count keeps all)
 
 pub returns-in-Ok-clause-grows : goal.returns-in-Ok-clause-grows
 returns-in-Ok-clause-grows c = λ inputs parameters spells zero leaves count keeps.
     let table = c.in-Ok.ensures.read inputs parameters spells in
-    let fits = to_z-of_z w32 c.append_by.result (record { sfits = c.append_by.type_inv }) in
-    c.append_by.ensures.grows parameters table.1 (rw fits at zero) leaves count keeps
+    let fits = to_z-of_z w32 c.append_elements.result (record { sfits = c.append_elements.type_inv }) in
+    c.append_elements.ensures.grows parameters table.1 (rw fits at zero) leaves count keeps
 
 pub returns-in-Ok-clause-given : goal.returns-in-Ok-clause-given
 returns-in-Ok-clause-given c = λ inputs parameters spells.
     let table = c.in-Ok.ensures.read inputs parameters spells in
-    let fits = to_z-of_z w32 c.append_by.result (record { sfits = c.append_by.type_inv }) in
-    let any = c.append_by.ensures.given in
+    let fits = to_z-of_z w32 c.append_elements.result (record { sfits = c.append_elements.type_inv }) in
+    let any = c.append_elements.ensures.given in
     (any.0, any.1, rw (fits, eq-eqb inputs 2 table.0) any.2)
 
 pub returns-in-Err-clause-answer : goal.returns-in-Err-clause-answer

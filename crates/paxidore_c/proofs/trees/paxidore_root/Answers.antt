@@ -7,4 +7,4 @@ pub returns-in-2-clause-tree_hash : goal.returns-in-2-clause-tree_hash
 returns-in-2-clause-tree_hash c = λ two zero.
     let leaves = tree_leaves_in c.args.leaves.now c.args.lengths.now in
     log-root c.args.leaves.now c.args.lengths.now _
-    (c.root_over-in-2.ensures.root (done-zero leaves c.root_over-in-2.result c.root_over-in-2.ensures.answer zero))
+    (c.write_root-in-2.ensures.root (done-zero leaves c.write_root-in-2.result c.write_root-in-2.ensures.answer zero))

@@ -1,4 +1,4 @@
-use Rattle.paxidore_c.proofs.poseidon.hash_over.Goals as goal
+use Rattle.paxidore_c.proofs.poseidon.hash_in_order.Goals as goal
 
 pub returns-in-1 : goal.returns-in-1
 returns-in-1 c = λ count parameters spells. rw c.in-1.is (c.hash_in.ensures count parameters spells)

@@ -1,7 +1,7 @@
 use Rattle.std.proofs.Common.{◌≡◌, ◌≤◌, ◌-◌, length, map, drop}
 use Rattle.ark_base.specs.Spelling.{items_at}
 use Rattle.ark_base.proofs.Items.{with_front}
-use Rattle.paxidore_c.proofs.transcript.items.read_each.Given as goal
+use Rattle.paxidore_c.proofs.transcript.items.read_each_item.Given as goal
 
 -- what was read, and what is still read, are the whole
 abbrev pub invariant-loop : goal.invariant-loop

@@ -1,6 +1,6 @@
 use Rattle.std.proofs.Common.{◌-◌, length, take}
 use Rattle.paxidore_c.proofs.Cutting.{IsSoFar}
-use Rattle.paxidore_c.proofs.leaves.hash_leaves.Given as goal
+use Rattle.paxidore_c.proofs.leaves.write_leaf_digests.Given as goal
 
 abbrev pub invariant-runs : goal.invariant-runs
 invariant-runs g l =

@@ -3,7 +3,7 @@ use Rattle.std.proofs.lemmas.List.{length-drop}
 use Rattle.paxidore_c.proofs.Numbers.{elements_fault, elements_read}
 use Rattle.paxidore_c.proofs.Whole.{elements-alone, elements-fault, elements-more, error_passed}
 use Rattle.paxidore_c.specs.Transcript.{field_size}
-use Rattle.paxidore_c.proofs.transcript.reading.elements_of.Goals as goal
+use Rattle.paxidore_c.proofs.transcript.reading.elements_filling.Goals as goal
 
 pub returns-in_err-elements : goal.returns-in_err-elements
 returns-in_err-elements g c =

@@ -10,7 +10,7 @@ use Rattle.paxidore_c.specs.PoseidonLog.{appended_by}
 use Rattle.paxidore_c.specs.declared.refused.Refused.TheVariants.{Invalid, Room, Size}
 use Rattle.paxidore_c.proofs.Hashed.{refused-gives}
 use Rattle.paxidore_c.proofs.KeptGiven.{any-refused, whole-read}
-use Rattle.paxidore_c.proofs.poseidon_log_kept.append_by.Goals as goal
+use Rattle.paxidore_c.proofs.poseidon_log_kept.append_elements.Goals as goal
 
 pub returns-in-None-clause-given : goal.returns-in-None-clause-given
 returns-in-None-clause-given c =

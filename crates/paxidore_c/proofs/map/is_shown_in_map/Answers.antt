@@ -4,7 +4,7 @@ use Rattle.merkle_map.specs.Parts.{value_seen}
 use Rattle.merkle_map.specs.Sha256.{sha256_map}
 use Rattle.paxidore_c.specs.Maps.{key_proof_in}
 use Rattle.paxidore_c.proofs.MapLemmas.{shown-read}
-use Rattle.paxidore_c.proofs.map.is_shown.Goals as goal
+use Rattle.paxidore_c.proofs.map.is_shown_in_map.Goals as goal
 
 pub returns-clause-bound : goal.returns-clause-bound
 returns-clause-bound c =

@@ -4,7 +4,7 @@ use Rattle.std.proofs.lemmas.List.{map_push, drop-drop, length-drop}
 use Rattle.ark_base.specs.Spelling.{items_at}
 use Rattle.ark_base.proofs.Refusals.{passed_on}
 use Rattle.ark_base.proofs.Items.{goes_on, ends, is_done}
-use Rattle.paxidore_c.proofs.transcript.items.read_each.Goals as goal
+use Rattle.paxidore_c.proofs.transcript.items.read_each_item.Goals as goal
 
 pub returns-in_err-item : goal.returns-in_err-item
 returns-in_err-item g c =

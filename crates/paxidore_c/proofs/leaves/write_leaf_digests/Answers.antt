@@ -1,7 +1,7 @@
 use Rattle.std.proofs.Common.{◌+◌, take}
 use Rattle.ark_crh.specs.Ahead.{lent}
 use Rattle.paxidore_c.proofs.Cutting.{so_far-more}
-use Rattle.paxidore_c.proofs.leaves.hash_leaves.Goals as goal
+use Rattle.paxidore_c.proofs.leaves.write_leaf_digests.Goals as goal
 
 pub runs-preserved : goal.runs-preserved
 runs-preserved g c =

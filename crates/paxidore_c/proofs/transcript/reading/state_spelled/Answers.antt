@@ -1,7 +1,7 @@
 use Rattle.paxidore_c.proofs.Numbers.{elements_fault, elements_read}
 use Rattle.paxidore_c.proofs.Whole.{error_passed, next-fault, refusal_passed, state-fault, state-made}
 use Rattle.paxidore_c.specs.Transcript.{field_size}
-use Rattle.paxidore_c.proofs.transcript.reading.state_of.Goals as goal
+use Rattle.paxidore_c.proofs.transcript.reading.state_spelled.Goals as goal
 
 pub returns-in_err-elements : goal.returns-in_err-elements
 returns-in_err-elements g c =

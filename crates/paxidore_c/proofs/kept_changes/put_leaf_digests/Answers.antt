@@ -1,6 +1,6 @@
 use Rattle.std.proofs.Common.{arith}
 use Rattle.paxidore_c.proofs.Putting.{put-more, put-none}
-use Rattle.paxidore_c.proofs.kept_changes.put_leaves.Goals as goal
+use Rattle.paxidore_c.proofs.kept_changes.put_leaf_digests.Goals as goal
 
 pub leaves-init : goal.leaves-init
 leaves-init g c = put-none g.H.ArrayHash.leaf_hash c.args.bytes.now c.args.lengths.now c.args.indexes.now

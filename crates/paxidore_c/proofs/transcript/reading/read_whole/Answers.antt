@@ -1,7 +1,7 @@
 use Rattle.std.proofs.Common.{drop, inr, arith}
 use Rattle.std.proofs.lemmas.List.{length-drop}
 use Rattle.paxidore_c.proofs.Whole.{whole-more}
-use Rattle.paxidore_c.proofs.transcript.reading.whole.Goals as goal
+use Rattle.paxidore_c.proofs.transcript.reading.read_whole.Goals as goal
 
 pub returns-then-used-bytes-clause-given : goal.returns-then-used-bytes-clause-given
 returns-then-used-bytes-clause-given g c =

@@ -5,7 +5,7 @@ use Rattle.paxidore_c.specs.Answer.{tree_leaves_in}
 use Rattle.paxidore_c.specs.Hashing.{node_pair}
 use Rattle.paxidore_c.specs.Hashing.{hashing_by}
 use Rattle.paxidore_c.proofs.TreeLemmas.{over-leaves}
-use Rattle.paxidore_c.proofs.trees.root_over.Goals as goal
+use Rattle.paxidore_c.proofs.trees.write_root.Goals as goal
 
 pub returns-in-Ok-clause-root : goal.returns-in-Ok-clause-root
 returns-in-Ok-clause-root g c = λ zero.
