@@ -8,11 +8,11 @@ verdict_number true = pos 0
 verdict_number false = pos 1
 
 -- the number of an answer
-abbrev pub number_of : Outcome Bool → ℤ
-number_of (Ok verdict) = verdict_number verdict
-number_of (Err error) = pos 2
+abbrev pub answer_number : Outcome Bool → ℤ
+answer_number (Ok verdict) = verdict_number verdict
+answer_number (Err error) = pos 2
 
 -- The number is that of the verdict, or there is none.
-abbrev pub Tells : Outcome Bool → ℤ → Type 0
-Tells outcome number = ((verdict : Bool) × (outcome ≡ Ok verdict) × (number ≡ verdict_number verdict))
+abbrev pub TellsVerdict : Outcome Bool → ℤ → Type 0
+TellsVerdict outcome number = ((verdict : Bool) × (outcome ≡ Ok verdict) × (number ≡ verdict_number verdict))
     ⊎ (number ≡ pos 2)

@@ -6,7 +6,7 @@ ghost use Rattle.std.specs.Prelude.{◌≡◌, pos};
 ghost use Rattle.ark_trees.specs.Rfc6962.{entry_hash, node_of};
 ghost use Rattle.merkle_log.specs.Bind.{BindsDigest, BindsFront};
 ghost use Rattle.merkle_log.specs.Verdict.{consistency_verdict, inclusion_verdict};
-ghost use Rattle.paxidore_page.specs.Code.{Tells, number_of};
+ghost use Rattle.paxidore_page.specs.Code.{TellsVerdict, answer_number};
 
 use ark_base::error::Error;
 use ark_trees::{LogHasher, digest_of_entry};
@@ -14,8 +14,8 @@ use merkle_log::{verify_consistency, verify_inclusion_digest};
 use std::alloc::Global;
 
 // The number of an answer.
-fn number_of(answer: Result<bool, Error>) -> i32
-    ensures { result ≡ number_of answer }
+fn answer_number(answer: Result<bool, Error>) -> i32
+    ensures { result ≡ answer_number answer }
 {
     match answer {
         Ok(true) => 0,
@@ -43,14 +43,15 @@ pub extern "C" fn paxidore_page_inclusion(
     digest: &[u8; 32],
     path: &[[u8; 32]],
 ) -> i32
-    ensures answer { Tells (inclusion_verdict node_of root.now size index digest.now path.now)
+    ensures answer { TellsVerdict (inclusion_verdict node_of root.now size index digest.now
+        path.now)
         result }
 
     // In each list of this size with this root the digest stands at the index, or at some level the path's pair and that of
     // the list's tree differ and hash alike.
     ensures shows { result ≡ pos 0 → BindsDigest node_of root.now size index digest.now path.now }
 {
-    number_of(verify_inclusion_digest(alloc, &LogHasher, root, size, index, digest, path))
+    answer_number(verify_inclusion_digest(alloc, &LogHasher, root, size, index, digest, path))
 }
 
 /// Returns whether a proof shows that the log of a new size and root continues that of an old size and root: 0 yes, 1 no.
@@ -63,7 +64,8 @@ pub extern "C" fn paxidore_page_consistency(
     new_root: &[u8; 32],
     proof: &[[u8; 32]],
 ) -> i32
-    ensures answer { Tells (consistency_verdict node_of old_size old_root.now new_size new_root.now
+    ensures answer { TellsVerdict (consistency_verdict node_of old_size old_root.now new_size
+        new_root.now
         proof.now) result }
 
     // Each list of the old size with the old root is the front of each list of the new size with the new root, or two different
@@ -71,7 +73,7 @@ pub extern "C" fn paxidore_page_consistency(
     ensures shows { result ≡ pos 0
         → BindsFront node_of old_size old_root.now new_size new_root.now proof.now }
 {
-    number_of(verify_consistency(
+    answer_number(verify_consistency(
         alloc, &LogHasher, old_size, old_root, new_size, new_root, proof,
     ))
 }

@@ -9,5 +9,6 @@ pub returns-clause-shows : goal.returns-clause-shows
 returns-clause-shows c zero =
     subst (BindsFront node_of c.args.old_size c.args.old_root.now c.args.new_size c.args.new_root.now)
     (map-id c.args.proof.now)
-    (zero-shows c.verify_consistency.result c.number_of.result c.number_of.ensures c.verify_consistency.ensures.bound
+    (zero-shows c.verify_consistency.result c.answer_number.result c.answer_number.ensures
+    c.verify_consistency.ensures.bound
     zero)
