@@ -1,8 +1,8 @@
 //! The lines, and what is answered.
 
 use crate::points::{element_answer, group_answer, multiple_of};
-use crate::signatures::{signature_of, verdict_of};
-use crate::texts::{array_of, bytes_of, word_of};
+use crate::signatures::{signature_line, verdict_of};
+use crate::texts::{array_of, bytes_of_word, hex_word};
 use crate::transcripts::transcript_of;
 use ark_crypto_primitives::Error;
 use ark_crypto_primitives::commitment::CommitmentScheme;
@@ -24,18 +24,18 @@ use std::alloc::Global;
 /// - `transcript FIELD PARAMETERS STEP ..`: what the steps squeeze (`transcript_of`).
 ///
 /// The only error is `OutOfMemory`.
-pub fn answer(alloc: Global, line: &str) -> Result<Option<String>, Error> {
+pub fn answer_line(alloc: Global, line: &str) -> Result<Option<String>, Error> {
     let Some((name, rest)) = line.split_once(' ') else {
         return Ok(None);
     };
     match name {
         "sha256" => sha256_of(alloc, rest),
         "blake2s" => blake2s_of(alloc, rest),
-        "commitment" => commitment_of(alloc, rest),
+        "commitment" => commitment_line(alloc, rest),
         "multiple" => multiple_of(alloc, rest),
         "element" => element_answer(alloc, rest),
         "group" => group_answer(alloc, rest),
-        "ed25519-sign" => signature_of(alloc, rest),
+        "ed25519-sign" => signature_line(alloc, rest),
         "ed25519-verify" => verdict_of(alloc, rest),
         "transcript" => transcript_of(alloc, rest),
         _ => Ok(None),
@@ -43,29 +43,29 @@ pub fn answer(alloc: Global, line: &str) -> Result<Option<String>, Error> {
 }
 
 fn sha256_of(alloc: Global, word: &str) -> Result<Option<String>, Error> {
-    let Some(text) = bytes_of(alloc, word)? else {
+    let Some(text) = bytes_of_word(alloc, word)? else {
         return Ok(None);
     };
     let digest = Sha256::evaluate(alloc, &(), &text)?;
-    Ok(Some(word_of(alloc, &digest)?))
+    Ok(Some(hex_word(alloc, &digest)?))
 }
 
 fn blake2s_of(alloc: Global, word: &str) -> Result<Option<String>, Error> {
-    let Some(text) = bytes_of(alloc, word)? else {
+    let Some(text) = bytes_of_word(alloc, word)? else {
         return Ok(None);
     };
     let mut hasher = Blake2s256::new();
     hasher.update(&text);
-    Ok(Some(word_of(alloc, &hasher.finalize())?))
+    Ok(Some(hex_word(alloc, &hasher.finalize())?))
 }
 
-fn commitment_of(alloc: Global, words: &str) -> Result<Option<String>, Error> {
+fn commitment_line(alloc: Global, words: &str) -> Result<Option<String>, Error> {
     let Some((value, nonce)) = words.split_once(' ') else {
         return Ok(None);
     };
-    let (Some(value), Some(nonce)) = (bytes_of(alloc, value)?, array_of(nonce)) else {
+    let (Some(value), Some(nonce)) = (bytes_of_word(alloc, value)?, array_of(nonce)) else {
         return Ok(None);
     };
     let commitment = Commitment::commit(alloc, &(), &value, &nonce)?;
-    Ok(Some(word_of(alloc, &commitment)?))
+    Ok(Some(hex_word(alloc, &commitment)?))
 }

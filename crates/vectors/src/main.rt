@@ -8,14 +8,14 @@ mod signatures;
 mod texts;
 mod transcripts;
 
-use crate::answers::answer;
+use crate::answers::answer_line;
 use std::io::{self, BufRead, BufReader};
 use std::process::ExitCode;
 
 // Prints the answer to each line; one that is no line of the program is answered `?`.
-fn start(rt: &HostRuntime) -> io::Result<u8> {
+fn answer_lines(rt: &HostRuntime) -> io::Result<u8> {
     for line in BufReader::new(rt.alloc(), rt.reader())?.lines(rt.alloc()) {
-        match answer(rt.alloc(), line?.as_str()) {
+        match answer_line(rt.alloc(), line?.as_str()) {
             Ok(Some(text)) => println!(rt; "{text}")?,
             Ok(None) => println!(rt; "?")?,
             Err(error) => {
@@ -28,7 +28,7 @@ fn start(rt: &HostRuntime) -> io::Result<u8> {
 }
 
 fn main(rt: HostRuntime) -> ExitCode {
-    match start(&rt) {
+    match answer_lines(&rt) {
         Ok(status) => ExitCode::from(status),
         Err(_) => ExitCode::from(1),
     }

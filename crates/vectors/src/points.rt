@@ -2,7 +2,7 @@
 
 ghost use Rattle.std.specs.Prelude.{◌≤◌};
 
-use crate::texts::{array_of, bytes_of, word_of};
+use crate::texts::{array_of, bytes_of_word, hex_word};
 use ark_crypto_primitives::Error;
 use ark_crypto_primitives::ec::group_hash;
 use ark_crypto_primitives::ec::jubjub::{Jubjub, PointFault};
@@ -22,7 +22,7 @@ fn word_at(bytes: &[u8; 32], from: usize) -> u64
 fn coordinate(alloc: Global, x: Bls12_381Fr) -> Result<String, Error> {
     let mut bytes = [0; 32];
     x.write_low_bytes(&mut bytes);
-    word_of(alloc, &bytes)
+    hex_word(alloc, &bytes)
 }
 
 /// Returns the multiple of the generator by a number of 32 bytes, the least first.
@@ -39,7 +39,7 @@ pub fn multiple_of(alloc: Global, word: &str) -> Result<Option<String>, Error> {
     let multiple = Jubjub::generator().mul(number);
     let x = coordinate(alloc, multiple.x())?;
     let y = coordinate(alloc, multiple.y())?;
-    let bytes = word_of(alloc, &multiple.to_compressed())?;
+    let bytes = hex_word(alloc, &multiple.to_compressed())?;
     Ok(Some(format!(in alloc; "{x} {y} {bytes}")?))
 }
 
@@ -54,11 +54,11 @@ pub fn element_answer(alloc: Global, word: &str) -> Result<Option<String>, Error
             let y = coordinate(alloc, element.y())?;
             Ok(Some(format!(in alloc; "{x} {y}")?))
         }
-        Err(fault) => Ok(Some(String::from_str(alloc, name_of(fault))?)),
+        Err(fault) => Ok(Some(String::from_str(alloc, fault_name(fault))?)),
     }
 }
 
-fn name_of(fault: PointFault) -> &'static str {
+fn fault_name(fault: PointFault) -> &'static str {
     match fault {
         PointFault::NotBelowModulus => "not below the modulus",
         PointFault::NoPoint => "no point",
@@ -75,12 +75,12 @@ pub fn group_answer(alloc: Global, words: &str) -> Result<Option<String>, Error>
     let mut bytes = [0; 8];
     let (Ok(()), Some(text)) = (
         hex::decode_to_slice(label, &mut bytes),
-        bytes_of(alloc, text)?,
+        bytes_of_word(alloc, text)?,
     ) else {
         return Ok(None);
     };
     match group_hash::<Jubjub>(&bytes, &text) {
-        Some(element) => Ok(Some(word_of(alloc, &element.to_compressed())?)),
+        Some(element) => Ok(Some(hex_word(alloc, &element.to_compressed())?)),
         None => Ok(None),
     }
 }

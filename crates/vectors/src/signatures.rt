@@ -1,20 +1,20 @@
 //! Ed25519.
 
-use crate::texts::{array_of, bytes_of, word_of};
+use crate::texts::{array_of, bytes_of_word, hex_word};
 use ark_crypto_primitives::Error;
 use ark_crypto_primitives::signature::ed25519::{public_key, sign, verify};
 use std::alloc::Global;
 
 /// Returns the key of a seed, and its signature of a message.
-pub fn signature_of(alloc: Global, words: &str) -> Result<Option<String>, Error> {
+pub fn signature_line(alloc: Global, words: &str) -> Result<Option<String>, Error> {
     let Some((seed, message)) = words.split_once(' ') else {
         return Ok(None);
     };
-    let (Some(seed), Some(message)) = (array_of(seed), bytes_of(alloc, message)?) else {
+    let (Some(seed), Some(message)) = (array_of(seed), bytes_of_word(alloc, message)?) else {
         return Ok(None);
     };
-    let key = word_of(alloc, &public_key(&seed))?;
-    let signature = word_of(alloc, &sign(&seed, &message))?;
+    let key = hex_word(alloc, &public_key(&seed))?;
+    let signature = hex_word(alloc, &sign(&seed, &message))?;
     Ok(Some(format!(in alloc; "{key} {signature}")?))
 }
 
@@ -27,9 +27,9 @@ pub fn verdict_of(alloc: Global, words: &str) -> Result<Option<String>, Error> {
         return Ok(None);
     };
     let (Some(key), Some(message), Some(signature)) = (
-        bytes_of(alloc, key)?,
-        bytes_of(alloc, message)?,
-        bytes_of(alloc, signature)?,
+        bytes_of_word(alloc, key)?,
+        bytes_of_word(alloc, message)?,
+        bytes_of_word(alloc, signature)?,
     ) else {
         return Ok(None);
     };

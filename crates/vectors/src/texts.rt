@@ -4,7 +4,7 @@ use ark_crypto_primitives::Error;
 use std::alloc::Global;
 
 /// Returns the bytes that a word spells, `-` none. `None` of another word. The only error is `OutOfMemory`.
-pub fn bytes_of(alloc: Global, word: &str) -> Result<Option<Vec<u8>>, Error> {
+pub fn bytes_of_word(alloc: Global, word: &str) -> Result<Option<Vec<u8>>, Error> {
     if word == "-" {
         return Ok(Some(Vec::new(alloc)));
     }
@@ -25,6 +25,6 @@ pub fn array_of(word: &str) -> Option<[u8; 32]> {
 }
 
 /// Returns bytes as a word. The only error is `OutOfMemory`.
-pub fn word_of(alloc: Global, bytes: &[u8]) -> Result<String, Error> {
+pub fn hex_word(alloc: Global, bytes: &[u8]) -> Result<String, Error> {
     Ok(hex::encode(alloc, bytes)?)
 }

@@ -1,6 +1,6 @@
 //! Poseidon's duplex sponge.
 
-use crate::texts::{bytes_of, word_of};
+use crate::texts::{bytes_of_word, hex_word};
 use ark_crypto_primitives::Error;
 use ark_crypto_primitives::ff::{BabyBear, Bls12_381Fr, Bn254Fr, Field, Fp, Goldilocks};
 use ark_crypto_primitives::serialize::CanonicalDeserialize;
@@ -30,7 +30,7 @@ fn squeezed<F: Field>(alloc: Global, words: &str) -> Result<Option<String>, Erro
     let Some(word) = words.next() else {
         return Ok(None);
     };
-    let Some(bytes) = bytes_of(alloc, word)? else {
+    let Some(bytes) = bytes_of_word(alloc, word)? else {
         return Ok(None);
     };
     let Ok((parameters, _)) = PoseidonConfig::<F>::deserialize(alloc, &bytes) else {
@@ -58,13 +58,13 @@ fn step<F: Field>(
     };
     match kind {
         "e" => {
-            let Some(bytes) = bytes_of(alloc, rest)? else {
+            let Some(bytes) = bytes_of_word(alloc, rest)? else {
                 return Ok(false);
             };
             absorb_elements(alloc, sponge, &bytes)
         }
         "b" => {
-            let Some(bytes) = bytes_of(alloc, rest)? else {
+            let Some(bytes) = bytes_of_word(alloc, rest)? else {
                 return Ok(false);
             };
             sponge.absorb(&bytes)?;
@@ -112,6 +112,6 @@ fn write_elements<F: Field>(alloc: Global, elements: &[F], out: &mut String) -> 
     if !out.is_empty() {
         out.push(' ')?;
     }
-    out.push_str(word_of(alloc, &bytes)?.as_str())?;
+    out.push_str(hex_word(alloc, &bytes)?.as_str())?;
     Ok(())
 }
