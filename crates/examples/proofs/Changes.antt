@@ -21,7 +21,7 @@ use Rattle.ark_paths.specs.Received.{fit_path, is_fit, provided, received_path, 
 use Rattle.ark_paths.specs.Root.{Root, outcome_of, place, place_at, root, upper_levels}
 use Rattle.ark_paths.specs.Rows.{IsTree, part}
 use Rattle.ark_paths.specs.Tree.{tree_with}
-use Rattle.examples.specs.Change.{LeadsTo, ShowsChange}
+use Rattle.examples.specs.Change.{ChangeLeadsTo, ShowsChange}
 
 pair-there : (o : Outcome (Digest × Digest)) (b : Digest × Digest) → is_other o b ≡ false
     → (a : Digest × Digest) × (o ≡ Ok a)
@@ -101,7 +101,7 @@ given-root h leaf way r accepted =
 module _ {A : Type 0} (hashes : Hashes A) (before after : Digest) (size index : ℕ) (old new : A) (way : Way) where
   leads : verdict hashes.pair (hashes.leaf old) way before ≡ Ok true → verdict hashes.pair (hashes.leaf new) way after
       ≡ Ok true → IsTreeSize size → length way.above ≡ log2 size - 1 → way.index ≡ index → index < size
-      → LeadsTo hashes before after size index old new way
+      → ChangeLeadsTo hashes before after size index old new way
   leads of_old of_new sized long at_own below digests same rooted =
       let h = hashes.pair in
       let first = given-root h (hashes.leaf old) way before of_old in

@@ -10,8 +10,8 @@ use Rattle.ark_paths.specs.Tree.{tree_with}
 
 -- In every store of this size with the root before, the new value at the index, all others left as they are, gives the
 -- root after; or at some level the path's pair for the old value and the store's differ and hash alike.
-abbrev pub LeadsTo : {A : Type 0} → Hashes A → Digest → Digest → ℕ → ℕ → A → A → Way → Type 0
-LeadsTo hashes before after size index old new way =
+abbrev pub ChangeLeadsTo : {A : Type 0} → Hashes A → Digest → Digest → ℕ → ℕ → A → A → Way → Type 0
+ChangeLeadsTo hashes before after size index old new way =
     (digests : List Digest) → length digests ≡ size → root hashes.pair digests ≡ Ok before
     → (new_root hashes.pair (hashes.leaf new) index digests ≡ Ok after)
     ⊎ ((level : ℕ) × CollidesAt (tree_with hashes digests) old way level)
@@ -19,4 +19,4 @@ LeadsTo hashes before after size index old new way =
 -- The bytes are those of a path that shows so.
 abbrev pub ShowsChange : {A : Type 0} → Hashes A → Digest → Digest → ℕ → ℕ → A → A → Reading Way → Type 0
 ShowsChange hashes before after size index old new reading =
-    (way : Way) × (reading ≡ Ok (way, [])) × LeadsTo hashes before after size index old new way
+    (way : Way) × (reading ≡ Ok (way, [])) × ChangeLeadsTo hashes before after size index old new way
