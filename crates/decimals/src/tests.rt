@@ -1,21 +1,21 @@
 //! What no clause says: that the definition has the numbers that people write.
 
-use crate::number_of;
+use crate::decimal_number;
 
 #[test]
 fn digits_are_a_number(rt: HostRuntime) {
-    assert!(rt; number_of(b"0") == Some(0));
-    assert!(rt; number_of(b"907") == Some(907));
-    assert!(rt; number_of(b"18446744073709551615") == Some(18446744073709551615));
+    assert!(rt; decimal_number(b"0") == Some(0));
+    assert!(rt; decimal_number(b"907") == Some(907));
+    assert!(rt; decimal_number(b"18446744073709551615") == Some(18446744073709551615));
 }
 
 #[test]
 fn other_texts_are_none(rt: HostRuntime) {
-    assert!(rt; number_of(b"18446744073709551616") == None);
-    assert!(rt; number_of(b"007") == None);
-    assert!(rt; number_of(b"+7") == None);
-    assert!(rt; number_of(b"-7") == None);
-    assert!(rt; number_of(b"7 ") == None);
-    assert!(rt; number_of(b"7\xff") == None);
-    assert!(rt; number_of(b"") == None);
+    assert!(rt; decimal_number(b"18446744073709551616") == None);
+    assert!(rt; decimal_number(b"007") == None);
+    assert!(rt; decimal_number(b"+7") == None);
+    assert!(rt; decimal_number(b"-7") == None);
+    assert!(rt; decimal_number(b"7 ") == None);
+    assert!(rt; decimal_number(b"7\xff") == None);
+    assert!(rt; decimal_number(b"") == None);
 }
