@@ -1,15 +1,12 @@
 -- The bytes of a tree whose digests have 32 bytes.
 use Rattle.std.specs.Prelude.{◌≡◌, ℕ, zero, suc, ◌+◌, ◌==◌, nat_lt, List, [], ◌∷◌, ◌++◌, length, take, drop, if◌then◌else◌, Bool, true, false, not, ◌&&◌, Ok, Err}
+pub use Rattle.ark_base.specs.Digits.{itself}
 use Rattle.ark_base.specs.Outcome.{Outcome, ◌>>=◌}
 use Rattle.ark_base.specs.declared.error.Error.{Error}
 use Rattle.ark_base.specs.declared.error.Error.TheVariants.{SerializationError}
 use Rattle.ark_base.specs.declared.error.SerializationError.TheVariants.{Truncated, InvalidData}
-use Rattle.merkle_map.specs.Map.{Digest, has_bit}
+use Rattle.merkle_map.specs.Map.{has_bit}
 use Rattle.merkle_map.specs.Tree.{Shape, Empty, One, Fork, Hidden, weight, IsKey, StandsAt}
-
--- digests of 32 bytes are seen as they are
-abbrev pub itself : Digest → Digest
-itself digest = digest
 
 -- A byte for what comes, then that: 0 nothing; 1 a key and its value; 2 the left side and the right one; 3 a digest.
 abbrev pub spelled : Shape → List ℕ

@@ -2,7 +2,7 @@
 
 ghost use Rattle.std.specs.Prelude.{◌≡◌, ◌<◌, ◌≤◌, ◌-◌, ◌++◌, drop, length, OnOk, IfErr, IfOk, Ok};
 ghost use Rattle.ark_base.specs.Outcome.{AnswersBy, IsMemory};
-ghost use Rattle.merkle_map.specs.Bytes.{all_have as all_have_in, is_placed as is_placed_in, invalid as is_invalid, itself, spelled, string_outcome, string_read, tree_of_bytes, tree_read, truncated as is_truncated, IsOf32};
+ghost use Rattle.merkle_map.specs.Bytes.{all_have as all_have_in, is_placed as is_placed_in, invalid as invalid_error, itself, spelled, string_outcome, string_read, tree_of_bytes, tree_read, truncated as truncated_error, IsOf32};
 ghost use Rattle.merkle_map.specs.Changes.{entry_of};
 ghost use Rattle.merkle_map.specs.Kept.{IsKept};
 ghost use Rattle.merkle_map.specs.Map.{MapHashes};
@@ -65,14 +65,14 @@ pub fn write_part(part: &Part<[u8; 32]>, dest: &mut Vec<u8>) -> Result<(), Error
 
 // The error of bytes that end too early.
 pub fn truncated() -> Error
-    ensures { result ≡ is_truncated }
+    ensures { result ≡ truncated_error }
 {
     Error::SerializationError(SerializationError::Truncated)
 }
 
 // The error of bytes that no tree has.
 pub fn invalid() -> Error
-    ensures { result ≡ is_invalid }
+    ensures { result ≡ invalid_error }
 {
     Error::SerializationError(SerializationError::InvalidData)
 }
