@@ -2,12 +2,12 @@
 
 ghost use Rattle.std.specs.Prelude.{◌≡◌, ℕ, List, None, IfOk, OnErr, ⊤};
 ghost use Rattle.acp_session.specs.Language.{Language as OfTokens};
-ghost use Rattle.acp_session.specs.Steps.{State as OfTree, LineStep, state_of};
+ghost use Rattle.acp_session.specs.Steps.{HasHashes, State as OfTree, LineStep, state_of};
 
 use acp_session::answer::answer;
-use acp_session::shell::{Hashing, Shell};
+use acp_session::shell::Shell;
 use ark_crh::{CRHScheme, TwoToOneCRHScheme};
-use ark_merkle::{LeafParam, MerkleTree, TwoToOneParam};
+use ark_merkle::{LeafParam, MerkleTree, TwoToOneParam, Views};
 use std::alloc::{AllocError, Global};
 
 /// What answers lines: all of a session that its reader and its writer ask for.
@@ -82,7 +82,7 @@ impl<'a, C: Shell> Answering for Session<'a, C> {
 
     ghost step = { LineStep };
 
-    ghost is_sound = { λ session. ⟦<C as Hashing>⟧.has_hashes
+    ghost is_sound = { λ session. HasHashes C.LeafHash.meaning ⟦<C as Views>⟧.pair
         session.leaf_parameters.now session.pair_parameters.now session.tree };
 
     // It keeps no trace of that.

@@ -54,10 +54,9 @@ pub may_count : {X : Type 0} (view : X → MultiWay) (o : Option X) (x : X) (rea
     → (h k : HashPair) → h ≡ k → (digests : List Digest) (r : Digest) → root h digests ≡ Ok r
     → (leaves : List (Outcome Digest)) (pairs : ℕ) → MayHash k r leaves (view x) pairs → MayCount k digests leaves
     reading pairs
-may_count view o x reading finding_reply is h k same digests r rooted leaves pairs hashed = λ s rooted_s m found_m.
+may_count view o x reading found is h k same digests r rooted leaves pairs hashed = λ s rooted_s m found_m.
     let one : ◌≡◌ {A = Outcome Digest} (Ok r) (Ok s) = sym rooted ∙ rw same rooted_s in
-    let read : ◌≡◌ {A = Outcome (Option MultiWay)} (Ok (Some (view x))) (Ok (Some m)) = rw (finding_reply, is) at
-    found_m in
+    let read : ◌≡◌ {A = Outcome (Option MultiWay)} (Ok (Some (view x))) (Ok (Some m)) = rw (found, is) at found_m in
     let root_is : r ≡ s = cc in
     let proof_is : view x ≡ m = cc in
     rw (← root_is, ← proof_is) hashed

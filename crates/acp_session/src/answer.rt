@@ -1,16 +1,16 @@
 //! The reply to a line.
 
 ghost use Rattle.std.specs.Prelude.{◌≡◌, IfOk, OnErr};
-ghost use Rattle.acp_session.specs.Steps.{LineStep, state_of};
+ghost use Rattle.acp_session.specs.Steps.{HasHashes, LineStep, state_of};
 
 use crate::changes::{new_tree, new_tree_of_digests, set, set_many};
 use crate::checks::{binding, multi_verdict, strict_count, verdict};
 use crate::replies::{finding_bytes, plain};
 use crate::request::{Request, request_of};
-use crate::shell::{Hashing, Shell};
+use crate::shell::Shell;
 use crate::shows::{multi_proof, proof, root_reply};
 use ark_crh::CRHScheme;
-use ark_merkle::{LeafParam, MerkleTree, TwoToOneParam};
+use ark_merkle::{LeafParam, MerkleTree, TwoToOneParam, Views};
 use std::alloc::{AllocError, Global};
 
 /// Returns the reply to one line, without a line feed, in a session over hashes with these parameters. Only `tree`,
@@ -25,11 +25,13 @@ pub fn answer<C: Shell>(
     tree: &mut Option<MerkleTree<C>>,
     line: &[u8],
 ) -> Result<Vec<u8>, AllocError>
-    requires { ⟦<C as Hashing>⟧.has_hashes leaf_parameters.now pair_parameters.now tree.old }
+    requires { HasHashes C.LeafHash.meaning ⟦<C as Views>⟧.pair leaf_parameters.now
+        pair_parameters.now tree.old }
     ensures step { IfOk result (λ reply. LineStep (C.language leaf_parameters.now
         pair_parameters.now)
         (state_of tree.old) line.now (state_of tree.new) reply.items) }
-    ensures hashes { ⟦<C as Hashing>⟧.has_hashes leaf_parameters.now pair_parameters.now tree.new }
+    ensures hashes { HasHashes C.LeafHash.meaning ⟦<C as Views>⟧.pair leaf_parameters.now
+        pair_parameters.now tree.new }
     ensures refused { OnErr result (tree.new ≡ tree.old) }
 {
     let Some(request) = request_of::<C>(alloc, line)? else {

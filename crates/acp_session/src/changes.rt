@@ -2,10 +2,10 @@
 
 ghost use Rattle.std.specs.Prelude.{◌≡◌, ◌<◌, map, nat_lt, length, true, Some, IfOk, OnErr};
 ghost use Rattle.std.specs.List.{All, list_all};
-ghost use Rattle.acp_session.specs.Steps.{Settles, Takes, digests_turn, set_many_turn, set_turn, state_of, tree_turn};
+ghost use Rattle.acp_session.specs.Steps.{HasHashes, Settles, Takes, digests_turn, set_many_turn, set_turn, state_of, tree_turn};
 
 use crate::replies::{built, plain, refused};
-use crate::shell::{Hashing, Shell};
+use crate::shell::Shell;
 use ark_base::error::Error;
 use ark_base::serialize::Numbered;
 use ark_crh::{CRHScheme, TwoToOneCRHScheme};
@@ -20,12 +20,14 @@ pub fn new_tree<C: Shell>(
     tree: &mut Option<MerkleTree<C>>,
     leaves: &[C::Leaf],
 ) -> Result<Vec<u8>, AllocError>
-    requires { ⟦<C as Hashing>⟧.has_hashes leaf_parameters.now pair_parameters.now tree.old }
+    requires { HasHashes C.LeafHash.meaning ⟦<C as Views>⟧.pair leaf_parameters.now
+        pair_parameters.now tree.old }
     ensures turn { IfOk result
         (λ reply. Takes (state_of tree.old) (tree_turn (⟦<C as Views>⟧.pair pair_parameters.now)
         (state_of tree.old) (map (C.LeafHash.meaning leaf_parameters.now) leaves.now))
         (state_of tree.new) reply.items) }
-    ensures hashes { ⟦<C as Hashing>⟧.has_hashes leaf_parameters.now pair_parameters.now tree.new }
+    ensures hashes { HasHashes C.LeafHash.meaning ⟦<C as Views>⟧.pair leaf_parameters.now
+        pair_parameters.now tree.new }
     ensures refused { OnErr result (tree.new ≡ tree.old) }
 {
     if !is_tree_size(leaves.len()) {
@@ -43,12 +45,14 @@ pub fn new_tree_of_digests<C: Shell>(
     tree: &mut Option<MerkleTree<C>>,
     digests: Vec<C::LeafDigest>,
 ) -> Result<Vec<u8>, AllocError>
-    requires { ⟦<C as Hashing>⟧.has_hashes leaf_parameters.now pair_parameters.now tree.old }
+    requires { HasHashes C.LeafHash.meaning ⟦<C as Views>⟧.pair leaf_parameters.now
+        pair_parameters.now tree.old }
     ensures turn { IfOk result
         (λ reply. Takes (state_of tree.old) (digests_turn (⟦<C as Views>⟧.pair pair_parameters.now)
         (state_of tree.old) (map C.LeafDigest.numbers digests.items)) (state_of tree.new)
         reply.items) }
-    ensures hashes { ⟦<C as Hashing>⟧.has_hashes leaf_parameters.now pair_parameters.now tree.new }
+    ensures hashes { HasHashes C.LeafHash.meaning ⟦<C as Views>⟧.pair leaf_parameters.now
+        pair_parameters.now tree.new }
     ensures refused { OnErr result (tree.new ≡ tree.old) }
 {
     if !is_tree_size(digests.len()) {
@@ -91,8 +95,8 @@ pub fn set<C: Shell>(
         (C.LeafHash.meaning tree.old.leaf_parameters leaf.now)) (Some tree.new.leaves)
         reply.items) }
     ensures hashes { (p : C.LeafHash.Parameters) (q : C.TwoToOneHash.Parameters)
-        → ⟦<C as Hashing>⟧.has_hashes p q (Some tree.old)
-        → ⟦<C as Hashing>⟧.has_hashes p q (Some tree.new) }
+        → HasHashes C.LeafHash.meaning ⟦<C as Views>⟧.pair p q (Some tree.old)
+        → HasHashes C.LeafHash.meaning ⟦<C as Views>⟧.pair p q (Some tree.new) }
     ensures refused { OnErr result (tree.new ≡ tree.old) }
 {
     if index >= tree.size() {
@@ -117,8 +121,8 @@ pub fn set_many<C: Shell>(
         (map (λ change. (change.0, (C.LeafHash.meaning tree.old.leaf_parameters) change.1))
         changes.now)) (Some tree.new.leaves) reply.items) }
     ensures hashes { (p : C.LeafHash.Parameters) (q : C.TwoToOneHash.Parameters)
-        → ⟦<C as Hashing>⟧.has_hashes p q (Some tree.old)
-        → ⟦<C as Hashing>⟧.has_hashes p q (Some tree.new) }
+        → HasHashes C.LeafHash.meaning ⟦<C as Views>⟧.pair p q (Some tree.old)
+        → HasHashes C.LeafHash.meaning ⟦<C as Views>⟧.pair p q (Some tree.new) }
     ensures refused { OnErr result (tree.new ≡ tree.old) }
 {
     if !are_below(changes, tree.size()) {

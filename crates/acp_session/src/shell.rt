@@ -1,11 +1,9 @@
 //! What a configuration of the program is.
 
-ghost use Rattle.std.specs.Prelude.{◌≡◌, ◌++◌, Option, IfOk, OnOk};
+ghost use Rattle.std.specs.Prelude.{◌≡◌, ◌++◌, IfOk, OnOk};
 ghost use Rattle.std.specs.Option.{option_map};
 ghost use Rattle.hex.specs.Hex.{encode_lower};
-ghost use Rattle.ark_paths.specs.Tree.{Tree};
 ghost use Rattle.acp_session.specs.Language.{Language};
-ghost use Rattle.acp_session.specs.Steps.{HasHashes};
 
 use ark_base::serialize::Numbered;
 use ark_crh::{CRHScheme, TwoToOneCRHScheme};
@@ -58,15 +56,4 @@ pub trait Shell: Config {
           multi_path_bytes = ⟦<Self as Views>⟧.multi_path_bytes;
           multi_path_reading = ⟦<Self as Views>⟧.multi_path_reading;
         } };
-}
-
-/// What contracts see of the hashes of a tree. Each configuration has it.
-pub trait Hashing: Config {
-    // The tree, if there is one, hashes as these parameters do.
-    ghost has_hashes: { Self.LeafHash.Parameters → Self.TwoToOneHash.Parameters
-        → Option (Tree Self.LeafHash.Parameters Self.TwoToOneHash.Parameters) → Type 0 };
-}
-
-impl<P: Config> Hashing for P {
-    ghost has_hashes = { HasHashes P.LeafHash.meaning ⟦<P as Views>⟧.pair };
 }
