@@ -22,9 +22,9 @@ abbrev pub FileGivesBy : {A B : Type 0} → (A → B) → Result B Fault → Res
 FileGivesBy view outcome result =
     MatchResult result (λ value. outcome ≡ Ok (view value)) (λ fault. (fault ≡ Memory) ⊎ (outcome ≡ Err fault))
 
--- goes on where a condition holds; else the fault
-abbrev pub only_if : {A : Type 0} → Bool → Fault → Result A Fault → Result A Fault
-only_if holds fault next = if holds then next else Err fault
+-- goes on where a condition holds; else the error
+abbrev pub only_if : {A E : Type 0} → Bool → E → Result A E → Result A E
+only_if holds error next = if holds then next else Err error
 
 -- whether a log of some size has a proof that it continues one of an old size
 abbrev pub is_older : ℕ → ℕ → Bool

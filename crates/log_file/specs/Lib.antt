@@ -1,3 +1,4 @@
 pub mod Append
 pub mod Faults
 pub mod LogFile
+pub mod Shown

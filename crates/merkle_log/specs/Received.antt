@@ -2,6 +2,7 @@
 use Rattle.std.specs.Prelude.{◌≡◌, ◌+◌, ◌-◌, ◌/◌, ◌%◌, ◌==◌, ◌||◌, ℕ, zero, suc, nat_lt, Bool, if◌then◌else◌, List, [], ◌∷◌, map, Ok, Err}
 use Rattle.ark_base.specs.declared.error.Error.TheVariants.{SerializationError}
 use Rattle.ark_base.specs.declared.error.SerializationError.TheVariants.{InvalidData}
+use Rattle.ark_base.specs.Digits.{bytes_at, itself}
 use Rattle.ark_base.specs.Outcome.{Outcome, ◌>>=◌}
 use Rattle.ark_base.specs.Reading.{Reading, reading_outcome}
 use Rattle.ark_base.specs.Spelling.{items_at}
@@ -33,6 +34,10 @@ whole_read digest (values, byte ∷ bytes) = Err (SerializationError InvalidData
 -- the digests that bytes spell, so many of them and nothing else
 abbrev pub digests_in : {V : Type 0} → (List ℕ → Reading V) → (V → Digest) → ℕ → List ℕ → Outcome (List Digest)
 digests_in reads digest count bytes = reading_outcome (items_at reads count bytes) >>= whole_read digest
+
+-- the digests of 32 bytes that bytes are, so many of them and nothing else
+abbrev pub proof_digests : ℕ → List ℕ → Outcome (List Digest)
+proof_digests count bytes = digests_in (bytes_at 32) itself count bytes
 
 -- the verdict on a path, where the index is below the size
 abbrev pub received_inclusion : {A : Type 0} → Hashes A → Digest → ℕ → ℕ → A → Outcome (List Digest) → Outcome Bool

@@ -10,6 +10,7 @@ use Rattle.ark_paths.specs.Pair.{Digest}
 use Rattle.ark_paths.specs.Received.{received_verdict, received_multi_verdict}
 use Rattle.ark_paths.specs.Tree.{path_in}
 use Rattle.ark_merkle.specs.MultiProof.{multi_path_in}
+pub use Rattle.log_file.specs.Faults.{only_if}
 use Rattle.paxidore_c.specs.declared.refused.Refused.{Refused}
 use Rattle.paxidore_c.specs.declared.refused.Refused.TheVariants.{Memory, Truncated, Invalid, Height, Size, Lengths, Count, Index, Room, Hidden, Other}
 use Rattle.paxidore_c.specs.Cut.{parts_by}
@@ -64,10 +65,6 @@ GivesCode code result = (result ≡ code) ⊎ (result ≡ refusal_code Memory)
 abbrev pub CallGivesBy : {A B : Type 0} → (A → B) → Result B Refused → Result A Refused → Type 0
 CallGivesBy view outcome result =
     MatchResult result (λ value. outcome ≡ Ok (view value)) (λ refused. (refused ≡ Memory) ⊎ (outcome ≡ Err refused))
-
--- goes on where a condition holds; else the refusal
-abbrev pub only_if : {A : Type 0} → Bool → Refused → Result A Refused → Result A Refused
-only_if holds refused next = if holds then next else Err refused
 
 -- the leaves that bytes and lengths are
 abbrev pub leaves_in : Option (List (List ℕ)) → Result (List (List ℕ)) Refused

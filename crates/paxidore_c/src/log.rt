@@ -3,8 +3,9 @@
 ghost use Rattle.std.specs.Prelude.{◌≡◌, pos};
 ghost use Rattle.ark_trees.specs.Rfc6962.{log_hashes, node_of};
 ghost use Rattle.merkle_log.specs.Received.{ShowsFront, ShowsLogLeaf, consistency_length, inclusion_length};
-ghost use Rattle.paxidore_c.specs.Answer.{GivesCode, verdict_code};
+ghost use Rattle.paxidore_c.specs.Answer.{GivesCode, refusing, verdict_code};
 ghost use Rattle.paxidore_c.specs.LogProofs.{continuing_shown, entry_shown, proof_digests};
+ghost use Rattle.paxidore_c.specs.declared.refused.Refused.TheVariants.{Index, Size};
 
 use crate::refused::{Refused, verdict_code};
 use ark_trees::LogHasher;
@@ -24,8 +25,8 @@ pub extern "C" fn paxidore_log_verify_inclusion(
     entry: &[u8],
     path: &[u8],
 ) -> i32
-    ensures answer { GivesCode (verdict_code (entry_shown root.now size index entry.now path.now))
-        result }
+    ensures answer { GivesCode (verdict_code (entry_shown Index refusing root.now size index
+        entry.now path.now)) result }
 
     // 0 says: in every log with this root and size the entry's hash stands at the index, or at some level the path's
     // pair and that of the log's tree differ and hash alike.
@@ -56,8 +57,8 @@ pub extern "C" fn paxidore_log_verify_consistency(
     new_root: &[u8; 32],
     proof: &[u8],
 ) -> i32
-    ensures answer { GivesCode (verdict_code (continuing_shown old_size old_root.now new_size
-        new_root.now proof.now)) result }
+    ensures answer { GivesCode (verdict_code (continuing_shown Size refusing old_size
+        old_root.now new_size new_root.now proof.now)) result }
 
     // 0 says: each list of the old size with the old root is the front of each list of the new size with the new root,
     // or two different pairs of the proof and of these lists' trees are named that hash alike.

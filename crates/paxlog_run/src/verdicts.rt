@@ -3,9 +3,11 @@
 ghost use Rattle.std.specs.Prelude.{◌≡◌, ℕ, List, true, Ok, IfOk};
 ghost use Rattle.hex.specs.Hex.{decode_of};
 ghost use Rattle.ark_trees.specs.Rfc6962.{log_hashes, node_of};
-ghost use Rattle.merkle_log.specs.Received.{ShowsFront, ShowsLogLeaf, consistency_length, inclusion_length};
+ghost use Rattle.merkle_log.specs.Received.{ShowsFront, ShowsLogLeaf, consistency_length, inclusion_length, proof_digests};
 ghost use Rattle.log_file.specs.Faults.{FileGivesBy};
-ghost use Rattle.paxlog_run.specs.Verdicts.{continuing_shown, continuing_shown_by, entry_shown, entry_shown_by, proof_digests, in_hex};
+ghost use Rattle.log_file.specs.Shown.{continuing_shown, entry_shown};
+ghost use Rattle.log_file.specs.declared.fault.Fault.TheVariants.{Index, Size};
+ghost use Rattle.paxlog_run.specs.Verdicts.{continuing_shown_by, entry_shown_by, in_hex, with_fault};
 
 use ark_trees::LogHasher;
 use hex::FromHexError;
@@ -33,8 +35,8 @@ fn shows_entry(
     entry: &Vec<u8>,
     path: &[u8],
 ) -> Result<bool, Fault>
-    ensures answer { let outcome = entry_shown root.now size index entry.now.items path.now in
-        FileGivesBy (λ holds. holds) outcome result }
+    ensures answer { FileGivesBy (λ holds. holds) (entry_shown Index with_fault root.now size index
+        entry.now.items path.now) result }
     ensures shows { let hashes = log_hashes (λ bytes. bytes) in
         let digests = proof_digests (inclusion_length size index) path.now in
         result ≡ Ok true → ShowsLogLeaf hashes root.now size index entry.now.items digests }
@@ -57,8 +59,8 @@ pub fn check_inclusion(
     entry: &Vec<u8>,
     word: &[u8],
 ) -> Result<bool, Fault>
-    ensures answer { let outcome = entry_shown_by root.now size index entry.now.items word.now in
-        FileGivesBy (λ holds. holds) outcome result }
+    ensures answer { FileGivesBy (λ holds. holds) (entry_shown_by root.now size index
+        entry.now.items word.now) result }
 
     // What the word spells binds the entry.
     ensures shows { let hashes = log_hashes (λ bytes. bytes) in
@@ -79,8 +81,8 @@ fn shows_continuing(
     root: &[u8; 32],
     proof: &[u8],
 ) -> Result<bool, Fault>
-    ensures answer { let of_sizes = continuing_shown old_size old_root.now size root.now in
-        FileGivesBy (λ holds. holds) (of_sizes proof.now) result }
+    ensures answer { FileGivesBy (λ holds. holds) (continuing_shown Size with_fault old_size
+        old_root.now size root.now proof.now) result }
     ensures shows { let digests = proof_digests (consistency_length old_size size) proof.now in
         result ≡ Ok true → ShowsFront node_of old_size old_root.now size root.now digests }
 {
@@ -103,8 +105,8 @@ pub fn check_consistency(
     root: &[u8; 32],
     word: &[u8],
 ) -> Result<bool, Fault>
-    ensures answer { let of_sizes = continuing_shown_by old_size old_root.now size root.now in
-        FileGivesBy (λ holds. holds) (of_sizes word.now) result }
+    ensures answer { FileGivesBy (λ holds. holds) (continuing_shown_by old_size old_root.now size
+        root.now word.now) result }
 
     // What the word spells binds the old root.
     ensures shows { let digests = proof_digests (consistency_length old_size size) in
