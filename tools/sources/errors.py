@@ -10,7 +10,10 @@ WORDS = {
     "Answers": "AnswersBy, the value as it is (ark_base, Outcome)",
     "LacksMemoryOnly": "the only error is OutOfMemory (ark_base, Outcome)",
     "Reads": "AnswersBy of a reading, which has its fault (ark_base, Reading)",
-    "GivesBy": "the error stands for the outcome's or for a lack of memory (merkle_log, paxidore_c, paxlog_run, signed_notes)",
+    "GivesBy": "the error stands for the outcome's or for a lack of memory (merkle_log, Given)",
+    "FileGivesBy": "the error is the outcome's or a lack of memory (log_file, Faults)",
+    "NoteGivesBy": "the error is the outcome's or a lack of memory (signed_notes, Faults)",
+    "CallGivesBy": "the error is the outcome's or a lack of memory (paxidore_c, Answer)",
     "RaisesNeeded": "the error stands for a refusal of the hash or for a lack of memory (merkle_log, Edge)",
     "IsRefusedFor": "a fault is the outcome's, Memory, or Damaged of a damaged file; the rest is the disk's (log_store, Refused)",
     "IsRefusedAfter": "IsRefusedFor, or Other of a file that is not that log's (log_store, Refused)",
@@ -29,10 +32,10 @@ WORDS = {
 VIEWS = ("seen_by", "found_seen", "outcome_with", "string_outcome", "result_map_both")
 # The words that say which code a call for C returns.
 CODES = {
-    "Gives": "this code, or that of a lack of memory (paxidore_c, Answer)",
+    "GivesCode": "this code, or that of a lack of memory (paxidore_c, Answer)",
     "Hands": "the code of the outcome, of too little room, or of a lack of memory (paxidore_c, Answer)",
     "Replaces": "the code of the outcome, or of a lack of memory (paxidore_c, Transcript)",
-    "Tells": "0 or 1 as the outcome has it, else that of its error (paxidore_page, Code)",
+    "TellsVerdict": "0 or 1 as the outcome has it, else that of its error (paxidore_page, Code)",
 }
 
 
