@@ -3,4 +3,4 @@ use Rattle.jubjub.specs.Laws.Completeness.{jubjub_is_complete}
 use Rattle.jubjub.proofs.extended.is_identity.Goals as goal
 
 pub returns : goal.returns
-returns c = c.is_identity.ensures d jubjub_is_complete
+returns c = c.is_neutral.ensures d jubjub_is_complete

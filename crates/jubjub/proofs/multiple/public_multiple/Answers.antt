@@ -10,4 +10,4 @@ returns-in-Some c s on of_a =
     subst (λ n. Stands c.by_bits.result (times curve n s)) c.in-Some.ensures.some (c.by_bits.ensures s on of_a)
 
 pub returns-in-None : goal.returns-in-None
-returns-in-None c = c.public_multiple.ensures d jubjub_is_complete c.twice_coefficient.ensures
+returns-in-None c = c.multiple_public.ensures d jubjub_is_complete c.twice_coefficient.ensures

@@ -3,4 +3,4 @@ use Rattle.jubjub.specs.Laws.Completeness.{jubjub_is_complete}
 use Rattle.jubjub.proofs.multiple.scalar_multiple.Goals as goal
 
 pub returns : goal.returns
-returns c = c.scalar_multiple.ensures d jubjub_is_complete c.twice_coefficient.ensures
+returns c = c.multiple.ensures d jubjub_is_complete c.twice_coefficient.ensures
