@@ -64,12 +64,12 @@ def keeps_the_order(room, names, digests):
     ask("append", log, *names[:5])
     write(log + "-bare", file_of([]))
     for words, order in (
-        (["append", log, names[5]], "O O L S (R )+W (R )*W S W S W S "),
-        (["append", log, "--after", 6, root(hashed).hex(), names[5]], "O O L S (R )+W (R )*W S W S W S "),
-        (["append-lines", log, "--batch", 1, names[5]], "O O L S (R )+W (R )*W S W S W S "),
+        (["append", log, names[5]], "O O L (R )+W S (R )+W (R )*W S W S W S "),
+        (["append", log, "--after", 6, root(hashed).hex(), names[5]], "O O L (R )+W S (R )+W (R )*W S W S W S "),
+        (["append-lines", log, "--batch", 1, names[5]], "O O L (R )+W S (R )+W (R )*W S W S W S "),
         (["append", log + "-new", names[5]], "O O L (R )*W S O S (R )*W (R )*W S W S W S "),
         # a log of no entries, whose name may not be on the disk
-        (["append", log + "-bare", names[5]], "O O L (R )*(W )?S O S (R )*W (R )*W S W S W S "),
+        (["append", log + "-bare", names[5]], "O O L (R )*W S O S (R )*W (R )*W S W S W S "),
         (["root", log], "O (R )+"),
         (["recover", log, log + "-other"], "O L (R )*O L (R )*W (R W )*S W S O S "),
     ):
@@ -92,7 +92,7 @@ def is_cut_off(room, names, digests):
         return
     log, before, after = room + "/cut", file_of(digests[:5]), file_of(digests[:6])
     roots = {"%d %s\n" % (size, root(digests[:size]).hex()) for size in (5, 6)}
-    for call, times in (("pwrite64", 4), ("fsync", 4)):
+    for call, times in (("pwrite64", 5), ("fsync", 4)):
         for number in range(1, times + 1):
             for how in ("signal=KILL", "error=EIO", "error=ENOSPC"):
                 write(log, before)
@@ -101,12 +101,55 @@ def is_cut_off(room, names, digests):
                 status, said, why = ask("root", log)
                 check("%s %d, %s: the log is whole" % (call, number, how), status == 0 and said in roots)
                 if how != "signal=KILL":
-                    begun = (call, number) in (("pwrite64", 3), ("pwrite64", 4), ("fsync", 3), ("fsync", 4))
+                    begun = (call, number) in (("pwrite64", 4), ("pwrite64", 5), ("fsync", 3), ("fsync", 4))
                     check("%s %d, %s: the status" % (call, number, how), ran.returncode == (7 if begun else 6))
                 check("it goes on", ask("append", log, names[6])[0] == 0)
     write(log, before)
     check("without a fault", ask("append", log, names[5])[0] == 0 and read(log) == after)
     os.remove(log)
+
+
+def is_not_taken_back(room, names, digests):
+    """A sync of the log's file is refused, as Linux refuses it: what was written stays readable and is not durable, whatever later syncs say.
+    What is signed or acknowledged afterwards is what a power failure leaves."""
+    log, image, key, library = room + "/doubtful", room + "/image", room + "/doubtful-key", room + "/lost_pages.so"
+    subprocess.run(["cc", "-O2", "-shared", "-fPIC", "-o", library, TOP + "/.ci/lost_pages.c", "-ldl"], check=True)
+    ask("keygen", "l.example/log", key)
+
+    def on_the_disk(refuses, *words):
+        given = {"LD_PRELOAD": library, "LOG": log, "IMAGE": image, "REFUSES": str(refuses)}
+        ran = subprocess.run([PROGRAM, *words], env=given, stdout=subprocess.PIPE, stderr=subprocess.PIPE)
+        return ran.returncode, ran.stdout.decode()
+
+    folder = room + "/doubtful-tiles"
+    for refuses in range(1, 5):
+        size = 5 if refuses < 3 else 6
+        after = [size, root(digests[:size]).hex()]
+        for words, is_more in (
+            (["checkpoint", log, "--key", key], False),
+            (["tiles", log, folder, "--key", key], False),
+            (["append", log, names[6]], True),
+            (["append", log, "--after", *map(str, after), names[6]], True),
+            ([], False),
+        ):
+            for place in (log, image):
+                write(place, file_of(digests[:5]))
+            status, said = on_the_disk(refuses, "append", log, names[5])
+            check("sync %d is refused" % refuses, (status, said) == (6 if refuses < 3 else 7, ""))
+            check("the log is that before or after", ask("root", log)[1] == "%d %s\n" % tuple(after))
+            if words:
+                check("%s behind sync %d" % (" ".join(words[:3]), refuses), on_the_disk(0, *words)[0] == 0)
+            left = [*digests[:size], digests[6]] if is_more else digests[:size]
+            # the power fails
+            os.rename(image, log)
+            status, said, _ = ask("root", log)
+            whole = (status, said) == (0, "%d %s\n" % (len(left), root(left).hex()))
+            before = (status, said) == (0, "5 %s\n" % root(digests[:5]).hex())
+            check("%s behind sync %d holds" % (" ".join(words[:3]) or "nothing", refuses), whole or before and not words)
+            check("and is whole", ask("check", log) == (0, "yes\n", ""))
+            shutil.rmtree(folder, ignore_errors=True)
+    for place in (log, key, library):
+        os.remove(place)
 
 
 def is_cut_short(room, names, digests):

@@ -1,9 +1,10 @@
 -- Receipts of entries: proofs as files, as C2SP's tlog-proof has them.
-use Rattle.std.specs.Prelude.{◌≡◌, ◌⊎◌, ℕ, false, true, List, [], ◌∷◌, ◌++◌, Ok, codes}
+use Rattle.std.specs.Prelude.{◌≡◌, ◌⊎◌, ◌<◌, ◌≤◌, ◌^◌, ℕ, false, true, List, [], ◌∷◌, ◌++◌, length, Ok, codes}
 use Rattle.std.specs.Fmt.{decimal}
-use Rattle.std.specs.List.{flat_map}
+use Rattle.std.specs.List.{flat_map, AllByRecursion}
 use Rattle.base64.specs.GeneralPurpose.{encode_of}
 use Rattle.base64.specs.Engines.{standard}
+use Rattle.ark_base.specs.Digits.{AreBytes}
 use Rattle.ark_paths.specs.Pair.{Digest}
 use Rattle.ark_trees.specs.Rfc6962.{entry_hash, node_of}
 use Rattle.merkle_log.specs.Verdict.{inclusion_verdict}
@@ -48,9 +49,27 @@ pub record LeadsElsewhere (policy : Policy) (origin bytes entry : List ℕ) : Ty
   pub opened : IsOpened policy origin note stated
   pub refused : inclusion_verdict node_of stated.root stated.size index (entry_hash entry) path ≡ Ok false
 
+-- Digests of 32 bytes each, as many as a path may have.
+abbrev pub IsPath : List Digest → Type 0
+IsPath path = (length path ≤ 64) × AllByRecursion (AreBytes 32) path
+
+-- The bytes are no lines of a path with an empty line behind them.
+abbrev pub HaveNoPath : List ℕ → Type 0
+HaveNoPath bytes = (path : List Digest) (note : List ℕ) → IsPath path
+    → bytes ≡ flat_map digest_line path ++ (10 ∷ note) → ⊥
+
+-- The bytes are no receipt.
+abbrev pub IsNoReceipt : List ℕ → Type 0
+IsNoReceipt bytes = (index : ℕ) (path : List Digest) (note : List ℕ) → index < 2 ^ 64 → IsPath path
+    → bytes ≡ receipt_of index path note → ⊥
+
+-- A fault is a lack of memory, or this is so and it says that the spelling is wrong.
+abbrev pub IsMisspelled : Type 0 → ReceiptFault → Type 0
+IsMisspelled Wrong why = ((why ≡ Spelling) × Wrong) ⊎ (why ≡ Note Memory)
+
 -- Why bytes are not read as a receipt: they are none, or memory was refused.
-abbrev pub IsUnread : ReceiptFault → Type 0
-IsUnread why = (why ≡ Spelling) ⊎ (why ≡ Note Memory)
+abbrev pub IsUnread : List ℕ → ReceiptFault → Type 0
+IsUnread bytes why = IsMisspelled (IsNoReceipt bytes) why
 
 -- The bytes are a receipt whose checkpoint is not accepted: it is not signed as a policy asks, or is none of an origin.
 pub record IsUnsignedReceipt (policy : Policy) (origin bytes : List ℕ) (why : ReceiptFault) : Type 0 where
@@ -64,4 +83,4 @@ pub record IsUnsignedReceipt (policy : Policy) (origin bytes : List ℕ) (why : 
 
 -- Why a receipt is not accepted, whatever its entry.
 abbrev pub IsUnaccepted : Policy → List ℕ → List ℕ → ReceiptFault → Type 0
-IsUnaccepted policy origin bytes why = IsUnread why ⊎ IsUnsignedReceipt policy origin bytes why
+IsUnaccepted policy origin bytes why = IsUnread bytes why ⊎ IsUnsignedReceipt policy origin bytes why

@@ -1,9 +1,16 @@
 //! Receipts: that an entry stands at an index of a log, as one file (C2SP tlog-proof).
 
-ghost use Rattle.std.specs.Prelude.{◌≡◌, ◌++◌, ◌∷◌, [], true, IfErr, IfOk, IfSome, IsNone, OnOk, Ok};
+ghost use Rattle.std.specs.Prelude.{◌≡◌, ◌++◌, ◌∷◌, [], true, None, Some, IfErr, IfOk, IfSome, IsNone, MatchOption, OnOk, Ok};
 ghost use Rattle.std.specs.List.{flat_map};
+ghost use Rattle.base64.specs.Engines.{standard};
+ghost use Rattle.base64.specs.GeneralPurpose.{encode_of};
+ghost use Rattle.ark_base.specs.Digits.{AreBytes};
+ghost use Rattle.ark_paths.specs.Pair.{Digest};
 ghost use Rattle.ark_trees.specs.Rfc6962.{entry_hash, node_of};
-ghost use Rattle.log_checkpoints.specs.Receipts.{digest_line, receipt_of, IsReceiptOf, IsUnaccepted, IsUnread, LeadsElsewhere};
+ghost use Rattle.log_checkpoints.specs.declared.receipts.ReceiptFault.TheVariants.{Note};
+ghost use Rattle.log_checkpoints.specs.Receipts.{digest_line, receipt_of, HaveNoPath, IsMisspelled, IsReceiptOf, IsUnaccepted, IsUnread, LeadsElsewhere};
+ghost use Rattle.signed_notes.specs.Cutting.{cut};
+ghost use Rattle.signed_notes.specs.declared.fault.Fault.TheVariants.{Memory};
 ghost use Rattle.merkle_log.specs.Verdict.{inclusion_verdict};
 ghost use Rattle.signed_notes.specs.Views.{policy_parts};
 
@@ -70,14 +77,21 @@ pub fn write_receipt(
 }
 
 // The line at the front of bytes, without its line feed, and what stands behind it.
-fn cut_line(bytes: &[u8]) -> Option<(&[u8], &[u8])> {
-    let end = memchr(b'\n', bytes)?;
-    Some((&bytes[..end], &bytes[end + 1..]))
+fn cut_line(bytes: &[u8]) -> Option<(&[u8], &[u8])>
+    ensures { MatchOption result (cut 10 bytes.now ≡ None)
+        (λ found. cut 10 bytes.now ≡ Some (found.0.now, found.1.now)) }
+{
+    match memchr(b'\n', bytes) {
+        Some(end) => Some((&bytes[..end], &bytes[end + 1..])),
+        None => None,
+    }
 }
 
 // The digest that a line spells.
 fn digest_of_line(alloc: Global, line: &[u8]) -> Result<[u8; 32], ReceiptFault>
-    ensures { IfErr result IsUnread }
+    ensures read { IfOk result (λ digest. line.now ≡ encode_of standard digest) }
+    ensures refused { IfErr result (IsMisspelled ((digest : Digest) → AreBytes 32 digest
+        → line.now ≡ encode_of standard digest → ⊥)) }
 {
     match STANDARD.decode(alloc, line) {
         Ok(bytes) if bytes.len() == 32 => {
@@ -91,57 +105,53 @@ fn digest_of_line(alloc: Global, line: &[u8]) -> Result<[u8; 32], ReceiptFault>
     }
 }
 
-// What bytes say as a receipt, if they are one.
-fn parts_in(alloc: Global, bytes: &[u8]) -> Result<Receipt<'_>, ReceiptFault>
-    ensures { IfErr result IsUnread }
+// The digests that lines spell up to an empty one, and what stands behind that.
+fn path_in(alloc: Global, bytes: &[u8]) -> Result<(Vec<[u8; 32]>, &[u8]), ReceiptFault>
+    ensures read { IfOk result (λ read. bytes.now
+        ≡ flat_map digest_line read.0.items ++ (10 ∷ read.1.now)) }
+    ensures refused { IfErr result (IsMisspelled (HaveNoPath bytes.now)) }
 {
-    if bytes.len() < TITLE.len() || bytes[..TITLE.len()] != TITLE[..] {
-        return Err(ReceiptFault::Spelling);
-    }
-    let Some((line, mut rest)) = cut_line(&bytes[TITLE.len()..]) else {
-        return Err(ReceiptFault::Spelling);
-    };
-    let Some(index) = decimal_number(line) else {
-        return Err(ReceiptFault::Spelling);
-    };
     let mut path = Vec::new(alloc);
+    let mut rest = bytes;
     // No path has more digests than a size has bits.
-    for _digest in 0..65 {
+    let mut count = 0;
+    'lines: while count < 65 {
         let Some((line, behind)) = cut_line(rest) else {
             return Err(ReceiptFault::Spelling);
         };
         if line.is_empty() {
-            return Ok(Receipt {
-                index,
-                path,
-                note: behind,
-            });
+            return Ok((path, behind));
         }
         let digest = digest_of_line(alloc, line)?;
         if path.push(digest).is_err() {
             return Err(ReceiptFault::Note(Fault::Memory));
         }
         rest = behind;
+        count += 1;
     }
     Err(ReceiptFault::Spelling)
 }
 
-/// Reads a receipt. Errors: `Spelling` for bytes that are none; `Memory`.
+/// Reads a receipt, also any that `write_receipt` writes of at most 64 digests.
+///
+/// Errors: `Spelling` for bytes that are none; `Memory`.
 pub fn read_receipt(alloc: Global, bytes: &[u8]) -> Result<Receipt<'_>, ReceiptFault>
     // A receipt has one spelling.
     ensures read { IfOk result (λ read.
         bytes.now ≡ receipt_of read.index read.path.items read.note.now) }
-    ensures refused { IfErr result IsUnread }
+    ensures refused { IfErr result (IsUnread bytes.now) }
 {
-    let read = parts_in(alloc, bytes)?;
-    let Ok(spelled) = write_receipt(alloc, read.index, &read.path, read.note) else {
-        return Err(ReceiptFault::Note(Fault::Memory));
-    };
-    if spelled.as_slice() == bytes {
-        Ok(read)
-    } else {
-        Err(ReceiptFault::Spelling)
+    if bytes.len() < TITLE.len() || bytes[..TITLE.len()] != TITLE[..] {
+        return Err(ReceiptFault::Spelling);
     }
+    let Some((line, rest)) = cut_line(&bytes[TITLE.len()..]) else {
+        return Err(ReceiptFault::Spelling);
+    };
+    let Some(index) = decimal_number(line) else {
+        return Err(ReceiptFault::Spelling);
+    };
+    let (path, note) = path_in(alloc, rest)?;
+    Ok(Receipt { index, path, note })
 }
 
 // Whether a path shows an entry at an index of a log with this root and size.
@@ -154,7 +164,7 @@ fn is_shown(
 ) -> Result<bool, ReceiptFault>
     ensures shown { IfOk result (λ shown. inclusion_verdict node_of checkpoint.now.root
         checkpoint.now.size index (entry_hash entry.now) path.now ≡ Ok shown) }
-    ensures refused { IfErr result IsUnread }
+    ensures refused { IfErr result (λ why. why ≡ Note Memory) }
 {
     let digest = digest_of_entry(entry);
     let (size, index) = (checkpoint.size as u64, index as u64);

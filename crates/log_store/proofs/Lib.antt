@@ -1,7 +1,10 @@
 pub mod Overlaid
 pub mod Spotted
-pub mod Moments
+pub mod Runs
+pub mod Writes
+pub mod Mixing
 pub mod Tearing
+pub mod Stages
 pub mod Reading
 pub mod Growths
 pub mod Refusals

@@ -3,7 +3,7 @@ use Rattle.std.proofs.Common.{◌≡◌, inl, inr, ℕ, ◌+◌, ◌<◌, ◌≤
 use Rattle.std.specs.Prelude.{not}
 use Rattle.std.proofs.lemmas.Bool.{cases_lt}
 use Rattle.std.proofs.lemmas.List.{length-append, length-drop, length-take-le, take-append-drop, drop-drop, take_at, drop_at}
-use Rattle.std.proofs.Math.Nat.{max-eq_left, le-max_left}
+use Rattle.std.proofs.Math.Nat.{max-eq_left}
 use Rattle.ark_paths.specs.Pair.{Digest}
 use Rattle.log_file.specs.Append.{HasBehind}
 use Rattle.sha2.specs.Sha256.{sha256}
@@ -14,21 +14,9 @@ use Rattle.log_file.specs.LogFile.{file_end, next_slot, slot, slot_front, slot_s
 use Rattle.log_file.proofs.Files.{cut-head, cut-holds, cut-uses, holds-slot, keeps-more, known, known-free, log-holds, slot-torn, Holds, Known}
 use Rattle.log_file.proofs.Heads.{fits-size, fits-stated, head-kept, is_headed, length-front, length-slot, length-statement, size-begins, slot-begin, slot-end, slot-fits, uses-kept, uses-turned, HasHead, Uses}
 use Rattle.log_file.proofs.Pieces.{piece-written}
-use Rattle.log_store.specs.Disk.{Torn, TornTwice}
-use Rattle.log_store.specs.Store.{IsBeforeOrAfter, IsGrowth, IsSettled}
-
--- nothing was written
-pub torn-not : (at n : ℕ) (file left : List ℕ) → left ≡ file → Torn at n file left
-torn-not at n file left is = rw (is) (record {
-  before = refl;
-  after = refl;
-  no_shorter = omega arith;
-  no_longer = le-max_left (length file) (at + n);
-})
-
--- one write was cut short, and the next was none
-pub torn-once : (at n to m : ℕ) (file left : List ℕ) → Torn at n file left → TornTwice at n to m file left
-torn-once at n to m file left torn = (left, torn, torn-not to m left left refl)
+use Rattle.log_store.specs.Disk.{Cut}
+use Rattle.log_store.specs.Store.{IsGrowth, IsSettled}
+use Rattle.log_store.proofs.Mixing.{IsSaid}
 
 -- What is written makes a file no shorter.
 pub longer-written : (file bytes : List ℕ) (at : ℕ) → at ≤ length file → length file ≤ length (written file at bytes)
@@ -40,8 +28,8 @@ longer-written file bytes at inside = omega (
   length-drop (at + length bytes) file,
 )
 
--- A piece inside the file was torn.
-pub torn-piece : (at n : ℕ) (file left : List ℕ) → at + n ≤ length file → Torn at n file left
+-- A piece inside the file was cut.
+pub torn-piece : (at n : ℕ) (file left : List ℕ) → at + n ≤ length file → Cut at n file left
     → (part : List ℕ) × (length part ≡ n) × (left ≡ written file at part)
 torn-piece at n file left inside torn =
     let long : length left ≡ length file =
@@ -57,8 +45,8 @@ torn-piece at n file left inside torn =
           ∙ ap (λ k. (take at file ++ part) ++ drop (at + k) file) (sym count),
     )
 
--- A piece from a place on was torn, of which the end is not known.
-torn-behind : (at n : ℕ) (file left : List ℕ) → Torn at n file left → left ≡ take at file ++ drop at left
+-- A piece from a place on was cut, of which the end is not known.
+torn-behind : (at n : ℕ) (file left : List ℕ) → Cut at n file left → left ≡ take at file ++ drop at left
 torn-behind at n file left torn = sym (take-append-drop at left) ∙ ap (λ l. l ++ drop at left) torn.before
 
 -- ---- an append
@@ -158,10 +146,9 @@ module _ {leaves more : List Digest} {file bytes : List ℕ} {second : Bool} (gr
       (cut-holds leaves old_root file (bytes ++ rest) grow.log.head.long grow.log.holds)
 
   -- a crash while the digests and a slot's end are written
-  pub crash-behind : (n : ℕ) (left : List ℕ) → TornTwice (file_end (length leaves)) n (next_slot second + 20) 12 file
-      left
-      → IsBeforeOrAfter leaves more left
-  crash-behind n left (mid, first, then) =
+  pub crash-behind : (n : ℕ) (mid left : List ℕ) → Cut (file_end (length leaves)) n file mid
+      → Cut (next_slot second + 20) 12 mid left → IsLogFile leaves left
+  crash-behind n mid left first then =
       let behind = drop (file_end size) mid in
       let mid-is = torn-behind (file_end size) n file mid first in
       let has : Holds leaves old_root mid = subst (Holds leaves old_root) (sym mid-is)
@@ -178,10 +165,10 @@ module _ {leaves more : List Digest} {file bytes : List ℕ} {second : Bool} (gr
       let long : length part ≡ 32 = omega (arith, count, piece.1, length-append begin piece.0) in
       let is : left ≡ written mid free part = piece.2 ∙ slot-end mid piece.0 free inside piece.1 in
       let same : take 20 part ≡ begin = take_at begin piece.0 20 count in
-      inl (subst (IsLogFile leaves) (sym is) (log-holds leaves old_root (written mid free part) grow.log.next second
+      subst (IsLogFile leaves) (sym is) (log-holds leaves old_root (written mid free part) grow.log.next second
       (head-kept mid part size second grow.log.next head long same)
       (uses-kept mid part size old_root second used long)
-      (holds-slot leaves old_root mid part second used.long long has)))
+      (holds-slot leaves old_root mid part second used.long long has))
 
   -- ---- with the root of the log with the new leaves
 
@@ -283,13 +270,13 @@ module _ {leaves more : List Digest} {file bytes : List ℕ} {second : Bool} (gr
         go false true is = subst (Uses both-written new root) (ap not (sym is)) kept
 
     -- a crash while the front of the first slot is written
-    pub crash-slot : (left : List ℕ) → Torn (next_slot second) 20 end-written left → IsBeforeOrAfter leaves more left
+    pub crash-slot : (left : List ℕ) → Cut (next_slot second) 20 end-written left → IsSaid leaves more left
     crash-slot left torn =
         let piece = torn-piece free 20 end-written left (omega (arith, end-inside)) torn in
         let part = piece.0 ++ statement new root in
         let long = front-long piece.0 piece.1 in
         let is : left ≡ written end-written free part = piece.2 ∙ front-is piece.0 piece.1 in
-        subst (IsBeforeOrAfter leaves more) (sym is) (elim (slot-torn leaves old_root end-written part second
+        subst (IsSaid leaves more) (sym is) (elim (slot-torn leaves old_root end-written part second
         end-uses long end-holds) [
           | inl same ↦ inl same
           | inr larger ↦ by_size piece.0 piece.1 larger.0 larger.1 larger.2 larger.3.0 larger.3.1
@@ -298,7 +285,7 @@ module _ {leaves more : List Digest} {file bytes : List ℕ} {second : Bool} (gr
         by_size : (front : List ℕ) → length front ≡ 20 → (other : ℕ)
             → slot_size (front ++ statement new root) ≡ Some other → size < other → (next : Bool)
             → HasHead (written end-written free (front ++ statement new root)) other next
-            → IsBeforeOrAfter leaves more (written end-written free (front ++ statement new root))
+            → IsSaid leaves more (written end-written free (front ++ statement new root))
         by_size front count other says less next head = elim (cases_lt other new) [
           | inl below ↦ inr (inr (other, next, is_headed _ other next head, less, λ same. omega (arith, same)))
           | inr ge ↦ elim (cases_lt new other) [
@@ -318,12 +305,12 @@ module _ {leaves more : List Digest} {file bytes : List ℕ} {second : Bool} (gr
         ]
 
     -- a crash while the second slot is written
-    pub crash-both : (left : List ℕ) → Torn (next_slot (not second)) 32 slot-written left
-        → IsBeforeOrAfter leaves more left
+    pub crash-both : (left : List ℕ) → Cut (next_slot (not second)) 32 slot-written left
+        → IsSaid leaves more left
     crash-both left torn =
         let piece = torn-piece (next_slot (not second)) 32 slot-written left
         (omega (arith, slot-inside (not second), slot-uses.long)) torn in
-        subst (IsBeforeOrAfter leaves more) (sym piece.2)
+        subst (IsSaid leaves more) (sym piece.2)
         (elim (slot-torn (leaves ++ more) root slot-written piece.0 (not
         second)
         slot-uses piece.1 slot-holds) [

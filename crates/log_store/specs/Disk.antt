@@ -1,24 +1,42 @@
 -- What the calls of a disk do to its file, and what a crash may leave of it.
-use Rattle.std.specs.Prelude.{◌≡◌, ◌⊎◌, ◌+◌, ◌≤◌, ℕ, max, List, length, take, drop}
+use Rattle.std.specs.Prelude.{◌≡◌, ◌⊎◌, ◌+◌, ◌≤◌, ◌<◌, ℕ, max, List, length, take, drop, get_or}
 
--- A write of n bytes was cut short: any bytes stand in its range and behind the old end, and what was there elsewhere.
-pub record Torn (at n : ℕ) (old new : List ℕ) : Type 0 where
+-- Two pieces, each by its place and its length, have no byte in common.
+abbrev pub AreApart : ℕ → ℕ → ℕ → ℕ → Type 0
+AreApart at n to m = (at + n ≤ to) ⊎ (to + m ≤ at)
+
+-- At each place of the new bytes stands the new one, or the old one: 0 behind the end of the old ones.
+abbrev pub IsMixed : List ℕ → List ℕ → List ℕ → Type 0
+IsMixed old new mixed = (i : ℕ) → i < length new
+    → (get_or mixed i 0 ≡ get_or old i 0) ⊎ (get_or mixed i 0 ≡ get_or new i 0)
+
+-- A write of n bytes was cut short: any bytes stand in its range, and what was there elsewhere.
+pub record Cut (at n : ℕ) (old new : List ℕ) : Type 0 where
   pub before : take at new ≡ take at old
   pub after : drop (at + n) new ≡ drop (at + n) old
   pub no_shorter : length old ≤ length new
   pub no_longer : length new ≤ max (length old) (at + n)
 
--- Two writes, of n bytes and then of m, were cut short.
-abbrev pub TornTwice : ℕ → ℕ → ℕ → ℕ → List ℕ → List ℕ → Type 0
-TornTwice at n to m old new = (mid : List ℕ) × Torn at n old mid × Torn to m mid new
+-- A write of bytes was cut short: each byte of its range is the old or the new one.
+pub record Torn (at : ℕ) (bytes old new : List ℕ) : Type 0 where
+  pub cut : Cut at (length bytes) old new
+  pub mixed : IsMixed (drop at old) bytes (drop at new)
 
--- A crash leaves this file and no other.
-abbrev pub Only : List ℕ → (List ℕ → Type 0) → Type 0
-Only file may_leave = (left : List ℕ) → may_leave left → left ≡ file
+-- Two writes were cut short, of bytes and then of m others.
+abbrev pub TornTwice : ℕ → List ℕ → ℕ → ℕ → List ℕ → List ℕ → Type 0
+TornTwice at bytes to m old new = (mid : List ℕ) × Torn at bytes old mid × Cut to m mid new
 
--- What a crash may leave now is what it might have left before, or that after a step.
+-- A crash leaves these bytes from a place on.
+abbrev pub Leaves : ℕ → List ℕ → (List ℕ → Type 0) → Type 0
+Leaves at bytes may_leave = (left : List ℕ) → may_leave left → take (length bytes) (drop at left) ≡ bytes
+
+-- The file is what a crash might have left before, after a step.
+abbrev pub After : (List ℕ → List ℕ → Type 0) → (List ℕ → Type 0) → List ℕ → Type 0
+After Step old left = (before : List ℕ) × old before × Step before left
+
+-- What a crash may leave now is what it might have left before, after a step.
 abbrev pub LeavesMore : (List ℕ → List ℕ → Type 0) → (List ℕ → Type 0) → (List ℕ → Type 0) → Type 0
-LeavesMore Step old new = (left : List ℕ) → new left → (before : List ℕ) × old before × Step before left
+LeavesMore Step old new = (left : List ℕ) → new left → After Step old left
 
 -- Time goes on: a crash since a moment might have left what it might have left before, or what it may leave now.
 pub record Elapses (before now : ℕ) (past since : ℕ → List ℕ → Type 0) (may_leave : List ℕ → Type 0) : Type 0 where

@@ -1,9 +1,11 @@
 -- What a log's file is after an append that was cut short, and after one that returned.
-use Rattle.std.specs.Prelude.{◌≡◌, ◌≢◌, ◌⊎◌, ◌<◌, ◌≤◌, ◌^◌, ℕ, Bool, List, [], ◌++◌, length, get_or, Some}
+use Rattle.std.specs.Prelude.{◌≡◌, ◌≢◌, ◌⊎◌, ◌<◌, ◌≤◌, ◌*◌, ◌^◌, ℕ, Bool, List, [], ◌++◌, length, take, drop, get_or, Some}
 use Rattle.sha2.specs.Sha256.{sha256}
 use Rattle.ark_paths.specs.Pair.{Digest}
+use Rattle.merkle_log.specs.Stored.{stored_count}
 use Rattle.log_file.specs.Append.{HasBehind}
-use Rattle.log_file.specs.LogFile.{file_head, next_slot, slot, stored_in, title, written, IsLogFile}
+use Rattle.log_file.specs.LogFile.{file_end, file_head, next_slot, slot, slot_front, stored_in, title, written, IsLogFile}
+use Rattle.log_store.specs.Disk.{IsMixed}
 
 -- the head of a log of no entries
 abbrev pub new_head : List ℕ
@@ -14,16 +16,54 @@ pub record IsPartOf (head file : List ℕ) : Type 0 where
   pub short : length file ≤ 96
   pub bytes : (n : ℕ) → n < length file → (get_or file n 0 ≡ get_or head n 0) ⊎ (get_or file n 0 ≡ 0)
 
--- A whole slot says a size that nobody wrote there, larger than the log's own: torn bytes have its check sum. That
--- takes a coincidence of 12 bytes of SHA-256.
-abbrev pub IsForged : ℕ → ℕ → List ℕ → Type 0
-IsForged size new file =
+-- A crash leaves a file that has no byte.
+abbrev pub IsEmpty : (List ℕ → Type 0) → Type 0
+IsEmpty may_leave = (left : List ℕ) → may_leave left → left ≡ []
+
+-- In the place of the head the file has zeros or no byte.
+abbrev pub IsHeadless : List ℕ → Type 0
+IsHeadless file = (i : ℕ) → i < 96 → get_or file i 0 ≡ 0
+
+-- Up to where the digests of a log of this size end, a file is as another.
+abbrev pub BeginsAs : ℕ → List ℕ → List ℕ → Type 0
+BeginsAs size file left = take (file_end size) left ≡ take (file_end size) file
+
+-- A crash leaves the head and the digests of a log of this size.
+abbrev pub IsDurable : ℕ → List ℕ → (List ℕ → Type 0) → Type 0
+IsDurable size file may_leave = (left : List ℕ) → may_leave left → BeginsAs size file left
+
+-- The title and the digests of a log of this size are as in another file, whatever the two slots are.
+pub record IsBesideSlots (size : ℕ) (file left : List ℕ) : Type 0 where
+  pub title : take 32 left ≡ take 32 file
+  pub digests : take (32 * stored_count size) (drop 96 left) ≡ take (32 * stored_count size) (drop 96 file)
+
+-- A crash leaves the title and the digests of a log of this size, whatever it leaves of the two slots.
+abbrev pub IsDurableBeside : ℕ → List ℕ → (List ℕ → Type 0) → Type 0
+IsDurableBeside size file may_leave = (left : List ℕ) → may_leave left → IsBesideSlots size file left
+
+-- A whole slot says a size larger than the log's that is not the new one. Where nobody wrote it, that takes a
+-- coincidence of 12 bytes of SHA-256.
+abbrev pub SaysLarger : ℕ → ℕ → List ℕ → Type 0
+SaysLarger size new file =
     (other : ℕ) × (second : Bool) × (file_head file ≡ Some (other, second)) × (size < other) × (other ≢ new)
 
+-- A slot says such a size by chance: the front of each slot has at each byte what stood in the file, or that of the new
+-- size.
+pub record IsForged (size new : ℕ) (file left : List ℕ) : Type 0 where
+  pub says : SaysLarger size new left
+  pub mixed : (second : Bool)
+      → IsMixed (take 20 (drop (next_slot second) file)) (slot_front new) (take 20 (drop (next_slot second) left))
+
 -- The file is that of the log as it was, or with the new leaves; or a slot is forged.
-abbrev pub IsBeforeOrAfter : List Digest → List Digest → List ℕ → Type 0
-IsBeforeOrAfter leaves more file = IsLogFile leaves file ⊎ IsLogFile (leaves ++ more) file
-    ⊎ IsForged (length leaves) (length (leaves ++ more)) file
+abbrev pub IsBeforeOrAfter : List Digest → List Digest → List ℕ → List ℕ → Type 0
+IsBeforeOrAfter leaves more file left = IsLogFile leaves left ⊎ IsLogFile (leaves ++ more) left
+    ⊎ IsForged (length leaves) (length (leaves ++ more)) file left
+
+-- An append to a file is not done: the title and the digests of the log are there, and slots for it, or for the log
+-- with the new leaves.
+pub record IsMidAppend (leaves more : List Digest) (file left : List ℕ) : Type 0 where
+  pub log : IsBeforeOrAfter leaves more file left
+  pub beside : IsBesideSlots (length leaves) file left
 
 -- The file is that of a log, whose second slot takes the next size or not, and the bytes are those of the digests that
 -- more leaves add to it.
@@ -39,4 +79,14 @@ pub record IsSettled (leaves : List Digest) (file : List ℕ) : Type 0 where
   pub log : IsLogFile leaves file
   pub lost : (second : Bool) (part : List ℕ) → length part ≡ 32
       → IsLogFile leaves (written file (next_slot second) part)
-      ⊎ IsForged (length leaves) (length leaves) (written file (next_slot second) part)
+      ⊎ SaysLarger (length leaves) (length leaves) (written file (next_slot second) part)
+
+-- A crash leaves what is read, up to where the digests end: the file of the log, also where one of its slots is lost.
+abbrev pub IsDurableLog : List Digest → List ℕ → (List ℕ → Type 0) → Type 0
+IsDurableLog leaves file may_leave =
+    (left : List ℕ) → may_leave left → BeginsAs (length leaves) file left × IsSettled leaves left
+
+-- Of each of two logs, where it is read, a crash leaves the title and the digests.
+abbrev pub AreDurableBeside : List Digest → List Digest → List ℕ → (List ℕ → Type 0) → Type 0
+AreDurableBeside leaves more file may_leave = (log : List Digest) → (log ≡ leaves) ⊎ (log ≡ leaves ++ more)
+    → IsLogFile log file → IsDurableBeside (length log) file may_leave

@@ -4,8 +4,8 @@ ghost use Rattle.std.specs.Prelude.{◌≡◌, ◌≤◌, ◌<◌, ◌+◌, ◌^
 ghost use Rattle.sha2.specs.Sha256.{sha256};
 ghost use Rattle.ark_paths.specs.Pair.{Digest};
 ghost use Rattle.ark_trees.specs.Rfc6962.{node_of};
-ghost use Rattle.log_store.specs.Disk.{LeavesOnly, Only, TornTwice};
-ghost use Rattle.log_store.specs.Store.{IsBeforeOrAfter, IsGrowth, IsSettled};
+ghost use Rattle.log_store.specs.Disk.{After, LeavesMore, LeavesOnly, TornTwice};
+ghost use Rattle.log_store.specs.Store.{AreDurableBeside, IsDurable, IsDurableLog, IsGrowth, IsMidAppend, IsSettled};
 ghost use Rattle.merkle_log.specs.Asked.{IsPeak};
 ghost use Rattle.merkle_log.specs.Kept.{Keeps, stored_front};
 ghost use Rattle.merkle_log.specs.Log.{merkle_tree_hash};
@@ -89,8 +89,8 @@ fn is_near(size: usize) -> bool
     stored_count(size) <= 576460752303423480
 }
 
-/// Appends entries with these digests, one at least, to the log of a file, and returns the new size. What was read has to be on
-/// the disk: sync before. It reads the head and at most 128 digests.
+/// Appends entries with these digests, one at least, to the log of a file, and returns the new size. Nothing of the log may be
+/// doubtful: `make` or `rewrite_slots` comes first, and again after an error. It reads the head and at most 128 digests.
 ///
 /// Errors: those of `read_head`, `Damaged`, `Size` for a new size of over 63 bits, `Memory`, also for a size with more bytes
 /// than a file has, after which nothing was written; the disk's refusal, after which the file is that of the log before or
@@ -106,12 +106,17 @@ pub fn append<D: Disk>(
         let size = appended_size file (length digests.now) in
         D.Obeys disk.new → IsRefusedFor file size result }
 
-    // Once it returned, a crash leaves the log with the entries; and so it is if one of its two slots is lost.
+    // Once it returned, the file is that of the log with the entries; and so it is if one of its two slots is lost.
     ensures acknowledged { D.Obeys disk.new → (leaves : List Digest)
         → IsLogFile leaves (D.seen disk.old)
         → OnOk result (IsSettled (leaves ++ digests.now) (D.seen disk.new)) }
-    ensures durable { D.Obeys disk.new
-        → OnOk result (Only (D.seen disk.new) (D.may_leave disk.new)) }
+
+    // And so is what a crash leaves.
+    ensures durable { D.Obeys disk.new → (leaves : List Digest)
+        → IsLogFile leaves (D.seen disk.old)
+        → IsDurable (length leaves) (D.seen disk.old) (D.may_leave disk.old)
+        → OnOk result (IsDurableLog (leaves ++ digests.now) (D.seen disk.new)
+        (D.may_leave disk.new)) }
     ensures size { D.Obeys disk.new → (leaves : List Digest) → IsLogFile leaves (D.seen disk.old)
         → IfOk result (λ size. size ≡ length leaves + length digests.now) }
 
@@ -120,8 +125,19 @@ pub fn append<D: Disk>(
 
     // A crash at any moment leaves the log as it was, or with the entries.
     ensures any_moment { D.Obeys disk.new → (leaves : List Digest)
-        → IsLogFile leaves (D.seen disk.old) → Only (D.seen disk.old) (D.may_leave disk.old)
-        → LeavesOnly D.moment D.left_since disk.old disk.new (IsBeforeOrAfter leaves digests.now) }
+        → IsLogFile leaves (D.seen disk.old)
+        → IsDurable (length leaves) (D.seen disk.old) (D.may_leave disk.old)
+        → LeavesOnly D.moment D.left_since disk.old disk.new
+        (IsMidAppend leaves digests.now (D.seen disk.old)) }
+
+    // Whatever it returned, so is what is read.
+    ensures left { D.Obeys disk.new → (leaves : List Digest) → IsLogFile leaves (D.seen disk.old)
+        → IsMidAppend leaves digests.now (D.seen disk.old) (D.seen disk.new) }
+
+    // Of the log that is read then a crash leaves the title and the digests: its slots may be written again.
+    ensures kept { D.Obeys disk.new → (leaves : List Digest) → IsLogFile leaves (D.seen disk.old)
+        → IsDurable (length leaves) (D.seen disk.old) (D.may_leave disk.old)
+        → AreDurableBeside leaves digests.now (D.seen disk.new) (D.may_leave disk.new) }
 {
     let log = read_log(disk)?;
     let size = log.size.saturating_add(digests.len());
@@ -168,11 +184,21 @@ pub fn append_after<D: Disk>(
     ensures acknowledged { D.Obeys disk.new → (leaves : List Digest)
         → IsLogFile leaves (D.seen disk.old)
         → OnOk result (IsSettled (leaves ++ digests.now) (D.seen disk.new)) }
-    ensures durable { D.Obeys disk.new
-        → OnOk result (Only (D.seen disk.new) (D.may_leave disk.new)) }
+    ensures durable { D.Obeys disk.new → (leaves : List Digest)
+        → IsLogFile leaves (D.seen disk.old)
+        → IsDurable (length leaves) (D.seen disk.old) (D.may_leave disk.old)
+        → OnOk result (IsDurableLog (leaves ++ digests.now) (D.seen disk.new)
+        (D.may_leave disk.new)) }
     ensures any_moment { D.Obeys disk.new → (leaves : List Digest)
-        → IsLogFile leaves (D.seen disk.old) → Only (D.seen disk.old) (D.may_leave disk.old)
-        → LeavesOnly D.moment D.left_since disk.old disk.new (IsBeforeOrAfter leaves digests.now) }
+        → IsLogFile leaves (D.seen disk.old)
+        → IsDurable (length leaves) (D.seen disk.old) (D.may_leave disk.old)
+        → LeavesOnly D.moment D.left_since disk.old disk.new
+        (IsMidAppend leaves digests.now (D.seen disk.old)) }
+    ensures left { D.Obeys disk.new → (leaves : List Digest) → IsLogFile leaves (D.seen disk.old)
+        → IsMidAppend leaves digests.now (D.seen disk.old) (D.seen disk.new) }
+    ensures kept { D.Obeys disk.new → (leaves : List Digest) → IsLogFile leaves (D.seen disk.old)
+        → IsDurable (length leaves) (D.seen disk.old) (D.may_leave disk.old)
+        → AreDurableBeside leaves digests.now (D.seen disk.new) (D.may_leave disk.new) }
 {
     let log = read_log(disk)?;
     if !log.is(size, root) {
@@ -192,21 +218,24 @@ fn write_behind<D: Disk>(
 ) -> Result<[u8; 32], D::Refusal>
     requires fits { size < 2 ^ 63 }
     requires near { file_end size < 2 ^ 64 }
+    requires apart { slot_end + 12 ≤ place }
     ensures obeys { D.Obeys disk.new → D.Obeys disk.old }
-    ensures durable { D.Obeys disk.new
-        → OnOk result (Only (D.seen disk.new) (D.may_leave disk.new)) }
     ensures written { D.Obeys disk.new → place ≤ length (D.seen disk.old)
-        → slot_end ≤ length (D.seen disk.old)
         → IfOk result (λ root. let file = written (D.seen disk.old) place bytes.now in
         D.seen disk.new ≡ written file slot_end (statement size root)) }
+    ensures torn { D.Obeys disk.new → place ≤ length (D.seen disk.old)
+        → TornTwice place bytes.now slot_end 12 (D.seen disk.old) (D.seen disk.new) }
     ensures root { D.Obeys disk.new → place ≤ length (D.seen disk.old) → (leaves : List Digest)
         → length leaves ≡ size → let file = written (D.seen disk.old) place bytes.now in
         file_end size ≤ length file → Keeps leaves (stored_in (length leaves) file)
         → IfOk result (λ root. merkle_tree_hash node_of (sha256 []) leaves ≡ Ok root) }
+    ensures durable { D.Obeys disk.new → place ≤ length (D.seen disk.old)
+        → IfOk result (λ root. LeavesMore (λ before left. left ≡ written
+        (written before place bytes.now) slot_end (statement size root))
+        (D.may_leave disk.old) (D.may_leave disk.new)) }
     ensures any_moment { D.Obeys disk.new → place ≤ length (D.seen disk.old)
-        → slot_end ≤ length (D.seen disk.old) → Only (D.seen disk.old) (D.may_leave disk.old)
         → LeavesOnly D.moment D.left_since disk.old disk.new
-        (TornTwice place (length bytes.now) slot_end 12 (D.seen disk.old)) }
+        (After (TornTwice place bytes.now slot_end 12) (D.may_leave disk.old)) }
 {
     disk.write_at(place, bytes)?;
     let root = root_at(disk, size)?;
@@ -225,18 +254,32 @@ fn write_all<D: Disk>(
 ) -> Result<(), D::Refusal>
     requires fits { size < 2 ^ 63 }
     requires near { file_end size < 2 ^ 64 }
+    requires behind { 96 ≤ place }
     ensures obeys { D.Obeys disk.new → D.Obeys disk.old }
-    ensures durable { D.Obeys disk.new
-        → OnOk result (Only (D.seen disk.new) (D.may_leave disk.new)) }
     ensures acknowledged { D.Obeys disk.new → (leaves more : List Digest)
         → IsGrowth leaves more (D.seen disk.old) bytes.now is_second_free
         → place ≡ file_end (length leaves) → size ≡ length (leaves ++ more)
         → OnOk result (IsSettled (leaves ++ more) (D.seen disk.new)) }
+    ensures durable { D.Obeys disk.new → (leaves more : List Digest)
+        → IsGrowth leaves more (D.seen disk.old) bytes.now is_second_free
+        → place ≡ file_end (length leaves) → size ≡ length (leaves ++ more)
+        → IsDurable (length leaves) (D.seen disk.old) (D.may_leave disk.old)
+        → OnOk result (IsDurableLog (leaves ++ more) (D.seen disk.new) (D.may_leave disk.new)) }
     ensures any_moment { D.Obeys disk.new → (leaves more : List Digest)
         → IsGrowth leaves more (D.seen disk.old) bytes.now is_second_free
         → place ≡ file_end (length leaves) → size ≡ length (leaves ++ more)
-        → Only (D.seen disk.old) (D.may_leave disk.old)
-        → LeavesOnly D.moment D.left_since disk.old disk.new (IsBeforeOrAfter leaves more) }
+        → IsDurable (length leaves) (D.seen disk.old) (D.may_leave disk.old)
+        → LeavesOnly D.moment D.left_since disk.old disk.new
+        (IsMidAppend leaves more (D.seen disk.old)) }
+    ensures left { D.Obeys disk.new → (leaves more : List Digest)
+        → IsGrowth leaves more (D.seen disk.old) bytes.now is_second_free
+        → place ≡ file_end (length leaves) → size ≡ length (leaves ++ more)
+        → IsMidAppend leaves more (D.seen disk.old) (D.seen disk.new) }
+    ensures kept { D.Obeys disk.new → (leaves more : List Digest)
+        → IsGrowth leaves more (D.seen disk.old) bytes.now is_second_free
+        → place ≡ file_end (length leaves) → size ≡ length (leaves ++ more)
+        → IsDurable (length leaves) (D.seen disk.old) (D.may_leave disk.old)
+        → AreDurableBeside leaves more (D.seen disk.new) (D.may_leave disk.new) }
 {
     let free = next_slot(is_second_free);
     let root = write_behind(disk, place, bytes, free + 20, size)?;

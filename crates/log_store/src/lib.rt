@@ -5,6 +5,7 @@
 //! sync.
 #![tactic(auto)]
 
+mod again;
 pub mod disk;
 mod edge;
 mod growth;
@@ -19,6 +20,7 @@ mod steps;
 mod stop;
 mod window;
 
+pub use again::rewrite_slots;
 pub use disk::Disk;
 pub use edge::read_digest;
 pub use growth::{append, append_after};

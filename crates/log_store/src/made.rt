@@ -1,14 +1,16 @@
 //! The head of a new log's file.
 
-ghost use Rattle.std.specs.Prelude.{◌≡◌, ◌⊎◌, List, [], true, false, IfOk, OnOk};
+ghost use Rattle.std.specs.Prelude.{◌≡◌, ◌⊎◌, ℕ, List, [], length, take, drop, true, false, IfOk, OnOk};
 ghost use Rattle.ark_paths.specs.Pair.{Digest};
-ghost use Rattle.log_store.specs.Disk.{Only};
+ghost use Rattle.log_store.specs.Disk.{After, LeavesOnly, Torn};
 ghost use Rattle.log_store.specs.Refused.{IsOfDisk};
-ghost use Rattle.log_store.specs.Store.{new_head, IsPartOf, IsSettled};
+ghost use Rattle.log_store.specs.Store.{new_head, IsDurable, IsDurableBeside, IsDurableLog, IsEmpty, IsPartOf, IsSettled};
 ghost use Rattle.log_file.specs.LogFile.{IsLogFile};
 
+use crate::again::rewrite_slots;
 use crate::disk::Disk;
 use crate::log::read_log;
+use crate::steps::write_durably;
 use crate::stop::Stop;
 use log_file::fault::Fault;
 use log_file::head::{START, head_bytes};
@@ -73,7 +75,9 @@ fn is_begun<D: Disk>(disk: &D, head: &[u8; START]) -> Result<bool, Stop<D::Refus
     }
 }
 
-/// Writes the head of a log of no entries to a file that has no byte, or no more than a part of that head, and syncs.
+/// Makes a file ready for appends. A file that has no byte, or no more than a part of the head of a log of no entries, gets that
+/// head. Of another one the two slots are written again, as they are read. It syncs either way, and behind it nothing of the log is
+/// doubtful.
 ///
 /// Errors: the disk's refusal.
 pub fn make<D: Disk>(disk: &mut D) -> Result<(), Stop<D::Refusal>>
@@ -81,7 +85,7 @@ pub fn make<D: Disk>(disk: &mut D) -> Result<(), Stop<D::Refusal>>
 
     // A file that has a log stays as it is.
     ensures kept { D.Obeys disk.new → (leaves : List Digest) → IsLogFile leaves (D.seen disk.old)
-        → OnOk result (D.seen disk.new ≡ D.seen disk.old) }
+        → D.seen disk.new ≡ D.seen disk.old }
 
     // What is neither empty nor a part of that head stays as it is.
     ensures others { D.Obeys disk.new
@@ -91,16 +95,42 @@ pub fn make<D: Disk>(disk: &mut D) -> Result<(), Stop<D::Refusal>>
     ensures made { D.Obeys disk.new → D.seen disk.old ≡ []
         → OnOk result (IsSettled [] (D.seen disk.new)) }
     ensures refused { IsOfDisk result }
-    ensures durable { D.Obeys disk.new
-        → OnOk result (Only (D.seen disk.new) (D.may_leave disk.new)) }
+
+    // A crash then leaves the log, also where a sync of a slot was refused before.
+    ensures durable { D.Obeys disk.new → (leaves : List Digest)
+        → IsLogFile leaves (D.seen disk.old)
+        → IsDurableBeside (length leaves) (D.seen disk.old) (D.may_leave disk.old)
+        → OnOk result (IsDurable (length leaves) (D.seen disk.new) (D.may_leave disk.new)) }
+    ensures new_durable { D.Obeys disk.new → D.seen disk.old ≡ []
+        → IsEmpty (D.may_leave disk.old)
+        → OnOk result (IsDurableLog [] (D.seen disk.new) (D.may_leave disk.new)) }
+
+    // A crash at any moment leaves of a log's file what it might have left before, but for slots that are mixed of their own
+    // bytes and of those that are read.
+    ensures any_moment { D.Obeys disk.new → (leaves : List Digest)
+        → IsLogFile leaves (D.seen disk.old)
+        → LeavesOnly D.moment D.left_since disk.old disk.new
+        (After (Torn 32 (take 64 (drop 32 (D.seen disk.old)))) (D.may_leave disk.old)) }
+
+    // Of a file that has no more than a part of that head it leaves such a file.
+    ensures begun { D.Obeys disk.new → D.seen disk.old ≡ []
+        → ((left : List ℕ) → D.may_leave disk.old left → IsPartOf new_head left)
+        → LeavesOnly D.moment D.left_since disk.old disk.new (IsPartOf new_head) }
+
+    // Whatever it returned, of a log's file the title and the digests are as a crash left them before.
+    ensures kept_beside { D.Obeys disk.new → (leaves : List Digest)
+        → IsLogFile leaves (D.seen disk.old)
+        → IsDurableBeside (length leaves) (D.seen disk.old) (D.may_leave disk.old)
+        → IsDurableBeside (length leaves) (D.seen disk.new) (D.may_leave disk.new) }
 {
     let head = head_bytes(0, &Sha256::digest([].as_slice()));
     if is_begun(disk, &head)? {
-        if let Err(refusal) = disk.write_at(0, &head) {
-            return Err(Stop::Disk(refusal));
-        }
+        return match write_durably(disk, 0, &head) {
+            Ok(()) => Ok(()),
+            Err(refusal) => Err(Stop::Disk(refusal)),
+        };
     }
-    match disk.sync() {
+    match rewrite_slots(disk) {
         Ok(()) => Ok(()),
         Err(refusal) => Err(Stop::Disk(refusal)),
     }

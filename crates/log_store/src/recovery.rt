@@ -6,10 +6,10 @@ ghost use Rattle.sha2.specs.Sha256.{sha256};
 ghost use Rattle.ark_paths.specs.Pair.{Digest};
 ghost use Rattle.ark_trees.specs.Rfc6962.{node_of};
 ghost use Rattle.merkle_log.specs.Log.{merkle_tree_hash};
-ghost use Rattle.log_store.specs.Disk.{Only};
+ghost use Rattle.log_store.specs.Disk.{LeavesOnly};
 ghost use Rattle.log_store.specs.Refused.{IsUnrecovered};
 ghost use Rattle.log_store.specs.Sound.{HasStored};
-ghost use Rattle.log_store.specs.Store.{IsSettled};
+ghost use Rattle.log_store.specs.Store.{IsHeadless, IsEmpty, IsSettled};
 ghost use Rattle.log_file.specs.LogFile.{file_end, slots_head, IsLogFile};
 
 use crate::disk::Disk;
@@ -107,13 +107,20 @@ pub fn recoverable<D: Disk>(disk: &D) -> Result<Recovered, Stop<D::Refusal>>
     }
 }
 
-// Copies so many bytes behind the head to a file that has no byte, and syncs. Some bytes stand for a head.
+// Copies so many bytes behind the head to a file that has no byte, and syncs. Zeros stand for a head.
 fn copy_behind<D: Disk>(disk: &D, new: &mut D, count: usize) -> Result<(), D::Refusal>
     requires { 96 + count < 2 ^ 64 }
     ensures obeys { D.Obeys new.new → D.Obeys new.old }
     ensures copied { D.Obeys new.new → D.Obeys disk.now → D.seen new.old ≡ []
         → 96 + count ≤ length (D.seen disk.now)
         → OnOk result (drop 96 (D.seen new.new) ≡ take count (drop 96 (D.seen disk.now))) }
+    ensures durable { D.Obeys new.new → D.Obeys disk.now → D.seen new.old ≡ []
+        → IsEmpty (D.may_leave new.old) → 96 + count ≤ length (D.seen disk.now)
+        → OnOk result ((left : List ℕ) → D.may_leave new.new left → left ≡ D.seen new.new) }
+
+    // A crash at any moment leaves no head.
+    ensures any_moment { D.Obeys new.new → D.seen new.old ≡ [] → IsEmpty (D.may_leave new.old)
+        → LeavesOnly D.moment D.left_since new.old new.new IsHeadless }
 {
     new.write_at(0, &[0; START])?;
     let mut part = [0; PART];
@@ -144,8 +151,17 @@ pub fn recover<D: Disk>(disk: &D, new: &mut D) -> Result<Recovered, Stop<D::Refu
         → (leaves : List Digest) → IsLogFile leaves (D.seen disk.now)
         → OnOk result (IsSettled leaves (D.seen new.new)) }
     ensures refused { D.Obeys disk.now → IsUnrecovered (D.seen disk.now) result }
-    ensures durable { D.Obeys new.new
-        → OnOk result (Only (D.seen new.new) (D.may_leave new.new)) }
+
+    // Once it returned, a crash leaves what is read.
+    ensures durable { D.Obeys new.new → D.Obeys disk.now → D.seen new.old ≡ []
+        → IsEmpty (D.may_leave new.old)
+        → OnOk result ((left : List ℕ) → D.may_leave new.new left → left ≡ D.seen new.new) }
+
+    // A crash at any moment leaves the file of no log, or of one whose digests are all among those of the old file.
+    ensures any_moment { D.Obeys new.new → D.Obeys disk.now → D.seen new.old ≡ []
+        → IsEmpty (D.may_leave new.old) → LeavesOnly D.moment D.left_since new.old new.new
+        (λ left. (leaves : List Digest) → IsLogFile leaves left
+        → HasStored leaves (D.seen disk.now)) }
 {
     let found = recoverable(disk)?;
     if let Err(refusal) = copy_behind(disk, new, 32 * stored_count(found.size)) {

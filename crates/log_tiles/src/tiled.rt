@@ -296,9 +296,13 @@ impl<T: Tiles + Drop> Disk for TileDisk<T> {
 
     ghost may_leave = { λ _ _. ⊥ };
 
+    ghost fresh = { λ _ _ _. ⊥ };
+
     ghost moment = { λ _. 0 };
 
     ghost left_since = { λ _ _ _. ⊥ };
+
+    ghost counts_now = { λ _ _ _ _ now. now };
 
     ghost only_now = { λ _ _ since. since };
 

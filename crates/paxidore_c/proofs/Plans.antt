@@ -1,10 +1,12 @@
 -- Steps that a caller carries out on a file.
 use Rattle.std.proofs.Common.{zero, suc, ◌≡◌, ◌⊎◌, inl, inr, ℕ, ◌+◌, ◌-◌, ◌<◌, ◌≤◌, List, [], ◌∷◌, ◌++◌, length, take, drop, get_or, refl, ap, sym, ◌∙◌, subst, append_assoc, arith}
 use Rattle.std.proofs.lemmas.Bool.{cases_lt}
-use Rattle.std.proofs.lemmas.List.{drop-append-le, drop-drop, drop-take, length-append, length-drop, length-take-le, take-append-drop, take-append-le, take_all, take_at}
+use Rattle.std.proofs.lemmas.List.{drop-append-le, drop-drop, drop-take, get_or-take, length-append, length-drop, length-take-le, take-append-drop, take-append-le, take_all, take_at}
 use Rattle.std.proofs.Math.Nat.{le-max_left, le-max_right}
 use Rattle.std.proofs.Math.Seq.{drop-append_seam}
-use Rattle.log_store.specs.Disk.{Elapses, Torn}
+use Rattle.log_file.proofs.Pieces.{piece-written}
+use Rattle.log_store.specs.Disk.{Cut, Elapses, Torn}
+use Rattle.log_store.proofs.Writes.{torn-not as nothing-torn}
 use Rattle.log_file.specs.LogFile.{written}
 use Rattle.paxidore_c.specs.Plan.{IsReadOf, IsStopped, carried}
 use Rattle.paxidore_c.specs.declared.file_calls.replay.Step.{Step}
@@ -12,13 +14,8 @@ use Rattle.paxidore_c.specs.declared.file_calls.replay.Step.{Step}
 -- ---- a write that was cut short
 
 -- nothing was written
-pub torn-not : (at n : ℕ) (file : List ℕ) → Torn at n file file
-torn-not at n file = record {
-  before = refl;
-  after = refl;
-  no_shorter = omega arith;
-  no_longer = le-max_left (length file) (at + n);
-}
+pub torn-not : (at : ℕ) (bytes file : List ℕ) → Torn at bytes file file
+torn-not at bytes file = nothing-torn at bytes file file refl
 
 module _ (at : ℕ) (file bytes : List ℕ) (inside : at ≤ length file) where
   count : length (take at file ++ bytes) ≡ at + length bytes
@@ -30,9 +27,8 @@ module _ (at : ℕ) (file bytes : List ℕ) (inside : at ≤ length file) where
   long : length (written file at bytes) ≡ at + length bytes + length (drop (at + length bytes) file)
   long = ap length cut ∙ omega (arith, count, length-append (take at file ++ bytes) (drop (at + length bytes) file))
 
-  -- all was written
-  pub torn-written : Torn at (length bytes) file (written file at bytes)
-  torn-written = record {
+  cut-written : Cut at (length bytes) file (written file at bytes)
+  cut-written = record {
     before = ap (take at) (append_assoc (take at file) bytes (drop (at + length bytes) file))
         ∙ take_at (take at file) (bytes ++ drop (at + length bytes) file) at (omega (
           arith,
@@ -50,6 +46,14 @@ module _ (at : ℕ) (file bytes : List ℕ) (inside : at ≤ length file) where
           let left = le-max_left (length file) (at + length bytes) in
           omega (arith, long, length-drop (at + length bytes) file, left)
     ];
+  }
+
+  -- all was written
+  pub torn-written : Torn at bytes file (written file at bytes)
+  torn-written = record {
+    cut = cut-written;
+    mixed = λ i less. inr (sym (get_or-take (length bytes) (drop at (written file at bytes)) i 0 less)
+        ∙ ap (λ l. get_or l i 0) (piece-written file bytes at (length bytes) refl inside));
   }
 
 -- ---- steps
@@ -120,16 +124,16 @@ module _ (n : ℕ) (xs : List Step) (step : Step) (file : List ℕ) (le : n ≤ 
       file) left) (sym (drop-append-le t xs (step ∷ []) (omega (arith, before, le)))) stopped)
 
   pub write-crash : step.at ≤ length (carried xs file) → (left : List ℕ) → left_from n more file left
-      → (before : List ℕ) × left_from n xs file before × Torn step.at (length step.bytes.items) before left
+      → (before : List ℕ) × left_from n xs file before × Torn step.at step.bytes.items before left
   write-crash inside left stopped =
       elim (stopped-before (drop n xs) step (carried (take n xs) file) left (as_more n left (omega arith) stopped)) [
-        | inl early ↦ (left, early, torn-not step.at (length step.bytes.items) left)
+        | inl early ↦ (left, early, torn-not step.at step.bytes.items left)
         | inr (inl torn) ↦
             (carried (drop n xs) (carried (take n xs) file), stopped-all (drop n xs) (carried (take n xs) file), torn)
         | inr (inr all) ↦ (
           carried (drop n xs) (carried (take n xs) file),
           stopped-all (drop n xs) (carried (take n xs) file),
-          subst (Torn step.at (length step.bytes.items) (carried (drop n xs) (carried (take n xs) file))) (sym all)
+          subst (Torn step.at step.bytes.items (carried (drop n xs) (carried (take n xs) file))) (sym all)
               (torn-written step.at (carried (drop n xs) (carried (take n xs) file)) step.bytes.items
               (subst (λ f. step.at ≤ length f) (sym (carried-cut n xs file)) inside)),
         )

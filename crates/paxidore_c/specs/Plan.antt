@@ -27,7 +27,7 @@ carried (step ∷ steps) file = carried steps (written file step.at step.bytes.i
 -- part.
 abbrev pub IsStopped : List Step → List ℕ → List ℕ → Type 0
 IsStopped [] file left = left ≡ file
-IsStopped (step ∷ steps) file left = Torn step.at (length step.bytes.items) file left
+IsStopped (step ∷ steps) file left = Torn step.at step.bytes.items file left
     ⊎ IsStopped steps (written file step.at step.bytes.items) left
 
 -- What a call says so far that is to be written, and how many steps of it are synced.
@@ -76,5 +76,5 @@ pub record Grows (leaves more : List Digest) (file bytes_before bytes_after : Li
   -- once all is carried out, the file is that of the log with the leaves, also where one of its two slots is lost
   pub settled : IsSettled (leaves ++ more) (carried plan file)
   -- wherever that stops, it is that of the log as it was, or with the leaves
-  pub stopped : (left : List ℕ) → IsStopped plan file left → IsBeforeOrAfter leaves more left
+  pub stopped : (left : List ℕ) → IsStopped plan file left → IsBeforeOrAfter leaves more file left
   pub size_is : size ≡ length leaves + length more

@@ -3,7 +3,7 @@
 use crate::file_disk::FileDisk;
 use crate::reading::file_bytes;
 use crate::stop::{Stop, StopAt, placed};
-use crate::store::{created_secret, random_seed, unchanged};
+use crate::store::{created_secret, random_seed, to_be_signed};
 use crate::words::Name;
 use log_checkpoints::{ReceiptFault, Unsigned, checkpoint, verify_receipt};
 use paxlog_run::request::{Word, bytes_at};
@@ -96,7 +96,7 @@ pub fn sign_log(
 ) -> Result<Vec<u8>, StopAt> {
     let text = file_bytes(rt, key_file)?;
     let signer = placed(key_file.place, signed_by(rt.alloc(), &text))?;
-    let mut disk = placed(log.place, unchanged(rt, log.text))?;
+    let mut disk = placed(log.place, to_be_signed(rt, log.text))?;
     placed(log.place, note_of(rt, &mut disk, &signer, origin))
 }
 

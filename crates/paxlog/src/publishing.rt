@@ -9,7 +9,7 @@ use crate::folders::{TileFault, path_of_tile};
 use crate::followers::{checkpoint_name, log_in_folder, nothing, stated_by_note};
 use crate::reading::{file_bytes, is_there};
 use crate::stop::{Stop, StopAt, placed};
-use crate::store::{folder_of, root_of_first, sync_folder_of, unchanged};
+use crate::store::{folder_of, root_of_first, sync_folder_of, to_be_signed};
 use crate::words::Name;
 use crate::writing::{locked_folder, sync_above, sync_way, write_whole};
 use log_file::fault::Fault;
@@ -203,7 +203,7 @@ pub fn publish(
 ) -> Result<Head, StopAt> {
     let text = file_bytes(rt, key_file)?;
     let signer = placed(key_file.place, signed_by(rt.alloc(), &text))?;
-    let mut disk = placed(log.place, unchanged(rt, log.text))?;
+    let mut disk = placed(log.place, to_be_signed(rt, log.text))?;
     let (size, root) = match log_store::root(&disk, None) {
         Ok(root) => root,
         Err(why) => return Err(Stop::from(why).at(log.place)),

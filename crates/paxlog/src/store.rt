@@ -34,8 +34,9 @@ pub fn sync_folder_of(rt: &HostRuntime, path: &str) -> Result<(), Stop> {
     Ok(())
 }
 
-// Writes the head of no entries to a file that has no byte, or no more than a part of that head, and syncs. The folder is synced
-// too as long as the log has no entry: whoever made the file may have ended before its name was on the disk.
+// Makes a file ready for appends: a file that has no byte, or no more than a part of the head of no entries, gets that head, and of
+// another one the slots are written again. The folder is synced too as long as the log has no entry: whoever made the file may have
+// ended before its name was on the disk.
 fn make_file(rt: &HostRuntime, path: &str, disk: &mut FileDisk) -> Result<(), Stop> {
     let has_entries = disk.length()? > START;
     log_store::make(disk)?;
@@ -111,7 +112,7 @@ impl<'a> Keeper<'a> {
         if options.after.is_none() {
             make_file(rt, path, &mut disk)?;
         } else {
-            disk.sync()?;
+            log_store::rewrite_slots(&mut disk)?;
         }
         Ok(Keeper {
             path,
@@ -188,11 +189,7 @@ fn bind(
 }
 
 /// Returns the count and the root of the first entries of the log of a file, of as many as are named, or else of all.
-pub fn root_of_file(
-    rt: &HostRuntime,
-    path: &str,
-    named: Option<usize>,
-) -> Result<(usize, [u8; 32]), Stop> {
+pub fn root_of_file(rt: &HostRuntime, path: &str, named: Option<usize>) -> Result<(usize, [u8; 32]), Stop> {
     let disk = FileDisk::new(File::open(rt, path)?);
     match named {
         Some(size) if size > 0 => Ok((size, root_of_first(rt, &disk, size)?)),
@@ -233,16 +230,28 @@ pub fn check_file(rt: &HostRuntime, path: &str) -> Result<bool, Stop> {
     Ok(log_store::check(&disk)?)
 }
 
-/// Opens the file of a log, to which nobody appends meanwhile.
-pub fn unchanged(rt: &HostRuntime, path: &str) -> Result<FileDisk, Stop> {
+// Opens the file of a log, to which nobody appends meanwhile, for reading alone or also for writing.
+fn opened_alone(rt: &HostRuntime, path: &str, is_written: bool) -> Result<FileDisk, Stop> {
     for _turn in 0..TURNS {
-        let file = File::open(rt, path)?;
+        let mut how = OpenOptions::new();
+        let file = how.read(true).write(is_written).open(rt, path)?;
         file.try_lock_shared()?;
         if has_that_name(rt, path, &file)? {
             return Ok(FileDisk::new(file));
         }
     }
     Err(Stop::Replaced)
+}
+
+/// Opens the file of a log, to which nobody appends meanwhile.
+pub fn unchanged(rt: &HostRuntime, path: &str) -> Result<FileDisk, Stop> {
+    opened_alone(rt, path, false)
+}
+
+/// Opens the file of a log that is to be signed, to which nobody appends meanwhile. Its slots are written again before that, so the
+/// file has to be one that may be written.
+pub fn to_be_signed(rt: &HostRuntime, path: &str) -> Result<FileDisk, Stop> {
+    opened_alone(rt, path, true)
 }
 
 /// Returns what of a file can be recovered.

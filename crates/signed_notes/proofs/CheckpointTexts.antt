@@ -77,7 +77,7 @@ lacks-digits (d ∷ ds) e =
       lacks-digits ds parts.1,
     )
 
-lacks-decimal : (n : ℕ) → n < 2 ^ 64 → Lacks 10 (decimal n)
+pub lacks-decimal : (n : ℕ) → n < 2 ^ 64 → Lacks 10 (decimal n)
 lacks-decimal n fits = lacks-digits (decimal n) (digits_decimal numerals n fits)
 
 -- no zero stands before other digits
@@ -91,7 +91,7 @@ no-zero n fits = elim (cases_eq n 0) [
       (decimal n) 0 0) 48 (λ same. omega (arith, first_decimal n (omega arith) fits, same)))
 ]
 
-number-read : (n : ℕ) → n < 2 ^ 64 → decimal_number (decimal n) ≡ Some n
+pub number-read : (n : ℕ) → n < 2 ^ 64 → decimal_number (decimal n) ≡ Some n
 number-read n fits =
     let value : digits_value 10 (decimal n) ≡ n = digits_value-decimal numerals n fits in
     rw (
@@ -103,9 +103,9 @@ number-read n fits =
     ) refl
 
 -- a number and its digits
-record IsNumber (ds : List ℕ) (n : ℕ) : Type 0 where
-  digits_are : decimal n ≡ ds
-  fits : n < 2 ^ 64
+pub record IsNumber (ds : List ℕ) (n : ℕ) : Type 0 where
+  pub digits_are : decimal n ≡ ds
+  pub fits : n < 2 ^ 64
 
 only_some : {A : Type 0} (holds : Bool) (x y : A) → (if holds then Some x else None) ≡ Some y → (holds ≡ true) × (x ≡ y)
 only_some true x y e = (refl, cc)
@@ -118,7 +118,7 @@ one-or-other (d ∷ []) e some zero_first = refl
 one-or-other (d ∷ c ∷ ds) e some zero_first = absurd (let bad : true ≡ false =
     rw (lt-ltb 1 (length (d ∷ c ∷ ds)) (omega arith), eq-eqb d 48 zero_first) at e in cc)
 
-number-whole : (ds : List ℕ) (n : ℕ) → decimal_number ds ≡ Some n → IsNumber ds n
+pub number-whole : (ds : List ℕ) (n : ℕ) → decimal_number ds ≡ Some n → IsNumber ds n
 number-whole ds n e =
     let whole = only_some (is_number ds) (digits_value 10 ds) n e in
     let some = and_parts (nat_lt 0 (length ds)) _ whole.0 in

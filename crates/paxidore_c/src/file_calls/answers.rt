@@ -55,7 +55,7 @@ pub fn growth_of<F: Held>(
     ensures stopped { IsReadOf F.places F.pieces F.file → F.size ≡ length F.file
         → (leaves : List Digest) → IsLogFile leaves F.file
         → IfOk result (λ growth. (left : List ℕ) → IsStopped growth.steps.items F.file left
-        → IsBeforeOrAfter leaves digests.now left) }
+        → IsBeforeOrAfter leaves digests.now F.file left) }
     ensures refused { IsReadOf F.places F.pieces F.file → F.size ≡ length F.file
         → IfErr result (IsReason F.file (appended_size F.file (length digests.now))) }
     ensures done { result ≢ Err More }

@@ -206,6 +206,7 @@ fn copy_part(bytes: &[u8], at: usize, into: &mut [u8])
 
 impl<'a, F: Held> Disk for Replay<'a, F> {
     ghost use Rattle.std.specs.Prelude.{◌≡◌, length, take, drop};
+    ghost use Rattle.paxidore_c.specs.Laws.Plans.{stopped-later};
     ghost use Rattle.paxidore_c.specs.Plan.{IsReadOf, IsStopped, carried};
 
     type Refusal = Halt;
@@ -217,10 +218,17 @@ impl<'a, F: Held> Disk for Replay<'a, F> {
     ghost may_leave = { λ disk left. IsStopped (drop disk.done disk.steps)
         (carried (take disk.done disk.steps) F.file) left };
 
+    // What is read there.
+    ghost fresh = { λ disk at bytes. take (length bytes) (drop at (carried disk.steps F.file))
+        ≡ bytes };
+
     ghost moment = { λ disk. disk.done };
 
     ghost left_since = { λ disk since left. IsStopped (drop since disk.steps)
         (carried (take since disk.steps) F.file) left };
+
+    ghost counts_now = { λ disk since left before now. stopped-later since disk.done before
+        disk.steps F.file left now };
 
     ghost only_now = { λ _ _ since. since };
 

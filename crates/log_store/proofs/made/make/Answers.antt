@@ -1,65 +1,120 @@
-use Rattle.std.proofs.Common.{◌≡◌, ℕ, List, ◌++◌, [], sym, ◌∙◌, subst, inl, inr, ap, arith}
+use Rattle.std.proofs.Common.{◌≡◌, ℕ, List, ◌++◌, [], length, take, drop, refl, sym, ◌∙◌, subst, inl, ap, arith}
 use Rattle.sha2.specs.Sha256.{sha256}
-use Rattle.log_file.specs.LogFile.{slot, title}
+use Rattle.ark_paths.specs.Pair.{Digest}
+use Rattle.log_file.specs.LogFile.{file_end, slot, title, written, IsLogFile}
+use Rattle.log_store.specs.Disk.{After, LeavesOnly, Torn}
 use Rattle.log_store.specs.Store.{new_head, IsPartOf, IsSettled}
-use Rattle.log_store.proofs.Recovering.{new-settled}
+use Rattle.log_store.proofs.Recovering.{new-settled, part-torn}
+use Rattle.log_store.proofs.Runs.{begun, weaker}
+use Rattle.log_store.proofs.Writes.{torn-not}
 use Rattle.log_store.proofs.made.make.Goals as goal
-use Rattle.log_store.proofs.made.make.Goals.{then-branch+in_default, else-branch}
+use Rattle.log_store.proofs.made.make.Goals.{After-write_durably, In_ok-is_begun}
 
-pub returns-in-Ok-clause-kept : goal.returns-in-Ok-clause-kept
-returns-in-Ok-clause-kept g c = λ obeys leaves log.
-    let before = c.sync.ensures.obeys obeys in
-    elim c.if-branch.branch [
-      | then-branch+in_default w ↦
-          let start = w.write_at.ensures.obeys (subst g.D.Disk.Obeys w.disk-is before) in
-          let clash = sym w.if-branch.true ∙ c.in_ok-is_begun.ensures.log start leaves log in absurd cc
-      | else-branch w ↦ c.sync.ensures.same obeys ∙ ap g.D.Disk.seen w.disk-is
-    ]
+-- a head of no entries
+head-is : {head top seed : List ℕ} → head ≡ title ++ (slot 0 top ++ slot 0 top) → top ≡ sha256 seed → seed ≡ []
+    → head ≡ new_head
+head-is is top none = is ∙ ap (λ r. title ++ (slot 0 r ++ slot 0 r)) (top ∙ ap sha256 none)
+
+-- What is begun is the file of no log.
+no_log : (g : _) (c : After-write_durably g) → g.D.Disk.Obeys c.write_durably.new.disk → (leaves : List Digest)
+    → IsLogFile leaves (g.D.Disk.seen c.args.disk.now) → ⊥
+no_log g c obeys leaves log =
+    let begun = c.in_ok-is_begun.ensures.log (c.write_durably.ensures.obeys obeys) leaves log in
+    let clash = sym c.if-branch.true ∙ begun in
+    cc
+
+-- the head that is written
+head-of : (g : _) (c : After-write_durably g) → c.head_bytes-head.result ≡ new_head
+head-of g c = head-is c.head_bytes-head.ensures c.digest.ensures c.as_slice.ensures
 
 pub returns-in-Ok-clause-made : goal.returns-in-Ok-clause-made
 returns-in-Ok-clause-made g c = λ obeys none.
-    let before = c.sync.ensures.obeys obeys in
-    elim c.if-branch.branch [
-      | then-branch+in_default w ↦
-          let start = subst g.D.Disk.Obeys w.disk-is before in
-          subst (IsSettled []) (sym (c.sync.ensures.same obeys ∙ ap g.D.Disk.seen w.disk-is
-          ∙ w.in_default.ensures.written start (omega arith)))
-          (new-settled c.head_bytes-head.result (g.D.Disk.seen c.args.disk.now)
-          (c.head_bytes-head.ensures ∙ ap (λ r. title ++ (slot 0 r ++ slot 0 r)) (c.digest.ensures
-          ∙ ap sha256 c.as_slice.ensures)) none)
-      | else-branch w ↦
-          let start = subst g.D.Disk.Obeys w.disk-is before in
-          let clash = sym w.if-branch.false ∙ c.in_ok-is_begun.ensures.empty start none in absurd cc
-    ]
+    subst (IsSettled []) (sym (c.in-Ok.ensures.written obeys (omega arith)))
+    (new-settled c.head_bytes-head.result (g.D.Disk.seen c.args.disk.now)
+    (head-of g (goal.at.returns-in-Ok-clause-made g c).After-write_durably) none)
 
--- What is begun is a part of the head of a log of no entries.
-begun : (head file : List ℕ) → head ≡ new_head → IsPartOf head file → IsPartOf new_head file
-begun head file is part = subst (λ h. IsPartOf h file) is part
+pub returns-in-Ok-clause-new_durable : goal.returns-in-Ok-clause-new_durable
+returns-in-Ok-clause-new_durable g c = λ obeys none empty left now.
+    let from = c.in-Ok.ensures.durable obeys (omega arith) left now in
+    let file = g.D.Disk.seen c.args.disk.now in
+    let same : left ≡ g.D.Disk.seen c.write_durably.new.disk =
+    from.2 ∙ ap (λ f. written f 0 c.head_bytes-head.result) (empty from.0 from.1 ∙ sym none)
+    ∙ sym (c.in-Ok.ensures.written obeys (omega arith)) in
+    (ap (take (file_end 0)) same, subst (IsSettled []) (sym same) (returns-in-Ok-clause-made g c obeys none))
 
-pub returns-in-Err-clause-others : goal.returns-in-Err-clause-others
-returns-in-Err-clause-others g c = λ obeys.
-    let start = c.write_at.ensures.obeys obeys in
-    inl (begun c.head_bytes-head.result _ (c.head_bytes-head.ensures ∙ ap (λ r. title ++ (slot 0 r ++ slot 0 r))
-    (c.digest.ensures ∙ ap sha256 c.as_slice.ensures)) (c.in_ok-is_begun.ensures.part start c.if-branch.true))
+-- What is begun is a part of that head, and a crash leaves one.
+part-of : (g : _) (c : After-write_durably g) → g.D.Disk.Obeys c.write_durably.new.disk
+    → IsPartOf new_head (g.D.Disk.seen c.args.disk.now)
+part-of g c obeys = subst (λ h. IsPartOf h (g.D.Disk.seen c.args.disk.now)) (head-of g c)
+    (c.in_ok-is_begun.ensures.part (c.write_durably.ensures.obeys obeys) c.if-branch.true)
+
+parts-left : (g : _) (c : After-write_durably g) → g.D.Disk.Obeys c.write_durably.new.disk
+    → ((left : List ℕ) → g.D.Disk.may_leave c.args.disk.now left → IsPartOf new_head left)
+    → LeavesOnly g.D.Disk.moment g.D.Disk.left_since c.args.disk.now c.write_durably.new.disk (IsPartOf new_head)
+parts-left g c obeys parts =
+    weaker g.D.Disk c.args.disk.now c.write_durably.new.disk (IsPartOf new_head) _
+    (c.write_durably.ensures.any_moment obeys (omega arith))
+    (λ left torn. part-torn torn.0 left (parts torn.0 torn.1) (subst (λ h. Torn 0 h torn.0 left) (head-of g c) torn.2))
+
+pub returns-in_err-is_begun-clause-any_moment : goal.returns-in_err-is_begun-clause-any_moment
+returns-in_err-is_begun-clause-any_moment g c = λ obeys leaves log.
+    let part = take 64 (drop 32 (g.D.Disk.seen c.args.disk.now)) in
+    begun g.D.Disk c.args.disk.now (After (Torn 32 part) (g.D.Disk.may_leave c.args.disk.now))
+    (λ left since. (left, g.met.D.Disk.only_now c.args.disk.now left since, torn-not 32 part left left refl))
+
+pub returns-in_err-is_begun-clause-begun : goal.returns-in_err-is_begun-clause-begun
+returns-in_err-is_begun-clause-begun g c = λ obeys none parts.
+    begun g.D.Disk c.args.disk.now (IsPartOf new_head)
+    (λ left since. parts left (g.met.D.Disk.only_now c.args.disk.now left since))
 
 pub returns-in-Ok-clause-others : goal.returns-in-Ok-clause-others
 returns-in-Ok-clause-others g c = λ obeys.
-    let before = c.sync.ensures.obeys obeys in
-    elim c.if-branch.branch [
-      | then-branch+in_default w ↦
-          let start = w.write_at.ensures.obeys (subst g.D.Disk.Obeys w.disk-is before) in
-          inl (begun c.head_bytes-head.result _ (c.head_bytes-head.ensures ∙ ap (λ r. title ++ (slot 0 r ++ slot 0 r))
-          (c.digest.ensures ∙ ap sha256 c.as_slice.ensures)) (c.in_ok-is_begun.ensures.part start w.if-branch.true))
-      | else-branch w ↦ inr (c.sync.ensures.same obeys ∙ ap g.D.Disk.seen w.disk-is)
-    ]
+    inl (part-of g (goal.at.returns-in-Ok-clause-others g c).After-write_durably obeys)
 
-pub returns-in-Err-sync-clause-others : goal.returns-in-Err-sync-clause-others
-returns-in-Err-sync-clause-others g c = λ obeys.
-    let before = c.sync.ensures.obeys obeys in
-    elim c.if-branch.branch [
-      | then-branch+in_default w ↦
-          let start = w.write_at.ensures.obeys (subst g.D.Disk.Obeys w.disk-is before) in
-          inl (begun c.head_bytes-head.result _ (c.head_bytes-head.ensures ∙ ap (λ r. title ++ (slot 0 r ++ slot 0 r))
-          (c.digest.ensures ∙ ap sha256 c.as_slice.ensures)) (c.in_ok-is_begun.ensures.part start w.if-branch.true))
-      | else-branch w ↦ inr (c.sync.ensures.same obeys ∙ ap g.D.Disk.seen w.disk-is)
-    ]
+pub returns-in-Ok-clause-begun : goal.returns-in-Ok-clause-begun
+returns-in-Ok-clause-begun g c = λ obeys none parts.
+    parts-left g (goal.at.returns-in-Ok-clause-begun g c).After-write_durably obeys parts
+
+pub returns-in-Ok-clause-kept : goal.returns-in-Ok-clause-kept
+returns-in-Ok-clause-kept g c = λ obeys leaves log.
+    absurd (no_log g (goal.at.returns-in-Ok-clause-kept g c).After-write_durably obeys leaves log)
+
+pub returns-in-Ok-clause-any_moment : goal.returns-in-Ok-clause-any_moment
+returns-in-Ok-clause-any_moment g c = λ obeys leaves log.
+    absurd (no_log g (goal.at.returns-in-Ok-clause-any_moment g c).After-write_durably obeys leaves log)
+
+pub returns-in-Ok-clause-kept_beside : goal.returns-in-Ok-clause-kept_beside
+returns-in-Ok-clause-kept_beside g c = λ obeys leaves log kept.
+    absurd (no_log g (goal.at.returns-in-Ok-clause-kept_beside g c).After-write_durably obeys leaves log)
+
+pub returns-in-Err-clause-others : goal.returns-in-Err-clause-others
+returns-in-Err-clause-others g c = λ obeys.
+    inl (part-of g (goal.at.returns-in-Err-clause-others g c).After-write_durably obeys)
+
+pub returns-in-Err-clause-begun : goal.returns-in-Err-clause-begun
+returns-in-Err-clause-begun g c = λ obeys none parts.
+    parts-left g (goal.at.returns-in-Err-clause-begun g c).After-write_durably obeys parts
+
+pub returns-in-Err-clause-kept : goal.returns-in-Err-clause-kept
+returns-in-Err-clause-kept g c = λ obeys leaves log.
+    absurd (no_log g (goal.at.returns-in-Err-clause-kept g c).After-write_durably obeys leaves log)
+
+pub returns-in-Err-clause-any_moment : goal.returns-in-Err-clause-any_moment
+returns-in-Err-clause-any_moment g c = λ obeys leaves log.
+    absurd (no_log g (goal.at.returns-in-Err-clause-any_moment g c).After-write_durably obeys leaves log)
+
+pub returns-in-Err-clause-kept_beside : goal.returns-in-Err-clause-kept_beside
+returns-in-Err-clause-kept_beside g c = λ obeys leaves log kept.
+    absurd (no_log g (goal.at.returns-in-Err-clause-kept_beside g c).After-write_durably obeys leaves log)
+
+pub returns-in-Ok-clause-durable : goal.returns-in-Ok-clause-durable
+returns-in-Ok-clause-durable g c = λ obeys leaves log kept.
+    absurd (no_log g (goal.at.returns-in-Ok-clause-durable g c).After-write_durably obeys leaves log)
+
+pub returns-in-Ok-rewrite_slots-clause-kept_beside : goal.returns-in-Ok-rewrite_slots-clause-kept_beside
+returns-in-Ok-rewrite_slots-clause-kept_beside g c = λ obeys leaves log kept.
+    c.rewrite_slots.ensures.kept obeys (length leaves) kept
+
+pub returns-in-Err-rewrite_slots-clause-kept_beside : goal.returns-in-Err-rewrite_slots-clause-kept_beside
+returns-in-Err-rewrite_slots-clause-kept_beside g c = λ obeys leaves log kept.
+    c.rewrite_slots.ensures.kept obeys (length leaves) kept

@@ -1,0 +1,125 @@
+-- The text of a receipt is read as the receipt, and as nothing else.
+use Rattle.std.proofs.Common.{zero, suc, ◌≡◌, ℕ, ◌+◌, ◌<◌, ◌≤◌, ◌^◌, List, [], ◌∷◌, ◌++◌, length, take, drop, Option, Some, None, codes, refl, ap, sym, subst, ◌∙◌, append_assoc, arith}
+use Rattle.std.specs.List.{flat_map, AllByRecursion}
+use Rattle.std.specs.Fmt.{decimal}
+use Rattle.std.proofs.lemmas.List.{drop-drop, drop_at, length-append, length-drop, take-append-drop, take_at}
+use Rattle.base64.specs.Engines.{standard}
+use Rattle.base64.specs.GeneralPurpose.{encode_of}
+use Rattle.ark_base.specs.Digits.{AreBytes}
+use Rattle.ark_paths.specs.Pair.{Digest}
+use Rattle.decimals.specs.Decimals.{decimal_number}
+use Rattle.log_checkpoints.specs.Receipts.{digest_line, receipt_of, IsPath}
+use Rattle.signed_notes.specs.Cutting.{cut}
+use Rattle.signed_notes.proofs.CheckpointTexts.{lacks-decimal, number-read, number-whole}
+use Rattle.signed_notes.proofs.Cuts.{cut_parts}
+use Rattle.signed_notes.proofs.Lacking.{lacks-base64}
+use Rattle.signed_notes.proofs.ReadBack.{cut-whole}
+use Rattle.signed_notes.proofs.WrittenNotes.{cut-written}
+
+-- ---- the lines of a path
+
+-- lines, an empty one, and a note
+abbrev pub lined : List Digest → List ℕ → List ℕ
+lined path note = flat_map digest_line path ++ (10 ∷ note)
+
+pub lined-first : (digest : Digest) (path : List Digest) (note : List ℕ)
+    → lined (digest ∷ path) note ≡ encode_of standard digest ++ (10 ∷ lined path note)
+lined-first digest path note =
+    append_assoc (encode_of standard digest ++ (10 ∷ [])) (flat_map digest_line path) (10 ∷ note)
+    ∙ append_assoc (encode_of standard digest) (10 ∷ []) (lined path note)
+
+lined-cut : (digest : Digest) (path : List Digest) (note : List ℕ)
+    → cut 10 (lined (digest ∷ path) note) ≡ Some (encode_of standard digest, lined path note)
+lined-cut digest path note = ap (cut 10) (lined-first digest path note)
+    ∙ cut-written 10 (encode_of standard digest) (lined path note) (lacks-base64 digest)
+
+-- A line is left.
+pub line-left : (path : List Digest) (note : List ℕ) → cut 10 (lined path note) ≡ None → ⊥
+line-left [] note none = absurd cc
+line-left (digest ∷ path) note none = let both = sym none ∙ lined-cut digest path note in absurd cc
+
+-- What is left of a path and a note behind so many lines.
+pub record IsLeft (path : List Digest) (note rest : List ℕ) (count : ℕ) : Type 0 where
+  pub few : count ≤ length path
+  pub all : AllByRecursion (AreBytes 32) (drop count path)
+  pub is : rest ≡ lined (drop count path) note
+
+-- The next line, which is not empty, is that of a digest.
+pub record IsNext (path : List Digest) (note line behind : List ℕ) (count : ℕ) : Type 0 where
+  pub digest : Digest
+  pub bytes : AreBytes 32 digest
+  pub line_is : line ≡ encode_of standard digest
+  pub left : IsLeft path note behind (suc count)
+
+pub next-left : (path : List Digest) (note rest line behind : List ℕ) (count : ℕ) → IsLeft path note rest count
+    → cut 10 rest ≡ Some (line, behind) → 0 < length line → IsNext path note line behind count
+next-left path note rest line behind count left is some = go (drop count path) refl
+  where
+    go : (more : List Digest) → drop count path ≡ more → IsNext path note line behind count
+    go [] none =
+        let both = cut_parts [] note line behind (sym (ap (cut 10) (left.is ∙ ap (λ l. lined l note) none)) ∙ is) in
+        absurd (omega (arith, some, ap length both.0))
+    go (digest ∷ more) those =
+        let both = cut_parts (encode_of standard digest) (lined more note) line behind
+        (sym (ap (cut 10) (left.is ∙ ap (λ l. lined l note) those) ∙ lined-cut digest more note) ∙ is) in
+        let behind-is : drop (suc count) path ≡ more = sym (drop-drop 1 count path) ∙ ap (drop 1) those in
+        let all = subst (AllByRecursion (AreBytes 32)) those left.all in
+        let long : suc (length more) ≡ length (drop count path) = ap length (sym those) in
+        record {
+          digest = digest;
+          bytes = all.0;
+          line_is = sym both.0;
+          left = record {
+            few = omega (arith, long, length-drop count path, left.few);
+            all = subst (AllByRecursion (AreBytes 32)) (sym behind-is) all.1;
+            is = sym both.1 ∙ ap (λ l. lined l note) (sym behind-is);
+          };
+        }
+
+pub none-left : (path : List Digest) (note : List ℕ) → IsPath path → (rest : List ℕ) → rest ≡ lined path note
+    → IsLeft path note rest 0
+none-left path note are rest is = record { few = omega arith; all = are.1; is = is }
+
+-- one digest more
+pub lined-more : (path : List Digest) (digest : Digest) (bytes line rest behind : List ℕ)
+    → bytes ≡ flat_map digest_line path ++ rest → cut 10 rest ≡ Some (line, behind) → line ≡ encode_of standard digest
+    → bytes ≡ flat_map digest_line (path ++ (digest ∷ [])) ++ behind
+lined-more [] digest bytes line rest behind so is spelled =
+    so ∙ sym (cut-whole 10 rest line behind is) ∙ ap (λ l. l ++ (10 ∷ behind)) spelled
+    ∙ sym (append_assoc (encode_of standard digest) (10 ∷ []) behind)
+    ∙ ap (λ l. l ++ behind) (sym (append_nil (encode_of standard digest ++ (10 ∷ []))))
+lined-more (first ∷ path) digest bytes line rest behind so is spelled =
+    so ∙ append_assoc (digest_line first) (flat_map digest_line path) rest
+    ∙ ap (λ l. digest_line first ++ l) (lined-more path digest (flat_map digest_line path ++ rest) line rest behind refl
+    is spelled) ∙ sym (append_assoc (digest_line first) (flat_map digest_line (path ++ (digest ∷ []))) behind)
+
+-- ---- the title and the index
+
+abbrev pub title : List ℕ
+title = codes "c2sp.org/tlog-proof@v1\nindex "
+
+pub begins : (index : ℕ) (path : List Digest) (note bytes : List ℕ) → bytes ≡ receipt_of index path note
+    → (take 29 bytes ≡ title) × (29 ≤ length bytes) × (drop 29 bytes ≡ decimal index ++ (10 ∷ lined path note))
+begins index path note bytes is =
+    let rest = decimal index ++ (10 ∷ lined path note) in (
+      ap (take 29) is ∙ take_at title rest 29 refl,
+      omega (arith, ap length is, length-append title rest, long),
+      ap (drop 29) is ∙ drop_at title rest 29 refl,
+    )
+  where
+    long : length title ≡ 29
+    long = refl
+
+pub index-line : (index : ℕ) (path : List Digest) (note : List ℕ) → index < 2 ^ 64
+    → cut 10 (decimal index ++ (10 ∷ lined path note)) ≡ Some (decimal index, lined path note)
+index-line index path note fits = cut-written 10 (decimal index) (lined path note) (lacks-decimal index fits)
+
+-- The bytes are that receipt.
+pub whole : (bytes line rest note : List ℕ) (index : ℕ) (path : List Digest) → take 29 bytes ≡ title
+    → cut 10 (drop 29 bytes) ≡ Some (line, rest) → decimal_number line ≡ Some index → rest ≡ lined path note
+    → bytes ≡ receipt_of index path note
+whole bytes line rest note index path begins is number lines =
+    sym (take-append-drop 29 bytes) ∙ ap (λ l. l ++ drop 29 bytes) begins
+    ∙ ap (λ l. title ++ l) (sym (cut-whole 10 (drop 29 bytes) line rest is)
+    ∙ ap (λ l. l ++ (10 ∷ rest)) (sym (number-whole line index number).digits_are)
+    ∙ ap (λ l. decimal index ++ (10 ∷ l)) lines)
