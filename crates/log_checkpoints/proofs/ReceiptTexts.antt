@@ -1,5 +1,6 @@
 -- The text of a receipt is read as the receipt, and as nothing else.
-use Rattle.std.proofs.Common.{zero, suc, ◌≡◌, ℕ, ◌+◌, ◌<◌, ◌≤◌, ◌^◌, List, [], ◌∷◌, ◌++◌, length, take, drop, Option, Some, None, codes, refl, ap, sym, subst, ◌∙◌, append_assoc, arith}
+use Rattle.std.proofs.Common.{suc, ◌≡◌, ℕ, ◌+◌, ◌<◌, ◌≤◌, ◌^◌, List, [], ◌∷◌, ◌++◌, length, take, drop, Some, None, true, false, nat_eq, codes, refl, ap, sym, subst, ◌∙◌, append_assoc, append-nil, arith}
+use Rattle.std.proofs.lemmas.Bool.Decides.{nat_tests}
 use Rattle.std.specs.List.{flat_map, AllByRecursion}
 use Rattle.std.specs.Fmt.{decimal}
 use Rattle.std.proofs.lemmas.List.{drop-drop, drop_at, length-append, length-drop, take-append-drop, take_at}
@@ -10,7 +11,7 @@ use Rattle.ark_paths.specs.Pair.{Digest}
 use Rattle.decimals.specs.Decimals.{decimal_number}
 use Rattle.log_checkpoints.specs.Receipts.{digest_line, receipt_of, IsPath}
 use Rattle.signed_notes.specs.Cutting.{cut}
-use Rattle.signed_notes.proofs.CheckpointTexts.{lacks-decimal, number-read, number-whole}
+use Rattle.signed_notes.proofs.CheckpointTexts.{lacks-decimal, number-whole}
 use Rattle.signed_notes.proofs.Cuts.{cut_parts}
 use Rattle.signed_notes.proofs.Lacking.{lacks-base64}
 use Rattle.signed_notes.proofs.ReadBack.{cut-whole}
@@ -38,6 +39,16 @@ pub line-left : (path : List Digest) (note : List ℕ) → cut 10 (lined path no
 line-left [] note none = absurd cc
 line-left (digest ∷ path) note none = let both = sym none ∙ lined-cut digest path note in absurd cc
 
+-- a line that is empty, and one that is not
+pub empty_line : (line : List ℕ) → nat_eq (length line) 0 ≡ true → line ≡ []
+empty_line [] is = refl
+empty_line (byte ∷ line) is =
+    let none : length (byte ∷ line) ≡ 0 = grind (arith, nat_tests, is) in absurd (omega (arith, none))
+
+pub some_line : (line : List ℕ) → nat_eq (length line) 0 ≡ false → 0 < length line
+some_line [] is = absurd cc
+some_line (byte ∷ line) is = omega arith
+
 -- What is left of a path and a note behind so many lines.
 pub record IsLeft (path : List Digest) (note rest : List ℕ) (count : ℕ) : Type 0 where
   pub few : count ≤ length path
@@ -49,7 +60,7 @@ pub record IsNext (path : List Digest) (note line behind : List ℕ) (count : �
   pub digest : Digest
   pub bytes : AreBytes 32 digest
   pub line_is : line ≡ encode_of standard digest
-  pub left : IsLeft path note behind (suc count)
+  pub left : IsLeft path note behind (count + 1)
 
 pub next-left : (path : List Digest) (note rest line behind : List ℕ) (count : ℕ) → IsLeft path note rest count
     → cut 10 rest ≡ Some (line, behind) → 0 < length line → IsNext path note line behind count
@@ -62,7 +73,7 @@ next-left path note rest line behind count left is some = go (drop count path) r
     go (digest ∷ more) those =
         let both = cut_parts (encode_of standard digest) (lined more note) line behind
         (sym (ap (cut 10) (left.is ∙ ap (λ l. lined l note) those) ∙ lined-cut digest more note) ∙ is) in
-        let behind-is : drop (suc count) path ≡ more = sym (drop-drop 1 count path) ∙ ap (drop 1) those in
+        let behind-is : drop (count + 1) path ≡ more = sym (drop-drop 1 count path) ∙ ap (drop 1) those in
         let all = subst (AllByRecursion (AreBytes 32)) those left.all in
         let long : suc (length more) ≡ length (drop count path) = ap length (sym those) in
         record {
@@ -87,7 +98,7 @@ pub lined-more : (path : List Digest) (digest : Digest) (bytes line rest behind 
 lined-more [] digest bytes line rest behind so is spelled =
     so ∙ sym (cut-whole 10 rest line behind is) ∙ ap (λ l. l ++ (10 ∷ behind)) spelled
     ∙ sym (append_assoc (encode_of standard digest) (10 ∷ []) behind)
-    ∙ ap (λ l. l ++ behind) (sym (append_nil (encode_of standard digest ++ (10 ∷ []))))
+    ∙ ap (λ l. l ++ behind) (sym (append-nil (encode_of standard digest ++ (10 ∷ []))))
 lined-more (first ∷ path) digest bytes line rest behind so is spelled =
     so ∙ append_assoc (digest_line first) (flat_map digest_line path) rest
     ∙ ap (λ l. digest_line first ++ l) (lined-more path digest (flat_map digest_line path ++ rest) line rest behind refl

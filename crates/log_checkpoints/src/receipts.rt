@@ -114,7 +114,7 @@ fn path_in(alloc: Global, bytes: &[u8]) -> Result<(Vec<[u8; 32]>, &[u8]), Receip
     let mut path = Vec::new(alloc);
     let mut rest = bytes;
     // No path has more digests than a size has bits.
-    let mut count = 0;
+    let mut count = 0usize;
     'lines: while count < 65 {
         let Some((line, behind)) = cut_line(rest) else {
             return Err(ReceiptFault::Spelling);

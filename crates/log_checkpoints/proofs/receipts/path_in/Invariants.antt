@@ -1,4 +1,4 @@
-use Rattle.std.proofs.Common.{◌≡◌, ◌≤◌, ◌-◌, ◌++◌, ℕ, List, length}
+use Rattle.std.proofs.Common.{◌≡◌, ◌≤◌, ◌-◌, ◌++◌, ℕ, List}
 use Rattle.std.specs.List.{flat_map}
 use Rattle.ark_paths.specs.Pair.{Digest}
 use Rattle.log_checkpoints.specs.Receipts.{digest_line, IsPath}
