@@ -398,7 +398,7 @@ fn run_words(rt: &HostRuntime, words: &[Vec<u8>]) -> Result<u8, StopAt> {
 }
 
 fn main(rt: HostRuntime) -> ExitCode {
-    let words = match words(rt.alloc(), &rt) {
+    let words = match words_behind_name(rt.alloc(), &rt) {
         Ok(words) => words,
         Err(why) => return ExitCode::from(complain(&rt, &[], StopAt::from(why))),
     };
